@@ -1,0 +1,5 @@
+use Rattle.rn_simplify.proofs.Binding.{spelling_reads_back}
+use Rattle.rn_simplify.proofs.laws.spelling_reads_back.Goals as goal
+
+pub returns : goal.returns
+returns c = spelling_reads_back

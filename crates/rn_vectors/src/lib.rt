@@ -1,0 +1,2 @@
+//! Tests over all crates: the worked rows, from bytes to bytes.
+#![tactic(auto)]
