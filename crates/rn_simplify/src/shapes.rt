@@ -1,0 +1,54 @@
+// What needs parentheses where.
+use std::rc::Rc;
+
+use rn_pattern::{NameClass, Pattern};
+
+/// How a pattern or a name class is written.
+#[derive(Clone, Copy, PartialEq, Eq)]
+pub(crate) enum Shape {
+    /// It stands alone everywhere.
+    Closed,
+    /// It ends in a postfix, so it needs parentheses before another one.
+    Postfixed,
+    /// It is a chain of operands or has an except, so it needs parentheses in each operand.
+    Chained,
+}
+
+/// Whether the first member is empty, which comes before all others: the choice is written with a postfix.
+pub(crate) fn begins_with_empty(members: &[Rc<Pattern>]) -> bool {
+    match members.first() {
+        Some(first) => matches!(&**first, Pattern::Empty),
+        None => false,
+    }
+}
+
+/// Whether the first member is text, which comes before all others but empty: the interleave is mixed.
+pub(crate) fn begins_with_text(members: &[Rc<Pattern>]) -> bool {
+    match members.first() {
+        Some(first) => matches!(&**first, Pattern::Text),
+        None => false,
+    }
+}
+
+pub(crate) fn shape_of_pattern(pattern: &Pattern) -> Shape {
+    match pattern {
+        Pattern::Datum(_, _, _, Some(_)) => Shape::Chained,
+        Pattern::OneOrMore(_) => Shape::Postfixed,
+        Pattern::Group(_) => Shape::Chained,
+        Pattern::Interleave(members) if members.is_empty() || begins_with_text(members) => Shape::Closed,
+        Pattern::Interleave(_) => Shape::Chained,
+        Pattern::Choice(members) if members.is_empty() => Shape::Closed,
+        Pattern::Choice(members) if begins_with_empty(members) => Shape::Postfixed,
+        Pattern::Choice(_) => Shape::Chained,
+        _ => Shape::Closed,
+    }
+}
+
+pub(crate) fn shape_of_class(class: &NameClass) -> Shape {
+    match class {
+        NameClass::AnyName(Some(_)) => Shape::Chained,
+        NameClass::NsName(_, Some(_)) => Shape::Chained,
+        NameClass::Choice(_) => Shape::Chained,
+        _ => Shape::Closed,
+    }
+}
