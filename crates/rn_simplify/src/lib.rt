@@ -5,13 +5,13 @@
 #![tactic(auto)]
 
 mod canonical;
-mod classes;
+mod name_class;
 mod declarations;
 pub mod laws;
 pub mod normal;
-pub mod normalise;
-mod patterns;
-pub mod print;
+pub mod normalising;
+mod pattern;
+pub mod printing;
 mod reachable;
 mod rebuilt;
 mod references;
@@ -22,5 +22,5 @@ mod tests;
 mod writer;
 
 pub use normal::Normal;
-pub use normalise::{normalise, normalise_in};
-pub use print::print;
+pub use normalising::{normalise, normalise_in};
+pub use printing::print;

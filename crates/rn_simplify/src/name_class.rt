@@ -6,6 +6,7 @@ use crate::shapes::{Shape, shape_of_class};
 use crate::writer::Writer;
 
 /// Writes a name class.
+#[cycle(name_class)]
 pub(crate) fn write_class(writer: &mut Writer, prefixes: &Prefixes, class: &NameClass) {
     match class {
         NameClass::AnyName(None) => writer.put("*"),
@@ -25,6 +26,7 @@ pub(crate) fn write_class(writer: &mut Writer, prefixes: &Prefixes, class: &Name
 }
 
 /// Writes the members of a choice, with `|` between them.
+#[cycle(name_class)]
 fn write_class_choice(writer: &mut Writer, prefixes: &Prefixes, members: &[NameClass]) {
     for (i, member) in members.iter().enumerate() {
         if i > 0 {
@@ -35,6 +37,7 @@ fn write_class_choice(writer: &mut Writer, prefixes: &Prefixes, members: &[NameC
 }
 
 /// Writes a name class as an operand: an except or a choice in parentheses.
+#[cycle(name_class)]
 fn write_class_operand(writer: &mut Writer, prefixes: &Prefixes, class: &NameClass) {
     if shape_of_class(class) == Shape::Chained {
         writer.open("(");

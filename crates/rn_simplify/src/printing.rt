@@ -5,7 +5,7 @@ use rn_assemble::Refusal;
 
 use crate::declarations::Prefixes;
 use crate::normal::Normal;
-use crate::patterns::write_pattern;
+use crate::pattern::write_pattern;
 use crate::writer::{Stop, Writer};
 
 /// The one text of a canonical grammar: the declarations of its prefixes, its start, and its definitions in the order of their names, each on a line of its own.

@@ -3,7 +3,7 @@ use std::rc::Rc;
 
 use rn_pattern::Pattern;
 
-use crate::classes::write_class;
+use crate::name_class::write_class;
 use crate::declarations::Prefixes;
 use crate::shapes::{Shape, begins_with_empty, begins_with_text, shape_of_pattern};
 use crate::writer::Writer;
