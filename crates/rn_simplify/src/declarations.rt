@@ -1,8 +1,13 @@
 // The prefixes of namespaces and datatype libraries, and their declarations (compact syntax, section 2, decl).
+ghost use Rattle.std.specs.Prelude.{◌≡◌, ◌∷◌, [], ◌++◌, map, string_bytes};
+ghost use Rattle.std.specs.Str.{encode_utf8_all};
+ghost use Rattle.rn_simplify.specs.Spelling.{namespace_prefix, type_piece, place};
+ghost use Rattle.rn_simplify.specs.Writes.{prefixes_view, Writes, WritesBytes, none};
+
 use std::alloc::{AllocError, Global};
 use std::collections::BTreeSet;
-use std::rc::Rc;
 
+use indexmap::IndexSet;
 use rn_pattern::{NameClass, Pattern};
 
 use crate::normal::Normal;
@@ -93,11 +98,11 @@ fn mentions_of(alloc: Global, normal: &Normal) -> Result<Mentions, AllocError> {
 }
 
 /// The texts without the empty one and the one that has a prefix of its own, in the order of their bytes.
-fn declared(alloc: Global, texts: BTreeSet<String>, known: &str) -> Result<Vec<String>, AllocError> {
-    let mut rest = Vec::new(alloc);
+fn declared(alloc: Global, texts: BTreeSet<String>, known: &str) -> Result<IndexSet<String>, AllocError> {
+    let mut rest = IndexSet::new(alloc);
     for text in texts {
         if !text.is_empty() && text.as_str() != known {
-            rest.push(text)?;
+            rest.insert(text)?;
         }
     }
     Ok(rest)
@@ -106,17 +111,19 @@ fn declared(alloc: Global, texts: BTreeSet<String>, known: &str) -> Result<Vec<S
 /// The prefixes of a grammar: `n1`, `n2` and so on for the namespaces, `d1`, `d2` and so on for the libraries.
 #[derive(Drop)]
 pub(crate) struct Prefixes {
-    pub(crate) namespaces: Vec<String>,
-    pub(crate) libraries: Vec<String>,
+    pub(crate) namespaces: IndexSet<String>,
+    pub(crate) libraries: IndexSet<String>,
     /// The empty namespace has the prefix `n0`.
     pub(crate) empty_namespace: bool,
 }
 
-/// The place of a text in texts in order, counted from 1; 0 if it isn't there.
-fn place(texts: &[String], text: &str) -> usize {
-    match texts.binary_search_by(|other| other.as_str().cmp(text)) {
-        Ok(i) => i + 1,
-        Err(_) => 0,
+/// The place of a text, counted from 1; the number of the texts if it isn't there.
+fn place(texts: &IndexSet<String>, text: &str) -> usize
+    ensures { result ≡ place text.now (map (λ u. string_bytes u) texts.now.keys) }
+{
+    match texts.get_index_of(text) {
+        Some(i) => i + 1,
+        None => texts.len(),
     }
 }
 
@@ -132,7 +139,9 @@ impl Prefixes {
     }
 
     /// Writes the prefix of a namespace.
-    pub(crate) fn write_namespace(&self, writer: &mut Writer, uri: &str) {
+    pub(crate) fn write_namespace(&self, writer: &mut Writer, uri: &str)
+        ensures { WritesBytes (encode_utf8_all (namespace_prefix (prefixes_view self.now) uri.now)) none writer.old writer.new }
+    {
         if uri.is_empty() {
             writer.put("n0");
         } else if uri == XML {
@@ -144,7 +153,9 @@ impl Prefixes {
     }
 
     /// Writes a datatype's name, behind the prefix of its library unless that is the empty one.
-    pub(crate) fn write_type(&self, writer: &mut Writer, library: &str, type_name: &str) {
+    pub(crate) fn write_type(&self, writer: &mut Writer, library: &str, type_name: &str)
+        ensures { Writes (type_piece (prefixes_view self.now) library.now type_name.now ∷ []) writer.old writer.new }
+    {
         if library == XSD {
             writer.put("xsd:");
         } else if !library.is_empty() {
@@ -167,7 +178,7 @@ impl Prefixes {
 }
 
 /// Writes a declaration for each text, with its number behind the prefix's letter.
-fn write_numbered(writer: &mut Writer, declaration: &str, texts: &[String]) {
+fn write_numbered(writer: &mut Writer, declaration: &str, texts: &IndexSet<String>) {
     for (i, text) in texts.iter().enumerate() {
         writer.put(declaration);
         writer.number(i + 1);

@@ -57,32 +57,34 @@ pub(crate) fn write_pattern(writer: &mut Writer, prefixes: &Prefixes, pattern: &
 /// Writes a pattern in braces.
 #[cycle(pattern)]
 fn write_braced(writer: &mut Writer, prefixes: &Prefixes, content: &Pattern) {
-    writer.open(" { ");
+    writer.open_bracket(" { ");
     write_pattern(writer, prefixes, content);
-    writer.close(" }");
+    writer.close_bracket(" }");
 }
 
 /// Writes a pattern between `,`, `&` or `|`.
 #[cycle(pattern)]
 fn write_operand(writer: &mut Writer, prefixes: &Prefixes, pattern: &Pattern) {
-    if shape_of_pattern(pattern) == Shape::Chained {
-        writer.open("(");
-        write_pattern(writer, prefixes, pattern);
-        writer.close(")");
-    } else {
-        write_pattern(writer, prefixes, pattern);
+    match shape_of_pattern(pattern) {
+        Shape::Chained => write_parenthesized(writer, prefixes, pattern),
+        _ => write_pattern(writer, prefixes, pattern),
     }
+}
+
+/// Writes a pattern in parentheses.
+#[cycle(pattern)]
+fn write_parenthesized(writer: &mut Writer, prefixes: &Prefixes, pattern: &Pattern) {
+    writer.open_bracket("(");
+    write_pattern(writer, prefixes, pattern);
+    writer.close_bracket(")");
 }
 
 /// Writes a pattern before a postfix or behind a minus sign.
 #[cycle(pattern)]
 fn write_primary(writer: &mut Writer, prefixes: &Prefixes, pattern: &Pattern) {
-    if shape_of_pattern(pattern) == Shape::Closed {
-        write_pattern(writer, prefixes, pattern);
-    } else {
-        writer.open("(");
-        write_pattern(writer, prefixes, pattern);
-        writer.close(")");
+    match shape_of_pattern(pattern) {
+        Shape::Closed => write_pattern(writer, prefixes, pattern),
+        _ => write_parenthesized(writer, prefixes, pattern),
     }
 }
 
@@ -104,9 +106,9 @@ fn write_interleave(writer: &mut Writer, prefixes: &Prefixes, members: &[Rc<Patt
         writer.put("empty");
     } else if begins_with_text(members) {
         writer.put("mixed");
-        writer.open(" { ");
+        writer.open_bracket(" { ");
         write_mixed(writer, prefixes, &members[1..]);
-        writer.close(" }");
+        writer.close_bracket(" }");
     } else {
         write_chain(writer, prefixes, members, " & ");
     }
@@ -142,9 +144,9 @@ fn write_optional(writer: &mut Writer, prefixes: &Prefixes, others: &[Rc<Pattern
     } else if others.len() == 1 {
         write_optional_one(writer, prefixes, &others[0]);
     } else {
-        writer.open("(");
+        writer.open_bracket("(");
         write_chain(writer, prefixes, others, " | ");
-        writer.close(")");
+        writer.close_bracket(")");
         writer.put("?");
     }
 }
@@ -180,9 +182,9 @@ fn write_data(
 ) {
     prefixes.write_type(writer, library, type_name);
     if !params.is_empty() {
-        writer.open(" { ");
+        writer.open_bracket(" { ");
         write_params(writer, params);
-        writer.close(" }");
+        writer.close_bracket(" }");
     }
 }
 

@@ -1,4 +1,9 @@
 // What needs parentheses where.
+ghost use Rattle.std.specs.Prelude.{◌≡◌};
+ghost use Rattle.rn_simplify.specs.Spelling.{Prefixes, written_name, written_tree};
+ghost use Rattle.rn_simplify.specs.View.{name_class_view, pattern_view};
+ghost use Rattle.rn_simplify.specs.Writes.{shape_view};
+
 use std::rc::Rc;
 
 use rn_pattern::{NameClass, Pattern};
@@ -30,7 +35,9 @@ pub(crate) fn begins_with_text(members: &[Rc<Pattern>]) -> bool {
     }
 }
 
-pub(crate) fn shape_of_pattern(pattern: &Pattern) -> Shape {
+pub(crate) fn shape_of_pattern(pattern: &Pattern) -> Shape
+    ensures { (f : Prefixes) → shape_view result ≡ (written_tree f (pattern_view pattern.now)).shape }
+{
     match pattern {
         Pattern::Datum(_, _, _, Some(_)) => Shape::Chained,
         Pattern::OneOrMore(_) => Shape::Postfixed,
@@ -44,7 +51,9 @@ pub(crate) fn shape_of_pattern(pattern: &Pattern) -> Shape {
     }
 }
 
-pub(crate) fn shape_of_class(class: &NameClass) -> Shape {
+pub(crate) fn shape_of_class(class: &NameClass) -> Shape
+    ensures { (f : Prefixes) → shape_view result ≡ (written_name f (name_class_view class.now)).shape }
+{
     match class {
         NameClass::AnyName(Some(_)) => Shape::Chained,
         NameClass::NsName(_, Some(_)) => Shape::Chained,

@@ -1,4 +1,9 @@
 // A text that is written piece by piece, up to a limit.
+ghost use Rattle.std.specs.Prelude.{◌≡◌, ◌∷◌, [], ◌++◌, None, cond, chars, decimal, false, string_bytes};
+ghost use Rattle.rn_text.specs.Characters.{is_keyword};
+ghost use Rattle.rn_text.specs.Literals.{literal_bytes};
+ghost use Rattle.rn_simplify.specs.Writes.{WritesBytes, opening, closing, none};
+
 use std::alloc::Global;
 
 use rn_text::{is_keyword, write_literal};
@@ -21,24 +26,31 @@ pub(crate) enum Stop {
 #[derive(Drop)]
 pub(crate) struct Writer {
     pub(crate) text: String,
-    pub(crate) open: usize,
+    pub(crate) depth: usize,
     /// More than [`MOST_OPEN`] brackets were open at once.
     pub(crate) too_deep: bool,
     pub(crate) stopped: Option<Stop>,
 }
 
 impl Writer {
-    pub(crate) fn new(alloc: Global) -> Writer {
+    pub(crate) fn new(alloc: Global) -> Writer
+        ensures text { string_bytes result.text ≡ [] }
+        ensures outside { result.depth ≡ 0 }
+        ensures shallow { result.too_deep ≡ false }
+        ensures goes { result.stopped ≡ None }
+    {
         Writer {
             text: String::new(alloc),
-            open: 0,
+            depth: 0,
             too_deep: false,
             stopped: None,
         }
     }
 
     /// Appends pieces that are no brackets.
-    pub(crate) fn put(&mut self, pieces: &str) {
+    pub(crate) fn put(&mut self, pieces: &str)
+        ensures { WritesBytes pieces.now none self.old self.new }
+    {
         if self.stopped.is_some() {
             return;
         }
@@ -50,22 +62,29 @@ impl Writer {
     }
 
     /// Appends an opening bracket, with the spaces round it.
-    pub(crate) fn open(&mut self, bracket: &str) {
+    pub(crate) fn open_bracket(&mut self, bracket: &str)
+        ensures { WritesBytes bracket.now opening self.old self.new }
+    {
         self.put(bracket);
-        self.open = self.open.saturating_add(1);
-        if self.open > MOST_OPEN {
+        if self.depth < MOST_OPEN {
+            self.depth += 1;
+        } else {
             self.too_deep = true;
         }
     }
 
     /// Appends a closing bracket, with the spaces round it.
-    pub(crate) fn close(&mut self, bracket: &str) {
+    pub(crate) fn close_bracket(&mut self, bracket: &str)
+        ensures { WritesBytes bracket.now closing self.old self.new }
+    {
         self.put(bracket);
-        self.open = self.open.saturating_sub(1);
+        self.depth = self.depth.saturating_sub(1);
     }
 
     /// Appends the literal of a text.
-    pub(crate) fn literal(&mut self, text: &str) {
+    pub(crate) fn literal(&mut self, text: &str)
+        ensures { WritesBytes (literal_bytes text.now) none self.old self.new }
+    {
         if self.stopped.is_some() {
             return;
         }
@@ -77,7 +96,9 @@ impl Writer {
     }
 
     /// Appends a definition's name, behind a backslash if it is a keyword.
-    pub(crate) fn identifier(&mut self, name: &str) {
+    pub(crate) fn identifier(&mut self, name: &str)
+        ensures { WritesBytes (cond (is_keyword (chars name.now)) (92 ∷ name.now) name.now) none self.old self.new }
+    {
         if is_keyword(name) {
             self.put("\\");
         }
@@ -85,7 +106,9 @@ impl Writer {
     }
 
     /// Appends a number in decimal digits.
-    pub(crate) fn number(&mut self, number: usize) {
+    pub(crate) fn number(&mut self, number: usize)
+        ensures { WritesBytes (decimal number) none self.old self.new }
+    {
         if self.stopped.is_some() {
             return;
         }
