@@ -1,8 +1,9 @@
 // The store Interned.
+use std::alloc::{AllocError, Global};
+
 use crate::node::{Node, NodeId};
 use crate::patterns::Patterns;
 use crate::tree::NameClass;
-use std::alloc::{AllocError, Global};
 
 /// A store of patterns.
 #[derive(Drop)]
@@ -49,12 +50,7 @@ impl Patterns for Interned {
         Err(AllocError)
     }
 
-    fn value(
-        &mut self,
-        _library: &str,
-        _type_name: &str,
-        _text: &str,
-    ) -> Result<NodeId, AllocError> {
+    fn value(&mut self, _library: &str, _type_name: &str, _text: &str) -> Result<NodeId, AllocError> {
         Err(AllocError)
     }
 
