@@ -1,3 +1,7 @@
+pub mod Fixed
+pub mod KeptRules
+pub mod Kept
+pub mod OpenedKeeps
 pub mod Weaving
 pub mod Products
 pub mod Splits
