@@ -1,0 +1,133 @@
+// Segments of literals, and escapes in them.
+ghost use Rattle.std.specs.Prelude.{◌≡◌, ◌∷◌, ◌++◌, ◌==◌, ◌&&◌, ◌<◌, ◌⊎◌, [], drop, not, true, false, length, ℕ, List, MatchOption, IfSome, IsTrue};
+ghost use Rattle.std.specs.Str.{chars, IsUtf8};
+ghost use Rattle.std.specs.Char.{is_ascii_hexdigit};
+ghost use Rattle.rn_text.specs.Segments.{after_run, is_x, escape_front, after_brace, escaped_char, after_escape, is_whole_escape, escapes_hold, three_of, ends_at_one, ends_at_three, is_line_end};
+
+use crate::characters::{after_char, is_xml_char, split_first};
+
+/// What follows each `x` at the front.
+fn after_xs(text: &str) -> &str
+    ensures { chars result.now ≡ after_run is_x (chars text.now) }
+{
+    text.trim_start_matches('x')
+}
+
+/// What follows the hexadecimal digits at the front.
+fn after_hex_digits(text: &str) -> &str
+    ensures { chars result.now ≡ after_run is_ascii_hexdigit (chars text.now) }
+{
+    text.trim_start_matches(|c: char| c.is_ascii_hexdigit())
+}
+
+/// What follows `\`, one or more `x` and `{` at the front.
+pub(crate) fn after_escape_front(text: &str) -> Option<&str>
+    ensures cases { MatchOption result (escape_front (chars text.now) ≡ false) (λ r. (escape_front (chars text.now) ≡ true) × (chars r.now ≡ after_brace (chars text.now))) }
+    ensures utf8 { IfSome result (λ r. IsUtf8 r.now) }
+{
+    let rest = after_char(after_char(text, '\\')?, 'x')?;
+    after_char(after_xs(rest), '{')
+}
+
+/// The character of a whole escape at the front, and what follows it.
+pub(crate) fn split_escape(text: &str) -> Option<(char, &str)>
+    ensures { MatchOption result (escape_front (chars text.now) ≡ true → is_whole_escape (chars text.now) ≡ false)
+        (λ p. (escape_front (chars text.now) ≡ true) × (is_whole_escape (chars text.now) ≡ true) × (p.0 ≡ escaped_char (chars text.now)) × (chars p.1.now ≡ after_escape (chars text.now))) }
+{
+    let digits = after_escape_front(text)?;
+    let rest = after_hex_digits(digits);
+    let number = u32::from_str_radix(&digits[..digits.len() - rest.len()], 16).ok()?;
+    let c = char::from_u32(number)?;
+    if !is_xml_char(c) {
+        return None;
+    }
+    Some((c, after_char(rest, '}')?))
+}
+
+/// Whether each escape in the text is whole, and none stands for the delimiter.
+fn escapes_hold(text: &str, delimiter: char) -> bool
+    ensures { result ≡ escapes_hold delimiter (chars text.now) }
+{
+    let mut rest = text;
+    while let Some((_, after)) = split_first(rest) {
+        if after_escape_front(rest).is_some() {
+            match split_escape(rest) {
+                Some((c, _)) if c != delimiter => {}
+                _ => return false,
+            }
+        }
+        rest = after;
+    }
+    true
+}
+
+/// What follows three of the delimiter at the front.
+pub(crate) fn after_three(text: &str, delimiter: char) -> Option<&str>
+    requires { delimiter < 128 }
+    ensures cases { MatchOption result (three_of delimiter (chars text.now) ≡ false) (λ r. chars text.now ≡ delimiter ∷ delimiter ∷ delimiter ∷ chars r.now) }
+    ensures utf8 { IfSome result (λ r. IsUtf8 r.now) }
+{
+    after_char(
+        after_char(after_char(text, delimiter)?, delimiter)?,
+        delimiter,
+    )
+}
+
+/// Whether the character ends a line.
+fn is_line_end(c: char) -> bool
+    ensures { result ≡ is_line_end c }
+{
+    c == '\n' || c == '\r'
+}
+
+/// What follows the next delimiter in the line.
+fn after_next_one(text: &str, delimiter: char) -> Option<&str>
+    ensures cases { MatchOption result ((front after : List ℕ) → front ++ after ≡ chars text.now → ends_at_one delimiter front ≡ true → ⊥)
+        (λ r. (front : List ℕ) × (front ++ chars r.now ≡ chars text.now) × (ends_at_one delimiter front ≡ true)) }
+    ensures utf8 { IfSome result (λ r. IsUtf8 r.now) }
+{
+    let mut rest = text;
+    while let Some((c, after)) = split_first(rest) {
+        if c == delimiter {
+            return Some(after);
+        }
+        if is_line_end(c) {
+            return None;
+        }
+        rest = after;
+    }
+    None
+}
+
+/// What follows the next three delimiters in a row.
+fn after_next_three(text: &str, delimiter: char) -> Option<&str>
+    requires { delimiter < 128 }
+    ensures cases { MatchOption result ((front after : List ℕ) → front ++ after ≡ chars text.now → ends_at_three delimiter front ≡ true → ⊥)
+        (λ r. (front : List ℕ) × (front ++ chars r.now ≡ chars text.now) × (ends_at_three delimiter front ≡ true)) }
+    ensures utf8 { IfSome result (λ r. IsUtf8 r.now) }
+{
+    let mut rest = text;
+    while let Some((_, after)) = split_first(rest) {
+        if let Some(end) = after_three(rest, delimiter) {
+            return Some(end);
+        }
+        rest = after;
+    }
+    None
+}
+
+/// What follows the segment that begins with this delimiter.
+pub(crate) fn after_segment(text: &str, delimiter: char) -> Option<&str>
+    requires { delimiter < 128 }
+    ensures utf8 { IfSome result (λ r. IsUtf8 r.now) }
+{
+    let rest = match after_three(text, delimiter) {
+        Some(opened) => after_next_three(opened, delimiter)?,
+        None => after_next_one(after_char(text, delimiter)?, delimiter)?,
+    };
+    let segment = &text[..text.len() - rest.len()];
+    if !escapes_hold(segment, delimiter) {
+        return None;
+    }
+    Some(rest)
+}
