@@ -2,7 +2,10 @@
 ghost use Rattle.std.specs.Prelude.{◌≡◌, ◌∷◌, ◌++◌, ◌==◌, ◌&&◌, ◌<◌, ◌⊎◌, [], drop, not, true, false, length, ℕ, List, MatchOption, IfSome, IsTrue};
 ghost use Rattle.std.specs.Str.{chars, IsUtf8};
 ghost use Rattle.std.specs.Char.{is_ascii_hexdigit};
-ghost use Rattle.rn_text.specs.Segments.{after_run, is_x, escape_front, after_brace, escaped_char, after_escape, is_whole_escape, escapes_hold, three_of, ends_at_one, ends_at_three, is_line_end};
+ghost use Rattle.std.specs.List.{list_all};
+ghost use Rattle.std.specs.Str.Parse.{digits_value};
+ghost use Rattle.rn_text.specs.Characters.{is_xml_char};
+ghost use Rattle.rn_text.specs.Segments.{is_empty, after_run, is_x, escape_front, after_brace, escaped_char, after_escape, is_whole_escape, escapes_hold, three_of, ends_at_one, ends_at_three, is_line_end};
 
 use crate::characters::{after_char, is_xml_char, split_first};
 
@@ -29,18 +32,26 @@ pub(crate) fn after_escape_front(text: &str) -> Option<&str>
     after_char(after_xs(rest), '{')
 }
 
+/// The character of a text that hexadecimal digits number.
+fn xml_char_of(digits: &str) -> Option<char>
+    requires { list_all is_ascii_hexdigit (chars digits.now) ≡ true }
+    ensures { MatchOption result (is_empty (chars digits.now) ≡ false → is_xml_char (digits_value 16 (chars digits.now)) ≡ false)
+        (λ c. (is_empty (chars digits.now) ≡ false) × (is_xml_char c ≡ true) × (c ≡ digits_value 16 (chars digits.now))) }
+{
+    let number = u32::from_str_radix(digits, 16).ok()?;
+    let c = char::from_u32(number)?;
+    if is_xml_char(c) { Some(c) } else { None }
+}
+
 /// The character of a whole escape at the front, and what follows it.
 pub(crate) fn split_escape(text: &str) -> Option<(char, &str)>
-    ensures { MatchOption result (escape_front (chars text.now) ≡ true → is_whole_escape (chars text.now) ≡ false)
+    ensures cases { MatchOption result (escape_front (chars text.now) ≡ true → is_whole_escape (chars text.now) ≡ false)
         (λ p. (escape_front (chars text.now) ≡ true) × (is_whole_escape (chars text.now) ≡ true) × (p.0 ≡ escaped_char (chars text.now)) × (chars p.1.now ≡ after_escape (chars text.now))) }
+    ensures utf8 { IfSome result (λ p. IsUtf8 p.1.now) }
 {
     let digits = after_escape_front(text)?;
     let rest = after_hex_digits(digits);
-    let number = u32::from_str_radix(&digits[..digits.len() - rest.len()], 16).ok()?;
-    let c = char::from_u32(number)?;
-    if !is_xml_char(c) {
-        return None;
-    }
+    let c = xml_char_of(&digits[..digits.len() - rest.len()])?;
     Some((c, after_char(rest, '}')?))
 }
 
