@@ -5,7 +5,8 @@ ghost use Rattle.std.specs.Char.{is_ascii_hexdigit};
 ghost use Rattle.std.specs.List.{list_all};
 ghost use Rattle.std.specs.Str.Parse.{digits_value};
 ghost use Rattle.rn_text.specs.Characters.{is_xml_char};
-ghost use Rattle.rn_text.specs.Segments.{is_empty, after_run, is_x, escape_front, after_brace, escaped_char, after_escape, is_whole_escape, escapes_hold, three_of, ends_at_one, ends_at_three, is_line_end};
+ghost use Rattle.rn_text.specs.Parts.{IsDelimitedFront, IsNeverDelimited};
+ghost use Rattle.rn_text.specs.Segments.{is_empty, is_delimiter, after_run, is_x, escape_front, after_brace, escaped_char, after_escape, is_whole_escape, escapes_hold, three_of, ends_at_one, ends_at_three, is_line_end};
 
 use crate::characters::{after_char, is_xml_char, split_first};
 
@@ -56,7 +57,7 @@ pub(crate) fn split_escape(text: &str) -> Option<(char, &str)>
 }
 
 /// Whether each escape in the text is whole, and none stands for the delimiter.
-fn escapes_hold(text: &str, delimiter: char) -> bool
+pub(crate) fn escapes_hold(text: &str, delimiter: char) -> bool
     ensures { result ≡ escapes_hold delimiter (chars text.now) }
 {
     let mut rest = text;
@@ -127,18 +128,14 @@ fn after_next_three(text: &str, delimiter: char) -> Option<&str>
     None
 }
 
-/// What follows the segment that begins with this delimiter.
-pub(crate) fn after_segment(text: &str, delimiter: char) -> Option<&str>
-    requires { delimiter < 128 }
+/// What follows the delimiters that close the segment at the front.
+pub(crate) fn after_delimiters(text: &str, delimiter: char) -> Option<&str>
+    requires { (is_delimiter delimiter ≡ true) × ((cs : List ℕ) × (chars text.now ≡ delimiter ∷ cs)) }
+    ensures cases { MatchOption result (IsNeverDelimited (chars text.now)) (λ r. (front : List ℕ) × IsDelimitedFront (chars text.now) front (chars r.now)) }
     ensures utf8 { IfSome result (λ r. IsUtf8 r.now) }
 {
-    let rest = match after_three(text, delimiter) {
-        Some(opened) => after_next_three(opened, delimiter)?,
-        None => after_next_one(after_char(text, delimiter)?, delimiter)?,
-    };
-    let segment = &text[..text.len() - rest.len()];
-    if !escapes_hold(segment, delimiter) {
-        return None;
+    if let Some(opened) = after_three(text, delimiter) {
+        return after_next_three(opened, delimiter);
     }
-    Some(rest)
+    after_next_one(after_char(text, delimiter)?, delimiter)
 }
