@@ -1,8 +1,7 @@
 -- Segments at the front of a text.
-use Rattle.std.proofs.Common.{◌≡◌, ℕ, ◌+◌, ◌≤◌, Bool, true, false, cond, List, [], ◌∷◌, ◌++◌, length, drop, refl, sym, ap, ◌∙◌, subst, arith, ⊎_elim, eqb-true, ne_eqb, eq-eqb, Some, None}
+use Rattle.std.proofs.Common.{◌≡◌, ℕ, true, false, cond, List, [], ◌∷◌, ◌++◌, length, drop, refl, sym, ap, ◌∙◌, subst, arith, ⊎_elim, ne_eqb, eq-eqb, Some, None}
 use Rattle.std.specs.Prelude.{◌==◌, ◌&&◌, not, Option, MatchOption}
 use Rattle.std.proofs.lemmas.Bool.{cases_Bool, cond-true, cond-false, and_parts, and_from, and_left, and_right}
-use Rattle.std.specs.Str.{IsUtf8, chars}
 use Rattle.rn_text.specs.declared.parts.Part.{Part}
 use Rattle.rn_text.specs.declared.parts.Part.TheVariants.{Space, Comment, Token}
 use Rattle.rn_text.specs.declared.parts.Kind.TheVariants.{Name, Keyword, Quoted, Prefixed, AnyOf, Segment, Symbol}
@@ -11,7 +10,7 @@ use Rattle.rn_text.specs.Parts.{BeginsWith, IsFirstPart, IsDelimitedFront, IsNev
 use Rattle.rn_text.specs.Tokens.{BeginsNoPart}
 use Rattle.rn_text.proofs.Texts.{same_test}
 use Rattle.rn_text.proofs.Searches.{one_unique, three_grows}
-use Rattle.rn_text.proofs.FirstParts.{Class, quote, class_of, class_quote, front_of}
+use Rattle.rn_text.proofs.FirstParts.{quote, class_of, class_quote, front_of}
 use Rattle.rn_text.proofs.Unique.{same_front}
 
 only_segment : (part : Part) → class_of part ≡ quote → part ≡ Token Segment

@@ -1,44 +1,80 @@
 // Literals: from segments to their text, and back.
-ghost use Rattle.std.specs.Prelude.{◌≡◌, ◌++◌, ◌≤◌, ◌&&◌, ◌==◌, true, ℕ, List, length, IfOk, OnOk, OnErr};
+ghost use Rattle.std.specs.Prelude.{◌≡◌, ◌≢◌, ◌++◌, ◌∷◌, ◌<◌, ◌≤◌, ◌&&◌, ◌==◌, [], true, false, ℕ, List, length, IfOk, OnOk, OnErr, MatchOption, IfSome};
 ghost use Rattle.std.specs.String.{string_bytes};
 ghost use Rattle.std.specs.Prelude.{map};
 ghost use Rattle.std.specs.List.{flat_map};
-ghost use Rattle.std.specs.Str.{chars, encode_utf8_all};
-ghost use Rattle.rn_text.specs.Segments.{segment_text, is_segment};
-ghost use Rattle.rn_text.specs.Literals.{written, are_parted, literal_bytes, delimiter_for, between, quoted, segments};
+ghost use Rattle.std.specs.Str.{chars, encode_utf8_all, IsUtf8};
+ghost use Rattle.rn_text.specs.Segments.{segment_text, is_segment, is_delimiter, is_delimited, between_delimiters};
+ghost use Rattle.rn_text.specs.Literals.{StandsFor, written, are_parted, literal_bytes, delimiter_for, between, quoted, segments};
 
-use crate::characters::split_first;
-use crate::segments::{after_three, split_escape};
+use crate::characters::{after_char, split_first};
+use crate::segments::{after_three, is_delimiter, split_escape};
 use crate::source::Token;
 use std::alloc::{AllocError, Global};
 
-/// What stands between the delimiters of a segment.
-fn between_delimiters(segment: &str) -> &str {
-    let width = match split_first(segment) {
-        Some((delimiter, _)) if after_three(segment, delimiter).is_some() => 3,
-        _ => 1,
-    };
-    segment.get(width..segment.len() - width).unwrap_or("")
+/// What comes before the character, where it is the last.
+fn before_char(text: &str, c: char) -> Option<&str>
+    requires { c < 128 }
+    ensures cases { MatchOption result ((front : List ℕ) → chars text.now ≢ front ++ c ∷ []) (λ r. chars text.now ≡ chars r.now ++ c ∷ []) }
+    ensures utf8 { IfSome result (λ r. IsUtf8 r.now) }
+{
+    text.strip_suffix(c)
 }
 
-/// The text of a segment.
+/// What comes before the last three characters, where they are these.
+fn before_three(text: &str, c: char) -> Option<&str>
+    requires { c < 128 }
+    ensures cases { MatchOption result ((front : List ℕ) → chars text.now ≢ front ++ c ∷ c ∷ c ∷ []) (λ r. chars text.now ≡ chars r.now ++ c ∷ c ∷ c ∷ []) }
+    ensures utf8 { IfSome result (λ r. IsUtf8 r.now) }
+{
+    before_char(before_char(before_char(text, c)?, c)?, c)
+}
+
+/// What stands between the delimiters of a segment.
+fn between_delimiters(segment: &str) -> Option<&str>
+    ensures cases { MatchOption result (is_delimited (chars segment.now) ≡ false) (λ r. chars r.now ≡ between_delimiters (chars segment.now)) }
+    ensures utf8 { IfSome result (λ r. IsUtf8 r.now) }
+{
+    let (delimiter, opened) = split_first(segment)?;
+    if !is_delimiter(delimiter) {
+        return None;
+    }
+    if let Some(opened) = after_three(segment, delimiter) {
+        return before_three(opened, delimiter);
+    }
+    before_char(opened, delimiter)
+}
+
+/// The first character of a text, by what it is written as between delimiters, and what follows.
+fn split_text(rest: &str) -> Option<(char, &str)>
+    ensures cases { MatchOption result (chars rest.now ≡ []) (λ p. StandsFor (chars rest.now) p.0 (chars p.1.now)) }
+    ensures utf8 { IfSome result (λ p. IsUtf8 p.1.now) }
+{
+    let (first, after) = split_first(rest)?;
+    if let Some((escaped, after)) = split_escape(rest) {
+        return Some((escaped, after));
+    }
+    if first != '\r' {
+        return Some((first, after));
+    }
+    if let Some(behind) = after_char(after, '\n') {
+        return Some(('\n', behind));
+    }
+    Some(('\n', after))
+}
+
+/// The text of a segment: what stands between its delimiters, with each escape as its character and
+/// each line end as one line feed. Of a token that is no segment the text means nothing.
 pub fn literal(alloc: Global, segment: &Token<'_>) -> Result<String, AllocError>
-    requires { is_segment (chars segment.now.text.now) ≡ true }
-    ensures { IfOk result (λ out. string_bytes out ≡ encode_utf8_all (segment_text (chars segment.now.text.now))) }
+    ensures { IfOk result (λ out. is_segment (chars segment.now.text.now) ≡ true → string_bytes out ≡ encode_utf8_all (segment_text (chars segment.now.text.now))) }
 {
     let mut out = String::new(alloc);
-    let mut rest = between_delimiters(segment.text);
-    while let Some((c, after)) = split_first(rest) {
-        if let Some((escaped, after)) = split_escape(rest) {
-            out.push(escaped)?;
-            rest = after;
-        } else if c == '\r' {
-            out.push('\n')?;
-            rest = after.strip_prefix('\n').unwrap_or(after);
-        } else {
-            out.push(c)?;
-            rest = after;
-        }
+    let Some(mut rest) = between_delimiters(segment.text) else {
+        return Ok(out);
+    };
+    while let Some((c, after)) = split_text(rest) {
+        out.push(c)?;
+        rest = after;
     }
     Ok(out)
 }

@@ -73,6 +73,13 @@ pub(crate) fn escapes_hold(text: &str, delimiter: char) -> bool
     true
 }
 
+/// Whether the character opens a segment.
+pub(crate) fn is_delimiter(c: char) -> bool
+    ensures { result ≡ is_delimiter c }
+{
+    c == '"' || c == '\''
+}
+
 /// What follows three of the delimiter at the front.
 pub(crate) fn after_three(text: &str, delimiter: char) -> Option<&str>
     requires { delimiter < 128 }

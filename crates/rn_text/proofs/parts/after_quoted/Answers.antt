@@ -1,9 +1,9 @@
-use Rattle.std.proofs.Common.{◌≡◌, ◌∷◌, List, [], ℕ, sym, refl, ap, ◌∙◌, subst, rules, false}
+use Rattle.std.proofs.Common.{◌∷◌, sym, ap, ◌∙◌, rules}
 use Rattle.std.specs.Str.{chars}
 use Rattle.rn_text.specs.Segments.{begins_with}
 use Rattle.rn_text.specs.Characters.{is_name_start}
 use Rattle.rn_text.proofs.FirstParts.{none_at}
-use Rattle.rn_text.proofs.Names.{escape_none, quoted_none, quoted_at}
+use Rattle.rn_text.proofs.Names.{quoted_none, quoted_at}
 use Rattle.rn_text.proofs.parts.after_quoted.Goals as goal
 
 pub returns-clause-cases : goal.returns-clause-cases

@@ -1,4 +1,4 @@
-use Rattle.std.proofs.Common.{◌≡◌, ap, sym, ◌∙◌, rules, refl, ◌-◌, length}
+use Rattle.std.proofs.Common.{ap, sym, ◌∙◌, rules}
 use Rattle.std.specs.Str.{chars}
 use Rattle.rn_text.specs.Segments.{escapes_hold}
 use Rattle.rn_text.proofs.Texts.{cut_before, front_chars}

@@ -1,5 +1,4 @@
-use Rattle.std.proofs.Common.{◌≡◌, ◌∷◌, List, [], ℕ, sym, refl, ap, ◌∙◌, subst, rules, false}
-use Rattle.rn_text.specs.Parts.{is_symbol, IsLongestSymbol}
+use Rattle.std.proofs.Common.{◌∷◌, [], sym}
 use Rattle.std.specs.Str.{chars}
 use Rattle.rn_text.proofs.FirstParts.{pair_symbol, single_symbol, no_symbol, no_pair_after, longest_at, no_pair_in_nothing}
 use Rattle.rn_text.proofs.parts.after_symbol.Goals as goal

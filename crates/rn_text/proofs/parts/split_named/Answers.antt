@@ -1,6 +1,5 @@
-use Rattle.std.proofs.Common.{◌≡◌, ◌∷◌, List, ℕ, sym, refl, ap, ◌∙◌, true, false}
+use Rattle.std.proofs.Common.{◌≡◌, sym, refl, ap, ◌∙◌, false}
 use Rattle.std.specs.Str.{chars}
-use Rattle.std.specs.Prelude.{not}
 use Rattle.std.proofs.lemmas.Bool.{and_from, not_from_false}
 use Rattle.rn_text.specs.Characters.{is_keyword, is_ncname, is_name_char}
 use Rattle.rn_text.specs.Segments.{run_of}

@@ -1,8 +1,6 @@
-use Rattle.std.proofs.Common.{◌≡◌, ◌∷◌, List, [], ℕ, sym, refl, ap, ◌∙◌, subst, rules, ne_eqb}
+use Rattle.std.proofs.Common.{◌∷◌, [], sym, subst, rules, ne_eqb}
 use Rattle.std.specs.Str.{chars}
 use Rattle.rn_text.specs.Parts.{IsFirstPart}
-use Rattle.rn_text.specs.Tokens.{BeginsNoPart}
-use Rattle.std.proofs.lemmas.Bool.{or_from}
 use Rattle.rn_text.proofs.FirstParts.{none_in_nothing, white_first, comment_first, symbol_first, symbol_none, class_other, first_at, none_at}
 use Rattle.rn_text.proofs.parts.split_part.Goals as goal
 
@@ -24,7 +22,7 @@ returns-clause-cases c =
       first ∷ symbol.0,
       first_at _ _ _ _ _ c.in_ok-first.ensures.cases
           (symbol_first first (chars c.in_ok-first.rest.now) symbol.0 (chars c.in_ok-after_symbol.field-0.now)
-          (or_from _ _ (ne_eqb first 34 c.if-first-eq34.false) (ne_eqb first 39 c.if-first-eq39.false)) (ne_eqb first 92 c.if-first-eq92.false) symbol.1),
+          (sym c.if-is_delimiter.ensures) (ne_eqb first 92 c.if-first-eq92.false) symbol.1),
     )
 
 pub returns-in_err-after_symbol-clause-cases : goal.returns-in_err-after_symbol-clause-cases
@@ -32,7 +30,7 @@ returns-in_err-after_symbol-clause-cases c =
     let first = c.in_ok-first.first in
     let h = none_at (chars c.args.text.now) (first ∷ chars c.in_ok-first.rest.now) c.in_ok-first.ensures.cases
     (symbol_none first (chars c.in_ok-first.rest.now)
-    (class_other first (sym c.if-is_white.ensures) (ne_eqb first 35 c.if-first-eq35.false) (or_from _ _ (ne_eqb first 34 c.if-first-eq34.false) (ne_eqb first 39 c.if-first-eq39.false))
+    (class_other first (sym c.if-is_white.ensures) (ne_eqb first 35 c.if-first-eq35.false) (sym c.if-is_delimiter.ensures)
     (ne_eqb first 92 c.if-first-eq92.false) (sym c.if-is_name_start.ensures))
     c.in_err-after_symbol.ensures.cases) in
     search (rules, h)

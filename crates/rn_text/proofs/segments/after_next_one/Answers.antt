@@ -1,4 +1,4 @@
-use Rattle.std.proofs.Common.{◌≡◌, ◌∷◌, [], sym, refl, subst, ne_eqb}
+use Rattle.std.proofs.Common.{◌∷◌, [], sym, refl, subst, ne_eqb}
 use Rattle.std.specs.Str.{chars}
 use Rattle.rn_text.specs.Segments.{ends_at_one}
 use Rattle.rn_text.proofs.Searches.{Searched, search_start, search_step, search_found, search_none, none_left, one_step, one_none, one_here}

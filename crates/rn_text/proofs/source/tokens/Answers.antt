@@ -1,9 +1,9 @@
-use Rattle.std.proofs.Common.{◌≡◌, ◌++◌, List, [], ℕ, ◌≤◌, ◌-◌, false, sym, refl, ap, ◌∙◌, subst, arith, length, take, inl, inr, append-nil, is_ok, length-take-le}
+use Rattle.std.proofs.Common.{◌≡◌, ◌++◌, List, [], ℕ, ◌-◌, sym, ap, ◌∙◌, subst, arith, length, take, inl, inr, append-nil, is_ok, length-take-le}
 use Rattle.std.proofs.ResultArms.{chosen}
 use Rattle.std.specs.Prelude.{map}
 use Rattle.std.specs.Str.{chars, IsUtf8}
 use Rattle.rn_text.specs.Characters.{is_xml_char}
-use Rattle.rn_text.specs.Tokens.{lexeme_of, IsLexicalPlace, HasTokens, LeavesXmlAt, StopsAt, Lexeme, lexeme_at}
+use Rattle.rn_text.specs.Tokens.{lexeme_of, HasTokens, LeavesXmlAt, StopsAt, Lexeme, lexeme_at}
 use Rattle.rn_text.proofs.Texts.{cut_before}
 use Rattle.rn_text.proofs.Cuts.{CutSoFar, run_shorter, leaves_xml, all_xml, cut_from_start, stops_here, tokens_at_end, cut_more_bytes, no_lexeme, part_shortens, lexemes_more, same_lexeme}
 use Rattle.rn_text.proofs.source.tokens.Goals as goal
