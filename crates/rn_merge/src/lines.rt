@@ -1,4 +1,8 @@
 // The lines and statuses of the program. No line has a line end.
+ghost use Rattle.std.specs.Prelude.{◌≡◌, ◌++◌, ◌∷◌, [], ℕ, List, IfOk, OnOk, string_bytes};
+ghost use Rattle.rn_modset.specs.Contributions.{member};
+ghost use Rattle.rn_merge.specs.Lines.{identifier, key_text, refusal_name, refusal_fields, refusal_line, behind, list_line, add_line, bundle_line, place_line, fault_line, status};
+
 use std::alloc::{AllocError, Global};
 
 use rn_assemble::{Key, Refusal};
@@ -10,41 +14,19 @@ use crate::texts::Place;
 use crate::words::ProgramFault;
 
 /// The line of a refusal: its name and its fields, each after one space. A key is `start` or a definition's name, with
-/// a backslash if it is a keyword; `wanted` is a literal, and holds XML characters alone.
-pub fn refusal_line(alloc: Global, refusal: &Refusal) -> Result<String, AllocError> {
+/// a backslash if it is a keyword; the name that an include wants is a literal, and holds XML characters alone.
+pub fn refusal_line(alloc: Global, refusal: &Refusal) -> Result<String, AllocError>
+    ensures { IfOk result (λ line. string_bytes line ≡ refusal_line refusal.now) }
+{
     let mut line = String::from_str(alloc, refusal_name(refusal))?;
-    match refusal {
-        Refusal::Conflict { module, revision } => {
-            push_word(&mut line, module.as_str())?;
-            write!(&mut line, " {revision}")?;
-        }
-        Refusal::Encoding { module }
-        | Refusal::Lexical { module }
-        | Refusal::Deep { module }
-        | Refusal::Syntax { module }
-        | Refusal::Prefix { module }
-        | Refusal::Builtin { module }
-        | Refusal::ContextValue { module }
-        | Refusal::Except { module }
-        | Refusal::Cycle { module } => push_word(&mut line, module.as_str())?,
-        Refusal::Missing { module, wanted } => {
-            push_word(&mut line, module.as_str())?;
-            line.push_str(" ")?;
-            write_literal(&mut line, wanted.as_str())?;
-        }
-        Refusal::Override { module, key } => {
-            push_word(&mut line, module.as_str())?;
-            push_key(&mut line, key)?;
-        }
-        Refusal::PlainTwice { key } | Refusal::MixedMethods { key } | Refusal::NameClass { key } => push_key(&mut line, key)?,
-        Refusal::Undefined { name } | Refusal::Recursive { name } => push_identifier(&mut line, name.as_str())?,
-        Refusal::Instances | Refusal::NoStart | Refusal::OutputTooLarge | Refusal::OutputTooDeep | Refusal::Memory => {}
-    }
+    push_fields(&mut line, refusal)?;
     Ok(line)
 }
 
 /// The name of a refusal.
-fn refusal_name(refusal: &Refusal) -> &'static str {
+fn refusal_name(refusal: &Refusal) -> &'static str
+    ensures { result.now ≡ refusal_name refusal.now }
+{
     match refusal {
         Refusal::Conflict { .. } => "Conflict",
         Refusal::Encoding { .. } => "Encoding",
@@ -71,12 +53,49 @@ fn refusal_name(refusal: &Refusal) -> &'static str {
     }
 }
 
-fn push_word(line: &mut String, word: &str) -> Result<(), AllocError> {
+/// Appends the fields of a refusal, each after one space.
+fn push_fields(line: &mut String, refusal: &Refusal) -> Result<(), AllocError>
+    ensures { OnOk result (string_bytes line.new ≡ string_bytes line.old ++ behind (refusal_fields refusal.now)) }
+{
+    match refusal {
+        Refusal::Conflict { module, revision } => {
+            push_word(line, module.as_str())?;
+            write!(line, " {revision}")
+        }
+        Refusal::Encoding { module }
+        | Refusal::Lexical { module }
+        | Refusal::Deep { module }
+        | Refusal::Syntax { module }
+        | Refusal::Prefix { module }
+        | Refusal::Builtin { module }
+        | Refusal::ContextValue { module }
+        | Refusal::Except { module }
+        | Refusal::Cycle { module } => push_word(line, module.as_str()),
+        Refusal::Missing { module, wanted } => {
+            push_word(line, module.as_str())?;
+            line.push_str(" ")?;
+            write_literal(line, wanted.as_str())
+        }
+        Refusal::Override { module, key } => {
+            push_word(line, module.as_str())?;
+            push_key(line, key)
+        }
+        Refusal::PlainTwice { key } | Refusal::MixedMethods { key } | Refusal::NameClass { key } => push_key(line, key),
+        Refusal::Undefined { name } | Refusal::Recursive { name } => push_identifier(line, name.as_str()),
+        Refusal::Instances | Refusal::NoStart | Refusal::OutputTooLarge | Refusal::OutputTooDeep | Refusal::Memory => Ok(()),
+    }
+}
+
+fn push_word(line: &mut String, word: &str) -> Result<(), AllocError>
+    ensures { OnOk result (string_bytes line.new ≡ string_bytes line.old ++ 32 ∷ word.now) }
+{
     line.push_str(" ")?;
     line.push_str(word)
 }
 
-fn push_key(line: &mut String, key: &Key) -> Result<(), AllocError> {
+fn push_key(line: &mut String, key: &Key) -> Result<(), AllocError>
+    ensures { OnOk result (string_bytes line.new ≡ string_bytes line.old ++ 32 ∷ key_text key.now) }
+{
     match key {
         Key::Start => push_word(line, "start"),
         Key::Define(name) => push_identifier(line, name.as_str()),
@@ -84,7 +103,9 @@ fn push_key(line: &mut String, key: &Key) -> Result<(), AllocError> {
 }
 
 /// A definition's name (RELAX NG Compact Syntax, appendix A, identifier).
-fn push_identifier(line: &mut String, name: &str) -> Result<(), AllocError> {
+fn push_identifier(line: &mut String, name: &str) -> Result<(), AllocError>
+    ensures { OnOk result (string_bytes line.new ≡ string_bytes line.old ++ 32 ∷ identifier name.now) }
+{
     if is_keyword(name) {
         line.push_str(" \\")?;
         line.push_str(name)
@@ -95,7 +116,9 @@ fn push_identifier(line: &mut String, name: &str) -> Result<(), AllocError> {
 
 /// The line of `list` for a contribution: name, revision, and the text's length in bytes with its digest, or that it is
 /// withdrawn.
-pub fn list_line(alloc: Global, contribution: &Contribution) -> Result<String, AllocError> {
+pub fn list_line(alloc: Global, contribution: &Contribution) -> Result<String, AllocError>
+    ensures { IfOk result (λ line. string_bytes line ≡ list_line (member contribution.now)) }
+{
     let name = contribution.name.as_str();
     let revision = contribution.revision;
     match &contribution.text {
@@ -109,7 +132,9 @@ pub fn list_line(alloc: Global, contribution: &Contribution) -> Result<String, A
 }
 
 /// The line of a fault on standard error. Want of memory inside any fault is the line `Memory`.
-pub fn fault_line(alloc: Global, fault: &ProgramFault) -> Result<String, AllocError> {
+pub fn fault_line(alloc: Global, fault: &ProgramFault) -> Result<String, AllocError>
+    ensures { IfOk result (λ line. string_bytes line ≡ fault_line fault.now) }
+{
     match fault {
         ProgramFault::Usage => String::from_str(alloc, "usage"),
         ProgramFault::Rev => String::from_str(alloc, "usage: REV"),
@@ -125,7 +150,9 @@ pub fn fault_line(alloc: Global, fault: &ProgramFault) -> Result<String, AllocEr
     }
 }
 
-fn bundle_line(alloc: Global, file: usize, fault: &BundleFault) -> Result<String, AllocError> {
+fn bundle_line(alloc: Global, file: usize, fault: &BundleFault) -> Result<String, AllocError>
+    ensures { IfOk result (λ line. string_bytes line ≡ bundle_line file fault.now) }
+{
     match fault {
         BundleFault::Magic => format!(in alloc; "bundle {file} Magic"),
         BundleFault::Header { entry } => format!(in alloc; "bundle {file} Header {entry}"),
@@ -137,7 +164,9 @@ fn bundle_line(alloc: Global, file: usize, fault: &BundleFault) -> Result<String
     }
 }
 
-fn add_fault_name(fault: &AddFault) -> &'static str {
+fn add_fault_name(fault: &AddFault) -> &'static str
+    ensures { result.now ≡ add_line fault.now }
+{
     match fault {
         AddFault::BadName => "BadName",
         AddFault::TooLong => "TooLong",
@@ -146,7 +175,9 @@ fn add_fault_name(fault: &AddFault) -> &'static str {
     }
 }
 
-fn place_line(alloc: Global, place: &Place) -> Result<String, AllocError> {
+fn place_line(alloc: Global, place: &Place) -> Result<String, AllocError>
+    ensures { IfOk result (λ line. string_bytes line ≡ place_line place.now) }
+{
     match place {
         Place::Encoding { at } => format!(in alloc; "Encoding {at}"),
         Place::Lexical { at } => format!(in alloc; "Lexical {at}"),
@@ -162,7 +193,9 @@ fn place_line(alloc: Global, place: &Place) -> Result<String, AllocError> {
 
 /// The status with which the program ends after a fault: 1 where the input is refused, 2 for its words, 3 for files
 /// and want of memory.
-pub fn status(fault: &ProgramFault) -> u8 {
+pub fn status(fault: &ProgramFault) -> u8
+    ensures { result ≡ status fault.now }
+{
     match fault {
         ProgramFault::Usage | ProgramFault::Rev | ProgramFault::Dash => 2,
         ProgramFault::Read(_)

@@ -1,4 +1,7 @@
 // What the words of a call ask for.
+ghost use Rattle.std.specs.Prelude.{◌≡◌, ℕ, List, IfOk, MatchOption, map, string_bytes, decimal, ◌≢◌, ◌<◌, ◌^◌};
+ghost use Rattle.rn_merge.specs.Words.{AreFiles, NamesFiles};
+
 use std::alloc::{AllocError, Global};
 
 use clap::error::ErrorKind;
@@ -90,7 +93,9 @@ impl From<RunFault> for ProgramFault {
 /// What the words behind the program's name ask for; no words ask for the schema of standard input. No file is read.
 /// `Usage` where the words have the form of no command, then `Rev` where a revision is not a decimal number of 64 bits
 /// without sign and leading zeros, then `Dash` where standard input is named twice.
-pub fn plan(alloc: Global, words: &[String]) -> Result<Job, ProgramFault> {
+pub fn plan(alloc: Global, words: &[String]) -> Result<Job, ProgramFault>
+    ensures { IfOk result NamesFiles }
+{
     if words.is_empty() {
         let files = copies(alloc, [STANDARD_INPUT].as_slice())?;
         return Ok(Job::Print { files });
@@ -137,7 +142,9 @@ fn with_files<'a>(alloc: Global, name: &'a str) -> Result<Command<'a>, AllocErro
 }
 
 /// What a command asks for with its words.
-fn command_job(alloc: Global, command: &str, words: &ArgMatches<'_>) -> Result<Job, ProgramFault> {
+fn command_job(alloc: Global, command: &str, words: &ArgMatches<'_>) -> Result<Job, ProgramFault>
+    ensures { IfOk result NamesFiles }
+{
     match command {
         "pack" => Ok(Job::Pack {
             name: word(alloc, words, "NAME")?,
@@ -181,7 +188,9 @@ fn revision(words: &ArgMatches<'_>) -> Result<u64, ProgramFault> {
 }
 
 /// The number of which the text is the decimal form.
-fn decimal(text: &str) -> Option<u64> {
+fn decimal(text: &str) -> Option<u64>
+    ensures { MatchOption result ((n : ℕ) → n < 2 ^ 64 → text.now ≢ decimal n) (λ n. text.now ≡ decimal n) }
+{
     match text.as_bytes() {
         b"0" => Some(0),
         [b'1'..=b'9', ..] => text.parse().ok(),
@@ -190,7 +199,9 @@ fn decimal(text: &str) -> Option<u64> {
 }
 
 /// The words `FILE`, of which one at most is standard input.
-fn files(alloc: Global, words: &ArgMatches<'_>) -> Result<Vec<String>, ProgramFault> {
+fn files(alloc: Global, words: &ArgMatches<'_>) -> Result<Vec<String>, ProgramFault>
+    ensures { IfOk result (λ files. AreFiles (map string_bytes files.items)) }
+{
     let Some(files) = words.get_strs("FILE") else {
         return Err(ProgramFault::Usage);
     };
@@ -203,7 +214,9 @@ fn files(alloc: Global, words: &ArgMatches<'_>) -> Result<Vec<String>, ProgramFa
     Ok(copies(alloc, files)?)
 }
 
-fn copies(alloc: Global, words: &[&str]) -> Result<Vec<String>, AllocError> {
+fn copies(alloc: Global, words: &[&str]) -> Result<Vec<String>, AllocError>
+    ensures { IfOk result (λ copies. map string_bytes copies.items ≡ map (λ word. word.now) words.now) }
+{
     let mut copies = Vec::new(alloc);
     for word in words {
         copies.push(String::from_str(alloc, word)?)?;
