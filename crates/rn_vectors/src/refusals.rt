@@ -141,7 +141,7 @@ const ROWS: [Row; 35] = [
         answer: "NameClass start",
     },
     Row {
-        set: &[("a", 1, Some("include \"gone \\x{22}\" start = text"))],
+        set: &[("a", 1, Some("include 'gone \\x{22}' start = text"))],
         answer: "Missing a \"gone \" ~ '\"'",
     },
 ];

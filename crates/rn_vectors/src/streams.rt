@@ -22,7 +22,7 @@ struct Room {
     failed: bool,
 }
 
-fn room(alloc: Global, room: usize) -> Room
+fn sink_of(alloc: Global, room: usize) -> Room
     ensures { result.failed ≡ false }
 {
     Room {
@@ -61,7 +61,7 @@ struct Bytes {
     ended: bool,
 }
 
-fn bytes(left: &'static [u8], until_failure: usize) -> Bytes
+fn source_of(left: &'static [u8], until_failure: usize) -> Bytes
     ensures failed { result.failed ≡ false }
     ensures ended { result.ended ≡ false }
 {
@@ -116,7 +116,7 @@ fn bundles(alloc: Global, given: &[Given]) -> Result<Vec<Vec<u8>>, Fail> {
 fn bundles_are_merged_in_any_order(rt: HostRuntime) -> Result<(), Fail> {
     let alloc = rt.alloc();
     for given in [[A, B, A], [B, A, A], [A, A, B]] {
-        let mut out = room(alloc, 1000);
+        let mut out = sink_of(alloc, 1000);
         let status = run_print(alloc, bundles(alloc, &given)?.as_slice(), &mut out).map_err(Fail::from)?;
         assert_eq!(rt; status, Status::Done);
         assert_eq!(rt; out.taken.as_slice(), PRINTED.as_bytes());
@@ -130,12 +130,12 @@ fn a_sink_that_fails_has_the_bytes_before(rt: HostRuntime) -> Result<(), Fail> {
     let given = bundles(alloc, &[A, B])?;
     assert_eq!(rt; PRINTED.len(), 82);
     for place in 0..82 {
-        let mut out = room(alloc, place);
+        let mut out = sink_of(alloc, place);
         let fault = run_print(alloc, given.as_slice(), &mut out).err();
         assert_eq!(rt; fault, Some(RunFault::Write));
         assert_eq!(rt; out.taken.as_slice(), &PRINTED.as_bytes()[..place]);
     }
-    let mut out = room(alloc, 82);
+    let mut out = sink_of(alloc, 82);
     let status = run_print(alloc, given.as_slice(), &mut out).map_err(Fail::from)?;
     assert_eq!(rt; status, Status::Done);
     Ok(())
@@ -144,12 +144,12 @@ fn a_sink_that_fails_has_the_bytes_before(rt: HostRuntime) -> Result<(), Fail> {
 #[test]
 fn nothing_is_written_without_a_schema(rt: HostRuntime) -> Result<(), Fail> {
     let alloc = rt.alloc();
-    let mut out = room(alloc, 1000);
+    let mut out = sink_of(alloc, 1000);
     let none = run_print(alloc, &[], &mut out).map_err(Fail::from)?;
     assert_eq!(rt; none, Status::Refused(Refusal::NoStart));
     let mut given = bundles(alloc, &[A, B])?;
     given.push(Vec::from_slice(alloc, b"rncset 1\nend 0")?)?;
-    let mut second = room(alloc, 1000);
+    let mut second = sink_of(alloc, 1000);
     let fault = run_print(alloc, given.as_slice(), &mut second).err();
     assert_eq!(rt; fault, Some(RunFault::Bundle { index: 2, fault: BundleFault::Truncated }));
     assert_eq!(rt; out.taken.len() + second.taken.len(), 0);
@@ -159,13 +159,13 @@ fn nothing_is_written_without_a_schema(rt: HostRuntime) -> Result<(), Fail> {
 #[test]
 fn inputs_are_read_to_their_end(rt: HostRuntime) -> Result<(), Fail> {
     let alloc = rt.alloc();
-    let mut whole = bytes(b"five!", usize::MAX);
+    let mut whole = source_of(b"five!", usize::MAX);
     let read = read_input(alloc, &mut whole, 5).map_err(Fail::from)?;
     assert_eq!(rt; read.as_slice(), b"five!".as_slice());
     assert!(rt; whole.ended() && !whole.failed());
-    assert_eq!(rt; read_input(alloc, &mut bytes(b"five!", usize::MAX), 4).err(), Some(ReadFault::Large));
-    assert_eq!(rt; read_input(alloc, &mut bytes(b"five!", 3), 5).err(), Some(ReadFault::Read));
-    let mut out = room(alloc, 3);
+    assert_eq!(rt; read_input(alloc, &mut source_of(b"five!", usize::MAX), 4).err(), Some(ReadFault::Large));
+    assert_eq!(rt; read_input(alloc, &mut source_of(b"five!", 3), 5).err(), Some(ReadFault::Read));
+    let mut out = sink_of(alloc, 3);
     assert_eq!(rt; write_output(&mut out, b"five!").err(), Some(Failed));
     assert!(rt; out.failed());
     assert_eq!(rt; out.taken.as_slice(), b"fiv".as_slice());
