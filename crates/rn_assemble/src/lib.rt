@@ -8,3 +8,5 @@ pub mod refusal;
 pub use assembly::assemble;
 pub use grammar::Grammar;
 pub use refusal::{Key, Refusal};
+
+pub mod laws;

@@ -12,5 +12,8 @@ pub use texts::{Place, check};
 pub use lines::{fault_line, list_line, refusal_line, status};
 pub use verdict::merge;
 pub use words::{Job, ProgramFault, plan};
-pub use run::{RunFault, Status, run_print};
+pub use run::{RunFault, Status, read_bundles, run_print};
 pub use streams::{Failed, Input, Output, ReadFault, Sink, Source, read_input, write_output};
+
+#[cfg(test)]
+mod tests;
