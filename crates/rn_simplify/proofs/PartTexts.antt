@@ -1,6 +1,6 @@
 -- The bytes of the parts of a text.
 use Rattle.std.proofs.Common.{◌≡◌, ℕ, ◌+◌, ◌<◌, List, [], ◌∷◌, ◌++◌, length, map, refl, sym, ap, ◌∙◌, subst, append_assoc, append-nil, cond, nat_eq, true, false, Bool, Some}
-use Rattle.std.specs.Prelude.{codes, string_bytes, ◌==◌, bytes_eq, ◌&&◌, option_and_then, Option, None, nat_lt}
+use Rattle.std.specs.Prelude.{codes, string_bytes, ◌==◌, bytes_eq, ◌&&◌, option_and_then, Option, None, nat_lt, decimal, ◌^◌}
 use Rattle.std.specs.Str.{chars, encode_utf8_all, IsUtf8}
 use Rattle.std.proofs.lemmas.Str.{encodes-append, encodes-chars}
 use Rattle.std.proofs.Math.Dec.{eqb-suc-zero}
@@ -11,8 +11,10 @@ use Rattle.rn_text.specs.Characters.{is_keyword}
 use Rattle.rn_text.specs.Parts.{Piece, text_of}
 use Rattle.rn_pattern.specs.Tree.{Text, NameTree, any_name, any_name_but, ns_name, ns_name_but, name, name_choice}
 use Rattle.rn_simplify.specs.declared.writer.Writer.{Writer}
-use Rattle.rn_simplify.specs.Spelling.{Prefixes, Shape, Written, closed, postfixed, chained, space, symbol, keyword, word, identifier, prefixed, any_of, name_piece, type_piece, namespace_prefix, library_prefix, infix_of, comma, parenthesized, braced, operand, primary, operand_in, primary_in, but, written_name}
+use Rattle.rn_simplify.specs.Spelling.{Prefixes, Shape, Written, closed, postfixed, chained, space, symbol, keyword, word, identifier, prefixed, any_of, name_piece, type_piece, namespace_prefix, library_prefix, place, infix_of, comma, parenthesized, braced, operand, primary, operand_in, primary_in, but, written_name}
 use Rattle.rn_simplify.specs.Writes.{bytes_of, bracket_of, depth_after, depth_behind, opening, closing, none, Writes, WritesBytes}
+use Rattle.rn_syntax.specs.Places.{xml_uri, xsd_uri}
+use Rattle.rn_simplify.proofs.Numbered.{numbered_bytes}
 use Rattle.rn_simplify.proofs.Writing.{writes_then, writes_pieces, writes_as, bytes_then}
 
 -- ---- one part
@@ -153,3 +155,32 @@ unfolding lib.Utf8.encode
 writes_ns_but f u n h j k =
     writes_then (any_of (namespace_prefix f u) ∷ []) (infix_of (codes "-") ++ primary (written_name f n)) h
     (writes_then (infix_of (codes "-")) (primary (written_name f n)) (writes_pieces _ refl (λ i. refl) j) (writes_as (class_primary f n) k))
+
+-- ---- prefixes
+
+
+pub empty_namespace : (f : Prefixes) (u : Text) → nat_eq (length u) 0 ≡ true → codes "n0" ≡ encode_utf8_all (namespace_prefix f u)
+unfolding lib.Utf8.encode
+empty_namespace f [] e = refl
+empty_namespace f (c ∷ u) e = absurd (let x = eqb-suc-zero (length u) in cc)
+
+xml_by : (b d : Bool) (n : List ℕ) → b ≡ false → d ≡ true → codes "xml" ≡ encode_utf8_all (cond b (codes "n0") (cond d (codes "xml") n))
+unfolding lib.Utf8.encode
+xml_by true d n e h = absurd cc
+xml_by false true n e h = refl
+xml_by false false n e h = absurd cc
+
+numbered_by : (b d : Bool) (n : List ℕ) → b ≡ false → d ≡ false → encode_utf8_all n ≡ encode_utf8_all (cond b (codes "n0") (cond d (codes "xml") n))
+numbered_by true d n e h = absurd cc
+numbered_by false true n e h = absurd cc
+numbered_by false false n e h = refl
+
+not_empty : (u : Text) → nat_eq (length u) 0 ≡ false → bytes_eq u [] ≡ false
+not_empty [] e = absurd cc
+not_empty (c ∷ u) e = refl
+
+pub xml_namespace : (f : Prefixes) (u : Text) → nat_eq (length u) 0 ≡ false → bytes_eq u xml_uri ≡ true → codes "xml" ≡ encode_utf8_all (namespace_prefix f u)
+xml_namespace f u e h = xml_by (bytes_eq u []) (bytes_eq u xml_uri) _ (not_empty u e) h
+
+pub other_namespace : (f : Prefixes) (u : Text) → nat_eq (length u) 0 ≡ false → bytes_eq u xml_uri ≡ false → place u f.namespaces < 2 ^ 64 → codes "n" ++ decimal (place u f.namespaces) ≡ encode_utf8_all (namespace_prefix f u)
+other_namespace f u e h l = sym (numbered_bytes 110 (place u f.namespaces) refl l) ∙ numbered_by (bytes_eq u []) (bytes_eq u xml_uri) _ (not_empty u e) h

@@ -121,9 +121,10 @@ pub(crate) struct Prefixes {
 fn place(texts: &IndexSet<String>, text: &str) -> usize
     ensures { result ≡ place text.now (map (λ u. string_bytes u) texts.now.keys) }
 {
+    let count = texts.len();
     match texts.get_index_of(text) {
         Some(i) => i + 1,
-        None => texts.len(),
+        None => count,
     }
 }
 
