@@ -184,3 +184,46 @@ xml_namespace f u e h = xml_by (bytes_eq u []) (bytes_eq u xml_uri) _ (not_empty
 
 pub other_namespace : (f : Prefixes) (u : Text) → nat_eq (length u) 0 ≡ false → bytes_eq u xml_uri ≡ false → place u f.namespaces < 2 ^ 64 → codes "n" ++ decimal (place u f.namespaces) ≡ encode_utf8_all (namespace_prefix f u)
 other_namespace f u e h l = sym (numbered_bytes 110 (place u f.namespaces) refl l) ∙ numbered_by (bytes_eq u []) (bytes_eq u xml_uri) _ (not_empty u e) h
+
+-- ---- datatypes
+
+pub writes_built_in : (f : Prefixes) (l x : Text) {a b : Writer} → nat_eq (length l) 0 ≡ true → IsUtf8 x → WritesBytes x none a b → Writes (type_piece f l x ∷ []) a b
+writes_built_in f [] x e u h = writes_keyword x u h
+writes_built_in f (c ∷ l) x e u h = absurd (let y = eqb-suc-zero (length l) in cc)
+
+xsd_by : (b : Bool) (n : List ℕ) → b ≡ true → cond b (codes "xsd") n ≡ codes "xsd"
+xsd_by true n e = refl
+xsd_by false n e = absurd cc
+
+other_by : (b : Bool) (n : List ℕ) → b ≡ false → cond b (codes "xsd") n ≡ n
+other_by true n e = absurd cc
+other_by false n e = refl
+
+xsd_bytes : (f : Prefixes) (l : Text) → bytes_eq l xsd_uri ≡ true → encode_utf8_all (library_prefix f l) ≡ codes "xsd"
+unfolding lib.Utf8.encode
+xsd_bytes f l e = ap encode_utf8_all (xsd_by (bytes_eq l xsd_uri) _ e)
+
+other_library : (f : Prefixes) (l : Text) → bytes_eq l xsd_uri ≡ false → place l f.libraries < 2 ^ 64 → encode_utf8_all (library_prefix f l) ≡ codes "d" ++ decimal (place l f.libraries)
+other_library f l e h = ap encode_utf8_all (other_by (bytes_eq l xsd_uri) _ e) ∙ numbered_bytes 100 (place l f.libraries) refl h
+
+prefixed_type : (f : Prefixes) (l x : Text) {a b : Writer} → nat_eq (length l) 0 ≡ false → Writes (prefixed (library_prefix f l) (chars x) ∷ []) a b → Writes (type_piece f l x ∷ []) a b
+prefixed_type f [] x e h = absurd cc
+prefixed_type f (c ∷ l) x e h = h
+
+xsd_not_empty : (l : Text) → bytes_eq l xsd_uri ≡ true → nat_eq (length l) 0 ≡ false
+xsd_not_empty [] e = absurd cc
+xsd_not_empty (c ∷ l) e = eqb-suc-zero (length l)
+
+-- a type of the XML Schema library, with the colon written with the prefix
+pub writes_schema_type : (f : Prefixes) (l x : Text) {a b c : Writer} → bytes_eq l xsd_uri ≡ true → IsUtf8 x → WritesBytes (codes "xsd:") none a b → WritesBytes x none b c → Writes (type_piece f l x ∷ []) a c
+unfolding lib.Utf8.encode
+writes_schema_type f l x {a} {b} {c} e u h k =
+    prefixed_type f l x (xsd_not_empty l e)
+    (writes_part (Token Prefixed) (library_prefix f l ++ 58 ∷ chars x) _ refl (encodes-append (library_prefix f l) (58 ∷ chars x) ∙ (λ i. xsd_bytes f l e i ++ (58 ∷ encodes-chars x u i))) (bytes_then (codes "xsd:") x h k))
+
+pub writes_library_type : (f : Prefixes) (l x : Text) (n : ℕ) {a b c d z : Writer} → nat_eq (length l) 0 ≡ false → bytes_eq l xsd_uri ≡ false → IsUtf8 x → n ≡ place l f.libraries → n < 2 ^ 64
+    → WritesBytes (codes "d") none a b → WritesBytes (decimal n) none b c → WritesBytes (codes ":") none c d → WritesBytes x none d z → Writes (type_piece f l x ∷ []) a z
+writes_library_type f l x n {a} {b} {c} {d} {z} e s u p m h j k o =
+    prefixed_type f l x e
+    (writes_prefixed (library_prefix f l) x u
+    (subst (λ bs. WritesBytes bs none a c) (ap (λ i. codes "d" ++ decimal i) p ∙ sym (other_library f l s (subst (λ i. i < 2 ^ 64) p m))) (bytes_then (codes "d") (decimal n) h j)) k o)

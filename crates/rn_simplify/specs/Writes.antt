@@ -14,7 +14,11 @@ use Rattle.rn_simplify.specs.declared.shapes.Shape.{Shape}
 use Rattle.rn_simplify.specs.declared.shapes.Shape.TheVariants.{Closed, Postfixed, Chained}
 use Rattle.rn_simplify.specs.declared.declarations.Prefixes as code
 use Rattle.rn_simplify.specs.Spelling as s
-use Rattle.rn_simplify.specs.Spelling.{closed, postfixed, chained}
+use Rattle.rn_simplify.specs.Spelling.{closed, postfixed, chained, Written, written_tree}
+use Rattle.std.specs.declared.rc.Rc.{Rc}
+use Rattle.std.specs.declared.alloc.Global.{Global}
+use Rattle.rn_pattern.specs.declared.tree.Pattern.{Pattern}
+use Rattle.rn_simplify.specs.View.{pattern_view}
 
 -- the pieces in bytes
 abbrev pub bytes_of : List Piece → Text
@@ -92,3 +96,12 @@ shape_view Chained = chained
 -- the texts that have prefixes, in their order
 abbrev pub prefixes_view : code.Prefixes → s.Prefixes
 prefixes_view f = record { namespaces = map (λ u. string_bytes u) f.namespaces.keys; libraries = map (λ l. string_bytes l) f.libraries.keys }
+
+-- the members of a list as they are written
+abbrev pub rows_of : s.Prefixes → List (Rc Pattern Global) → List Written
+rows_of f ps = map (λ (p : Rc Pattern Global). written_tree f (pattern_view p.value)) ps
+
+-- the first of them passes
+abbrev pub begins : (Written → Bool) → List Written → Bool
+begins p [] = false
+begins p (w ∷ ws) = p w

@@ -157,14 +157,17 @@ impl Prefixes {
     pub(crate) fn write_type(&self, writer: &mut Writer, library: &str, type_name: &str)
         ensures { Writes (type_piece (prefixes_view self.now) library.now type_name.now ∷ []) writer.old writer.new }
     {
-        if library == XSD {
+        if library.is_empty() {
+            writer.put(type_name);
+        } else if library == XSD {
             writer.put("xsd:");
-        } else if !library.is_empty() {
+            writer.put(type_name);
+        } else {
             writer.put("d");
             writer.number(place(&self.libraries, library));
             writer.put(":");
+            writer.put(type_name);
         }
-        writer.put(type_name);
     }
 
     /// Writes the declarations, one a line.

@@ -1,25 +1,18 @@
-use Rattle.std.proofs.Common.{rules, ◌≡◌, ℕ, ◌+◌, ◌-◌, ◌*◌, ◌<◌, ◌≤◌, length, ◌/◌, ◌%◌, Bool, true, false, nat_eq, nat_lt, List, [], ◌∷◌, ◌++◌, slice_index_or, slice_set, bit_and, bit_or, Fits, w8, w32, w64, Bor, MutBor}
-use Rattle.rn_simplify.specs.Spelling.{Prefixes, written_name, written_tree}
-use Rattle.rn_simplify.specs.View.{name_class_view, pattern_view}
-use Rattle.rn_simplify.specs.Writes.{shape_view}
+use Rattle.std.proofs.Common.{◌≡◌, sym, ap, ◌∙◌}
+use Rattle.rn_simplify.specs.Spelling.{Shape, Written, written_tree, written_interleave, written_choice}
+use Rattle.rn_simplify.specs.View.{pattern_view}
+use Rattle.rn_simplify.specs.Writes.{rows_of}
+use Rattle.rn_simplify.proofs.Members.{interleave_rows, choice_rows}
 use Rattle.rn_simplify.proofs.shapes.shape_of_pattern.Goals as goal
 
--- src/shapes.rt:38:1
 pub returns-in-Interleave : goal.returns-in-Interleave
-returns-in-Interleave c = ?
+returns-in-Interleave c = λ f.
+    c.shape_of_interleave.ensures f
+    ∙ ap (λ ps. (written_interleave (rows_of f ps)).shape) c.deref.ensures.value
+    ∙ sym (ap (λ p. (written_tree f (pattern_view p)).shape) c.in-Interleave.is ∙ ap (λ w. w.shape) (interleave_rows f c.in-Interleave.members))
 
--- src/shapes.rt:38:1
-pub returns-in-Interleave-2 : goal.returns-in-Interleave-2
-returns-in-Interleave-2 c = ?
-
--- src/shapes.rt:38:1
 pub returns-in-Choice : goal.returns-in-Choice
-returns-in-Choice c = ?
-
--- src/shapes.rt:38:1
-pub returns-in-Choice-2 : goal.returns-in-Choice-2
-returns-in-Choice-2 c = ?
-
--- src/shapes.rt:38:1
-pub returns-in-Choice-3 : goal.returns-in-Choice-3
-returns-in-Choice-3 c = ?
+returns-in-Choice c = λ f.
+    c.shape_of_choice.ensures f
+    ∙ ap (λ ps. (written_choice (rows_of f ps)).shape) c.deref-in-Choice.ensures.value
+    ∙ sym (ap (λ p. (written_tree f (pattern_view p)).shape) c.in-Choice.is ∙ ap (λ w. w.shape) (choice_rows f c.in-Choice.members))
