@@ -5,7 +5,7 @@ use Rattle.rn_text.specs.Parts.{Piece}
 use Rattle.rn_pattern.specs.Tree.{name_trees_of}
 use Rattle.rn_pattern.specs.declared.tree.NameClass.{NameClass}
 use Rattle.rn_simplify.specs.Spelling.{Prefixes, Written, operand, chain, written_name, written_names}
-use Rattle.rn_simplify.specs.View.{name_class_view}
+use Rattle.rn_pattern.specs.View.{name_class_view}
 use Rattle.rn_simplify.specs.declared.writer.Writer.{Writer}
 use Rattle.rn_simplify.specs.Writes.{Writes}
 use Rattle.rn_simplify.proofs.Writing.{writes_nil, writes_as, writes_then}

@@ -9,7 +9,7 @@ use Rattle.rn_pattern.specs.declared.tree.Pattern.TheOpen.{Pattern-F}
 use Rattle.rn_pattern.specs.declared.tree.Pattern.TheFolds.{fold-roll-Pattern}
 use Rattle.rn_pattern.specs.declared.tree.Pattern.TheVariants as p
 use Rattle.rn_simplify.specs.Spelling.{Prefixes, Written, written, chained, chain, comma, written_tree, written_trees, written_choice, written_interleave}
-use Rattle.rn_simplify.specs.View.{pattern_step, pattern_view}
+use Rattle.rn_pattern.specs.View.{pattern_step, pattern_view}
 use Rattle.rn_simplify.specs.Writes.{rows_of}
 
 -- each member, shared, with its tree in its place

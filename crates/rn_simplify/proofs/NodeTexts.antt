@@ -13,7 +13,7 @@ use Rattle.rn_pattern.specs.declared.tree.Pattern.TheViews.{out-Pattern, roll-Pa
 use Rattle.rn_pattern.specs.declared.tree.Pattern.TheFolds.{fold-roll-Pattern}
 use Rattle.rn_simplify.specs.declared.writer.Writer.{Writer}
 use Rattle.rn_simplify.specs.Spelling.{Prefixes, Written, symbol, keyword, space, infix_of, braced, parenthesized, primary, operand, chain, chain_or_one, datum_pieces, optional, optional_one, written_name, written_tree, written_choice, written_interleave}
-use Rattle.rn_simplify.specs.View.{pattern_step, pattern_view}
+use Rattle.rn_pattern.specs.View.{pattern_step, pattern_view}
 use Rattle.rn_simplify.specs.Writes.{rows_of, begins, none, opening, closing, Writes, WritesBytes}
 use Rattle.rn_simplify.proofs.Writing.{writes_nil, writes_then, writes_pieces, writes_as}
 use Rattle.rn_simplify.proofs.PartTexts.{writes_minus, writes_braced, writes_parenthesized}

@@ -2,7 +2,7 @@
 use Rattle.std.proofs.Common.{◌≡◌, ℕ, zero, suc, ◌+◌, ◌<◌, List, [], ◌∷◌, ◌++◌, length, map, take, drop, refl, sym, ap, ◌∙◌, subst, append_assoc, append-nil, cond, nat_eq, true, false, Bool, Some, arith, not}
 use Rattle.std.specs.Prelude.{codes, String, string_bytes, bytes_eq, ◌&&◌}
 use Rattle.std.specs.declared.alloc.Global.{Global}
-use Rattle.rn_simplify.specs.View.{parameters_view}
+use Rattle.rn_pattern.specs.View.{parameters_view}
 use Rattle.std.specs.Str.{chars, encode_utf8_all, IsUtf8}
 use Rattle.std.proofs.Math.Dec.{eqb-suc-zero}
 use Rattle.rn_text.specs.Literals.{literal_bytes, segments, quoted, joined, literal_of}

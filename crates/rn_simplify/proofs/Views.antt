@@ -8,7 +8,7 @@ use Rattle.rn_pattern.specs.declared.tree.NameClass.{NameClass}
 use Rattle.rn_pattern.specs.declared.tree.NameClass.TheOpen.{NameClass-F}
 use Rattle.rn_pattern.specs.declared.tree.NameClass.TheFolds.{fold-roll-NameClass}
 use Rattle.rn_pattern.specs.declared.tree.NameClass.TheVariants as n
-use Rattle.rn_simplify.specs.View.{name_class_step, name_class_view}
+use Rattle.rn_pattern.specs.View.{name_class_step, name_class_view}
 
 pub any_but_view : (p : Box NameClass Global) → name_class_view (n.AnyName (Some p)) ≡ tree.any_name_but (name_class_view p.value)
 any_but_view p = ap name_class_view (sym (n.rolls-AnyName (Some p))) ∙ fold-roll-NameClass NameTree name_class_step (NameClass-F.AnyName (Some p))

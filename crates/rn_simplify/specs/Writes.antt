@@ -18,7 +18,7 @@ use Rattle.rn_simplify.specs.Spelling.{closed, postfixed, chained, Written, writ
 use Rattle.std.specs.declared.rc.Rc.{Rc}
 use Rattle.std.specs.declared.alloc.Global.{Global}
 use Rattle.rn_pattern.specs.declared.tree.Pattern.{Pattern}
-use Rattle.rn_simplify.specs.View.{pattern_view}
+use Rattle.rn_pattern.specs.View.{pattern_view}
 
 -- the pieces in bytes
 abbrev pub bytes_of : List Piece → Text

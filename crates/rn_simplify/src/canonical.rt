@@ -1,4 +1,8 @@
 // The canonical form of a pattern, built in a store (RELAX NG, 4.20 and 4.21).
+ghost use Rattle.std.specs.Prelude.{All, IfOk, IfSome, IsTrue};
+ghost use Rattle.rn_pattern.specs.Store.{KeepsTrees};
+ghost use Rattle.rn_simplify.specs.Numbered.{AreKnown};
+
 use std::alloc::{AllocError, Global};
 use std::rc::Rc;
 
@@ -18,7 +22,11 @@ fn reference<P: Patterns>(
     store: &mut P,
     settled: &Settled<'_, P::Id>,
     name: &str,
-) -> Result<P::Id, AllocError> {
+) -> Result<P::Id, AllocError>
+    requires { AreKnown (P.knows store.old) settled.now.worth.items }
+    ensures known { IfOk result (λ i. IsTrue (P.knows store.new i)) }
+    ensures kept { KeepsTrees (P.knows store.old) (P.tree_of store.old) (P.knows store.new) (P.tree_of store.new) }
+{
     if let Some(number) = settled.names.get_index_of(name) {
         if let Some(Some(id)) = settled.worth.get(number) {
             return Ok(*id);
@@ -28,7 +36,10 @@ fn reference<P: Patterns>(
 }
 
 /// The id if its pattern is notAllowed or empty.
-pub(crate) fn worth<P: Patterns>(store: &P, id: P::Id) -> Option<P::Id> {
+pub(crate) fn worth<P: Patterns>(store: &P, id: P::Id) -> Option<P::Id>
+    requires { IsTrue (P.knows store.now id) }
+    ensures { IfSome result (λ i. IsTrue (P.knows store.now i)) }
+{
     match store.node(id) {
         Node::NotAllowed => Some(id),
         Node::Empty => Some(id),
@@ -43,7 +54,11 @@ pub(crate) fn canonical<P: Patterns>(
     store: &mut P,
     settled: &Settled<'_, P::Id>,
     pattern: &Pattern,
-) -> Result<P::Id, AllocError> {
+) -> Result<P::Id, AllocError>
+    requires { AreKnown (P.knows store.old) settled.now.worth.items }
+    ensures known { IfOk result (λ i. IsTrue (P.knows store.new i)) }
+    ensures kept { KeepsTrees (P.knows store.old) (P.tree_of store.old) (P.knows store.new) (P.tree_of store.new) }
+{
     match pattern {
         Pattern::NotAllowed => store.not_allowed(),
         Pattern::Empty => store.empty(),
@@ -93,10 +108,15 @@ fn canonical_members<P: Patterns>(
     store: &mut P,
     settled: &Settled<'_, P::Id>,
     members: &[Rc<Pattern>],
-) -> Result<Vec<P::Id>, AllocError> {
+) -> Result<Vec<P::Id>, AllocError>
+    requires { AreKnown (P.knows store.old) settled.now.worth.items }
+    ensures known { IfOk result (λ v. All (λ i. IsTrue (P.knows store.new i)) v.items) }
+    ensures kept { KeepsTrees (P.knows store.old) (P.tree_of store.old) (P.knows store.new) (P.tree_of store.new) }
+{
     let mut ids = Vec::new(alloc);
     for member in members {
-        ids.push(canonical(alloc, store, settled, member)?)?;
+        let id = canonical(alloc, store, settled, member)?;
+        ids.push(id)?;
     }
     Ok(ids)
 }

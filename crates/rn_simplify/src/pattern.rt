@@ -2,7 +2,7 @@
 ghost use Rattle.std.specs.Prelude.{◌≡◌, ℕ, ◌<◌, ◌≤◌, drop, length, ◌∷◌, [], List, Some, map, string_bytes, codes, bytes_eq, ◌&&◌};
 ghost use Rattle.rn_text.specs.Parts.{Piece};
 ghost use Rattle.rn_simplify.specs.Spelling.{braced, chain, chain_or_one, datum_pieces, infix_of, operand, optional, optional_one, params_pieces, parenthesized, primary, value_pieces, written_choice, written_interleave, written_tree};
-ghost use Rattle.rn_simplify.specs.View.{parameters_view, pattern_view};
+ghost use Rattle.rn_pattern.specs.View.{parameters_view, pattern_view};
 ghost use Rattle.rn_simplify.specs.Writes.{bytes_of, depth_after, prefixes_view, rows_of, Writes};
 
 use std::rc::Rc;

@@ -1,4 +1,6 @@
 // From an id of a store back to its pattern.
+ghost use Rattle.std.specs.Prelude.{All, IfSome, IsTrue};
+
 use std::alloc::{AllocError, Global};
 use std::rc::Rc;
 
@@ -6,41 +8,58 @@ use rn_pattern::{NameClass, Node, Pattern, Patterns};
 
 /// The pattern of an id.
 #[cycle(rebuilt)]
-pub(crate) fn rebuilt<P: Patterns>(alloc: Global, store: &P, id: P::Id) -> Result<Pattern, AllocError> {
-    Ok(match store.node(id) {
-        Node::NotAllowed => Pattern::NotAllowed,
-        Node::Empty => Pattern::Empty,
-        Node::Text => Pattern::Text,
-        Node::Ref(name) => Pattern::Ref(name.clone()?),
+pub(crate) fn rebuilt<P: Patterns>(alloc: Global, store: &P, id: P::Id) -> Result<Pattern, AllocError>
+    requires { IsTrue (P.knows store.now id) }
+{
+    match store.node(id) {
+        Node::NotAllowed => Ok(Pattern::NotAllowed),
+        Node::Empty => Ok(Pattern::Empty),
+        Node::Text => Ok(Pattern::Text),
+        Node::Ref(name) => Ok(Pattern::Ref(name.clone()?)),
         Node::Value(library, type_name, text) => {
-            Pattern::Value(library.clone()?, type_name.clone()?, text.clone()?)
+            Ok(Pattern::Value(library.clone()?, type_name.clone()?, text.clone()?))
         }
-        Node::Datum(library, type_name, params, None) => {
-            Pattern::Datum(library.clone()?, type_name.clone()?, cloned_params(alloc, params)?, None)
+        Node::Datum(library, type_name, params, except) => {
+            let params = cloned_params(alloc, params)?;
+            let except = rebuilt_except(alloc, store, *except)?;
+            Ok(Pattern::Datum(library.clone()?, type_name.clone()?, params, except))
         }
-        Node::Datum(library, type_name, params, Some(except)) => Pattern::Datum(
-            library.clone()?,
-            type_name.clone()?,
-            cloned_params(alloc, params)?,
-            Some(rebuilt_box(alloc, store, *except)?),
-        ),
-        Node::List(content) => Pattern::List(rebuilt_box(alloc, store, *content)?),
+        Node::List(content) => Ok(Pattern::List(rebuilt_box(alloc, store, *content)?)),
         Node::Attribute(class, content) => {
-            Pattern::Attribute(cloned_class(alloc, class)?, rebuilt_box(alloc, store, *content)?)
+            let class = cloned_class(alloc, class)?;
+            Ok(Pattern::Attribute(class, rebuilt_box(alloc, store, *content)?))
         }
         Node::Element(class, content) => {
-            Pattern::Element(cloned_class(alloc, class)?, rebuilt_box(alloc, store, *content)?)
+            let class = cloned_class(alloc, class)?;
+            Ok(Pattern::Element(class, rebuilt_box(alloc, store, *content)?))
         }
-        Node::OneOrMore(content) => Pattern::OneOrMore(rebuilt_box(alloc, store, *content)?),
-        Node::Group(members) => Pattern::Group(rebuilt_members(alloc, store, members)?),
-        Node::Interleave(members) => Pattern::Interleave(rebuilt_members(alloc, store, members)?),
-        Node::Choice(members) => Pattern::Choice(rebuilt_members(alloc, store, members)?),
-    })
+        Node::OneOrMore(content) => Ok(Pattern::OneOrMore(rebuilt_box(alloc, store, *content)?)),
+        Node::Group(members) => Ok(Pattern::Group(rebuilt_members(alloc, store, members)?)),
+        Node::Interleave(members) => Ok(Pattern::Interleave(rebuilt_members(alloc, store, members)?)),
+        Node::Choice(members) => Ok(Pattern::Choice(rebuilt_members(alloc, store, members)?)),
+    }
 }
 
 #[cycle(rebuilt)]
-fn rebuilt_box<P: Patterns>(alloc: Global, store: &P, id: P::Id) -> Result<Box<Pattern>, AllocError> {
-    Ok(Box::new(alloc, rebuilt(alloc, store, id)?)?)
+fn rebuilt_box<P: Patterns>(alloc: Global, store: &P, id: P::Id) -> Result<Box<Pattern>, AllocError>
+    requires { IsTrue (P.knows store.now id) }
+{
+    let pattern = rebuilt(alloc, store, id)?;
+    Ok(Box::new(alloc, pattern)?)
+}
+
+#[cycle(rebuilt)]
+fn rebuilt_except<P: Patterns>(
+    alloc: Global,
+    store: &P,
+    except: Option<P::Id>,
+) -> Result<Option<Box<Pattern>>, AllocError>
+    requires { IfSome except (λ i. IsTrue (P.knows store.now i)) }
+{
+    match except {
+        None => Ok(None),
+        Some(id) => Ok(Some(rebuilt_box(alloc, store, id)?)),
+    }
 }
 
 /// The patterns of the ids. Neighbours with one id share one pattern.
@@ -49,15 +68,18 @@ fn rebuilt_members<P: Patterns>(
     alloc: Global,
     store: &P,
     ids: &[P::Id],
-) -> Result<Vec<Rc<Pattern>>, AllocError> {
+) -> Result<Vec<Rc<Pattern>>, AllocError>
+    requires { All (λ i. IsTrue (P.knows store.now i)) ids.now }
+{
     let mut members: Vec<Rc<Pattern>> = Vec::new(alloc);
     for (i, id) in ids.iter().enumerate() {
-        let member = if i > 0 && *id == ids[i - 1] {
-            members[i - 1].clone()?
+        if i > 0 && *id == ids[i - 1] && i <= members.len() {
+            let member = members[i - 1].clone()?;
+            members.push(member)?;
         } else {
-            Rc::new(alloc, rebuilt(alloc, store, *id)?)?
-        };
-        members.push(member)?;
+            let pattern = rebuilt(alloc, store, *id)?;
+            members.push(Rc::new(alloc, pattern)?)?;
+        }
     }
     Ok(members)
 }

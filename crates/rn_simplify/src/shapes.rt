@@ -1,7 +1,7 @@
 // What needs parentheses where.
 ghost use Rattle.std.specs.Prelude.{◌≡◌};
 ghost use Rattle.rn_simplify.specs.Spelling.{Prefixes, written_choice, written_interleave, written_name, written_tree};
-ghost use Rattle.rn_simplify.specs.View.{name_class_view, pattern_view};
+ghost use Rattle.rn_pattern.specs.View.{name_class_view, pattern_view};
 ghost use Rattle.rn_simplify.specs.Writes.{begins, rows_of, shape_view};
 
 use std::rc::Rc;

@@ -8,7 +8,7 @@ use Rattle.rn_pattern.specs.declared.tree.Pattern.{Pattern}
 use Rattle.rn_pattern.specs.declared.tree.Pattern.TheFolds.{fold_out-Pattern, fold-roll-Pattern}
 use Rattle.rn_pattern.specs.declared.tree.Pattern.TheViews.{the_lemmas}
 use Rattle.rn_simplify.specs.Spelling.{Written, symbol, keyword, braced, chain, chain_or_one, comma, infix_of, operand, optional, optional_one, parenthesized, primary, written_choice, written_interleave, written_name, written_tree}
-use Rattle.rn_simplify.specs.View.{name_class_view, parameters_view, pattern_step, pattern_view}
+use Rattle.rn_pattern.specs.View.{name_class_view, parameters_view, pattern_step, pattern_view}
 use Rattle.rn_simplify.specs.Writes.{begins, bytes_of, depth_after, prefixes_view, rows_of, none, Writes, WritesBytes}
 use Rattle.rn_simplify.proofs.Writing.{writes_nil, writes_as, writes_then, writes_pieces}
 use Rattle.rn_simplify.proofs.PartTexts.{writes_identifier, writes_braced, writes_parenthesized}

@@ -1,6 +1,6 @@
 use Rattle.std.proofs.Common.{take}
 use Rattle.rn_simplify.specs.Spelling.{params_pieces}
-use Rattle.rn_simplify.specs.View.{parameters_view}
+use Rattle.rn_pattern.specs.View.{parameters_view}
 use Rattle.rn_simplify.specs.Writes.{Writes}
 use Rattle.rn_simplify.proofs.pattern.write_params.Given as goal
 
