@@ -11,7 +11,7 @@ pub(crate) fn too_deep(tokens: &[Token<'_>]) -> Option<usize> {
     'tokens: for token in tokens {
         match terminal_of(*token) {
             Terminal::LeftBrace | Terminal::LeftParen | Terminal::LeftBracket => {
-                if open == DEEPEST {
+                if open >= DEEPEST {
                     return Some(token.start);
                 }
                 open += 1;

@@ -1,4 +1,7 @@
 // Datatypes and their parameters.
+ghost use Rattle.std.specs.Prelude.{◌≡◌, ◌≤◌, ◌<◌, length, IfOk, IfSome, IsTrue};
+ghost use Rattle.rn_syntax.specs.Reading.{Passed, Advanced};
+
 use crate::annotations::skip_annotation;
 use crate::fault::Fault;
 use crate::literals::literal;
@@ -9,7 +12,9 @@ use rn_text::Token;
 use std::alloc::Global;
 
 /// `dt = "string" | "token" | Prefixed`
-pub(crate) fn datatype<'a>(tokens: &[Token<'a>], at: usize) -> Option<Datatype<'a>> {
+pub(crate) fn datatype<'a>(tokens: &[Token<'a>], at: usize) -> Option<Datatype<'a>>
+    ensures inside { IfSome result (λ _. at < length tokens.now) }
+{
     match next(tokens, at) {
         Terminal::Prefixed(name, local) => {
             Some(Datatype::Named(
@@ -27,7 +32,10 @@ pub(crate) fn datatype<'a>(tokens: &[Token<'a>], at: usize) -> Option<Datatype<'
 }
 
 /// `param = [ann] word "=" literal`
-fn param<'a>(alloc: Global, tokens: &[Token<'a>], at: usize) -> Result<(Param<'a>, usize), Fault> {
+fn param<'a>(alloc: Global, tokens: &[Token<'a>], at: usize) -> Result<(Param<'a>, usize), Fault>
+    requires { at ≤ length tokens.now }
+    ensures inside { IfOk result (λ r. Advanced at r.1 (length tokens.now)) }
+{
     let body = skip_annotation(tokens, at)?;
     let name = word(tokens, body)?;
     let value = equals(tokens, body + 1)?;
@@ -36,7 +44,9 @@ fn param<'a>(alloc: Global, tokens: &[Token<'a>], at: usize) -> Result<(Param<'a
 }
 
 /// Whether the next token is `}`.
-fn is_right_brace(tokens: &[Token<'_>], at: usize) -> bool {
+fn is_right_brace(tokens: &[Token<'_>], at: usize) -> bool
+    ensures inside { IsTrue result → at < length tokens.now }
+{
     match next(tokens, at) {
         Terminal::RightBrace => true,
         _ => false,
@@ -48,7 +58,10 @@ pub(crate) fn params<'a>(
     alloc: Global,
     tokens: &[Token<'a>],
     at: usize,
-) -> Result<(Vec<Param<'a>>, usize), Fault> {
+) -> Result<(Vec<Param<'a>>, usize), Fault>
+    requires { at ≤ length tokens.now }
+    ensures inside { IfOk result (λ r. Passed at r.1 (length tokens.now)) }
+{
     let mut params = Vec::new(alloc);
     let Terminal::LeftBrace = next(tokens, at) else {
         return Ok((params, at));

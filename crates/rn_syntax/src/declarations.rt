@@ -1,4 +1,7 @@
 // Declarations of prefixes.
+ghost use Rattle.std.specs.Prelude.{◌≡◌, ◌≤◌, ◌<◌, length, IfOk, IfSome, IsTrue};
+ghost use Rattle.rn_syntax.specs.Reading.{Passed, Advanced};
+
 use crate::fault::Fault;
 use crate::literals::literal;
 use crate::terminals::{Terminal, equals, is_keyword, next, place, word};
@@ -11,7 +14,9 @@ use std::alloc::Global;
 pub(crate) fn declarations<'a>(
     alloc: Global,
     tokens: &[Token<'a>],
-) -> Result<(Vec<Declaration<'a>>, usize), Fault> {
+) -> Result<(Vec<Declaration<'a>>, usize), Fault>
+    ensures inside { IfOk result (λ r. r.1 ≤ length tokens.now) }
+{
     let mut declarations = Vec::new(alloc);
     let mut end = 0;
     'declarations: while begins_declaration(tokens, end) {
@@ -22,7 +27,9 @@ pub(crate) fn declarations<'a>(
     Ok((declarations, end))
 }
 
-fn begins_declaration(tokens: &[Token<'_>], at: usize) -> bool {
+fn begins_declaration(tokens: &[Token<'_>], at: usize) -> bool
+    ensures inside { IsTrue result → at < length tokens.now }
+{
     match next(tokens, at) {
         Terminal::Keyword(Keyword::Namespace | Keyword::Default | Keyword::Datatypes) => true,
         _ => false,
@@ -34,7 +41,10 @@ fn declaration<'a>(
     alloc: Global,
     tokens: &[Token<'a>],
     at: usize,
-) -> Result<(Declaration<'a>, usize), Fault> {
+) -> Result<(Declaration<'a>, usize), Fault>
+    requires { at ≤ length tokens.now }
+    ensures inside { IfOk result (λ r. Advanced at r.1 (length tokens.now)) }
+{
     match next(tokens, at) {
         Terminal::Keyword(Keyword::Namespace) => namespace(alloc, tokens, at + 1),
         Terminal::Keyword(Keyword::Default) => default(alloc, tokens, at),
@@ -44,7 +54,9 @@ fn declaration<'a>(
 }
 
 /// `word`, where it is a prefix
-pub(crate) fn prefix<'a>(tokens: &[Token<'a>], at: usize) -> Result<Prefix<'a>, Fault> {
+pub(crate) fn prefix<'a>(tokens: &[Token<'a>], at: usize) -> Result<Prefix<'a>, Fault>
+    ensures inside { IfOk result (λ _. at < length tokens.now) }
+{
     let name = word(tokens, at)?;
     Ok(Prefix {
         name,
@@ -57,7 +69,10 @@ fn namespace<'a>(
     alloc: Global,
     tokens: &[Token<'a>],
     at: usize,
-) -> Result<(Declaration<'a>, usize), Fault> {
+) -> Result<(Declaration<'a>, usize), Fault>
+    requires { at ≤ length tokens.now }
+    ensures inside { IfOk result (λ r. Advanced at r.1 (length tokens.now)) }
+{
     let prefix = prefix(tokens, at)?;
     let value = equals(tokens, at + 1)?;
     let (uri, end) = uri(alloc, tokens, value)?;
@@ -69,7 +84,10 @@ fn default<'a>(
     alloc: Global,
     tokens: &[Token<'a>],
     at: usize,
-) -> Result<(Declaration<'a>, usize), Fault> {
+) -> Result<(Declaration<'a>, usize), Fault>
+    requires { at < length tokens.now }
+    ensures inside { IfOk result (λ r. Advanced at r.1 (length tokens.now)) }
+{
     if !is_keyword(tokens, at + 1, Keyword::Namespace) {
         return Err(Fault::Stuck(at + 1));
     }
@@ -87,7 +105,10 @@ fn datatypes<'a>(
     alloc: Global,
     tokens: &[Token<'a>],
     at: usize,
-) -> Result<(Declaration<'a>, usize), Fault> {
+) -> Result<(Declaration<'a>, usize), Fault>
+    requires { at ≤ length tokens.now }
+    ensures inside { IfOk result (λ r. Advanced at r.1 (length tokens.now)) }
+{
     let prefix = prefix(tokens, at)?;
     let value = equals(tokens, at + 1)?;
     let (library, end) = literal(alloc, tokens, value)?;
@@ -95,7 +116,10 @@ fn datatypes<'a>(
 }
 
 /// `uri = literal | "inherit"`
-fn uri<'a>(alloc: Global, tokens: &[Token<'a>], at: usize) -> Result<(Uri<'a>, usize), Fault> {
+fn uri<'a>(alloc: Global, tokens: &[Token<'a>], at: usize) -> Result<(Uri<'a>, usize), Fault>
+    requires { at ≤ length tokens.now }
+    ensures inside { IfOk result (λ r. Advanced at r.1 (length tokens.now)) }
+{
     if is_keyword(tokens, at, Keyword::Inherit) {
         return Ok((Uri::Inherited, at + 1));
     }

@@ -1,4 +1,7 @@
 // The items of a grammar, and those of an include.
+ghost use Rattle.std.specs.Prelude.{◌≡◌, ◌≤◌, ◌<◌, length, IfOk, IfSome, IsTrue};
+ghost use Rattle.rn_syntax.specs.Reading.{Passed, Advanced};
+
 use crate::annotations::{annotation, begins_note, skip_annotation};
 use crate::declarations::prefix;
 use crate::fault::Fault;
@@ -11,7 +14,9 @@ use rn_text::Token;
 use std::alloc::Global;
 
 /// Whether an item begins here, or a note.
-fn begins_item(tokens: &[Token<'_>], at: usize) -> bool {
+fn begins_item(tokens: &[Token<'_>], at: usize) -> bool
+    ensures inside { IsTrue result → at < length tokens.now }
+{
     match next(tokens, at) {
         Terminal::LeftBracket | Terminal::Ident(_) | Terminal::Prefixed(_, _) => true,
         Terminal::Keyword(Keyword::Start | Keyword::Div | Keyword::Include) => true,
@@ -25,7 +30,10 @@ pub(crate) fn items<'a>(
     alloc: Global,
     tokens: &[Token<'a>],
     at: usize,
-) -> Result<(Vec<Item<'a>>, usize), Fault> {
+) -> Result<(Vec<Item<'a>>, usize), Fault>
+    requires { at ≤ length tokens.now }
+    ensures inside { IfOk result (λ r. Passed at r.1 (length tokens.now)) }
+{
     items_behind(alloc, tokens, at, Vec::new(alloc))
 }
 
@@ -36,7 +44,10 @@ pub(crate) fn items_behind<'a>(
     tokens: &[Token<'a>],
     at: usize,
     read: Vec<Item<'a>>,
-) -> Result<(Vec<Item<'a>>, usize), Fault> {
+) -> Result<(Vec<Item<'a>>, usize), Fault>
+    requires { at ≤ length tokens.now }
+    ensures inside { IfOk result (λ r. Passed at r.1 (length tokens.now)) }
+{
     let mut items = read;
     let mut end = at;
     'items: while begins_item(tokens, end) {
@@ -58,7 +69,10 @@ pub(crate) fn item<'a>(
     alloc: Global,
     tokens: &[Token<'a>],
     at: usize,
-) -> Result<(Item<'a>, usize), Fault> {
+) -> Result<(Item<'a>, usize), Fault>
+    requires { at ≤ length tokens.now }
+    ensures inside { IfOk result (λ r. Advanced at r.1 (length tokens.now)) }
+{
     match next(tokens, at) {
         Terminal::Keyword(Keyword::Div) => div(alloc, tokens, at + 1),
         Terminal::Keyword(Keyword::Include) => include(alloc, tokens, at + 1),
@@ -67,11 +81,10 @@ pub(crate) fn item<'a>(
 }
 
 /// `define = ident assign pattern` and `start = "start" assign pattern`
-fn component<'a>(
-    alloc: Global,
-    tokens: &[Token<'a>],
-    at: usize,
-) -> Result<(Item<'a>, usize), Fault> {
+fn component<'a>(alloc: Global, tokens: &[Token<'a>], at: usize) -> Result<(Item<'a>, usize), Fault>
+    requires { at ≤ length tokens.now }
+    ensures inside { IfOk result (λ r. Advanced at r.1 (length tokens.now)) }
+{
     match next(tokens, at) {
         Terminal::Ident(name) => {
             let method = assign(tokens, at + 1)?;
@@ -89,14 +102,20 @@ fn component<'a>(
 
 /// `"{" item* "}"`, behind `div`
 #[cycle(items)]
-fn div<'a>(alloc: Global, tokens: &[Token<'a>], at: usize) -> Result<(Item<'a>, usize), Fault> {
+fn div<'a>(alloc: Global, tokens: &[Token<'a>], at: usize) -> Result<(Item<'a>, usize), Fault>
+    requires { at ≤ length tokens.now }
+    ensures inside { IfOk result (λ r. Advanced at r.1 (length tokens.now)) }
+{
     let inside = left_brace(tokens, at)?;
     let (items, end) = items(alloc, tokens, inside)?;
     Ok((Item::Div(items), right_brace(tokens, end)?))
 }
 
 /// `literal [ "inherit" "=" word ] [ "{" inner* "}" ]`, behind `include`
-fn include<'a>(alloc: Global, tokens: &[Token<'a>], at: usize) -> Result<(Item<'a>, usize), Fault> {
+fn include<'a>(alloc: Global, tokens: &[Token<'a>], at: usize) -> Result<(Item<'a>, usize), Fault>
+    requires { at ≤ length tokens.now }
+    ensures inside { IfOk result (λ r. Advanced at r.1 (length tokens.now)) }
+{
     let (wanted, end) = literal(alloc, tokens, at)?;
     let (inherit, end) = inherit(tokens, end)?;
     let (items, end) = overrides(alloc, tokens, end)?;
@@ -111,7 +130,10 @@ fn include<'a>(alloc: Global, tokens: &[Token<'a>], at: usize) -> Result<(Item<'
 }
 
 /// `[ "inherit" "=" word ]`
-fn inherit<'a>(tokens: &[Token<'a>], at: usize) -> Result<(Option<Prefix<'a>>, usize), Fault> {
+fn inherit<'a>(tokens: &[Token<'a>], at: usize) -> Result<(Option<Prefix<'a>>, usize), Fault>
+    requires { at ≤ length tokens.now }
+    ensures inside { IfOk result (λ r. Passed at r.1 (length tokens.now)) }
+{
     if !is_keyword(tokens, at, Keyword::Inherit) {
         return Ok((None, at));
     }
@@ -124,7 +146,10 @@ fn overrides<'a>(
     alloc: Global,
     tokens: &[Token<'a>],
     at: usize,
-) -> Result<(Vec<Item<'a>>, usize), Fault> {
+) -> Result<(Vec<Item<'a>>, usize), Fault>
+    requires { at ≤ length tokens.now }
+    ensures inside { IfOk result (λ r. Passed at r.1 (length tokens.now)) }
+{
     let Terminal::LeftBrace = next(tokens, at) else {
         return Ok((Vec::new(alloc), at));
     };
@@ -133,7 +158,9 @@ fn overrides<'a>(
 }
 
 /// Whether an inner item begins here, or a note.
-fn begins_inner(tokens: &[Token<'_>], at: usize) -> bool {
+fn begins_inner(tokens: &[Token<'_>], at: usize) -> bool
+    ensures inside { IsTrue result → at < length tokens.now }
+{
     match next(tokens, at) {
         Terminal::LeftBracket | Terminal::Ident(_) | Terminal::Prefixed(_, _) => true,
         Terminal::Keyword(Keyword::Start | Keyword::Div) => true,
@@ -147,7 +174,10 @@ fn inner_items<'a>(
     alloc: Global,
     tokens: &[Token<'a>],
     at: usize,
-) -> Result<(Vec<Item<'a>>, usize), Fault> {
+) -> Result<(Vec<Item<'a>>, usize), Fault>
+    requires { at ≤ length tokens.now }
+    ensures inside { IfOk result (λ r. Passed at r.1 (length tokens.now)) }
+{
     let mut items = Vec::new(alloc);
     let mut end = at;
     'inner: while begins_inner(tokens, end) {
@@ -169,7 +199,10 @@ fn inner_item<'a>(
     alloc: Global,
     tokens: &[Token<'a>],
     at: usize,
-) -> Result<(Item<'a>, usize), Fault> {
+) -> Result<(Item<'a>, usize), Fault>
+    requires { at ≤ length tokens.now }
+    ensures inside { IfOk result (λ r. Advanced at r.1 (length tokens.now)) }
+{
     match next(tokens, at) {
         Terminal::Keyword(Keyword::Div) => {
             let inside = left_brace(tokens, at + 1)?;

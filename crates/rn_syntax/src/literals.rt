@@ -1,4 +1,7 @@
 // Literals.
+ghost use Rattle.std.specs.Prelude.{◌≡◌, ◌≤◌, ◌<◌, length, IfOk, IfSome, IsTrue};
+ghost use Rattle.rn_syntax.specs.Reading.{Passed, Advanced};
+
 use crate::fault::Fault;
 use crate::terminals::{Terminal, next};
 use rn_text::Token;
@@ -29,11 +32,10 @@ fn segment_text<'a>(alloc: Global, segment: Token<'a>) -> Result<CowStr<'a>, All
 }
 
 /// `Segment`
-fn segment<'a>(
-    alloc: Global,
-    tokens: &[Token<'a>],
-    at: usize,
-) -> Result<(CowStr<'a>, usize), Fault> {
+fn segment<'a>(alloc: Global, tokens: &[Token<'a>], at: usize) -> Result<(CowStr<'a>, usize), Fault>
+    requires { at ≤ length tokens.now }
+    ensures inside { IfOk result (λ r. Advanced at r.1 (length tokens.now)) }
+{
     match next(tokens, at) {
         Terminal::Segment => Ok((segment_text(alloc, tokens[at])?, at + 1)),
         _ => Err(Fault::Stuck(at)),
@@ -45,7 +47,10 @@ pub(crate) fn literal<'a>(
     alloc: Global,
     tokens: &[Token<'a>],
     at: usize,
-) -> Result<(CowStr<'a>, usize), Fault> {
+) -> Result<(CowStr<'a>, usize), Fault>
+    requires { at ≤ length tokens.now }
+    ensures inside { IfOk result (λ r. Advanced at r.1 (length tokens.now)) }
+{
     let (first, mut end) = segment(alloc, tokens, at)?;
     let Terminal::Tilde = next(tokens, end) else {
         return Ok((first, end));

@@ -1,4 +1,7 @@
 // Modules.
+ghost use Rattle.std.specs.Prelude.{◌≡◌, ◌≤◌, ◌<◌, length, IfOk, IfSome, IsTrue};
+ghost use Rattle.rn_syntax.specs.Reading.{Passed, Advanced};
+
 use crate::annotations::{skip_annotation, skip_follows};
 use crate::declarations::declarations;
 use crate::fault::Fault;
@@ -31,7 +34,10 @@ fn grammar<'a>(
     alloc: Global,
     tokens: &[Token<'a>],
     at: usize,
-) -> Result<(Vec<Item<'a>>, usize), Fault> {
+) -> Result<(Vec<Item<'a>>, usize), Fault>
+    requires { at ≤ length tokens.now }
+    ensures inside { IfOk result (λ r. Passed at r.1 (length tokens.now)) }
+{
     let inside = left_brace(tokens, at)?;
     let (items, end) = items(alloc, tokens, inside)?;
     let behind = right_brace(tokens, end)?;
@@ -43,7 +49,10 @@ fn annotated_items<'a>(
     alloc: Global,
     tokens: &[Token<'a>],
     at: usize,
-) -> Result<(Vec<Item<'a>>, usize), Fault> {
+) -> Result<(Vec<Item<'a>>, usize), Fault>
+    requires { at ≤ length tokens.now }
+    ensures inside { IfOk result (λ r. Passed at r.1 (length tokens.now)) }
+{
     let mut read = Vec::new(alloc);
     let (first, end) = item(alloc, tokens, at)?;
     read.push(first)?;

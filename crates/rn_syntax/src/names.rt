@@ -1,4 +1,7 @@
 // Name classes.
+ghost use Rattle.std.specs.Prelude.{◌≡◌, ◌≤◌, ◌<◌, length, IfOk, IfSome, IsTrue};
+ghost use Rattle.rn_syntax.specs.Reading.{Passed, Advanced};
+
 use crate::annotations::{skip_annotation, skip_follows};
 use crate::fault::Fault;
 use crate::terminals::{Terminal, next, place, right_paren};
@@ -8,7 +11,9 @@ use rn_text::Token;
 use std::alloc::Global;
 
 /// Whether the next token is `|`.
-fn is_bar(tokens: &[Token<'_>], at: usize) -> bool {
+fn is_bar(tokens: &[Token<'_>], at: usize) -> bool
+    ensures inside { IsTrue result → at < length tokens.now }
+{
     match next(tokens, at) {
         Terminal::Operator(Operator::Bar) => true,
         _ => false,
@@ -21,7 +26,10 @@ pub(crate) fn name_class<'a>(
     alloc: Global,
     tokens: &[Token<'a>],
     at: usize,
-) -> Result<(Nc<'a>, usize), Fault> {
+) -> Result<(Nc<'a>, usize), Fault>
+    requires { at ≤ length tokens.now }
+    ensures inside { IfOk result (λ r. Advanced at r.1 (length tokens.now)) }
+{
     let (first, mut end) = class_operand(alloc, tokens, at)?;
     if !is_bar(tokens, end) {
         return Ok((first, end));
@@ -37,7 +45,9 @@ pub(crate) fn name_class<'a>(
 }
 
 /// `"*" | AnyOf`
-fn any_name<'a>(tokens: &[Token<'a>], at: usize) -> Option<AnyName<'a>> {
+fn any_name<'a>(tokens: &[Token<'a>], at: usize) -> Option<AnyName<'a>>
+    ensures inside { IfSome result (λ _. at < length tokens.now) }
+{
     match next(tokens, at) {
         Terminal::Postfix(Postfix::Star) => Some(AnyName::Any),
         Terminal::AnyOf(name) => Some(AnyName::AnyOf(Prefix {
@@ -54,7 +64,10 @@ fn class_operand<'a>(
     alloc: Global,
     tokens: &[Token<'a>],
     at: usize,
-) -> Result<(Nc<'a>, usize), Fault> {
+) -> Result<(Nc<'a>, usize), Fault>
+    requires { at ≤ length tokens.now }
+    ensures inside { IfOk result (λ r. Advanced at r.1 (length tokens.now)) }
+{
     let body = skip_annotation(tokens, at)?;
     let Some(any) = any_name(tokens, body) else {
         return class_core(alloc, tokens, body);
@@ -72,7 +85,10 @@ fn class_primary<'a>(
     alloc: Global,
     tokens: &[Token<'a>],
     at: usize,
-) -> Result<(Nc<'a>, usize), Fault> {
+) -> Result<(Nc<'a>, usize), Fault>
+    requires { at ≤ length tokens.now }
+    ensures inside { IfOk result (λ r. Advanced at r.1 (length tokens.now)) }
+{
     let body = skip_annotation(tokens, at)?;
     match any_name(tokens, body) {
         Some(any) => Ok((Nc::All(any), skip_follows(tokens, body + 1)?)),
@@ -82,11 +98,10 @@ fn class_primary<'a>(
 
 /// `( word | Prefixed | "(" nc ")" ) follow*`
 #[cycle(name_class)]
-fn class_core<'a>(
-    alloc: Global,
-    tokens: &[Token<'a>],
-    at: usize,
-) -> Result<(Nc<'a>, usize), Fault> {
+fn class_core<'a>(alloc: Global, tokens: &[Token<'a>], at: usize) -> Result<(Nc<'a>, usize), Fault>
+    requires { at ≤ length tokens.now }
+    ensures inside { IfOk result (λ r. Advanced at r.1 (length tokens.now)) }
+{
     let (class, end) = match next(tokens, at) {
         Terminal::Ident(name) => (Nc::Name(Name::Local(name)), at + 1),
         Terminal::Keyword(keyword) => (Nc::Name(Name::Local(keyword.spelling())), at + 1),

@@ -1,4 +1,7 @@
 // Patterns.
+ghost use Rattle.std.specs.Prelude.{◌≡◌, ◌≤◌, ◌<◌, length, IfOk, IfSome, IsTrue};
+ghost use Rattle.rn_syntax.specs.Reading.{Passed, Advanced};
+
 use crate::annotations::{skip_annotation, skip_follows};
 use crate::datatypes::{datatype, params};
 use crate::fault::Fault;
@@ -11,7 +14,9 @@ use rn_text::Token;
 use std::alloc::Global;
 
 /// Whether the next token is this operator.
-fn continues(tokens: &[Token<'_>], at: usize, operator: Operator) -> bool {
+fn continues(tokens: &[Token<'_>], at: usize, operator: Operator) -> bool
+    ensures inside { IsTrue result → at < length tokens.now }
+{
     match next(tokens, at) {
         Terminal::Operator(other) => other == operator,
         _ => false,
@@ -24,7 +29,10 @@ pub(crate) fn pattern<'a>(
     alloc: Global,
     tokens: &[Token<'a>],
     at: usize,
-) -> Result<(Pat<'a>, usize), Fault> {
+) -> Result<(Pat<'a>, usize), Fault>
+    requires { at ≤ length tokens.now }
+    ensures inside { IfOk result (λ r. Advanced at r.1 (length tokens.now)) }
+{
     let (first, mut end) = operand(alloc, tokens, at)?;
     let Terminal::Operator(operator) = next(tokens, end) else {
         return Ok((first, end));
@@ -41,7 +49,10 @@ pub(crate) fn pattern<'a>(
 
 /// `operand = primary [ postfix follow* ] | except`
 #[cycle(pattern)]
-fn operand<'a>(alloc: Global, tokens: &[Token<'a>], at: usize) -> Result<(Pat<'a>, usize), Fault> {
+fn operand<'a>(alloc: Global, tokens: &[Token<'a>], at: usize) -> Result<(Pat<'a>, usize), Fault>
+    requires { at ≤ length tokens.now }
+    ensures inside { IfOk result (λ r. Advanced at r.1 (length tokens.now)) }
+{
     let body = skip_annotation(tokens, at)?;
     if let Some(datatype) = datatype(tokens, body) {
         return behind_datatype(alloc, tokens, body + 1, datatype);
@@ -57,7 +68,10 @@ fn behind_primary<'a>(
     tokens: &[Token<'a>],
     at: usize,
     primary: Pat<'a>,
-) -> Result<(Pat<'a>, usize), Fault> {
+) -> Result<(Pat<'a>, usize), Fault>
+    requires { at ≤ length tokens.now }
+    ensures inside { IfOk result (λ r. Passed at r.1 (length tokens.now)) }
+{
     let Terminal::Postfix(postfix) = next(tokens, at) else {
         return Ok((primary, at));
     };
@@ -72,7 +86,10 @@ fn behind_datatype<'a>(
     tokens: &[Token<'a>],
     at: usize,
     datatype: Datatype<'a>,
-) -> Result<(Pat<'a>, usize), Fault> {
+) -> Result<(Pat<'a>, usize), Fault>
+    requires { at ≤ length tokens.now }
+    ensures inside { IfOk result (λ r. Passed at r.1 (length tokens.now)) }
+{
     if let Terminal::Segment = next(tokens, at) {
         let (text, end) = literal(alloc, tokens, at)?;
         let behind = skip_follows(tokens, end)?;
@@ -93,7 +110,10 @@ fn behind_datatype<'a>(
 
 /// `primary = [ann] core follow*`
 #[cycle(pattern)]
-fn primary<'a>(alloc: Global, tokens: &[Token<'a>], at: usize) -> Result<(Pat<'a>, usize), Fault> {
+fn primary<'a>(alloc: Global, tokens: &[Token<'a>], at: usize) -> Result<(Pat<'a>, usize), Fault>
+    requires { at ≤ length tokens.now }
+    ensures inside { IfOk result (λ r. Advanced at r.1 (length tokens.now)) }
+{
     let body = skip_annotation(tokens, at)?;
     let (core, end) = match datatype(tokens, body) {
         Some(datatype) => data(alloc, tokens, body + 1, datatype)?,
@@ -108,7 +128,10 @@ fn data<'a>(
     tokens: &[Token<'a>],
     at: usize,
     datatype: Datatype<'a>,
-) -> Result<(Pat<'a>, usize), Fault> {
+) -> Result<(Pat<'a>, usize), Fault>
+    requires { at ≤ length tokens.now }
+    ensures inside { IfOk result (λ r. Passed at r.1 (length tokens.now)) }
+{
     if let Terminal::Segment = next(tokens, at) {
         let (text, end) = literal(alloc, tokens, at)?;
         return Ok((Pat::Value(Some(datatype), text), end));
@@ -119,7 +142,10 @@ fn data<'a>(
 
 /// `core`, where no datatype comes
 #[cycle(pattern)]
-fn core<'a>(alloc: Global, tokens: &[Token<'a>], at: usize) -> Result<(Pat<'a>, usize), Fault> {
+fn core<'a>(alloc: Global, tokens: &[Token<'a>], at: usize) -> Result<(Pat<'a>, usize), Fault>
+    requires { at ≤ length tokens.now }
+    ensures inside { IfOk result (λ r. Advanced at r.1 (length tokens.now)) }
+{
     match next(tokens, at) {
         Terminal::Keyword(keyword) => keyword_core(alloc, tokens, at, keyword),
         Terminal::Ident(name) => Ok((Pat::Ref(name), at + 1)),
@@ -142,7 +168,10 @@ fn keyword_core<'a>(
     tokens: &[Token<'a>],
     at: usize,
     keyword: Keyword,
-) -> Result<(Pat<'a>, usize), Fault> {
+) -> Result<(Pat<'a>, usize), Fault>
+    requires { at < length tokens.now }
+    ensures inside { IfOk result (λ r. Advanced at r.1 (length tokens.now)) }
+{
     match keyword {
         Keyword::Element => {
             let (class, content, end) = named(alloc, tokens, at + 1)?;
@@ -173,7 +202,10 @@ fn named<'a>(
     alloc: Global,
     tokens: &[Token<'a>],
     at: usize,
-) -> Result<(Nc<'a>, Pat<'a>, usize), Fault> {
+) -> Result<(Nc<'a>, Pat<'a>, usize), Fault>
+    requires { at ≤ length tokens.now }
+    ensures inside { IfOk result (λ r. Advanced at r.2 (length tokens.now)) }
+{
     let (class, end) = name_class(alloc, tokens, at)?;
     let (content, behind) = braced(alloc, tokens, end)?;
     Ok((class, content, behind))
@@ -181,7 +213,10 @@ fn named<'a>(
 
 /// `"{" pattern "}"`
 #[cycle(pattern)]
-fn braced<'a>(alloc: Global, tokens: &[Token<'a>], at: usize) -> Result<(Pat<'a>, usize), Fault> {
+fn braced<'a>(alloc: Global, tokens: &[Token<'a>], at: usize) -> Result<(Pat<'a>, usize), Fault>
+    requires { at ≤ length tokens.now }
+    ensures inside { IfOk result (λ r. Advanced at r.1 (length tokens.now)) }
+{
     let inside = left_brace(tokens, at)?;
     let (content, end) = pattern(alloc, tokens, inside)?;
     Ok((content, right_brace(tokens, end)?))

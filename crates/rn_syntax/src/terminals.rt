@@ -1,4 +1,7 @@
 // The terminals of the grammar: what it sees of each token.
+ghost use Rattle.std.specs.Prelude.{◌≡◌, ◌≤◌, ◌<◌, length, IfOk, IfSome, IsTrue};
+ghost use Rattle.rn_syntax.specs.Reading.{IsInside, Advanced};
+
 use crate::fault::Fault;
 use crate::token::{Keyword, Method, Operator, Postfix};
 use rn_text::{Kind, Token};
@@ -104,7 +107,9 @@ pub(crate) fn terminal_of<'a>(token: Token<'a>) -> Terminal<'a> {
 }
 
 /// The next terminal.
-pub(crate) fn next<'a>(tokens: &[Token<'a>], at: usize) -> Terminal<'a> {
+pub(crate) fn next<'a>(tokens: &[Token<'a>], at: usize) -> Terminal<'a>
+    ensures inside { IsInside result at (length tokens.now) }
+{
     if at >= tokens.len() {
         return Terminal::End;
     }
@@ -123,7 +128,9 @@ pub(crate) fn place(tokens: &[Token<'_>], at: usize) -> usize {
 }
 
 /// `word = ident | keyword`
-pub(crate) fn word<'a>(tokens: &[Token<'a>], at: usize) -> Result<&'a str, Fault> {
+pub(crate) fn word<'a>(tokens: &[Token<'a>], at: usize) -> Result<&'a str, Fault>
+    ensures inside { IfOk result (λ _. at < length tokens.now) }
+{
     match next(tokens, at) {
         Terminal::Ident(name) => Ok(name),
         Terminal::Keyword(keyword) => Ok(keyword.spelling()),
@@ -131,7 +138,9 @@ pub(crate) fn word<'a>(tokens: &[Token<'a>], at: usize) -> Result<&'a str, Fault
     }
 }
 
-pub(crate) fn is_keyword(tokens: &[Token<'_>], at: usize, wanted: Keyword) -> bool {
+pub(crate) fn is_keyword(tokens: &[Token<'_>], at: usize, wanted: Keyword) -> bool
+    ensures inside { IsTrue result → at < length tokens.now }
+{
     match next(tokens, at) {
         Terminal::Keyword(keyword) => keyword == wanted,
         _ => false,
@@ -139,7 +148,10 @@ pub(crate) fn is_keyword(tokens: &[Token<'_>], at: usize, wanted: Keyword) -> bo
 }
 
 /// What stands behind `=`.
-pub(crate) fn equals(tokens: &[Token<'_>], at: usize) -> Result<usize, Fault> {
+pub(crate) fn equals(tokens: &[Token<'_>], at: usize) -> Result<usize, Fault>
+    requires { at ≤ length tokens.now }
+    ensures inside { IfOk result (λ behind. Advanced at behind (length tokens.now)) }
+{
     match next(tokens, at) {
         Terminal::Assign(Method::Plain) => Ok(at + 1),
         _ => Err(Fault::Stuck(at)),
@@ -147,7 +159,9 @@ pub(crate) fn equals(tokens: &[Token<'_>], at: usize) -> Result<usize, Fault> {
 }
 
 /// `assign = "=" | "|=" | "&="`
-pub(crate) fn assign(tokens: &[Token<'_>], at: usize) -> Result<Method, Fault> {
+pub(crate) fn assign(tokens: &[Token<'_>], at: usize) -> Result<Method, Fault>
+    ensures inside { IfOk result (λ _. at < length tokens.now) }
+{
     match next(tokens, at) {
         Terminal::Assign(method) => Ok(method),
         _ => Err(Fault::Stuck(at)),
@@ -155,7 +169,10 @@ pub(crate) fn assign(tokens: &[Token<'_>], at: usize) -> Result<Method, Fault> {
 }
 
 /// What stands behind `{`.
-pub(crate) fn left_brace(tokens: &[Token<'_>], at: usize) -> Result<usize, Fault> {
+pub(crate) fn left_brace(tokens: &[Token<'_>], at: usize) -> Result<usize, Fault>
+    requires { at ≤ length tokens.now }
+    ensures inside { IfOk result (λ behind. Advanced at behind (length tokens.now)) }
+{
     match next(tokens, at) {
         Terminal::LeftBrace => Ok(at + 1),
         _ => Err(Fault::Stuck(at)),
@@ -163,7 +180,10 @@ pub(crate) fn left_brace(tokens: &[Token<'_>], at: usize) -> Result<usize, Fault
 }
 
 /// What stands behind `}`.
-pub(crate) fn right_brace(tokens: &[Token<'_>], at: usize) -> Result<usize, Fault> {
+pub(crate) fn right_brace(tokens: &[Token<'_>], at: usize) -> Result<usize, Fault>
+    requires { at ≤ length tokens.now }
+    ensures inside { IfOk result (λ behind. Advanced at behind (length tokens.now)) }
+{
     match next(tokens, at) {
         Terminal::RightBrace => Ok(at + 1),
         _ => Err(Fault::Stuck(at)),
@@ -171,7 +191,10 @@ pub(crate) fn right_brace(tokens: &[Token<'_>], at: usize) -> Result<usize, Faul
 }
 
 /// What stands behind `)`.
-pub(crate) fn right_paren(tokens: &[Token<'_>], at: usize) -> Result<usize, Fault> {
+pub(crate) fn right_paren(tokens: &[Token<'_>], at: usize) -> Result<usize, Fault>
+    requires { at ≤ length tokens.now }
+    ensures inside { IfOk result (λ behind. Advanced at behind (length tokens.now)) }
+{
     match next(tokens, at) {
         Terminal::RightParen => Ok(at + 1),
         _ => Err(Fault::Stuck(at)),
