@@ -8,7 +8,11 @@ ghost use Rattle.rn_pattern.specs.Excepts.{HasExcepts};
 ghost use Rattle.rn_pattern.specs.Matching.{Grammar, definition_of, IsValid};
 ghost use Rattle.rn_pattern.specs.Opened.{opened_grammar};
 ghost use Rattle.rn_pattern.specs.Reached.{formed, all_canonical, IsPruned, IsCanonicalOf};
+ghost use Rattle.rn_modset.specs.Contributions.{Member};
+ghost use Rattle.rn_syntax.specs.Fault.{HasTree};
+ghost use Rattle.rn_syntax.specs.Grammar.{Tokens};
 ghost use Rattle.rn_syntax.specs.Places.{except_places};
+ghost use Rattle.rn_syntax.specs.Tree.{Module};
 ghost use Rattle.rn_assemble.specs.Components.{Component, Source, set_components};
 ghost use Rattle.rn_assemble.specs.Combine.{IsCombination, joined_grammar, read};
 ghost use Rattle.rn_assemble.specs.WellFormed.{IsWellFormed, HasWritableTexts};
@@ -17,6 +21,7 @@ ghost use Rattle.rn_simplify.specs.ReadBack.{IsReadBack};
 ghost use Rattle.rn_simplify.specs.Settling.{IsSettling};
 ghost use Rattle.rn_simplify.specs.Spellable.{IsSpellable};
 ghost use Rattle.rn_simplify.specs.Spelling.{spelling};
+ghost use Rattle.rn_simplify.specs.Verdict.{Verdict, IsVerdict};
 
 /// The text of a grammar is read back as the grammar, opened.
 pub fn spelling_reads_back()
@@ -81,4 +86,10 @@ pub fn what_is_read_back_stays()
     ensures same { (G N : Grammar) → IsCanonicalOf G N → (r : IsReadBack N) → IsCanonicalOf (read r.tree) N }
     ensures no_other { (G N M : Grammar) → IsCanonicalOf G N → (r : IsReadBack N) → IsCanonicalOf (read r.tree) M → M ≡ N }
     ensures no_refusal { (G N : Grammar) → IsCanonicalOf G N → IsWellFormed G → (r : IsReadBack N) (name : Text) (q : Refusal) → ¬ StandsFor (record { name = name; tree = r.tree } ∷ []) q }
+{}
+
+/// A set has one verdict at most: one refusal with all its fields, or one text, and never both. Premise: tokens have
+/// one module tree at most.
+pub fn one_verdict()
+    ensures { ((ts : Tokens) (m n : Module) → HasTree ts m → HasTree ts n → m ≡ n) → (s : List Member) (v w : Verdict) → IsVerdict s v → IsVerdict s w → v ≡ w }
 {}
