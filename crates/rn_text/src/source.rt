@@ -47,11 +47,6 @@ fn without_mark(text: &str) -> &str
     }
 }
 
-/// A text has one token list at most.
-pub fn one_token_list()
-    ensures { (cs : List ℕ) (first second : List Lexeme) → HasTokens cs first → HasTokens cs second → first ≡ second }
-{}
-
 /// The tokens of a source, in order.
 pub fn tokens<'a>(alloc: Global, src: &'a [u8]) -> Result<Vec<Token<'a>>, TextFault>
     ensures { MatchResult result (λ found. IsUtf8 src.now × HasTokens (chars src.now) (map lexeme_of found.items)) (HasFault src.now) }
