@@ -1,5 +1,5 @@
 // Laws of canonical grammars and of their texts.
-ghost use Rattle.std.specs.Prelude.{◌≡◌, ◌↔◌, ℕ, List, [], ◌∷◌, IfSome};
+ghost use Rattle.std.specs.Prelude.{◌≡◌, ◌↔◌, ◌≤◌, ℕ, length, List, [], ◌∷◌, IfSome};
 ghost use Rattle.std.specs.List.{AllByRecursion};
 ghost use Rattle.rn_pattern.specs.Tree.{Text, Tree};
 ghost use Rattle.rn_pattern.specs.Document.{Item};
@@ -11,15 +11,24 @@ ghost use Rattle.rn_pattern.specs.Reached.{formed, all_canonical, IsPruned, IsCa
 ghost use Rattle.rn_syntax.specs.Places.{except_places};
 ghost use Rattle.rn_assemble.specs.Components.{Component, Source, set_components};
 ghost use Rattle.rn_assemble.specs.Combine.{IsCombination, joined_grammar, read};
-ghost use Rattle.rn_assemble.specs.WellFormed.{IsWellFormed};
+ghost use Rattle.rn_assemble.specs.WellFormed.{IsWellFormed, HasWritableTexts};
 ghost use Rattle.rn_assemble.specs.Refusal.{Refusal, StandsFor};
 ghost use Rattle.rn_simplify.specs.ReadBack.{IsReadBack};
 ghost use Rattle.rn_simplify.specs.Settling.{IsSettling};
 ghost use Rattle.rn_simplify.specs.Spellable.{IsSpellable};
+ghost use Rattle.rn_simplify.specs.Spelling.{spelling};
 
 /// The text of a grammar is read back as the grammar, opened.
 pub fn spelling_reads_back()
     ensures { (n : Grammar) → IsSpellable n → IsReadBack n }
+{}
+
+/// A grammar whose names are names, whose texts are XML characters and whose datatypes may stand has a canonical grammar
+/// of which the same holds; if that one's text is at most 4 MiB long, it is read back as the canonical grammar, opened.
+pub fn canonical_texts_are_read_back()
+    ensures writable { (G N : Grammar) → IsCanonicalOf G N → HasWritableTexts G → HasWritableTexts N }
+    ensures spellable { (G N : Grammar) → IsCanonicalOf G N → HasWritableTexts G → length (spelling N) ≤ 4194304 → IsSpellable N }
+    ensures read_back { (G N : Grammar) → IsCanonicalOf G N → HasWritableTexts G → length (spelling N) ≤ 4194304 → IsReadBack N }
 {}
 
 /// The canonical grammar of a grammar is valid for exactly its documents, for every table of datatypes (RELAX NG
