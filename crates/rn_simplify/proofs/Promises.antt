@@ -15,7 +15,7 @@ use Rattle.rn_pattern.proofs.InOrder.{contains_front, contains_behind, contains_
 use Rattle.rn_pattern.proofs.Kept.{IsKept, opened_kept}
 use Rattle.rn_pattern.proofs.KeptRules.{RefersIn, RefersOutsideIn, refers_kept, outside_kept, excepts_kept, canonical_except, opened_except, name_rules_kept}
 
-opened_entry : (ds : List (Text × Tree)) (x : Text) (o : Tree) → Contains {X = Text × Tree} (map (λ (d : Text × Tree). (d.0, opened d.1)) ds) (x, o) → (p : Tree) × Contains {X = Text × Tree} ds (x, p) × (opened p ≡ o)
+pub opened_entry : (ds : List (Text × Tree)) (x : Text) (o : Tree) → Contains {X = Text × Tree} (map (λ (d : Text × Tree). (d.0, opened d.1)) ds) (x, o) → (p : Tree) × Contains {X = Text × Tree} ds (x, p) × (opened p ≡ o)
 opened_entry [] x o (i, l, is) = absurd (omega (arith, l))
 opened_entry (d ∷ ds) x o c = by_case (contains_cases (d.0, opened d.1) (x, o) (map (λ (d : Text × Tree). (d.0, opened d.1)) ds) c) (opened_entry ds x o)
   where

@@ -9,11 +9,11 @@ use Rattle.rn_pattern.specs.Reached.{IsCanonicalOf}
 use Rattle.rn_assemble.specs.WellFormed.{IsWellFormed}
 use Rattle.rn_simplify.proofs.Promises.{normal_defined, normal_loop_free, normal_excepts_start, normal_excepts, normal_names_start, normal_names, opened_defined, opened_loop_free, opened_excepts_start, opened_excepts, opened_names_start, opened_names}
 
-if_some_at : (Q : Tree → Type 0) (o : Option Tree) → ((p : Tree) → o ≡ Some p → Q p) → IfSome o Q
+pub if_some_at : (Q : Tree → Type 0) (o : Option Tree) → ((p : Tree) → o ≡ Some p → Q p) → IfSome o Q
 if_some_at Q None h = tt
 if_some_at Q (Some p) h = h p refl
 
-of_some : (Q : Tree → Type 0) (o : Option Tree) (p : Tree) → o ≡ Some p → IfSome o Q → Q p
+pub of_some : (Q : Tree → Type 0) (o : Option Tree) (p : Tree) → o ≡ Some p → IfSome o Q → Q p
 of_some Q o p e h = subst (λ (d : Option Tree). IfSome d Q) e h
 
 -- the canonical grammar keeps what the grammar does

@@ -1,5 +1,5 @@
 // Laws of canonical grammars and of their texts.
-ghost use Rattle.std.specs.Prelude.{◌≡◌, ◌↔◌, ℕ, List, [], ◌∷◌, IfSome};
+ghost use Rattle.std.specs.Prelude.{◌≡◌, ◌↔◌, ◌≤◌, ℕ, length, List, [], ◌∷◌, IfSome};
 ghost use Rattle.std.specs.List.{AllByRecursion};
 ghost use Rattle.rn_pattern.specs.Tree.{Text, Tree};
 ghost use Rattle.rn_pattern.specs.Document.{Item};
@@ -8,18 +8,32 @@ ghost use Rattle.rn_pattern.specs.Excepts.{HasExcepts};
 ghost use Rattle.rn_pattern.specs.Matching.{Grammar, definition_of, IsValid};
 ghost use Rattle.rn_pattern.specs.Opened.{opened_grammar};
 ghost use Rattle.rn_pattern.specs.Reached.{formed, all_canonical, IsPruned, IsCanonicalOf};
+ghost use Rattle.rn_modset.specs.Contributions.{Member};
+ghost use Rattle.rn_syntax.specs.Fault.{HasTree};
+ghost use Rattle.rn_syntax.specs.Grammar.{Tokens};
 ghost use Rattle.rn_syntax.specs.Places.{except_places};
+ghost use Rattle.rn_syntax.specs.Tree.{Module};
 ghost use Rattle.rn_assemble.specs.Components.{Component, Source, set_components};
 ghost use Rattle.rn_assemble.specs.Combine.{IsCombination, joined_grammar, read};
-ghost use Rattle.rn_assemble.specs.WellFormed.{IsWellFormed};
+ghost use Rattle.rn_assemble.specs.WellFormed.{IsWellFormed, HasWritableTexts};
 ghost use Rattle.rn_assemble.specs.Refusal.{Refusal, StandsFor};
 ghost use Rattle.rn_simplify.specs.ReadBack.{IsReadBack};
 ghost use Rattle.rn_simplify.specs.Settling.{IsSettling};
 ghost use Rattle.rn_simplify.specs.Spellable.{IsSpellable};
+ghost use Rattle.rn_simplify.specs.Spelling.{spelling};
+ghost use Rattle.rn_simplify.specs.Verdict.{Verdict, IsVerdict};
 
 /// The text of a grammar is read back as the grammar, opened.
 pub fn spelling_reads_back()
     ensures { (n : Grammar) → IsSpellable n → IsReadBack n }
+{}
+
+/// A grammar whose names are names, whose texts are XML characters and whose datatypes may stand has a canonical grammar
+/// of which the same holds; if that one's text is at most 4 MiB long, it is read back as the canonical grammar, opened.
+pub fn canonical_texts_are_read_back()
+    ensures writable { (G N : Grammar) → IsCanonicalOf G N → HasWritableTexts G → HasWritableTexts N }
+    ensures spellable { (G N : Grammar) → IsCanonicalOf G N → HasWritableTexts G → length (spelling N) ≤ 4194304 → IsSpellable N }
+    ensures read_back { (G N : Grammar) → IsCanonicalOf G N → HasWritableTexts G → length (spelling N) ≤ 4194304 → IsReadBack N }
 {}
 
 /// The canonical grammar of a grammar is valid for exactly its documents, for every table of datatypes (RELAX NG
@@ -72,4 +86,10 @@ pub fn what_is_read_back_stays()
     ensures same { (G N : Grammar) → IsCanonicalOf G N → (r : IsReadBack N) → IsCanonicalOf (read r.tree) N }
     ensures no_other { (G N M : Grammar) → IsCanonicalOf G N → (r : IsReadBack N) → IsCanonicalOf (read r.tree) M → M ≡ N }
     ensures no_refusal { (G N : Grammar) → IsCanonicalOf G N → IsWellFormed G → (r : IsReadBack N) (name : Text) (q : Refusal) → ¬ StandsFor (record { name = name; tree = r.tree } ∷ []) q }
+{}
+
+/// A set has one verdict at most: one refusal with all its fields, or one text, and never both. Premise: tokens have
+/// one module tree at most.
+pub fn one_verdict()
+    ensures { ((ts : Tokens) (m n : Module) → HasTree ts m → HasTree ts n → m ≡ n) → (s : List Member) (v w : Verdict) → IsVerdict s v → IsVerdict s w → v ≡ w }
 {}
