@@ -1,23 +1,23 @@
 // The store Interned.
+use crate::node::{Node, NodeId};
+use crate::node_table::NodeTable;
+use crate::store::NodeStore;
+use indexmap::IndexSet;
 use std::alloc::{AllocError, Global};
 
-use crate::node::{Node, NodeId};
-use crate::patterns::Patterns;
-use crate::tree::NameClass;
-
-/// A store of patterns.
+/// A store in which equal patterns have equal ids: a constructor looks for an equal node by its hash.
 #[derive(Drop)]
 pub struct Interned {
-    nodes: Vec<Node<NodeId>>,
-    nothing: Node<NodeId>,
+    alloc: Global,
+    nodes: IndexSet<Node<NodeId>>,
 }
 
 impl Interned {
     /// A store without ids. It takes no memory.
     pub fn new(alloc: Global) -> Interned {
         Interned {
-            nodes: Vec::new(alloc),
-            nothing: Node::NotAllowed,
+            alloc,
+            nodes: IndexSet::new(alloc),
         }
     }
 
@@ -27,68 +27,23 @@ impl Interned {
     }
 }
 
-impl Patterns for Interned {
-    type Id = NodeId;
-
-    fn node(&self, _id: NodeId) -> &Node<NodeId> {
-        &self.nothing
+impl NodeStore for Interned {
+    fn allocator(&self) -> Global {
+        self.alloc
     }
 
-    fn not_allowed(&mut self) -> Result<NodeId, AllocError> {
-        Err(AllocError)
+    fn table(&self) -> NodeTable<'_> {
+        NodeTable {
+            nodes: self.nodes.as_slice(),
+        }
     }
 
-    fn empty(&mut self) -> Result<NodeId, AllocError> {
-        Err(AllocError)
+    fn get(&self, id: NodeId) -> &Node<NodeId> {
+        &self.nodes.as_slice()[id.0]
     }
 
-    fn text(&mut self) -> Result<NodeId, AllocError> {
-        Err(AllocError)
-    }
-
-    fn reference(&mut self, _name: &str) -> Result<NodeId, AllocError> {
-        Err(AllocError)
-    }
-
-    fn value(&mut self, _library: &str, _type_name: &str, _text: &str) -> Result<NodeId, AllocError> {
-        Err(AllocError)
-    }
-
-    fn datum(
-        &mut self,
-        _library: &str,
-        _type_name: &str,
-        _params: &[(String, String)],
-        _except: Option<NodeId>,
-    ) -> Result<NodeId, AllocError> {
-        Err(AllocError)
-    }
-
-    fn list(&mut self, _content: NodeId) -> Result<NodeId, AllocError> {
-        Err(AllocError)
-    }
-
-    fn attribute(&mut self, _nc: &NameClass, _content: NodeId) -> Result<NodeId, AllocError> {
-        Err(AllocError)
-    }
-
-    fn element(&mut self, _nc: &NameClass, _content: NodeId) -> Result<NodeId, AllocError> {
-        Err(AllocError)
-    }
-
-    fn choice(&mut self, _members: &[NodeId]) -> Result<NodeId, AllocError> {
-        Err(AllocError)
-    }
-
-    fn group(&mut self, _members: &[NodeId]) -> Result<NodeId, AllocError> {
-        Err(AllocError)
-    }
-
-    fn ileave(&mut self, _members: &[NodeId]) -> Result<NodeId, AllocError> {
-        Err(AllocError)
-    }
-
-    fn one_or_more(&mut self, _content: NodeId) -> Result<NodeId, AllocError> {
-        Err(AllocError)
+    fn add(&mut self, node: Node<NodeId>) -> Result<NodeId, AllocError> {
+        let (place, _) = self.nodes.insert_full(node)?;
+        Ok(NodeId(place))
     }
 }

@@ -1,8 +1,7 @@
 // What a store of patterns does.
-use std::alloc::AllocError;
-
 use crate::node::Node;
 use crate::tree::NameClass;
+use std::alloc::AllocError;
 
 /// A store of canonical patterns, named by ids. Each constructor answers the id of the canonical form of its node; a
 /// refused call changes no id's pattern.

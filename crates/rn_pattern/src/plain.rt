@@ -1,23 +1,22 @@
 // The store Plain.
+use crate::node::{Node, NodeId};
+use crate::node_table::NodeTable;
+use crate::store::NodeStore;
 use std::alloc::{AllocError, Global};
 
-use crate::node::{Node, NodeId};
-use crate::patterns::Patterns;
-use crate::tree::NameClass;
-
-/// A store of patterns.
+/// A store that keeps each pattern that it is asked for, and looks for no equal one.
 #[derive(Drop)]
 pub struct Plain {
+    alloc: Global,
     nodes: Vec<Node<NodeId>>,
-    nothing: Node<NodeId>,
 }
 
 impl Plain {
     /// A store without ids. It takes no memory.
     pub fn new(alloc: Global) -> Plain {
         Plain {
+            alloc,
             nodes: Vec::new(alloc),
-            nothing: Node::NotAllowed,
         }
     }
 
@@ -27,68 +26,22 @@ impl Plain {
     }
 }
 
-impl Patterns for Plain {
-    type Id = NodeId;
-
-    fn node(&self, _id: NodeId) -> &Node<NodeId> {
-        &self.nothing
+impl NodeStore for Plain {
+    fn allocator(&self) -> Global {
+        self.alloc
     }
 
-    fn not_allowed(&mut self) -> Result<NodeId, AllocError> {
-        Err(AllocError)
+    fn table(&self) -> NodeTable<'_> {
+        NodeTable { nodes: &self.nodes }
     }
 
-    fn empty(&mut self) -> Result<NodeId, AllocError> {
-        Err(AllocError)
+    fn get(&self, id: NodeId) -> &Node<NodeId> {
+        &self.nodes[id.0]
     }
 
-    fn text(&mut self) -> Result<NodeId, AllocError> {
-        Err(AllocError)
-    }
-
-    fn reference(&mut self, _name: &str) -> Result<NodeId, AllocError> {
-        Err(AllocError)
-    }
-
-    fn value(&mut self, _library: &str, _type_name: &str, _text: &str) -> Result<NodeId, AllocError> {
-        Err(AllocError)
-    }
-
-    fn datum(
-        &mut self,
-        _library: &str,
-        _type_name: &str,
-        _params: &[(String, String)],
-        _except: Option<NodeId>,
-    ) -> Result<NodeId, AllocError> {
-        Err(AllocError)
-    }
-
-    fn list(&mut self, _content: NodeId) -> Result<NodeId, AllocError> {
-        Err(AllocError)
-    }
-
-    fn attribute(&mut self, _nc: &NameClass, _content: NodeId) -> Result<NodeId, AllocError> {
-        Err(AllocError)
-    }
-
-    fn element(&mut self, _nc: &NameClass, _content: NodeId) -> Result<NodeId, AllocError> {
-        Err(AllocError)
-    }
-
-    fn choice(&mut self, _members: &[NodeId]) -> Result<NodeId, AllocError> {
-        Err(AllocError)
-    }
-
-    fn group(&mut self, _members: &[NodeId]) -> Result<NodeId, AllocError> {
-        Err(AllocError)
-    }
-
-    fn ileave(&mut self, _members: &[NodeId]) -> Result<NodeId, AllocError> {
-        Err(AllocError)
-    }
-
-    fn one_or_more(&mut self, _content: NodeId) -> Result<NodeId, AllocError> {
-        Err(AllocError)
+    fn add(&mut self, node: Node<NodeId>) -> Result<NodeId, AllocError> {
+        let id = NodeId(self.nodes.len());
+        self.nodes.push(node)?;
+        Ok(id)
     }
 }
