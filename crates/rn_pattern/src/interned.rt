@@ -1,4 +1,7 @@
 // The store Interned.
+ghost use Rattle.std.specs.Prelude.{◌≡◌, [], length};
+ghost use Rattle.rn_pattern.specs.Nodes.{NameEarlier, NameEarlier-prop, trees_of_nodes};
+
 use crate::node::{Node, NodeId};
 use crate::node_table::NodeTable;
 use crate::store::NodeStore;
@@ -10,11 +13,14 @@ use std::alloc::{AllocError, Global};
 pub struct Interned {
     alloc: Global,
     nodes: IndexSet<Node<NodeId>>,
+    ghost earlier: { NameEarlier 0 nodes.keys } by { NameEarlier-prop 0 nodes.keys },
 }
 
 impl Interned {
     /// A store without ids. It takes no memory.
-    pub fn new(alloc: Global) -> Interned {
+    pub fn new(alloc: Global) -> Interned
+        ensures { trees_of_nodes result.nodes.keys ≡ [] }
+    {
         Interned {
             alloc,
             nodes: IndexSet::new(alloc),
@@ -22,12 +28,16 @@ impl Interned {
     }
 
     /// How many ids the store has.
-    pub fn nodes(&self) -> usize {
+    pub fn nodes(&self) -> usize
+        ensures { result ≡ length (trees_of_nodes self.now.nodes.keys) }
+    {
         self.nodes.len()
     }
 }
 
 impl NodeStore for Interned {
+    ghost trees = { λ s. trees_of_nodes s.nodes.keys };
+
     fn allocator(&self) -> Global {
         self.alloc
     }
@@ -36,10 +46,6 @@ impl NodeStore for Interned {
         NodeTable {
             nodes: self.nodes.as_slice(),
         }
-    }
-
-    fn get(&self, id: NodeId) -> &Node<NodeId> {
-        &self.nodes.as_slice()[id.0]
     }
 
     fn add(&mut self, node: Node<NodeId>) -> Result<NodeId, AllocError> {

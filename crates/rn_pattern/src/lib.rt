@@ -8,6 +8,7 @@
 #![tactic(auto)]
 
 mod canonical;
+mod connector;
 pub mod interned;
 mod name_class;
 pub mod node;

@@ -1,11 +1,18 @@
 // The order of name classes and of patterns: by kind, then by the parts from left to right.
+ghost use Rattle.std.specs.Prelude.{◌≡◌, map};
+ghost use Rattle.rn_pattern.specs.Order.{name_cmp, name_rank, names_cmp, rank};
+ghost use Rattle.rn_pattern.specs.Tree.{name_trees_of};
+ghost use Rattle.rn_pattern.specs.View.{except_view, name_class_view, pattern_view};
+
 use crate::tree::{NameClass, Pattern};
 use std::cmp::Ordering;
 use std::rc::Rc;
 
 impl NameClass {
     // The place of the kind in the order.
-    fn rank(&self) -> u8 {
+    fn rank(&self) -> u8
+        ensures { result ≡ name_rank (name_class_view self.now) }
+    {
         match self {
             NameClass::AnyName(_) => 0,
             NameClass::NsName(_, _) => 1,
@@ -17,7 +24,9 @@ impl NameClass {
     /// The order of name classes: anyName, nsName, name, choice. Texts are compared by bytes, the namespace before the local
     /// name; no except stands before an except, and a list before each longer one that it begins.
     #[cycle(compare_names)]
-    pub fn cmp(&self, other: &NameClass) -> Ordering {
+    pub fn cmp(&self, other: &NameClass) -> Ordering
+        ensures { result ≡ name_cmp (name_class_view self.now) (name_class_view other.now) }
+    {
         match (self, other) {
             (NameClass::AnyName(c), NameClass::AnyName(d)) => compare_excepts(c, d),
             (NameClass::NsName(u, c), NameClass::NsName(v, d)) => match u.cmp(v) {
@@ -32,7 +41,9 @@ impl NameClass {
 }
 
 #[cycle(compare_names)]
-fn compare_excepts(c: &Option<Box<NameClass>>, d: &Option<Box<NameClass>>) -> Ordering {
+fn compare_excepts(c: &Option<Box<NameClass>>, d: &Option<Box<NameClass>>) -> Ordering
+    ensures { result ≡ names_cmp (except_view c.now) (except_view d.now) }
+{
     match (c, d) {
         (None, None) => Ordering::Equal,
         (None, Some(_)) => Ordering::Less,
@@ -42,7 +53,9 @@ fn compare_excepts(c: &Option<Box<NameClass>>, d: &Option<Box<NameClass>>) -> Or
 }
 
 #[cycle(compare_names)]
-fn compare_name_classes(cs: &[NameClass], ds: &[NameClass]) -> Ordering {
+fn compare_name_classes(cs: &[NameClass], ds: &[NameClass]) -> Ordering
+    ensures { result ≡ names_cmp (name_trees_of (map name_class_view cs.now)) (name_trees_of (map name_class_view ds.now)) }
+{
     for (k, c) in cs.iter().enumerate() {
         if k >= ds.len() {
             return Ordering::Greater;
@@ -61,7 +74,9 @@ fn compare_name_classes(cs: &[NameClass], ds: &[NameClass]) -> Ordering {
 
 impl Pattern {
     // The place of the kind in the order.
-    fn rank(&self) -> u8 {
+    fn rank(&self) -> u8
+        ensures { result ≡ rank (pattern_view self.now) }
+    {
         match self {
             Pattern::NotAllowed => 0,
             Pattern::Empty => 1,

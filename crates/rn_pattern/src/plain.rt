@@ -1,4 +1,7 @@
 // The store Plain.
+ghost use Rattle.std.specs.Prelude.{◌≡◌, [], length};
+ghost use Rattle.rn_pattern.specs.Nodes.{NameEarlier, NameEarlier-prop, trees_of_nodes};
+
 use crate::node::{Node, NodeId};
 use crate::node_table::NodeTable;
 use crate::store::NodeStore;
@@ -9,11 +12,14 @@ use std::alloc::{AllocError, Global};
 pub struct Plain {
     alloc: Global,
     nodes: Vec<Node<NodeId>>,
+    ghost earlier: { NameEarlier 0 nodes.items } by { NameEarlier-prop 0 nodes.items },
 }
 
 impl Plain {
     /// A store without ids. It takes no memory.
-    pub fn new(alloc: Global) -> Plain {
+    pub fn new(alloc: Global) -> Plain
+        ensures { trees_of_nodes result.nodes.items ≡ [] }
+    {
         Plain {
             alloc,
             nodes: Vec::new(alloc),
@@ -21,22 +27,22 @@ impl Plain {
     }
 
     /// How many ids the store has.
-    pub fn nodes(&self) -> usize {
+    pub fn nodes(&self) -> usize
+        ensures { result ≡ length (trees_of_nodes self.now.nodes.items) }
+    {
         self.nodes.len()
     }
 }
 
 impl NodeStore for Plain {
+    ghost trees = { λ s. trees_of_nodes s.nodes.items };
+
     fn allocator(&self) -> Global {
         self.alloc
     }
 
     fn table(&self) -> NodeTable<'_> {
         NodeTable { nodes: &self.nodes }
-    }
-
-    fn get(&self, id: NodeId) -> &Node<NodeId> {
-        &self.nodes[id.0]
     }
 
     fn add(&mut self, node: Node<NodeId>) -> Result<NodeId, AllocError> {
