@@ -15,6 +15,9 @@ pub mod SortedBy
 pub mod Gathering
 pub mod Single
 pub mod Copied
+pub mod Hashing
+pub mod Equal
+pub mod Interning
 pub mod Stepwise
 pub mod Seen
 pub mod ShownTrees

@@ -10,6 +10,7 @@
 mod canonical;
 mod connector;
 pub mod interned;
+mod key;
 mod name_class;
 pub mod node;
 mod node_table;

@@ -6,7 +6,7 @@ use crate::tree::NameClass;
 pub struct NodeId(pub(crate) usize);
 
 /// A node of a store: a pattern with ids for the patterns in it.
-#[derive(PartialEq, Eq, Hash, Drop)]
+#[derive(Drop)]
 pub enum Node<Id> {
     NotAllowed,
     Empty,

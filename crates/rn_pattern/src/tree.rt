@@ -2,7 +2,7 @@
 use std::rc::Rc;
 
 /// A name class. URIs and local names are UTF-8.
-#[derive(PartialEq, Eq, Hash, Drop)]
+#[derive(Drop)]
 pub enum NameClass {
     /// Every name, without those of the except.
     AnyName(Option<Box<NameClass>>),
