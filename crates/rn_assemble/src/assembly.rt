@@ -54,23 +54,25 @@ fn check_components(
     keys: &Keys<'_>,
     components: &Components<'_, '_, '_>,
 ) -> Result<(), Refusal> {
-    if let Some(lack) = &components.lack {
+    if let Some(lack) = components.lack
+        && lack.module < sources.len()
+    {
         return Err(Refusal::Override {
             module: String::from_str(alloc, sources[lack.module].name)?,
             key: keys.key(alloc, lack.key)?,
         });
     }
-    if let Some(key) = components.least_plain_twice() {
+    if let Some(key) = components.least_plain_twice(keys.len()) {
         return Err(Refusal::PlainTwice {
             key: keys.key(alloc, key)?,
         });
     }
-    if let Some(key) = components.least_mixed() {
+    if let Some(key) = components.least_mixed(keys.len()) {
         return Err(Refusal::MixedMethods {
             key: keys.key(alloc, key)?,
         });
     }
-    if components.places[START].is_empty() {
+    if components.of_key(START).is_empty() {
         return Err(Refusal::NoStart);
     }
     Ok(())
@@ -83,7 +85,7 @@ fn check_references<'s>(
     components: &Components<'_, '_, 's>,
 ) -> Result<(), Refusal> {
     let references = references_of(alloc, keys, components)?;
-    if let Some(key) = least_recursive(alloc, references)? {
+    if let Some(key) = least_recursive(alloc, &references)? {
         return Err(Refusal::Recursive {
             name: String::from_str(alloc, keys.name(key))?,
         });
@@ -102,9 +104,12 @@ fn grammar(
         return Err(Refusal::NoStart);
     };
     let mut defs = IndexMap::new(alloc);
-    for first in first_places(alloc, components)? {
-        if let Some(pattern) = patterns[first.1].take() {
-            defs.insert(String::from_str(alloc, keys.name(first.1))?, pattern)?;
+    for first in first_places(alloc, components, keys.len())? {
+        let (_, key) = first;
+        if key < patterns.len()
+            && let Some(pattern) = patterns[key].take()
+        {
+            defs.insert(String::from_str(alloc, keys.name(key))?, pattern)?;
         }
     }
     Ok(Grammar { start, defs })
@@ -114,13 +119,11 @@ fn grammar(
 fn first_places(
     alloc: Global,
     components: &Components<'_, '_, '_>,
+    keys: usize,
 ) -> Result<Vec<(usize, usize)>, AllocError> {
     let mut firsts = Vec::new(alloc);
-    for (key, places) in components.places.iter().enumerate() {
-        if key == START {
-            continue;
-        }
-        if let Some(place) = places.first() {
+    for key in START + 1..keys {
+        if let Some(place) = components.of_key(key).first() {
             firsts.push((*place, key))?;
         }
     }

@@ -1,4 +1,6 @@
 // Definitions of one key combined (RELAX NG 2001, 4.17).
+ghost use Rattle.std.specs.Prelude.{◌≡◌, ◌+◌, vec_len, IfOk};
+
 use crate::components::{Body, Components};
 use crate::keys::Keys;
 use crate::name_classes::keeps_name_rules;
@@ -10,20 +12,16 @@ use std::alloc::Global;
 use std::rc::Rc;
 
 impl<'c, 't, 's> Components<'c, 't, 's> {
-    /// The body of the component at that place.
-    fn body(&self, place: usize) -> &Body<'c, 't, 's> {
-        &self.bodies[self.list[place]]
-    }
-
     /// The method of the component at that place.
-    fn method(&self, place: usize) -> Method {
-        self.body(place).component.method
+    fn method(&self, place: usize) -> Option<Method> {
+        let body = self.body(self.body_at(place)?)?;
+        Some(body.component.method)
     }
 
     /// Whether some component of the key uses the method.
     fn uses(&self, key: usize, method: Method) -> bool {
-        for place in &self.places[key] {
-            if self.method(*place) == method {
+        for place in self.of_key(key) {
+            if self.method(*place) == Some(method) {
                 return true;
             }
         }
@@ -33,8 +31,8 @@ impl<'c, 't, 's> Components<'c, 't, 's> {
     /// Whether two components of the key are plain.
     fn is_plain_twice(&self, key: usize) -> bool {
         let mut is_plain = false;
-        for place in &self.places[key] {
-            if self.method(*place) == Method::Plain {
+        for place in self.of_key(key) {
+            if self.method(*place) == Some(Method::Plain) {
                 if is_plain {
                     return true;
                 }
@@ -44,9 +42,9 @@ impl<'c, 't, 's> Components<'c, 't, 's> {
         false
     }
 
-    /// The least key with two plain components.
-    pub fn least_plain_twice(&self) -> Option<usize> {
-        for key in 0..self.places.len() {
+    /// The least of that many keys with two plain components.
+    pub fn least_plain_twice(&self, keys: usize) -> Option<usize> {
+        for key in 0..keys {
             if self.is_plain_twice(key) {
                 return Some(key);
             }
@@ -54,9 +52,9 @@ impl<'c, 't, 's> Components<'c, 't, 's> {
         None
     }
 
-    /// The least key whose components use both methods.
-    pub fn least_mixed(&self) -> Option<usize> {
-        for key in 0..self.places.len() {
+    /// The least of that many keys whose components use both methods.
+    pub fn least_mixed(&self, keys: usize) -> Option<usize> {
+        for key in 0..keys {
             if self.uses(key, Method::Choice) && self.uses(key, Method::Interleave) {
                 return Some(key);
             }
@@ -74,14 +72,16 @@ pub(crate) fn combined(
     alloc: Global,
     keys: &Keys<'_>,
     components: &Components<'_, '_, '_>,
-) -> Result<Vec<Option<Pattern>>, Refusal> {
-    let mut shared = Vec::with_capacity(alloc, components.bodies.len())?;
-    for _ in 0..components.bodies.len() {
+) -> Result<Vec<Option<Pattern>>, Refusal>
+    ensures { IfOk result (λ patterns. vec_len patterns ≡ vec_len keys.now.names + 1) }
+{
+    let mut shared = Vec::with_capacity(alloc, components.count_bodies())?;
+    for _ in 0..components.count_bodies() {
         shared.push(None)?;
     }
-    let mut patterns = Vec::with_capacity(alloc, components.places.len())?;
-    for places in &components.places {
-        patterns.push(join(alloc, keys, components, &mut shared, places.as_slice())?)?;
+    let mut patterns = Vec::with_capacity(alloc, keys.len())?;
+    for key in 0..keys.len() {
+        patterns.push(join(alloc, keys, components, &mut shared, key)?)?;
     }
     Ok(patterns)
 }
@@ -92,13 +92,13 @@ fn join(
     keys: &Keys<'_>,
     components: &Components<'_, '_, '_>,
     shared: &mut Shared,
-    places: &[usize],
+    key: usize,
 ) -> Result<Option<Pattern>, Refusal> {
+    let places = components.of_key(key);
     match places {
         [] => Ok(None),
-        [place] => Ok(Some(resolved(alloc, keys, components.body(*place))?)),
-        [first, ..] => {
-            let key = components.body(*first).component.key;
+        [place] => alone(alloc, keys, components, *place),
+        _ => {
             let members = members(alloc, keys, components, shared, places)?;
             if components.uses(key, Method::Interleave) {
                 Ok(Some(Pattern::Interleave(members)))
@@ -106,6 +106,22 @@ fn join(
                 Ok(Some(Pattern::Choice(members)))
             }
         }
+    }
+}
+
+/// The pattern of one component.
+fn alone(
+    alloc: Global,
+    keys: &Keys<'_>,
+    components: &Components<'_, '_, '_>,
+    place: usize,
+) -> Result<Option<Pattern>, Refusal> {
+    match components.body_at(place) {
+        Some(number) => match components.body(number) {
+            Some(body) => Ok(Some(resolved(alloc, keys, body)?)),
+            None => Ok(None),
+        },
+        None => Ok(None),
     }
 }
 
@@ -119,16 +135,32 @@ fn members(
 ) -> Result<Vec<Rc<Pattern>>, Refusal> {
     let mut members = Vec::with_capacity(alloc, places.len())?;
     for place in places {
-        let body = components.list[*place];
-        if shared[body].is_none() {
-            let pattern = resolved(alloc, keys, &components.bodies[body])?;
-            shared[body] = Some(Rc::new(alloc, pattern)?);
-        }
-        if let Some(pattern) = &shared[body] {
-            members.push(pattern.clone()?)?;
+        if let Some(number) = components.body_at(*place) {
+            share(alloc, keys, components, shared, number)?;
+            if let Some(Some(pattern)) = shared.get(number) {
+                members.push(pattern.clone()?)?;
+            }
         }
     }
     Ok(members)
+}
+
+/// Resolves a body that wasn't yet.
+fn share(
+    alloc: Global,
+    keys: &Keys<'_>,
+    components: &Components<'_, '_, '_>,
+    shared: &mut Shared,
+    number: usize,
+) -> Result<(), Refusal> {
+    if let Some(body) = components.body(number)
+        && number < shared.len()
+        && shared[number].is_none()
+    {
+        let pattern = resolved(alloc, keys, body)?;
+        shared[number] = Some(Rc::new(alloc, pattern)?);
+    }
+    Ok(())
 }
 
 /// The pattern of a body that keeps the restrictions on name classes.

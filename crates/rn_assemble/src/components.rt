@@ -1,4 +1,6 @@
 // The components of a set: includes replaced by what they include, without what they override.
+ghost use Rattle.std.specs.Prelude.{◌≡◌, vec_len};
+
 use crate::bindings::Scope;
 use crate::contents::{Component, Contents, Entry, Include};
 use crate::inclusion::INSTANCE_LIMIT;
@@ -31,11 +33,11 @@ pub(crate) struct Lack {
 pub(crate) struct Components<'c, 't, 's> {
     /// The first body of each context.
     contexts: IndexMap<Context<'t>, usize>,
-    pub bodies: Vec<Body<'c, 't, 's>>,
+    bodies: Vec<Body<'c, 't, 's>>,
     /// The body of each component, also of those that an include has overridden.
-    pub list: Vec<usize>,
+    list: Vec<usize>,
     /// Of each key, the places of its components, without the overridden ones.
-    pub places: Vec<Vec<usize>>,
+    places: Vec<Vec<usize>>,
     /// The least override of what isn't there.
     pub lack: Option<Lack>,
 }
@@ -74,7 +76,9 @@ fn expand<'c, 't, 's>(
     if depth == 0 {
         return Ok(());
     }
-    let content = &contents[module];
+    let Some(content) = contents.get(module) else {
+        return Ok(());
+    };
     let scope = Scope {
         bindings: &content.bindings,
         inherited,
@@ -133,9 +137,17 @@ impl<'c, 't, 's> Components<'c, 't, 's> {
         first: usize,
         number: usize,
     ) -> Result<(), AllocError> {
+        let (Some(component), Some(body)) = (
+            content.components.get(number),
+            first.checked_add(number),
+        ) else {
+            return Ok(());
+        };
         let place = self.list.len();
-        self.list.push(first + number)?;
-        self.places[content.components[number].key].push(place)?;
+        self.list.push(body)?;
+        if component.key < self.places.len() {
+            self.places[component.key].push(place)?;
+        }
         Ok(())
     }
 
@@ -160,23 +172,32 @@ impl<'c, 't, 's> Components<'c, 't, 's> {
         content: &Contents<'t, 's>,
         include: &Include<'t>,
     ) {
-        let own = &content.components[include.from..include.to];
-        for component in own {
-            if !self.has_since(before, component.key) {
-                self.note_lack(Lack {
-                    module,
-                    key: component.key,
-                });
+        for number in include.from..include.to {
+            if let Some(component) = content.components.get(number) {
+                let key = component.key;
+                if !self.has_since(before, key) {
+                    self.note_lack(Lack { module, key });
+                }
             }
         }
-        for component in own {
-            self.take_out_since(before, component.key);
+        for number in include.from..include.to {
+            if let Some(component) = content.components.get(number) {
+                self.take_out_since(before, component.key);
+            }
+        }
+    }
+
+    /// The places of the components of a key.
+    pub fn of_key(&self, key: usize) -> &[usize] {
+        match self.places.get(key) {
+            Some(places) => places.as_slice(),
+            None => &[],
         }
     }
 
     /// Whether a component of the key was added since a place.
     fn has_since(&self, before: usize, key: usize) -> bool {
-        match self.places[key].last() {
+        match self.of_key(key).last() {
             Some(place) => before <= *place,
             None => false,
         }
@@ -184,9 +205,26 @@ impl<'c, 't, 's> Components<'c, 't, 's> {
 
     /// Takes out the components of a key that were added since a place.
     fn take_out_since(&mut self, before: usize, key: usize) {
-        while self.has_since(before, key) {
-            self.places[key].pop();
+        if key < self.places.len() {
+            pop_since(&mut self.places[key], before);
         }
+    }
+
+    /// How many bodies there are.
+    pub fn count_bodies(&self) -> usize
+        ensures { result ≡ vec_len self.now.bodies }
+    {
+        self.bodies.len()
+    }
+
+    /// The body of that number.
+    pub fn body(&self, number: usize) -> Option<&Body<'c, 't, 's>> {
+        self.bodies.get(number)
+    }
+
+    /// The number of the body of the component at that place.
+    pub fn body_at(&self, place: usize) -> Option<usize> {
+        self.list.get(place).copied()
     }
 
     /// Keeps the least lack.
@@ -195,5 +233,15 @@ impl<'c, 't, 's> Components<'c, 't, 's> {
             Some(held) if *held <= lack => {}
             _ => self.lack = Some(lack),
         }
+    }
+}
+
+/// Takes out the places from a place on, at the end of a list that rises.
+fn pop_since(places: &mut Vec<usize>, before: usize) {
+    while let Some(place) = places.last() {
+        if *place < before {
+            break;
+        }
+        places.pop();
     }
 }

@@ -1,4 +1,7 @@
 // Which modules include which, and what stands against it.
+ghost use Rattle.std.specs.Prelude.{◌≡◌, ◌<◌, length, vec_len, IfSome, IfOk, MatchOption};
+ghost use Rattle.rn_assemble.specs.Graph.{AllBelow, IsGraph, rows_of};
+
 use crate::graph::{reached, row_at};
 use crate::instances::instances_up_to;
 use crate::modules::Source;
@@ -11,7 +14,9 @@ use std::alloc::{AllocError, Global};
 pub(crate) const INSTANCE_LIMIT: usize = 512;
 
 /// The number of the module of that name.
-pub(crate) fn module_named(sources: &[Source<'_>], name: &str) -> Option<usize> {
+pub(crate) fn module_named(sources: &[Source<'_>], name: &str) -> Option<usize>
+    ensures { IfSome result (λ m. m < length sources.now) }
+{
     sources
         .binary_search_by(|source| source.name.cmp(name))
         .ok()
@@ -19,10 +24,11 @@ pub(crate) fn module_named(sources: &[Source<'_>], name: &str) -> Option<usize> 
 
 /// For each module, the modules that its includes name. `Missing` names the least module with an include of none, and
 /// the least literal of such an include.
-pub(crate) fn inclusions(
-    alloc: Global,
-    sources: &[Source<'_>],
-) -> Result<Vec<Vec<usize>>, Refusal> {
+#[tactic(auto, using(crate::proofs::Rows::no_rows, crate::proofs::Rows::more_rows, crate::proofs::Rows::is_graph))]
+pub(crate) fn inclusions(alloc: Global, sources: &[Source<'_>]) -> Result<Vec<Vec<usize>>, Refusal>
+    ensures graph { IfOk result (λ rows. IsGraph (rows_of rows.items)) }
+    ensures size { IfOk result (λ rows. vec_len rows ≡ length sources.now) }
+{
     let mut rows = Vec::new(alloc);
     for source in sources {
         let wanted = includes(alloc, &source.tree)?;
@@ -57,11 +63,14 @@ pub(crate) fn lesser<'m>(held: Option<&'m str>, other: &'m str) -> &'m str {
 }
 
 /// The modules that the literals name.
+#[tactic(auto, using(crate::proofs::Rows::none_below, crate::proofs::Rows::below_push))]
 fn included(
     alloc: Global,
     sources: &[Source<'_>],
     wanted: &[&str],
-) -> Result<Vec<usize>, AllocError> {
+) -> Result<Vec<usize>, AllocError>
+    ensures { IfOk result (λ row. AllBelow (length sources.now) row.items) }
+{
     let mut row = Vec::new(alloc);
     for literal in wanted {
         if let Some(module) = module_named(sources, literal) {
@@ -72,10 +81,10 @@ fn included(
 }
 
 /// The least node that comes back to itself along one edge or more.
-pub(crate) fn least_looped(
-    alloc: Global,
-    edges: &[Vec<usize>],
-) -> Result<Option<usize>, AllocError> {
+pub(crate) fn least_looped(alloc: Global, edges: &[Vec<usize>]) -> Result<Option<usize>, AllocError>
+    requires { IsGraph (rows_of edges.now) }
+    ensures { IfOk result (λ node. IfSome node (λ x. x < length edges.now)) }
+{
     if let Order::Ranked(_) = ranks(alloc, edges)? {
         return Ok(None);
     }
@@ -89,29 +98,39 @@ pub(crate) fn least_looped(
 }
 
 /// The modules that no module includes.
-pub(crate) fn roots(alloc: Global, rows: &[Vec<usize>]) -> Result<Vec<usize>, AllocError> {
+#[tactic(auto, using(crate::proofs::Rows::none_below, crate::proofs::Rows::below_push))]
+pub(crate) fn roots(alloc: Global, rows: &[Vec<usize>]) -> Result<Vec<usize>, AllocError>
+    requires { IsGraph (rows_of rows.now) }
+    ensures { IfOk result (λ roots. AllBelow (length rows.now) roots.items) }
+{
     let mut included = vec![in alloc; false; rows.len()]?;
-    for row in rows {
-        mark_row(&mut included, row.as_slice());
+    for includer in 0..rows.len() {
+        mark_row(&mut included, row_at(rows, includer));
     }
     let mut roots = Vec::new(alloc);
-    for (module, is_included) in included.iter().enumerate() {
+    for (node, is_included) in included.iter().enumerate() {
         if !*is_included {
-            roots.push(module)?;
+            roots.push(node)?;
         }
     }
     Ok(roots)
 }
 
 /// Marks the modules of a row.
-fn mark_row(included: &mut Vec<bool>, row: &[usize]) {
-    for module in row {
-        included[*module] = true;
+fn mark_row(included: &mut Vec<bool>, row: &[usize])
+    requires { AllBelow (vec_len included.old) row.now }
+    ensures { vec_len included.new ≡ vec_len included.old }
+{
+    for node in row {
+        included[*node] = true;
     }
 }
 
 /// Whether the roots have more instances than a set may have. The count stops there.
-pub(crate) fn has_too_many_instances(rows: &[Vec<usize>], roots: &[usize]) -> bool {
+pub(crate) fn has_too_many_instances(rows: &[Vec<usize>], roots: &[usize]) -> bool
+    requires graph { IsGraph (rows_of rows.now) }
+    requires within { AllBelow (length rows.now) roots.now }
+{
     let mut count = 0;
     for root in roots {
         count += instances_up_to(rows, *root, INSTANCE_LIMIT + 1 - count);

@@ -1,4 +1,6 @@
 // The keys of all components, numbered in their order.
+ghost use Rattle.std.specs.Prelude.{◌≡◌, ◌+◌, ◌<◌, ◌≤◌, vec_len, IfSome};
+
 use crate::modules::Source;
 use crate::refusal::Key;
 use rn_syntax::Item;
@@ -26,7 +28,9 @@ impl<'s> Keys<'s> {
     }
 
     /// How many keys there are.
-    pub fn len(&self) -> usize {
+    pub fn len(&self) -> usize
+        ensures { result ≡ vec_len self.now.names + 1 }
+    {
         self.names.len() + 1
     }
 
@@ -38,7 +42,9 @@ impl<'s> Keys<'s> {
     }
 
     /// The number of a name, if a module defines it.
-    pub fn find(&self, name: &'s str) -> Option<usize> {
+    pub fn find(&self, name: &'s str) -> Option<usize>
+        ensures { IfSome result (λ key. (0 < key) × (key < vec_len self.now.names + 1)) }
+    {
         match self.names.binary_search(&name) {
             Ok(at) => Some(at + 1),
             Err(_) => None,
@@ -47,7 +53,10 @@ impl<'s> Keys<'s> {
 
     /// The name of that number.
     pub fn name(&self, number: usize) -> &'s str {
-        self.names[number - 1]
+        match number.checked_sub(1) {
+            Some(at) if at < self.names.len() => self.names[at],
+            _ => "",
+        }
     }
 
     /// The key of that number.

@@ -1,6 +1,9 @@
 // References, what is reached by them, and loops.
+ghost use Rattle.std.specs.Prelude.{◌≡◌, ◌+◌, ◌<◌, length, vec_len, IfSome, IfOk};
+ghost use Rattle.rn_assemble.specs.Graph.{AllBelow, IsGraph, rows_of};
+
 use crate::components::Components;
-use crate::graph::reached;
+use crate::graph::{reached, row_at};
 use crate::inclusion::{least_looped, lesser};
 use crate::keys::{Keys, START};
 use crate::refusal::Refusal;
@@ -15,49 +18,63 @@ pub(crate) struct References {
 }
 
 /// The references of all components. `Undefined` names the least name that is referred to and has no component.
+#[tactic(auto, using(crate::proofs::Rows::no_rows, crate::proofs::Rows::more_rows, crate::proofs::Rows::is_graph))]
 pub(crate) fn references_of<'s>(
     alloc: Global,
     keys: &Keys<'s>,
     components: &Components<'_, '_, 's>,
-) -> Result<References, Refusal> {
-    let mut references = References {
-        all: Vec::new(alloc),
-        outer: Vec::new(alloc),
-    };
-    let mut seen = vec![in alloc; false; components.bodies.len()]?;
+) -> Result<References, Refusal>
+    ensures all { IfOk result (λ r. IsGraph (rows_of r.all.items)) }
+    ensures all_size { IfOk result (λ r. vec_len r.all ≡ vec_len keys.now.names + 1) }
+    ensures outer { IfOk result (λ r. IsGraph (rows_of r.outer.items)) }
+    ensures outer_size { IfOk result (λ r. vec_len r.outer ≡ vec_len keys.now.names + 1) }
+{
+    let mut seen = vec![in alloc; false; components.count_bodies()]?;
     let mut undefined = None;
-    for places in &components.places {
+    let mut all = Vec::new(alloc);
+    let mut outer = Vec::new(alloc);
+    for key in 0..keys.len() {
         let mut names = Vec::new(alloc);
-        let mut outer = Vec::new(alloc);
-        for place in places {
-            let body = components.list[*place];
-            if !seen[body] {
-                seen[body] = true;
-                let pattern = components.bodies[body].component.body;
-                refer(pattern, &mut names)?;
-                refer_outside(pattern, &mut outer)?;
-            }
-        }
+        let mut outside = Vec::new(alloc);
+        refer_key(components, key, &mut seen, &mut names, &mut outside)?;
         undefined = least_undefined(keys, components, names.as_slice(), undefined);
-        references
-            .all
-            .push(numbers(alloc, keys, names.as_slice())?)?;
-        references
-            .outer
-            .push(numbers(alloc, keys, outer.as_slice())?)?;
+        all.push(numbers(alloc, keys, names.as_slice())?)?;
+        outer.push(numbers(alloc, keys, outside.as_slice())?)?;
     }
     match undefined {
         Some(name) => Err(Refusal::Undefined {
             name: String::from_str(alloc, name)?,
         }),
-        None => Ok(references),
+        None => Ok(References { all, outer }),
     }
+}
+
+/// Adds the names that a key's components refer to, and those outside elements; each body is looked at once.
+fn refer_key<'s>(
+    components: &Components<'_, '_, 's>,
+    key: usize,
+    seen: &mut Vec<bool>,
+    names: &mut Vec<&'s str>,
+    outside: &mut Vec<&'s str>,
+) -> Result<(), AllocError> {
+    for place in components.of_key(key) {
+        if let Some(number) = components.body_at(*place)
+            && number < seen.len()
+            && !seen[number]
+            && let Some(body) = components.body(number)
+        {
+            seen[number] = true;
+            refer(body.component.body, names)?;
+            refer_outside(body.component.body, outside)?;
+        }
+    }
+    Ok(())
 }
 
 /// Whether the name has a component.
 fn is_defined<'s>(keys: &Keys<'s>, components: &Components<'_, '_, 's>, name: &'s str) -> bool {
     match keys.find(name) {
-        Some(key) => !components.places[key].is_empty(),
+        Some(key) => !components.of_key(key).is_empty(),
         None => false,
     }
 }
@@ -78,11 +95,10 @@ fn least_undefined<'s>(
 }
 
 /// The numbers of the names.
-fn numbers<'s>(
-    alloc: Global,
-    keys: &Keys<'s>,
-    names: &[&'s str],
-) -> Result<Vec<usize>, AllocError> {
+#[tactic(auto, using(crate::proofs::Rows::none_below, crate::proofs::Rows::below_push))]
+fn numbers<'s>(alloc: Global, keys: &Keys<'s>, names: &[&'s str]) -> Result<Vec<usize>, AllocError>
+    ensures { IfOk result (λ numbers. AllBelow (vec_len keys.now.names + 1) numbers.items) }
+{
     let mut numbers = Vec::new(alloc);
     for name in names {
         if let Some(key) = keys.find(name) {
@@ -139,14 +155,36 @@ fn refer_outside<'s>(pattern: &Pat<'s>, names: &mut Vec<&'s str>) -> Result<(), 
 /// The least key that start reaches and that comes back to itself by references outside elements.
 pub(crate) fn least_recursive(
     alloc: Global,
-    references: References,
-) -> Result<Option<usize>, AllocError> {
-    let References { all, mut outer } = references;
-    let reached = reached(alloc, all.as_slice(), all[START].as_slice())?;
-    for (key, is_reached) in reached.iter().enumerate() {
-        if !*is_reached {
-            outer[key] = Vec::new(alloc);
+    references: &References,
+) -> Result<Option<usize>, AllocError>
+    requires all { IsGraph (rows_of references.now.all.items) }
+    requires some { 0 < vec_len references.now.all }
+    requires outer { IsGraph (rows_of references.now.outer.items) }
+    requires size { vec_len references.now.outer ≡ vec_len references.now.all }
+{
+    let first = row_at(references.all.as_slice(), START);
+    let reached = reached(alloc, references.all.as_slice(), first)?;
+    let outer = only_marked(alloc, references.outer.as_slice(), reached.as_slice())?;
+    least_looped(alloc, outer.as_slice())
+}
+
+/// The edges from marked nodes alone.
+#[tactic(auto, using(crate::proofs::Rows::none_below, crate::proofs::Rows::no_rows, crate::proofs::Rows::more_rows, crate::proofs::Rows::is_graph))]
+fn only_marked(
+    alloc: Global,
+    edges: &[Vec<usize>],
+    marks: &[bool],
+) -> Result<Vec<Vec<usize>>, AllocError>
+    requires graph { IsGraph (rows_of edges.now) }
+    ensures graph { IfOk result (λ rows. IsGraph (rows_of rows.items)) }
+{
+    let mut rows = Vec::with_capacity(alloc, edges.len())?;
+    for node in 0..edges.len() {
+        if node < marks.len() && marks[node] {
+            rows.push(edges[node].clone()?)?;
+        } else {
+            rows.push(Vec::new(alloc))?;
         }
     }
-    least_looped(alloc, outer.as_slice())
+    Ok(rows)
 }
