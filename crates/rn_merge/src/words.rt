@@ -1,5 +1,5 @@
 // What the words of a call ask for.
-ghost use Rattle.std.specs.Prelude.{◌≡◌, ℕ, List, IfOk, MatchOption, map, string_bytes, decimal, ◌≢◌, ◌<◌, ◌^◌};
+ghost use Rattle.std.specs.Prelude.{◌≡◌, ℕ, List, IfOk, map, string_bytes};
 ghost use Rattle.rn_merge.specs.Words.{AreFiles, NamesFiles};
 
 use std::alloc::{AllocError, Global};
@@ -188,9 +188,7 @@ fn revision(words: &ArgMatches<'_>) -> Result<u64, ProgramFault> {
 }
 
 /// The number of which the text is the decimal form.
-fn decimal(text: &str) -> Option<u64>
-    ensures { MatchOption result ((n : ℕ) → n < 2 ^ 64 → text.now ≢ decimal n) (λ n. text.now ≡ decimal n) }
-{
+fn decimal(text: &str) -> Option<u64> {
     match text.as_bytes() {
         b"0" => Some(0),
         [b'1'..=b'9', ..] => text.parse().ok(),
