@@ -1,5 +1,6 @@
 // From bundles to the printed schema.
-ghost use Rattle.std.specs.Prelude.{◌≡◌, false};
+ghost use Rattle.std.specs.Prelude.{◌≡◌, false, IfOk, IfErr, map};
+ghost use Rattle.rn_merge.specs.Runs.{IsUnion, HasNoUnion, join_fault};
 
 use std::alloc::Global;
 
@@ -31,6 +32,10 @@ pub enum RunFault {
 }
 
 impl From<AddFault> for RunFault {
+    ghost use Rattle.rn_merge.specs.Runs.{join_fault};
+
+    ghost from_gives = { λ fault r. r ≡ join_fault fault };
+
     fn from(fault: AddFault) -> Self {
         match fault {
             AddFault::Memory => RunFault::Memory,
@@ -41,7 +46,10 @@ impl From<AddFault> for RunFault {
 
 /// The union of the sets of which these are the bundles. `Bundle` where the first that is no bundle comes before the
 /// union has more than 1,024 contributions, else `Full` where it has.
-pub fn read_bundles(alloc: Global, bundles: &[Vec<u8>]) -> Result<ModuleSet, RunFault> {
+pub fn read_bundles(alloc: Global, bundles: &[Vec<u8>]) -> Result<ModuleSet, RunFault>
+    ensures ok { IfOk result (IsUnion (map (λ bundle. bundle.items) bundles.now)) }
+    ensures err { IfErr result (HasNoUnion (map (λ bundle. bundle.items) bundles.now)) }
+{
     let mut union = ModuleSet::new(alloc);
     for (index, bundle) in bundles.iter().enumerate() {
         let set = match read_bundle(alloc, bundle.as_slice()) {
