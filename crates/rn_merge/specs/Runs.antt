@@ -7,7 +7,7 @@ use Rattle.rn_modset.specs.Sets.{IsSet, union}
 use Rattle.rn_modset.specs.Bundles.{bundle}
 use Rattle.rn_modset.specs.declared.faults.AddFault.{AddFault}
 use Rattle.rn_modset.specs.declared.faults.AddFault.TheVariants as adding
-use Rattle.rn_assemble.specs.declared.refusal.Refusal.{Refusal}
+use Rattle.rn_assemble.specs.declared.refusal.Refusal.TheVariants as refusing
 use Rattle.rn_merge.specs.declared.run.RunFault.{RunFault}
 use Rattle.rn_merge.specs.declared.run.RunFault.TheVariants.{Bundle, Full, Memory, Write}
 use Rattle.rn_merge.specs.declared.run.Status.{Status}
@@ -58,3 +58,17 @@ HasNoUnion bundles Write = ⊥
 abbrev pub join_fault : AddFault → RunFault
 join_fault adding.Memory = Memory
 join_fault _ = Full
+
+-- what came of a run: the bundles have a union, and all of a text was written, or there is a refusal; or they have none;
+-- or the sink failed, which took a front of a text
+abbrev pub IsRun : List (List ℕ) → Option (List ℕ) → Option (List ℕ) → Bool → Result Status RunFault → Type 0
+IsRun bundles old new failed (Ok Done) = (s : List Member) × (text : List ℕ) × IsUnion bundles s × Appends old new text × (failed ≡ false)
+IsRun bundles old new failed (Ok (Refused refusal)) = (s : List Member) × IsUnion bundles s × (refusal ≢ refusing.Memory)
+IsRun bundles old new failed (Err Write) = (s : List Member) × (text : List ℕ) × IsUnion bundles s × AppendsFront old new text × (failed ≡ true)
+IsRun bundles old new failed (Err fault) = HasNoUnion bundles fault
+
+-- a run that comes to no text leaves the sink as it was
+abbrev pub LeavesSink : Result Status RunFault → Type 0 → Type 0
+LeavesSink (Ok Done) kept = Unit {0}
+LeavesSink (Err Write) kept = Unit {0}
+LeavesSink result kept = kept

@@ -1,6 +1,6 @@
 // From bundles to the printed schema.
 ghost use Rattle.std.specs.Prelude.{◌≡◌, false, IfOk, IfErr, map};
-ghost use Rattle.rn_merge.specs.Runs.{IsUnion, HasNoUnion, join_fault};
+ghost use Rattle.rn_merge.specs.Runs.{IsUnion, HasNoUnion, IsRun, LeavesSink};
 
 use std::alloc::Global;
 
@@ -66,6 +66,8 @@ pub fn read_bundles(alloc: Global, bundles: &[Vec<u8>]) -> Result<ModuleSet, Run
 /// schema; `Write` where the sink has failed, which then took a front of the text.
 pub fn run_print<W: Sink>(alloc: Global, bundles: &[Vec<u8>], out: &mut W) -> Result<Status, RunFault>
     requires { W.has_failed out.old ≡ false }
+    ensures run { IsRun (map (λ bundle. bundle.items) bundles.now) (W.contents out.old) (W.contents out.new) (W.has_failed out.new) result }
+    ensures kept { LeavesSink result (out.new ≡ out.old) }
 {
     let union = read_bundles(alloc, bundles)?;
     let text = match merge(alloc, &union) {
