@@ -24,7 +24,7 @@ one_more f xs i x s t within at reads is_set few before =
       sets = before.sets ++ t ∷ [];
       are_sets = All-append IsSet before.sets (t ∷ []) before.are_sets (search (rules, is_set));
       are = take_more (map f xs) i (f x) within' ∙ ap (λ l. l ++ get_or (map f xs) i (f x) ∷ []) before.are ∙ ap (λ b. map bundle before.sets ++ b ∷ []) item
-        ∙ sym (map-append bundle before.sets (t ∷ []));
+          ∙ sym (map-append bundle before.sets (t ∷ []));
       is = ap (λ u. union u t) before.is ∙ sym (unions_of_more [] before.sets t);
       few = few;
     }

@@ -2,14 +2,12 @@
 ghost use Rattle.std.specs.Prelude.{◌≡◌, false, IfOk, IfErr, map};
 ghost use Rattle.rn_merge.specs.Runs.{IsUnion, HasNoUnion, IsRun, LeavesSink};
 
-use std::alloc::Global;
-
-use rn_assemble::Refusal;
-use rn_modset::{AddFault, BundleFault, ModuleSet, read_bundle};
-use thiserror::Error;
-
 use crate::streams::{Sink, write_output};
 use crate::verdict::merge;
+use rn_assemble::Refusal;
+use rn_modset::{AddFault, BundleFault, ModuleSet, read_bundle};
+use std::alloc::Global;
+use thiserror::Error;
 
 /// What came of a run: all of the text was written, or nothing was, for there is a refusal, which is never `Memory`.
 #[derive(Debug, Drop, PartialEq, Eq)]
@@ -64,7 +62,11 @@ pub fn read_bundles(alloc: Global, bundles: &[Vec<u8>]) -> Result<ModuleSet, Run
 
 /// Writes the schema of the union of the bundles to a sink that has not failed. Nothing is written where there is no
 /// schema; `Write` where the sink has failed, which then took a front of the text.
-pub fn run_print<W: Sink>(alloc: Global, bundles: &[Vec<u8>], out: &mut W) -> Result<Status, RunFault>
+pub fn run_print<W: Sink>(
+    alloc: Global,
+    bundles: &[Vec<u8>],
+    out: &mut W,
+) -> Result<Status, RunFault>
     requires { W.has_failed out.old ≡ false }
     ensures run { IsRun (map (λ bundle. bundle.items) bundles.now) (W.contents out.old) (W.contents out.new) (W.has_failed out.new) result }
     ensures kept { LeavesSink result (out.new ≡ out.old) }
