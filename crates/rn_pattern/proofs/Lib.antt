@@ -1,3 +1,4 @@
+pub mod InOrder
 pub mod Fixed
 pub mod KeptRules
 pub mod Kept
