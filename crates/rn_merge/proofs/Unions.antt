@@ -1,13 +1,12 @@
 -- The union of the sets of bundles, a bundle at a time.
-use Rattle.std.proofs.Common.{rules, ◌≡◌, ℕ, ◌+◌, ◌<◌, ◌≤◌, List, [], ◌∷◌, ◌++◌, length, map, take, get_or, refl, sym, ap, ◌∙◌, subst, arith}
-use Rattle.std.specs.List.{All}
+use Rattle.std.proofs.Common.{rules, ◌≡◌, ℕ, ◌+◌, ◌<◌, ◌≤◌, List, [], ◌∷◌, ◌++◌, length, map, get_or, refl, sym, ap, ◌∙◌}
 use Rattle.std.proofs.lemmas.List.{take_more, map-append, get_or-map}
 use Rattle.std.proofs.lemmas.List.Elements.{All-append}
 use Rattle.std.proofs.Math.ListN.{length-map}
 use Rattle.rn_modset.specs.Contributions.{Member}
 use Rattle.rn_modset.specs.Sets.{IsSet, union}
 use Rattle.rn_modset.specs.Bundles.{bundle}
-use Rattle.rn_merge.specs.Runs.{unions, IsUnion, IsUnionBefore}
+use Rattle.rn_merge.specs.Runs.{unions, IsUnionBefore}
 
 -- the last set is joined last
 pub unions_of_more : (s : List Member) (ts : List (List Member)) (t : List Member) → unions s (ts ++ t ∷ []) ≡ union (unions s ts) t

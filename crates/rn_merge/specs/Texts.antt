@@ -1,5 +1,5 @@
 -- The fault of a module text and its place (RELAX NG Compact Syntax, 2 and appendix A).
-use Rattle.std.specs.Prelude.{◌≡◌, ℕ, List}
+use Rattle.std.specs.Prelude.{ℕ, List}
 use Rattle.std.specs.Str.{IsUtf8, chars}
 use Rattle.rn_text.specs.Tokens.{Lexeme, HasTokens, HasFault}
 use Rattle.rn_text.specs.declared.source.TextFault.{TextFault}

@@ -1,4 +1,4 @@
-use Rattle.std.proofs.Common.{map, take}
+use Rattle.std.proofs.Common.{map}
 use Rattle.rn_merge.specs.Runs.{IsUnionBefore}
 use Rattle.rn_merge.proofs.run.read_bundles.Given as goal
 
