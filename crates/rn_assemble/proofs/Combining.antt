@@ -188,6 +188,6 @@ module _ (T : Table) (cs : List Component) (C : Grammar) (c : IsCombination cs C
       alike_then T (MatchesWithin n C T) (MatchesWithin n J T) C.start J.start J.start (combined_alike T (MatchesWithin n C T) cs start_key C.start c.start)
       (refers_alike T (MatchesWithin n C T) (MatchesWithin n J T) J.start (λ y _. combined_within n y))
 
-  -- each combination of the components accepts the documents of the joined schema
+  -- each combination of the components accepts the documents of the joined grammar
   pub combined_valid : (doc : Item) → IsValid C T doc ↔ IsValid J T doc
   combined_valid doc = (λ v. (v.0, (start_alike v.0 [] (doc ∷ [])).0 v.1), λ v. (v.0, (start_alike v.0 [] (doc ∷ [])).1 v.1))

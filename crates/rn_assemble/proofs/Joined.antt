@@ -137,3 +137,12 @@ pub sorted_distinct : (ds : List (Text × Tree)) → IsStrictlySortedBy text_cmp
 unfolding IsStrictlySortedBy
 sorted_distinct [] h = tt
 sorted_distinct (d ∷ ds) h = (differ_above d ds h.0, sorted_distinct ds h.1)
+
+mapped_all_distinct : (f : Tree → Tree) (d : Text × Tree) (es : List (Text × Tree)) → AllByRecursion (Differ d) es → AllByRecursion (Differ (d.0, f d.1)) (map (λ e. (e.0, f e.1)) es)
+mapped_all_distinct f d [] h = tt
+mapped_all_distinct f d (e ∷ es) h = (h.0, mapped_all_distinct f d es h.1)
+
+-- a change of the bodies leaves the names distinct
+pub mapped_distinct : (f : Tree → Tree) (ds : List (Text × Tree)) → AreDistinct ds → AreDistinct (map (λ e. (e.0, f e.1)) ds)
+mapped_distinct f [] h = tt
+mapped_distinct f (d ∷ ds) h = (mapped_all_distinct f d ds h.0, mapped_distinct f ds h.1)

@@ -11,7 +11,7 @@ use Rattle.rn_assemble.specs.Least.{IsLeast, key_cmp}
 use Rattle.rn_assemble.specs.Refusal.{Refusal, conflict, faulty, missing, cycle, too_many_instances, override, plain_twice, mixed_methods, no_start, undefined, recursive, name_class, rank, Wants, Lacks, StandsFor, IsFirstFor}
 
 -- neither is less
-same_at : {X : Type 0} (cmp : X → X → Ordering) (x y : X) (o : Ordering) → ((x y : X) → cmp x y ≡ ordering_reverse (cmp y x)) → ((x y : X) → cmp x y ≡ Equal → x ≡ y) → cmp x y ≡ o → cmp x y ≢ Less → cmp y x ≢ Less → x ≡ y
+pub same_at : {X : Type 0} (cmp : X → X → Ordering) (x y : X) (o : Ordering) → ((x y : X) → cmp x y ≡ ordering_reverse (cmp y x)) → ((x y : X) → cmp x y ≡ Equal → x ≡ y) → cmp x y ≡ o → cmp x y ≢ Less → cmp y x ≢ Less → x ≡ y
 same_at cmp x y Less back one e a b = absurd (a e)
 same_at cmp x y Equal back one e a b = one x y e
 same_at cmp x y Greater back one e a b = absurd (b (back y x ∙ ap ordering_reverse e))

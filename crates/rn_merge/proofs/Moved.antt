@@ -1,8 +1,8 @@
 -- Bytes that move in several steps.
-use Rattle.std.proofs.Common.{◌≡◌, ◌≢◌, ℕ, ◌<◌, ◌≤◌, ◌+◌, ◌-◌, List, [], ◌++◌, Option, length, take, drop, refl, sym, ap, ◌∙◌, subst, append_assoc, append-nil, arith, take-append-drop, length-append, length-take-le}
+use Rattle.std.proofs.Common.{◌≡◌, ℕ, ◌<◌, ◌≤◌, ◌-◌, List, ◌++◌, Option, length, take, drop, sym, ap, ◌∙◌, append_assoc, arith, take-append-drop, length-append, length-take-le}
 use Rattle.std.proofs.lemmas.List.{take_rest}
-use Rattle.std.specs.Io.KnownBytes.{Appends, Consumes}
-use Rattle.std.proofs.KnownBytes.{Appends-trans, Consumes-trans}
+use Rattle.std.specs.Io.KnownBytes.{Consumes}
+use Rattle.std.proofs.KnownBytes.{Consumes-trans}
 use Rattle.rn_merge.specs.Streams.{GivesMore}
 
 -- the first n bytes of what is left join the front

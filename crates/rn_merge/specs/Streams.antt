@@ -1,5 +1,5 @@
 -- What reading all of a source and writing to a sink do to the bytes that are known of them.
-use Rattle.std.specs.Prelude.{◌≡◌, ℕ, ◌<◌, ◌&&◌, ◌||◌, ◌==◌, Bool, true, false, not, List, [], ◌++◌, length, Option, Result, Ok, Err}
+use Rattle.std.specs.Prelude.{◌≡◌, ℕ, ◌<◌, ◌&&◌, ◌==◌, Bool, true, false, not, List, ◌++◌, length, Option, Result, Ok, Err}
 use Rattle.std.specs.Io.KnownBytes.{Consumes, Appends}
 use Rattle.rn_merge.specs.declared.streams.ReadFault.{ReadFault}
 use Rattle.rn_merge.specs.declared.streams.ReadFault.TheVariants.{Read, Large, Memory}

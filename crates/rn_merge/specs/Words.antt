@@ -1,8 +1,8 @@
 -- The files that a job names.
-use Rattle.std.specs.Prelude.{◌≡◌, ◌≢◌, ℕ, ◌≤◌, ◌∷◌, List, [], map, count_by, codes, bytes_eq}
+use Rattle.std.specs.Prelude.{◌≢◌, ℕ, ◌≤◌, List, [], map, count_by, codes, bytes_eq}
 use Rattle.std.specs.String.{string_bytes}
 use Rattle.rn_merge.specs.declared.words.Job.{Job}
-use Rattle.rn_merge.specs.declared.words.Job.TheVariants.{Pack, Withdraw, Join, List as Listing, Print, Check}
+use Rattle.rn_merge.specs.declared.words.Job.TheVariants.{Join, List as Listing, Print}
 
 -- there is a file, and one at most is standard input
 pub record AreFiles (files : List (List ℕ)) : Type 0 where

@@ -3,15 +3,13 @@ ghost use Rattle.std.specs.Prelude.{◌≡◌, ◌++◌, ◌∷◌, [], ℕ, Lis
 ghost use Rattle.rn_modset.specs.Contributions.{member};
 ghost use Rattle.rn_merge.specs.Lines.{identifier, key_text, refusal_name, refusal_fields, refusal_line, behind, list_line, add_line, bundle_line, place_line, fault_line, status};
 
-use std::alloc::{AllocError, Global};
-
+use crate::texts::Place;
+use crate::words::ProgramFault;
 use rn_assemble::{Key, Refusal};
 use rn_modset::{AddFault, BundleFault, Contribution};
 use rn_text::{is_keyword, write_literal};
 use sha2::{Digest, Sha256};
-
-use crate::texts::Place;
-use crate::words::ProgramFault;
+use std::alloc::{AllocError, Global};
 
 /// The line of a refusal: its name and its fields, each after one space. A key is `start` or a definition's name, with
 /// a backslash if it is a keyword; the name that an include wants is a literal, and holds XML characters alone.
@@ -80,9 +78,17 @@ fn push_fields(line: &mut String, refusal: &Refusal) -> Result<(), AllocError>
             push_word(line, module.as_str())?;
             push_key(line, key)
         }
-        Refusal::PlainTwice { key } | Refusal::MixedMethods { key } | Refusal::NameClass { key } => push_key(line, key),
-        Refusal::Undefined { name } | Refusal::Recursive { name } => push_identifier(line, name.as_str()),
-        Refusal::Instances | Refusal::NoStart | Refusal::OutputTooLarge | Refusal::OutputTooDeep | Refusal::Memory => Ok(()),
+        Refusal::PlainTwice { key } | Refusal::MixedMethods { key } | Refusal::NameClass { key } =>
+            push_key(line, key),
+        Refusal::Undefined { name } | Refusal::Recursive { name } => push_identifier(
+            line,
+            name.as_str(),
+        ),
+        Refusal::Instances
+        | Refusal::NoStart
+        | Refusal::OutputTooLarge
+        | Refusal::OutputTooDeep
+        | Refusal::Memory => Ok(()),
     }
 }
 
@@ -206,6 +212,9 @@ pub fn status(fault: &ProgramFault) -> u8
         | ProgramFault::Add(AddFault::Memory)
         | ProgramFault::Refused(Refusal::Memory)
         | ProgramFault::Check(Place::Memory) => 3,
-        ProgramFault::Bundle(_, _) | ProgramFault::Add(_) | ProgramFault::Refused(_) | ProgramFault::Check(_) => 1,
+        ProgramFault::Bundle(_, _)
+        | ProgramFault::Add(_)
+        | ProgramFault::Refused(_)
+        | ProgramFault::Check(_) => 1,
     }
 }

@@ -168,7 +168,11 @@ impl<W: Write + Drop> Sink for Output<W> {
 /// All bytes that a source gives until it ends, at most `limit` of them, which is at most 268,435,456. The source has
 /// neither failed nor ended before. `Read` where the source has failed, `Large` where it gave more than `limit` bytes;
 /// after a refusal the bytes that it gave are lost, and it stands where it then is.
-pub fn read_input<S: Source>(alloc: Global, source: &mut S, limit: usize) -> Result<Vec<u8>, ReadFault>
+pub fn read_input<S: Source>(
+    alloc: Global,
+    source: &mut S,
+    limit: usize,
+) -> Result<Vec<u8>, ReadFault>
     requires limit { limit ≤ 268435456 }
     requires fresh { S.has_failed source.old ≡ false }
     requires unended { S.has_ended source.old ≡ false }
@@ -192,7 +196,9 @@ pub fn read_input<S: Source>(alloc: Global, source: &mut S, limit: usize) -> Res
         if given > limit - bytes.len() {
             return Err(ReadFault::Large);
         }
-        bytes.extend_from_slice(&piece[..given]).map_err(|_| ReadFault::Memory)?;
+        bytes
+            .extend_from_slice(&piece[..given])
+            .map_err(|_| ReadFault::Memory)?;
     }
 }
 

@@ -1,14 +1,12 @@
 // Words, lines, sources and sinks.
-use std::alloc::Global;
-use std::test::Fail;
-
+use crate::{
+    Failed, Input, Job, Output, Place, ProgramFault, ReadFault, Sink, Source, fault_line,
+    list_line, plan, read_input, refusal_line, status, write_output,
+};
 use rn_assemble::{Key, Refusal};
 use rn_modset::{AddFault, BundleFault, Contribution};
-
-use crate::{
-    Failed, Input, Job, Output, Place, ProgramFault, ReadFault, Sink, Source, fault_line, list_line, plan, read_input,
-    refusal_line, status, write_output,
-};
+use std::alloc::Global;
+use std::test::Fail;
 
 fn text(alloc: Global, text: &str) -> Result<String, Fail> {
     Ok(String::from_str(alloc, text)?)
@@ -41,7 +39,10 @@ fn words_of_files(rt: HostRuntime) -> Result<(), Fail> {
         (&["print", "-"], &["-"]),
         (&["print", "a", "-", "b"], &["a", "-", "b"]),
         (&["print", "--", "-x"], &["-x"]),
-        (&["print", "a", "--", "-x", "--", "--help"], &["a", "-x", "--", "--help"]),
+        (
+            &["print", "a", "--", "-x", "--", "--help"],
+            &["a", "-x", "--", "--help"],
+        ),
         (&["print", "a", "--", "-"], &["a", "-"]),
         (&["print", "a", "b", "--"], &["a", "b"]),
         (&["print", "", "print"], &["", "print"]),
@@ -91,13 +92,36 @@ fn words_refused(rt: HostRuntime) -> Result<(), Fail> {
     for words in usage {
         assert_eq!(rt; planned(alloc, words)?, Err(ProgramFault::Usage));
     }
-    let revisions = ["01", "", "+1", "1 ", "00", "x", "-", "18446744073709551616", "1e3", "0x1"];
+    let revisions = [
+        "01",
+        "",
+        "+1",
+        "1 ",
+        "00",
+        "x",
+        "-",
+        "18446744073709551616",
+        "1e3",
+        "0x1",
+    ];
     for revision in revisions {
-        assert_eq!(rt; planned(alloc, ["pack", "a", revision, "f"].as_slice())?, Err(ProgramFault::Rev));
-        assert_eq!(rt; planned(alloc, ["withdraw", "a", revision].as_slice())?, Err(ProgramFault::Rev));
+        assert_eq!(rt;
+            planned(alloc, ["pack", "a", revision, "f"].as_slice())?,
+            Err(ProgramFault::Rev)
+        );
+        assert_eq!(rt;
+            planned(alloc, ["withdraw", "a", revision].as_slice())?,
+            Err(ProgramFault::Rev)
+        );
     }
-    assert_eq!(rt; planned(alloc, ["join", "-", "-"].as_slice())?, Err(ProgramFault::Dash));
-    assert_eq!(rt; planned(alloc, ["list", "a", "-", "--", "b", "-"].as_slice())?, Err(ProgramFault::Dash));
+    assert_eq!(rt;
+        planned(alloc, ["join", "-", "-"].as_slice())?,
+        Err(ProgramFault::Dash)
+    );
+    assert_eq!(rt;
+        planned(alloc, ["list", "a", "-", "--", "b", "-"].as_slice())?,
+        Err(ProgramFault::Dash)
+    );
     Ok(())
 }
 
@@ -109,30 +133,55 @@ fn words_of_one_module(rt: HostRuntime) -> Result<(), Fail> {
         revision: 0,
         file: text(alloc, "-")?,
     };
-    assert_eq!(rt; planned(alloc, ["pack", "a", "0", "-"].as_slice())?, Ok(packed));
+    assert_eq!(rt;
+        planned(alloc, ["pack", "a", "0", "-"].as_slice())?,
+        Ok(packed)
+    );
     let named_as_input = Job::Pack {
         name: text(alloc, "-")?,
         revision: 18_446_744_073_709_551_615,
         file: text(alloc, "--x")?,
     };
-    assert_eq!(rt; planned(alloc, ["pack", "-", "18446744073709551615", "--", "--x"].as_slice())?, Ok(named_as_input));
+    assert_eq!(rt;
+        planned(
+            alloc,
+            ["pack", "-", "18446744073709551615", "--", "--x"].as_slice()
+        )?,
+        Ok(named_as_input)
+    );
     let behind = Job::Pack {
         name: text(alloc, "-a")?,
         revision: 10,
         file: text(alloc, "")?,
     };
-    assert_eq!(rt; planned(alloc, ["pack", "--", "-a", "10", ""].as_slice())?, Ok(behind));
+    assert_eq!(rt;
+        planned(alloc, ["pack", "--", "-a", "10", ""].as_slice())?,
+        Ok(behind)
+    );
     let withdrawn = Job::Withdraw {
         name: text(alloc, "")?,
         revision: 7,
     };
-    assert_eq!(rt; planned(alloc, ["withdraw", "", "7"].as_slice())?, Ok(withdrawn));
+    assert_eq!(rt;
+        planned(alloc, ["withdraw", "", "7"].as_slice())?,
+        Ok(withdrawn)
+    );
     let checked = Job::Check {
         file: text(alloc, "-")?,
     };
     assert_eq!(rt; planned(alloc, ["check", "-"].as_slice())?, Ok(checked));
-    assert_eq!(rt; planned(alloc, ["join", "a"].as_slice())?, Ok(Job::Join { files: texts(alloc, ["a"].as_slice())? }));
-    assert_eq!(rt; planned(alloc, ["list", "a"].as_slice())?, Ok(Job::List { files: texts(alloc, ["a"].as_slice())? }));
+    assert_eq!(rt;
+        planned(alloc, ["join", "a"].as_slice())?,
+        Ok(Job::Join {
+            files: texts(alloc, ["a"].as_slice())?
+        })
+    );
+    assert_eq!(rt;
+        planned(alloc, ["list", "a"].as_slice())?,
+        Ok(Job::List {
+            files: texts(alloc, ["a"].as_slice())?
+        })
+    );
     Ok(())
 }
 
@@ -148,18 +197,46 @@ fn fault_lines(rt: HostRuntime) -> Result<(), Fail> {
         (ProgramFault::Large(12), "large 12", 3),
         (ProgramFault::Write, "write", 3),
         (ProgramFault::Memory, "Memory", 3),
-        (ProgramFault::Bundle(1, BundleFault::Header { entry: 2 }), "bundle 1 Header 2", 1),
-        (ProgramFault::Bundle(0, BundleFault::Trailing), "bundle 0 Trailing", 1),
+        (
+            ProgramFault::Bundle(1, BundleFault::Header { entry: 2 }),
+            "bundle 1 Header 2",
+            1,
+        ),
+        (
+            ProgramFault::Bundle(0, BundleFault::Trailing),
+            "bundle 0 Trailing",
+            1,
+        ),
         (ProgramFault::Bundle(0, BundleFault::Memory), "Memory", 3),
         (ProgramFault::Add(AddFault::TooLong), "TooLong", 1),
         (ProgramFault::Add(AddFault::Memory), "Memory", 3),
-        (ProgramFault::Check(Place::Syntax { at: 20 }), "Syntax 20", 1),
+        (
+            ProgramFault::Check(Place::Syntax { at: 20 }),
+            "Syntax 20",
+            1,
+        ),
         (ProgramFault::Check(Place::Memory), "Memory", 3),
         (ProgramFault::Refused(Refusal::Memory), "Memory", 3),
         (ProgramFault::Refused(Refusal::Instances), "Instances", 1),
-        (ProgramFault::Refused(Refusal::Lexical { module: module("a")? }), "Lexical a", 1),
-        (ProgramFault::Refused(Refusal::PlainTwice { key: Key::Define(module("start")?) }), "PlainTwice \\start", 1),
-        (ProgramFault::Refused(Refusal::PlainTwice { key: Key::Start }), "PlainTwice start", 1),
+        (
+            ProgramFault::Refused(Refusal::Lexical {
+                module: module("a")?,
+            }),
+            "Lexical a",
+            1,
+        ),
+        (
+            ProgramFault::Refused(Refusal::PlainTwice {
+                key: Key::Define(module("start")?),
+            }),
+            "PlainTwice \\start",
+            1,
+        ),
+        (
+            ProgramFault::Refused(Refusal::PlainTwice { key: Key::Start }),
+            "PlainTwice start",
+            1,
+        ),
     ];
     for (fault, line, number) in rows {
         assert_eq!(rt; fault_line(alloc, &fault)?.as_str(), line);
@@ -173,15 +250,60 @@ fn refusal_lines(rt: HostRuntime) -> Result<(), Fail> {
     let alloc = rt.alloc();
     let module = |name: &str| text(alloc, name);
     let rows = [
-        (Refusal::Conflict { module: module("a")?, revision: 1 }, "Conflict a 1"),
-        (Refusal::Missing { module: module("main")?, wanted: module("gone")? }, "Missing main \"gone\""),
-        (Refusal::Missing { module: module("main")?, wanted: module("")? }, "Missing main \"\""),
-        (Refusal::Cycle { module: module("a")? }, "Cycle a"),
-        (Refusal::Override { module: module("main")?, key: Key::Define(module("z")?) }, "Override main z"),
-        (Refusal::Override { module: module("main")?, key: Key::Start }, "Override main start"),
-        (Refusal::MixedMethods { key: Key::Define(module("x")?) }, "MixedMethods x"),
+        (
+            Refusal::Conflict {
+                module: module("a")?,
+                revision: 1,
+            },
+            "Conflict a 1",
+        ),
+        (
+            Refusal::Missing {
+                module: module("main")?,
+                wanted: module("gone")?,
+            },
+            "Missing main \"gone\"",
+        ),
+        (
+            Refusal::Missing {
+                module: module("main")?,
+                wanted: module("")?,
+            },
+            "Missing main \"\"",
+        ),
+        (
+            Refusal::Cycle {
+                module: module("a")?,
+            },
+            "Cycle a",
+        ),
+        (
+            Refusal::Override {
+                module: module("main")?,
+                key: Key::Define(module("z")?),
+            },
+            "Override main z",
+        ),
+        (
+            Refusal::Override {
+                module: module("main")?,
+                key: Key::Start,
+            },
+            "Override main start",
+        ),
+        (
+            Refusal::MixedMethods {
+                key: Key::Define(module("x")?),
+            },
+            "MixedMethods x",
+        ),
         (Refusal::NoStart, "NoStart"),
-        (Refusal::Undefined { name: module("start")? }, "Undefined \\start"),
+        (
+            Refusal::Undefined {
+                name: module("start")?,
+            },
+            "Undefined \\start",
+        ),
         (Refusal::Recursive { name: module("a")? }, "Recursive a"),
         (Refusal::NameClass { key: Key::Start }, "NameClass start"),
         (Refusal::OutputTooLarge, "OutputTooLarge"),

@@ -1,17 +1,15 @@
 // What the words of a call ask for.
-ghost use Rattle.std.specs.Prelude.{◌≡◌, ℕ, List, IfOk, MatchOption, map, string_bytes, decimal, ◌≢◌, ◌<◌, ◌^◌};
+ghost use Rattle.std.specs.Prelude.{◌≡◌, ℕ, List, IfOk, map, string_bytes};
 ghost use Rattle.rn_merge.specs.Words.{AreFiles, NamesFiles};
 
-use std::alloc::{AllocError, Global};
-
+use crate::run::RunFault;
+use crate::texts::Place;
 use clap::error::ErrorKind;
 use clap::{Arg, ArgAction, ArgMatches, Command};
 use rn_assemble::Refusal;
 use rn_modset::{AddFault, BundleFault};
+use std::alloc::{AllocError, Global};
 use thiserror::Error;
-
-use crate::run::RunFault;
-use crate::texts::Place;
 
 /// The word for standard input.
 const STANDARD_INPUT: &str = "-";
@@ -26,15 +24,26 @@ pub enum Job {
         file: String,
     },
     /// Write the bundle of one withdrawal.
-    Withdraw { name: String, revision: u64 },
+    Withdraw {
+        name: String,
+        revision: u64,
+    },
     /// Write the bundle of the union of bundles.
-    Join { files: Vec<String> },
+    Join {
+        files: Vec<String>,
+    },
     /// Write a line for each contribution of the union of bundles.
-    List { files: Vec<String> },
+    List {
+        files: Vec<String>,
+    },
     /// Write the schema of the union of bundles.
-    Print { files: Vec<String> },
+    Print {
+        files: Vec<String>,
+    },
     /// Test one module text.
-    Check { file: String },
+    Check {
+        file: String,
+    },
 }
 
 /// Why the program did not do its work. Files count from 0.
@@ -121,7 +130,11 @@ fn program<'a>(alloc: Global) -> Result<Command<'a>, AllocError> {
 }
 
 /// A command of these words.
-fn with_words<'a>(alloc: Global, name: &'a str, places: &[&'a str]) -> Result<Command<'a>, AllocError> {
+fn with_words<'a>(
+    alloc: Global,
+    name: &'a str,
+    places: &[&'a str],
+) -> Result<Command<'a>, AllocError> {
     let mut command = Command::new(alloc, name);
     for place in places {
         let word = Arg::new(alloc, *place)
@@ -188,9 +201,7 @@ fn revision(words: &ArgMatches<'_>) -> Result<u64, ProgramFault> {
 }
 
 /// The number of which the text is the decimal form.
-fn decimal(text: &str) -> Option<u64>
-    ensures { MatchOption result ((n : ℕ) → n < 2 ^ 64 → text.now ≢ decimal n) (λ n. text.now ≡ decimal n) }
-{
+fn decimal(text: &str) -> Option<u64> {
     match text.as_bytes() {
         b"0" => Some(0),
         [b'1'..=b'9', ..] => text.parse().ok(),

@@ -130,7 +130,7 @@ escape_ends c cs =
     let end = after_run is_ascii_hexdigit digits in
     then_ends cs brace (drop 1 end) (run_ends is_x cs) (then_ends brace digits (drop 1 end) (one_less brace) (then_ends digits end (drop 1 end) (run_ends is_ascii_hexdigit digits) (one_less end)))
 
-drop_front : (front rest : List ℕ) → drop (length front) (front ++ rest) ≡ rest
+pub drop_front : (front rest : List ℕ) → drop (length front) (front ++ rest) ≡ rest
 drop_front [] rest = refl
 drop_front (c ∷ cs) rest = drop_front cs rest
 
@@ -215,7 +215,7 @@ run_some p [] e = e
 run_some p (c ∷ cs) e = refl
 
 -- what an escape at the front of a text is, it is where more follows
-within_brace : (c : ℕ) (cs more : List ℕ) → escape_front (c ∷ cs) ≡ true → (escape_front (c ∷ cs ++ more) ≡ true) × (after_brace (c ∷ cs ++ more) ≡ after_brace (c ∷ cs) ++ more)
+pub within_brace : (c : ℕ) (cs more : List ℕ) → escape_front (c ∷ cs) ≡ true → (escape_front (c ∷ cs ++ more) ≡ true) × (after_brace (c ∷ cs ++ more) ≡ after_brace (c ∷ cs) ++ more)
 within_brace c cs more e =
     let outer = and_parts (c == 92 && begins_with is_x cs) (begins_with (λ d. d == 123) (after_run is_x cs)) e in
     let inner = and_parts (c == 92) (begins_with is_x cs) outer.0 in

@@ -207,7 +207,7 @@ delimiter_plain : (d : ℕ) (cs : List ℕ) → is_delimiter d ≡ true → esca
 delimiter_plain d cs q = and_left _ _ (and_left _ _ (ne_eqb d 92 (λ e. let h : true ≡ false = sym q ∙ ap is_delimiter e in cc)))
 
 -- so the escapes of a segment may be judged with its delimiters
-escapes_within : (d : ℕ) (cs : List ℕ) → is_delimiter d ≡ true → escapes_hold d (d ∷ cs) ≡ escapes_hold d cs
+pub escapes_within : (d : ℕ) (cs : List ℕ) → is_delimiter d ≡ true → escapes_hold d (d ∷ cs) ≡ escapes_hold d cs
 escapes_within d cs q = ap (λ b. cond b (is_whole_escape (d ∷ cs) && not (escaped_char (d ∷ cs) == d)) true && escapes_hold d cs) (delimiter_plain d cs q)
 
 segment_escapes : (d : ℕ) (front : List ℕ) (cs after : List ℕ) → is_delimiter d ≡ true → front ++ after ≡ d ∷ cs → is_delimited front ≡ true → is_segment front ≡ escapes_hold d front

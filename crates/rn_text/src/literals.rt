@@ -138,11 +138,6 @@ fn append_literal(out: &mut String, text: &str) -> Result<(), AllocError>
     out.push(delimiter_for(last))
 }
 
-/// The segments of a text's literal read back to the text.
-pub fn written_segments_read_back()
-    ensures { (cs : List ℕ) → flat_map segment_text (map quoted (segments cs)) ≡ cs }
-{}
-
 /// Appends the literal of the text. A refusal leaves `out` as it was.
 pub fn write_literal(out: &mut String, text: &str) -> Result<(), AllocError>
     ensures ok { OnOk result (string_bytes out.new ≡ string_bytes out.old ++ literal_bytes text.now) }

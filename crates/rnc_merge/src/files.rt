@@ -1,10 +1,9 @@
 // Reading the files that the words name.
 ghost use Rattle.std.specs.Prelude.{◌≡◌, false};
 
+use rn_merge::{Input, ProgramFault, ReadFault, Source, read_input};
 use std::alloc::Global;
 use std::fs::File;
-
-use rn_merge::{Input, ProgramFault, ReadFault, Source, read_input};
 
 /// The most bytes of one file.
 const MAX_INPUT: usize = 268_435_456;
@@ -16,7 +15,9 @@ const STANDARD_INPUT: &str = "-";
 pub fn read_files(rt: &HostRuntime, files: &[String]) -> Result<Vec<Vec<u8>>, ProgramFault> {
     let mut inputs = Vec::with_capacity(rt.alloc(), files.len())?;
     for (n, file) in files.iter().enumerate() {
-        inputs.push(read_file(rt, n, file.as_str())?).map_err(|_| ProgramFault::Memory)?;
+        inputs
+            .push(read_file(rt, n, file.as_str())?)
+            .map_err(|_| ProgramFault::Memory)?;
     }
     Ok(inputs)
 }

@@ -1,26 +1,58 @@
 // What each command does.
 ghost use Rattle.std.specs.Prelude.{◌≡◌, false};
 
-use std::alloc::Global;
-
-use rn_merge::{Job, ProgramFault, Sink, Status, check, list_line, read_bundles, run_print, write_output};
-use rn_modset::{Contribution, ModuleSet, write_bundle};
-
 use crate::files::{read_file, read_files};
+use rn_merge::{
+    Job, ProgramFault, Sink, Status, check, list_line, read_bundles, run_print, write_output,
+};
+use rn_modset::{Contribution, ModuleSet, write_bundle};
+use std::alloc::Global;
 
 /// Reads the files of a job, does it, and writes what it gives.
 pub fn perform<W: Sink>(rt: &HostRuntime, job: Job, out: &mut W) -> Result<(), ProgramFault>
     requires { W.has_failed out.old ≡ false }
 {
     match job {
-        Job::Pack { name, revision, file } => {
+        Job::Pack {
+            name,
+            revision,
+            file,
+        } => {
             let text = Some(read_file(rt, 0, file.as_str())?);
-            pack(rt.alloc(), Contribution { name, revision, text }, out)
+            pack(
+                rt.alloc(),
+                Contribution {
+                    name,
+                    revision,
+                    text,
+                },
+                out,
+            )
         }
-        Job::Withdraw { name, revision } => pack(rt.alloc(), Contribution { name, revision, text: None }, out),
-        Job::Join { files } => join(rt.alloc(), read_files(rt, files.as_slice())?.as_slice(), out),
-        Job::List { files } => list(rt.alloc(), read_files(rt, files.as_slice())?.as_slice(), out),
-        Job::Print { files } => print(rt.alloc(), read_files(rt, files.as_slice())?.as_slice(), out),
+        Job::Withdraw { name, revision } => pack(
+            rt.alloc(),
+            Contribution {
+                name,
+                revision,
+                text: None,
+            },
+            out,
+        ),
+        Job::Join { files } => join(
+            rt.alloc(),
+            read_files(rt, files.as_slice())?.as_slice(),
+            out,
+        ),
+        Job::List { files } => list(
+            rt.alloc(),
+            read_files(rt, files.as_slice())?.as_slice(),
+            out,
+        ),
+        Job::Print { files } => print(
+            rt.alloc(),
+            read_files(rt, files.as_slice())?.as_slice(),
+            out,
+        ),
         Job::Check { file } => {
             let text = read_file(rt, 0, file.as_str())?;
             check(rt.alloc(), text.as_slice()).map_err(ProgramFault::Check)

@@ -4,14 +4,12 @@
 mod files;
 mod jobs;
 
+use crate::jobs::perform;
+use rn_merge::{Output, ProgramFault, fault_line, plan, status, write_output};
 use std::alloc::{AllocError, Global};
 use std::env;
 use std::io::ErrorKind;
 use std::process::ExitCode;
-
-use rn_merge::{Output, ProgramFault, fault_line, plan, status, write_output};
-
-use crate::jobs::perform;
 
 fn main(rt: HostRuntime) -> ExitCode {
     match run(&rt) {

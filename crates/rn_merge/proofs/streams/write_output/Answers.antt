@@ -1,4 +1,4 @@
-use Rattle.std.proofs.Common.{◌≡◌, ◌++◌, rules, length, take, sym, ap, ◌∙◌, subst, append-nil, drop_of_length-le}
+use Rattle.std.proofs.Common.{◌++◌, rules, take}
 use Rattle.std.proofs.KnownBytes.{Appends-trans}
 use Rattle.rn_merge.proofs.Moved.{front_grows}
 use Rattle.rn_merge.proofs.streams.write_output.Goals as goal

@@ -1,4 +1,4 @@
-use Rattle.std.proofs.Common.{◌≡◌, ◌<◌, ◌++◌, ℕ, false, List, length}
+use Rattle.std.proofs.Common.{◌≡◌, ◌++◌, ℕ, false, List, length}
 use Rattle.std.specs.Io.KnownBytes.{Appends}
 use Rattle.rn_merge.proofs.streams.write_output.Given as goal
 
