@@ -22,5 +22,5 @@ mod tests;
 mod writer;
 
 pub use normal::Normal;
-pub use normalising::normalise_in;
+pub use normalising::{normalise, normalise_in};
 pub use printing::print;

@@ -7,13 +7,19 @@ use std::alloc::{AllocError, Global};
 
 use indexmap::IndexMap;
 use rn_assemble::Grammar;
-use rn_pattern::{Pattern, Patterns};
+use rn_pattern::{Interned, Pattern, Patterns};
 
 use crate::canonical::{Settled, canonical, worth};
 use crate::normal::Normal;
 use crate::reachable::{Form, reached_definitions};
 use crate::rebuilt::rebuilt;
 use crate::settling::settling_order;
+
+/// The canonical grammar, built in a store of its own.
+pub fn normalise(alloc: Global, grammar: &Grammar) -> Result<Normal, AllocError> {
+    let mut store = Interned::new(alloc);
+    normalise_in(alloc, grammar, &mut store)
+}
 
 /// The canonical grammar, built in `store`, whose earlier ids keep their patterns. After a refusal they keep them too, and the store may hold more ids.
 pub fn normalise_in<P: Patterns>(
