@@ -6,7 +6,7 @@ use Rattle.rn_pattern.specs.Matching.{definition_of}
 use Rattle.rn_pattern.specs.Excepts.{HasExcepts, HaveExcepts}
 use Rattle.rn_assemble.specs.Components.{Key, name_key, Component, same_key}
 use Rattle.rn_assemble.specs.Combine.{of_key, bodies, combined, join, joined, joined_grammar}
-use Rattle.rn_assemble.proofs.Combining.{some_joined, joined_definition}
+use Rattle.rn_assemble.proofs.Combinations.{some_joined, joined_definition}
 use Rattle.std.specs.List.{AllByRecursion}
 
 node_excepts : (b : Bool) (ps : Trees) → HaveExcepts ps → HasExcepts (cond b (interleave ps) (choice ps))
