@@ -6,10 +6,12 @@ ghost use Rattle.rn_pattern.specs.Document.{Item};
 ghost use Rattle.rn_pattern.specs.Datatype.{Table};
 ghost use Rattle.rn_pattern.specs.Excepts.{HasExcepts};
 ghost use Rattle.rn_pattern.specs.Matching.{Grammar, definition_of, IsValid};
+ghost use Rattle.rn_modset.specs.Contributions.{Member};
 ghost use Rattle.rn_syntax.specs.Places.{except_places};
 ghost use Rattle.rn_assemble.specs.Components.{Key, Component, Source, components_within, instances_within, set_components};
 ghost use Rattle.rn_assemble.specs.Combine.{IsCombination, IsPlainTwice, IsMixed, joined_grammar, components_of, AreDistinct};
-ghost use Rattle.rn_assemble.specs.Refusal.{Refusal, IsFirstFor};
+ghost use Rattle.rn_assemble.specs.WellFormed.{HasWritableTexts};
+ghost use Rattle.rn_assemble.specs.Refusal.{Refusal, IsFirstFor, AreModules, grammar_of};
 
 /// Components may be combined in any pairs and in any order: each combination is valid for exactly the documents of the
 /// grammar in which each name's components are joined in one list, for every table of datatypes (RELAX NG Specification,
@@ -44,4 +46,10 @@ pub fn includes_end()
 /// Modules have one first refusal at most, with all its fields.
 pub fn one_first_refusal()
     ensures { (modules : List Source) (q r : Refusal) → IsFirstFor modules q → IsFirstFor modules r → q ≡ r }
+{}
+
+/// All names and texts of the grammar of a set can be written again: the modules' texts are of XML characters, their
+/// names are names, and no datatype or except in them is at fault (section 7.1.4; XML 1.0, section 2.2).
+pub fn grammars_of_sets_are_writable()
+    ensures { (s : List Member) (modules : List Source) → AreModules s modules → HasWritableTexts (grammar_of modules) }
 {}
