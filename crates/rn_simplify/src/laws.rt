@@ -9,6 +9,7 @@ ghost use Rattle.rn_pattern.specs.Matching.{Grammar, definition_of, IsValid};
 ghost use Rattle.rn_pattern.specs.Opened.{opened_grammar};
 ghost use Rattle.rn_pattern.specs.Reached.{formed, all_canonical, IsPruned, IsCanonicalOf};
 ghost use Rattle.rn_modset.specs.Contributions.{Member};
+ghost use Rattle.rn_modset.specs.Modules.{AreEffective};
 ghost use Rattle.rn_syntax.specs.Fault.{HasTree};
 ghost use Rattle.rn_syntax.specs.Grammar.{Tokens};
 ghost use Rattle.rn_syntax.specs.Places.{except_places};
@@ -100,4 +101,10 @@ pub fn one_verdict()
 /// again.
 pub fn printed_sets_are_read_back()
     ensures { (s : List Member) (text : Text) → IsVerdict s (prints text) → IsReadAgain s text }
+{}
+
+/// The text that is the verdict of a set is also the verdict of each set of which it is the one effective module, under
+/// any name. Premise: tokens have one module tree at most.
+pub fn printed_texts_are_printed_again()
+    ensures { ((ts : Tokens) (m n : Module) → HasTree ts m → HasTree ts n → m ≡ n) → (s : List Member) (text : Text) → IsVerdict s (prints text) → (u : List Member) (name : Text) → AreEffective u ((name, text) ∷ []) → IsVerdict u (prints text) }
 {}
