@@ -1,19 +1,18 @@
 -- Bytes have one fault, and a bundle has none.
-use Rattle.std.proofs.Common.{◌≡◌, ◌≢◌, ℕ, zero, suc, ◌+◌, ◌*◌, ◌/◌, ◌%◌, ◌<◌, ◌≤◌, ◌^◌, ◌⊎◌, inl, inr, Bool, true, false, not, ◌&&◌, ◌||◌, ◌==◌, List, [], ◌∷◌, ◌++◌, length, get_or, codes, decimal, Option, Some, None, refl, sym, ap, subst, ◌∙◌, arith, append_assoc, eqb-true, Result, Ok, Err, IfErr, MatchResult, IsErr}
+use Rattle.std.proofs.Common.{◌≡◌, ◌≢◌, ℕ, suc, ◌<◌, ◌≤◌, ◌⊎◌, inl, inr, Bool, true, false, not, ◌&&◌, ◌||◌, ◌==◌, List, [], ◌∷◌, ◌++◌, length, get_or, codes, decimal, Option, Some, None, refl, sym, ap, subst, ◌∙◌, arith, append_assoc, eqb-true, Result, Ok, Err, IfErr, MatchResult, IsErr}
 use Rattle.std.specs.List.{All, list_all}
-use Rattle.std.specs.List.Sorted.{IsStrictlySortedBy}
 use Rattle.std.proofs.lemmas.Fmt.{decimal_injective}
 use Rattle.std.proofs.lemmas.List.{append_cancel_left, append-nil, length-append}
 use Rattle.rn_modset.specs.declared.faults.BundleFault.{BundleFault}
 use Rattle.rn_modset.specs.declared.faults.BundleFault.TheVariants.{Magic, Header, Order, Digest, Truncated, Trailing, Memory}
-use Rattle.rn_modset.specs.Contributions.{Member, member_cmp, is_name_byte, is_module_name, IsGood}
+use Rattle.rn_modset.specs.Contributions.{Member, is_name_byte, IsGood}
 use Rattle.rn_modset.specs.Sets.{Rises, IsSet}
 use Rattle.rn_modset.specs.Bundles.{Head, text_header, withdrawal_header, header_line, header_of, body_of, digest, entry, entries, is_withdrawal, has_withdrawal, first_line, end_line, bundle}
-use Rattle.rn_modset.specs.Faults.{MayStand, IsDigest, is_lower_hex, not_line_feed, HasLine, IsFront, Ends, Heads, IsTextFault, cut_short, no_line_feed, other_digest, text_memory, IsEntryFault, no_header, bad_text, entry_memory, IsFaultBehind, no_line, more_bytes, bad_entry, out_of_order, HasFault, no_first_line, behind, no_memory}
-use Rattle.rn_modset.proofs.Truths.{first_of_both, second_of_both, else_false, not_both}
+use Rattle.rn_modset.specs.Faults.{MayStand, is_lower_hex, not_line_feed, HasLine, IsFront, Ends, Heads, IsTextFault, cut_short, no_line_feed, other_digest, text_memory, IsEntryFault, no_header, bad_text, entry_memory, IsFaultBehind, no_line, more_bytes, bad_entry, out_of_order, HasFault, no_first_line, behind, no_memory}
+use Rattle.rn_modset.proofs.Truths.{first_of_both, second_of_both, else_false}
 use Rattle.rn_modset.proofs.Splits.{Lacks, one_split, one_front, lacks_by, lacks_from_all, unsplit, one_cut, name_lacks, number_lacks}
 use Rattle.rn_modset.proofs.Digests.{digest_is}
-use Rattle.rn_modset.proofs.Readable.{one_entry, ends_here, length_first, one_bundle}
+use Rattle.rn_modset.proofs.Readable.{one_entry, ends_here, length_first}
 use Rattle.rn_modset.proofs.Merges.{rises_left}
 
 -- what the next line is

@@ -2,8 +2,8 @@
 use Rattle.std.proofs.Common.{◌≡◌, Bool, true, false, ◌||◌, List, [], ◌∷◌, ◌++◌, refl, sym, ap, ◌∙◌}
 use Rattle.std.specs.List.{flat_map}
 use Rattle.std.specs.List.Sorted.{IsStrictlySortedBy}
-use Rattle.rn_modset.specs.Contributions.{Member, member_cmp}
-use Rattle.rn_modset.specs.Sets.{IsSet, Rises, has, with_member, union}
+use Rattle.rn_modset.specs.Contributions.{Member}
+use Rattle.rn_modset.specs.Sets.{Rises, has, with_member, union}
 use Rattle.rn_modset.specs.Laws.{AreUnionLaws, AreCallLaws, Call, added, joined, after, brought}
 use Rattle.rn_modset.proofs.Members.{members_total, members_same}
 use Rattle.rn_modset.proofs.Rising.{one_list}
