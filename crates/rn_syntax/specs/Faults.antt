@@ -3,7 +3,8 @@ use Rattle.std.specs.Prelude.{◌≡◌, ℕ, List, [], Option, Some, None}
 use Rattle.rn_syntax.specs.declared.fault.SyntaxFault.{SyntaxFault}
 use Rattle.rn_syntax.specs.declared.fault.SyntaxFault.TheVariants.{Deep, Syntax, Prefix, Builtin, ContextValue, Except, Memory}
 use Rattle.rn_syntax.specs.Tree.{Module}
-use Rattle.rn_syntax.specs.Places.{first, prefix_places, builtin_places, context_places, except_places}
+use Rattle.rn_syntax.specs.Grammar.{Tokens}
+use Rattle.rn_syntax.specs.Places.{deep, first, prefix_places, builtin_places, context_places, except_places}
 
 -- none stands
 pub record HasNoFault (m : Module) : Type 0 where
@@ -19,3 +20,16 @@ HasFault m (Builtin at) = (first (prefix_places m) ≡ None) × (first (builtin_
 HasFault m (ContextValue at) = (first (prefix_places m) ≡ None) × (first (builtin_places m) ≡ None) × (first (context_places m) ≡ Some at)
 HasFault m (Except at) = (first (prefix_places m) ≡ None) × (first (builtin_places m) ≡ None) × (first (context_places m) ≡ None) × (first (except_places m) ≡ Some at)
 HasFault m _ = ⊥
+
+-- the grammar is not met, or memory was refused
+abbrev pub IsSyntax : SyntaxFault → Type 0
+IsSyntax (Syntax at) = Unit {0}
+IsSyntax Memory = Unit {0}
+IsSyntax _ = ⊥
+
+-- this is the fault of the tokens, of which Deep comes first
+abbrev pub IsFault : Tokens → SyntaxFault → Type 0
+IsFault ts (Deep at) = deep 0 ts ≡ Some at
+IsFault ts Memory = Unit {0}
+IsFault ts (Syntax at) = deep 0 ts ≡ None
+IsFault ts e = (deep 0 ts ≡ None) × (m : Module) × HasFault m e

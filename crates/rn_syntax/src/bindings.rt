@@ -7,10 +7,9 @@ ghost use Rattle.rn_syntax.specs.Places as places;
 ghost use Rattle.rn_syntax.specs.Places.{first};
 ghost use Rattle.rn_syntax.specs.View.{declaration_view, uri_view};
 
+use crate::tree::{Declaration, Prefix, Uri};
 use std::alloc::{AllocError, Global};
 use std::collections::HashMap;
-
-use crate::tree::{Declaration, Prefix, Uri};
 
 /// The namespace of prefix `xml`.
 const XML: &str = "http://www.w3.org/XML/1998/namespace";

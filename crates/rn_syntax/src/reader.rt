@@ -1,7 +1,9 @@
 // The module that tokens spell.
-ghost use Rattle.std.specs.Prelude.{◌≡◌, IfOk, MatchOption};
-ghost use Rattle.rn_syntax.specs.Places.{first, prefix_places, builtin_places, context_places};
-ghost use Rattle.rn_syntax.specs.Faults.{HasFault, HasNoFault};
+ghost use Rattle.std.specs.Prelude.{◌≡◌, None, IfOk, IfErr, OnOk, MatchOption, map};
+ghost use Rattle.rn_text.specs.Tokens.{lexeme_of};
+ghost use Rattle.rn_syntax.specs.Tokens.{terminals};
+ghost use Rattle.rn_syntax.specs.Places.{deep, first, prefix_places, builtin_places, context_places};
+ghost use Rattle.rn_syntax.specs.Faults.{HasFault, HasNoFault, IsFault, IsSyntax};
 ghost use Rattle.rn_syntax.specs.View.{module_view};
 
 use crate::bindings::{Bindings, bind_all};
@@ -16,7 +18,9 @@ use rn_text::Token;
 use std::alloc::{AllocError, Global};
 
 /// The module that the tokens are, by the grammar alone.
-fn tree<'a>(alloc: Global, tokens: &[Token<'a>]) -> Result<Module<'a>, SyntaxFault> {
+fn tree<'a>(alloc: Global, tokens: &[Token<'a>]) -> Result<Module<'a>, SyntaxFault>
+    ensures { IfErr result IsSyntax }
+{
     match module(alloc, tokens) {
         Ok(module) => Ok(module),
         Err(Fault::Stuck(at)) => Err(SyntaxFault::Syntax {
@@ -82,7 +86,11 @@ fn fault(alloc: Global, module: &Module<'_>) -> Result<Option<SyntaxFault>, Allo
 ///
 /// Tested in this order, each over all tokens and each with its first place in bytes: `Deep`, `Syntax`, `Prefix`,
 /// `Builtin`, `ContextValue`, `Except`. `Memory` stands only where memory was refused.
-pub fn parse<'a>(alloc: Global, tokens: &[Token<'a>]) -> Result<Module<'a>, SyntaxFault> {
+pub fn parse<'a>(alloc: Global, tokens: &[Token<'a>]) -> Result<Module<'a>, SyntaxFault>
+    ensures shallow { OnOk result (deep 0 (terminals (map lexeme_of tokens.now)) ≡ None) }
+    ensures sound { IfOk result (λ m. HasNoFault (module_view m)) }
+    ensures fault { IfErr result (IsFault (terminals (map lexeme_of tokens.now))) }
+{
     if let Some(at) = too_deep(tokens) {
         return Err(SyntaxFault::Deep { at });
     }

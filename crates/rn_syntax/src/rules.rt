@@ -143,7 +143,8 @@ impl Rule for Builtins<'_, '_, '_> {
             Datatype::String(at) | Datatype::Token(at) => (!params.is_empty(), at),
             Datatype::Named(prefix, name) => {
                 let is_builtin = name == "string" || name == "token";
-                let is_wrong = self.0.is_library(prefix.name, "") && (!params.is_empty() || !is_builtin);
+                let is_wrong = self.0.is_library(prefix.name, "")
+                    && (!params.is_empty() || !is_builtin);
                 (is_wrong, prefix.at)
             }
         };
@@ -240,11 +241,7 @@ impl Rule for Excepts {
     }
 
     fn except(&self, at: usize, excepted: &Pat<'_>) -> Option<usize> {
-        if is_allowed(excepted) {
-            None
-        } else {
-            Some(at)
-        }
+        if is_allowed(excepted) { None } else { Some(at) }
     }
 
     fn inherit(&self, _: Option<Prefix<'_>>) -> Option<usize> {

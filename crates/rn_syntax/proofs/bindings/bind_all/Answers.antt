@@ -17,9 +17,9 @@ declarations-preserved c =
     let front : take (k + 1) ds ≡ take k ds ++ x ∷ [] = take_more ds k x h ∙ ap (λ z. take k ds ++ z ∷ []) (sym c.index-declarations-index.is) in
     let seen : map declaration_view (take (k + 1) ds) ≡ map declaration_view (take k ds) ++ declaration_view x ∷ [] = ap (map declaration_view) front ∙ map-append declaration_view (take k ds) (x ∷ []) in
     let left : declarations_places (map declaration_view (take k ds)) (map declaration_view (drop k ds))
-        ≡ declaration_places (map declaration_view (take k ds)) (declaration_view x) ++ declarations_places (map declaration_view (take (k + 1) ds)) (map declaration_view (drop (k + 1) ds))
-        = ap (λ z. declarations_places (map declaration_view (take k ds)) (map declaration_view z)) next
-        ∙ ap (λ z. declaration_places (map declaration_view (take k ds)) (declaration_view x) ++ declarations_places z (map declaration_view (drop (k + 1) ds))) (sym seen) in
+    ≡ declaration_places (map declaration_view (take k ds)) (declaration_view x) ++ declarations_places (map declaration_view (take (k + 1) ds)) (map declaration_view (drop (k + 1) ds))
+    = ap (λ z. declarations_places (map declaration_view (take k ds)) (map declaration_view z)) next
+    ∙ ap (λ z. declaration_places (map declaration_view (take k ds)) (declaration_view x) ++ declarations_places z (map declaration_view (drop (k + 1) ds))) (sym seen) in
     record {
       bound = c.in_ok-bindings.ensures;
       wrong = wrong_more _ c.declarations.wrong c.first_wrong-wrong.result _ _ (rw left at c.declarations.invariant.wrong) (rw c.declarations.invariant.bound at c.first_wrong-wrong.ensures);

@@ -9,5 +9,5 @@ abbrev pub invariant-declarations : goal.invariant-declarations
 invariant-declarations l = record {
   bound : l.bindings.declarations.now ≡ take l.index l.declarations;
   wrong : first (declarations_places [] (map declaration_view l.declarations))
-        ≡ (if is_some l.wrong then l.wrong else first (declarations_places (map declaration_view (take l.index l.declarations)) (map declaration_view (drop l.index l.declarations))));
+      ≡ (if is_some l.wrong then l.wrong else first (declarations_places (map declaration_view (take l.index l.declarations)) (map declaration_view (drop l.index l.declarations))));
 }

@@ -7,5 +7,5 @@ use Rattle.rn_syntax.proofs.places.+items_place.Given as goal
 abbrev pub invariant-items_place-items : goal.invariant-items_place-items
 invariant-items_place-items g l = record {
   left : first (items_places (g.R.Rule.classes l.rule) (g.R.Rule.datatypes l.rule) (g.R.Rule.excepts l.rule) (g.R.Rule.inherits l.rule) (items_view l.items))
-       ≡ first (items_places (g.R.Rule.classes l.rule) (g.R.Rule.datatypes l.rule) (g.R.Rule.excepts l.rule) (g.R.Rule.inherits l.rule) (items_view (drop l.item-index l.items)))
+      ≡ first (items_places (g.R.Rule.classes l.rule) (g.R.Rule.datatypes l.rule) (g.R.Rule.excepts l.rule) (g.R.Rule.inherits l.rule) (items_view (drop l.item-index l.items)));
 }

@@ -7,5 +7,5 @@ use Rattle.rn_syntax.proofs.places.+pattern_place.Given as goal
 abbrev pub invariant-patterns_place-patterns : goal.invariant-patterns_place-patterns
 invariant-patterns_place-patterns g l = record {
   left : first (patterns_places (g.R.Rule.classes l.rule) (g.R.Rule.datatypes l.rule) (g.R.Rule.excepts l.rule) (patterns_view l.patterns))
-       ≡ first (patterns_places (g.R.Rule.classes l.rule) (g.R.Rule.datatypes l.rule) (g.R.Rule.excepts l.rule) (patterns_view (drop l.pattern-index l.patterns)))
+      ≡ first (patterns_places (g.R.Rule.classes l.rule) (g.R.Rule.datatypes l.rule) (g.R.Rule.excepts l.rule) (patterns_view (drop l.pattern-index l.patterns)));
 }

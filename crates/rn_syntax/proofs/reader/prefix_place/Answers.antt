@@ -9,7 +9,7 @@ pub returns-clause-place : goal.returns-clause-place
 returns-clause-place c =
     let bound = c.in_ok-bindings.ensures.0 ∙ c.deref.ensures.value in
     let none : first (declarations_places [] (map declaration_view c.args.module.now.decls.items)) ≡ None
-        = ap (λ ds. first (declarations_places [] (map declaration_view ds))) (sym c.deref.ensures.value) ∙ sym c.in_ok-bindings.ensures.1 ∙ c.in_default.is in
+    = ap (λ ds. first (declarations_places [] (map declaration_view ds))) (sym c.deref.ensures.value) ∙ sym c.in_ok-bindings.ensures.1 ∙ c.in_default.is in
     c.items_place-unbound.ensures
     ∙ ap (λ xs. first (items_places (class_places (map declaration_view c.in_ok-bindings.bindings.declarations.now)) (unbound_type (map declaration_view c.in_ok-bindings.bindings.declarations.now)) (λ _ _. []) (inherit_places (map declaration_view c.in_ok-bindings.bindings.declarations.now)) (items_view xs))) c.deref-2.ensures.value
     ∙ ap (λ ds. first (items_places (class_places (map declaration_view ds)) (unbound_type (map declaration_view ds)) (λ _ _. []) (inherit_places (map declaration_view ds)) (items_view c.args.module.now.items.items))) bound

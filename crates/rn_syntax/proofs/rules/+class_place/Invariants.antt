@@ -7,5 +7,5 @@ use Rattle.rn_syntax.proofs.rules.+class_place.Given as goal
 abbrev pub invariant-classes_place-classes : goal.invariant-classes_place-classes
 invariant-classes_place-classes l = record {
   left : first (classes_places (map declaration_view l.bindings.declarations.now) (classes_view l.classes))
-       ≡ first (classes_places (map declaration_view l.bindings.declarations.now) (classes_view (drop l.class-index l.classes)))
+      ≡ first (classes_places (map declaration_view l.bindings.declarations.now) (classes_view (drop l.class-index l.classes)));
 }
