@@ -2,10 +2,11 @@
 ghost use Rattle.std.specs.Prelude.{◌≡◌, ℕ, ◌+◌, ◌≤◌, All, Bool, IfOk, IfSome, IsTrue, OnErr, map};
 ghost use Rattle.std.specs.Option.{option_map};
 ghost use Rattle.rn_pattern.specs.Canonical.{attribute_step, canonical_name, choice_step, group_step, interleave_step, list_step, one_or_more_step};
+ghost use Rattle.rn_pattern.specs.Matching.{MatchAlike};
 ghost use Rattle.rn_pattern.specs.Nodes.{node_members};
-ghost use Rattle.rn_pattern.specs.Store.{KeepsTrees, StandsFor, datum_step, node_view};
+ghost use Rattle.rn_pattern.specs.Store.{KeepsTrees, StandsFor, datum_by, datum_step, node_view};
 ghost use Rattle.rn_pattern.specs.Tree as tree;
-ghost use Rattle.rn_pattern.specs.Tree.{Tree};
+ghost use Rattle.rn_pattern.specs.Tree.{Tree, trees_of};
 ghost use Rattle.rn_pattern.specs.View.{name_class_view, parameters_view};
 
 use crate::node::Node;
@@ -70,6 +71,7 @@ pub trait Patterns {
     ) -> Result<Self::Id, AllocError>
         requires { IfSome except (λ i. IsTrue (knows self.old i)) }
         ensures made { IfOk result (StandsFor (knows self.new) (tree_of self.new) (datum_step library.now type_name.now (parameters_view params.now) (option_map (tree_of self.old) except))) }
+        ensures means { IfOk result (λ i. MatchAlike (datum_by library.now type_name.now (parameters_view params.now) (option_map (tree_of self.old) except)) (tree_of self.new i)) }
         ensures kept { KeepsTrees (knows self.old) (tree_of self.old) (knows self.new) (tree_of self.new) }
         ensures grows { size self.new ≤ size self.old + 1 }
         ensures refused { OnErr result (size self.new ≡ size self.old) };
@@ -77,6 +79,7 @@ pub trait Patterns {
     fn list(&mut self, content: Self::Id) -> Result<Self::Id, AllocError>
         requires { IsTrue (knows self.old content) }
         ensures made { IfOk result (StandsFor (knows self.new) (tree_of self.new) (list_step (tree_of self.old content))) }
+        ensures means { IfOk result (λ i. MatchAlike (tree.list (tree_of self.old content)) (tree_of self.new i)) }
         ensures kept { KeepsTrees (knows self.old) (tree_of self.old) (knows self.new) (tree_of self.new) }
         ensures grows { size self.new ≤ size self.old + 1 }
         ensures refused { OnErr result (size self.new ≡ size self.old) };
@@ -84,6 +87,7 @@ pub trait Patterns {
     fn attribute(&mut self, nc: &NameClass, content: Self::Id) -> Result<Self::Id, AllocError>
         requires { IsTrue (knows self.old content) }
         ensures made { IfOk result (StandsFor (knows self.new) (tree_of self.new) (attribute_step (canonical_name (name_class_view nc.now)) (tree_of self.old content))) }
+        ensures means { IfOk result (λ i. MatchAlike (tree.attribute (name_class_view nc.now) (tree_of self.old content)) (tree_of self.new i)) }
         ensures kept { KeepsTrees (knows self.old) (tree_of self.old) (knows self.new) (tree_of self.new) }
         ensures grows { size self.new ≤ size self.old + 1 }
         ensures refused { OnErr result (size self.new ≡ size self.old) };
@@ -91,6 +95,7 @@ pub trait Patterns {
     fn element(&mut self, nc: &NameClass, content: Self::Id) -> Result<Self::Id, AllocError>
         requires { IsTrue (knows self.old content) }
         ensures made { IfOk result (StandsFor (knows self.new) (tree_of self.new) (tree.element (canonical_name (name_class_view nc.now)) (tree_of self.old content))) }
+        ensures means { IfOk result (λ i. MatchAlike (tree.element (name_class_view nc.now) (tree_of self.old content)) (tree_of self.new i)) }
         ensures kept { KeepsTrees (knows self.old) (tree_of self.old) (knows self.new) (tree_of self.new) }
         ensures grows { size self.new ≤ size self.old + 1 }
         ensures refused { OnErr result (size self.new ≡ size self.old) };
@@ -98,6 +103,7 @@ pub trait Patterns {
     fn choice(&mut self, members: &[Self::Id]) -> Result<Self::Id, AllocError>
         requires { All (λ i. IsTrue (knows self.old i)) members.now }
         ensures made { IfOk result (StandsFor (knows self.new) (tree_of self.new) (choice_step (map (tree_of self.old) members.now))) }
+        ensures means { IfOk result (λ i. MatchAlike (tree.choice (trees_of (map (tree_of self.old) members.now))) (tree_of self.new i)) }
         ensures kept { KeepsTrees (knows self.old) (tree_of self.old) (knows self.new) (tree_of self.new) }
         ensures grows { size self.new ≤ size self.old + 1 }
         ensures refused { OnErr result (size self.new ≡ size self.old) };
@@ -105,6 +111,7 @@ pub trait Patterns {
     fn group(&mut self, members: &[Self::Id]) -> Result<Self::Id, AllocError>
         requires { All (λ i. IsTrue (knows self.old i)) members.now }
         ensures made { IfOk result (StandsFor (knows self.new) (tree_of self.new) (group_step (map (tree_of self.old) members.now))) }
+        ensures means { IfOk result (λ i. MatchAlike (tree.group (trees_of (map (tree_of self.old) members.now))) (tree_of self.new i)) }
         ensures kept { KeepsTrees (knows self.old) (tree_of self.old) (knows self.new) (tree_of self.new) }
         ensures grows { size self.new ≤ size self.old + 1 }
         ensures refused { OnErr result (size self.new ≡ size self.old) };
@@ -112,6 +119,7 @@ pub trait Patterns {
     fn ileave(&mut self, members: &[Self::Id]) -> Result<Self::Id, AllocError>
         requires { All (λ i. IsTrue (knows self.old i)) members.now }
         ensures made { IfOk result (StandsFor (knows self.new) (tree_of self.new) (interleave_step (map (tree_of self.old) members.now))) }
+        ensures means { IfOk result (λ i. MatchAlike (tree.interleave (trees_of (map (tree_of self.old) members.now))) (tree_of self.new i)) }
         ensures kept { KeepsTrees (knows self.old) (tree_of self.old) (knows self.new) (tree_of self.new) }
         ensures grows { size self.new ≤ size self.old + 1 }
         ensures refused { OnErr result (size self.new ≡ size self.old) };
@@ -119,6 +127,7 @@ pub trait Patterns {
     fn one_or_more(&mut self, content: Self::Id) -> Result<Self::Id, AllocError>
         requires { IsTrue (knows self.old content) }
         ensures made { IfOk result (StandsFor (knows self.new) (tree_of self.new) (one_or_more_step (tree_of self.old content))) }
+        ensures means { IfOk result (λ i. MatchAlike (tree.one_or_more (tree_of self.old content)) (tree_of self.new i)) }
         ensures kept { KeepsTrees (knows self.old) (tree_of self.old) (knows self.new) (tree_of self.new) }
         ensures grows { size self.new ≤ size self.old + 1 }
         ensures refused { OnErr result (size self.new ≡ size self.old) };

@@ -45,6 +45,7 @@ fn show_class(out: &mut String, nc: &NameClass) -> Result<(), AllocError> {
 }
 
 // The pattern in prefix notation, `deep` levels down.
+#[cycle(show)]
 fn show<P: Patterns>(out: &mut String, store: &P, id: P::Id, deep: u8) -> Result<(), AllocError> {
     if deep == 0 {
         return out.push_str("..");
@@ -86,6 +87,7 @@ fn show<P: Patterns>(out: &mut String, store: &P, id: P::Id, deep: u8) -> Result
     }
 }
 
+#[cycle(show)]
 fn show_all<P: Patterns>(
     out: &mut String,
     store: &P,
