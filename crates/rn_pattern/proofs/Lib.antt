@@ -1,3 +1,8 @@
+pub mod InOrder
+pub mod Fixed
+pub mod KeptRules
+pub mod Kept
+pub mod OpenedKeeps
 pub mod Weaving
 pub mod Products
 pub mod Splits
@@ -8,8 +13,14 @@ pub mod NamesKept
 pub mod TotalOrder
 pub mod Ascending
 pub mod Sorting
+pub mod CanonicalKeeps
+pub mod Validity
 pub mod Alike
+pub mod CanonicalForm
+pub mod Settled
+pub mod Ranked
 pub mod Constructors
+pub mod Examples
 pub mod NodeTrees
 pub mod SortedBy
 pub mod Gathering

@@ -28,3 +28,5 @@ pub use node::{Node, NodeId};
 pub use patterns::Patterns;
 pub use plain::Plain;
 pub use tree::{NameClass, Pattern};
+
+pub mod laws;

@@ -1,6 +1,7 @@
 // Why tokens are no module.
-use std::alloc::AllocError;
+ghost use Rattle.std.specs.Prelude.{◌≡◌};
 
+use std::alloc::{AllocError, AllocFailed};
 use thiserror::Error;
 
 /// What is wrong with the tokens of a text, and the place in bytes.
@@ -23,12 +24,39 @@ pub enum SyntaxFault {
 }
 
 impl From<AllocError> for SyntaxFault {
-    ghost use Rattle.std.specs.Prelude.{◌≡◌};
     ghost use Rattle.rn_syntax.specs.declared.fault.SyntaxFault.TheVariants.{Memory};
 
     ghost from_gives = { λ _ r. r ≡ Memory };
 
     fn from(_: AllocError) -> Self {
         SyntaxFault::Memory
+    }
+}
+
+/// Why a reader of tokens stopped.
+#[derive(Clone, Copy, Debug)]
+pub(crate) enum Fault {
+    /// At the token of this number, or at the end.
+    Stuck(usize),
+    Memory,
+}
+
+impl From<AllocError> for Fault {
+    ghost use Rattle.rn_syntax.specs.declared.fault.Fault.TheVariants as stop;
+
+    ghost from_gives = { λ _ r. r ≡ stop.Memory };
+
+    fn from(_: AllocError) -> Self {
+        Fault::Memory
+    }
+}
+
+impl<T: Drop> From<AllocFailed<T>> for Fault {
+    ghost use Rattle.rn_syntax.specs.declared.fault.Fault.TheVariants as stop;
+
+    ghost from_gives = { λ _ r. r ≡ stop.Memory };
+
+    fn from(_: AllocFailed<T>) -> Self {
+        Fault::Memory
     }
 }

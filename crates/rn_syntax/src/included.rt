@@ -1,13 +1,43 @@
 // The modules that a module includes.
+ghost use Rattle.std.specs.Prelude.{◌≡◌, ◌++◌, map, IfOk};
+ghost use Rattle.rn_syntax.specs.Tree as tree;
+ghost use Rattle.rn_syntax.specs.View.{item_view, items_view, module_view};
+
 use std::alloc::{AllocError, Global};
 
-use crate::tree::Module;
+use crate::tree::{Item, Module};
 
 /// The literals of a module's includes, in the order of the text.
-pub fn includes<'m>(alloc: Global, module: &'m Module<'_>) -> Result<Vec<&'m str>, AllocError> {
+pub fn includes<'m>(alloc: Global, module: &'m Module<'_>) -> Result<Vec<&'m str>, AllocError>
+    ensures { IfOk result (λ found. map (λ s. s.now) found.items ≡ tree.includes (module_view «module».now).items) }
+{
     let mut found = Vec::new(alloc);
-    if !module.items.is_empty() {
-        found.push("")?;
-    }
+    push_includes(&module.items, &mut found)?;
     Ok(found)
+}
+
+/// Appends the literals of the includes among the items.
+#[cycle(includes)]
+fn push_includes<'m>(items: &'m [Item<'_>], found: &mut Vec<&'m str>) -> Result<(), AllocError>
+    ensures { IfOk result (λ _. map (λ s. s.now) found.new.items ≡ map (λ s. s.now) found.old.items ++ tree.includes (items_view items.now)) }
+{
+    'items: for item in items {
+        push_item_includes(item, found)?;
+    }
+    Ok(())
+}
+
+/// Appends the literals of the includes that an item is or holds.
+#[cycle(includes)]
+fn push_item_includes<'m>(item: &'m Item<'_>, found: &mut Vec<&'m str>) -> Result<(), AllocError>
+    ensures { IfOk result (λ _. map (λ s. s.now) found.new.items ≡ map (λ s. s.now) found.old.items ++ tree.item_includes (item_view item.now)) }
+{
+    match item {
+        Item::Define { .. } | Item::Start { .. } => Ok(()),
+        Item::Div(items) => push_includes(items, found),
+        Item::Include { wanted, items, .. } => {
+            found.push(wanted.as_str())?;
+            push_includes(items, found)
+        }
+    }
 }

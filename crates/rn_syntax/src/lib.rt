@@ -1,9 +1,24 @@
 //! Modules of the RELAX NG compact syntax, from tokens to trees as they are written.
 #![tactic(auto)]
 
+mod annotations;
+mod bindings;
+mod brackets;
+mod datatypes;
+mod declarations;
 pub mod fault;
 pub mod included;
+mod items;
+mod literals;
+mod modules;
+mod names;
+mod patterns;
+mod places;
 pub mod reader;
+mod rules;
+mod terminals;
+#[cfg(test)]
+mod tests;
 pub mod token;
 pub mod tree;
 
@@ -11,6 +26,4 @@ pub use fault::SyntaxFault;
 pub use included::includes;
 pub use reader::parse;
 pub use token::{Method, Operator, Postfix};
-pub use tree::{
-    AnyName, Datatype, Declaration, Item, Module, Name, Nc, Param, Pat, Prefix, Uri,
-};
+pub use tree::{AnyName, Datatype, Declaration, Item, Module, Name, Nc, Param, Pat, Prefix, Uri};

@@ -1,8 +1,7 @@
 // The tree of a module as it is written: names keep their prefixes, and what is resolved later keeps its place in bytes.
 // Names are slices of the source; literals are too where they are one segment without escape and carriage return.
-use std::borrow::CowStr;
-
 use crate::token::{Method, Operator, Postfix};
+use std::borrow::CowStr;
 
 /// A prefix, and its place.
 #[derive(Clone, Copy, Debug)]

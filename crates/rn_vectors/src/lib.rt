@@ -1,2 +1,17 @@
-//! Tests over all crates: the worked rows, from bytes to bytes.
+//! Tests over all crates: sets and texts with the answers that the rules give them, worked out by hand.
 #![tactic(auto)]
+
+#[cfg(test)]
+mod bundles;
+#[cfg(test)]
+mod checks;
+#[cfg(test)]
+mod large;
+#[cfg(test)]
+mod printing;
+#[cfg(test)]
+mod refusals;
+#[cfg(test)]
+mod sets;
+#[cfg(test)]
+mod streams;

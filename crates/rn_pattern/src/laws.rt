@@ -1,0 +1,75 @@
+// Laws of canonical patterns: what they match, their shape and their order.
+ghost use Rattle.std.specs.Prelude.{◌≡◌, ◌↔◌, ℕ, ◌+◌, length, List, IfSome};
+ghost use Rattle.std.specs.Cmp.{IsTotalOrder};
+ghost use Rattle.std.specs.declared.cmp.Ordering.TheVariants.{Equal};
+ghost use Rattle.rn_pattern.specs.Tree.{Text, Parameters, NameTree, Tree, ref, datum_but, list, attribute, element, one_or_more, group, interleave, choice, trees_of};
+ghost use Rattle.rn_pattern.specs.Document.{Item};
+ghost use Rattle.rn_pattern.specs.Names.{HoldsName};
+ghost use Rattle.rn_pattern.specs.Datatype.{Table};
+ghost use Rattle.rn_pattern.specs.Matching.{Grammar, definition_of, IsValid, MatchAlike};
+ghost use Rattle.rn_pattern.specs.Order.{name_cmp, tree_cmp};
+ghost use Rattle.rn_pattern.specs.Canonical.{canonical_name, choice_step, group_step, interleave_step, one_or_more_step, list_step, attribute_step, datum_but_step, canonical, settled_within, canonical_within};
+ghost use Rattle.rn_pattern.specs.CanonicalShape.{IsCanonicalName, IsCanonicalPattern};
+ghost use Rattle.rn_pattern.specs.Excepts.{HasExcepts};
+ghost use Rattle.rn_pattern.specs.Opened.{opened};
+ghost use Rattle.rn_pattern.specs.Reached.{formed};
+
+/// Each canonical step gives a pattern that matches exactly what the node over its parts matches, in every grammar, for
+/// every table of datatypes, at every depth of references (RELAX NG Specification, sections 4.20, 4.21 and 6.2).
+pub fn canonical_steps_keep_matching()
+    ensures of_choice { (ps : List Tree) → MatchAlike (choice (trees_of ps)) (choice_step ps) }
+    ensures of_group { (ps : List Tree) → MatchAlike (group (trees_of ps)) (group_step ps) }
+    ensures of_interleave { (ps : List Tree) → MatchAlike (interleave (trees_of ps)) (interleave_step ps) }
+    ensures of_one_or_more { (p : Tree) → MatchAlike (one_or_more p) (one_or_more_step p) }
+    ensures of_list { (p : Tree) → MatchAlike (list p) (list_step p) }
+    ensures of_data { (library type : Text) (params : Parameters) (p : Tree) → MatchAlike (datum_but library type params p) (datum_but_step library type params p) }
+    ensures of_attribute { (c : NameTree) (p : Tree) → MatchAlike (attribute c p) (attribute_step (canonical_name c) p) }
+    ensures of_element { (c : NameTree) (p : Tree) → MatchAlike (element c p) (element (canonical_name c) p) }
+{}
+
+/// The canonical form of a name class holds the same names (section 6.1).
+pub fn canonical_name_classes_keep_names()
+    ensures { (c : NameTree) (namespace local : Text) → HoldsName namespace local c ↔ HoldsName namespace local (canonical_name c) }
+{}
+
+/// The canonical form has the shape of a canonical pattern, where what references become has it; that of a name class
+/// has the shape of a canonical name class.
+pub fn canonical_forms_are_canonical()
+    ensures patterns { (settled : Text → Tree) → ((x : Text) → IsCanonicalPattern (settled x)) → (p : Tree) → IsCanonicalPattern (canonical settled p) }
+    ensures within_grammars { (k : ℕ) (G : Grammar) (p : Tree) → IsCanonicalPattern (canonical_within k G p) }
+    ensures name_classes { (c : NameTree) → IsCanonicalName (canonical_name c) }
+{}
+
+/// A canonical pattern is its own canonical form, so that a second time changes nothing; and it is the canonical form
+/// of the pattern that it is read back as. So with name classes.
+pub fn canonical_forms_stay()
+    ensures patterns { (p : Tree) → IsCanonicalPattern p → canonical ref p ≡ p }
+    ensures twice { (k : ℕ) (G : Grammar) (p : Tree) → canonical ref (canonical_within k G p) ≡ canonical_within k G p }
+    ensures opened_patterns { (p : Tree) → IsCanonicalPattern p → canonical ref (opened p) ≡ p }
+    ensures name_classes { (c : NameTree) → canonical_name (canonical_name c) ≡ canonical_name c }
+{}
+
+/// The orders of patterns and of name classes are total, and tell apart all that differs.
+pub fn orders_are_total()
+    ensures patterns { IsTotalOrder tree_cmp }
+    ensures equal_patterns { (p q : Tree) → tree_cmp p q ≡ Equal → p ≡ q }
+    ensures name_classes { IsTotalOrder name_cmp }
+    ensures equal_name_classes { (c d : NameTree) → name_cmp c d ≡ Equal → c ≡ d }
+{}
+
+/// A pattern with its optional and mixed parts opened matches exactly what it did (sections 4.13 to 4.15).
+pub fn opened_patterns_keep_matching()
+    ensures { (p : Tree) → MatchAlike p (opened p) }
+{}
+
+/// A grammar with each pattern in its canonical form, looking through any number of references, is valid for the same
+/// documents. Premise: an except of a datatype holds data, values and choices of them alone (section 7.1.4).
+pub fn canonical_patterns_keep_validity()
+    ensures { (k : ℕ) (G : Grammar) → HasExcepts G.start → ((x : Text) → IfSome (definition_of G x) HasExcepts) → (T : Table) (doc : Item) → IsValid G T doc ↔ IsValid (formed (settled_within k G) G) T doc }
+{}
+
+/// Looking through as many references as there are definitions settles each name that any number would settle, loops
+/// or not.
+pub fn settling_ends()
+    ensures { (G : Grammar) (k : ℕ) (x : Text) → settled_within (length G.definitions + k) G x ≡ settled_within (length G.definitions) G x }
+{}

@@ -1,0 +1,12 @@
+use Rattle.std.proofs.Common.{◌≤◌, ◌-◌, length}
+use Rattle.rn_syntax.proofs.annotations.skip_closed.Given as goal
+
+abbrev pub invariant-closed : goal.invariant-closed
+invariant-closed l = record {
+  further : l.fn.at ≤ l.at;
+  inside : l.at ≤ length l.tokens;
+  small : l.depth ≤ l.at;
+}
+
+abbrev pub decreases-closed : goal.decreases-closed
+decreases-closed l = length l.tokens - l.at

@@ -1,0 +1,8 @@
+use Rattle.std.proofs.Common.{◌≤◌, ◌-◌, length}
+use Rattle.rn_syntax.proofs.declarations.declarations.Given as goal
+
+abbrev pub invariant-declarations : goal.invariant-declarations
+invariant-declarations l = record { inside : l.end ≤ length l.tokens }
+
+abbrev pub decreases-declarations : goal.decreases-declarations
+decreases-declarations l = length l.tokens - l.end

@@ -1,0 +1,23 @@
+use Rattle.std.proofs.Common.{◌≤◌, ◌-◌, ◌+◌, ◌*◌, length}
+use Rattle.rn_syntax.proofs.items.+items.Given as goal
+
+abbrev pub invariant-items_behind-items : goal.invariant-items_behind-items
+invariant-items_behind-items l = record {
+  further : l.fn.at ≤ l.end;
+  inside : l.end ≤ length l.tokens;
+}
+
+abbrev pub decreases-items_behind-items : goal.decreases-items_behind-items
+decreases-items_behind-items l = length l.tokens - l.end
+
+abbrev pub decreases-items : goal.decreases-items
+decreases-items l = 4 * (length l.tokens.now - l.at) + 3
+
+abbrev pub decreases-items_behind : goal.decreases-items_behind
+decreases-items_behind l = 4 * (length l.tokens.now - l.at) + 2
+
+abbrev pub decreases-item : goal.decreases-item
+decreases-item l = 4 * (length l.tokens.now - l.at) + 1
+
+abbrev pub decreases-div : goal.decreases-div
+decreases-div l = 4 * (length l.tokens.now - l.at) + 4

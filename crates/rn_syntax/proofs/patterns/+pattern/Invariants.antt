@@ -1,0 +1,36 @@
+-- Each call stands further on, or reads a smaller part of the production at the same token.
+use Rattle.std.proofs.Common.{◌<◌, ◌≤◌, ◌-◌, ◌+◌, ◌*◌, length}
+use Rattle.rn_syntax.proofs.patterns.+pattern.Given as goal
+
+abbrev pub invariant-pattern-chain : goal.invariant-pattern-chain
+invariant-pattern-chain l = record {
+  further : l.fn.at < l.end;
+  inside : l.end ≤ length l.tokens;
+}
+
+abbrev pub decreases-pattern-chain : goal.decreases-pattern-chain
+decreases-pattern-chain l = length l.tokens - l.end
+
+abbrev pub decreases-pattern : goal.decreases-pattern
+decreases-pattern l = 5 * (length l.tokens.now - l.at) + 4
+
+abbrev pub decreases-operand : goal.decreases-operand
+decreases-operand l = 5 * (length l.tokens.now - l.at) + 3
+
+abbrev pub decreases-primary : goal.decreases-primary
+decreases-primary l = 5 * (length l.tokens.now - l.at) + 3
+
+abbrev pub decreases-behind_datatype : goal.decreases-behind_datatype
+decreases-behind_datatype l = 5 * (length l.tokens.now - l.at) + 4
+
+abbrev pub decreases-core : goal.decreases-core
+decreases-core l = 5 * (length l.tokens.now - l.at) + 2
+
+abbrev pub decreases-keyword_core : goal.decreases-keyword_core
+decreases-keyword_core l = 5 * (length l.tokens.now - l.at) + 1
+
+abbrev pub decreases-named : goal.decreases-named
+decreases-named l = 5 * (length l.tokens.now - l.at) + 4
+
+abbrev pub decreases-braced : goal.decreases-braced
+decreases-braced l = 5 * (length l.tokens.now - l.at) + 4

@@ -1,0 +1,96 @@
+// Annotations and notes, which leave nothing in the tree.
+ghost use Rattle.std.specs.Prelude.{◌≡◌, ◌≤◌, ◌<◌, length, IfOk, IfSome, IsTrue};
+ghost use Rattle.rn_syntax.specs.Reading.{Passed, Advanced};
+
+use crate::fault::Fault;
+use crate::terminals::{Terminal, next};
+use rn_text::Token;
+
+/// What stands behind a `[`, up to its `]`.
+fn skip_closed(tokens: &[Token<'_>], mut at: usize) -> Result<usize, Fault>
+    requires { at ≤ length tokens.now }
+    ensures inside { IfOk result (λ behind. Advanced at behind (length tokens.now)) }
+{
+    let mut depth: usize = 0;
+    'closed: loop {
+        match next(tokens, at) {
+            Terminal::RightBracket => {
+                at += 1;
+                if depth == 0 {
+                    return Ok(at);
+                }
+                depth -= 1;
+            }
+            Terminal::LeftBracket => {
+                at += 1;
+                depth += 1;
+            }
+            Terminal::LeftBrace
+            | Terminal::RightBrace
+            | Terminal::LeftParen
+            | Terminal::RightParen
+            | Terminal::End => return Err(Fault::Stuck(at)),
+            _ => at += 1,
+        }
+    }
+}
+
+/// `ann = "[" ( other | ann )* "]"`
+pub(crate) fn annotation(tokens: &[Token<'_>], at: usize) -> Result<usize, Fault>
+    requires { at ≤ length tokens.now }
+    ensures inside { IfOk result (λ behind. Advanced at behind (length tokens.now)) }
+{
+    match next(tokens, at) {
+        Terminal::LeftBracket => skip_closed(tokens, at + 1),
+        _ => Err(Fault::Stuck(at)),
+    }
+}
+
+/// `[ann]`
+pub(crate) fn skip_annotation(tokens: &[Token<'_>], at: usize) -> Result<usize, Fault>
+    requires { at ≤ length tokens.now }
+    ensures inside { IfOk result (λ behind. Passed at behind (length tokens.now)) }
+{
+    match next(tokens, at) {
+        Terminal::LeftBracket => skip_closed(tokens, at + 1),
+        _ => Ok(at),
+    }
+}
+
+/// `( word | Prefixed ) ann`, behind a `>>`
+fn follow(tokens: &[Token<'_>], at: usize) -> Result<usize, Fault>
+    requires { at ≤ length tokens.now }
+    ensures inside { IfOk result (λ behind. Advanced at behind (length tokens.now)) }
+{
+    match next(tokens, at) {
+        Terminal::Ident(_) | Terminal::Keyword(_) | Terminal::Prefixed(_, _) => {
+            annotation(tokens, at + 1)
+        }
+        _ => Err(Fault::Stuck(at)),
+    }
+}
+
+/// `follow*`
+pub(crate) fn skip_follows(tokens: &[Token<'_>], mut at: usize) -> Result<usize, Fault>
+    requires { at ≤ length tokens.now }
+    ensures inside { IfOk result (λ behind. Passed at behind (length tokens.now)) }
+{
+    'follows: while let Terminal::Follow = next(tokens, at) {
+        at = follow(tokens, at + 1)?;
+    }
+    Ok(at)
+}
+
+/// Whether a note begins here: a name with a prefix, or one before a bracket.
+pub(crate) fn begins_note(tokens: &[Token<'_>], at: usize) -> bool
+    ensures inside { IsTrue result → at < length tokens.now }
+{
+    match next(tokens, at) {
+        Terminal::Prefixed(_, _) => true,
+        Terminal::Ident(_) => match next(tokens, at + 1) {
+            Terminal::LeftBracket => true,
+            _ => false,
+        },
+        _ => false,
+    }
+}

@@ -1,0 +1,202 @@
+// The terminals of the grammar: what it sees of each token.
+ghost use Rattle.std.specs.Prelude.{◌≡◌, ◌≤◌, ◌<◌, length, IfOk, IfSome, IsTrue};
+ghost use Rattle.rn_syntax.specs.Reading.{IsInside, Advanced};
+
+use crate::fault::Fault;
+use crate::token::{Keyword, Method, Operator, Postfix};
+use rn_text::{Kind, Token};
+
+/// A token as the grammar sees it.
+#[derive(Clone, Copy, Debug)]
+pub(crate) enum Terminal<'a> {
+    /// A name, without the backslash of a quoted one.
+    Ident(&'a str),
+    Keyword(Keyword),
+    /// The prefix, and the local name behind the colon.
+    Prefixed(&'a str, &'a str),
+    /// The prefix before `:*`.
+    AnyOf(&'a str),
+    Segment,
+    Operator(Operator),
+    Postfix(Postfix),
+    Assign(Method),
+    Minus,
+    Tilde,
+    Follow,
+    LeftBrace,
+    RightBrace,
+    LeftParen,
+    RightParen,
+    LeftBracket,
+    RightBracket,
+    /// A symbol that the grammar lacks.
+    Other,
+    /// No token is left.
+    End,
+}
+
+fn keyword(text: &str) -> Terminal<'_> {
+    let keyword = match text {
+        "attribute" => Keyword::Attribute,
+        "default" => Keyword::Default,
+        "datatypes" => Keyword::Datatypes,
+        "div" => Keyword::Div,
+        "element" => Keyword::Element,
+        "empty" => Keyword::Empty,
+        "external" => Keyword::External,
+        "grammar" => Keyword::Grammar,
+        "include" => Keyword::Include,
+        "inherit" => Keyword::Inherit,
+        "list" => Keyword::List,
+        "mixed" => Keyword::Mixed,
+        "namespace" => Keyword::Namespace,
+        "notAllowed" => Keyword::NotAllowed,
+        "parent" => Keyword::Parent,
+        "start" => Keyword::Start,
+        "string" => Keyword::String,
+        "text" => Keyword::Text,
+        "token" => Keyword::Token,
+        _ => return Terminal::Other,
+    };
+    Terminal::Keyword(keyword)
+}
+
+fn symbol(text: &str) -> Terminal<'_> {
+    match text {
+        "=" => Terminal::Assign(Method::Plain),
+        "|=" => Terminal::Assign(Method::Choice),
+        "&=" => Terminal::Assign(Method::Interleave),
+        "{" => Terminal::LeftBrace,
+        "}" => Terminal::RightBrace,
+        "(" => Terminal::LeftParen,
+        ")" => Terminal::RightParen,
+        "[" => Terminal::LeftBracket,
+        "]" => Terminal::RightBracket,
+        "," => Terminal::Operator(Operator::Comma),
+        "&" => Terminal::Operator(Operator::Ampersand),
+        "|" => Terminal::Operator(Operator::Bar),
+        "?" => Terminal::Postfix(Postfix::Question),
+        "*" => Terminal::Postfix(Postfix::Star),
+        "+" => Terminal::Postfix(Postfix::Plus),
+        "-" => Terminal::Minus,
+        "~" => Terminal::Tilde,
+        ">>" => Terminal::Follow,
+        _ => Terminal::Other,
+    }
+}
+
+/// The prefix and what stands behind the colon.
+fn split_prefix(text: &str) -> (&str, &str) {
+    text.split_once(':').unwrap_or((text, ""))
+}
+
+/// What the grammar sees of a token.
+pub(crate) fn terminal_of<'a>(token: Token<'a>) -> Terminal<'a> {
+    match token.kind {
+        Kind::Name => Terminal::Ident(token.text),
+        Kind::Keyword => keyword(token.text),
+        Kind::Quoted => Terminal::Ident(token.text.strip_prefix('\\').unwrap_or(token.text)),
+        Kind::Prefixed => {
+            let (prefix, local) = split_prefix(token.text);
+            Terminal::Prefixed(prefix, local)
+        }
+        Kind::AnyOf => Terminal::AnyOf(split_prefix(token.text).0),
+        Kind::Segment => Terminal::Segment,
+        Kind::Symbol => symbol(token.text),
+    }
+}
+
+/// The next terminal.
+pub(crate) fn next<'a>(tokens: &[Token<'a>], at: usize) -> Terminal<'a>
+    ensures inside { IsInside result at (length tokens.now) }
+{
+    if at >= tokens.len() {
+        return Terminal::End;
+    }
+    terminal_of(tokens[at])
+}
+
+/// The byte at which a token begins; at the end, that at which the last one ends.
+pub(crate) fn place(tokens: &[Token<'_>], at: usize) -> usize {
+    if at < tokens.len() {
+        return tokens[at].start;
+    }
+    match tokens.last() {
+        Some(last) => last.end,
+        None => 0,
+    }
+}
+
+/// `word = ident | keyword`
+pub(crate) fn word<'a>(tokens: &[Token<'a>], at: usize) -> Result<&'a str, Fault>
+    ensures inside { IfOk result (λ _. at < length tokens.now) }
+{
+    match next(tokens, at) {
+        Terminal::Ident(name) => Ok(name),
+        Terminal::Keyword(keyword) => Ok(keyword.spelling()),
+        _ => Err(Fault::Stuck(at)),
+    }
+}
+
+pub(crate) fn is_keyword(tokens: &[Token<'_>], at: usize, wanted: Keyword) -> bool
+    ensures inside { IsTrue result → at < length tokens.now }
+{
+    match next(tokens, at) {
+        Terminal::Keyword(keyword) => keyword == wanted,
+        _ => false,
+    }
+}
+
+/// What stands behind `=`.
+pub(crate) fn equals(tokens: &[Token<'_>], at: usize) -> Result<usize, Fault>
+    requires { at ≤ length tokens.now }
+    ensures inside { IfOk result (λ behind. Advanced at behind (length tokens.now)) }
+{
+    match next(tokens, at) {
+        Terminal::Assign(Method::Plain) => Ok(at + 1),
+        _ => Err(Fault::Stuck(at)),
+    }
+}
+
+/// `assign = "=" | "|=" | "&="`
+pub(crate) fn assign(tokens: &[Token<'_>], at: usize) -> Result<Method, Fault>
+    ensures inside { IfOk result (λ _. at < length tokens.now) }
+{
+    match next(tokens, at) {
+        Terminal::Assign(method) => Ok(method),
+        _ => Err(Fault::Stuck(at)),
+    }
+}
+
+/// What stands behind `{`.
+pub(crate) fn left_brace(tokens: &[Token<'_>], at: usize) -> Result<usize, Fault>
+    requires { at ≤ length tokens.now }
+    ensures inside { IfOk result (λ behind. Advanced at behind (length tokens.now)) }
+{
+    match next(tokens, at) {
+        Terminal::LeftBrace => Ok(at + 1),
+        _ => Err(Fault::Stuck(at)),
+    }
+}
+
+/// What stands behind `}`.
+pub(crate) fn right_brace(tokens: &[Token<'_>], at: usize) -> Result<usize, Fault>
+    requires { at ≤ length tokens.now }
+    ensures inside { IfOk result (λ behind. Advanced at behind (length tokens.now)) }
+{
+    match next(tokens, at) {
+        Terminal::RightBrace => Ok(at + 1),
+        _ => Err(Fault::Stuck(at)),
+    }
+}
+
+/// What stands behind `)`.
+pub(crate) fn right_paren(tokens: &[Token<'_>], at: usize) -> Result<usize, Fault>
+    requires { at ≤ length tokens.now }
+    ensures inside { IfOk result (λ behind. Advanced at behind (length tokens.now)) }
+{
+    match next(tokens, at) {
+        Terminal::RightParen => Ok(at + 1),
+        _ => Err(Fault::Stuck(at)),
+    }
+}

@@ -1,0 +1,273 @@
+// Sets and texts at their limits, and long lists and chains.
+use crate::sets::{FIRST_LINE, add, answer, module, set_of_text};
+use rn_merge::{merge, refusal_line};
+use rn_modset::ModuleSet;
+use std::alloc::Global;
+use std::test::Fail;
+
+/// Modules m0 to m`last`, each but the last including the next twice; the last one defines y.
+fn doubling(alloc: Global, last: usize) -> Result<ModuleSet, Fail> {
+    let mut set = ModuleSet::new(alloc);
+    for number in 0..=last {
+        let name = format!(in alloc; "m{number}")?;
+        let next = number + 1;
+        let text = if number == last {
+            String::from_str(alloc, "y |= text")?
+        } else {
+            let start = if number == 0 {
+                "start = element r { y }"
+            } else {
+                ""
+            };
+            format!(in alloc; "include \"m{next}\" include \"m{next}\" {start}")?
+        };
+        let _ = add(&mut set, module(alloc, name.as_str(), 1, text.as_bytes())?)?;
+    }
+    Ok(set)
+}
+
+/// Modules c000 to c`last`, each including the next; the last one defines the start.
+fn tower(alloc: Global, last: usize) -> Result<ModuleSet, Fail> {
+    let mut set = ModuleSet::new(alloc);
+    for number in 0..=last {
+        let name = format!(in alloc; "c{number:03}")?;
+        let next = number + 1;
+        let text = if number == last {
+            String::from_str(alloc, "start = text")?
+        } else {
+            format!(in alloc; "include \"c{next:03}\"")?
+        };
+        let _ = add(&mut set, module(alloc, name.as_str(), 1, text.as_bytes())?)?;
+    }
+    Ok(set)
+}
+
+#[test]
+fn instances_are_counted(rt: HostRuntime) -> Result<(), Fail> {
+    let alloc = rt.alloc();
+    assert_eq!(rt;
+        answer(alloc, &doubling(alloc, 8)?)?.as_str(),
+        "start = element r { y }\ny = text\n"
+    );
+    assert_eq!(rt; answer(alloc, &doubling(alloc, 9)?)?.as_str(), "Instances");
+    assert_eq!(rt; answer(alloc, &doubling(alloc, 40)?)?.as_str(), "Instances");
+    assert_eq!(rt;
+        answer(alloc, &tower(alloc, 511)?)?.as_str(),
+        "start = text\n"
+    );
+    assert_eq!(rt; answer(alloc, &tower(alloc, 512)?)?.as_str(), "Instances");
+    Ok(())
+}
+
+/// A text that so often holds a piece between a front and an end.
+fn repeated(
+    alloc: Global,
+    front: &str,
+    piece: &str,
+    count: usize,
+    end: &str,
+) -> Result<String, Fail> {
+    let mut text = String::from_str(alloc, front)?;
+    for _ in 0..count {
+        text.push_str(piece)?;
+    }
+    text.push_str(end)?;
+    Ok(text)
+}
+
+#[test]
+fn parentheses_leave_nothing(rt: HostRuntime) -> Result<(), Fail> {
+    let alloc = rt.alloc();
+    let open = repeated(alloc, "start = ", "(", 256, "text")?;
+    let text = repeated(alloc, open.as_str(), ")", 256, "")?;
+    assert_eq!(rt;
+        answer(alloc, &set_of_text(alloc, text.as_str())?)?.as_str(),
+        "start = text\n"
+    );
+    Ok(())
+}
+
+#[test]
+fn the_text_has_a_longest_length(rt: HostRuntime) -> Result<(), Fail> {
+    let alloc = rt.alloc();
+    let fits = repeated(alloc, "start = element ", "n", 4_194_255, " { text }")?;
+    let printed = merge(alloc, &set_of_text(alloc, fits.as_str())?).map_err(Fail::from)?;
+    assert_eq!(rt; printed.len(), 4_194_304);
+    let long = repeated(alloc, "start = element ", "n", 4_194_256, " { text }")?;
+    assert_eq!(rt;
+        answer(alloc, &set_of_text(alloc, long.as_str())?)?.as_str(),
+        "OutputTooLarge"
+    );
+    Ok(())
+}
+
+/// A start of elements one inside the other, each but the innermost holding `before` and the next.
+fn nested(alloc: Global, count: usize, before: &str, innermost: &str) -> Result<String, Fail> {
+    let mut text = String::from_str(alloc, "start = ")?;
+    for number in 0..count {
+        if number > 0 {
+            text.push_str(before)?;
+        }
+        text.push_str("element x { ")?;
+    }
+    text.push_str(innermost)?;
+    repeated(
+        alloc,
+        text.as_str(),
+        " }",
+        count,
+        " a = element a { empty } b = element b { empty } c = element c { empty }",
+    )
+}
+
+#[test]
+fn the_text_has_a_deepest_nesting(rt: HostRuntime) -> Result<(), Fail> {
+    let alloc = rt.alloc();
+    let deep = nested(alloc, 256, "", "empty | b | c")?;
+    assert_eq!(rt;
+        answer(alloc, &set_of_text(alloc, deep.as_str())?)?.as_str(),
+        "OutputTooDeep"
+    );
+    let fits = nested(alloc, 255, "", "empty | b | c")?;
+    let printed = answer(alloc, &set_of_text(alloc, fits.as_str())?)?;
+    assert!(rt; printed.as_str().contains("element x { (b | c)? }"));
+    let mixed = nested(alloc, 128, "text & ", "text & a")?;
+    let printed = answer(alloc, &set_of_text(alloc, mixed.as_str())?)?;
+    assert!(rt;
+        printed
+            .as_str()
+            .contains("element x { mixed { element x { mixed { a } } } }")
+    );
+    let mixed = nested(alloc, 129, "text & ", "text & a")?;
+    assert_eq!(rt;
+        answer(alloc, &set_of_text(alloc, mixed.as_str())?)?.as_str(),
+        "OutputTooDeep"
+    );
+    Ok(())
+}
+
+#[test]
+fn chains_of_references_are_long(rt: HostRuntime) -> Result<(), Fail> {
+    let alloc = rt.alloc();
+    let mut text = String::from_str(alloc, "start = x000000\n")?;
+    for number in 0..99_999 {
+        let next = number + 1;
+        text.push_str(format!(in alloc; "x{number:06} = x{next:06}\n")?.as_str())?;
+    }
+    text.push_str("x099999 = text\n")?;
+    let printed = merge(alloc, &set_of_text(alloc, text.as_str())?).map_err(Fail::from)?;
+    let wanted = format!(in alloc; "{FIRST_LINE}{text}")?;
+    assert!(rt; printed.as_str() == wanted.as_str());
+    Ok(())
+}
+
+/// References x000000, x000001 and so on, with a separator between two.
+fn names(alloc: Global, count: usize, separator: &str) -> Result<String, Fail> {
+    let mut text = String::new(alloc);
+    for number in 0..count {
+        if number > 0 {
+            text.push_str(separator)?;
+        }
+        text.push_str(format!(in alloc; "x{number:06}")?.as_str())?;
+    }
+    Ok(text)
+}
+
+#[test]
+fn lists_are_long(rt: HostRuntime) -> Result<(), Fail> {
+    let alloc = rt.alloc();
+    let mut definitions = String::new(alloc);
+    for number in 0..100_000 {
+        definitions.push_str(format!(in alloc; "x{number:06} = text\n")?.as_str())?;
+    }
+    for separator in [" | ", " & ", ", "] {
+        let members = names(alloc, 100_000, separator)?;
+        let text = format!(in alloc; "start = element r {{ {members} }}\n{definitions}")?;
+        let printed = merge(alloc, &set_of_text(alloc, text.as_str())?).map_err(Fail::from)?;
+        let wanted = format!(in alloc; "{FIRST_LINE}{text}")?;
+        assert!(rt; printed.as_str() == wanted.as_str(), "{separator}");
+    }
+    Ok(())
+}
+
+#[test]
+fn a_name_is_combined_from_many_definitions(rt: HostRuntime) -> Result<(), Fail> {
+    let alloc = rt.alloc();
+    let mut text = String::from_str(alloc, "start = x ")?;
+    for number in 0..100_000 {
+        text.push_str(format!(in alloc; "x |= \"{number:06}\" ")?.as_str())?;
+    }
+    let printed = merge(alloc, &set_of_text(alloc, text.as_str())?).map_err(Fail::from)?;
+    assert!(rt;
+        printed
+            .as_str()
+            .contains("x = \"000000\" | \"000001\" | \"000002\"")
+    );
+    assert!(rt; printed.as_str().ends_with("| \"099999\"\n"));
+    Ok(())
+}
+
+#[test]
+fn a_literal_is_long(rt: HostRuntime) -> Result<(), Fail> {
+    let alloc = rt.alloc();
+    let text = repeated(alloc, "start = element r { \"", "v", 4_194_240, "\" }\n")?;
+    let printed = merge(alloc, &set_of_text(alloc, text.as_str())?).map_err(Fail::from)?;
+    let wanted = format!(in alloc; "{FIRST_LINE}{text}")?;
+    assert!(rt; printed.as_str() == wanted.as_str());
+    Ok(())
+}
+
+/// A module that so often includes one of so many definitions, each of them by `|=`.
+fn instances(alloc: Global, includes: usize, definitions: usize) -> Result<ModuleSet, Fail> {
+    let mut set = ModuleSet::new(alloc);
+    let main = repeated(
+        alloc,
+        "start = element r { x } ",
+        "include \"lib\" ",
+        includes,
+        "",
+    )?;
+    let _ = add(&mut set, module(alloc, "main", 1, main.as_bytes())?)?;
+    let mut lib = String::new(alloc);
+    for number in 0..definitions {
+        lib.push_str(format!(in alloc; "x |= element e{number} {{ empty }} ")?.as_str())?;
+    }
+    let _ = add(&mut set, module(alloc, "lib", 1, lib.as_bytes())?)?;
+    Ok(set)
+}
+
+#[test]
+fn ten_million_components_are_combined(rt: HostRuntime) -> Result<(), Fail> {
+    let alloc = rt.alloc();
+    let set = instances(alloc, 511, 20_000)?;
+    let printed = match merge(alloc, &set) {
+        Ok(text) => text,
+        Err(refusal) => refusal_line(alloc, &refusal)?,
+    };
+    assert!(rt;
+        printed.as_str().contains(
+            "x = element e0 { empty } | element e1 { empty } | element e10 { empty }"
+        )
+    );
+    Ok(())
+}
+
+#[test]
+fn overrides_are_nested(rt: HostRuntime) -> Result<(), Fail> {
+    let alloc = rt.alloc();
+    let mut set = ModuleSet::new(alloc);
+    for number in 0..511 {
+        let name = format!(in alloc; "c{number:03}")?;
+        let next = number + 1;
+        let text = format!(in alloc;
+            "include \"c{next:03}\" {{ x = element e{number} {{ empty }} }}"
+        )?;
+        let _ = add(&mut set, module(alloc, name.as_str(), 1, text.as_bytes())?)?;
+    }
+    let _ = add(&mut set, module(alloc, "c511", 1, b"start = x x = text")?)?;
+    assert_eq!(rt;
+        answer(alloc, &set)?.as_str(),
+        "start = x\nx = element e0 { empty }\n"
+    );
+    Ok(())
+}

@@ -1,0 +1,194 @@
+// Runs over bundles, with sources and sinks that fail at a known byte.
+ghost use Rattle.std.specs.Prelude.{◌≡◌, false, IfOk};
+
+use crate::sets::{Given, set_of};
+use rn_assemble::Refusal;
+use rn_merge::{
+    Failed, ReadFault, RunFault, Sink, Source, Status, read_input, run_print, write_output,
+};
+use rn_modset::{BundleFault, write_bundle};
+use std::alloc::Global;
+use std::test::Fail;
+
+const A: Given = ("a", 1, Some("start = doc doc |= element b { text }"));
+
+const B: Given = ("b", 1, Some("doc |= element a { empty }"));
+
+const PRINTED: &str =
+    "default namespace = \"\"\nstart = doc\ndoc = element a { empty } | element b { text }\n";
+
+/// A sink in memory that fails once it has taken as many bytes as it has room for.
+#[derive(Drop)]
+struct Room {
+    taken: Vec<u8>,
+    room: usize,
+    failed: bool,
+}
+
+fn sink_of(alloc: Global, room: usize) -> Room
+    ensures { result.failed ≡ false }
+{
+    Room {
+        taken: Vec::new(alloc),
+        room,
+        failed: false,
+    }
+}
+
+impl Sink for Room {
+    ghost has_failed = { λ s. s.failed };
+
+    fn push(&mut self, piece: &[u8]) -> Result<usize, Failed> {
+        let given = piece.len().min(self.room.saturating_sub(self.taken.len()));
+        if self.taken.extend_from_slice(&piece[..given]).is_err() {
+            self.failed = true;
+            return Err(Failed);
+        }
+        if given == 0 && !piece.is_empty() {
+            self.failed = true;
+        }
+        Ok(given)
+    }
+
+    fn failed(&self) -> bool {
+        self.failed
+    }
+}
+
+/// A source of bytes, two at a time, that fails where it stands at a place.
+#[derive(Drop)]
+struct Bytes {
+    left: &'static [u8],
+    until_failure: usize,
+    failed: bool,
+    ended: bool,
+}
+
+fn source_of(left: &'static [u8], until_failure: usize) -> Bytes
+    ensures failed { result.failed ≡ false }
+    ensures ended { result.ended ≡ false }
+{
+    Bytes {
+        left,
+        until_failure,
+        failed: false,
+        ended: false,
+    }
+}
+
+impl Source for Bytes {
+    ghost has_failed = { λ s. s.failed };
+
+    ghost has_ended = { λ s. s.ended };
+
+    fn pull(&mut self, into: &mut [u8]) -> Result<usize, Failed> {
+        if self.until_failure == 0 {
+            self.failed = true;
+            return Err(Failed);
+        }
+        let given = into
+            .len()
+            .min(self.left.len())
+            .min(self.until_failure)
+            .min(2);
+        into[..given].copy_from_slice(&self.left[..given]);
+        self.left = &self.left[given..];
+        self.until_failure -= given;
+        if given == 0 && !into.is_empty() {
+            self.ended = true;
+        }
+        Ok(given)
+    }
+
+    fn failed(&self) -> bool {
+        self.failed
+    }
+
+    fn ended(&self) -> bool {
+        self.ended
+    }
+}
+
+/// The bundles of one contribution each.
+fn bundles(alloc: Global, given: &[Given]) -> Result<Vec<Vec<u8>>, Fail> {
+    let mut bundles = Vec::new(alloc);
+    for one in given {
+        let set = set_of(alloc, &[*one])?;
+        bundles.push(write_bundle(alloc, &set)?)?;
+    }
+    Ok(bundles)
+}
+
+#[test]
+fn bundles_are_merged_in_any_order(rt: HostRuntime) -> Result<(), Fail> {
+    let alloc = rt.alloc();
+    for given in [[A, B, A], [B, A, A], [A, A, B]] {
+        let mut out = sink_of(alloc, 1000);
+        let status = run_print(alloc, bundles(alloc, &given)?.as_slice(), &mut out).map_err(
+            Fail::from,
+        )?;
+        assert_eq!(rt; status, Status::Done);
+        assert_eq!(rt; out.taken.as_slice(), PRINTED.as_bytes());
+    }
+    Ok(())
+}
+
+#[test]
+fn a_sink_that_fails_has_the_bytes_before(rt: HostRuntime) -> Result<(), Fail> {
+    let alloc = rt.alloc();
+    let given = bundles(alloc, &[A, B])?;
+    assert_eq!(rt; PRINTED.len(), 82);
+    for place in 0..82 {
+        let mut out = sink_of(alloc, place);
+        let fault = run_print(alloc, given.as_slice(), &mut out).err();
+        assert_eq!(rt; fault, Some(RunFault::Write));
+        assert_eq!(rt; out.taken.as_slice(), &PRINTED.as_bytes()[..place]);
+    }
+    let mut out = sink_of(alloc, 82);
+    let status = run_print(alloc, given.as_slice(), &mut out).map_err(Fail::from)?;
+    assert_eq!(rt; status, Status::Done);
+    Ok(())
+}
+
+#[test]
+fn nothing_is_written_without_a_schema(rt: HostRuntime) -> Result<(), Fail> {
+    let alloc = rt.alloc();
+    let mut out = sink_of(alloc, 1000);
+    let none = run_print(alloc, &[], &mut out).map_err(Fail::from)?;
+    assert_eq!(rt; none, Status::Refused(Refusal::NoStart));
+    let mut given = bundles(alloc, &[A, B])?;
+    given.push(Vec::from_slice(alloc, b"rncset 1\nend 0")?)?;
+    let mut second = sink_of(alloc, 1000);
+    let fault = run_print(alloc, given.as_slice(), &mut second).err();
+    assert_eq!(rt;
+        fault,
+        Some(RunFault::Bundle {
+            index: 2,
+            fault: BundleFault::Truncated
+        })
+    );
+    assert_eq!(rt; out.taken.len() + second.taken.len(), 0);
+    Ok(())
+}
+
+#[test]
+fn inputs_are_read_to_their_end(rt: HostRuntime) -> Result<(), Fail> {
+    let alloc = rt.alloc();
+    let mut whole = source_of(b"five!", usize::MAX);
+    let read = read_input(alloc, &mut whole, 5).map_err(Fail::from)?;
+    assert_eq!(rt; read.as_slice(), b"five!".as_slice());
+    assert!(rt; whole.ended() && !whole.failed());
+    assert_eq!(rt;
+        read_input(alloc, &mut source_of(b"five!", usize::MAX), 4).err(),
+        Some(ReadFault::Large)
+    );
+    assert_eq!(rt;
+        read_input(alloc, &mut source_of(b"five!", 3), 5).err(),
+        Some(ReadFault::Read)
+    );
+    let mut out = sink_of(alloc, 3);
+    assert_eq!(rt; write_output(&mut out, b"five!").err(), Some(Failed));
+    assert!(rt; out.failed());
+    assert_eq!(rt; out.taken.as_slice(), b"fiv".as_slice());
+    Ok(())
+}
