@@ -33,3 +33,4 @@ pub mod Meanings
 pub mod Stepwise
 pub mod Seen
 pub mod ShownTrees
+pub mod Sharing
