@@ -34,3 +34,4 @@ pub mod Stepwise
 pub mod Seen
 pub mod ShownTrees
 pub mod Sharing
+pub mod PatternKinds
