@@ -14,7 +14,7 @@ pub record IsKept (Q : Tree → Type 0) : Type 0 where
   pub of_none : Q not_allowed
   pub of_empty : Q empty
   pub of_text : Q text
-  pub of_datum : (l x : Text) (ps : Parameters) → Q (datum l x ps)
+  pub of_datum : (l x : Text) (ps : Parameters) → Q (datum_but l x ps not_allowed) → Q (datum l x ps)
   pub of_list : (p q : Tree) → (Q p → Q q) → Q (list p) → Q (list q)
   pub of_attribute : (c : NameTree) (p q : Tree) → (Q p → Q q) → Q (attribute c p) → Q (attribute c q)
   pub of_element : (c : NameTree) (p q : Tree) → (Q p → Q q) → Q (element c p) → Q (element c q)
@@ -81,7 +81,7 @@ module _ (Q : Tree → Type 0) (k : IsKept Q) where
   attribute_step_kept c p h = h
 
   datum_but_step_kept : (l x : Text) (ps : Parameters) (p : Tree) → Q (datum_but l x ps p) → Q (datum_but_step l x ps p)
-  datum_but_step_kept l x ps not_allowed h = k.of_datum l x ps
+  datum_but_step_kept l x ps not_allowed h = k.of_datum l x ps h
   datum_but_step_kept l x ps p h = h
 
   module _ (s : Text → Tree) (stands : (x : Text) → Q (ref x) → Q (s x)) (excepts : (l x : Text) (ps : Parameters) (p : Tree) → (Q p → Q (canonical s p)) → Q (datum_but l x ps p) → Q (datum_but l x ps (canonical s p))) where

@@ -1,3 +1,4 @@
+pub mod InOrder
 pub mod Fixed
 pub mod KeptRules
 pub mod Kept
@@ -20,3 +21,14 @@ pub mod Settled
 pub mod Ranked
 pub mod Constructors
 pub mod Examples
+pub mod NodeTrees
+pub mod SortedBy
+pub mod Gathering
+pub mod Single
+pub mod Copied
+pub mod Hashing
+pub mod Equal
+pub mod Interning
+pub mod Stepwise
+pub mod Seen
+pub mod ShownTrees

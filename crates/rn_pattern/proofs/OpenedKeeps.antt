@@ -1,4 +1,4 @@
--- A pattern that is opened matches what it did, and so does a schema.
+-- A pattern that is opened matches what it did, and so does a grammar.
 use Rattle.std.proofs.Common.{◌↔◌, inl, inr, ⊎_elim, ℕ, zero, suc, List, [], ◌∷◌, Option, Some, None, option_map, sym, subst}
 use Rattle.std.specs.Prelude.{IsSomeAnd}
 use Rattle.rn_pattern.specs.Tree.{Text, Tree, Trees, not_allowed, empty, text, ref, value, datum, datum_but, list, attribute, element, one_or_more, group, interleave, choice, no_trees, more_trees, list_of}
@@ -82,7 +82,7 @@ module _ (T : Table) (μ ν : Meaning) (same : (x : Text) (a : List Attribute) (
     opened_all_alike no_trees = tt
     opened_all_alike (more_trees p ps) = (opened_alike p, opened_all_alike ps)
 
--- in every schema, at every depth
+-- in every grammar, at every depth
 pub opened_matches : (p : Tree) → MatchAlike p (opened p)
 opened_matches p n G T a m = opened_alike T (MatchesWithin n G T) (MatchesWithin n G T) (λ x b k. (λ h. h, λ h. h)) p a m
 
@@ -98,7 +98,7 @@ module _ (N : Grammar) (T : Table) where
       subst (λ (o : Option Tree). MatchesWithin (suc n) N T x a m ↔ IsSomeAnd o (λ p. Matches T (MatchesWithin n (opened_grammar N) T) a m p)) (sym (lookup-map x opened N.definitions))
       (by_definition n (definition_of N x) a m (opened_alike T (MatchesWithin n N T) (MatchesWithin n (opened_grammar N) T) (opened_within n)))
 
-  -- a schema that is opened accepts the documents that it did
+  -- a grammar that is opened accepts the documents that it did
   pub opened_valid : (doc : Item) → IsValid N T doc ↔ IsValid (opened_grammar N) T doc
   opened_valid doc = (
     λ v. (v.0, (opened_alike T (MatchesWithin v.0 N T) (MatchesWithin v.0 (opened_grammar N) T) (opened_within v.0) N.start [] (doc ∷ [])).0 v.1),

@@ -1,11 +1,16 @@
 // The tokens of a source.
-use std::alloc::Global;
+ghost use Rattle.std.specs.Prelude.{◌≡◌, ℕ, List, map, MatchResult};
+ghost use Rattle.std.specs.Str.{chars, IsUtf8};
+ghost use Rattle.rn_text.specs.Characters.{is_xml_char};
+ghost use Rattle.rn_text.specs.Segments.{after_run};
+ghost use Rattle.rn_text.specs.Tokens.{HasTokens, HasFault, Lexeme, lexeme_of, unmarked};
 
+use crate::characters::{is_xml_char, split_first};
+use crate::parts::{Kind, Part, split_part};
+use std::alloc::Global;
 use thiserror::Error;
 
-use crate::parts::Kind;
-
-/// A token of a source, and where it begins and ends in bytes.
+/// A token of a source: its text, lent by the source, and the bytes where it begins and ends there.
 #[derive(Clone, Copy, Debug, PartialEq, Eq)]
 pub struct Token<'a> {
     pub kind: Kind,
@@ -14,21 +19,75 @@ pub struct Token<'a> {
     pub end: usize,
 }
 
-/// What is wrong with a source, and the place in bytes.
+/// What is wrong with a source, and the place of it, as a count of bytes from the source's start.
 #[derive(Debug, Drop, PartialEq, Eq, Error)]
 pub enum TextFault {
+    /// The longest front that is UTF-8 ends here.
     #[error("not UTF-8 at {at}")]
     Encoding { at: usize },
+    /// Here stands the first character that XML does not have, or, where there is none, something
+    /// that is neither a token nor white space nor a comment.
     #[error("no token at {at}")]
     Lexical { at: usize },
+    /// Memory was refused.
     #[error("out of memory")]
     Memory,
 }
 
-/// The tokens of a source, in order.
-pub fn tokens<'a>(alloc: Global, src: &'a [u8]) -> Result<Vec<Token<'a>>, TextFault> {
-    if src.is_empty() {
-        return Ok(Vec::new(alloc));
+/// What follows the longest front of XML characters.
+fn after_xml(text: &str) -> &str
+    ensures { chars result.now ≡ after_run is_xml_char (chars text.now) }
+{
+    text.trim_start_matches(is_xml_char)
+}
+
+/// The text behind a byte order mark, where it has one.
+fn without_mark(text: &str) -> &str
+    ensures { chars result.now ≡ unmarked (chars text.now) }
+{
+    match split_first(text) {
+        Some(('\u{FEFF}', rest)) => rest,
+        _ => text,
     }
-    Err(TextFault::Memory)
+}
+
+/// The tokens of a source, in order (RELAX NG Compact Syntax, 2 and appendix A). Each is as long as it
+/// can be; white space and comments stand between them, and a byte order mark may stand before all.
+/// The source is refused where it is not UTF-8, then at its first character that XML does not have,
+/// then at the first place where no token can be read, and wherever memory is.
+pub fn tokens<'a>(alloc: Global, src: &'a [u8]) -> Result<Vec<Token<'a>>, TextFault>
+    ensures { MatchResult result (λ found. IsUtf8 src.now × HasTokens (chars src.now) (map lexeme_of found.items)) (HasFault src.now) }
+{
+    let text = match simdutf8::compat::from_utf8(src) {
+        Ok(text) => text,
+        Err(e) => return Err(TextFault::Encoding {
+            at: e.valid_up_to(),
+        }),
+    };
+    let wrong = after_xml(text);
+    if !wrong.is_empty() {
+        return Err(TextFault::Lexical {
+            at: text.len() - wrong.len(),
+        });
+    }
+    let mut found = Vec::new(alloc);
+    let mut rest = without_mark(text);
+    while !rest.is_empty() {
+        let start = text.len() - rest.len();
+        let Some((part, after)) = split_part(rest) else {
+            return Err(TextFault::Lexical { at: start });
+        };
+        let end = text.len() - after.len();
+        if let Part::Token(kind) = part {
+            let token = Token {
+                kind,
+                text: &rest[..rest.len() - after.len()],
+                start,
+                end,
+            };
+            found.push(token).map_err(|_| TextFault::Memory)?;
+        }
+        rest = after;
+    }
+    Ok(found)
 }

@@ -1,13 +1,12 @@
 // Bundles: their one spelling, what is read from damaged ones, and runs over several.
+use crate::sets::{add, answer, contribution, module, set_of};
+use rn_merge::{ProgramFault, fault_line, list_line};
+use rn_modset::{AddFault, BundleFault, Contribution, ModuleSet, read_bundle, write_bundle};
 use std::alloc::Global;
 use std::test::Fail;
 
-use rn_merge::{ProgramFault, fault_line, list_line};
-use rn_modset::{AddFault, BundleFault, Contribution, ModuleSet, read_bundle, write_bundle};
-
-use crate::sets::{add, contribution, module, set_of, answer};
-
-const ONE: &str = "rncset 1\nmodule t 7 3 ba7816bf8f01cfea414140de5dae2223b00361a396177a9cb410ff61f20015ad\nabc\nend 1\n";
+const ONE: &str =
+    "rncset 1\nmodule t 7 3 ba7816bf8f01cfea414140de5dae2223b00361a396177a9cb410ff61f20015ad\nabc\nend 1\n";
 
 /// The line of what is wrong with a bundle, or `good`.
 fn fault(alloc: Global, bytes: &[u8]) -> Result<String, Fail> {
@@ -27,7 +26,10 @@ fn one_text_has_its_bundle(rt: HostRuntime) -> Result<(), Fail> {
     let read = read_bundle(alloc, bytes.as_slice()).map_err(Fail::from)?;
     assert!(rt; read.contains(&module(alloc, "t", 7, b"abc")?));
     let line = list_line(alloc, &module(alloc, "t", 7, b"abc")?)?;
-    assert_eq!(rt; line.as_str(), "t 7 3 ba7816bf8f01cfea414140de5dae2223b00361a396177a9cb410ff61f20015ad");
+    assert_eq!(rt;
+        line.as_str(),
+        "t 7 3 ba7816bf8f01cfea414140de5dae2223b00361a396177a9cb410ff61f20015ad"
+    );
     Ok(())
 }
 
@@ -39,13 +41,19 @@ fn other_sets_have_their_bundles(rt: HostRuntime) -> Result<(), Fail> {
     let blank = write_bundle(alloc, &set_of(alloc, &[("a", 0, Some(""))])?)?;
     assert_eq!(rt; blank.len(), 94);
     let withdrawn = write_bundle(alloc, &set_of(alloc, &[("lib", 2, None)])?)?;
-    assert_eq!(rt; withdrawn.as_slice(), b"rncset 2\nwithdrawn lib 2\nend 1\n".as_slice());
+    assert_eq!(rt;
+        withdrawn.as_slice(),
+        b"rncset 2\nwithdrawn lib 2\nend 1\n".as_slice()
+    );
     let line = list_line(alloc, &contribution(alloc, &("lib", 2, None))?)?;
     assert_eq!(rt; line.as_str(), "lib 2 withdrawn");
-    let both = set_of(alloc, &[
-        ("a", 1, Some("start = doc doc |= element b { text }")),
-        ("b", 1, Some("doc |= element a { empty }")),
-    ])?;
+    let both = set_of(
+        alloc,
+        &[
+            ("a", 1, Some("start = doc doc |= element b { text }")),
+            ("b", 1, Some("doc |= element a { empty }")),
+        ],
+    )?;
     assert_eq!(rt; write_bundle(alloc, &both)?.len(), 238);
     Ok(())
 }
@@ -76,7 +84,10 @@ fn damage_is_named(rt: HostRuntime) -> Result<(), Fail> {
         let text = changed(alloc, old, new)?;
         assert_eq!(rt; fault(alloc, text.as_bytes())?.as_str(), wanted, "{new}");
     }
-    assert_eq!(rt; fault(alloc, b"rncset 2\nend 0\n")?.as_str(), "bundle 0 Header 0");
+    assert_eq!(rt;
+        fault(alloc, b"rncset 2\nend 0\n")?.as_str(),
+        "bundle 0 Header 0"
+    );
     Ok(())
 }
 
@@ -85,8 +96,16 @@ fn fronts_are_no_bundles(rt: HostRuntime) -> Result<(), Fail> {
     let alloc = rt.alloc();
     let bytes = ONE.as_bytes();
     for end in 0..bytes.len() {
-        let wanted = if end < 9 { "bundle 0 Magic" } else { "bundle 0 Truncated" };
-        assert_eq!(rt; fault(alloc, &bytes[..end])?.as_str(), wanted, "{end} bytes");
+        let wanted = if end < 9 {
+            "bundle 0 Magic"
+        } else {
+            "bundle 0 Truncated"
+        };
+        assert_eq!(rt;
+            fault(alloc, &bytes[..end])?.as_str(),
+            wanted,
+            "{end} bytes"
+        );
     }
     Ok(())
 }
@@ -97,10 +116,16 @@ fn entries_rise(rt: HostRuntime) -> Result<(), Fail> {
     let (first, _) = ONE.split_once("end").ok_or("no end")?;
     let (_, entry) = first.split_once('\n').ok_or("no line")?;
     let twice = format!(in alloc; "{first}{entry}end 2\n")?;
-    assert_eq!(rt; fault(alloc, twice.as_bytes())?.as_str(), "bundle 0 Order 1");
+    assert_eq!(rt;
+        fault(alloc, twice.as_bytes())?.as_str(),
+        "bundle 0 Order 1"
+    );
     let other = entry.replacen(alloc, "module t", "module s", 1)?;
     let turned = format!(in alloc; "{first}{other}end 2\n")?;
-    assert_eq!(rt; fault(alloc, turned.as_bytes())?.as_str(), "bundle 0 Order 1");
+    assert_eq!(rt;
+        fault(alloc, turned.as_bytes())?.as_str(),
+        "bundle 0 Order 1"
+    );
     let risen = other.replacen(alloc, "module s", "module u", 1)?;
     let good = format!(in alloc; "{first}{risen}end 2\n")?;
     assert_eq!(rt; fault(alloc, good.as_bytes())?.as_str(), "good");
@@ -129,7 +154,11 @@ fn a_full_set_takes_no_more(rt: HostRuntime) -> Result<(), Fail> {
     let nameless = set.add(module(alloc, "", 1, b"")?).err().ok_or("taken")?;
     assert_eq!(rt; nameless.1, AddFault::BadName);
     let long = vec![in alloc; b' '; 4_194_305]?;
-    let text = Contribution { name: String::from_str(alloc, "long")?, revision: 1, text: Some(long) };
+    let text = Contribution {
+        name: String::from_str(alloc, "long")?,
+        revision: 1,
+        text: Some(long),
+    };
     let refused = set.add(text).err().ok_or("taken")?;
     assert_eq!(rt; refused.1, AddFault::TooLong);
     let mut other = ModuleSet::new(alloc);
@@ -142,12 +171,15 @@ fn a_full_set_takes_no_more(rt: HostRuntime) -> Result<(), Fail> {
 #[test]
 fn sets_tell_what_they_hold(rt: HostRuntime) -> Result<(), Fail> {
     let alloc = rt.alloc();
-    let set = set_of(alloc, &[
-        ("b", 1, Some("start = text")),
-        ("a", 2, None),
-        ("a", 1, Some("x = text")),
-        ("a", 3, Some("x = empty")),
-    ])?;
+    let set = set_of(
+        alloc,
+        &[
+            ("b", 1, Some("start = text")),
+            ("a", 2, None),
+            ("a", 1, Some("x = text")),
+            ("a", 3, Some("x = empty")),
+        ],
+    )?;
     let mut lines = String::new(alloc);
     for one in set.iter() {
         let name = one.name.as_str();

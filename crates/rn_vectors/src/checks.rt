@@ -1,8 +1,7 @@
 // Module texts, and the one fault of each.
+use rn_merge::{Place, ProgramFault, check, fault_line, status};
 use std::alloc::Global;
 use std::test::Fail;
-
-use rn_merge::{Place, ProgramFault, check, fault_line, status};
 
 /// A text, and `good` or the kind of its fault with its place in bytes.
 const ROWS: [(&str, &str); 45] = [
@@ -11,7 +10,10 @@ const ROWS: [(&str, &str); 45] = [
     ("", "good"),
     ("start = \"\\x{22}\"", "Lexical 8"),
     ("namespace xmlns = \"u\"", "Prefix 10"),
-    ("default namespace = \"u\" default namespace = \"v\"", "Prefix 24"),
+    (
+        "default namespace = \"u\" default namespace = \"v\"",
+        "Prefix 24",
+    ),
     ("start = element p:a { text }", "Prefix 16"),
     ("a = token { k = \"v\" }", "Builtin 4"),
     ("a = xsd:QName \"x\"", "ContextValue 4"),
@@ -28,17 +30,26 @@ const ROWS: [(&str, &str); 45] = [
     ("a = b >> x", "Syntax 10"),
     ("x [", "Syntax 3"),
     ("start = \"a", "Lexical 8"),
-    ("namespace xml = \"http://www.w3.org/XML/1998/namespace\" start = text", "good"),
+    (
+        "namespace xml = \"http://www.w3.org/XML/1998/namespace\" start = text",
+        "good",
+    ),
     ("namespace xml = \"u\" start = text", "Prefix 10"),
     ("namespace xml = inherit start = text", "Prefix 10"),
-    ("datatypes xsd = \"http://www.w3.org/2001/XMLSchema-datatypes\" start = text", "good"),
+    (
+        "datatypes xsd = \"http://www.w3.org/2001/XMLSchema-datatypes\" start = text",
+        "good",
+    ),
     ("datatypes xsd = \"u\" start = text", "Prefix 10"),
     ("namespace p = \"u\" namespace p = \"u\"", "Prefix 28"),
     ("start = element xmlns:a { text }", "Prefix 16"),
     ("include \"b\" inherit = p", "Prefix 22"),
     ("start = element a { p:int }", "Prefix 20"),
     ("start = element p:* { text }", "Prefix 16"),
-    ("datatypes d = \"\" start = element a { d:int }", "Builtin 37"),
+    (
+        "datatypes d = \"\" start = element a { d:int }",
+        "Builtin 37",
+    ),
     ("datatypes d = \"\" start = element a { d:string }", "good"),
     ("a = string { }", "good"),
     ("a = string - (token - \"x\" | \"y\")", "good"),
@@ -111,7 +122,10 @@ fn fronts_are_good_or_have_a_place_within(rt: HostRuntime) -> Result<(), Fail> {
     for text in texts {
         for end in 0..=text.len() {
             if let Err(fault) = check(alloc, &text[..end]) {
-                assert!(rt; place(&fault) <= end, "{fault:?} at the front of {end} bytes");
+                assert!(rt;
+                    place(&fault) <= end,
+                    "{fault:?} at the front of {end} bytes"
+                );
                 assert_eq!(rt; status(&ProgramFault::Check(fault)), 1);
             }
         }

@@ -1,11 +1,9 @@
 // Sets and texts at their limits, and long lists and chains.
-use std::alloc::Global;
-use std::test::Fail;
-
+use crate::sets::{FIRST_LINE, add, answer, module, set_of_text};
 use rn_merge::{merge, refusal_line};
 use rn_modset::ModuleSet;
-
-use crate::sets::{FIRST_LINE, add, answer, module, set_of_text};
+use std::alloc::Global;
+use std::test::Fail;
 
 /// Modules m0 to m`last`, each but the last including the next twice; the last one defines y.
 fn doubling(alloc: Global, last: usize) -> Result<ModuleSet, Fail> {
@@ -16,7 +14,11 @@ fn doubling(alloc: Global, last: usize) -> Result<ModuleSet, Fail> {
         let text = if number == last {
             String::from_str(alloc, "y |= text")?
         } else {
-            let start = if number == 0 { "start = element r { y }" } else { "" };
+            let start = if number == 0 {
+                "start = element r { y }"
+            } else {
+                ""
+            };
             format!(in alloc; "include \"m{next}\" include \"m{next}\" {start}")?
         };
         let _ = add(&mut set, module(alloc, name.as_str(), 1, text.as_bytes())?)?;
@@ -43,16 +45,28 @@ fn tower(alloc: Global, last: usize) -> Result<ModuleSet, Fail> {
 #[test]
 fn instances_are_counted(rt: HostRuntime) -> Result<(), Fail> {
     let alloc = rt.alloc();
-    assert_eq!(rt; answer(alloc, &doubling(alloc, 8)?)?.as_str(), "start = element r { y }\ny = text\n");
+    assert_eq!(rt;
+        answer(alloc, &doubling(alloc, 8)?)?.as_str(),
+        "start = element r { y }\ny = text\n"
+    );
     assert_eq!(rt; answer(alloc, &doubling(alloc, 9)?)?.as_str(), "Instances");
     assert_eq!(rt; answer(alloc, &doubling(alloc, 40)?)?.as_str(), "Instances");
-    assert_eq!(rt; answer(alloc, &tower(alloc, 511)?)?.as_str(), "start = text\n");
+    assert_eq!(rt;
+        answer(alloc, &tower(alloc, 511)?)?.as_str(),
+        "start = text\n"
+    );
     assert_eq!(rt; answer(alloc, &tower(alloc, 512)?)?.as_str(), "Instances");
     Ok(())
 }
 
 /// A text that so often holds a piece between a front and an end.
-fn repeated(alloc: Global, front: &str, piece: &str, count: usize, end: &str) -> Result<String, Fail> {
+fn repeated(
+    alloc: Global,
+    front: &str,
+    piece: &str,
+    count: usize,
+    end: &str,
+) -> Result<String, Fail> {
     let mut text = String::from_str(alloc, front)?;
     for _ in 0..count {
         text.push_str(piece)?;
@@ -66,7 +80,10 @@ fn parentheses_leave_nothing(rt: HostRuntime) -> Result<(), Fail> {
     let alloc = rt.alloc();
     let open = repeated(alloc, "start = ", "(", 256, "text")?;
     let text = repeated(alloc, open.as_str(), ")", 256, "")?;
-    assert_eq!(rt; answer(alloc, &set_of_text(alloc, text.as_str())?)?.as_str(), "start = text\n");
+    assert_eq!(rt;
+        answer(alloc, &set_of_text(alloc, text.as_str())?)?.as_str(),
+        "start = text\n"
+    );
     Ok(())
 }
 
@@ -77,7 +94,10 @@ fn the_text_has_a_longest_length(rt: HostRuntime) -> Result<(), Fail> {
     let printed = merge(alloc, &set_of_text(alloc, fits.as_str())?).map_err(Fail::from)?;
     assert_eq!(rt; printed.len(), 4_194_304);
     let long = repeated(alloc, "start = element ", "n", 4_194_256, " { text }")?;
-    assert_eq!(rt; answer(alloc, &set_of_text(alloc, long.as_str())?)?.as_str(), "OutputTooLarge");
+    assert_eq!(rt;
+        answer(alloc, &set_of_text(alloc, long.as_str())?)?.as_str(),
+        "OutputTooLarge"
+    );
     Ok(())
 }
 
@@ -91,22 +111,38 @@ fn nested(alloc: Global, count: usize, before: &str, innermost: &str) -> Result<
         text.push_str("element x { ")?;
     }
     text.push_str(innermost)?;
-    repeated(alloc, text.as_str(), " }", count, " a = element a { empty } b = element b { empty } c = element c { empty }")
+    repeated(
+        alloc,
+        text.as_str(),
+        " }",
+        count,
+        " a = element a { empty } b = element b { empty } c = element c { empty }",
+    )
 }
 
 #[test]
 fn the_text_has_a_deepest_nesting(rt: HostRuntime) -> Result<(), Fail> {
     let alloc = rt.alloc();
     let deep = nested(alloc, 256, "", "empty | b | c")?;
-    assert_eq!(rt; answer(alloc, &set_of_text(alloc, deep.as_str())?)?.as_str(), "OutputTooDeep");
+    assert_eq!(rt;
+        answer(alloc, &set_of_text(alloc, deep.as_str())?)?.as_str(),
+        "OutputTooDeep"
+    );
     let fits = nested(alloc, 255, "", "empty | b | c")?;
     let printed = answer(alloc, &set_of_text(alloc, fits.as_str())?)?;
     assert!(rt; printed.as_str().contains("element x { (b | c)? }"));
     let mixed = nested(alloc, 128, "text & ", "text & a")?;
     let printed = answer(alloc, &set_of_text(alloc, mixed.as_str())?)?;
-    assert!(rt; printed.as_str().contains("element x { mixed { element x { mixed { a } } } }"));
+    assert!(rt;
+        printed
+            .as_str()
+            .contains("element x { mixed { element x { mixed { a } } } }")
+    );
     let mixed = nested(alloc, 129, "text & ", "text & a")?;
-    assert_eq!(rt; answer(alloc, &set_of_text(alloc, mixed.as_str())?)?.as_str(), "OutputTooDeep");
+    assert_eq!(rt;
+        answer(alloc, &set_of_text(alloc, mixed.as_str())?)?.as_str(),
+        "OutputTooDeep"
+    );
     Ok(())
 }
 
@@ -162,7 +198,11 @@ fn a_name_is_combined_from_many_definitions(rt: HostRuntime) -> Result<(), Fail>
         text.push_str(format!(in alloc; "x |= \"{number:06}\" ")?.as_str())?;
     }
     let printed = merge(alloc, &set_of_text(alloc, text.as_str())?).map_err(Fail::from)?;
-    assert!(rt; printed.as_str().contains("x = \"000000\" | \"000001\" | \"000002\""));
+    assert!(rt;
+        printed
+            .as_str()
+            .contains("x = \"000000\" | \"000001\" | \"000002\"")
+    );
     assert!(rt; printed.as_str().ends_with("| \"099999\"\n"));
     Ok(())
 }
@@ -180,7 +220,13 @@ fn a_literal_is_long(rt: HostRuntime) -> Result<(), Fail> {
 /// A module that so often includes one of so many definitions, each of them by `|=`.
 fn instances(alloc: Global, includes: usize, definitions: usize) -> Result<ModuleSet, Fail> {
     let mut set = ModuleSet::new(alloc);
-    let main = repeated(alloc, "start = element r { x } ", "include \"lib\" ", includes, "")?;
+    let main = repeated(
+        alloc,
+        "start = element r { x } ",
+        "include \"lib\" ",
+        includes,
+        "",
+    )?;
     let _ = add(&mut set, module(alloc, "main", 1, main.as_bytes())?)?;
     let mut lib = String::new(alloc);
     for number in 0..definitions {
@@ -198,7 +244,11 @@ fn ten_million_components_are_combined(rt: HostRuntime) -> Result<(), Fail> {
         Ok(text) => text,
         Err(refusal) => refusal_line(alloc, &refusal)?,
     };
-    assert!(rt; printed.as_str().contains("x = element e0 { empty } | element e1 { empty } | element e10 { empty }"));
+    assert!(rt;
+        printed.as_str().contains(
+            "x = element e0 { empty } | element e1 { empty } | element e10 { empty }"
+        )
+    );
     Ok(())
 }
 
@@ -209,10 +259,15 @@ fn overrides_are_nested(rt: HostRuntime) -> Result<(), Fail> {
     for number in 0..511 {
         let name = format!(in alloc; "c{number:03}")?;
         let next = number + 1;
-        let text = format!(in alloc; "include \"c{next:03}\" {{ x = element e{number} {{ empty }} }}")?;
+        let text = format!(in alloc;
+            "include \"c{next:03}\" {{ x = element e{number} {{ empty }} }}"
+        )?;
         let _ = add(&mut set, module(alloc, name.as_str(), 1, text.as_bytes())?)?;
     }
     let _ = add(&mut set, module(alloc, "c511", 1, b"start = x x = text")?)?;
-    assert_eq!(rt; answer(alloc, &set)?.as_str(), "start = x\nx = element e0 { empty }\n");
+    assert_eq!(rt;
+        answer(alloc, &set)?.as_str(),
+        "start = x\nx = element e0 { empty }\n"
+    );
     Ok(())
 }

@@ -1,27 +1,51 @@
 // Sets that print a schema. Each printed schema, merged alone, is printed again.
+use crate::sets::{Row, each_answers, each_prints_in_both_stores, each_prints_itself_again};
 use std::test::Fail;
-
-use crate::sets::{Row, each_answers, each_prints_itself_again};
 
 const ROWS: [Row; 54] = [
     Row {
-        set: &[("a", 1, Some("start = doc doc |= element b { text }")), ("b", 1, Some("doc |= element a { empty }"))],
+        set: &[
+            ("a", 1, Some("start = doc doc |= element b { text }")),
+            ("b", 1, Some("doc |= element a { empty }")),
+        ],
         answer: "start = doc\ndoc = element a { empty } | element b { text }\n",
     },
     Row {
-        set: &[("a", 1, Some("start = element r { x } x &= element a { empty }")), ("b", 1, Some("x &= element a { empty }"))],
+        set: &[
+            (
+                "a",
+                1,
+                Some("start = element r { x } x &= element a { empty }"),
+            ),
+            ("b", 1, Some("x &= element a { empty }")),
+        ],
         answer: "start = element r { x }\nx = element a { empty } & element a { empty }\n",
     },
     Row {
-        set: &[("a", 1, Some("start = text")), ("a", 1, Some("start =  text")), ("a", 2, Some("start = empty"))],
+        set: &[
+            ("a", 1, Some("start = text")),
+            ("a", 1, Some("start =  text")),
+            ("a", 2, Some("start = empty")),
+        ],
         answer: "start = empty\n",
     },
     Row {
-        set: &[("a", 1, Some("start = text")), ("a", 1, Some("start =  text")), ("a", 2, Some("start = element a { empty }"))],
+        set: &[
+            ("a", 1, Some("start = text")),
+            ("a", 1, Some("start =  text")),
+            ("a", 2, Some("start = element a { empty }")),
+        ],
         answer: "start = element a { empty }\n",
     },
     Row {
-        set: &[("main", 1, Some("include \"lib\" include \"lib\" start = element r { y }")), ("lib", 1, Some("y |= text"))],
+        set: &[
+            (
+                "main",
+                1,
+                Some("include \"lib\" include \"lib\" start = element r { y }"),
+            ),
+            ("lib", 1, Some("y |= text")),
+        ],
         answer: "start = element r { y }\ny = text\n",
     },
     Row {
@@ -33,11 +57,19 @@ const ROWS: [Row; 54] = [
         answer: "start = element r { \\start }\n\\start = text\n",
     },
     Row {
-        set: &[("a", 1, Some("start = a | b a = notAllowed b = element b { a }"))],
+        set: &[(
+            "a",
+            1,
+            Some("start = a | b a = notAllowed b = element b { a }"),
+        )],
         answer: "start = b\nb = element b { notAllowed }\n",
     },
     Row {
-        set: &[("a", 1, Some("x = empty start = element r { x, (x | text)* }"))],
+        set: &[(
+            "a",
+            1,
+            Some("x = empty start = element r { x, (x | text)* }"),
+        )],
         answer: "start = element r { (text?)* }\n",
     },
     Row {
@@ -45,23 +77,57 @@ const ROWS: [Row; 54] = [
         answer: "start = text\n",
     },
     Row {
-        set: &[("main", 1, Some("default namespace = \"u\" include \"lib\" start = p")), ("lib", 1, Some("p = element p { empty }"))],
+        set: &[
+            (
+                "main",
+                1,
+                Some("default namespace = \"u\" include \"lib\" start = p"),
+            ),
+            ("lib", 1, Some("p = element p { empty }")),
+        ],
         answer: "namespace n1 = \"u\"\nstart = p\np = element n1:p { empty }\n",
     },
     Row {
-        set: &[("a", 1, Some("namespace sch = \"s\" sch:ns [ prefix = \"p\" ] [ sch:x = \"1\" ] start = element a { empty } >> sch:y [ \"z\" ]"))],
+        set: &[(
+            "a",
+            1,
+            Some(
+                "namespace sch = \"s\" sch:ns [ prefix = \"p\" ] [ sch:x = \"1\" ] start = element a { empty } >> sch:y [ \"z\" ]",
+            ),
+        )],
         answer: "start = element a { empty }\n",
     },
     Row {
-        set: &[("main", 1, Some("include \"lib\" { start = element r { y } y = text }")), ("lib", 1, Some("start = text y |= element a { empty } y |= element b { empty }"))],
+        set: &[
+            (
+                "main",
+                1,
+                Some("include \"lib\" { start = element r { y } y = text }"),
+            ),
+            (
+                "lib",
+                1,
+                Some("start = text y |= element a { empty } y |= element b { empty }"),
+            ),
+        ],
         answer: "start = element r { y }\ny = text\n",
     },
     Row {
-        set: &[("a", 1, Some("start = element r { attribute id { xsd:ID }?, (b & a)+ } a = element a { empty } b = element b { string - string \"no\" }"))],
+        set: &[(
+            "a",
+            1,
+            Some(
+                "start = element r { attribute id { xsd:ID }?, (b & a)+ } a = element a { empty } b = element b { string - string \"no\" }",
+            ),
+        )],
         answer: "start = element r { attribute id { xsd:ID }?, (a & b)+ }\na = element a { empty }\nb = element b { string - string \"no\" }\n",
     },
     Row {
-        set: &[("a", 1, Some("start = element r { \"b\" | x | \"a\" | text } x = element x { empty }"))],
+        set: &[(
+            "a",
+            1,
+            Some("start = element r { \"b\" | x | \"a\" | text } x = element x { empty }"),
+        )],
         answer: "start = element r { text | x | \"a\" | \"b\" }\nx = element x { empty }\n",
     },
     Row {
@@ -69,15 +135,27 @@ const ROWS: [Row; 54] = [
         answer: "start = element r { \"a\" ~ '\"' ~ \"b\\x{A}c\" }\n",
     },
     Row {
-        set: &[("a", 1, Some("namespace n = \"\" start = element n:* { attribute xml:lang { text } }"))],
+        set: &[(
+            "a",
+            1,
+            Some("namespace n = \"\" start = element n:* { attribute xml:lang { text } }"),
+        )],
         answer: "namespace n0 = \"\"\nstart = element n0:* { attribute xml:lang { text } }\n",
     },
     Row {
-        set: &[("a", 1, Some("datatypes d = \"http://e/lib\" start = element a { d:t { k = \"v\" } }"))],
+        set: &[(
+            "a",
+            1,
+            Some("datatypes d = \"http://e/lib\" start = element a { d:t { k = \"v\" } }"),
+        )],
         answer: "datatypes d1 = \"http://e/lib\"\nstart = element a { d1:t { k = \"v\" } }\n",
     },
     Row {
-        set: &[("a", 1, Some("start = empty | b | c b = element b { empty } c = element c { empty }"))],
+        set: &[(
+            "a",
+            1,
+            Some("start = empty | b | c b = element b { empty } c = element c { empty }"),
+        )],
         answer: "start = (b | c)?\nb = element b { empty }\nc = element c { empty }\n",
     },
     Row {
@@ -85,35 +163,79 @@ const ROWS: [Row; 54] = [
         answer: "start = element r { '\"' }\n",
     },
     Row {
-        set: &[("a", 1, Some("x = a | b x |= a a = element a { empty } b = element b { empty } start = x"))],
+        set: &[(
+            "a",
+            1,
+            Some("x = a | b x |= a a = element a { empty } b = element b { empty } start = x"),
+        )],
         answer: "start = x\na = element a { empty }\nb = element b { empty }\nx = a | b\n",
     },
     Row {
-        set: &[("b", 1, Some("x |= element b { text }")), ("a", 1, Some("x |= element a { text } start = x")), ("c", 1, Some("x |= element b { text }"))],
+        set: &[
+            ("b", 1, Some("x |= element b { text }")),
+            ("a", 1, Some("x |= element a { text } start = x")),
+            ("c", 1, Some("x |= element b { text }")),
+        ],
         answer: "start = x\nx = element a { text } | element b { text }\n",
     },
     Row {
-        set: &[("a", 1, Some("start = element r { b, a } a = element a { empty } b = element b { empty } c = element c { empty }"))],
+        set: &[(
+            "a",
+            1,
+            Some(
+                "start = element r { b, a } a = element a { empty } b = element b { empty } c = element c { empty }",
+            ),
+        )],
         answer: "start = element r { b, a }\na = element a { empty }\nb = element b { empty }\n",
     },
     Row {
-        set: &[("a", 1, Some("start = element r { (a, b), c } a = element a { empty } b = element b { empty } c = element c { empty }"))],
+        set: &[(
+            "a",
+            1,
+            Some(
+                "start = element r { (a, b), c } a = element a { empty } b = element b { empty } c = element c { empty }",
+            ),
+        )],
         answer: "start = element r { a, b, c }\na = element a { empty }\nb = element b { empty }\nc = element c { empty }\n",
     },
     Row {
-        set: &[("a", 1, Some("start = element r { (b & a) | c } a = element a { empty } b = element b { empty } c = element c { empty }"))],
+        set: &[(
+            "a",
+            1,
+            Some(
+                "start = element r { (b & a) | c } a = element a { empty } b = element b { empty } c = element c { empty }",
+            ),
+        )],
         answer: "start = element r { c | (a & b) }\na = element a { empty }\nb = element b { empty }\nc = element c { empty }\n",
     },
     Row {
-        set: &[("a", 1, Some("start = element r { b & a & b } a = element a { empty } b = element b { empty } c = element c { empty }"))],
+        set: &[(
+            "a",
+            1,
+            Some(
+                "start = element r { b & a & b } a = element a { empty } b = element b { empty } c = element c { empty }",
+            ),
+        )],
         answer: "start = element r { a & b & b }\na = element a { empty }\nb = element b { empty }\n",
     },
     Row {
-        set: &[("a", 1, Some("start = element r { mixed { a } } a = element a { empty } b = element b { empty } c = element c { empty }"))],
+        set: &[(
+            "a",
+            1,
+            Some(
+                "start = element r { mixed { a } } a = element a { empty } b = element b { empty } c = element c { empty }",
+            ),
+        )],
         answer: "start = element r { mixed { a } }\na = element a { empty }\n",
     },
     Row {
-        set: &[("a", 1, Some("start = element r { attribute * - (p | q) { text } } a = element a { empty } b = element b { empty } c = element c { empty }"))],
+        set: &[(
+            "a",
+            1,
+            Some(
+                "start = element r { attribute * - (p | q) { text } } a = element a { empty } b = element b { empty } c = element c { empty }",
+            ),
+        )],
         answer: "start = element r { attribute * - (p | q) { text } }\n",
     },
     Row {
@@ -121,15 +243,36 @@ const ROWS: [Row; 54] = [
         answer: "start = element r { empty }\n",
     },
     Row {
-        set: &[("main", 1, Some("include \"l1\" { x = text } start = element r { x }")), ("l1", 1, Some("include \"l2\" x |= empty")), ("l2", 1, Some("x |= element q { empty }"))],
+        set: &[
+            (
+                "main",
+                1,
+                Some("include \"l1\" { x = text } start = element r { x }"),
+            ),
+            ("l1", 1, Some("include \"l2\" x |= empty")),
+            ("l2", 1, Some("x |= element q { empty }")),
+        ],
         answer: "start = element r { x }\nx = text\n",
     },
     Row {
-        set: &[("main", 1, Some("default namespace = \"u\" namespace v = \"w\" include \"lib\" inherit = v start = p")), ("lib", 1, Some("p = element p { empty }"))],
+        set: &[
+            (
+                "main",
+                1,
+                Some(
+                    "default namespace = \"u\" namespace v = \"w\" include \"lib\" inherit = v start = p",
+                ),
+            ),
+            ("lib", 1, Some("p = element p { empty }")),
+        ],
         answer: "namespace n1 = \"w\"\nstart = p\np = element n1:p { empty }\n",
     },
     Row {
-        set: &[("a", 1, Some("default namespace = \"u\" start = element a { attribute b { text } }"))],
+        set: &[(
+            "a",
+            1,
+            Some("default namespace = \"u\" start = element a { attribute b { text } }"),
+        )],
         answer: "namespace n1 = \"u\"\nstart = element n1:a { attribute b { text } }\n",
     },
     Row {
@@ -137,11 +280,19 @@ const ROWS: [Row; 54] = [
         answer: "start = text\n",
     },
     Row {
-        set: &[("a", 1, Some("start = a | text a = b, c b = notAllowed c = element c { empty }"))],
+        set: &[(
+            "a",
+            1,
+            Some("start = a | text a = b, c b = notAllowed c = element c { empty }"),
+        )],
         answer: "start = text\n",
     },
     Row {
-        set: &[("a", 1, Some("start = element r { x } x = y & y y = z? z = empty"))],
+        set: &[(
+            "a",
+            1,
+            Some("start = element r { x } x = y & y y = z? z = empty"),
+        )],
         answer: "start = element r { empty }\n",
     },
     Row {
@@ -149,7 +300,11 @@ const ROWS: [Row; 54] = [
         answer: "start = notAllowed\n",
     },
     Row {
-        set: &[("a", 1, Some("start = text x = text")), ("b", 1, Some("x = empty")), ("b", 2, None)],
+        set: &[
+            ("a", 1, Some("start = text x = text")),
+            ("b", 1, Some("x = empty")),
+            ("b", 2, None),
+        ],
         answer: "start = text\n",
     },
     Row {
@@ -157,51 +312,121 @@ const ROWS: [Row; 54] = [
         answer: "start = text\n",
     },
     Row {
-        set: &[("a", 1, Some("start = element r { (a+)+ } a = element a { empty } b = element b { empty } c = element c { empty }"))],
+        set: &[(
+            "a",
+            1,
+            Some(
+                "start = element r { (a+)+ } a = element a { empty } b = element b { empty } c = element c { empty }",
+            ),
+        )],
         answer: "start = element r { a+ }\na = element a { empty }\n",
     },
     Row {
-        set: &[("a", 1, Some("start = element r { (a+)* } a = element a { empty } b = element b { empty } c = element c { empty }"))],
+        set: &[(
+            "a",
+            1,
+            Some(
+                "start = element r { (a+)* } a = element a { empty } b = element b { empty } c = element c { empty }",
+            ),
+        )],
         answer: "start = element r { a* }\na = element a { empty }\n",
     },
     Row {
-        set: &[("a", 1, Some("start = element r { mixed { b | a } } a = element a { empty } b = element b { empty } c = element c { empty }"))],
+        set: &[(
+            "a",
+            1,
+            Some(
+                "start = element r { mixed { b | a } } a = element a { empty } b = element b { empty } c = element c { empty }",
+            ),
+        )],
         answer: "start = element r { mixed { a | b } }\na = element a { empty }\nb = element b { empty }\n",
     },
     Row {
-        set: &[("a", 1, Some("start = element r { b & text & a } a = element a { empty } b = element b { empty } c = element c { empty }"))],
+        set: &[(
+            "a",
+            1,
+            Some(
+                "start = element r { b & text & a } a = element a { empty } b = element b { empty } c = element c { empty }",
+            ),
+        )],
         answer: "start = element r { mixed { a & b } }\na = element a { empty }\nb = element b { empty }\n",
     },
     Row {
-        set: &[("a", 1, Some("start = element r { text & text } a = element a { empty } b = element b { empty } c = element c { empty }"))],
+        set: &[(
+            "a",
+            1,
+            Some(
+                "start = element r { text & text } a = element a { empty } b = element b { empty } c = element c { empty }",
+            ),
+        )],
         answer: "start = element r { mixed { text } }\n",
     },
     Row {
-        set: &[("a", 1, Some("start = element r { text & a & text } a = element a { empty } b = element b { empty } c = element c { empty }"))],
+        set: &[(
+            "a",
+            1,
+            Some(
+                "start = element r { text & a & text } a = element a { empty } b = element b { empty } c = element c { empty }",
+            ),
+        )],
         answer: "start = element r { mixed { text & a } }\na = element a { empty }\n",
     },
     Row {
-        set: &[("a", 1, Some("start = element r { mixed { empty } } a = element a { empty } b = element b { empty } c = element c { empty }"))],
+        set: &[(
+            "a",
+            1,
+            Some(
+                "start = element r { mixed { empty } } a = element a { empty } b = element b { empty } c = element c { empty }",
+            ),
+        )],
         answer: "start = element r { text }\n",
     },
     Row {
-        set: &[("a", 1, Some("start = element r { (text & a)+, b } a = element a { empty } b = element b { empty } c = element c { empty }"))],
+        set: &[(
+            "a",
+            1,
+            Some(
+                "start = element r { (text & a)+, b } a = element a { empty } b = element b { empty } c = element c { empty }",
+            ),
+        )],
         answer: "start = element r { mixed { a }+, b }\na = element a { empty }\nb = element b { empty }\n",
     },
     Row {
-        set: &[("a", 1, Some("start = element r { (text & a) | text } a = element a { empty } b = element b { empty } c = element c { empty }"))],
+        set: &[(
+            "a",
+            1,
+            Some(
+                "start = element r { (text & a) | text } a = element a { empty } b = element b { empty } c = element c { empty }",
+            ),
+        )],
         answer: "start = element r { text | mixed { a } }\na = element a { empty }\n",
     },
     Row {
-        set: &[("a", 1, Some("start = element r { (x, mixed { y })* } x = element x { empty } y = element y { empty }"))],
+        set: &[(
+            "a",
+            1,
+            Some(
+                "start = element r { (x, mixed { y })* } x = element x { empty } y = element y { empty }",
+            ),
+        )],
         answer: "start = element r { (x, mixed { y })* }\nx = element x { empty }\ny = element y { empty }\n",
     },
     Row {
-        set: &[("a", 1, Some("datatypes d = \"\" start = element a { d:string }"))],
+        set: &[(
+            "a",
+            1,
+            Some("datatypes d = \"\" start = element a { d:string }"),
+        )],
         answer: "start = element a { string }\n",
     },
     Row {
-        set: &[("a", 1, Some("datatypes xml = \"http://e/lib\" namespace xsd = \"u\" start = element xsd:a { xml:t }"))],
+        set: &[(
+            "a",
+            1,
+            Some(
+                "datatypes xml = \"http://e/lib\" namespace xsd = \"u\" start = element xsd:a { xml:t }",
+            ),
+        )],
         answer: "namespace n1 = \"u\"\ndatatypes d1 = \"http://e/lib\"\nstart = element n1:a { d1:t }\n",
     },
     Row {
@@ -213,11 +438,22 @@ const ROWS: [Row; 54] = [
         answer: "start = text\n",
     },
     Row {
-        set: &[("main", 1, Some("include \"lib\" { div { start |= b } } b = element b { empty }")), ("lib", 1, Some("start |= text start |= empty"))],
+        set: &[
+            (
+                "main",
+                1,
+                Some("include \"lib\" { div { start |= b } } b = element b { empty }"),
+            ),
+            ("lib", 1, Some("start |= text start |= empty")),
+        ],
         answer: "start = b\nb = element b { empty }\n",
     },
     Row {
-        set: &[("a", 1, Some("start = element * - (a | xml:*) { attribute xml:* - xml:lang { text }* }"))],
+        set: &[(
+            "a",
+            1,
+            Some("start = element * - (a | xml:*) { attribute xml:* - xml:lang { text }* }"),
+        )],
         answer: "start = element * - (xml:* | a) { attribute xml:* - xml:lang { text }* }\n",
     },
 ];
@@ -230,4 +466,9 @@ fn sets_print_their_schemas(rt: HostRuntime) -> Result<(), Fail> {
 #[test]
 fn printed_schemas_print_themselves_again(rt: HostRuntime) -> Result<(), Fail> {
     each_prints_itself_again(&rt, &ROWS)
+}
+
+#[test]
+fn both_stores_print_the_same(rt: HostRuntime) -> Result<(), Fail> {
+    each_prints_in_both_stores(&rt, &ROWS)
 }

@@ -1,15 +1,21 @@
 // Sets that print nothing, and the first refusal that stands for each.
-use std::test::Fail;
-
 use crate::sets::{Row, each_answers};
+use std::test::Fail;
 
 const ROWS: [Row; 35] = [
     Row {
-        set: &[("a", 1, Some("x = text")), ("b", 1, Some("x = text start = x"))],
+        set: &[
+            ("a", 1, Some("x = text")),
+            ("b", 1, Some("x = text start = x")),
+        ],
         answer: "PlainTwice x",
     },
     Row {
-        set: &[("a", 1, Some("x = text")), ("b", 1, Some("x |= empty")), ("c", 1, Some("x &= text"))],
+        set: &[
+            ("a", 1, Some("x = text")),
+            ("b", 1, Some("x |= empty")),
+            ("c", 1, Some("x &= text")),
+        ],
         answer: "MixedMethods x",
     },
     Row {
@@ -17,11 +23,21 @@ const ROWS: [Row; 35] = [
         answer: "NoStart",
     },
     Row {
-        set: &[("a", 1, Some("start = text")), ("a", 1, Some("start =  text"))],
+        set: &[
+            ("a", 1, Some("start = text")),
+            ("a", 1, Some("start =  text")),
+        ],
         answer: "Conflict a 1",
     },
     Row {
-        set: &[("main", 1, Some("include \"lib\" include \"lib\" start = element r { y }")), ("lib", 1, Some("y = empty"))],
+        set: &[
+            (
+                "main",
+                1,
+                Some("include \"lib\" include \"lib\" start = element r { y }"),
+            ),
+            ("lib", 1, Some("y = empty")),
+        ],
         answer: "PlainTwice y",
     },
     Row {
@@ -29,7 +45,10 @@ const ROWS: [Row; 35] = [
         answer: "Recursive a",
     },
     Row {
-        set: &[("main", 1, Some("include \"lib\" { z = text } start = text")), ("lib", 1, Some("y = empty"))],
+        set: &[
+            ("main", 1, Some("include \"lib\" { z = text } start = text")),
+            ("lib", 1, Some("y = empty")),
+        ],
         answer: "Override main z",
     },
     Row {
@@ -45,23 +64,41 @@ const ROWS: [Row; 35] = [
         answer: "Undefined b",
     },
     Row {
-        set: &[("a", 1, Some("start = element a { attribute xmlns { text } }"))],
+        set: &[(
+            "a",
+            1,
+            Some("start = element a { attribute xmlns { text } }"),
+        )],
         answer: "NameClass start",
     },
     Row {
-        set: &[("a", 1, Some("include \"b\"")), ("b", 1, Some("include \"a\"")), ("c", 1, Some("start = text"))],
+        set: &[
+            ("a", 1, Some("include \"b\"")),
+            ("b", 1, Some("include \"a\"")),
+            ("c", 1, Some("start = text")),
+        ],
         answer: "Cycle a",
     },
     Row {
-        set: &[("main", 1, Some("include \"lib\" { start = text }")), ("lib", 1, Some("y = text"))],
+        set: &[
+            ("main", 1, Some("include \"lib\" { start = text }")),
+            ("lib", 1, Some("y = text")),
+        ],
         answer: "Override main start",
     },
     Row {
-        set: &[("a", 1, Some("start = text x = text")), ("b", 1, Some("x = empty"))],
+        set: &[
+            ("a", 1, Some("start = text x = text")),
+            ("b", 1, Some("x = empty")),
+        ],
         answer: "PlainTwice x",
     },
     Row {
-        set: &[("main", 1, Some("include \"lib\" start = text")), ("lib", 1, Some("y = text")), ("lib", 2, None)],
+        set: &[
+            ("main", 1, Some("include \"lib\" start = text")),
+            ("lib", 1, Some("y = text")),
+            ("lib", 2, None),
+        ],
         answer: "Missing main \"lib\"",
     },
     Row {
@@ -97,11 +134,17 @@ const ROWS: [Row; 35] = [
         answer: "Except a",
     },
     Row {
-        set: &[("b", 1, Some("start = ")), ("a", 1, Some("include \"gone\""))],
+        set: &[
+            ("b", 1, Some("start = ")),
+            ("a", 1, Some("include \"gone\"")),
+        ],
         answer: "Syntax b",
     },
     Row {
-        set: &[("a", 1, Some("include \"gone\"")), ("c", 1, Some("include \"c\""))],
+        set: &[
+            ("a", 1, Some("include \"gone\"")),
+            ("c", 1, Some("include \"c\"")),
+        ],
         answer: "Missing a \"gone\"",
     },
     Row {
@@ -109,7 +152,11 @@ const ROWS: [Row; 35] = [
         answer: "PlainTwice \\start",
     },
     Row {
-        set: &[("a", 1, Some("start = text start = text \\div = text \\div = text"))],
+        set: &[(
+            "a",
+            1,
+            Some("start = text start = text \\div = text \\div = text"),
+        )],
         answer: "PlainTwice start",
     },
     Row {
@@ -117,11 +164,19 @@ const ROWS: [Row; 35] = [
         answer: "PlainTwice y",
     },
     Row {
-        set: &[("a", 1, Some("start = a | notAllowed a = b | notAllowed b = a"))],
+        set: &[(
+            "a",
+            1,
+            Some("start = a | notAllowed a = b | notAllowed b = a"),
+        )],
         answer: "Recursive a",
     },
     Row {
-        set: &[("a", 1, Some("a = a start = text \\empty = element x { \\list }"))],
+        set: &[(
+            "a",
+            1,
+            Some("a = a start = text \\empty = element x { \\list }"),
+        )],
         answer: "Undefined \\list",
     },
     Row {
@@ -129,15 +184,29 @@ const ROWS: [Row; 35] = [
         answer: "NameClass start",
     },
     Row {
-        set: &[("a", 1, Some("namespace x = \"u\" start = text z = element x:* - x:* { empty }"))],
+        set: &[(
+            "a",
+            1,
+            Some("namespace x = \"u\" start = text z = element x:* - x:* { empty }"),
+        )],
         answer: "NameClass z",
     },
     Row {
-        set: &[("a", 1, Some("namespace x = \"http://www.w3.org/2000/xmlns\" start = attribute x:b { text }"))],
+        set: &[(
+            "a",
+            1,
+            Some("namespace x = \"http://www.w3.org/2000/xmlns\" start = attribute x:b { text }"),
+        )],
         answer: "NameClass start",
     },
     Row {
-        set: &[("a", 1, Some("namespace x = \"http://www.w3.org/2000/xmlns\" start = element a { attribute * - x:* { text } }"))],
+        set: &[(
+            "a",
+            1,
+            Some(
+                "namespace x = \"http://www.w3.org/2000/xmlns\" start = element a { attribute * - x:* { text } }",
+            ),
+        )],
         answer: "NameClass start",
     },
     Row {

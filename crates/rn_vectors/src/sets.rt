@@ -1,10 +1,12 @@
 // Sets made from rows, and what a merge answers for them.
+use rn_assemble::assemble;
+use rn_merge::{merge, refusal_line};
+use rn_modset::{Contribution, ModuleSet};
+use rn_pattern::{Interned, Patterns, Plain};
+use rn_simplify::{normalise_in, print};
 use std::alloc::Global;
 use std::process::Abort;
 use std::test::Fail;
-
-use rn_merge::{merge, refusal_line};
-use rn_modset::{Contribution, ModuleSet};
 
 /// The line with which each printed schema begins.
 pub const FIRST_LINE: &str = "default namespace = \"\"\n";
@@ -42,7 +44,8 @@ pub fn contribution(alloc: Global, given: &Given) -> Result<Contribution, Fail> 
 
 /// Adds a contribution that the set takes.
 pub fn add(set: &mut ModuleSet, contribution: Contribution) -> Result<bool, Fail> {
-    set.add(contribution).map_err(|refused| Fail::from(refused.1))
+    set.add(contribution)
+        .map_err(|refused| Fail::from(refused.1))
 }
 
 /// The set of a row's contributions.
@@ -94,6 +97,34 @@ pub fn each_prints_itself_again(rt: &(impl Abort + AllocGlobal), rows: &[Row]) -
             let reprinted = merge(alloc, &again).map_err(Fail::from)?;
             assert_eq!(rt; reprinted.as_str(), text.as_str(), "row {at}");
         }
+    }
+    Ok(())
+}
+
+/// The lines of a set's schema, whose canonical form is built in the store.
+fn printed_in<P: Patterns>(alloc: Global, set: &ModuleSet, store: &mut P) -> Result<String, Fail> {
+    let grammar = assemble(alloc, set).map_err(Fail::from)?;
+    let normal = normalise_in(alloc, &grammar, store)?;
+    let text = print(alloc, &normal).map_err(Fail::from)?;
+    let lines = text
+        .as_str()
+        .strip_prefix(FIRST_LINE)
+        .ok_or("the first line is missing")?;
+    Ok(String::from_str(alloc, lines)?)
+}
+
+/// Prints each row's schema from a store that looks for equal patterns, and from one that doesn't.
+pub fn each_prints_in_both_stores(
+    rt: &(impl Abort + AllocGlobal),
+    rows: &[Row],
+) -> Result<(), Fail> {
+    let alloc = rt.alloc();
+    for (at, row) in rows.iter().enumerate() {
+        let set = set_of(alloc, row.set)?;
+        let plain = printed_in(alloc, &set, &mut Plain::new(alloc))?;
+        assert_eq!(rt; plain.as_str(), row.answer, "row {at}");
+        let interned = printed_in(alloc, &set, &mut Interned::new(alloc))?;
+        assert_eq!(rt; interned.as_str(), row.answer, "row {at}");
     }
     Ok(())
 }

@@ -1,18 +1,21 @@
 // Runs over bundles, with sources and sinks that fail at a known byte.
 ghost use Rattle.std.specs.Prelude.{◌≡◌, false, IfOk};
 
+use crate::sets::{Given, set_of};
+use rn_assemble::Refusal;
+use rn_merge::{
+    Failed, ReadFault, RunFault, Sink, Source, Status, read_input, run_print, write_output,
+};
+use rn_modset::{BundleFault, write_bundle};
 use std::alloc::Global;
 use std::test::Fail;
 
-use rn_assemble::Refusal;
-use rn_merge::{Failed, ReadFault, RunFault, Sink, Source, Status, read_input, run_print, write_output};
-use rn_modset::{BundleFault, write_bundle};
-
-use crate::sets::{Given, set_of};
-
 const A: Given = ("a", 1, Some("start = doc doc |= element b { text }"));
+
 const B: Given = ("b", 1, Some("doc |= element a { empty }"));
-const PRINTED: &str = "default namespace = \"\"\nstart = doc\ndoc = element a { empty } | element b { text }\n";
+
+const PRINTED: &str =
+    "default namespace = \"\"\nstart = doc\ndoc = element a { empty } | element b { text }\n";
 
 /// A sink in memory that fails once it has taken as many bytes as it has room for.
 #[derive(Drop)]
@@ -83,7 +86,11 @@ impl Source for Bytes {
             self.failed = true;
             return Err(Failed);
         }
-        let given = into.len().min(self.left.len()).min(self.until_failure).min(2);
+        let given = into
+            .len()
+            .min(self.left.len())
+            .min(self.until_failure)
+            .min(2);
         into[..given].copy_from_slice(&self.left[..given]);
         self.left = &self.left[given..];
         self.until_failure -= given;
@@ -117,7 +124,9 @@ fn bundles_are_merged_in_any_order(rt: HostRuntime) -> Result<(), Fail> {
     let alloc = rt.alloc();
     for given in [[A, B, A], [B, A, A], [A, A, B]] {
         let mut out = sink_of(alloc, 1000);
-        let status = run_print(alloc, bundles(alloc, &given)?.as_slice(), &mut out).map_err(Fail::from)?;
+        let status = run_print(alloc, bundles(alloc, &given)?.as_slice(), &mut out).map_err(
+            Fail::from,
+        )?;
         assert_eq!(rt; status, Status::Done);
         assert_eq!(rt; out.taken.as_slice(), PRINTED.as_bytes());
     }
@@ -151,7 +160,13 @@ fn nothing_is_written_without_a_schema(rt: HostRuntime) -> Result<(), Fail> {
     given.push(Vec::from_slice(alloc, b"rncset 1\nend 0")?)?;
     let mut second = sink_of(alloc, 1000);
     let fault = run_print(alloc, given.as_slice(), &mut second).err();
-    assert_eq!(rt; fault, Some(RunFault::Bundle { index: 2, fault: BundleFault::Truncated }));
+    assert_eq!(rt;
+        fault,
+        Some(RunFault::Bundle {
+            index: 2,
+            fault: BundleFault::Truncated
+        })
+    );
     assert_eq!(rt; out.taken.len() + second.taken.len(), 0);
     Ok(())
 }
@@ -163,8 +178,14 @@ fn inputs_are_read_to_their_end(rt: HostRuntime) -> Result<(), Fail> {
     let read = read_input(alloc, &mut whole, 5).map_err(Fail::from)?;
     assert_eq!(rt; read.as_slice(), b"five!".as_slice());
     assert!(rt; whole.ended() && !whole.failed());
-    assert_eq!(rt; read_input(alloc, &mut source_of(b"five!", usize::MAX), 4).err(), Some(ReadFault::Large));
-    assert_eq!(rt; read_input(alloc, &mut source_of(b"five!", 3), 5).err(), Some(ReadFault::Read));
+    assert_eq!(rt;
+        read_input(alloc, &mut source_of(b"five!", usize::MAX), 4).err(),
+        Some(ReadFault::Large)
+    );
+    assert_eq!(rt;
+        read_input(alloc, &mut source_of(b"five!", 3), 5).err(),
+        Some(ReadFault::Read)
+    );
     let mut out = sink_of(alloc, 3);
     assert_eq!(rt; write_output(&mut out, b"five!").err(), Some(Failed));
     assert!(rt; out.failed());

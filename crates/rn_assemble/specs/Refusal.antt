@@ -1,0 +1,167 @@
+-- Why a set of modules has no grammar: the refusals in the order in which they are tested, and what each says of the set.
+use Rattle.std.specs.Prelude.{ℕ, ◌≡◌, ◌≢◌, ◌<◌, Bool, true, false, not, ◌||◌, ◌&&◌, List, [], is_some, sum_by, Contains}
+use Rattle.std.specs.List.{AllZip}
+use Rattle.std.specs.Str.{IsUtf8, chars}
+use Rattle.rn_text.specs.Tokens.{Lexeme, HasTokens}
+use Rattle.rn_pattern.specs.Tree.{Text}
+use Rattle.rn_pattern.specs.Order.{text_cmp}
+use Rattle.rn_pattern.specs.Matching.{Grammar}
+use Rattle.rn_pattern.specs.References.{Reaches, IsUndefined, IsRecursive}
+use Rattle.rn_pattern.specs.NameRules.{KeepsNameRules}
+use Rattle.rn_modset.specs.Contributions.{Member}
+use Rattle.rn_modset.specs.Modules.{Module, IsFirstConflict, AreEffective}
+use Rattle.rn_syntax.specs.Tree as t
+use Rattle.rn_syntax.specs.Tree.{Declaration, Item, Items}
+use Rattle.rn_syntax.specs.Tokens.{terminals}
+use Rattle.rn_syntax.specs.Fault.{HasTree}
+use Rattle.rn_syntax.specs.Places.{deep, prefix_places, builtin_places, context_places, except_places}
+use Rattle.rn_assemble.specs.Components.{Key, start_key, Component, Source, has_key, all_components, components, handed_on, modules_named, Includes, instance_limit, instances, roots, set_components}
+use Rattle.rn_assemble.specs.Combine.{IsPlainTwice, IsMixed, joined, joined_grammar}
+use Rattle.rn_assemble.specs.Least.{IsLeast, key_cmp}
+
+-- what is wrong with the text of one module
+pub data TextFault : Type 0 where
+  encoding : TextFault
+  lexical : TextFault
+  deep_brackets : TextFault
+  syntax : TextFault
+  prefix : TextFault
+  builtin : TextFault
+  context_value : TextFault
+  except : TextFault
+
+-- modules by their names; a name that is wanted and not there; what is combined by its key
+pub data Refusal : Type 0 where
+  conflict : (name : Text) (revision : ℕ) → Refusal
+  faulty : TextFault → (name : Text) → Refusal
+  missing : (includer wanted : Text) → Refusal
+  cycle : (name : Text) → Refusal
+  too_many_instances : Refusal
+  override : (includer : Text) → Key → Refusal
+  plain_twice : Key → Refusal
+  mixed_methods : Key → Refusal
+  no_start : Refusal
+  undefined : (name : Text) → Refusal
+  recursive : (name : Text) → Refusal
+  name_class : Key → Refusal
+
+-- the place of a fault, and of a refusal, in the order of the tests
+abbrev pub fault_rank : TextFault → ℕ
+fault_rank encoding = 0
+fault_rank lexical = 1
+fault_rank deep_brackets = 2
+fault_rank syntax = 3
+fault_rank prefix = 4
+fault_rank builtin = 5
+fault_rank context_value = 6
+fault_rank except = 7
+
+abbrev pub rank : Refusal → ℕ
+rank (conflict x r) = 0
+rank (faulty f x) = 1
+rank (missing x w) = 2
+rank (cycle x) = 3
+rank too_many_instances = 4
+rank (override x k) = 5
+rank (plain_twice k) = 6
+rank (mixed_methods k) = 7
+rank no_start = 8
+rank (undefined x) = 9
+rank (recursive x) = 10
+rank (name_class k) = 11
+
+-- the text is a module of this tree
+abbrev pub IsModuleOf : Text → t.Module → Type 0
+IsModuleOf text m = IsUtf8 text × ((ts : List Lexeme) × HasTokens (chars text) ts × HasTree (terminals ts) m)
+
+-- the text has tokens, and of these P holds
+abbrev pub TokensAre : Text → (List Lexeme → Type 0) → Type 0
+TokensAre text P = IsUtf8 text × ((ts : List Lexeme) × HasTokens (chars text) ts × P ts)
+
+-- the text has the fault, whatever else it has
+abbrev pub HasFault : Text → TextFault → Type 0
+HasFault text encoding = ¬ IsUtf8 text
+HasFault text lexical = IsUtf8 text × ((ts : List Lexeme) → ¬ HasTokens (chars text) ts)
+HasFault text deep_brackets = TokensAre text (λ ts. is_some (deep 0 (terminals ts)) ≡ true)
+HasFault text syntax = TokensAre text (λ ts. (m : t.Module) → ¬ HasTree (terminals ts) m)
+HasFault text prefix = (m : t.Module) × IsModuleOf text m × (prefix_places m ≢ [])
+HasFault text builtin = (m : t.Module) × IsModuleOf text m × (builtin_places m ≢ [])
+HasFault text context_value = (m : t.Module) × IsModuleOf text m × (context_places m ≢ [])
+HasFault text except = (m : t.Module) × IsModuleOf text m × (except_places m ≢ [])
+
+-- the first fault of the text
+abbrev pub IsFirstFault : Text → TextFault → Type 0
+IsFirstFault text f = HasFault text f × ((g : TextFault) → fault_rank g < fault_rank f → ¬ HasFault text g)
+
+-- a module whose text has a fault
+abbrev pub IsFaulty : List Module → Text → Type 0
+IsFaulty texts x = (text : Text) × Contains texts (x, text) × ((f : TextFault) × HasFault text f)
+
+-- the includer has an include that names no module of the set
+abbrev pub Wants : List Source → Text → Text → Type 0
+Wants modules x w = Includes modules x w × (modules_named w modules ≡ [])
+
+-- an include among the items defines the key, which the components of the included module lack (4.7)
+module _ (included : Text → Text → List Component) (inherited : Text) (ds : List Declaration) where
+  abbrev mutual
+    pub item_lacks : Item → Key → Bool
+    item_lacks (t.define x m p) k = false
+    item_lacks (t.start m p) k = false
+    item_lacks (t.div xs) k = items_lack xs k
+    item_lacks (t.include wanted inherit xs) k = has_key k (all_components included inherited ds xs) && not (has_key k (included wanted (handed_on inherited ds inherit)))
+
+    pub items_lack : Items → Key → Bool
+    items_lack t.no_items k = false
+    items_lack (t.item x xs) k = item_lacks x k || items_lack xs k
+
+-- in the module x, under no namespace: which keys are there does not depend on it
+abbrev pub Lacks : List Source → Text → Key → Type 0
+Lacks modules x k = (m : Source) × Contains (modules_named x modules) m × (items_lack (components modules) [] m.tree.declarations m.tree.items k ≡ true)
+
+-- what is joined under the key breaks the restrictions on name classes (4.16)
+abbrev pub BreaksNameRules : List Component → Key → Type 0
+BreaksNameRules cs k = (has_key k cs ≡ true) × ¬ KeepsNameRules (joined cs k)
+
+-- the grammar of the modules
+abbrev pub grammar_of : List Source → Grammar
+grammar_of modules = joined_grammar (set_components modules)
+
+-- the refusal stands for the modules, with the least fields that it has
+abbrev pub StandsFor : List Source → Refusal → Type 0
+StandsFor modules (conflict x r) = ⊥
+StandsFor modules (faulty f x) = ⊥
+StandsFor modules (missing x w) = IsLeast text_cmp (λ y. (v : Text) × Wants modules y v) x × IsLeast text_cmp (Wants modules x) w
+StandsFor modules (cycle x) = IsLeast text_cmp (λ y. Reaches (Includes modules) y y) x
+StandsFor modules too_many_instances = instance_limit < sum_by (λ (r : Source). instances modules r.name) (roots modules)
+StandsFor modules (override x k) = IsLeast text_cmp (λ y. (j : Key) × Lacks modules y j) x × IsLeast key_cmp (Lacks modules x) k
+StandsFor modules (plain_twice k) = IsLeast key_cmp (λ j. IsPlainTwice j (set_components modules)) k
+StandsFor modules (mixed_methods k) = IsLeast key_cmp (λ j. IsMixed j (set_components modules)) k
+StandsFor modules no_start = has_key start_key (set_components modules) ≡ false
+StandsFor modules (undefined x) = IsLeast text_cmp (IsUndefined (grammar_of modules)) x
+StandsFor modules (recursive x) = IsLeast text_cmp (IsRecursive (grammar_of modules)) x
+StandsFor modules (name_class k) = IsLeast key_cmp (BreaksNameRules (set_components modules)) k
+
+-- it is the first that stands for the modules
+abbrev pub IsFirstFor : List Source → Refusal → Type 0
+IsFirstFor modules r = StandsFor modules r × ((q : Refusal) → rank q < rank r → ¬ StandsFor modules q)
+
+-- the effective modules of the set with the trees of their texts, in the order of their names; no text has a fault
+pub record AreModules (s : List Member) (modules : List Source) : Type 0 where
+  pub texts : List Module
+  pub effective : AreEffective s texts
+  pub faultless : (x : Text) → ¬ IsFaulty texts x
+  pub trees : AllZip (λ (x : Module) (m : Source). (m.name ≡ x.0) × IsModuleOf x.1 m.tree) texts modules
+
+-- the refusal stands for the set
+abbrev pub Stands : List Member → Refusal → Type 0
+Stands s (conflict x r) = IsFirstConflict s x r
+Stands s (faulty f x) = (texts : List Module) × AreEffective s texts × IsLeast text_cmp (IsFaulty texts) x × ((text : Text) × Contains texts (x, text) × IsFirstFault text f)
+Stands s r = (modules : List Source) × AreModules s modules × StandsFor modules r
+
+-- it is the first that stands
+abbrev pub IsFirst : List Member → Refusal → Type 0
+IsFirst s r = Stands s r × ((q : Refusal) → rank q < rank r → ¬ Stands s q)
+
+-- no refusal stands, and this is the grammar of the set
+abbrev pub IsAssembled : List Member → Grammar → Type 0
+IsAssembled s g = ((r : Refusal) → ¬ Stands s r) × ((modules : List Source) × AreModules s modules × (g ≡ grammar_of modules))

@@ -1,0 +1,47 @@
+// Laws of components, of what is combined of them, and of refusals.
+ghost use Rattle.std.specs.Prelude.{◌≡◌, ◌↔◌, ◌≤◌, ◌+◌, ℕ, List, [], IfSome};
+ghost use Rattle.std.specs.List.{AllByRecursion};
+ghost use Rattle.rn_pattern.specs.Tree.{Text};
+ghost use Rattle.rn_pattern.specs.Document.{Item};
+ghost use Rattle.rn_pattern.specs.Datatype.{Table};
+ghost use Rattle.rn_pattern.specs.Excepts.{HasExcepts};
+ghost use Rattle.rn_pattern.specs.Matching.{Grammar, definition_of, IsValid};
+ghost use Rattle.rn_syntax.specs.Places.{except_places};
+ghost use Rattle.rn_assemble.specs.Components.{Key, Component, Source, components_within, instances_within, set_components};
+ghost use Rattle.rn_assemble.specs.Combine.{IsCombination, IsPlainTwice, IsMixed, joined_grammar, components_of, AreDistinct};
+ghost use Rattle.rn_assemble.specs.Refusal.{Refusal, IsFirstFor};
+
+/// Components may be combined in any pairs and in any order: each combination is valid for exactly the documents of the
+/// grammar in which each name's components are joined in one list, for every table of datatypes (RELAX NG Specification,
+/// sections 4.17 and 6).
+pub fn combinations_are_valid_alike()
+    ensures { (cs : List Component) (C : Grammar) → IsCombination cs C → (T : Table) (doc : Item) → IsValid C T doc ↔ IsValid (joined_grammar cs) T doc }
+{}
+
+/// The components of modules in which no except is at fault have excepts of data, values and choices of them alone, and
+/// so has each definition of the joined grammar (section 7.1.4).
+pub fn components_keep_excepts()
+    ensures components { (modules : List Source) → AllByRecursion (λ (m : Source). except_places m.tree ≡ []) modules → AllByRecursion (λ (c : Component). HasExcepts c.body) (set_components modules) }
+    ensures start { (cs : List Component) → AllByRecursion (λ (c : Component). HasExcepts c.body) cs → HasExcepts (joined_grammar cs).start }
+    ensures definitions { (cs : List Component) → AllByRecursion (λ (c : Component). HasExcepts c.body) cs → (x : Text) → IfSome (definition_of (joined_grammar cs) x) HasExcepts }
+{}
+
+/// A grammar of distinct names, as one plain component for each key, is joined to itself; no key of these components has
+/// two plain ones, or both methods (section 4.17).
+pub fn plain_components_are_joined()
+    ensures joined { (G : Grammar) → AreDistinct G.definitions → joined_grammar (components_of G) ≡ G }
+    ensures plain_once { (G : Grammar) → AreDistinct G.definitions → (k : Key) → ¬ IsPlainTwice k (components_of G) }
+    ensures one_method { (G : Grammar) → AreDistinct G.definitions → (k : Key) → ¬ IsMixed k (components_of G) }
+{}
+
+/// Includes followed as deep as a module has instances, or deeper, give the same instances and the same components
+/// (section 4.7).
+pub fn includes_end()
+    ensures same_instances { (modules : List Source) (more depth : ℕ) (x : Text) → instances_within depth modules x ≤ depth → instances_within (depth + more) modules x ≡ instances_within depth modules x }
+    ensures same_components { (modules : List Source) (more depth : ℕ) (x inherited : Text) → instances_within depth modules x ≤ depth → components_within (depth + more) modules x inherited ≡ components_within depth modules x inherited }
+{}
+
+/// Modules have one first refusal at most, with all its fields.
+pub fn one_first_refusal()
+    ensures { (modules : List Source) (q r : Refusal) → IsFirstFor modules q → IsFirstFor modules r → q ≡ r }
+{}

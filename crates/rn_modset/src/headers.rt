@@ -1,0 +1,102 @@
+// The header lines of a bundle's entries.
+ghost use Rattle.std.specs.Prelude.{◌≡◌, ◌++◌, ◌∷◌, Bool, true, false, codes, IsTrue, ◌↔◌, MatchOption, decimal};
+ghost use Rattle.std.specs.List.{list_all};
+ghost use Rattle.rn_modset.specs.Contributions.{is_module_name};
+ghost use Rattle.rn_modset.specs.Bundles.{header_line};
+ghost use Rattle.rn_modset.specs.Faults.{IsDigest, is_lower_hex, MayStand, IsNoHeader, AreNoTextFields, IsNoWithdrawalField};
+ghost use Rattle.rn_modset.specs.Headers.{header_view};
+
+use crate::contribution::MAX_TEXT;
+use crate::fields::{number, split_at_byte};
+use crate::names::is_module_name;
+
+/// What a header line says.
+#[derive(Clone, Copy)]
+pub enum HeaderLine<'a> {
+    Text {
+        name: &'a str,
+        revision: u64,
+        len: usize,
+        digest: &'a [u8],
+    },
+    Withdrawal {
+        name: &'a str,
+        revision: u64,
+    },
+}
+
+/// What the line says, if it is a header within the limits; a withdrawal's where these may stand.
+pub fn header(line: &[u8], withdrawals: bool) -> Option<HeaderLine<'_>>
+    ensures { MatchOption result (IsNoHeader withdrawals line.now)
+        (λ h. (line.now ≡ header_line (header_view h)) × MayStand withdrawals (header_view h)) }
+{
+    let (kind, fields) = split_at_byte(line, b' ')?;
+    let (name, fields) = split_at_byte(fields, b' ')?;
+    let name = module_name(name)?;
+    if kind == b"module".as_slice() {
+        return text_header(name, fields);
+    }
+    if kind == b"withdrawn".as_slice() && withdrawals {
+        return withdrawal_header(name, fields);
+    }
+    None
+}
+
+fn module_name(bytes: &[u8]) -> Option<&str>
+    ensures { MatchOption result (is_module_name bytes.now ≡ false) (λ name. (name.now ≡ bytes.now) × (is_module_name name.now ≡ true)) }
+{
+    match std::str::from_utf8(bytes) {
+        Ok(name) => is_module_name(name).then_some(name),
+        Err(_) => None,
+    }
+}
+
+/// The header of a text of that name, from its other fields.
+fn text_header<'a>(name: &'a str, fields: &'a [u8]) -> Option<HeaderLine<'a>>
+    requires { is_module_name name.now ≡ true }
+    ensures { MatchOption result (AreNoTextFields fields.now)
+        (λ h. (codes "module" ++ 32 ∷ (name.now ++ 32 ∷ fields.now) ≡ header_line (header_view h)) × ((withdrawals : Bool) → MayStand withdrawals (header_view h))) }
+{
+    let (revision, fields) = split_at_byte(fields, b' ')?;
+    let (len, digest) = split_at_byte(fields, b' ')?;
+    let revision = number(revision)?;
+    let len = number(len)?;
+    if len > MAX_TEXT as u64 || !is_digest(digest) {
+        return None;
+    }
+    Some(HeaderLine::Text {
+        name,
+        revision,
+        len: len as usize,
+        digest,
+    })
+}
+
+/// The header of a withdrawal of that name, from its other field.
+fn withdrawal_header<'a>(name: &'a str, field: &'a [u8]) -> Option<HeaderLine<'a>>
+    requires { is_module_name name.now ≡ true }
+    ensures { MatchOption result (IsNoWithdrawalField field.now)
+        (λ h. (codes "withdrawn" ++ 32 ∷ (name.now ++ 32 ∷ field.now) ≡ header_line (header_view h)) × MayStand true (header_view h)) }
+{
+    let revision = number(field)?;
+    Some(HeaderLine::Withdrawal { name, revision })
+}
+
+/// Whether these are the 64 digits of a digest.
+fn is_digest(digits: &[u8]) -> bool
+    ensures { IsTrue result ↔ IsDigest digits.now }
+{
+    digits.len() == 64 && are_lower_hex(digits)
+}
+
+fn are_lower_hex(digits: &[u8]) -> bool
+    ensures { result ≡ list_all is_lower_hex digits.now }
+{
+    digits.iter().all(|c| is_lower_hex(*c))
+}
+
+fn is_lower_hex(byte: u8) -> bool
+    ensures { result ≡ is_lower_hex byte }
+{
+    matches!(byte, b'0'..=b'9' | b'a'..=b'f')
+}

@@ -1,0 +1,5 @@
+use Rattle.rn_simplify.proofs.OneVerdict.{one_verdict}
+use Rattle.rn_simplify.proofs.laws.one_verdict.Goals as goal
+
+pub returns : goal.returns
+returns c = one_verdict

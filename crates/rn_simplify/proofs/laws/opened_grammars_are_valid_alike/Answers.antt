@@ -1,0 +1,5 @@
+use Rattle.rn_pattern.proofs.OpenedKeeps.{opened_valid}
+use Rattle.rn_simplify.proofs.laws.opened_grammars_are_valid_alike.Goals as goal
+
+pub returns : goal.returns
+returns c = opened_valid

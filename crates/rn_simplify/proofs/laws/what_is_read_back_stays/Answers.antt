@@ -1,0 +1,11 @@
+use Rattle.rn_simplify.proofs.ReadAgain.{read_canonical, read_only, none_stands}
+use Rattle.rn_simplify.proofs.laws.what_is_read_back_stays.Goals as goal
+
+pub returns-clause-same : goal.returns-clause-same
+returns-clause-same c = λ G N k r. read_canonical N r G k
+
+pub returns-clause-no_other : goal.returns-clause-no_other
+returns-clause-no_other c = λ G N M k r. read_only N r G k M
+
+pub returns-clause-no_refusal : goal.returns-clause-no_refusal
+returns-clause-no_refusal c = none_stands

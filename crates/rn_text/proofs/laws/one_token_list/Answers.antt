@@ -1,0 +1,6 @@
+use Rattle.rn_text.proofs.Unique.{one_token_list}
+use Rattle.rn_text.proofs.Places.{list_or_place, one_place}
+use Rattle.rn_text.proofs.laws.one_token_list.Goals as goal
+
+pub returns : goal.returns
+returns c = record { one = one_token_list; or_place = list_or_place; one_place = one_place }

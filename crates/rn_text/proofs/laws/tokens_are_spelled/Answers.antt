@@ -1,0 +1,5 @@
+use Rattle.rn_text.proofs.Lexemes.{tokens_spelled}
+use Rattle.rn_text.proofs.laws.tokens_are_spelled.Goals as goal
+
+pub returns : goal.returns
+returns c = tokens_spelled

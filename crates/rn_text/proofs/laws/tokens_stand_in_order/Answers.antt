@@ -1,0 +1,5 @@
+use Rattle.rn_text.proofs.Lexemes.{tokens_in_order}
+use Rattle.rn_text.proofs.laws.tokens_stand_in_order.Goals as goal
+
+pub returns : goal.returns
+returns c = tokens_in_order

@@ -1,0 +1,38 @@
+// Laws of tokens and literals. The functions have no bodies: their contracts are what is proved.
+ghost use Rattle.std.specs.Prelude.{◌≡◌, ◌++◌, ℕ, List, true};
+ghost use Rattle.std.specs.List.{AllByRecursion, list_all};
+ghost use Rattle.std.specs.Str.{chars, IsUtf8};
+ghost use Rattle.rn_text.specs.Characters.{is_xml_char};
+ghost use Rattle.rn_text.specs.Literals.{literal_of};
+ghost use Rattle.rn_text.specs.Parts.{IsFirstPart, IsSpelled, ends_token, spells};
+ghost use Rattle.rn_text.specs.Tokens.{HasTokens, IsLexicalPlace, Lexeme, SegmentsHaveText, StandInOrder};
+
+use crate::parts::{Kind, Part};
+
+/// A text has one token list, or is faulty at one place.
+pub fn one_token_list()
+    ensures one { (cs : List ℕ) (first second : List Lexeme) → HasTokens cs first → HasTokens cs second → first ≡ second }
+    ensures or_place { (cs : List ℕ) (tokens : List Lexeme) (place : ℕ) → HasTokens cs tokens → ¬ (IsLexicalPlace cs place) }
+    ensures one_place { (cs : List ℕ) (first second : ℕ) → IsLexicalPlace cs first → IsLexicalPlace cs second → first ≡ second }
+{}
+
+/// The tokens stand in the source in order, and the text of each is the source between its places.
+pub fn tokens_stand_in_order()
+    ensures { (src : List ℕ) (tokens : List Lexeme) → IsUtf8 src → HasTokens (chars src) tokens → StandInOrder src 0 tokens }
+{}
+
+/// The text of each token spells its kind.
+pub fn tokens_are_spelled()
+    ensures { (cs : List ℕ) (tokens : List Lexeme) → HasTokens cs tokens → AllByRecursion (λ t. IsSpelled t.kind (chars t.text)) tokens }
+{}
+
+/// What spells a token is that token, where the text ends behind it or goes on with white space, one
+/// of `(` `)` `[` `]` `}`, a comma or a sign of repetition.
+pub fn tokens_end_at_breaks()
+    ensures { (kind : Kind) (front after : List ℕ) → spells (Part.Token kind) front ≡ true → ends_token after ≡ true → IsFirstPart (front ++ after) (Part.Token kind) front after }
+{}
+
+/// The literal of a text reads back to the text.
+pub fn literals_read_back()
+    ensures { (cs : List ℕ) → list_all is_xml_char cs ≡ true → (tokens : List Lexeme) × HasTokens (literal_of cs) tokens × SegmentsHaveText tokens cs }
+{}
