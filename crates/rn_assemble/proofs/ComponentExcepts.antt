@@ -16,16 +16,16 @@ use Rattle.rn_assemble.specs.Components.{Component, Source, has_key, overridden,
 use Rattle.rn_assemble.proofs.OneModule.{nil_parts}
 
 -- where excepts in a pattern are at fault
-abbrev places : Pattern → List ℕ
+abbrev pub places : Pattern → List ℕ
 places = pattern_places (λ _. []) (λ _ _ _. []) (λ i p. place_if (not (is_allowed p)) i)
 
 abbrev all_places : Patterns → List ℕ
 all_places = patterns_places (λ _. []) (λ _ _ _. []) (λ i p. place_if (not (is_allowed p)) i)
 
-abbrev in_item : Item → List ℕ
+abbrev pub in_item : Item → List ℕ
 in_item = item_places (λ _. []) (λ _ _ _. []) (λ i p. place_if (not (is_allowed p)) i) (λ _. [])
 
-abbrev in_items : Items → List ℕ
+abbrev pub in_items : Items → List ℕ
 in_items = items_places (λ _. []) (λ _ _ _. []) (λ i p. place_if (not (is_allowed p)) i) (λ _. [])
 
 allowed_at : (b : Bool) (i : ℕ) → place_if (not b) i ≡ [] → b ≡ true
@@ -55,7 +55,7 @@ module _ (inherited : Text) (ds : List Declaration) where
         (resolved_except p allowed.0 both.0, resolved_excepts ps allowed.1 both.1)
 
   mutual
-    resolved_has : (p : Pattern) → places p ≡ [] → HasExcepts (resolved inherited ds p)
+    pub resolved_has : (p : Pattern) → places p ≡ [] → HasExcepts (resolved inherited ds p)
     resolved_has (t.element c p) h = resolved_has p h
     resolved_has (t.attribute c p) h = resolved_has p h
     resolved_has (t.list p) h = resolved_has p h
@@ -87,7 +87,7 @@ module _ {X : Type 0} (P : X → Type 0) where
   each_kept_at true x xs h k = (h, k)
   each_kept_at false x xs h k = k
 
-  each_kept : (test : X → Bool) (xs : List X) → AllByRecursion P xs → AllByRecursion P (filter test xs)
+  pub each_kept : (test : X → Bool) (xs : List X) → AllByRecursion P xs → AllByRecursion P (filter test xs)
   each_kept test [] h = tt
   each_kept test (x ∷ xs) h = each_kept_at (test x) x (filter test xs) h.0 (each_kept test xs h.1)
 

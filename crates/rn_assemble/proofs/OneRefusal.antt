@@ -19,13 +19,13 @@ same_at cmp x y Greater back one e a b = absurd (b (back y x ∙ ap ordering_rev
 pub one_least : {X : Type 0} (cmp : X → X → Ordering) → ((x y : X) → cmp x y ≡ ordering_reverse (cmp y x)) → ((x y : X) → cmp x y ≡ Equal → x ≡ y) → (P : X → Type 0) (x y : X) → IsLeast cmp P x → IsLeast cmp P y → x ≡ y
 one_least cmp back one P x y l m = same_at cmp x y (cmp x y) back one refl (m.least x l.holds) (l.least y m.holds)
 
-key_back : (x y : Key) → key_cmp x y ≡ ordering_reverse (key_cmp y x)
+pub key_back : (x y : Key) → key_cmp x y ≡ ordering_reverse (key_cmp y x)
 key_back start_key start_key = refl
 key_back start_key (name_key y) = refl
 key_back (name_key x) start_key = refl
 key_back (name_key x) (name_key y) = nat_list_cmp_total.antisymm x y
 
-key_same : (x y : Key) → key_cmp x y ≡ Equal → x ≡ y
+pub key_same : (x y : Key) → key_cmp x y ≡ Equal → x ≡ y
 key_same start_key start_key e = refl
 key_same start_key (name_key y) e = cc
 key_same (name_key x) start_key e = cc

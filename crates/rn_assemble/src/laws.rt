@@ -6,10 +6,12 @@ ghost use Rattle.rn_pattern.specs.Document.{Item};
 ghost use Rattle.rn_pattern.specs.Datatype.{Table};
 ghost use Rattle.rn_pattern.specs.Excepts.{HasExcepts};
 ghost use Rattle.rn_pattern.specs.Matching.{Grammar, definition_of, IsValid};
+ghost use Rattle.rn_modset.specs.Contributions.{Member};
 ghost use Rattle.rn_syntax.specs.Places.{except_places};
 ghost use Rattle.rn_assemble.specs.Components.{Key, Component, Source, components_within, instances_within, set_components};
 ghost use Rattle.rn_assemble.specs.Combine.{IsCombination, IsPlainTwice, IsMixed, joined_grammar, components_of, AreDistinct};
-ghost use Rattle.rn_assemble.specs.Refusal.{Refusal, IsFirstFor};
+ghost use Rattle.rn_assemble.specs.WellFormed.{IsWellFormed, HasWritableTexts};
+ghost use Rattle.rn_assemble.specs.Refusal.{Refusal, Stands, IsFirstFor, AreModules, grammar_of};
 
 /// Components may be combined in any pairs and in any order: each combination is valid for exactly the documents of the
 /// grammar in which each name's components are joined in one list, for every table of datatypes (RELAX NG Specification,
@@ -44,4 +46,13 @@ pub fn includes_end()
 /// Modules have one first refusal at most, with all its fields.
 pub fn one_first_refusal()
     ensures { (modules : List Source) (q r : Refusal) → IsFirstFor modules q → IsFirstFor modules r → q ≡ r }
+{}
+
+/// The grammar of a set keeps what the refusals exclude. Its names and texts can be written again: the modules' texts are
+/// of XML characters, their names are names, and no datatype or except in them is at fault (section 7.1.4; XML 1.0,
+/// section 2.2). Where no refusal stands, every reference is defined, no loop is reached, and name classes keep their
+/// restrictions (sections 4.16, 4.18 and 4.19).
+pub fn grammars_of_sets_are_well_formed()
+    ensures writable { (s : List Member) (modules : List Source) → AreModules s modules → HasWritableTexts (grammar_of modules) }
+    ensures well_formed { (s : List Member) (modules : List Source) → AreModules s modules → ((r : Refusal) → ¬ Stands s r) → IsWellFormed (grammar_of modules) }
 {}

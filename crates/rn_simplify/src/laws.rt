@@ -9,6 +9,7 @@ ghost use Rattle.rn_pattern.specs.Matching.{Grammar, definition_of, IsValid};
 ghost use Rattle.rn_pattern.specs.Opened.{opened_grammar};
 ghost use Rattle.rn_pattern.specs.Reached.{formed, all_canonical, IsPruned, IsCanonicalOf};
 ghost use Rattle.rn_modset.specs.Contributions.{Member};
+ghost use Rattle.rn_modset.specs.Modules.{AreEffective};
 ghost use Rattle.rn_syntax.specs.Fault.{HasTree};
 ghost use Rattle.rn_syntax.specs.Grammar.{Tokens};
 ghost use Rattle.rn_syntax.specs.Places.{except_places};
@@ -21,7 +22,8 @@ ghost use Rattle.rn_simplify.specs.ReadBack.{IsReadBack};
 ghost use Rattle.rn_simplify.specs.Settling.{IsSettling};
 ghost use Rattle.rn_simplify.specs.Spellable.{IsSpellable};
 ghost use Rattle.rn_simplify.specs.Spelling.{spelling};
-ghost use Rattle.rn_simplify.specs.Verdict.{Verdict, IsVerdict};
+ghost use Rattle.rn_simplify.specs.Verdict.{Verdict, prints, IsVerdict};
+ghost use Rattle.rn_simplify.specs.ReadAgain.{IsReadAgain};
 
 /// The text of a grammar is read back as the grammar, opened.
 pub fn spelling_reads_back()
@@ -92,4 +94,17 @@ pub fn what_is_read_back_stays()
 /// one module tree at most.
 pub fn one_verdict()
     ensures { ((ts : Tokens) (m n : Module) → HasTree ts m → HasTree ts n → m ≡ n) → (s : List Member) (v w : Verdict) → IsVerdict s v → IsVerdict s w → v ≡ w }
+{}
+
+/// The text that is the verdict of a set is read back: as a module that is valid for exactly the documents of the set's
+/// definitions, combined in any pairs and any order (section 4.17), and that has the same canonical grammar and text
+/// again.
+pub fn printed_sets_are_read_back()
+    ensures { (s : List Member) (text : Text) → IsVerdict s (prints text) → IsReadAgain s text }
+{}
+
+/// The text that is the verdict of a set is also the verdict of each set of which it is the one effective module, under
+/// any name. Premise: tokens have one module tree at most.
+pub fn printed_texts_are_printed_again()
+    ensures { ((ts : Tokens) (m n : Module) → HasTree ts m → HasTree ts n → m ≡ n) → (s : List Member) (text : Text) → IsVerdict s (prints text) → (u : List Member) (name : Text) → AreEffective u ((name, text) ∷ []) → IsVerdict u (prints text) }
 {}

@@ -1,0 +1,33 @@
+-- The text that is printed for a set is read back.
+use Rattle.std.proofs.Common.{List, subst, arith}
+use Rattle.rn_pattern.specs.Tree.{Text}
+use Rattle.rn_pattern.specs.Reached.{IsCanonicalOf}
+use Rattle.rn_modset.specs.Contributions.{Member}
+use Rattle.rn_assemble.specs.Components.{set_components}
+use Rattle.rn_assemble.specs.Refusal.{grammar_of}
+use Rattle.rn_assemble.proofs.ComponentExcepts.{set_excepts}
+use Rattle.rn_assemble.proofs.GoodComponents.{modules_faultless, set_grammar_writable}
+use Rattle.rn_assemble.proofs.NoRefusal.{no_excepts, assembled_well_formed}
+use Rattle.rn_simplify.specs.ReadAgain.{IsReadAgain}
+use Rattle.rn_simplify.specs.Verdict.{IsVerdict, prints}
+use Rattle.rn_simplify.proofs.Binding.{spelling_reads_back}
+use Rattle.rn_simplify.proofs.ReadAgain.{combination_read, read_canonical, read_only, read_well_formed, none_stands}
+use Rattle.rn_simplify.proofs.Spelled.{spellable}
+
+pub printed_read : (s : List Member) (text : Text) → IsVerdict s (prints text) → IsReadAgain s text
+printed_read s text (n, (g, (none, (modules, a, e)), c), short, shallow, is) =
+    let k : IsCanonicalOf (grammar_of modules) n = subst (λ f. IsCanonicalOf f n) e c in
+    let r = spelling_reads_back n (spellable (grammar_of modules) n k (set_grammar_writable s modules a) (omega (arith, short))) in
+    let w = assembled_well_formed s modules a none in
+    record {
+      modules = modules;
+      are_modules = a;
+      normal = n;
+      text_is = is;
+      read_back = r;
+      same_documents = λ C h. combination_read n r (set_components modules) C (set_excepts modules (no_excepts modules (modules_faultless s modules a))) h k;
+      same_normal = read_canonical n r (grammar_of modules) k;
+      no_other = read_only n r (grammar_of modules) k;
+      well_formed = read_well_formed n r (grammar_of modules) k w;
+      no_refusal = λ x q. none_stands (grammar_of modules) n k w r x q;
+    }
