@@ -10,7 +10,7 @@ use Rattle.rn_assemble.specs.Components.{Key, start_key, name_key, Component, sa
 use Rattle.rn_assemble.specs.Combine.{of_key, bodies, combined, join, joined, first_of, defined_names, joined_grammar}
 use Rattle.rn_assemble.specs.Texts.{IsName, IsWritable, AreWritable}
 use Rattle.rn_assemble.specs.WellFormed.{HasWritableTexts}
-use Rattle.rn_assemble.proofs.Combining.{some_joined, joined_definition}
+use Rattle.rn_assemble.proofs.Combinations.{some_joined, joined_definition}
 
 module _ (Q : Tree → Type 0) (of_choice : (ps : List Tree) → AllByRecursion Q ps → Q (choice (trees_of ps))) (of_interleave : (ps : List Tree) → AllByRecursion Q ps → Q (interleave (trees_of ps))) where
   node_kept : (b : Bool) (ps : List Tree) → AllByRecursion Q ps → Q (cond b (interleave (trees_of ps)) (choice (trees_of ps)))

@@ -19,7 +19,7 @@ use Rattle.rn_assemble.specs.Components.{Key, start_key, name_key, same_key, Com
 use Rattle.rn_assemble.specs.Combine.{of_key, bodies, combined, join, joined}
 use Rattle.rn_assemble.specs.Refusal.{Refusal, conflict, faulty, no_start, undefined, recursive, name_class, BreaksNameRules, StandsFor, Stands, AreModules, grammar_of}
 use Rattle.rn_assemble.specs.WellFormed.{IsWellFormed}
-use Rattle.rn_assemble.proofs.Combining.{some_joined, joined_definition}
+use Rattle.rn_assemble.proofs.Combinations.{some_joined, joined_definition}
 use Rattle.rn_assemble.proofs.ComponentExcepts.{set_excepts}
 use Rattle.rn_assemble.proofs.GoodComponents.{IsFaultless, modules_faultless}
 use Rattle.rn_assemble.proofs.JoinedKept.{joined_excepts, joined_definition_excepts}

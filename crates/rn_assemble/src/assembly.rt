@@ -1,15 +1,132 @@
 // From a set to its grammar.
-use std::alloc::Global;
-
-use rn_modset::ModuleSet;
-
+use crate::combining::combined;
+use crate::components::{Components, components_of};
+use crate::contents::contents_of;
 use crate::grammar::Grammar;
+use crate::inclusion::{has_too_many_instances, inclusions, least_looped, roots};
+use crate::keys::{Keys, START};
+use crate::modules::{Source, sources};
+use crate::references::{least_recursive, references_of};
 use crate::refusal::Refusal;
+use indexmap::IndexMap;
+use rn_modset::ModuleSet;
+use rn_pattern::Pattern;
+use std::alloc::{AllocError, Global};
 
-/// The grammar of the set, or the first refusal that stands.
-pub fn assemble(_alloc: Global, set: &ModuleSet) -> Result<Grammar, Refusal> {
-    if set.is_empty() {
+/// The grammar of the set: the components of all modules that no module includes, with includes replaced by what they
+/// include, joined for each name in their order (RELAX NG 2001, 4.7, 4.11, 4.17). Or the first refusal that stands, of those
+/// from `Conflict` to `NameClass` in the order of `Refusal`; `Memory` stands for want of memory alone.
+pub fn assemble(alloc: Global, set: &ModuleSet) -> Result<Grammar, Refusal> {
+    let sources = sources(alloc, set)?;
+    assembled(alloc, sources.as_slice())
+}
+
+/// The grammar of the modules.
+fn assembled<'s>(alloc: Global, sources: &[Source<'s>]) -> Result<Grammar, Refusal> {
+    let roots = included_roots(alloc, sources)?;
+    let keys = Keys::new(alloc, sources)?;
+    let contents = contents_of(alloc, sources, &keys)?;
+    let components = components_of(alloc, contents.as_slice(), roots.as_slice(), keys.len())?;
+    check_components(alloc, sources, &keys, &components)?;
+    check_references(alloc, &keys, &components)?;
+    grammar(alloc, &keys, &components)
+}
+
+/// The modules that no module includes, where no include refuses the set.
+fn included_roots(alloc: Global, sources: &[Source<'_>]) -> Result<Vec<usize>, Refusal> {
+    let rows = inclusions(alloc, sources)?;
+    if let Some(module) = least_looped(alloc, rows.as_slice())? {
+        return Err(Refusal::Cycle {
+            module: String::from_str(alloc, sources[module].name)?,
+        });
+    }
+    let roots = roots(alloc, rows.as_slice())?;
+    if has_too_many_instances(rows.as_slice(), roots.as_slice()) {
+        return Err(Refusal::Instances);
+    }
+    Ok(roots)
+}
+
+/// Refuses overrides of what isn't there, and components that can't be combined.
+fn check_components(
+    alloc: Global,
+    sources: &[Source<'_>],
+    keys: &Keys<'_>,
+    components: &Components<'_, '_, '_>,
+) -> Result<(), Refusal> {
+    if let Some(lack) = components.lack
+        && lack.module < sources.len()
+    {
+        return Err(Refusal::Override {
+            module: String::from_str(alloc, sources[lack.module].name)?,
+            key: keys.key(alloc, lack.key)?,
+        });
+    }
+    if let Some(key) = components.least_plain_twice(keys.len()) {
+        return Err(Refusal::PlainTwice {
+            key: keys.key(alloc, key)?,
+        });
+    }
+    if let Some(key) = components.least_mixed(keys.len()) {
+        return Err(Refusal::MixedMethods {
+            key: keys.key(alloc, key)?,
+        });
+    }
+    if components.of_key(START).is_empty() {
         return Err(Refusal::NoStart);
     }
-    Err(Refusal::Memory)
+    Ok(())
+}
+
+/// Refuses names that aren't defined, and reachable ones that come back to themselves outside elements.
+fn check_references<'s>(
+    alloc: Global,
+    keys: &Keys<'s>,
+    components: &Components<'_, '_, 's>,
+) -> Result<(), Refusal> {
+    let references = references_of(alloc, keys, components)?;
+    if let Some(key) = least_recursive(alloc, &references)? {
+        return Err(Refusal::Recursive {
+            name: String::from_str(alloc, keys.name(key))?,
+        });
+    }
+    Ok(())
+}
+
+/// The combined patterns, those of names in the order of each one's first component.
+fn grammar(
+    alloc: Global,
+    keys: &Keys<'_>,
+    components: &Components<'_, '_, '_>,
+) -> Result<Grammar, Refusal> {
+    let mut patterns = combined(alloc, keys, components)?;
+    let Some(start) = patterns[START].take() else {
+        return Err(Refusal::NoStart);
+    };
+    let mut defs = IndexMap::new(alloc);
+    for first in first_places(alloc, components, keys.len())? {
+        let (_, key) = first;
+        if key < patterns.len()
+            && let Some(pattern) = patterns[key].take()
+        {
+            defs.insert(String::from_str(alloc, keys.name(key))?, pattern)?;
+        }
+    }
+    Ok(Grammar { start, defs })
+}
+
+/// The place of the first component of each defined name, with the name's number, in the order of places.
+fn first_places(
+    alloc: Global,
+    components: &Components<'_, '_, '_>,
+    keys: usize,
+) -> Result<Vec<(usize, usize)>, AllocError> {
+    let mut firsts = Vec::new(alloc);
+    for key in START + 1..keys {
+        if let Some(place) = components.of_key(key).first() {
+            firsts.push((*place, key))?;
+        }
+    }
+    firsts.sort_unstable();
+    Ok(firsts)
 }

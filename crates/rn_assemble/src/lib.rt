@@ -2,11 +2,26 @@
 #![tactic(auto)]
 
 pub mod assembly;
+mod bindings;
+mod combining;
+mod components;
+mod contents;
 pub mod grammar;
+pub mod graph;
+mod inclusion;
+mod instances;
+mod keys;
+mod modules;
+mod name_classes;
+pub mod order;
+mod references;
 pub mod refusal;
+mod resolution;
 
 pub use assembly::assemble;
 pub use grammar::Grammar;
 pub use refusal::{Key, Refusal};
 
 pub mod laws;
+#[cfg(test)]
+mod tests;

@@ -1,6 +1,6 @@
 // Why a set has no schema.
-use std::alloc::AllocError;
-
+use rn_modset::SetFault;
+use std::alloc::{AllocError, AllocFailed};
 use thiserror::Error;
 
 /// What components are combined under: the start, or a definition's name.
@@ -68,5 +68,25 @@ impl From<AllocError> for Refusal {
 
     fn from(_: AllocError) -> Self {
         Refusal::Memory
+    }
+}
+
+impl<T: Drop> From<AllocFailed<T>> for Refusal {
+    ghost use Rattle.std.specs.Prelude.{◌≡◌};
+    ghost use Rattle.rn_assemble.specs.declared.refusal.Refusal.TheVariants.{Memory};
+
+    ghost from_gives = { λ _ r. r ≡ Memory };
+
+    fn from(_: AllocFailed<T>) -> Self {
+        Refusal::Memory
+    }
+}
+
+impl From<SetFault> for Refusal {
+    fn from(fault: SetFault) -> Self {
+        match fault {
+            SetFault::Conflict { module, revision } => Refusal::Conflict { module, revision },
+            SetFault::Memory => Refusal::Memory,
+        }
     }
 }

@@ -1,16 +1,19 @@
 //! Merging a set of modules into one flat schema, and the work of the program `rnc-merge`.
 #![tactic(auto)]
 
-pub mod texts;
 pub mod lines;
-pub mod verdict;
-pub mod words;
 pub mod run;
 pub mod streams;
+pub mod texts;
+pub mod verdict;
+pub mod words;
 
-pub use texts::{Place, check};
 pub use lines::{fault_line, list_line, refusal_line, status};
+pub use run::{RunFault, Status, read_bundles, run_print};
+pub use streams::{Failed, Input, Output, ReadFault, Sink, Source, read_input, write_output};
+pub use texts::{Place, check};
 pub use verdict::merge;
 pub use words::{Job, ProgramFault, plan};
-pub use run::{RunFault, Status, run_print};
-pub use streams::{Failed, Input, Output, ReadFault, Sink, Source, read_input, write_output};
+
+#[cfg(test)]
+mod tests;

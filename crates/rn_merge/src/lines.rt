@@ -1,27 +1,220 @@
-// The lines and statuses of the program.
+// The lines and statuses of the program. No line has a line end.
+ghost use Rattle.std.specs.Prelude.{◌≡◌, ◌++◌, ◌∷◌, [], ℕ, List, IfOk, OnOk, string_bytes};
+ghost use Rattle.rn_modset.specs.Contributions.{member};
+ghost use Rattle.rn_merge.specs.Lines.{identifier, key_text, refusal_name, refusal_fields, refusal_line, behind, list_line, add_line, bundle_line, place_line, fault_line, status};
+
+use crate::texts::Place;
+use crate::words::ProgramFault;
+use rn_assemble::{Key, Refusal};
+use rn_modset::{AddFault, BundleFault, Contribution};
+use rn_text::{is_keyword, write_literal};
+use sha2::{Digest, Sha256};
 use std::alloc::{AllocError, Global};
 
-use rn_assemble::Refusal;
-use rn_modset::Contribution;
-
-use crate::words::ProgramFault;
-
-/// The line of a refusal, without a line end.
-pub fn refusal_line(alloc: Global, _refusal: &Refusal) -> Result<String, AllocError> {
-    String::from_str(alloc, "Memory")
+/// The line of a refusal: its name and its fields, each after one space. A key is `start` or a definition's name, with
+/// a backslash if it is a keyword; the name that an include wants is a literal, and holds XML characters alone.
+pub fn refusal_line(alloc: Global, refusal: &Refusal) -> Result<String, AllocError>
+    ensures { IfOk result (λ line. string_bytes line ≡ refusal_line refusal.now) }
+{
+    let mut line = String::from_str(alloc, refusal_name(refusal))?;
+    push_fields(&mut line, refusal)?;
+    Ok(line)
 }
 
-/// The line of `list` for a contribution, without a line end.
-pub fn list_line(alloc: Global, contribution: &Contribution) -> Result<String, AllocError> {
-    String::from_str(alloc, contribution.name.as_str())
+/// The name of a refusal.
+fn refusal_name(refusal: &Refusal) -> &'static str
+    ensures { result.now ≡ refusal_name refusal.now }
+{
+    match refusal {
+        Refusal::Conflict { .. } => "Conflict",
+        Refusal::Encoding { .. } => "Encoding",
+        Refusal::Lexical { .. } => "Lexical",
+        Refusal::Deep { .. } => "Deep",
+        Refusal::Syntax { .. } => "Syntax",
+        Refusal::Prefix { .. } => "Prefix",
+        Refusal::Builtin { .. } => "Builtin",
+        Refusal::ContextValue { .. } => "ContextValue",
+        Refusal::Except { .. } => "Except",
+        Refusal::Missing { .. } => "Missing",
+        Refusal::Cycle { .. } => "Cycle",
+        Refusal::Instances => "Instances",
+        Refusal::Override { .. } => "Override",
+        Refusal::PlainTwice { .. } => "PlainTwice",
+        Refusal::MixedMethods { .. } => "MixedMethods",
+        Refusal::NoStart => "NoStart",
+        Refusal::Undefined { .. } => "Undefined",
+        Refusal::Recursive { .. } => "Recursive",
+        Refusal::NameClass { .. } => "NameClass",
+        Refusal::OutputTooLarge => "OutputTooLarge",
+        Refusal::OutputTooDeep => "OutputTooDeep",
+        Refusal::Memory => "Memory",
+    }
 }
 
-/// The line of a fault on standard error, without a line end.
-pub fn fault_line(alloc: Global, _fault: &ProgramFault) -> Result<String, AllocError> {
-    String::from_str(alloc, "Memory")
+/// Appends the fields of a refusal, each after one space.
+fn push_fields(line: &mut String, refusal: &Refusal) -> Result<(), AllocError>
+    ensures { OnOk result (string_bytes line.new ≡ string_bytes line.old ++ behind (refusal_fields refusal.now)) }
+{
+    match refusal {
+        Refusal::Conflict { module, revision } => {
+            push_word(line, module.as_str())?;
+            write!(line, " {revision}")
+        }
+        Refusal::Encoding { module }
+        | Refusal::Lexical { module }
+        | Refusal::Deep { module }
+        | Refusal::Syntax { module }
+        | Refusal::Prefix { module }
+        | Refusal::Builtin { module }
+        | Refusal::ContextValue { module }
+        | Refusal::Except { module }
+        | Refusal::Cycle { module } => push_word(line, module.as_str()),
+        Refusal::Missing { module, wanted } => {
+            push_word(line, module.as_str())?;
+            line.push_str(" ")?;
+            write_literal(line, wanted.as_str())
+        }
+        Refusal::Override { module, key } => {
+            push_word(line, module.as_str())?;
+            push_key(line, key)
+        }
+        Refusal::PlainTwice { key } | Refusal::MixedMethods { key } | Refusal::NameClass { key } =>
+            push_key(line, key),
+        Refusal::Undefined { name } | Refusal::Recursive { name } => push_identifier(
+            line,
+            name.as_str(),
+        ),
+        Refusal::Instances
+        | Refusal::NoStart
+        | Refusal::OutputTooLarge
+        | Refusal::OutputTooDeep
+        | Refusal::Memory => Ok(()),
+    }
 }
 
-/// The status with which the program ends after a fault.
-pub fn status(_fault: &ProgramFault) -> u8 {
-    3
+fn push_word(line: &mut String, word: &str) -> Result<(), AllocError>
+    ensures { OnOk result (string_bytes line.new ≡ string_bytes line.old ++ 32 ∷ word.now) }
+{
+    line.push_str(" ")?;
+    line.push_str(word)
+}
+
+fn push_key(line: &mut String, key: &Key) -> Result<(), AllocError>
+    ensures { OnOk result (string_bytes line.new ≡ string_bytes line.old ++ 32 ∷ key_text key.now) }
+{
+    match key {
+        Key::Start => push_word(line, "start"),
+        Key::Define(name) => push_identifier(line, name.as_str()),
+    }
+}
+
+/// A definition's name (RELAX NG Compact Syntax, appendix A, identifier).
+fn push_identifier(line: &mut String, name: &str) -> Result<(), AllocError>
+    ensures { OnOk result (string_bytes line.new ≡ string_bytes line.old ++ 32 ∷ identifier name.now) }
+{
+    if is_keyword(name) {
+        line.push_str(" \\")?;
+        line.push_str(name)
+    } else {
+        push_word(line, name)
+    }
+}
+
+/// The line of `list` for a contribution: name, revision, and the text's length in bytes with its digest, or that it is
+/// withdrawn.
+pub fn list_line(alloc: Global, contribution: &Contribution) -> Result<String, AllocError>
+    ensures { IfOk result (λ line. string_bytes line ≡ list_line (member contribution.now)) }
+{
+    let name = contribution.name.as_str();
+    let revision = contribution.revision;
+    match &contribution.text {
+        Some(text) => {
+            let len = text.len();
+            let digest = hex::encode(alloc, Sha256::digest(text.as_slice()).as_slice())?;
+            format!(in alloc; "{name} {revision} {len} {digest}")
+        }
+        None => format!(in alloc; "{name} {revision} withdrawn"),
+    }
+}
+
+/// The line of a fault on standard error. Want of memory inside any fault is the line `Memory`.
+pub fn fault_line(alloc: Global, fault: &ProgramFault) -> Result<String, AllocError>
+    ensures { IfOk result (λ line. string_bytes line ≡ fault_line fault.now) }
+{
+    match fault {
+        ProgramFault::Usage => String::from_str(alloc, "usage"),
+        ProgramFault::Rev => String::from_str(alloc, "usage: REV"),
+        ProgramFault::Dash => String::from_str(alloc, "usage: -"),
+        ProgramFault::Read(file) => format!(in alloc; "read {file}"),
+        ProgramFault::Large(file) => format!(in alloc; "large {file}"),
+        ProgramFault::Write => String::from_str(alloc, "write"),
+        ProgramFault::Memory => String::from_str(alloc, "Memory"),
+        ProgramFault::Bundle(file, fault) => bundle_line(alloc, *file, fault),
+        ProgramFault::Add(fault) => String::from_str(alloc, add_fault_name(fault)),
+        ProgramFault::Refused(refusal) => refusal_line(alloc, refusal),
+        ProgramFault::Check(place) => place_line(alloc, place),
+    }
+}
+
+fn bundle_line(alloc: Global, file: usize, fault: &BundleFault) -> Result<String, AllocError>
+    ensures { IfOk result (λ line. string_bytes line ≡ bundle_line file fault.now) }
+{
+    match fault {
+        BundleFault::Magic => format!(in alloc; "bundle {file} Magic"),
+        BundleFault::Header { entry } => format!(in alloc; "bundle {file} Header {entry}"),
+        BundleFault::Order { entry } => format!(in alloc; "bundle {file} Order {entry}"),
+        BundleFault::Digest { entry } => format!(in alloc; "bundle {file} Digest {entry}"),
+        BundleFault::Truncated => format!(in alloc; "bundle {file} Truncated"),
+        BundleFault::Trailing => format!(in alloc; "bundle {file} Trailing"),
+        BundleFault::Memory => String::from_str(alloc, "Memory"),
+    }
+}
+
+fn add_fault_name(fault: &AddFault) -> &'static str
+    ensures { result.now ≡ add_line fault.now }
+{
+    match fault {
+        AddFault::BadName => "BadName",
+        AddFault::TooLong => "TooLong",
+        AddFault::Full => "Full",
+        AddFault::Memory => "Memory",
+    }
+}
+
+fn place_line(alloc: Global, place: &Place) -> Result<String, AllocError>
+    ensures { IfOk result (λ line. string_bytes line ≡ place_line place.now) }
+{
+    match place {
+        Place::Encoding { at } => format!(in alloc; "Encoding {at}"),
+        Place::Lexical { at } => format!(in alloc; "Lexical {at}"),
+        Place::Deep { at } => format!(in alloc; "Deep {at}"),
+        Place::Syntax { at } => format!(in alloc; "Syntax {at}"),
+        Place::Prefix { at } => format!(in alloc; "Prefix {at}"),
+        Place::Builtin { at } => format!(in alloc; "Builtin {at}"),
+        Place::ContextValue { at } => format!(in alloc; "ContextValue {at}"),
+        Place::Except { at } => format!(in alloc; "Except {at}"),
+        Place::Memory => String::from_str(alloc, "Memory"),
+    }
+}
+
+/// The status with which the program ends after a fault: 1 where the input is refused, 2 for its words, 3 for files
+/// and want of memory.
+pub fn status(fault: &ProgramFault) -> u8
+    ensures { result ≡ status fault.now }
+{
+    match fault {
+        ProgramFault::Usage | ProgramFault::Rev | ProgramFault::Dash => 2,
+        ProgramFault::Read(_)
+        | ProgramFault::Large(_)
+        | ProgramFault::Write
+        | ProgramFault::Memory
+        | ProgramFault::Bundle(_, BundleFault::Memory)
+        | ProgramFault::Add(AddFault::Memory)
+        | ProgramFault::Refused(Refusal::Memory)
+        | ProgramFault::Check(Place::Memory) => 3,
+        ProgramFault::Bundle(_, _)
+        | ProgramFault::Add(_)
+        | ProgramFault::Refused(_)
+        | ProgramFault::Check(_) => 1,
+    }
 }

@@ -1,13 +1,15 @@
 // From bundles to the printed schema.
-use std::alloc::Global;
+ghost use Rattle.std.specs.Prelude.{◌≡◌, false, IfOk, IfErr, map};
+ghost use Rattle.rn_merge.specs.Runs.{IsUnion, HasNoUnion, IsRun, LeavesSink};
 
+use crate::streams::{Sink, write_output};
+use crate::verdict::merge;
 use rn_assemble::Refusal;
-use rn_modset::BundleFault;
+use rn_modset::{AddFault, BundleFault, ModuleSet, read_bundle};
+use std::alloc::Global;
 use thiserror::Error;
 
-use crate::streams::Sink;
-
-/// What came of a run.
+/// What came of a run: all of the text was written, or nothing was, for there is a refusal, which is never `Memory`.
 #[derive(Debug, Drop, PartialEq, Eq)]
 pub enum Status {
     Done,
@@ -27,10 +29,56 @@ pub enum RunFault {
     Write,
 }
 
-/// Writes the schema of the union of the bundles.
-pub fn run_print<W: Sink>(_alloc: Global, bundles: &[Vec<u8>], _out: &mut W) -> Result<Status, RunFault> {
-    if bundles.is_empty() {
-        return Ok(Status::Refused(Refusal::NoStart));
+impl From<AddFault> for RunFault {
+    ghost use Rattle.rn_merge.specs.Runs.{join_fault};
+
+    ghost from_gives = { λ fault r. r ≡ join_fault fault };
+
+    fn from(fault: AddFault) -> Self {
+        match fault {
+            AddFault::Memory => RunFault::Memory,
+            _ => RunFault::Full,
+        }
     }
-    Err(RunFault::Memory)
+}
+
+/// The union of the sets of which these are the bundles. `Bundle` where the first that is no bundle comes before the
+/// union has more than 1,024 contributions, else `Full` where it has.
+pub fn read_bundles(alloc: Global, bundles: &[Vec<u8>]) -> Result<ModuleSet, RunFault>
+    ensures ok { IfOk result (IsUnion (map (λ bundle. bundle.items) bundles.now)) }
+    ensures err { IfErr result (HasNoUnion (map (λ bundle. bundle.items) bundles.now)) }
+{
+    let mut union = ModuleSet::new(alloc);
+    for (index, bundle) in bundles.iter().enumerate() {
+        let set = match read_bundle(alloc, bundle.as_slice()) {
+            Ok(set) => set,
+            Err(BundleFault::Memory) => return Err(RunFault::Memory),
+            Err(fault) => return Err(RunFault::Bundle { index, fault }),
+        };
+        union.join(&set)?;
+    }
+    Ok(union)
+}
+
+/// Writes the schema of the union of the bundles to a sink that has not failed. Nothing is written where there is no
+/// schema; `Write` where the sink has failed, which then took a front of the text.
+pub fn run_print<W: Sink>(
+    alloc: Global,
+    bundles: &[Vec<u8>],
+    out: &mut W,
+) -> Result<Status, RunFault>
+    requires { W.has_failed out.old ≡ false }
+    ensures run { IsRun (map (λ bundle. bundle.items) bundles.now) (W.contents out.old) (W.contents out.new) (W.has_failed out.new) result }
+    ensures kept { LeavesSink result (out.new ≡ out.old) }
+{
+    let union = read_bundles(alloc, bundles)?;
+    let text = match merge(alloc, &union) {
+        Ok(text) => text,
+        Err(Refusal::Memory) => return Err(RunFault::Memory),
+        Err(refusal) => return Ok(Status::Refused(refusal)),
+    };
+    match write_output(out, text.as_bytes()) {
+        Ok(()) => Ok(Status::Done),
+        Err(_) => Err(RunFault::Write),
+    }
 }

@@ -1,6 +1,10 @@
 // The fault of one module text.
-use std::alloc::Global;
+ghost use Rattle.std.specs.Prelude.{OnOk, IfErr};
+ghost use Rattle.rn_merge.specs.Texts.{IsTokenized, HasPlace};
 
+use rn_syntax::{SyntaxFault, parse};
+use rn_text::{TextFault, tokens};
+use std::alloc::Global;
 use thiserror::Error;
 
 /// What is wrong with a module text, and the place in bytes.
@@ -26,10 +30,47 @@ pub enum Place {
     Memory,
 }
 
-/// The first fault of a module text of any length.
-pub fn check(_alloc: Global, text: &[u8]) -> Result<(), Place> {
-    if text.is_empty() {
-        return Ok(());
+impl From<TextFault> for Place {
+    ghost use Rattle.std.specs.Prelude.{◌≡◌};
+    ghost use Rattle.rn_merge.specs.Texts.{text_place};
+
+    ghost from_gives = { λ fault place. place ≡ text_place fault };
+
+    fn from(fault: TextFault) -> Self {
+        match fault {
+            TextFault::Encoding { at } => Place::Encoding { at },
+            TextFault::Lexical { at } => Place::Lexical { at },
+            TextFault::Memory => Place::Memory,
+        }
     }
-    Err(Place::Memory)
+}
+
+impl From<SyntaxFault> for Place {
+    ghost use Rattle.std.specs.Prelude.{◌≡◌};
+    ghost use Rattle.rn_merge.specs.Texts.{syntax_place};
+
+    ghost from_gives = { λ fault place. place ≡ syntax_place fault };
+
+    fn from(fault: SyntaxFault) -> Self {
+        match fault {
+            SyntaxFault::Deep { at } => Place::Deep { at },
+            SyntaxFault::Syntax { at } => Place::Syntax { at },
+            SyntaxFault::Prefix { at } => Place::Prefix { at },
+            SyntaxFault::Builtin { at } => Place::Builtin { at },
+            SyntaxFault::ContextValue { at } => Place::ContextValue { at },
+            SyntaxFault::Except { at } => Place::Except { at },
+            SyntaxFault::Memory => Place::Memory,
+        }
+    }
+}
+
+/// The first fault of a module text of any length (RELAX NG Compact Syntax, 2 and 3): of its bytes, its tokens, and then
+/// its grammar.
+pub fn check(alloc: Global, text: &[u8]) -> Result<(), Place>
+    ensures ok { OnOk result (IsTokenized text.now) }
+    ensures err { IfErr result (HasPlace text.now) }
+{
+    let tokens = tokens(alloc, text)?;
+    parse(alloc, tokens.as_slice())?;
+    Ok(())
 }

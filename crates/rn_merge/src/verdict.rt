@@ -1,9 +1,8 @@
 // From a set to its text.
-use std::alloc::Global;
-
 use rn_assemble::{Refusal, assemble};
 use rn_modset::ModuleSet;
 use rn_simplify::{normalise, print};
+use std::alloc::Global;
 
 /// The flat schema of the set in its canonical text, or the first refusal that stands.
 pub fn merge(alloc: Global, set: &ModuleSet) -> Result<String, Refusal> {

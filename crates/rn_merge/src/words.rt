@@ -1,21 +1,49 @@
 // What the words of a call ask for.
-use std::alloc::Global;
+ghost use Rattle.std.specs.Prelude.{◌≡◌, ℕ, List, IfOk, map, string_bytes};
+ghost use Rattle.rn_merge.specs.Words.{AreFiles, NamesFiles};
 
+use crate::run::RunFault;
+use crate::texts::Place;
+use clap::error::ErrorKind;
+use clap::{Arg, ArgAction, ArgMatches, Command};
 use rn_assemble::Refusal;
 use rn_modset::{AddFault, BundleFault};
+use std::alloc::{AllocError, Global};
 use thiserror::Error;
 
-use crate::texts::Place;
+/// The word for standard input.
+const STANDARD_INPUT: &str = "-";
 
 /// What the program is to do. A file is a path, or `-` for standard input.
 #[derive(Debug, Drop, PartialEq, Eq)]
 pub enum Job {
-    Pack { name: String, revision: u64, file: String },
-    Withdraw { name: String, revision: u64 },
-    Join { files: Vec<String> },
-    List { files: Vec<String> },
-    Print { files: Vec<String> },
-    Check { file: String },
+    /// Write the bundle of one module text.
+    Pack {
+        name: String,
+        revision: u64,
+        file: String,
+    },
+    /// Write the bundle of one withdrawal.
+    Withdraw {
+        name: String,
+        revision: u64,
+    },
+    /// Write the bundle of the union of bundles.
+    Join {
+        files: Vec<String>,
+    },
+    /// Write a line for each contribution of the union of bundles.
+    List {
+        files: Vec<String>,
+    },
+    /// Write the schema of the union of bundles.
+    Print {
+        files: Vec<String>,
+    },
+    /// Test one module text.
+    Check {
+        file: String,
+    },
 }
 
 /// Why the program did not do its work. Files count from 0.
@@ -45,10 +73,164 @@ pub enum ProgramFault {
     Check(Place),
 }
 
-/// What the words ask for. No file is read.
-pub fn plan(_alloc: Global, words: &[String]) -> Result<Job, ProgramFault> {
+impl From<AllocError> for ProgramFault {
+    fn from(_: AllocError) -> Self {
+        ProgramFault::Memory
+    }
+}
+
+impl From<clap::Error> for ProgramFault {
+    fn from(error: clap::Error) -> Self {
+        match error.kind() {
+            ErrorKind::OutOfMemory => ProgramFault::Memory,
+            _ => ProgramFault::Usage,
+        }
+    }
+}
+
+impl From<RunFault> for ProgramFault {
+    fn from(fault: RunFault) -> Self {
+        match fault {
+            RunFault::Bundle { index, fault } => ProgramFault::Bundle(index, fault),
+            RunFault::Full => ProgramFault::Add(AddFault::Full),
+            RunFault::Memory => ProgramFault::Memory,
+            RunFault::Write => ProgramFault::Write,
+        }
+    }
+}
+
+/// What the words behind the program's name ask for; no words ask for the schema of standard input. No file is read.
+/// `Usage` where the words have the form of no command, then `Rev` where a revision is not a decimal number of 64 bits
+/// without sign and leading zeros, then `Dash` where standard input is named twice.
+pub fn plan(alloc: Global, words: &[String]) -> Result<Job, ProgramFault>
+    ensures { IfOk result NamesFiles }
+{
     if words.is_empty() {
+        let files = copies(alloc, [STANDARD_INPUT].as_slice())?;
+        return Ok(Job::Print { files });
+    }
+    let matches = program(alloc)?.try_get_matches_from(words)?;
+    match matches.subcommand() {
+        Some((command, words)) => command_job(alloc, command, words),
+        None => Err(ProgramFault::Usage),
+    }
+}
+
+/// The commands and their words.
+fn program<'a>(alloc: Global) -> Result<Command<'a>, AllocError> {
+    Command::new(alloc, "rnc-merge")
+        .no_binary_name(true)
+        .subcommand_required(true)
+        .subcommand(with_words(alloc, "pack", ["NAME", "REV", "FILE"].as_slice())?)?
+        .subcommand(with_words(alloc, "withdraw", ["NAME", "REV"].as_slice())?)?
+        .subcommand(with_files(alloc, "join")?)?
+        .subcommand(with_files(alloc, "list")?)?
+        .subcommand(with_files(alloc, "print")?)?
+        .subcommand(with_words(alloc, "check", ["FILE"].as_slice())?)
+}
+
+/// A command of these words.
+fn with_words<'a>(
+    alloc: Global,
+    name: &'a str,
+    places: &[&'a str],
+) -> Result<Command<'a>, AllocError> {
+    let mut command = Command::new(alloc, name);
+    for place in places {
+        let word = Arg::new(alloc, *place)
+            .required(true)
+            .action(ArgAction::Set);
+        command = command.arg(word)?;
+    }
+    Ok(command)
+}
+
+/// A command of one file or more.
+fn with_files<'a>(alloc: Global, name: &'a str) -> Result<Command<'a>, AllocError> {
+    let files = Arg::new(alloc, "FILE")
+        .required(true)
+        .num_args(1..)
+        .action(ArgAction::Append);
+    Command::new(alloc, name).arg(files)
+}
+
+/// What a command asks for with its words.
+fn command_job(alloc: Global, command: &str, words: &ArgMatches<'_>) -> Result<Job, ProgramFault>
+    ensures { IfOk result NamesFiles }
+{
+    match command {
+        "pack" => Ok(Job::Pack {
+            name: word(alloc, words, "NAME")?,
+            revision: revision(words)?,
+            file: word(alloc, words, "FILE")?,
+        }),
+        "withdraw" => Ok(Job::Withdraw {
+            name: word(alloc, words, "NAME")?,
+            revision: revision(words)?,
+        }),
+        "join" => Ok(Job::Join {
+            files: files(alloc, words)?,
+        }),
+        "list" => Ok(Job::List {
+            files: files(alloc, words)?,
+        }),
+        "print" => Ok(Job::Print {
+            files: files(alloc, words)?,
+        }),
+        "check" => Ok(Job::Check {
+            file: word(alloc, words, "FILE")?,
+        }),
+        _ => Err(ProgramFault::Usage),
+    }
+}
+
+/// The word at a place.
+fn word(alloc: Global, words: &ArgMatches<'_>, place: &str) -> Result<String, ProgramFault> {
+    match words.get_str(place) {
+        Some(word) => Ok(String::from_str(alloc, word)?),
+        None => Err(ProgramFault::Usage),
+    }
+}
+
+/// The word `REV` as a number.
+fn revision(words: &ArgMatches<'_>) -> Result<u64, ProgramFault> {
+    match words.get_str("REV") {
+        Some(word) => decimal(word).ok_or(ProgramFault::Rev),
+        None => Err(ProgramFault::Usage),
+    }
+}
+
+/// The number of which the text is the decimal form.
+fn decimal(text: &str) -> Option<u64> {
+    match text.as_bytes() {
+        b"0" => Some(0),
+        [b'1'..=b'9', ..] => text.parse().ok(),
+        _ => None,
+    }
+}
+
+/// The words `FILE`, of which one at most is standard input.
+fn files(alloc: Global, words: &ArgMatches<'_>) -> Result<Vec<String>, ProgramFault>
+    ensures { IfOk result (λ files. AreFiles (map string_bytes files.items)) }
+{
+    let Some(files) = words.get_strs("FILE") else {
+        return Err(ProgramFault::Usage);
+    };
+    if files.is_empty() {
         return Err(ProgramFault::Usage);
     }
-    Err(ProgramFault::Memory)
+    if files.iter().filter(|file| **file == STANDARD_INPUT).count() > 1 {
+        return Err(ProgramFault::Dash);
+    }
+    Ok(copies(alloc, files)?)
+}
+
+fn copies(alloc: Global, words: &[&str]) -> Result<Vec<String>, AllocError>
+    ensures { IfOk result (λ copies. map string_bytes copies.items ≡ map (λ word. word.now) words.now) }
+{
+    let mut copies = Vec::new(alloc);
+    for word in words {
+        copies.push(String::from_str(alloc, word)?)?;
+    }
+    Ok(copies)
 }

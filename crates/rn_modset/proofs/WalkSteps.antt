@@ -8,23 +8,10 @@ use Rattle.rn_modset.specs.Contributions.{Member, member, members_of, member_cmp
 use Rattle.rn_modset.specs.Sets.{Rises}
 use Rattle.rn_modset.specs.Modules.{Module, AreEffective, IsFirstConflict}
 use Rattle.rn_modset.specs.Places.{IsFollowed, IsContradicted}
+use Rattle.rn_modset.proofs.Fronts.{IsHeldAt, front_more, back_more, split_at}
 use Rattle.rn_modset.proofs.Placed.{rise_at}
 use Rattle.rn_modset.proofs.Membership.{In, in_append, in_left, in_right, below_in}
 use Rattle.rn_modset.proofs.Walks.{IsWalk, IsNext, IsLast, IsTop, last_by, top_at, between, walk_on, walk_text, walk_withdrawal, walk_conflict, walk_end}
-
--- what is held at a place
-pub record IsHeldAt (cs : List Contribution) (at : ℕ) (c : Contribution) : Type 0 where
-  pub within : at < length cs
-  pub is : c ≡ get_or cs at c
-
-front_more : (cs : List Contribution) (at : ℕ) (c : Contribution) → IsHeldAt cs at c → members_of (take (at + 1) cs) ≡ members_of (take at cs) ++ member c ∷ []
-front_more cs at c h = ap members_of (take_more cs at c h.within ∙ ap (λ x. take at cs ++ x ∷ []) (sym h.is)) ∙ map_push member (take at cs) c
-
-back_more : (cs : List Contribution) (at : ℕ) (c : Contribution) → IsHeldAt cs at c → members_of (drop at cs) ≡ member c ∷ members_of (drop (at + 1) cs)
-back_more cs at c h = ap members_of (drop_more cs at c h.within ∙ ap (λ x. x ∷ drop (at + 1) cs) (sym h.is))
-
-split_at : (cs : List Contribution) (at : ℕ) (c : Contribution) → IsHeldAt cs at c → members_of cs ≡ members_of (take at cs) ++ member c ∷ members_of (drop (at + 1) cs)
-split_at cs at c h = ap members_of (sym (take-append-drop at cs)) ∙ map-append member (take at cs) (drop at cs) ∙ ap (λ ys. members_of (take at cs) ++ ys) (back_more cs at c h)
 
 walk_at : (s : List Member) (cs : List Contribution) (at : ℕ) (c : Contribution) (modules : List Module) → IsHeldAt cs at c → IsWalk s (members_of (take at cs)) (members_of (drop at cs)) modules
     → IsWalk s (members_of (take at cs)) (member c ∷ members_of (drop (at + 1) cs)) modules

@@ -21,3 +21,14 @@ pub mod Settled
 pub mod Ranked
 pub mod Constructors
 pub mod Examples
+pub mod NodeTrees
+pub mod SortedBy
+pub mod Gathering
+pub mod Single
+pub mod Copied
+pub mod Hashing
+pub mod Equal
+pub mod Interning
+pub mod Stepwise
+pub mod Seen
+pub mod ShownTrees

@@ -1,94 +1,55 @@
 // The store Interned.
-use std::alloc::{AllocError, Global};
+ghost use Rattle.std.specs.Prelude.{◌≡◌, [], length};
+ghost use Rattle.rn_pattern.specs.Nodes.{NameEarlier, NameEarlier-prop, trees_of_nodes};
 
 use crate::node::{Node, NodeId};
-use crate::patterns::Patterns;
-use crate::tree::NameClass;
+use crate::node_table::NodeTable;
+use crate::store::NodeStore;
+use indexmap::IndexSet;
+use std::alloc::{AllocError, Global};
 
-/// A store of patterns.
+/// A store in which equal patterns have equal ids: a constructor looks for an equal node by its hash.
 #[derive(Drop)]
 pub struct Interned {
-    nodes: Vec<Node<NodeId>>,
-    nothing: Node<NodeId>,
+    alloc: Global,
+    nodes: IndexSet<Node<NodeId>>,
+    ghost earlier: { NameEarlier 0 nodes.keys } by { NameEarlier-prop 0 nodes.keys },
 }
 
 impl Interned {
     /// A store without ids. It takes no memory.
-    pub fn new(alloc: Global) -> Interned {
+    pub fn new(alloc: Global) -> Interned
+        ensures { trees_of_nodes result.nodes.keys ≡ [] }
+    {
         Interned {
-            nodes: Vec::new(alloc),
-            nothing: Node::NotAllowed,
+            alloc,
+            nodes: IndexSet::new(alloc),
         }
     }
 
     /// How many ids the store has.
-    pub fn nodes(&self) -> usize {
+    pub fn nodes(&self) -> usize
+        ensures { result ≡ length (trees_of_nodes self.now.nodes.keys) }
+    {
         self.nodes.len()
     }
 }
 
-impl Patterns for Interned {
-    type Id = NodeId;
+impl NodeStore for Interned {
+    ghost trees = { λ s. trees_of_nodes s.nodes.keys };
 
-    fn node(&self, _id: NodeId) -> &Node<NodeId> {
-        &self.nothing
+    fn allocator(&self) -> Global {
+        self.alloc
     }
 
-    fn not_allowed(&mut self) -> Result<NodeId, AllocError> {
-        Err(AllocError)
+    fn table(&self) -> NodeTable<'_> {
+        NodeTable {
+            nodes: self.nodes.as_slice(),
+        }
     }
 
-    fn empty(&mut self) -> Result<NodeId, AllocError> {
-        Err(AllocError)
-    }
-
-    fn text(&mut self) -> Result<NodeId, AllocError> {
-        Err(AllocError)
-    }
-
-    fn reference(&mut self, _name: &str) -> Result<NodeId, AllocError> {
-        Err(AllocError)
-    }
-
-    fn value(&mut self, _library: &str, _type_name: &str, _text: &str) -> Result<NodeId, AllocError> {
-        Err(AllocError)
-    }
-
-    fn datum(
-        &mut self,
-        _library: &str,
-        _type_name: &str,
-        _params: &[(String, String)],
-        _except: Option<NodeId>,
-    ) -> Result<NodeId, AllocError> {
-        Err(AllocError)
-    }
-
-    fn list(&mut self, _content: NodeId) -> Result<NodeId, AllocError> {
-        Err(AllocError)
-    }
-
-    fn attribute(&mut self, _nc: &NameClass, _content: NodeId) -> Result<NodeId, AllocError> {
-        Err(AllocError)
-    }
-
-    fn element(&mut self, _nc: &NameClass, _content: NodeId) -> Result<NodeId, AllocError> {
-        Err(AllocError)
-    }
-
-    fn choice(&mut self, _members: &[NodeId]) -> Result<NodeId, AllocError> {
-        Err(AllocError)
-    }
-
-    fn group(&mut self, _members: &[NodeId]) -> Result<NodeId, AllocError> {
-        Err(AllocError)
-    }
-
-    fn ileave(&mut self, _members: &[NodeId]) -> Result<NodeId, AllocError> {
-        Err(AllocError)
-    }
-
-    fn one_or_more(&mut self, _content: NodeId) -> Result<NodeId, AllocError> {
-        Err(AllocError)
+    fn add(&mut self, node: Node<NodeId>) -> Result<NodeId, AllocError> {
+        let (place, _) = self.nodes.insert_full(node)?;
+        Ok(NodeId(place))
     }
 }

@@ -1,10 +1,26 @@
-//! Patterns and name classes with their names resolved, their order, and stores of canonical patterns.
+//! Patterns and name classes with their names resolved, their order, and stores of canonical patterns (RELAX NG 2001,
+//! section 3, after the simplification of section 4).
+//!
+//! A [`Patterns`] store names each pattern by an id. Its constructors bring a pattern into canonical form on the way in:
+//! `notAllowed` and `empty` are propagated (4.20, 4.21), nested lists are joined, and the members of a choice or an
+//! interleave are put in one order. [`Plain`] keeps each pattern that it is asked for; in [`Interned`] equal patterns
+//! have equal ids.
 #![tactic(auto)]
 
+mod canonical;
+mod connector;
 pub mod interned;
+mod key;
+mod name_class;
 pub mod node;
+mod node_table;
+mod order;
+mod parts;
 pub mod patterns;
 pub mod plain;
+mod store;
+#[cfg(test)]
+mod tests;
 pub mod tree;
 
 pub use interned::Interned;

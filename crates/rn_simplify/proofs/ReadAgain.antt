@@ -21,7 +21,7 @@ use Rattle.rn_assemble.specs.Components.{Key, start_key, name_key, same_key, Com
 use Rattle.rn_assemble.specs.Combine.{of_key, bodies, combined, IsPlainTwice, IsMixed, IsCombination, join, joined, joined_grammar, read, components_of, AreDistinct}
 use Rattle.rn_assemble.specs.WellFormed.{IsWellFormed}
 use Rattle.rn_assemble.specs.Refusal.{Refusal, conflict, faulty, missing, cycle, too_many_instances, override, plain_twice, mixed_methods, no_start, undefined, recursive, name_class, item_lacks, items_lack, Lacks, StandsFor, grammar_of}
-use Rattle.rn_assemble.proofs.Combining.{combined_valid, some_joined, joined_definition}
+use Rattle.rn_assemble.proofs.Combinations.{combined_valid, some_joined, joined_definition}
 use Rattle.rn_assemble.proofs.Joined.{plain_once, not_mixed, sorted_distinct, mapped_distinct}
 use Rattle.rn_assemble.proofs.JoinedKept.{joined_excepts, joined_definition_excepts}
 use Rattle.rn_assemble.proofs.OneModule.{nil_parts, one_module}

@@ -1,11 +1,26 @@
 //! The canonical grammar of a grammar, and its text.
+//!
+//! [`normalise`] settles the references that are worth notAllowed or empty, brings each pattern into its canonical form, and keeps the definitions that are reached from the start.
+//! [`print`] gives the one text of a canonical grammar in the compact syntax.
 #![tactic(auto)]
 
+mod canonical;
+mod name_class;
+mod declarations;
 pub mod laws;
 pub mod normal;
-pub mod settle;
-pub mod spelling;
+pub mod normalising;
+mod pattern;
+pub mod printing;
+mod reachable;
+mod rebuilt;
+mod references;
+mod settling;
+mod shapes;
+#[cfg(test)]
+mod tests;
+mod writer;
 
 pub use normal::Normal;
-pub use settle::{normalise, normalise_in};
-pub use spelling::print;
+pub use normalising::{normalise, normalise_in};
+pub use printing::print;

@@ -1,7 +1,7 @@
 // The canonical grammar.
 use rn_pattern::Pattern;
 
-/// A grammar in its canonical form: start, and the definitions that are reached from it.
+/// A grammar in its canonical form: the start, and the definitions that are reached from it.
 #[derive(Drop)]
 pub struct Normal {
     pub(crate) start: Pattern,

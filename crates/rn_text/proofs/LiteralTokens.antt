@@ -2,14 +2,14 @@
 use Rattle.std.proofs.Common.{◌≡◌, ℕ, Bool, true, false, cond, List, [], ◌∷◌, ◌++◌, refl, sym, ap, ◌∙◌, subst, append-nil, lit<}
 use Rattle.std.specs.Prelude.{◌==◌, codes, encode_utf8}
 use Rattle.std.specs.List.{list_all, flat_map, AllByRecursion}
-use Rattle.std.specs.Str.{chars, encode_utf8_all}
+use Rattle.std.specs.Str.{chars, encode_utf8_all, IsUtf8}
 use Rattle.std.proofs.lemmas.Bool.{cond-false}
 use Rattle.std.proofs.lemmas.Str.{chars-encodes, encode_ascii}
 use Rattle.rn_text.specs.declared.parts.Part.TheVariants.{Space, Token}
 use Rattle.rn_text.specs.declared.parts.Kind.TheVariants.{Segment, Symbol}
 use Rattle.rn_text.specs.Characters.{is_xml_char}
 use Rattle.rn_text.specs.Segments.{begins_with, segment_text}
-use Rattle.rn_text.specs.Literals.{is_quote, quoted, joined, segments, literal_of}
+use Rattle.rn_text.specs.Literals.{literal_bytes, is_quote, quoted, joined, segments, literal_of}
 use Rattle.rn_text.specs.Parts.{Piece, IsCut, symbols}
 use Rattle.rn_text.specs.Tokens.{Lexeme, HasTokens, SegmentsHaveText, lexemes, unmarked, unmarked_start}
 use Rattle.rn_text.proofs.FirstParts.{white_first}
@@ -90,4 +90,13 @@ literal_reads_back cs xml =
       lexemes start (literal_pieces ss),
       record { xml = literal_xml ss all; pieces = literal_pieces ss; cut = subst (λ t. IsCut t (literal_pieces ss) []) (sym (literal_unmarked ss)) (literal_cut ss together); are = refl },
       subst (SegmentsHaveText (lexemes start (literal_pieces ss))) (segments_join cs) (literal_texts ss start together all),
+    )
+
+-- the same of the bytes that are written
+pub literal_bytes_read_back : (text : List ℕ) → list_all is_xml_char (chars text) ≡ true → IsUtf8 (literal_bytes text) × ((ts : List Lexeme) × HasTokens (chars (literal_bytes text)) ts × SegmentsHaveText ts (chars text))
+literal_bytes_read_back text xml =
+    let back = literal_reads_back (chars text) xml in
+    let scalars = xml_scalars (literal_of (chars text)) back.1.xml in (
+      (literal_of (chars text), (scalars, refl)),
+      (back.0, subst (λ cs. HasTokens cs back.0) (sym (chars-encodes (literal_of (chars text)) scalars)) back.1, back.2),
     )

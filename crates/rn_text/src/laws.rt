@@ -1,19 +1,21 @@
 // Laws of tokens and literals. The functions have no bodies: their contracts are what is proved.
 ghost use Rattle.std.specs.Prelude.{◌≡◌, ◌++◌, ℕ, List, true};
 ghost use Rattle.std.specs.List.{AllByRecursion, list_all};
-ghost use Rattle.std.specs.Str.{chars, IsUtf8};
+ghost use Rattle.std.specs.Str.{chars, IsUtf8, IsValidUpTo};
 ghost use Rattle.rn_text.specs.Characters.{is_xml_char};
-ghost use Rattle.rn_text.specs.Literals.{literal_of};
+ghost use Rattle.rn_text.specs.Literals.{literal_bytes, literal_of};
 ghost use Rattle.rn_text.specs.Parts.{IsFirstPart, IsSpelled, ends_token, spells};
 ghost use Rattle.rn_text.specs.Tokens.{HasTokens, IsLexicalPlace, Lexeme, SegmentsHaveText, StandInOrder};
 
 use crate::parts::{Kind, Part};
 
-/// A text has one token list, or is faulty at one place.
+/// A source is not UTF-8 from one place on, or its text has one token list, or the text is faulty at
+/// one place.
 pub fn one_token_list()
     ensures one { (cs : List ℕ) (first second : List Lexeme) → HasTokens cs first → HasTokens cs second → first ≡ second }
     ensures or_place { (cs : List ℕ) (tokens : List Lexeme) (place : ℕ) → HasTokens cs tokens → ¬ (IsLexicalPlace cs place) }
     ensures one_place { (cs : List ℕ) (first second : ℕ) → IsLexicalPlace cs first → IsLexicalPlace cs second → first ≡ second }
+    ensures one_front { (src : List ℕ) (first second : ℕ) → IsValidUpTo src first → IsValidUpTo src second → first ≡ second }
 {}
 
 /// The tokens stand in the source in order, and the text of each is the source between its places.
@@ -34,5 +36,7 @@ pub fn tokens_end_at_breaks()
 
 /// The literal of a text reads back to the text.
 pub fn literals_read_back()
-    ensures { (cs : List ℕ) → list_all is_xml_char cs ≡ true → (tokens : List Lexeme) × HasTokens (literal_of cs) tokens × SegmentsHaveText tokens cs }
+    ensures characters { (cs : List ℕ) → list_all is_xml_char cs ≡ true → (tokens : List Lexeme) × HasTokens (literal_of cs) tokens × SegmentsHaveText tokens cs }
+    ensures bytes { (text : List ℕ) → list_all is_xml_char (chars text) ≡ true
+        → IsUtf8 (literal_bytes text) × ((tokens : List Lexeme) × HasTokens (chars (literal_bytes text)) tokens × SegmentsHaveText tokens (chars text)) }
 {}

@@ -64,7 +64,8 @@ fn split_text(rest: &str) -> Option<(char, &str)>
 }
 
 /// The text of a segment: what stands between its delimiters, with each escape as its character and
-/// each line end as one line feed. Of a token that is no segment the text means nothing.
+/// each line end as one line feed (RELAX NG Compact Syntax, 2.1 and 2.2). What is answered of a token
+/// that is no segment means nothing. Refused where memory is.
 pub fn literal(alloc: Global, segment: &Token<'_>) -> Result<String, AllocError>
     ensures { IfOk result (λ out. is_segment (chars segment.now.text.now) ≡ true → string_bytes out ≡ encode_utf8_all (segment_text (chars segment.now.text.now))) }
 {
@@ -138,7 +139,10 @@ fn append_literal(out: &mut String, text: &str) -> Result<(), AllocError>
     out.push(delimiter_for(last))
 }
 
-/// Appends the literal of the text. A refusal leaves `out` as it was.
+/// Appends the literal of the text: segments joined by `~`, double quotes between single ones and all
+/// else between double ones, where a tab, a line feed and a carriage return are escapes, and no segment
+/// has a backslash before an `x` of the text. It is read back where XML has all characters of the text.
+/// Refused where memory is; `out` is then what it was.
 pub fn write_literal(out: &mut String, text: &str) -> Result<(), AllocError>
     ensures ok { OnOk result (string_bytes out.new ≡ string_bytes out.old ++ literal_bytes text.now) }
     ensures err { OnErr result (string_bytes out.new ≡ string_bytes out.old) }

@@ -10,7 +10,7 @@ use crate::parts::{Kind, Part, split_part};
 use std::alloc::Global;
 use thiserror::Error;
 
-/// A token of a source, and where it begins and ends in bytes.
+/// A token of a source: its text, lent by the source, and the bytes where it begins and ends there.
 #[derive(Clone, Copy, Debug, PartialEq, Eq)]
 pub struct Token<'a> {
     pub kind: Kind,
@@ -19,13 +19,17 @@ pub struct Token<'a> {
     pub end: usize,
 }
 
-/// What is wrong with a source, and the place in bytes.
+/// What is wrong with a source, and the place of it, as a count of bytes from the source's start.
 #[derive(Debug, Drop, PartialEq, Eq, Error)]
 pub enum TextFault {
+    /// The longest front that is UTF-8 ends here.
     #[error("not UTF-8 at {at}")]
     Encoding { at: usize },
+    /// Here stands the first character that XML does not have, or, where there is none, something
+    /// that is neither a token nor white space nor a comment.
     #[error("no token at {at}")]
     Lexical { at: usize },
+    /// Memory was refused.
     #[error("out of memory")]
     Memory,
 }
@@ -47,7 +51,10 @@ fn without_mark(text: &str) -> &str
     }
 }
 
-/// The tokens of a source, in order.
+/// The tokens of a source, in order (RELAX NG Compact Syntax, 2 and appendix A). Each is as long as it
+/// can be; white space and comments stand between them, and a byte order mark may stand before all.
+/// The source is refused where it is not UTF-8, then at its first character that XML does not have,
+/// then at the first place where no token can be read, and wherever memory is.
 pub fn tokens<'a>(alloc: Global, src: &'a [u8]) -> Result<Vec<Token<'a>>, TextFault>
     ensures { MatchResult result (λ found. IsUtf8 src.now × HasTokens (chars src.now) (map lexeme_of found.items)) (HasFault src.now) }
 {
@@ -65,11 +72,10 @@ pub fn tokens<'a>(alloc: Global, src: &'a [u8]) -> Result<Vec<Token<'a>>, TextFa
     }
     let mut found = Vec::new(alloc);
     let mut rest = without_mark(text);
-    'parts: while !rest.is_empty() {
+    while !rest.is_empty() {
         let start = text.len() - rest.len();
-        let (part, after) = match split_part(rest) {
-            Some(split) => split,
-            None => return Err(TextFault::Lexical { at: start }),
+        let Some((part, after)) = split_part(rest) else {
+            return Err(TextFault::Lexical { at: start });
         };
         let end = text.len() - after.len();
         if let Part::Token(kind) = part {

@@ -1,110 +1,245 @@
-// The rows of the tables.
-use crate::{Kind, TextFault, is_keyword, is_ncname, literal, tokens, write_literal};
+// Tokens and literals by example, characters at the ends of their ranges, and long sources.
+use crate::{Kind, TextFault, Token, is_keyword, is_ncname, literal, tokens, write_literal};
 use std::alloc::Global;
 use std::test::Fail;
 
-// The kinds and spans of a text's tokens, one a line, or its fault.
+// The kinds, texts and places of a source's tokens, or its fault.
 fn shown(alloc: Global, src: &[u8]) -> Result<String, Fail> {
+    let found = match tokens(alloc, src) {
+        Ok(found) => found,
+        Err(fault) => return Ok(format!(in alloc; "{fault:?}")?),
+    };
     let mut out = String::new(alloc);
-    match tokens(alloc, src) {
-        Ok(found) => {
-            for token in found.as_slice() {
-                let kind = token.kind;
-                let text = token.text;
-                let start = token.start;
-                let end = token.end;
-                let line = format!(in alloc; "{kind:?} {text} {start} {end};")?;
-                out.push_str(line.as_str())?;
-            }
-        }
-        Err(fault) => {
-            let line = format!(in alloc; "{fault:?}")?;
-            out.push_str(line.as_str())?;
-        }
+    for token in found.as_slice() {
+        let (kind, text, start, end) = (token.kind, token.text, token.start, token.end);
+        let line = format!(in alloc; "{kind:?} {text} {start} {end};")?;
+        out.push_str(line.as_str())?;
     }
     Ok(out)
 }
 
-fn first_text(alloc: Global, src: &[u8]) -> Result<String, Fail> {
-    let found = tokens(alloc, src).ok().ok_or("a fault")?;
-    let first = found.as_slice().first().ok_or("no token")?;
-    Ok(literal(alloc, first)?)
-}
-
-fn written(alloc: Global, text: &str) -> Result<String, Fail> {
-    let mut out = String::new(alloc);
-    write_literal(&mut out, text)?;
-    Ok(out)
-}
+const SOURCES: [(&str, &str); 38] = [
+    ("", ""),
+    ("a:b c:*", "Prefixed a:b 0 3;AnyOf c:* 4 7;"),
+    ("a :b", "Lexical { at: 2 }"),
+    ("a: b", "Lexical { at: 1 }"),
+    ("a:1", "Lexical { at: 1 }"),
+    ("a:b:c", "Lexical { at: 3 }"),
+    ("a\\x{41}", "Lexical { at: 1 }"),
+    ("\\xx{41}", "Lexical { at: 0 }"),
+    ("\"\\x{0}\"", "Lexical { at: 0 }"),
+    ("\"\\x{}\"", "Lexical { at: 0 }"),
+    ("\"\\x{41\"", "Lexical { at: 0 }"),
+    ("'\\x{110000}'", "Lexical { at: 0 }"),
+    ("'\\x{D800}'", "Lexical { at: 0 }"),
+    ("'\\x{100000041}'", "Lexical { at: 0 }"),
+    ("|==", "Symbol |= 0 2;Symbol = 2 3;"),
+    (
+        "&=&>>>>",
+        "Symbol &= 0 2;Symbol & 2 3;Symbol >> 3 5;Symbol >> 5 7;",
+    ),
+    (">", "Lexical { at: 0 }"),
+    ("# x", ""),
+    ("## x\ry#\nz", "Name y 5 6;Name z 8 9;"),
+    ("start = \"\\x{22}\"", "Lexical { at: 8 }"),
+    (
+        "start = '\\x{22}'",
+        "Keyword start 0 5;Symbol = 6 7;Segment '\\x{22}' 8 16;",
+    ),
+    ("'\\x{27}'", "Lexical { at: 0 }"),
+    ("\"\"\"\\x{22}\"\"\"", "Lexical { at: 0 }"),
+    ("\"\"\"\\x{27}\"\"\"", "Segment \"\"\"\\x{27}\"\"\" 0 12;"),
+    ("'''\\x{00027}'''", "Lexical { at: 0 }"),
+    ("start = \"a", "Lexical { at: 8 }"),
+    ("\"a\nb\"", "Lexical { at: 0 }"),
+    ("'a\rb'", "Lexical { at: 0 }"),
+    ("'''a\r\nb'''", "Segment '''a\r\nb''' 0 10;"),
+    (
+        "\"\"\"a\"b\"\"\" \"\"",
+        "Segment \"\"\"a\"b\"\"\" 0 9;Segment \"\" 10 12;",
+    ),
+    ("\"\"\"a", "Lexical { at: 0 }"),
+    ("\"\"\"\"\"\"\"", "Lexical { at: 6 }"),
+    ("\"'\"'\"'", "Segment \"'\" 0 3;Segment '\"' 3 6;"),
+    (
+        "\\start >> a \\xy",
+        "Quoted \\start 0 6;Symbol >> 7 9;Name a 10 11;Quoted \\xy 12 15;",
+    ),
+    (
+        "start:a starts list:*",
+        "Prefixed start:a 0 7;Name starts 8 14;AnyOf list:* 15 21;",
+    ),
+    ("\u{FEFF}a", "Name a 3 4;"),
+    ("\u{FEFF}\u{FEFF}a", "Name \u{FEFF}a 3 7;"),
+    (
+        "\u{3b1}\u{301}\u{b7}-1 \u{10000}",
+        "Name \u{3b1}\u{301}\u{b7}-1 0 8;Name \u{10000} 9 13;",
+    ),
+];
 
 #[test]
-fn cuts(rt: HostRuntime) -> Result<(), Fail> {
+fn sources_are_cut(rt: HostRuntime) -> Result<(), Fail> {
     let alloc = rt.alloc();
-    assert_eq!(rt;
-        shown(alloc, b"a:b c:*")?.as_str(),
-        "Prefixed a:b 0 3;AnyOf c:* 4 7;"
-    );
-    assert_eq!(rt; shown(alloc, b"a :b")?.as_str(), "Lexical { at: 2 }");
-    assert_eq!(rt; shown(alloc, b"a\\x{41}")?.as_str(), "Lexical { at: 1 }");
-    assert_eq!(rt; shown(alloc, b"\"\\x{0}\"")?.as_str(), "Lexical { at: 0 }");
-    assert_eq!(rt;
-        shown(alloc, b"|==")?.as_str(),
-        "Symbol |= 0 2;Symbol = 2 3;"
-    );
-    assert_eq!(rt; shown(alloc, b"# x")?.as_str(), "");
-    assert_eq!(rt;
-        shown(alloc, b"start = \"\\x{22}\"")?.as_str(),
-        "Lexical { at: 8 }"
-    );
-    assert_eq!(rt; shown(alloc, b"start = \"a")?.as_str(), "Lexical { at: 8 }");
+    for (source, wanted) in SOURCES {
+        assert_eq!(rt; shown(alloc, source.as_bytes())?.as_str(), wanted);
+    }
     assert_eq!(rt;
         shown(alloc, b"start = text\xFF")?.as_str(),
         "Encoding { at: 12 }"
     );
-    assert_eq!(rt; shown(alloc, b"\xEF\xBB\xBFa")?.as_str(), "Name a 3 4;");
+    assert_eq!(rt; shown(alloc, b"a\xE2\x82")?.as_str(), "Encoding { at: 1 }");
+    assert_eq!(rt; shown(alloc, b"\x01\xFF")?.as_str(), "Encoding { at: 1 }");
+    assert_eq!(rt; shown(alloc, b"| > a\x01")?.as_str(), "Lexical { at: 5 }");
     assert_eq!(rt;
-        shown(alloc, b"\"\"\"a\"b\"\"\" \"\"")?.as_str(),
-        "Segment \"\"\"a\"b\"\"\" 0 9;Segment \"\" 10 12;"
-    );
-    assert_eq!(rt;
-        shown(alloc, b"\\start >> a \\xy")?.as_str(),
-        "Quoted \\start 0 6;Symbol >> 7 9;Name a 10 11;Quoted \\xy 12 15;"
-    );
-    assert_eq!(rt; shown(alloc, b"a\x01")?.as_str(), "Lexical { at: 1 }");
-    assert_eq!(rt;
-        shown(alloc, b"start:a starts list:*")?.as_str(),
-        "Prefixed start:a 0 7;Name starts 8 14;AnyOf list:* 15 21;"
+        shown(alloc, b"a\xEF\xBF\xBE")?.as_str(),
+        "Lexical { at: 1 }"
     );
     Ok(())
 }
 
+const SEGMENTS: [(&str, &str); 10] = [
+    ("''", ""),
+    ("\"\"\"\"\"\"", ""),
+    ("'\\xx{41}'", "A"),
+    ("'\\x{00022}\\x'", "\"\\x"),
+    ("\"\"\"a\"b\r\nc\rd\n\"\"\"", "a\"b\nc\nd\n"),
+    ("'''\r\r\n\n'''", "\n\n\n"),
+    ("'\\x{D}\\x{a}'", "\r\n"),
+    ("\"\\x{10FFFF}\"", "\u{10FFFF}"),
+    ("'\\\\x{42}\\'", "\\B\\"),
+    ("name", ""),
+];
+
 #[test]
-fn literals(rt: HostRuntime) -> Result<(), Fail> {
+fn segments_are_read(rt: HostRuntime) -> Result<(), Fail> {
     let alloc = rt.alloc();
-    assert_eq!(rt; first_text(alloc, b"'\\xx{41}'")?.as_str(), "A");
-    assert_eq!(rt;
-        first_text(alloc, b"\"\"\"a\"b\r\nc\rd\"\"\"")?.as_str(),
-        "a\"b\nc\nd"
-    );
-    assert_eq!(rt; first_text(alloc, b"'\\x{00022}\\x'")?.as_str(), "\"\\x");
-    assert_eq!(rt; written(alloc, "a\\xx")?.as_str(), "\"a\\\" ~ \"xx\"");
-    assert_eq!(rt; written(alloc, "\"\"a")?.as_str(), "'\"\"' ~ \"a\"");
-    assert_eq!(rt;
-        written(alloc, "a\"b\nc")?.as_str(),
-        "\"a\" ~ '\"' ~ \"b\\x{A}c\""
-    );
-    assert_eq!(rt; written(alloc, "")?.as_str(), "\"\"");
+    for (segment, wanted) in SEGMENTS {
+        let found = tokens(alloc, segment.as_bytes()).ok().ok_or("a fault")?;
+        let first = found.as_slice().first().ok_or("no token")?;
+        assert_eq!(rt; literal(alloc, first)?.as_str(), wanted);
+    }
     Ok(())
 }
 
+const LITERALS: [(&str, &str); 9] = [
+    ("", "\"\""),
+    ("a\\xx", "\"a\\\" ~ \"xx\""),
+    ("\\x{41}", "\"\\\" ~ \"x{41}\""),
+    ("\\\\", "\"\\\\\""),
+    ("\"\"a", "'\"\"' ~ \"a\""),
+    ("a\"b\nc", "\"a\" ~ '\"' ~ \"b\\x{A}c\""),
+    ("'\t\r", "\"'\\x{9}\\x{D}\""),
+    ("\"", "'\"'"),
+    ("x\\\"x", "\"x\\\" ~ '\"' ~ \"x\""),
+];
+
 #[test]
-fn names(rt: HostRuntime) -> Result<(), Fail> {
-    assert!(rt; is_ncname("a-b.c"));
-    assert!(rt; !is_ncname("1a"));
+fn literals_are_written(rt: HostRuntime) -> Result<(), Fail> {
+    let alloc = rt.alloc();
+    for (text, wanted) in LITERALS {
+        let mut out = String::new(alloc);
+        write_literal(&mut out, text)?;
+        assert_eq!(rt; out.as_str(), wanted);
+        let mut read = String::new(alloc);
+        let found = tokens(alloc, wanted.as_bytes()).ok().ok_or("a fault")?;
+        for token in found.as_slice() {
+            if token.kind == Kind::Segment {
+                read.push_str(literal(alloc, token)?.as_str())?;
+            }
+        }
+        assert_eq!(rt; read.as_str(), text);
+    }
+    Ok(())
+}
+
+// The first and the last character of each range that may begin a name.
+const STARTS: [(u32, u32); 15] = [
+    (0x41, 0x5A),
+    (0x5F, 0x5F),
+    (0x61, 0x7A),
+    (0xC0, 0xD6),
+    (0xD8, 0xF6),
+    (0xF8, 0x2FF),
+    (0x370, 0x37D),
+    (0x37F, 0x1FFF),
+    (0x200C, 0x200D),
+    (0x2070, 0x218F),
+    (0x2C00, 0x2FEF),
+    (0x3001, 0xD7FF),
+    (0xF900, 0xFDCF),
+    (0xFDF0, 0xFFFD),
+    (0x10000, 0xEFFFF),
+];
+
+// And of each further range that may stand in one.
+const FURTHER: [(u32, u32); 6] = [
+    (0x2D, 0x2E),
+    (0x30, 0x39),
+    (0xB7, 0xB7),
+    (0x300, 0x36F),
+    (0x203F, 0x2040),
+    (0x61, 0x7A),
+];
+
+// Whether `front` and the character of this number are a name.
+fn is_name_with(alloc: Global, front: &str, number: u32) -> Result<bool, Fail> {
+    let mut text = String::new(alloc);
+    text.push_str(front)?;
+    if let Some(c) = char::from_u32(number) {
+        text.push(c)?;
+    }
+    Ok(is_ncname(text.as_str()))
+}
+
+#[test]
+fn names_end_at_their_ranges(rt: HostRuntime) -> Result<(), Fail> {
+    let alloc = rt.alloc();
+    for (first, last) in STARTS {
+        assert!(rt; is_name_with(alloc, "", first)?);
+        assert!(rt; is_name_with(alloc, "", last)?);
+        assert!(rt; !is_name_with(alloc, "", first.saturating_sub(1))?);
+        assert!(rt; !is_name_with(alloc, "", last.saturating_add(1))?);
+    }
+    for (first, last) in FURTHER {
+        assert!(rt; is_name_with(alloc, "a", first)?);
+        assert!(rt; is_name_with(alloc, "a", last)?);
+    }
+    for number in [0x2C, 0x2F, 0x3A, 0xB6, 0xB8, 0x2041, 0x203E, 0xF0000] {
+        assert!(rt; !is_name_with(alloc, "a", number)?);
+    }
     assert!(rt; !is_ncname(""));
+    assert!(rt; !is_ncname("a:b"));
     assert!(rt; is_keyword("notAllowed"));
     assert!(rt; !is_keyword("notallowed"));
-    let _ = Kind::Name;
-    let _ = TextFault::Memory;
+    assert!(rt; !is_keyword(""));
     Ok(())
+}
+
+// A text of so many pieces.
+fn many(alloc: Global, piece: &str, count: usize) -> Result<String, Fail> {
+    let mut out = String::new(alloc);
+    for _ in 0..count {
+        out.push_str(piece)?;
+    }
+    Ok(out)
+}
+
+#[test]
+fn long_sources_are_read(rt: HostRuntime) -> Result<(), Fail> {
+    let alloc = rt.alloc();
+    let name = many(alloc, "abcdefgh", 524288)?;
+    assert_eq!(rt; count(alloc, name.as_str())?, 1);
+    let content = many(alloc, "\\x{41}\\xx'\"", 349525)?;
+    let segment = format!(in alloc; "'''{content}'''")?;
+    assert_eq!(rt; count(alloc, segment.as_str())?, 1);
+    let symbols = many(alloc, "| ", 2000000)?;
+    assert_eq!(rt; count(alloc, symbols.as_str())?, 2000000);
+    let openings = many(alloc, "\"\" # ' \n", 500000)?;
+    assert_eq!(rt; count(alloc, openings.as_str())?, 500000);
+    Ok(())
+}
+
+// How many tokens a source has.
+fn count(alloc: Global, src: &str) -> Result<usize, Fail> {
+    Ok(tokens(alloc, src.as_bytes()).ok().ok_or("a fault")?.len())
 }

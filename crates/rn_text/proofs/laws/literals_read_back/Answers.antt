@@ -1,5 +1,5 @@
-use Rattle.rn_text.proofs.LiteralTokens.{literal_reads_back}
+use Rattle.rn_text.proofs.LiteralTokens.{literal_reads_back, literal_bytes_read_back}
 use Rattle.rn_text.proofs.laws.literals_read_back.Goals as goal
 
 pub returns : goal.returns
-returns c = literal_reads_back
+returns c = record { characters = literal_reads_back; bytes = literal_bytes_read_back }

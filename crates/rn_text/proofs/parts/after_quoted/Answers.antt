@@ -3,13 +3,13 @@ use Rattle.std.specs.Str.{chars}
 use Rattle.rn_text.specs.Segments.{begins_with}
 use Rattle.rn_text.specs.Characters.{is_name_start}
 use Rattle.rn_text.proofs.FirstParts.{none_at}
-use Rattle.rn_text.proofs.Names.{quoted_none, quoted_at}
+use Rattle.rn_text.proofs.Names.{no_escape_front, quoted_none, quoted_at}
 use Rattle.rn_text.proofs.parts.after_quoted.Goals as goal
 
 pub returns-clause-cases : goal.returns-clause-cases
 returns-clause-cases c =
     quoted_at (chars c.args.text.now) (chars c.in_ok-after_char.field-0.now) (chars c.in_ok-first.rest.now) (chars c.after_name_chars.result.now) c.in_ok-first.first
-    c.in_ok-after_char.ensures.cases c.in_ok-first.ensures.cases (sym c.if-not-is_name_start.ensures) c.in_default.ensures.cases c.after_name_chars.ensures
+    c.in_ok-after_char.ensures.cases c.in_ok-first.ensures.cases (sym c.if-not-is_name_start.ensures) (no_escape_front c.after_escape_front.result (chars c.args.text.now) _ c.after_escape_front.ensures.cases (sym c.is_some.ensures ∙ c.if-is_some.false)) c.after_name_chars.ensures
 
 pub returns-in_err-first-clause-cases : goal.returns-in_err-first-clause-cases
 returns-in_err-first-clause-cases c =

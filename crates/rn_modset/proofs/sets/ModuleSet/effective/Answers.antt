@@ -9,7 +9,8 @@ use Rattle.rn_modset.specs.Places.{IsFollowed, IsContradicted}
 use Rattle.rn_modset.specs.Sets.{Rises}
 use Rattle.rn_modset.proofs.Truths.{differs}
 use Rattle.rn_modset.proofs.Walks.{IsWalk, walk_start}
-use Rattle.rn_modset.proofs.WalkSteps.{IsHeldAt, step_on, step_conflict, step_text, step_withdrawal, walk_done}
+use Rattle.rn_modset.proofs.Fronts.{IsHeldAt}
+use Rattle.rn_modset.proofs.WalkSteps.{step_on, step_conflict, step_text, step_withdrawal, walk_done}
 use Rattle.rn_modset.proofs.sets.ModuleSet.effective.Goals as goal
 use Rattle.rn_modset.proofs.sets.ModuleSet.effective.Goals.{in-Some+in_ok-map_err, in_default}
 

@@ -1,0 +1,175 @@
+// Definitions of one key combined (RELAX NG 2001, 4.17).
+ghost use Rattle.std.specs.Prelude.{◌≡◌, ◌+◌, vec_len, IfOk};
+
+use crate::components::{Body, Components};
+use crate::keys::Keys;
+use crate::name_classes::keeps_name_rules;
+use crate::refusal::Refusal;
+use crate::resolution::pattern;
+use rn_pattern::Pattern;
+use rn_syntax::Method;
+use std::alloc::Global;
+use std::rc::Rc;
+
+impl<'c, 't, 's> Components<'c, 't, 's> {
+    /// The method of the component at that place.
+    fn method(&self, place: usize) -> Option<Method> {
+        let body = self.body(self.body_at(place)?)?;
+        Some(body.component.method)
+    }
+
+    /// Whether some component of the key uses the method.
+    fn uses(&self, key: usize, method: Method) -> bool {
+        for place in self.of_key(key) {
+            if self.method(*place) == Some(method) {
+                return true;
+            }
+        }
+        false
+    }
+
+    /// Whether two components of the key are plain.
+    fn is_plain_twice(&self, key: usize) -> bool {
+        let mut is_plain = false;
+        for place in self.of_key(key) {
+            if self.method(*place) == Some(Method::Plain) {
+                if is_plain {
+                    return true;
+                }
+                is_plain = true;
+            }
+        }
+        false
+    }
+
+    /// The least of that many keys with two plain components.
+    pub fn least_plain_twice(&self, keys: usize) -> Option<usize> {
+        for key in 0..keys {
+            if self.is_plain_twice(key) {
+                return Some(key);
+            }
+        }
+        None
+    }
+
+    /// The least of that many keys whose components use both methods.
+    pub fn least_mixed(&self, keys: usize) -> Option<usize> {
+        for key in 0..keys {
+            if self.uses(key, Method::Choice) && self.uses(key, Method::Interleave) {
+                return Some(key);
+            }
+        }
+        None
+    }
+}
+
+/// The patterns of bodies that stand in lists of several components, once they were resolved.
+type Shared = Vec<Option<Rc<Pattern>>>;
+
+/// The pattern of each key's components combined, `None` for a key that has none. `NameClass` names the least key one of
+/// whose components breaks the restrictions on name classes.
+pub(crate) fn combined(
+    alloc: Global,
+    keys: &Keys<'_>,
+    components: &Components<'_, '_, '_>,
+) -> Result<Vec<Option<Pattern>>, Refusal>
+    ensures { IfOk result (λ patterns. vec_len patterns ≡ vec_len keys.now.names + 1) }
+{
+    let mut shared = Vec::with_capacity(alloc, components.count_bodies())?;
+    for _ in 0..components.count_bodies() {
+        shared.push(None)?;
+    }
+    let mut patterns = Vec::with_capacity(alloc, keys.len())?;
+    for key in 0..keys.len() {
+        patterns.push(join(alloc, keys, components, &mut shared, key)?)?;
+    }
+    Ok(patterns)
+}
+
+/// The pattern of one component is its own; several are one list, in their order.
+fn join(
+    alloc: Global,
+    keys: &Keys<'_>,
+    components: &Components<'_, '_, '_>,
+    shared: &mut Shared,
+    key: usize,
+) -> Result<Option<Pattern>, Refusal> {
+    let places = components.of_key(key);
+    match places {
+        [] => Ok(None),
+        [place] => alone(alloc, keys, components, *place),
+        _ => {
+            let members = members(alloc, keys, components, shared, places)?;
+            if components.uses(key, Method::Interleave) {
+                Ok(Some(Pattern::Interleave(members)))
+            } else {
+                Ok(Some(Pattern::Choice(members)))
+            }
+        }
+    }
+}
+
+/// The pattern of one component.
+fn alone(
+    alloc: Global,
+    keys: &Keys<'_>,
+    components: &Components<'_, '_, '_>,
+    place: usize,
+) -> Result<Option<Pattern>, Refusal> {
+    match components.body_at(place) {
+        Some(number) => match components.body(number) {
+            Some(body) => Ok(Some(resolved(alloc, keys, body)?)),
+            None => Ok(None),
+        },
+        None => Ok(None),
+    }
+}
+
+/// The patterns of the components, each body resolved once.
+fn members(
+    alloc: Global,
+    keys: &Keys<'_>,
+    components: &Components<'_, '_, '_>,
+    shared: &mut Shared,
+    places: &[usize],
+) -> Result<Vec<Rc<Pattern>>, Refusal> {
+    let mut members = Vec::with_capacity(alloc, places.len())?;
+    for place in places {
+        if let Some(number) = components.body_at(*place) {
+            share(alloc, keys, components, shared, number)?;
+            if let Some(Some(pattern)) = shared.get(number) {
+                members.push(pattern.clone()?)?;
+            }
+        }
+    }
+    Ok(members)
+}
+
+/// Resolves a body that wasn't yet.
+fn share(
+    alloc: Global,
+    keys: &Keys<'_>,
+    components: &Components<'_, '_, '_>,
+    shared: &mut Shared,
+    number: usize,
+) -> Result<(), Refusal> {
+    if let Some(body) = components.body(number)
+        && number < shared.len()
+        && shared[number].is_none()
+    {
+        let pattern = resolved(alloc, keys, body)?;
+        shared[number] = Some(Rc::new(alloc, pattern)?);
+    }
+    Ok(())
+}
+
+/// The pattern of a body that keeps the restrictions on name classes.
+fn resolved(alloc: Global, keys: &Keys<'_>, body: &Body<'_, '_, '_>) -> Result<Pattern, Refusal> {
+    let pattern = pattern(alloc, body.scope, body.component.body)?;
+    if !keeps_name_rules(&pattern) {
+        return Err(Refusal::NameClass {
+            key: keys.key(alloc, body.component.key)?,
+        });
+    }
+    Ok(pattern)
+}

@@ -1,0 +1,62 @@
+// Reachability in a graph whose nodes are numbers.
+
+ghost use Rattle.std.specs.Prelude.{◌≡◌, ℕ, ◌+◌, ◌<◌, ◌≤◌, Decides, ◌∷◌, ◌++◌, [], length, vec_len, take, IfOk, OnOk, if◌then◌else◌, slice_set};
+ghost use Rattle.rn_assemble.specs.Graph.{AllBelow, row, IsGraph, is_marked, Agrees, Marks, Reached, rows_of};
+
+use std::alloc::{AllocError, Global};
+
+/// Marks a node, and lists it if it was not marked before.
+fn mark(seen: &mut Vec<bool>, order: &mut Vec<usize>, node: usize) -> Result<(), AllocError>
+    requires within { node < vec_len seen.old }
+    requires agrees { Agrees seen.old.items order.old.items }
+    ensures { OnOk result (Marks (node ∷ []) seen.old.items order.old.items seen.new.items order.new.items) }
+{
+    if !seen[node] {
+        seen[node] = true;
+        order.push(node)?;
+    }
+    Ok(())
+}
+
+/// Marks the nodes of a row.
+fn mark_all(seen: &mut Vec<bool>, order: &mut Vec<usize>, row: &[usize]) -> Result<(), AllocError>
+    requires within { AllBelow (vec_len seen.old) row.now }
+    requires agrees { Agrees seen.old.items order.old.items }
+    ensures { OnOk result (Marks row.now seen.old.items order.old.items seen.new.items order.new.items) }
+{
+    for node in row {
+        mark(seen, order, *node)?;
+    }
+    Ok(())
+}
+
+/// The nodes that the edges of a node lead to.
+pub(crate) fn row_at(edges: &[Vec<usize>], node: usize) -> &[usize]
+    requires { node < length edges.now }
+    ensures { result.now ≡ row (rows_of edges.now) node }
+{
+    &edges[node]
+}
+
+/// For each node, whether it is reached from the first ones.
+pub fn reached(
+    alloc: Global,
+    edges: &[Vec<usize>],
+    first: &[usize],
+) -> Result<Vec<bool>, AllocError>
+    requires graph { IsGraph (rows_of edges.now) }
+    requires first_within { AllBelow (length edges.now) first.now }
+    ensures size { IfOk result (λ seen. length seen.items ≡ length edges.now) }
+    ensures exact { IfOk result (λ seen. (x : ℕ) → Decides (is_marked seen.items x) (Reached (rows_of edges.now) first.now x)) }
+{
+    let mut seen = vec![in alloc; false; edges.len()]?;
+    let mut order = Vec::new(alloc);
+    mark_all(&mut seen, &mut order, first)?;
+    let mut next = 0;
+    while next < order.len() {
+        let row = row_at(edges, order[next]);
+        mark_all(&mut seen, &mut order, row)?;
+        next += 1;
+    }
+    Ok(seen)
+}

@@ -1,0 +1,139 @@
+// Which modules include which, and what stands against it.
+ghost use Rattle.std.specs.Prelude.{◌≡◌, ◌<◌, length, vec_len, IfSome, IfOk, MatchOption};
+ghost use Rattle.rn_assemble.specs.Graph.{AllBelow, IsGraph, rows_of};
+
+use crate::graph::{reached, row_at};
+use crate::instances::instances_up_to;
+use crate::modules::Source;
+use crate::order::{Order, ranks};
+use crate::refusal::Refusal;
+use rn_syntax::includes;
+use std::alloc::{AllocError, Global};
+
+/// The most instances of modules that a set has.
+pub(crate) const INSTANCE_LIMIT: usize = 512;
+
+/// The number of the module of that name.
+pub(crate) fn module_named(sources: &[Source<'_>], name: &str) -> Option<usize>
+    ensures { IfSome result (λ m. m < length sources.now) }
+{
+    sources
+        .binary_search_by(|source| source.name.cmp(name))
+        .ok()
+}
+
+/// For each module, the modules that its includes name. `Missing` names the least module with an include of none, and
+/// the least literal of such an include.
+#[tactic(auto, using(crate::proofs::Rows::no_rows, crate::proofs::Rows::more_rows, crate::proofs::Rows::is_graph))]
+pub(crate) fn inclusions(alloc: Global, sources: &[Source<'_>]) -> Result<Vec<Vec<usize>>, Refusal>
+    ensures graph { IfOk result (λ rows. IsGraph (rows_of rows.items)) }
+    ensures size { IfOk result (λ rows. vec_len rows ≡ length sources.now) }
+{
+    let mut rows = Vec::new(alloc);
+    for source in sources {
+        let wanted = includes(alloc, &source.tree)?;
+        if let Some(literal) = least_missing(sources, wanted.as_slice()) {
+            return Err(Refusal::Missing {
+                module: String::from_str(alloc, source.name)?,
+                wanted: String::from_str(alloc, literal)?,
+            });
+        }
+        rows.push(included(alloc, sources, wanted.as_slice())?)?;
+    }
+    Ok(rows)
+}
+
+/// The least of the literals that names no module.
+fn least_missing<'m>(sources: &[Source<'_>], wanted: &[&'m str]) -> Option<&'m str> {
+    let mut least = None;
+    for literal in wanted {
+        if module_named(sources, literal).is_none() {
+            least = Some(lesser(least, literal));
+        }
+    }
+    least
+}
+
+/// The lesser of two texts, or the one that there is.
+pub(crate) fn lesser<'m>(held: Option<&'m str>, other: &'m str) -> &'m str {
+    match held {
+        Some(held) if held <= other => held,
+        _ => other,
+    }
+}
+
+/// The modules that the literals name.
+#[tactic(auto, using(crate::proofs::Rows::none_below, crate::proofs::Rows::below_push))]
+fn included(
+    alloc: Global,
+    sources: &[Source<'_>],
+    wanted: &[&str],
+) -> Result<Vec<usize>, AllocError>
+    ensures { IfOk result (λ row. AllBelow (length sources.now) row.items) }
+{
+    let mut row = Vec::new(alloc);
+    for literal in wanted {
+        if let Some(module) = module_named(sources, literal) {
+            row.push(module)?;
+        }
+    }
+    Ok(row)
+}
+
+/// The least node that comes back to itself along one edge or more.
+pub(crate) fn least_looped(alloc: Global, edges: &[Vec<usize>]) -> Result<Option<usize>, AllocError>
+    requires { IsGraph (rows_of edges.now) }
+    ensures { IfOk result (λ node. IfSome node (λ x. x < length edges.now)) }
+{
+    if let Order::Ranked(_) = ranks(alloc, edges)? {
+        return Ok(None);
+    }
+    for node in 0..edges.len() {
+        let seen = reached(alloc, edges, row_at(edges, node))?;
+        if seen[node] {
+            return Ok(Some(node));
+        }
+    }
+    Ok(None)
+}
+
+/// The modules that no module includes.
+#[tactic(auto, using(crate::proofs::Rows::none_below, crate::proofs::Rows::below_push))]
+pub(crate) fn roots(alloc: Global, rows: &[Vec<usize>]) -> Result<Vec<usize>, AllocError>
+    requires { IsGraph (rows_of rows.now) }
+    ensures { IfOk result (λ roots. AllBelow (length rows.now) roots.items) }
+{
+    let mut included = vec![in alloc; false; rows.len()]?;
+    for includer in 0..rows.len() {
+        mark_row(&mut included, row_at(rows, includer));
+    }
+    let mut roots = Vec::new(alloc);
+    for (node, is_included) in included.iter().enumerate() {
+        if !*is_included {
+            roots.push(node)?;
+        }
+    }
+    Ok(roots)
+}
+
+/// Marks the modules of a row.
+fn mark_row(included: &mut Vec<bool>, row: &[usize])
+    requires { AllBelow (vec_len included.old) row.now }
+    ensures { vec_len included.new ≡ vec_len included.old }
+{
+    for node in row {
+        included[*node] = true;
+    }
+}
+
+/// Whether the roots have more instances than a set may have. The count stops there.
+pub(crate) fn has_too_many_instances(rows: &[Vec<usize>], roots: &[usize]) -> bool
+    requires graph { IsGraph (rows_of rows.now) }
+    requires within { AllBelow (length rows.now) roots.now }
+{
+    let mut count = 0;
+    for root in roots {
+        count += instances_up_to(rows, *root, INSTANCE_LIMIT + 1 - count);
+    }
+    count > INSTANCE_LIMIT
+}

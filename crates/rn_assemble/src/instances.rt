@@ -1,0 +1,24 @@
+// The number of instances of a module, counted no further than a limit.
+
+ghost use Rattle.std.specs.Prelude.{◌≡◌, ℕ, ◌+◌, ◌<◌, ◌≤◌, length, min};
+ghost use Rattle.rn_assemble.specs.Graph.{IsGraph, rows_of};
+ghost use Rattle.rn_assemble.specs.Instances.{instances_of};
+
+use crate::graph::row_at;
+
+/// How many instances a module has, but at most `most`.
+pub fn instances_up_to(edges: &[Vec<usize>], node: usize, most: usize) -> usize
+    requires graph { IsGraph (rows_of edges.now) }
+    requires within { node < length edges.now }
+    ensures up_to { result ≤ most }
+    ensures counted { (depth : ℕ) → most ≤ depth → result ≡ min most (instances_of depth (rows_of edges.now) node) }
+{
+    if most == 0 {
+        return 0;
+    }
+    let mut count = 1;
+    for inner in row_at(edges, node) {
+        count += instances_up_to(edges, *inner, most - count);
+    }
+    count
+}

@@ -1,0 +1,59 @@
+// The effective modules of a set, read.
+use crate::refusal::Refusal;
+use rn_modset::ModuleSet;
+use rn_syntax::{Module, SyntaxFault, parse};
+use rn_text::{TextFault, tokens};
+use std::alloc::{AllocError, Global};
+
+/// An effective module: its name and its tree.
+#[derive(Drop)]
+pub(crate) struct Source<'a> {
+    pub name: &'a str,
+    pub tree: Module<'a>,
+}
+
+/// The effective modules, in the order of their names, or the refusal of the least name whose module has a fault.
+pub(crate) fn sources<'a>(alloc: Global, set: &'a ModuleSet) -> Result<Vec<Source<'a>>, Refusal> {
+    let effective = set.effective(alloc)?;
+    let mut sources = Vec::new(alloc);
+    for module in effective.iter() {
+        let (name, text) = *module;
+        let tree = read(alloc, name, text)?;
+        sources.push(Source { name, tree })?;
+    }
+    Ok(sources)
+}
+
+/// The tree of a module's text. Its tokens are given up here.
+fn read<'a>(alloc: Global, name: &str, text: &'a [u8]) -> Result<Module<'a>, Refusal> {
+    let tokens = match tokens(alloc, text) {
+        Ok(tokens) => tokens,
+        Err(fault) => return Err(unreadable(String::from_str(alloc, name)?, fault)),
+    };
+    match parse(alloc, tokens.as_slice()) {
+        Ok(tree) => Ok(tree),
+        Err(fault) => Err(no_module(String::from_str(alloc, name)?, fault)),
+    }
+}
+
+/// The refusal of a module whose text has no tokens.
+fn unreadable(module: String, fault: TextFault) -> Refusal {
+    match fault {
+        TextFault::Encoding { at: _ } => Refusal::Encoding { module },
+        TextFault::Lexical { at: _ } => Refusal::Lexical { module },
+        TextFault::Memory => Refusal::Memory,
+    }
+}
+
+/// The refusal of a module whose tokens are none, or which has a fault.
+fn no_module(module: String, fault: SyntaxFault) -> Refusal {
+    match fault {
+        SyntaxFault::Deep { at: _ } => Refusal::Deep { module },
+        SyntaxFault::Syntax { at: _ } => Refusal::Syntax { module },
+        SyntaxFault::Prefix { at: _ } => Refusal::Prefix { module },
+        SyntaxFault::Builtin { at: _ } => Refusal::Builtin { module },
+        SyntaxFault::ContextValue { at: _ } => Refusal::ContextValue { module },
+        SyntaxFault::Except { at: _ } => Refusal::Except { module },
+        SyntaxFault::Memory => Refusal::Memory,
+    }
+}

@@ -1,0 +1,300 @@
+// Sets and what they give: each set is written with its modules parted by lines of their names.
+use crate::assembly::assemble;
+use crate::grammar::Grammar;
+use crate::refusal::{Key, Refusal};
+use rn_modset::{Contribution, ModuleSet};
+use rn_pattern::{NameClass, Pattern};
+use std::alloc::{AllocError, Global};
+use std::process::Abort;
+use std::test::Fail;
+
+/// A grammar in one line: names with their URIs in braces, lists in parentheses.
+fn written(alloc: Global, grammar: &Grammar) -> Result<String, AllocError> {
+    let mut out = String::new(alloc);
+    out.push_str("start = ")?;
+    write_pattern(&mut out, grammar.start())?;
+    for (name, body) in grammar.defs().iter() {
+        out.push_str("; ")?;
+        out.push_str(name)?;
+        out.push_str(" = ")?;
+        write_pattern(&mut out, body)?;
+    }
+    Ok(out)
+}
+
+fn write_words(out: &mut String, words: &[&str]) -> Result<(), AllocError> {
+    for word in words {
+        out.push_str(word)?;
+    }
+    Ok(())
+}
+
+fn write_class(out: &mut String, class: &NameClass) -> Result<(), AllocError> {
+    match class {
+        NameClass::AnyName(except) => {
+            out.push_str("*")?;
+            write_except(out, except)
+        }
+        NameClass::NsName(uri, except) => {
+            write_words(out, &["{", uri, "}*"])?;
+            write_except(out, except)
+        }
+        NameClass::Name(uri, local) if uri.is_empty() => out.push_str(local),
+        NameClass::Name(uri, local) => write_words(out, &["{", uri, "}", local]),
+        NameClass::Choice(classes) => {
+            out.push_str("(")?;
+            for class in classes {
+                write_class(out, class)?;
+                out.push_str("|")?;
+            }
+            out.push_str(")")
+        }
+    }
+}
+
+fn write_except(out: &mut String, except: &Option<Box<NameClass>>) -> Result<(), AllocError> {
+    if let Some(class) = except {
+        out.push_str("-")?;
+        write_class(out, class)?;
+    }
+    Ok(())
+}
+
+fn write_body(out: &mut String, body: &Pattern) -> Result<(), AllocError> {
+    out.push_str("{")?;
+    write_pattern(out, body)?;
+    out.push_str("}")
+}
+
+fn write_list(
+    out: &mut String,
+    members: &Vec<std::rc::Rc<Pattern>>,
+    between: &str,
+) -> Result<(), AllocError> {
+    out.push_str("(")?;
+    for (i, member) in members.iter().enumerate() {
+        if i > 0 {
+            out.push_str(between)?;
+        }
+        write_pattern(out, member)?;
+    }
+    out.push_str(")")
+}
+
+fn write_pattern(out: &mut String, pattern: &Pattern) -> Result<(), AllocError> {
+    match pattern {
+        Pattern::NotAllowed => out.push_str("notAllowed"),
+        Pattern::Empty => out.push_str("empty"),
+        Pattern::Text => out.push_str("text"),
+        Pattern::Ref(name) => out.push_str(name),
+        Pattern::Value(library, type_name, text) => write_words(
+            out,
+            &["<", library, ">", type_name, "'", text, "'"],
+        ),
+        Pattern::Datum(library, type_name, params, except) => {
+            write_words(out, &["<", library, ">", type_name])?;
+            for param in params {
+                write_words(out, &["[", &param.0, "=", &param.1, "]"])?;
+            }
+            if let Some(except) = except {
+                out.push_str("-")?;
+                write_pattern(out, except)?;
+            }
+            Ok(())
+        }
+        Pattern::List(body) => {
+            out.push_str("list")?;
+            write_body(out, body)
+        }
+        Pattern::Attribute(class, body) => {
+            out.push_str("@")?;
+            write_class(out, class)?;
+            write_body(out, body)
+        }
+        Pattern::Element(class, body) => {
+            write_class(out, class)?;
+            write_body(out, body)
+        }
+        Pattern::OneOrMore(body) => {
+            write_body(out, body)?;
+            out.push_str("+")
+        }
+        Pattern::Group(members) => write_list(out, members, ","),
+        Pattern::Interleave(members) => write_list(out, members, "&"),
+        Pattern::Choice(members) => write_list(out, members, "|"),
+    }
+}
+
+/// The set whose modules stand in the text, each behind a line `@NAME REVISION`.
+fn set_of(alloc: Global, text: &str) -> Result<ModuleSet, Fail> {
+    let mut set = ModuleSet::new(alloc);
+    for part in text.split('@') {
+        if let Some((head, body)) = part.split_once('\n') {
+            let (name, revision) = head.split_once(' ').unwrap_or((head, "1"));
+            set.add(Contribution {
+                name: String::from_str(alloc, name)?,
+                revision: revision.parse::<u64>()?,
+                text: Some(body.as_bytes().to_vec(alloc)?),
+            })
+            .map_err(|e| e.1)?;
+        }
+    }
+    Ok(set)
+}
+
+/// The grammar of the set written, or the refusal as its name and fields.
+fn answer(alloc: Global, set: &ModuleSet) -> Result<String, AllocError> {
+    match assemble(alloc, set) {
+        Ok(grammar) => written(alloc, &grammar),
+        Err(refusal) => format!(in alloc; "{refusal:?}"),
+    }
+}
+
+fn check(rt: &(impl Abort + Print), alloc: Global, rows: &[(&str, &str)]) -> Result<(), Fail> {
+    for (text, wanted) in rows {
+        let set = set_of(alloc, text)?;
+        let given = answer(alloc, &set)?;
+        assert_eq!(rt; given.as_str(), *wanted);
+    }
+    Ok(())
+}
+
+#[test]
+fn grammars(rt: HostRuntime) -> Result<(), Fail> {
+    check(
+        &rt,
+        rt.alloc(),
+        &[
+            (
+                "@a\nstart = doc doc |= element b { text }@b\ndoc |= element a { empty }",
+                "start = doc; doc = (b{text}|a{empty})",
+            ),
+            (
+                "@a\nstart = element r { x } x &= element a { empty }@b\nx &= element a { empty }",
+                "start = r{x}; x = (a{empty}&a{empty})",
+            ),
+            (
+                "@main\ninclude \"lib\" include \"lib\" start = element r { y }@lib\ny |= text",
+                "start = r{y}; y = (text|text)",
+            ),
+            (
+                "@main\ndefault namespace = \"u\" include \"lib\" start = p@lib\np = element p { empty }",
+                "start = p; p = {u}p{empty}",
+            ),
+            (
+                "@main\ninclude \"lib\" { start = element r { y } y = text }@lib\nstart = text y |= element a { empty } y |= element b { empty }",
+                "start = r{y}; y = text",
+            ),
+            (
+                "@main\ninclude \"l1\" { x = text } start = element r { x }@l1\ninclude \"l2\" x |= empty@l2\nx |= element q { empty }",
+                "start = r{x}; x = text",
+            ),
+            (
+                "@main\ndefault namespace = \"u\" namespace v = \"w\" include \"lib\" inherit = v start = p@lib\np = element p { empty }",
+                "start = p; p = {w}p{empty}",
+            ),
+            (
+                "@a\ndefault namespace = \"u\" start = element a { attribute b { text } }",
+                "start = {u}a{@b{text}}",
+            ),
+            ("@a\ndiv { div { start = text } }", "start = text"),
+            (
+                "@a\nstart = element r { attribute id { xsd:ID }?, (b & a)+ } a = element a { empty } b = element b { string - string \"no\" }",
+                "start = r{((@id{<http://www.w3.org/2001/XMLSchema-datatypes>ID}|empty),{(b&a)}+)}; a = a{empty}; b = b{<>string-<>string'no'}",
+            ),
+            (
+                "@a\nnamespace n = \"\" start = element n:* { attribute xml:lang { text } }",
+                "start = {}*{@{http://www.w3.org/XML/1998/namespace}lang{text}}",
+            ),
+            (
+                "@a\ndatatypes d = \"http://e/lib\" start = element a { d:t { k = \"v\" } }",
+                "start = a{<http://e/lib>t[k=v]}",
+            ),
+            (
+                "@a\nstart = mixed { text } b = (b2)* b2 = list { \"v\" }",
+                "start = (text&text); b = ({b2}+|empty); b2 = list{<>token'v'}",
+            ),
+            ("@a 1\nstart = text@a 2\nstart = empty", "start = empty"),
+            (
+                "@a\n\\start = text start = element r { \\start }",
+                "start = r{start}; start = text",
+            ),
+            (
+                "@a\nstart = text a = a | element x { empty }",
+                "start = text; a = (a|x{empty})",
+            ),
+            (
+                "@a\nb = text start = z a = text@b\nz = empty b2 = text",
+                "start = z; b = text; a = text; z = empty; b2 = text",
+            ),
+        ],
+    )
+}
+
+#[test]
+fn refusals(rt: HostRuntime) -> Result<(), Fail> {
+    check(
+        &rt,
+        rt.alloc(),
+        &[
+            ("", "NoStart"),
+            (
+                "@a 1\nstart = text@a 1\nstart =  text",
+                "Conflict { module: \"a\", revision: 1 }",
+            ),
+            (
+                "@a\nx = text@b\nx = text start = x",
+                "PlainTwice { key: Define(\"x\") }",
+            ),
+            (
+                "@a\nx = text@b\nx |= empty@c\nx &= text",
+                "MixedMethods { key: Define(\"x\") }",
+            ),
+            (
+                "@main\ninclude \"lib\" include \"lib\" start = element r { y }@lib\ny = empty",
+                "PlainTwice { key: Define(\"y\") }",
+            ),
+            (
+                "@a\nstart = a a = a | element x { empty }",
+                "Recursive { name: \"a\" }",
+            ),
+            (
+                "@main\ninclude \"lib\" { z = text } start = text@lib\ny = empty",
+                "Override { module: \"main\", key: Define(\"z\") }",
+            ),
+            (
+                "@main\ninclude \"lib\" { z = text start = text y = text a = text } start = text@lib\ny = empty",
+                "Override { module: \"main\", key: Start }",
+            ),
+            (
+                "@main\ninclude \"gone\" start = text",
+                "Missing { module: \"main\", wanted: \"gone\" }",
+            ),
+            (
+                "@main\ninclude \"gone\" include \"a\" start = text",
+                "Missing { module: \"main\", wanted: \"a\" }",
+            ),
+            ("@a\ninclude \"a\" start = text", "Cycle { module: \"a\" }"),
+            (
+                "@a\ninclude \"b\"@b\ninclude \"a\"@c\nstart = text",
+                "Cycle { module: \"a\" }",
+            ),
+            ("@a\nstart = text a = b", "Undefined { name: \"b\" }"),
+            ("@a\nstart = text a = c, b", "Undefined { name: \"b\" }"),
+            (
+                "@a\nstart = element a { attribute xmlns { text } }",
+                "NameClass { key: Start }",
+            ),
+            (
+                "@a\nstart = element * - (a | *) { text }",
+                "NameClass { key: Start }",
+            ),
+            (
+                "@a\nstart = text b = element b { attribute * - * { text } } a = element a { attribute xmlns { text } }",
+                "NameClass { key: Define(\"a\") }",
+            ),
+            ("@a\nstart = @b\nstart = (", "Syntax { module: \"a\" }"),
+            ("@a\nx = p:y@b\nstart = x", "Prefix { module: \"a\" }"),
+        ],
+    )
+}

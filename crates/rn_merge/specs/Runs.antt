@@ -1,0 +1,74 @@
+-- Runs over bundles: the union of the sets of which they are the bundles, and what is written.
+use Rattle.std.specs.Prelude.{◌≡◌, ◌≢◌, ℕ, ◌<◌, ◌≤◌, Bool, true, false, List, [], ◌∷◌, length, map, take, Option, Result, Ok, Err, slice_get, Some}
+use Rattle.std.specs.List.{All}
+use Rattle.std.specs.Io.KnownBytes.{Appends}
+use Rattle.rn_modset.specs.Contributions.{Member}
+use Rattle.rn_modset.specs.Sets.{IsSet, union}
+use Rattle.rn_modset.specs.Bundles.{bundle}
+use Rattle.rn_modset.specs.declared.faults.AddFault.{AddFault}
+use Rattle.rn_modset.specs.declared.faults.AddFault.TheVariants as adding
+use Rattle.rn_assemble.specs.declared.refusal.Refusal.TheVariants as refusing
+use Rattle.rn_merge.specs.declared.run.RunFault.{RunFault}
+use Rattle.rn_merge.specs.declared.run.RunFault.TheVariants.{Bundle, Full, Memory, Write}
+use Rattle.rn_merge.specs.declared.run.Status.{Status}
+use Rattle.rn_merge.specs.declared.run.Status.TheVariants.{Done, Refused}
+use Rattle.rn_merge.specs.Streams.{AppendsFront}
+
+-- sets joined to a set, one after the other
+abbrev pub unions : List Member → List (List Member) → List Member
+unions s [] = s
+unions s (t ∷ ts) = unions (union s t) ts
+
+-- these are the bundles of sets, and s, which has at most 1,024 contributions, is the union of them all
+pub record IsUnion (bundles : List (List ℕ)) (s : List Member) : Type 0 where
+  pub sets : List (List Member)
+  pub are_sets : All IsSet sets
+  pub are : bundles ≡ map bundle sets
+  pub is : s ≡ unions [] sets
+  pub few : length s ≤ 1024
+
+-- the bundles before the index have a union
+abbrev pub IsUnionBefore : List (List ℕ) → ℕ → List Member → Type 0
+IsUnionBefore bundles index s = IsUnion (take index bundles) s
+
+-- the set of the bundle at the index makes the union too large
+pub record IsTooMany (bundles : List (List ℕ)) : Type 0 where
+  pub index : ℕ
+  pub before : List Member
+  pub next : List Member
+  pub union_before : IsUnionBefore bundles index before
+  pub at : slice_get bundles index ≡ Some (bundle next)
+  pub is_set : IsSet next
+  pub many : 1024 < length (union before next)
+
+-- the bytes at the index come behind bundles that have a union
+pub record ComesToBundle (bundles : List (List ℕ)) (index : ℕ) : Type 0 where
+  pub within : index < length bundles
+  pub before : List Member
+  pub union_before : IsUnionBefore bundles index before
+
+-- why the bundles have no union
+abbrev pub HasNoUnion : List (List ℕ) → RunFault → Type 0
+HasNoUnion bundles (Bundle index fault) = ComesToBundle bundles index
+HasNoUnion bundles Full = IsTooMany bundles
+HasNoUnion bundles Memory = Unit {0}
+HasNoUnion bundles Write = ⊥
+
+-- why a set was not joined
+abbrev pub join_fault : AddFault → RunFault
+join_fault adding.Memory = Memory
+join_fault _ = Full
+
+-- what came of a run: the bundles have a union, and all of a text was written, or there is a refusal; or they have none;
+-- or the sink failed, which took a front of a text
+abbrev pub IsRun : List (List ℕ) → Option (List ℕ) → Option (List ℕ) → Bool → Result Status RunFault → Type 0
+IsRun bundles old new failed (Ok Done) = (s : List Member) × (text : List ℕ) × IsUnion bundles s × Appends old new text × (failed ≡ false)
+IsRun bundles old new failed (Ok (Refused refusal)) = (s : List Member) × IsUnion bundles s × (refusal ≢ refusing.Memory)
+IsRun bundles old new failed (Err Write) = (s : List Member) × (text : List ℕ) × IsUnion bundles s × AppendsFront old new text × (failed ≡ true)
+IsRun bundles old new failed (Err fault) = HasNoUnion bundles fault
+
+-- a run that comes to no text leaves the sink as it was
+abbrev pub LeavesSink : Result Status RunFault → Type 0 → Type 0
+LeavesSink (Ok Done) kept = Unit {0}
+LeavesSink (Err Write) kept = Unit {0}
+LeavesSink result kept = kept

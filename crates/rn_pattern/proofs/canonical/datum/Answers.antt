@@ -1,0 +1,16 @@
+-- The parts of a datatype, copied.
+use Rattle.std.proofs.Common.{◌∙◌}
+use Rattle.rn_pattern.specs.Nodes.{tree_at, trees_of_nodes}
+use Rattle.rn_pattern.specs.Store.{datum_by}
+use Rattle.rn_pattern.specs.View.{parameters_view}
+use Rattle.std.specs.Option.{option_map}
+use Rattle.rn_pattern.proofs.Copied.{datum_seen, parameters_copied}
+use Rattle.rn_pattern.proofs.canonical.datum.Goals as goal
+
+pub returns-clause-tree : goal.returns-clause-tree
+returns-clause-tree c =
+    let at = tree_at (trees_of_nodes c.args.nodes.now.nodes.now) in
+    let params = parameters_copied c.args.params.now c.in_ok-params.params.items c.in_ok-params.ensures.ok in
+    datum_seen at c.in_ok-library.library c.in_ok-type_name.type_name c.in_ok-params.params c.excepted.result
+    ∙ (λ i. datum_by (c.in_ok-library.ensures.ok i) (c.in_ok-type_name.ensures.ok i) (params i) (option_map at c.excepted.result))
+    ∙ c.excepted.ensures.tree c.args.library.now c.args.type_name.now (parameters_view c.args.params.now)

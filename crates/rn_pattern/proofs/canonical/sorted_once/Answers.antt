@@ -1,0 +1,31 @@
+-- Sorted ids stand for sorted trees.
+use Rattle.std.proofs.Common.{◌≡◌, IsTrue, rules, arith, map}
+use Rattle.std.proofs.lemmas.Fn.{dedup_same}
+use Rattle.std.proofs.lemmas.List.Sorted.{All-permutation}
+use Rattle.std.proofs.lemmas.List.Filters.{All-dedup}
+use Rattle.std.proofs.lemmas.List.Elements.{All-same}
+use Rattle.std.specs.List.{dedup}
+use Rattle.rn_pattern.specs.declared.node.NodeId.{NodeId}
+use Rattle.rn_pattern.specs.Nodes.{knows, tree_at, trees_of_nodes}
+use Rattle.rn_pattern.proofs.SortedBy.{same_at, ids_sorted, ids_sorted_once}
+use Rattle.rn_pattern.specs.Order.{tree_cmp}
+use Rattle.rn_pattern.proofs.Orders.{tree_same}
+use Rattle.rn_pattern.proofs.TotalOrder.{tree_cmp_total}
+use Rattle.rn_pattern.proofs.canonical.sorted_once.Goals as goal
+
+pub returns-clause-sorted : goal.returns-clause-sorted
+returns-clause-sorted c =
+    let at = tree_at (trees_of_nodes c.args.nodes.now.nodes.now) in
+    let ys = c.sort_by.new.self.items in
+    ids_sorted_once tree_cmp tree_cmp_total tree_same at c.args.members.items ys c.dedup_by.new.self.items
+    (ids_sorted tree_cmp tree_cmp_total tree_same at c.args.members.items ys c.sort_by.ensures.permutation c.in_ok-sort_by.ensures.sorted (λ a r f' k. search rules))
+    (dedup_same _ (same_at tree_cmp tree_cmp_total tree_same at) _ (λ x y b f' x' y' k. search rules) ys c.dedup_by.new.self.items c.dedup_by.ensures.filtered)
+
+pub returns-clause-known : goal.returns-clause-known
+returns-clause-known c =
+    let at = tree_at (trees_of_nodes c.args.nodes.now.nodes.now) in
+    let P : NodeId → Type 0 = λ i. IsTrue (knows (trees_of_nodes c.args.nodes.now.nodes.now) i) in
+    let ys = c.sort_by.new.self.items in
+    let zs = c.dedup_by.new.self.items in
+    All-same P zs (dedup (same_at tree_cmp tree_cmp_total tree_same at) ys) (dedup_same _ (same_at tree_cmp tree_cmp_total tree_same at) _ (λ x y b f' x' y' k. search rules) ys zs c.dedup_by.ensures.filtered)
+    (All-dedup (same_at tree_cmp tree_cmp_total tree_same at) P ys (All-permutation P c.args.members.items ys c.sort_by.ensures.permutation c.requires))

@@ -1,0 +1,15 @@
+use Rattle.std.proofs.Common.{fold, flat_map, map, sym, ap, ◌∙◌, arith}
+use Rattle.std.proofs.lemmas.List.{take_all}
+use Rattle.rn_pattern.specs.Key.{name_writes}
+use Rattle.rn_pattern.specs.View.{name_class_view}
+use Rattle.rn_pattern.proofs.Gathering.{flat_map-through}
+use Rattle.rn_pattern.proofs.Hashing.{names_writes-list}
+use Rattle.rn_pattern.proofs.key.+hash_names.Goals as goal
+
+pub hash_name_classes-returns : goal.hash_name_classes-returns
+hash_name_classes-returns g t c =
+    let cs = c.args.classes.now in
+    c.loop-class.invariant
+    ∙ ap (fold g.H.Hasher.write c.args.state.now)
+    (ap (flat_map (λ n. name_writes (name_class_view n))) (take_all c.loop-class.class-index cs (omega arith))
+    ∙ flat_map-through name_writes name_class_view cs ∙ sym (names_writes-list (map name_class_view cs)))

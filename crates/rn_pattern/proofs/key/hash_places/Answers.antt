@@ -1,0 +1,13 @@
+use Rattle.std.proofs.Common.{fold, flat_map, ap, ◌∙◌, arith}
+use Rattle.std.specs.Hash as fed
+use Rattle.std.proofs.lemmas.List.{take_all}
+use Rattle.rn_pattern.proofs.Gathering.{flat_map-through}
+use Rattle.rn_pattern.specs.declared.node.NodeId.{NodeId}
+use Rattle.rn_pattern.proofs.key.hash_places.Goals as goal
+
+pub returns : goal.returns
+returns g c =
+    let ids = c.args.ids.now in
+    c.loop-id.invariant
+    ∙ ap (fold g.H.Hasher.write c.args.state.now)
+    (ap (flat_map (λ (i : NodeId). fed.usize i.0)) (take_all c.loop-id.id-index ids (omega arith)) ∙ flat_map-through fed.usize (λ (i : NodeId). i.0) ids)

@@ -1,0 +1,42 @@
+-- What the ids of a store of patterns stand for.
+use Rattle.std.specs.Prelude.{◌≡◌, ◌++◌, ◌∷◌, [], ℕ, ◌<◌, List, All, map, length, slice_index_or, nat_lt, Bool, IsTrue, Option, Some, None, String, string_bytes, Vec, ⊤}
+use Rattle.std.specs.declared.alloc.Global.{Global}
+use Rattle.rn_pattern.specs.Tree as tree
+use Rattle.rn_pattern.specs.Tree.{Text, Parameters, Tree, trees_of}
+use Rattle.rn_pattern.specs.Canonical.{datum_but_step}
+use Rattle.rn_pattern.specs.View.{name_class_view, parameters_view}
+use Rattle.rn_pattern.specs.declared.node.Node.{Node}
+
+-- the tree of a node, by those of the ids in it
+abbrev pub node_view : {I : Type 0} → (I → Tree) → Node I → Tree
+node_view at Node.NotAllowed = tree.not_allowed
+node_view at Node.Empty = tree.empty
+node_view at Node.Text = tree.text
+node_view at (Node.Ref x) = tree.ref (string_bytes x)
+node_view at (Node.Value l x t) = tree.value (string_bytes l) (string_bytes x) (string_bytes t)
+node_view at (Node.Datum l x ps None) = tree.datum (string_bytes l) (string_bytes x) (parameters_view ps.items)
+node_view at (Node.Datum l x ps (Some i)) = tree.datum_but (string_bytes l) (string_bytes x) (parameters_view ps.items) (at i)
+node_view at (Node.List i) = tree.list (at i)
+node_view at (Node.Attribute c i) = tree.attribute (name_class_view c) (at i)
+node_view at (Node.Element c i) = tree.element (name_class_view c) (at i)
+node_view at (Node.OneOrMore i) = tree.one_or_more (at i)
+node_view at (Node.Group is) = tree.group (trees_of (map at is.items))
+node_view at (Node.Interleave is) = tree.interleave (trees_of (map at is.items))
+node_view at (Node.Choice is) = tree.choice (trees_of (map at is.items))
+
+-- each id of the old store is one of the new, and stands for the same tree
+abbrev pub KeepsTrees : {I : Type 0} → (I → Bool) → (I → Tree) → (I → Bool) → (I → Tree) → Type 0
+KeepsTrees {I} knows tree_of knows' tree_of' = (i : I) → IsTrue (knows i) → IsTrue (knows' i) × (tree_of' i ≡ tree_of i)
+
+-- the id is one of the store's, and stands for the tree
+abbrev pub StandsFor : {I : Type 0} → (I → Bool) → (I → Tree) → Tree → I → Type 0
+StandsFor knows tree_of t i = IsTrue (knows i) × (tree_of i ≡ t)
+
+-- a datatype, with or without an except (4.16 and 6.2.8), and its canonical step
+abbrev pub datum_by : Text → Text → Parameters → Option Tree → Tree
+datum_by library type params None = tree.datum library type params
+datum_by library type params (Some p) = tree.datum_but library type params p
+
+abbrev pub datum_step : Text → Text → Parameters → Option Tree → Tree
+datum_step library type params None = tree.datum library type params
+datum_step library type params (Some p) = datum_but_step library type params p

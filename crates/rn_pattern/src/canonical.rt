@@ -1,0 +1,228 @@
+// One step of the canonical form: what a constructor makes of parts that are canonical (RELAX NG 2001, 4.20 and 4.21).
+ghost use Rattle.std.specs.Prelude.{◌≡◌, All, IfOk, IsTrue, List, IfSome, flat_map, map};
+ghost use Rattle.std.specs.Option.{option_map};
+ghost use Rattle.rn_pattern.specs.Canonical.{attribute_step, canonical_name, choice_step, group_step, has_not_allowed, interleave_step, list_step, one_or_more_step, sorted, sorted_once};
+ghost use Rattle.rn_pattern.specs.Lists.{listed, members_by};
+ghost use Rattle.rn_pattern.specs.Nodes.{knows, tree_at};
+ghost use Rattle.rn_pattern.specs.Order.{tree_cmp};
+ghost use Rattle.rn_pattern.specs.Reduced.{IsReducedIn, reduced_tree};
+ghost use Rattle.rn_pattern.specs.Store.{datum_by, datum_step};
+ghost use Rattle.rn_pattern.specs.Table.{trees};
+ghost use Rattle.rn_pattern.specs.Tree.{Parameters, Text, Tree};
+ghost use Rattle.rn_pattern.specs.View.{name_class_view, parameters_view};
+
+use crate::connector::Connector;
+use crate::node::{Node, NodeId};
+use crate::node_table::NodeTable;
+use crate::tree::NameClass;
+use std::alloc::{AllocError, Global};
+use std::cmp::Ordering;
+
+// A pattern in canonical form: one that the store has, or a node to be stored.
+#[derive(Drop)]
+pub enum Reduced {
+    Stored(NodeId),
+    New(Node<NodeId>),
+}
+
+pub fn datum(
+    nodes: &NodeTable<'_>,
+    alloc: Global,
+    library: &str,
+    type_name: &str,
+    params: &[(String, String)],
+    except: Option<NodeId>,
+) -> Result<Reduced, AllocError>
+    requires { IfSome except (λ i. IsTrue (knows (trees nodes.now) i)) }
+    ensures tree { IfOk result (λ r. reduced_tree (trees nodes.now) r ≡ datum_step library.now type_name.now
+        (parameters_view params.now) (option_map (tree_at (trees nodes.now)) except)) }
+    ensures stored { IfOk result (IsReducedIn (trees nodes.now)) }
+{
+    let library = String::from_str(alloc, library)?;
+    let type_name = String::from_str(alloc, type_name)?;
+    let params = params.to_vec(alloc)?;
+    Ok(Reduced::New(Node::Datum(library, type_name, params, excepted(nodes, except))))
+}
+
+// The except, if it isn't notAllowed.
+fn excepted(nodes: &NodeTable<'_>, except: Option<NodeId>) -> Option<NodeId>
+    requires { IfSome except (λ i. IsTrue (knows (trees nodes.now) i)) }
+    ensures tree { (library type : Text) (params : Parameters)
+        → datum_by library type params (option_map (tree_at (trees nodes.now)) result)
+        ≡ datum_step library type params (option_map (tree_at (trees nodes.now)) except) }
+    ensures known { IfSome result (λ i. IsTrue (knows (trees nodes.now) i)) }
+{
+    match except {
+        Some(id) => {
+            if nodes.is_not_allowed(id) {
+                None
+            } else {
+                Some(id)
+            }
+        }
+        None => None,
+    }
+}
+
+pub fn list(nodes: &NodeTable<'_>, content: NodeId) -> Reduced
+    requires { IsTrue (knows (trees nodes.now) content) }
+    ensures tree { reduced_tree (trees nodes.now) result ≡ list_step (tree_at (trees nodes.now) content) }
+    ensures stored { IsReducedIn (trees nodes.now) result }
+{
+    if nodes.is_not_allowed(content) {
+        Reduced::Stored(content)
+    } else {
+        Reduced::New(Node::List(content))
+    }
+}
+
+pub fn attribute(
+    nodes: &NodeTable<'_>,
+    alloc: Global,
+    nc: &NameClass,
+    content: NodeId,
+) -> Result<Reduced, AllocError>
+    requires { IsTrue (knows (trees nodes.now) content) }
+    ensures tree { IfOk result (λ r. reduced_tree (trees nodes.now) r
+        ≡ attribute_step (canonical_name (name_class_view nc.now)) (tree_at (trees nodes.now) content)) }
+    ensures stored { IfOk result (IsReducedIn (trees nodes.now)) }
+{
+    if nodes.is_not_allowed(content) {
+        Ok(Reduced::Stored(content))
+    } else {
+        Ok(Reduced::New(Node::Attribute(nc.canonical(alloc)?, content)))
+    }
+}
+
+pub fn one_or_more(nodes: &NodeTable<'_>, content: NodeId) -> Reduced
+    requires { IsTrue (knows (trees nodes.now) content) }
+    ensures tree { reduced_tree (trees nodes.now) result ≡ one_or_more_step (tree_at (trees nodes.now) content) }
+    ensures stored { IsReducedIn (trees nodes.now) result }
+{
+    match nodes.get(content) {
+        Node::NotAllowed => Reduced::Stored(content),
+        Node::Empty => Reduced::Stored(content),
+        Node::OneOrMore(_) => Reduced::Stored(content),
+        _ => Reduced::New(Node::OneOrMore(content)),
+    }
+}
+
+pub fn choice(
+    nodes: &NodeTable<'_>,
+    alloc: Global,
+    members: &[NodeId],
+) -> Result<Reduced, AllocError>
+    requires { All (λ i. IsTrue (knows (trees nodes.now) i)) members.now }
+    ensures tree { IfOk result (λ r. reduced_tree (trees nodes.now) r
+        ≡ choice_step (map (tree_at (trees nodes.now)) members.now)) }
+    ensures stored { IfOk result (IsReducedIn (trees nodes.now)) }
+{
+    let members = opened(nodes, alloc, Connector::Choice, members)?;
+    let members = sorted_once(nodes, members)?;
+    Ok(listed(Connector::Choice, members))
+}
+
+pub fn group(
+    nodes: &NodeTable<'_>,
+    alloc: Global,
+    members: &[NodeId],
+) -> Result<Reduced, AllocError>
+    requires { All (λ i. IsTrue (knows (trees nodes.now) i)) members.now }
+    ensures tree { IfOk result (λ r. reduced_tree (trees nodes.now) r
+        ≡ group_step (map (tree_at (trees nodes.now)) members.now)) }
+    ensures stored { IfOk result (IsReducedIn (trees nodes.now)) }
+{
+    if has_not_allowed(nodes, members) {
+        return Ok(Reduced::New(Node::NotAllowed));
+    }
+    let members = opened(nodes, alloc, Connector::Group, members)?;
+    Ok(listed(Connector::Group, members))
+}
+
+pub fn interleave(
+    nodes: &NodeTable<'_>,
+    alloc: Global,
+    members: &[NodeId],
+) -> Result<Reduced, AllocError>
+    requires { All (λ i. IsTrue (knows (trees nodes.now) i)) members.now }
+    ensures tree { IfOk result (λ r. reduced_tree (trees nodes.now) r
+        ≡ interleave_step (map (tree_at (trees nodes.now)) members.now)) }
+    ensures stored { IfOk result (IsReducedIn (trees nodes.now)) }
+{
+    if has_not_allowed(nodes, members) {
+        return Ok(Reduced::New(Node::NotAllowed));
+    }
+    let members = opened(nodes, alloc, Connector::Interleave, members)?;
+    let members = sorted(nodes, members)?;
+    Ok(listed(Connector::Interleave, members))
+}
+
+fn has_not_allowed(nodes: &NodeTable<'_>, members: &[NodeId]) -> bool
+    ensures { result ≡ has_not_allowed (map (tree_at (trees nodes.now)) members.now) }
+{
+    for member in members {
+        if nodes.is_not_allowed(*member) {
+            return true;
+        }
+    }
+    false
+}
+
+// The members of a list of the parts, with those of the lists of its kind among them.
+fn opened(
+    nodes: &NodeTable<'_>,
+    alloc: Global,
+    connector: Connector,
+    parts: &[NodeId],
+) -> Result<Vec<NodeId>, AllocError>
+    requires { All (λ i. IsTrue (knows (trees nodes.now) i)) parts.now }
+    ensures members { IfOk result (λ v. map (tree_at (trees nodes.now)) v.items
+        ≡ flat_map (members_by connector) (map (tree_at (trees nodes.now)) parts.now)) }
+    ensures known { IfOk result (λ v. All (λ i. IsTrue (knows (trees nodes.now) i)) v.items) }
+{
+    let mut members = Vec::new(alloc);
+    for part in parts {
+        match connector.members_of(nodes.get(*part)) {
+            Some(within) => members.extend_from_slice(within)?,
+            None => members.push(*part)?,
+        }
+    }
+    Ok(members)
+}
+
+// The members in order.
+fn sorted(nodes: &NodeTable<'_>, mut members: Vec<NodeId>) -> Result<Vec<NodeId>, AllocError>
+    requires { All (λ i. IsTrue (knows (trees nodes.now) i)) members.items }
+    ensures sorted { IfOk result (λ v. map (tree_at (trees nodes.now)) v.items
+        ≡ sorted tree_cmp (map (tree_at (trees nodes.now)) members.items)) }
+    ensures known { IfOk result (λ v. All (λ i. IsTrue (knows (trees nodes.now) i)) v.items) }
+{
+    members.sort_by(|a, b| nodes.compare(*a, *b))?;
+    Ok(members)
+}
+
+// The members in order, without repeats. Equal ids go first, before any patterns are compared.
+fn sorted_once(nodes: &NodeTable<'_>, mut members: Vec<NodeId>) -> Result<Vec<NodeId>, AllocError>
+    requires { All (λ i. IsTrue (knows (trees nodes.now) i)) members.items }
+    ensures sorted { IfOk result (λ v. map (tree_at (trees nodes.now)) v.items
+        ≡ sorted_once tree_cmp (map (tree_at (trees nodes.now)) members.items)) }
+    ensures known { IfOk result (λ v. All (λ i. IsTrue (knows (trees nodes.now) i)) v.items) }
+{
+    members.sort_by(|a, b| nodes.compare(*a, *b))?;
+    members.dedup_by(|a, b| nodes.compare(*a, *b) == Ordering::Equal);
+    Ok(members)
+}
+
+// A list of the members; the member itself if there is one.
+fn listed(connector: Connector, members: Vec<NodeId>) -> Reduced
+    ensures tree { (ts : List Tree) → reduced_tree ts result ≡ listed connector (map (tree_at ts) members.items) }
+    ensures stored { (ts : List Tree) → All (λ i. IsTrue (knows ts i)) members.items → IsReducedIn ts result }
+{
+    if members.is_empty() {
+        return Reduced::New(connector.neutral());
+    }
+    if members.len() == 1 {
+        return Reduced::Stored(members[0]);
+    }
+    Reduced::New(connector.node(members))
+}

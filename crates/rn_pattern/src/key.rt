@@ -1,0 +1,109 @@
+// Nodes as keys: when two are equal, and their hash.
+ghost use Rattle.std.specs.Prelude.{◌≡◌, flat_map, fold, map};
+ghost use Rattle.std.specs.Hash as fed;
+ghost use Rattle.rn_pattern.specs.Key.{name_writes, names_writes, node_eq, node_writes, parameters_writes};
+ghost use Rattle.rn_pattern.specs.Tree.{name_trees_of};
+ghost use Rattle.rn_pattern.specs.View.{name_class_view, parameters_view};
+ghost use Rattle.rn_pattern.specs.Key.{node_eq_equiv, node_eq_writes};
+ghost use Rattle.std.specs.Cmp.{partial_equiv_from_equiv};
+
+use crate::node::{Node, NodeId};
+use crate::parts::{compare_heads, parts_of};
+use crate::tree::NameClass;
+use std::cmp::Ordering;
+use std::hash::{Hash, Hasher};
+
+impl PartialEq for Node<NodeId> {
+    ghost eq = { node_eq };
+
+    ghost laws = { partial_equiv_from_equiv node_eq_equiv };
+
+    fn eq(&self, other: &Node<NodeId>) -> bool {
+        let x = parts_of(self);
+        let y = parts_of(other);
+        match compare_heads(x, y) {
+            Ordering::Equal => x.members == y.members,
+            _ => false,
+        }
+    }
+}
+
+impl Eq for Node<NodeId> {
+    ghost laws = { node_eq_equiv };
+}
+
+impl Hash for Node<NodeId> {
+    ghost hash_input = { node_writes };
+
+    ghost respects_eq = { node_eq_writes };
+
+    fn hash<H: Hasher>(&self, state: &mut H) {
+        let parts = parts_of(self);
+        state.write_u8(parts.kind);
+        parts.first.hash(state);
+        parts.second.hash(state);
+        parts.third.hash(state);
+        hash_parameters(parts.parameters, state);
+        if let Some(class) = parts.class {
+            hash_name_class(class, state);
+        }
+        hash_places(parts.members, state);
+    }
+}
+
+fn hash_parameters<H: Hasher>(parameters: &[(String, String)], state: &mut H)
+    ensures { state.new ≡ fold H.write state.old (parameters_writes (parameters_view parameters.now)) }
+{
+    for (name, value) in parameters {
+        name.hash(state);
+        value.hash(state);
+    }
+}
+
+fn hash_places<H: Hasher>(ids: &[NodeId], state: &mut H)
+    ensures { state.new ≡ fold H.write state.old (flat_map fed.usize (map (λ i. i.0) ids.now)) }
+{
+    for id in ids {
+        state.write_usize(id.0);
+    }
+}
+
+#[cycle(hash_names)]
+fn hash_name_class<H: Hasher>(class: &NameClass, state: &mut H)
+    ensures { state.new ≡ fold H.write state.old (name_writes (name_class_view class.now)) }
+{
+    match class {
+        NameClass::AnyName(None) => state.write_u8(0),
+        NameClass::AnyName(Some(except)) => {
+            state.write_u8(1);
+            hash_name_class(except, state);
+        }
+        NameClass::NsName(uri, None) => {
+            state.write_u8(2);
+            uri.hash(state);
+        }
+        NameClass::NsName(uri, Some(except)) => {
+            state.write_u8(3);
+            uri.hash(state);
+            hash_name_class(except, state);
+        }
+        NameClass::Name(uri, local) => {
+            state.write_u8(4);
+            uri.hash(state);
+            local.hash(state);
+        }
+        NameClass::Choice(members) => {
+            state.write_u8(5);
+            hash_name_classes(members, state);
+        }
+    }
+}
+
+#[cycle(hash_names)]
+fn hash_name_classes<H: Hasher>(classes: &[NameClass], state: &mut H)
+    ensures { state.new ≡ fold H.write state.old (names_writes (name_trees_of (map name_class_view classes.now))) }
+{
+    for class in classes {
+        hash_name_class(class, state);
+    }
+}

@@ -1,0 +1,83 @@
+// The nodes of a store, each of which names earlier ones by their places.
+ghost use Rattle.std.specs.Prelude.{◌≡◌, ◌∷◌, [], IsTrue, option_copied};
+ghost use Rattle.rn_pattern.specs.Nodes.{NamesBelow, NameEarlier, NameEarlier-prop, knows, tree_at};
+ghost use Rattle.rn_pattern.specs.Canonical.{is_not_allowed};
+ghost use Rattle.rn_pattern.specs.Order.{tree_cmp};
+ghost use Rattle.rn_pattern.specs.Shown.{ShowsTree};
+ghost use Rattle.rn_pattern.specs.Store.{node_view};
+
+use crate::node::{Node, NodeId};
+use crate::parts::{Parts, compare_heads, parts_of, parts_of_none};
+use std::cmp::Ordering;
+
+#[derive(Clone, Copy)]
+pub struct NodeTable<'a> {
+    pub nodes: &'a [Node<NodeId>],
+    ghost earlier: { NameEarlier 0 nodes.now } by { NameEarlier-prop 0 nodes.now },
+}
+
+impl<'a> NodeTable<'a> {
+    ghost use Rattle.rn_pattern.specs.Table.{trees};
+
+    pub fn get(&self, id: NodeId) -> &'a Node<NodeId>
+        requires { IsTrue (knows (trees self.now) id) }
+        ensures tree { node_view (tree_at (trees self.now)) result.now ≡ tree_at (trees self.now) id }
+        ensures below { NamesBelow id.0 result.now }
+    {
+        prove!(id.0 < self.nodes.len());
+        &self.nodes[id.0]
+    }
+
+    // The parts of the pattern at a place, of notAllowed where there is none.
+    fn parts(&self, id: NodeId) -> Parts<'a>
+        ensures { ShowsTree (tree_at (trees self.now)) (tree_at (trees self.now) id) id.0 result.kind
+            (result.first.now ∷ result.second.now ∷ result.third.now ∷ []) result.parameters.now
+            (option_copied result.class) result.members.now }
+    {
+        if id.0 < self.nodes.len() {
+            parts_of(self.get(id))
+        } else {
+            parts_of_none()
+        }
+    }
+
+    // Whether notAllowed stands at the place, or nothing.
+    pub fn is_not_allowed(&self, id: NodeId) -> bool
+        ensures { result ≡ is_not_allowed (tree_at (trees self.now) id) }
+    {
+        if id.0 < self.nodes.len() {
+            matches!(self.get(id), Node::NotAllowed)
+        } else {
+            true
+        }
+    }
+
+    // The order of the patterns at two places. A place that isn't the table's counts as notAllowed.
+    pub fn compare(&self, a: NodeId, b: NodeId) -> Ordering
+        ensures { result ≡ tree_cmp (tree_at (trees self.now) a) (tree_at (trees self.now) b) }
+    {
+        if a.0 == b.0 {
+            return Ordering::Equal;
+        }
+        let x = self.parts(a);
+        let y = self.parts(b);
+        match compare_heads(x, y) {
+            Ordering::Equal => {}
+            order => return order,
+        }
+        for (k, i) in x.members.iter().enumerate() {
+            if k >= y.members.len() {
+                return Ordering::Greater;
+            }
+            match self.compare(*i, y.members[k]) {
+                Ordering::Equal => {}
+                order => return order,
+            }
+        }
+        if x.members.len() < y.members.len() {
+            Ordering::Less
+        } else {
+            Ordering::Equal
+        }
+    }
+}

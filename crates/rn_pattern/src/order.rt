@@ -1,0 +1,158 @@
+// The order of name classes and of patterns: by kind, then by the parts from left to right.
+ghost use Rattle.std.specs.Prelude.{◌≡◌, map};
+ghost use Rattle.rn_pattern.specs.Order.{name_cmp, name_rank, names_cmp, rank};
+ghost use Rattle.rn_pattern.specs.Tree.{name_trees_of};
+ghost use Rattle.rn_pattern.specs.View.{except_view, name_class_view, pattern_view};
+
+use crate::tree::{NameClass, Pattern};
+use std::cmp::Ordering;
+use std::rc::Rc;
+
+impl NameClass {
+    // The place of the kind in the order.
+    fn rank(&self) -> u8
+        ensures { result ≡ name_rank (name_class_view self.now) }
+    {
+        match self {
+            NameClass::AnyName(_) => 0,
+            NameClass::NsName(_, _) => 1,
+            NameClass::Name(_, _) => 2,
+            NameClass::Choice(_) => 3,
+        }
+    }
+
+    /// The order of name classes: anyName, nsName, name, choice. Texts are compared by bytes, the namespace before the local
+    /// name; no except stands before an except, and a list before each longer one that it begins.
+    #[cycle(compare_names)]
+    pub fn cmp(&self, other: &NameClass) -> Ordering
+        ensures { result ≡ name_cmp (name_class_view self.now) (name_class_view other.now) }
+    {
+        match (self, other) {
+            (NameClass::AnyName(c), NameClass::AnyName(d)) => compare_excepts(c, d),
+            (NameClass::NsName(u, c), NameClass::NsName(v, d)) => match u.cmp(v) {
+                Ordering::Equal => compare_excepts(c, d),
+                order => order,
+            },
+            (NameClass::Name(u, l), NameClass::Name(v, m)) => u.cmp(v).then(l.cmp(m)),
+            (NameClass::Choice(cs), NameClass::Choice(ds)) => compare_name_classes(cs, ds),
+            _ => self.rank().cmp(&other.rank()),
+        }
+    }
+}
+
+#[cycle(compare_names)]
+fn compare_excepts(c: &Option<Box<NameClass>>, d: &Option<Box<NameClass>>) -> Ordering
+    ensures { result ≡ names_cmp (except_view c.now) (except_view d.now) }
+{
+    match (c, d) {
+        (None, None) => Ordering::Equal,
+        (None, Some(_)) => Ordering::Less,
+        (Some(_), None) => Ordering::Greater,
+        (Some(c), Some(d)) => c.cmp(d),
+    }
+}
+
+#[cycle(compare_names)]
+fn compare_name_classes(cs: &[NameClass], ds: &[NameClass]) -> Ordering
+    ensures { result ≡ names_cmp (name_trees_of (map name_class_view cs.now)) (name_trees_of (map name_class_view ds.now)) }
+{
+    for (k, c) in cs.iter().enumerate() {
+        if k >= ds.len() {
+            return Ordering::Greater;
+        }
+        match c.cmp(&ds[k]) {
+            Ordering::Equal => {}
+            order => return order,
+        }
+    }
+    if cs.len() < ds.len() {
+        Ordering::Less
+    } else {
+        Ordering::Equal
+    }
+}
+
+impl Pattern {
+    // The place of the kind in the order.
+    fn rank(&self) -> u8
+        ensures { result ≡ rank (pattern_view self.now) }
+    {
+        match self {
+            Pattern::NotAllowed => 0,
+            Pattern::Empty => 1,
+            Pattern::Text => 2,
+            Pattern::Ref(_) => 3,
+            Pattern::Value(_, _, _) => 4,
+            Pattern::Datum(_, _, _, _) => 5,
+            Pattern::List(_) => 6,
+            Pattern::Attribute(_, _) => 7,
+            Pattern::Element(_, _) => 8,
+            Pattern::OneOrMore(_) => 9,
+            Pattern::Group(_) => 10,
+            Pattern::Interleave(_) => 11,
+            Pattern::Choice(_) => 12,
+        }
+    }
+
+    /// The order of patterns: notAllowed, empty, text, ref, value, data, list, attribute, element, oneOrMore, group,
+    /// interleave, choice; within a kind by the fields from left to right. Texts are compared by bytes; no except stands
+    /// before an except, and a list before each longer one that it begins.
+    #[cycle(compare_patterns)]
+    pub fn cmp(&self, other: &Pattern) -> Ordering {
+        match (self, other) {
+            (Pattern::Ref(x), Pattern::Ref(y)) => x.cmp(y),
+            (Pattern::Value(k, x, s), Pattern::Value(l, y, t)) => k
+                .cmp(l)
+                .then(x.cmp(y))
+                .then(s.cmp(t)),
+            (Pattern::Datum(k, x, s, p), Pattern::Datum(l, y, t, q)) => {
+                match k.cmp(l).then(x.cmp(y)).then(s.cmp(t)) {
+                    Ordering::Equal => compare_excepted(p, q),
+                    order => order,
+                }
+            }
+            (Pattern::List(p), Pattern::List(q)) => p.cmp(q),
+            (Pattern::Attribute(c, p), Pattern::Attribute(d, q)) => match c.cmp(d) {
+                Ordering::Equal => p.cmp(q),
+                order => order,
+            },
+            (Pattern::Element(c, p), Pattern::Element(d, q)) => match c.cmp(d) {
+                Ordering::Equal => p.cmp(q),
+                order => order,
+            },
+            (Pattern::OneOrMore(p), Pattern::OneOrMore(q)) => p.cmp(q),
+            (Pattern::Group(ps), Pattern::Group(qs)) => compare_patterns(ps, qs),
+            (Pattern::Interleave(ps), Pattern::Interleave(qs)) => compare_patterns(ps, qs),
+            (Pattern::Choice(ps), Pattern::Choice(qs)) => compare_patterns(ps, qs),
+            _ => self.rank().cmp(&other.rank()),
+        }
+    }
+}
+
+#[cycle(compare_patterns)]
+fn compare_excepted(p: &Option<Box<Pattern>>, q: &Option<Box<Pattern>>) -> Ordering {
+    match (p, q) {
+        (None, None) => Ordering::Equal,
+        (None, Some(_)) => Ordering::Less,
+        (Some(_), None) => Ordering::Greater,
+        (Some(p), Some(q)) => p.cmp(q),
+    }
+}
+
+#[cycle(compare_patterns)]
+fn compare_patterns(ps: &[Rc<Pattern>], qs: &[Rc<Pattern>]) -> Ordering {
+    for (k, p) in ps.iter().enumerate() {
+        if k >= qs.len() {
+            return Ordering::Greater;
+        }
+        match p.cmp(&qs[k]) {
+            Ordering::Equal => {}
+            order => return order,
+        }
+    }
+    if ps.len() < qs.len() {
+        Ordering::Less
+    } else {
+        Ordering::Equal
+    }
+}

@@ -1,0 +1,144 @@
+// What the order compares of a node, in turn.
+ghost use Rattle.std.specs.Prelude.{◌≡◌, ◌∷◌, [], option_copied};
+ghost use Rattle.std.specs.Ordering.{nat_cmp, ordering_then};
+ghost use Rattle.std.specs.Cmp.Lexicographic.{slice_cmp};
+ghost use Rattle.rn_pattern.specs.Order.{names_cmp, parameters_cmp, text_cmp};
+ghost use Rattle.rn_pattern.specs.Shown.{class_view};
+ghost use Rattle.rn_pattern.specs.View.{parameters_view};
+ghost use Rattle.rn_pattern.specs.Nodes.{node_class, node_members, node_parameters, node_rank, node_texts};
+
+use crate::node::{Node, NodeId};
+use crate::tree::NameClass;
+use std::cmp::Ordering;
+use std::slice;
+
+#[derive(Clone, Copy)]
+pub struct Parts<'a> {
+    pub kind: u8,
+    pub first: &'a str,
+    pub second: &'a str,
+    pub third: &'a str,
+    pub parameters: &'a [(String, String)],
+    pub class: Option<&'a NameClass>,
+    pub members: &'a [NodeId],
+}
+
+// The parts of a node that has its kind alone.
+fn bare<'a>(kind: u8) -> Parts<'a>
+    ensures kind { result.kind ≡ kind }
+    ensures texts { result.first.now ∷ result.second.now ∷ result.third.now ∷ [] ≡ [] ∷ [] ∷ [] ∷ [] }
+    ensures parameters { result.parameters.now ≡ [] }
+    ensures class { result.class ≡ None }
+    ensures members { result.members.now ≡ [] }
+{
+    Parts {
+        kind,
+        first: "",
+        second: "",
+        third: "",
+        parameters: &[],
+        class: None,
+        members: &[],
+    }
+}
+
+// The parts of notAllowed.
+pub fn parts_of_none<'a>() -> Parts<'a>
+    ensures kind { result.kind ≡ 0 }
+    ensures texts { result.first.now ∷ result.second.now ∷ result.third.now ∷ [] ≡ [] ∷ [] ∷ [] ∷ [] }
+    ensures parameters { result.parameters.now ≡ [] }
+    ensures class { result.class ≡ None }
+    ensures members { result.members.now ≡ [] }
+{
+    bare(0)
+}
+
+pub fn parts_of(node: &Node<NodeId>) -> Parts<'_>
+    ensures kind { result.kind ≡ node_rank node.now }
+    ensures texts { result.first.now ∷ result.second.now ∷ result.third.now ∷ [] ≡ node_texts node.now }
+    ensures parameters { result.parameters.now ≡ node_parameters node.now }
+    ensures class { option_copied result.class ≡ node_class node.now }
+    ensures members { result.members.now ≡ node_members node.now }
+{
+    match node {
+        Node::NotAllowed => bare(0),
+        Node::Empty => bare(1),
+        Node::Text => bare(2),
+        Node::Ref(name) => Parts {
+            first: name,
+            ..bare(3)
+        },
+        Node::Value(library, kind, text) => Parts {
+            first: library,
+            second: kind,
+            third: text,
+            ..bare(4)
+        },
+        Node::Datum(library, kind, parameters, except) => Parts {
+            first: library,
+            second: kind,
+            parameters,
+            members: except.as_slice(),
+            ..bare(5)
+        },
+        Node::List(content) => Parts {
+            members: slice::from_ref(content),
+            ..bare(6)
+        },
+        Node::Attribute(class, content) => Parts {
+            class: Some(class),
+            members: slice::from_ref(content),
+            ..bare(7)
+        },
+        Node::Element(class, content) => Parts {
+            class: Some(class),
+            members: slice::from_ref(content),
+            ..bare(8)
+        },
+        Node::OneOrMore(content) => Parts {
+            members: slice::from_ref(content),
+            ..bare(9)
+        },
+        Node::Group(members) => Parts {
+            members,
+            ..bare(10)
+        },
+        Node::Interleave(members) => Parts {
+            members,
+            ..bare(11)
+        },
+        Node::Choice(members) => Parts {
+            members,
+            ..bare(12)
+        },
+    }
+}
+
+// The order of two name classes, where none stands before one.
+fn compare_classes(x: Option<&NameClass>, y: Option<&NameClass>) -> Ordering
+    ensures { result ≡ names_cmp (class_view (option_copied x.entry)) (class_view (option_copied y.entry)) }
+{
+    match (x, y) {
+        (None, None) => Ordering::Equal,
+        (None, Some(_)) => Ordering::Less,
+        (Some(_), None) => Ordering::Greater,
+        (Some(c), Some(d)) => c.cmp(d),
+    }
+}
+
+// The order by all parts but the members.
+pub fn compare_heads(x: Parts, y: Parts) -> Ordering
+    ensures { result ≡ ordering_then (nat_cmp x.entry.kind y.entry.kind)
+        (ordering_then (slice_cmp text_cmp (x.entry.first.now ∷ x.entry.second.now ∷ x.entry.third.now ∷ [])
+        (y.entry.first.now ∷ y.entry.second.now ∷ y.entry.third.now ∷ []))
+        (ordering_then (parameters_cmp (parameters_view x.entry.parameters.now) (parameters_view y.entry.parameters.now))
+        (names_cmp (class_view (option_copied x.entry.class)) (class_view (option_copied y.entry.class))))) }
+{
+    x.kind
+        .cmp(&y.kind)
+        .then(x.first.cmp(y.first))
+        .then(x.second.cmp(y.second))
+        .then(x.third.cmp(y.third))
+        .then(x.parameters.cmp(y.parameters))
+        .then(compare_classes(x.class, y.class))
+}

@@ -1,0 +1,149 @@
+// The constructors of a store, written once for all ways in which nodes may lie.
+ghost use Rattle.std.specs.Prelude.{◌≡◌, ◌+◌, ◌≤◌, IfOk, IfSome, IsTrue, List, OnErr, length};
+ghost use Rattle.std.specs.Option.{option_map};
+ghost use Rattle.rn_pattern.specs.Nodes.{NamesBelow, knows, tree_at, trees_of_nodes};
+ghost use Rattle.rn_pattern.specs.Reduced.{IsReducedIn, reduced_tree};
+ghost use Rattle.rn_pattern.specs.Store.{KeepsTrees, StandsFor, datum_step, node_view};
+ghost use Rattle.rn_pattern.specs.Tree.{Tree};
+ghost use Rattle.rn_pattern.specs.View.{parameters_view};
+
+use crate::canonical::{self, Reduced};
+use crate::node::{Node, NodeId};
+use crate::node_table::NodeTable;
+use crate::patterns::Patterns;
+use crate::tree::NameClass;
+use std::alloc::{AllocError, Global};
+
+/// Where the nodes of a store lie, and how one is added.
+pub trait NodeStore {
+    // The trees of the ids, in the order of the ids.
+    ghost trees: { Self → List Tree };
+
+    fn allocator(&self) -> Global;
+
+    fn table(&self) -> NodeTable<'_>
+        ensures { trees_of_nodes result.nodes.now ≡ trees self.now };
+
+    /// The id of the node.
+    fn add(&mut self, node: Node<NodeId>) -> Result<NodeId, AllocError>
+        requires { NamesBelow (length (trees self.old)) node }
+        ensures made { IfOk result (StandsFor (knows (trees self.new)) (tree_at (trees self.new))
+            (node_view (tree_at (trees self.old)) node)) }
+        ensures kept { KeepsTrees (knows (trees self.old)) (tree_at (trees self.old))
+            (knows (trees self.new)) (tree_at (trees self.new)) }
+        ensures grows { length (trees self.new) ≤ length (trees self.old) + 1 }
+        ensures refused { OnErr result (trees self.new ≡ trees self.old) };
+}
+
+fn keep<S: NodeStore>(store: &mut S, pattern: Reduced) -> Result<NodeId, AllocError>
+    requires { IsReducedIn (S.trees store.old) pattern }
+    ensures made { IfOk result (StandsFor (knows (S.trees store.new)) (tree_at (S.trees store.new))
+        (reduced_tree (S.trees store.old) pattern)) }
+    ensures kept { KeepsTrees (knows (S.trees store.old)) (tree_at (S.trees store.old))
+        (knows (S.trees store.new)) (tree_at (S.trees store.new)) }
+    ensures grows { length (S.trees store.new) ≤ length (S.trees store.old) + 1 }
+    ensures refused { OnErr result (S.trees store.new ≡ S.trees store.old) }
+{
+    match pattern {
+        Reduced::Stored(id) => Ok(id),
+        Reduced::New(node) => store.add(node),
+    }
+}
+
+impl<S: NodeStore> Patterns for S {
+    type Id = NodeId;
+
+    ghost knows = { λ s i. knows (S.trees s) i };
+
+    ghost tree_of = { λ s i. tree_at (S.trees s) i };
+
+    ghost size = { λ s. length (S.trees s) };
+
+    fn node(&self, id: NodeId) -> &Node<NodeId> {
+        self.table().get(id)
+    }
+
+    fn not_allowed(&mut self) -> Result<NodeId, AllocError> {
+        self.add(Node::NotAllowed)
+    }
+
+    fn empty(&mut self) -> Result<NodeId, AllocError> {
+        self.add(Node::Empty)
+    }
+
+    fn text(&mut self) -> Result<NodeId, AllocError> {
+        self.add(Node::Text)
+    }
+
+    fn reference(&mut self, name: &str) -> Result<NodeId, AllocError> {
+        let name = String::from_str(self.allocator(), name)?;
+        self.add(Node::Ref(name))
+    }
+
+    fn value(&mut self, library: &str, type_name: &str, text: &str) -> Result<NodeId, AllocError> {
+        let library = String::from_str(self.allocator(), library)?;
+        let type_name = String::from_str(self.allocator(), type_name)?;
+        let text = String::from_str(self.allocator(), text)?;
+        self.add(Node::Value(library, type_name, text))
+    }
+
+    fn datum(
+        &mut self,
+        library: &str,
+        type_name: &str,
+        params: &[(String, String)],
+        except: Option<NodeId>,
+    ) -> Result<NodeId, AllocError>
+        requires { IfSome except (λ i. IsTrue (knows (S.trees self.old) i)) }
+        ensures made { IfOk result (StandsFor (knows (S.trees self.new)) (tree_at (S.trees self.new))
+            (datum_step library.now type_name.now (parameters_view params.now) (option_map (tree_at (S.trees self.old)) except))) }
+        ensures kept { KeepsTrees (knows (S.trees self.old)) (tree_at (S.trees self.old)) (knows (S.trees self.new)) (tree_at (S.trees self.new)) }
+        ensures grows { length (S.trees self.new) ≤ length (S.trees self.old) + 1 }
+        ensures refused { OnErr result (length (S.trees self.new) ≡ length (S.trees self.old)) }
+    {
+        let pattern = canonical::datum(
+            &self.table(),
+            self.allocator(),
+            library,
+            type_name,
+            params,
+            except,
+        )?;
+        keep(self, pattern)
+    }
+
+    fn list(&mut self, content: NodeId) -> Result<NodeId, AllocError> {
+        let pattern = canonical::list(&self.table(), content);
+        keep(self, pattern)
+    }
+
+    fn attribute(&mut self, nc: &NameClass, content: NodeId) -> Result<NodeId, AllocError> {
+        let pattern = canonical::attribute(&self.table(), self.allocator(), nc, content)?;
+        keep(self, pattern)
+    }
+
+    fn element(&mut self, nc: &NameClass, content: NodeId) -> Result<NodeId, AllocError> {
+        let nc = nc.canonical(self.allocator())?;
+        self.add(Node::Element(nc, content))
+    }
+
+    fn choice(&mut self, members: &[NodeId]) -> Result<NodeId, AllocError> {
+        let pattern = canonical::choice(&self.table(), self.allocator(), members)?;
+        keep(self, pattern)
+    }
+
+    fn group(&mut self, members: &[NodeId]) -> Result<NodeId, AllocError> {
+        let pattern = canonical::group(&self.table(), self.allocator(), members)?;
+        keep(self, pattern)
+    }
+
+    fn ileave(&mut self, members: &[NodeId]) -> Result<NodeId, AllocError> {
+        let pattern = canonical::interleave(&self.table(), self.allocator(), members)?;
+        keep(self, pattern)
+    }
+
+    fn one_or_more(&mut self, content: NodeId) -> Result<NodeId, AllocError> {
+        let pattern = canonical::one_or_more(&self.table(), content);
+        keep(self, pattern)
+    }
+}

@@ -1,0 +1,107 @@
+-- What is appended to a text up to a limit, and the brackets that are open at its end.
+use Rattle.std.specs.Prelude.{◌≡◌, ℕ, ◌+◌, ◌-◌, ◌<◌, ◌≤◌, Bool, true, false, cond, ◌&&◌, ◌||◌, List, [], ◌∷◌, ◌++◌, length, codes, Option, Some, None, option_and_then, nat_lt, bytes_eq, map, string_bytes}
+use Rattle.std.specs.Str.{encode_utf8_all}
+use Rattle.rn_text.specs.declared.parts.Part.{Part}
+use Rattle.rn_text.specs.declared.parts.Part.TheVariants.{Token}
+use Rattle.rn_text.specs.declared.parts.Kind.{Kind}
+use Rattle.rn_text.specs.declared.parts.Kind.TheVariants.{Symbol}
+use Rattle.rn_text.specs.Parts.{Piece, text_of}
+use Rattle.rn_pattern.specs.Tree.{Text}
+use Rattle.rn_simplify.specs.declared.writer.Writer.{Writer}
+use Rattle.rn_simplify.specs.declared.writer.Stop.{Stop}
+use Rattle.rn_simplify.specs.declared.writer.Stop.TheVariants.{TooLarge}
+use Rattle.rn_simplify.specs.declared.shapes.Shape.{Shape}
+use Rattle.rn_simplify.specs.declared.shapes.Shape.TheVariants.{Closed, Postfixed, Chained}
+use Rattle.rn_simplify.specs.declared.declarations.Prefixes as code
+use Rattle.rn_simplify.specs.Spelling as s
+use Rattle.rn_simplify.specs.Spelling.{closed, postfixed, chained, Written, written_tree}
+use Rattle.std.specs.declared.rc.Rc.{Rc}
+use Rattle.std.specs.declared.alloc.Global.{Global}
+use Rattle.rn_pattern.specs.declared.tree.Pattern.{Pattern}
+use Rattle.rn_pattern.specs.View.{pattern_view}
+
+-- the pieces in bytes
+abbrev pub bytes_of : List Piece → Text
+bytes_of ps = encode_utf8_all (text_of ps)
+
+-- the most bytes of a text
+abbrev pub most_bytes : ℕ
+most_bytes = 4194304
+
+-- the most brackets that are open at once
+abbrev pub most_open : ℕ
+most_open = 256
+
+pub data Bracket : Type 0 where
+  opening : Bracket
+  closing : Bracket
+  none : Bracket
+
+abbrev pub is_opening : List ℕ → Bool
+is_opening s = bytes_eq (codes "{") s || (bytes_eq (codes "(") s || bytes_eq (codes "[") s)
+
+abbrev pub is_closing : List ℕ → Bool
+is_closing s = bytes_eq (codes "}") s || (bytes_eq (codes ")") s || bytes_eq (codes "]") s)
+
+abbrev pub symbol_bracket : List ℕ → Bracket
+symbol_bracket s = cond (is_opening s) opening (cond (is_closing s) closing none)
+
+abbrev pub bracket_of : Part → List ℕ → Bracket
+bracket_of (Token Symbol) s = symbol_bracket s
+bracket_of p s = none
+
+-- the brackets that are open behind one; None: too many were open at once
+abbrev pub depth_behind : Bracket → ℕ → Option ℕ
+depth_behind opening n = cond (nat_lt n most_open) (Some (n + 1)) None
+depth_behind closing n = Some (n - 1)
+depth_behind none n = Some n
+
+-- the same behind pieces
+abbrev pub depth_after : List Piece → ℕ → Option ℕ
+depth_after [] n = Some n
+depth_after (p ∷ ps) n = option_and_then (depth_after ps) (depth_behind (bracket_of p.part p.spelling) n)
+
+abbrev pub depth_of : Writer → Option ℕ
+depth_of w = cond w.too_deep None (Some w.depth)
+
+-- the pieces are appended to what is written
+pub record Appends (ps : List Piece) (a b : Writer) : Type 0 where
+  pub text : string_bytes b.text ≡ string_bytes a.text ++ bytes_of ps
+  pub depth : depth_of b ≡ option_and_then (depth_after ps) (depth_of a)
+
+-- the text has no more bytes than it may have
+abbrev pub IsWithin : Writer → Type 0
+IsWithin w = length (string_bytes w.text) ≤ most_bytes
+
+-- the pieces are appended, unless the writer is stopped
+pub record Writes (ps : List Piece) (a b : Writer) : Type 0 where
+  pub stays : (s : Stop) → a.stopped ≡ Some s → b.stopped ≡ Some s
+  pub appends : b.stopped ≡ None → Appends ps a b
+  pub within : b.stopped ≡ None → IsWithin a → IsWithin b
+  pub too_large : a.stopped ≡ None → b.stopped ≡ Some TooLarge → most_bytes < length (string_bytes a.text ++ bytes_of ps)
+
+-- the bytes are appended, and a bracket or none is opened or closed, unless the writer is stopped
+pub record WritesBytes (bs : Text) (k : Bracket) (a b : Writer) : Type 0 where
+  pub stays : (s : Stop) → a.stopped ≡ Some s → b.stopped ≡ Some s
+  pub text : b.stopped ≡ None → string_bytes b.text ≡ string_bytes a.text ++ bs
+  pub depth : b.stopped ≡ None → depth_of b ≡ option_and_then (depth_behind k) (depth_of a)
+  pub within : b.stopped ≡ None → IsWithin a → IsWithin b
+  pub too_large : a.stopped ≡ None → b.stopped ≡ Some TooLarge → most_bytes < length (string_bytes a.text ++ bs)
+
+abbrev pub shape_view : Shape → s.Shape
+shape_view Closed = closed
+shape_view Postfixed = postfixed
+shape_view Chained = chained
+
+-- the texts that have prefixes, in their order
+abbrev pub prefixes_view : code.Prefixes → s.Prefixes
+prefixes_view f = record { namespaces = map (λ u. string_bytes u) f.namespaces.keys; libraries = map (λ l. string_bytes l) f.libraries.keys }
+
+-- the members of a list as they are written
+abbrev pub rows_of : s.Prefixes → List (Rc Pattern Global) → List Written
+rows_of f ps = map (λ (p : Rc Pattern Global). written_tree f (pattern_view p.value)) ps
+
+-- the first of them passes
+abbrev pub begins : (Written → Bool) → List Written → Bool
+begins p [] = false
+begins p (w ∷ ws) = p w

@@ -1,0 +1,121 @@
+// A text that is written piece by piece, up to a limit.
+ghost use Rattle.std.specs.Prelude.{◌≡◌, ◌∷◌, [], ◌++◌, None, cond, chars, decimal, false, string_bytes};
+ghost use Rattle.rn_text.specs.Characters.{is_keyword};
+ghost use Rattle.rn_text.specs.Literals.{literal_bytes};
+ghost use Rattle.rn_simplify.specs.Writes.{WritesBytes, opening, closing, none};
+
+use std::alloc::Global;
+
+use rn_text::{is_keyword, write_literal};
+
+/// The most bytes that a printed text has.
+pub(crate) const MOST_BYTES: usize = 4_194_304;
+
+/// The most brackets that are open at once.
+pub(crate) const MOST_OPEN: usize = 256;
+
+/// Why no more is written.
+#[derive(Clone, Copy, PartialEq, Eq)]
+pub(crate) enum Stop {
+    /// The text would have more than [`MOST_BYTES`] bytes.
+    TooLarge,
+    Memory,
+}
+
+/// A text, and the brackets that are open at its end. Once it is stopped nothing more is written.
+#[derive(Drop)]
+pub(crate) struct Writer {
+    pub(crate) text: String,
+    pub(crate) depth: usize,
+    /// More than [`MOST_OPEN`] brackets were open at once.
+    pub(crate) too_deep: bool,
+    pub(crate) stopped: Option<Stop>,
+}
+
+impl Writer {
+    pub(crate) fn new(alloc: Global) -> Writer
+        ensures text { string_bytes result.text ≡ [] }
+        ensures outside { result.depth ≡ 0 }
+        ensures shallow { result.too_deep ≡ false }
+        ensures goes { result.stopped ≡ None }
+    {
+        Writer {
+            text: String::new(alloc),
+            depth: 0,
+            too_deep: false,
+            stopped: None,
+        }
+    }
+
+    /// Appends pieces that are no brackets.
+    pub(crate) fn put(&mut self, pieces: &str)
+        ensures { WritesBytes pieces.now none self.old self.new }
+    {
+        if self.stopped.is_some() {
+            return;
+        }
+        if self.text.push_str(pieces).is_err() {
+            self.stopped = Some(Stop::Memory);
+        } else if self.text.len() > MOST_BYTES {
+            self.stopped = Some(Stop::TooLarge);
+        }
+    }
+
+    /// Appends an opening bracket, with the spaces round it.
+    pub(crate) fn open_bracket(&mut self, bracket: &str)
+        ensures { WritesBytes bracket.now opening self.old self.new }
+    {
+        self.put(bracket);
+        if self.depth < MOST_OPEN {
+            self.depth += 1;
+        } else {
+            self.too_deep = true;
+        }
+    }
+
+    /// Appends a closing bracket, with the spaces round it.
+    pub(crate) fn close_bracket(&mut self, bracket: &str)
+        ensures { WritesBytes bracket.now closing self.old self.new }
+    {
+        self.put(bracket);
+        self.depth = self.depth.saturating_sub(1);
+    }
+
+    /// Appends the literal of a text.
+    pub(crate) fn literal(&mut self, text: &str)
+        ensures { WritesBytes (literal_bytes text.now) none self.old self.new }
+    {
+        if self.stopped.is_some() {
+            return;
+        }
+        if write_literal(&mut self.text, text).is_err() {
+            self.stopped = Some(Stop::Memory);
+        } else if self.text.len() > MOST_BYTES {
+            self.stopped = Some(Stop::TooLarge);
+        }
+    }
+
+    /// Appends a definition's name, behind a backslash if it is a keyword.
+    pub(crate) fn identifier(&mut self, name: &str)
+        ensures { WritesBytes (cond (is_keyword (chars name.now)) (92 ∷ name.now) name.now) none self.old self.new }
+    {
+        if is_keyword(name) {
+            self.put("\\");
+        }
+        self.put(name);
+    }
+
+    /// Appends a number in decimal digits.
+    pub(crate) fn number(&mut self, number: usize)
+        ensures { WritesBytes (decimal number) none self.old self.new }
+    {
+        if self.stopped.is_some() {
+            return;
+        }
+        if write!(self.text, "{number}").is_err() {
+            self.stopped = Some(Stop::Memory);
+        } else if self.text.len() > MOST_BYTES {
+            self.stopped = Some(Stop::TooLarge);
+        }
+    }
+}

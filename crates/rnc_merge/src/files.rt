@@ -1,0 +1,45 @@
+// Reading the files that the words name.
+ghost use Rattle.std.specs.Prelude.{◌≡◌, false};
+
+use rn_merge::{Input, ProgramFault, ReadFault, Source, read_input};
+use std::alloc::Global;
+use std::fs::File;
+
+/// The most bytes of one file.
+const MAX_INPUT: usize = 268_435_456;
+
+/// The word for standard input.
+const STANDARD_INPUT: &str = "-";
+
+/// The bytes of all files, in order.
+pub fn read_files(rt: &HostRuntime, files: &[String]) -> Result<Vec<Vec<u8>>, ProgramFault> {
+    let mut inputs = Vec::with_capacity(rt.alloc(), files.len())?;
+    for (n, file) in files.iter().enumerate() {
+        inputs
+            .push(read_file(rt, n, file.as_str())?)
+            .map_err(|_| ProgramFault::Memory)?;
+    }
+    Ok(inputs)
+}
+
+/// The bytes of the file with this number among the words.
+pub fn read_file(rt: &HostRuntime, n: usize, file: &str) -> Result<Vec<u8>, ProgramFault> {
+    if file == STANDARD_INPUT {
+        return read_all(rt.alloc(), n, &mut Input::new(rt.stdin()));
+    }
+    match File::open(rt, file) {
+        Ok(opened) => read_all(rt.alloc(), n, &mut Input::new(opened)),
+        Err(_) => Err(ProgramFault::Read(n)),
+    }
+}
+
+fn read_all<S: Source>(alloc: Global, n: usize, source: &mut S) -> Result<Vec<u8>, ProgramFault>
+    requires fresh { S.has_failed source.old ≡ false }
+    requires unended { S.has_ended source.old ≡ false }
+{
+    read_input(alloc, source, MAX_INPUT).map_err(|fault| match fault {
+        ReadFault::Read => ProgramFault::Read(n),
+        ReadFault::Large => ProgramFault::Large(n),
+        ReadFault::Memory => ProgramFault::Memory,
+    })
+}

@@ -1,0 +1,109 @@
+// What each command does.
+ghost use Rattle.std.specs.Prelude.{◌≡◌, false};
+
+use crate::files::{read_file, read_files};
+use rn_merge::{
+    Job, ProgramFault, Sink, Status, check, list_line, read_bundles, run_print, write_output,
+};
+use rn_modset::{Contribution, ModuleSet, write_bundle};
+use std::alloc::Global;
+
+/// Reads the files of a job, does it, and writes what it gives.
+pub fn perform<W: Sink>(rt: &HostRuntime, job: Job, out: &mut W) -> Result<(), ProgramFault>
+    requires { W.has_failed out.old ≡ false }
+{
+    match job {
+        Job::Pack {
+            name,
+            revision,
+            file,
+        } => {
+            let text = Some(read_file(rt, 0, file.as_str())?);
+            pack(
+                rt.alloc(),
+                Contribution {
+                    name,
+                    revision,
+                    text,
+                },
+                out,
+            )
+        }
+        Job::Withdraw { name, revision } => pack(
+            rt.alloc(),
+            Contribution {
+                name,
+                revision,
+                text: None,
+            },
+            out,
+        ),
+        Job::Join { files } => join(
+            rt.alloc(),
+            read_files(rt, files.as_slice())?.as_slice(),
+            out,
+        ),
+        Job::List { files } => list(
+            rt.alloc(),
+            read_files(rt, files.as_slice())?.as_slice(),
+            out,
+        ),
+        Job::Print { files } => print(
+            rt.alloc(),
+            read_files(rt, files.as_slice())?.as_slice(),
+            out,
+        ),
+        Job::Check { file } => {
+            let text = read_file(rt, 0, file.as_str())?;
+            check(rt.alloc(), text.as_slice()).map_err(ProgramFault::Check)
+        }
+    }
+}
+
+/// Writes the bundle of one contribution.
+fn pack<W: Sink>(alloc: Global, contribution: Contribution, out: &mut W) -> Result<(), ProgramFault>
+    requires { W.has_failed out.old ≡ false }
+{
+    let mut set = ModuleSet::new(alloc);
+    match set.add(contribution) {
+        Ok(_) => write(write_bundle(alloc, &set)?.as_slice(), out),
+        Err((_, fault)) => Err(ProgramFault::Add(fault)),
+    }
+}
+
+/// Writes the bundle of the union of bundles.
+fn join<W: Sink>(alloc: Global, bundles: &[Vec<u8>], out: &mut W) -> Result<(), ProgramFault>
+    requires { W.has_failed out.old ≡ false }
+{
+    let union = read_bundles(alloc, bundles)?;
+    write(write_bundle(alloc, &union)?.as_slice(), out)
+}
+
+/// Writes a line for each contribution of the union of bundles.
+fn list<W: Sink>(alloc: Global, bundles: &[Vec<u8>], out: &mut W) -> Result<(), ProgramFault>
+    requires { W.has_failed out.old ≡ false }
+{
+    let union = read_bundles(alloc, bundles)?;
+    let mut lines = String::new(alloc);
+    for contribution in union.iter() {
+        lines.push_str(list_line(alloc, contribution)?.as_str())?;
+        lines.push_str("\n")?;
+    }
+    write(lines.as_bytes(), out)
+}
+
+/// Writes the schema of the union of bundles.
+fn print<W: Sink>(alloc: Global, bundles: &[Vec<u8>], out: &mut W) -> Result<(), ProgramFault>
+    requires { W.has_failed out.old ≡ false }
+{
+    match run_print(alloc, bundles, out)? {
+        Status::Done => Ok(()),
+        Status::Refused(refusal) => Err(ProgramFault::Refused(refusal)),
+    }
+}
+
+fn write<W: Sink>(bytes: &[u8], out: &mut W) -> Result<(), ProgramFault>
+    requires { W.has_failed out.old ≡ false }
+{
+    write_output(out, bytes).map_err(|_| ProgramFault::Write)
+}
