@@ -7,6 +7,7 @@
 mod canonical;
 mod name_class;
 mod declarations;
+mod edges;
 pub mod laws;
 pub mod normal;
 pub mod normalising;

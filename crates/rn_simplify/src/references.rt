@@ -1,9 +1,4 @@
 // The references of a grammar, its definitions being numbered in their order (RELAX NG, 4.18 and 4.19).
-ghost use Rattle.std.specs.Prelude.{IfOk, OnOk};
-ghost use Rattle.indexmap.specs.IndexMap.{index_map_len};
-ghost use Rattle.rn_assemble.specs.Graph.{AllBelow};
-ghost use Rattle.rn_simplify.specs.Numbered.{StaysBelow};
-
 use std::alloc::{AllocError, Global};
 
 use indexmap::IndexMap;
@@ -32,8 +27,6 @@ impl References {
         names: &IndexMap<String, Pattern>,
         pattern: &Pattern,
     ) -> Result<References, AllocError>
-        ensures all { IfOk result (λ r. AllBelow (index_map_len names.now) r.all.items) }
-        ensures outside { IfOk result (λ r. AllBelow (index_map_len names.now) r.outside.items) }
     {
         let mut references = References {
             all: Vec::new(alloc),
@@ -49,7 +42,6 @@ impl References {
         pattern: &Pattern,
         place: Place,
     ) -> Result<(), AllocError>
-        ensures { OnOk result (StaysBelow (index_map_len names.now) self.old self.new) }
     {
         match pattern {
             Pattern::Ref(name) => self.add_name(names, name, place),
@@ -74,7 +66,6 @@ impl References {
         name: &str,
         place: Place,
     ) -> Result<(), AllocError>
-        ensures { OnOk result (StaysBelow (index_map_len names.now) self.old self.new) }
     {
         if let Some(number) = names.get_index_of(name) {
             self.all.push(number)?;
