@@ -99,3 +99,12 @@ pub record IsNextNode (rows : List (List ℕ)) (left : List ℕ) (x y : ℕ) : T
 abbrev pub IsNext : List (List ℕ) → List ℕ → ℕ → Option ℕ → Type 0
 IsNext rows left x None = slice_index_or left x 0 ≡ 0
 IsNext rows left x (Some y) = IsNextNode rows left x y
+
+-- no node comes back to itself
+abbrev pub HasNoLoop : List (List ℕ) → Type 0
+HasNoLoop rows = (x : ℕ) → ¬ Leads rows x x
+
+-- the least node that comes back to itself
+pub record IsFirstLoop (rows : List (List ℕ)) (x : ℕ) : Type 0 where
+  pub holds : Leads rows x x
+  pub least : (y : ℕ) → y < x → ¬ Leads rows y y

@@ -1,11 +1,15 @@
 // From a set to its grammar.
+ghost use Rattle.std.specs.Prelude.{IfErr, OnOk};
+ghost use Rattle.rn_assemble.specs.Answers.{HasNoConflict, IsOfModules, IsRefusalOf};
+
 use crate::combining::combined;
 use crate::components::{Components, components_of};
 use crate::contents::contents_of;
 use crate::grammar::Grammar;
-use crate::inclusion::{has_too_many_instances, inclusions, least_looped, roots};
+use crate::inclusion::{has_too_many_instances, inclusions, roots};
 use crate::keys::{Keys, START};
 use crate::modules::{Source, sources};
+use crate::order::least_looped;
 use crate::references::{least_recursive, references_of};
 use crate::refusal::Refusal;
 use indexmap::IndexMap;
@@ -16,13 +20,19 @@ use std::alloc::{AllocError, Global};
 /// The grammar of the set: the components of all modules that no module includes, with includes replaced by what they
 /// include, joined for each name in their order (RELAX NG 2001, 4.7, 4.11, 4.17). Or the first refusal that stands, of those
 /// from `Conflict` to `NameClass` in the order of `Refusal`; `Memory` stands for want of memory alone.
-pub fn assemble(alloc: Global, set: &ModuleSet) -> Result<Grammar, Refusal> {
+#[tactic(auto, using(crate::proofs::Refused::refused))]
+pub fn assemble(alloc: Global, set: &ModuleSet) -> Result<Grammar, Refusal>
+    ensures agreed { OnOk result (HasNoConflict set.now) }
+    ensures refused { IfErr result (IsRefusalOf set.now) }
+{
     let sources = sources(alloc, set)?;
     assembled(alloc, sources.as_slice())
 }
 
 /// The grammar of the modules.
-fn assembled<'s>(alloc: Global, sources: &[Source<'s>]) -> Result<Grammar, Refusal> {
+fn assembled<'s>(alloc: Global, sources: &[Source<'s>]) -> Result<Grammar, Refusal>
+    ensures { IfErr result IsOfModules }
+{
     let roots = included_roots(alloc, sources)?;
     let keys = Keys::new(alloc, sources)?;
     let contents = contents_of(alloc, sources, &keys)?;
@@ -33,7 +43,9 @@ fn assembled<'s>(alloc: Global, sources: &[Source<'s>]) -> Result<Grammar, Refus
 }
 
 /// The modules that no module includes, where no include refuses the set.
-fn included_roots(alloc: Global, sources: &[Source<'_>]) -> Result<Vec<usize>, Refusal> {
+fn included_roots(alloc: Global, sources: &[Source<'_>]) -> Result<Vec<usize>, Refusal>
+    ensures { IfErr result IsOfModules }
+{
     let rows = inclusions(alloc, sources)?;
     if let Some(module) = least_looped(alloc, rows.as_slice())? {
         return Err(Refusal::Cycle {
@@ -53,7 +65,9 @@ fn check_components(
     sources: &[Source<'_>],
     keys: &Keys<'_>,
     components: &Components<'_, '_, '_>,
-) -> Result<(), Refusal> {
+) -> Result<(), Refusal>
+    ensures { IfErr result IsOfModules }
+{
     if let Some(lack) = components.lack
         && lack.module < sources.len()
     {
@@ -83,7 +97,9 @@ fn check_references<'s>(
     alloc: Global,
     keys: &Keys<'s>,
     components: &Components<'_, '_, 's>,
-) -> Result<(), Refusal> {
+) -> Result<(), Refusal>
+    ensures { IfErr result IsOfModules }
+{
     let references = references_of(alloc, keys, components)?;
     if let Some(key) = least_recursive(alloc, &references)? {
         return Err(Refusal::Recursive {
@@ -98,7 +114,9 @@ fn grammar(
     alloc: Global,
     keys: &Keys<'_>,
     components: &Components<'_, '_, '_>,
-) -> Result<Grammar, Refusal> {
+) -> Result<Grammar, Refusal>
+    ensures { IfErr result IsOfModules }
+{
     let mut patterns = combined(alloc, keys, components)?;
     let Some(start) = patterns[START].take() else {
         return Err(Refusal::NoStart);

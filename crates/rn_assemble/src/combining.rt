@@ -1,5 +1,6 @@
 // Definitions of one key combined (RELAX NG 2001, 4.17).
-ghost use Rattle.std.specs.Prelude.{◌≡◌, ◌+◌, vec_len, IfOk};
+ghost use Rattle.std.specs.Prelude.{◌≡◌, ◌+◌, vec_len, IfOk, IfErr};
+ghost use Rattle.rn_assemble.specs.Answers.{IsOfModules};
 
 use crate::components::{Body, Components};
 use crate::keys::Keys;
@@ -73,7 +74,8 @@ pub(crate) fn combined(
     keys: &Keys<'_>,
     components: &Components<'_, '_, '_>,
 ) -> Result<Vec<Option<Pattern>>, Refusal>
-    ensures { IfOk result (λ patterns. vec_len patterns ≡ vec_len keys.now.names + 1) }
+    ensures ok { IfOk result (λ patterns. vec_len patterns ≡ vec_len keys.now.names + 1) }
+    ensures err { IfErr result IsOfModules }
 {
     let mut shared = Vec::with_capacity(alloc, components.count_bodies())?;
     for _ in 0..components.count_bodies() {
@@ -93,7 +95,9 @@ fn join(
     components: &Components<'_, '_, '_>,
     shared: &mut Shared,
     key: usize,
-) -> Result<Option<Pattern>, Refusal> {
+) -> Result<Option<Pattern>, Refusal>
+    ensures { IfErr result IsOfModules }
+{
     let places = components.of_key(key);
     match places {
         [] => Ok(None),
@@ -115,7 +119,9 @@ fn alone(
     keys: &Keys<'_>,
     components: &Components<'_, '_, '_>,
     place: usize,
-) -> Result<Option<Pattern>, Refusal> {
+) -> Result<Option<Pattern>, Refusal>
+    ensures { IfErr result IsOfModules }
+{
     match components.body_at(place) {
         Some(number) => match components.body(number) {
             Some(body) => Ok(Some(resolved(alloc, keys, body)?)),
@@ -132,7 +138,9 @@ fn members(
     components: &Components<'_, '_, '_>,
     shared: &mut Shared,
     places: &[usize],
-) -> Result<Vec<Rc<Pattern>>, Refusal> {
+) -> Result<Vec<Rc<Pattern>>, Refusal>
+    ensures { IfErr result IsOfModules }
+{
     let mut members = Vec::with_capacity(alloc, places.len())?;
     for place in places {
         if let Some(number) = components.body_at(*place) {
@@ -152,7 +160,9 @@ fn share(
     components: &Components<'_, '_, '_>,
     shared: &mut Shared,
     number: usize,
-) -> Result<(), Refusal> {
+) -> Result<(), Refusal>
+    ensures { IfErr result IsOfModules }
+{
     if let Some(body) = components.body(number)
         && number < shared.len()
         && shared[number].is_none()
@@ -164,7 +174,9 @@ fn share(
 }
 
 /// The pattern of a body that keeps the restrictions on name classes.
-fn resolved(alloc: Global, keys: &Keys<'_>, body: &Body<'_, '_, '_>) -> Result<Pattern, Refusal> {
+fn resolved(alloc: Global, keys: &Keys<'_>, body: &Body<'_, '_, '_>) -> Result<Pattern, Refusal>
+    ensures { IfErr result IsOfModules }
+{
     let pattern = pattern(alloc, body.scope, body.component.body)?;
     if !keeps_name_rules(&pattern) {
         return Err(Refusal::NameClass {

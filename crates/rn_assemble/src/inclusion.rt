@@ -1,11 +1,11 @@
 // Which modules include which, and what stands against it.
-ghost use Rattle.std.specs.Prelude.{◌≡◌, ◌<◌, length, vec_len, IfSome, IfOk, MatchOption};
+ghost use Rattle.std.specs.Prelude.{◌≡◌, ◌<◌, length, vec_len, IfSome, IfOk, IfErr};
+ghost use Rattle.rn_assemble.specs.Answers.{IsOfModules};
 ghost use Rattle.rn_assemble.specs.Graph.{AllBelow, IsGraph, rows_of};
 
-use crate::graph::{reached, row_at};
+use crate::graph::row_at;
 use crate::instances::instances_up_to;
 use crate::modules::Source;
-use crate::order::{Order, ranks};
 use crate::refusal::Refusal;
 use rn_syntax::includes;
 use std::alloc::{AllocError, Global};
@@ -28,6 +28,7 @@ pub(crate) fn module_named(sources: &[Source<'_>], name: &str) -> Option<usize>
 pub(crate) fn inclusions(alloc: Global, sources: &[Source<'_>]) -> Result<Vec<Vec<usize>>, Refusal>
     ensures graph { IfOk result (λ rows. IsGraph (rows_of rows.items)) }
     ensures size { IfOk result (λ rows. vec_len rows ≡ length sources.now) }
+    ensures err { IfErr result IsOfModules }
 {
     let mut rows = Vec::new(alloc);
     for source in sources {
@@ -78,23 +79,6 @@ fn included(
         }
     }
     Ok(row)
-}
-
-/// The least node that comes back to itself along one edge or more.
-pub(crate) fn least_looped(alloc: Global, edges: &[Vec<usize>]) -> Result<Option<usize>, AllocError>
-    requires { IsGraph (rows_of edges.now) }
-    ensures { IfOk result (λ node. IfSome node (λ x. x < length edges.now)) }
-{
-    if let Order::Ranked(_) = ranks(alloc, edges)? {
-        return Ok(None);
-    }
-    for node in 0..edges.len() {
-        let seen = reached(alloc, edges, row_at(edges, node))?;
-        if seen[node] {
-            return Ok(Some(node));
-        }
-    }
-    Ok(None)
 }
 
 /// The modules that no module includes.

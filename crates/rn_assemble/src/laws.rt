@@ -7,11 +7,14 @@ ghost use Rattle.rn_pattern.specs.Datatype.{Table};
 ghost use Rattle.rn_pattern.specs.Excepts.{HasExcepts};
 ghost use Rattle.rn_pattern.specs.Matching.{Grammar, definition_of, IsValid};
 ghost use Rattle.rn_modset.specs.Contributions.{Member};
+ghost use Rattle.rn_syntax.specs.Fault.{HasTree};
+ghost use Rattle.rn_syntax.specs.Grammar.{Tokens};
 ghost use Rattle.rn_syntax.specs.Places.{except_places};
+ghost use Rattle.rn_syntax.specs.Tree.{Module};
 ghost use Rattle.rn_assemble.specs.Components.{Key, Component, Source, components_within, instances_within, set_components};
 ghost use Rattle.rn_assemble.specs.Combine.{IsCombination, IsPlainTwice, IsMixed, joined_grammar, components_of, AreDistinct};
 ghost use Rattle.rn_assemble.specs.WellFormed.{IsWellFormed, HasWritableTexts};
-ghost use Rattle.rn_assemble.specs.Refusal.{Refusal, Stands, IsFirstFor, AreModules, grammar_of};
+ghost use Rattle.rn_assemble.specs.Refusal.{Refusal, Stands, IsFirst, IsFirstFor, IsAssembled, AreModules, grammar_of};
 
 /// Components may be combined in any pairs and in any order: each combination is valid for exactly the documents of the
 /// grammar in which each name's components are joined in one list, for every table of datatypes (RELAX NG Specification,
@@ -43,9 +46,16 @@ pub fn includes_end()
     ensures same_components { (modules : List Source) (more depth : ℕ) (x inherited : Text) → instances_within depth modules x ≤ depth → components_within (depth + more) modules x inherited ≡ components_within depth modules x inherited }
 {}
 
-/// Modules have one first refusal at most, with all its fields.
+/// Tokens are one module at most: the grammar of the compact syntax is unambiguous, places included.
+pub fn one_module_tree()
+    ensures { (ts : Tokens) (m n : Module) → HasTree ts m → HasTree ts n → m ≡ n }
+{}
+
+/// A set has one first refusal at most, with all its fields, and one grammar at most; so have its modules.
 pub fn one_first_refusal()
-    ensures { (modules : List Source) (q r : Refusal) → IsFirstFor modules q → IsFirstFor modules r → q ≡ r }
+    ensures of_modules { (modules : List Source) (q r : Refusal) → IsFirstFor modules q → IsFirstFor modules r → q ≡ r }
+    ensures of_sets { (s : List Member) (q r : Refusal) → IsFirst s q → IsFirst s r → q ≡ r }
+    ensures one_grammar { (s : List Member) (g h : Grammar) → IsAssembled s g → IsAssembled s h → g ≡ h }
 {}
 
 /// The grammar of a set keeps what the refusals exclude. Its names and texts can be written again: the modules' texts are

@@ -1,4 +1,7 @@
 // The effective modules of a set, read.
+ghost use Rattle.std.specs.Prelude.{IfErr, OnOk};
+ghost use Rattle.rn_assemble.specs.Answers.{HasNoConflict, IsOfModules, IsRefusalOf};
+
 use crate::refusal::Refusal;
 use rn_modset::ModuleSet;
 use rn_syntax::{Module, SyntaxFault, parse};
@@ -13,7 +16,11 @@ pub(crate) struct Source<'a> {
 }
 
 /// The effective modules, in the order of their names, or the refusal of the least name whose module has a fault.
-pub(crate) fn sources<'a>(alloc: Global, set: &'a ModuleSet) -> Result<Vec<Source<'a>>, Refusal> {
+#[tactic(auto, using(crate::proofs::Refused::refused))]
+pub(crate) fn sources<'a>(alloc: Global, set: &'a ModuleSet) -> Result<Vec<Source<'a>>, Refusal>
+    ensures ok { OnOk result (HasNoConflict set.now) }
+    ensures err { IfErr result (IsRefusalOf set.now) }
+{
     let effective = set.effective(alloc)?;
     let mut sources = Vec::new(alloc);
     for module in effective.iter() {
@@ -25,7 +32,9 @@ pub(crate) fn sources<'a>(alloc: Global, set: &'a ModuleSet) -> Result<Vec<Sourc
 }
 
 /// The tree of a module's text. Its tokens are given up here.
-fn read<'a>(alloc: Global, name: &str, text: &'a [u8]) -> Result<Module<'a>, Refusal> {
+fn read<'a>(alloc: Global, name: &str, text: &'a [u8]) -> Result<Module<'a>, Refusal>
+    ensures { IfErr result IsOfModules }
+{
     let tokens = match tokens(alloc, text) {
         Ok(tokens) => tokens,
         Err(fault) => return Err(unreadable(String::from_str(alloc, name)?, fault)),
@@ -37,7 +46,9 @@ fn read<'a>(alloc: Global, name: &str, text: &'a [u8]) -> Result<Module<'a>, Ref
 }
 
 /// The refusal of a module whose text has no tokens.
-fn unreadable(module: String, fault: TextFault) -> Refusal {
+fn unreadable(module: String, fault: TextFault) -> Refusal
+    ensures { IsOfModules result }
+{
     match fault {
         TextFault::Encoding { at: _ } => Refusal::Encoding { module },
         TextFault::Lexical { at: _ } => Refusal::Lexical { module },
@@ -46,7 +57,9 @@ fn unreadable(module: String, fault: TextFault) -> Refusal {
 }
 
 /// The refusal of a module whose tokens are none, or which has a fault.
-fn no_module(module: String, fault: SyntaxFault) -> Refusal {
+fn no_module(module: String, fault: SyntaxFault) -> Refusal
+    ensures { IsOfModules result }
+{
     match fault {
         SyntaxFault::Deep { at: _ } => Refusal::Deep { module },
         SyntaxFault::Syntax { at: _ } => Refusal::Syntax { module },

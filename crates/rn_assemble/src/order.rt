@@ -1,10 +1,10 @@
 // An order in which each node comes after those that its edges lead to, or a node on a loop.
 
-ghost use Rattle.std.specs.Prelude.{◌≡◌, ℕ, ◌+◌, ◌-◌, ◌<◌, ◌≤◌, ◌∷◌, ◌++◌, [], Contains, length, vec_len, slice_index_or, IfOk, OnOk};
+ghost use Rattle.std.specs.Prelude.{◌≡◌, ℕ, ◌+◌, ◌-◌, ◌<◌, ◌≤◌, ◌∷◌, ◌++◌, [], Contains, length, vec_len, slice_index_or, IfOk, OnOk, IfSome, MatchOption};
 ghost use Rattle.rn_assemble.specs.Graph.{row, IsGraph, rows_of};
-ghost use Rattle.rn_assemble.specs.Order.{Walking, IsPath, Leads, IsNext, GoesOn, GoesOnOrLoops, EndsOrLoops, IsOrdered, EndsWith, work, mark_of, IsDone};
+ghost use Rattle.rn_assemble.specs.Order.{Walking, IsPath, Leads, IsNext, GoesOn, GoesOnOrLoops, EndsOrLoops, IsOrdered, EndsWith, work, mark_of, IsDone, HasNoLoop, IsFirstLoop};
 
-use crate::graph::row_at;
+use crate::graph::{reached, row_at};
 use std::alloc::{AllocError, Global};
 
 /// How far a node is.
@@ -170,4 +170,22 @@ pub fn ranks(alloc: Global, edges: &[Vec<usize>]) -> Result<Order, AllocError>
         }
     }
     Ok(Order::Ranked(walk.ranks))
+}
+
+/// The least node that comes back to itself along one edge or more, if there is one.
+pub fn least_looped(alloc: Global, edges: &[Vec<usize>]) -> Result<Option<usize>, AllocError>
+    requires { IsGraph (rows_of edges.now) }
+    ensures within { IfOk result (λ node. IfSome node (λ x. x < length edges.now)) }
+    ensures least { IfOk result (λ node. MatchOption node (HasNoLoop (rows_of edges.now)) (IsFirstLoop (rows_of edges.now))) }
+{
+    if let Order::Ranked(_) = ranks(alloc, edges)? {
+        return Ok(None);
+    }
+    for node in 0..edges.len() {
+        let seen = reached(alloc, edges, row_at(edges, node))?;
+        if seen[node] {
+            return Ok(Some(node));
+        }
+    }
+    Ok(None)
 }

@@ -1,11 +1,13 @@
 // References, what is reached by them, and loops.
-ghost use Rattle.std.specs.Prelude.{◌≡◌, ◌+◌, ◌<◌, length, vec_len, IfSome, IfOk};
+ghost use Rattle.std.specs.Prelude.{◌≡◌, ◌+◌, ◌<◌, length, vec_len, IfSome, IfOk, IfErr};
+ghost use Rattle.rn_assemble.specs.Answers.{IsOfModules};
 ghost use Rattle.rn_assemble.specs.Graph.{AllBelow, IsGraph, rows_of};
 
 use crate::components::Components;
 use crate::graph::{reached, row_at};
-use crate::inclusion::{least_looped, lesser};
+use crate::inclusion::lesser;
 use crate::keys::{Keys, START};
+use crate::order::least_looped;
 use crate::refusal::Refusal;
 use rn_syntax::Pat;
 use std::alloc::{AllocError, Global};
@@ -28,6 +30,7 @@ pub(crate) fn references_of<'s>(
     ensures all_size { IfOk result (λ r. vec_len r.all ≡ vec_len keys.now.names + 1) }
     ensures outer { IfOk result (λ r. IsGraph (rows_of r.outer.items)) }
     ensures outer_size { IfOk result (λ r. vec_len r.outer ≡ vec_len keys.now.names + 1) }
+    ensures err { IfErr result IsOfModules }
 {
     let mut seen = vec![in alloc; false; components.count_bodies()]?;
     let mut undefined = None;

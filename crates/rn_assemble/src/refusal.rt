@@ -83,6 +83,11 @@ impl<T: Drop> From<AllocFailed<T>> for Refusal {
 }
 
 impl From<SetFault> for Refusal {
+    ghost use Rattle.std.specs.Prelude.{◌≡◌};
+    ghost use Rattle.rn_assemble.specs.Answers.{refusal_of};
+
+    ghost from_gives = { λ fault r. r ≡ refusal_of fault };
+
     fn from(fault: SetFault) -> Self {
         match fault {
             SetFault::Conflict { module, revision } => Refusal::Conflict { module, revision },

@@ -31,13 +31,15 @@ fn write_words(out: &mut String, words: &[&str]) -> Result<(), AllocError> {
 
 fn write_class(out: &mut String, class: &NameClass) -> Result<(), AllocError> {
     match class {
-        NameClass::AnyName(except) => {
-            out.push_str("*")?;
-            write_except(out, except)
+        NameClass::AnyName(None) => out.push_str("*"),
+        NameClass::AnyName(Some(except)) => {
+            out.push_str("*-")?;
+            write_class(out, except)
         }
-        NameClass::NsName(uri, except) => {
-            write_words(out, &["{", uri, "}*"])?;
-            write_except(out, except)
+        NameClass::NsName(uri, None) => write_words(out, &["{", uri, "}*"]),
+        NameClass::NsName(uri, Some(except)) => {
+            write_words(out, &["{", uri, "}*-"])?;
+            write_class(out, except)
         }
         NameClass::Name(uri, local) if uri.is_empty() => out.push_str(local),
         NameClass::Name(uri, local) => write_words(out, &["{", uri, "}", local]),
@@ -52,33 +54,25 @@ fn write_class(out: &mut String, class: &NameClass) -> Result<(), AllocError> {
     }
 }
 
-fn write_except(out: &mut String, except: &Option<Box<NameClass>>) -> Result<(), AllocError> {
-    if let Some(class) = except {
-        out.push_str("-")?;
-        write_class(out, class)?;
+fn write_type(
+    out: &mut String,
+    library: &str,
+    type_name: &str,
+    params: &[(String, String)],
+) -> Result<(), AllocError> {
+    write_words(out, &["<", library, ">", type_name])?;
+    for param in params {
+        write_words(out, &["[", &param.0, "=", &param.1, "]"])?;
     }
     Ok(())
 }
 
-fn write_body(out: &mut String, body: &Pattern) -> Result<(), AllocError> {
-    out.push_str("{")?;
-    write_pattern(out, body)?;
-    out.push_str("}")
-}
-
-fn write_list(
-    out: &mut String,
-    members: &Vec<std::rc::Rc<Pattern>>,
-    between: &str,
-) -> Result<(), AllocError> {
-    out.push_str("(")?;
-    for (i, member) in members.iter().enumerate() {
-        if i > 0 {
-            out.push_str(between)?;
-        }
-        write_pattern(out, member)?;
+fn write_between(out: &mut String, at: usize, between: &str) -> Result<(), AllocError> {
+    if at == 0 {
+        Ok(())
+    } else {
+        out.push_str(between)
     }
-    out.push_str(")")
 }
 
 fn write_pattern(out: &mut String, pattern: &Pattern) -> Result<(), AllocError> {
@@ -87,41 +81,64 @@ fn write_pattern(out: &mut String, pattern: &Pattern) -> Result<(), AllocError> 
         Pattern::Empty => out.push_str("empty"),
         Pattern::Text => out.push_str("text"),
         Pattern::Ref(name) => out.push_str(name),
-        Pattern::Value(library, type_name, text) => write_words(
-            out,
-            &["<", library, ">", type_name, "'", text, "'"],
-        ),
-        Pattern::Datum(library, type_name, params, except) => {
-            write_words(out, &["<", library, ">", type_name])?;
-            for param in params {
-                write_words(out, &["[", &param.0, "=", &param.1, "]"])?;
-            }
-            if let Some(except) = except {
-                out.push_str("-")?;
-                write_pattern(out, except)?;
-            }
-            Ok(())
+        Pattern::Value(library, type_name, text) => {
+            write_words(out, &["<", library, ">", type_name, "'", text, "'"])
+        }
+        Pattern::Datum(library, type_name, params, None) => {
+            write_type(out, library, type_name, params.as_slice())
+        }
+        Pattern::Datum(library, type_name, params, Some(except)) => {
+            write_type(out, library, type_name, params.as_slice())?;
+            out.push_str("-")?;
+            write_pattern(out, except)
         }
         Pattern::List(body) => {
-            out.push_str("list")?;
-            write_body(out, body)
+            out.push_str("list{")?;
+            write_pattern(out, body)?;
+            out.push_str("}")
         }
         Pattern::Attribute(class, body) => {
             out.push_str("@")?;
             write_class(out, class)?;
-            write_body(out, body)
+            out.push_str("{")?;
+            write_pattern(out, body)?;
+            out.push_str("}")
         }
         Pattern::Element(class, body) => {
             write_class(out, class)?;
-            write_body(out, body)
+            out.push_str("{")?;
+            write_pattern(out, body)?;
+            out.push_str("}")
         }
         Pattern::OneOrMore(body) => {
-            write_body(out, body)?;
-            out.push_str("+")
+            out.push_str("{")?;
+            write_pattern(out, body)?;
+            out.push_str("}+")
         }
-        Pattern::Group(members) => write_list(out, members, ","),
-        Pattern::Interleave(members) => write_list(out, members, "&"),
-        Pattern::Choice(members) => write_list(out, members, "|"),
+        Pattern::Group(members) => {
+            out.push_str("(")?;
+            for (i, member) in members.iter().enumerate() {
+                write_between(out, i, ",")?;
+                write_pattern(out, member)?;
+            }
+            out.push_str(")")
+        }
+        Pattern::Interleave(members) => {
+            out.push_str("(")?;
+            for (i, member) in members.iter().enumerate() {
+                write_between(out, i, "&")?;
+                write_pattern(out, member)?;
+            }
+            out.push_str(")")
+        }
+        Pattern::Choice(members) => {
+            out.push_str("(")?;
+            for (i, member) in members.iter().enumerate() {
+                write_between(out, i, "|")?;
+                write_pattern(out, member)?;
+            }
+            out.push_str(")")
+        }
     }
 }
 

@@ -7,6 +7,7 @@ use Rattle.rn_modset.specs.Sets.{IsSet, union}
 use Rattle.rn_modset.specs.Bundles.{bundle}
 use Rattle.rn_modset.specs.declared.faults.AddFault.{AddFault}
 use Rattle.rn_modset.specs.declared.faults.AddFault.TheVariants as adding
+use Rattle.rn_modset.specs.declared.faults.BundleFault.TheVariants as reading
 use Rattle.rn_assemble.specs.declared.refusal.Refusal.TheVariants as refusing
 use Rattle.rn_merge.specs.declared.run.RunFault.{RunFault}
 use Rattle.rn_merge.specs.declared.run.RunFault.TheVariants.{Bundle, Full, Memory, Write}
@@ -49,7 +50,7 @@ pub record ComesToBundle (bundles : List (List ℕ)) (index : ℕ) : Type 0 wher
 
 -- why the bundles have no union
 abbrev pub HasNoUnion : List (List ℕ) → RunFault → Type 0
-HasNoUnion bundles (Bundle index fault) = ComesToBundle bundles index
+HasNoUnion bundles (Bundle index fault) = ComesToBundle bundles index × (fault ≢ reading.Memory)
 HasNoUnion bundles Full = IsTooMany bundles
 HasNoUnion bundles Memory = Unit {0}
 HasNoUnion bundles Write = ⊥

@@ -87,7 +87,7 @@ fn words_refused(rt: HostRuntime) -> Result<(), Fail> {
         &["withdraw", "a", "1", "f"],
         &["join"],
         &["prin", "a"],
-        &["list", "--", "--", "a", "-"].split_at(2).0,
+        &["list", "--"],
     ];
     for words in usage {
         assert_eq!(rt; planned(alloc, words)?, Err(ProgramFault::Usage));

@@ -74,12 +74,23 @@ pub enum ProgramFault {
 }
 
 impl From<AllocError> for ProgramFault {
+    ghost use Rattle.std.specs.Prelude.{◌≡◌};
+    ghost use Rattle.rn_merge.specs.declared.words.ProgramFault.TheVariants.{Memory};
+
+    ghost from_gives = { λ _ fault. fault ≡ Memory };
+
     fn from(_: AllocError) -> Self {
         ProgramFault::Memory
     }
 }
 
 impl From<clap::Error> for ProgramFault {
+    ghost use Rattle.std.specs.Prelude.{◌≡◌};
+    ghost use Rattle.clap.specs.Words.{kind_of};
+    ghost use Rattle.rn_merge.specs.Words.{parse_fault};
+
+    ghost from_gives = { λ error fault. fault ≡ parse_fault (kind_of error) };
+
     fn from(error: clap::Error) -> Self {
         match error.kind() {
             ErrorKind::OutOfMemory => ProgramFault::Memory,
@@ -89,6 +100,11 @@ impl From<clap::Error> for ProgramFault {
 }
 
 impl From<RunFault> for ProgramFault {
+    ghost use Rattle.std.specs.Prelude.{◌≡◌};
+    ghost use Rattle.rn_merge.specs.Words.{run_fault};
+
+    ghost from_gives = { λ fault r. r ≡ run_fault fault };
+
     fn from(fault: RunFault) -> Self {
         match fault {
             RunFault::Bundle { index, fault } => ProgramFault::Bundle(index, fault),

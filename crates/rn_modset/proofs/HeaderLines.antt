@@ -1,5 +1,5 @@
 -- Header lines cut into their fields.
-use Rattle.std.proofs.Common.{◌≡◌, ◌≢◌, ℕ, ◌+◌, ◌<◌, ◌≤◌, ◌^◌, Bool, true, false, not, ◌&&◌, ◌==◌, List, [], ◌∷◌, ◌++◌, length, codes, decimal, Option, Some, None, MatchOption, refl, sym, ap, subst, ◌∙◌, arith, nat_le, get_or}
+use Rattle.std.proofs.Common.{◌≡◌, ◌≢◌, ℕ, ◌<◌, ◌≤◌, ◌^◌, Bool, true, false, not, ◌==◌, List, ◌∷◌, ◌++◌, codes, decimal, Option, Some, None, MatchOption, refl, sym, ap, subst, ◌∙◌, arith, nat_le, get_or}
 use Rattle.std.specs.List.{list_all}
 use Rattle.std.proofs.lemmas.Fmt.{decimal_injective}
 use Rattle.rn_modset.specs.declared.headers.HeaderLine.{HeaderLine}
@@ -7,7 +7,7 @@ use Rattle.rn_modset.specs.Contributions.{is_module_name}
 use Rattle.rn_modset.specs.Bundles.{Head, text_header, withdrawal_header, header_line, end_line}
 use Rattle.rn_modset.specs.Faults.{MayStand, IsDigest, IsNoHeader, AreNoTextFields, IsNoWithdrawalField}
 use Rattle.rn_modset.specs.Headers.{header_view}
-use Rattle.rn_modset.proofs.Splits.{Lacks, one_split, lacks_by, lacks_from_all, unsplit, one_cut, name_lacks, number_lacks}
+use Rattle.rn_modset.proofs.Splits.{Lacks, lacks_by, lacks_from_all, unsplit, one_cut, name_lacks, number_lacks}
 
 abbrev pub kind_of : Head → List ℕ
 kind_of (text_header name revision len digits) = codes "module"

@@ -1,5 +1,5 @@
 -- Lists that rise, walked side by side and merged.
-use Rattle.std.proofs.Common.{◌≡◌, ◌≢◌, ℕ, zero, suc, ◌+◌, ◌-◌, ◌<◌, ◌≤◌, ◌⊎◌, inl, inr, Bool, true, false, cond, not, ◌||◌, List, [], ◌∷◌, ◌++◌, length, take, drop, refl, sym, ap, subst, ◌∙◌, arith, append_assoc}
+use Rattle.std.proofs.Common.{◌≡◌, ◌≢◌, ℕ, ◌+◌, inl, inr, Bool, true, false, cond, not, ◌||◌, List, [], ◌∷◌, ◌++◌, take, drop, refl, sym, ap, subst, ◌∙◌, append_assoc}
 use Rattle.std.specs.declared.cmp.Ordering.{Ordering}
 use Rattle.std.specs.declared.cmp.Ordering.TheVariants.{Less, Equal, Greater}
 use Rattle.std.specs.Ordering.{is_eq, is_lt, ordering_reverse}
@@ -7,11 +7,11 @@ use Rattle.std.specs.List.{AllByRecursion, filter}
 use Rattle.std.specs.List.Sorted.{IsStrictlySortedBy}
 use Rattle.std.specs.Bool.{MatchBool}
 use Rattle.std.proofs.lemmas.Cmp.{tied_back, tied_itself}
-use Rattle.std.proofs.lemmas.List.{append-nil, same_from_push, length-append}
+use Rattle.std.proofs.lemmas.List.{append-nil, same_from_push}
 use Rattle.rn_modset.specs.declared.contribution.Contribution.{Contribution}
 use Rattle.rn_modset.specs.Contributions.{Member, member, members_of, member_cmp}
-use Rattle.rn_modset.specs.Sets.{Rises, has, with_member, union, missing}
-use Rattle.rn_modset.specs.Merges.{IsNotBelow, KeepsFrom, AreApart, AreBelow, EndsAbove, TakesGreatest}
+use Rattle.rn_modset.specs.Sets.{Rises, has, union, missing}
+use Rattle.rn_modset.specs.Merges.{KeepsFrom, AreApart, AreBelow, EndsAbove, TakesGreatest}
 use Rattle.rn_modset.proofs.Members.{members_total, members_same}
 use Rattle.rn_modset.proofs.Membership.{In, in_left, in_right, in_append, all_in, all_by_in, below_in, above_in, in_from_has, has_from_in}
 use Rattle.rn_modset.proofs.Truths.{else_false, not_both}

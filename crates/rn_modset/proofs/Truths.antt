@@ -1,5 +1,6 @@
 -- What truth values say.
-use Rattle.std.proofs.Common.{◌≡◌, ◌≢◌, ℕ, Bool, true, false, not, ◌&&◌, ◌==◌, List, [], length, refl, sym, ap, ◌∙◌, nat_eq}
+use Rattle.std.proofs.Common.{◌≡◌, ◌≢◌, ℕ, Bool, true, false, not, ◌&&◌, ◌==◌, List, [], length, refl, sym, ap, ◌∙◌, nat_eq, eqb-true}
+use Rattle.std.proofs.lemmas.List.{nil_from_length}
 use lib.Pointwise.{pointwise}
 use mathlib.Core.Bool.{beq}
 use Rattle.std.specs.Cmp.Lexicographic.{same_text}
@@ -53,3 +54,6 @@ same_by_not x y h = same_text x y (by (pointwise nat_eq x y) h)
 
 pub not_empty : (xs : List ℕ) (b : Bool) → b ≡ (length xs == 0) → b ≡ false → xs ≢ []
 not_empty xs b e f h = let k : b ≡ true = e ∙ ap (λ (ys : List ℕ). length ys == 0) h in cc
+
+pub is_none : (xs : List ℕ) (b : Bool) → b ≡ (length xs == 0) → b ≡ true → xs ≡ []
+is_none xs b e h = nil_from_length xs (eqb-true (length xs) 0 (sym e ∙ h))

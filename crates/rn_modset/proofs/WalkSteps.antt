@@ -1,7 +1,7 @@
 -- The walk's steps at a place of a slice of contributions.
-use Rattle.std.proofs.Common.{◌≡◌, ◌≢◌, ℕ, zero, suc, ◌+◌, ◌-◌, ◌<◌, ◌≤◌, ◌⊎◌, inl, inr, List, [], ◌∷◌, ◌++◌, length, get_or, take, drop, map, Option, Some, None, refl, sym, ap, subst, ◌∙◌, arith, length-drop}
+use Rattle.std.proofs.Common.{◌≡◌, ◌≢◌, ℕ, zero, suc, ◌+◌, ◌-◌, ◌<◌, ◌≤◌, inl, inr, List, [], ◌∷◌, ◌++◌, length, get_or, take, drop, Some, None, refl, sym, ap, subst, ◌∙◌, arith, length-drop}
 use Rattle.std.specs.declared.cmp.Ordering.TheVariants.{Less}
-use Rattle.std.proofs.lemmas.List.{take_more, drop_more, take_all, drop_all, get_or_default, map_push, map-append, take-append-drop}
+use Rattle.std.proofs.lemmas.List.{drop_more, drop_all, get_or_default}
 use Rattle.std.specs.String.{string_bytes}
 use Rattle.rn_modset.specs.declared.contribution.Contribution.{Contribution}
 use Rattle.rn_modset.specs.Contributions.{Member, member, members_of, member_cmp}
@@ -10,7 +10,7 @@ use Rattle.rn_modset.specs.Modules.{Module, AreEffective, IsFirstConflict}
 use Rattle.rn_modset.specs.Places.{IsFollowed, IsContradicted}
 use Rattle.rn_modset.proofs.Fronts.{IsHeldAt, front_more, back_more, split_at}
 use Rattle.rn_modset.proofs.Placed.{rise_at}
-use Rattle.rn_modset.proofs.Membership.{In, in_append, in_left, in_right, below_in}
+use Rattle.rn_modset.proofs.Membership.{In, in_append, below_in}
 use Rattle.rn_modset.proofs.Walks.{IsWalk, IsNext, IsLast, IsTop, last_by, top_at, between, walk_on, walk_text, walk_withdrawal, walk_conflict, walk_end}
 
 walk_at : (s : List Member) (cs : List Contribution) (at : ℕ) (c : Contribution) (modules : List Module) → IsHeldAt cs at c → IsWalk s (members_of (take at cs)) (members_of (drop at cs)) modules

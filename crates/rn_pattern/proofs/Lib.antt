@@ -29,6 +29,9 @@ pub mod Copied
 pub mod Hashing
 pub mod Equal
 pub mod Interning
+pub mod Meanings
 pub mod Stepwise
 pub mod Seen
 pub mod ShownTrees
+pub mod Sharing
+pub mod PatternKinds

@@ -201,13 +201,25 @@ fn sorted(nodes: &NodeTable<'_>, mut members: Vec<NodeId>) -> Result<Vec<NodeId>
     Ok(members)
 }
 
-// The members in order, without repeats. Equal ids go first, before any patterns are compared.
-fn sorted_once(nodes: &NodeTable<'_>, mut members: Vec<NodeId>) -> Result<Vec<NodeId>, AllocError>
+// The ids, each once.
+fn distinct(mut ids: Vec<NodeId>) -> Vec<NodeId>
+    ensures sorted { (at : NodeId → Tree)
+        → sorted_once tree_cmp (map at result.items) ≡ sorted_once tree_cmp (map at ids.items) }
+    ensures known { (ts : List Tree) → All (λ i. IsTrue (knows ts i)) ids.items → All (λ i. IsTrue (knows ts i)) result.items }
+{
+    ids.sort_unstable();
+    ids.dedup();
+    ids
+}
+
+// The members in order, without repeats. Equal ids go before any patterns are compared.
+fn sorted_once(nodes: &NodeTable<'_>, members: Vec<NodeId>) -> Result<Vec<NodeId>, AllocError>
     requires { All (λ i. IsTrue (knows (trees nodes.now) i)) members.items }
     ensures sorted { IfOk result (λ v. map (tree_at (trees nodes.now)) v.items
         ≡ sorted_once tree_cmp (map (tree_at (trees nodes.now)) members.items)) }
     ensures known { IfOk result (λ v. All (λ i. IsTrue (knows (trees nodes.now) i)) v.items) }
 {
+    let mut members = distinct(members);
     members.sort_by(|a, b| nodes.compare(*a, *b))?;
     members.dedup_by(|a, b| nodes.compare(*a, *b) == Ordering::Equal);
     Ok(members)

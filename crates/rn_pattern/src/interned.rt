@@ -1,6 +1,7 @@
 // The store Interned.
-ghost use Rattle.std.specs.Prelude.{◌≡◌, [], length};
-ghost use Rattle.rn_pattern.specs.Nodes.{NameEarlier, NameEarlier-prop, trees_of_nodes};
+ghost use Rattle.std.specs.Prelude.{◌≡◌, [], IsTrue, length};
+ghost use Rattle.rn_pattern.specs.declared.node.NodeId.{NodeId};
+ghost use Rattle.rn_pattern.specs.Nodes.{NameEarlier, NameEarlier-prop, knows, tree_at, trees_of_nodes};
 
 use crate::node::{Node, NodeId};
 use crate::node_table::NodeTable;
@@ -27,9 +28,12 @@ impl Interned {
         }
     }
 
-    /// How many ids the store has.
+    /// How many ids the store has. Two ids that stand for equal patterns are equal.
     pub fn nodes(&self) -> usize
-        ensures { result ≡ length (trees_of_nodes self.now.nodes.keys) }
+        ensures count { result ≡ length (trees_of_nodes self.now.nodes.keys) }
+        ensures distinct { (i j : NodeId) → IsTrue (knows (trees_of_nodes self.now.nodes.keys) i)
+            → IsTrue (knows (trees_of_nodes self.now.nodes.keys) j)
+            → tree_at (trees_of_nodes self.now.nodes.keys) i ≡ tree_at (trees_of_nodes self.now.nodes.keys) j → i ≡ j }
     {
         self.nodes.len()
     }

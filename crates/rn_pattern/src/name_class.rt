@@ -12,7 +12,7 @@ use std::cmp::Ordering;
 impl NameClass {
     // A copy in canonical form.
     #[cycle(canonical_name)]
-    pub fn canonical(&self, alloc: Global) -> Result<NameClass, AllocError>
+    pub(crate) fn canonical(&self, alloc: Global) -> Result<NameClass, AllocError>
         ensures { IfOk result (λ c. name_class_view c ≡ canonical_name (name_class_view self.now)) }
     {
         match self {

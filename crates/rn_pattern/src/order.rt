@@ -1,8 +1,8 @@
 // The order of name classes and of patterns: by kind, then by the parts from left to right.
 ghost use Rattle.std.specs.Prelude.{◌≡◌, map};
-ghost use Rattle.rn_pattern.specs.Order.{name_cmp, name_rank, names_cmp, rank};
-ghost use Rattle.rn_pattern.specs.Tree.{name_trees_of};
-ghost use Rattle.rn_pattern.specs.View.{except_view, name_class_view, pattern_view};
+ghost use Rattle.rn_pattern.specs.Order.{name_cmp, name_rank, names_cmp, rank, tree_cmp, trees_cmp};
+ghost use Rattle.rn_pattern.specs.Tree.{name_trees_of, trees_of};
+ghost use Rattle.rn_pattern.specs.View.{except_view, excepted_view, name_class_view, pattern_view, shared_view};
 
 use crate::tree::{NameClass, Pattern};
 use std::cmp::Ordering;
@@ -98,7 +98,9 @@ impl Pattern {
     /// interleave, choice; within a kind by the fields from left to right. Texts are compared by bytes; no except stands
     /// before an except, and a list before each longer one that it begins.
     #[cycle(compare_patterns)]
-    pub fn cmp(&self, other: &Pattern) -> Ordering {
+    pub fn cmp(&self, other: &Pattern) -> Ordering
+        ensures { result ≡ tree_cmp (pattern_view self.now) (pattern_view other.now) }
+    {
         match (self, other) {
             (Pattern::Ref(x), Pattern::Ref(y)) => x.cmp(y),
             (Pattern::Value(k, x, s), Pattern::Value(l, y, t)) => k
@@ -130,7 +132,9 @@ impl Pattern {
 }
 
 #[cycle(compare_patterns)]
-fn compare_excepted(p: &Option<Box<Pattern>>, q: &Option<Box<Pattern>>) -> Ordering {
+fn compare_excepted(p: &Option<Box<Pattern>>, q: &Option<Box<Pattern>>) -> Ordering
+    ensures { result ≡ trees_cmp (excepted_view p.now) (excepted_view q.now) }
+{
     match (p, q) {
         (None, None) => Ordering::Equal,
         (None, Some(_)) => Ordering::Less,
@@ -140,7 +144,9 @@ fn compare_excepted(p: &Option<Box<Pattern>>, q: &Option<Box<Pattern>>) -> Order
 }
 
 #[cycle(compare_patterns)]
-fn compare_patterns(ps: &[Rc<Pattern>], qs: &[Rc<Pattern>]) -> Ordering {
+fn compare_patterns(ps: &[Rc<Pattern>], qs: &[Rc<Pattern>]) -> Ordering
+    ensures { result ≡ trees_cmp (trees_of (map shared_view ps.now)) (trees_of (map shared_view qs.now)) }
+{
     for (k, p) in ps.iter().enumerate() {
         if k >= qs.len() {
             return Ordering::Greater;

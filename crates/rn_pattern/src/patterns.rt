@@ -2,24 +2,28 @@
 ghost use Rattle.std.specs.Prelude.{◌≡◌, ℕ, ◌+◌, ◌≤◌, All, Bool, IfOk, IfSome, IsTrue, OnErr, map};
 ghost use Rattle.std.specs.Option.{option_map};
 ghost use Rattle.rn_pattern.specs.Canonical.{attribute_step, canonical_name, choice_step, group_step, interleave_step, list_step, one_or_more_step};
+ghost use Rattle.rn_pattern.specs.Matching.{MatchAlike};
 ghost use Rattle.rn_pattern.specs.Nodes.{node_members};
-ghost use Rattle.rn_pattern.specs.Store.{KeepsTrees, StandsFor, datum_step, node_view};
+ghost use Rattle.rn_pattern.specs.Store.{KeepsTrees, StandsFor, datum_by, datum_step, node_view};
 ghost use Rattle.rn_pattern.specs.Tree as tree;
-ghost use Rattle.rn_pattern.specs.Tree.{Tree};
+ghost use Rattle.rn_pattern.specs.Tree.{Tree, trees_of};
 ghost use Rattle.rn_pattern.specs.View.{name_class_view, parameters_view};
 
 use crate::node::Node;
 use crate::tree::NameClass;
 use std::alloc::AllocError;
 
-/// A store of canonical patterns, named by ids. Each constructor answers the id of the canonical form of its node; a
-/// refused call changes no id's pattern.
+/// A store of canonical patterns, named by ids. Each constructor takes ids of this store and answers the id of the
+/// canonical form of its node, which matches what the node matches, in every schema (RELAX NG 2001, 4.20, 4.21, 6.2).
+/// Earlier ids keep their patterns. The only error is want of memory; a refused call changes no id's pattern and
+/// leaves the number of ids.
 pub trait Patterns {
     type Id: Copy + Eq + Drop;
 
-    // Whether the id is one of this store's, and the tree that it stands for.
+    // Whether the id is one of this store's.
     ghost knows: { Self → Self.Id → Bool };
 
+    // The pattern that it stands for.
     ghost tree_of: { Self → Self.Id → Tree };
 
     // The number of its ids.
@@ -31,36 +35,42 @@ pub trait Patterns {
         ensures root { node_view (tree_of self.now) result.now ≡ tree_of self.now id }
         ensures within { All (λ i. IsTrue (knows self.now i)) (node_members result.now) };
 
+    /// `notAllowed`.
     fn not_allowed(&mut self) -> Result<Self::Id, AllocError>
         ensures made { IfOk result (StandsFor (knows self.new) (tree_of self.new) tree.not_allowed) }
         ensures kept { KeepsTrees (knows self.old) (tree_of self.old) (knows self.new) (tree_of self.new) }
         ensures grows { size self.new ≤ size self.old + 1 }
         ensures refused { OnErr result (size self.new ≡ size self.old) };
 
+    /// `empty`.
     fn empty(&mut self) -> Result<Self::Id, AllocError>
         ensures made { IfOk result (StandsFor (knows self.new) (tree_of self.new) tree.empty) }
         ensures kept { KeepsTrees (knows self.old) (tree_of self.old) (knows self.new) (tree_of self.new) }
         ensures grows { size self.new ≤ size self.old + 1 }
         ensures refused { OnErr result (size self.new ≡ size self.old) };
 
+    /// `text`.
     fn text(&mut self) -> Result<Self::Id, AllocError>
         ensures made { IfOk result (StandsFor (knows self.new) (tree_of self.new) tree.text) }
         ensures kept { KeepsTrees (knows self.old) (tree_of self.old) (knows self.new) (tree_of self.new) }
         ensures grows { size self.new ≤ size self.old + 1 }
         ensures refused { OnErr result (size self.new ≡ size self.old) };
 
+    /// A reference to a definition. What the definition is worth is not looked at.
     fn reference(&mut self, name: &str) -> Result<Self::Id, AllocError>
         ensures made { IfOk result (StandsFor (knows self.new) (tree_of self.new) (tree.ref name.now)) }
         ensures kept { KeepsTrees (knows self.old) (tree_of self.old) (knows self.new) (tree_of self.new) }
         ensures grows { size self.new ≤ size self.old + 1 }
         ensures refused { OnErr result (size self.new ≡ size self.old) };
 
+    /// A value of a datatype: its library, its type and the text.
     fn value(&mut self, library: &str, type_name: &str, text: &str) -> Result<Self::Id, AllocError>
         ensures made { IfOk result (StandsFor (knows self.new) (tree_of self.new) (tree.value library.now type_name.now text.now)) }
         ensures kept { KeepsTrees (knows self.old) (tree_of self.old) (knows self.new) (tree_of self.new) }
         ensures grows { size self.new ≤ size self.old + 1 }
         ensures refused { OnErr result (size self.new ≡ size self.old) };
 
+    /// A datatype with its parameters in their order, and without an except that is `notAllowed`.
     fn datum(
         &mut self,
         library: &str,
@@ -70,55 +80,72 @@ pub trait Patterns {
     ) -> Result<Self::Id, AllocError>
         requires { IfSome except (λ i. IsTrue (knows self.old i)) }
         ensures made { IfOk result (StandsFor (knows self.new) (tree_of self.new) (datum_step library.now type_name.now (parameters_view params.now) (option_map (tree_of self.old) except))) }
+        ensures means { IfOk result (λ i. MatchAlike (datum_by library.now type_name.now (parameters_view params.now) (option_map (tree_of self.old) except)) (tree_of self.new i)) }
         ensures kept { KeepsTrees (knows self.old) (tree_of self.old) (knows self.new) (tree_of self.new) }
         ensures grows { size self.new ≤ size self.old + 1 }
         ensures refused { OnErr result (size self.new ≡ size self.old) };
 
+    /// A list of that content; `notAllowed` where the content is (4.20).
     fn list(&mut self, content: Self::Id) -> Result<Self::Id, AllocError>
         requires { IsTrue (knows self.old content) }
         ensures made { IfOk result (StandsFor (knows self.new) (tree_of self.new) (list_step (tree_of self.old content))) }
+        ensures means { IfOk result (λ i. MatchAlike (tree.list (tree_of self.old content)) (tree_of self.new i)) }
         ensures kept { KeepsTrees (knows self.old) (tree_of self.old) (knows self.new) (tree_of self.new) }
         ensures grows { size self.new ≤ size self.old + 1 }
         ensures refused { OnErr result (size self.new ≡ size self.old) };
 
+    /// An attribute, its name class in canonical form; `notAllowed` where the content is (4.20).
     fn attribute(&mut self, nc: &NameClass, content: Self::Id) -> Result<Self::Id, AllocError>
         requires { IsTrue (knows self.old content) }
         ensures made { IfOk result (StandsFor (knows self.new) (tree_of self.new) (attribute_step (canonical_name (name_class_view nc.now)) (tree_of self.old content))) }
+        ensures means { IfOk result (λ i. MatchAlike (tree.attribute (name_class_view nc.now) (tree_of self.old content)) (tree_of self.new i)) }
         ensures kept { KeepsTrees (knows self.old) (tree_of self.old) (knows self.new) (tree_of self.new) }
         ensures grows { size self.new ≤ size self.old + 1 }
         ensures refused { OnErr result (size self.new ≡ size self.old) };
 
+    /// An element, its name class in canonical form. Its content stays, `notAllowed` too.
     fn element(&mut self, nc: &NameClass, content: Self::Id) -> Result<Self::Id, AllocError>
         requires { IsTrue (knows self.old content) }
         ensures made { IfOk result (StandsFor (knows self.new) (tree_of self.new) (tree.element (canonical_name (name_class_view nc.now)) (tree_of self.old content))) }
+        ensures means { IfOk result (λ i. MatchAlike (tree.element (name_class_view nc.now) (tree_of self.old content)) (tree_of self.new i)) }
         ensures kept { KeepsTrees (knows self.old) (tree_of self.old) (knows self.new) (tree_of self.new) }
         ensures grows { size self.new ≤ size self.old + 1 }
         ensures refused { OnErr result (size self.new ≡ size self.old) };
 
+    /// A choice: the members of choices among the members in their place, without `notAllowed`, in order, each pattern
+    /// once. No member left is `notAllowed`, one is itself.
     fn choice(&mut self, members: &[Self::Id]) -> Result<Self::Id, AllocError>
         requires { All (λ i. IsTrue (knows self.old i)) members.now }
         ensures made { IfOk result (StandsFor (knows self.new) (tree_of self.new) (choice_step (map (tree_of self.old) members.now))) }
+        ensures means { IfOk result (λ i. MatchAlike (tree.choice (trees_of (map (tree_of self.old) members.now))) (tree_of self.new i)) }
         ensures kept { KeepsTrees (knows self.old) (tree_of self.old) (knows self.new) (tree_of self.new) }
         ensures grows { size self.new ≤ size self.old + 1 }
         ensures refused { OnErr result (size self.new ≡ size self.old) };
 
+    /// A group: the members of groups among the members in their place, without `empty`, the order kept; `notAllowed`
+    /// where a member is (4.20, 4.21). No member left is `empty`, one is itself.
     fn group(&mut self, members: &[Self::Id]) -> Result<Self::Id, AllocError>
         requires { All (λ i. IsTrue (knows self.old i)) members.now }
         ensures made { IfOk result (StandsFor (knows self.new) (tree_of self.new) (group_step (map (tree_of self.old) members.now))) }
+        ensures means { IfOk result (λ i. MatchAlike (tree.group (trees_of (map (tree_of self.old) members.now))) (tree_of self.new i)) }
         ensures kept { KeepsTrees (knows self.old) (tree_of self.old) (knows self.new) (tree_of self.new) }
         ensures grows { size self.new ≤ size self.old + 1 }
         ensures refused { OnErr result (size self.new ≡ size self.old) };
 
+    /// An interleave: as a group, and in order, repeats kept.
     fn ileave(&mut self, members: &[Self::Id]) -> Result<Self::Id, AllocError>
         requires { All (λ i. IsTrue (knows self.old i)) members.now }
         ensures made { IfOk result (StandsFor (knows self.new) (tree_of self.new) (interleave_step (map (tree_of self.old) members.now))) }
+        ensures means { IfOk result (λ i. MatchAlike (tree.interleave (trees_of (map (tree_of self.old) members.now))) (tree_of self.new i)) }
         ensures kept { KeepsTrees (knows self.old) (tree_of self.old) (knows self.new) (tree_of self.new) }
         ensures grows { size self.new ≤ size self.old + 1 }
         ensures refused { OnErr result (size self.new ≡ size self.old) };
 
+    /// A repetition; `notAllowed`, `empty` and a repetition stay what they are.
     fn one_or_more(&mut self, content: Self::Id) -> Result<Self::Id, AllocError>
         requires { IsTrue (knows self.old content) }
         ensures made { IfOk result (StandsFor (knows self.new) (tree_of self.new) (one_or_more_step (tree_of self.old content))) }
+        ensures means { IfOk result (λ i. MatchAlike (tree.one_or_more (tree_of self.old content)) (tree_of self.new i)) }
         ensures kept { KeepsTrees (knows self.old) (tree_of self.old) (knows self.new) (tree_of self.new) }
         ensures grows { size self.new ≤ size self.old + 1 }
         ensures refused { OnErr result (size self.new ≡ size self.old) };

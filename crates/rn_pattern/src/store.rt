@@ -1,9 +1,10 @@
 // The constructors of a store, written once for all ways in which nodes may lie.
 ghost use Rattle.std.specs.Prelude.{◌≡◌, ◌+◌, ◌≤◌, IfOk, IfSome, IsTrue, List, OnErr, length};
 ghost use Rattle.std.specs.Option.{option_map};
+ghost use Rattle.rn_pattern.specs.Matching.{MatchAlike};
 ghost use Rattle.rn_pattern.specs.Nodes.{NamesBelow, knows, tree_at, trees_of_nodes};
 ghost use Rattle.rn_pattern.specs.Reduced.{IsReducedIn, reduced_tree};
-ghost use Rattle.rn_pattern.specs.Store.{KeepsTrees, StandsFor, datum_step, node_view};
+ghost use Rattle.rn_pattern.specs.Store.{KeepsTrees, StandsFor, datum_by, datum_step, node_view};
 ghost use Rattle.rn_pattern.specs.Tree.{Tree};
 ghost use Rattle.rn_pattern.specs.View.{parameters_view};
 
@@ -97,6 +98,9 @@ impl<S: NodeStore> Patterns for S {
         requires { IfSome except (λ i. IsTrue (knows (S.trees self.old) i)) }
         ensures made { IfOk result (StandsFor (knows (S.trees self.new)) (tree_at (S.trees self.new))
             (datum_step library.now type_name.now (parameters_view params.now) (option_map (tree_at (S.trees self.old)) except))) }
+        ensures means { IfOk result (λ i. MatchAlike
+            (datum_by library.now type_name.now (parameters_view params.now) (option_map (tree_at (S.trees self.old)) except))
+            (tree_at (S.trees self.new) i)) }
         ensures kept { KeepsTrees (knows (S.trees self.old)) (tree_at (S.trees self.old)) (knows (S.trees self.new)) (tree_at (S.trees self.new)) }
         ensures grows { length (S.trees self.new) ≤ length (S.trees self.old) + 1 }
         ensures refused { OnErr result (length (S.trees self.new) ≡ length (S.trees self.old)) }

@@ -10,10 +10,7 @@ ghost use Rattle.rn_pattern.specs.Opened.{opened_grammar};
 ghost use Rattle.rn_pattern.specs.Reached.{formed, all_canonical, IsPruned, IsCanonicalOf};
 ghost use Rattle.rn_modset.specs.Contributions.{Member};
 ghost use Rattle.rn_modset.specs.Modules.{AreEffective};
-ghost use Rattle.rn_syntax.specs.Fault.{HasTree};
-ghost use Rattle.rn_syntax.specs.Grammar.{Tokens};
 ghost use Rattle.rn_syntax.specs.Places.{except_places};
-ghost use Rattle.rn_syntax.specs.Tree.{Module};
 ghost use Rattle.rn_assemble.specs.Components.{Component, Source, set_components};
 ghost use Rattle.rn_assemble.specs.Combine.{IsCombination, joined_grammar, read};
 ghost use Rattle.rn_assemble.specs.WellFormed.{IsWellFormed, HasWritableTexts};
@@ -90,10 +87,9 @@ pub fn what_is_read_back_stays()
     ensures no_refusal { (G N : Grammar) → IsCanonicalOf G N → IsWellFormed G → (r : IsReadBack N) (name : Text) (q : Refusal) → ¬ StandsFor (record { name = name; tree = r.tree } ∷ []) q }
 {}
 
-/// A set has one verdict at most: one refusal with all its fields, or one text, and never both. Premise: tokens have
-/// one module tree at most.
+/// A set has one verdict at most: one refusal with all its fields, or one text, and never both.
 pub fn one_verdict()
-    ensures { ((ts : Tokens) (m n : Module) → HasTree ts m → HasTree ts n → m ≡ n) → (s : List Member) (v w : Verdict) → IsVerdict s v → IsVerdict s w → v ≡ w }
+    ensures { (s : List Member) (v w : Verdict) → IsVerdict s v → IsVerdict s w → v ≡ w }
 {}
 
 /// The text that is the verdict of a set is read back: as a module that is valid for exactly the documents of the set's
@@ -104,7 +100,7 @@ pub fn printed_sets_are_read_back()
 {}
 
 /// The text that is the verdict of a set is also the verdict of each set of which it is the one effective module, under
-/// any name. Premise: tokens have one module tree at most.
+/// any name.
 pub fn printed_texts_are_printed_again()
-    ensures { ((ts : Tokens) (m n : Module) → HasTree ts m → HasTree ts n → m ≡ n) → (s : List Member) (text : Text) → IsVerdict s (prints text) → (u : List Member) (name : Text) → AreEffective u ((name, text) ∷ []) → IsVerdict u (prints text) }
+    ensures { (s : List Member) (text : Text) → IsVerdict s (prints text) → (u : List Member) (name : Text) → AreEffective u ((name, text) ∷ []) → IsVerdict u (prints text) }
 {}

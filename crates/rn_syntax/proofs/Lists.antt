@@ -1,14 +1,8 @@
 -- What is left of a list from an index on.
-use Rattle.std.proofs.Common.{◌≡◌, ℕ, ◌+◌, ◌<◌, ◌≤◌, List, [], ◌∷◌, length, get_or, drop, refl, ap, sym, ◌∙◌, zero, suc, arith}
+use Rattle.std.proofs.Common.{◌≡◌, ℕ, ◌+◌, ◌<◌, List, [], ◌∷◌, length, get_or, drop, ap, sym, ◌∙◌, zero, suc, arith}
 
 -- the element at an index, and what follows it
 pub drop_next : {A : Type 0} (xs : List A) (i : ℕ) (x : A) → i < length xs → x ≡ get_or xs i x → drop i xs ≡ x ∷ drop (i + 1) xs
 drop_next [] i x h e = absurd (omega arith)
 drop_next (y ∷ xs) zero x h e = ap (λ z. z ∷ xs) (sym e)
 drop_next (y ∷ xs) (suc i) x h e = let k : suc (i + 1) ≡ suc i + 1 = omega arith in drop_next xs i x (omega arith) e ∙ ap (λ n. x ∷ drop n (y ∷ xs)) k
-
-pub drop_end : {A : Type 0} (xs : List A) (i : ℕ) → length xs ≤ i → drop i xs ≡ []
-drop_end [] zero h = refl
-drop_end [] (suc i) h = refl
-drop_end (x ∷ xs) zero h = absurd (omega arith)
-drop_end (x ∷ xs) (suc i) h = drop_end xs i (omega arith)

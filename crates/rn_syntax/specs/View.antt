@@ -41,6 +41,9 @@ class_step (Nc-F.Choice cs) = t.choice (classes_of cs.items)
 abbrev pub class_view : code_class.Nc → NameClass
 class_view = code_class.fold-Nc NameClass class_step
 
+abbrev pub classes_view : List code_class.Nc → t.NameClasses
+classes_view cs = classes_of (map class_view cs)
+
 abbrev pub datatype_view : code_type.Datatype → Datatype
 datatype_view (d.String i) = t.string i
 datatype_view (d.Token i) = t.token i
@@ -74,6 +77,9 @@ pattern_step (Pat-F.Chain op ps) = t.chain op (patterns_of ps.items)
 
 abbrev pub pattern_view : code_pattern.Pat → Pattern
 pattern_view = code_pattern.fold-Pat Pattern pattern_step
+
+abbrev pub patterns_view : List code_pattern.Pat → t.Patterns
+patterns_view ps = patterns_of (map pattern_view ps)
 
 abbrev pub uri_view : code_uri.Uri → Uri
 uri_view (u.Literal s) = t.literal (cow_str_bytes s)

@@ -1,25 +1,61 @@
 // How deep brackets nest.
-use crate::terminals::{Terminal, terminal_of};
-use rn_text::Token;
+ghost use Rattle.std.specs.Prelude.{◌≡◌, ◌≤◌, ◌∷◌, ℕ, MatchOption, map};
+ghost use Rattle.rn_text.specs.Tokens.{lexeme_of};
+ghost use Rattle.rn_syntax.specs.Grammar as grammar;
+ghost use Rattle.rn_syntax.specs.Places.{deep};
+ghost use Rattle.rn_syntax.specs.Reading.{seen};
+ghost use Rattle.rn_syntax.specs.Terminal as term;
+ghost use Rattle.rn_syntax.specs.Terminal.{◌#◌};
+ghost use Rattle.rn_syntax.specs.Tokens.{placed, terminals};
+
+use crate::terminals::{Terminal, symbol};
+use rn_text::{Kind, Token};
 
 /// How many brackets may be open at once.
 const DEEPEST: usize = 256;
 
+/// How many brackets are open behind a terminal, unless they are too many.
+fn open_behind(depth: usize, terminal: Terminal<'_>) -> Option<usize>
+    requires { depth ≤ 256 }
+    ensures bound { MatchOption result (depth ≡ 256) (λ n. n ≤ 256) }
+    ensures step { (x : term.Terminal) (i : ℕ) (ts : grammar.Tokens) → seen terminal.entry ≡ Some x → MatchOption result (deep depth (x # i ∷ ts) ≡ Some i) (λ n. deep depth (x # i ∷ ts) ≡ deep n ts) }
+{
+    match terminal {
+        Terminal::LeftBrace | Terminal::LeftParen | Terminal::LeftBracket => {
+            if depth < DEEPEST {
+                Some(depth + 1)
+            } else {
+                None
+            }
+        }
+        Terminal::RightBrace | Terminal::RightParen | Terminal::RightBracket => {
+            Some(depth.saturating_sub(1))
+        }
+        _ => Some(depth),
+    }
+}
+
+/// The same behind a token.
+fn open_behind_token(depth: usize, token: Token<'_>) -> Option<usize>
+    requires { depth ≤ 256 }
+    ensures bound { MatchOption result (depth ≡ 256) (λ n. n ≤ 256) }
+    ensures step { (ts : grammar.Tokens) → MatchOption result (deep depth (placed (lexeme_of token.entry) ∷ ts) ≡ Some token.entry.start) (λ n. deep depth (placed (lexeme_of token.entry) ∷ ts) ≡ deep n ts) }
+{
+    match token.kind {
+        Kind::Symbol => open_behind(depth, symbol(token.text)),
+        _ => Some(depth),
+    }
+}
+
 /// The place of the first bracket that is one too many.
-pub(crate) fn too_deep(tokens: &[Token<'_>]) -> Option<usize> {
-    let mut open: usize = 0;
+pub(crate) fn too_deep(tokens: &[Token<'_>]) -> Option<usize>
+    ensures { result ≡ deep 0 (terminals (map lexeme_of tokens.now)) }
+{
+    let mut depth: usize = 0;
     'tokens: for token in tokens {
-        match terminal_of(*token) {
-            Terminal::LeftBrace | Terminal::LeftParen | Terminal::LeftBracket => {
-                if open >= DEEPEST {
-                    return Some(token.start);
-                }
-                open += 1;
-            }
-            Terminal::RightBrace | Terminal::RightParen | Terminal::RightBracket => {
-                open = open.saturating_sub(1);
-            }
-            _ => {}
+        match open_behind_token(depth, *token) {
+            Some(behind) => depth = behind,
+            None => return Some(token.start),
         }
     }
     None

@@ -3,9 +3,8 @@ ghost use Rattle.std.specs.Prelude.{◌≡◌, ◌++◌, map, IfOk};
 ghost use Rattle.rn_syntax.specs.Tree as tree;
 ghost use Rattle.rn_syntax.specs.View.{item_view, items_view, module_view};
 
-use std::alloc::{AllocError, Global};
-
 use crate::tree::{Item, Module};
+use std::alloc::{AllocError, Global};
 
 /// The literals of a module's includes, in the order of the text.
 pub fn includes<'m>(alloc: Global, module: &'m Module<'_>) -> Result<Vec<&'m str>, AllocError>

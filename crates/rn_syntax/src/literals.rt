@@ -37,7 +37,7 @@ fn segment<'a>(alloc: Global, tokens: &[Token<'a>], at: usize) -> Result<(CowStr
     ensures inside { IfOk result (λ r. Advanced at r.1 (length tokens.now)) }
 {
     match next(tokens, at) {
-        Terminal::Segment => Ok((segment_text(alloc, tokens[at])?, at + 1)),
+        Terminal::Segment(token) => Ok((segment_text(alloc, token)?, at + 1)),
         _ => Err(Fault::Stuck(at)),
     }
 }

@@ -90,7 +90,7 @@ fn behind_datatype<'a>(
     requires { at ≤ length tokens.now }
     ensures inside { IfOk result (λ r. Passed at r.1 (length tokens.now)) }
 {
-    if let Terminal::Segment = next(tokens, at) {
+    if let Terminal::Segment(_) = next(tokens, at) {
         let (text, end) = literal(alloc, tokens, at)?;
         let behind = skip_follows(tokens, end)?;
         return behind_primary(alloc, tokens, behind, Pat::Value(Some(datatype), text));
@@ -132,7 +132,7 @@ fn data<'a>(
     requires { at ≤ length tokens.now }
     ensures inside { IfOk result (λ r. Passed at r.1 (length tokens.now)) }
 {
-    if let Terminal::Segment = next(tokens, at) {
+    if let Terminal::Segment(_) = next(tokens, at) {
         let (text, end) = literal(alloc, tokens, at)?;
         return Ok((Pat::Value(Some(datatype), text), end));
     }
@@ -149,7 +149,7 @@ fn core<'a>(alloc: Global, tokens: &[Token<'a>], at: usize) -> Result<(Pat<'a>, 
     match next(tokens, at) {
         Terminal::Keyword(keyword) => keyword_core(alloc, tokens, at, keyword),
         Terminal::Ident(name) => Ok((Pat::Ref(name), at + 1)),
-        Terminal::Segment => {
+        Terminal::Segment(_) => {
             let (text, end) = literal(alloc, tokens, at)?;
             Ok((Pat::Value(None, text), end))
         }

@@ -1,24 +1,47 @@
 // The places in the patterns of a module that break a rule.
+ghost use Rattle.std.specs.Prelude.{◌≡◌, ℕ, List, [], Bool, true, false, Option};
+ghost use Rattle.rn_syntax.specs.Places as places;
+ghost use Rattle.rn_syntax.specs.Places.{first};
+ghost use Rattle.rn_syntax.specs.Tree as tree;
+ghost use Rattle.rn_syntax.specs.View.{class_view, datatype_view, params_view, pattern_view, patterns_view, prefix_view, item_view, items_view};
+
 use crate::tree::{Datatype, Item, Nc, Param, Pat, Prefix};
 
 /// A rule on what stands in patterns: each call answers the first place that breaks it.
 pub(crate) trait Rule {
-    fn name_class(&self, class: &Nc<'_>) -> Option<usize>;
+    ghost classes: { Self → tree.NameClass → List ℕ };
+
+    ghost datatypes: { Self → Bool → tree.Datatype → tree.Params → List ℕ };
+
+    ghost excepts: { Self → ℕ → tree.Pattern → List ℕ };
+
+    ghost inherits: { Self → Option (List ℕ × ℕ) → List ℕ };
+
+    fn name_class(&self, class: &Nc<'_>) -> Option<usize>
+        ensures { result ≡ first (classes self.now (class_view class.now)) };
 
     /// Of the datatype of a value.
-    fn value(&self, datatype: Datatype<'_>) -> Option<usize>;
+    fn value(&self, datatype: Datatype<'_>) -> Option<usize>
+        ensures { result ≡ first (datatypes self.now true (datatype_view datatype.entry) []) };
 
-    fn data(&self, datatype: Datatype<'_>, params: &[Param<'_>]) -> Option<usize>;
+    fn data(&self, datatype: Datatype<'_>, params: &[Param<'_>]) -> Option<usize>
+        ensures { result ≡ first (datatypes self.now false (datatype_view datatype.entry) (params_view params.now)) };
 
     /// Of what is excepted behind the `-` at this place.
-    fn except(&self, at: usize, excepted: &Pat<'_>) -> Option<usize>;
+    fn except(&self, at: usize, excepted: &Pat<'_>) -> Option<usize>
+        ensures { result ≡ first (excepts self.now at (pattern_view excepted.now)) };
 
     /// Of the prefix behind `inherit =`.
-    fn inherit(&self, prefix: Prefix<'_>) -> Option<usize>;
+    fn inherit(&self, prefix: Option<Prefix<'_>>) -> Option<usize>
+        ensures { result ≡ first (inherits self.now (prefix_view prefix.entry)) };
 }
 
 /// The first place in a pattern that breaks the rule.
-fn pattern_place<R: Rule>(rule: &R, pattern: &Pat<'_>) -> Option<usize> {
+#[tactic(auto, using(crate::proofs::Firsts::none_first, crate::proofs::Firsts::some_first))]
+#[cycle(pattern_place)]
+fn pattern_place<R: Rule>(rule: &R, pattern: &Pat<'_>) -> Option<usize>
+    ensures { result ≡ first (places.pattern_places (R.classes rule.now) (R.datatypes rule.now) (R.excepts rule.now) (pattern_view pattern.now)) }
+{
     match pattern {
         Pat::Element(class, content) | Pat::Attribute(class, content) => {
             match rule.name_class(class) {
@@ -41,20 +64,30 @@ fn pattern_place<R: Rule>(rule: &R, pattern: &Pat<'_>) -> Option<usize> {
                 wrong => wrong,
             }
         }
-        Pat::Chain(_, members) => {
-            'members: for member in members {
-                if let Some(wrong) = pattern_place(rule, member) {
-                    return Some(wrong);
-                }
-            }
-            None
-        }
+        Pat::Chain(_, members) => patterns_place(rule, members),
     }
 }
 
+/// The first place in patterns that breaks the rule.
+#[tactic(auto, using(crate::proofs::Firsts::none_first, crate::proofs::Firsts::some_first))]
+#[cycle(pattern_place)]
+fn patterns_place<R: Rule>(rule: &R, patterns: &[Pat<'_>]) -> Option<usize>
+    ensures { result ≡ first (places.patterns_places (R.classes rule.now) (R.datatypes rule.now) (R.excepts rule.now) (patterns_view patterns.now)) }
+{
+    'patterns: for pattern in patterns {
+        if let Some(wrong) = pattern_place(rule, pattern) {
+            return Some(wrong);
+        }
+    }
+    None
+}
+
 /// The first place in the patterns of items that breaks the rule.
+#[tactic(auto, using(crate::proofs::Firsts::none_first, crate::proofs::Firsts::some_first))]
 #[cycle(items_place)]
-pub(crate) fn items_place<R: Rule>(rule: &R, items: &[Item<'_>]) -> Option<usize> {
+pub(crate) fn items_place<R: Rule>(rule: &R, items: &[Item<'_>]) -> Option<usize>
+    ensures { result ≡ first (places.items_places (R.classes rule.now) (R.datatypes rule.now) (R.excepts rule.now) (R.inherits rule.now) (items_view items.now)) }
+{
     'items: for item in items {
         if let Some(wrong) = item_place(rule, item) {
             return Some(wrong);
@@ -63,18 +96,19 @@ pub(crate) fn items_place<R: Rule>(rule: &R, items: &[Item<'_>]) -> Option<usize
     None
 }
 
+#[tactic(auto, using(crate::proofs::Firsts::none_first, crate::proofs::Firsts::some_first))]
 #[cycle(items_place)]
-fn item_place<R: Rule>(rule: &R, item: &Item<'_>) -> Option<usize> {
+fn item_place<R: Rule>(rule: &R, item: &Item<'_>) -> Option<usize>
+    ensures { result ≡ first (places.item_places (R.classes rule.now) (R.datatypes rule.now) (R.excepts rule.now) (R.inherits rule.now) (item_view item.now)) }
+{
     match item {
         Item::Define { body, .. } | Item::Start { body, .. } => pattern_place(rule, body),
         Item::Div(items) => items_place(rule, items),
         Item::Include { inherit, items, .. } => {
-            if let Some(prefix) = inherit {
-                if let Some(wrong) = rule.inherit(*prefix) {
-                    return Some(wrong);
-                }
+            match rule.inherit(*inherit) {
+                None => items_place(rule, items),
+                wrong => wrong,
             }
-            items_place(rule, items)
         }
     }
 }

@@ -1,5 +1,12 @@
 // The module that tokens spell.
-use crate::bindings::bind_all;
+ghost use Rattle.std.specs.Prelude.{◌≡◌, None, IfOk, IfErr, OnOk, MatchOption, map};
+ghost use Rattle.rn_text.specs.Tokens.{lexeme_of};
+ghost use Rattle.rn_syntax.specs.Tokens.{terminals};
+ghost use Rattle.rn_syntax.specs.Places.{deep, first, prefix_places, builtin_places, context_places};
+ghost use Rattle.rn_syntax.specs.Faults.{HasFault, HasNoFault, IsFault, IsSyntax};
+ghost use Rattle.rn_syntax.specs.View.{module_view};
+
+use crate::bindings::{Bindings, bind_all};
 use crate::brackets::too_deep;
 use crate::fault::{Fault, SyntaxFault};
 use crate::modules::module;
@@ -11,7 +18,9 @@ use rn_text::Token;
 use std::alloc::{AllocError, Global};
 
 /// The module that the tokens are, by the grammar alone.
-fn tree<'a>(alloc: Global, tokens: &[Token<'a>]) -> Result<Module<'a>, SyntaxFault> {
+fn tree<'a>(alloc: Global, tokens: &[Token<'a>]) -> Result<Module<'a>, SyntaxFault>
+    ensures { IfErr result IsSyntax }
+{
     match module(alloc, tokens) {
         Ok(module) => Ok(module),
         Err(Fault::Stuck(at)) => Err(SyntaxFault::Syntax {
@@ -21,19 +30,50 @@ fn tree<'a>(alloc: Global, tokens: &[Token<'a>]) -> Result<Module<'a>, SyntaxFau
     }
 }
 
-/// The first fault of a module that the grammar leaves open.
-fn fault(alloc: Global, module: &Module<'_>) -> Result<Option<SyntaxFault>, AllocError> {
+/// What the declarations of a module bind, and the place of its first wrong or unbound prefix.
+fn prefix_place<'m, 'a>(
+    alloc: Global,
+    module: &'m Module<'a>,
+) -> Result<(Bindings<'m, 'a>, Option<usize>), AllocError>
+    ensures bound { IfOk result (λ r. r.0.declarations.now ≡ «module».now.decls.items) }
+    ensures place { IfOk result (λ r. r.1 ≡ first (prefix_places (module_view «module».now))) }
+{
     let (bindings, wrong) = bind_all(alloc, &module.decls)?;
+    if let Some(at) = wrong {
+        return Ok((bindings, Some(at)));
+    }
+    let unbound = items_place(&Prefixes(&bindings), &module.items);
+    Ok((bindings, unbound))
+}
+
+/// The place of the first type of the empty library that is none of it.
+fn builtin_place(bindings: &Bindings<'_, '_>, module: &Module<'_>) -> Option<usize>
+    requires { bindings.now.declarations.now ≡ «module».now.decls.items }
+    ensures { result ≡ first (builtin_places (module_view «module».now)) }
+{
+    items_place(&Builtins(bindings), &module.items)
+}
+
+/// The place of the first value of a type that looks at namespace bindings.
+fn context_value_place(bindings: &Bindings<'_, '_>, module: &Module<'_>) -> Option<usize>
+    requires { bindings.now.declarations.now ≡ «module».now.decls.items }
+    ensures { result ≡ first (context_places (module_view «module».now)) }
+{
+    items_place(&ContextValues(bindings), &module.items)
+}
+
+/// The first fault of a module that the grammar leaves open.
+fn fault(alloc: Global, module: &Module<'_>) -> Result<Option<SyntaxFault>, AllocError>
+    ensures { IfOk result (λ found. MatchOption found (HasNoFault (module_view «module».now)) (HasFault (module_view «module».now))) }
+{
+    let (bindings, wrong) = prefix_place(alloc, module)?;
     if let Some(at) = wrong {
         return Ok(Some(SyntaxFault::Prefix { at }));
     }
-    if let Some(at) = items_place(&Prefixes(&bindings), &module.items) {
-        return Ok(Some(SyntaxFault::Prefix { at }));
-    }
-    if let Some(at) = items_place(&Builtins(&bindings), &module.items) {
+    if let Some(at) = builtin_place(&bindings, module) {
         return Ok(Some(SyntaxFault::Builtin { at }));
     }
-    if let Some(at) = items_place(&ContextValues(&bindings), &module.items) {
+    if let Some(at) = context_value_place(&bindings, module) {
         return Ok(Some(SyntaxFault::ContextValue { at }));
     }
     match items_place(&Excepts, &module.items) {
@@ -46,7 +86,11 @@ fn fault(alloc: Global, module: &Module<'_>) -> Result<Option<SyntaxFault>, Allo
 ///
 /// Tested in this order, each over all tokens and each with its first place in bytes: `Deep`, `Syntax`, `Prefix`,
 /// `Builtin`, `ContextValue`, `Except`. `Memory` stands only where memory was refused.
-pub fn parse<'a>(alloc: Global, tokens: &[Token<'a>]) -> Result<Module<'a>, SyntaxFault> {
+pub fn parse<'a>(alloc: Global, tokens: &[Token<'a>]) -> Result<Module<'a>, SyntaxFault>
+    ensures shallow { OnOk result (deep 0 (terminals (map lexeme_of tokens.now)) ≡ None) }
+    ensures sound { IfOk result (λ m. HasNoFault (module_view m)) }
+    ensures fault { IfErr result (IsFault (terminals (map lexeme_of tokens.now))) }
+{
     if let Some(at) = too_deep(tokens) {
         return Err(SyntaxFault::Deep { at });
     }

@@ -1,6 +1,8 @@
 // The terminals of the grammar: what it sees of each token.
 ghost use Rattle.std.specs.Prelude.{◌≡◌, ◌≤◌, ◌<◌, length, IfOk, IfSome, IsTrue};
-ghost use Rattle.rn_syntax.specs.Reading.{IsInside, Advanced};
+ghost use Rattle.std.specs.Str.{IsUtf8};
+ghost use Rattle.rn_syntax.specs.Reading.{IsInside, Advanced, seen};
+ghost use Rattle.rn_syntax.specs.Tokens.{spelled_in, keyword_rows, symbol_rows};
 
 use crate::fault::Fault;
 use crate::token::{Keyword, Method, Operator, Postfix};
@@ -16,7 +18,7 @@ pub(crate) enum Terminal<'a> {
     Prefixed(&'a str, &'a str),
     /// The prefix before `:*`.
     AnyOf(&'a str),
-    Segment,
+    Segment(Token<'a>),
     Operator(Operator),
     Postfix(Postfix),
     Assign(Method),
@@ -35,7 +37,10 @@ pub(crate) enum Terminal<'a> {
     End,
 }
 
-fn keyword(text: &str) -> Terminal<'_> {
+#[tactic(auto, unfolding(crate::specs::Tokens::keyword_rows))]
+fn keyword(text: &str) -> Terminal<'_>
+    ensures { seen result ≡ Some (spelled_in keyword_rows text.now) }
+{
     let keyword = match text {
         "attribute" => Keyword::Attribute,
         "default" => Keyword::Default,
@@ -61,7 +66,11 @@ fn keyword(text: &str) -> Terminal<'_> {
     Terminal::Keyword(keyword)
 }
 
-fn symbol(text: &str) -> Terminal<'_> {
+#[tactic(auto, unfolding(crate::specs::Tokens::symbol_rows))]
+pub(crate) fn symbol(text: &str) -> Terminal<'_>
+    ensures is { seen result ≡ Some (spelled_in symbol_rows text.now) }
+    ensures utf8 { IsUtf8 text.now }
+{
     match text {
         "=" => Terminal::Assign(Method::Plain),
         "|=" => Terminal::Assign(Method::Choice),
@@ -101,7 +110,7 @@ pub(crate) fn terminal_of<'a>(token: Token<'a>) -> Terminal<'a> {
             Terminal::Prefixed(prefix, local)
         }
         Kind::AnyOf => Terminal::AnyOf(split_prefix(token.text).0),
-        Kind::Segment => Terminal::Segment,
+        Kind::Segment => Terminal::Segment(token),
         Kind::Symbol => symbol(token.text),
     }
 }

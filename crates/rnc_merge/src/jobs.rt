@@ -1,5 +1,6 @@
 // What each command does.
 ghost use Rattle.std.specs.Prelude.{◌≡◌, false};
+ghost use Rattle.rnc_merge.specs.Jobs.{LeavesSink};
 
 use crate::files::{read_file, read_files};
 use rn_merge::{
@@ -11,6 +12,7 @@ use std::alloc::Global;
 /// Reads the files of a job, does it, and writes what it gives.
 pub fn perform<W: Sink>(rt: &HostRuntime, job: Job, out: &mut W) -> Result<(), ProgramFault>
     requires { W.has_failed out.old ≡ false }
+    ensures { LeavesSink result (out.new ≡ out.old) }
 {
     match job {
         Job::Pack {
@@ -63,6 +65,7 @@ pub fn perform<W: Sink>(rt: &HostRuntime, job: Job, out: &mut W) -> Result<(), P
 /// Writes the bundle of one contribution.
 fn pack<W: Sink>(alloc: Global, contribution: Contribution, out: &mut W) -> Result<(), ProgramFault>
     requires { W.has_failed out.old ≡ false }
+    ensures { LeavesSink result (out.new ≡ out.old) }
 {
     let mut set = ModuleSet::new(alloc);
     match set.add(contribution) {
@@ -74,6 +77,7 @@ fn pack<W: Sink>(alloc: Global, contribution: Contribution, out: &mut W) -> Resu
 /// Writes the bundle of the union of bundles.
 fn join<W: Sink>(alloc: Global, bundles: &[Vec<u8>], out: &mut W) -> Result<(), ProgramFault>
     requires { W.has_failed out.old ≡ false }
+    ensures { LeavesSink result (out.new ≡ out.old) }
 {
     let union = read_bundles(alloc, bundles)?;
     write(write_bundle(alloc, &union)?.as_slice(), out)
@@ -82,6 +86,7 @@ fn join<W: Sink>(alloc: Global, bundles: &[Vec<u8>], out: &mut W) -> Result<(), 
 /// Writes a line for each contribution of the union of bundles.
 fn list<W: Sink>(alloc: Global, bundles: &[Vec<u8>], out: &mut W) -> Result<(), ProgramFault>
     requires { W.has_failed out.old ≡ false }
+    ensures { LeavesSink result (out.new ≡ out.old) }
 {
     let union = read_bundles(alloc, bundles)?;
     let mut lines = String::new(alloc);
@@ -95,6 +100,7 @@ fn list<W: Sink>(alloc: Global, bundles: &[Vec<u8>], out: &mut W) -> Result<(), 
 /// Writes the schema of the union of bundles.
 fn print<W: Sink>(alloc: Global, bundles: &[Vec<u8>], out: &mut W) -> Result<(), ProgramFault>
     requires { W.has_failed out.old ≡ false }
+    ensures { LeavesSink result (out.new ≡ out.old) }
 {
     match run_print(alloc, bundles, out)? {
         Status::Done => Ok(()),
@@ -104,6 +110,7 @@ fn print<W: Sink>(alloc: Global, bundles: &[Vec<u8>], out: &mut W) -> Result<(),
 
 fn write<W: Sink>(bytes: &[u8], out: &mut W) -> Result<(), ProgramFault>
     requires { W.has_failed out.old ≡ false }
+    ensures { LeavesSink result (out.new ≡ out.old) }
 {
     write_output(out, bytes).map_err(|_| ProgramFault::Write)
 }

@@ -1,5 +1,5 @@
 -- The line cut at its first two spaces, and each kind of header.
-use Rattle.std.proofs.Common.{rules, ◌≡◌, ◌≢◌, sym, ◌∙◌, true, false, codes, List, ℕ}
+use Rattle.std.proofs.Common.{◌≡◌, ◌≢◌, sym, ◌∙◌, codes}
 use Rattle.std.specs.Cmp.Lexicographic.{same_text}
 use Rattle.rn_modset.proofs.HeaderLines.{IsCut, no_name, bad_name, no_such_kind, text_by, withdrawal_by}
 use Rattle.rn_modset.proofs.Truths.{differs, other_text}

@@ -1,6 +1,5 @@
 -- The fields behind a text's name, cut at their spaces.
-use Rattle.std.proofs.Common.{rules, ◌≡◌, ◌≤◌, ◌<◌, sym, arith, true, false}
-use Rattle.rn_modset.specs.Faults.{AreNoTextFields, IsDigest}
+use Rattle.std.proofs.Common.{rules, arith}
 use Rattle.rn_modset.proofs.Truths.{differs}
 use Rattle.rn_modset.proofs.HeaderLines.{AreCut, no_length, bad_revision, bad_length, bad_limits}
 use Rattle.rn_modset.proofs.headers.text_header.Goals as goal

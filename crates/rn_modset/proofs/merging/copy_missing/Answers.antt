@@ -1,5 +1,5 @@
 -- One more of the others is passed.
-use Rattle.std.proofs.Common.{rules, ◌≡◌, ◌<◌, ◌++◌, ◌∷◌, [], sym, ap, ◌∙◌, arith, true, false, is_ok, take, drop}
+use Rattle.std.proofs.Common.{◌≡◌, ◌++◌, ◌∷◌, [], sym, ap, ◌∙◌, arith, true, is_ok, take}
 use Rattle.std.proofs.lemmas.List.{map_push}
 use Rattle.rn_modset.specs.Contributions.{member, members_of}
 use Rattle.rn_modset.specs.Sets.{missing}

@@ -1,8 +1,7 @@
 -- One more of the others is passed.
-use Rattle.std.proofs.Common.{rules, ◌≡◌, ◌+◌, ◌<◌, ◌≤◌, length, sym, ap, ◌∙◌, arith, true, false, take, drop}
+use Rattle.std.proofs.Common.{length, sym, ap, ◌∙◌, arith}
 use Rattle.std.proofs.lemmas.List.{length-append}
-use Rattle.rn_modset.specs.Contributions.{Member, member, members_of}
-use Rattle.rn_modset.specs.Sets.{missing}
+use Rattle.rn_modset.specs.Contributions.{Member}
 use Rattle.rn_modset.proofs.Fronts.{IsHeldAt}
 use Rattle.rn_modset.proofs.Merges.{IsStep, step_by, passed, counted}
 use Rattle.rn_modset.proofs.merging.count_missing.Goals as goal

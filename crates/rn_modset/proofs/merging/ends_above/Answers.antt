@@ -1,5 +1,5 @@
 -- The greater of the lasts.
-use Rattle.std.proofs.Common.{rules, ◌≡◌, sym, ap, ◌∙◌}
+use Rattle.std.proofs.Common.{ap, ◌∙◌}
 use Rattle.std.proofs.lemmas.List.{map_push}
 use Rattle.rn_modset.specs.Contributions.{member, members_of}
 use Rattle.rn_modset.proofs.Order.{same_order}

@@ -1,9 +1,8 @@
 -- The greatest is taken, until nothing is left.
-use Rattle.std.proofs.Common.{rules, ◌≡◌, ◌+◌, ◌≤◌, ◌++◌, ◌∷◌, [], List, sym, ap, ◌∙◌, arith, true, is_ok, reverse, subst}
+use Rattle.std.proofs.Common.{rules, ◌≡◌, ◌++◌, ◌∷◌, [], List, ap, ◌∙◌, arith, true, is_ok, reverse, subst}
 use Rattle.std.proofs.lemmas.List.{reverse-append}
 use Rattle.rn_modset.specs.Contributions.{Member, member, members_of}
-use Rattle.rn_modset.specs.Sets.{Rises}
-use Rattle.rn_modset.proofs.Merges.{IsMerging, merge_start, merge_step, merge_end, rises_left}
+use Rattle.rn_modset.proofs.Merges.{IsMerging, merge_step, merge_end, rises_left}
 use Rattle.rn_modset.proofs.merging.merge.Goals as goal
 
 pub pop_greatest-requires-clause-held : goal.pop_greatest-requires-clause-held

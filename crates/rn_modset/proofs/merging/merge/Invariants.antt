@@ -1,4 +1,4 @@
-use Rattle.std.proofs.Common.{◌≡◌, ◌≤◌, ◌+◌, vec_len, vec_capacity, reverse}
+use Rattle.std.proofs.Common.{◌≤◌, ◌+◌, vec_len, vec_capacity, reverse}
 use Rattle.rn_modset.specs.Contributions.{members_of}
 use Rattle.rn_modset.proofs.Merges.{IsMerging}
 use Rattle.rn_modset.proofs.merging.merge.Given as goal

@@ -1,10 +1,8 @@
 -- The last line: its word, its count and its version.
-use Rattle.std.proofs.Common.{rules, ◌≡◌, ◌≢◌, ◌++◌, ◌∷◌, ◌<◌, ◌≤◌, length, decimal, codes, true, false, refl, sym, ap, ◌∙◌, arith}
+use Rattle.std.proofs.Common.{◌≡◌, ◌++◌, ◌∷◌, length, decimal, codes, sym, ap, ◌∙◌}
 use Rattle.std.proofs.lemmas.List.{length-map}
-use Rattle.std.specs.Cmp.Lexicographic.{same_text}
 use Rattle.rn_modset.specs.Contributions.{member, members_of}
 use Rattle.rn_modset.specs.Bundles.{has_withdrawal}
-use Rattle.rn_modset.specs.Faults.{Ends}
 use Rattle.rn_modset.proofs.Truths.{differs, other_by_not, same_truth, truth_itself, same_by_not}
 use Rattle.rn_modset.proofs.HeaderLines.{end_cut, no_end}
 use Rattle.rn_modset.proofs.reading.is_end.Goals as goal

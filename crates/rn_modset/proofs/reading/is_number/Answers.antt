@@ -1,5 +1,5 @@
 -- One number has one spelling.
-use Rattle.std.proofs.Common.{rules, ◌≡◌, ℕ, decimal, sym, ap, ◌∙◌, eqb-true, eq-eqb}
+use Rattle.std.proofs.Common.{rules, decimal, sym, ap, ◌∙◌, eqb-true, eq-eqb}
 use Rattle.std.proofs.lemmas.Fmt.{decimal_injective}
 use Rattle.rn_modset.proofs.reading.is_number.Goals as goal
 

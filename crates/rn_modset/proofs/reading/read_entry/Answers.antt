@@ -1,5 +1,5 @@
 -- The entry's fault.
-use Rattle.std.proofs.Common.{rules, ◌≡◌, ℕ, ◌<◌, ◌≤◌, sym, ◌∙◌, ap, arith}
+use Rattle.std.proofs.Common.{◌≡◌, arith}
 use Rattle.rn_modset.specs.declared.faults.BundleFault.TheVariants.{Memory}
 use Rattle.rn_modset.specs.declared.headers.HeaderLine.TheVariants.{Text}
 use Rattle.rn_modset.specs.Bundles.{header_line}

@@ -1,5 +1,5 @@
 -- Sorted ids stand for sorted trees.
-use Rattle.std.proofs.Common.{◌≡◌, IsTrue, rules, arith, map}
+use Rattle.std.proofs.Common.{◌≡◌, ◌∙◌, IsTrue, rules, arith, map}
 use Rattle.std.proofs.lemmas.Fn.{dedup_same}
 use Rattle.std.proofs.lemmas.List.Sorted.{All-permutation}
 use Rattle.std.proofs.lemmas.List.Filters.{All-dedup}
@@ -16,10 +16,12 @@ use Rattle.rn_pattern.proofs.canonical.sorted_once.Goals as goal
 pub returns-clause-sorted : goal.returns-clause-sorted
 returns-clause-sorted c =
     let at = tree_at (trees_of_nodes c.args.nodes.now.nodes.now) in
+    let xs = c.distinct-members.result.items in
     let ys = c.sort_by.new.self.items in
-    ids_sorted_once tree_cmp tree_cmp_total tree_same at c.args.members.items ys c.dedup_by.new.self.items
-    (ids_sorted tree_cmp tree_cmp_total tree_same at c.args.members.items ys c.sort_by.ensures.permutation c.in_ok-sort_by.ensures.sorted (λ a r f' k. search rules))
+    ids_sorted_once tree_cmp tree_cmp_total tree_same at xs ys c.dedup_by.new.self.items
+    (ids_sorted tree_cmp tree_cmp_total tree_same at xs ys c.sort_by.ensures.permutation c.in_ok-sort_by.ensures.sorted (λ a r f' k. search rules))
     (dedup_same _ (same_at tree_cmp tree_cmp_total tree_same at) _ (λ x y b f' x' y' k. search rules) ys c.dedup_by.new.self.items c.dedup_by.ensures.filtered)
+    ∙ c.distinct-members.ensures.sorted at
 
 pub returns-clause-known : goal.returns-clause-known
 returns-clause-known c =
@@ -28,4 +30,4 @@ returns-clause-known c =
     let ys = c.sort_by.new.self.items in
     let zs = c.dedup_by.new.self.items in
     All-same P zs (dedup (same_at tree_cmp tree_cmp_total tree_same at) ys) (dedup_same _ (same_at tree_cmp tree_cmp_total tree_same at) _ (λ x y b f' x' y' k. search rules) ys zs c.dedup_by.ensures.filtered)
-    (All-dedup (same_at tree_cmp tree_cmp_total tree_same at) P ys (All-permutation P c.args.members.items ys c.sort_by.ensures.permutation c.requires))
+    (All-dedup (same_at tree_cmp tree_cmp_total tree_same at) P ys (All-permutation P c.distinct-members.result.items ys c.sort_by.ensures.permutation (c.distinct-members.ensures.known (trees_of_nodes c.args.nodes.now.nodes.now) c.requires)))

@@ -1,5 +1,6 @@
+use Rattle.rn_assemble.proofs.OneTree.{one_tree}
 use Rattle.rn_simplify.proofs.OneVerdict.{one_verdict}
 use Rattle.rn_simplify.proofs.laws.one_verdict.Goals as goal
 
 pub returns : goal.returns
-returns c = one_verdict
+returns c = one_verdict one_tree

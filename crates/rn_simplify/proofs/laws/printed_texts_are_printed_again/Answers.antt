@@ -1,5 +1,6 @@
+use Rattle.rn_assemble.proofs.OneTree.{one_tree}
 use Rattle.rn_simplify.proofs.PrintedAgain.{printed_again}
 use Rattle.rn_simplify.proofs.laws.printed_texts_are_printed_again.Goals as goal
 
 pub returns : goal.returns
-returns c = printed_again
+returns c = printed_again one_tree

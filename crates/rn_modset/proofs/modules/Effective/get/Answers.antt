@@ -1,6 +1,5 @@
 -- The search by names finds the module, or there is none.
-use Rattle.std.proofs.Common.{rules, ◌≡◌, sym, ◌∙◌}
-use Rattle.std.specs.List.Sorted.{IsBinarySearchResult}
+use Rattle.std.proofs.Common.{rules}
 use Rattle.std.proofs.lemmas.Fn.{always_returns_same}
 use Rattle.rn_modset.specs.Contributions.{text_cmp}
 use Rattle.rn_modset.proofs.Lookups.{found_there, found_nowhere}

@@ -1,14 +1,14 @@
 -- Each step of the walk, the first conflict, and the modules at its end.
-use Rattle.std.proofs.Common.{rules, ◌≡◌, ℕ, ◌+◌, ◌<◌, ◌≤◌, List, [], ◌∷◌, ◌++◌, length, Some, None, is_ok, Bool, true, false, sym, ap, subst, ◌∙◌, arith}
+use Rattle.std.proofs.Common.{◌≡◌, [], ◌∷◌, ◌++◌, is_ok, true, sym, ap, ◌∙◌, arith}
 use Rattle.std.proofs.lemmas.List.{map_push}
 use Rattle.std.specs.Option.{option_map}
 use Rattle.std.specs.String.{string_bytes}
-use Rattle.rn_modset.specs.Contributions.{member, members_of}
+use Rattle.rn_modset.specs.Contributions.{members_of}
 use Rattle.rn_modset.specs.Modules.{AreEffective, IsFirstConflict, modules_of, module_of}
 use Rattle.rn_modset.specs.Places.{IsFollowed, IsContradicted}
 use Rattle.rn_modset.specs.Sets.{Rises}
 use Rattle.rn_modset.proofs.Truths.{differs}
-use Rattle.rn_modset.proofs.Walks.{IsWalk, walk_start}
+use Rattle.rn_modset.proofs.Walks.{walk_start}
 use Rattle.rn_modset.proofs.Fronts.{IsHeldAt}
 use Rattle.rn_modset.proofs.WalkSteps.{step_on, step_conflict, step_text, step_withdrawal, walk_done}
 use Rattle.rn_modset.proofs.sets.ModuleSet.effective.Goals as goal

@@ -1,0 +1,5 @@
+use Rattle.rn_modset.proofs.OneFault.{bundle_fault}
+use Rattle.rn_modset.proofs.laws.bundles_have_no_fault.Goals as goal
+
+pub returns : goal.returns
+returns c = bundle_fault

@@ -1,0 +1,5 @@
+use Rattle.rn_modset.proofs.OneFault.{one_fault}
+use Rattle.rn_modset.proofs.laws.bytes_have_one_fault.Goals as goal
+
+pub returns : goal.returns
+returns c = λ bytes f g x y. one_fault bytes x y

@@ -1,0 +1,5 @@
+use Rattle.rn_modset.proofs.UnionLaws.{call_laws}
+use Rattle.rn_modset.proofs.laws.calls_bring_their_union.Goals as goal
+
+pub returns : goal.returns
+returns c = call_laws

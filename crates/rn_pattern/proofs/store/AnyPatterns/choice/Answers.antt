@@ -1,0 +1,22 @@
+-- The canonical step keeps what is matched.
+use Rattle.std.proofs.Common.{map, ◌≡◌, Option}
+use Rattle.std.specs.Option.{option_map}
+use Rattle.rn_pattern.specs.Tree as tree
+use Rattle.rn_pattern.specs.Tree.{Tree, trees_of}
+use Rattle.rn_pattern.specs.Canonical.{choice_step, group_step, interleave_step, list_step, one_or_more_step, attribute_step, canonical_name}
+use Rattle.rn_pattern.specs.Store.{datum_by, datum_step}
+use Rattle.rn_pattern.specs.View.{name_class_view, parameters_view}
+use Rattle.rn_pattern.specs.Nodes.{knows, tree_at, trees_of_nodes}
+use Rattle.rn_pattern.specs.Reduced.{reduced_tree}
+use Rattle.rn_pattern.specs.declared.node.NodeId.{NodeId}
+use Rattle.rn_pattern.proofs.Constructors.{choice_means, group_means, interleave_means, list_means, one_or_more_means, attribute_means}
+use Rattle.rn_pattern.proofs.Meanings.{means_by, over_store, datum_means}
+use Rattle.rn_pattern.proofs.store.AnyPatterns.choice.Goals as goal
+
+pub returns-clause-means : goal.returns-clause-means
+returns-clause-means g c =
+    let us = g.S.NodeStore.trees c.args.self.now in
+    let new = g.S.NodeStore.trees c.keep.new.store in
+    let ts = trees_of_nodes c.table.result.nodes.now in
+    let step = over_store ts us c.in_ok-pattern.pattern (λ (at : NodeId → Tree). choice_step (map at c.args.members.now)) c.table.ensures c.in_ok-pattern.ensures.tree in
+    means_by c.keep.result (knows new) (tree_at new) (reduced_tree us c.in_ok-pattern.pattern) (tree.choice (trees_of (map (tree_at us) c.args.members.now))) (choice_step (map (tree_at us) c.args.members.now)) c.keep.ensures.made step (choice_means (map (tree_at us) c.args.members.now))

@@ -1,0 +1,11 @@
+-- The first of two lists of places.
+use Rattle.std.proofs.Common.{◌≡◌, ℕ, List, [], ◌∷◌, ◌++◌, Option, Some, None, refl}
+use Rattle.rn_syntax.specs.Places.{first}
+
+pub none_first : (xs ys : List ℕ) → first xs ≡ None → first (xs ++ ys) ≡ first ys
+none_first [] ys e = refl
+none_first (x ∷ xs) ys e = cc
+
+pub some_first : (xs ys : List ℕ) (i : ℕ) → first xs ≡ Some i → first (xs ++ ys) ≡ Some i
+some_first [] ys i e = cc
+some_first (x ∷ xs) ys i e = e
