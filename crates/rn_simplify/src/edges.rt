@@ -2,10 +2,9 @@
 ghost use Rattle.std.specs.Prelude.{IsTrue, length};
 ghost use Rattle.rn_assemble.specs.Graph.{AllBelow, IsGraph, rows_of};
 
-use std::alloc::{AllocError, Global};
-
 use rn_assemble::graph::reached;
 use rn_assemble::order::{Order, ranks};
+use std::alloc::{AllocError, Global};
 
 /// Whether all the numbers are below the count.
 fn are_below(count: usize, numbers: &[usize]) -> bool
@@ -32,7 +31,11 @@ fn is_graph(rows: &[Vec<usize>]) -> bool
 }
 
 /// For each row, whether it is reached from the first ones.
-pub(crate) fn reached_rows(alloc: Global, rows: &[Vec<usize>], first: &[usize]) -> Result<Vec<bool>, AllocError> {
+pub(crate) fn reached_rows(
+    alloc: Global,
+    rows: &[Vec<usize>],
+    first: &[usize],
+) -> Result<Vec<bool>, AllocError> {
     if is_graph(rows) && are_below(rows.len(), first) {
         return reached(alloc, rows, first);
     }

@@ -3,17 +3,15 @@ ghost use Rattle.std.specs.Prelude.{IfOk, OnOk};
 ghost use Rattle.rn_pattern.specs.Store.{KeepsTrees};
 ghost use Rattle.rn_simplify.specs.Numbered.{AreKnown};
 
-use std::alloc::{AllocError, Global};
-
-use indexmap::IndexMap;
-use rn_assemble::Grammar;
-use rn_pattern::{Interned, Pattern, Patterns};
-
 use crate::canonical::{Settled, canonical, worth};
 use crate::normal::Normal;
 use crate::reachable::{Form, reached_definitions};
 use crate::rebuilt::rebuilt;
 use crate::settling::settling_order;
+use indexmap::IndexMap;
+use rn_assemble::Grammar;
+use rn_pattern::{Interned, Pattern, Patterns};
+use std::alloc::{AllocError, Global};
 
 /// The canonical grammar, built in a store of its own.
 pub fn normalise(alloc: Global, grammar: &Grammar) -> Result<Normal, AllocError> {

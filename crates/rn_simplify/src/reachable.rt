@@ -1,11 +1,9 @@
 // The definitions that are reached through canonical forms (RELAX NG, 4.19).
-use std::alloc::{AllocError, Global};
-
-use indexmap::IndexMap;
-use rn_pattern::Pattern;
-
 use crate::edges::reached_rows;
 use crate::references::References;
+use indexmap::IndexMap;
+use rn_pattern::Pattern;
+use std::alloc::{AllocError, Global};
 
 /// The canonical form of a definition.
 #[derive(Drop)]

@@ -1,8 +1,7 @@
 // The references of a grammar, its definitions being numbered in their order (RELAX NG, 4.18 and 4.19).
-use std::alloc::{AllocError, Global};
-
 use indexmap::IndexMap;
 use rn_pattern::Pattern;
+use std::alloc::{AllocError, Global};
 
 /// Where a reference stands.
 #[derive(Clone, Copy, PartialEq, Eq)]
@@ -26,8 +25,7 @@ impl References {
         alloc: Global,
         names: &IndexMap<String, Pattern>,
         pattern: &Pattern,
-    ) -> Result<References, AllocError>
-    {
+    ) -> Result<References, AllocError> {
         let mut references = References {
             all: Vec::new(alloc),
             outside: Vec::new(alloc),
@@ -41,14 +39,12 @@ impl References {
         names: &IndexMap<String, Pattern>,
         pattern: &Pattern,
         place: Place,
-    ) -> Result<(), AllocError>
-    {
+    ) -> Result<(), AllocError> {
         match pattern {
             Pattern::Ref(name) => self.add_name(names, name, place),
             Pattern::Datum(_, _, _, Some(content)) => self.add(names, content, place),
-            Pattern::List(content) | Pattern::Attribute(_, content) | Pattern::OneOrMore(content) => {
-                self.add(names, content, place)
-            }
+            Pattern::List(content) | Pattern::Attribute(_, content) | Pattern::OneOrMore(content) =>
+                { self.add(names, content, place) }
             Pattern::Element(_, content) => self.add(names, content, Place::InElement),
             Pattern::Group(members) | Pattern::Interleave(members) | Pattern::Choice(members) => {
                 for member in members {
@@ -65,8 +61,7 @@ impl References {
         names: &IndexMap<String, Pattern>,
         name: &str,
         place: Place,
-    ) -> Result<(), AllocError>
-    {
+    ) -> Result<(), AllocError> {
         if let Some(number) = names.get_index_of(name) {
             self.all.push(number)?;
             if place == Place::OutsideElements {

@@ -1,16 +1,17 @@
 // The definitions of a grammar in an order in which each comes after those that it refers to outside elements (RELAX NG, 4.19).
 
-use std::alloc::{AllocError, Global};
-
+use crate::edges::{ranked_rows, reached_rows};
+use crate::references::References;
 use indexmap::IndexMap;
 use rn_assemble::Grammar;
 use rn_pattern::Pattern;
-
-use crate::edges::{ranked_rows, reached_rows};
-use crate::references::References;
+use std::alloc::{AllocError, Global};
 
 /// The references of each definition, by its number.
-fn all_references(alloc: Global, names: &IndexMap<String, Pattern>) -> Result<Vec<Vec<usize>>, AllocError> {
+fn all_references(
+    alloc: Global,
+    names: &IndexMap<String, Pattern>,
+) -> Result<Vec<Vec<usize>>, AllocError> {
     let mut rows = Vec::new(alloc);
     for (_, body) in names {
         let References { all, outside: _ } = References::of(alloc, names, body)?;
