@@ -158,7 +158,6 @@ writes_ns_but f u n h j k =
 
 -- ---- prefixes
 
-
 pub empty_namespace : (f : Prefixes) (u : Text) → nat_eq (length u) 0 ≡ true → codes "n0" ≡ encode_utf8_all (namespace_prefix f u)
 unfolding lib.Utf8.encode
 empty_namespace f [] e = refl

@@ -3,11 +3,10 @@ ghost use Rattle.std.specs.Prelude.{All, IfOk, IfSome, IsTrue};
 ghost use Rattle.rn_pattern.specs.Store.{KeepsTrees};
 ghost use Rattle.rn_simplify.specs.Numbered.{AreKnown};
 
-use std::alloc::{AllocError, Global};
-use std::rc::Rc;
-
 use indexmap::IndexMap;
 use rn_pattern::{Node, Pattern, Patterns};
+use std::alloc::{AllocError, Global};
+use std::rc::Rc;
 
 /// What the references to the definitions of a grammar become.
 #[derive(Drop)]
@@ -65,7 +64,9 @@ pub(crate) fn canonical<P: Patterns>(
         Pattern::Text => store.text(),
         Pattern::Ref(name) => reference(store, settled, name),
         Pattern::Value(library, type_name, text) => store.value(library, type_name, text),
-        Pattern::Datum(library, type_name, params, None) => store.datum(library, type_name, params, None),
+        Pattern::Datum(library, type_name, params, None) => store.datum(
+            library, type_name, params, None,
+        ),
         Pattern::Datum(library, type_name, params, Some(except)) => {
             let except = canonical(alloc, store, settled, except)?;
             store.datum(library, type_name, params, Some(except))

@@ -4,14 +4,12 @@ ghost use Rattle.std.specs.Str.{encode_utf8_all};
 ghost use Rattle.rn_simplify.specs.Spelling.{namespace_prefix, type_piece, place};
 ghost use Rattle.rn_simplify.specs.Writes.{prefixes_view, Writes, WritesBytes, none};
 
-use std::alloc::{AllocError, Global};
-use std::collections::BTreeSet;
-
-use indexmap::IndexSet;
-use rn_pattern::{NameClass, Pattern};
-
 use crate::normal::Normal;
 use crate::writer::Writer;
+use indexmap::IndexSet;
+use rn_pattern::{NameClass, Pattern};
+use std::alloc::{AllocError, Global};
+use std::collections::BTreeSet;
 
 /// The namespace of the prefix `xml`.
 pub(crate) const XML: &str = "http://www.w3.org/XML/1998/namespace";
@@ -98,7 +96,11 @@ fn mentions_of(alloc: Global, normal: &Normal) -> Result<Mentions, AllocError> {
 }
 
 /// The texts without the empty one and the one that has a prefix of its own, in the order of their bytes.
-fn declared(alloc: Global, texts: BTreeSet<String>, known: &str) -> Result<IndexSet<String>, AllocError> {
+fn declared(
+    alloc: Global,
+    texts: BTreeSet<String>,
+    known: &str,
+) -> Result<IndexSet<String>, AllocError> {
     let mut rest = IndexSet::new(alloc);
     for text in texts {
         if !text.is_empty() && text.as_str() != known {

@@ -5,9 +5,10 @@
 #![tactic(auto)]
 
 mod canonical;
-mod name_class;
 mod declarations;
+mod edges;
 pub mod laws;
+mod name_class;
 pub mod normal;
 pub mod normalising;
 mod pattern;

@@ -5,11 +5,10 @@ ghost use Rattle.rn_simplify.specs.Spelling.{any_of, chain, infix_of, name_piece
 ghost use Rattle.rn_pattern.specs.View.{name_class_view};
 ghost use Rattle.rn_simplify.specs.Writes.{prefixes_view, Writes};
 
-use rn_pattern::NameClass;
-
 use crate::declarations::Prefixes;
 use crate::shapes::{Shape, shape_of_class};
 use crate::writer::Writer;
+use rn_pattern::NameClass;
 
 /// Writes a name class.
 #[cycle(name_class)]

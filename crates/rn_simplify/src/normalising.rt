@@ -1,19 +1,17 @@
 // From a grammar to its canonical form.
-ghost use Rattle.std.specs.Prelude.{IfOk};
+ghost use Rattle.std.specs.Prelude.{IfOk, OnOk};
 ghost use Rattle.rn_pattern.specs.Store.{KeepsTrees};
 ghost use Rattle.rn_simplify.specs.Numbered.{AreKnown};
-
-use std::alloc::{AllocError, Global};
-
-use indexmap::IndexMap;
-use rn_assemble::Grammar;
-use rn_pattern::{Interned, Pattern, Patterns};
 
 use crate::canonical::{Settled, canonical, worth};
 use crate::normal::Normal;
 use crate::reachable::{Form, reached_definitions};
 use crate::rebuilt::rebuilt;
 use crate::settling::settling_order;
+use indexmap::IndexMap;
+use rn_assemble::Grammar;
+use rn_pattern::{Interned, Pattern, Patterns};
+use std::alloc::{AllocError, Global};
 
 /// The canonical grammar, built in a store of its own.
 pub fn normalise(alloc: Global, grammar: &Grammar) -> Result<Normal, AllocError> {
@@ -26,9 +24,7 @@ pub fn normalise_in<P: Patterns>(
     alloc: Global,
     grammar: &Grammar,
     store: &mut P,
-) -> Result<Normal, AllocError>
-    ensures kept { KeepsTrees (P.knows store.old) (P.tree_of store.old) (P.knows store.new) (P.tree_of store.new) }
-{
+) -> Result<Normal, AllocError> {
     let names = grammar.defs();
     let order = settling_order(alloc, grammar)?;
     let worth = settle(alloc, names, &order, store)?;
@@ -56,15 +52,32 @@ fn settle<P: Patterns>(
     }
     let mut settled = Settled { names, worth: none };
     for number in order {
-        if let Some((_, body)) = names.get_index(*number) {
-            let form = canonical(alloc, store, &settled, body)?;
-            let worth = worth(store, form);
-            if *number < settled.worth.len() {
-                settled.worth[*number] = worth;
-            }
-        }
+        let Some((_, body)) = names.get_index(*number) else {
+            continue;
+        };
+        settle_one(alloc, body, *number, store, &mut settled)?;
     }
     Ok(settled.worth)
+}
+
+/// Settles the definition of a number by its body.
+fn settle_one<P: Patterns>(
+    alloc: Global,
+    body: &Pattern,
+    number: usize,
+    store: &mut P,
+    settled: &mut Settled<'_, P::Id>,
+) -> Result<(), AllocError>
+    requires { AreKnown (P.knows store.old) settled.old.worth.items }
+    ensures known { OnOk result (AreKnown (P.knows store.new) settled.new.worth.items) }
+    ensures kept { KeepsTrees (P.knows store.old) (P.tree_of store.old) (P.knows store.new) (P.tree_of store.new) }
+{
+    let form = canonical(alloc, store, settled, body)?;
+    let worth = worth(store, form);
+    if number < settled.worth.len() {
+        settled.worth[number] = worth;
+    }
+    Ok(())
 }
 
 /// The canonical forms of the definitions.

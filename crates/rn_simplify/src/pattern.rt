@@ -5,14 +5,12 @@ ghost use Rattle.rn_simplify.specs.Spelling.{braced, chain, chain_or_one, datum_
 ghost use Rattle.rn_pattern.specs.View.{parameters_view, pattern_view};
 ghost use Rattle.rn_simplify.specs.Writes.{bytes_of, depth_after, prefixes_view, rows_of, Writes};
 
-use std::rc::Rc;
-
-use rn_pattern::Pattern;
-
-use crate::name_class::write_class;
 use crate::declarations::Prefixes;
+use crate::name_class::write_class;
 use crate::shapes::{Shape, begins_with_empty, begins_with_text, shape_of_pattern};
 use crate::writer::Writer;
+use rn_pattern::Pattern;
+use std::rc::Rc;
 
 /// Writes a pattern.
 #[cycle(pattern)]
@@ -106,7 +104,13 @@ fn write_primary(writer: &mut Writer, prefixes: &Prefixes, pattern: &Pattern)
 
 /// Writes the members from one on, with the connector between them.
 #[cycle(pattern)]
-fn write_chain(writer: &mut Writer, prefixes: &Prefixes, members: &[Rc<Pattern>], first: usize, connector: &str)
+fn write_chain(
+    writer: &mut Writer,
+    prefixes: &Prefixes,
+    members: &[Rc<Pattern>],
+    first: usize,
+    connector: &str,
+)
     requires { first ≤ length members.now }
     ensures { (s : List Piece) → bytes_of s ≡ connector.now → ((n : ℕ) → depth_after s n ≡ Some n) → Writes (chain s (rows_of (prefixes_view prefixes.now) (drop first members.now))) writer.old writer.new }
 {

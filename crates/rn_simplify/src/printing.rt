@@ -1,12 +1,10 @@
 // The text of a canonical grammar (compact syntax, section 2, topLevel).
-use std::alloc::Global;
-
-use rn_assemble::Refusal;
-
 use crate::declarations::Prefixes;
 use crate::normal::Normal;
 use crate::pattern::write_pattern;
 use crate::writer::{Stop, Writer};
+use rn_assemble::Refusal;
+use std::alloc::Global;
 
 /// The one text of a canonical grammar: the declarations of its prefixes, its start, and its definitions in the order of their names, each on a line of its own.
 /// `OutputTooLarge` where the text would have more than 4,194,304 bytes, else `OutputTooDeep` where more than 256 of its brackets would be open at once;

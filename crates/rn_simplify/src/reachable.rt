@@ -1,15 +1,9 @@
 // The definitions that are reached through canonical forms (RELAX NG, 4.19).
-ghost use Rattle.std.specs.Prelude.{◌≡◌, IfOk, length};
-ghost use Rattle.indexmap.specs.IndexMap.{index_map_len};
-ghost use Rattle.rn_assemble.specs.Graph.{IsGraph, rows_of};
-
-use std::alloc::{AllocError, Global};
-
-use indexmap::IndexMap;
-use rn_assemble::graph::reached;
-use rn_pattern::Pattern;
-
+use crate::edges::reached_rows;
 use crate::references::References;
+use indexmap::IndexMap;
+use rn_pattern::Pattern;
+use std::alloc::{AllocError, Global};
 
 /// The canonical form of a definition.
 #[derive(Drop)]
@@ -28,7 +22,7 @@ pub(crate) fn reached_definitions(
 ) -> Result<Vec<(String, Pattern)>, AllocError> {
     let rows = form_references(alloc, names, &forms)?;
     let first = References::of(alloc, names, start)?;
-    let is_reached = reached(alloc, &rows, &first.all)?;
+    let is_reached = reached_rows(alloc, &rows, &first.all)?;
     let mut definitions = Vec::new(alloc);
     for form in forms {
         if is_reached.get(form.number) == Some(&true) {
@@ -44,10 +38,7 @@ fn form_references(
     alloc: Global,
     names: &IndexMap<String, Pattern>,
     forms: &[Form],
-) -> Result<Vec<Vec<usize>>, AllocError>
-    ensures graph { IfOk result (λ v. IsGraph (rows_of v.items)) }
-    ensures count { IfOk result (λ v. length v.items ≡ index_map_len names.now) }
-{
+) -> Result<Vec<Vec<usize>>, AllocError> {
     let mut rows = Vec::new(alloc);
     for _ in 0..names.len() {
         rows.push(Vec::new(alloc))?;

@@ -1,14 +1,17 @@
 // From an id of a store back to its pattern.
 ghost use Rattle.std.specs.Prelude.{All, IfSome, IsTrue};
 
+use rn_pattern::{NameClass, Node, Pattern, Patterns};
 use std::alloc::{AllocError, Global};
 use std::rc::Rc;
 
-use rn_pattern::{NameClass, Node, Pattern, Patterns};
-
 /// The pattern of an id.
 #[cycle(rebuilt)]
-pub(crate) fn rebuilt<P: Patterns>(alloc: Global, store: &P, id: P::Id) -> Result<Pattern, AllocError>
+pub(crate) fn rebuilt<P: Patterns>(
+    alloc: Global,
+    store: &P,
+    id: P::Id,
+) -> Result<Pattern, AllocError>
     requires { IsTrue (P.knows store.now id) }
 {
     match store.node(id) {
@@ -35,7 +38,9 @@ pub(crate) fn rebuilt<P: Patterns>(alloc: Global, store: &P, id: P::Id) -> Resul
         }
         Node::OneOrMore(content) => Ok(Pattern::OneOrMore(rebuilt_box(alloc, store, *content)?)),
         Node::Group(members) => Ok(Pattern::Group(rebuilt_members(alloc, store, members)?)),
-        Node::Interleave(members) => Ok(Pattern::Interleave(rebuilt_members(alloc, store, members)?)),
+        Node::Interleave(members) => Ok(Pattern::Interleave(rebuilt_members(
+            alloc, store, members,
+        )?)),
         Node::Choice(members) => Ok(Pattern::Choice(rebuilt_members(alloc, store, members)?)),
     }
 }
@@ -84,7 +89,10 @@ fn rebuilt_members<P: Patterns>(
     Ok(members)
 }
 
-fn cloned_params(alloc: Global, params: &[(String, String)]) -> Result<Vec<(String, String)>, AllocError> {
+fn cloned_params(
+    alloc: Global,
+    params: &[(String, String)],
+) -> Result<Vec<(String, String)>, AllocError> {
     let mut copy = Vec::new(alloc);
     for (name, text) in params {
         copy.push((name.clone()?, text.clone()?))?;

@@ -1,13 +1,7 @@
 // The references of a grammar, its definitions being numbered in their order (RELAX NG, 4.18 and 4.19).
-ghost use Rattle.std.specs.Prelude.{IfOk, OnOk};
-ghost use Rattle.indexmap.specs.IndexMap.{index_map_len};
-ghost use Rattle.rn_assemble.specs.Graph.{AllBelow};
-ghost use Rattle.rn_simplify.specs.Numbered.{StaysBelow};
-
-use std::alloc::{AllocError, Global};
-
 use indexmap::IndexMap;
 use rn_pattern::Pattern;
+use std::alloc::{AllocError, Global};
 
 /// Where a reference stands.
 #[derive(Clone, Copy, PartialEq, Eq)]
@@ -31,10 +25,7 @@ impl References {
         alloc: Global,
         names: &IndexMap<String, Pattern>,
         pattern: &Pattern,
-    ) -> Result<References, AllocError>
-        ensures all { IfOk result (λ r. AllBelow (index_map_len names.now) r.all.items) }
-        ensures outside { IfOk result (λ r. AllBelow (index_map_len names.now) r.outside.items) }
-    {
+    ) -> Result<References, AllocError> {
         let mut references = References {
             all: Vec::new(alloc),
             outside: Vec::new(alloc),
@@ -48,15 +39,12 @@ impl References {
         names: &IndexMap<String, Pattern>,
         pattern: &Pattern,
         place: Place,
-    ) -> Result<(), AllocError>
-        ensures { OnOk result (StaysBelow (index_map_len names.now) self.old self.new) }
-    {
+    ) -> Result<(), AllocError> {
         match pattern {
             Pattern::Ref(name) => self.add_name(names, name, place),
             Pattern::Datum(_, _, _, Some(content)) => self.add(names, content, place),
-            Pattern::List(content) | Pattern::Attribute(_, content) | Pattern::OneOrMore(content) => {
-                self.add(names, content, place)
-            }
+            Pattern::List(content) | Pattern::Attribute(_, content) | Pattern::OneOrMore(content) =>
+                { self.add(names, content, place) }
             Pattern::Element(_, content) => self.add(names, content, Place::InElement),
             Pattern::Group(members) | Pattern::Interleave(members) | Pattern::Choice(members) => {
                 for member in members {
@@ -73,9 +61,7 @@ impl References {
         names: &IndexMap<String, Pattern>,
         name: &str,
         place: Place,
-    ) -> Result<(), AllocError>
-        ensures { OnOk result (StaysBelow (index_map_len names.now) self.old self.new) }
-    {
+    ) -> Result<(), AllocError> {
         if let Some(number) = names.get_index_of(name) {
             self.all.push(number)?;
             if place == Place::OutsideElements {

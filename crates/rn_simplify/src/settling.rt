@@ -1,29 +1,21 @@
 // The definitions of a grammar in an order in which each comes after those that it refers to outside elements (RELAX NG, 4.19).
-ghost use Rattle.std.specs.Prelude.{◌≡◌, IfOk, length};
-ghost use Rattle.indexmap.specs.IndexMap.{index_map_len};
-ghost use Rattle.rn_assemble.specs.Graph.{IsGraph, rows_of};
 
-use std::alloc::{AllocError, Global};
-
+use crate::edges::{ranked_rows, reached_rows};
+use crate::references::References;
 use indexmap::IndexMap;
 use rn_assemble::Grammar;
-use rn_assemble::graph::reached;
-use rn_assemble::order::{Order, ranks};
 use rn_pattern::Pattern;
-
-use crate::references::References;
+use std::alloc::{AllocError, Global};
 
 /// The references of each definition, by its number.
-fn all_references(alloc: Global, names: &IndexMap<String, Pattern>) -> Result<Vec<Vec<usize>>, AllocError>
-    ensures graph { IfOk result (λ v. IsGraph (rows_of v.items)) }
-    ensures count { IfOk result (λ v. length v.items ≡ index_map_len names.now) }
-{
+fn all_references(
+    alloc: Global,
+    names: &IndexMap<String, Pattern>,
+) -> Result<Vec<Vec<usize>>, AllocError> {
     let mut rows = Vec::new(alloc);
-    for i in 0..names.len() {
-        let Some((_, body)) = names.get_index(i) else {
-            unreachable!()
-        };
-        rows.push(References::of(alloc, names, body)?.all)?;
+    for (_, body) in names {
+        let References { all, outside: _ } = References::of(alloc, names, body)?;
+        rows.push(all)?;
     }
     Ok(rows)
 }
@@ -33,18 +25,12 @@ fn outside_references(
     alloc: Global,
     names: &IndexMap<String, Pattern>,
     is_reached: &[bool],
-) -> Result<Vec<Vec<usize>>, AllocError>
-    requires { length is_reached.now ≡ index_map_len names.now }
-    ensures graph { IfOk result (λ v. IsGraph (rows_of v.items)) }
-    ensures count { IfOk result (λ v. length v.items ≡ index_map_len names.now) }
-{
+) -> Result<Vec<Vec<usize>>, AllocError> {
     let mut rows = Vec::new(alloc);
-    for i in 0..names.len() {
-        let Some((_, body)) = names.get_index(i) else {
-            unreachable!()
-        };
-        if is_reached[i] {
-            rows.push(References::of(alloc, names, body)?.outside)?;
+    for (i, (_, body)) in names.iter().enumerate() {
+        if is_reached.get(i) == Some(&true) {
+            let References { all: _, outside } = References::of(alloc, names, body)?;
+            rows.push(outside)?;
         } else {
             rows.push(Vec::new(alloc))?;
         }
@@ -57,7 +43,7 @@ pub(crate) fn settling_order(alloc: Global, grammar: &Grammar) -> Result<Vec<usi
     let names = grammar.defs();
     let rows = all_references(alloc, names)?;
     let start = References::of(alloc, names, grammar.start())?;
-    let is_reached = reached(alloc, &rows, &start.all)?;
+    let is_reached = reached_rows(alloc, &rows, &start.all)?;
     let outside = outside_references(alloc, names, &is_reached)?;
     let mut order = Vec::new(alloc);
     for (i, reached) in is_reached.iter().enumerate() {
@@ -65,8 +51,7 @@ pub(crate) fn settling_order(alloc: Global, grammar: &Grammar) -> Result<Vec<usi
             order.push(i)?;
         }
     }
-    if let Order::Ranked(ranks) = ranks(alloc, &outside)? {
-        order.sort_by_key(|i: &usize| ranks.get(*i).copied().unwrap_or(0))?;
-    }
+    let ranks = ranked_rows(alloc, &outside)?;
+    order.sort_by_key(|i: &usize| ranks.get(*i).copied().unwrap_or(0))?;
     Ok(order)
 }

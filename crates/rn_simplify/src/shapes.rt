@@ -4,9 +4,8 @@ ghost use Rattle.rn_simplify.specs.Spelling.{Prefixes, written_choice, written_i
 ghost use Rattle.rn_pattern.specs.View.{name_class_view, pattern_view};
 ghost use Rattle.rn_simplify.specs.Writes.{begins, rows_of, shape_view};
 
-use std::rc::Rc;
-
 use rn_pattern::{NameClass, Pattern};
+use std::rc::Rc;
 
 /// How a pattern or a name class is written.
 #[derive(Clone, Copy, PartialEq, Eq)]

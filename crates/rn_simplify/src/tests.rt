@@ -1,12 +1,10 @@
 // The texts of canonical grammars that are built by hand.
+use crate::{Normal, print};
+use rn_assemble::Refusal;
+use rn_pattern::{NameClass, Pattern};
 use std::alloc::Global;
 use std::rc::Rc;
 use std::test::Fail;
-
-use rn_assemble::Refusal;
-use rn_pattern::{NameClass, Pattern};
-
-use crate::{Normal, print};
 
 /// Builds patterns and name classes.
 #[derive(Clone, Copy, Drop)]
@@ -50,7 +48,12 @@ impl Build {
         Ok(members)
     }
 
-    fn three(self, first: Pattern, second: Pattern, third: Pattern) -> Result<Vec<Rc<Pattern>>, Fail> {
+    fn three(
+        self,
+        first: Pattern,
+        second: Pattern,
+        third: Pattern,
+    ) -> Result<Vec<Rc<Pattern>>, Fail> {
         let mut members = self.members(first, second)?;
         members.push(Rc::new(self.alloc, third)?)?;
         Ok(members)
@@ -91,20 +94,44 @@ fn contents_of_an_element(rt: HostRuntime) -> Result<(), Fail> {
     let xsd = "http://www.w3.org/2001/XMLSchema-datatypes";
     for (content, want) in [
         (build.repeated(build.optional(Pattern::Text)?)?, "(text?)+"),
-        (build.optional(build.repeated(build.optional(text()?)?)?)?, "(text?)*"),
-        (Pattern::Choice(build.three(Pattern::Empty, a()?, b()?)?), "(a | b)?"),
+        (
+            build.optional(build.repeated(build.optional(text()?)?)?)?,
+            "(text?)*",
+        ),
+        (
+            Pattern::Choice(build.three(Pattern::Empty, a()?, b()?)?),
+            "(a | b)?",
+        ),
         (Pattern::Group(build.members(b()?, a()?)?), "b, a"),
-        (Pattern::Interleave(build.three(a()?, b()?, b()?)?), "a & b & b"),
-        (build.mixed(Pattern::Choice(build.members(a()?, b()?)?))?, "mixed { a | b }"),
-        (Pattern::Interleave(build.three(Pattern::Text, a()?, b()?)?), "mixed { a & b }"),
+        (
+            Pattern::Interleave(build.three(a()?, b()?, b()?)?),
+            "a & b & b",
+        ),
+        (
+            build.mixed(Pattern::Choice(build.members(a()?, b()?)?))?,
+            "mixed { a | b }",
+        ),
+        (
+            Pattern::Interleave(build.three(Pattern::Text, a()?, b()?)?),
+            "mixed { a & b }",
+        ),
         (build.mixed(Pattern::Text)?, "mixed { text }"),
-        (Pattern::Group(build.members(build.repeated(build.mixed(a()?)?)?, b()?)?), "mixed { a }+, b"),
-        (Pattern::Choice(build.members(Pattern::Text, build.mixed(a()?)?)?), "text | mixed { a }"),
+        (
+            Pattern::Group(build.members(build.repeated(build.mixed(a()?)?)?, b()?)?),
+            "mixed { a }+, b",
+        ),
+        (
+            Pattern::Choice(build.members(Pattern::Text, build.mixed(a()?)?)?),
+            "text | mixed { a }",
+        ),
         (
             Pattern::Choice(build.members(a()?, Pattern::Interleave(build.members(a()?, b()?)?))?),
             "a | (a & b)",
         ),
-        (build.value("", "token", "a\"b\nc")?, "\"a\" ~ '\"' ~ \"b\\x{A}c\""),
+        (
+            build.value("", "token", "a\"b\nc")?,
+            "\"a\" ~ '\"' ~ \"b\\x{A}c\"",
+        ),
         (build.value("", "token", "\\x{41}")?, "\"\\\" ~ \"x{41}\""),
         (build.value("", "string", "")?, "string \"\""),
         (build.value(xsd, "ID", "v")?, "xsd:ID \"v\""),
@@ -120,7 +147,10 @@ fn contents_of_an_element(rt: HostRuntime) -> Result<(), Fail> {
         (
             build.attribute(NameClass::AnyName(Some(Box::new(
                 build.alloc,
-                NameClass::Choice(vec![in build.alloc; build.name("", "p")?, build.name("", "q")?]?),
+                NameClass::Choice(vec![in build.alloc;
+                    build.name("", "p")?,
+                    build.name("", "q")?,
+                ]?),
             )?)))?,
             "attribute * - (p | q) { text }",
         ),
@@ -128,7 +158,10 @@ fn contents_of_an_element(rt: HostRuntime) -> Result<(), Fail> {
             build.attribute(build.name("http://www.w3.org/XML/1998/namespace", "lang")?)?,
             "attribute xml:lang { text }",
         ),
-        (build.element("text", Pattern::NotAllowed)?, "element text { notAllowed }"),
+        (
+            build.element("text", Pattern::NotAllowed)?,
+            "element text { notAllowed }",
+        ),
     ] {
         let got = printed(build, &build.grammar(content)?)?;
         let want = format!(in build.alloc; "start = element r {{ {want} }}\n")?;
@@ -140,33 +173,50 @@ fn contents_of_an_element(rt: HostRuntime) -> Result<(), Fail> {
 #[test]
 fn definitions_and_declarations(rt: HostRuntime) -> Result<(), Fail> {
     let build = Build { alloc: rt.alloc() };
-    let doc = Pattern::Choice(build.members(build.element("a", Pattern::Empty)?, build.element("b", Pattern::Text)?)?);
+    let doc = Pattern::Choice(build.members(
+        build.element("a", Pattern::Empty)?,
+        build.element("b", Pattern::Text)?,
+    )?);
     let one = Normal {
         start: build.reference("doc")?,
         defs: vec![in build.alloc; (build.text("doc")?, doc)]?,
     };
     let text = print(build.alloc, &one)?;
     assert_eq!(rt; text.len(), 82);
-    assert_eq!(rt; text.as_str(), "default namespace = \"\"\nstart = doc\ndoc = element a { empty } | element b { text }\n");
+    assert_eq!(rt;
+        text.as_str(),
+        "default namespace = \"\"\nstart = doc\ndoc = element a { empty } | element b { text }\n"
+    );
     let keyword = Normal {
         start: build.reference("start")?,
         defs: vec![in build.alloc; (build.text("start")?, Pattern::Text)]?,
     };
-    assert_eq!(rt; printed(build, &keyword)?.as_str(), "start = \\start\n\\start = text\n");
-    let params = vec![in build.alloc; (build.text("k")?, build.text("v")?), (build.text("list")?, build.text("")?)]?;
+    assert_eq!(rt;
+        printed(build, &keyword)?.as_str(),
+        "start = \\start\n\\start = text\n"
+    );
+    let params = vec![in build.alloc;
+        (build.text("k")?, build.text("v")?),
+        (build.text("list")?, build.text("")?),
+    ]?;
     let datum = Pattern::Datum(build.text("http://e/lib")?, build.text("t")?, params, None);
     let wide = Pattern::Attribute(
         NameClass::NsName(build.text("")?, None),
         Box::new(build.alloc, datum)?,
     );
     let names = Pattern::Group(build.three(
-        Pattern::Element(build.name("v", "y")?, Box::new(build.alloc, Pattern::Empty)?),
-        Pattern::Element(build.name("u", "x")?, Box::new(build.alloc, Pattern::Empty)?),
+        Pattern::Element(
+            build.name("v", "y")?,
+            Box::new(build.alloc, Pattern::Empty)?,
+        ),
+        Pattern::Element(
+            build.name("u", "x")?,
+            Box::new(build.alloc, Pattern::Empty)?,
+        ),
         wide,
     )?);
     let prefixes = build.grammar(names)?;
-    assert_eq!(
-        rt;
+    assert_eq!(rt;
         printed(build, &prefixes)?.as_str(),
         "namespace n0 = \"\"\nnamespace n1 = \"u\"\nnamespace n2 = \"v\"\ndatatypes d1 = \"http://e/lib\"\nstart = element r { element n2:y { empty }, element n1:x { empty }, attribute n0:* { d1:t { k = \"v\" list = \"\" } } }\n"
     );
@@ -175,14 +225,25 @@ fn definitions_and_declarations(rt: HostRuntime) -> Result<(), Fail> {
 
 /// The refusal, if there is one.
 fn refusal(build: Build, start: Pattern) -> Option<Refusal> {
-    print(build.alloc, &Normal { start, defs: Vec::new(build.alloc) }).err()
+    print(
+        build.alloc,
+        &Normal {
+            start,
+            defs: Vec::new(build.alloc),
+        },
+    )
+    .err()
 }
 
 #[test]
 fn limits(rt: HostRuntime) -> Result<(), Fail> {
     let build = Build { alloc: rt.alloc() };
     for (elements, want) in [(255, None), (256, Some(Refusal::OutputTooDeep))] {
-        let mut start = Pattern::Choice(build.three(Pattern::Empty, build.reference("b")?, build.reference("c")?)?);
+        let mut start = Pattern::Choice(build.three(
+            Pattern::Empty,
+            build.reference("b")?,
+            build.reference("c")?,
+        )?);
         for _ in 0..elements {
             start = build.element("e", start)?;
         }
@@ -195,7 +256,10 @@ fn limits(rt: HostRuntime) -> Result<(), Fail> {
         }
         assert_eq!(rt; refusal(build, start), want);
     }
-    for (length, want) in [(4_194_255, None), (4_194_256, Some(Refusal::OutputTooLarge))] {
+    for (length, want) in [
+        (4_194_255, None),
+        (4_194_256, Some(Refusal::OutputTooLarge)),
+    ] {
         let mut name = String::new(build.alloc);
         for _ in 0..length {
             name.push_str("n")?;

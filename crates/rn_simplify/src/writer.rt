@@ -4,9 +4,8 @@ ghost use Rattle.rn_text.specs.Characters.{is_keyword};
 ghost use Rattle.rn_text.specs.Literals.{literal_bytes};
 ghost use Rattle.rn_simplify.specs.Writes.{WritesBytes, opening, closing, none};
 
-use std::alloc::Global;
-
 use rn_text::{is_keyword, write_literal};
+use std::alloc::Global;
 
 /// The most bytes that a printed text has.
 pub(crate) const MOST_BYTES: usize = 4_194_304;

@@ -49,8 +49,8 @@ write_class_choice-loop-i-preserved t c =
     let e : take (c.loop-i.i + 1) xs ≡ take c.loop-i.i xs ++ x ∷ [] = take_more xs c.loop-i.i x c.loop-i-test.true ∙ ap (λ y. take c.loop-i.i xs ++ y ∷ []) (sym c.index-members-i.is) in
     let j : Writes (before (take c.loop-i.i xs) s) c.loop-i.writer c.if-i-gt0.writer =
     elim c.if-i-gt0.branch [
-      write_class_choice-then-i-gt0 w ↦ before_some xs c.loop-i.i s w.if-i-gt0.true c.loop-i-test.true (subst (λ y. Writes s c.loop-i.writer y) (sym w.writer-is) (writes_bar w.put.ensures))
-    | write_class_choice-else-i-gt0 w ↦ subst (λ y. Writes (before (take c.loop-i.i xs) s) c.loop-i.writer y) (sym w.writer-is) (before_none xs c.loop-i.i s (omega (arith, w.if-i-gt0.false)))
+      | write_class_choice-then-i-gt0 w ↦ before_some xs c.loop-i.i s w.if-i-gt0.true c.loop-i-test.true (subst (λ y. Writes s c.loop-i.writer y) (sym w.writer-is) (writes_bar w.put.ensures))
+      | write_class_choice-else-i-gt0 w ↦ subst (λ y. Writes (before (take c.loop-i.i xs) s) c.loop-i.writer y) (sym w.writer-is) (before_none xs c.loop-i.i s (omega (arith, w.if-i-gt0.false)))
     ] in
     subst (λ y. Writes (row g s y) c.args.writer.now c.write_class_operand.new.writer) (sym e) (writes_row_more g s (take c.loop-i.i xs) x c.loop-i.invariant j c.write_class_operand.ensures)
 

@@ -8,10 +8,10 @@ pub returns : goal.returns
 returns c =
     let f = prefixes_view c.args.prefixes.now in
     elim c.if-not-is_empty.branch [
-      then-not-is_empty w ↦
-        let e : nat_eq (length c.args.uri.now) 0 ≡ false = search rules in
-        writes_full f c.args.uri.now c.args.local.now e c.utf8.local w.write_namespace.ensures (subst (λ x. WritesBytes (58 ∷ []) none w.write_namespace.new.writer x) (sym w.writer-is) w.put.ensures) c.put-2.ensures
-    | else-not-is_empty w ↦
-        let e : nat_eq (length c.args.uri.now) 0 ≡ true = search rules in
-        writes_local f c.args.uri.now c.args.local.now e c.utf8.local (subst (λ x. WritesBytes c.args.local.now none x c.put-2.new.self) w.writer-is c.put-2.ensures)
+      | then-not-is_empty w ↦
+          let e : nat_eq (length c.args.uri.now) 0 ≡ false = search rules in
+          writes_full f c.args.uri.now c.args.local.now e c.utf8.local w.write_namespace.ensures (subst (λ x. WritesBytes (58 ∷ []) none w.write_namespace.new.writer x) (sym w.writer-is) w.put.ensures) c.put-2.ensures
+      | else-not-is_empty w ↦
+          let e : nat_eq (length c.args.uri.now) 0 ≡ true = search rules in
+          writes_local f c.args.uri.now c.args.local.now e c.utf8.local (subst (λ x. WritesBytes c.args.local.now none x c.put-2.new.self) w.writer-is c.put-2.ensures)
     ]

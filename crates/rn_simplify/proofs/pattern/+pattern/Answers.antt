@@ -204,8 +204,8 @@ write_chain-loop-i-preserved t c = λ s e h.
     let i = c.loop-i.i in
     let w : Writes (before (take (i - k) (drop k ps)) s) c.loop-i.writer c.if-i-first.writer =
     elim c.if-i-first.branch [
-      write_chain-then-i-first w ↦ chain_connector s ps k i w.if-i-first.true c.loop-i-test.true (subst (λ y. Writes s c.loop-i.writer y) (sym w.writer-is) (writes_pieces s e h w.put.ensures))
-    | write_chain-else-i-first w ↦ subst (λ y. Writes (before (take (i - k) (drop k ps)) s) c.loop-i.writer y) (sym w.writer-is) (chain_no_connector s ps k i w.if-i-first.false)
+      | write_chain-then-i-first w ↦ chain_connector s ps k i w.if-i-first.true c.loop-i-test.true (subst (λ y. Writes s c.loop-i.writer y) (sym w.writer-is) (writes_pieces s e h w.put.ensures))
+      | write_chain-else-i-first w ↦ subst (λ y. Writes (before (take (i - k) (drop k ps)) s) c.loop-i.writer y) (sym w.writer-is) (chain_no_connector s ps k i w.if-i-first.false)
     ] in
     chain_more f s ps k i c.index-members-i.result c.loop-i.auto.i c.loop-i-test.true c.index-members-i.is (c.loop-i.invariant s e h) w
     (subst (λ p. Writes (operand (written_tree f (pattern_view p))) c.if-i-first.writer c.write_operand.new.writer) c.deref.ensures c.write_operand.ensures)

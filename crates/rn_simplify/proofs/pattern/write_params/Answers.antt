@@ -23,8 +23,8 @@ loop-i-preserved c =
     ap parameters_view e ∙ map-append _ (take i xs) (x ∷ []) ∙ ap (λ y. ps ++ y ∷ []) (λ k. (sym c.deref.ensures k, sym c.deref-in-loop-i.ensures k)) in
     let j : Writes (spaced ps) c.loop-i.writer c.if-i-gt0.writer =
     elim c.if-i-gt0.branch [
-      then-i-gt0 w ↦ subst (λ y. Writes (spaced ps) c.loop-i.writer y) (sym w.writer-is) (spaced_viewed xs i w.if-i-gt0.true c.loop-i-test.true w.put.ensures)
-    | else-i-gt0 w ↦ subst (λ y. Writes (spaced ps) c.loop-i.writer y) (sym w.writer-is) (spaced_first xs i (omega (arith, w.if-i-gt0.false)))
+      | then-i-gt0 w ↦ subst (λ y. Writes (spaced ps) c.loop-i.writer y) (sym w.writer-is) (spaced_viewed xs i w.if-i-gt0.true c.loop-i-test.true w.put.ensures)
+      | else-i-gt0 w ↦ subst (λ y. Writes (spaced ps) c.loop-i.writer y) (sym w.writer-is) (spaced_first xs i (omega (arith, w.if-i-gt0.false)))
     ] in
     writes_as (ap params_pieces (sym v)) (writes_params_more ps (c.deref.result.now, c.deref-in-loop-i.result.now) c.loop-i.invariant j (writes_param c.deref.result.now c.deref-in-loop-i.result.now c.deref.utf8 c.put-in-loop-i.ensures c.put-in-loop-i-2.ensures c.literal.ensures))
 

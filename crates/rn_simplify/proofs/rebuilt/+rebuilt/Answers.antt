@@ -1,0 +1,51 @@
+use Rattle.std.proofs.Common.{◌≡◌, ◌+◌, ◌*◌, ◌<◌, ◌≤◌, sym, ap, ◌∙◌, subst, map, arith}
+use Rattle.std.specs.Prelude.{All, IsTrue}
+use Rattle.rn_pattern.specs.Tree.{group, interleave, choice, trees_of}
+use Rattle.rn_pattern.specs.Store.{node_view}
+use Rattle.rn_pattern.specs.Nodes.{node_members}
+use Rattle.rn_simplify.specs.Sizes.{tree_size, ids_size}
+use Rattle.rn_simplify.proofs.NodeSizes.{members_size, member_size}
+use Rattle.rn_simplify.proofs.rebuilt.+rebuilt.Goals as goal
+
+pub rebuilt-rebuilt_members-requires : goal.rebuilt-rebuilt_members-requires
+rebuilt-rebuilt_members-requires g t c κs within =
+    let at = g.P.Patterns.tree_of c.args.store.now in
+    let k = g.P.Patterns.knows c.args.store.now in
+    let is = c.in-Group.members.items in
+    let e = sym (ap (node_view at) c.in-Group.is) ∙ c.node.ensures.root in
+    let s : tree_size (at c.args.id) ≡ ids_size at is + 1 = ap tree_size (sym e) ∙ ap (λ n. n + 1) (members_size at is) in
+    let all : All (λ i. IsTrue (k i)) is = subst (λ n. All (λ i. IsTrue (k i)) (node_members n)) c.in-Group.is c.node.ensures.within in
+    let m : 3 * ids_size at c.deref-in-Group.result.now + 1 < 3 * tree_size (at c.args.id) = subst (λ xs. 3 * ids_size at xs + 1 < 3 * tree_size (at c.args.id)) (sym c.deref-in-Group.ensures.value) (omega (arith, s)) in
+    (omega (arith, m, c.decreases), (within.0, (within.1, subst (λ xs. All (λ i. IsTrue (k i)) xs) (sym c.deref-in-Group.ensures.value) all)))
+
+pub rebuilt-rebuilt_members-requires-in-Interleave : goal.rebuilt-rebuilt_members-requires-in-Interleave
+rebuilt-rebuilt_members-requires-in-Interleave g t c κs within =
+    let at = g.P.Patterns.tree_of c.args.store.now in
+    let k = g.P.Patterns.knows c.args.store.now in
+    let is = c.in-Interleave.members.items in
+    let e = sym (ap (node_view at) c.in-Interleave.is) ∙ c.node.ensures.root in
+    let s : tree_size (at c.args.id) ≡ ids_size at is + 1 = ap tree_size (sym e) ∙ ap (λ n. n + 1) (members_size at is) in
+    let all : All (λ i. IsTrue (k i)) is = subst (λ n. All (λ i. IsTrue (k i)) (node_members n)) c.in-Interleave.is c.node.ensures.within in
+    let m : 3 * ids_size at c.deref-in-Interleave.result.now + 1 < 3 * tree_size (at c.args.id) = subst (λ xs. 3 * ids_size at xs + 1 < 3 * tree_size (at c.args.id)) (sym c.deref-in-Interleave.ensures.value) (omega (arith, s)) in
+    (omega (arith, m, c.decreases), (within.0, (within.1, subst (λ xs. All (λ i. IsTrue (k i)) xs) (sym c.deref-in-Interleave.ensures.value) all)))
+
+pub rebuilt-rebuilt_members-requires-in-Choice : goal.rebuilt-rebuilt_members-requires-in-Choice
+rebuilt-rebuilt_members-requires-in-Choice g t c κs within =
+    let at = g.P.Patterns.tree_of c.args.store.now in
+    let k = g.P.Patterns.knows c.args.store.now in
+    let is = c.in-Choice.members.items in
+    let e = sym (ap (node_view at) c.in-Choice.is) ∙ c.node.ensures.root in
+    let s : tree_size (at c.args.id) ≡ ids_size at is + 1 = ap tree_size (sym e) ∙ ap (λ n. n + 1) (members_size at is) in
+    let all : All (λ i. IsTrue (k i)) is = subst (λ n. All (λ i. IsTrue (k i)) (node_members n)) c.in-Choice.is c.node.ensures.within in
+    let m : 3 * ids_size at c.deref-in-Choice.result.now + 1 < 3 * tree_size (at c.args.id) = subst (λ xs. 3 * ids_size at xs + 1 < 3 * tree_size (at c.args.id)) (sym c.deref-in-Choice.ensures.value) (omega (arith, s)) in
+    (omega (arith, m, c.decreases), (within.0, (within.1, subst (λ xs. All (λ i. IsTrue (k i)) xs) (sym c.deref-in-Choice.ensures.value) all)))
+
+pub rebuilt_members-rebuilt-requires : goal.rebuilt_members-rebuilt-requires
+rebuilt_members-rebuilt-requires g t c κs within =
+    let at = g.P.Patterns.tree_of c.args.store.now in
+    let k = g.P.Patterns.knows c.args.store.now in
+    let is = c.args.ids.now in
+    let x = c.index-ids-i.result in
+    let m : tree_size (at x) ≤ ids_size at is = subst (λ y. tree_size (at y) ≤ ids_size at is) (sym c.index-ids-i.is) (member_size at is c.loop-i.i x c.loop-i-test.true) in
+    let h : IsTrue (k x) = subst (λ y. IsTrue (k y)) (sym c.index-ids-i.is) (c.requires c.loop-i.i x c.loop-i-test.true) in
+    (omega (arith, m, c.decreases), (within.0, (within.1, h)))
