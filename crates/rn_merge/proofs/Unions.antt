@@ -1,12 +1,18 @@
 -- The union of the sets of bundles, a bundle at a time.
-use Rattle.std.proofs.Common.{rules, ◌≡◌, ℕ, ◌+◌, ◌<◌, ◌≤◌, List, [], ◌∷◌, ◌++◌, length, map, get_or, refl, sym, ap, ◌∙◌}
+use Rattle.std.proofs.Common.{rules, ◌≡◌, ℕ, ◌+◌, ◌<◌, ◌≤◌, List, [], ◌∷◌, ◌++◌, length, map, get_or, refl, sym, ap, subst, ◌∙◌}
 use Rattle.std.proofs.lemmas.List.{take_more, map-append, get_or-map}
 use Rattle.std.proofs.lemmas.List.Elements.{All-append}
 use Rattle.std.proofs.Math.ListN.{length-map}
 use Rattle.rn_modset.specs.Contributions.{Member}
-use Rattle.rn_modset.specs.Sets.{IsSet, union}
+use Rattle.std.proofs.lemmas.Option.{slice_get-map, slice_get_read}
+use Rattle.std.specs.Prelude.{Result, Ok, Err, IsErrAnd, IfErr, Some, slice_get}
+use Rattle.std.specs.Option.{option_map}
+use Rattle.rn_modset.specs.Sets.{IsSet, union, IsNotJoined}
 use Rattle.rn_modset.specs.Bundles.{bundle}
-use Rattle.rn_merge.specs.Runs.{unions, IsUnionBefore}
+use Rattle.rn_modset.specs.declared.faults.AddFault.{AddFault}
+use Rattle.rn_modset.specs.declared.faults.AddFault.TheVariants as adding
+use Rattle.rn_merge.specs.declared.run.RunFault.{RunFault}
+use Rattle.rn_merge.specs.Runs.{unions, IsUnionBefore, HasNoUnion, join_fault}
 
 -- the last set is joined last
 pub unions_of_more : (s : List Member) (ts : List (List Member)) (t : List Member) → unions s (ts ++ t ∷ []) ≡ union (unions s ts) t
@@ -27,3 +33,18 @@ one_more f xs i x s t within at reads is_set few before =
       is = ap (λ u. union u t) before.is ∙ sym (unions_of_more [] before.sets t);
       few = few;
     }
+
+-- a set that is not joined has no union, for want of memory or for its members
+pub no_union : {A : Type 0} (f : A → List ℕ) (xs : List A) (i : ℕ) (x : A) (s t : List Member) (fault : AddFault) → i < length xs → x ≡ get_or xs i x → f x ≡ bundle t → IsSet t
+    → IsUnionBefore (map f xs) i s → IsNotJoined s t fault → HasNoUnion (map f xs) (join_fault fault)
+no_union f xs i x s t adding.Memory within at reads is_set before h = tt
+no_union f xs i x s t adding.Full within at reads is_set before h =
+    let item : slice_get (map f xs) i ≡ Some (bundle t) = slice_get-map f xs i ∙ ap (option_map f) (slice_get_read xs (length xs) i x refl within at) ∙ ap Some reads in
+    record { index = i; before = s; next = t; union_before = before; at = item; is_set = is_set; many = h }
+no_union f xs i x s t adding.BadName within at reads is_set before h = absurd h
+no_union f xs i x s t adding.TooLong within at reads is_set before h = absurd h
+
+-- an error that is this fault
+pub refused_by : {T : Type 0} (P : RunFault → Type 0) (r : Result T RunFault) (fault : RunFault) → IsErrAnd r (λ f. f ≡ fault) → P fault → IfErr r P
+refused_by P (Ok x) fault h p = tt
+refused_by P (Err e) fault h p = subst P (sym h) p
