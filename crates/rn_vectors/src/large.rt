@@ -5,40 +5,42 @@ use rn_modset::ModuleSet;
 use std::alloc::Global;
 use std::test::Fail;
 
+/// Adds a module of revision 1.
+fn add_text(set: &mut ModuleSet, alloc: Global, name: &str, text: &str) -> Result<(), Fail> {
+    let _ = add(set, module(alloc, name, 1, text.as_bytes())?)?;
+    Ok(())
+}
+
 /// Modules m0 to m`last`, each but the last including the next twice; the last one defines y.
 fn doubling(alloc: Global, last: usize) -> Result<ModuleSet, Fail> {
     let mut set = ModuleSet::new(alloc);
-    for number in 0..=last {
+    for number in 0..last {
         let name = format!(in alloc; "m{number}")?;
         let next = number + 1;
-        let text = if number == last {
-            String::from_str(alloc, "y |= text")?
+        let start = if number == 0 {
+            "start = element r { y }"
         } else {
-            let start = if number == 0 {
-                "start = element r { y }"
-            } else {
-                ""
-            };
-            format!(in alloc; "include \"m{next}\" include \"m{next}\" {start}")?
+            ""
         };
-        let _ = add(&mut set, module(alloc, name.as_str(), 1, text.as_bytes())?)?;
+        let text = format!(in alloc; "include \"m{next}\" include \"m{next}\" {start}")?;
+        add_text(&mut set, alloc, name.as_str(), text.as_str())?;
     }
+    let name = format!(in alloc; "m{last}")?;
+    add_text(&mut set, alloc, name.as_str(), "y |= text")?;
     Ok(set)
 }
 
 /// Modules c000 to c`last`, each including the next; the last one defines the start.
 fn tower(alloc: Global, last: usize) -> Result<ModuleSet, Fail> {
     let mut set = ModuleSet::new(alloc);
-    for number in 0..=last {
+    for number in 0..last {
         let name = format!(in alloc; "c{number:03}")?;
         let next = number + 1;
-        let text = if number == last {
-            String::from_str(alloc, "start = text")?
-        } else {
-            format!(in alloc; "include \"c{next:03}\"")?
-        };
-        let _ = add(&mut set, module(alloc, name.as_str(), 1, text.as_bytes())?)?;
+        let text = format!(in alloc; "include \"c{next:03}\"")?;
+        add_text(&mut set, alloc, name.as_str(), text.as_str())?;
     }
+    let name = format!(in alloc; "c{last:03}")?;
+    add_text(&mut set, alloc, name.as_str(), "start = text")?;
     Ok(set)
 }
 
