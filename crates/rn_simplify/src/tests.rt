@@ -25,20 +25,8 @@ impl Build {
         Ok(Pattern::Element(self.name("", local)?, Box::new(self.alloc, content)?))
     }
 
-    fn attribute(self, class: NameClass) -> Result<Pattern, Fail> {
-        Ok(Pattern::Attribute(class, Box::new(self.alloc, Pattern::Text)?))
-    }
-
     fn reference(self, name: &str) -> Result<Pattern, Fail> {
         Ok(Pattern::Ref(self.text(name)?))
-    }
-
-    fn value(self, library: &str, type_name: &str, text: &str) -> Result<Pattern, Fail> {
-        Ok(Pattern::Value(self.text(library)?, self.text(type_name)?, self.text(text)?))
-    }
-
-    fn repeated(self, content: Pattern) -> Result<Pattern, Fail> {
-        Ok(Pattern::OneOrMore(Box::new(self.alloc, content)?))
     }
 
     fn members(self, first: Pattern, second: Pattern) -> Result<Vec<Rc<Pattern>>, Fail> {
@@ -57,10 +45,6 @@ impl Build {
         let mut members = self.members(first, second)?;
         members.push(Rc::new(self.alloc, third)?)?;
         Ok(members)
-    }
-
-    fn optional(self, content: Pattern) -> Result<Pattern, Fail> {
-        Ok(Pattern::Choice(self.members(Pattern::Empty, content)?))
     }
 
     fn mixed(self, content: Pattern) -> Result<Pattern, Fail> {
@@ -83,91 +67,6 @@ fn printed(build: Build, normal: &Normal) -> Result<String, Fail> {
         Some(rest) => build.text(rest),
         None => Ok(text),
     }
-}
-
-#[test]
-fn contents_of_an_element(rt: HostRuntime) -> Result<(), Fail> {
-    let build = Build { alloc: rt.alloc() };
-    let a = || build.reference("a");
-    let b = || build.reference("b");
-    let text = || -> Result<Pattern, Fail> { Ok(Pattern::Text) };
-    let xsd = "http://www.w3.org/2001/XMLSchema-datatypes";
-    for (content, want) in [
-        (build.repeated(build.optional(Pattern::Text)?)?, "(text?)+"),
-        (
-            build.optional(build.repeated(build.optional(text()?)?)?)?,
-            "(text?)*",
-        ),
-        (
-            Pattern::Choice(build.three(Pattern::Empty, a()?, b()?)?),
-            "(a | b)?",
-        ),
-        (Pattern::Group(build.members(b()?, a()?)?), "b, a"),
-        (
-            Pattern::Interleave(build.three(a()?, b()?, b()?)?),
-            "a & b & b",
-        ),
-        (
-            build.mixed(Pattern::Choice(build.members(a()?, b()?)?))?,
-            "mixed { a | b }",
-        ),
-        (
-            Pattern::Interleave(build.three(Pattern::Text, a()?, b()?)?),
-            "mixed { a & b }",
-        ),
-        (build.mixed(Pattern::Text)?, "mixed { text }"),
-        (
-            Pattern::Group(build.members(build.repeated(build.mixed(a()?)?)?, b()?)?),
-            "mixed { a }+, b",
-        ),
-        (
-            Pattern::Choice(build.members(Pattern::Text, build.mixed(a()?)?)?),
-            "text | mixed { a }",
-        ),
-        (
-            Pattern::Choice(build.members(a()?, Pattern::Interleave(build.members(a()?, b()?)?))?),
-            "a | (a & b)",
-        ),
-        (
-            build.value("", "token", "a\"b\nc")?,
-            "\"a\" ~ '\"' ~ \"b\\x{A}c\"",
-        ),
-        (build.value("", "token", "\\x{41}")?, "\"\\\" ~ \"x{41}\""),
-        (build.value("", "string", "")?, "string \"\""),
-        (build.value(xsd, "ID", "v")?, "xsd:ID \"v\""),
-        (
-            Pattern::Datum(
-                build.text("")?,
-                build.text("string")?,
-                Vec::new(build.alloc),
-                Some(Box::new(build.alloc, build.value("", "string", "no")?)?),
-            ),
-            "string - string \"no\"",
-        ),
-        (
-            build.attribute(NameClass::AnyName(Some(Box::new(
-                build.alloc,
-                NameClass::Choice(vec![in build.alloc;
-                    build.name("", "p")?,
-                    build.name("", "q")?,
-                ]?),
-            )?)))?,
-            "attribute * - (p | q) { text }",
-        ),
-        (
-            build.attribute(build.name("http://www.w3.org/XML/1998/namespace", "lang")?)?,
-            "attribute xml:lang { text }",
-        ),
-        (
-            build.element("text", Pattern::NotAllowed)?,
-            "element text { notAllowed }",
-        ),
-    ] {
-        let got = printed(build, &build.grammar(content)?)?;
-        let want = format!(in build.alloc; "start = element r {{ {want} }}\n")?;
-        assert_eq!(rt; got.as_str(), want.as_str());
-    }
-    Ok(())
 }
 
 #[test]

@@ -2,7 +2,7 @@
 use crate::sets::{Row, each_answers, each_prints_in_both_stores, each_prints_itself_again};
 use std::test::Fail;
 
-const ROWS: [Row; 54] = [
+const ROWS: [Row; 58] = [
     Row {
         set: &[
             ("a", 1, Some("start = doc doc |= element b { text }")),
@@ -400,6 +400,46 @@ const ROWS: [Row; 54] = [
             ),
         )],
         answer: "start = element r { text | mixed { a } }\na = element a { empty }\n",
+    },
+    Row {
+        set: &[(
+            "a",
+            1,
+            Some(
+                "start = element r { string \"\" } a = element a { empty } b = element b { empty } c = element c { empty }",
+            ),
+        )],
+        answer: "start = element r { string \"\" }\n",
+    },
+    Row {
+        set: &[(
+            "a",
+            1,
+            Some(
+                "start = element r { xsd:ID \"v\" } a = element a { empty } b = element b { empty } c = element c { empty }",
+            ),
+        )],
+        answer: "start = element r { xsd:ID \"v\" }\n",
+    },
+    Row {
+        set: &[(
+            "a",
+            1,
+            Some(
+                "start = element r { (b & a) | a } a = element a { empty } b = element b { empty } c = element c { empty }",
+            ),
+        )],
+        answer: "start = element r { a | (a & b) }\na = element a { empty }\nb = element b { empty }\n",
+    },
+    Row {
+        set: &[(
+            "a",
+            1,
+            Some(
+                "start = element r { element text { notAllowed } } a = element a { empty } b = element b { empty } c = element c { empty }",
+            ),
+        )],
+        answer: "start = element r { element text { notAllowed } }\n",
     },
     Row {
         set: &[(
