@@ -18,8 +18,6 @@ mod rebuilt;
 mod references;
 mod settling;
 mod shapes;
-#[cfg(test)]
-mod tests;
 mod writer;
 
 pub use normal::Normal;

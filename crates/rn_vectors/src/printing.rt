@@ -2,7 +2,7 @@
 use crate::sets::{Row, each_answers, each_prints_in_both_stores, each_prints_itself_again};
 use std::test::Fail;
 
-const ROWS: [Row; 58] = [
+const ROWS: [Row; 59] = [
     Row {
         set: &[
             ("a", 1, Some("start = doc doc |= element b { text }")),
@@ -149,6 +149,16 @@ const ROWS: [Row; 58] = [
             Some("datatypes d = \"http://e/lib\" start = element a { d:t { k = \"v\" } }"),
         )],
         answer: "datatypes d1 = \"http://e/lib\"\nstart = element a { d1:t { k = \"v\" } }\n",
+    },
+    Row {
+        set: &[(
+            "a",
+            1,
+            Some(
+                "namespace e = \"\" namespace v = \"v\" namespace u = \"u\" datatypes l = \"http://e/lib\" start = element r { element v:y { empty }, element u:x { empty }, attribute e:* { l:t { k = \"v\" list = \"\" } } }",
+            ),
+        )],
+        answer: "namespace n0 = \"\"\nnamespace n1 = \"u\"\nnamespace n2 = \"v\"\ndatatypes d1 = \"http://e/lib\"\nstart = element r { element n2:y { empty }, element n1:x { empty }, attribute n0:* { d1:t { k = \"v\" list = \"\" } } }\n",
     },
     Row {
         set: &[(
