@@ -6,6 +6,8 @@ mod bundles;
 #[cfg(test)]
 mod checks;
 #[cfg(test)]
+mod combining;
+#[cfg(test)]
 mod contributions;
 #[cfg(test)]
 mod grammars;
