@@ -1,9 +1,10 @@
 //! Laws over the definitions that the contracts cite. Each function does nothing: what it ensures is the law.
-ghost use Rattle.std.specs.Prelude.{◌≡◌, ◌≢◌, List, ℕ};
+ghost use Rattle.std.specs.Prelude.{◌≡◌, ◌≢◌, ◌↔◌, List, ℕ};
 ghost use Rattle.rn_modset.specs.declared.faults.BundleFault.{BundleFault};
 ghost use Rattle.rn_modset.specs.declared.faults.BundleFault.TheVariants.{Memory};
 ghost use Rattle.rn_modset.specs.Contributions.{Member};
 ghost use Rattle.rn_modset.specs.Sets.{IsSet};
+ghost use Rattle.rn_modset.specs.Grammar.{IsBundle};
 ghost use Rattle.rn_modset.specs.Bundles.{bundle};
 ghost use Rattle.rn_modset.specs.Faults.{HasFault};
 ghost use Rattle.rn_modset.specs.Laws.{AreUnionLaws, AreCallLaws};
@@ -20,9 +21,20 @@ pub fn calls_bring_their_union()
     ensures { AreCallLaws }
 {}
 
-/// Distinct sets have distinct bundles.
+/// The grammar of bundles allows of each set one text, the spelled one, and of nothing else any.
+pub fn grammar_is_the_spelling()
+    ensures { (bytes : List ℕ) (s : List Member) → IsBundle bytes s ↔ (IsSet s × (bytes ≡ bundle s)) }
+{}
+
+/// Distinct sets have distinct bundles: no bytes are the bundles of two.
 pub fn distinct_sets_have_distinct_bundles()
-    ensures { (s t : List Member) → IsSet s → IsSet t → bundle s ≡ bundle t → s ≡ t }
+    ensures { (bytes : List ℕ) (s t : List Member) → IsBundle bytes s → IsBundle bytes t → s ≡ t }
+{}
+
+/// Each set has a bundle, and no other.
+pub fn sets_have_one_bundle()
+    ensures exists { (s : List Member) → IsSet s → (bytes : List ℕ) × IsBundle bytes s }
+    ensures one { (a b : List ℕ) (s : List Member) → IsBundle a s → IsBundle b s → a ≡ b }
 {}
 
 /// Bytes have one fault, want of memory aside.
@@ -32,5 +44,5 @@ pub fn bytes_have_one_fault()
 
 /// A set's bundle has no fault but want of memory.
 pub fn bundles_have_no_fault()
-    ensures { (s : List Member) (fault : BundleFault) → IsSet s → HasFault (bundle s) fault → fault ≡ Memory }
+    ensures { (bytes : List ℕ) (s : List Member) (fault : BundleFault) → IsBundle bytes s → HasFault bytes fault → fault ≡ Memory }
 {}
