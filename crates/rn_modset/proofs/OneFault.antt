@@ -8,7 +8,7 @@ use Rattle.rn_modset.specs.Contributions.{Member, is_withdrawal, has_withdrawal,
 use Rattle.rn_modset.specs.Sets.{Rises, IsSet}
 use Rattle.rn_modset.specs.Grammar.{IsBundle}
 use Rattle.rn_modset.specs.Bundles.{entry, entries, first_line, end_line, bundle}
-use Rattle.rn_modset.specs.Faults.{not_line_feed, IsFaultBehind, HasFault, no_first_line, behind, no_memory}
+use Rattle.rn_modset.specs.Faults.{not_line_feed, IsFront, IsFaultBehind, HasFault, no_first_line, behind, no_memory}
 use Rattle.rn_modset.proofs.Splits.{one_front, number_lacks}
 use Rattle.rn_modset.proofs.Readable.{one_entry, ends_here, length_first}
 use Rattle.rn_modset.proofs.Merges.{rises_left}
@@ -84,6 +84,31 @@ both_behind bytes v w ms ns x y f g front other a b p q =
       | inl j ↦ joined_by bytes v ms ns j.rest x y f g j.whole j.left there a fault p q
       | inr j ↦ sym (joined_by bytes v ns ms j.rest y x g f j.whole j.left front fault a q p)
     ]
+
+-- what a front has beyond another
+pub record GoesBeyond (ms ns : List Member) : Type 0 where
+  pub more : List Member
+  pub is : ms ≡ ns ++ more
+
+ends_there : (bytes : List ℕ) (w : Bool) (ms ns rest : List Member) (x y : List ℕ) (f : BundleFault) → ns ≡ ms ++ rest → x ≡ entries rest ++ y → IsSpelledFront bytes w ns y → IsFaultBehind w ms x f → f ≢ Memory → GoesBeyond ms ns
+ends_there bytes w ms ns [] x y f whole left front a p = record { more = []; is = sym (append-nil ns ∙ whole ∙ append-nil ms) }
+ends_there bytes w ms ns (n ∷ rest) x y f whole left front a p =
+    absurd (front_goes_on bytes w ms n rest x y f (subst (λ (z : List Member). IsSpelledFront bytes w z y) whole front) left p a)
+
+longest_by : (bytes : List ℕ) (v w : Bool) (ms ns : List Member) (x y : List ℕ) (f : BundleFault) → IsSpelledFront bytes v ms x → IsSpelledFront bytes w ns y → IsFaultBehind v ms x f → f ≢ Memory → GoesBeyond ms ns
+longest_by bytes v w ms ns x y f front other a p =
+    let first = first_same v w (entries ms ++ x) (entries ns ++ y) (sym front.is ∙ other.is) in
+    let there : IsSpelledFront bytes v ns y = subst (λ (z : Bool). IsSpelledFront bytes z ns y) (sym first.0) other in
+    elim (one_way ms ns x y front.good other.good first.1) [
+      | inl j ↦ ends_there bytes v ms ns j.rest x y f j.whole j.left there a p
+      | inr j ↦ record { more = j.rest; is = j.whole }
+    ]
+
+-- a fault stands behind the longest front
+pub longest : (bytes : List ℕ) (v w : Bool) (ms ns : List Member) (x y : List ℕ) (f : BundleFault) → IsFront bytes v ms x → IsFaultBehind v ms x f → f ≢ Memory → IsFront bytes w ns y → (more : List Member) × (ms ≡ ns ++ more)
+longest bytes v w ms ns x y f front a p other =
+    let beyond = longest_by bytes v w ms ns x y f (front_spelled bytes v ms x front) (front_spelled bytes w ns y other) a p in
+    (beyond.more, beyond.is)
 
 -- bytes have one fault, want of memory aside
 pub one_fault : (bytes : List ℕ) {f g : BundleFault} → HasFault bytes f → HasFault bytes g → f ≢ Memory → g ≢ Memory → f ≡ g

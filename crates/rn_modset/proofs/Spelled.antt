@@ -21,9 +21,10 @@ digest_by text = hex_written (sha256 text) (sha256_bytes text)
 pub header_spelled : (w : Bool) (line : List ℕ) (h : Head) → IsHeader w line h → (line ≡ header_line h) × MayStand w h
 header_spelled w line (text_header name revision len digits) h =
     let revises = number_is h.revision_digits revision h.is_revision h.is_small in
-    let measures = number_is h.len_digits len h.is_len (omega (arith, h.is_short)) in
-    (h.is ∙ ap (λ r. codes "module " ++ (name ++ 32 ∷ (r ++ 32 ∷ (h.len_digits ++ 32 ∷ digits)))) revises ∙ ap (λ l. codes "module " ++ (name ++ 32 ∷ (decimal revision ++ 32 ∷ (l ++ 32 ∷ digits)))) measures,
-    (h.is_name, h.is_small, h.is_short, h.is_digest))
+    let measures = number_is h.len_digits len h.is_len (omega (arith, h.is_short)) in (
+      h.is ∙ ap (λ r. codes "module " ++ (name ++ 32 ∷ (r ++ 32 ∷ (h.len_digits ++ 32 ∷ digits)))) revises ∙ ap (λ l. codes "module " ++ (name ++ 32 ∷ (decimal revision ++ 32 ∷ (l ++ 32 ∷ digits)))) measures,
+      (h.is_name, h.is_small, h.is_short, h.is_digest),
+    )
 header_spelled w line (withdrawal_header name revision) h =
     (h.0.is ∙ ap (λ r. codes "withdrawn " ++ (name ++ 32 ∷ r)) (number_is h.0.revision_digits revision h.0.is_revision h.0.is_small), (h.0.is_name, h.0.is_small, h.1))
 
@@ -39,13 +40,16 @@ header_by w (text_header name revision len digits) m = record {
   is_short = m.2;
   is_digest = m.3;
 }
-header_by w (withdrawal_header name revision) m = (record {
-  revision_digits = decimal revision;
-  is = refl;
-  is_name = m.0;
-  is_revision = number_by revision m.1;
-  is_small = m.1;
-}, m.2)
+header_by w (withdrawal_header name revision) m = (
+  record {
+    revision_digits = decimal revision;
+    is = refl;
+    is_name = m.0;
+    is_revision = number_by revision m.1;
+    is_small = m.1;
+  },
+  m.2,
+)
 
 -- the line is a header that may stand
 pub header_at : (w : Bool) (line : List ℕ) (h : Head) → line ≡ header_line h → MayStand w h → IsHeader w line h

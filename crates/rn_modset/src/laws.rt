@@ -1,12 +1,12 @@
 //! Laws over the definitions that the contracts cite. Each function does nothing: what it ensures is the law.
-ghost use Rattle.std.specs.Prelude.{◌≡◌, ◌≢◌, ◌↔◌, List, ℕ};
+ghost use Rattle.std.specs.Prelude.{◌≡◌, ◌≢◌, ◌↔◌, ◌++◌, Bool, List, ℕ};
 ghost use Rattle.rn_modset.specs.declared.faults.BundleFault.{BundleFault};
 ghost use Rattle.rn_modset.specs.declared.faults.BundleFault.TheVariants.{Memory};
 ghost use Rattle.rn_modset.specs.Contributions.{Member};
 ghost use Rattle.rn_modset.specs.Sets.{IsSet};
 ghost use Rattle.rn_modset.specs.Grammar.{IsBundle};
 ghost use Rattle.rn_modset.specs.Bundles.{bundle};
-ghost use Rattle.rn_modset.specs.Faults.{HasFault};
+ghost use Rattle.rn_modset.specs.Faults.{IsFront, IsFaultBehind, HasFault};
 ghost use Rattle.rn_modset.specs.Laws.{AreUnionLaws, AreCallLaws};
 
 /// The union of sets is commutative, associative and idempotent, and the empty set changes nothing.
@@ -40,6 +40,13 @@ pub fn sets_have_one_bundle()
 /// Bytes have one fault, want of memory aside.
 pub fn bytes_have_one_fault()
     ensures { (bytes : List ℕ) (fault other : BundleFault) → HasFault bytes fault → HasFault bytes other → fault ≢ Memory → other ≢ Memory → fault ≡ other }
+{}
+
+/// A fault stands behind the longest front of good entries: those of any front are the first of these.
+pub fn faults_stand_behind_the_longest_front()
+    ensures { (bytes : List ℕ) (first second : Bool) (ms ns : List Member) (left rest : List ℕ) (fault : BundleFault)
+        → IsFront bytes first ms left → IsFaultBehind first ms left fault → fault ≢ Memory → IsFront bytes second ns rest
+        → (more : List Member) × (ms ≡ ns ++ more) }
 {}
 
 /// A set's bundle has no fault but want of memory.
