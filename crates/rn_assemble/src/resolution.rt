@@ -164,7 +164,10 @@ fn params(alloc: Global, given: &[Param<'_>]) -> Result<Vec<(String, String)>, A
 {
     let mut params = Vec::new(alloc);
     for param in given {
-        params.push((owned(alloc, param.name)?, owned(alloc, param.text.as_str())?))?;
+        params.push((
+            owned(alloc, param.name)?,
+            owned(alloc, param.text.as_str())?,
+        ))?;
     }
     Ok(params)
 }

@@ -1,5 +1,5 @@
 -- One after the other.
-use Rattle.std.proofs.Common.{◌≡◌, ap, sym, subst, ◌∙◌, arith, map, List}
+use Rattle.std.proofs.Common.{arith, map}
 use Rattle.std.proofs.lemmas.Bool.Decides.{not_from_Decides}
 use Rattle.rn_pattern.specs.NameRules.{HasNamesAlone, HaveNamesAlone}
 use Rattle.rn_pattern.specs.Tree.{name_trees_of}

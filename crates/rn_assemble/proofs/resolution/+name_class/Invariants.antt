@@ -1,7 +1,6 @@
 -- The members so far are the classes so far, resolved.
-use Rattle.std.proofs.Common.{◌≡◌, map, take, List}
+use Rattle.std.proofs.Common.{◌≡◌, map, take}
 use Rattle.rn_pattern.specs.View.{name_class_view}
-use Rattle.rn_syntax.specs.Tree.{Declaration}
 use Rattle.rn_syntax.specs.View.{class_view}
 use Rattle.rn_assemble.specs.Bound.{InScope}
 use Rattle.rn_assemble.specs.Resolve.{resolved_class}

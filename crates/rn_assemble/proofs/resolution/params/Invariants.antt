@@ -1,4 +1,4 @@
-use Rattle.std.proofs.Common.{◌≡◌, map, take}
+use Rattle.std.proofs.Common.{◌≡◌, take}
 use Rattle.rn_pattern.specs.View.{parameters_view}
 use Rattle.rn_syntax.specs.View.{params_view}
 use Rattle.rn_assemble.proofs.resolution.params.Given as goal

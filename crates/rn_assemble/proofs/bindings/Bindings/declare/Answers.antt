@@ -22,17 +22,17 @@ returns-in-Namespace c = IfOk-weaker c.bind.result (λ _. (p : Text) → bound_n
 pub returns-in-Some : goal.returns-in-Some
 returns-in-Some c =
     let e : declaration_view c.args.declaration.now ≡ t.default c.in-Default.field-0 (Some (c.in-Some.prefix.name.now, c.in-Some.prefix.at)) (uri_view c.in-Default.uri) =
-        ap declaration_view c.in-Default.is ∙ ap (λ x. t.default c.in-Default.field-0 (prefix_view x) (uri_view c.in-Default.uri)) c.in-Some.is in
+    ap declaration_view c.in-Default.is ∙ ap (λ x. t.default c.in-Default.field-0 (prefix_view x) (uri_view c.in-Default.uri)) c.in-Some.is in
     IfOk-weaker c.bind-in-Some.result _ _ (λ _ h ds b. subst (λ d. BindsAs c.bind-in-Some.new.self (ds ++ d ∷ [])) (sym e) (binds_more c.args.self.now c.bind-in-Some.new.self _ ds
     (ap (option_map bound_uri) c.bind-in-Some.ensures.default ∙ c.bind_default.ensures.default ∙ ap (λ u. option_or (bound_default c.args.self.now) (Some u)) c.declared_namespace-in-Default.ensures)
     (λ p. h p ∙ ap (λ u. option_or (bound_namespace c.bind_default.new.self p) (if bytes_eq c.in-Some.prefix.name.now p then Some u else None)) c.declared_namespace-in-Some.ensures
-        ∙ ap (λ m. option_or (option_map bound_uri (get_by (λ k. bytes_eq p k.now) m)) (if bytes_eq c.in-Some.prefix.name.now p then Some (uri_view c.in-Default.uri) else None)) c.bind_default.ensures.namespaces)
+    ∙ ap (λ m. option_or (option_map bound_uri (get_by (λ k. bytes_eq p k.now) m)) (if bytes_eq c.in-Some.prefix.name.now p then Some (uri_view c.in-Default.uri) else None)) c.bind_default.ensures.namespaces)
     (λ p. ap (λ m. option_map (λ s. s.now) (get_by (λ k. bytes_eq p k.now) m)) (c.bind-in-Some.ensures.libraries ∙ c.bind_default.ensures.libraries) ∙ sym (or_none _)) b)) c.bind-in-Some.ensures.namespaces
 
 pub returns-in-None : goal.returns-in-None
 returns-in-None c = λ ds b.
     let e : declaration_view c.args.declaration.now ≡ t.default c.in-Default.field-0 None (uri_view c.in-Default.uri) =
-        ap declaration_view c.in-Default.is ∙ ap (λ x. t.default c.in-Default.field-0 (prefix_view x) (uri_view c.in-Default.uri)) c.in-None.is in
+    ap declaration_view c.in-Default.is ∙ ap (λ x. t.default c.in-Default.field-0 (prefix_view x) (uri_view c.in-Default.uri)) c.in-None.is in
     subst (λ d. BindsAs c.bind_default.new.self (ds ++ d ∷ [])) (sym e) (binds_more c.args.self.now c.bind_default.new.self _ ds
     (c.bind_default.ensures.default ∙ ap (λ u. option_or (bound_default c.args.self.now) (Some u)) c.declared_namespace-in-Default.ensures)
     (λ p. ap (λ m. option_map bound_uri (get_by (λ k. bytes_eq p k.now) m)) c.bind_default.ensures.namespaces ∙ sym (or_none _))

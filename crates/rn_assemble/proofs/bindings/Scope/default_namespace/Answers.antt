@@ -1,4 +1,4 @@
-use Rattle.std.proofs.Common.{Some, ap, sym, ◌∙◌}
+use Rattle.std.proofs.Common.{ap, sym, ◌∙◌}
 use Rattle.std.specs.Prelude.{option_map}
 use Rattle.rn_assemble.specs.Bound.{bound_uri}
 use Rattle.rn_assemble.proofs.Declared.{default_some, default_none}
