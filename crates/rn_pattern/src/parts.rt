@@ -129,7 +129,7 @@ fn compare_classes(x: Option<&NameClass>, y: Option<&NameClass>) -> Ordering
     }
 }
 
-/// The order by all parts but the members.
+/// The order by all parts but the members. Most nodes that are compared differ in their kind or first text.
 pub fn compare_heads(x: Parts, y: Parts) -> Ordering
     ensures { result ≡ ordering_then (nat_cmp x.entry.kind y.entry.kind)
         (ordering_then (slice_cmp text_cmp (x.entry.first.now ∷ x.entry.second.now ∷ x.entry.third.now ∷ [])
@@ -137,10 +137,12 @@ pub fn compare_heads(x: Parts, y: Parts) -> Ordering
         (ordering_then (parameters_cmp (parameters_view x.entry.parameters.now) (parameters_view y.entry.parameters.now))
         (names_cmp (class_view (option_copied x.entry.class)) (class_view (option_copied y.entry.class))))) }
 {
-    x.kind
-        .cmp(&y.kind)
-        .then(x.first.cmp(y.first))
-        .then(x.second.cmp(y.second))
+    match x.kind.cmp(&y.kind).then(x.first.cmp(y.first)) {
+        Ordering::Equal => {}
+        order => return order,
+    }
+    x.second
+        .cmp(y.second)
         .then(x.third.cmp(y.third))
         .then(x.parameters.cmp(y.parameters))
         .then(compare_classes(x.class, y.class))
