@@ -8,6 +8,7 @@ mod canonical;
 mod declarations;
 mod edges;
 pub mod laws;
+mod mentions;
 mod name_class;
 pub mod normal;
 pub mod normalising;
