@@ -4,8 +4,10 @@ use Rattle.std.specs.Io.KnownBytes.{Appends}
 use Rattle.rn_modset.specs.Contributions.{Member}
 use Rattle.rn_modset.specs.Sets.{union}
 use Rattle.rn_modset.specs.Grammar.{IsBundle}
+use Rattle.rn_modset.specs.Faults.{HasFault}
 use Rattle.rn_modset.specs.declared.faults.AddFault.{AddFault}
 use Rattle.rn_modset.specs.declared.faults.AddFault.TheVariants as adding
+use Rattle.rn_modset.specs.declared.faults.BundleFault.{BundleFault}
 use Rattle.rn_modset.specs.declared.faults.BundleFault.TheVariants as reading
 use Rattle.rn_assemble.specs.declared.refusal.Refusal.TheVariants as refusing
 use Rattle.rn_merge.specs.declared.run.RunFault.{RunFault}
@@ -48,15 +50,18 @@ pub record IsTooMany (bundles : List (List ℕ)) : Type 0 where
   pub is_bundle : IsBundle bytes next
   pub many : 1024 < length (union before next)
 
--- the bytes at the index come behind bundles that have a union
-pub record ComesToBundle (bundles : List (List ℕ)) (index : ℕ) : Type 0 where
-  pub within : index < length bundles
+-- the bytes at the index, which come behind bundles that have a union, are no set's bundle: they have this fault
+pub record ComesToFault (bundles : List (List ℕ)) (index : ℕ) (fault : BundleFault) : Type 0 where
   pub before : List Member
+  pub bytes : List ℕ
   pub union_before : IsUnionBefore bundles index before
+  pub at : slice_get bundles index ≡ Some bytes
+  pub has : HasFault bytes fault
+  pub is_damage : fault ≢ reading.Memory
 
 -- why the bundles have no union
 abbrev pub HasNoUnion : List (List ℕ) → RunFault → Type 0
-HasNoUnion bundles (Bundle index fault) = ComesToBundle bundles index × (fault ≢ reading.Memory)
+HasNoUnion bundles (Bundle index fault) = ComesToFault bundles index fault
 HasNoUnion bundles Full = IsTooMany bundles
 HasNoUnion bundles Memory = Unit {0}
 HasNoUnion bundles Write = ⊥
