@@ -1,5 +1,5 @@
 -- When two nodes are equal, and what is hashed of one.
-use Rattle.std.specs.Prelude.{◌≡◌, ℕ, Bool, true, false, ◌&&◌, List, [], ◌++◌, map, flat_map, nat_eq, IsTrue}
+use Rattle.std.specs.Prelude.{◌≡◌, ℕ, Bool, true, false, ◌&&◌, List, [], ◌++◌, map, flat_map, nat_eq, IsTrue, slice_index_or}
 use Rattle.std.specs.Bool.{Decides}
 use Rattle.std.specs.Ordering.{on}
 use Rattle.std.specs.Cmp.{IsEquivalence, decided, on_equiv, first_so, second_so, unsigned_Decides}
@@ -7,9 +7,10 @@ use Rattle.std.specs.Cmp.Lexicographic.{pointwise, pointwise_decides, bytes_deci
 use Rattle.std.specs.Hash as fed
 use mathlib.Core.Path.{refl, ap, subst}
 use mathlib.Core.Bool.{true≢false}
-use Rattle.rn_pattern.specs.Tree.{Text, Parameters, NameTree, NameTrees, any_name, any_name_but, ns_name, ns_name_but, name, name_choice, no_names, more_names}
+use Rattle.rn_pattern.specs.Tree as tree
+use Rattle.rn_pattern.specs.Tree.{Text, Parameters, Tree, NameTree, NameTrees, any_name, any_name_but, ns_name, ns_name_but, name, name_choice, no_names, more_names}
 use Rattle.rn_pattern.specs.View.{parameters_view}
-use Rattle.rn_pattern.specs.Nodes.{node_rank, node_texts, node_parameters, node_class, node_members}
+use Rattle.rn_pattern.specs.Nodes.{node_rank, node_texts, node_parameters, node_class, node_members, tree_at}
 use Rattle.rn_pattern.specs.Shown.{class_view}
 use Rattle.rn_pattern.specs.declared.node.Node.{Node}
 use Rattle.rn_pattern.specs.declared.node.NodeId.{NodeId}
@@ -54,6 +55,10 @@ both_true a b h k = λ i. h i && k i
 
 pub number_decides : (x y : ℕ) → Decides (nat_eq x y) (x ≡ y)
 number_decides x y = unsigned_Decides x y
+
+-- equal ids stand for one tree
+pub tree_at-same : (ts : List Tree) (i j : NodeId) → IsTrue (nat_eq i.0 j.0) → tree_at ts i ≡ tree_at ts j
+tree_at-same ts i j h = ap (λ k. slice_index_or ts k tree.not_allowed) ((number_decides i.0 j.0).0 h)
 
 pub text_decides : (s t : Text) → Decides (same_text s t) (s ≡ t)
 text_decides = bytes_decides

@@ -149,4 +149,7 @@ pub trait Patterns {
         ensures kept { KeepsTrees (knows self.old) (tree_of self.old) (knows self.new) (tree_of self.new) }
         ensures grows { size self.new ≤ size self.old + 1 }
         ensures refused { OnErr result (size self.new ≡ size self.old) };
+
+    // Equal ids stand for equal patterns, in every store of the type.
+    ghost same: { (s : Self) (i j : Self.Id) → IsTrue (Self.Id.eq i j) → tree_of s i ≡ tree_of s j };
 }

@@ -1,6 +1,7 @@
 // The constructors of a store, written once for all ways in which nodes may lie.
 ghost use Rattle.std.specs.Prelude.{◌≡◌, ◌+◌, ◌≤◌, IfOk, IfSome, IsTrue, List, OnErr, length};
 ghost use Rattle.std.specs.Option.{option_map};
+ghost use Rattle.rn_pattern.specs.Key.{tree_at-same};
 ghost use Rattle.rn_pattern.specs.Matching.{MatchAlike};
 ghost use Rattle.rn_pattern.specs.Nodes.{NamesBelow, knows, tree_at, trees_of_nodes};
 ghost use Rattle.rn_pattern.specs.Reduced.{IsReducedIn, reduced_tree};
@@ -150,4 +151,6 @@ impl<S: NodeStore> Patterns for S {
         let pattern = canonical::one_or_more(&self.table(), content);
         keep(self, pattern)
     }
+
+    ghost same = { λ s i j h. tree_at-same (S.trees s) i j h };
 }
