@@ -6,7 +6,6 @@
 
 mod canonical;
 mod declarations;
-mod edges;
 pub mod laws;
 mod name_class;
 pub mod normal;
