@@ -9,6 +9,7 @@ use Rattle.std.proofs.lemmas.Bool.{cases_lt}
 use Rattle.std.proofs.lemmas.List.{take_more, map-append, get_or_past}
 use Rattle.std.proofs.lemmas.List.Elements.{All-head, All-tail}
 use Rattle.rn_pattern.specs.Canonical.{canonical, canonical_all}
+use Rattle.rn_pattern.specs.CanonicalShape.{IsCanonicalPattern}
 use Rattle.rn_pattern.specs.View.{shared_view}
 use Rattle.rn_pattern.specs.declared.tree.Pattern.{Pattern}
 use Rattle.rn_pattern.specs.Tree.{Text, Tree, Trees, ref, trees_of}
@@ -48,6 +49,18 @@ module _ {I : Type 0} (k k' : I → Bool) (t t' : I → Tree) (a : KeepsTrees k 
   pub trees_still : (is : List I) → All (λ i. IsTrue (k i)) is → map t' is ≡ map t is
   trees_still [] h = refl
   trees_still (i ∷ is) h = let e = (a i (All-head (λ i. IsTrue (k i)) i is h)).1 in let r = trees_still is (All-tail (λ i. IsTrue (k i)) i is h) in λ j. e j ∷ r j
+
+-- what is canonical stays so
+canonical_option : {I : Type 0} (k k' : I → Bool) (t t' : I → Tree) → KeepsTrees k t k' t' → (o : Option I) → IfSome o (λ i. IsTrue (k i)) → IfSome o (λ i. IsCanonicalPattern (t i)) → IfSome o (λ i. IsCanonicalPattern (t' i))
+canonical_option k k' t t' a None h c = c
+canonical_option k k' t t' a (Some i) h c = subst IsCanonicalPattern (sym (a i h).1) c
+
+pub canonical_still : {I : Type 0} (k k' : I → Bool) (t t' : I → Tree) → KeepsTrees k t k' t' → (os : List (Option I)) → AreKnown k os → All (λ o. IfSome o (λ i. IsCanonicalPattern (t i))) os → All (λ o. IfSome o (λ i. IsCanonicalPattern (t' i))) os
+canonical_still k k' t t' a os h c n d l = canonical_option k k' t t' a _ (h n d l) (c n d l)
+
+-- of ids that are not there all holds
+pub each_of_none : {I : Type 0} (P : I → Type 0) (os : List (Option I)) → All (λ o. o ≡ None) os → All (λ o. IfSome o P) os
+each_of_none P os h n d l = subst (λ o. IfSome o P) (sym (h n d l)) tt
 
 forms_push : (s : Text → Tree) (ps : List Tree) (p : Tree) → canonical_all s (trees_of (ps ++ p ∷ [])) ≡ canonical_all s (trees_of ps) ++ canonical s p ∷ []
 forms_push s [] p = refl

@@ -1,7 +1,8 @@
 -- Places that have a mark, and rows of references, one after the other.
 use Rattle.std.proofs.Common.{◌≡◌, ◌⊎◌, inl, inr, ⊎_elim, ◌+◌, ◌<◌, ◌≤◌, ℕ, zero, suc, Bool, true, false, cond, ◌||◌, nat_eq, List, [], ◌∷◌, ◌++◌, length, map, get_or, refl, sym, ap, ◌∙◌, subst, arith, below_more, Vec, Bor}
-use Rattle.std.specs.Prelude.{Contains, String, string_bytes}
-use Rattle.std.specs.List.{IsDistinct, list_any}
+use Rattle.std.specs.Prelude.{Contains, String, string_bytes, bytes_eq}
+use Rattle.std.specs.String.{string_eq}
+use Rattle.std.specs.List.{AllByRecursion, IsDistinct, list_any}
 use Rattle.std.specs.Map.Iter.{deref_pair}
 use Rattle.std.specs.declared.alloc.Global.{Global}
 use Rattle.std.proofs.lemmas.Bool.{false≢true, cases_lt, cases_eq}
@@ -70,6 +71,24 @@ rows_more s ds es fs rows new d v h e f g =
 pub shown_more : (xs : List (Bor (String Global) × Bor Pattern)) (x : Bor (String Global) × Bor Pattern) → definitions_view (map deref_pair (xs ++ x ∷ [])) ≡ definitions_view (map deref_pair xs) ++ (string_bytes x.0.now, pattern_view x.1.now) ∷ []
 shown_more [] x = refl
 shown_more (y ∷ xs) x = ap (λ ds. (string_bytes y.0.now, pattern_view y.1.now) ∷ ds) (shown_more xs x)
+
+-- entries of a map, each seen by f, with one more
+pub seen_more : (f : Text × Tree → Text × Tree) (xs : List (Bor (String Global) × Bor Pattern)) (x : Bor (String Global) × Bor Pattern) (old new : List (String Global × Pattern)) (e : String Global × Pattern)
+    → definitions_view old ≡ map f (definitions_view (map deref_pair xs)) → new ≡ old ++ e ∷ [] → ◌≡◌ {A = Text × Tree} (string_bytes e.0, pattern_view e.1) (f (string_bytes x.0.now, pattern_view x.1.now))
+    → definitions_view new ≡ map f (definitions_view (map deref_pair (xs ++ x ∷ [])))
+seen_more f xs x old new e h is same =
+    ap definitions_view is ∙ map-append (λ (d : String Global × Pattern). (string_bytes d.0, pattern_view d.1)) old (e ∷ []) ∙ (λ i. h i ++ same i ∷ [])
+    ∙ sym (ap (map f) (shown_more xs x) ∙ map-append f (definitions_view (map deref_pair xs)) ((string_bytes x.0.now, pattern_view x.1.now) ∷ []))
+
+apart_names : (x : String Global) (es : List (String Global × Pattern)) → AllByRecursion (λ y. string_eq x y ≡ false) (map (λ (e : String Global × Pattern). e.0) es) → AllByRecursion (λ y. bytes_eq (string_bytes x) y ≡ false) (map (λ (d : Text × Tree). d.0) (definitions_view es))
+apart_names x [] h = tt
+apart_names x (e ∷ es) h = (h.0, apart_names x es h.1)
+
+-- keys that differ are names that do
+pub distinct_names : (es : List (String Global × Pattern)) → IsDistinct string_eq (map (λ (e : String Global × Pattern). e.0) es) → IsDistinct bytes_eq (map (λ (d : Text × Tree). d.0) (definitions_view es))
+unfolding IsDistinct
+distinct_names [] h = tt
+distinct_names (e ∷ es) h = (apart_names e.0 es h.0, distinct_names es h.1)
 
 -- rows, each by its place
 module _ (wanted : ℕ → List ℕ) where

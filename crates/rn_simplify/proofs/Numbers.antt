@@ -21,6 +21,10 @@ pub size_is : (es : List (String Global × Pattern)) → length (map (λ (e : St
 size_is [] = refl
 size_is (e ∷ es) = ap suc (size_is es)
 
+pub size_of_view : (es : List (String Global × Pattern)) → length (definitions_view es) ≡ length es
+size_of_view [] = refl
+size_of_view (e ∷ es) = ap suc (size_of_view es)
+
 -- the place of a name among the keys is its number
 pub number_is : (es : List (String Global × Pattern)) (x : Text) → position (λ (k : String Global). bytes_eq x (string_bytes k)) (map (λ (e : String Global × Pattern). e.0) es) ≡ number_of (definitions_view es) x
 number_is es x = let f = front_is es x in let l = size_is es in λ i. cond (nat_lt (f i) (l i)) (Some (f i)) None

@@ -1,7 +1,7 @@
 -- A list that is popped to its front, and what is kept of it.
 use Rattle.std.proofs.Common.{◌≡◌, ◌+◌, ◌<◌, ◌≤◌, ℕ, suc, Bool, true, false, cond, List, [], ◌∷◌, ◌++◌, length, take, drop, get_or, reverse, refl, sym, ap, ◌∙◌, subst, arith, append_assoc, append-nil}
-use Rattle.std.proofs.Math.Seq.{take-append-drop, take-append_seam, drop-append_seam}
-use Rattle.std.proofs.lemmas.List.{drop_more, drop_all, take_all, length_push, reverse-append}
+use Rattle.std.proofs.Math.Seq.{take-append_seam, drop-append_seam}
+use Rattle.std.proofs.lemmas.List.{take-append-drop, drop_more, drop_all, take_all, length_push, reverse-append}
 use Rattle.rn_assemble.specs.Graph.{is_marked}
 use Rattle.rn_simplify.specs.Marked.{marked}
 
@@ -52,10 +52,11 @@ module _ {X : Type 0} (marks : List Bool) (all left rest kept : List X) (x : X) 
   left_front : rest ≡ take n all
   left_front = sym (ap (take n) whole ∙ take-append_seam rest (x ∷ drop (n + 1) all))
 
-  pub passes : n < length marks → get_or marks n false ≡ false → IsPopping marks all rest kept
-  passes l e = record { few = omega (arith, within); front = left_front; behind = kept_at ∙ sym (ap reverse (next l false e)) }
+  reversed : (b : Bool) (m : List X) → reverse (cond b (x ∷ m) m) ≡ reverse m ++ cond b (x ∷ []) []
+  reversed true m = reverse-append (x ∷ []) m
+  reversed false m = sym (append-nil (reverse m))
 
-  pub keeps : (new : List X) → n < length marks → get_or marks n false ≡ true → new ≡ kept ++ x ∷ [] → IsPopping marks all rest new
-  keeps new l e f =
+  pub popped : (new : List X) (b : Bool) → n < length marks → get_or marks n false ≡ b → new ≡ kept ++ cond b (x ∷ []) [] → IsPopping marks all rest new
+  popped new b l e f =
       let more = marked (drop (n + 1) marks) (drop (n + 1) all) in
-      record { few = omega (arith, within); front = left_front; behind = f ∙ ap (λ ys. ys ++ x ∷ []) kept_at ∙ sym (ap reverse (next l true e) ∙ reverse-append (x ∷ []) more) }
+      record { few = omega (arith, within); front = left_front; behind = f ∙ ap (λ ys. ys ++ cond b (x ∷ []) []) kept_at ∙ sym (ap reverse (next l b e) ∙ reversed b more) }

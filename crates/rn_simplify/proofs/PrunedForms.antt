@@ -97,7 +97,7 @@ distinct_marked (b ∷ bs) (x ∷ xs) h = distinct_at b x (marked bs xs) (all_ma
 rises_at : (x y : Text) (o : Ordering) → text_cmp x y ≡ o → is_lt (text_cmp y x) ≡ false → bytes_eq x y ≡ false → o ≡ Less
 rises_at x y Less e f g = refl
 rises_at x y Equal e f g = absurd (false≢true (sym g ∙ (bytes_eq-Decides x y).1 (equal_is x y e)))
-rises_at x y Greater e f g = absurd (false≢true (sym f ∙ ap is_lt (nat_list_cmp_total.antisymm x y ∙ ap ordering_reverse e)))
+rises_at x y Greater e f g = absurd (false≢true (sym f ∙ ap is_lt (nat_list_cmp_total.antisymm y x ∙ ap ordering_reverse e)))
 
 
 abbrev pub names : List (String Global × Pattern) → List Text

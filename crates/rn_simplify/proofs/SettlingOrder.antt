@@ -39,6 +39,11 @@ reaches_more (by_more s r) t = by_more s (reaches_more r t)
 some_and : (Q : Tree → Type 0) (o : Option Tree) (p : Tree) → o ≡ Some p → Q p → IsSomeAnd o Q
 some_and Q o p e h = subst (λ d. IsSomeAnd d Q) (sym e) h
 
+-- a name that is reached is referred to, by the start or by a definition
+pub reached_refers : (G : Grammar) (x : Text) → IsReached G x → RefersTo x G.start ⊎ ((y : Text) × (p : Tree) × Contains G.definitions (y, p) × RefersTo x p)
+reached_refers G x (by_start h) = inl h
+reached_refers G x (by_definition {y = y} p r e h) = inr (y, p, found_in G y p e, h)
+
 -- the element at a place before i, and back
 pub taken_at : (xs : List ℕ) (i j v : ℕ) → i ≤ length xs → j < i → get_or xs j v ≡ v → Contains (take i xs) v
 taken_at xs i j v l h e = (j, omega (arith, length-take-le i xs l, h), get_or-take i xs j v h ∙ e)
@@ -116,13 +121,12 @@ module _ (G : Grammar) (marks : List Bool) (outs : List (List ℕ)) (marked : (k
         w.loop_free b.0 (b.4, subst (LeadsTo G b.0) (sym (same_name b.0 b.1 a b.2 b.3)) b.5)
 
     module _ (w : IsWellFormed G) (ranks : List ℕ) (ranking : IsRanking outs ranks) where
-      number_at : (x : Text) (o : Option Tree) → definition_of G x ≡ o → (RefersTo x G.start ⊎ ((y : Text) × (p : Tree) × Contains G.definitions (y, p) × RefersTo x p)) → (k : ℕ) × (number_of ds x ≡ Some k)
-      number_at x None e u = absurd (w.defined x (u, e))
-      number_at x (Some p) e u = number_some ds x p e
+      number_at : (x : Text) (o : Option Tree) → definition_of G x ≡ o → IsReached G x → (k : ℕ) × (number_of ds x ≡ Some k)
+      number_at x None e r = absurd (w.defined x (reached_refers G x r, e))
+      number_at x (Some p) e r = number_some ds x p e
 
       numbered : (x : Text) → IsReached G x → (k : ℕ) × (number_of ds x ≡ Some k)
-      numbered x (by_start h) = number_at x (definition_of G x) refl (inl h)
-      numbered x (by_definition {y = y} p r e h) = number_at x (definition_of G x) refl (inr (y, p, found_in G y p e, h))
+      numbered x r = number_at x (definition_of G x) refl r
 
       rank : Text → ℕ
       rank x = option_map_or (rank_of ranks) (number_of ds x) 0

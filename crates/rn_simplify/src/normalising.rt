@@ -58,6 +58,7 @@ fn settle<P: Patterns>(
     store: &mut P,
 ) -> Result<Vec<Option<P::Id>>, AllocError>
     requires { AllBelow (length names.now.entries) order.now }
+    ensures size { IfOk result (λ v. length v.items ≡ length names.now.entries) }
     ensures known { IfOk result (λ v. AreKnown (P.knows store.new) v.items) }
     ensures canonical { IfOk result (λ v. All (λ o. IfSome o (λ i. IsCanonicalPattern (P.tree_of store.new i))) v.items) }
     ensures settled { IfOk result (λ v. IsInOrder (definitions_view names.now.entries) order.now

@@ -1,5 +1,5 @@
 // The definitions that are reached through canonical forms (RELAX NG, 4.19).
-ghost use Rattle.std.specs.Prelude.{◌≡◌, ◌≤◌, IfOk, length, map, reverse, bytes_eq, vec_len};
+ghost use Rattle.std.specs.Prelude.{◌≡◌, ◌≤◌, ◌∷◌, ◌++◌, [], IfOk, OnOk, cond, length, map, reverse, bytes_eq, vec_len};
 ghost use Rattle.std.specs.List.{IsDistinct};
 ghost use Rattle.rn_assemble.specs.Graph.{rows_of};
 ghost use Rattle.rn_assemble.specs.GrammarView.{definitions_view};
@@ -63,9 +63,21 @@ fn only_marked(
 {
     let mut kept = Vec::new(alloc);
     while let Some(form) = forms.pop() {
-        if marks[forms.len()] {
-            kept.push(form)?;
-        }
+        let is_marked = marks[forms.len()];
+        push_if(is_marked, &mut kept, form)?;
     }
     Ok(kept)
+}
+
+fn push_if(
+    condition: bool,
+    forms: &mut Vec<(String, Pattern)>,
+    form: (String, Pattern),
+) -> Result<(), AllocError>
+    ensures { OnOk result (forms.new.items ≡ forms.old.items ++ cond condition (form ∷ []) []) }
+{
+    if condition {
+        forms.push(form)?;
+    }
+    Ok(())
 }
