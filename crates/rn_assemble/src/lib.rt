@@ -23,5 +23,3 @@ pub use grammar::Grammar;
 pub use refusal::{Key, Refusal};
 
 pub mod laws;
-#[cfg(test)]
-mod tests;

@@ -1,10 +1,9 @@
 -- Runs over bundles: the union of the sets of which they are the bundles, and what is written.
-use Rattle.std.specs.Prelude.{◌≡◌, ◌≢◌, ℕ, ◌<◌, ◌≤◌, Bool, true, false, List, [], ◌∷◌, length, map, take, Option, Result, Ok, Err, slice_get, Some}
-use Rattle.std.specs.List.{All}
+use Rattle.std.specs.Prelude.{◌≡◌, ◌≢◌, ℕ, ◌<◌, ◌≤◌, Bool, true, false, List, [], ◌∷◌, length, take, Option, Result, Ok, Err, slice_get, Some}
 use Rattle.std.specs.Io.KnownBytes.{Appends}
 use Rattle.rn_modset.specs.Contributions.{Member}
-use Rattle.rn_modset.specs.Sets.{IsSet, union}
-use Rattle.rn_modset.specs.Bundles.{bundle}
+use Rattle.rn_modset.specs.Sets.{union}
+use Rattle.rn_modset.specs.Grammar.{IsBundle}
 use Rattle.rn_modset.specs.declared.faults.AddFault.{AddFault}
 use Rattle.rn_modset.specs.declared.faults.AddFault.TheVariants as adding
 use Rattle.rn_modset.specs.declared.faults.BundleFault.TheVariants as reading
@@ -20,11 +19,17 @@ abbrev pub unions : List Member → List (List Member) → List Member
 unions s [] = s
 unions s (t ∷ ts) = unions (union s t) ts
 
+-- each is the bundle of its set
+abbrev pub AreBundles : List (List ℕ) → List (List Member) → Type 0
+AreBundles [] [] = Unit {0}
+AreBundles [] (s ∷ sets) = ⊥
+AreBundles (b ∷ bundles) [] = ⊥
+AreBundles (b ∷ bundles) (s ∷ sets) = IsBundle b s × AreBundles bundles sets
+
 -- these are the bundles of sets, and s, which has at most 1,024 contributions, is the union of them all
 pub record IsUnion (bundles : List (List ℕ)) (s : List Member) : Type 0 where
   pub sets : List (List Member)
-  pub are_sets : All IsSet sets
-  pub are : bundles ≡ map bundle sets
+  pub are : AreBundles bundles sets
   pub is : s ≡ unions [] sets
   pub few : length s ≤ 1024
 
@@ -36,10 +41,11 @@ IsUnionBefore bundles index s = IsUnion (take index bundles) s
 pub record IsTooMany (bundles : List (List ℕ)) : Type 0 where
   pub index : ℕ
   pub before : List Member
+  pub bytes : List ℕ
   pub next : List Member
   pub union_before : IsUnionBefore bundles index before
-  pub at : slice_get bundles index ≡ Some (bundle next)
-  pub is_set : IsSet next
+  pub at : slice_get bundles index ≡ Some bytes
+  pub is_bundle : IsBundle bytes next
   pub many : 1024 < length (union before next)
 
 -- the bytes at the index come behind bundles that have a union

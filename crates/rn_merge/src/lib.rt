@@ -14,6 +14,3 @@ pub use streams::{Failed, Input, Output, ReadFault, Sink, Source, read_input, wr
 pub use texts::{Place, check};
 pub use verdict::merge;
 pub use words::{Job, ProgramFault, plan};
-
-#[cfg(test)]
-mod tests;

@@ -7,7 +7,7 @@ use Rattle.std.specs.List.{list_all, AllByRecursion}
 use Rattle.hex.specs.Hex.{encode_with, lower_digits}
 use Rattle.sha2.specs.Sha256.{digest_bytes, final_hash, initial_hash_256, sha256}
 use Rattle.rn_modset.specs.Bundles.{digest}
-use Rattle.rn_modset.specs.Faults.{IsDigest, is_lower_hex}
+use Rattle.rn_modset.specs.Grammar.{IsDigest, is_lower_hex}
 use Rattle.rn_modset.proofs.Truths.{first_of_both, second_of_both}
 
 length-digest_bytes : (h : List ℕ) (n : ℕ) → length (digest_bytes h n) ≡ n * 4
@@ -37,7 +37,7 @@ sha256_length : (text : List ℕ) → length (sha256 text) ≡ 32
 unfolding sha256
 sha256_length text = length-digest_bytes (final_hash initial_hash_256 text) 8
 
-sha256_bytes : (text : List ℕ) → AreBytes (sha256 text)
+pub sha256_bytes : (text : List ℕ) → AreBytes (sha256 text)
 unfolding sha256
 sha256_bytes text = digest_are_bytes (final_hash initial_hash_256 text) 8
 

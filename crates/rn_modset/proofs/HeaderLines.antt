@@ -4,8 +4,10 @@ use Rattle.std.specs.List.{list_all}
 use Rattle.std.proofs.lemmas.Fmt.{decimal_injective}
 use Rattle.rn_modset.specs.declared.headers.HeaderLine.{HeaderLine}
 use Rattle.rn_modset.specs.Contributions.{is_module_name}
-use Rattle.rn_modset.specs.Bundles.{Head, text_header, withdrawal_header, header_line, end_line}
-use Rattle.rn_modset.specs.Faults.{MayStand, IsDigest, IsNoHeader, AreNoTextFields, IsNoWithdrawalField}
+use Rattle.rn_modset.specs.Bundles.{header_line, end_line}
+use Rattle.rn_modset.specs.Grammar.{Head, text_header, withdrawal_header}
+use Rattle.rn_modset.specs.Grammar.{IsDigest}
+use Rattle.rn_modset.specs.Headers.{MayStand, IsNoHeader, AreNoTextFields, IsNoWithdrawalField}
 use Rattle.rn_modset.specs.Headers.{header_view}
 use Rattle.rn_modset.proofs.Splits.{Lacks, lacks_by, lacks_from_all, unsplit, one_cut, name_lacks, number_lacks}
 

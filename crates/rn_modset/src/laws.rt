@@ -1,11 +1,12 @@
 //! Laws over the definitions that the contracts cite. Each function does nothing: what it ensures is the law.
-ghost use Rattle.std.specs.Prelude.{◌≡◌, ◌≢◌, List, ℕ};
+ghost use Rattle.std.specs.Prelude.{◌≡◌, ◌≢◌, ◌↔◌, ◌++◌, Bool, List, ℕ};
 ghost use Rattle.rn_modset.specs.declared.faults.BundleFault.{BundleFault};
 ghost use Rattle.rn_modset.specs.declared.faults.BundleFault.TheVariants.{Memory};
 ghost use Rattle.rn_modset.specs.Contributions.{Member};
 ghost use Rattle.rn_modset.specs.Sets.{IsSet};
+ghost use Rattle.rn_modset.specs.Grammar.{IsBundle};
 ghost use Rattle.rn_modset.specs.Bundles.{bundle};
-ghost use Rattle.rn_modset.specs.Faults.{HasFault};
+ghost use Rattle.rn_modset.specs.Faults.{IsFront, IsFaultBehind, HasFault};
 ghost use Rattle.rn_modset.specs.Laws.{AreUnionLaws, AreCallLaws};
 
 /// The union of sets is commutative, associative and idempotent, and the empty set changes nothing.
@@ -20,9 +21,20 @@ pub fn calls_bring_their_union()
     ensures { AreCallLaws }
 {}
 
-/// Distinct sets have distinct bundles.
+/// The grammar of bundles allows of each set one text, the spelled one, and of nothing else any.
+pub fn grammar_is_the_spelling()
+    ensures { (bytes : List ℕ) (s : List Member) → IsBundle bytes s ↔ (IsSet s × (bytes ≡ bundle s)) }
+{}
+
+/// Distinct sets have distinct bundles: no bytes are the bundles of two.
 pub fn distinct_sets_have_distinct_bundles()
-    ensures { (s t : List Member) → IsSet s → IsSet t → bundle s ≡ bundle t → s ≡ t }
+    ensures { (bytes : List ℕ) (s t : List Member) → IsBundle bytes s → IsBundle bytes t → s ≡ t }
+{}
+
+/// Each set has a bundle, and no other.
+pub fn sets_have_one_bundle()
+    ensures exists { (s : List Member) → IsSet s → (bytes : List ℕ) × IsBundle bytes s }
+    ensures one { (a b : List ℕ) (s : List Member) → IsBundle a s → IsBundle b s → a ≡ b }
 {}
 
 /// Bytes have one fault, want of memory aside.
@@ -30,7 +42,14 @@ pub fn bytes_have_one_fault()
     ensures { (bytes : List ℕ) (fault other : BundleFault) → HasFault bytes fault → HasFault bytes other → fault ≢ Memory → other ≢ Memory → fault ≡ other }
 {}
 
+/// A fault stands behind the longest front of good entries: those of any front are the first of these.
+pub fn faults_stand_behind_the_longest_front()
+    ensures { (bytes : List ℕ) (first second : Bool) (ms ns : List Member) (left rest : List ℕ) (fault : BundleFault)
+        → IsFront bytes first ms left → IsFaultBehind first ms left fault → fault ≢ Memory → IsFront bytes second ns rest
+        → (more : List Member) × (ms ≡ ns ++ more) }
+{}
+
 /// A set's bundle has no fault but want of memory.
 pub fn bundles_have_no_fault()
-    ensures { (s : List Member) (fault : BundleFault) → IsSet s → HasFault (bundle s) fault → fault ≡ Memory }
+    ensures { (bytes : List ℕ) (s : List Member) (fault : BundleFault) → IsBundle bytes s → HasFault bytes fault → fault ≡ Memory }
 {}

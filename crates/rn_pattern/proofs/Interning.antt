@@ -6,13 +6,15 @@ use Rattle.std.specs.declared.alloc.Global.{Global}
 use Rattle.indexmap.specs.IndexSet.{insert_key}
 use Rattle.rn_pattern.specs.Tree as tree
 use Rattle.rn_pattern.specs.Tree.{NameTree, NameTrees, any_name, no_names, more_names, Tree, trees_of}
-use Rattle.rn_pattern.specs.Store.{KeepsTrees, StandsFor, node_view}
+use Rattle.rn_pattern.specs.Store.{AddsOnly, KeepsTrees, StandsFor, node_view}
 use Rattle.rn_pattern.specs.Nodes.{NamesBelow, NameEarlier, knows, node_rank, tree_at, trees_of_nodes}
 use Rattle.rn_pattern.specs.Key.{key, key_decides, node_eq}
 use Rattle.rn_pattern.specs.declared.node.Node.{Node}
 use Rattle.rn_pattern.specs.declared.node.NodeId.{NodeId}
-use Rattle.rn_pattern.proofs.NodeTrees.{NameEarlier-push, length-trees_of_nodes, trees_of_nodes-push, trees_of_nodes-at, node_view_same, keeps_before, keeps_same, place_known}
-use Rattle.std.proofs.lemmas.List.{length_push}
+use Rattle.rn_pattern.proofs.NodeTrees.{NameEarlier-push, length-trees_of_nodes, trees_of_nodes-push, trees_of_nodes-at, node_view_same, keeps_before, keeps_same, place_known, adds_at_end, adds_none}
+use Rattle.std.proofs.lemmas.Bool.{false≢true}
+use Rattle.std.proofs.lemmas.List.{get_or_append_left, length_push}
+use Rattle.std.proofs.lemmas.List.Folds.{list_any_at}
 use Rattle.std.proofs.lemmas.Option.{get_or_from_slice_get}
 
 abbrev first_name : NameTrees → NameTree
@@ -89,3 +91,20 @@ inserted_stands ns ms n i k how earlier below at_place equal =
     let same = same_key_view new n k ((key_decides (key n) (key k)).0 equal) in
     let kept = node_view_same old new (length (trees_of_nodes ns)) n (λ j l. sym (inserted_keeps ns ms n how j (place_known (trees_of_nodes ns) j l)).1) below in
     (place_known (trees_of_nodes ms) i (omega (arith, length-trees_of_nodes ms, found.0)), is_there ∙ ap (node_view new) found.1 ∙ sym same ∙ sym kept)
+
+-- a node that is new stands behind the others
+last_place : (ns ms : List (Node NodeId)) (n : Node NodeId) (r : NodeId) (k : Node NodeId) → list_any (node_eq n) ns ≡ false → ms ≡ ns ++ n ∷ [] → slice_get ms r.0 ≡ Some k → node_eq n k ≡ true → r.0 ≡ length ns
+last_place ns ms n r k none e at_place equal =
+    let found = get_is ms r.0 k at_place in
+    let not_before : ¬ (r.0 < length ns) = λ l. false≢true (sym none ∙ list_any_at (node_eq n) ns r.0 k l (ap (node_eq n) (sym (get_or_append_left ns (n ∷ []) k r.0 l) ∙ ap (λ xs. get_or xs r.0 k) (sym e) ∙ found.1) ∙ equal)) in
+    omega (arith, not_before, found.0, ap length e, length_push ns n)
+
+adds_by : (b : Bool) (ns ms : List (Node NodeId)) (n : Node NodeId) (r : NodeId) (k : Node NodeId) → list_any (node_eq n) ns ≡ b → ms ≡ (if b then ns else ns ++ n ∷ []) → slice_get ms r.0 ≡ Some k → node_eq n k ≡ true
+    → AddsOnly (knows (trees_of_nodes ns)) (knows (trees_of_nodes ms)) r
+adds_by true ns ms n r k found e at_place equal = adds_none (trees_of_nodes ns) (trees_of_nodes ms) r (ap trees_of_nodes e)
+adds_by false ns ms n r k none e at_place equal =
+    adds_at_end (trees_of_nodes ns) (trees_of_nodes ms) _ r (last_place ns ms n r k none e at_place equal ∙ sym (length-trees_of_nodes ns)) (ap trees_of_nodes e ∙ trees_of_nodes-push ns n)
+
+pub inserted_adds : (ns ms : List (Node NodeId)) (n : Node NodeId) (r : NodeId) (k : Node NodeId) → ms ≡ insert_key node_eq ns n → slice_get ms r.0 ≡ Some k → node_eq n k ≡ true
+    → AddsOnly (knows (trees_of_nodes ns)) (knows (trees_of_nodes ms)) r
+inserted_adds ns ms n r k e at_place equal = adds_by (list_any (node_eq n) ns) ns ms n r k refl e at_place equal

@@ -1,5 +1,5 @@
 -- The trees of a list of nodes: how long they are, after one more, and at one place.
-use Rattle.std.proofs.Common.{◌≡◌, ◌+◌, ◌<◌, ◌≤◌, ℕ, zero, suc, List, [], ◌∷◌, ◌++◌, length, map, get_or, All, Option, Some, None, refl, sym, ap, ◌∙◌, subst, arith}
+use Rattle.std.proofs.Common.{◌≡◌, ◌+◌, ◌<◌, ◌≤◌, ℕ, zero, suc, List, [], ◌∷◌, ◌++◌, length, map, get_or, All, Option, Some, None, inl, inr, refl, sym, ap, ◌∙◌, subst, arith}
 use Rattle.std.proofs.Common.{Bool, true, false, cond, IsTrue}
 use Rattle.std.proofs.lemmas.Bool.Decides.{nat_tests}
 use Rattle.std.proofs.lemmas.List.{length_push, get_or_push, get_or_append_left}
@@ -7,8 +7,9 @@ use Rattle.std.proofs.lemmas.List.Elements.{All-head, All-tail}
 use Rattle.rn_pattern.specs.Tree as tree
 use Rattle.rn_pattern.specs.Tree.{Tree, trees_of}
 use Rattle.rn_pattern.specs.View.{name_class_view, parameters_view}
-use Rattle.std.specs.Prelude.{string_bytes}
-use Rattle.rn_pattern.specs.Store.{KeepsTrees, StandsFor, node_view}
+use Rattle.std.specs.Prelude.{◌⊎◌, string_bytes}
+use Rattle.std.proofs.Math.Nat.{eq-or-lt_of_le}
+use Rattle.rn_pattern.specs.Store.{AddsOnly, KeepsTrees, StandsFor, node_view}
 use Rattle.rn_pattern.specs.Nodes.{tree_at, trees_from, trees_of_nodes, NamesBelow, NameEarlier, knows}
 use Rattle.rn_pattern.specs.declared.node.Node.{Node}
 use Rattle.rn_pattern.specs.declared.node.NodeId.{NodeId}
@@ -113,6 +114,22 @@ stands_at_end ts by t i h e = (
   place_known by i (omega (arith, length_push ts t, ap length e, h)),
   ap (λ us. tree_at us i) e ∙ get_or_push ts t tree.not_allowed i.0 (sym h),
 )
+
+known_or_last : (n : ℕ) (i r : NodeId) → r.0 ≡ n → (i.0 ≡ n) ⊎ (i.0 < n) → (i.0 < n) ⊎ (i ≡ r)
+known_or_last n i r h (inl e) = inr (ap (λ k. record { 0 = k }) (e ∙ sym h))
+known_or_last n i r h (inr l) = inl l
+
+known_by_place : (ts : List Tree) (i r : NodeId) → (i.0 < length ts) ⊎ (i ≡ r) → IsTrue (knows ts i) ⊎ (i ≡ r)
+known_by_place ts i r (inl l) = inl (place_known ts i l)
+known_by_place ts i r (inr e) = inr e
+
+pub adds_at_end : (ts by : List Tree) (t : Tree) (r : NodeId) → r.0 ≡ length ts → by ≡ ts ++ t ∷ [] → AddsOnly (knows ts) (knows by) r
+adds_at_end ts by t r h e i known =
+    let below : i.0 ≤ length ts = omega (arith, knows_place by i known, ap length e, length_push ts t) in
+    known_by_place ts i r (known_or_last (length ts) i r h (eq-or-lt_of_le below))
+
+pub adds_none : (ts by : List Tree) (r : NodeId) → by ≡ ts → AddsOnly (knows ts) (knows by) r
+adds_none ts by r e i known = inl (subst (λ us. IsTrue (knows us i)) e known)
 
 pub keeps_same : (ts by : List Tree) → by ≡ ts → KeepsTrees (knows ts) (tree_at ts) (knows by) (tree_at by)
 keeps_same ts by e i h = (subst (λ us. IsTrue (knows us i)) (sym e) h, ap (λ us. tree_at us i) e)

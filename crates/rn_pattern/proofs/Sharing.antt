@@ -9,13 +9,14 @@ use Rattle.rn_pattern.specs.Tree as tree
 use Rattle.rn_pattern.specs.Tree.{Tree, Trees, list_of, trees_of}
 use Rattle.rn_pattern.specs.Order.{rank}
 use Rattle.rn_pattern.specs.Shown.{texts_in, parameters_in, names_in, members_in}
-use Rattle.rn_pattern.specs.Store.{node_view}
+use Rattle.rn_pattern.specs.Store.{AddsOnly, KeepsTrees, StandsFor, node_view}
 use Rattle.rn_pattern.specs.Nodes.{NamesBelow, NameEarlier, node_members, knows, tree_at, trees_of_nodes}
 use Rattle.rn_pattern.specs.Key.{key, key_decides, node_eq}
+use Rattle.rn_pattern.specs.declared.interned.Interned.{Interned}
 use Rattle.rn_pattern.specs.declared.node.Node.{Node}
 use Rattle.rn_pattern.specs.declared.node.NodeId.{NodeId}
 use Rattle.rn_pattern.proofs.Keeps.{list_of-trees_of}
-use Rattle.rn_pattern.proofs.NodeTrees.{length-trees_of_nodes, trees_of_nodes-at, names_below_at, knows_place}
+use Rattle.rn_pattern.proofs.NodeTrees.{length-trees_of_nodes, trees_of_nodes-at, names_below_at, knows_place, place_known}
 use Rattle.rn_pattern.proofs.ShownTrees.{shows_node}
 
 -- below i and j, equal trees have equal places
@@ -71,3 +72,30 @@ module _ (ns : List (Node NodeId)) (earlier : NameEarlier 0 ns) (unique : IsDist
       let a = knows_place (trees_of_nodes ns) p h in
       let b = knows_place (trees_of_nodes ns) q k in
       tells_below (length ns) (omega arith) p q (omega (arith, length-trees_of_nodes ns)) (omega (arith, length-trees_of_nodes ns)) e
+
+pub ids_tell : (s : Interned) (i j : NodeId) → IsTrue (knows (trees_of_nodes s.nodes.keys) i) → IsTrue (knows (trees_of_nodes s.nodes.keys) j) → tree_at (trees_of_nodes s.nodes.keys) i ≡ tree_at (trees_of_nodes s.nodes.keys) j → i ≡ j
+ids_tell s i j h k e = ap (λ n. record { 0 = n }) (places_tell s.nodes.keys s.earlier s.distinct Node.NotAllowed i j h k e)
+
+-- a store that keeps its ids and adds none has as many as before
+module _ (ts us : List Tree) (i : NodeId) (known : IsTrue (knows ts i)) where
+  not_behind : (p : NodeId) → p.0 ≡ length ts → IsTrue (knows ts p) ⊎ (p ≡ i) → ⊥
+  not_behind p h (inl k) = omega (arith, h, knows_place ts p k)
+  not_behind p h (inr e) = let f : p.0 ≡ i.0 = ap (λ (q : NodeId). q.0) e in omega (arith, h, f, knows_place ts i known)
+
+  pub size_stays : KeepsTrees (knows ts) (tree_at ts) (knows us) (tree_at us) → AddsOnly (knows ts) (knows us) i → length us ≡ length ts
+  size_stays kept adds =
+      let behind : NodeId = record { 0 = length ts } in
+      let first : NodeId = record { 0 = length us } in
+      let not_more : ¬ (length ts < length us) = λ l. not_behind behind refl (adds behind (place_known us behind l)) in
+      let not_less : ¬ (length us < length ts) = λ l. let b = knows_place us first (kept first (place_known ts first l)).0 in omega (arith, b) in
+      omega (arith, not_more, not_less)
+
+pub patterns_share : (old new : Interned) (t : Tree) (i answered : NodeId) → let ts = trees_of_nodes old.nodes.keys in let us = trees_of_nodes new.nodes.keys in
+    KeepsTrees (knows ts) (tree_at ts) (knows us) (tree_at us) → AddsOnly (knows ts) (knows us) answered → StandsFor (knows ts) (tree_at ts) t i → StandsFor (knows us) (tree_at us) t answered
+    → (answered ≡ i) × (length us ≡ length ts)
+patterns_share old new t i answered kept adds had has =
+    let ts = trees_of_nodes old.nodes.keys in
+    let us = trees_of_nodes new.nodes.keys in
+    let stays = kept i had.0 in
+    let e : answered ≡ i = ids_tell new answered i has.0 stays.0 (has.1 ∙ sym had.1 ∙ sym stays.1) in
+    (e, size_stays ts us i had.0 kept (subst (AddsOnly (knows ts) (knows us)) e adds))

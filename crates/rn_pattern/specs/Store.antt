@@ -1,5 +1,5 @@
 -- What the ids of a store of patterns stand for.
-use Rattle.std.specs.Prelude.{◌≡◌, ◌++◌, ◌∷◌, [], ℕ, ◌<◌, List, All, map, length, slice_index_or, nat_lt, Bool, IsTrue, Option, Some, None, String, string_bytes, Vec, ⊤}
+use Rattle.std.specs.Prelude.{◌≡◌, ◌≢◌, ◌↔◌, ◌⊎◌, AllPairs, Contains, ◌++◌, ◌∷◌, [], ℕ, ◌<◌, List, All, map, length, slice_index_or, nat_lt, Bool, IsTrue, Option, Some, None, String, string_bytes, Vec, ⊤}
 use Rattle.std.specs.declared.alloc.Global.{Global}
 use Rattle.rn_pattern.specs.Tree as tree
 use Rattle.rn_pattern.specs.Tree.{Text, Parameters, Tree, trees_of}
@@ -27,6 +27,14 @@ node_view at (Node.Choice is) = tree.choice (trees_of (map at is.items))
 -- each id of the old store is one of the new, and stands for the same tree
 abbrev pub KeepsTrees : {I : Type 0} → (I → Bool) → (I → Tree) → (I → Bool) → (I → Tree) → Type 0
 KeepsTrees {I} knows tree_of knows' tree_of' = (i : I) → IsTrue (knows i) → IsTrue (knows' i) × (tree_of' i ≡ tree_of i)
+
+-- an id of the new store is one of the old, or the answered one
+abbrev pub AddsOnly : {I : Type 0} → (I → Bool) → (I → Bool) → I → Type 0
+AddsOnly {I} knows knows' answered = (i : I) → IsTrue (knows' i) → IsTrue (knows i) ⊎ (i ≡ answered)
+
+-- the store has exactly this many ids
+abbrev pub HasCount : {I : Type 0} → (I → Bool) → ℕ → Type 0
+HasCount {I} knows n = (ids : List I) × (length ids ≡ n) × AllPairs (λ i j. i ≢ j) ids × ((i : I) → IsTrue (knows i) ↔ Contains ids i)
 
 -- the id is one of the store's, and stands for the tree
 abbrev pub StandsFor : {I : Type 0} → (I → Bool) → (I → Tree) → Tree → I → Type 0

@@ -1,5 +1,7 @@
 // The store Interned.
 ghost use Rattle.std.specs.Prelude.{◌≡◌, [], IsTrue, length};
+ghost use Rattle.std.specs.List.{IsDistinct, IsDistinct-prop};
+ghost use Rattle.rn_pattern.specs.Key.{node_eq};
 ghost use Rattle.rn_pattern.specs.declared.node.NodeId.{NodeId};
 ghost use Rattle.rn_pattern.specs.Nodes.{NameEarlier, NameEarlier-prop, knows, tree_at, trees_of_nodes};
 
@@ -15,6 +17,7 @@ pub struct Interned {
     alloc: Global,
     nodes: IndexSet<Node<NodeId>>,
     ghost earlier: { NameEarlier 0 nodes.keys } by { NameEarlier-prop 0 nodes.keys },
+    ghost distinct: { IsDistinct node_eq nodes.keys } by { IsDistinct-prop node_eq nodes.keys },
 }
 
 impl Interned {

@@ -1,5 +1,5 @@
 // Laws of canonical patterns: what they match, their shape and their order.
-ghost use Rattle.std.specs.Prelude.{◌≡◌, ◌↔◌, ℕ, ◌+◌, length, List, IfSome};
+ghost use Rattle.std.specs.Prelude.{◌≡◌, ◌↔◌, ℕ, ◌+◌, length, List, IfSome, IsTrue};
 ghost use Rattle.std.specs.Cmp.{IsTotalOrder};
 ghost use Rattle.std.specs.declared.cmp.Ordering.TheVariants.{Equal};
 ghost use Rattle.rn_pattern.specs.Tree.{Text, Parameters, NameTree, Tree, ref, datum_but, list, attribute, element, one_or_more, group, interleave, choice, trees_of};
@@ -13,6 +13,11 @@ ghost use Rattle.rn_pattern.specs.CanonicalShape.{IsCanonicalName, IsCanonicalPa
 ghost use Rattle.rn_pattern.specs.Excepts.{HasExcepts};
 ghost use Rattle.rn_pattern.specs.Opened.{opened};
 ghost use Rattle.rn_pattern.specs.Reached.{formed};
+ghost use Rattle.rn_pattern.specs.Store.{AddsOnly, KeepsTrees, StandsFor};
+
+use crate::interned::Interned;
+use crate::node::NodeId;
+use crate::patterns::Patterns;
 
 /// Each canonical step gives a pattern that matches exactly what the node over its parts matches, in every grammar, for
 /// every table of datatypes, at every depth of references (RELAX NG Specification, sections 4.20, 4.21 and 6.2).
@@ -72,4 +77,19 @@ pub fn canonical_patterns_keep_validity()
 /// or not.
 pub fn settling_ends()
     ensures { (G : Grammar) (k : ℕ) (x : Text) → settled_within (length G.definitions + k) G x ≡ settled_within (length G.definitions) G x }
+{}
+
+/// In an [`Interned`] store ids are equal exactly if their patterns are.
+pub fn interned_ids_are_patterns()
+    ensures { (s : Interned) (i j : NodeId) → let ids = ⟦<Interned as Patterns>⟧ in IsTrue (ids.knows s i) → IsTrue (ids.knows s j)
+        → (i ≡ j) ↔ (ids.tree_of s i ≡ ids.tree_of s j) }
+{}
+
+/// A call that keeps an [`Interned`] store's ids and adds none but the one that it answers, as each constructor does,
+/// answers the id that the pattern had before, if it had one, and then the number of ids stays.
+pub fn interned_patterns_are_shared()
+    ensures { (old new : Interned) (t : Tree) (i answered : NodeId) → let ids = ⟦<Interned as Patterns>⟧ in
+        KeepsTrees (ids.knows old) (ids.tree_of old) (ids.knows new) (ids.tree_of new) → AddsOnly (ids.knows old) (ids.knows new) answered
+        → StandsFor (ids.knows old) (ids.tree_of old) t i → StandsFor (ids.knows new) (ids.tree_of new) t answered
+        → (answered ≡ i) × (ids.size new ≡ ids.size old) }
 {}

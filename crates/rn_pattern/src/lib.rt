@@ -19,8 +19,6 @@ mod parts;
 pub mod patterns;
 pub mod plain;
 mod store;
-#[cfg(test)]
-mod tests;
 pub mod tree;
 
 pub use interned::Interned;

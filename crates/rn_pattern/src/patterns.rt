@@ -4,7 +4,7 @@ ghost use Rattle.std.specs.Option.{option_map};
 ghost use Rattle.rn_pattern.specs.Canonical.{attribute_step, canonical_name, choice_step, group_step, interleave_step, list_step, one_or_more_step};
 ghost use Rattle.rn_pattern.specs.Matching.{MatchAlike};
 ghost use Rattle.rn_pattern.specs.Nodes.{node_members};
-ghost use Rattle.rn_pattern.specs.Store.{KeepsTrees, StandsFor, datum_by, datum_step, node_view};
+ghost use Rattle.rn_pattern.specs.Store.{AddsOnly, HasCount, KeepsTrees, StandsFor, datum_by, datum_step, node_view};
 ghost use Rattle.rn_pattern.specs.Tree as tree;
 ghost use Rattle.rn_pattern.specs.Tree.{Tree, trees_of};
 ghost use Rattle.rn_pattern.specs.View.{name_class_view, parameters_view};
@@ -39,6 +39,7 @@ pub trait Patterns {
     fn not_allowed(&mut self) -> Result<Self::Id, AllocError>
         ensures made { IfOk result (StandsFor (knows self.new) (tree_of self.new) tree.not_allowed) }
         ensures kept { KeepsTrees (knows self.old) (tree_of self.old) (knows self.new) (tree_of self.new) }
+        ensures adds { IfOk result (AddsOnly (knows self.old) (knows self.new)) }
         ensures grows { size self.new ≤ size self.old + 1 }
         ensures refused { OnErr result (size self.new ≡ size self.old) };
 
@@ -46,6 +47,7 @@ pub trait Patterns {
     fn empty(&mut self) -> Result<Self::Id, AllocError>
         ensures made { IfOk result (StandsFor (knows self.new) (tree_of self.new) tree.empty) }
         ensures kept { KeepsTrees (knows self.old) (tree_of self.old) (knows self.new) (tree_of self.new) }
+        ensures adds { IfOk result (AddsOnly (knows self.old) (knows self.new)) }
         ensures grows { size self.new ≤ size self.old + 1 }
         ensures refused { OnErr result (size self.new ≡ size self.old) };
 
@@ -53,6 +55,7 @@ pub trait Patterns {
     fn text(&mut self) -> Result<Self::Id, AllocError>
         ensures made { IfOk result (StandsFor (knows self.new) (tree_of self.new) tree.text) }
         ensures kept { KeepsTrees (knows self.old) (tree_of self.old) (knows self.new) (tree_of self.new) }
+        ensures adds { IfOk result (AddsOnly (knows self.old) (knows self.new)) }
         ensures grows { size self.new ≤ size self.old + 1 }
         ensures refused { OnErr result (size self.new ≡ size self.old) };
 
@@ -60,6 +63,7 @@ pub trait Patterns {
     fn reference(&mut self, name: &str) -> Result<Self::Id, AllocError>
         ensures made { IfOk result (StandsFor (knows self.new) (tree_of self.new) (tree.ref name.now)) }
         ensures kept { KeepsTrees (knows self.old) (tree_of self.old) (knows self.new) (tree_of self.new) }
+        ensures adds { IfOk result (AddsOnly (knows self.old) (knows self.new)) }
         ensures grows { size self.new ≤ size self.old + 1 }
         ensures refused { OnErr result (size self.new ≡ size self.old) };
 
@@ -67,6 +71,7 @@ pub trait Patterns {
     fn value(&mut self, library: &str, type_name: &str, text: &str) -> Result<Self::Id, AllocError>
         ensures made { IfOk result (StandsFor (knows self.new) (tree_of self.new) (tree.value library.now type_name.now text.now)) }
         ensures kept { KeepsTrees (knows self.old) (tree_of self.old) (knows self.new) (tree_of self.new) }
+        ensures adds { IfOk result (AddsOnly (knows self.old) (knows self.new)) }
         ensures grows { size self.new ≤ size self.old + 1 }
         ensures refused { OnErr result (size self.new ≡ size self.old) };
 
@@ -82,6 +87,7 @@ pub trait Patterns {
         ensures made { IfOk result (StandsFor (knows self.new) (tree_of self.new) (datum_step library.now type_name.now (parameters_view params.now) (option_map (tree_of self.old) except))) }
         ensures means { IfOk result (λ i. MatchAlike (datum_by library.now type_name.now (parameters_view params.now) (option_map (tree_of self.old) except)) (tree_of self.new i)) }
         ensures kept { KeepsTrees (knows self.old) (tree_of self.old) (knows self.new) (tree_of self.new) }
+        ensures adds { IfOk result (AddsOnly (knows self.old) (knows self.new)) }
         ensures grows { size self.new ≤ size self.old + 1 }
         ensures refused { OnErr result (size self.new ≡ size self.old) };
 
@@ -91,6 +97,7 @@ pub trait Patterns {
         ensures made { IfOk result (StandsFor (knows self.new) (tree_of self.new) (list_step (tree_of self.old content))) }
         ensures means { IfOk result (λ i. MatchAlike (tree.list (tree_of self.old content)) (tree_of self.new i)) }
         ensures kept { KeepsTrees (knows self.old) (tree_of self.old) (knows self.new) (tree_of self.new) }
+        ensures adds { IfOk result (AddsOnly (knows self.old) (knows self.new)) }
         ensures grows { size self.new ≤ size self.old + 1 }
         ensures refused { OnErr result (size self.new ≡ size self.old) };
 
@@ -100,6 +107,7 @@ pub trait Patterns {
         ensures made { IfOk result (StandsFor (knows self.new) (tree_of self.new) (attribute_step (canonical_name (name_class_view nc.now)) (tree_of self.old content))) }
         ensures means { IfOk result (λ i. MatchAlike (tree.attribute (name_class_view nc.now) (tree_of self.old content)) (tree_of self.new i)) }
         ensures kept { KeepsTrees (knows self.old) (tree_of self.old) (knows self.new) (tree_of self.new) }
+        ensures adds { IfOk result (AddsOnly (knows self.old) (knows self.new)) }
         ensures grows { size self.new ≤ size self.old + 1 }
         ensures refused { OnErr result (size self.new ≡ size self.old) };
 
@@ -109,6 +117,7 @@ pub trait Patterns {
         ensures made { IfOk result (StandsFor (knows self.new) (tree_of self.new) (tree.element (canonical_name (name_class_view nc.now)) (tree_of self.old content))) }
         ensures means { IfOk result (λ i. MatchAlike (tree.element (name_class_view nc.now) (tree_of self.old content)) (tree_of self.new i)) }
         ensures kept { KeepsTrees (knows self.old) (tree_of self.old) (knows self.new) (tree_of self.new) }
+        ensures adds { IfOk result (AddsOnly (knows self.old) (knows self.new)) }
         ensures grows { size self.new ≤ size self.old + 1 }
         ensures refused { OnErr result (size self.new ≡ size self.old) };
 
@@ -119,6 +128,7 @@ pub trait Patterns {
         ensures made { IfOk result (StandsFor (knows self.new) (tree_of self.new) (choice_step (map (tree_of self.old) members.now))) }
         ensures means { IfOk result (λ i. MatchAlike (tree.choice (trees_of (map (tree_of self.old) members.now))) (tree_of self.new i)) }
         ensures kept { KeepsTrees (knows self.old) (tree_of self.old) (knows self.new) (tree_of self.new) }
+        ensures adds { IfOk result (AddsOnly (knows self.old) (knows self.new)) }
         ensures grows { size self.new ≤ size self.old + 1 }
         ensures refused { OnErr result (size self.new ≡ size self.old) };
 
@@ -129,6 +139,7 @@ pub trait Patterns {
         ensures made { IfOk result (StandsFor (knows self.new) (tree_of self.new) (group_step (map (tree_of self.old) members.now))) }
         ensures means { IfOk result (λ i. MatchAlike (tree.group (trees_of (map (tree_of self.old) members.now))) (tree_of self.new i)) }
         ensures kept { KeepsTrees (knows self.old) (tree_of self.old) (knows self.new) (tree_of self.new) }
+        ensures adds { IfOk result (AddsOnly (knows self.old) (knows self.new)) }
         ensures grows { size self.new ≤ size self.old + 1 }
         ensures refused { OnErr result (size self.new ≡ size self.old) };
 
@@ -138,6 +149,7 @@ pub trait Patterns {
         ensures made { IfOk result (StandsFor (knows self.new) (tree_of self.new) (interleave_step (map (tree_of self.old) members.now))) }
         ensures means { IfOk result (λ i. MatchAlike (tree.interleave (trees_of (map (tree_of self.old) members.now))) (tree_of self.new i)) }
         ensures kept { KeepsTrees (knows self.old) (tree_of self.old) (knows self.new) (tree_of self.new) }
+        ensures adds { IfOk result (AddsOnly (knows self.old) (knows self.new)) }
         ensures grows { size self.new ≤ size self.old + 1 }
         ensures refused { OnErr result (size self.new ≡ size self.old) };
 
@@ -147,8 +159,12 @@ pub trait Patterns {
         ensures made { IfOk result (StandsFor (knows self.new) (tree_of self.new) (one_or_more_step (tree_of self.old content))) }
         ensures means { IfOk result (λ i. MatchAlike (tree.one_or_more (tree_of self.old content)) (tree_of self.new i)) }
         ensures kept { KeepsTrees (knows self.old) (tree_of self.old) (knows self.new) (tree_of self.new) }
+        ensures adds { IfOk result (AddsOnly (knows self.old) (knows self.new)) }
         ensures grows { size self.new ≤ size self.old + 1 }
         ensures refused { OnErr result (size self.new ≡ size self.old) };
+
+    // The size is the number of the ids that the store knows.
+    ghost counted: { (s : Self) → HasCount (knows s) (size s) };
 
     // Equal ids stand for equal patterns, in every store of the type.
     ghost same: { (s : Self) (i j : Self.Id) → IsTrue (Self.Id.eq i j) → tree_of s i ≡ tree_of s j };

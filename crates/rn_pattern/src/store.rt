@@ -5,7 +5,8 @@ ghost use Rattle.rn_pattern.specs.Key.{tree_at-same};
 ghost use Rattle.rn_pattern.specs.Matching.{MatchAlike};
 ghost use Rattle.rn_pattern.specs.Nodes.{NamesBelow, knows, tree_at, trees_of_nodes};
 ghost use Rattle.rn_pattern.specs.Reduced.{IsReducedIn, reduced_tree};
-ghost use Rattle.rn_pattern.specs.Store.{KeepsTrees, StandsFor, datum_by, datum_step, node_view};
+ghost use Rattle.rn_pattern.specs.Store.{AddsOnly, KeepsTrees, StandsFor, datum_by, datum_step, node_view};
+ghost use Rattle.rn_pattern.specs.Count.{ids_counted};
 ghost use Rattle.rn_pattern.specs.Tree.{Tree};
 ghost use Rattle.rn_pattern.specs.View.{parameters_view};
 
@@ -33,6 +34,7 @@ pub trait NodeStore {
             (node_view (tree_at (trees self.old)) node)) }
         ensures kept { KeepsTrees (knows (trees self.old)) (tree_at (trees self.old))
             (knows (trees self.new)) (tree_at (trees self.new)) }
+        ensures adds { IfOk result (AddsOnly (knows (trees self.old)) (knows (trees self.new))) }
         ensures grows { length (trees self.new) ≤ length (trees self.old) + 1 }
         ensures refused { OnErr result (trees self.new ≡ trees self.old) };
 }
@@ -43,6 +45,7 @@ fn keep<S: NodeStore>(store: &mut S, pattern: Reduced) -> Result<NodeId, AllocEr
         (reduced_tree (S.trees store.old) pattern)) }
     ensures kept { KeepsTrees (knows (S.trees store.old)) (tree_at (S.trees store.old))
         (knows (S.trees store.new)) (tree_at (S.trees store.new)) }
+    ensures adds { IfOk result (AddsOnly (knows (S.trees store.old)) (knows (S.trees store.new))) }
     ensures grows { length (S.trees store.new) ≤ length (S.trees store.old) + 1 }
     ensures refused { OnErr result (S.trees store.new ≡ S.trees store.old) }
 {
@@ -103,6 +106,7 @@ impl<S: NodeStore> Patterns for S {
             (datum_by library.now type_name.now (parameters_view params.now) (option_map (tree_at (S.trees self.old)) except))
             (tree_at (S.trees self.new) i)) }
         ensures kept { KeepsTrees (knows (S.trees self.old)) (tree_at (S.trees self.old)) (knows (S.trees self.new)) (tree_at (S.trees self.new)) }
+        ensures adds { IfOk result (AddsOnly (knows (S.trees self.old)) (knows (S.trees self.new))) }
         ensures grows { length (S.trees self.new) ≤ length (S.trees self.old) + 1 }
         ensures refused { OnErr result (length (S.trees self.new) ≡ length (S.trees self.old)) }
     {
@@ -151,6 +155,8 @@ impl<S: NodeStore> Patterns for S {
         let pattern = canonical::one_or_more(&self.table(), content);
         keep(self, pattern)
     }
+
+    ghost counted = { λ s. ids_counted (S.trees s) };
 
     ghost same = { λ s i j h. tree_at-same (S.trees s) i j h };
 }

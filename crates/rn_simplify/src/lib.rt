@@ -17,8 +17,6 @@ mod rebuilt;
 mod references;
 mod settling;
 mod shapes;
-#[cfg(test)]
-mod tests;
 mod writer;
 
 pub use normal::Normal;

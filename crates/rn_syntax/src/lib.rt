@@ -17,8 +17,6 @@ mod places;
 pub mod reader;
 mod rules;
 mod terminals;
-#[cfg(test)]
-mod tests;
 pub mod token;
 pub mod tree;
 

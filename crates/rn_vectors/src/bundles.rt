@@ -79,6 +79,8 @@ fn damage_is_named(rt: HostRuntime) -> Result<(), Fail> {
         ("end 1\n", "end 1\n ", "bundle 0 Trailing"),
         ("rncset 1", "rncset 2", "bundle 0 Header 1"),
         ("end 1", "withdrawn t 8\nend 2", "bundle 0 Header 1"),
+        (" ba78", " ca78", "bundle 0 Digest 0"),
+        ("end 1\n", "end 1\n\n", "bundle 0 Trailing"),
     ];
     for (old, new, wanted) in rows {
         let text = changed(alloc, old, new)?;

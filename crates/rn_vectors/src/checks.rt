@@ -4,7 +4,7 @@ use std::alloc::Global;
 use std::test::Fail;
 
 /// A text, and `good` or the kind of its fault with its place in bytes.
-const ROWS: [(&str, &str); 45] = [
+const ROWS: [(&str, &str); 85] = [
     ("abc", "Syntax 3"),
     ("start = element a { , }", "Syntax 20"),
     ("", "good"),
@@ -62,6 +62,76 @@ const ROWS: [(&str, &str); 45] = [
     ("a = [ x:y = \"z\" ] b >> c [ \"d\" ] >> e:f [ ]", "good"),
     ("default namespace xml = \"u\"", "Prefix 18"),
     ("start = element a { p:b } namespace", "Syntax 26"),
+    (
+        "[ x ] grammar { div { } a |= text } >> note [ ] >> p:q [ [ ] ]",
+        "good",
+    ),
+    (
+        "start = element a { text | \"b\" ~ 'c' }, attribute * - (p | xml:* - x) { list { string+ } }",
+        "good",
+    ),
+    (
+        "a &= mixed { \\text }? >> b [ ], (token | xsd:ID { k = \"v\" [ ] default = 'w' } - (xsd:y | \"y\"))",
+        "good",
+    ),
+    (
+        "namespace x = \"u\" namespace sch = inherit default namespace = \"v\" sch:ns [ ] start = empty",
+        "good",
+    ),
+    (
+        "default namespace p = inherit include \"l\" inherit = p { div { x = text } start = notAllowed n [ ] }",
+        "good",
+    ),
+    ("a = xsd:QName namespace-2 [ ]", "good"),
+    ("a = string - \"no\", string - token \"no\"", "good"),
+    (
+        "datatypes d = \"\" datatypes xml = \"u\" a = d:string \"x\"",
+        "good",
+    ),
+    (
+        "datatypes xsd = \"http://www.w3.org/2001/XMLSchema-datatypes\" namespace xsd = 'u' start = xsd:x",
+        "good",
+    ),
+    (
+        "a = string - (string - \"x\" | notAllowed | token { })",
+        "good",
+    ),
+    ("p:q [ ] [ ] p:q [ ]", "Syntax 12"),
+    ("[ a ] x [", "Syntax 8"),
+    ("[ a ", "Syntax 3"),
+    ("[ a } start = text", "Syntax 4"),
+    ("a = string - \"no\"?", "Syntax 17"),
+    ("a = string - token - \"no\"", "Syntax 19"),
+    ("include \"l\" { include \"m\" }", "Syntax 14"),
+    ("[ ] grammar { } start = text", "Syntax 16"),
+    ("start = external \"x\"", "Syntax 8"),
+    ("default default", "Syntax 8"),
+    ("namespace = \"u\"", "Syntax 10"),
+    ("namespace a |= \"u\"", "Syntax 12"),
+    ("start = \"a\" ~", "Syntax 13"),
+    ("start = string { k = }", "Syntax 21"),
+    ("start = element * - * - a { text }", "Syntax 22"),
+    ("start text", "Syntax 6"),
+    ("div text", "Syntax 4"),
+    ("start = parent a", "Syntax 8"),
+    (
+        "default namespace = \"u\" default namespace xml = \"v\"",
+        "Prefix 24",
+    ),
+    ("default namespace xml = inherit", "Prefix 18"),
+    ("datatypes xsd = \"u\"", "Prefix 10"),
+    ("start = attribute (a | xmlns:b) { text }", "Prefix 23"),
+    ("start = attribute p:* - q:* { text }", "Prefix 18"),
+    ("include 'l' inherit = p { start = p:x }", "Prefix 22"),
+    ("a = token { k = \"v\" } b = xml:x", "Prefix 26"),
+    ("datatypes d = \"\" a = d:int \"x\"", "Builtin 21"),
+    ("a = xsd:QName \"x\" b = string { k = 'v' }", "Builtin 22"),
+    (
+        "div { a = string - (xsd:NOTATION \"x\") }",
+        "ContextValue 20",
+    ),
+    ("a = string - (token - (a) | 'x')", "Except 20"),
+    ("a = string - (\"x\", \"y\")", "Except 11"),
 ];
 
 /// The answer of a check, as rows write it.
@@ -114,7 +184,8 @@ fn place(fault: &Place) -> usize {
 #[test]
 fn fronts_are_good_or_have_a_place_within(rt: HostRuntime) -> Result<(), Fail> {
     let alloc = rt.alloc();
-    let texts: [&[u8]; 3] = [
+    let texts: [&[u8]; 4] = [
+        b"[ b ] include \"l\" inherit = p { } start = element r { attribute id { xsd:ID }?, (b & a)+ >> x [ ] } b = string - \"no\"",
         b"start = element r { attribute id { xsd:ID }?, (b & a)+ } a = element a { empty } b = element b { string - string \"no\" }",
         b"start = element r { \"\"\"a\"b\nc\"\"\" }",
         b"namespace s = \"u\" s:n [ p = \"q\" [ ] ] [ a ] x &= mixed { a* | b } >> s:y [ 'z' ]",

@@ -6,7 +6,17 @@ mod bundles;
 #[cfg(test)]
 mod checks;
 #[cfg(test)]
+mod combining;
+#[cfg(test)]
+mod contributions;
+#[cfg(test)]
+mod grammars;
+#[cfg(test)]
 mod large;
+#[cfg(test)]
+mod lines;
+#[cfg(test)]
+mod modules;
 #[cfg(test)]
 mod printing;
 #[cfg(test)]
@@ -14,4 +24,8 @@ mod refusals;
 #[cfg(test)]
 mod sets;
 #[cfg(test)]
+mod stores;
+#[cfg(test)]
 mod streams;
+#[cfg(test)]
+mod tokens;

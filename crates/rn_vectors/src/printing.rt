@@ -1,53 +1,8 @@
-// Sets that print a schema. Each printed schema, merged alone, is printed again.
+// Single modules that print a schema. Each printed schema, merged alone, is printed again.
 use crate::sets::{Row, each_answers, each_prints_in_both_stores, each_prints_itself_again};
 use std::test::Fail;
 
-const ROWS: [Row; 58] = [
-    Row {
-        set: &[
-            ("a", 1, Some("start = doc doc |= element b { text }")),
-            ("b", 1, Some("doc |= element a { empty }")),
-        ],
-        answer: "start = doc\ndoc = element a { empty } | element b { text }\n",
-    },
-    Row {
-        set: &[
-            (
-                "a",
-                1,
-                Some("start = element r { x } x &= element a { empty }"),
-            ),
-            ("b", 1, Some("x &= element a { empty }")),
-        ],
-        answer: "start = element r { x }\nx = element a { empty } & element a { empty }\n",
-    },
-    Row {
-        set: &[
-            ("a", 1, Some("start = text")),
-            ("a", 1, Some("start =  text")),
-            ("a", 2, Some("start = empty")),
-        ],
-        answer: "start = empty\n",
-    },
-    Row {
-        set: &[
-            ("a", 1, Some("start = text")),
-            ("a", 1, Some("start =  text")),
-            ("a", 2, Some("start = element a { empty }")),
-        ],
-        answer: "start = element a { empty }\n",
-    },
-    Row {
-        set: &[
-            (
-                "main",
-                1,
-                Some("include \"lib\" include \"lib\" start = element r { y }"),
-            ),
-            ("lib", 1, Some("y |= text")),
-        ],
-        answer: "start = element r { y }\ny = text\n",
-    },
+const ROWS: [Row; 46] = [
     Row {
         set: &[("a", 1, Some("start = element r { \"\\\" ~ \"x{41}\" }"))],
         answer: "start = element r { \"\\\" ~ \"x{41}\" }\n",
@@ -77,17 +32,6 @@ const ROWS: [Row; 58] = [
         answer: "start = text\n",
     },
     Row {
-        set: &[
-            (
-                "main",
-                1,
-                Some("default namespace = \"u\" include \"lib\" start = p"),
-            ),
-            ("lib", 1, Some("p = element p { empty }")),
-        ],
-        answer: "namespace n1 = \"u\"\nstart = p\np = element n1:p { empty }\n",
-    },
-    Row {
         set: &[(
             "a",
             1,
@@ -96,21 +40,6 @@ const ROWS: [Row; 58] = [
             ),
         )],
         answer: "start = element a { empty }\n",
-    },
-    Row {
-        set: &[
-            (
-                "main",
-                1,
-                Some("include \"lib\" { start = element r { y } y = text }"),
-            ),
-            (
-                "lib",
-                1,
-                Some("start = text y |= element a { empty } y |= element b { empty }"),
-            ),
-        ],
-        answer: "start = element r { y }\ny = text\n",
     },
     Row {
         set: &[(
@@ -154,6 +83,16 @@ const ROWS: [Row; 58] = [
         set: &[(
             "a",
             1,
+            Some(
+                "namespace e = \"\" namespace v = \"v\" namespace u = \"u\" datatypes l = \"http://e/lib\" start = element r { element v:y { empty }, element u:x { empty }, attribute e:* { l:t { k = \"v\" list = \"\" } } }",
+            ),
+        )],
+        answer: "namespace n0 = \"\"\nnamespace n1 = \"u\"\nnamespace n2 = \"v\"\ndatatypes d1 = \"http://e/lib\"\nstart = element r { element n2:y { empty }, element n1:x { empty }, attribute n0:* { d1:t { k = \"v\" list = \"\" } } }\n",
+    },
+    Row {
+        set: &[(
+            "a",
+            1,
             Some("start = empty | b | c b = element b { empty } c = element c { empty }"),
         )],
         answer: "start = (b | c)?\nb = element b { empty }\nc = element c { empty }\n",
@@ -169,14 +108,6 @@ const ROWS: [Row; 58] = [
             Some("x = a | b x |= a a = element a { empty } b = element b { empty } start = x"),
         )],
         answer: "start = x\na = element a { empty }\nb = element b { empty }\nx = a | b\n",
-    },
-    Row {
-        set: &[
-            ("b", 1, Some("x |= element b { text }")),
-            ("a", 1, Some("x |= element a { text } start = x")),
-            ("c", 1, Some("x |= element b { text }")),
-        ],
-        answer: "start = x\nx = element a { text } | element b { text }\n",
     },
     Row {
         set: &[(
@@ -243,31 +174,6 @@ const ROWS: [Row; 58] = [
         answer: "start = element r { empty }\n",
     },
     Row {
-        set: &[
-            (
-                "main",
-                1,
-                Some("include \"l1\" { x = text } start = element r { x }"),
-            ),
-            ("l1", 1, Some("include \"l2\" x |= empty")),
-            ("l2", 1, Some("x |= element q { empty }")),
-        ],
-        answer: "start = element r { x }\nx = text\n",
-    },
-    Row {
-        set: &[
-            (
-                "main",
-                1,
-                Some(
-                    "default namespace = \"u\" namespace v = \"w\" include \"lib\" inherit = v start = p",
-                ),
-            ),
-            ("lib", 1, Some("p = element p { empty }")),
-        ],
-        answer: "namespace n1 = \"w\"\nstart = p\np = element n1:p { empty }\n",
-    },
-    Row {
         set: &[(
             "a",
             1,
@@ -298,18 +204,6 @@ const ROWS: [Row; 58] = [
     Row {
         set: &[("a", 1, Some("start = a a = list { b } b = notAllowed"))],
         answer: "start = notAllowed\n",
-    },
-    Row {
-        set: &[
-            ("a", 1, Some("start = text x = text")),
-            ("b", 1, Some("x = empty")),
-            ("b", 2, None),
-        ],
-        answer: "start = text\n",
-    },
-    Row {
-        set: &[("a", 2, None), ("a", 3, Some("start = text"))],
-        answer: "start = text\n",
     },
     Row {
         set: &[(
@@ -478,17 +372,6 @@ const ROWS: [Row; 58] = [
         answer: "start = text\n",
     },
     Row {
-        set: &[
-            (
-                "main",
-                1,
-                Some("include \"lib\" { div { start |= b } } b = element b { empty }"),
-            ),
-            ("lib", 1, Some("start |= text start |= empty")),
-        ],
-        answer: "start = b\nb = element b { empty }\n",
-    },
-    Row {
         set: &[(
             "a",
             1,
@@ -499,7 +382,7 @@ const ROWS: [Row; 58] = [
 ];
 
 #[test]
-fn sets_print_their_schemas(rt: HostRuntime) -> Result<(), Fail> {
+fn modules_print_their_schemas(rt: HostRuntime) -> Result<(), Fail> {
     each_answers(&rt, &ROWS)
 }
 

@@ -1,7 +1,7 @@
 -- One more node behind the others.
 use Rattle.std.proofs.Common.{ap, ◌∙◌, arith, is_ok}
 use Rattle.rn_pattern.specs.Nodes.{trees_of_nodes}
-use Rattle.rn_pattern.proofs.NodeTrees.{length-trees_of_nodes, trees_of_nodes-push, NameEarlier-pushed, stands_at_end, keeps_pushed, grows_pushed}
+use Rattle.rn_pattern.proofs.NodeTrees.{length-trees_of_nodes, trees_of_nodes-push, NameEarlier-pushed, stands_at_end, adds_at_end, keeps_pushed, grows_pushed}
 use Rattle.rn_pattern.proofs.plain.PlainNodeStore.add.Goals as goal
 
 pub invariant_of-self : goal.invariant_of-self
@@ -18,3 +18,8 @@ returns-clause-kept c = keeps_pushed (is_ok c.push.result) c.args.self.now.nodes
 
 pub returns-clause-grows : goal.returns-clause-grows
 returns-clause-grows c = grows_pushed (is_ok c.push.result) c.args.self.now.nodes.items c.push.new.self.items c.args.node c.push.ensures.items
+
+pub returns-clause-adds : goal.returns-clause-adds
+returns-clause-adds c =
+    let ns = c.args.self.now.nodes.items in
+    adds_at_end (trees_of_nodes ns) (trees_of_nodes c.push.new.self.items) _ _ (omega (arith, c.len.ensures, length-trees_of_nodes ns, c.args.self.now.nodes.ok.0)) (ap trees_of_nodes c.in_ok-push.ensures.items ∙ trees_of_nodes-push ns c.args.node)

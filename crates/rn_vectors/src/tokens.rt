@@ -1,5 +1,5 @@
 // Tokens and literals by example, characters at the ends of their ranges, and long sources.
-use crate::{Kind, TextFault, Token, is_keyword, is_ncname, literal, tokens, write_literal};
+use rn_text::{Kind, TextFault, Token, is_keyword, is_ncname, literal, tokens, write_literal};
 use std::alloc::Global;
 use std::test::Fail;
 

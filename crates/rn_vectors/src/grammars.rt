@@ -1,7 +1,5 @@
 // Sets and what they give: each set is written with its modules parted by lines of their names.
-use crate::assembly::assemble;
-use crate::grammar::Grammar;
-use crate::refusal::{Key, Refusal};
+use rn_assemble::{Grammar, Key, Refusal, assemble};
 use rn_modset::{Contribution, ModuleSet};
 use rn_pattern::{NameClass, Pattern};
 use std::alloc::{AllocError, Global};

@@ -1,9 +1,9 @@
 // Words, lines, sources and sinks.
-use crate::{
+use rn_assemble::{Key, Refusal};
+use rn_merge::{
     Failed, Input, Job, Output, Place, ProgramFault, ReadFault, Sink, Source, fault_line,
     list_line, plan, read_input, refusal_line, status, write_output,
 };
-use rn_assemble::{Key, Refusal};
 use rn_modset::{AddFault, BundleFault, Contribution};
 use std::alloc::Global;
 use std::test::Fail;

@@ -1,5 +1,5 @@
 // The canonical form of each constructor by rows, and the order.
-use crate::{Interned, NameClass, Pattern, Patterns, Plain};
+use rn_pattern::{Interned, NameClass, Pattern, Patterns, Plain};
 use std::alloc::{AllocError, Global};
 use std::test::Fail;
 

@@ -1,0 +1,5 @@
+use Rattle.rn_modset.proofs.OneFault.{longest}
+use Rattle.rn_modset.proofs.laws.faults_stand_behind_the_longest_front.Goals as goal
+
+pub returns : goal.returns
+returns c = longest

@@ -1,0 +1,106 @@
+// What a text's module is: brackets, and the literals of its includes.
+use rn_syntax::{Item, SyntaxFault, includes, parse};
+use std::alloc::Global;
+use std::borrow::CowStr;
+use std::test::Fail;
+
+/// The fault of a text whose tokens are good.
+fn fault(alloc: Global, text: &str) -> Result<Option<SyntaxFault>, Fail> {
+    let tokens = rn_text::tokens(alloc, text.as_bytes())?;
+    match parse(alloc, tokens.as_slice()) {
+        Ok(_) => Ok(None),
+        Err(fault) => Ok(Some(fault)),
+    }
+}
+
+/// A text that opens this many brackets and closes them.
+fn nested(
+    alloc: Global,
+    front: &str,
+    open: &str,
+    inner: &str,
+    close: &str,
+    count: usize,
+) -> Result<String, Fail> {
+    let mut text = String::from_str(alloc, front)?;
+    for _ in 0..count {
+        text.push_str(open)?;
+    }
+    text.push_str(inner)?;
+    for _ in 0..count {
+        text.push_str(close)?;
+    }
+    Ok(text)
+}
+
+#[test]
+fn deep_brackets(rt: HostRuntime) -> Result<(), Fail> {
+    for (front, open, inner, close, at) in [
+        ("start = ", "(", "text", ")", 264),
+        ("start = ", "list {", "text", "}", 8 + 256 * 6 + 5),
+        ("", "div {", "", "}", 256 * 5 + 4),
+        ("a ", "[", "", "]", 258),
+        ("start = ", "(", "", "", 264),
+    ] {
+        let good = nested(rt.alloc(), front, open, inner, close, 256)?;
+        let deep = nested(rt.alloc(), front, open, inner, close, 257)?;
+        assert_eq!(rt;
+            fault(rt.alloc(), deep.as_str())?,
+            Some(SyntaxFault::Deep { at }),
+            "{front}"
+        );
+        match fault(rt.alloc(), good.as_str())? {
+            None => {}
+            Some(fault) => assert_eq!(rt; fault, SyntaxFault::Syntax { at: good.len() }),
+        }
+    }
+    Ok(())
+}
+
+#[test]
+fn include_literals(rt: HostRuntime) -> Result<(), Fail> {
+    let text =
+        "include 'a' { } div { include \"b\" ~ 'c' div { include \"l\\x{69}b\" } } include \"\\x\"";
+    let tokens = rn_text::tokens(rt.alloc(), text.as_bytes())?;
+    let module = parse(rt.alloc(), tokens.as_slice())?;
+    let found = includes(rt.alloc(), &module)?;
+    assert_eq!(rt; found.as_slice(), ["a", "bc", "lib", "\\x"].as_slice());
+    Ok(())
+}
+
+/// Whether the literal of the only include of a text is a slice of it.
+fn is_borrowed(alloc: Global, text: &str) -> Result<Option<bool>, Fail> {
+    let tokens = rn_text::tokens(alloc, text.as_bytes())?;
+    let module = parse(alloc, tokens.as_slice())?;
+    match module.items.as_slice() {
+        [
+            Item::Include {
+                wanted: CowStr::Borrowed(_),
+                ..
+            },
+        ] => Ok(Some(true)),
+        [
+            Item::Include {
+                wanted: CowStr::Owned(_),
+                ..
+            },
+        ] => Ok(Some(false)),
+        _ => Ok(None),
+    }
+}
+
+#[test]
+fn borrowed_literals(rt: HostRuntime) -> Result<(), Fail> {
+    for (text, wanted) in [
+        ("include \"lib\"", true),
+        ("include '''l\"'b\n'''", true),
+        ("include \"\\x41\"", true),
+        ("include \"\"", true),
+        ("include \"l\" ~ \"ib\"", false),
+        ("include \"l\\x{69}b\"", false),
+        ("include '''a\r'''", false),
+    ] {
+        assert_eq!(rt; is_borrowed(rt.alloc(), text)?, Some(wanted), "{text}");
+    }
+    Ok(())
+}
