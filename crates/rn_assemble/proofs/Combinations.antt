@@ -8,17 +8,12 @@ use Rattle.std.proofs.lemmas.List.Sorted.{length_permutation}
 use Rattle.rn_pattern.specs.Tree.{Text, Tree, Trees, interleave, choice, no_trees, more_trees, trees_of}
 use Rattle.rn_pattern.specs.Document.{Attribute, Item}
 use Rattle.rn_pattern.specs.Datatype.{Table}
-use Rattle.rn_pattern.specs.Order.{tree_cmp}
-use Rattle.rn_pattern.specs.Canonical.{sorted, sorted_once}
 use Rattle.rn_pattern.specs.Matching.{Matches, Grammar, definition_of, MatchesWithin, IsValid, Meaning}
 use Rattle.rn_assemble.specs.Components.{Key, start_key, name_key, Component, same_key}
 use Rattle.rn_assemble.specs.Combine.{of_key, bodies, combined, PairedUp, alone, paired, Combines, IsCombination, join, joined, first_of, defined_names, joined_grammar}
-use Rattle.rn_pattern.proofs.Orders.{tree_same}
-use Rattle.rn_pattern.proofs.TotalOrder.{tree_cmp_total}
-use Rattle.rn_pattern.proofs.Sorting.{sorted_permutation, sorted_once_permutation}
-use Rattle.rn_pattern.proofs.Products.{product_apart, product_join, product_one, product_sorted, product_unsorted}
-use Rattle.rn_pattern.proofs.Compositions.{Content, nothing, Mixed, mixed, mixed_swap, Matching, interleave_product, product_interleave}
-use Rattle.rn_pattern.proofs.Keeps.{list_of-trees_of, SomeOf, some_of_trees, trees_of_some, some_left, some_right, some_either, some_sorted, some_unsorted}
+use Rattle.rn_pattern.proofs.Compositions.{Content, Matching}
+use Rattle.rn_pattern.proofs.Pairings.{paired_choice, paired_interleave, some_permuted, side_permuted}
+use Rattle.rn_pattern.proofs.Keeps.{list_of-trees_of, SomeOf, some_of_trees, trees_of_some}
 use Rattle.rn_pattern.proofs.Alike.{Alike, refers_alike, alike_then}
 use Rattle.std.specs.List.{list_any}
 use Rattle.rn_pattern.proofs.OpenedKeeps.{one_or_choice, one_or_interleave, Side}
@@ -76,32 +71,8 @@ joined_definition cs x =
     lookup_name x (λ y. joined cs (name_key y)) (defined_names cs) ∙ ap (λ b. cond b (Some (joined cs (name_key x))) None) (named x cs) ∙ some_at (combined (name_key x) cs) (bodies (name_key x) cs)
 
 module _ (T : Table) (μ : Meaning) where
-  paired_choice : (ps : List Tree) (p : Tree) → PairedUp choice ps p → (a : List Attribute) (m : List Item) → Matches T μ a m p ↔ SomeOf T μ a m ps
-  paired_choice ps p alone a m = (λ h. inl h, λ h. ⊎_elim (λ x. x) (λ y. absurd y) h)
-  paired_choice ts t (paired {ps = ps} {qs = qs} {p = p} {q = q} v w) a m = (
-    ⊎_elim (λ h. some_left T μ a m ps qs ((paired_choice ps p v a m).0 h)) (⊎_elim (λ h. some_right T μ a m ps qs ((paired_choice qs q w a m).0 h)) (λ h. absurd h)),
-    λ h. ⊎_elim (λ l. inl ((paired_choice ps p v a m).1 l)) (λ r. inr (inl ((paired_choice qs q w a m).1 r))) (some_either T μ a m ps qs h),
-  )
-
   abbrev M : Tree → Content → Type 0
   M = Matching T μ
-
-  two_interleaved : (ps qs : List Tree) (p q : Tree) (s : Content) → ((t : Content) → M p t ↔ Side T μ ps t) → ((t : Content) → M q t ↔ Side T μ qs t) → M (interleave (more_trees p (more_trees q no_trees))) s ↔ Side T μ (ps ++ qs) s
-  two_interleaved ps qs p q s e f = (into, back)
-    where
-      into : M (interleave (more_trees p (more_trees q no_trees))) s → Side T μ (ps ++ qs) s
-      into h =
-          let (first, rest, c, here, more) = interleave_product T μ (more_trees p (more_trees q no_trees)) s h in
-          product_join Mixed nothing mixed M ps qs s first rest c ((e first).0 here) ((f rest).0 ((product_one Mixed nothing mixed M q rest).1 more))
-
-      back : Side T μ (ps ++ qs) s → M (interleave (more_trees p (more_trees q no_trees))) s
-      back h =
-          let (u, r, c, before, behind) = product_apart Mixed nothing mixed M ps qs s h in
-          product_interleave T μ (more_trees p (more_trees q no_trees)) s (u, r, c, (e u).1 before, (product_one Mixed nothing mixed M q r).0 ((f r).1 behind))
-
-  paired_interleave : (ps : List Tree) (p : Tree) → PairedUp interleave ps p → (s : Content) → M p s ↔ Side T μ ps s
-  paired_interleave ps p alone s = product_one Mixed nothing mixed M p s
-  paired_interleave ts t (paired {ps = ps} {qs = qs} {p = p} {q = q} v w) s = two_interleaved ps qs p q s (paired_interleave ps p v) (paired_interleave qs q w)
 
   join_choice : (ps : List Tree) (a : List Attribute) (m : List Item) → Matches T μ a m (join choice ps) ↔ SomeOf T μ a m ps
   join_choice ps a m = (
@@ -115,28 +86,14 @@ module _ (T : Table) (μ : Meaning) where
     λ h. (one_or_interleave T μ (trees_of ps) s).1 (subst (λ (x : List Tree). Side T μ x s) (sym (list_of-trees_of ps)) h),
   )
 
-  some_permuted : (ps qs : List Tree) (a : List Attribute) (m : List Item) → IsPermutation ps qs → SomeOf T μ a m ps ↔ SomeOf T μ a m qs
-  some_permuted ps qs a m p =
-      let e : sorted_once tree_cmp ps ≡ sorted_once tree_cmp qs = sorted_once_permutation tree_cmp tree_cmp_total tree_same ps qs p in (
-        λ h. some_unsorted T μ a m qs (subst (λ (x : List Tree). SomeOf T μ a m x) e (some_sorted T μ a m ps h)),
-        λ h. some_unsorted T μ a m ps (subst (λ (x : List Tree). SomeOf T μ a m x) (sym e) (some_sorted T μ a m qs h)),
-      )
-
-  side_permuted : (ps qs : List Tree) (s : Content) → IsPermutation ps qs → Side T μ ps s ↔ Side T μ qs s
-  side_permuted ps qs s p =
-      let e : sorted tree_cmp ps ≡ sorted tree_cmp qs = sorted_permutation tree_cmp tree_cmp_total tree_same ps qs p in (
-        λ h. product_unsorted Mixed nothing mixed mixed_swap M tree_cmp qs s (subst (λ (x : List Tree). Side T μ x s) e (product_sorted Mixed nothing mixed mixed_swap M tree_cmp ps s h)),
-        λ h. product_unsorted Mixed nothing mixed mixed_swap M tree_cmp ps s (subst (λ (x : List Tree). Side T μ x s) (sym e) (product_sorted Mixed nothing mixed mixed_swap M tree_cmp qs s h)),
-      )
-
   combined_at : (b : Bool) (ps qs : List Tree) (p : Tree) → IsPermutation ps qs → PairedUp (λ ts. cond b (interleave ts) (choice ts)) ps p → Alike T μ μ p (join (λ ts. cond b (interleave ts) (choice ts)) qs)
   combined_at true ps qs p e v a m = (
-    λ h. (join_interleave qs (a, m)).1 ((side_permuted ps qs (a, m) e).0 ((paired_interleave ps p v (a, m)).0 h)),
-    λ h. (paired_interleave ps p v (a, m)).1 ((side_permuted ps qs (a, m) e).1 ((join_interleave qs (a, m)).0 h)),
+    λ h. (join_interleave qs (a, m)).1 ((side_permuted T μ ps qs (a, m) e).0 ((paired_interleave T μ ps p v (a, m)).0 h)),
+    λ h. (paired_interleave T μ ps p v (a, m)).1 ((side_permuted T μ ps qs (a, m) e).1 ((join_interleave qs (a, m)).0 h)),
   )
   combined_at false ps qs p e v a m = (
-    λ h. (join_choice qs a m).1 ((some_permuted ps qs a m e).0 ((paired_choice ps p v a m).0 h)),
-    λ h. (paired_choice ps p v a m).1 ((some_permuted ps qs a m e).1 ((join_choice qs a m).0 h)),
+    λ h. (join_choice qs a m).1 ((some_permuted T μ ps qs a m e).0 ((paired_choice T μ ps p v a m).0 h)),
+    λ h. (paired_choice T μ ps p v a m).1 ((some_permuted T μ ps qs a m e).1 ((join_choice qs a m).0 h)),
   )
 
   -- what combines the components of a key matches what the joined node does

@@ -6,6 +6,7 @@ pub mod OpenedKeeps
 pub mod Weaving
 pub mod Products
 pub mod Splits
+pub mod Pairings
 pub mod Compositions
 pub mod Orders
 pub mod Keeps
@@ -15,6 +16,8 @@ pub mod Ascending
 pub mod Sorting
 pub mod CanonicalKeeps
 pub mod Validity
+pub mod Pruned
+pub mod Replacing
 pub mod Alike
 pub mod CanonicalForm
 pub mod Settled

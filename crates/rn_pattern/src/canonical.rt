@@ -18,13 +18,15 @@ use crate::tree::NameClass;
 use std::alloc::{AllocError, Global};
 use std::cmp::Ordering;
 
-// A pattern in canonical form: one that the store has, or a node to be stored.
+/// A pattern in canonical form: one that the store has, or a node over its ids that is to be stored.
 #[derive(Drop)]
 pub enum Reduced {
     Stored(NodeId),
     New(Node<NodeId>),
 }
 
+/// A datatype with its parameters in their order, without an except that is `notAllowed` (4.20). Nothing is refused but
+/// for want of memory; so with all the steps.
 pub fn datum(
     nodes: &NodeTable<'_>,
     alloc: Global,
@@ -44,7 +46,7 @@ pub fn datum(
     Ok(Reduced::New(Node::Datum(library, type_name, params, excepted(nodes, except))))
 }
 
-// The except, if it isn't notAllowed.
+/// The except, if it isn't `notAllowed`.
 fn excepted(nodes: &NodeTable<'_>, except: Option<NodeId>) -> Option<NodeId>
     requires { IfSome except (λ i. IsTrue (knows (trees nodes.now) i)) }
     ensures tree { (library type : Text) (params : Parameters)
@@ -64,6 +66,7 @@ fn excepted(nodes: &NodeTable<'_>, except: Option<NodeId>) -> Option<NodeId>
     }
 }
 
+/// A list of the content; `notAllowed` where the content is (4.20).
 pub fn list(nodes: &NodeTable<'_>, content: NodeId) -> Reduced
     requires { IsTrue (knows (trees nodes.now) content) }
     ensures tree { reduced_tree (trees nodes.now) result ≡ list_step (tree_at (trees nodes.now) content) }
@@ -76,6 +79,7 @@ pub fn list(nodes: &NodeTable<'_>, content: NodeId) -> Reduced
     }
 }
 
+/// An attribute, its name class in canonical form; `notAllowed` where the content is (4.20).
 pub fn attribute(
     nodes: &NodeTable<'_>,
     alloc: Global,
@@ -94,6 +98,7 @@ pub fn attribute(
     }
 }
 
+/// A repetition; `notAllowed` (4.20), `empty` (4.21) and a repetition stay what they are.
 pub fn one_or_more(nodes: &NodeTable<'_>, content: NodeId) -> Reduced
     requires { IsTrue (knows (trees nodes.now) content) }
     ensures tree { reduced_tree (trees nodes.now) result ≡ one_or_more_step (tree_at (trees nodes.now) content) }
@@ -107,6 +112,8 @@ pub fn one_or_more(nodes: &NodeTable<'_>, content: NodeId) -> Reduced
     }
 }
 
+/// A choice: choices among the members opened, `notAllowed` left out (4.20), in order, each pattern once. No member left is
+/// `notAllowed`, one is itself. The members are ids, in any order and with repeats.
 pub fn choice(
     nodes: &NodeTable<'_>,
     alloc: Global,
@@ -122,6 +129,8 @@ pub fn choice(
     Ok(listed(Connector::Choice, members))
 }
 
+/// A group: `notAllowed` where a member is (4.20); else groups among the members opened, `empty` left out (4.21), the order
+/// kept. No member left is `empty`, one is itself.
 pub fn group(
     nodes: &NodeTable<'_>,
     alloc: Global,
@@ -139,6 +148,8 @@ pub fn group(
     Ok(listed(Connector::Group, members))
 }
 
+/// An interleave: `notAllowed` where a member is (4.20); else interleaves among the members opened, `empty` left out (4.21),
+/// in order, repeats kept. No member left is `empty`, one is itself.
 pub fn interleave(
     nodes: &NodeTable<'_>,
     alloc: Global,
@@ -157,6 +168,7 @@ pub fn interleave(
     Ok(listed(Connector::Interleave, members))
 }
 
+/// Whether a member is `notAllowed`.
 fn has_not_allowed(nodes: &NodeTable<'_>, members: &[NodeId]) -> bool
     ensures { result ≡ has_not_allowed (map (tree_at (trees nodes.now)) members.now) }
 {
@@ -168,7 +180,7 @@ fn has_not_allowed(nodes: &NodeTable<'_>, members: &[NodeId]) -> bool
     false
 }
 
-// The members of a list of the parts, with those of the lists of its kind among them.
+/// The members of a list of the parts, with those of the lists of its kind among them. Each id is copied once.
 fn opened(
     nodes: &NodeTable<'_>,
     alloc: Global,
@@ -190,7 +202,7 @@ fn opened(
     Ok(members)
 }
 
-// The members in order.
+/// The members in order, repeats kept, by as many comparisons as a merge sort makes. Equal ids are equal at once.
 fn sorted(nodes: &NodeTable<'_>, mut members: Vec<NodeId>) -> Result<Vec<NodeId>, AllocError>
     requires { All (λ i. IsTrue (knows (trees nodes.now) i)) members.items }
     ensures sorted { IfOk result (λ v. map (tree_at (trees nodes.now)) v.items
@@ -201,7 +213,7 @@ fn sorted(nodes: &NodeTable<'_>, mut members: Vec<NodeId>) -> Result<Vec<NodeId>
     Ok(members)
 }
 
-// The ids, each once.
+/// The ids, each once, in the order of their places.
 fn distinct(mut ids: Vec<NodeId>) -> Vec<NodeId>
     ensures sorted { (at : NodeId → Tree)
         → sorted_once tree_cmp (map at result.items) ≡ sorted_once tree_cmp (map at ids.items) }
@@ -212,7 +224,7 @@ fn distinct(mut ids: Vec<NodeId>) -> Vec<NodeId>
     ids
 }
 
-// The members in order, without repeats. Equal ids go before any patterns are compared.
+/// The members in order, without repeats. Equal ids go before any patterns are compared.
 fn sorted_once(nodes: &NodeTable<'_>, members: Vec<NodeId>) -> Result<Vec<NodeId>, AllocError>
     requires { All (λ i. IsTrue (knows (trees nodes.now) i)) members.items }
     ensures sorted { IfOk result (λ v. map (tree_at (trees nodes.now)) v.items
@@ -225,7 +237,7 @@ fn sorted_once(nodes: &NodeTable<'_>, members: Vec<NodeId>) -> Result<Vec<NodeId
     Ok(members)
 }
 
-// A list of the members; the member itself if there is one.
+/// A list of the members; the member itself if there is one, and what an empty list stands for if there is none.
 fn listed(connector: Connector, members: Vec<NodeId>) -> Reduced
     ensures tree { (ts : List Tree) → reduced_tree ts result ≡ listed connector (map (tree_at ts) members.items) }
     ensures stored { (ts : List Tree) → All (λ i. IsTrue (knows ts i)) members.items → IsReducedIn ts result }

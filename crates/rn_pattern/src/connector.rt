@@ -9,16 +9,20 @@ ghost use Rattle.rn_pattern.specs.declared.node.NodeId.{NodeId};
 
 use crate::node::{Node, NodeId};
 
+/// What connects the members of a list (4.12).
 #[derive(Clone, Copy)]
 pub enum Connector {
+    /// One of the members matches.
     Choice,
+    /// The members match one behind the other.
     Group,
+    /// The members match parts that are interleaved.
     Interleave,
 }
 
 impl Connector {
-    // The members that stand for the node in a list of this kind, if it doesn't stand for itself: those of a list of
-    // the same kind; none of the pattern that such a list without members is.
+    /// The members that stand for the node in a list of this kind, if it doesn't stand for itself: those of a list of
+    /// the same kind; none of the pattern that such a list without members is (4.20, 4.21).
     pub fn members_of(self, node: &Node<NodeId>) -> Option<&[NodeId]>
         ensures tree { (at : NodeId → Tree) → MatchOption result
             (members_by self (node_view at node.now) ≡ node_view at node.now ∷ [])
@@ -44,7 +48,7 @@ impl Connector {
         }
     }
 
-    // A list without members: notAllowed or empty.
+    /// A list without members: `notAllowed` for a choice, `empty` for a group and an interleave.
     pub fn neutral(self) -> Node<NodeId>
         ensures tree { (at : NodeId → Tree) → node_view at result ≡ neutral self }
         ensures below { (k : ℕ) → NamesBelow k result }
@@ -56,6 +60,7 @@ impl Connector {
         }
     }
 
+    /// The list of the members, which are taken as they are.
     pub fn node(self, members: Vec<NodeId>) -> Node<NodeId>
         ensures tree { (at : NodeId → Tree) → node_view at result ≡ over self (trees_of (map at members.items)) }
         ensures below { (k : ℕ) → All (λ i. i.0 < k) members.items → NamesBelow k result }

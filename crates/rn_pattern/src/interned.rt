@@ -1,12 +1,12 @@
 // The store Interned.
-ghost use Rattle.std.specs.Prelude.{◌≡◌, [], IsTrue, length};
+ghost use Rattle.std.specs.Prelude.{◌≡◌, IsTrue};
 ghost use Rattle.std.specs.List.{IsDistinct, IsDistinct-prop};
 ghost use Rattle.rn_pattern.specs.Key.{node_eq};
-ghost use Rattle.rn_pattern.specs.declared.node.NodeId.{NodeId};
-ghost use Rattle.rn_pattern.specs.Nodes.{NameEarlier, NameEarlier-prop, knows, tree_at, trees_of_nodes};
+ghost use Rattle.rn_pattern.specs.Nodes.{NameEarlier, NameEarlier-prop, trees_of_nodes};
 
 use crate::node::{Node, NodeId};
 use crate::node_table::NodeTable;
+use crate::patterns::Patterns;
 use crate::store::NodeStore;
 use indexmap::IndexSet;
 use std::alloc::{AllocError, Global};
@@ -23,7 +23,7 @@ pub struct Interned {
 impl Interned {
     /// A store without ids. It takes no memory.
     pub fn new(alloc: Global) -> Interned
-        ensures { trees_of_nodes result.nodes.keys ≡ [] }
+        ensures { ⟦<Interned as Patterns>⟧.size result ≡ 0 }
     {
         Interned {
             alloc,
@@ -33,10 +33,9 @@ impl Interned {
 
     /// How many ids the store has. Two ids that stand for equal patterns are equal.
     pub fn nodes(&self) -> usize
-        ensures count { result ≡ length (trees_of_nodes self.now.nodes.keys) }
-        ensures distinct { (i j : NodeId) → IsTrue (knows (trees_of_nodes self.now.nodes.keys) i)
-            → IsTrue (knows (trees_of_nodes self.now.nodes.keys) j)
-            → tree_at (trees_of_nodes self.now.nodes.keys) i ≡ tree_at (trees_of_nodes self.now.nodes.keys) j → i ≡ j }
+        ensures count { result ≡ ⟦<Interned as Patterns>⟧.size self.now }
+        ensures distinct { (i j : NodeId) → let ids = ⟦<Interned as Patterns>⟧ in IsTrue (ids.knows self.now i) → IsTrue (ids.knows self.now j)
+            → ids.tree_of self.now i ≡ ids.tree_of self.now j → i ≡ j }
     {
         self.nodes.len()
     }

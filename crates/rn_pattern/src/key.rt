@@ -51,6 +51,7 @@ impl Hash for Node<NodeId> {
     }
 }
 
+/// The names and the texts of the parameters, in turn.
 fn hash_parameters<H: Hasher>(parameters: &[(String, String)], state: &mut H)
     ensures { state.new ≡ fold H.write state.old (parameters_writes (parameters_view parameters.now)) }
 {
@@ -60,6 +61,7 @@ fn hash_parameters<H: Hasher>(parameters: &[(String, String)], state: &mut H)
     }
 }
 
+/// The places of the ids, in turn.
 fn hash_places<H: Hasher>(ids: &[NodeId], state: &mut H)
     ensures { state.new ≡ fold H.write state.old (flat_map fed.usize (map (λ i. i.0) ids.now)) }
 {
@@ -68,6 +70,7 @@ fn hash_places<H: Hasher>(ids: &[NodeId], state: &mut H)
     }
 }
 
+/// A number for the kind, then its parts.
 #[cycle(hash_names)]
 fn hash_name_class<H: Hasher>(class: &NameClass, state: &mut H)
     ensures { state.new ≡ fold H.write state.old (name_writes (name_class_view class.now)) }
@@ -99,6 +102,7 @@ fn hash_name_class<H: Hasher>(class: &NameClass, state: &mut H)
     }
 }
 
+/// The members, in turn.
 #[cycle(hash_names)]
 fn hash_name_classes<H: Hasher>(classes: &[NameClass], state: &mut H)
     ensures { state.new ≡ fold H.write state.old (names_writes (name_trees_of (map name_class_view classes.now))) }

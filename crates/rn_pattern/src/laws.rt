@@ -1,5 +1,5 @@
 // Laws of canonical patterns: what they match, their shape and their order.
-ghost use Rattle.std.specs.Prelude.{◌≡◌, ◌↔◌, ℕ, ◌+◌, length, List, IfSome, IsTrue};
+ghost use Rattle.std.specs.Prelude.{◌≡◌, ◌↔◌, ℕ, ◌+◌, length, List, IfSome, IsPermutation, IsTrue};
 ghost use Rattle.std.specs.Cmp.{IsTotalOrder};
 ghost use Rattle.std.specs.declared.cmp.Ordering.TheVariants.{Equal};
 ghost use Rattle.rn_pattern.specs.Tree.{Text, Parameters, NameTree, Tree, ref, datum_but, list, attribute, element, one_or_more, group, interleave, choice, trees_of};
@@ -11,8 +11,10 @@ ghost use Rattle.rn_pattern.specs.Order.{name_cmp, tree_cmp};
 ghost use Rattle.rn_pattern.specs.Canonical.{canonical_name, choice_step, group_step, interleave_step, one_or_more_step, list_step, attribute_step, datum_but_step, canonical, settled_within, canonical_within};
 ghost use Rattle.rn_pattern.specs.CanonicalShape.{IsCanonicalName, IsCanonicalPattern};
 ghost use Rattle.rn_pattern.specs.Excepts.{HasExcepts};
-ghost use Rattle.rn_pattern.specs.Opened.{opened};
-ghost use Rattle.rn_pattern.specs.Reached.{formed};
+ghost use Rattle.rn_pattern.specs.Opened.{opened, opened_grammar};
+ghost use Rattle.rn_pattern.specs.Pairing.{PairedUp};
+ghost use Rattle.rn_pattern.specs.Reached.{IsCanonicalOf, formed};
+ghost use Rattle.rn_pattern.specs.Replaced.{replaced_grammar};
 ghost use Rattle.rn_pattern.specs.Store.{AddsOnly, KeepsTrees, StandsFor};
 
 use crate::interned::Interned;
@@ -30,6 +32,14 @@ pub fn canonical_steps_keep_matching()
     ensures of_data { (library type : Text) (params : Parameters) (p : Tree) → MatchAlike (datum_but library type params p) (datum_but_step library type params p) }
     ensures of_attribute { (c : NameTree) (p : Tree) → MatchAlike (attribute c p) (attribute_step (canonical_name c) p) }
     ensures of_element { (c : NameTree) (p : Tree) → MatchAlike (element c p) (element (canonical_name c) p) }
+{}
+
+/// The members of a choice or an interleave, put together two by two in any pairs and any order, match what the list of
+/// them matches; so do those of a group, in their order (sections 4.12 and 4.17).
+pub fn pairs_match_lists()
+    ensures of_choice { (ps qs : List Tree) (p : Tree) → IsPermutation ps qs → PairedUp choice ps p → MatchAlike p (choice (trees_of qs)) }
+    ensures of_interleave { (ps qs : List Tree) (p : Tree) → IsPermutation ps qs → PairedUp interleave ps p → MatchAlike p (interleave (trees_of qs)) }
+    ensures of_group { (ps : List Tree) (p : Tree) → PairedUp group ps p → MatchAlike p (group (trees_of ps)) }
 {}
 
 /// The canonical form of a name class holds the same names (section 6.1).
@@ -57,20 +67,31 @@ pub fn canonical_forms_stay()
 /// The orders of patterns and of name classes are total, and tell apart all that differs.
 pub fn orders_are_total()
     ensures patterns { IsTotalOrder tree_cmp }
-    ensures equal_patterns { (p q : Tree) → tree_cmp p q ≡ Equal → p ≡ q }
+    ensures equal_patterns { (p q : Tree) → (tree_cmp p q ≡ Equal) ↔ (p ≡ q) }
     ensures name_classes { IsTotalOrder name_cmp }
-    ensures equal_name_classes { (c d : NameTree) → name_cmp c d ≡ Equal → c ≡ d }
+    ensures equal_name_classes { (c d : NameTree) → (name_cmp c d ≡ Equal) ↔ (c ≡ d) }
 {}
 
-/// A pattern with its optional and mixed parts opened matches exactly what it did (sections 4.13 to 4.15).
+/// A pattern with its optional and mixed parts opened matches exactly what it did (sections 4.13 to 4.15), and a grammar
+/// with its patterns opened is valid for the same documents.
 pub fn opened_patterns_keep_matching()
-    ensures { (p : Tree) → MatchAlike p (opened p) }
+    ensures patterns { (p : Tree) → MatchAlike p (opened p) }
+    ensures grammars { (G : Grammar) (T : Table) (doc : Item) → IsValid G T doc ↔ IsValid (opened_grammar G) T doc }
 {}
 
 /// A grammar with each pattern in its canonical form, looking through any number of references, is valid for the same
-/// documents. Premise: an except of a datatype holds data, values and choices of them alone (section 7.1.4).
+/// documents; so is its canonical grammar, which has the definitions that are reached from the start alone. Premise: an
+/// except of a datatype holds data, values and choices of them alone (section 7.1.4).
 pub fn canonical_patterns_keep_validity()
-    ensures { (k : ℕ) (G : Grammar) → HasExcepts G.start → ((x : Text) → IfSome (definition_of G x) HasExcepts) → (T : Table) (doc : Item) → IsValid G T doc ↔ IsValid (formed (settled_within k G) G) T doc }
+    ensures grammars { (G N : Grammar) → IsCanonicalOf G N → HasExcepts G.start → ((x : Text) → IfSome (definition_of G x) HasExcepts) → (T : Table) (doc : Item) → IsValid G T doc ↔ IsValid N T doc }
+    ensures patterns { (k : ℕ) (G : Grammar) → HasExcepts G.start → ((x : Text) → IfSome (definition_of G x) HasExcepts) → (T : Table) (doc : Item) → IsValid G T doc ↔ IsValid (formed (settled_within k G) G) T doc }
+{}
+
+/// A grammar in which notAllowed or empty replaces each reference whose definition is worth that, looking through any
+/// number of references, and nothing else is changed, is valid for the same documents (sections 4.19 to 4.21). The premise
+/// is the same.
+pub fn settled_references_keep_validity()
+    ensures { (k : ℕ) (G : Grammar) → HasExcepts G.start → ((x : Text) → IfSome (definition_of G x) HasExcepts) → (T : Table) (doc : Item) → IsValid G T doc ↔ IsValid (replaced_grammar (settled_within k G) G) T doc }
 {}
 
 /// Looking through as many references as there are definitions settles each name that any number would settle, loops

@@ -10,7 +10,7 @@ use std::alloc::{AllocError, Global};
 use std::cmp::Ordering;
 
 impl NameClass {
-    // A copy in canonical form.
+    /// A copy in canonical form, which holds the same names (6.1).
     #[cycle(canonical_name)]
     pub(crate) fn canonical(&self, alloc: Global) -> Result<NameClass, AllocError>
         ensures { IfOk result (λ c. name_class_view c ≡ canonical_name (name_class_view self.now)) }
@@ -36,7 +36,7 @@ impl NameClass {
     }
 }
 
-// The canonical forms of the members, with the members of the choices among them.
+/// The canonical forms of the members, with the members of the choices among them.
 #[cycle(canonical_name)]
 fn canonical_members(alloc: Global, classes: &[NameClass]) -> Result<Vec<NameClass>, AllocError>
     ensures { IfOk result (λ v. map name_class_view v.items
@@ -49,7 +49,7 @@ fn canonical_members(alloc: Global, classes: &[NameClass]) -> Result<Vec<NameCla
     Ok(members)
 }
 
-// A choice goes in as its members, any other name class as itself.
+/// A choice goes in as its members, any other name class as itself.
 fn push_members(members: &mut Vec<NameClass>, class: NameClass) -> Result<(), AllocError>
     ensures { OnOk result (map name_class_view members.new.items
         ≡ map name_class_view members.old.items ++ names_within (name_class_view class)) }
@@ -61,7 +61,7 @@ fn push_members(members: &mut Vec<NameClass>, class: NameClass) -> Result<(), Al
     Ok(())
 }
 
-// The choice of the members; the member itself if there is one.
+/// The choice of the members in order, each once; the member itself if there is one.
 fn choice_of(mut members: Vec<NameClass>) -> Result<NameClass, AllocError>
     ensures { IfOk result (λ c. name_class_view c
         ≡ name_class_of (sorted_once name_cmp (map name_class_view members.items))) }

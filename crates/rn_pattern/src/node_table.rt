@@ -10,6 +10,7 @@ use crate::node::{Node, NodeId};
 use crate::parts::{Parts, compare_heads, parts_of, parts_of_none};
 use std::cmp::Ordering;
 
+/// The nodes of a store in the order of their ids, borrowed.
 #[derive(Clone, Copy)]
 pub struct NodeTable<'a> {
     pub nodes: &'a [Node<NodeId>],
@@ -19,6 +20,7 @@ pub struct NodeTable<'a> {
 impl<'a> NodeTable<'a> {
     ghost use Rattle.rn_pattern.specs.Table.{trees};
 
+    /// The node of an id of the table.
     pub fn get(&self, id: NodeId) -> &'a Node<NodeId>
         requires { IsTrue (knows (trees self.now) id) }
         ensures tree { node_view (tree_at (trees self.now)) result.now ≡ tree_at (trees self.now) id }
@@ -28,7 +30,7 @@ impl<'a> NodeTable<'a> {
         &self.nodes[id.0]
     }
 
-    // The parts of the pattern at a place, of notAllowed where there is none.
+    /// The parts of the pattern at a place, of `notAllowed` where there is none.
     fn parts(&self, id: NodeId) -> Parts<'a>
         ensures { ShowsTree (tree_at (trees self.now)) (tree_at (trees self.now) id) id.0 result.kind
             (result.first.now ∷ result.second.now ∷ result.third.now ∷ []) result.parameters.now
@@ -41,7 +43,7 @@ impl<'a> NodeTable<'a> {
         }
     }
 
-    // Whether notAllowed stands at the place, or nothing.
+    /// Whether `notAllowed` stands at the place, or nothing.
     pub fn is_not_allowed(&self, id: NodeId) -> bool
         ensures { result ≡ is_not_allowed (tree_at (trees self.now) id) }
     {
@@ -52,7 +54,8 @@ impl<'a> NodeTable<'a> {
         }
     }
 
-    // The order of the patterns at two places. A place that isn't the table's counts as notAllowed.
+    /// The order of the patterns at two places, equal at once where the places are. A place that isn't the table's counts
+    /// as `notAllowed`.
     pub fn compare(&self, a: NodeId, b: NodeId) -> Ordering
         ensures { result ≡ tree_cmp (tree_at (trees self.now) a) (tree_at (trees self.now) b) }
     {

@@ -9,7 +9,7 @@ use std::cmp::Ordering;
 use std::rc::Rc;
 
 impl NameClass {
-    // The place of the kind in the order.
+    /// The place of the kind in the order.
     fn rank(&self) -> u8
         ensures { result ≡ name_rank (name_class_view self.now) }
     {
@@ -40,6 +40,7 @@ impl NameClass {
     }
 }
 
+/// No except stands before one.
 #[cycle(compare_names)]
 fn compare_excepts(c: &Option<Box<NameClass>>, d: &Option<Box<NameClass>>) -> Ordering
     ensures { result ≡ names_cmp (except_view c.now) (except_view d.now) }
@@ -52,6 +53,7 @@ fn compare_excepts(c: &Option<Box<NameClass>>, d: &Option<Box<NameClass>>) -> Or
     }
 }
 
+/// By the first members that differ; a list stands before each longer one that it begins.
 #[cycle(compare_names)]
 fn compare_name_classes(cs: &[NameClass], ds: &[NameClass]) -> Ordering
     ensures { result ≡ names_cmp (name_trees_of (map name_class_view cs.now)) (name_trees_of (map name_class_view ds.now)) }
@@ -73,7 +75,7 @@ fn compare_name_classes(cs: &[NameClass], ds: &[NameClass]) -> Ordering
 }
 
 impl Pattern {
-    // The place of the kind in the order.
+    /// The place of the kind in the order.
     fn rank(&self) -> u8
         ensures { result ≡ rank (pattern_view self.now) }
     {
@@ -131,6 +133,7 @@ impl Pattern {
     }
 }
 
+/// No except stands before one.
 #[cycle(compare_patterns)]
 fn compare_excepted(p: &Option<Box<Pattern>>, q: &Option<Box<Pattern>>) -> Ordering
     ensures { result ≡ trees_cmp (excepted_view p.now) (excepted_view q.now) }
@@ -143,6 +146,7 @@ fn compare_excepted(p: &Option<Box<Pattern>>, q: &Option<Box<Pattern>>) -> Order
     }
 }
 
+/// By the first members that differ; a list stands before each longer one that it begins.
 #[cycle(compare_patterns)]
 fn compare_patterns(ps: &[Rc<Pattern>], qs: &[Rc<Pattern>]) -> Ordering
     ensures { result ≡ trees_cmp (trees_of (map shared_view ps.now)) (trees_of (map shared_view qs.now)) }

@@ -12,6 +12,8 @@ use crate::tree::NameClass;
 use std::cmp::Ordering;
 use std::slice;
 
+/// The parts of a node: the place of its kind in the order, up to three texts, a datatype's parameters, a name class and the
+/// ids in it. What a kind lacks is empty.
 #[derive(Clone, Copy)]
 pub struct Parts<'a> {
     pub kind: u8,
@@ -23,7 +25,7 @@ pub struct Parts<'a> {
     pub members: &'a [NodeId],
 }
 
-// The parts of a node that has its kind alone.
+/// The parts of a node that has its kind alone.
 fn bare<'a>(kind: u8) -> Parts<'a>
     ensures kind { result.kind ≡ kind }
     ensures texts { result.first.now ∷ result.second.now ∷ result.third.now ∷ [] ≡ [] ∷ [] ∷ [] ∷ [] }
@@ -42,7 +44,7 @@ fn bare<'a>(kind: u8) -> Parts<'a>
     }
 }
 
-// The parts of notAllowed.
+/// The parts of `notAllowed`.
 pub fn parts_of_none<'a>() -> Parts<'a>
     ensures kind { result.kind ≡ 0 }
     ensures texts { result.first.now ∷ result.second.now ∷ result.third.now ∷ [] ≡ [] ∷ [] ∷ [] ∷ [] }
@@ -53,6 +55,7 @@ pub fn parts_of_none<'a>() -> Parts<'a>
     bare(0)
 }
 
+/// The parts of the node, borrowed from it.
 pub fn parts_of(node: &Node<NodeId>) -> Parts<'_>
     ensures kind { result.kind ≡ node_rank node.now }
     ensures texts { result.first.now ∷ result.second.now ∷ result.third.now ∷ [] ≡ node_texts node.now }
@@ -114,7 +117,7 @@ pub fn parts_of(node: &Node<NodeId>) -> Parts<'_>
     }
 }
 
-// The order of two name classes, where none stands before one.
+/// The order of two name classes, where none stands before one.
 fn compare_classes(x: Option<&NameClass>, y: Option<&NameClass>) -> Ordering
     ensures { result ≡ names_cmp (class_view (option_copied x.entry)) (class_view (option_copied y.entry)) }
 {
@@ -126,7 +129,7 @@ fn compare_classes(x: Option<&NameClass>, y: Option<&NameClass>) -> Ordering
     }
 }
 
-// The order by all parts but the members.
+/// The order by all parts but the members. Most nodes that are compared differ in their kind or first text.
 pub fn compare_heads(x: Parts, y: Parts) -> Ordering
     ensures { result ≡ ordering_then (nat_cmp x.entry.kind y.entry.kind)
         (ordering_then (slice_cmp text_cmp (x.entry.first.now ∷ x.entry.second.now ∷ x.entry.third.now ∷ [])
@@ -134,10 +137,12 @@ pub fn compare_heads(x: Parts, y: Parts) -> Ordering
         (ordering_then (parameters_cmp (parameters_view x.entry.parameters.now) (parameters_view y.entry.parameters.now))
         (names_cmp (class_view (option_copied x.entry.class)) (class_view (option_copied y.entry.class))))) }
 {
-    x.kind
-        .cmp(&y.kind)
-        .then(x.first.cmp(y.first))
-        .then(x.second.cmp(y.second))
+    match x.kind.cmp(&y.kind).then(x.first.cmp(y.first)) {
+        Ordering::Equal => {}
+        order => return order,
+    }
+    x.second
+        .cmp(y.second)
         .then(x.third.cmp(y.third))
         .then(x.parameters.cmp(y.parameters))
         .then(compare_classes(x.class, y.class))

@@ -1,9 +1,10 @@
 // The store Plain.
-ghost use Rattle.std.specs.Prelude.{◌≡◌, [], length};
+ghost use Rattle.std.specs.Prelude.{◌≡◌};
 ghost use Rattle.rn_pattern.specs.Nodes.{NameEarlier, NameEarlier-prop, trees_of_nodes};
 
 use crate::node::{Node, NodeId};
 use crate::node_table::NodeTable;
+use crate::patterns::Patterns;
 use crate::store::NodeStore;
 use std::alloc::{AllocError, Global};
 
@@ -18,7 +19,7 @@ pub struct Plain {
 impl Plain {
     /// A store without ids. It takes no memory.
     pub fn new(alloc: Global) -> Plain
-        ensures { trees_of_nodes result.nodes.items ≡ [] }
+        ensures { ⟦<Plain as Patterns>⟧.size result ≡ 0 }
     {
         Plain {
             alloc,
@@ -28,7 +29,7 @@ impl Plain {
 
     /// How many ids the store has.
     pub fn nodes(&self) -> usize
-        ensures { result ≡ length (trees_of_nodes self.now.nodes.items) }
+        ensures { result ≡ ⟦<Plain as Patterns>⟧.size self.now }
     {
         self.nodes.len()
     }

@@ -39,6 +39,7 @@ pub trait NodeStore {
         ensures refused { OnErr result (trees self.new ≡ trees self.old) };
 }
 
+/// The id of a pattern that is reduced: the one it has, or that of the node, which is added.
 fn keep<S: NodeStore>(store: &mut S, pattern: Reduced) -> Result<NodeId, AllocError>
     requires { IsReducedIn (S.trees store.old) pattern }
     ensures made { IfOk result (StandsFor (knows (S.trees store.new)) (tree_at (S.trees store.new))

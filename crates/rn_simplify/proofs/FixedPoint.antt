@@ -11,7 +11,7 @@ use Rattle.rn_pattern.proofs.CanonicalForm.{canonical_is, canonical_refers}
 use Rattle.rn_pattern.proofs.Fixed.{opened_fixed}
 use Rattle.rn_pattern.proofs.Settled.{is_settled, next, settled_canonical, definition_solid, solid_stand_in}
 use Rattle.rn_pattern.proofs.Validity.{lookup-map}
-use Rattle.rn_simplify.proofs.Pruned.{reached_definition}
+use Rattle.rn_pattern.proofs.Pruned.{reached_definition}
 use Rattle.rn_pattern.proofs.InOrder.{each_contained, sorted_by_name, one_by_name}
 use Rattle.rn_simplify.proofs.Forms.{found_in, form_source}
 

@@ -9,7 +9,7 @@ use Rattle.rn_pattern.specs.Reached.{RefersTo, IsReached, by_start, by_definitio
 use Rattle.rn_pattern.specs.References.{RefersOutside, IsUndefined, LeadsTo, by_one, by_more, IsRecursive}
 use Rattle.rn_pattern.specs.NameRules.{KeepsNameRules}
 use Rattle.rn_pattern.proofs.Validity.{lookup-map}
-use Rattle.rn_simplify.proofs.Pruned.{reached_definition}
+use Rattle.rn_pattern.proofs.Pruned.{reached_definition}
 use Rattle.rn_simplify.proofs.Forms.{found_in, none_before, some_before, form_source, form_kept, refers_back, outside_back, reached_source}
 use Rattle.rn_pattern.proofs.InOrder.{contains_front, contains_behind, contains_cases}
 use Rattle.rn_pattern.proofs.Kept.{IsKept, opened_kept}

@@ -26,7 +26,7 @@ use Rattle.rn_assemble.proofs.Joined.{plain_once, not_mixed, sorted_distinct, ma
 use Rattle.rn_assemble.proofs.JoinedKept.{joined_excepts, joined_definition_excepts}
 use Rattle.rn_assemble.proofs.OneModule.{nil_parts, one_module}
 use Rattle.rn_simplify.specs.ReadBack.{IsReadBack}
-use Rattle.rn_simplify.proofs.Pruned.{canonical_grammar_valid}
+use Rattle.rn_pattern.proofs.Pruned.{canonical_grammar_valid}
 use Rattle.rn_simplify.proofs.FixedPoint.{fixed_point, one_canonical}
 use Rattle.rn_simplify.proofs.WellFormed.{normal_well_formed, opened_well_formed}
 

@@ -17,7 +17,7 @@ use Rattle.rn_simplify.specs.Spelling.{name_uris, names_uris, mentions, mentions
 use Rattle.rn_simplify.proofs.Few.{few_namespaces, few_libraries}
 use Rattle.rn_simplify.specs.Spellable.{IsDefinition, IsSpellable}
 use Rattle.rn_simplify.proofs.Forms.{form_source}
-use Rattle.rn_simplify.proofs.Pruned.{reached_definition}
+use Rattle.rn_pattern.proofs.Pruned.{reached_definition}
 use Rattle.rn_simplify.proofs.WellFormed.{of_some}
 use Rattle.rn_simplify.proofs.Writable.{normal_writable}
 use Rattle.rn_pattern.specs.Reached.{IsCanonicalOf}

@@ -1,5 +1,8 @@
-use Rattle.rn_pattern.proofs.OpenedKeeps.{opened_matches}
+use Rattle.rn_pattern.proofs.OpenedKeeps.{opened_matches, opened_valid}
 use Rattle.rn_pattern.proofs.laws.opened_patterns_keep_matching.Goals as goal
 
-pub returns : goal.returns
-returns c = opened_matches
+pub returns-clause-patterns : goal.returns-clause-patterns
+returns-clause-patterns c = opened_matches
+
+pub returns-clause-grammars : goal.returns-clause-grammars
+returns-clause-grammars c = opened_valid
