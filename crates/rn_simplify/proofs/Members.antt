@@ -3,12 +3,12 @@ use Rattle.std.proofs.Common.{◌≡◌, ℕ, zero, suc, List, [], ◌∷◌, ma
 use Rattle.std.specs.declared.rc.Rc.{Rc}
 use Rattle.std.specs.declared.vec.Vec.{Vec}
 use Rattle.std.specs.declared.alloc.Global.{Global}
-use Rattle.rn_pattern.specs.Tree.{Tree, trees_of, group, interleave, choice}
+use Rattle.rn_pattern.specs.Tree.{Tree, trees_of}
 use Rattle.rn_pattern.specs.declared.tree.Pattern.{Pattern}
 use Rattle.rn_pattern.specs.declared.tree.Pattern.TheOpen.{Pattern-F}
 use Rattle.rn_pattern.specs.declared.tree.Pattern.TheFolds.{fold-roll-Pattern}
 use Rattle.rn_pattern.specs.declared.tree.Pattern.TheVariants as p
-use Rattle.rn_simplify.specs.Spelling.{Prefixes, Written, written, chained, chain, comma, written_tree, written_trees, written_choice, written_interleave}
+use Rattle.rn_simplify.specs.Spelling.{Prefixes, written, chained, chain, comma, written_tree, written_trees, written_choice, written_interleave}
 use Rattle.rn_pattern.specs.View.{pattern_step, pattern_view}
 use Rattle.rn_simplify.specs.Writes.{rows_of}
 

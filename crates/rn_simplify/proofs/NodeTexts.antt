@@ -1,9 +1,10 @@
 -- The texts of patterns, node by node.
-use Rattle.std.proofs.Common.{◌≡◌, ℕ, zero, suc, ◌+◌, ◌<◌, List, [], ◌∷◌, ◌++◌, length, map, drop, get_or, refl, sym, ap, ◌∙◌, subst, cond, nat_eq, true, false, Bool, Option, Some, None, ◌≢◌, ◌-◌, ◌≤◌, arith, rules, take, length-drop}
-use Rattle.std.proofs.Math.Dec.{eqb-suc-zero, eqb-suc-suc}
-use Rattle.std.specs.Prelude.{codes, string_bytes, Box}
+use Rattle.std.proofs.Common.{◌≡◌, ℕ, suc, ◌+◌, ◌<◌, List, [], ◌∷◌, ◌++◌, length, drop, get_or, refl, sym, ap, ◌∙◌, subst, cond, nat_eq, true, false, Bool, Option, Some, None, ◌≢◌, ◌-◌, ◌≤◌, arith, rules, take, length-drop}
+use Rattle.std.proofs.Math.Dec.{eqb-suc-zero}
+use Rattle.std.specs.Prelude.{codes, Box}
 use Rattle.std.specs.declared.rc.Rc.{Rc}
 use Rattle.std.specs.declared.alloc.Global.{Global}
+use Rattle.std.specs.Str.{chars}
 use Rattle.rn_text.specs.Parts.{Piece}
 use Rattle.rn_pattern.specs.Tree as tree
 use Rattle.rn_pattern.specs.Tree.{Text, Parameters, NameTree, Tree}
@@ -15,7 +16,7 @@ use Rattle.rn_simplify.specs.declared.writer.Writer.{Writer}
 use Rattle.rn_simplify.specs.Spelling.{Prefixes, Written, symbol, keyword, space, infix_of, braced, parenthesized, primary, operand, chain, chain_or_one, datum_pieces, optional, optional_one, written_name, written_tree, written_choice, written_interleave}
 use Rattle.rn_pattern.specs.View.{pattern_step, pattern_view}
 use Rattle.rn_simplify.specs.Writes.{rows_of, begins, none, opening, closing, Writes, WritesBytes}
-use Rattle.rn_simplify.proofs.Writing.{writes_nil, writes_then, writes_pieces, writes_as}
+use Rattle.rn_simplify.proofs.Writing.{writes_nil, writes_then, writes_pieces}
 use Rattle.rn_simplify.proofs.PartTexts.{writes_minus, writes_braced, writes_parenthesized}
 use Rattle.rn_simplify.proofs.Chains.{before, before_none, before_some, writes_row_more}
 use Rattle.std.proofs.lemmas.List.{take_more, take_all, get_or-drop}
@@ -24,43 +25,43 @@ use Rattle.rn_pattern.specs.declared.tree.Pattern.TheVariants as pat
 -- ---- words and symbols
 
 pub writes_not_allowed : {a b : Writer} → WritesBytes (codes "notAllowed") none a b → Writes (keyword (codes "notAllowed") ∷ []) a b
-unfolding lib.Utf8.encode
+unfolding lib.Utf8.encode chars
 writes_not_allowed h = writes_pieces _ refl (λ n. refl) h
 
 pub writes_empty : {a b : Writer} → WritesBytes (codes "empty") none a b → Writes (keyword (codes "empty") ∷ []) a b
-unfolding lib.Utf8.encode
+unfolding lib.Utf8.encode chars
 writes_empty h = writes_pieces _ refl (λ n. refl) h
 
 pub writes_text : {a b : Writer} → WritesBytes (codes "text") none a b → Writes (keyword (codes "text") ∷ []) a b
-unfolding lib.Utf8.encode
+unfolding lib.Utf8.encode chars
 writes_text h = writes_pieces _ refl (λ n. refl) h
 
 pub writes_plus : {a b : Writer} → WritesBytes (codes "+") none a b → Writes (symbol (codes "+") ∷ []) a b
-unfolding lib.Utf8.encode
+unfolding lib.Utf8.encode chars
 writes_plus h = writes_pieces _ refl (λ n. refl) h
 
 pub writes_star : {a b : Writer} → WritesBytes (codes "*") none a b → Writes (symbol (codes "*") ∷ []) a b
-unfolding lib.Utf8.encode
+unfolding lib.Utf8.encode chars
 writes_star h = writes_pieces _ refl (λ n. refl) h
 
 pub writes_question : {a b : Writer} → WritesBytes (codes "?") none a b → Writes (symbol (codes "?") ∷ []) a b
-unfolding lib.Utf8.encode
+unfolding lib.Utf8.encode chars
 writes_question h = writes_pieces _ refl (λ n. refl) h
 
 writes_list_word : {a b : Writer} → WritesBytes (codes "list") none a b → Writes (keyword (codes "list") ∷ []) a b
-unfolding lib.Utf8.encode
+unfolding lib.Utf8.encode chars
 writes_list_word h = writes_pieces _ refl (λ n. refl) h
 
 writes_mixed_word : {a b : Writer} → WritesBytes (codes "mixed") none a b → Writes (keyword (codes "mixed") ∷ []) a b
-unfolding lib.Utf8.encode
+unfolding lib.Utf8.encode chars
 writes_mixed_word h = writes_pieces _ refl (λ n. refl) h
 
 writes_attribute_word : {a b : Writer} → WritesBytes (codes "attribute ") none a b → Writes (keyword (codes "attribute") ∷ space ∷ []) a b
-unfolding lib.Utf8.encode
+unfolding lib.Utf8.encode chars
 writes_attribute_word h = writes_pieces _ refl (λ n. refl) h
 
 writes_element_word : {a b : Writer} → WritesBytes (codes "element ") none a b → Writes (keyword (codes "element") ∷ space ∷ []) a b
-unfolding lib.Utf8.encode
+unfolding lib.Utf8.encode chars
 writes_element_word h = writes_pieces _ refl (λ n. refl) h
 
 -- ---- nodes of one pattern

@@ -1,6 +1,6 @@
 -- The texts of values and of data.
-use Rattle.std.proofs.Common.{◌≡◌, ℕ, zero, suc, ◌+◌, ◌<◌, List, [], ◌∷◌, ◌++◌, length, map, take, drop, refl, sym, ap, ◌∙◌, subst, append_assoc, append-nil, cond, nat_eq, true, false, Bool, Some, arith, not}
-use Rattle.std.specs.Prelude.{codes, String, string_bytes, bytes_eq, ◌&&◌}
+use Rattle.std.proofs.Common.{◌≡◌, ℕ, zero, suc, ◌<◌, List, [], ◌∷◌, ◌++◌, length, take, refl, sym, ap, ◌∙◌, subst, append_assoc, append-nil, cond, nat_eq, true, false, Bool, Some, arith}
+use Rattle.std.specs.Prelude.{codes, String, bytes_eq, ◌&&◌}
 use Rattle.std.specs.declared.alloc.Global.{Global}
 use Rattle.rn_pattern.specs.View.{parameters_view}
 use Rattle.std.specs.Str.{chars, encode_utf8_all, IsUtf8}
@@ -11,7 +11,7 @@ use Rattle.rn_pattern.specs.Tree.{Text, Parameters}
 use Rattle.rn_simplify.specs.declared.writer.Writer.{Writer}
 use Rattle.rn_simplify.specs.Spelling as s
 use Rattle.rn_simplify.specs.Spelling.{Prefixes, literal, segment, infix_of, space, word, type_piece, value_pieces, datum_pieces, param_pieces, params_pieces, braced}
-use Rattle.rn_simplify.specs.Writes.{bytes_of, bracket_of, depth_after, none, opening, closing, Writes, WritesBytes}
+use Rattle.rn_simplify.specs.Writes.{depth_after, none, opening, closing, Writes, WritesBytes}
 use Rattle.rn_simplify.proofs.Writing.{writes_nil, writes_then, writes_pieces, writes_as}
 use Rattle.rn_simplify.proofs.PartTexts.{writes_word, writes_braced}
 
@@ -23,6 +23,7 @@ literal_text (r ∷ []) = append-nil (quoted r)
 literal_text (r ∷ q ∷ rs) = ap (λ t. quoted r ++ (codes " ~ " ++ t)) (literal_text (q ∷ rs))
 
 literal_depth : (rs : List (List ℕ)) (n : ℕ) → depth_after (s.literal_of rs) n ≡ Some n
+unfolding lib.Utf8.encode chars
 literal_depth [] n = refl
 literal_depth (r ∷ []) n = refl
 literal_depth (r ∷ q ∷ rs) n = literal_depth (q ∷ rs) n
@@ -42,7 +43,7 @@ value_but true xs ys e h = absurd cc
 value_but false xs ys e h = h
 
 space_written : {a b : Writer} → WritesBytes (32 ∷ []) none a b → Writes (space ∷ []) a b
-unfolding lib.Utf8.encode
+unfolding lib.Utf8.encode chars
 space_written h = writes_pieces (space ∷ []) refl (λ n. refl) h
 
 pub writes_token : (f : Prefixes) (l x t : Text) {a b : Writer} → (bytes_eq l [] && bytes_eq x (codes "token")) ≡ true → WritesBytes (literal_bytes t) none a b → Writes (value_pieces f l x t) a b
@@ -53,8 +54,8 @@ writes_value f l x t e h j k = value_but _ (literal t) (type_piece f l x ∷ spa
 
 -- ---- parameters
 
-equals_written : {a b : Writer} → WritesBytes (codes " = ") none a b → Writes (infix_of (codes "=")) a b
-unfolding lib.Utf8.encode
+pub equals_written : {a b : Writer} → WritesBytes (codes " = ") none a b → Writes (infix_of (codes "=")) a b
+unfolding lib.Utf8.encode chars
 equals_written h = writes_pieces _ refl (λ n. refl) h
 
 pub writes_param : (k t : Text) {a b c d : Writer} → IsUtf8 k → WritesBytes k none a b → WritesBytes (codes " = ") none b c → WritesBytes (literal_bytes t) none c d → Writes (param_pieces (k, t)) a d

@@ -1,6 +1,6 @@
 -- The trees of name classes and patterns by their variants.
-use Rattle.std.proofs.Common.{◌≡◌, List, map, Option, Some, None, sym, ap, ◌∙◌}
-use Rattle.std.specs.Prelude.{String, string_bytes, Vec, Box}
+use Rattle.std.proofs.Common.{◌≡◌, Some, sym, ap, ◌∙◌}
+use Rattle.std.specs.Prelude.{String, string_bytes, Box}
 use Rattle.std.specs.declared.alloc.Global.{Global}
 use Rattle.rn_pattern.specs.Tree as tree
 use Rattle.rn_pattern.specs.Tree.{NameTree, Tree, name_trees_of, trees_of}

@@ -1,14 +1,14 @@
 -- What is appended piece by piece.
-use Rattle.std.proofs.Common.{◌≡◌, ℕ, ◌+◌, ◌<◌, ◌≤◌, inl, inr, ◌⊎◌, List, [], ◌∷◌, ◌++◌, length, Option, Some, None, refl, sym, ap, ◌∙◌, subst, append_assoc, append-nil, length-append, arith, Bool, true, false, cond}
+use Rattle.std.proofs.Common.{◌≡◌, ℕ, ◌<◌, ◌≤◌, inl, inr, ◌⊎◌, List, [], ◌∷◌, ◌++◌, length, Option, Some, None, refl, sym, ap, ◌∙◌, subst, append_assoc, append-nil, length-append, arith}
 use Rattle.std.specs.Prelude.{option_and_then, string_bytes}
-use Rattle.std.specs.Str.{encode_utf8_all, chars, IsUtf8}
-use Rattle.std.proofs.lemmas.Str.{encodes-append, encodes-chars}
+use Rattle.std.specs.Str.{encode_utf8_all}
+use Rattle.std.proofs.lemmas.Str.{encodes-append}
 use Rattle.rn_text.specs.Parts.{Piece, text_of}
 use Rattle.rn_text.proofs.Pieces.{text_of-append}
 use Rattle.rn_simplify.specs.declared.writer.Writer.{Writer}
 use Rattle.rn_simplify.specs.declared.writer.Stop.{Stop}
 use Rattle.rn_simplify.specs.declared.writer.Stop.TheVariants.{TooLarge}
-use Rattle.rn_simplify.specs.Writes.{bytes_of, most_bytes, bracket_of, depth_behind, depth_after, depth_of, Bracket, Appends, IsWithin, Writes, WritesBytes, none}
+use Rattle.rn_simplify.specs.Writes.{bytes_of, most_bytes, bracket_of, depth_behind, depth_after, depth_of, Bracket, Appends, Writes, WritesBytes, none}
 
 pub bytes_of-append : (ps qs : List Piece) → bytes_of (ps ++ qs) ≡ bytes_of ps ++ bytes_of qs
 bytes_of-append ps qs = ap encode_utf8_all (text_of-append ps qs) ∙ encodes-append (text_of ps) (text_of qs)

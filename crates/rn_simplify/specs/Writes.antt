@@ -1,20 +1,21 @@
 -- What is appended to a text up to a limit, and the brackets that are open at its end.
-use Rattle.std.specs.Prelude.{◌≡◌, ℕ, ◌+◌, ◌-◌, ◌<◌, ◌≤◌, Bool, true, false, cond, ◌&&◌, ◌||◌, List, [], ◌∷◌, ◌++◌, length, codes, Option, Some, None, option_and_then, nat_lt, bytes_eq, map, string_bytes}
-use Rattle.std.specs.Str.{encode_utf8_all}
+use Rattle.std.specs.Prelude.{◌≡◌, ℕ, ◌+◌, ◌-◌, ◌<◌, ◌≤◌, Bool, true, false, cond, ◌||◌, List, [], ◌∷◌, ◌++◌, length, codes, Option, Some, None, option_and_then, nat_lt, bytes_eq, map, string_bytes}
+use Rattle.std.specs.Str.{chars, encode_utf8_all}
 use Rattle.rn_text.specs.declared.parts.Part.{Part}
 use Rattle.rn_text.specs.declared.parts.Part.TheVariants.{Token}
-use Rattle.rn_text.specs.declared.parts.Kind.{Kind}
 use Rattle.rn_text.specs.declared.parts.Kind.TheVariants.{Symbol}
 use Rattle.rn_text.specs.Parts.{Piece, text_of}
-use Rattle.rn_pattern.specs.Tree.{Text}
+use Rattle.rn_pattern.specs.Tree.{Text, Tree}
+use Rattle.rn_assemble.specs.declared.refusal.Refusal.{Refusal}
+use Rattle.rn_assemble.specs.declared.refusal.Refusal.TheVariants as r
 use Rattle.rn_simplify.specs.declared.writer.Writer.{Writer}
 use Rattle.rn_simplify.specs.declared.writer.Stop.{Stop}
-use Rattle.rn_simplify.specs.declared.writer.Stop.TheVariants.{TooLarge}
+use Rattle.rn_simplify.specs.declared.writer.Stop.TheVariants.{Memory, TooLarge}
 use Rattle.rn_simplify.specs.declared.shapes.Shape.{Shape}
 use Rattle.rn_simplify.specs.declared.shapes.Shape.TheVariants.{Closed, Postfixed, Chained}
 use Rattle.rn_simplify.specs.declared.declarations.Prefixes as code
 use Rattle.rn_simplify.specs.Spelling as s
-use Rattle.rn_simplify.specs.Spelling.{closed, postfixed, chained, Written, written_tree}
+use Rattle.rn_simplify.specs.Spelling.{closed, postfixed, chained, Written, written_tree, bindings, default_line, infix_of, literal, line_end, library_prefix, namespace_prefix}
 use Rattle.std.specs.declared.rc.Rc.{Rc}
 use Rattle.std.specs.declared.alloc.Global.{Global}
 use Rattle.rn_pattern.specs.declared.tree.Pattern.{Pattern}
@@ -46,8 +47,9 @@ is_closing s = bytes_eq (codes "}") s || (bytes_eq (codes ")") s || bytes_eq (co
 abbrev pub symbol_bracket : List ℕ → Bracket
 symbol_bracket s = cond (is_opening s) opening (cond (is_closing s) closing none)
 
+-- a symbol is told by its bytes
 abbrev pub bracket_of : Part → List ℕ → Bracket
-bracket_of (Token Symbol) s = symbol_bracket s
+bracket_of (Token Symbol) s = symbol_bracket (chars (encode_utf8_all s))
 bracket_of p s = none
 
 -- the brackets that are open behind one; None: too many were open at once
@@ -105,3 +107,32 @@ rows_of f ps = map (λ (p : Rc Pattern Global). written_tree f (pattern_view p.v
 abbrev pub begins : (Written → Bool) → List Written → Bool
 begins p [] = false
 begins p (w ∷ ws) = p w
+
+-- prefixes with what they are bound to
+abbrev pub entries : (Text → List ℕ) → List Text → List (List ℕ × Text)
+entries prefix us = map (λ (u : Text). (prefix u, u)) us
+
+abbrev pub empty_entries : Bool → List (List ℕ × Text)
+empty_entries wide = cond wide ((codes "n0", []) ∷ []) []
+
+-- the lines of declarations; wide: the empty namespace has a prefix
+abbrev pub declaration_lines : s.Prefixes → (wide : Bool) → List Piece
+declaration_lines f wide =
+    default_line
+    ++ (bindings (codes "namespace") (empty_entries wide)
+    ++ (bindings (codes "namespace") (entries (namespace_prefix f) f.namespaces)
+    ++ bindings (codes "datatypes") (entries (library_prefix f) f.libraries)))
+
+-- the rest of such a line behind the prefix, and the rest of a definition's line behind its name
+abbrev pub bound_to : Text → List Piece
+bound_to u = infix_of (codes "=") ++ (literal u ++ line_end ∷ [])
+
+abbrev pub defined_as : s.Prefixes → Tree → List Piece
+defined_as f p = infix_of (codes "=") ++ ((written_tree f p).pieces ++ line_end ∷ [])
+
+-- why the writer has no text
+abbrev pub IsHindrance : Writer → Refusal → Type 0
+IsHindrance w r.Memory = w.stopped ≡ Some Memory
+IsHindrance w r.OutputTooLarge = w.stopped ≡ Some TooLarge
+IsHindrance w r.OutputTooDeep = (w.stopped ≡ None) × (w.too_deep ≡ true)
+IsHindrance w e = ⊥

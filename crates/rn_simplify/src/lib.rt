@@ -7,6 +7,7 @@
 mod canonical;
 mod declarations;
 pub mod laws;
+mod mentions;
 mod name_class;
 pub mod normal;
 pub mod normalising;

@@ -1,31 +1,55 @@
 // The text of a canonical grammar (compact syntax, section 2, topLevel).
+ghost use Rattle.std.specs.Prelude.{string_bytes, codes, IfOk, IfErr};
+ghost use Rattle.rn_pattern.specs.View.{pattern_view};
+ghost use Rattle.rn_simplify.specs.NormalView.{definitions_view, normal_view};
+ghost use Rattle.rn_simplify.specs.Spelling.{definition_line, definition_lines, keyword};
+ghost use Rattle.rn_simplify.specs.Printed.{IsPrinted, IsUnprinted};
+ghost use Rattle.rn_simplify.specs.Writes.{defined_as, prefixes_view, Writes};
+
 use crate::declarations::Prefixes;
 use crate::normal::Normal;
 use crate::pattern::write_pattern;
-use crate::writer::{Stop, Writer};
+use crate::writer::Writer;
 use rn_assemble::Refusal;
+use rn_pattern::Pattern;
 use std::alloc::Global;
 
 /// The one text of a canonical grammar: the declarations of its prefixes, its start, and its definitions in the order of their names, each on a line of its own.
 /// `OutputTooLarge` where the text would have more than 4,194,304 bytes, else `OutputTooDeep` where more than 256 of its brackets would be open at once;
 /// brackets in literals don't count.
-pub fn print(alloc: Global, normal: &Normal) -> Result<String, Refusal> {
+pub fn print(alloc: Global, normal: &Normal) -> Result<String, Refusal>
+    ensures ok { IfOk result (λ text. IsPrinted (normal_view normal.now) (string_bytes text)) }
+    ensures err { IfErr result (IsUnprinted (normal_view normal.now)) }
+{
     let prefixes = Prefixes::of(alloc, normal)?;
     let mut writer = Writer::new(alloc);
     prefixes.write_declarations(&mut writer);
-    writer.put("start = ");
-    write_pattern(&mut writer, &prefixes, &normal.start);
-    writer.put("\n");
-    for (name, body) in &normal.defs {
+    write_start(&mut writer, &prefixes, &normal.start);
+    write_definitions(&mut writer, &prefixes, normal.defs.as_slice());
+    writer.finish()
+}
+
+fn write_start(writer: &mut Writer, prefixes: &Prefixes, start: &Pattern)
+    ensures { Writes (definition_line (prefixes_view prefixes.now) (keyword (codes "start")) (pattern_view start.now)) writer.old writer.new }
+{
+    writer.put("start");
+    write_body(writer, prefixes, start);
+}
+
+fn write_definitions(writer: &mut Writer, prefixes: &Prefixes, defs: &[(String, Pattern)])
+    ensures { Writes (definition_lines (prefixes_view prefixes.now) (definitions_view defs.now)) writer.old writer.new }
+{
+    for (name, body) in defs {
         writer.identifier(name);
-        writer.put(" = ");
-        write_pattern(&mut writer, &prefixes, body);
-        writer.put("\n");
+        write_body(writer, prefixes, body);
     }
-    match writer.stopped {
-        Some(Stop::Memory) => Err(Refusal::Memory),
-        Some(Stop::TooLarge) => Err(Refusal::OutputTooLarge),
-        None if writer.too_deep => Err(Refusal::OutputTooDeep),
-        None => Ok(writer.text),
-    }
+}
+
+/// Writes what a name is defined as, and the end of the line.
+fn write_body(writer: &mut Writer, prefixes: &Prefixes, body: &Pattern)
+    ensures { Writes (defined_as (prefixes_view prefixes.now) (pattern_view body.now)) writer.old writer.new }
+{
+    writer.put(" = ");
+    write_pattern(writer, prefixes, body);
+    writer.put("\n");
 }

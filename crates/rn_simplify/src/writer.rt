@@ -1,9 +1,10 @@
 // A text that is written piece by piece, up to a limit.
-ghost use Rattle.std.specs.Prelude.{◌≡◌, ◌∷◌, [], ◌++◌, None, cond, chars, decimal, false, string_bytes};
+ghost use Rattle.std.specs.Prelude.{◌≡◌, ◌∷◌, [], None, cond, chars, decimal, false, string_bytes, IfErr, IfOk};
 ghost use Rattle.rn_text.specs.Characters.{is_keyword};
 ghost use Rattle.rn_text.specs.Literals.{literal_bytes};
-ghost use Rattle.rn_simplify.specs.Writes.{WritesBytes, opening, closing, none};
+ghost use Rattle.rn_simplify.specs.Writes.{IsHindrance, WritesBytes, opening, closing, none};
 
+use rn_assemble::Refusal;
 use rn_text::{is_keyword, write_literal};
 use std::alloc::Global;
 
@@ -43,6 +44,19 @@ impl Writer {
             depth: 0,
             too_deep: false,
             stopped: None,
+        }
+    }
+
+    /// The text, or why there is none.
+    pub(crate) fn finish(self) -> Result<String, Refusal>
+        ensures ok { IfOk result (λ text. (self.stopped ≡ None) × (self.too_deep ≡ false) × (text ≡ self.text)) }
+        ensures err { IfErr result (IsHindrance self) }
+    {
+        match self.stopped {
+            Some(Stop::Memory) => Err(Refusal::Memory),
+            Some(Stop::TooLarge) => Err(Refusal::OutputTooLarge),
+            None if self.too_deep => Err(Refusal::OutputTooDeep),
+            None => Ok(self.text),
         }
     }
 

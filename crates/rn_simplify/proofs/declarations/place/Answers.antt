@@ -1,4 +1,4 @@
-use Rattle.std.proofs.Common.{◌≡◌, sym, ◌∙◌}
+use Rattle.std.proofs.Common.{sym, ◌∙◌}
 use Rattle.std.specs.Prelude.{string_bytes}
 use Rattle.rn_simplify.proofs.Places.{place_found, place_missing}
 use Rattle.rn_simplify.proofs.declarations.place.Goals as goal

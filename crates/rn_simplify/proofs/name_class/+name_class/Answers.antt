@@ -1,19 +1,25 @@
-use Rattle.std.proofs.Common.{◌≡◌, ◌∷◌, [], ◌++◌, take, map, length, sym, refl, ap, ◌∙◌, ◌+◌, subst, rules, arith, Some}
-use Rattle.std.specs.Prelude.{codes, string_bytes}
+use Rattle.std.proofs.Common.{◌≡◌, ◌∷◌, [], ◌++◌, take, sym, ap, ◌∙◌, ◌+◌, subst, rules, arith}
+use Rattle.std.specs.Prelude.{codes}
 use Rattle.std.proofs.lemmas.List.{take_more, take_all}
 use Rattle.rn_pattern.specs.declared.tree.NameClass.{NameClass}
 use Rattle.rn_pattern.specs.declared.tree.NameClass.TheFolds.{fold_out-NameClass, fold-roll-NameClass}
 use Rattle.rn_pattern.specs.declared.tree.NameClass.TheViews.{the_lemmas}
-use Rattle.rn_pattern.specs.Tree.{NameTree, any_name_but, ns_name_but}
+use Rattle.rn_pattern.specs.Tree.{NameTree, any_name, any_name_but, ns_name_but}
 use Rattle.rn_simplify.specs.Spelling.{Written, written_name, infix_of, chain}
 use Rattle.rn_pattern.specs.View.{name_class_view, name_class_step}
 use Rattle.rn_simplify.specs.Writes.{prefixes_view, Writes}
-use Rattle.rn_simplify.proofs.Writing.{writes_nil, writes_as, writes_then, writes_pieces}
+use Rattle.rn_simplify.proofs.Writing.{writes_nil, writes_as}
 use Rattle.rn_simplify.proofs.PartTexts.{writes_bar, writes_any_but, writes_ns_but, writes_parenthesized, operand_chained}
 use Rattle.rn_simplify.proofs.Chains.{row, before, class_rows, writes_row_more, before_none, before_some}
-use Rattle.rn_simplify.proofs.Views.{any_but_view, ns_but_view}
+use Rattle.rn_simplify.proofs.NodeTexts.{writes_star}
 use Rattle.rn_simplify.proofs.name_class.+name_class.Goals as goal
 use Rattle.rn_simplify.proofs.name_class.+name_class.Goals.{write_class_choice-then-i-gt0, write_class_choice-else-i-gt0}
+
+pub write_class-returns-in-AnyName-None : goal.write_class-returns-in-AnyName-None
+write_class-returns-in-AnyName-None t c =
+    let f = prefixes_view c.args.prefixes.now in
+    let e : name_class_view c.args.class.now ≡ any_name = search (rules, the_lemmas, fold_out-NameClass NameTree name_class_step, fold-roll-NameClass NameTree name_class_step) in
+    subst (λ m. Writes (written_name f m).pieces c.args.writer.now c.put.new.self) (sym e) (writes_star c.put.ensures)
 
 pub write_class-returns-in-AnyName-Some : goal.write_class-returns-in-AnyName-Some
 write_class-returns-in-AnyName-Some t c =

@@ -1,6 +1,6 @@
-use Rattle.std.proofs.Common.{map, take}
+use Rattle.std.proofs.Common.{take}
 use Rattle.std.specs.Prelude.{codes}
-use Rattle.rn_simplify.specs.Spelling.{chain, infix_of, written_name}
+use Rattle.rn_simplify.specs.Spelling.{infix_of, written_name}
 use Rattle.rn_pattern.specs.View.{name_class_view}
 use Rattle.rn_simplify.specs.Writes.{prefixes_view, Writes}
 use Rattle.rn_simplify.proofs.Chains.{row}

@@ -1,4 +1,4 @@
-use Rattle.std.proofs.Common.{◌≡◌, ◌∷◌, [], length, nat_eq, true, false, sym, subst, ◌∙◌, rules}
+use Rattle.std.proofs.Common.{◌≡◌, ◌∷◌, [], length, nat_eq, true, false, sym, subst, rules}
 use Rattle.rn_simplify.specs.Writes.{prefixes_view, WritesBytes, none}
 use Rattle.rn_simplify.proofs.PartTexts.{writes_local, writes_full}
 use Rattle.rn_simplify.proofs.name_class.write_name.Goals as goal

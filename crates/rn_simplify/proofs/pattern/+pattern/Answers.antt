@@ -1,16 +1,14 @@
-use Rattle.std.proofs.Common.{rules, ◌≡◌, ◌≢◌, ◌∷◌, [], ◌++◌, ◌+◌, ◌-◌, ◌<◌, ◌≤◌, ℕ, List, length, map, take, drop, get_or, nat_eq, true, false, Bool, None, Some, sym, ap, ◌∙◌, subst, refl, arith, length-drop, cond}
-use Rattle.std.specs.Prelude.{codes, string_bytes, bytes_eq}
-use Rattle.std.proofs.lemmas.List.{take_all, get_or-drop}
-use Rattle.rn_text.specs.Parts.{Piece}
+use Rattle.std.proofs.Common.{rules, ◌≡◌, ◌-◌, ℕ, length, take, drop, nat_eq, true, false, None, Some, sym, ap, ◌∙◌, subst, refl}
+use Rattle.std.specs.Prelude.{codes}
+use Rattle.std.specs.Str.{chars}
 use Rattle.rn_pattern.specs.Tree as tree
 use Rattle.rn_pattern.specs.Tree.{Tree}
-use Rattle.rn_pattern.specs.declared.tree.Pattern.{Pattern}
 use Rattle.rn_pattern.specs.declared.tree.Pattern.TheFolds.{fold_out-Pattern, fold-roll-Pattern}
 use Rattle.rn_pattern.specs.declared.tree.Pattern.TheViews.{the_lemmas}
-use Rattle.rn_simplify.specs.Spelling.{Written, symbol, keyword, braced, chain, chain_or_one, comma, infix_of, operand, optional, optional_one, parenthesized, primary, written_choice, written_interleave, written_name, written_tree}
+use Rattle.rn_simplify.specs.Spelling.{chain, comma, infix_of, operand, optional_one, written_choice, written_interleave, written_tree}
 use Rattle.rn_pattern.specs.View.{name_class_view, parameters_view, pattern_step, pattern_view}
-use Rattle.rn_simplify.specs.Writes.{begins, bytes_of, depth_after, prefixes_view, rows_of, none, Writes, WritesBytes}
-use Rattle.rn_simplify.proofs.Writing.{writes_nil, writes_as, writes_then, writes_pieces}
+use Rattle.rn_simplify.specs.Writes.{bytes_of, depth_after, prefixes_view, rows_of, Writes}
+use Rattle.rn_simplify.proofs.Writing.{writes_as, writes_pieces}
 use Rattle.rn_simplify.proofs.PartTexts.{writes_identifier, writes_braced, writes_parenthesized}
 use Rattle.rn_simplify.proofs.Chains.{before}
 use Rattle.rn_simplify.proofs.Members.{group_rows, interleave_rows, choice_rows}
@@ -19,16 +17,28 @@ use Rattle.rn_simplify.proofs.pattern.+pattern.Goals as goal
 use Rattle.rn_simplify.proofs.pattern.+pattern.Goals.{write_chain-then-i-first, write_chain-else-i-first}
 
 bar_bytes : bytes_of (infix_of (codes "|")) ≡ codes " | "
-unfolding lib.Utf8.encode
+unfolding lib.Utf8.encode chars
 bar_bytes = refl
 
+bar_depth : (n : ℕ) → depth_after (infix_of (codes "|")) n ≡ Some n
+unfolding lib.Utf8.encode chars
+bar_depth n = refl
+
 ampersand_bytes : bytes_of (infix_of (codes "&")) ≡ codes " & "
-unfolding lib.Utf8.encode
+unfolding lib.Utf8.encode chars
 ampersand_bytes = refl
 
+ampersand_depth : (n : ℕ) → depth_after (infix_of (codes "&")) n ≡ Some n
+unfolding lib.Utf8.encode chars
+ampersand_depth n = refl
+
 comma_bytes : bytes_of comma ≡ codes ", "
-unfolding lib.Utf8.encode
+unfolding lib.Utf8.encode chars
 comma_bytes = refl
+
+comma_depth : (n : ℕ) → depth_after comma n ≡ Some n
+unfolding lib.Utf8.encode chars
+comma_depth n = refl
 
 pub write_braced-returns : goal.write_braced-returns
 write_braced-returns t c = writes_braced _ c.open_bracket.ensures c.write_pattern.ensures c.close_bracket.ensures
@@ -51,7 +61,7 @@ pub write_choice-returns-else-begins_with_empty : goal.write_choice-returns-else
 write_choice-returns-else-begins_with_empty t c =
     let f = prefixes_view c.args.prefixes.now in
     let e : nat_eq (length c.args.members.now) 0 ≡ false = search rules in
-    writes_choice (rows_of f c.args.members.now) (row_count f c.args.members.now 0 false e) (sym (c.begins_with_empty.ensures f) ∙ c.if-begins_with_empty.false) (c.write_chain.ensures (infix_of (codes "|")) bar_bytes (λ n. refl))
+    writes_choice (rows_of f c.args.members.now) (row_count f c.args.members.now 0 false e) (sym (c.begins_with_empty.ensures f) ∙ c.if-begins_with_empty.false) (c.write_chain.ensures (infix_of (codes "|")) bar_bytes bar_depth)
 
 pub write_interleave-returns-then-is_empty : goal.write_interleave-returns-then-is_empty
 write_interleave-returns-then-is_empty t c =
@@ -68,7 +78,7 @@ pub write_interleave-returns-else-begins_with_text : goal.write_interleave-retur
 write_interleave-returns-else-begins_with_text t c =
     let f = prefixes_view c.args.prefixes.now in
     let e : nat_eq (length c.args.members.now) 0 ≡ false = search rules in
-    writes_interleave (rows_of f c.args.members.now) (row_count f c.args.members.now 0 false e) (sym (c.begins_with_text.ensures f) ∙ c.if-begins_with_text.false) (c.write_chain.ensures (infix_of (codes "&")) ampersand_bytes (λ n. refl))
+    writes_interleave (rows_of f c.args.members.now) (row_count f c.args.members.now 0 false e) (sym (c.begins_with_text.ensures f) ∙ c.if-begins_with_text.false) (c.write_chain.ensures (infix_of (codes "&")) ampersand_bytes ampersand_depth)
 
 pub write_mixed-returns-then-members-eq2 : goal.write_mixed-returns-then-members-eq2
 write_mixed-returns-then-members-eq2 t c =
@@ -79,7 +89,7 @@ write_mixed-returns-then-members-eq2 t c =
 pub write_mixed-returns-else-members-eq2 : goal.write_mixed-returns-else-members-eq2
 write_mixed-returns-else-members-eq2 t c =
     let f = prefixes_view c.args.prefixes.now in
-    writes_several_mixed f c.args.members.now c.if-members-eq2.false (c.write_chain.ensures (infix_of (codes "&")) ampersand_bytes (λ n. refl))
+    writes_several_mixed f c.args.members.now c.if-members-eq2.false (c.write_chain.ensures (infix_of (codes "&")) ampersand_bytes ampersand_depth)
 
 pub write_optional-returns-then-members-eq1 : goal.write_optional-returns-then-members-eq1
 write_optional-returns-then-members-eq1 t c =
@@ -95,7 +105,7 @@ write_optional-returns-then-members-eq2 t c =
 pub write_optional-returns-else-members-eq2 : goal.write_optional-returns-else-members-eq2
 write_optional-returns-else-members-eq2 t c =
     let f = prefixes_view c.args.prefixes.now in
-    writes_others f c.args.members.now c.requires c.if-members-eq1.false c.if-members-eq2.false c.open_bracket.ensures (c.write_chain.ensures (infix_of (codes "|")) bar_bytes (λ n. refl)) c.close_bracket.ensures c.put-else-members-eq2.ensures
+    writes_others f c.args.members.now c.requires c.if-members-eq1.false c.if-members-eq2.false c.open_bracket.ensures (c.write_chain.ensures (infix_of (codes "|")) bar_bytes bar_depth) c.close_bracket.ensures c.put-else-members-eq2.ensures
 
 pub write_optional_one-returns-in-OneOrMore : goal.write_optional_one-returns-in-OneOrMore
 write_optional_one-returns-in-OneOrMore t c =
@@ -179,7 +189,7 @@ pub write_pattern-returns-in-Group : goal.write_pattern-returns-in-Group
 write_pattern-returns-in-Group t c =
     let f = prefixes_view c.args.prefixes.now in
     let e = ap (λ p. (written_tree f (pattern_view p)).pieces) c.in-Group.is ∙ ap (λ w. w.pieces) (group_rows f c.in-Group.members) ∙ ap (λ ps. chain comma (rows_of f ps)) (sym c.deref-in-Group.ensures.value) in
-    writes_as (sym e) (c.write_chain.ensures comma comma_bytes (λ n. refl))
+    writes_as (sym e) (c.write_chain.ensures comma comma_bytes comma_depth)
 
 pub write_pattern-returns-in-Interleave : goal.write_pattern-returns-in-Interleave
 write_pattern-returns-in-Interleave t c =

@@ -1,4 +1,4 @@
-use Rattle.std.proofs.Common.{◌≡◌, ℕ, ◌-◌, List, map, take, drop, Some}
+use Rattle.std.proofs.Common.{◌≡◌, ℕ, ◌-◌, List, take, drop, Some}
 use Rattle.rn_text.specs.Parts.{Piece}
 use Rattle.rn_simplify.specs.Spelling.{chain}
 use Rattle.rn_simplify.specs.Writes.{bytes_of, depth_after, prefixes_view, rows_of, Writes}

@@ -1,9 +1,8 @@
-use Rattle.std.proofs.Common.{◌≡◌, ◌+◌, [], ◌∷◌, ◌++◌, take, sym, ap, ◌∙◌, subst, arith, refl}
-use Rattle.std.specs.Prelude.{string_bytes}
+use Rattle.std.proofs.Common.{◌≡◌, ◌+◌, [], ◌∷◌, ◌++◌, take, sym, ap, ◌∙◌, subst, arith}
 use Rattle.std.proofs.lemmas.List.{take_more, take_all, map-append}
-use Rattle.rn_simplify.specs.Spelling.{params_pieces, param_pieces}
+use Rattle.rn_simplify.specs.Spelling.{params_pieces}
 use Rattle.rn_pattern.specs.View.{parameters_view}
-use Rattle.rn_simplify.specs.Writes.{Writes, WritesBytes, none}
+use Rattle.rn_simplify.specs.Writes.{Writes}
 use Rattle.rn_simplify.proofs.Writing.{writes_nil, writes_as}
 use Rattle.rn_simplify.proofs.PatternTexts.{writes_param, writes_params_more, spaced, spaced_first, spaced_viewed}
 use Rattle.rn_simplify.proofs.pattern.write_params.Goals as goal

@@ -1,4 +1,4 @@
-use Rattle.std.proofs.Common.{◌≡◌, [], true, false, sym, ◌∙◌, rules}
+use Rattle.std.proofs.Common.{◌≡◌, [], true, false, sym, ◌∙◌}
 use Rattle.std.specs.Prelude.{codes, bytes_eq, ◌&&◌}
 use Rattle.rn_simplify.specs.Writes.{prefixes_view}
 use Rattle.rn_simplify.proofs.PatternTexts.{writes_token, writes_value}

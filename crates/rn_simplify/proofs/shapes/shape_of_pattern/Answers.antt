@@ -1,5 +1,5 @@
-use Rattle.std.proofs.Common.{◌≡◌, sym, ap, ◌∙◌}
-use Rattle.rn_simplify.specs.Spelling.{Shape, Written, written_tree, written_interleave, written_choice}
+use Rattle.std.proofs.Common.{sym, ap, ◌∙◌}
+use Rattle.rn_simplify.specs.Spelling.{written_tree, written_interleave, written_choice}
 use Rattle.rn_pattern.specs.View.{pattern_view}
 use Rattle.rn_simplify.specs.Writes.{rows_of}
 use Rattle.rn_simplify.proofs.Members.{interleave_rows, choice_rows}

@@ -1,8 +1,7 @@
-use Rattle.std.proofs.Common.{◌≡◌, ◌∷◌, [], ◌++◌, ◌<◌, ◌^◌, sym, ap, ◌∙◌, subst, rules, true, false, length, nat_eq, arith}
+use Rattle.std.proofs.Common.{◌≡◌, ◌++◌, ◌<◌, ◌^◌, ap, ◌∙◌, subst, rules, true, false, length, nat_eq}
 use Rattle.std.specs.Prelude.{codes, decimal, bytes_eq}
-use Rattle.std.specs.Str.{encode_utf8_all}
 use Rattle.rn_syntax.specs.Places.{xml_uri}
-use Rattle.rn_simplify.specs.Spelling.{namespace_prefix, place}
+use Rattle.rn_simplify.specs.Spelling.{place}
 use Rattle.rn_simplify.specs.Writes.{prefixes_view, WritesBytes, none}
 use Rattle.rn_simplify.proofs.Writing.{bytes_then}
 use Rattle.rn_simplify.proofs.PartTexts.{xml_namespace, other_namespace}

@@ -1,22 +1,17 @@
-use Rattle.std.proofs.Common.{◌≡◌, length, nat_eq, true, false, rules}
-use Rattle.std.specs.Prelude.{bytes_eq}
-use Rattle.rn_syntax.specs.Places.{xsd_uri}
-use Rattle.rn_simplify.specs.Writes.{prefixes_view}
-use Rattle.rn_simplify.proofs.PartTexts.{writes_built_in, writes_schema_type, writes_library_type}
+use Rattle.std.proofs.Common.{◌≡◌, ◌∷◌, [], length, nat_eq, true, false, sym, subst, rules}
+use Rattle.rn_simplify.specs.Writes.{prefixes_view, WritesBytes, none}
+use Rattle.rn_simplify.proofs.PartTexts.{writes_built_in, writes_library_type}
 use Rattle.rn_simplify.proofs.declarations.Prefixes.write_type.Goals as goal
+use Rattle.rn_simplify.proofs.declarations.Prefixes.write_type.Goals.{then-not-is_empty, else-not-is_empty}
 
-pub returns-then-is_empty : goal.returns-then-is_empty
-returns-then-is_empty c =
-    let e : nat_eq (length c.args.library.now) 0 ≡ true = search rules in
-    writes_built_in (prefixes_view c.args.self.now) c.args.library.now c.args.type_name.now e c.utf8.type_name c.put.ensures
-
-pub returns-then-eq : goal.returns-then-eq
-returns-then-eq c =
-    let h : bytes_eq c.args.library.now xsd_uri ≡ true = search rules in
-    writes_schema_type (prefixes_view c.args.self.now) c.args.library.now c.args.type_name.now h c.utf8.type_name c.put-then-eq.ensures c.put-then-eq-2.ensures
-
-pub returns-else-eq : goal.returns-else-eq
-returns-else-eq c =
-    let e : nat_eq (length c.args.library.now) 0 ≡ false = search rules in
-    let h : bytes_eq c.args.library.now xsd_uri ≡ false = search rules in
-    writes_library_type (prefixes_view c.args.self.now) c.args.library.now c.args.type_name.now c.place.result e h c.utf8.type_name c.place.ensures c.place.type_inv c.put-else-eq.ensures c.number.ensures c.put-else-eq-2.ensures c.put-else-eq-3.ensures
+pub returns : goal.returns
+returns c =
+    let f = prefixes_view c.args.self.now in
+    elim c.if-not-is_empty.branch [
+      | then-not-is_empty w ↦
+          let e : nat_eq (length c.args.library.now) 0 ≡ false = search rules in
+          writes_library_type f c.args.library.now c.args.type_name.now e c.utf8.type_name w.write_library.ensures (subst (λ x. WritesBytes (58 ∷ []) none w.write_library.new.writer x) (sym w.writer-is) w.put.ensures) c.put-2.ensures
+      | else-not-is_empty w ↦
+          let e : nat_eq (length c.args.library.now) 0 ≡ true = search rules in
+          writes_built_in f c.args.library.now c.args.type_name.now e c.utf8.type_name (subst (λ x. WritesBytes c.args.type_name.now none x c.put-2.new.self) w.writer-is c.put-2.ensures)
+    ]

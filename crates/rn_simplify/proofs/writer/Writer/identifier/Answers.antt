@@ -1,4 +1,4 @@
-use Rattle.std.proofs.Common.{◌≡◌, ◌∷◌, [], cond, chars, sym, ap, ◌∙◌, subst, true, false, rules}
+use Rattle.std.proofs.Common.{◌≡◌, ◌∷◌, [], cond, chars, sym, subst, true, false, rules}
 use Rattle.rn_text.specs.Characters.{is_keyword}
 use Rattle.rn_simplify.specs.Writes.{WritesBytes, none}
 use Rattle.rn_simplify.proofs.Writing.{bytes_then}

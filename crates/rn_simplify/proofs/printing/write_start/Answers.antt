@@ -1,0 +1,7 @@
+use Rattle.rn_pattern.specs.View.{pattern_view}
+use Rattle.rn_simplify.specs.Writes.{prefixes_view}
+use Rattle.rn_simplify.proofs.LineTexts.{writes_start}
+use Rattle.rn_simplify.proofs.printing.write_start.Goals as goal
+
+pub returns : goal.returns
+returns c = writes_start (prefixes_view c.args.prefixes.now) (pattern_view c.args.start.now) c.put.ensures c.write_body.ensures

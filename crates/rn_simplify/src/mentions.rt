@@ -1,0 +1,139 @@
+// The namespaces and the datatype libraries that a grammar mentions.
+ghost use Rattle.std.specs.Prelude.{◌≡◌, ◌∷◌, [], IfOk, OnOk, map};
+ghost use Rattle.rn_pattern.specs.Tree.{name_trees_of, trees_of};
+ghost use Rattle.rn_pattern.specs.View.{name_class_view, pattern_view, shared_view};
+ghost use Rattle.rn_simplify.specs.NormalView.{definitions_view, normal_view};
+ghost use Rattle.rn_simplify.specs.Spelling.{has_wide_empty};
+ghost use Rattle.rn_simplify.specs.Gathers.{GathersTexts, Gathers, IsGathered, by_any_of, by_definitions, by_grammar, by_library, by_name, by_names, by_tree, by_trees};
+
+use crate::normal::Normal;
+use rn_pattern::{NameClass, Pattern};
+use std::alloc::{AllocError, Global};
+use std::collections::BTreeSet;
+use std::rc::Rc;
+
+/// What a grammar mentions.
+#[derive(Drop)]
+pub(crate) struct Mentions {
+    pub(crate) namespaces: BTreeSet<String>,
+    pub(crate) libraries: BTreeSet<String>,
+    /// Every name of the empty namespace stands in a name class.
+    pub(crate) any_of_none: bool,
+}
+
+impl Mentions {
+    pub(crate) fn of(alloc: Global, normal: &Normal) -> Result<Mentions, AllocError>
+        ensures namespaces { IfOk result (λ m. IsGathered (by_grammar (normal_view normal.now)).namespaces m.namespaces) }
+        ensures wide { IfOk result (λ m. m.any_of_none ≡ has_wide_empty (normal_view normal.now)) }
+        ensures libraries { IfOk result (λ m. IsGathered (by_grammar (normal_view normal.now)).libraries m.libraries) }
+    {
+        let mut mentions = Mentions {
+            namespaces: BTreeSet::new(alloc),
+            libraries: BTreeSet::new(alloc),
+            any_of_none: false,
+        };
+        mentions.add_pattern(alloc, &normal.start)?;
+        mentions.add_definitions(alloc, normal.defs.as_slice())?;
+        Ok(mentions)
+    }
+
+    fn add_definitions(
+        &mut self,
+        alloc: Global,
+        defs: &[(String, Pattern)],
+    ) -> Result<(), AllocError>
+        ensures { OnOk result (Gathers (by_definitions (definitions_view defs.now)) self.old self.new) }
+    {
+        for (_, body) in defs {
+            self.add_pattern(alloc, body)?;
+        }
+        Ok(())
+    }
+
+    #[cycle(add_pattern)]
+    fn add_pattern(&mut self, alloc: Global, pattern: &Pattern) -> Result<(), AllocError>
+        ensures { OnOk result (Gathers (by_tree (pattern_view pattern.now)) self.old self.new) }
+    {
+        match pattern {
+            Pattern::NotAllowed | Pattern::Empty | Pattern::Text | Pattern::Ref(_) => Ok(()),
+            Pattern::Value(library, _, _) => self.add_library(alloc, library),
+            Pattern::Datum(library, _, _, None) => self.add_library(alloc, library),
+            Pattern::Datum(library, _, _, Some(except)) => {
+                self.add_library(alloc, library)?;
+                self.add_pattern(alloc, except)
+            }
+            Pattern::Attribute(class, content) | Pattern::Element(class, content) => {
+                self.add_class(alloc, class)?;
+                self.add_pattern(alloc, content)
+            }
+            Pattern::List(content) | Pattern::OneOrMore(content) => {
+                self.add_pattern(alloc, content)
+            }
+            Pattern::Group(members) | Pattern::Interleave(members) | Pattern::Choice(members) => {
+                self.add_patterns(alloc, members)
+            }
+        }
+    }
+
+    #[cycle(add_pattern)]
+    fn add_patterns(&mut self, alloc: Global, members: &[Rc<Pattern>]) -> Result<(), AllocError>
+        ensures { OnOk result (Gathers (by_trees (trees_of (map shared_view members.now))) self.old self.new) }
+    {
+        for member in members {
+            self.add_pattern(alloc, member)?;
+        }
+        Ok(())
+    }
+
+    #[cycle(add_class)]
+    fn add_class(&mut self, alloc: Global, class: &NameClass) -> Result<(), AllocError>
+        ensures { OnOk result (Gathers (by_name (name_class_view class.now)) self.old self.new) }
+    {
+        match class {
+            NameClass::AnyName(None) => Ok(()),
+            NameClass::AnyName(Some(except)) => self.add_class(alloc, except),
+            NameClass::NsName(uri, None) => self.add_any_of(alloc, uri),
+            NameClass::NsName(uri, Some(except)) => {
+                self.add_any_of(alloc, uri)?;
+                self.add_class(alloc, except)
+            }
+            NameClass::Name(uri, _) => insert(alloc, &mut self.namespaces, uri),
+            NameClass::Choice(members) => self.add_classes(alloc, members),
+        }
+    }
+
+    #[cycle(add_class)]
+    fn add_classes(&mut self, alloc: Global, members: &[NameClass]) -> Result<(), AllocError>
+        ensures { OnOk result (Gathers (by_names (name_trees_of (map name_class_view members.now))) self.old self.new) }
+    {
+        for member in members {
+            self.add_class(alloc, member)?;
+        }
+        Ok(())
+    }
+
+    /// Adds the namespace of a class of all its names.
+    fn add_any_of(&mut self, alloc: Global, uri: &str) -> Result<(), AllocError>
+        ensures { OnOk result (Gathers (by_any_of uri.now) self.old self.new) }
+    {
+        if uri.is_empty() {
+            self.any_of_none = true;
+        }
+        insert(alloc, &mut self.namespaces, uri)
+    }
+
+    fn add_library(&mut self, alloc: Global, library: &str) -> Result<(), AllocError>
+        ensures { OnOk result (Gathers (by_library library.now) self.old self.new) }
+    {
+        insert(alloc, &mut self.libraries, library)
+    }
+}
+
+fn insert(alloc: Global, texts: &mut BTreeSet<String>, text: &str) -> Result<(), AllocError>
+    ensures { OnOk result (GathersTexts (text.now ∷ []) texts.old texts.new) }
+{
+    if !texts.contains(text) {
+        texts.insert(String::from_str(alloc, text)?)?;
+    }
+    Ok(())
+}
