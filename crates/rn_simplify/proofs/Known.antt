@@ -12,7 +12,7 @@ use Rattle.rn_pattern.specs.Canonical.{canonical, canonical_all}
 use Rattle.rn_pattern.specs.CanonicalShape.{IsCanonicalPattern}
 use Rattle.rn_pattern.specs.View.{shared_view}
 use Rattle.rn_pattern.specs.declared.tree.Pattern.{Pattern}
-use Rattle.rn_pattern.specs.Tree.{Text, Tree, Trees, ref, trees_of}
+use Rattle.rn_pattern.specs.Tree.{Text, Tree, ref, trees_of}
 use Rattle.rn_pattern.specs.Store.{KeepsTrees}
 use Rattle.rn_simplify.specs.Numbered.{AreKnown, number_of, settled_by}
 

@@ -1,6 +1,5 @@
 -- What is settled in order, formed and pruned is the canonical grammar.
-use Rattle.std.proofs.Common.{◌≡◌, ◌⊎◌, ℕ, List, [], ◌∷◌, map, Option, Some, None, refl, sym, ap, ◌∙◌, subst}
-use Rattle.std.specs.Prelude.{bytes_eq}
+use Rattle.std.proofs.Common.{◌≡◌, ℕ, List, [], ◌∷◌, map, Option, Some, None, refl, ap, ◌∙◌, subst}
 use Rattle.std.specs.Option.{option_map_or}
 use Rattle.rn_pattern.specs.Tree.{Text, Tree, ref}
 use Rattle.rn_pattern.specs.Matching.{Grammar, definition_of}

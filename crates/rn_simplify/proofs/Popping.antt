@@ -1,8 +1,7 @@
 -- A list that is popped to its front, and what is kept of it.
-use Rattle.std.proofs.Common.{◌≡◌, ◌+◌, ◌<◌, ◌≤◌, ℕ, suc, Bool, true, false, cond, List, [], ◌∷◌, ◌++◌, length, take, drop, get_or, reverse, refl, sym, ap, ◌∙◌, subst, arith, append_assoc, append-nil}
+use Rattle.std.proofs.Common.{◌≡◌, ◌+◌, ◌<◌, ◌≤◌, ℕ, Bool, true, false, cond, List, [], ◌∷◌, ◌++◌, length, take, drop, get_or, reverse, refl, sym, ap, ◌∙◌, arith, append_assoc, append-nil}
 use Rattle.std.proofs.Math.Seq.{take-append_seam, drop-append_seam}
 use Rattle.std.proofs.lemmas.List.{take-append-drop, drop_more, drop_all, take_all, length_push, reverse-append}
-use Rattle.rn_assemble.specs.Graph.{is_marked}
 use Rattle.rn_simplify.specs.Marked.{marked}
 
 -- what is left is the front, and what is kept the elements behind it that have a mark, the last one first

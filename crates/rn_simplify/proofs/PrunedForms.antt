@@ -1,5 +1,5 @@
 -- The forms that are reached, sorted by their names, are the grammar of forms, pruned.
-use Rattle.std.proofs.Common.{◌≡◌, ◌↔◌, ◌⊎◌, inl, inr, ⊎_elim, ◌+◌, ◌-◌, ◌<◌, ◌≤◌, ℕ, zero, suc, Bool, true, false, cond, List, [], ◌∷◌, ◌++◌, length, map, take, drop, get_or, reverse, position, Option, Some, None, refl, sym, ap, ◌∙◌, subst, arith, Ordering, Less, Equal, Greater, Bor}
+use Rattle.std.proofs.Common.{◌≡◌, ⊎_elim, ◌+◌, ◌<◌, ℕ, zero, suc, Bool, true, false, cond, List, [], ◌∷◌, length, map, get_or, reverse, position, Some, refl, sym, ap, ◌∙◌, subst, arith, Ordering, Less, Equal, Greater, Bor}
 use Rattle.std.specs.Prelude.{bytes_eq, Contains, Decides, IsPermutation, IsSortedBy, String, string_bytes}
 use Rattle.std.specs.Ordering.{is_lt, ordering_reverse}
 use Rattle.std.specs.Cmp.{IsStrictWeakOrder}
@@ -98,7 +98,6 @@ rises_at : (x y : Text) (o : Ordering) → text_cmp x y ≡ o → is_lt (text_cm
 rises_at x y Less e f g = refl
 rises_at x y Equal e f g = absurd (false≢true (sym g ∙ (bytes_eq-Decides x y).1 (equal_is x y e)))
 rises_at x y Greater e f g = absurd (false≢true (sym f ∙ ap is_lt (nat_list_cmp_total.antisymm y x ∙ ap ordering_reverse e)))
-
 
 abbrev pub names : List (String Global × Pattern) → List Text
 names es = map (λ (d : Text × Tree). d.0) (definitions_view es)

@@ -1,5 +1,5 @@
 -- The references of a pattern are the names that it refers to.
-use Rattle.std.proofs.Common.{◌≡◌, ◌⊎◌, inl, inr, ⊎_elim, ℕ, List, [], ◌∷◌, ◌++◌, Option, Some, None, refl, sym, ap, ◌∙◌, subst, arith}
+use Rattle.std.proofs.Common.{◌≡◌, inl, inr, ⊎_elim, List, [], ◌∷◌, Option, Some, None, refl, sym, ap, ◌∙◌, subst, arith}
 use Rattle.std.specs.Prelude.{Contains}
 use Rattle.std.specs.List.{filter_map, cons_option}
 use Rattle.std.proofs.lemmas.List.Elements.{Contains-append_left, Contains-append_right, Contains-append_cases}
@@ -7,7 +7,7 @@ use Rattle.rn_pattern.specs.Tree.{Text, Tree, Trees, ref, datum_but, list, attri
 use Rattle.rn_pattern.specs.Reached.{RefersTo, SomeRefersTo}
 use Rattle.rn_pattern.specs.References.{RefersOutside, SomeRefersOutside}
 use Rattle.rn_pattern.proofs.InOrder.{contains_behind, contains_front, contains_cases}
-use Rattle.rn_simplify.specs.Referred.{Scope, references, all_references}
+use Rattle.rn_simplify.specs.Referred.{references, all_references}
 use Rattle.rn_simplify.specs.declared.references.Scope.TheVariants.{Everywhere, OutsideElements}
 
 pub contains_none : {X : Type 0} (x : X) → Contains [] x → ⊥

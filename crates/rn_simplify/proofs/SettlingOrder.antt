@@ -1,9 +1,8 @@
 -- Definitions that are reached, sorted by ranks along references outside elements, can be settled in that order.
-use Rattle.std.proofs.Common.{◌≡◌, ◌⊎◌, inl, inr, ⊎_elim, ◌+◌, ◌<◌, ◌≤◌, ℕ, zero, suc, Bool, true, false, cond, nat_eq, List, [], ◌∷◌, length, take, get_or, Option, Some, None, refl, sym, ap, ◌∙◌, subst, arith, Vec}
+use Rattle.std.proofs.Common.{◌≡◌, ◌⊎◌, inl, inr, ◌<◌, ◌≤◌, ℕ, Bool, true, false, cond, nat_eq, List, [], length, take, get_or, Option, Some, None, refl, sym, ap, ◌∙◌, subst, arith, Vec}
 use Rattle.std.specs.Prelude.{bytes_eq, Contains, Decides, IsSomeAnd, IsPermutation, String, string_bytes}
 use Rattle.std.specs.declared.alloc.Global.{Global}
 use Rattle.std.specs.Option.{option_map_or}
-use Rattle.std.specs.List.{IsDistinct}
 use Rattle.std.specs.List.Sorted.{IsNonDecreasingBy}
 use Rattle.std.specs.Map.{lookup}
 use Rattle.std.proofs.lemmas.Bool.{cases_lt, false≢true}
@@ -17,7 +16,7 @@ use Rattle.rn_pattern.specs.View.{pattern_view}
 use Rattle.rn_pattern.specs.declared.tree.Pattern.{Pattern}
 use Rattle.rn_pattern.specs.Matching.{Grammar, definition_of}
 use Rattle.rn_pattern.specs.Reached.{RefersTo, IsReached, by_start, by_definition}
-use Rattle.rn_pattern.specs.References.{RefersOutside, IsUndefined, Reaches, by_one, by_more, LeadsTo}
+use Rattle.rn_pattern.specs.References.{RefersOutside, Reaches, by_one, by_more, LeadsTo}
 use Rattle.rn_assemble.specs.Graph.{AllBelow, IsGraph, Reached, is_marked, row, rows_of}
 use Rattle.rn_assemble.specs.GrammarView.{definitions_view}
 use Rattle.rn_assemble.specs.Order.{Leads, by_edge, and_edge, rank_of, IsRanking}
@@ -25,7 +24,7 @@ use Rattle.rn_assemble.specs.WellFormed.{IsWellFormed}
 use Rattle.rn_simplify.specs.Marked.{ArePlaces}
 use Rattle.rn_simplify.specs.Numbered.{graph_of, number_of, numbers_of, start_of}
 use Rattle.rn_simplify.specs.Referred.{references}
-use Rattle.rn_simplify.specs.Settling.{IsInOrder, IsSettlingOrder}
+use Rattle.rn_simplify.specs.Settling.{IsSettlingOrder}
 use Rattle.rn_simplify.specs.declared.references.Scope.TheVariants.{OutsideElements}
 use Rattle.rn_simplify.proofs.Forms.{found_in}
 use Rattle.rn_simplify.proofs.RankOrder.{outside_refers}

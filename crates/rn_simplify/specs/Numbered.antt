@@ -1,5 +1,5 @@
 -- Definitions by their numbers, and what references to them become.
-use Rattle.std.specs.Prelude.{◌≡◌, ℕ, ◌<◌, Bool, IsTrue, All, IfSome, List, [], ◌∷◌, Option, Some, None, Contains, map, length, position, bytes_eq, slice_index_or, slice_set, option_and_then}
+use Rattle.std.specs.Prelude.{◌≡◌, ℕ, Bool, IsTrue, All, IfSome, List, Option, Some, None, Contains, map, position, bytes_eq, slice_index_or, slice_set, option_and_then}
 use Rattle.std.specs.List.{filter_map}
 use Rattle.std.specs.Option.{option_map_or}
 use Rattle.std.specs.Map.{lookup}

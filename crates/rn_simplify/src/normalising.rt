@@ -24,7 +24,7 @@ use rn_assemble::Grammar;
 use rn_pattern::{Interned, Pattern, Patterns};
 use std::alloc::{AllocError, Global};
 
-/// The canonical grammar, built in a store of its own.
+/// The canonical grammar of a well-formed grammar, built in a store of its own. The only error is want of memory.
 pub fn normalise(alloc: Global, grammar: &Grammar) -> Result<Normal, AllocError>
     ensures { IfOk result (λ n. IsWellFormed (grammar_view grammar.now) → IsCanonicalOf (grammar_view grammar.now) (normal_view n)) }
 {
@@ -32,7 +32,8 @@ pub fn normalise(alloc: Global, grammar: &Grammar) -> Result<Normal, AllocError>
     normalise_in(alloc, grammar, &mut store)
 }
 
-/// The canonical grammar, built in `store`, whose earlier ids keep their patterns. After a refusal they keep them too, and the store may hold more ids.
+/// The canonical grammar of a well-formed grammar, built in `store`, whose earlier ids keep their patterns. After a refusal
+/// they keep them too, and the store may hold more ids. The only error is want of memory.
 pub fn normalise_in<P: Patterns>(
     alloc: Global,
     grammar: &Grammar,
@@ -63,7 +64,7 @@ fn settle<P: Patterns>(
     ensures canonical { IfOk result (λ v. All (λ o. IfSome o (λ i. IsCanonicalPattern (P.tree_of store.new i))) v.items) }
     ensures settled { IfOk result (λ v. IsInOrder (definitions_view names.now.entries) order.now
         → AreSettled (definitions_view names.now.entries) order.now
-            (settled_by (P.tree_of store.new) (definitions_view names.now.entries) v.items)) }
+        (settled_by (P.tree_of store.new) (definitions_view names.now.entries) v.items)) }
     ensures kept { KeepsTrees (P.knows store.old) (P.tree_of store.old) (P.knows store.new) (P.tree_of store.new) }
 {
     let mut none = Vec::new(alloc);
@@ -85,7 +86,6 @@ fn settle_one<P: Patterns>(
     settled: &mut Settled<'_, P::Id>,
 ) -> Result<(), AllocError>
     requires known { AreKnown (P.knows store.old) settled.old.worth.items }
-    requires size { length settled.old.worth.items ≡ length settled.old.names.now.entries }
     requires within { number < length settled.old.names.now.entries }
     ensures names { settled.new.names.now.entries ≡ settled.old.names.now.entries }
     ensures known { OnOk result (AreKnown (P.knows store.new) settled.new.worth.items) }
@@ -126,8 +126,11 @@ fn forms<P: Patterns>(
     settled: &Settled<'_, P::Id>,
 ) -> Result<Vec<(String, Pattern)>, AllocError>
     requires { AreKnown (P.knows store.old) settled.now.worth.items }
-    ensures made { IfOk result (λ v. definitions_view v.items ≡ map (λ (d : Text × Tree). (d.0, form.canonical
-        (settled_by (P.tree_of store.old) (definitions_view settled.now.names.now.entries) settled.now.worth.items) d.1))
+    ensures made { IfOk result (λ v. definitions_view v.items ≡ map (λ (d : Text × Tree). (
+      d.0,
+      form.canonical
+          (settled_by (P.tree_of store.old) (definitions_view settled.now.names.now.entries) settled.now.worth.items) d.1,
+    ))
         (definitions_view settled.now.names.now.entries)) }
     ensures distinct { IfOk result (λ v. IsDistinct bytes_eq (map (λ d. d.0) (definitions_view v.items))) }
     ensures kept { KeepsTrees (P.knows store.old) (P.tree_of store.old) (P.knows store.new) (P.tree_of store.new) }

@@ -53,7 +53,7 @@ fn outside_references(
     ensures size { IfOk result (λ v. length v.items ≡ length names.now.entries) }
     ensures rows { IfOk result (λ v. (k : ℕ) (d : Text × Tree) → k < length names.now.entries → row (rows_of v.items) k
         ≡ cond (is_marked is_reached.now k) (numbers_of (definitions_view names.now.entries)
-            (references OutsideElements (slice_index_or (definitions_view names.now.entries) k d).1)) []) }
+        (references OutsideElements (slice_index_or (definitions_view names.now.entries) k d).1)) []) }
 {
     let mut rows = Vec::new(alloc);
     for number in 0..is_reached.len() {

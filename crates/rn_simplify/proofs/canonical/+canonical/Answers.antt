@@ -1,6 +1,5 @@
-use Rattle.std.proofs.Common.{IfOk, ◌≡◌, ◌++◌, [], ◌∷◌, refl, length, map, ap, sym, subst, ◌∙◌, arith}
+use Rattle.std.proofs.Common.{IfOk, ◌≡◌, refl, length, map, ap, sym, subst, ◌∙◌, arith}
 use Rattle.std.specs.Prelude.{All, IsTrue}
-use Rattle.std.proofs.lemmas.List.{take_all}
 use Rattle.rn_assemble.specs.GrammarView.{definitions_view}
 use Rattle.rn_pattern.specs.Canonical.{canonical, canonical_all, group_step, interleave_step, choice_step}
 use Rattle.rn_pattern.specs.Store.{StandsFor}

@@ -1,4 +1,4 @@
-use Rattle.std.proofs.Common.{◌≡◌, ℕ, List, map, take}
+use Rattle.std.proofs.Common.{◌≡◌, map, take}
 use Rattle.std.specs.Prelude.{All, IsTrue}
 use Rattle.rn_pattern.specs.Store.{KeepsTrees}
 use Rattle.rn_simplify.specs.Numbered.{AreKnown, settled_by}

@@ -8,7 +8,7 @@ use Rattle.rn_pattern.specs.Canonical as form
 use Rattle.rn_pattern.specs.Tree.{Text, Tree}
 use Rattle.rn_pattern.specs.View.{pattern_view}
 use Rattle.rn_simplify.specs.Numbered.{settled_by}
-use Rattle.rn_simplify.proofs.Known.{keeps_then, known_still, settled_still}
+use Rattle.rn_simplify.proofs.Known.{keeps_then, settled_still}
 use Rattle.rn_simplify.proofs.Marks.{seen_more, distinct_names}
 use Rattle.rn_simplify.proofs.Normalised.{names_formed}
 use Rattle.rn_simplify.proofs.normalising.forms.Goals as goal

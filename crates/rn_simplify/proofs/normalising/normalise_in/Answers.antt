@@ -10,7 +10,7 @@ use Rattle.rn_assemble.specs.GrammarView.{definitions_view, grammar_view}
 use Rattle.rn_assemble.specs.WellFormed.{IsWellFormed}
 use Rattle.rn_simplify.specs.NormalView.{normal_view}
 use Rattle.rn_simplify.specs.Numbered.{AreSettled, settled_by}
-use Rattle.rn_simplify.specs.Settling.{IsInOrder, IsSettlingOrder}
+use Rattle.rn_simplify.specs.Settling.{IsInOrder}
 use Rattle.rn_simplify.proofs.Known.{settled_still}
 use Rattle.rn_simplify.proofs.Normalised.{normalised, formed_is, names_formed}
 use Rattle.rn_simplify.proofs.Numbers.{size_of_view}

@@ -1,4 +1,4 @@
-use Rattle.std.proofs.Common.{◌≡◌, ◌<◌, length, get_or, false, refl, ap, arith}
+use Rattle.std.proofs.Common.{◌≡◌, length, get_or, false, refl, ap, arith}
 use Rattle.rn_simplify.proofs.Popping.{begins, popped, within}
 use Rattle.rn_simplify.proofs.reachable.only_marked.Goals as goal
 
