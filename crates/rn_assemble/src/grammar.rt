@@ -1,4 +1,8 @@
 // The grammar of a set.
+ghost use Rattle.std.specs.Prelude.{◌≡◌};
+ghost use Rattle.rn_assemble.specs.GrammarView.{definitions_view, grammar_view};
+ghost use Rattle.rn_pattern.specs.View.{pattern_view};
+
 use indexmap::IndexMap;
 use rn_pattern::Pattern;
 
@@ -11,12 +15,16 @@ pub struct Grammar {
 
 impl Grammar {
     /// The start pattern.
-    pub fn start(&self) -> &Pattern {
+    pub fn start(&self) -> &Pattern
+        ensures { pattern_view result.now ≡ (grammar_view self.now).start }
+    {
         &self.start
     }
 
     /// The definitions, in the order of each name's first component.
-    pub fn defs(&self) -> &IndexMap<String, Pattern> {
+    pub fn defs(&self) -> &IndexMap<String, Pattern>
+        ensures { definitions_view result.now.entries ≡ (grammar_view self.now).definitions }
+    {
         &self.defs
     }
 }

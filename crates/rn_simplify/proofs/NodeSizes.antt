@@ -1,5 +1,5 @@
 -- The sizes of the patterns in a node.
-use Rattle.std.proofs.Common.{◌≡◌, ℕ, zero, suc, ◌+◌, ◌<◌, ◌≤◌, List, [], ◌∷◌, length, map, get_or, refl, sym, ap, ◌∙◌, arith}
+use Rattle.std.proofs.Common.{◌≡◌, ℕ, zero, suc, ◌+◌, ◌<◌, ◌≤◌, List, [], ◌∷◌, length, map, get_or, refl, ap, arith}
 use Rattle.rn_pattern.specs.Tree.{Tree, trees_of}
 use Rattle.rn_simplify.specs.Sizes.{tree_size, trees_size, ids_size}
 

@@ -1,13 +1,47 @@
--- Definitions by their numbers, and what a store keeps while they are settled.
-use Rattle.std.specs.Prelude.{ℕ, Bool, IsTrue, All, IfSome, List, Option}
-use Rattle.rn_assemble.specs.Graph.{AllBelow}
-use Rattle.rn_simplify.specs.declared.references.References.{References}
+-- Definitions by their numbers, and what references to them become.
+use Rattle.std.specs.Prelude.{◌≡◌, ℕ, Bool, IsTrue, All, IfSome, List, Option, Some, None, Contains, map, position, bytes_eq, slice_index_or, slice_set, option_and_then}
+use Rattle.std.specs.List.{filter_map}
+use Rattle.std.specs.Option.{option_map_or}
+use Rattle.std.specs.Map.{lookup}
+use Rattle.rn_pattern.specs.Tree.{Text, Tree, ref}
+use Rattle.rn_pattern.specs.Matching.{Grammar}
+use Rattle.rn_pattern.specs.Canonical.{canonical, ref_unless_settled}
+use Rattle.rn_simplify.specs.Referred.{Scope, references}
+use Rattle.rn_simplify.specs.declared.references.Scope.TheVariants.{Everywhere}
 
--- numbers that are added are below n
-pub record StaysBelow (n : ℕ) (a b : References) : Type 0 where
-  pub all : AllBelow n a.all.items → AllBelow n b.all.items
-  pub outside : AllBelow n a.outside.items → AllBelow n b.outside.items
+-- the place of the name's definition
+abbrev pub number_of : List (Text × Tree) → Text → Option ℕ
+number_of ds x = position (bytes_eq x) (map (λ d. d.0) ds)
+
+-- the numbers of the names that have a definition
+abbrev pub numbers_of : List (Text × Tree) → List Text → List ℕ
+numbers_of ds xs = filter_map (number_of ds) xs
+
+-- of each of the definitions es, the numbers in ds of what it refers to
+abbrev pub rows_by : Scope → List (Text × Tree) → List (Text × Tree) → List (List ℕ)
+rows_by scope ds es = map (λ e. numbers_of ds (references scope e.1)) es
+
+-- the graph of the references of a grammar, and what its start refers to
+abbrev pub graph_of : Grammar → List (List ℕ)
+graph_of G = rows_by Everywhere G.definitions G.definitions
+
+abbrev pub start_of : Grammar → List ℕ
+start_of G = numbers_of G.definitions (references Everywhere G.start)
 
 -- the ids that are there are the store's
 abbrev pub AreKnown : {I : Type 0} → (I → Bool) → List (Option I) → Type 0
 AreKnown knows os = All (λ o. IfSome o (λ i. IsTrue (knows i))) os
+
+-- a reference becomes the pattern of the id that its definition is worth, or stays
+abbrev pub settled_by : {I : Type 0} → (I → Tree) → List (Text × Tree) → List (Option I) → Text → Tree
+settled_by at ds worth x = option_map_or at (option_and_then (λ k. slice_index_or worth k None) (number_of ds x)) (ref x)
+
+-- the definition with the number, whose pattern is p, is worth what its canonical form is
+pub record Settles {I : Type 0} (at at' : I → Tree) (ds : List (Text × Tree)) (worth worth' : List (Option I)) (number : ℕ) (p : Tree) : Type 0 where
+  pub id : Option I
+  pub set : worth' ≡ slice_set worth number id
+  pub is : (x : Text) → option_map_or at' id (ref x) ≡ ref_unless_settled x (canonical (settled_by at ds worth) p)
+
+-- each definition whose number is in the list is worth what its canonical form is
+abbrev pub AreSettled : List (Text × Tree) → List ℕ → (Text → Tree) → Type 0
+AreSettled ds numbers t = (x : Text) (k : ℕ) (p : Tree) → number_of ds x ≡ Some k → lookup (bytes_eq x) ds ≡ Some p → Contains numbers k → t x ≡ ref_unless_settled x (canonical t p)

@@ -26,3 +26,8 @@ ids_size at (i ∷ is) = tree_size (at i) + ids_size at is
 abbrev pub except_size : {I : Type 0} → (I → Tree) → Option I → ℕ
 except_size at None = 0
 except_size at (Some i) = 3 * tree_size (at i) + 2
+
+-- the pattern of an except, if there is one
+abbrev pub except_trees : {I : Type 0} → (I → Tree) → Option I → Trees
+except_trees at None = no_trees
+except_trees at (Some i) = more_trees (at i) no_trees

@@ -1,7 +1,15 @@
 // The canonical form of a pattern, built in a store (RELAX NG, 4.20 and 4.21).
-ghost use Rattle.std.specs.Prelude.{All, IfOk, IfSome, IsTrue};
-ghost use Rattle.rn_pattern.specs.Store.{KeepsTrees};
-ghost use Rattle.rn_simplify.specs.Numbered.{AreKnown};
+ghost use Rattle.std.specs.Prelude.{◌≡◌, All, IfOk, IfSome, IsTrue, None, length, map, option_and_then, slice_index_or};
+ghost use Rattle.std.specs.Option.{option_map_or};
+ghost use Rattle.rn_assemble.specs.GrammarView.{definitions_view};
+ghost use Rattle.rn_pattern.specs.Canonical as form;
+ghost use Rattle.rn_pattern.specs.Canonical.{canonical_all, ref_unless_settled};
+ghost use Rattle.rn_pattern.specs.CanonicalShape.{IsCanonicalPattern};
+ghost use Rattle.rn_pattern.specs.Store.{KeepsTrees, StandsFor};
+ghost use Rattle.rn_pattern.specs.Tree as tree;
+ghost use Rattle.rn_pattern.specs.Tree.{Text, trees_of};
+ghost use Rattle.rn_pattern.specs.View.{pattern_view, shared_view};
+ghost use Rattle.rn_simplify.specs.Numbered.{AreKnown, number_of, settled_by};
 
 use indexmap::IndexMap;
 use rn_pattern::{Node, Pattern, Patterns};
@@ -14,6 +22,20 @@ pub(crate) struct Settled<'g, Id> {
     pub(crate) names: &'g IndexMap<String, Pattern>,
     /// By the definition's number: the id of notAllowed or empty if the definition is worth that.
     pub(crate) worth: Vec<Option<Id>>,
+    ghost sized: { length worth.items ≡ length names.now.entries },
+}
+
+impl<Id: Copy> Settled<'_, Id> {
+    /// The id that the references to a definition become, if they do not stay.
+    fn id_of(&self, name: &str) -> Option<Id>
+        ensures { result ≡ option_and_then (λ k. slice_index_or self.now.worth.items k None)
+            (number_of (definitions_view self.now.names.now.entries) name.now) }
+    {
+        match self.names.get_index_of(name) {
+            Some(number) => self.worth[number],
+            None => None,
+        }
+    }
 }
 
 /// What a reference becomes: notAllowed or empty if its definition is worth that, else itself.
@@ -23,21 +45,22 @@ fn reference<P: Patterns>(
     name: &str,
 ) -> Result<P::Id, AllocError>
     requires { AreKnown (P.knows store.old) settled.now.worth.items }
-    ensures known { IfOk result (λ i. IsTrue (P.knows store.new i)) }
+    ensures made { IfOk result (StandsFor (P.knows store.new) (P.tree_of store.new)
+        (settled_by (P.tree_of store.old) (definitions_view settled.now.names.now.entries) settled.now.worth.items name.now)) }
     ensures kept { KeepsTrees (P.knows store.old) (P.tree_of store.old) (P.knows store.new) (P.tree_of store.new) }
 {
-    if let Some(number) = settled.names.get_index_of(name) {
-        if let Some(Some(id)) = settled.worth.get(number) {
-            return Ok(*id);
-        }
+    match settled.id_of(name) {
+        Some(id) => Ok(id),
+        None => store.reference(name),
     }
-    store.reference(name)
 }
 
 /// The id if its pattern is notAllowed or empty.
 pub(crate) fn worth<P: Patterns>(store: &P, id: P::Id) -> Option<P::Id>
     requires { IsTrue (P.knows store.now id) }
-    ensures { IfSome result (λ i. IsTrue (P.knows store.now i)) }
+    ensures known { IfSome result (λ i. IsTrue (P.knows store.now i)) }
+    ensures canonical { IfSome result (λ i. IsCanonicalPattern (P.tree_of store.now i)) }
+    ensures is { (x : Text) → option_map_or (P.tree_of store.now) result (tree.ref x) ≡ ref_unless_settled x (P.tree_of store.now id) }
 {
     match store.node(id) {
         Node::NotAllowed => Some(id),
@@ -55,7 +78,8 @@ pub(crate) fn canonical<P: Patterns>(
     pattern: &Pattern,
 ) -> Result<P::Id, AllocError>
     requires { AreKnown (P.knows store.old) settled.now.worth.items }
-    ensures known { IfOk result (λ i. IsTrue (P.knows store.new i)) }
+    ensures made { IfOk result (StandsFor (P.knows store.new) (P.tree_of store.new)
+        (form.canonical (settled_by (P.tree_of store.old) (definitions_view settled.now.names.now.entries) settled.now.worth.items) (pattern_view pattern.now))) }
     ensures kept { KeepsTrees (P.knows store.old) (P.tree_of store.old) (P.knows store.new) (P.tree_of store.new) }
 {
     match pattern {
@@ -112,6 +136,8 @@ fn canonical_members<P: Patterns>(
 ) -> Result<Vec<P::Id>, AllocError>
     requires { AreKnown (P.knows store.old) settled.now.worth.items }
     ensures known { IfOk result (λ v. All (λ i. IsTrue (P.knows store.new i)) v.items) }
+    ensures made { IfOk result (λ v. map (P.tree_of store.new) v.items
+        ≡ canonical_all (settled_by (P.tree_of store.old) (definitions_view settled.now.names.now.entries) settled.now.worth.items) (trees_of (map shared_view members.now))) }
     ensures kept { KeepsTrees (P.knows store.old) (P.tree_of store.old) (P.knows store.new) (P.tree_of store.new) }
 {
     let mut ids = Vec::new(alloc);

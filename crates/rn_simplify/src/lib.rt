@@ -1,12 +1,12 @@
 //! The canonical grammar of a grammar, and its text.
 //!
-//! [`normalise`] settles the references that are worth notAllowed or empty, brings each pattern into its canonical form, and keeps the definitions that are reached from the start.
+//! [`normalise`] settles the references that are worth notAllowed or empty, brings each pattern into its canonical form,
+//! and keeps the definitions that are reached from the start.
 //! [`print`] gives the one text of a canonical grammar in the compact syntax.
 #![tactic(auto)]
 
 mod canonical;
 mod declarations;
-mod edges;
 pub mod laws;
 mod mentions;
 mod name_class;

@@ -1,39 +1,54 @@
 // From a grammar to its canonical form.
-ghost use Rattle.std.specs.Prelude.{IfOk, OnOk};
+ghost use Rattle.std.specs.Prelude.{◌≡◌, ◌<◌, All, IfOk, IfSome, OnOk, bytes_eq, length, map, slice_index_or};
+ghost use Rattle.std.specs.List.{IsDistinct};
+ghost use Rattle.rn_assemble.specs.Graph.{AllBelow};
+ghost use Rattle.rn_assemble.specs.GrammarView.{definitions_view, grammar_view};
+ghost use Rattle.rn_assemble.specs.WellFormed.{IsWellFormed};
+ghost use Rattle.rn_pattern.specs.Canonical as form;
+ghost use Rattle.rn_pattern.specs.CanonicalShape.{IsCanonicalPattern};
+ghost use Rattle.rn_pattern.specs.Reached.{IsCanonicalOf};
 ghost use Rattle.rn_pattern.specs.Store.{KeepsTrees};
-ghost use Rattle.rn_simplify.specs.Numbered.{AreKnown};
+ghost use Rattle.rn_pattern.specs.Tree.{Text, Tree};
+ghost use Rattle.rn_pattern.specs.View.{pattern_view};
+ghost use Rattle.rn_simplify.specs.NormalView.{normal_view};
+ghost use Rattle.rn_simplify.specs.Numbered.{AreKnown, AreSettled, Settles, settled_by};
+ghost use Rattle.rn_simplify.specs.Settling.{IsInOrder};
 
 use crate::canonical::{Settled, canonical, worth};
 use crate::normal::Normal;
-use crate::reachable::{Form, reached_definitions};
+use crate::reachable::pruned;
 use crate::rebuilt::rebuilt;
-use crate::settling::settling_order;
+use crate::settling::{body_of, settling_order};
 use indexmap::IndexMap;
 use rn_assemble::Grammar;
 use rn_pattern::{Interned, Pattern, Patterns};
 use std::alloc::{AllocError, Global};
 
-/// The canonical grammar, built in a store of its own.
-pub fn normalise(alloc: Global, grammar: &Grammar) -> Result<Normal, AllocError> {
+/// The canonical grammar of a well-formed grammar, built in a store of its own. The only error is want of memory.
+pub fn normalise(alloc: Global, grammar: &Grammar) -> Result<Normal, AllocError>
+    ensures { IfOk result (λ n. IsWellFormed (grammar_view grammar.now) → IsCanonicalOf (grammar_view grammar.now) (normal_view n)) }
+{
     let mut store = Interned::new(alloc);
     normalise_in(alloc, grammar, &mut store)
 }
 
-/// The canonical grammar, built in `store`, whose earlier ids keep their patterns. After a refusal they keep them too, and the store may hold more ids.
+/// The canonical grammar of a well-formed grammar, built in `store`, whose earlier ids keep their patterns. After a refusal
+/// they keep them too, and the store may hold more ids. The only error is want of memory.
 pub fn normalise_in<P: Patterns>(
     alloc: Global,
     grammar: &Grammar,
     store: &mut P,
-) -> Result<Normal, AllocError> {
+) -> Result<Normal, AllocError>
+    ensures canonical { IfOk result (λ n. IsWellFormed (grammar_view grammar.now) → IsCanonicalOf (grammar_view grammar.now) (normal_view n)) }
+    ensures kept { KeepsTrees (P.knows store.old) (P.tree_of store.old) (P.knows store.new) (P.tree_of store.new) }
+{
     let names = grammar.defs();
     let order = settling_order(alloc, grammar)?;
     let worth = settle(alloc, names, &order, store)?;
     let settled = Settled { names, worth };
-    let start = canonical(alloc, store, &settled, grammar.start())?;
-    let start = rebuilt(alloc, store, start)?;
-    let forms = forms(alloc, store, &settled, &order)?;
-    let defs = reached_definitions(alloc, names, &start, forms)?;
-    Ok(Normal { start, defs })
+    let start = form(alloc, store, &settled, grammar.start())?;
+    let forms = forms(alloc, store, &settled)?;
+    pruned(alloc, names, start, forms)
 }
 
 /// What each definition is worth, settled in an order in which each comes after those that it refers to outside elements.
@@ -43,7 +58,13 @@ fn settle<P: Patterns>(
     order: &[usize],
     store: &mut P,
 ) -> Result<Vec<Option<P::Id>>, AllocError>
+    requires { AllBelow (length names.now.entries) order.now }
+    ensures size { IfOk result (λ v. length v.items ≡ length names.now.entries) }
     ensures known { IfOk result (λ v. AreKnown (P.knows store.new) v.items) }
+    ensures canonical { IfOk result (λ v. All (λ o. IfSome o (λ i. IsCanonicalPattern (P.tree_of store.new i))) v.items) }
+    ensures settled { IfOk result (λ v. IsInOrder (definitions_view names.now.entries) order.now
+        → AreSettled (definitions_view names.now.entries) order.now
+        (settled_by (P.tree_of store.new) (definitions_view names.now.entries) v.items)) }
     ensures kept { KeepsTrees (P.knows store.old) (P.tree_of store.old) (P.knows store.new) (P.tree_of store.new) }
 {
     let mut none = Vec::new(alloc);
@@ -52,10 +73,7 @@ fn settle<P: Patterns>(
     }
     let mut settled = Settled { names, worth: none };
     for number in order {
-        let Some((_, body)) = names.get_index(*number) else {
-            continue;
-        };
-        settle_one(alloc, body, *number, store, &mut settled)?;
+        settle_one(alloc, *number, store, &mut settled)?;
     }
     Ok(settled.worth)
 }
@@ -63,43 +81,64 @@ fn settle<P: Patterns>(
 /// Settles the definition of a number by its body.
 fn settle_one<P: Patterns>(
     alloc: Global,
-    body: &Pattern,
     number: usize,
     store: &mut P,
     settled: &mut Settled<'_, P::Id>,
 ) -> Result<(), AllocError>
-    requires { AreKnown (P.knows store.old) settled.old.worth.items }
+    requires known { AreKnown (P.knows store.old) settled.old.worth.items }
+    requires within { number < length settled.old.names.now.entries }
+    ensures names { settled.new.names.now.entries ≡ settled.old.names.now.entries }
     ensures known { OnOk result (AreKnown (P.knows store.new) settled.new.worth.items) }
+    ensures canonical { OnOk result (All (λ o. IfSome o (λ i. IsCanonicalPattern (P.tree_of store.old i))) settled.old.worth.items
+        → All (λ o. IfSome o (λ i. IsCanonicalPattern (P.tree_of store.new i))) settled.new.worth.items) }
+    ensures settled { OnOk result ((d : Text × Tree) → Settles (P.tree_of store.old) (P.tree_of store.new)
+        (definitions_view settled.old.names.now.entries) settled.old.worth.items settled.new.worth.items number
+        (slice_index_or (definitions_view settled.old.names.now.entries) number d).1) }
     ensures kept { KeepsTrees (P.knows store.old) (P.tree_of store.old) (P.knows store.new) (P.tree_of store.new) }
 {
+    let body = body_of(settled.names, number);
     let form = canonical(alloc, store, settled, body)?;
-    let worth = worth(store, form);
-    if number < settled.worth.len() {
-        settled.worth[number] = worth;
-    }
+    settled.worth[number] = worth(store, form);
     Ok(())
 }
 
-/// The canonical forms of the definitions.
+/// The canonical form of a pattern.
+fn form<P: Patterns>(
+    alloc: Global,
+    store: &mut P,
+    settled: &Settled<'_, P::Id>,
+    pattern: &Pattern,
+) -> Result<Pattern, AllocError>
+    requires { AreKnown (P.knows store.old) settled.now.worth.items }
+    ensures made { IfOk result (λ p. pattern_view p ≡ form.canonical
+        (settled_by (P.tree_of store.old) (definitions_view settled.now.names.now.entries) settled.now.worth.items)
+        (pattern_view pattern.now)) }
+    ensures kept { KeepsTrees (P.knows store.old) (P.tree_of store.old) (P.knows store.new) (P.tree_of store.new) }
+{
+    let form = canonical(alloc, store, settled, pattern)?;
+    rebuilt(alloc, store, form)
+}
+
+/// The canonical forms of the definitions, in their order.
 fn forms<P: Patterns>(
     alloc: Global,
     store: &mut P,
     settled: &Settled<'_, P::Id>,
-    numbers: &[usize],
-) -> Result<Vec<Form>, AllocError>
+) -> Result<Vec<(String, Pattern)>, AllocError>
     requires { AreKnown (P.knows store.old) settled.now.worth.items }
+    ensures made { IfOk result (λ v. definitions_view v.items ≡ map (λ (d : Text × Tree). (
+      d.0,
+      form.canonical
+          (settled_by (P.tree_of store.old) (definitions_view settled.now.names.now.entries) settled.now.worth.items) d.1,
+    ))
+        (definitions_view settled.now.names.now.entries)) }
+    ensures distinct { IfOk result (λ v. IsDistinct bytes_eq (map (λ d. d.0) (definitions_view v.items))) }
     ensures kept { KeepsTrees (P.knows store.old) (P.tree_of store.old) (P.knows store.new) (P.tree_of store.new) }
 {
     let mut forms = Vec::new(alloc);
-    for number in numbers {
-        if let Some((name, body)) = settled.names.get_index(*number) {
-            let form = canonical(alloc, store, settled, body)?;
-            forms.push(Form {
-                number: *number,
-                name: name.clone()?,
-                pattern: rebuilt(alloc, store, form)?,
-            })?;
-        }
+    for (name, body) in settled.names {
+        let name = name.clone()?;
+        forms.push((name, form(alloc, store, settled, body)?))?;
     }
     Ok(forms)
 }

@@ -1,5 +1,7 @@
 // From an id of a store back to its pattern.
-ghost use Rattle.std.specs.Prelude.{All, IfSome, IsTrue};
+ghost use Rattle.std.specs.Prelude.{◌≡◌, All, IfOk, IfSome, IsTrue, map};
+ghost use Rattle.rn_pattern.specs.View.{excepted_view, name_class_view, parameters_view, pattern_view, shared_view};
+ghost use Rattle.rn_simplify.specs.Sizes.{except_trees};
 
 use rn_pattern::{NameClass, Node, Pattern, Patterns};
 use std::alloc::{AllocError, Global};
@@ -13,6 +15,7 @@ pub(crate) fn rebuilt<P: Patterns>(
     id: P::Id,
 ) -> Result<Pattern, AllocError>
     requires { IsTrue (P.knows store.now id) }
+    ensures { IfOk result (λ p. pattern_view p ≡ P.tree_of store.now id) }
 {
     match store.node(id) {
         Node::NotAllowed => Ok(Pattern::NotAllowed),
@@ -48,6 +51,7 @@ pub(crate) fn rebuilt<P: Patterns>(
 #[cycle(rebuilt)]
 fn rebuilt_box<P: Patterns>(alloc: Global, store: &P, id: P::Id) -> Result<Box<Pattern>, AllocError>
     requires { IsTrue (P.knows store.now id) }
+    ensures { IfOk result (λ p. pattern_view p.value ≡ P.tree_of store.now id) }
 {
     let pattern = rebuilt(alloc, store, id)?;
     Ok(Box::new(alloc, pattern)?)
@@ -60,6 +64,7 @@ fn rebuilt_except<P: Patterns>(
     except: Option<P::Id>,
 ) -> Result<Option<Box<Pattern>>, AllocError>
     requires { IfSome except (λ i. IsTrue (P.knows store.now i)) }
+    ensures { IfOk result (λ o. excepted_view o ≡ except_trees (P.tree_of store.now) except) }
 {
     match except {
         None => Ok(None),
@@ -75,10 +80,11 @@ fn rebuilt_members<P: Patterns>(
     ids: &[P::Id],
 ) -> Result<Vec<Rc<Pattern>>, AllocError>
     requires { All (λ i. IsTrue (P.knows store.now i)) ids.now }
+    ensures { IfOk result (λ v. map shared_view v.items ≡ map (P.tree_of store.now) ids.now) }
 {
     let mut members: Vec<Rc<Pattern>> = Vec::new(alloc);
     for (i, id) in ids.iter().enumerate() {
-        if i > 0 && *id == ids[i - 1] && i <= members.len() {
+        if i > 0 && *id == ids[i - 1] {
             let member = members[i - 1].clone()?;
             members.push(member)?;
         } else {
@@ -92,7 +98,9 @@ fn rebuilt_members<P: Patterns>(
 fn cloned_params(
     alloc: Global,
     params: &[(String, String)],
-) -> Result<Vec<(String, String)>, AllocError> {
+) -> Result<Vec<(String, String)>, AllocError>
+    ensures { IfOk result (λ v. parameters_view v.items ≡ parameters_view params.now) }
+{
     let mut copy = Vec::new(alloc);
     for (name, text) in params {
         copy.push((name.clone()?, text.clone()?))?;
@@ -101,7 +109,9 @@ fn cloned_params(
 }
 
 #[cycle(cloned_class)]
-fn cloned_class(alloc: Global, class: &NameClass) -> Result<NameClass, AllocError> {
+fn cloned_class(alloc: Global, class: &NameClass) -> Result<NameClass, AllocError>
+    ensures { IfOk result (λ c. name_class_view c ≡ name_class_view class.now) }
+{
     Ok(match class {
         NameClass::AnyName(None) => NameClass::AnyName(None),
         NameClass::AnyName(Some(except)) => NameClass::AnyName(Some(cloned_box(alloc, except)?)),
@@ -115,12 +125,16 @@ fn cloned_class(alloc: Global, class: &NameClass) -> Result<NameClass, AllocErro
 }
 
 #[cycle(cloned_class)]
-fn cloned_box(alloc: Global, class: &NameClass) -> Result<Box<NameClass>, AllocError> {
+fn cloned_box(alloc: Global, class: &NameClass) -> Result<Box<NameClass>, AllocError>
+    ensures { IfOk result (λ c. name_class_view c.value ≡ name_class_view class.now) }
+{
     Ok(Box::new(alloc, cloned_class(alloc, class)?)?)
 }
 
 #[cycle(cloned_class)]
-fn cloned_members(alloc: Global, members: &[NameClass]) -> Result<Vec<NameClass>, AllocError> {
+fn cloned_members(alloc: Global, members: &[NameClass]) -> Result<Vec<NameClass>, AllocError>
+    ensures { IfOk result (λ v. map name_class_view v.items ≡ map name_class_view members.now) }
+{
     let mut copy = Vec::new(alloc);
     for member in members {
         copy.push(cloned_class(alloc, member)?)?;

@@ -1,73 +1,94 @@
-// The references of a grammar, its definitions being numbered in their order (RELAX NG, 4.18 and 4.19).
+// The references of a pattern, as the numbers of the definitions in their order (RELAX NG, 4.18 and 4.19).
+ghost use Rattle.std.specs.Prelude.{◌≡◌, ◌∷◌, ◌++◌, [], IfOk, OnOk, map};
+ghost use Rattle.rn_assemble.specs.GrammarView.{definitions_view};
+ghost use Rattle.rn_pattern.specs.Tree.{trees_of};
+ghost use Rattle.rn_pattern.specs.View.{pattern_view, shared_view};
+ghost use Rattle.rn_simplify.specs.Numbered.{numbers_of};
+ghost use Rattle.rn_simplify.specs.Referred.{all_references, references};
+
 use indexmap::IndexMap;
 use rn_pattern::Pattern;
 use std::alloc::{AllocError, Global};
+use std::rc::Rc;
 
-/// Where a reference stands.
+/// Which references of a pattern are meant.
 #[derive(Clone, Copy, PartialEq, Eq)]
-enum Place {
+pub(crate) enum Scope {
+    Everywhere,
     OutsideElements,
-    InElement,
 }
 
-/// The numbers of the definitions that a pattern refers to.
-#[derive(Drop)]
-pub(crate) struct References {
-    /// Those of all references.
-    pub(crate) all: Vec<usize>,
-    /// Those of the references outside elements.
-    pub(crate) outside: Vec<usize>,
+/// The numbers of the definitions that a pattern refers to. Names that have no definition are passed over.
+pub(crate) fn referred(
+    alloc: Global,
+    names: &IndexMap<String, Pattern>,
+    pattern: &Pattern,
+    scope: Scope,
+) -> Result<Vec<usize>, AllocError>
+    ensures { IfOk result (λ v. v.items ≡ numbers_of (definitions_view names.now.entries) (references scope (pattern_view pattern.now))) }
+{
+    let mut numbers = Vec::new(alloc);
+    add(names, pattern, scope, &mut numbers)?;
+    Ok(numbers)
 }
 
-impl References {
-    /// The references of a pattern. Names that have no definition are passed over.
-    pub(crate) fn of(
-        alloc: Global,
-        names: &IndexMap<String, Pattern>,
-        pattern: &Pattern,
-    ) -> Result<References, AllocError> {
-        let mut references = References {
-            all: Vec::new(alloc),
-            outside: Vec::new(alloc),
-        };
-        references.add(names, pattern, Place::OutsideElements)?;
-        Ok(references)
+#[cycle(referred)]
+fn add(
+    names: &IndexMap<String, Pattern>,
+    pattern: &Pattern,
+    scope: Scope,
+    numbers: &mut Vec<usize>,
+) -> Result<(), AllocError>
+    ensures { OnOk result (numbers.new.items ≡ numbers.old.items
+        ++ numbers_of (definitions_view names.now.entries) (references scope (pattern_view pattern.now))) }
+{
+    match pattern {
+        Pattern::Ref(name) => add_name(names, name, numbers),
+        Pattern::Datum(_, _, _, Some(content)) => add(names, content, scope, numbers),
+        Pattern::List(content) => add(names, content, scope, numbers),
+        Pattern::Attribute(_, content) => add(names, content, scope, numbers),
+        Pattern::OneOrMore(content) => add(names, content, scope, numbers),
+        Pattern::Element(_, content) => match scope {
+            Scope::Everywhere => add(names, content, scope, numbers),
+            Scope::OutsideElements => Ok(()),
+        },
+        Pattern::Group(members) => add_all(names, members, scope, numbers),
+        Pattern::Interleave(members) => add_all(names, members, scope, numbers),
+        Pattern::Choice(members) => add_all(names, members, scope, numbers),
+        Pattern::NotAllowed
+        | Pattern::Empty
+        | Pattern::Text
+        | Pattern::Value(_, _, _)
+        | Pattern::Datum(_, _, _, None) => Ok(()),
     }
+}
 
-    fn add(
-        &mut self,
-        names: &IndexMap<String, Pattern>,
-        pattern: &Pattern,
-        place: Place,
-    ) -> Result<(), AllocError> {
-        match pattern {
-            Pattern::Ref(name) => self.add_name(names, name, place),
-            Pattern::Datum(_, _, _, Some(content)) => self.add(names, content, place),
-            Pattern::List(content) | Pattern::Attribute(_, content) | Pattern::OneOrMore(content) =>
-                { self.add(names, content, place) }
-            Pattern::Element(_, content) => self.add(names, content, Place::InElement),
-            Pattern::Group(members) | Pattern::Interleave(members) | Pattern::Choice(members) => {
-                for member in members {
-                    self.add(names, member, place)?;
-                }
-                Ok(())
-            }
-            _ => Ok(()),
-        }
+#[cycle(referred)]
+fn add_all(
+    names: &IndexMap<String, Pattern>,
+    members: &[Rc<Pattern>],
+    scope: Scope,
+    numbers: &mut Vec<usize>,
+) -> Result<(), AllocError>
+    ensures { OnOk result (numbers.new.items ≡ numbers.old.items
+        ++ numbers_of (definitions_view names.now.entries) (all_references scope (trees_of (map shared_view members.now)))) }
+{
+    for member in members {
+        add(names, member, scope, numbers)?;
     }
+    Ok(())
+}
 
-    fn add_name(
-        &mut self,
-        names: &IndexMap<String, Pattern>,
-        name: &str,
-        place: Place,
-    ) -> Result<(), AllocError> {
-        if let Some(number) = names.get_index_of(name) {
-            self.all.push(number)?;
-            if place == Place::OutsideElements {
-                self.outside.push(number)?;
-            }
-        }
-        Ok(())
+fn add_name(
+    names: &IndexMap<String, Pattern>,
+    name: &str,
+    numbers: &mut Vec<usize>,
+) -> Result<(), AllocError>
+    ensures { OnOk result (numbers.new.items ≡ numbers.old.items
+        ++ numbers_of (definitions_view names.now.entries) (name.now ∷ [])) }
+{
+    if let Some(number) = names.get_index_of(name) {
+        numbers.push(number)?;
     }
+    Ok(())
 }

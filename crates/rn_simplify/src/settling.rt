@@ -1,21 +1,44 @@
 // The definitions of a grammar in an order in which each comes after those that it refers to outside elements (RELAX NG, 4.19).
+ghost use Rattle.std.specs.Prelude.{◌≡◌, ◌<◌, [], ℕ, Decides, IfOk, length, cond, slice_index_or};
+ghost use Rattle.rn_assemble.specs.Graph.{AllBelow, IsGraph, Reached, is_marked, row, rows_of};
+ghost use Rattle.rn_assemble.specs.Order.{HasNoLoop, IsRanking};
+ghost use Rattle.rn_assemble.specs.GrammarView.{definitions_view, grammar_view};
+ghost use Rattle.rn_assemble.specs.WellFormed.{IsWellFormed};
+ghost use Rattle.rn_pattern.specs.Tree.{Text, Tree};
+ghost use Rattle.rn_pattern.specs.View.{pattern_view};
+ghost use Rattle.rn_simplify.specs.Marked.{ArePlaces};
+ghost use Rattle.rn_simplify.specs.Numbered.{graph_of, numbers_of, rows_by, start_of};
+ghost use Rattle.rn_simplify.specs.Referred.{references};
+ghost use Rattle.rn_simplify.specs.Settling.{IsSettlingOrder};
+ghost use Rattle.rn_simplify.specs.declared.references.Scope.TheVariants.{Everywhere, OutsideElements};
 
-use crate::edges::{ranked_rows, reached_rows};
-use crate::references::References;
+use crate::references::{Scope, referred};
 use indexmap::IndexMap;
 use rn_assemble::Grammar;
+use rn_assemble::graph::reached;
+use rn_assemble::order::{Order, ranks};
 use rn_pattern::Pattern;
 use std::alloc::{AllocError, Global};
+
+/// The body of the definition with a number.
+pub(crate) fn body_of(names: &IndexMap<String, Pattern>, number: usize) -> &Pattern
+    requires { number < length names.now.entries }
+    ensures { (d : Text × Tree) → pattern_view result.now ≡ (slice_index_or (definitions_view names.now.entries) number d).1 }
+{
+    let (_, body) = names.get_index(number).unwrap();
+    body
+}
 
 /// The references of each definition, by its number.
 fn all_references(
     alloc: Global,
     names: &IndexMap<String, Pattern>,
-) -> Result<Vec<Vec<usize>>, AllocError> {
+) -> Result<Vec<Vec<usize>>, AllocError>
+    ensures { IfOk result (λ v. rows_of v.items ≡ rows_by Everywhere (definitions_view names.now.entries) (definitions_view names.now.entries)) }
+{
     let mut rows = Vec::new(alloc);
     for (_, body) in names {
-        let References { all, outside: _ } = References::of(alloc, names, body)?;
-        rows.push(all)?;
+        rows.push(referred(alloc, names, body, Scope::Everywhere)?)?;
     }
     Ok(rows)
 }
@@ -25,12 +48,18 @@ fn outside_references(
     alloc: Global,
     names: &IndexMap<String, Pattern>,
     is_reached: &[bool],
-) -> Result<Vec<Vec<usize>>, AllocError> {
+) -> Result<Vec<Vec<usize>>, AllocError>
+    requires { length is_reached.now ≡ length names.now.entries }
+    ensures size { IfOk result (λ v. length v.items ≡ length names.now.entries) }
+    ensures rows { IfOk result (λ v. (k : ℕ) (d : Text × Tree) → k < length names.now.entries → row (rows_of v.items) k
+        ≡ cond (is_marked is_reached.now k) (numbers_of (definitions_view names.now.entries)
+        (references OutsideElements (slice_index_or (definitions_view names.now.entries) k d).1)) []) }
+{
     let mut rows = Vec::new(alloc);
-    for (i, (_, body)) in names.iter().enumerate() {
-        if is_reached.get(i) == Some(&true) {
-            let References { all: _, outside } = References::of(alloc, names, body)?;
-            rows.push(outside)?;
+    for number in 0..is_reached.len() {
+        if is_reached[number] {
+            let body = body_of(names, number);
+            rows.push(referred(alloc, names, body, Scope::OutsideElements)?)?;
         } else {
             rows.push(Vec::new(alloc))?;
         }
@@ -38,20 +67,51 @@ fn outside_references(
     Ok(rows)
 }
 
-/// The numbers of the definitions that the start reaches, in the order in which they can be settled.
-pub(crate) fn settling_order(alloc: Global, grammar: &Grammar) -> Result<Vec<usize>, AllocError> {
-    let names = grammar.defs();
-    let rows = all_references(alloc, names)?;
-    let start = References::of(alloc, names, grammar.start())?;
-    let is_reached = reached_rows(alloc, &rows, &start.all)?;
-    let outside = outside_references(alloc, names, &is_reached)?;
-    let mut order = Vec::new(alloc);
-    for (i, reached) in is_reached.iter().enumerate() {
-        if *reached {
-            order.push(i)?;
+/// The places that have a mark.
+fn places(alloc: Global, marks: &[bool]) -> Result<Vec<usize>, AllocError>
+    ensures { IfOk result (λ v. ArePlaces marks.now v.items) }
+{
+    let mut places = Vec::new(alloc);
+    for place in 0..marks.len() {
+        if marks[place] {
+            places.push(place)?;
         }
     }
-    let ranks = ranked_rows(alloc, &outside)?;
-    order.sort_by_key(|i: &usize| ranks.get(*i).copied().unwrap_or(0))?;
+    Ok(places)
+}
+
+/// For each definition, whether the start reaches it.
+fn reached_definitions(alloc: Global, grammar: &Grammar) -> Result<Vec<bool>, AllocError>
+    ensures size { IfOk result (λ v. length v.items ≡ length (grammar_view grammar.now).definitions) }
+    ensures exact { IfOk result (λ v. (k : ℕ) → Decides (is_marked v.items k)
+        (Reached (graph_of (grammar_view grammar.now)) (start_of (grammar_view grammar.now)) k)) }
+{
+    let names = grammar.defs();
+    let rows = all_references(alloc, names)?;
+    let start = referred(alloc, names, grammar.start(), Scope::Everywhere)?;
+    reached(alloc, &rows, &start)
+}
+
+/// Ranks by which each row refers to lower ones; where the rows loop there are none.
+fn ranks_of(alloc: Global, rows: &[Vec<usize>]) -> Result<Vec<usize>, AllocError>
+    requires { IsGraph (rows_of rows.now) }
+    ensures { IfOk result (λ v. HasNoLoop (rows_of rows.now) → IsRanking (rows_of rows.now) v.items) }
+{
+    match ranks(alloc, rows)? {
+        Order::Ranked(ranks) => Ok(ranks),
+        Order::Looped(_) => Ok(Vec::new(alloc)),
+    }
+}
+
+/// The numbers of the definitions that the start reaches, in the order in which they can be settled.
+pub(crate) fn settling_order(alloc: Global, grammar: &Grammar) -> Result<Vec<usize>, AllocError>
+    ensures within { IfOk result (λ v. AllBelow (length (grammar_view grammar.now).definitions) v.items) }
+    ensures order { IfOk result (λ v. IsWellFormed (grammar_view grammar.now) → IsSettlingOrder (grammar_view grammar.now) v.items) }
+{
+    let is_reached = reached_definitions(alloc, grammar)?;
+    let outside = outside_references(alloc, grammar.defs(), &is_reached)?;
+    let ranks = ranks_of(alloc, &outside)?;
+    let mut order = places(alloc, &is_reached)?;
+    order.sort_by_key(|number: &usize| ranks.get(*number).copied().unwrap_or(0))?;
     Ok(order)
 }

@@ -1,4 +1,6 @@
 use Rattle.std.proofs.Common.{◌≡◌, ◌+◌, ◌*◌, ◌<◌, ◌≤◌, sym, ap, ◌∙◌, subst, map, arith}
+use Rattle.std.proofs.lemmas.List.{take_all}
+use Rattle.rn_pattern.proofs.PatternKinds.{group_seen, interleave_seen, choice_seen}
 use Rattle.std.specs.Prelude.{All, IsTrue}
 use Rattle.rn_pattern.specs.Tree.{group, interleave, choice, trees_of}
 use Rattle.rn_pattern.specs.Store.{node_view}
@@ -49,3 +51,27 @@ rebuilt_members-rebuilt-requires g t c κs within =
     let m : tree_size (at x) ≤ ids_size at is = subst (λ y. tree_size (at y) ≤ ids_size at is) (sym c.index-ids-i.is) (member_size at is c.loop-i.i x c.loop-i-test.true) in
     let h : IsTrue (k x) = subst (λ y. IsTrue (k y)) (sym c.index-ids-i.is) (c.requires c.loop-i.i x c.loop-i-test.true) in
     (omega (arith, m, c.decreases), (within.0, (within.1, h)))
+
+pub rebuilt-returns-in_ok-rebuilt_members-in-Group : goal.rebuilt-returns-in_ok-rebuilt_members-in-Group
+rebuilt-returns-in_ok-rebuilt_members-in-Group g t c =
+    let at = g.P.Patterns.tree_of c.args.store.now in
+    group_seen c.in_ok-rebuilt_members-in-Group.field-0
+    ∙ ap (λ ts. group (trees_of ts)) (c.in_ok-rebuilt_members-in-Group.ensures ∙ ap (map at) c.deref-in-Group.ensures.value)
+    ∙ sym (ap (node_view at) c.in-Group.is) ∙ c.node.ensures.root
+
+pub rebuilt-returns-in_ok-rebuilt_members-in-Interleave : goal.rebuilt-returns-in_ok-rebuilt_members-in-Interleave
+rebuilt-returns-in_ok-rebuilt_members-in-Interleave g t c =
+    let at = g.P.Patterns.tree_of c.args.store.now in
+    interleave_seen c.in_ok-rebuilt_members-in-Interleave.field-0
+    ∙ ap (λ ts. interleave (trees_of ts)) (c.in_ok-rebuilt_members-in-Interleave.ensures ∙ ap (map at) c.deref-in-Interleave.ensures.value)
+    ∙ sym (ap (node_view at) c.in-Interleave.is) ∙ c.node.ensures.root
+
+pub rebuilt-returns-in_ok-rebuilt_members-in-Choice : goal.rebuilt-returns-in_ok-rebuilt_members-in-Choice
+rebuilt-returns-in_ok-rebuilt_members-in-Choice g t c =
+    let at = g.P.Patterns.tree_of c.args.store.now in
+    choice_seen c.in_ok-rebuilt_members-in-Choice.field-0
+    ∙ ap (λ ts. choice (trees_of ts)) (c.in_ok-rebuilt_members-in-Choice.ensures ∙ ap (map at) c.deref-in-Choice.ensures.value)
+    ∙ sym (ap (node_view at) c.in-Choice.is) ∙ c.node.ensures.root
+
+pub rebuilt_members-returns : goal.rebuilt_members-returns
+rebuilt_members-returns g t c = c.loop-i.invariant ∙ ap (map (g.P.Patterns.tree_of c.args.store.now)) (take_all c.loop-i.i c.args.ids.now (omega arith))

@@ -1,4 +1,5 @@
-use Rattle.std.proofs.Common.{ℕ, ◌+◌, ◌*◌}
+use Rattle.std.proofs.Common.{◌≡◌, ◌+◌, ◌*◌, map, take}
+use Rattle.rn_pattern.specs.View.{shared_view}
 use Rattle.rn_simplify.specs.Sizes.{tree_size, ids_size, except_size}
 use Rattle.rn_simplify.proofs.rebuilt.+rebuilt.Given as goal
 
@@ -13,3 +14,6 @@ decreases-rebuilt_except g l = except_size (g.P.Patterns.tree_of l.store.now) l.
 
 abbrev pub decreases-rebuilt_members : goal.decreases-rebuilt_members
 decreases-rebuilt_members g l = 3 * ids_size (g.P.Patterns.tree_of l.store.now) l.ids.now + 1
+
+abbrev pub invariant-rebuilt_members-loop-i : goal.invariant-rebuilt_members-loop-i
+invariant-rebuilt_members-loop-i g l = map shared_view l.members.items ≡ map (g.P.Patterns.tree_of l.store) (take l.i l.ids)

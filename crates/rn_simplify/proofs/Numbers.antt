@@ -1,0 +1,51 @@
+-- Numbers of definitions, and those that a pattern refers to.
+use Rattle.std.proofs.Common.{◌≡◌, ◌+◌, ◌<◌, ℕ, suc, cond, not, nat_lt, List, [], ◌∷◌, ◌++◌, length, map, take, get_or, position, Option, Some, None, refl, sym, ap, ◌∙◌, append_assoc, append-nil}
+use Rattle.std.specs.Prelude.{bytes_eq, String, string_bytes}
+use Rattle.std.specs.List.{cons_option, prefix_len}
+use Rattle.std.specs.declared.alloc.Global.{Global}
+use Rattle.std.specs.declared.rc.Rc.{Rc}
+use Rattle.std.proofs.lemmas.List.{take_more, map-append}
+use Rattle.std.proofs.lemmas.List.Elements.{filter_map-append}
+use Rattle.rn_pattern.specs.Tree.{Text, Tree, trees_of}
+use Rattle.rn_pattern.specs.View.{shared_view}
+use Rattle.rn_pattern.specs.declared.tree.Pattern.{Pattern}
+use Rattle.rn_assemble.specs.GrammarView.{definitions_view}
+use Rattle.rn_simplify.specs.Numbered.{number_of, numbers_of}
+use Rattle.rn_simplify.specs.Referred.{Scope, references, all_references}
+
+front_is : (es : List (String Global × Pattern)) (x : Text) → prefix_len (λ (k : String Global). not (bytes_eq x (string_bytes k))) (map (λ (e : String Global × Pattern). e.0) es) ≡ prefix_len (λ y. not (bytes_eq x y)) (map (λ (d : Text × Tree). d.0) (definitions_view es))
+front_is [] x = refl
+front_is (e ∷ es) x = ap (λ n. cond (not (bytes_eq x (string_bytes e.0))) (1 + n) 0) (front_is es x)
+
+pub size_is : (es : List (String Global × Pattern)) → length (map (λ (e : String Global × Pattern). e.0) es) ≡ length (map (λ (d : Text × Tree). d.0) (definitions_view es))
+size_is [] = refl
+size_is (e ∷ es) = ap suc (size_is es)
+
+pub size_of_view : (es : List (String Global × Pattern)) → length (definitions_view es) ≡ length es
+size_of_view [] = refl
+size_of_view (e ∷ es) = ap suc (size_of_view es)
+
+-- the place of a name among the keys is its number
+pub number_is : (es : List (String Global × Pattern)) (x : Text) → position (λ (k : String Global). bytes_eq x (string_bytes k)) (map (λ (e : String Global × Pattern). e.0) es) ≡ number_of (definitions_view es) x
+number_is es x = let f = front_is es x in let l = size_is es in λ i. cond (nat_lt (f i) (l i)) (Some (f i)) None
+
+pub no_number : (o : Option ℕ) (xs : List ℕ) → ((k : ℕ) → o ≡ Some k → ⊥) → xs ≡ xs ++ cons_option o []
+no_number None xs h = sym (append-nil xs)
+no_number (Some k) xs h = absurd (h k refl)
+
+all_more : (s : Scope) (ps : List Tree) (p : Tree) → all_references s (trees_of (ps ++ p ∷ [])) ≡ all_references s (trees_of ps) ++ references s p
+all_more s [] p = append-nil (references s p)
+all_more s (q ∷ ps) p = ap (λ xs. references s q ++ xs) (all_more s ps p) ∙ sym (append_assoc (references s q) (all_references s (trees_of ps)) (references s p))
+
+-- one more member
+pub numbers_more : (s : Scope) (ds : List (Text × Tree)) (members : List (Rc Pattern Global)) (i : ℕ) (r : Rc Pattern Global) (old now new : List ℕ) → i < length members → r ≡ get_or members i r
+    → now ≡ old ++ numbers_of ds (all_references s (trees_of (map shared_view (take i members))))
+    → new ≡ now ++ numbers_of ds (references s (shared_view r))
+    → new ≡ old ++ numbers_of ds (all_references s (trees_of (map shared_view (take (i + 1) members))))
+numbers_more s ds members i r old now new h is e f =
+    let before = map shared_view (take i members) in
+    let taken : map shared_view (take (i + 1) members) ≡ before ++ shared_view r ∷ [] = ap (map shared_view) (take_more members i r h ∙ ap (λ x. take i members ++ x ∷ []) (sym is)) ∙ map-append shared_view (take i members) (r ∷ []) in
+    f ∙ ap (λ xs. xs ++ numbers_of ds (references s (shared_view r))) e
+    ∙ append_assoc old (numbers_of ds (all_references s (trees_of before))) (numbers_of ds (references s (shared_view r)))
+    ∙ ap (λ xs. old ++ xs) (sym (filter_map-append (number_of ds) (all_references s (trees_of before)) (references s (shared_view r)))
+    ∙ ap (numbers_of ds) (sym (all_more s before (shared_view r)) ∙ ap (λ ps. all_references s (trees_of ps)) (sym taken)))

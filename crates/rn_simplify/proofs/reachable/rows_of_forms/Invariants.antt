@@ -1,0 +1,9 @@
+use Rattle.std.proofs.Common.{◌≡◌, take}
+use Rattle.rn_assemble.specs.Graph.{rows_of}
+use Rattle.rn_assemble.specs.GrammarView.{definitions_view}
+use Rattle.rn_simplify.specs.Numbered.{rows_by}
+use Rattle.rn_simplify.specs.declared.references.Scope.TheVariants.{Everywhere}
+use Rattle.rn_simplify.proofs.reachable.rows_of_forms.Given as goal
+
+abbrev pub invariant-loop-form : goal.invariant-loop-form
+invariant-loop-form l = rows_of l.rows.items ≡ rows_by Everywhere (definitions_view l.names.entries) (definitions_view (take l.form-index l.forms))

@@ -1,0 +1,13 @@
+use Rattle.std.proofs.Common.{cond, []}
+use Rattle.std.specs.Prelude.{slice_index_or}
+use Rattle.rn_assemble.specs.Graph.{is_marked}
+use Rattle.rn_assemble.specs.GrammarView.{definitions_view}
+use Rattle.rn_simplify.specs.Numbered.{numbers_of}
+use Rattle.rn_simplify.specs.Referred.{references}
+use Rattle.rn_simplify.specs.declared.references.Scope.TheVariants.{OutsideElements}
+use Rattle.rn_simplify.proofs.Marks.{AreRows}
+use Rattle.rn_simplify.proofs.ReferenceGraph.{nothing}
+use Rattle.rn_simplify.proofs.settling.outside_references.Given as goal
+
+abbrev pub invariant-loop-number : goal.invariant-loop-number
+invariant-loop-number l = AreRows (λ k. cond (is_marked l.is_reached k) (numbers_of (definitions_view l.names.entries) (references OutsideElements (slice_index_or (definitions_view l.names.entries) k nothing).1)) []) l.number l.rows.items
