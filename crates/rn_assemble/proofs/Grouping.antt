@@ -1,13 +1,12 @@
 -- A search for nodes that come back to themselves, by one step each.
-use Rattle.std.proofs.Common.{◌≡◌, ℕ, ◌+◌, ◌-◌, ◌<◌, ◌≤◌, ◌⊎◌, inl, inr, List, [], ◌∷◌, ◌++◌, length, get_or, set, take, refl, sym, ap, ◌∙◌, subst, arith}
-use Rattle.std.specs.Prelude.{Contains, Option, Some, None, sum_by}
+use Rattle.std.proofs.Common.{◌≡◌, ℕ, ◌-◌, ◌<◌, ◌≤◌, inl, inr, List, [], ◌∷◌, ◌++◌, length, get_or, set, refl, sym, ap, ◌∙◌, subst, arith}
+use Rattle.std.specs.Prelude.{Contains, Option, Some, None}
 use Rattle.std.proofs.lemmas.List.{length_push, length-set, get_or_push, get_or-set_same, get_or-set_other, get_or_past, get_or_append_left}
 use Rattle.std.proofs.lemmas.List.Elements.{Contains-append_left, Contains-push, Contains-push_cases, Contains-get_or}
-use Rattle.std.proofs.lemmas.List.Sums.{sum_by-set}
 use Rattle.std.proofs.lemmas.Bool.{cases_eq, cases_lt}
 use Rattle.rn_assemble.specs.Graph.{row}
 use Rattle.rn_assemble.specs.Order.{Leads, by_edge, and_edge, EndsWith}
-use Rattle.rn_assemble.specs.Loops.{GroupingBy, IsLeastLooped, IsClosed, IsSettled, IsJoined, IsNear, AllLead, Comes, Rises, node_at, place_of, weight}
+use Rattle.rn_assemble.specs.Loops.{GroupingBy, IsLeastLooped, IsClosed, IsSettled, IsJoined, AllLead, Comes, Rises, node_at, place_of}
 use Rattle.rn_assemble.proofs.Rising.{contains_take, rises_left, rises_take, rises_push, first_take, greatest_last, has_last}
 
 pub met_below : (places : List (Option ℕ)) (x p : ℕ) → place_of places x ≡ Some p → x < length places

@@ -1,6 +1,6 @@
 -- A search for the nodes of a graph that come back to themselves. The nodes that are met stand on a stack, in groups of nodes that lead to one
 -- another (strongly connected ones); each node on the stack leads to all behind it. A group is closed when no edge is left that might join it to another.
-use Rattle.std.specs.Prelude.{◌≡◌, ℕ, ◌+◌, ◌-◌, ◌<◌, ◌≤◌, ◌⊎◌, List, [], ◌++◌, length, slice_index_or, take, sum_by, sum, Contains, Option, Some, None}
+use Rattle.std.specs.Prelude.{◌≡◌, ℕ, ◌+◌, ◌<◌, ◌≤◌, ◌⊎◌, List, length, slice_index_or, take, sum_by, sum, Contains, Option, Some, None}
 use Rattle.rn_assemble.specs.Graph.{row}
 use Rattle.rn_assemble.specs.Order.{Leads, EndsWith}
 use Rattle.rn_assemble.specs.declared.loops.Search.{Search}

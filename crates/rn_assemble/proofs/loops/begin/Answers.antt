@@ -1,4 +1,4 @@
-use Rattle.std.proofs.Common.{◌≡◌, ◌∙◌, ap, arith, ℕ, List, length, map, Vec, replicate, sym, rules}
+use Rattle.std.proofs.Common.{◌∙◌, ap, arith, ℕ, List, length, map, Vec, replicate, sym, rules}
 use Rattle.std.specs.Prelude.{None}
 use Rattle.std.proofs.lemmas.List.{length-map, take_all}
 use Rattle.std.specs.declared.alloc.Global.{Global}

@@ -1,4 +1,4 @@
-use Rattle.std.proofs.Common.{ℕ, Vec, arith, length}
+use Rattle.std.proofs.Common.{ℕ, Vec, arith}
 use Rattle.std.proofs.lemmas.List.{length-map}
 use Rattle.std.specs.declared.alloc.Global.{Global}
 use Rattle.rn_assemble.specs.Graph.{rows_of}

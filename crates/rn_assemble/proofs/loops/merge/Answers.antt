@@ -1,4 +1,4 @@
-use Rattle.std.proofs.Common.{◌≡◌, ◌<◌, inr, length, arith, sym}
+use Rattle.std.proofs.Common.{◌<◌, inr, length, arith, sym}
 use Rattle.rn_assemble.specs.Graph.{rows_of}
 use Rattle.rn_assemble.proofs.Grouping.{joined}
 use Rattle.rn_assemble.proofs.loops.merge.Goals as goal

@@ -1,7 +1,7 @@
-use Rattle.std.proofs.Common.{◌≡◌, ◌-◌, ◌<◌, ℕ, List, inl, arith, length, get_or, sym, ap, ◌∙◌, subst}
+use Rattle.std.proofs.Common.{◌-◌, ℕ, inl, arith, get_or, sym, ap, ◌∙◌, subst}
 use Rattle.std.specs.Prelude.{Contains}
 use Rattle.rn_assemble.specs.Graph.{row, rows_of}
-use Rattle.rn_assemble.specs.Loops.{GroupingBy, AllLead, IsClosed, node_at}
+use Rattle.rn_assemble.specs.Loops.{AllLead, IsClosed}
 use Rattle.rn_assemble.proofs.Grouping.{place_below, leads_next}
 use Rattle.rn_assemble.proofs.loops.step.Goals as goal
 

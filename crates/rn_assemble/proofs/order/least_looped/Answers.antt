@@ -1,9 +1,8 @@
 use Rattle.std.proofs.Common.{◌≡◌, ◌<◌, ℕ, Vec, arith, length, subst}
-use Rattle.std.specs.Prelude.{IfSome, MatchOption}
+use Rattle.std.specs.Prelude.{IfSome}
 use Rattle.std.proofs.lemmas.List.{length-map}
 use Rattle.std.specs.declared.alloc.Global.{Global}
 use Rattle.rn_assemble.specs.Graph.{rows_of}
-use Rattle.rn_assemble.specs.Order.{HasNoLoop, IsFirstLoop}
 use Rattle.rn_assemble.proofs.FirstLoop.{Searched, first_loop, first_within}
 use Rattle.rn_assemble.proofs.order.least_looped.Goals as goal
 
