@@ -11,6 +11,7 @@ pub mod graph;
 mod inclusion;
 mod instances;
 mod keys;
+mod loops;
 mod modules;
 mod name_classes;
 pub mod order;

@@ -4,7 +4,8 @@ ghost use Rattle.std.specs.Prelude.{◌≡◌, ℕ, ◌+◌, ◌-◌, ◌<◌, �
 ghost use Rattle.rn_assemble.specs.Graph.{row, IsGraph, rows_of};
 ghost use Rattle.rn_assemble.specs.Order.{Walking, IsPath, Leads, IsNext, GoesOn, GoesOnOrLoops, EndsOrLoops, IsOrdered, EndsWith, work, mark_of, IsDone, HasNoLoop, IsFirstLoop};
 
-use crate::graph::{reached, row_at};
+use crate::graph::row_at;
+use crate::loops;
 use std::alloc::{AllocError, Global};
 
 /// How far a node is.
@@ -178,14 +179,9 @@ pub fn least_looped(alloc: Global, edges: &[Vec<usize>]) -> Result<Option<usize>
     ensures within { IfOk result (λ node. IfSome node (λ x. x < length edges.now)) }
     ensures least { IfOk result (λ node. MatchOption node (HasNoLoop (rows_of edges.now)) (IsFirstLoop (rows_of edges.now))) }
 {
-    if let Order::Ranked(_) = ranks(alloc, edges)? {
-        return Ok(None);
+    let mut search = loops::begin(alloc, edges)?;
+    for root in 0..edges.len() {
+        loops::visit(&mut search, edges, root)?;
     }
-    for node in 0..edges.len() {
-        let seen = reached(alloc, edges, row_at(edges, node))?;
-        if seen[node] {
-            return Ok(Some(node));
-        }
-    }
-    Ok(None)
+    Ok(loops::least(&search))
 }
