@@ -16,9 +16,6 @@ use Rattle.rn_pattern.specs.Tree.{Text, Tree, ref, trees_of}
 use Rattle.rn_pattern.specs.Store.{KeepsTrees}
 use Rattle.rn_simplify.specs.Numbered.{AreKnown, number_of, settled_by}
 
-pub keeps_still : {I : Type 0} (k : I → Bool) (t : I → Tree) → KeepsTrees k t k t
-keeps_still k t i h = (h, refl)
-
 pub keeps_then : {I : Type 0} (k k' k'' : I → Bool) (t t' t'' : I → Tree) → KeepsTrees k t k' t' → KeepsTrees k' t' k'' t'' → KeepsTrees k t k'' t''
 keeps_then k k' k'' t t' t'' a b i h = let x = a i h in let y = b i x.0 in (y.0, y.1 ∙ x.1)
 

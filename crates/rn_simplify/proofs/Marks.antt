@@ -1,4 +1,4 @@
--- Places that have a mark, and rows of references, one after the other.
+-- Places that have a mark, entries of a map and rows, one after the other.
 use Rattle.std.proofs.Common.{◌≡◌, ⊎_elim, ◌+◌, ◌<◌, ℕ, Bool, true, false, ◌||◌, nat_eq, List, [], ◌∷◌, ◌++◌, length, map, refl, sym, ap, ◌∙◌, subst, arith, below_more, Vec, Bor}
 use Rattle.std.specs.Prelude.{Contains, String, string_bytes, bytes_eq}
 use Rattle.std.specs.String.{string_eq}
@@ -8,7 +8,7 @@ use Rattle.std.specs.declared.alloc.Global.{Global}
 use Rattle.std.proofs.lemmas.Bool.{false≢true}
 use Rattle.std.proofs.lemmas.Cmp.{nat_eq_equiv}
 use Rattle.std.proofs.lemmas.Bool.Decides.{Decides-eqb}
-use Rattle.std.proofs.lemmas.List.{map-append, length_push, length-map, get_or_push, get_or_append_left}
+use Rattle.std.proofs.lemmas.List.{map-append}
 use Rattle.std.proofs.lemmas.List.Elements.{Contains-append_left, Contains-push, Contains-push_cases}
 use Rattle.std.proofs.lemmas.Map.Keys.{IsDistinct-push}
 use Rattle.rn_pattern.specs.Tree.{Text, Tree}
@@ -17,9 +17,6 @@ use Rattle.rn_pattern.specs.declared.tree.Pattern.{Pattern}
 use Rattle.rn_pattern.proofs.InOrder.{contains_front, contains_behind}
 use Rattle.rn_assemble.specs.Graph.{is_marked, row, rows_of}
 use Rattle.rn_assemble.specs.GrammarView.{definitions_view}
-use Rattle.rn_simplify.specs.Marked.{ArePlaces}
-use Rattle.rn_simplify.specs.Numbered.{numbers_of, rows_by}
-use Rattle.rn_simplify.specs.Referred.{Scope, references}
 use Rattle.rn_simplify.proofs.ReferredIn.{contains_none}
 
 different : (b : Bool) (x y : ℕ) → nat_eq x y ≡ b → ¬ (x ≡ y) → b ≡ false
@@ -56,18 +53,7 @@ same_places marks n places new m e a = subst (AreBelow marks (n + 1)) (sym e) (r
   once = a.once;
 })
 
-pub all_places : (marks : List Bool) (n : ℕ) (places : List ℕ) → ((k : ℕ) → is_marked marks k ≡ true → k < n) → AreBelow marks n places → ArePlaces marks places
-all_places marks n places h a = record { listed = λ k m. a.listed k (h k m) m; only = λ k c. (a.only k c).1; once = a.once }
-
--- rows of references: those of one more definition
-pub rows_begin : (s : Scope) (ds es : List (Text × Tree)) (rows : List (Vec ℕ Global)) → rows ≡ [] → es ≡ [] → rows_of rows ≡ rows_by s ds es
-rows_begin s ds es rows e f = ap rows_of e ∙ sym (ap (rows_by s ds) f)
-
-pub rows_more : (s : Scope) (ds es fs : List (Text × Tree)) (rows new : List (Vec ℕ Global)) (d : Text × Tree) (v : Vec ℕ Global) → rows_of rows ≡ rows_by s ds es → v.items ≡ numbers_of ds (references s d.1) → new ≡ rows ++ v ∷ [] → fs ≡ es ++ d ∷ [] → rows_of new ≡ rows_by s ds fs
-rows_more s ds es fs rows new d v h e f g =
-    ap rows_of f ∙ map-append (λ (w : Vec ℕ Global). w.items) rows (v ∷ []) ∙ (λ i. h i ++ e i ∷ [])
-    ∙ sym (ap (rows_by s ds) g ∙ map-append (λ (e : Text × Tree). numbers_of ds (references s e.1)) es (d ∷ []))
-
+-- entries of a map, one more
 pub shown_more : (xs : List (Bor (String Global) × Bor Pattern)) (x : Bor (String Global) × Bor Pattern) → definitions_view (map deref_pair (xs ++ x ∷ [])) ≡ definitions_view (map deref_pair xs) ++ (string_bytes x.0.now, pattern_view x.1.now) ∷ []
 shown_more [] x = refl
 shown_more (y ∷ xs) x = ap (λ ds. (string_bytes y.0.now, pattern_view y.1.now) ∷ ds) (shown_more xs x)
@@ -95,17 +81,3 @@ module _ (wanted : ℕ → List ℕ) where
   pub record AreRows (n : ℕ) (rows : List (Vec ℕ Global)) : Type 0 where
     pub size : length rows ≡ n
     pub each : (k : ℕ) → k < n → row (rows_of rows) k ≡ wanted k
-
-  pub no_rows : (n : ℕ) (rows : List (Vec ℕ Global)) → n ≡ 0 → rows ≡ [] → AreRows n rows
-  no_rows n rows z e = record { size = ap length e ∙ sym z; each = λ k l. absurd (omega (arith, l, z)) }
-
-  pub one_row : (n : ℕ) (rows new : List (Vec ℕ Global)) (v : Vec ℕ Global) → AreRows n rows → new ≡ rows ++ v ∷ [] → v.items ≡ wanted n → AreRows (n + 1) new
-  one_row n rows new v a e f =
-      let size : length (rows_of rows) ≡ n = length-map rows (λ (w : Vec ℕ Global). w.items) ∙ a.size in
-      let whole : rows_of new ≡ rows_of rows ++ v.items ∷ [] = ap rows_of e ∙ map-append (λ (w : Vec ℕ Global). w.items) rows (v ∷ []) in
-      record {
-        size = ap length e ∙ length_push rows v ∙ ap (λ m. m + 1) a.size;
-        each = below_more (λ k. row (rows_of new) k ≡ wanted k) n
-            (λ k l. ap (λ rs. row rs k) whole ∙ get_or_append_left (rows_of rows) (v.items ∷ []) [] k (omega (arith, l, size)) ∙ a.each k l)
-            (ap (λ rs. row rs n) whole ∙ get_or_push (rows_of rows) v.items [] n size ∙ f);
-      }

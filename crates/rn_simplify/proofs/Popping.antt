@@ -21,9 +21,6 @@ begins marks all left kept e f = record {
   behind = f ∙ sym (ap (λ ys. reverse (marked (drop (length left) marks) ys)) (drop_all (length left) all (omega (arith, ap length e))) ∙ ap reverse (nothing_marked (drop (length left) marks)));
 }
 
-pub ends : {X : Type 0} (marks : List Bool) (all left kept : List X) → left ≡ [] → IsPopping marks all left kept → kept ≡ reverse (marked marks all)
-ends marks all left kept e p = p.behind ∙ ap (λ n. reverse (marked (drop n marks) (drop n all))) (ap length e)
-
 module _ {X : Type 0} (marks : List Bool) (all left rest kept : List X) (x : X) (is : left ≡ rest ++ x ∷ []) (p : IsPopping marks all left kept) where
   abbrev n : ℕ
   n = length rest

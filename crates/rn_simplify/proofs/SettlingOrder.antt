@@ -84,7 +84,6 @@ module _ (G : Grammar) (marks : List Bool) (outs : List (List ℕ)) (marked : (k
       from_is : number_of ds from ≡ Some a
       to_is : number_of ds to ≡ Some b
       reached : IsReached G from
-      reached_to : IsReached G to
       refers : IsSomeAnd (definition_of G from) (RefersOutside to)
 
     step_at : (a b : ℕ) (t : Bool) → is_marked marks a ≡ t → Contains (cond t (numbers_of ds (references OutsideElements (get_or ds a nothing).1)) []) b → Step a b
@@ -95,7 +94,7 @@ module _ (G : Grammar) (marks : List Bool) (outs : List (List ℕ)) (marked : (k
         let w = source_of (number_of ds) (references OutsideElements p) b c in
         let h = in_outside w.0 p w.1 in
         let found = (is_at ds x a n).found in
-        record { from = x; to = w.0; from_is = n; to_is = w.2; reached = r; reached_to = by_definition p r found (outside_refers w.0 p h); refers = some_and (RefersOutside w.0) (definition_of G x) p found h }
+        record { from = x; to = w.0; from_is = n; to_is = w.2; reached = r; refers = some_and (RefersOutside w.0) (definition_of G x) p found h }
 
     step_of : (a b : ℕ) → Contains (row outs a) b → Step a b
     step_of a b c =
