@@ -45,7 +45,8 @@ module _ (rows : List (List ℕ)) where
             ∙ sym (ap (λ (r : List ℕ). length r) (get_or_past rows x [] h))
       ]
 
-  source_within : (x y : ℕ) → Contains (row rows x) y → x < length rows
+  -- an edge begins at a node
+  pub source_within : (x y : ℕ) → Contains (row rows x) y → x < length rows
   source_within x y c = elim (cases_lt x (length rows)) [
     | inl h ↦ h
     | inr h ↦ let none : Contains [] y = subst (λ (l : List ℕ). Contains l y) (get_or_past rows x [] h) c in absurd (omega (arith, none.1))

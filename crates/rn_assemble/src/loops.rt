@@ -1,8 +1,8 @@
 // The least node that comes back to itself, by one search along all edges (Gabow's path-based search for strongly connected groups).
 
-ghost use Rattle.std.specs.Prelude.{◌≡◌, ℕ, ◌+◌, ◌-◌, ◌<◌, ◌≤◌, ◌≢◌, ◌⊎◌, [], Contains, length, vec_len, slice_index_or, take, drop, min, MatchBool, MatchOption, None, IfOk, OnOk};
+ghost use Rattle.std.specs.Prelude.{◌≡◌, ℕ, ◌-◌, ◌<◌, ◌≤◌, ◌≢◌, ◌⊎◌, [], Contains, length, vec_len, slice_index_or, take, drop, min, MatchBool, MatchOption, None, IfOk, OnOk};
 ghost use Rattle.rn_assemble.specs.Graph.{row, IsGraph, rows_of};
-ghost use Rattle.rn_assemble.specs.Order.{Leads, IsNext, EndsWith};
+ghost use Rattle.rn_assemble.specs.Order.{IsNext, EndsWith};
 ghost use Rattle.rn_assemble.specs.Loops.{Grouping, GroupsOn, IsLeastLooped, IsClosed, IsSettled, IsStage, IsAtWork, IsJoined, AllLead, Rises, node_at, place_of, work};
 
 use crate::graph::row_at;
