@@ -80,6 +80,10 @@ fn damage_is_named(rt: HostRuntime) -> Result<(), Fail> {
         ("rncset 1", "rncset 2", "bundle 0 Header 1"),
         ("end 1", "withdrawn t 8\nend 2", "bundle 0 Header 1"),
         (" ba78", " ca78", "bundle 0 Digest 0"),
+        (" 7 3 ", " 18446744073709551615 3 ", "good"),
+        (" 7 3 ", " 18446744073709551616 3 ", "bundle 0 Header 0"),
+        (" 7 3 ", " 7 4194304 ", "bundle 0 Truncated"),
+        (" 7 3 ", " 7 4194305 ", "bundle 0 Header 0"),
         ("end 1\n", "end 1\n\n", "bundle 0 Trailing"),
     ];
     for (old, new, wanted) in rows {
@@ -131,6 +135,37 @@ fn entries_rise(rt: HostRuntime) -> Result<(), Fail> {
     let risen = other.replacen(alloc, "module s", "module u", 1)?;
     let good = format!(in alloc; "{first}{risen}end 2\n")?;
     assert_eq!(rt; fault(alloc, good.as_bytes())?.as_str(), "good");
+    let (_, entry) = first.split_once('\n').ok_or("no line")?;
+    let before = format!(in alloc; "rncset 2\nwithdrawn t 7\n{entry}end 2\n")?;
+    assert_eq!(rt; fault(alloc, before.as_bytes())?.as_str(), "good");
+    let behind = format!(in alloc; "rncset 2\n{entry}withdrawn t 7\nend 2\n")?;
+    assert_eq!(rt;
+        fault(alloc, behind.as_bytes())?.as_str(),
+        "bundle 0 Order 1"
+    );
+    Ok(())
+}
+
+/// A bundle of that many withdrawals.
+fn withdrawn(alloc: Global, count: usize) -> Result<String, Fail> {
+    let mut text = String::from_str(alloc, "rncset 2\n")?;
+    for number in 0..count {
+        text.push_str(format!(in alloc; "withdrawn m{number:04} 1\n")?.as_str())?;
+    }
+    text.push_str(format!(in alloc; "end {count}\n")?.as_str())?;
+    Ok(text)
+}
+
+#[test]
+fn entries_are_limited(rt: HostRuntime) -> Result<(), Fail> {
+    let alloc = rt.alloc();
+    let most = withdrawn(alloc, 1024)?;
+    assert_eq!(rt; fault(alloc, most.as_bytes())?.as_str(), "good");
+    let more = withdrawn(alloc, 1025)?;
+    assert_eq!(rt;
+        fault(alloc, more.as_bytes())?.as_str(),
+        "bundle 0 Header 1024"
+    );
     Ok(())
 }
 
