@@ -65,7 +65,7 @@ module _ {X : Type 0} (f : X → Text) where
       subst (λ (u : Text). Contains (map f xs) u) r.2 there
 
   -- a search by a name
-  rise_at : (xs : List X) (i j : ℕ) (d : X) → IsStrictlySortedBy text_cmp (map f xs) → i < j → j < length xs → text_cmp (f (get_or xs i d)) (f (get_or xs j d)) ≡ Less
+  pub rise_at : (xs : List X) (i j : ℕ) (d : X) → IsStrictlySortedBy text_cmp (map f xs) → i < j → j < length xs → text_cmp (f (get_or xs i d)) (f (get_or xs j d)) ≡ Less
   rise_at xs i j d s h lt =
       let e : j < length (map f xs) = omega (arith, length-map xs f) in
       subst (λ (m : Text). text_cmp m (f (get_or xs j d)) ≡ Less) (get_or-map f xs i d (f d) (omega arith))
