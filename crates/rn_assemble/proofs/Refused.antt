@@ -1,5 +1,5 @@
 -- Refusals of modules, for a set without a conflict.
-use Rattle.std.proofs.Common.{ℕ, List}
+use Rattle.std.proofs.Common.{List}
 use Rattle.rn_modset.specs.Contributions.{Member}
 use Rattle.rn_assemble.specs.declared.refusal.Refusal.{Refusal}
 use Rattle.rn_assemble.specs.declared.refusal.Refusal.TheVariants as r

@@ -1,11 +1,23 @@
 // Patterns and name classes with their names resolved.
+ghost use Rattle.std.specs.Prelude.{◌≡◌, List, map, IfOk, string_bytes};
+ghost use Rattle.rn_pattern.specs.Opened.{pair};
+ghost use Rattle.rn_pattern.specs.Tree as tree;
+ghost use Rattle.rn_pattern.specs.Tree.{Text, name_trees_of, trees_of};
+ghost use Rattle.rn_pattern.specs.View.{name_class_view, parameters_view, pattern_view, shared_view};
+ghost use Rattle.rn_syntax.specs.Tree as source;
+ghost use Rattle.rn_syntax.specs.View as seen;
+ghost use Rattle.rn_assemble.specs.Bound.{InScope};
+ghost use Rattle.rn_assemble.specs.Resolve as resolve;
+
 use crate::bindings::Scope;
 use rn_pattern::{NameClass, Pattern};
 use rn_syntax::{AnyName, Datatype, Name, Nc, Operator, Param, Pat, Postfix};
 use std::alloc::{AllocError, Global};
 use std::rc::Rc;
 
-fn owned(alloc: Global, text: &str) -> Result<String, AllocError> {
+fn owned(alloc: Global, text: &str) -> Result<String, AllocError>
+    ensures { IfOk result (λ s. string_bytes s ≡ text.now) }
+{
     String::from_str(alloc, text)
 }
 
@@ -14,7 +26,9 @@ fn name<'t>(
     scope: Scope<'_, 't>,
     own: &str,
     name: &'t Name<'_>,
-) -> Result<NameClass, AllocError> {
+) -> Result<NameClass, AllocError>
+    ensures { InScope scope.entry (λ inherited ds. IfOk result (λ c. name_class_view c ≡ resolve.named inherited ds own.now (seen.name_view name.now))) }
+{
     match name {
         Name::Local(local) => Ok(NameClass::Name(owned(alloc, own)?, owned(alloc, local)?)),
         Name::Prefixed(prefix, local) => Ok(NameClass::Name(
@@ -24,53 +38,97 @@ fn name<'t>(
     }
 }
 
-fn any_name<'t>(
+/// Every name, or every name of a namespace.
+fn every<'t>(
     alloc: Global,
     scope: Scope<'_, 't>,
     any: &'t AnyName<'_>,
-    except: Option<Box<NameClass>>,
-) -> Result<NameClass, AllocError> {
+) -> Result<NameClass, AllocError>
+    ensures { InScope scope.entry (λ inherited ds. IfOk result (λ c. name_class_view c ≡ resolve.every inherited ds (seen.any_view any.now))) }
+{
     match any {
-        AnyName::Any => Ok(NameClass::AnyName(except)),
+        AnyName::Any => Ok(NameClass::AnyName(None)),
         AnyName::AnyOf(prefix) => Ok(NameClass::NsName(
             owned(alloc, scope.namespace(prefix.name))?,
-            except,
+            None,
         )),
     }
 }
 
+/// The same without the names of a class.
+fn every_but<'t>(
+    alloc: Global,
+    scope: Scope<'_, 't>,
+    any: &'t AnyName<'_>,
+    except: NameClass,
+) -> Result<NameClass, AllocError>
+    ensures { InScope scope.entry (λ inherited ds. IfOk result (λ c. name_class_view c ≡ resolve.every_but inherited ds (seen.any_view any.now) (name_class_view except))) }
+{
+    let except = Box::new(alloc, except)?;
+    match any {
+        AnyName::Any => Ok(NameClass::AnyName(Some(except))),
+        AnyName::AnyOf(prefix) => Ok(NameClass::NsName(
+            owned(alloc, scope.namespace(prefix.name))?,
+            Some(except),
+        )),
+    }
+}
+
+fn class_choice(members: Vec<NameClass>) -> NameClass
+    ensures { name_class_view result ≡ tree.name_choice (name_trees_of (map name_class_view members.items)) }
+{
+    NameClass::Choice(members)
+}
+
 /// The name class, where a name without prefix is in the namespace `own`.
+#[cycle(name_class)]
 pub(crate) fn name_class<'t>(
     alloc: Global,
     scope: Scope<'_, 't>,
     own: &str,
     class: &'t Nc<'_>,
-) -> Result<NameClass, AllocError> {
+) -> Result<NameClass, AllocError>
+    ensures { InScope scope.entry (λ inherited ds. IfOk result (λ c. name_class_view c ≡ resolve.resolved_class inherited ds own.now (seen.class_view class.now))) }
+{
     match class {
-        Nc::Name(written) => name(alloc, scope, own, written),
-        Nc::All(any) => any_name(alloc, scope, any, None),
+        Nc::Name(given) => name(alloc, scope, own, given),
+        Nc::All(any) => every(alloc, scope, any),
         Nc::AllBut(any, except) => {
             let except = name_class(alloc, scope, own, except)?;
-            any_name(alloc, scope, any, Some(Box::new(alloc, except)?))
+            every_but(alloc, scope, any, except)
         }
-        Nc::Choice(classes) => {
-            let mut members = Vec::new(alloc);
-            for class in classes {
-                members.push(name_class(alloc, scope, own, class)?)?;
-            }
-            Ok(NameClass::Choice(members))
-        }
+        Nc::Choice(classes) => Ok(class_choice(name_classes(alloc, scope, own, classes)?)),
     }
 }
 
-fn library<'t>(scope: Scope<'_, 't>, datatype: &'t Datatype<'_>) -> &'t str {
+#[cycle(name_class)]
+fn name_classes<'t>(
+    alloc: Global,
+    scope: Scope<'_, 't>,
+    own: &str,
+    classes: &'t [Nc<'_>],
+) -> Result<Vec<NameClass>, AllocError>
+    ensures { InScope scope.entry (λ inherited ds. IfOk result (λ v. name_trees_of (map name_class_view v.items) ≡ resolve.resolved_classes inherited ds own.now (seen.classes_view classes.now))) }
+{
+    let mut members = Vec::new(alloc);
+    for class in classes {
+        members.push(name_class(alloc, scope, own, class)?)?;
+    }
+    Ok(members)
+}
+
+fn library<'t>(scope: Scope<'_, 't>, datatype: &'t Datatype<'_>) -> &'t str
+    ensures { InScope scope.entry (λ inherited ds. result.now ≡ resolve.type_library inherited ds (seen.datatype_view datatype.now)) }
+{
     match datatype {
         Datatype::String(_) | Datatype::Token(_) => "",
         Datatype::Named(prefix, _) => scope.library(prefix.name),
     }
 }
 
-fn type_name<'t>(datatype: &'t Datatype<'_>) -> &'t str {
+fn type_name<'t>(datatype: &'t Datatype<'_>) -> &'t str
+    ensures { (inherited : Text) (ds : List source.Declaration) → result.now ≡ resolve.type_name inherited ds (seen.datatype_view datatype.now) }
+{
     match datatype {
         Datatype::String(_) => "string",
         Datatype::Token(_) => "token",
@@ -84,7 +142,9 @@ fn value<'t>(
     scope: Scope<'_, 't>,
     datatype: &'t Option<Datatype<'_>>,
     text: &str,
-) -> Result<Pattern, AllocError> {
+) -> Result<Pattern, AllocError>
+    ensures { InScope scope.entry (λ inherited ds. IfOk result (λ p. pattern_view p ≡ resolve.typed_value inherited ds (seen.type_view datatype.now) text.now)) }
+{
     match datatype {
         Some(datatype) => Ok(Pattern::Value(
             owned(alloc, library(scope, datatype))?,
@@ -99,10 +159,15 @@ fn value<'t>(
     }
 }
 
-fn params(alloc: Global, written: &[Param<'_>]) -> Result<Vec<(String, String)>, AllocError> {
+fn params(alloc: Global, given: &[Param<'_>]) -> Result<Vec<(String, String)>, AllocError>
+    ensures { IfOk result (λ v. parameters_view v.items ≡ seen.params_view given.now) }
+{
     let mut params = Vec::new(alloc);
-    for param in written {
-        params.push((owned(alloc, param.name)?, owned(alloc, &param.text)?))?;
+    for param in given {
+        params.push((
+            owned(alloc, param.name)?,
+            owned(alloc, param.text.as_str())?,
+        ))?;
     }
     Ok(params)
 }
@@ -111,95 +176,186 @@ fn datum<'t>(
     alloc: Global,
     scope: Scope<'_, 't>,
     datatype: &'t Datatype<'_>,
-    written: &[Param<'_>],
-    except: Option<Box<Pattern>>,
-) -> Result<Pattern, AllocError> {
+    given: &[Param<'_>],
+) -> Result<Pattern, AllocError>
+    ensures { InScope scope.entry (λ inherited ds. IfOk result (λ p. pattern_view p
+        ≡ tree.datum (resolve.type_library inherited ds (seen.datatype_view datatype.now)) (resolve.type_name inherited ds (seen.datatype_view datatype.now)) (seen.params_view given.now))) }
+{
     Ok(Pattern::Datum(
         owned(alloc, library(scope, datatype))?,
         owned(alloc, type_name(datatype))?,
-        params(alloc, written)?,
-        except,
+        params(alloc, given)?,
+        None,
     ))
 }
 
-fn pair(alloc: Global, first: Pattern, second: Pattern) -> Result<Vec<Rc<Pattern>>, AllocError> {
+/// The datatype without the values of a pattern.
+fn datum_but<'t>(
+    alloc: Global,
+    scope: Scope<'_, 't>,
+    datatype: &'t Datatype<'_>,
+    given: &[Param<'_>],
+    except: Pattern,
+) -> Result<Pattern, AllocError>
+    ensures { InScope scope.entry (λ inherited ds. IfOk result (λ p. pattern_view p
+        ≡ tree.datum_but (resolve.type_library inherited ds (seen.datatype_view datatype.now)) (resolve.type_name inherited ds (seen.datatype_view datatype.now)) (seen.params_view given.now) (pattern_view except))) }
+{
+    Ok(Pattern::Datum(
+        owned(alloc, library(scope, datatype))?,
+        owned(alloc, type_name(datatype))?,
+        params(alloc, given)?,
+        Some(Box::new(alloc, except)?),
+    ))
+}
+
+fn element(alloc: Global, class: NameClass, content: Pattern) -> Result<Pattern, AllocError>
+    ensures { IfOk result (λ p. pattern_view p ≡ tree.element (name_class_view class) (pattern_view content)) }
+{
+    Ok(Pattern::Element(class, Box::new(alloc, content)?))
+}
+
+fn attribute(alloc: Global, class: NameClass, content: Pattern) -> Result<Pattern, AllocError>
+    ensures { IfOk result (λ p. pattern_view p ≡ tree.attribute (name_class_view class) (pattern_view content)) }
+{
+    Ok(Pattern::Attribute(class, Box::new(alloc, content)?))
+}
+
+fn list(alloc: Global, content: Pattern) -> Result<Pattern, AllocError>
+    ensures { IfOk result (λ p. pattern_view p ≡ tree.list (pattern_view content)) }
+{
+    Ok(Pattern::List(Box::new(alloc, content)?))
+}
+
+fn one_or_more(alloc: Global, content: Pattern) -> Result<Pattern, AllocError>
+    ensures { IfOk result (λ p. pattern_view p ≡ tree.one_or_more (pattern_view content)) }
+{
+    Ok(Pattern::OneOrMore(Box::new(alloc, content)?))
+}
+
+fn reference(alloc: Global, name: &str) -> Result<Pattern, AllocError>
+    ensures { IfOk result (λ p. pattern_view p ≡ tree.ref name.now) }
+{
+    Ok(Pattern::Ref(owned(alloc, name)?))
+}
+
+fn two(alloc: Global, first: Pattern, second: Pattern) -> Result<Vec<Rc<Pattern>>, AllocError>
+    ensures { IfOk result (λ v. trees_of (map shared_view v.items) ≡ pair (pattern_view first) (pattern_view second)) }
+{
     let mut members = Vec::with_capacity(alloc, 2)?;
     members.push(Rc::new(alloc, first)?)?;
     members.push(Rc::new(alloc, second)?)?;
     Ok(members)
 }
 
-/// `p?` is the choice of p and empty, `p*` that of `p+` and empty.
-fn repeated(alloc: Global, postfix: Postfix, content: Pattern) -> Result<Pattern, AllocError> {
-    match postfix {
-        Postfix::Question => Ok(Pattern::Choice(pair(alloc, content, Pattern::Empty)?)),
-        Postfix::Star => {
-            let more = Pattern::OneOrMore(Box::new(alloc, content)?);
-            Ok(Pattern::Choice(pair(alloc, more, Pattern::Empty)?))
-        }
-        Postfix::Plus => Ok(Pattern::OneOrMore(Box::new(alloc, content)?)),
+fn group(members: Vec<Rc<Pattern>>) -> Pattern
+    ensures { pattern_view result ≡ tree.group (trees_of (map shared_view members.items)) }
+{
+    Pattern::Group(members)
+}
+
+fn interleave(members: Vec<Rc<Pattern>>) -> Pattern
+    ensures { pattern_view result ≡ tree.interleave (trees_of (map shared_view members.items)) }
+{
+    Pattern::Interleave(members)
+}
+
+fn choice(members: Vec<Rc<Pattern>>) -> Pattern
+    ensures { pattern_view result ≡ tree.choice (trees_of (map shared_view members.items)) }
+{
+    Pattern::Choice(members)
+}
+
+fn chain(operator: Operator, members: Vec<Rc<Pattern>>) -> Pattern
+    ensures { (inherited : Text) (ds : List source.Declaration) → pattern_view result ≡ resolve.chained inherited ds operator (trees_of (map shared_view members.items)) }
+{
+    match operator {
+        Operator::Comma => group(members),
+        Operator::Ampersand => interleave(members),
+        Operator::Bar => choice(members),
     }
 }
 
-fn chain(operator: Operator, members: Vec<Rc<Pattern>>) -> Pattern {
-    match operator {
-        Operator::Comma => Pattern::Group(members),
-        Operator::Ampersand => Pattern::Interleave(members),
-        Operator::Bar => Pattern::Choice(members),
+/// The choice of the pattern and empty.
+fn optional(alloc: Global, content: Pattern) -> Result<Pattern, AllocError>
+    ensures { IfOk result (λ p. pattern_view p ≡ tree.choice (pair (pattern_view content) tree.empty)) }
+{
+    Ok(choice(two(alloc, content, Pattern::Empty)?))
+}
+
+/// The interleave of the pattern and text.
+fn mixed(alloc: Global, content: Pattern) -> Result<Pattern, AllocError>
+    ensures { IfOk result (λ p. pattern_view p ≡ tree.interleave (pair (pattern_view content) tree.text)) }
+{
+    Ok(interleave(two(alloc, content, Pattern::Text)?))
+}
+
+fn repeated(alloc: Global, postfix: Postfix, content: Pattern) -> Result<Pattern, AllocError>
+    ensures { (inherited : Text) (ds : List source.Declaration) → IfOk result (λ p. pattern_view p ≡ resolve.repetition inherited ds postfix (pattern_view content)) }
+{
+    match postfix {
+        Postfix::Question => optional(alloc, content),
+        Postfix::Star => optional(alloc, one_or_more(alloc, content)?),
+        Postfix::Plus => one_or_more(alloc, content),
     }
 }
 
 /// The pattern.
+#[cycle(pattern)]
 pub(crate) fn pattern<'t>(
     alloc: Global,
     scope: Scope<'_, 't>,
     written: &'t Pat<'_>,
-) -> Result<Pattern, AllocError> {
+) -> Result<Pattern, AllocError>
+    ensures { InScope scope.entry (λ inherited ds. IfOk result (λ p. pattern_view p ≡ resolve.resolved inherited ds (seen.pattern_view written.now))) }
+{
     match written {
         Pat::Element(class, content) => {
             let class = name_class(alloc, scope, scope.default_namespace(), class)?;
             let content = pattern(alloc, scope, content)?;
-            Ok(Pattern::Element(class, Box::new(alloc, content)?))
+            element(alloc, class, content)
         }
         Pat::Attribute(class, content) => {
             let class = name_class(alloc, scope, "", class)?;
             let content = pattern(alloc, scope, content)?;
-            Ok(Pattern::Attribute(class, Box::new(alloc, content)?))
+            attribute(alloc, class, content)
         }
         Pat::List(content) => {
             let content = pattern(alloc, scope, content)?;
-            Ok(Pattern::List(Box::new(alloc, content)?))
+            list(alloc, content)
         }
         Pat::Mixed(content) => {
             let content = pattern(alloc, scope, content)?;
-            Ok(Pattern::Interleave(pair(alloc, content, Pattern::Text)?))
+            mixed(alloc, content)
         }
         Pat::Empty => Ok(Pattern::Empty),
         Pat::NotAllowed => Ok(Pattern::NotAllowed),
         Pat::Text => Ok(Pattern::Text),
-        Pat::Ref(name) => Ok(Pattern::Ref(owned(alloc, name)?)),
-        Pat::Value(datatype, text) => value(alloc, scope, datatype, text),
-        Pat::Datum(datatype, written) => datum(alloc, scope, datatype, written.as_slice(), None),
-        Pat::DatumBut(datatype, written, _, except) => {
+        Pat::Ref(name) => reference(alloc, name),
+        Pat::Value(datatype, text) => value(alloc, scope, datatype, text.as_str()),
+        Pat::Datum(datatype, params) => datum(alloc, scope, datatype, params),
+        Pat::DatumBut(datatype, params, _, except) => {
             let except = pattern(alloc, scope, except)?;
-            datum(
-                alloc,
-                scope,
-                datatype,
-                written.as_slice(),
-                Some(Box::new(alloc, except)?),
-            )
+            datum_but(alloc, scope, datatype, params, except)
         }
         Pat::Repeated(postfix, content) => {
             let content = pattern(alloc, scope, content)?;
             repeated(alloc, *postfix, content)
         }
-        Pat::Chain(operator, written) => {
-            let mut members = Vec::new(alloc);
-            for member in written {
-                members.push(Rc::new(alloc, pattern(alloc, scope, member)?)?)?;
-            }
-            Ok(chain(*operator, members))
-        }
+        Pat::Chain(operator, members) => Ok(chain(*operator, patterns(alloc, scope, members)?)),
     }
+}
+
+#[cycle(pattern)]
+fn patterns<'t>(
+    alloc: Global,
+    scope: Scope<'_, 't>,
+    written: &'t [Pat<'_>],
+) -> Result<Vec<Rc<Pattern>>, AllocError>
+    ensures { InScope scope.entry (λ inherited ds. IfOk result (λ v. trees_of (map shared_view v.items) ≡ resolve.resolved_all inherited ds (seen.patterns_view written.now))) }
+{
+    let mut members = Vec::new(alloc);
+    for member in written {
+        members.push(Rc::new(alloc, pattern(alloc, scope, member)?)?)?;
+    }
+    Ok(members)
 }

@@ -1,4 +1,4 @@
-use Rattle.std.proofs.Common.{◌≡◌, arith, length, ap, sym, ◌∙◌, subst, ℕ, List, Vec}
+use Rattle.std.proofs.Common.{◌≡◌, length, ap, sym, ◌∙◌, subst, ℕ, List, Vec}
 use Rattle.std.specs.declared.alloc.Global.{Global}
 use Rattle.rn_assemble.specs.Graph.{AllBelow}
 use Rattle.rn_assemble.proofs.Rows.{graph_still, below_still}

@@ -1,4 +1,4 @@
-use Rattle.std.proofs.Common.{◌≡◌, ◌+◌, arith, vec_len}
+use Rattle.std.proofs.Common.{arith}
 use Rattle.rn_assemble.proofs.Rows.{rows_pushed, is_graph}
 use Rattle.rn_assemble.proofs.inclusion.inclusions.Goals as goal
 

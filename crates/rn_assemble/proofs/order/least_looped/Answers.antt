@@ -1,4 +1,4 @@
-use Rattle.std.proofs.Common.{◌≡◌, ◌<◌, ℕ, List, Vec, Bool, true, false, length, get_or, sym, ◌∙◌, subst, arith, below_more}
+use Rattle.std.proofs.Common.{◌≡◌, ◌<◌, ℕ, Vec, true, false, length, sym, ◌∙◌, subst, arith, below_more}
 use Rattle.std.proofs.lemmas.List.{length-map, get_or_read}
 use Rattle.std.specs.declared.alloc.Global.{Global}
 use Rattle.rn_assemble.specs.Graph.{rows_of, is_marked}

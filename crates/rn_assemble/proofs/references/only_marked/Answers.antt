@@ -1,5 +1,5 @@
 use Rattle.std.proofs.lemmas.List.Elements.{same_from_all_zip}
-use Rattle.std.proofs.Common.{rules, ◌≡◌, ◌+◌, arith, ℕ, List, [], Vec, ap, ◌∙◌, sym, length, vec_len}
+use Rattle.std.proofs.Common.{rules, ◌≡◌, arith, ℕ, [], Vec, ap, ◌∙◌, vec_len}
 use Rattle.std.specs.declared.alloc.Global.{Global}
 use Rattle.rn_assemble.proofs.Rows.{rows_pushed, is_graph, read_within, none_below, below_still}
 use Rattle.rn_assemble.proofs.references.only_marked.Goals as goal

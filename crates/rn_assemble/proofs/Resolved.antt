@@ -1,0 +1,48 @@
+-- Lists of patterns and name classes, resolved one after the other.
+use Rattle.std.proofs.Common.{◌≡◌, ℕ, ◌+◌, ◌<◌, List, [], ◌∷◌, ◌++◌, length, get_or, take, map, refl, sym, ap, ◌∙◌}
+use Rattle.std.proofs.lemmas.List.{take_more, map-append}
+use Rattle.std.specs.Prelude.{Box, String, string_bytes, Vec}
+use Rattle.std.specs.declared.alloc.Global.{Global}
+use Rattle.rn_pattern.specs.Tree as tree
+use Rattle.rn_pattern.specs.View.{pattern_step as code_step, pattern_view as code_view}
+use Rattle.rn_pattern.specs.declared.tree.Pattern.{fold-roll-Pattern}
+use Rattle.rn_pattern.specs.declared.tree.Pattern.TheOpen.{Pattern-F}
+use Rattle.rn_pattern.specs.declared.tree.Pattern.TheVariants.{rolls-Value}
+use Rattle.rn_pattern.specs.declared.tree.Pattern.TheVariants as made
+use Rattle.rn_pattern.specs.Tree.{Text, more_names, more_trees, name_trees_of, trees_of}
+use Rattle.rn_syntax.specs.Tree.{Declaration}
+use Rattle.rn_syntax.specs.View.{class_view, classes_view, pattern_step, pattern_view, patterns_view}
+use Rattle.rn_syntax.specs.declared.tree.Nc.{Nc}
+use Rattle.rn_syntax.specs.Tree as t
+use Rattle.rn_syntax.specs.declared.token.Operator.{Operator}
+use Rattle.rn_syntax.specs.declared.token.Postfix.{Postfix}
+use Rattle.rn_syntax.specs.declared.tree.Pat.{Pat, fold-roll-Pat}
+use Rattle.rn_syntax.specs.declared.tree.Pat.TheOpen.{Pat-F}
+use Rattle.rn_syntax.specs.declared.tree.Pat.TheVariants.{rolls-Repeated, rolls-Chain}
+use Rattle.rn_syntax.specs.declared.tree.Pat.TheViews as written
+use Rattle.rn_assemble.specs.Resolve.{resolved_class, resolved_classes, resolved, resolved_all}
+
+-- the images of one element more
+pub mapped_more : {A B C : Type 0} (f : A → C) (g : B → C) (xs : List A) (k : ℕ) (x : A) (ys ys' : List B) (y : B)
+    → k < length xs → x ≡ get_or xs k x → map g ys ≡ map f (take k xs) → ys' ≡ ys ++ y ∷ [] → g y ≡ f x → map g ys' ≡ map f (take (k + 1) xs)
+mapped_more f g xs k x ys ys' y h e before push here =
+    ap (map g) push ∙ map-append g ys (y ∷ []) ∙ (λ i. before i ++ here i ∷ [])
+    ∙ sym (ap (map f) (take_more xs k x h ∙ ap (λ z. take k xs ++ z ∷ []) (sym e)) ∙ map-append f (take k xs) (x ∷ []))
+
+pub classes_resolved : (inherited : Text) (ds : List Declaration) (own : Text) (cs : List Nc) → name_trees_of (map (λ c. resolved_class inherited ds own (class_view c)) cs) ≡ resolved_classes inherited ds own (classes_view cs)
+classes_resolved inherited ds own [] = refl
+classes_resolved inherited ds own (c ∷ cs) = ap (more_names (resolved_class inherited ds own (class_view c))) (classes_resolved inherited ds own cs)
+
+pub patterns_resolved : (inherited : Text) (ds : List Declaration) (ps : List Pat) → trees_of (map (λ p. resolved inherited ds (pattern_view p)) ps) ≡ resolved_all inherited ds (patterns_view ps)
+patterns_resolved inherited ds [] = refl
+patterns_resolved inherited ds (p ∷ ps) = ap (more_trees (resolved inherited ds (pattern_view p))) (patterns_resolved inherited ds ps)
+
+-- trees of single nodes
+pub value_seen : (l x s : String Global) → code_view (made.Value l x s) ≡ tree.value (string_bytes l) (string_bytes x) (string_bytes s)
+value_seen l x s = ap code_view (sym (rolls-Value l x s)) ∙ fold-roll-Pattern tree.Tree code_step (Pattern-F.Value l x s)
+
+pub repeated_seen : (r : Postfix) (p : Box Pat Global) → pattern_view (written.Repeated r p) ≡ t.repeated r (pattern_view p.value)
+repeated_seen r p = ap pattern_view (sym (rolls-Repeated r p)) ∙ fold-roll-Pat t.Pattern pattern_step (Pat-F.Repeated r p)
+
+pub chain_seen : (o : Operator) (ps : Vec Pat Global) → pattern_view (written.Chain o ps) ≡ t.chain o (patterns_view ps.items)
+chain_seen o ps = ap pattern_view (sym (rolls-Chain o ps)) ∙ fold-roll-Pat t.Pattern pattern_step (Pat-F.Chain o ps)

@@ -1,0 +1,10 @@
+-- The members so far are the classes so far, resolved.
+use Rattle.std.proofs.Common.{◌≡◌, map, take}
+use Rattle.rn_pattern.specs.View.{name_class_view}
+use Rattle.rn_syntax.specs.View.{class_view}
+use Rattle.rn_assemble.specs.Bound.{InScope}
+use Rattle.rn_assemble.specs.Resolve.{resolved_class}
+use Rattle.rn_assemble.proofs.resolution.+name_class.Given as goal
+
+abbrev pub invariant-name_classes-loop-class : goal.invariant-name_classes-loop-class
+invariant-name_classes-loop-class l = InScope l.scope (λ inherited ds. map name_class_view l.members.items ≡ map (λ c. resolved_class inherited ds l.own (class_view c)) (take l.class-index l.classes))
