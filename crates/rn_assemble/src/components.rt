@@ -1,5 +1,13 @@
 // The components of a set: includes replaced by what they include, without what they override.
-ghost use Rattle.std.specs.Prelude.{◌≡◌, vec_len};
+ghost use Rattle.std.specs.Prelude.{◌≡◌, ℕ, ◌+◌, ◌<◌, ◌≤◌, ◌==◌, not, List, [], ◌∷◌, ◌++◌, map, filter, length, vec_len, slice_get, slice_index_or, slice_range, IfOk, option_copied};
+ghost use Rattle.std.specs.List.{AllByRecursion};
+ghost use Rattle.rn_pattern.specs.Tree.{Text};
+ghost use Rattle.rn_syntax.specs.Tree.{Declaration};
+ghost use Rattle.rn_assemble.specs.Bound.{BindsAs};
+ghost use Rattle.rn_assemble.specs.Components as specs;
+ghost use Rattle.rn_assemble.specs.Expanded.{AddsLive, KeepsBodies, KeepsLists, StartsAt};
+ghost use Rattle.rn_assemble.specs.Listed.{IsBody, Lists, Live, Rises, resolved_component};
+ghost use Rattle.rn_assemble.specs.Views.{IsNumbered, written_view};
 
 use crate::bindings::Scope;
 use crate::contents::{Component, Contents, Include};
@@ -114,14 +122,28 @@ impl<'c, 't, 's> Components<'c, 't, 's> {
             return Ok(*first);
         }
         let first = self.bodies.len();
+        self.make_bodies(content, scope)?;
+        self.contexts.insert(context, first)?;
+        Ok(first)
+    }
+
+    /// Adds the bodies of a module in a scope.
+    fn make_bodies(
+        &mut self,
+        content: &'c Contents<'t, 's>,
+        scope: Scope<'c, 't>,
+    ) -> Result<(), AllocError>
+        ensures kept { KeepsLists self.old self.new }
+        ensures contexts { self.new.contexts ≡ self.old.contexts }
+        ensures made { IfOk result (λ _. self.new.bodies.items ≡ self.old.bodies.items ++ map (λ c. record { component = c; scope = scope.entry }) content.now.components.items) }
+    {
         for component in &content.components {
             self.bodies.push(Body {
                 component: *component,
                 scope,
             })?;
         }
-        self.contexts.insert(context, first)?;
-        Ok(first)
+        Ok(())
     }
 
     /// Adds the components of those numbers.
@@ -131,7 +153,12 @@ impl<'c, 't, 's> Components<'c, 't, 's> {
         first: usize,
         from: usize,
         to: usize,
-    ) -> Result<(), AllocError> {
+    ) -> Result<(), AllocError>
+        ensures kept { KeepsBodies self.old self.new }
+        ensures added { (names : List Text) (live : List Live) (inherited : Text) (ds : List Declaration) → Lists names self.old live → BindsAs content.now.bindings ds
+            → StartsAt self.old.bodies.items first content.now inherited → AllByRecursion (IsNumbered names) content.now.components.items → from ≤ to → to ≤ length content.now.components.items
+            → IfOk result (λ _. AddsLive names self.old self.new live (map (resolved_component inherited ds) (slice_range (map (written_view names) content.now.components.items) from to))) }
+    {
         for number in from..to {
             let (Some(component), Some(body)) = (
                 content.components.get(number),
@@ -145,7 +172,13 @@ impl<'c, 't, 's> Components<'c, 't, 's> {
     }
 
     /// Adds the component of a key with this body.
-    fn place(&mut self, key: usize, body: usize) -> Result<(), AllocError> {
+    fn place(&mut self, key: usize, body: usize) -> Result<(), AllocError>
+        ensures kept { KeepsBodies self.old self.new }
+        ensures placed { (names : List Text) (live : List Live) (c : specs.Component) → Lists names self.old live → body < length self.old.bodies.items
+            → ((d : Body) → IsBody names (slice_index_or self.old.bodies.items body d) key c)
+            → IfOk result (λ _. Lists names self.new (live ++ record { place = length self.old.list.items; key = key; component = c } ∷ [])) }
+        ensures longer { IfOk result (λ _. length self.new.list.items ≡ length self.old.list.items + 1) }
+    {
         let place = self.list.len();
         self.list.push(body)?;
         if key < self.places.len() {
@@ -194,7 +227,12 @@ impl<'c, 't, 's> Components<'c, 't, 's> {
     }
 
     /// Takes out the components of a key that were added since a place.
-    fn take_out_since(&mut self, before: usize, key: usize) {
+    fn take_out_since(&mut self, before: usize, key: usize)
+        ensures kept { KeepsBodies self.old self.new }
+        ensures list { self.new.list ≡ self.old.list }
+        ensures taken { (names : List Text) (live added : List Live) → Lists names self.old (live ++ added) → AllByRecursion (λ (e : Live). e.place < before) live → Rises before added
+            → Lists names self.new (live ++ filter (λ (e : Live). not (e.key == key)) added) }
+    {
         if key < self.places.len() {
             pop_since(&mut self.places[key], before);
         }
@@ -208,12 +246,16 @@ impl<'c, 't, 's> Components<'c, 't, 's> {
     }
 
     /// The body of that number.
-    pub fn body(&self, number: usize) -> Option<&Body<'c, 't, 's>> {
+    pub fn body(&self, number: usize) -> Option<&Body<'c, 't, 's>>
+        ensures { option_copied result ≡ slice_get self.now.bodies.items number }
+    {
         self.bodies.get(number)
     }
 
     /// The number of the body of the component at that place.
-    pub fn body_at(&self, place: usize) -> Option<usize> {
+    pub fn body_at(&self, place: usize) -> Option<usize>
+        ensures { result ≡ slice_get self.now.list.items place }
+    {
         self.list.get(place).copied()
     }
 
@@ -227,7 +269,9 @@ impl<'c, 't, 's> Components<'c, 't, 's> {
 }
 
 /// Takes out the places from a place on, at the end of a list that rises.
-fn pop_since(places: &mut Vec<usize>, before: usize) {
+fn pop_since(places: &mut Vec<usize>, before: usize)
+    ensures { (xs ys : List ℕ) → places.old.items ≡ xs ++ ys → AllByRecursion (λ x. x < before) xs → AllByRecursion (λ y. before ≤ y) ys → places.new.items ≡ xs }
+{
     while let Some(place) = places.last() {
         if *place < before {
             break;
