@@ -14,7 +14,7 @@ use Rattle.rn_assemble.specs.Components.{Component}
 use Rattle.rn_assemble.specs.Graph.{row, rows_of}
 use Rattle.rn_assemble.specs.Listed.{IsBody, IsLive, Live, ListsBy, Rises, places_of}
 
-each_to : {X : Type 0} (P Q : X → Type 0) → ((x : X) → P x → Q x) → (xs : List X) → AllByRecursion P xs → AllByRecursion Q xs
+pub each_to : {X : Type 0} (P Q : X → Type 0) → ((x : X) → P x → Q x) → (xs : List X) → AllByRecursion P xs → AllByRecursion Q xs
 each_to P Q f [] h = tt
 each_to P Q f (x ∷ xs) h = (f x h.0, each_to P Q f xs h.1)
 

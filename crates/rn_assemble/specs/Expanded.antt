@@ -1,10 +1,15 @@
 -- What expanding an include does to the components of the code.
-use Rattle.std.specs.Prelude.{ℕ, ◌+◌, ◌<◌, ◌≤◌, ◌≡◌, List, ◌++◌, length, slice_index_or}
+use Rattle.std.specs.Prelude.{ℕ, ◌+◌, ◌<◌, ◌≤◌, ◌≡◌, ◌==◌, not, List, ◌++◌, length, filter, slice_index_or}
+use Rattle.std.specs.List.{AllByRecursion, list_any}
 use Rattle.rn_pattern.specs.Tree.{Text}
 use Rattle.rn_assemble.specs.declared.contents.Component as code
 use Rattle.rn_assemble.specs.declared.contents.Contents.{Contents}
 use Rattle.rn_assemble.specs.declared.components.Body.{Body}
 use Rattle.rn_assemble.specs.declared.components.Components.{Components}
+use Rattle.rn_syntax.specs.Tree.{Declaration}
+use Rattle.rn_assemble.specs.declared.components.Context.{Context}
+use Rattle.rn_assemble.specs.Bound.{BindsAs}
+use Rattle.rn_assemble.specs.Views.{IsNumbered}
 use Rattle.rn_assemble.specs.Components.{Component}
 use Rattle.rn_assemble.specs.Listed.{Live, Lists, Rises, components_in}
 
@@ -33,3 +38,34 @@ pub record AddsLive (names : List Text) (old new : Components) (live : List Live
   pub rises : Rises (length old.list.items) added
   pub longer : length old.list.items ≤ length new.list.items
   pub are : components_in added ≡ cs
+
+-- the components of the numbers from one to another can be added
+pub record CanAdd (names : List Text) (x : Components) (live : List Live) (content : Contents) (first : ℕ) (inherited : Text) (ds : List Declaration) (from to : ℕ) : Type 0 where
+  pub lists : Lists names x live
+  pub binds : BindsAs content.bindings ds
+  pub starts : StartsAt x.bodies.items first content inherited
+  pub numbered : AllByRecursion (IsNumbered names) content.components.items
+  pub ordered : from ≤ to
+  pub within : to ≤ length content.components.items
+
+-- the element at a place of a list
+pub record IsItem (contents : List Contents) (i : ℕ) (content : Contents) : Type 0 where
+  pub within : i < length contents
+  pub is : (d : Contents) → slice_index_or contents i d ≡ content
+
+-- each context that was met has its bodies
+abbrev pub ContextHolds : List Contents → List Body → Context → Type 0
+ContextHolds contents bodies q = (content : Contents) → IsItem contents q.module content → StartsAt bodies q.first content q.inherited.now
+
+abbrev pub ContextsHold : List Contents → Components → Type 0
+ContextsHold contents x = AllByRecursion (ContextHolds contents x.bodies.items) x.contexts.items
+
+-- the bodies of the content are there
+pub record Enters (contents : List Contents) (old new : Components) (first : ℕ) (content : Contents) (inherited : Text) : Type 0 where
+  pub starts : StartsAt new.bodies.items first content inherited
+  pub contexts : ContextsHold contents new
+  pub grows : (more : List Body) × (new.bodies.items ≡ old.bodies.items ++ more)
+
+-- without the components of the keys of these
+abbrev pub left_by : List code.Component → List Live → List Live
+left_by own es = filter (λ (e : Live). not (list_any (λ (c : code.Component). e.key == c.key) own)) es

@@ -1,25 +1,24 @@
 // The components of a set: includes replaced by what they include, without what they override.
-ghost use Rattle.std.specs.Prelude.{◌≡◌, ℕ, ◌+◌, ◌<◌, ◌≤◌, ◌==◌, not, List, [], ◌∷◌, ◌++◌, map, filter, length, vec_len, slice_get, slice_index_or, slice_range, IfOk, option_copied};
+ghost use Rattle.std.specs.Prelude.{◌≡◌, ℕ, ◌+◌, ◌<◌, ◌≤◌, ◌==◌, not, List, [], ◌∷◌, ◌++◌, map, filter, length, vec_len, slice_get, slice_index_or, slice_range, Contains, IfOk, IfSome, option_copied};
 ghost use Rattle.std.specs.List.{AllByRecursion};
 ghost use Rattle.rn_pattern.specs.Tree.{Text};
 ghost use Rattle.rn_syntax.specs.Tree.{Declaration};
-ghost use Rattle.rn_assemble.specs.Bound.{BindsAs};
 ghost use Rattle.rn_assemble.specs.Components as specs;
-ghost use Rattle.rn_assemble.specs.Expanded.{AddsLive, KeepsBodies, KeepsLists, StartsAt};
+ghost use Rattle.rn_assemble.specs.Expanded.{AddsLive, CanAdd, ContextsHold, Enters, IsItem, KeepsBodies, KeepsLists, left_by};
 ghost use Rattle.rn_assemble.specs.Listed.{IsBody, Lists, Live, Rises, resolved_component};
-ghost use Rattle.rn_assemble.specs.Views.{IsNumbered, written_view};
+ghost use Rattle.rn_assemble.specs.Views.{written_view};
 
 use crate::bindings::Scope;
 use crate::contents::{Component, Contents, Include};
 use crate::inclusion::INSTANCE_LIMIT;
-use indexmap::IndexMap;
 use std::alloc::{AllocError, Global};
 
-/// A module under the namespace that it inherits.
-#[derive(Clone, Copy, PartialEq, Eq, Hash)]
+/// A module under the namespace that it inherits, and the number of its first body there.
+#[derive(Clone, Copy)]
 struct Context<'t> {
     module: usize,
     inherited: &'t str,
+    first: usize,
 }
 
 /// A component in a context.
@@ -39,8 +38,8 @@ pub(crate) struct Lack {
 /// The components of a set in their order. Each is kept as the number of its body, which many of them share.
 #[derive(Drop)]
 pub(crate) struct Components<'c, 't, 's> {
-    /// The first body of each context.
-    contexts: IndexMap<Context<'t>, usize>,
+    /// The contexts that were met, no more than a set has instances.
+    contexts: Vec<Context<'t>>,
     bodies: Vec<Body<'c, 't, 's>>,
     /// The body of each component, also of those that an include has overridden.
     list: Vec<usize>,
@@ -58,7 +57,7 @@ pub(crate) fn components_of<'c, 't, 's>(
     keys: usize,
 ) -> Result<Components<'c, 't, 's>, AllocError> {
     let mut components = Components {
-        contexts: IndexMap::new(alloc),
+        contexts: Vec::new(alloc),
         bodies: Vec::new(alloc),
         list: Vec::new(alloc),
         places: Vec::new(alloc),
@@ -100,7 +99,8 @@ fn expand<'c, 't, 's>(
             let inherited = scope.handed_on(include.inherit);
             expand(components, contents, included, inherited, depth - 1)?;
         }
-        components.override_since(before, module, content, include);
+        components.note_lacks(before, module, content, include);
+        components.take_out(before, content, include);
         next = include.from;
     }
     components.add(content, first, next, content.components.len())
@@ -113,18 +113,34 @@ impl<'c, 't, 's> Components<'c, 't, 's> {
         content: &'c Contents<'t, 's>,
         module: usize,
         scope: Scope<'c, 't>,
-    ) -> Result<usize, AllocError> {
-        let context = Context {
-            module,
-            inherited: scope.inherited,
-        };
-        if let Some(first) = self.contexts.get(&context) {
-            return Ok(*first);
+    ) -> Result<usize, AllocError>
+        ensures kept { KeepsLists self.old self.new }
+        ensures entered { (contents : List Contents) → ContextsHold contents self.old → IsItem contents «module» content.now → scope.entry.bindings.now ≡ content.now.bindings
+            → IfOk result (λ first. Enters contents self.old self.new first content.now scope.entry.inherited.now) }
+    {
+        if let Some(first) = self.first_body(module, scope.inherited) {
+            return Ok(first);
         }
         let first = self.bodies.len();
         self.make_bodies(content, scope)?;
-        self.contexts.insert(context, first)?;
+        self.contexts.push(Context {
+            module,
+            inherited: scope.inherited,
+            first,
+        })?;
         Ok(first)
+    }
+
+    /// The number of the first body of a context that was met.
+    fn first_body(&self, module: usize, inherited: &str) -> Option<usize>
+        ensures { IfSome result (λ first. (q : Context) × Contains self.now.contexts.items q × (q.module ≡ «module») × (q.inherited.now ≡ inherited.now) × (q.first ≡ first)) }
+    {
+        for context in &self.contexts {
+            if context.module == module && context.inherited == inherited {
+                return Some(context.first);
+            }
+        }
+        None
     }
 
     /// Adds the bodies of a module in a scope.
@@ -155,15 +171,14 @@ impl<'c, 't, 's> Components<'c, 't, 's> {
         to: usize,
     ) -> Result<(), AllocError>
         ensures kept { KeepsBodies self.old self.new }
-        ensures added { (names : List Text) (live : List Live) (inherited : Text) (ds : List Declaration) → Lists names self.old live → BindsAs content.now.bindings ds
-            → StartsAt self.old.bodies.items first content.now inherited → AllByRecursion (IsNumbered names) content.now.components.items → from ≤ to → to ≤ length content.now.components.items
+        ensures added { (names : List Text) (live : List Live) (inherited : Text) (ds : List Declaration) → CanAdd names self.old live content.now first inherited ds from to
             → IfOk result (λ _. AddsLive names self.old self.new live (map (resolved_component inherited ds) (slice_range (map (written_view names) content.now.components.items) from to))) }
     {
         for number in from..to {
-            let (Some(component), Some(body)) = (
-                content.components.get(number),
-                first.checked_add(number),
-            ) else {
+            let Some(component) = content.components.get(number) else {
+                return Ok(());
+            };
+            let Some(body) = first.checked_add(number) else {
                 return Ok(());
             };
             self.place(component.key, body)?;
@@ -187,14 +202,18 @@ impl<'c, 't, 's> Components<'c, 't, 's> {
         Ok(())
     }
 
-    /// Takes out the components added since a place whose keys the include's own components have.
-    fn override_since(
+    /// Notes the keys of the include's own components of which no component was added since a place.
+    fn note_lacks(
         &mut self,
         before: usize,
         module: usize,
         content: &Contents<'t, 's>,
         include: &Include<'t>,
-    ) {
+    )
+        ensures kept { KeepsBodies self.old self.new }
+        ensures list { self.new.list ≡ self.old.list }
+        ensures places { self.new.places ≡ self.old.places }
+    {
         for number in include.from..include.to {
             if let Some(component) = content.components.get(number) {
                 let key = component.key;
@@ -203,6 +222,16 @@ impl<'c, 't, 's> Components<'c, 't, 's> {
                 }
             }
         }
+    }
+
+    /// Takes out the components added since a place whose keys the include's own components have.
+    fn take_out(&mut self, before: usize, content: &Contents<'t, 's>, include: &Include<'t>)
+        ensures kept { KeepsBodies self.old self.new }
+        ensures list { self.new.list ≡ self.old.list }
+        ensures taken { (names : List Text) (live added : List Live) → Lists names self.old (live ++ added) → AllByRecursion (λ (e : Live). e.place < before) live → Rises before added
+            → include.now.from ≤ include.now.to → include.now.to ≤ length content.now.components.items
+            → Lists names self.new (live ++ left_by (slice_range content.now.components.items include.now.from include.now.to) added) }
+    {
         for number in include.from..include.to {
             if let Some(component) = content.components.get(number) {
                 self.take_out_since(before, component.key);
@@ -260,7 +289,11 @@ impl<'c, 't, 's> Components<'c, 't, 's> {
     }
 
     /// Keeps the least lack.
-    fn note_lack(&mut self, lack: Lack) {
+    fn note_lack(&mut self, lack: Lack)
+        ensures kept { KeepsBodies self.old self.new }
+        ensures list { self.new.list ≡ self.old.list }
+        ensures places { self.new.places ≡ self.old.places }
+    {
         match &self.lack {
             Some(held) if *held <= lack => {}
             _ => self.lack = Some(lack),
