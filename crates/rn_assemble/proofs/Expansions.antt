@@ -106,7 +106,7 @@ module _ (names : List Text) where
       }
 
   -- components added behind
-  live_below : (x : Components) (live : List Live) → Lists names x live → AllByRecursion (λ (e : Live). e.place < length x.list.items) live
+  pub live_below : (x : Components) (live : List Live) → Lists names x live → AllByRecursion (λ (e : Live). e.place < length x.list.items) live
   live_below x live h = each_to (IsLive names x.bodies.items x.list.items) (λ (e : Live). e.place < length x.list.items) (λ e k. k.within) live h.are
 
   pub adds_none : (x : Components) (live : List Live) → Lists names x live → AddsLive names x x live []

@@ -1,17 +1,21 @@
 -- What expanding an include does to the components of the code.
-use Rattle.std.specs.Prelude.{ℕ, ◌+◌, ◌<◌, ◌≤◌, ◌≡◌, ◌==◌, not, List, ◌++◌, length, filter, slice_index_or}
+use Rattle.std.specs.Prelude.{ℕ, ◌+◌, ◌<◌, ◌≤◌, ◌≡◌, ◌==◌, not, List, [], ◌++◌, length, map, filter, slice_index_or, Option, Some, None}
 use Rattle.std.specs.List.{AllByRecursion, list_any}
+use Rattle.std.specs.List.Sorted.{IsStrictlySortedBy}
 use Rattle.rn_pattern.specs.Tree.{Text}
+use Rattle.rn_pattern.specs.Order.{text_cmp}
 use Rattle.rn_assemble.specs.declared.contents.Component as code
 use Rattle.rn_assemble.specs.declared.contents.Contents.{Contents}
+use Rattle.rn_assemble.specs.declared.contents.Include.{Include}
 use Rattle.rn_assemble.specs.declared.components.Body.{Body}
 use Rattle.rn_assemble.specs.declared.components.Components.{Components}
 use Rattle.rn_syntax.specs.Tree.{Declaration}
 use Rattle.rn_assemble.specs.declared.components.Context.{Context}
 use Rattle.rn_assemble.specs.Bound.{BindsAs}
 use Rattle.rn_assemble.specs.Views.{IsNumbered}
-use Rattle.rn_assemble.specs.Components.{Component}
-use Rattle.rn_assemble.specs.Listed.{Live, Lists, Rises, components_in}
+use Rattle.rn_assemble.specs.Components.{Component, Source, components_within}
+use Rattle.rn_assemble.specs.Contained.{AreFlat}
+use Rattle.rn_assemble.specs.Listed.{AreContents, Live, Lists, Rises, components_in}
 
 -- only bodies and contexts may change
 pub record KeepsLists (old new : Components) : Type 0 where
@@ -69,3 +73,35 @@ pub record Enters (contents : List Contents) (old new : Components) (first : ℕ
 -- without the components of the keys of these
 abbrev pub left_by : List code.Component → List Live → List Live
 left_by own es = filter (λ (e : Live). not (list_any (λ (c : code.Component). e.key == c.key) own)) es
+
+-- the name of a module by its place
+abbrev pub name_at : List Source → ℕ → Text
+name_at modules i = slice_index_or (map (λ (m : Source). m.name) modules) i []
+
+-- the components of an included module, if there is one
+abbrev pub included_in : ℕ → List Source → Option ℕ → Text → List Component
+included_in depth modules None inherited = []
+included_in depth modules (Some i) inherited = components_within depth modules (name_at modules i) inherited
+
+-- modules and names in their order, the contents of the modules, and the live components so far
+pub record CanExpand (modules : List Source) (names : List Text) (contents : List Contents) (x : Components) (live : List Live) : Type 0 where
+  pub modules_in_order : IsStrictlySortedBy text_cmp (map (λ (m : Source). m.name) modules)
+  pub names_in_order : IsStrictlySortedBy text_cmp names
+  pub flat : AllByRecursion (λ (m : Source). AreFlat m.tree.items) modules
+  pub are : AreContents modules names contents
+  pub contexts : ContextsHold contents x
+  pub lists : Lists names x live
+
+-- the include is one of the module with these contents
+pub record CanInclude (modules : List Source) (names : List Text) (content : Contents) (include : Include) (ds : List Declaration) : Type 0 where
+  pub within : (i : ℕ) → include.«module» ≡ Some i → i < length modules
+  pub ordered : include.from ≤ include.to
+  pub inside : include.to ≤ length content.components.items
+  pub numbered : AllByRecursion (IsNumbered names) content.components.items
+  pub binds : BindsAs content.bindings ds
+
+-- these components were added
+pub record Expands (names : List Text) (contents : List Contents) (old new : Components) (live : List Live) (cs : List Component) : Type 0 where
+  pub adds : AddsLive names old new live cs
+  pub contexts : ContextsHold contents new
+  pub grows : (more : List Body) × (new.bodies.items ≡ old.bodies.items ++ more)

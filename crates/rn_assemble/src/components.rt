@@ -3,8 +3,9 @@ ghost use Rattle.std.specs.Prelude.{◌≡◌, ℕ, ◌+◌, ◌<◌, ◌≤◌,
 ghost use Rattle.std.specs.List.{AllByRecursion};
 ghost use Rattle.rn_pattern.specs.Tree.{Text};
 ghost use Rattle.rn_syntax.specs.Tree.{Declaration};
+ghost use Rattle.rn_syntax.specs.View.{prefix_view};
 ghost use Rattle.rn_assemble.specs.Components as specs;
-ghost use Rattle.rn_assemble.specs.Expanded.{AddsLive, CanAdd, ContextsHold, Enters, IsItem, KeepsBodies, KeepsLists, left_by};
+ghost use Rattle.rn_assemble.specs.Expanded.{AddsLive, CanAdd, CanExpand, CanInclude, ContextsHold, Enters, Expands, IsItem, KeepsBodies, KeepsLists, included_in, left_by, name_at};
 ghost use Rattle.rn_assemble.specs.Listed.{IsBody, Lists, Live, Rises, resolved_component};
 ghost use Rattle.rn_assemble.specs.Views.{written_view};
 
@@ -73,13 +74,17 @@ pub(crate) fn components_of<'c, 't, 's>(
 }
 
 /// Adds the components of a module, with includes followed fewer than `depth` times one inside the other.
+#[cycle(expand)]
 fn expand<'c, 't, 's>(
     components: &mut Components<'c, 't, 's>,
     contents: &'c [Contents<'t, 's>],
     module: usize,
     inherited: &'t str,
     depth: usize,
-) -> Result<(), AllocError> {
+) -> Result<(), AllocError>
+    ensures { (modules : List specs.Source) (names : List Text) (live : List Live) → CanExpand modules names contents.now components.old live → «module» < length modules
+        → IfOk result (λ _. Expands names contents.now components.old components.new live (specs.components_within depth modules (name_at modules «module») inherited.now)) }
+{
     if depth == 0 {
         return Ok(());
     }
@@ -92,18 +97,39 @@ fn expand<'c, 't, 's>(
     };
     let first = components.enter(content, module, scope)?;
     let mut next = 0;
-    for include in &content.includes {
+    'includes: for include in &content.includes {
         components.add(content, first, next, include.from)?;
-        let before = components.list.len();
-        if let Some(included) = include.module {
-            let inherited = scope.handed_on(include.inherit);
-            expand(components, contents, included, inherited, depth - 1)?;
-        }
-        components.note_lacks(before, module, content, include);
-        components.take_out(before, content, include);
+        expand_include(components, contents, content, module, scope, include, depth - 1)?;
         next = include.from;
     }
     components.add(content, first, next, content.components.len())
+}
+
+/// Adds the components of an included module without those that the include's own components override.
+#[cycle(expand)]
+fn expand_include<'c, 't, 's>(
+    components: &mut Components<'c, 't, 's>,
+    contents: &'c [Contents<'t, 's>],
+    content: &Contents<'t, 's>,
+    module: usize,
+    scope: Scope<'c, 't>,
+    include: &Include<'t>,
+    depth: usize,
+) -> Result<(), AllocError>
+    ensures { (modules : List specs.Source) (names : List Text) (live : List Live) (ds : List Declaration) → CanExpand modules names contents.now components.old live → CanInclude modules names content.now include.now ds
+        → scope.entry.bindings.now ≡ content.now.bindings
+        → IfOk result (λ _. Expands names contents.now components.old components.new live (specs.overridden
+            (included_in depth modules include.now.«module» (specs.handed_on scope.entry.inherited.now ds (prefix_view include.now.inherit)))
+            (map (resolved_component scope.entry.inherited.now ds) (slice_range (map (written_view names) content.now.components.items) include.now.from include.now.to)))) }
+{
+    let before = components.list.len();
+    if let Some(included) = include.module {
+        let inherited = scope.handed_on(include.inherit);
+        expand(components, contents, included, inherited, depth)?;
+    }
+    components.note_lacks(before, module, content, include);
+    components.take_out(before, content, include);
+    Ok(())
 }
 
 impl<'c, 't, 's> Components<'c, 't, 's> {
