@@ -121,6 +121,16 @@ row_read ps k v l e = ap (λ (w : Vec ℕ Global). w.items) e ∙ sym (get_or-ma
 pub row_changed : (ps : List (Vec ℕ Global)) (k : ℕ) (v w : Vec ℕ Global) (r : List ℕ) → k < length ps → w.items ≡ r → RowSet (rows_of ps) (rows_of (set ps k w)) k r
 row_changed ps k v w r l e = subst (λ q. RowSet (rows_of ps) (rows_of (set ps k w)) k q) e (row_set ps k w l)
 
+-- rows without places
+pub empty_push : (ps : List (Vec ℕ Global)) (v : Vec ℕ Global) → ((k : ℕ) → row (rows_of ps) k ≡ []) → v.items ≡ [] → (k : ℕ) → row (rows_of (ps ++ v ∷ [])) k ≡ []
+empty_push [] v h e zero = e
+empty_push [] v h e (suc k) = refl
+empty_push (p ∷ ps) v h e zero = h 0
+empty_push (p ∷ ps) v h e (suc k) = empty_push ps v (λ j. h (suc j)) e k
+
+pub lists_none : (names : List Text) (ps : List (Vec ℕ Global)) → length ps ≡ suc (length names) → ((k : ℕ) → row (rows_of ps) k ≡ []) → ListsBy names [] [] (rows_of ps) []
+lists_none names ps l h = record { size = length-map ps (λ (v : Vec ℕ Global). v.items) ∙ l; are = tt; rises = tt; places = λ k m. h k }
+
 module _ (names : List Text) where
   live_still : (bodies more : List Body) (list behind : List ℕ) (e : Live) → IsLive names bodies list e → IsLive names (bodies ++ more) (list ++ behind) e
   live_still bodies more list behind e h =

@@ -105,3 +105,14 @@ pub record Expands (names : List Text) (contents : List Contents) (old new : Com
   pub adds : AddsLive names old new live cs
   pub contexts : ContextsHold contents new
   pub grows : (more : List Body) × (new.bodies.items ≡ old.bodies.items ++ more)
+
+-- modules and names in their order, and the contents of the modules
+pub record CanList (modules : List Source) (names : List Text) (contents : List Contents) : Type 0 where
+  pub modules_in_order : IsStrictlySortedBy text_cmp (map (λ (m : Source). m.name) modules)
+  pub names_in_order : IsStrictlySortedBy text_cmp names
+  pub flat : AllByRecursion (λ (m : Source). AreFlat m.tree.items) modules
+  pub are : AreContents modules names contents
+
+-- the live components are these, in this order
+abbrev pub IsListed : List Text → Components → List Component → Type 0
+IsListed names x cs = (live : List Live) × Lists names x live × (components_in live ≡ cs)

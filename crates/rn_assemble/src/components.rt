@@ -1,11 +1,12 @@
 // The components of a set: includes replaced by what they include, without what they override.
-ghost use Rattle.std.specs.Prelude.{◌≡◌, ℕ, ◌+◌, ◌<◌, ◌≤◌, ◌==◌, not, List, [], ◌∷◌, ◌++◌, map, filter, length, vec_len, slice_get, slice_index_or, slice_range, Contains, IfOk, IfSome, option_copied};
+ghost use Rattle.std.specs.Prelude.{◌≡◌, ℕ, ◌+◌, ◌<◌, ◌≤◌, ◌==◌, not, List, [], ◌∷◌, ◌++◌, map, flat_map, filter, length, vec_len, slice_get, slice_index_or, slice_range, Contains, IfOk, IfSome, option_copied};
 ghost use Rattle.std.specs.List.{AllByRecursion};
 ghost use Rattle.rn_pattern.specs.Tree.{Text};
 ghost use Rattle.rn_syntax.specs.Tree.{Declaration};
 ghost use Rattle.rn_syntax.specs.View.{prefix_view};
 ghost use Rattle.rn_assemble.specs.Components as specs;
-ghost use Rattle.rn_assemble.specs.Expanded.{AddsLive, CanAdd, CanExpand, CanInclude, ContextsHold, Enters, Expands, IsItem, KeepsBodies, KeepsLists, included_in, left_by, name_at};
+ghost use Rattle.rn_assemble.specs.Expanded.{AddsLive, CanAdd, CanExpand, CanInclude, CanList, ContextsHold, Enters, Expands, IsItem, KeepsBodies, KeepsLists, included_in, IsListed, left_by, name_at};
+ghost use Rattle.rn_assemble.specs.Graph.{AllBelow};
 ghost use Rattle.rn_assemble.specs.Listed.{IsBody, Lists, Live, Rises, resolved_component};
 ghost use Rattle.rn_assemble.specs.Views.{written_view};
 
@@ -56,17 +57,11 @@ pub(crate) fn components_of<'c, 't, 's>(
     contents: &'c [Contents<'t, 's>],
     roots: &[usize],
     keys: usize,
-) -> Result<Components<'c, 't, 's>, AllocError> {
-    let mut components = Components {
-        contexts: Vec::new(alloc),
-        bodies: Vec::new(alloc),
-        list: Vec::new(alloc),
-        places: Vec::new(alloc),
-        lack: None,
-    };
-    for _ in 0..keys {
-        components.places.push(Vec::new(alloc))?;
-    }
+) -> Result<Components<'c, 't, 's>, AllocError>
+    ensures { (modules : List specs.Source) (names : List Text) → CanList modules names contents.now → keys ≡ length names + 1 → AllBelow (length modules) roots.now
+        → IfOk result (λ components. IsListed names components (flat_map (λ r. specs.components modules (name_at modules r) []) roots.now)) }
+{
+    let mut components = Components::new(alloc, keys)?;
     for root in roots {
         expand(&mut components, contents, *root, "", INSTANCE_LIMIT + 1)?;
     }
@@ -133,6 +128,24 @@ fn expand_include<'c, 't, 's>(
 }
 
 impl<'c, 't, 's> Components<'c, 't, 's> {
+    /// No components, of that many keys.
+    fn new(alloc: Global, keys: usize) -> Result<Components<'c, 't, 's>, AllocError>
+        ensures contexts { IfOk result (λ components. components.contexts.items ≡ []) }
+        ensures lists { (names : List Text) → keys ≡ length names + 1 → IfOk result (λ components. Lists names components []) }
+    {
+        let mut places = Vec::new(alloc);
+        for _ in 0..keys {
+            places.push(Vec::new(alloc))?;
+        }
+        Ok(Components {
+            contexts: Vec::new(alloc),
+            bodies: Vec::new(alloc),
+            list: Vec::new(alloc),
+            places,
+            lack: None,
+        })
+    }
+
     /// The number of the first body of a module in this context. The bodies are made when it is met first.
     fn enter(
         &mut self,
