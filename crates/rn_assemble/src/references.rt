@@ -1,7 +1,14 @@
 // References, what is reached by them, and loops.
-ghost use Rattle.std.specs.Prelude.{◌≡◌, ◌+◌, ◌<◌, length, vec_len, IfSome, IfOk, IfErr};
+ghost use Rattle.std.specs.Prelude.{◌≡◌, ℕ, ◌+◌, ◌<◌, List, [], length, if◌then◌else◌, ◌++◌, vec_len, IfSome, IfOk, IfErr, OnOk};
+ghost use Rattle.std.specs.List.Sorted.{IsStrictlySortedBy};
+ghost use Rattle.rn_pattern.specs.Order.{text_cmp};
+ghost use Rattle.rn_pattern.specs.Tree.{Text};
+ghost use Rattle.rn_assemble.specs.Components.{Component};
 ghost use Rattle.rn_assemble.specs.Answers.{IsOfModules};
-ghost use Rattle.rn_assemble.specs.Graph.{AllBelow, IsGraph, rows_of};
+ghost use Rattle.rn_syntax.specs.View.{pattern_view, patterns_view};
+ghost use Rattle.rn_assemble.specs.Referred.{AreAllReferences, IsLeastRecursive, references, all_references, outer_references, all_outer_references};
+ghost use Rattle.rn_assemble.specs.Views.{texts_of};
+ghost use Rattle.rn_assemble.specs.Graph.{AllBelow, IsGraph, is_marked, row, rows_of};
 
 use crate::components::Components;
 use crate::graph::{reached, row_at};
@@ -112,45 +119,70 @@ fn numbers<'s>(alloc: Global, keys: &Keys<'s>, names: &[&'s str]) -> Result<Vec<
 }
 
 /// Adds the names that the pattern refers to.
-fn refer<'s>(pattern: &Pat<'s>, names: &mut Vec<&'s str>) -> Result<(), AllocError> {
+#[cycle(refer)]
+fn refer<'s>(pattern: &Pat<'s>, names: &mut Vec<&'s str>) -> Result<(), AllocError>
+    ensures { OnOk result (texts_of names.new.items ≡ texts_of names.old.items ++ references (pattern_view pattern.now)) }
+{
     match pattern {
-        Pat::Ref(name) => names.push(*name)?,
+        Pat::Ref(name) => {
+            names.push(*name)?;
+            Ok(())
+        }
         Pat::Element(_, content)
         | Pat::Attribute(_, content)
         | Pat::List(content)
         | Pat::Mixed(content)
         | Pat::DatumBut(_, _, _, content)
-        | Pat::Repeated(_, content) => refer(content, names)?,
-        Pat::Chain(_, members) => {
-            for member in members {
-                refer(member, names)?;
-            }
-        }
-        Pat::Empty | Pat::NotAllowed | Pat::Text | Pat::Value(_, _) | Pat::Datum(_, _) => {}
+        | Pat::Repeated(_, content) => refer(content, names),
+        Pat::Chain(_, members) => refer_all(members, names),
+        Pat::Empty | Pat::NotAllowed | Pat::Text | Pat::Value(_, _) | Pat::Datum(_, _) => Ok(()),
+    }
+}
+
+#[cycle(refer)]
+fn refer_all<'s>(patterns: &[Pat<'s>], names: &mut Vec<&'s str>) -> Result<(), AllocError>
+    ensures { OnOk result (texts_of names.new.items ≡ texts_of names.old.items ++ all_references (patterns_view patterns.now)) }
+{
+    'patterns: for pattern in patterns {
+        refer(pattern, names)?;
     }
     Ok(())
 }
 
 /// Adds the names that the pattern refers to outside elements.
-fn refer_outside<'s>(pattern: &Pat<'s>, names: &mut Vec<&'s str>) -> Result<(), AllocError> {
+#[cycle(refer_outside)]
+fn refer_outside<'s>(pattern: &Pat<'s>, names: &mut Vec<&'s str>) -> Result<(), AllocError>
+    ensures { OnOk result (texts_of names.new.items ≡ texts_of names.old.items ++ outer_references (pattern_view pattern.now)) }
+{
     match pattern {
-        Pat::Ref(name) => names.push(*name)?,
+        Pat::Ref(name) => {
+            names.push(*name)?;
+            Ok(())
+        }
         Pat::Attribute(_, content)
         | Pat::List(content)
         | Pat::Mixed(content)
         | Pat::DatumBut(_, _, _, content)
-        | Pat::Repeated(_, content) => refer_outside(content, names)?,
-        Pat::Chain(_, members) => {
-            for member in members {
-                refer_outside(member, names)?;
-            }
-        }
+        | Pat::Repeated(_, content) => refer_outside(content, names),
+        Pat::Chain(_, members) => refer_all_outside(members, names),
         Pat::Element(_, _)
         | Pat::Empty
         | Pat::NotAllowed
         | Pat::Text
         | Pat::Value(_, _)
-        | Pat::Datum(_, _) => {}
+        | Pat::Datum(_, _) => Ok(()),
+    }
+}
+
+#[cycle(refer_outside)]
+fn refer_all_outside<'s>(
+    patterns: &[Pat<'s>],
+    names: &mut Vec<&'s str>,
+) -> Result<(), AllocError>
+    ensures { OnOk result (texts_of names.new.items ≡ texts_of names.old.items ++ all_outer_references (patterns_view patterns.now)) }
+{
+    'patterns: for pattern in patterns {
+        refer_outside(pattern, names)?;
     }
     Ok(())
 }
@@ -164,6 +196,8 @@ pub(crate) fn least_recursive(
     requires some { 0 < vec_len references.now.all }
     requires outer { IsGraph (rows_of references.now.outer.items) }
     requires size { vec_len references.now.outer ≡ vec_len references.now.all }
+    ensures { (names : List Text) (cs : List Component) → IsStrictlySortedBy text_cmp names
+        → AreAllReferences names cs (rows_of references.now.all.items) (rows_of references.now.outer.items) → IfOk result (IsLeastRecursive names cs) }
 {
     let first = row_at(references.all.as_slice(), START);
     let reached = reached(alloc, references.all.as_slice(), first)?;
@@ -172,22 +206,31 @@ pub(crate) fn least_recursive(
 }
 
 /// The edges from marked nodes alone.
-#[tactic(auto, using(crate::proofs::Rows::none_below, crate::proofs::Rows::no_rows, crate::proofs::Rows::more_rows, crate::proofs::Rows::is_graph))]
 fn only_marked(
     alloc: Global,
     edges: &[Vec<usize>],
     marks: &[bool],
 ) -> Result<Vec<Vec<usize>>, AllocError>
     requires graph { IsGraph (rows_of edges.now) }
+    requires size { length marks.now ≡ length edges.now }
     ensures graph { IfOk result (λ rows. IsGraph (rows_of rows.items)) }
+    ensures kept { IfOk result (λ rows. (node : ℕ) → row (rows_of rows.items) node ≡ (if is_marked marks.now node then row (rows_of edges.now) node else [])) }
 {
     let mut rows = Vec::with_capacity(alloc, edges.len())?;
     for node in 0..edges.len() {
-        if node < marks.len() && marks[node] {
-            rows.push(edges[node].clone()?)?;
-        } else {
-            rows.push(Vec::new(alloc))?;
-        }
+        let row = kept_row(alloc, &edges[node], marks[node])?;
+        rows.push(row)?;
     }
     Ok(rows)
+}
+
+/// The row, or an empty one.
+fn kept_row(alloc: Global, row: &Vec<usize>, is_kept: bool) -> Result<Vec<usize>, AllocError>
+    ensures { IfOk result (λ v. v.items ≡ (if is_kept then row.now.items else [])) }
+{
+    if is_kept {
+        row.clone()
+    } else {
+        Ok(Vec::new(alloc))
+    }
 }
