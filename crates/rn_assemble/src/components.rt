@@ -2,7 +2,7 @@
 ghost use Rattle.std.specs.Prelude.{◌≡◌, vec_len};
 
 use crate::bindings::Scope;
-use crate::contents::{Component, Contents, Entry, Include};
+use crate::contents::{Component, Contents, Include};
 use crate::inclusion::INSTANCE_LIMIT;
 use indexmap::IndexMap;
 use std::alloc::{AllocError, Global};
@@ -84,24 +84,18 @@ fn expand<'c, 't, 's>(
         inherited,
     };
     let first = components.enter(content, module, scope)?;
-    for entry in &content.entries {
-        match entry {
-            Entry::Component(number) => components.add(content, first, *number)?,
-            Entry::Include(include) => {
-                let before = components.list.len();
-                expand(
-                    components,
-                    contents,
-                    include.module,
-                    scope.handed_on(include.inherit),
-                    depth - 1,
-                )?;
-                components.override_since(before, module, content, include);
-                components.add_own(content, first, include)?;
-            }
+    let mut next = 0;
+    for include in &content.includes {
+        components.add(content, first, next, include.from)?;
+        let before = components.list.len();
+        if let Some(included) = include.module {
+            let inherited = scope.handed_on(include.inherit);
+            expand(components, contents, included, inherited, depth - 1)?;
         }
+        components.override_since(before, module, content, include);
+        next = include.from;
     }
-    Ok(())
+    components.add(content, first, next, content.components.len())
 }
 
 impl<'c, 't, 's> Components<'c, 't, 's> {
@@ -130,36 +124,32 @@ impl<'c, 't, 's> Components<'c, 't, 's> {
         Ok(first)
     }
 
-    /// Adds the component of that number.
+    /// Adds the components of those numbers.
     fn add(
         &mut self,
         content: &Contents<'t, 's>,
         first: usize,
-        number: usize,
+        from: usize,
+        to: usize,
     ) -> Result<(), AllocError> {
-        let (Some(component), Some(body)) = (
-            content.components.get(number),
-            first.checked_add(number),
-        ) else {
-            return Ok(());
-        };
-        let place = self.list.len();
-        self.list.push(body)?;
-        if component.key < self.places.len() {
-            self.places[component.key].push(place)?;
+        for number in from..to {
+            let (Some(component), Some(body)) = (
+                content.components.get(number),
+                first.checked_add(number),
+            ) else {
+                return Ok(());
+            };
+            self.place(component.key, body)?;
         }
         Ok(())
     }
 
-    /// Adds an include's own components.
-    fn add_own(
-        &mut self,
-        content: &Contents<'t, 's>,
-        first: usize,
-        include: &Include<'t>,
-    ) -> Result<(), AllocError> {
-        for number in include.from..include.to {
-            self.add(content, first, number)?;
+    /// Adds the component of a key with this body.
+    fn place(&mut self, key: usize, body: usize) -> Result<(), AllocError> {
+        let place = self.list.len();
+        self.list.push(body)?;
+        if key < self.places.len() {
+            self.places[key].push(place)?;
         }
         Ok(())
     }
