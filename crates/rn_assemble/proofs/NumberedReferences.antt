@@ -18,42 +18,9 @@ use Rattle.rn_assemble.specs.Combine.{joined, joined_grammar}
 use Rattle.rn_assemble.specs.Keyed.{IsNumber, key_at}
 use Rattle.rn_assemble.specs.Least.{IsLeast}
 use Rattle.rn_assemble.specs.Referred.{AreReferences, AreAllReferences, IsLeastRecursive}
+use Rattle.rn_assemble.proofs.Numbers.{same_name, names_rise, not_itself, same_number}
 use Rattle.rn_assemble.proofs.Loops.{source_within}
 use Rattle.rn_assemble.proofs.JoinedReferences.{refers_in_definition, definition_refers_to, outside_in_definition, definition_refers_outside, outside_anywhere}
-
--- ---- numbers of names
-
-key_text : (x y : Text) → name_key x ≡ name_key y → x ≡ y
-key_text x y e = cc
-
-same_name : (names : List Text) (x y : Text) (n : ℕ) → IsNumber names x n → IsNumber names y n → x ≡ y
-same_name names x y n a b = key_text x y (sym a.is ∙ b.is)
-
--- the number at a place, and the name there
-pred : (n : ℕ) → 0 < n → (i : ℕ) × (n ≡ suc i)
-pred n h = (n - 1, omega arith)
-
-name_at : (names : List Text) (x : Text) (n i : ℕ) → IsNumber names x n → n ≡ suc i → get_or names i [] ≡ x
-name_at names x n i a e = key_text _ x (sym (ap (key_at names) e) ∙ a.is)
-
-names_rise : (names : List Text) → IsStrictlySortedBy text_cmp names → (x y : Text) (n m : ℕ) → IsNumber names x n → IsNumber names y m → n < m → text_cmp x y ≡ Less
-names_rise names s x y n m a b h =
-    let i = pred n a.above in
-    let j = pred m b.above in
-    let less = Less-from_sorted text_cmp names i.0 j.0 [] s (omega (arith, i.1, j.1)) (omega (arith, j.1, b.within)) in
-    subst (λ z. text_cmp z y ≡ Less) (name_at names x n i.0 a i.1) (subst (λ z. text_cmp (get_or names i.0 []) z ≡ Less) (name_at names y m j.0 b j.1) less)
-
-not_itself : (x : Text) → text_cmp x x ≡ Less → ⊥
-not_itself x h = let e : Equal ≡ Less = sym (tied_itself nat_list_cmp_total x) ∙ h in cc
-
-same_number : (names : List Text) → IsStrictlySortedBy text_cmp names → (x : Text) (n m : ℕ) → IsNumber names x n → IsNumber names x m → n ≡ m
-same_number names s x n m a b = elim (cases_eq n m) [
-  | inl e ↦ e
-  | inr ne ↦ elim (cases_lt n m) [
-    | inl h ↦ absurd (not_itself x (names_rise names s x x n m a b h))
-    | inr h ↦ absurd (not_itself x (names_rise names s x x m n b a (omega (arith, h, ne))))
-  ]
-]
 
 module _ (names : List Text) (sorted : IsStrictlySortedBy text_cmp names) (cs : List Component) (all outer : List (List ℕ)) (refs : AreAllReferences names cs all outer) where
   abbrev G : Grammar
