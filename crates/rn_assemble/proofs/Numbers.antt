@@ -12,7 +12,7 @@ use Rattle.rn_pattern.specs.Order.{text_cmp}
 use Rattle.rn_assemble.specs.Components.{Key, start_key, name_key, same_key}
 use Rattle.rn_assemble.specs.Keyed.{IsNumber, key_at}
 
-key_text : (x y : Text) → name_key x ≡ name_key y → x ≡ y
+pub key_text : (x y : Text) → name_key x ≡ name_key y → x ≡ y
 key_text x y e = cc
 
 pub same_name : (names : List Text) (x y : Text) (n : ℕ) → IsNumber names x n → IsNumber names y n → x ≡ y
@@ -47,7 +47,7 @@ same_number names s x n m a b = elim (cases_eq n m) [
 
 -- ---- numbers of keys
 
-same_key-Decides : (k j : Key) → Decides (same_key k j) (k ≡ j)
+pub same_key-Decides : (k j : Key) → Decides (same_key k j) (k ≡ j)
 same_key-Decides start_key start_key = ((λ _. refl), (λ _. refl))
 same_key-Decides start_key (name_key y) = ((λ h. absurd (false≢true h)), (λ e. cc))
 same_key-Decides (name_key x) start_key = ((λ h. absurd (false≢true h)), (λ e. cc))

@@ -1,5 +1,6 @@
 // The components of a set: includes replaced by what they include, without what they override.
-ghost use Rattle.std.specs.Prelude.{◌≡◌, vec_len};
+ghost use Rattle.std.specs.Prelude.{◌≡◌, vec_len, slice_get, option_copied};
+ghost use Rattle.rn_assemble.specs.Graph.{row, rows_of};
 
 use crate::bindings::Scope;
 use crate::contents::{Component, Contents, Include};
@@ -178,7 +179,9 @@ impl<'c, 't, 's> Components<'c, 't, 's> {
     }
 
     /// The places of the components of a key.
-    pub fn of_key(&self, key: usize) -> &[usize] {
+    pub fn of_key(&self, key: usize) -> &[usize]
+        ensures { result.now ≡ row (rows_of self.now.places.items) key }
+    {
         match self.places.get(key) {
             Some(places) => places.as_slice(),
             None => &[],
@@ -208,12 +211,16 @@ impl<'c, 't, 's> Components<'c, 't, 's> {
     }
 
     /// The body of that number.
-    pub fn body(&self, number: usize) -> Option<&Body<'c, 't, 's>> {
+    pub fn body(&self, number: usize) -> Option<&Body<'c, 't, 's>>
+        ensures { option_copied result ≡ slice_get self.now.bodies.items number }
+    {
         self.bodies.get(number)
     }
 
     /// The number of the body of the component at that place.
-    pub fn body_at(&self, place: usize) -> Option<usize> {
+    pub fn body_at(&self, place: usize) -> Option<usize>
+        ensures { result ≡ slice_get self.now.list.items place }
+    {
         self.list.get(place).copied()
     }
 

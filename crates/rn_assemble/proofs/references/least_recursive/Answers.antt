@@ -5,8 +5,6 @@ use Rattle.std.specs.Prelude.{Decides, MatchOption}
 use Rattle.std.proofs.lemmas.Result.{IfOk-weaker}
 use Rattle.rn_assemble.specs.Order.{HasNoLoop, IsFirstLoop}
 use Rattle.rn_assemble.proofs.NumberedReferences.{least}
-use Rattle.rn_assemble.proofs.KeyedBodies.{of_key_at}
-use Rattle.rn_assemble.proofs.WrittenReferences.{referred}
 use Rattle.rn_assemble.proofs.Rows.{graph_still, row_within}
 use Rattle.rn_assemble.proofs.references.least_recursive.Goals as goal
 
