@@ -1,5 +1,5 @@
 -- The references of all keys, gathered key by key.
-use Rattle.std.proofs.Common.{◌≡◌, ◌≢◌, ◌⊎◌, inl, inr, ⊎_elim, ℕ, zero, suc, ◌+◌, ◌<◌, List, [], ◌∷◌, ◌++◌, length, get_or, Option, Some, None, refl, sym, ap, ◌∙◌, subst, arith, Contains, Vec, below_more, Less}
+use Rattle.std.proofs.Common.{◌≡◌, ◌≢◌, ◌⊎◌, inl, inr, ⊎_elim, ℕ, zero, suc, ◌+◌, ◌<◌, List, [], ◌∷◌, ◌++◌, length, get_or, flat_map, Option, Some, None, refl, sym, ap, ◌∙◌, subst, arith, Contains, Vec, below_more, Less}
 use Rattle.std.specs.Prelude.{◌↔◌, IsSome, IsSomeAnd}
 use Rattle.std.specs.List.Sorted.{IsStrictlySortedBy}
 use Rattle.std.specs.Cmp.Lexicographic.{bytes_decides}
@@ -19,13 +19,14 @@ use Rattle.rn_assemble.specs.Combine.{bodies, joined, joined_grammar, defined_na
 use Rattle.rn_assemble.specs.Keyed.{IsNumber, key_at}
 use Rattle.rn_assemble.specs.Least.{IsLeast}
 use Rattle.rn_assemble.specs.Listed.{Live, ListsBy, components_in}
-use Rattle.rn_assemble.specs.Referred.{AreAllReferences, AreNumbers, IsLeastOf}
+use Rattle.rn_assemble.specs.Referred.{AreAllReferences, AreBodiesAt, AreNumbers, IsLeastOf, names_at, references, outer_references}
 use Rattle.rn_assemble.specs.declared.components.Body.{Body}
 use Rattle.rn_assemble.proofs.Loops.{source_within}
 use Rattle.rn_assemble.proofs.Rows.{row_before, row_behind}
-use Rattle.rn_assemble.proofs.JoinedReferences.{refers_of_joined, refers_in_definition, outside_anywhere}
+use Rattle.rn_assemble.proofs.JoinedReferences.{refers_of_joined, refers_to_joined, refers_in_definition, outside_of_joined, outside_to_joined, outside_anywhere}
+use Rattle.rn_assemble.proofs.WrittenReferences.{referred, referred_outside}
 use Rattle.rn_assemble.proofs.LeastUndefined.{not_none}
-use Rattle.rn_assemble.proofs.FoundReferences.{map_contained, has_live, defined_name}
+use Rattle.rn_assemble.proofs.FoundReferences.{map_contained, has_live, defined_name, names_are}
 
 -- the row of a key has the numbers of the names among those that are referred to
 pub record RowOf (R : Text → Tree → Type 0) (names : List Text) (cs : List Component) (k : ℕ) (r : List ℕ) : Type 0 where
@@ -146,3 +147,14 @@ module _ (names : List Text) (bs : List Body) (list : List ℕ) (rows : List (Li
         holds = (at_referred x k.0 k.2, g.least.1);
         least = λ y u. let j = referred_at y u.0 in g.least.2 y ((g.are y).1 j) u.1;
       }
+
+  -- the names that the bodies of a key refer to
+  pub names_anywhere : (k : ℕ) (ns slice : List ℕ) (texts : List Text) → k < suc (length names) → AreBodiesAt (length bs) list (row rows k) ns → slice ≡ ns → texts ≡ flat_map (names_at references bs) slice → (y : Text) → Contains texts y ↔ RefersTo y (joined cs (key_at names k))
+  names_anywhere k ns slice texts h a e t y =
+      subst (λ ts. Contains ts y ↔ RefersTo y (joined cs (key_at names k))) (sym (t ∙ ap (flat_map (names_at references bs)) e))
+      (names_are names bs list rows live lists sorted references RefersTo referred (λ z j. refers_of_joined z cs j) (λ z j p. refers_to_joined z cs j p) k ns h a y)
+
+  pub names_outside : (k : ℕ) (ns slice : List ℕ) (texts : List Text) → k < suc (length names) → AreBodiesAt (length bs) list (row rows k) ns → slice ≡ ns → texts ≡ flat_map (names_at outer_references bs) slice → (y : Text) → Contains texts y ↔ RefersOutside y (joined cs (key_at names k))
+  names_outside k ns slice texts h a e t y =
+      subst (λ ts. Contains ts y ↔ RefersOutside y (joined cs (key_at names k))) (sym (t ∙ ap (flat_map (names_at outer_references bs)) e))
+      (names_are names bs list rows live lists sorted outer_references RefersOutside referred_outside (λ z j. outside_of_joined z cs j) (λ z j p. outside_to_joined z cs j p) k ns h a y)

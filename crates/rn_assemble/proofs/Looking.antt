@@ -1,8 +1,8 @@
 -- The bodies of a key, each looked at once.
-use Rattle.std.proofs.Common.{◌≡◌, ◌≢◌, ◌⊎◌, inl, inr, ⊎_elim, ℕ, ◌+◌, ◌<◌, ◌≤◌, List, [], ◌∷◌, ◌++◌, length, get_or, set, Option, Some, None, refl, sym, ap, ◌∙◌, subst, arith, Contains, below_more}
+use Rattle.std.proofs.Common.{◌≡◌, ◌≢◌, ◌⊎◌, inl, inr, ⊎_elim, ℕ, ◌+◌, ◌<◌, ◌≤◌, List, [], ◌∷◌, ◌++◌, length, get_or, set, Option, Some, None, refl, sym, ap, ◌∙◌, subst, arith, Contains, below_more, replicate}
 use Rattle.std.specs.Prelude.{slice_get}
-use Rattle.std.proofs.lemmas.Bool.{cases_eq}
-use Rattle.std.proofs.lemmas.List.{length-set, get_or-set_same, get_or-set_other, get_or_default}
+use Rattle.std.proofs.lemmas.Bool.{cases_eq, cases_lt}
+use Rattle.std.proofs.lemmas.List.{length-set, get_or-set_same, get_or-set_other, get_or_default, get_or-replicate, length-replicate, get_or_past}
 use Rattle.std.proofs.lemmas.List.Elements.{Contains-append_left, Contains-push, Contains-push_cases, Contains-get_or}
 use Rattle.rn_assemble.specs.Referred.{AreBodiesAt, IsFresh, IsLooked, looked_under}
 
@@ -68,3 +68,10 @@ module _ (list row : List ℕ) (key : ℕ) (old : List (Option ℕ)) where
 pub no_value : {A : Type 0} (o : Option A) → ((x : A) → o ≡ Some x → ⊥) → o ≡ None
 no_value None h = refl
 no_value (Some x) h = absurd (h x refl)
+
+-- before the first key
+pub none_looked : (looked : List (Option ℕ)) (n key : ℕ) → looked ≡ replicate n None → IsFresh key looked
+none_looked looked n key e m j h is = let no : None ≡ Some j = sym (at m) ∙ ap (λ ls. looked_under ls m) (sym e) ∙ is in cc
+  where
+    at : (m : ℕ) → looked_under (replicate n None) m ≡ None
+    at m = elim (cases_lt m n) [ inl h ↦ get_or-replicate n m None None h | inr h ↦ get_or_past (replicate n None) m None (omega (arith, h, length-replicate {A = Option ℕ} n None)) ]
