@@ -7,7 +7,7 @@ use Rattle.rn_assemble.specs.Graph.{row, is_marked, Reached, at_first, along}
 use Rattle.rn_assemble.specs.Order.{Leads, by_edge, and_edge, IsRanking, rank_of, HasNoLoop}
 
 module _ (rows : List (List ℕ)) where
-  source_within : (x y : ℕ) → Contains (row rows x) y → x < length rows
+  pub source_within : (x y : ℕ) → Contains (row rows x) y → x < length rows
   source_within x y c = elim (cases_lt x (length rows)) [
     | inl h ↦ h
     | inr h ↦ let none : Contains [] y = subst (λ (l : List ℕ). Contains l y) (get_or_past rows x [] h) c in absurd (omega (arith, none.1))

@@ -6,7 +6,7 @@ ghost use Rattle.rn_syntax.specs.Tree.{Declaration};
 ghost use Rattle.rn_syntax.specs.View.{prefix_view};
 ghost use Rattle.rn_assemble.specs.Components as specs;
 ghost use Rattle.rn_assemble.specs.Expanded.{AddsLive, CanAdd, CanExpand, CanInclude, CanList, ContextsHold, Enters, Expands, IsItem, KeepsBodies, KeepsLists, included_in, IsListed, left_by, name_at};
-ghost use Rattle.rn_assemble.specs.Graph.{AllBelow};
+ghost use Rattle.rn_assemble.specs.Graph.{AllBelow, row, rows_of};
 ghost use Rattle.rn_assemble.specs.Listed.{IsBody, Lists, Live, Rises, resolved_component};
 ghost use Rattle.rn_assemble.specs.Views.{written_view};
 
@@ -279,7 +279,9 @@ impl<'c, 't, 's> Components<'c, 't, 's> {
     }
 
     /// The places of the components of a key.
-    pub fn of_key(&self, key: usize) -> &[usize] {
+    pub fn of_key(&self, key: usize) -> &[usize]
+        ensures { result.now ≡ row (rows_of self.now.places.items) key }
+    {
         match self.places.get(key) {
             Some(places) => places.as_slice(),
             None => &[],
