@@ -114,7 +114,7 @@ module _ (names : List Text) (bs : List Body) (list : List ℕ) where
 
     -- names: what a written pattern refers to; R: what a resolved one does
     module _ (f : Pattern → List Text) (R : Text → Tree → Type 0) (same : (i : Text) (ds : List Declaration) (y : Text) (p : Pattern) → Contains (f p) y ↔ R y (resolved i ds p))
-      (of_joined : (y : Text) (k : Key) → R y (joined cs k) → (p : Tree) × Contains (bodies k cs) p × R y p) (to_joined : (y : Text) (k : Key) (p : Tree) → Contains (bodies k cs) p → R y p → R y (joined cs k)) where
+        (of_joined : (y : Text) (k : Key) → R y (joined cs k) → (p : Tree) × Contains (bodies k cs) p × R y p) (to_joined : (y : Text) (k : Key) (p : Tree) → Contains (bodies k cs) p → R y p → R y (joined cs k)) where
       at_number : (n : ℕ) (b : Body) (y : Text) → slice_get bs n ≡ Some b → Contains (names_at f bs n) y ↔ Contains (f (pattern_view b.component.body.now)) y
       at_number n b y e = let is = ap (λ o. option_map_or (λ (c : Body). f (pattern_view c.component.body.now)) o []) e in (subst (λ xs. Contains xs y) is, subst (λ xs. Contains xs y) (sym is))
 

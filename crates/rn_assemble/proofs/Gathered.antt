@@ -48,7 +48,6 @@ module _ (modules : List Source) where
       ∙ ap (λ q. us ++ (item_inclusions modules m (item_view x) ++ inclusions modules q (items_view (drop (i + 1) xs)))) s
       ∙ sym (ap (λ a. us ++ inclusions modules m a) (items_at xs i x l e)) ∙ h
 
-
 -- each module's contents
 contains_flat : {X Y : Type 0} (f : X → List Y) (xs : List X) (x : X) (y : Y) → Contains xs x → Contains (f x) y → Contains (flat_map f xs) y
 contains_flat f [] x y (k, l, e) d = absurd (omega (arith, l))

@@ -134,11 +134,14 @@ module _ (names : List Text) (sorted : IsStrictlySortedBy text_cmp names) (cs : 
 
     least_recursive : (n : ℕ) → IsFirstLoop kept n → IsLeastRecursive names cs (Some n)
     least_recursive n h =
-        let x = recursive_at n h.holds in
-        (x.0, x.1, record {
-          holds = x.2;
-          least = λ y r l. let m = loop_of y r in least_at y m.0 m.1 m.2 x.0 x.1 l;
-        })
+        let x = recursive_at n h.holds in (
+          x.0,
+          x.1,
+          record {
+            holds = x.2;
+            least = λ y r l. let m = loop_of y r in least_at y m.0 m.1 m.2 x.0 x.1 l;
+          },
+        )
       where
         least_at : (y : Text) (m : ℕ) → IsNumber names y m → Leads kept m m → (x : Text) → IsNumber names x n → text_cmp y x ≡ Less → ⊥
         least_at y m i k x j l = elim (cases_lt m n) [

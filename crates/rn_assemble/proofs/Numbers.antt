@@ -44,7 +44,6 @@ same_number names s x n m a b = elim (cases_eq n m) [
   ]
 ]
 
-
 -- ---- numbers of keys
 
 pub same_key-Decides : (k j : Key) → Decides (same_key k j) (k ≡ j)

@@ -70,10 +70,13 @@ module _ (names : List Text) (bodies : List Body) (list : List ℕ) (rows : List
   at_row i l =
       let is = row_is names bodies list rows live h o key k in
       let below : i < length of_number = omega (arith, l, ap length is, length-map of_number (λ (e : Live). e.place)) in
-      let e = item of_number i below in
-      (e.0, kept_contains (λ (d : Live). eqb d.key key) live e.0 (i, below, e.1 e.0), sym (ap (λ r. get_or r i 0) is ∙ get_or-map (λ (d : Live). d.place) of_number i e.0 0 below ∙ ap (λ (d : Live). d.place) (e.1 e.0)),
-      omega (arith, below, ap length parts_are, length-map of_number (λ (d : Live). d.component)),
-      λ d. ap (λ cs. get_or cs i d) parts_are ∙ get_or-map (λ (d : Live). d.component) of_number i e.0 d below ∙ ap (λ (d : Live). d.component) (e.1 e.0))
+      let e = item of_number i below in (
+        e.0,
+        kept_contains (λ (d : Live). eqb d.key key) live e.0 (i, below, e.1 e.0),
+        sym (ap (λ r. get_or r i 0) is ∙ get_or-map (λ (d : Live). d.place) of_number i e.0 0 below ∙ ap (λ (d : Live). d.place) (e.1 e.0)),
+        omega (arith, below, ap length parts_are, length-map of_number (λ (d : Live). d.component)),
+        λ d. ap (λ cs. get_or cs i d) parts_are ∙ get_or-map (λ (d : Live). d.component) of_number i e.0 d below ∙ ap (λ (d : Live). d.component) (e.1 e.0),
+      )
 
   pub row_size : length (row rows key) ≡ length parts
   row_size = ap length (row_is names bodies list rows live h o key k) ∙ length-map of_number (λ (e : Live). e.place) ∙ sym (ap length parts_are ∙ length-map of_number (λ (d : Live). d.component))

@@ -78,5 +78,5 @@ returns-in-Some-clause-found c = λ live l s.
     let size : c.loop-key.key ≡ suc (length names) = omega (arith, c.loop-key-test.false, c.loop-key.auto.key-end, c.len-key-end.ensures, c.args.keys.now.names.ok, length-map c.args.keys.now.names.items (λ t. t.now)) in
     subst (IsLeast text_cmp (IsUndefined G)) (sym c.in_ok-from_str-in-Some.ensures.ok)
     (gathered_some names _ _ _ live l s c.loop-key.all.items c.loop-key.outer.items c.in-Some.name.now
-        (subst (λ k. Gathered names (components_in live) c.loop-key.all.items c.loop-key.outer.items k (Some c.in-Some.name.now)) size
-        (subst (λ o. Gathered names (components_in live) c.loop-key.all.items c.loop-key.outer.items c.loop-key.key (option_map (λ t. t.now) o)) c.in-Some.is (c.loop-key.invariant.gathered live l s))))
+    (subst (λ k. Gathered names (components_in live) c.loop-key.all.items c.loop-key.outer.items k (Some c.in-Some.name.now)) size
+    (subst (λ o. Gathered names (components_in live) c.loop-key.all.items c.loop-key.outer.items c.loop-key.key (option_map (λ t. t.now) o)) c.in-Some.is (c.loop-key.invariant.gathered live l s))))

@@ -43,14 +43,14 @@ loop-place-preserved c = record {
       let is = c.is_found.ensures ∙ ap (λ f. option_map_or is_plain f false) found in
       elim c.if-is_found.branch [
         | then-is_found+else-is_plain w ↦
-          let tested : is_plain r.0.component.method ≡ true = sym is ∙ w.if-is_found.true in
-          let before : count_by p (take i all) ≡ 0 = c.loop-place.invariant.counted names live h o k ∙ ap (λ b. cond {A = ℕ} b 1 0) w.if-is_plain.false in
-          let more = count_by_more_yes p all i r.0.component r.3 (ap p (r.4 r.0.component) ∙ tested) in
-          let one : count_by p (take (i + 1) all) ≡ 1 = omega (arith, before, more) in
-          one ∙ sym (ap (λ b. cond {A = ℕ} b 1 0) w.is_plain-is)
+            let tested : is_plain r.0.component.method ≡ true = sym is ∙ w.if-is_found.true in
+            let before : count_by p (take i all) ≡ 0 = c.loop-place.invariant.counted names live h o k ∙ ap (λ b. cond {A = ℕ} b 1 0) w.if-is_plain.false in
+            let more = count_by_more_yes p all i r.0.component r.3 (ap p (r.4 r.0.component) ∙ tested) in
+            let one : count_by p (take (i + 1) all) ≡ 1 = omega (arith, before, more) in
+            one ∙ sym (ap (λ b. cond {A = ℕ} b 1 0) w.is_plain-is)
         | else-is_found w ↦
-          let tested : is_plain r.0.component.method ≡ false = sym is ∙ w.if-is_found.false in
-          count_by_more_no p all i r.0.component r.3 (ap p (r.4 r.0.component) ∙ tested) ∙ c.loop-place.invariant.counted names live h o k ∙ sym (ap (λ b. cond {A = ℕ} b 1 0) w.is_plain-is)
+            let tested : is_plain r.0.component.method ≡ false = sym is ∙ w.if-is_found.false in
+            count_by_more_no p all i r.0.component r.3 (ap p (r.4 r.0.component) ∙ tested) ∙ c.loop-place.invariant.counted names live h o k ∙ sym (ap (λ b. cond {A = ℕ} b 1 0) w.is_plain-is)
       ];
 }
 

@@ -22,6 +22,6 @@ returns c =
       in_order = subst (λ (bs : List (Bor (List ℕ))). IsStrictlySortedBy text_cmp (texts_of bs)) is (sorted_once now c.sort.new.self.items c.in_ok-sort.ensures.sorted);
       defined = λ x. (
         λ h. subst (λ (ts : List Text). Contains ts x) listed (no_other_names now c.loop-source.names.items c.sort.new.self.items c.in_ok-sort.ensures.permutation x (subst (λ (bs : List (Bor (List ℕ))). Contains (texts_of bs) x) (sym is) h)),
-        λ h. subst (λ (bs : List (Bor (List ℕ))). Contains (texts_of bs) x) is (kept_names now c.loop-source.names.items c.sort.new.self.items c.in_ok-sort.ensures.permutation x (subst (λ (ts : List Text). Contains ts x) (sym listed) h))
+        λ h. subst (λ (bs : List (Bor (List ℕ))). Contains (texts_of bs) x) is (kept_names now c.loop-source.names.items c.sort.new.self.items c.in_ok-sort.ensures.permutation x (subst (λ (ts : List Text). Contains ts x) (sym listed) h)),
       );
     }
