@@ -1,6 +1,8 @@
 // Annotations and notes, which leave nothing in the tree.
 ghost use Rattle.std.specs.Prelude.{◌≡◌, ◌≤◌, ◌<◌, length, IfOk, IfSome, IsTrue};
-ghost use Rattle.rn_syntax.specs.Reading.{Passed, Advanced};
+ghost use Rattle.rn_syntax.specs.Follow.{Starts, Anything, no_bracket};
+ghost use Rattle.rn_syntax.specs.Grammar.{Closed, IsAnnotation, MayAnnotate};
+ghost use Rattle.rn_syntax.specs.Reading.{Passed, Advanced, Skips};
 
 use crate::fault::Fault;
 use crate::terminals::{Terminal, next};
@@ -10,6 +12,7 @@ use rn_text::Token;
 fn skip_closed(tokens: &[Token<'_>], mut at: usize) -> Result<usize, Fault>
     requires { at ≤ length tokens.now }
     ensures inside { IfOk result (λ behind. Advanced at behind (length tokens.now)) }
+    ensures skips { Skips Closed Anything tokens.now at result }
 {
     let mut depth: usize = 0;
     'closed: loop {
@@ -39,6 +42,7 @@ fn skip_closed(tokens: &[Token<'_>], mut at: usize) -> Result<usize, Fault>
 pub(crate) fn annotation(tokens: &[Token<'_>], at: usize) -> Result<usize, Fault>
     requires { at ≤ length tokens.now }
     ensures inside { IfOk result (λ behind. Advanced at behind (length tokens.now)) }
+    ensures skips { Skips IsAnnotation Anything tokens.now at result }
 {
     match next(tokens, at) {
         Terminal::LeftBracket => skip_closed(tokens, at + 1),
@@ -50,6 +54,7 @@ pub(crate) fn annotation(tokens: &[Token<'_>], at: usize) -> Result<usize, Fault
 pub(crate) fn skip_annotation(tokens: &[Token<'_>], at: usize) -> Result<usize, Fault>
     requires { at ≤ length tokens.now }
     ensures inside { IfOk result (λ behind. Passed at behind (length tokens.now)) }
+    ensures skips { Skips MayAnnotate (Starts no_bracket) tokens.now at result }
 {
     match next(tokens, at) {
         Terminal::LeftBracket => skip_closed(tokens, at + 1),

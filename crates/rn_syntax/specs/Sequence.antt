@@ -1,0 +1,29 @@
+-- Productions in sequence: what is read first, and what comes of it.
+use Rattle.std.specs.Prelude.{ℕ, List, ◌∷◌}
+use Rattle.rn_syntax.specs.declared.token.Method.{Method}
+use Rattle.rn_syntax.specs.Terminal.{Terminal, Placed, ◌#◌, assign}
+use Rattle.rn_syntax.specs.Grammar.{Tokens, IsWord}
+
+-- an N, and then what it makes of what follows
+pub data Then {A C : Type 0} (N : Tokens → A → Tokens → Type 0) (M : A → Tokens → C → Tokens → Type 0) : Tokens → C → Tokens → Type 0 where
+  both : {a : A} {c : C} {ts mid rest : Tokens} → N ts a mid → M a mid c rest → Then N M ts c rest
+
+-- nothing more: this is what the tokens stand for
+pub data Gives {A : Type 0} (x : A) : Tokens → A → Tokens → Type 0 where
+  gives : {ts : Tokens} → Gives x ts x ts
+
+-- this terminal, with its place
+pub data IsToken (x : Terminal) : Tokens → ℕ → Tokens → Type 0 where
+  token : {i : ℕ} {ts : Tokens} → IsToken x (x # i ∷ ts) i ts
+
+-- a token of which this holds
+pub data IsOf {A : Type 0} (P : Placed → A → Type 0) : Tokens → A → Tokens → Type 0 where
+  of : {x : Placed} {a : A} {ts : Tokens} → P x a → IsOf P (x ∷ ts) a ts
+
+-- word
+pub data IsWordAt : Placed → List ℕ → Type 0 where
+  word_at : {x : Terminal} {n : List ℕ} {i : ℕ} → IsWord x n → IsWordAt (x # i) n
+
+-- assign = "=" | "|=" | "&="
+pub data IsAssign : Placed → Method → Type 0 where
+  by_method : {w : Method} {i : ℕ} → IsAssign (assign w # i) w
