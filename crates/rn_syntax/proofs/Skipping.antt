@@ -1,14 +1,15 @@
 -- Annotations, bracket by bracket, and what follows them.
-use Rattle.std.proofs.Common.{◌≡◌, ◌<◌, ℕ, zero, suc, Bool, true, false, List, [], ◌∷◌, ◌++◌, ◌⊎◌, inl, inr, refl, ap, sym, ◌∙◌, subst, Option, Some, None, unwrap_or}
+use Rattle.std.proofs.Common.{◌≡◌, ◌<◌, ℕ, zero, suc, Bool, true, false, List, [], ◌∷◌, ◌++◌, ◌⊎◌, inl, inr, refl, ap, sym, ◌∙◌, subst, Option, Some, None, unwrap_or, Bor}
 use Rattle.std.proofs.lemmas.Bool.{false≢true}
 use Rattle.rn_syntax.specs.declared.terminals.Terminal as code
 use Rattle.rn_syntax.specs.declared.terminals.Terminal.TheVariants as c
+use Rattle.rn_syntax.specs.declared.token.Keyword.{Keyword}
 use Rattle.rn_syntax.specs.Terminal as t
 use Rattle.rn_syntax.specs.Terminal.{Terminal, Placed, ◌#◌, left_bracket, right_bracket, follow, is_bracket}
 use Rattle.rn_syntax.specs.Grammar as g
 use Rattle.rn_syntax.specs.Grammar.{Tokens, Closed, IsAnnotation, MayAnnotate, AreFollows, IsFollowName}
 use Rattle.rn_syntax.specs.Follow.{Starts, Anything, first, no_bracket, no_follow}
-use Rattle.rn_syntax.specs.Sequence.{Then, both, Gives, gives, IsToken, token}
+use Rattle.rn_syntax.specs.Sequence.{Then, both, Gives, gives, IsToken, token, IsNamed, named}
 use Rattle.rn_syntax.specs.Reading.{Alike, ends, same, Took, Stuck, Bare, seen, IsNext}
 use Rattle.rn_syntax.proofs.Compose.{Upto, Fits, Can, CanBe, upto_at, upto_then, took_upto, stuck_upto, reads, stuck_in, took_gives, token_took, stuck_here, first_alike, alike_end, upto_token, fits_anything}
 use Rattle.rn_syntax.proofs.Next.{first_next}
@@ -176,4 +177,78 @@ bare now behind x e h = record {
   cut = refl;
   derives = λ more. g.bare;
   only = λ t a u r d f. (refl, bare_from (ap no_bracket (first_alike a) ∙ first_no_bracket now behind x e h) d);
+}
+
+-- ---- what follows a core
+
+abbrev is_follow_name : Terminal → Bool
+is_follow_name (t.ident n) = true
+is_follow_name (t.keyword w) = true
+is_follow_name (t.prefixed n l) = true
+is_follow_name x = false
+
+name_is : {x : Terminal} → IsFollowName x → is_follow_name x ≡ true
+name_is (g.by_word g.by_name) = refl
+name_is (g.by_word g.by_keyword) = refl
+name_is g.by_prefixed = refl
+
+named_begins : {t r : Tokens} → IsNamed t r → is_follow_name (first t) ≡ true
+named_begins (named n d) = name_is n
+
+pub can_named : CanBe (Bare IsNamed)
+can_named more = (t.ident [] # 0 ∷ left_bracket # 0 ∷ right_bracket # 0 ∷ more, tt, named (g.by_word g.by_name) (g.bracketed g.close))
+
+not_name : (x : code.Terminal) → ((n : _) → x ≡ c.Ident n → ⊥) → ((w : _) → x ≡ c.Keyword w → ⊥) → ((n : _) (l : _) → x ≡ c.Prefixed n l → ⊥) → is_follow_name (unwrap_or (seen x) t.other) ≡ false
+not_name (c.Ident n) h k l = absurd (h n refl)
+not_name (c.Keyword w) h k l = absurd (k w refl)
+not_name (c.Prefixed n m) h k l = absurd (l n m refl)
+not_name x h k l = refl
+
+pub no_name : (now behind : Tokens) (x : code.Terminal) → IsNext now (seen x) behind → ((n : _) → x ≡ c.Ident n → ⊥) → ((w : _) → x ≡ c.Keyword w → ⊥) → ((n : _) (l : _) → x ≡ c.Prefixed n l → ⊥) → Stuck (Bare IsNamed) Anything now now
+no_name now behind x e h k l = stuck_here is_follow_name (λ t a r d. named_begins d) (ap is_follow_name (first_next now behind (seen x) e) ∙ not_name x h k l) can_named
+
+-- the name that the code saw
+pub follow_name : (x : code.Terminal) (now behind : Tokens) → ((n : Bor (List ℕ)) × (x ≡ c.Ident n)) ⊎ (((w : Keyword) × (x ≡ c.Keyword w)) ⊎ ((n : Bor (List ℕ)) × (l : Bor (List ℕ)) × (x ≡ c.Prefixed n l))) → IsNext now (seen x) behind
+    → (y : Terminal) × (i : ℕ) × (now ≡ y # i ∷ behind) × IsFollowName y
+follow_name x now behind (inl (n, e)) h = let f = subst (λ (y : code.Terminal). IsNext now (seen y) behind) e h in (t.ident n.now, f.0, f.1, g.by_word g.by_name)
+follow_name x now behind (inr (inl (w, e))) h = let f = subst (λ (y : code.Terminal). IsNext now (seen y) behind) e h in (t.keyword w, f.0, f.1, g.by_word g.by_keyword)
+follow_name x now behind (inr (inr (n, l, e))) h = let f = subst (λ (y : code.Terminal). IsNext now (seen y) behind) e h in (t.prefixed n.now l.now, f.0, f.1, g.by_prefixed)
+
+pub named_at : {x : Terminal} {i : ℕ} {now next : Tokens} → IsFollowName x → now ≡ x # i ∷ next → Upto (Bare IsNamed) (Bare IsAnnotation) Anything now next
+named_at {x = x} {i = i} n e = upto_token e (λ t z r d. named n d) (λ t z r d g. from d)
+  where
+    from : {t r : Tokens} → IsNamed (x # i ∷ t) r → IsAnnotation t r
+    from (named n d) = d
+
+-- one more
+pub follow_at : {i : ℕ} {now next : Tokens} → now ≡ follow # i ∷ next → Upto (Bare AreFollows) (Then (Bare IsNamed) (λ (u : Unit {0}). Bare AreFollows)) (Starts no_follow) now next
+follow_at {i = i} e = upto_token e (λ t z r d. to d) (λ t z r d f. from d f)
+  where
+    to : {t r : Tokens} {z : Unit {0}} → Then (Bare IsNamed) (λ (u : Unit {0}). Bare AreFollows) t z r → AreFollows (follow # i ∷ t) r
+    to (both (named n a) m) = g.more n a m
+    from : {t r : Tokens} {z : Unit {0}} → AreFollows (follow # i ∷ t) r → Starts no_follow r → Then (Bare IsNamed) (λ (u : Unit {0}). Bare AreFollows) t z r
+    from (g.more n a m) f = both (named n a) m
+    from g.none f = absurd (false≢true f)
+
+pub follow_then : {i : ℕ} {now next end : Tokens} → now ≡ follow # i ∷ next → Took (Bare IsNamed) Anything next tt end → Upto (Bare AreFollows) (Bare AreFollows) (Starts no_follow) now end
+follow_then e k = upto_then (follow_at e) (reads fits_anything k)
+
+pub follow_stuck : {i : ℕ} {now next bad : Tokens} → now ≡ follow # i ∷ next → Stuck (Bare IsNamed) Anything next bad → Stuck (Bare AreFollows) (Starts no_follow) now bad
+follow_stuck e k = stuck_upto (follow_at e) (stuck_in fits_anything (λ more. (more, λ u. (tt, g.none))) k)
+
+not_follow : (x : code.Terminal) → (x ≡ c.Follow → ⊥) → no_follow (unwrap_or (seen x) t.other) ≡ true
+not_follow c.Follow h = absurd (h refl)
+not_follow x h = refl
+
+none_from : {t r : Tokens} → no_follow (first t) ≡ true → AreFollows t r → r ≡ t
+none_from h g.none = refl
+none_from h (g.more n a m) = absurd (false≢true h)
+
+-- none comes
+pub no_follows : (now behind : Tokens) (x : code.Terminal) → IsNext now (seen x) behind → (x ≡ c.Follow → ⊥) → Took (Bare AreFollows) (Starts no_follow) now tt now
+no_follows now behind x e h = record {
+  front = [];
+  cut = refl;
+  derives = λ more. g.none;
+  only = λ t a u r d f. (refl, none_from (ap no_follow (first_alike a) ∙ ap no_follow (first_next now behind (seen x) e) ∙ not_follow x h) d);
 }

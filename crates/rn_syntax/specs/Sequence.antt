@@ -1,8 +1,8 @@
 -- Productions in sequence: what is read first, and what comes of it.
-use Rattle.std.specs.Prelude.{ℕ, List, ◌∷◌}
+use Rattle.std.specs.Prelude.{ℕ, List, ◌∷◌, Bool, true, false}
 use Rattle.rn_syntax.specs.declared.token.Method.{Method}
-use Rattle.rn_syntax.specs.Terminal.{Terminal, Placed, ◌#◌, assign}
-use Rattle.rn_syntax.specs.Grammar.{Tokens, IsWord}
+use Rattle.rn_syntax.specs.Terminal.{Terminal, Placed, ◌#◌, assign, ident, prefixed, left_bracket}
+use Rattle.rn_syntax.specs.Grammar.{Tokens, IsWord, IsFollowName, IsAnnotation}
 
 -- an N, and then what it makes of what follows
 pub data Then {A C : Type 0} (N : Tokens → A → Tokens → Type 0) (M : A → Tokens → C → Tokens → Type 0) : Tokens → C → Tokens → Type 0 where
@@ -27,3 +27,13 @@ pub data IsWordAt : Placed → List ℕ → Type 0 where
 -- assign = "=" | "|=" | "&="
 pub data IsAssign : Placed → Method → Type 0 where
   by_method : {w : Method} {i : ℕ} → IsAssign (assign w # i) w
+
+-- ( word | Prefixed ) ann, behind a `>>`
+pub data IsNamed : Tokens → Tokens → Type 0 where
+  named : {x : Terminal} {i : ℕ} {ts rest : Tokens} → IsFollowName x → IsAnnotation ts rest → IsNamed (x # i ∷ ts) rest
+
+-- a note comes, not an item
+abbrev pub is_note : Tokens → Bool
+is_note (prefixed n l # i ∷ ts) = true
+is_note (ident n # i ∷ left_bracket # j ∷ ts) = true
+is_note ts = false

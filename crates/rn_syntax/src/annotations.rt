@@ -1,8 +1,9 @@
 // Annotations and notes, which leave nothing in the tree.
 ghost use Rattle.std.specs.Prelude.{◌≡◌, ◌≤◌, ◌<◌, length, IfOk, IfSome, IsTrue};
-ghost use Rattle.rn_syntax.specs.Follow.{Starts, Anything, no_bracket};
-ghost use Rattle.rn_syntax.specs.Grammar.{Closed, IsAnnotation, MayAnnotate};
-ghost use Rattle.rn_syntax.specs.Reading.{Passed, Advanced, Skips};
+ghost use Rattle.rn_syntax.specs.Follow.{Starts, Anything, no_bracket, no_follow};
+ghost use Rattle.rn_syntax.specs.Grammar.{Closed, IsAnnotation, MayAnnotate, AreFollows};
+ghost use Rattle.rn_syntax.specs.Reading.{Passed, Advanced, Skips, rest};
+ghost use Rattle.rn_syntax.specs.Sequence.{IsNamed, is_note};
 
 use crate::fault::Fault;
 use crate::terminals::{Terminal, next};
@@ -66,6 +67,7 @@ pub(crate) fn skip_annotation(tokens: &[Token<'_>], at: usize) -> Result<usize, 
 fn follow(tokens: &[Token<'_>], at: usize) -> Result<usize, Fault>
     requires { at ≤ length tokens.now }
     ensures inside { IfOk result (λ behind. Advanced at behind (length tokens.now)) }
+    ensures skips { Skips IsNamed Anything tokens.now at result }
 {
     match next(tokens, at) {
         Terminal::Ident(_) | Terminal::Keyword(_) | Terminal::Prefixed(_, _) => {
@@ -79,6 +81,7 @@ fn follow(tokens: &[Token<'_>], at: usize) -> Result<usize, Fault>
 pub(crate) fn skip_follows(tokens: &[Token<'_>], mut at: usize) -> Result<usize, Fault>
     requires { at ≤ length tokens.now }
     ensures inside { IfOk result (λ behind. Passed at behind (length tokens.now)) }
+    ensures skips { Skips AreFollows (Starts no_follow) tokens.now at result }
 {
     'follows: while let Terminal::Follow = next(tokens, at) {
         at = follow(tokens, at + 1)?;
@@ -89,6 +92,7 @@ pub(crate) fn skip_follows(tokens: &[Token<'_>], mut at: usize) -> Result<usize,
 /// Whether a note begins here: a name with a prefix, or one before a bracket.
 pub(crate) fn begins_note(tokens: &[Token<'_>], at: usize) -> bool
     ensures inside { IsTrue result → at < length tokens.now }
+    ensures is { result ≡ is_note (rest tokens.now at) }
 {
     match next(tokens, at) {
         Terminal::Prefixed(_, _) => true,
