@@ -2,6 +2,7 @@
 use Rattle.std.proofs.Common.{◌≡◌, ℕ, zero, suc, ◌+◌, ◌-◌, ◌<◌, ◌≤◌, List, [], ◌∷◌, length, get_or, map, drop, Option, Some, None, refl, ap, sym, ◌∙◌, subst, arith, unwrap_or, Bool, true, false}
 use Rattle.std.specs.Str.{chars}
 use Rattle.std.specs.List.{slice_get}
+use Rattle.std.proofs.lemmas.List.Elements.{All-get_or}
 use Rattle.rn_text.specs.declared.source.Token.{Token}
 use Rattle.rn_text.specs.Tokens.{lexeme_of}
 use Rattle.rn_syntax.specs.declared.terminals.Terminal as code
@@ -15,7 +16,7 @@ use Rattle.rn_syntax.specs.declared.token.Method.TheVariants as m
 use Rattle.rn_syntax.specs.Follow.{first, Anything}
 use Rattle.rn_syntax.specs.declared.token.Method.{Method}
 use Rattle.rn_syntax.specs.Sequence.{IsToken, IsOf, of, IsWordAt, word_at, IsAssign, by_method}
-use Rattle.rn_syntax.specs.Reading.{Stuck}
+use Rattle.rn_syntax.specs.Reading.{Stuck, AreSpelled, IsSpelled}
 use Rattle.rn_syntax.proofs.Compose.{can_token, first_alike, token_first, stuck_here}
 
 pub rest_cons : (xs : List Token) (at : ℕ) (d : Token) → at < length xs → rest xs at ≡ placed (lexeme_of (get_or xs at d)) ∷ rest xs (at + 1)
@@ -149,3 +150,6 @@ not_word x h k = refl
 
 pub no_word : (now behind : Tokens) (x : code.Terminal) → IsNext now (seen x) behind → ((n : _) → x ≡ c.Ident n → ⊥) → ((w : _) → x ≡ c.Keyword w → ⊥) → Stuck (IsOf IsWordAt) Anything now now
 no_word now behind x e h k = stuck_here is_word (λ t a r d. begins_word d) (ap is_word (first_next now behind (seen x) e) ∙ not_word x h k) (λ more. (t.ident [] # 0 ∷ more, [], of (word_at by_name)))
+
+pub spelled_at : (xs : List Token) (at : ℕ) (d : Token) → at < length xs → AreSpelled xs → IsSpelled (get_or xs at d)
+spelled_at xs at d h s = All-get_or IsSpelled xs at d h s

@@ -1,11 +1,11 @@
 -- What readers of tokens see, how far they come, and what their answers say of the grammar.
-use Rattle.std.specs.Prelude.{◌≡◌, ℕ, List, [], ◌∷◌, ◌++◌, Option, Some, None, Result, Ok, Err, true, map, drop, ◌+◌, ◌≤◌, ◌<◌, length}
+use Rattle.std.specs.Prelude.{◌≡◌, ℕ, List, [], ◌∷◌, ◌++◌, Option, Some, None, Result, Ok, Err, Bool, true, not, ◌&&◌, ◌==◌, map, drop, ◌+◌, ◌≤◌, ◌<◌, length}
 use Rattle.std.specs.List.{All}
 use Rattle.std.specs.Str.{chars, encode_utf8_all}
 use Rattle.rn_text.specs.declared.source.Token.{Token}
 use Rattle.rn_text.specs.declared.parts.Part.TheVariants as part
 use Rattle.rn_text.specs.Parts.{spells}
-use Rattle.rn_text.specs.Segments.{segment_text}
+use Rattle.rn_text.specs.Segments.{segment_text, is_segment}
 use Rattle.rn_text.specs.Tokens.{lexeme_of}
 use Rattle.rn_syntax.specs.Terminal as t
 use Rattle.rn_syntax.specs.Terminal.{Terminal, Placed, ◌#◌}
@@ -39,6 +39,15 @@ IsSpelled x = spells (part.Token x.kind) (chars x.text.now) ≡ true
 
 abbrev pub AreSpelled : List Token → Type 0
 AreSpelled xs = All IsSpelled xs
+
+-- a character that neither an escape nor a line end of two characters begins with
+abbrev pub is_plain : ℕ → Bool
+is_plain c = not (c == 92) && not (c == 13)
+
+-- a segment that the code saw is one
+abbrev pub IsWhole : code.Terminal → Type 0
+IsWhole (c.Segment x) = is_segment (chars x.text.now) ≡ true
+IsWhole _ = Unit {0}
 
 -- what the code sees of a token, as the grammar sees it: nothing at the end
 abbrev pub seen : code.Terminal → Option Terminal

@@ -1,7 +1,7 @@
 -- Productions in sequence: what is read first, and what comes of it.
 use Rattle.std.specs.Prelude.{ℕ, List, ◌∷◌, Bool, true, false}
 use Rattle.rn_syntax.specs.declared.token.Method.{Method}
-use Rattle.rn_syntax.specs.Terminal.{Terminal, Placed, ◌#◌, assign, ident, prefixed, left_bracket}
+use Rattle.rn_syntax.specs.Terminal.{Terminal, Placed, ◌#◌, assign, ident, prefixed, segment, left_bracket}
 use Rattle.rn_syntax.specs.Grammar.{Tokens, IsWord, IsFollowName, IsAnnotation}
 
 -- an N, and then what it makes of what follows
@@ -37,3 +37,7 @@ abbrev pub is_note : Tokens → Bool
 is_note (prefixed n l # i ∷ ts) = true
 is_note (ident n # i ∷ left_bracket # j ∷ ts) = true
 is_note ts = false
+
+-- Segment, and its text
+pub data IsSegment : Tokens → List ℕ → Tokens → Type 0 where
+  segment_here : {s : List ℕ} {i : ℕ} {rest : Tokens} → IsSegment (segment s # i ∷ rest) s rest

@@ -4,7 +4,7 @@ ghost use Rattle.std.specs.Str.{IsUtf8, chars, encode_utf8_all};
 ghost use Rattle.rn_text.specs.Characters.{is_name_char};
 ghost use Rattle.rn_text.specs.Segments.{run_of, after_run};
 ghost use Rattle.rn_syntax.specs.Follow.{Anything, first};
-ghost use Rattle.rn_syntax.specs.Reading.{IsInside, IsNext, IsPlace, Advanced, Passes, ReadsOne, rest, seen};
+ghost use Rattle.rn_syntax.specs.Reading.{AreSpelled, IsInside, IsNext, IsPlace, IsSpelled, IsWhole, Advanced, Passes, ReadsOne, rest, seen};
 ghost use Rattle.rn_syntax.specs.Sequence.{IsOf, IsWordAt, IsAssign};
 ghost use Rattle.rn_syntax.specs.declared.token.Method.TheVariants as method;
 ghost use Rattle.rn_syntax.specs.Terminal as terminal;
@@ -48,6 +48,7 @@ pub(crate) enum Terminal<'a> {
 #[tactic(auto, unfolding(crate::specs::Tokens::keyword_rows))]
 fn keyword(text: &str) -> Terminal<'_>
     ensures is { seen result ≡ Some (spelled_in keyword_rows text.now) }
+    ensures whole { IsWhole result }
     ensures utf8 { IsUtf8 text.now }
 {
     let keyword = match text {
@@ -78,6 +79,7 @@ fn keyword(text: &str) -> Terminal<'_>
 #[tactic(auto, unfolding(crate::specs::Tokens::symbol_rows))]
 pub(crate) fn symbol(text: &str) -> Terminal<'_>
     ensures is { seen result ≡ Some (spelled_in symbol_rows text.now) }
+    ensures whole { IsWhole result }
     ensures utf8 { IsUtf8 text.now }
 {
     match text {
@@ -131,6 +133,7 @@ fn behind_name(text: &str) -> &str
 /// A name that is written as it is.
 fn plain_name(text: &str) -> Terminal<'_>
     ensures is { seen result ≡ Some (terminal.ident text.now) }
+    ensures whole { IsWhole result }
     ensures utf8 { IsUtf8 text.now }
 {
     Terminal::Ident(text)
@@ -138,7 +141,8 @@ fn plain_name(text: &str) -> Terminal<'_>
 
 /// What the grammar sees of a token.
 pub(crate) fn terminal_of<'a>(token: Token<'a>) -> Terminal<'a>
-    ensures { seen result ≡ Some (tokens.terminal_of token.entry.kind (chars token.entry.text.now)) }
+    ensures is { seen result ≡ Some (tokens.terminal_of token.entry.kind (chars token.entry.text.now)) }
+    ensures whole { IsSpelled token.entry → IsWhole result }
 {
     match token.kind {
         Kind::Name => plain_name(token.text),
@@ -155,6 +159,7 @@ pub(crate) fn terminal_of<'a>(token: Token<'a>) -> Terminal<'a>
 pub(crate) fn next<'a>(tokens: &[Token<'a>], at: usize) -> Terminal<'a>
     ensures inside { IsInside result at (length tokens.now) }
     ensures next { IsNext (rest tokens.now at) (seen result) (rest tokens.now (at + 1)) }
+    ensures whole { AreSpelled tokens.now → IsWhole result }
 {
     if at >= tokens.len() {
         return Terminal::End;
