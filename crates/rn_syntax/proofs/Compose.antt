@@ -236,3 +236,7 @@ pub reads_upto : {A B : Type 0} {N W : Tokens → A → Tokens → Type 0} {F G 
 reads_upto view xs now at (Ok r) to u h = λ s. took_upto (u s) (took_before to (h s))
 reads_upto view xs now at (Err (f.Stuck bad)) to u h = λ s. stuck_upto (u s) (stuck_before to (h s))
 reads_upto view xs now at (Err f.Memory) to u h = tt
+
+-- what was read, by another name
+pub took_same : {A : Type 0} {N : Tokens → A → Tokens → Type 0} {F : Tokens → Type 0} {ts rest : Tokens} {x y : A} → x ≡ y → Took N F ts x rest → Took N F ts y rest
+took_same {N = N} {F = F} {ts = ts} {rest = rest} e k = subst (λ z. Took N F ts z rest) e k

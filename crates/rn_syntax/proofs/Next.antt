@@ -13,10 +13,11 @@ use Rattle.rn_syntax.specs.Grammar.{Tokens, IsWord, by_name, by_keyword}
 use Rattle.rn_syntax.specs.Tokens.{placed, terminal_of}
 use Rattle.rn_syntax.specs.Reading.{seen, rest, IsInside, IsNext, IsPlace, last_end}
 use Rattle.rn_syntax.specs.declared.token.Method.TheVariants as m
-use Rattle.rn_syntax.specs.Follow.{first, Anything}
+use Rattle.rn_syntax.specs.Follow.{first, is_end, Anything}
 use Rattle.rn_syntax.specs.declared.token.Method.{Method}
 use Rattle.rn_syntax.specs.Sequence.{IsToken, IsOf, of, IsWordAt, word_at, IsAssign, by_method}
 use Rattle.rn_syntax.specs.Reading.{Stuck, AreSpelled, IsSpelled}
+use Rattle.rn_syntax.proofs.OneClass.{word_one}
 use Rattle.rn_syntax.proofs.Compose.{can_token, first_alike, token_first, stuck_here}
 
 pub rest_cons : (xs : List Token) (at : ℕ) (d : Token) → at < length xs → rest xs at ≡ placed (lexeme_of (get_or xs at d)) ∷ rest xs (at + 1)
@@ -127,10 +128,6 @@ not_assign x h = refl
 pub no_assign : (now behind : Tokens) (x : code.Terminal) → IsNext now (seen x) behind → ((w : Method) → x ≡ c.Assign w → ⊥) → Stuck (IsOf IsAssign) Anything now now
 no_assign now behind x e h = stuck_here is_assign (λ t a r d. begins_assign d) (ap is_assign (first_next now behind (seen x) e) ∙ not_assign x h) (λ more. (t.assign m.Plain # 0 ∷ more, m.Plain, of by_method))
 
-pub word_one : {x : Terminal} {n l : List ℕ} → IsWord x n → IsWord x l → n ≡ l
-word_one by_name by_name = refl
-word_one by_keyword by_keyword = refl
-
 pub word_at_one : {x : Terminal} {n l : List ℕ} {i : ℕ} → IsWord x n → IsWordAt (x # i) l → l ≡ n
 word_at_one a (word_at b) = word_one b a
 
@@ -153,3 +150,25 @@ no_word now behind x e h k = stuck_here is_word (λ t a r d. begins_word d) (ap 
 
 pub spelled_at : (xs : List Token) (at : ℕ) (d : Token) → at < length xs → AreSpelled xs → IsSpelled (get_or xs at d)
 spelled_at xs at d h s = All-get_or IsSpelled xs at d h s
+
+-- a token that is there
+pub token_at : (xs : List Token) (at : ℕ) → at < length xs → (x : Terminal) × (i : ℕ) × (rest xs at ≡ x # i ∷ rest xs (at + 1))
+token_at [] at h = absurd (omega arith)
+token_at (y ∷ xs) zero h = (terminal_of y.kind (chars y.text.now), y.start, refl)
+token_at (y ∷ xs) (suc at) h =
+    let n = token_at xs at (omega arith) in
+    let e : rest xs (at + 1) ≡ rest (y ∷ xs) (suc at + 1) = let a : suc at + 1 ≡ suc (at + 1) = omega arith in ap (rest (y ∷ xs)) (sym a) in
+    (n.0, n.1, n.2 ∙ ap (λ (l : Tokens). n.0 # n.1 ∷ l) e)
+
+brace_is : (x : Terminal) → is_end x ≡ true → x ≡ t.right_brace
+brace_is t.right_brace e = refl
+brace_is x e = cc
+
+pub brace_at : (xs : List Token) (at : ℕ) → at < length xs → is_end (first (rest xs at)) ≡ true → (i : ℕ) × (rest xs at ≡ t.right_brace # i ∷ rest xs (at + 1))
+brace_at xs at h e =
+    let n = token_at xs at h in
+    let same : n.0 ≡ t.right_brace = brace_is n.0 (sym (ap (λ (l : Tokens). is_end (first l)) n.2) ∙ e) in
+    (n.1, n.2 ∙ ap (λ (y : Terminal). y # n.1 ∷ rest xs (at + 1)) same)
+
+pub place_is : (xs : List Token) {ts next : Tokens} {x : Terminal} {i j : ℕ} → ts ≡ x # i ∷ next → IsPlace xs ts j → j ≡ i
+place_is xs {j = j} e h = subst (λ (l : Tokens). IsPlace xs l j) e h

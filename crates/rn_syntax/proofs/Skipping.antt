@@ -13,15 +13,7 @@ use Rattle.rn_syntax.specs.Sequence.{Then, both, Gives, gives, IsToken, token, I
 use Rattle.rn_syntax.specs.Reading.{Alike, ends, same, Took, Stuck, Bare, seen, IsNext}
 use Rattle.rn_syntax.proofs.Compose.{Upto, Fits, Can, CanBe, upto_at, upto_then, took_upto, stuck_upto, reads, stuck_in, took_gives, token_took, stuck_here, first_alike, alike_end, upto_token, fits_anything}
 use Rattle.rn_syntax.proofs.Next.{first_next}
-
-pub closed_one : {ts r r' : Tokens} → Closed ts r → Closed ts r' → r ≡ r'
-closed_one g.close g.close = refl
-closed_one g.close (g.other e c) = absurd (false≢true (sym e))
-closed_one (g.other e c) g.close = absurd (false≢true (sym e))
-closed_one (g.other e c) (g.other e' c') = closed_one c c'
-closed_one (g.other e c) (g.nested c' d') = absurd (false≢true (sym e))
-closed_one (g.nested c d) (g.other e c') = absurd (false≢true (sym e))
-closed_one {r' = r'} (g.nested c d) (g.nested c' d') = closed_one d (subst (λ l. Closed l r') (sym (closed_one c c')) d')
+use Rattle.rn_syntax.proofs.OneClass.{closed_one}
 
 -- this many brackets close
 abbrev pub Closings : ℕ → Tokens → Unit {0} → Tokens → Type 0

@@ -94,3 +94,10 @@ no_declaration (keyword k.Namespace) = false
 no_declaration (keyword k.Default) = false
 no_declaration (keyword k.Datatypes) = false
 no_declaration x = true
+
+-- a datatype
+abbrev pub begins_datatype : Terminal → Bool
+begins_datatype (prefixed n l) = true
+begins_datatype (keyword k.String) = true
+begins_datatype (keyword k.Token) = true
+begins_datatype x = false

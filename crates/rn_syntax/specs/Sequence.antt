@@ -1,8 +1,9 @@
 -- Productions in sequence: what is read first, and what comes of it.
-use Rattle.std.specs.Prelude.{ℕ, List, ◌∷◌, Bool, true, false}
+use Rattle.std.specs.Prelude.{◌≡◌, ℕ, List, ◌∷◌, Bool, true, false}
 use Rattle.rn_syntax.specs.declared.token.Method.{Method}
+use Rattle.rn_syntax.specs.declared.token.Method.TheVariants as m
 use Rattle.rn_syntax.specs.Terminal.{Terminal, Placed, ◌#◌, assign, ident, prefixed, segment, left_bracket}
-use Rattle.rn_syntax.specs.Grammar.{Tokens, IsWord, IsFollowName, IsAnnotation}
+use Rattle.rn_syntax.specs.Grammar.{Tokens, IsWord, IsFollowName, IsAnnotation, MayAnnotate, IsLiteral}
 
 -- an N, and then what it makes of what follows
 pub data Then {A C : Type 0} (N : Tokens → A → Tokens → Type 0) (M : A → Tokens → C → Tokens → Type 0) : Tokens → C → Tokens → Type 0 where
@@ -41,3 +42,13 @@ is_note ts = false
 -- Segment, and its text
 pub data IsSegment : Tokens → List ℕ → Tokens → Type 0 where
   segment_here : {s : List ℕ} {i : ℕ} {rest : Tokens} → IsSegment (segment s # i ∷ rest) s rest
+
+-- the first token is one of which this holds
+pub record IsHere {A : Type 0} (P : Placed → A → Type 0) (ts : Tokens) (a : A) (rest : Tokens) : Type 0 where
+  pub token : Placed
+  pub holds : P token a
+  pub here : ts ≡ token ∷ rest
+
+-- param = [ann] word "=" literal
+abbrev pub IsParam : Tokens → List ℕ × List ℕ → Tokens → Type 0
+IsParam = Then (λ ts (u : Unit {0}) rest. MayAnnotate ts rest) (λ u. Then (IsOf IsWordAt) (λ n. Then (IsToken (assign m.Plain)) (λ i. Then IsLiteral (λ s. Gives (n, s)))))
