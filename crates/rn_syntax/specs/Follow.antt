@@ -108,3 +108,14 @@ abbrev pub begins_any : Terminal → Bool
 begins_any (postfix p.Star) = true
 begins_any (any_of n) = true
 begins_any x = false
+
+abbrev pub no_word : Terminal → Bool
+no_word (ident n) = false
+no_word (keyword w) = false
+no_word x = true
+
+abbrev pub begins_declaration : Terminal → Bool
+begins_declaration (keyword k.Namespace) = true
+begins_declaration (keyword k.Default) = true
+begins_declaration (keyword k.Datatypes) = true
+begins_declaration x = false

@@ -27,6 +27,10 @@ pub data IsOf {A : Type 0} (P : Placed → A → Type 0) : Tokens → A → Toke
 pub data IsWordAt : Placed → List ℕ → Type 0 where
   word_at : {x : Terminal} {n : List ℕ} {i : ℕ} → IsWord x n → IsWordAt (x # i) n
 
+-- word, with its place
+pub data IsPrefixAt : Placed → List ℕ × ℕ → Type 0 where
+  prefix_at : {x : Terminal} {n : List ℕ} {i : ℕ} → IsWord x n → IsPrefixAt (x # i) (n, i)
+
 -- assign = "=" | "|=" | "&="
 pub data IsAssign : Placed → Method → Type 0 where
   by_method : {w : Method} {i : ℕ} → IsAssign (assign w # i) w
