@@ -1,11 +1,11 @@
 -- What a module consists of, with each div replaced by its children (RELAX NG 2001, 4.11): its components in the order of the text, and its includes, each with the place of its own components among them.
-use Rattle.std.specs.Prelude.{ℕ, ◌+◌, List, [], ◌∷◌, ◌++◌, length, bytes_eq, Option}
+use Rattle.std.specs.Prelude.{ℕ, ◌≡◌, ◌+◌, List, [], ◌∷◌, ◌++◌, length, bytes_eq, Option, ⊤}
 use Rattle.std.specs.List.{position_from}
 use Rattle.rn_pattern.specs.Tree.{Text}
 use Rattle.rn_syntax.specs.declared.token.Method.{Method}
 use Rattle.rn_syntax.specs.Tree as t
 use Rattle.rn_syntax.specs.Tree.{Item, Items, Pattern}
-use Rattle.rn_assemble.specs.Components.{Key, start_key, name_key, Source}
+use Rattle.rn_assemble.specs.Components.{Key, start_key, name_key, Source, includes}
 
 -- a component as it is written
 pub record Written : Type 0 where
@@ -47,3 +47,15 @@ module _ (modules : List Source) where
     pub inclusions : ℕ → Items → List Inclusion
     inclusions n t.no_items = []
     inclusions n (t.item x xs) = item_inclusions n x ++ inclusions (n + length (item_written x)) xs
+
+-- no include is among an include's own items
+abbrev mutual
+  pub IsFlat : Item → Type 0
+  IsFlat (t.define x m p) = ⊤
+  IsFlat (t.start m p) = ⊤
+  IsFlat (t.div xs) = AreFlat xs
+  IsFlat (t.include wanted inherit xs) = includes xs ≡ []
+
+  pub AreFlat : Items → Type 0
+  AreFlat t.no_items = ⊤
+  AreFlat (t.item x xs) = IsFlat x × AreFlat xs

@@ -1,6 +1,9 @@
 // From a set to its grammar.
 ghost use Rattle.std.specs.Prelude.{IfErr, OnOk};
+ghost use Rattle.std.specs.List.Sorted.{IsStrictlySortedBy};
+ghost use Rattle.rn_pattern.specs.Order.{text_cmp};
 ghost use Rattle.rn_assemble.specs.Answers.{HasNoConflict, IsOfModules, IsRefusalOf};
+ghost use Rattle.rn_assemble.specs.Views.{module_names};
 
 use crate::combining::combined;
 use crate::components::{Components, components_of};
@@ -31,6 +34,7 @@ pub fn assemble(alloc: Global, set: &ModuleSet) -> Result<Grammar, Refusal>
 
 /// The grammar of the modules.
 fn assembled<'s>(alloc: Global, sources: &[Source<'s>]) -> Result<Grammar, Refusal>
+    requires { IsStrictlySortedBy text_cmp (module_names sources.now) }
     ensures { IfErr result IsOfModules }
 {
     let roots = included_roots(alloc, sources)?;

@@ -5,8 +5,9 @@ ghost use Rattle.std.specs.List.Sorted.{IsStrictlySortedBy};
 ghost use Rattle.rn_pattern.specs.Order.{text_cmp};
 ghost use Rattle.rn_syntax.specs.View.{item_view, items_view, pattern_view, prefix_view};
 ghost use Rattle.rn_assemble.specs.Contained.{Inclusion, Written, item_inclusions, inclusions, item_written, written};
-ghost use Rattle.rn_assemble.specs.Keyed.{item_defines, defines, key_at};
-ghost use Rattle.rn_assemble.specs.Views.{Adds, inclusion_view, module_names, names_of, sources_view, written_view};
+ghost use Rattle.rn_assemble.specs.Keyed.{AreNames, item_defines, defines, key_at};
+ghost use Rattle.rn_assemble.specs.Listed.{AreContents, IsContents};
+ghost use Rattle.rn_assemble.specs.Views.{Adds, inclusion_view, module_names, names_of, source_view, sources_view, written_view};
 
 use crate::bindings::Bindings;
 use crate::inclusion::module_named;
@@ -46,18 +47,37 @@ pub(crate) fn contents_of<'t, 's>(
     alloc: Global,
     sources: &'t [Source<'s>],
     keys: &Keys<'s>,
-) -> Result<Vec<Contents<'t, 's>>, AllocError> {
+) -> Result<Vec<Contents<'t, 's>>, AllocError>
+    requires modules_in_order { IsStrictlySortedBy text_cmp (module_names sources.now) }
+    requires names { AreNames (sources_view sources.now) (names_of keys.now) }
+    ensures { IfOk result (λ all. AreContents (sources_view sources.now) (names_of keys.now) all.items) }
+{
     let mut all = Vec::new(alloc);
     for source in sources {
-        let mut contents = Contents {
-            bindings: Bindings::new(alloc, source.tree.decls.as_slice())?,
-            components: Vec::new(alloc),
-            includes: Vec::new(alloc),
-        };
-        gather(&mut contents, sources, keys, &source.tree.items)?;
-        all.push(contents)?;
+        all.push(contents_of_module(alloc, sources, keys, source)?)?;
     }
     Ok(all)
+}
+
+/// The contents of a module.
+fn contents_of_module<'t, 's>(
+    alloc: Global,
+    sources: &[Source<'s>],
+    keys: &Keys<'s>,
+    source: &'t Source<'s>,
+) -> Result<Contents<'t, 's>, AllocError>
+    requires keys_in_order { IsStrictlySortedBy text_cmp (names_of keys.now) }
+    requires defined { AllByRecursion (Contains (names_of keys.now)) (defines (items_view source.now.tree.items.items)) }
+    requires modules_in_order { IsStrictlySortedBy text_cmp (module_names sources.now) }
+    ensures { IfOk result (λ c. IsContents (sources_view sources.now) (names_of keys.now) (source_view source.now) c) }
+{
+    let mut contents = Contents {
+        bindings: Bindings::new(alloc, source.tree.decls.as_slice())?,
+        components: Vec::new(alloc),
+        includes: Vec::new(alloc),
+    };
+    gather(&mut contents, sources, keys, &source.tree.items)?;
+    Ok(contents)
 }
 
 /// Adds what the items consist of.

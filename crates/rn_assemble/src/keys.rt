@@ -63,17 +63,17 @@ impl<'s> Keys<'s> {
 
     /// The name of that number.
     pub fn name(&self, number: usize) -> &'s str
-        requires above { 0 < number }
-        requires within { number < vec_len self.now.names + 1 }
-        ensures { result.now ≡ slice_index_or (names_of self.now) (number - 1) [] }
+        ensures { 0 < number → number < vec_len self.now.names + 1 → result.now ≡ slice_index_or (names_of self.now) (number - 1) [] }
     {
-        self.names[number - 1]
+        match number.checked_sub(1) {
+            Some(at) if at < self.names.len() => self.names[at],
+            _ => "",
+        }
     }
 
     /// The key of that number.
     pub fn key(&self, alloc: Global, number: usize) -> Result<Key, AllocError>
-        requires { number < vec_len self.now.names + 1 }
-        ensures { IfOk result (λ key. key_view key ≡ key_at (names_of self.now) number) }
+        ensures { number < vec_len self.now.names + 1 → IfOk result (λ key. key_view key ≡ key_at (names_of self.now) number) }
     {
         if number == START {
             return Ok(Key::Start);
