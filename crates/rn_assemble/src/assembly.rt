@@ -74,6 +74,7 @@ fn check_components(
 {
     if let Some(lack) = components.lack
         && lack.module < sources.len()
+        && lack.key < keys.len()
     {
         return Err(Refusal::Override {
             module: String::from_str(alloc, sources[lack.module].name)?,
@@ -105,7 +106,10 @@ fn check_references<'s>(
     ensures { IfErr result IsOfModules }
 {
     let references = references_of(alloc, keys, components)?;
-    if let Some(key) = least_recursive(alloc, &references)? {
+    if let Some(key) = least_recursive(alloc, &references)?
+        && key > START
+        && key < keys.len()
+    {
         return Err(Refusal::Recursive {
             name: String::from_str(alloc, keys.name(key))?,
         });
@@ -128,7 +132,8 @@ fn grammar(
     let mut defs = IndexMap::new(alloc);
     for first in first_places(alloc, components, keys.len())? {
         let (_, key) = first;
-        if key < patterns.len()
+        if key > START
+            && key < patterns.len()
             && let Some(pattern) = patterns[key].take()
         {
             defs.insert(String::from_str(alloc, keys.name(key))?, pattern)?;
