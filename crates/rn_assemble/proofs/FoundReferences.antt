@@ -1,5 +1,5 @@
 -- The references of keys, by the names that their bodies refer to.
-use Rattle.std.proofs.Common.{◌≡◌, ◌≢◌, ◌⊎◌, inl, inr, ⊎_elim, ℕ, zero, suc, ◌+◌, ◌<◌, ◌≤◌, Bool, true, false, cond, List, [], ◌∷◌, ◌++◌, length, get_or, map, flat_map, filter, Option, Some, None, refl, sym, ap, ◌∙◌, subst, arith, Contains, eqb}
+use Rattle.std.proofs.Common.{◌≡◌, ⊎_elim, ℕ, zero, suc, ◌<◌, Bool, true, false, cond, List, [], ◌∷◌, length, get_or, map, flat_map, filter, Option, Some, refl, sym, ap, ◌∙◌, subst, arith, Contains, eqb}
 use Rattle.std.specs.Prelude.{◌↔◌, Decides, IsSome, slice_get}
 use Rattle.std.specs.List.{AllByRecursion}
 use Rattle.std.specs.List.Sorted.{IsStrictlySortedBy}
@@ -15,11 +15,11 @@ use Rattle.rn_pattern.proofs.InOrder.{contains_behind, contains_front, contains_
 use Rattle.rn_syntax.specs.Tree.{Declaration, Pattern}
 use Rattle.rn_syntax.specs.View.{pattern_view}
 use Rattle.rn_assemble.specs.Resolve.{resolved}
-use Rattle.rn_assemble.specs.Graph.{row, rows_of}
+use Rattle.rn_assemble.specs.Graph.{row}
 use Rattle.rn_assemble.specs.Components.{Key, name_key, same_key, Component}
 use Rattle.rn_assemble.specs.Combine.{bodies, of_key, combined, joined, joined_grammar}
 use Rattle.rn_assemble.specs.Keyed.{IsNumber, key_at}
-use Rattle.rn_assemble.specs.Listed.{Live, IsBody, IsLive, ListsBy, components_in, places_of}
+use Rattle.rn_assemble.specs.Listed.{Live, IsBody, IsLive, ListsBy, components_in}
 use Rattle.rn_assemble.specs.Referred.{AreBodiesAt, names_at}
 use Rattle.rn_assemble.specs.declared.components.Body.{Body}
 use Rattle.rn_assemble.proofs.Combinations.{some_joined, joined_definition}
@@ -114,7 +114,7 @@ module _ (names : List Text) (bs : List Body) (list : List ℕ) where
 
     -- names: what a written pattern refers to; R: what a resolved one does
     module _ (f : Pattern → List Text) (R : Text → Tree → Type 0) (same : (i : Text) (ds : List Declaration) (y : Text) (p : Pattern) → Contains (f p) y ↔ R y (resolved i ds p))
-      (of_joined : (y : Text) (k : Key) → R y (joined cs k) → (p : Tree) × Contains (bodies k cs) p × R y p) (to_joined : (y : Text) (k : Key) (p : Tree) → Contains (bodies k cs) p → R y p → R y (joined cs k)) where
+        (of_joined : (y : Text) (k : Key) → R y (joined cs k) → (p : Tree) × Contains (bodies k cs) p × R y p) (to_joined : (y : Text) (k : Key) (p : Tree) → Contains (bodies k cs) p → R y p → R y (joined cs k)) where
       at_number : (n : ℕ) (b : Body) (y : Text) → slice_get bs n ≡ Some b → Contains (names_at f bs n) y ↔ Contains (f (pattern_view b.component.body.now)) y
       at_number n b y e = let is = ap (λ o. option_map_or (λ (c : Body). f (pattern_view c.component.body.now)) o []) e in (subst (λ xs. Contains xs y) is, subst (λ xs. Contains xs y) (sym is))
 

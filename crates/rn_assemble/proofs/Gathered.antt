@@ -1,5 +1,5 @@
 -- Items that are gathered one after the other.
-use Rattle.std.proofs.Common.{◌≡◌, ℕ, suc, ◌+◌, ◌<◌, List, ◌∷◌, ◌++◌, length, get_or, take, drop, map, drop-cons, refl, sym, ap, ◌∙◌, subst, [], append_assoc, append-nil, Contains, add-one, inl, inr, arith}
+use Rattle.std.proofs.Common.{◌≡◌, ℕ, ◌+◌, ◌<◌, List, ◌∷◌, ◌++◌, length, get_or, take, drop, map, drop-cons, sym, ap, ◌∙◌, subst, [], append_assoc, append-nil, Contains, add-one, inl, inr, arith}
 use Rattle.std.specs.List.{AllByRecursion, AllZip}
 use Rattle.std.specs.Prelude.{flat_map}
 use Rattle.std.proofs.lemmas.List.Elements.{Contains-append_left, Contains-append_right}
@@ -47,7 +47,6 @@ module _ (modules : List Source) where
       ap (λ a. a ++ inclusions modules n (items_view (drop (i + 1) xs))) k ∙ append_assoc us (item_inclusions modules m (item_view x)) (inclusions modules n (items_view (drop (i + 1) xs)))
       ∙ ap (λ q. us ++ (item_inclusions modules m (item_view x) ++ inclusions modules q (items_view (drop (i + 1) xs)))) s
       ∙ sym (ap (λ a. us ++ inclusions modules m a) (items_at xs i x l e)) ∙ h
-
 
 -- each module's contents
 contains_flat : {X Y : Type 0} (f : X → List Y) (xs : List X) (x : X) (y : Y) → Contains xs x → Contains (f x) y → Contains (flat_map f xs) y

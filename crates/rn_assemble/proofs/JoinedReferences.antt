@@ -1,5 +1,5 @@
 -- What is joined of components refers to what one of them refers to.
-use Rattle.std.proofs.Common.{◌≡◌, ◌⊎◌, inl, inr, ⊎_elim, Bool, true, false, cond, List, [], ◌∷◌, Option, Some, None, refl, sym, ap, ◌∙◌, subst, arith, Contains}
+use Rattle.std.proofs.Common.{◌≡◌, ◌⊎◌, inl, inr, ⊎_elim, Bool, true, false, cond, List, [], ◌∷◌, Option, sym, subst, arith, Contains}
 use Rattle.std.specs.Prelude.{IsSomeAnd}
 use Rattle.rn_pattern.specs.Tree as tree
 use Rattle.rn_pattern.specs.Tree.{Text, Tree, Trees, interleave, choice, no_trees, more_trees, trees_of}
@@ -12,8 +12,8 @@ use Rattle.rn_assemble.specs.Combine.{bodies, combined, uses, is_interleave, joi
 use Rattle.rn_assemble.proofs.Combinations.{some_joined, joined_definition}
 
 module _ (R : Tree → Type 0) (S : Trees → Type 0) (none : S no_trees → ⊥) (split : (p : Tree) (ps : Trees) → S (more_trees p ps) → R p ⊎ S ps) (some : (p : Tree) (ps : Trees) → R p ⊎ S ps → S (more_trees p ps))
-  (to_choice : (ps : Trees) → S ps → R (choice ps)) (of_choice : (ps : Trees) → R (choice ps) → S ps)
-  (to_interleave : (ps : Trees) → S ps → R (interleave ps)) (of_interleave : (ps : Trees) → R (interleave ps) → S ps) where
+    (to_choice : (ps : Trees) → S ps → R (choice ps)) (of_choice : (ps : Trees) → R (choice ps) → S ps)
+    (to_interleave : (ps : Trees) → S ps → R (interleave ps)) (of_interleave : (ps : Trees) → R (interleave ps) → S ps) where
   member : (ps : List Tree) → S (trees_of ps) → (p : Tree) × Contains ps p × R p
   member [] s = absurd (none s)
   member (p ∷ ps) s = ⊎_elim (λ r. (p, contains_front p ps, r)) (λ t. let m = member ps t in (m.0, contains_behind p m.0 ps m.1, m.2)) (split p (trees_of ps) s)

@@ -94,7 +94,15 @@ fn expand<'c, 't, 's>(
     let mut next = 0;
     'includes: for include in &content.includes {
         components.add(content, first, next, include.from)?;
-        expand_include(components, contents, content, module, scope, include, depth - 1)?;
+        expand_include(
+            components,
+            contents,
+            content,
+            module,
+            scope,
+            include,
+            depth - 1,
+        )?;
         next = include.from;
     }
     components.add(content, first, next, content.components.len())
@@ -114,8 +122,8 @@ fn expand_include<'c, 't, 's>(
     ensures { (modules : List specs.Source) (names : List Text) (live : List Live) (ds : List Declaration) → CanExpand modules names contents.now components.old live → CanInclude modules names content.now include.now ds
         → scope.entry.bindings.now ≡ content.now.bindings
         → IfOk result (λ _. Expands names contents.now components.old components.new live (specs.overridden
-            (included_in depth modules include.now.«module» (specs.handed_on scope.entry.inherited.now ds (prefix_view include.now.inherit)))
-            (map (resolved_component scope.entry.inherited.now ds) (slice_range (map (written_view names) content.now.components.items) include.now.from include.now.to)))) }
+        (included_in depth modules include.now.«module» (specs.handed_on scope.entry.inherited.now ds (prefix_view include.now.inherit)))
+        (map (resolved_component scope.entry.inherited.now ds) (slice_range (map (written_view names) content.now.components.items) include.now.from include.now.to)))) }
 {
     let before = components.list.len();
     if let Some(included) = include.module {

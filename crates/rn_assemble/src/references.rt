@@ -247,10 +247,7 @@ fn refer_outside<'s>(pattern: &Pat<'s>, names: &mut Vec<&'s str>) -> Result<(), 
 }
 
 #[cycle(refer_outside)]
-fn refer_all_outside<'s>(
-    patterns: &[Pat<'s>],
-    names: &mut Vec<&'s str>,
-) -> Result<(), AllocError>
+fn refer_all_outside<'s>(patterns: &[Pat<'s>], names: &mut Vec<&'s str>) -> Result<(), AllocError>
     ensures { OnOk result (texts_of names.new.items ≡ texts_of names.old.items ++ all_outer_references (patterns_view patterns.now)) }
 {
     'patterns: for pattern in patterns {

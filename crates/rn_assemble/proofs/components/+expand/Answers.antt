@@ -1,4 +1,4 @@
-use Rattle.std.proofs.Common.{◌≡◌, ◌+◌, ◌-◌, ◌<◌, ◌≤◌, ◌++◌, ◌∷◌, [], ℕ, suc, List, length, get_or, drop, map, None, refl, sym, ap, ◌∙◌, subst, arith}
+use Rattle.std.proofs.Common.{◌≡◌, ◌+◌, ◌-◌, ◌<◌, ◌≤◌, ◌++◌, ◌∷◌, suc, List, length, get_or, drop, None, refl, sym, ap, ◌∙◌, subst, arith}
 use Rattle.std.specs.List.{AllByRecursion}
 use Rattle.std.proofs.lemmas.List.{drop_more, drop_all}
 use Rattle.rn_pattern.specs.Tree.{Text}
@@ -45,8 +45,8 @@ expand-includes-preserved t c = record {
       let a = c.in_ok-add.ensures.added names (live ++ g.adds.added) u ds (record { lists = g.adds.lists; binds = is.bindings; starts = g.starts; numbered = is.numbered; ordered = g.ordered.0; within = omega (arith, g.ordered.1, g.ordered.2) }) in
       let kept = c.in_ok-add.ensures.kept in
       let e = c.in_ok-expand_include.ensures modules names ((live ++ g.adds.added) ++ a.added) ds
-          (record { modules_in_order = k.modules_in_order; names_in_order = k.names_in_order; flat = k.flat; are = k.are; contexts = contexts_same contents c.includes.components c.add.new.self kept g.contexts; lists = a.lists })
-          (record { within = g.within.0; ordered = g.ordered.1; inside = g.ordered.2; numbered = is.numbered; binds = is.bindings }) refl in
+      (record { modules_in_order = k.modules_in_order; names_in_order = k.names_in_order; flat = k.flat; are = k.are; contexts = contexts_same contents c.includes.components c.add.new.self kept g.contexts; lists = a.lists })
+      (record { within = g.within.0; ordered = g.ordered.1; inside = g.ordered.2; numbered = is.numbered; binds = is.bindings }) refl in
       going_more modules names contents content live m u (c.args.depth - 1) c.in_ok-first.first c.args.components.now c.includes.components c.add.new.self c.expand_include.new.components c.includes.next x (drop (i + 1) items) g a kept e;
 }
 
@@ -79,16 +79,16 @@ expand_include-returns t c = λ modules names live ds k i same.
     let binds : BindsAs c.args.scope.bindings.now ds = subst (λ b. BindsAs b ds) (sym same) i.binds in
     let e : Expands names contents old mid live (included_in c.args.depth modules c.args.include.now.«module» v) = elim c.match-include.branch [
       | expand_include-in-Some+in_ok-expand w ↦
-        subst (λ (x : Components). Expands names contents old x live (included_in c.args.depth modules c.args.include.now.«module» v)) (sym w.components-is)
-        (subst (λ o. Expands names contents old w.expand.new.components live (included_in c.args.depth modules o v)) (sym w.in-Some.is)
-        (subst (λ (x : Text). Expands names contents old w.expand.new.components live (specs.components_within c.args.depth modules (name_at modules w.in-Some.included) x)) (w.handed_on-inherited.ensures ds binds)
-        (w.in_ok-expand.ensures modules names live k (i.within w.in-Some.included w.in-Some.is))))
+          subst (λ (x : Components). Expands names contents old x live (included_in c.args.depth modules c.args.include.now.«module» v)) (sym w.components-is)
+          (subst (λ o. Expands names contents old w.expand.new.components live (included_in c.args.depth modules o v)) (sym w.in-Some.is)
+          (subst (λ (x : Text). Expands names contents old w.expand.new.components live (specs.components_within c.args.depth modules (name_at modules w.in-Some.included) x)) (w.handed_on-inherited.ensures ds binds)
+          (w.in_ok-expand.ensures modules names live k (i.within w.in-Some.included w.in-Some.is))))
       | expand_include-in_default w ↦
-        subst (λ (x : Components). Expands names contents old x live (included_in c.args.depth modules c.args.include.now.«module» v)) (sym w.components-is)
-        (subst (λ o. Expands names contents old old live (included_in c.args.depth modules o v)) (sym w.in_default.is) (expands_none names contents old live k.lists k.contexts))
+          subst (λ (x : Components). Expands names contents old x live (included_in c.args.depth modules c.args.include.now.«module» v)) (sym w.components-is)
+          (subst (λ o. Expands names contents old old live (included_in c.args.depth modules o v)) (sym w.in_default.is) (expands_none names contents old live k.lists k.contexts))
     ] in
     let before : length old.list.items ≡ c.len-before.result = sym (c.len-before.ensures ∙ old.list.ok.0) in
     let n = c.note_lacks.ensures in
     let taken = c.take_out.ensures.taken names live e.adds.added (lists_same names mid c.note_lacks.new.self (live ++ e.adds.added) n.kept n.list n.places e.adds.lists)
-        (subst (λ b. AllByRecursion (λ (d : Live). d.place < b) live) before (live_below names old live k.lists)) (subst (λ b. Rises b e.adds.added) before e.adds.rises) i.ordered i.inside in
+    (subst (λ b. AllByRecursion (λ (d : Live). d.place < b) live) before (live_below names old live k.lists)) (subst (λ b. Rises b e.adds.added) before e.adds.rises) i.ordered i.inside in
     overrides names contents c.args.content.now u ds old mid c.note_lacks.new.self c.take_out.new.self live _ c.args.include.now.from c.args.include.now.to e k.names_in_order i.numbered n.kept n.list n.places c.take_out.ensures.kept c.take_out.ensures.list taken

@@ -31,10 +31,10 @@ returns c = λ names cs s refs.
     let kept = rows_of c.in_ok-outer.outer.items in
     let first : c.row_at-first.result.now ≡ row all 0 = c.row_at-first.ensures ∙ ap (λ es. row (rows_of es) 0) c.as_slice.ensures.value in
     let marked : (n : ℕ) → Decides (is_marked seen n) (Reached all (row all 0) n) = λ n.
-        subst (λ es. Decides (is_marked seen n) (Reached (rows_of es) (row all 0) n)) c.as_slice-2.ensures.value
-        (subst (λ xs. Decides (is_marked seen n) (Reached (rows_of c.as_slice-2.result.now) xs n)) first (c.in_ok-reached.ensures.exact n)) in
+    subst (λ es. Decides (is_marked seen n) (Reached (rows_of es) (row all 0) n)) c.as_slice-2.ensures.value
+    (subst (λ xs. Decides (is_marked seen n) (Reached (rows_of c.as_slice-2.result.now) xs n)) first (c.in_ok-reached.ensures.exact n)) in
     let rows : (n : ℕ) → row kept n ≡ cond (is_marked seen n) (row outer n) [] = λ n. c.in_ok-outer.ensures.kept n
-        ∙ (λ i. cond (is_marked (c.as_slice-4.ensures.value i) n) (row (rows_of (c.as_slice-3.ensures.value i)) n) []) in
+    ∙ (λ i. cond (is_marked (c.as_slice-4.ensures.value i) n) (row (rows_of (c.as_slice-3.ensures.value i)) n) []) in
     IfOk-weaker c.least_looped.result (λ o. MatchOption o (HasNoLoop (rows_of c.as_slice-5.result.now)) (IsFirstLoop (rows_of c.as_slice-5.result.now))) _
     (λ o h. least names s cs all outer refs seen marked kept rows o
-        (subst (λ es. MatchOption o (HasNoLoop (rows_of es)) (IsFirstLoop (rows_of es))) c.as_slice-5.ensures.value h)) c.least_looped.ensures.least
+    (subst (λ es. MatchOption o (HasNoLoop (rows_of es)) (IsFirstLoop (rows_of es))) c.as_slice-5.ensures.value h)) c.least_looped.ensures.least

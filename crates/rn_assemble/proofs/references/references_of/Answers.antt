@@ -1,14 +1,12 @@
 -- Key by key.
-use Rattle.std.proofs.Common.{◌≡◌, ◌<◌, ◌+◌, ◌++◌, ℕ, suc, List, [], length, ap, ◌∙◌, sym, subst, arith, rules, Vec, Contains, None, Some, option_map, vec_len}
-use Rattle.std.specs.declared.alloc.Global.{Global}
+use Rattle.std.proofs.Common.{◌≡◌, ◌<◌, ◌++◌, suc, length, ap, ◌∙◌, sym, subst, arith, rules, None, Some, option_map}
 use Rattle.std.proofs.lemmas.List.{length_push, length-map}
 use Rattle.rn_pattern.specs.Reached.{RefersTo}
 use Rattle.rn_pattern.specs.Order.{text_cmp}
 use Rattle.rn_pattern.specs.References.{RefersOutside, IsUndefined}
 use Rattle.rn_assemble.specs.Least.{IsLeast}
-use Rattle.rn_assemble.specs.Combine.{joined, joined_grammar}
+use Rattle.rn_assemble.specs.Combine.{joined_grammar}
 use Rattle.rn_assemble.specs.Graph.{row, rows_of}
-use Rattle.rn_assemble.specs.Keyed.{key_at}
 use Rattle.rn_assemble.specs.Listed.{components_in}
 use Rattle.rn_assemble.specs.Referred.{AreBodiesAt, AreNumbers, IsLeastOf}
 use Rattle.rn_assemble.specs.Views.{names_of, texts_of}
@@ -78,5 +76,5 @@ returns-in-Some-clause-found c = λ live l s.
     let size : c.loop-key.key ≡ suc (length names) = omega (arith, c.loop-key-test.false, c.loop-key.auto.key-end, c.len-key-end.ensures, c.args.keys.now.names.ok, length-map c.args.keys.now.names.items (λ t. t.now)) in
     subst (IsLeast text_cmp (IsUndefined G)) (sym c.in_ok-from_str-in-Some.ensures.ok)
     (gathered_some names _ _ _ live l s c.loop-key.all.items c.loop-key.outer.items c.in-Some.name.now
-        (subst (λ k. Gathered names (components_in live) c.loop-key.all.items c.loop-key.outer.items k (Some c.in-Some.name.now)) size
-        (subst (λ o. Gathered names (components_in live) c.loop-key.all.items c.loop-key.outer.items c.loop-key.key (option_map (λ t. t.now) o)) c.in-Some.is (c.loop-key.invariant.gathered live l s))))
+    (subst (λ k. Gathered names (components_in live) c.loop-key.all.items c.loop-key.outer.items k (Some c.in-Some.name.now)) size
+    (subst (λ o. Gathered names (components_in live) c.loop-key.all.items c.loop-key.outer.items c.loop-key.key (option_map (λ t. t.now) o)) c.in-Some.is (c.loop-key.invariant.gathered live l s))))

@@ -1,4 +1,4 @@
-use Rattle.std.proofs.Common.{◌≡◌, ◌+◌, ◌<◌, ◌≤◌, ◌++◌, List, length, get_or, map, refl, sym, ap, ◌∙◌, subst, arith}
+use Rattle.std.proofs.Common.{◌≡◌, ◌+◌, ◌<◌, List, length, get_or, map, refl, sym, ap, ◌∙◌, subst, arith}
 use Rattle.std.specs.Prelude.{slice_range}
 use Rattle.rn_assemble.specs.declared.contents.Component as code
 use Rattle.rn_assemble.specs.declared.components.Body.{Body}
@@ -25,8 +25,8 @@ loop-number-preserved c =
           let same : c.loop-number.self.bodies.items ≡ c.args.self.now.bodies.items = ap (λ v. v.items) i.kept.bodies in
           let comp : Component = resolved_component u ds (written_view names d) in
           let lists = c.in_ok-place.ensures.placed names _ comp h.lists (subst (λ (bs : List Body). c.in-Some-checked_add.body < length bs) (sym same) (omega (arith, body, below, k.starts.within)))
-              (λ b. subst (λ (bs : List Body). IsBody names (get_or bs c.in-Some-checked_add.body b) d.key comp) (sym same) (subst (λ m. IsBody names (get_or c.args.self.now.bodies.items m b) d.key comp) (sym body)
-              (body_is names c.args.self.now.bodies.items c.args.first c.args.content.now u ds k.binds k.starts k.numbered n d below at b))) in
+          (λ b. subst (λ (bs : List Body). IsBody names (get_or bs c.in-Some-checked_add.body b) d.key comp) (sym same) (subst (λ m. IsBody names (get_or c.args.self.now.bodies.items m b) d.key comp) (sym body)
+          (body_is names c.args.self.now.bodies.items c.args.first c.args.content.now u ds k.binds k.starts k.numbered n d below at b))) in
           subst (λ ds. AddsLive names c.args.self.now c.place.new.self live ds) (sym (resolved_more names u ds cs c.args.from n d c.loop-number.auto.number below at))
           (adds_one names c.args.self.now c.loop-number.self c.place.new.self live _ h _ lists refl (omega (arith, c.in_ok-place.ensures.longer)));
     }

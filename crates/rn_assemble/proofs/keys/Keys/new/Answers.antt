@@ -1,10 +1,9 @@
-use Rattle.std.proofs.Common.{◌≡◌, ℕ, List, sym, subst, Contains, ◌∙◌, ap, arith}
+use Rattle.std.proofs.Common.{◌≡◌, ℕ, List, sym, subst, Contains, arith}
 use Rattle.std.specs.Borrow.{Bor}
 use Rattle.std.specs.Prelude.{flat_map}
 use Rattle.rn_assemble.specs.Components.{Source}
 use Rattle.rn_assemble.specs.Keyed.{defines}
 use Rattle.std.proofs.lemmas.Grind.{common_steps}
-use Rattle.std.specs.List.{dedup}
 use Rattle.std.specs.List.Sorted.{IsStrictlySortedBy}
 use Rattle.std.proofs.lemmas.List.Filters.{dedup_is}
 use Rattle.rn_pattern.specs.Tree.{Text}
@@ -22,6 +21,6 @@ returns c =
       in_order = subst (λ (bs : List (Bor (List ℕ))). IsStrictlySortedBy text_cmp (texts_of bs)) is (sorted_once now c.sort.new.self.items c.in_ok-sort.ensures.sorted);
       defined = λ x. (
         λ h. subst (λ (ts : List Text). Contains ts x) listed (no_other_names now c.loop-source.names.items c.sort.new.self.items c.in_ok-sort.ensures.permutation x (subst (λ (bs : List (Bor (List ℕ))). Contains (texts_of bs) x) (sym is) h)),
-        λ h. subst (λ (bs : List (Bor (List ℕ))). Contains (texts_of bs) x) is (kept_names now c.loop-source.names.items c.sort.new.self.items c.in_ok-sort.ensures.permutation x (subst (λ (ts : List Text). Contains ts x) (sym listed) h))
+        λ h. subst (λ (bs : List (Bor (List ℕ))). Contains (texts_of bs) x) is (kept_names now c.loop-source.names.items c.sort.new.self.items c.in_ok-sort.ensures.permutation x (subst (λ (ts : List Text). Contains ts x) (sym listed) h)),
       );
     }
