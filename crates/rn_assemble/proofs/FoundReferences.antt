@@ -92,7 +92,7 @@ module _ (names : List Text) (bs : List Body) (list : List ℕ) where
       let s = shown e l in
       (s.made.numbered, ap (λ (c : Component). c.key) s.made.shown.2 ∙ ap (key_at names) s.made.key_is)
 
-  all_keyed : (live : List Live) → AllByRecursion (IsLive names bs list) live → AllByRecursion (IsKeyed names) live
+  pub all_keyed : (live : List Live) → AllByRecursion (IsLive names bs list) live → AllByRecursion (IsKeyed names) live
   all_keyed [] h = tt
   all_keyed (e ∷ live) h = (keyed e h.0, all_keyed live h.1)
 

@@ -1,9 +1,11 @@
 // From a set to its grammar.
-ghost use Rattle.std.specs.Prelude.{IfErr, OnOk};
+ghost use Rattle.std.specs.Prelude.{IfErr, List, MatchResult, OnOk};
 ghost use Rattle.std.specs.List.Sorted.{IsStrictlySortedBy};
 ghost use Rattle.rn_pattern.specs.Order.{text_cmp};
 ghost use Rattle.rn_assemble.specs.Answers.{HasNoConflict, IsOfModules, IsRefusalOf};
-ghost use Rattle.rn_assemble.specs.Views.{module_names};
+ghost use Rattle.rn_assemble.specs.Listed.{Lists, Live, components_in};
+ghost use Rattle.rn_assemble.specs.Methods.{CanCombine, IsUncombined};
+ghost use Rattle.rn_assemble.specs.Views.{module_names, names_of};
 
 use crate::combining::combined;
 use crate::components::{Components, components_of};
@@ -74,13 +76,25 @@ fn check_components(
 {
     if let Some(lack) = components.lack
         && lack.module < sources.len()
-        && lack.key < keys.len()
     {
         return Err(Refusal::Override {
             module: String::from_str(alloc, sources[lack.module].name)?,
             key: keys.key(alloc, lack.key)?,
         });
     }
+    check_methods(alloc, keys, components)
+}
+
+/// Refuses the least key with two plain components, the least with both methods, and components without a start.
+fn check_methods(
+    alloc: Global,
+    keys: &Keys<'_>,
+    components: &Components<'_, '_, '_>,
+) -> Result<(), Refusal>
+    ensures of_modules { IfErr result IsOfModules }
+    ensures exact { (live : List Live) → Lists (names_of keys.now) components.now live → IsStrictlySortedBy text_cmp (names_of keys.now)
+        → MatchResult result (λ _. CanCombine (components_in live)) (IsUncombined (components_in live)) }
+{
     if let Some(key) = components.least_plain_twice(keys.len()) {
         return Err(Refusal::PlainTwice {
             key: keys.key(alloc, key)?,
@@ -106,10 +120,7 @@ fn check_references<'s>(
     ensures { IfErr result IsOfModules }
 {
     let references = references_of(alloc, keys, components)?;
-    if let Some(key) = least_recursive(alloc, &references)?
-        && key > START
-        && key < keys.len()
-    {
+    if let Some(key) = least_recursive(alloc, &references)? {
         return Err(Refusal::Recursive {
             name: String::from_str(alloc, keys.name(key))?,
         });
@@ -132,8 +143,7 @@ fn grammar(
     let mut defs = IndexMap::new(alloc);
     for first in first_places(alloc, components, keys.len())? {
         let (_, key) = first;
-        if key > START
-            && key < patterns.len()
+        if key < patterns.len()
             && let Some(pattern) = patterns[key].take()
         {
             defs.insert(String::from_str(alloc, keys.name(key))?, pattern)?;

@@ -1,8 +1,13 @@
 // Definitions of one key combined (RELAX NG 2001, 4.17).
-ghost use Rattle.std.specs.Prelude.{◌≡◌, ◌+◌, ◌<◌, vec_len, nat_lt, count_by, IfOk, IfErr, IfSome};
-ghost use Rattle.std.specs.List.{list_any};
-ghost use Rattle.rn_assemble.specs.Graph.{row, rows_of};
-ghost use Rattle.rn_assemble.specs.Uses.{has_method, method_at};
+ghost use Rattle.std.specs.Prelude.{◌≡◌, ◌+◌, ◌<◌, List, Contains, Decides, false, length, vec_len, IfOk, IfErr};
+ghost use Rattle.std.specs.List.Sorted.{IsStrictlySortedBy};
+ghost use Rattle.std.specs.Option.{option_map_or};
+ghost use Rattle.rn_pattern.specs.Order.{text_cmp};
+ghost use Rattle.rn_pattern.specs.Tree.{Text};
+ghost use Rattle.rn_assemble.specs.Combine as spec;
+ghost use Rattle.rn_assemble.specs.Keyed.{key_at};
+ghost use Rattle.rn_assemble.specs.Listed.{Lists, Live, components_in};
+ghost use Rattle.rn_assemble.specs.Methods.{IsLeastNumber, is_method};
 ghost use Rattle.rn_assemble.specs.Answers.{IsOfModules};
 
 use crate::components::{Body, Components};
@@ -18,28 +23,19 @@ use std::rc::Rc;
 impl<'c, 't, 's> Components<'c, 't, 's> {
     /// The method of the component at that place.
     fn method(&self, place: usize) -> Option<Method>
-        ensures { result ≡ method_at self.now.bodies.items self.now.list.items place }
+        ensures { (names : List Text) (live : List Live) (e : Live) → Lists names self.now live → Contains live e → e.place ≡ place → result ≡ Some e.component.method }
     {
         let body = self.body(self.body_at(place)?)?;
         Some(body.component.method)
     }
 
-    /// Whether the component at that place uses the method.
-    fn uses_at(&self, place: usize, method: Method) -> bool
-        ensures { result ≡ has_method method (method_at self.now.bodies.items self.now.list.items place) }
-    {
-        match self.method(place) {
-            Some(used) => used == method,
-            None => false,
-        }
-    }
-
     /// Whether some component of the key uses the method.
     fn uses(&self, key: usize, method: Method) -> bool
-        ensures { result ≡ list_any (λ place. has_method method (method_at self.now.bodies.items self.now.list.items place)) (row (rows_of self.now.places.items) key) }
+        ensures { (names : List Text) (live : List Live) → Lists names self.now live → IsStrictlySortedBy text_cmp names → key < length names + 1
+            → result ≡ spec.uses (is_method method) (key_at names key) (components_in live) }
     {
         for place in self.of_key(key) {
-            if self.uses_at(*place, method) {
+            if is_found(self.method(*place), method) {
                 return true;
             }
         }
@@ -48,11 +44,12 @@ impl<'c, 't, 's> Components<'c, 't, 's> {
 
     /// Whether two components of the key are plain.
     fn is_plain_twice(&self, key: usize) -> bool
-        ensures { result ≡ nat_lt 1 (count_by (λ place. has_method Method.Plain (method_at self.now.bodies.items self.now.list.items place)) (row (rows_of self.now.places.items) key)) }
+        ensures { (names : List Text) (live : List Live) → Lists names self.now live → IsStrictlySortedBy text_cmp names → key < length names + 1
+            → Decides result (spec.IsPlainTwice (key_at names key) (components_in live)) }
     {
         let mut is_plain = false;
         for place in self.of_key(key) {
-            if self.uses_at(*place, Method::Plain) {
+            if is_found(self.method(*place), Method::Plain) {
                 if is_plain {
                     return true;
                 }
@@ -64,7 +61,8 @@ impl<'c, 't, 's> Components<'c, 't, 's> {
 
     /// The least of that many keys with two plain components.
     pub fn least_plain_twice(&self, keys: usize) -> Option<usize>
-        ensures { IfSome result (λ key. key < keys) }
+        ensures { (names : List Text) (live : List Live) → Lists names self.now live → IsStrictlySortedBy text_cmp names → keys ≡ length names + 1
+            → IsLeastNumber names (λ k. spec.IsPlainTwice k (components_in live)) result }
     {
         for key in 0..keys {
             if self.is_plain_twice(key) {
@@ -76,7 +74,8 @@ impl<'c, 't, 's> Components<'c, 't, 's> {
 
     /// The least of that many keys whose components use both methods.
     pub fn least_mixed(&self, keys: usize) -> Option<usize>
-        ensures { IfSome result (λ key. key < keys) }
+        ensures { (names : List Text) (live : List Live) → Lists names self.now live → IsStrictlySortedBy text_cmp names → keys ≡ length names + 1
+            → IsLeastNumber names (λ k. spec.IsMixed k (components_in live)) result }
     {
         for key in 0..keys {
             if self.uses(key, Method::Choice) && self.uses(key, Method::Interleave) {
@@ -84,6 +83,17 @@ impl<'c, 't, 's> Components<'c, 't, 's> {
             }
         }
         None
+    }
+}
+
+/// Whether the method was found.
+fn is_found(found: Option<Method>, method: Method) -> bool
+    ensures { result ≡ option_map_or (is_method method) found false }
+{
+    match method {
+        Method::Plain => matches!(found, Some(Method::Plain)),
+        Method::Choice => matches!(found, Some(Method::Choice)),
+        Method::Interleave => matches!(found, Some(Method::Interleave)),
     }
 }
 
@@ -119,15 +129,14 @@ fn join(
     shared: &mut Shared,
     key: usize,
 ) -> Result<Option<Pattern>, Refusal>
-    requires { key < vec_len keys.now.names + 1 }
     ensures { IfErr result IsOfModules }
 {
     let places = components.of_key(key);
     match places {
         [] => Ok(None),
-        [place] => alone(alloc, keys, components, key, *place),
+        [place] => alone(alloc, keys, components, *place),
         _ => {
-            let members = members(alloc, keys, components, shared, key, places)?;
+            let members = members(alloc, keys, components, shared, places)?;
             if components.uses(key, Method::Interleave) {
                 Ok(Some(Pattern::Interleave(members)))
             } else {
@@ -142,15 +151,13 @@ fn alone(
     alloc: Global,
     keys: &Keys<'_>,
     components: &Components<'_, '_, '_>,
-    key: usize,
     place: usize,
 ) -> Result<Option<Pattern>, Refusal>
-    requires { key < vec_len keys.now.names + 1 }
     ensures { IfErr result IsOfModules }
 {
     match components.body_at(place) {
         Some(number) => match components.body(number) {
-            Some(body) => Ok(Some(resolved(alloc, keys, key, body)?)),
+            Some(body) => Ok(Some(resolved(alloc, keys, body)?)),
             None => Ok(None),
         },
         None => Ok(None),
@@ -163,16 +170,14 @@ fn members(
     keys: &Keys<'_>,
     components: &Components<'_, '_, '_>,
     shared: &mut Shared,
-    key: usize,
     places: &[usize],
 ) -> Result<Vec<Rc<Pattern>>, Refusal>
-    requires { key < vec_len keys.now.names + 1 }
     ensures { IfErr result IsOfModules }
 {
     let mut members = Vec::with_capacity(alloc, places.len())?;
     for place in places {
         if let Some(number) = components.body_at(*place) {
-            share(alloc, keys, components, shared, key, number)?;
+            share(alloc, keys, components, shared, number)?;
             if let Some(Some(pattern)) = shared.get(number) {
                 members.push(pattern.clone()?)?;
             }
@@ -187,36 +192,28 @@ fn share(
     keys: &Keys<'_>,
     components: &Components<'_, '_, '_>,
     shared: &mut Shared,
-    key: usize,
     number: usize,
 ) -> Result<(), Refusal>
-    requires { key < vec_len keys.now.names + 1 }
     ensures { IfErr result IsOfModules }
 {
     if let Some(body) = components.body(number)
         && number < shared.len()
         && shared[number].is_none()
     {
-        let pattern = resolved(alloc, keys, key, body)?;
+        let pattern = resolved(alloc, keys, body)?;
         shared[number] = Some(Rc::new(alloc, pattern)?);
     }
     Ok(())
 }
 
 /// The pattern of a body that keeps the restrictions on name classes.
-fn resolved(
-    alloc: Global,
-    keys: &Keys<'_>,
-    key: usize,
-    body: &Body<'_, '_, '_>,
-) -> Result<Pattern, Refusal>
-    requires { key < vec_len keys.now.names + 1 }
+fn resolved(alloc: Global, keys: &Keys<'_>, body: &Body<'_, '_, '_>) -> Result<Pattern, Refusal>
     ensures { IfErr result IsOfModules }
 {
     let pattern = pattern(alloc, body.scope, body.component.body)?;
     if !keeps_name_rules(&pattern) {
         return Err(Refusal::NameClass {
-            key: keys.key(alloc, key)?,
+            key: keys.key(alloc, body.component.key)?,
         });
     }
     Ok(pattern)

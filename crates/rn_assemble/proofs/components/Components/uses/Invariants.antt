@@ -1,11 +1,17 @@
--- No place so far does.
-use Rattle.std.proofs.Common.{◌≡◌, drop}
+use Rattle.std.proofs.Common.{◌≡◌, ◌+◌, ◌<◌, List, false, length, take}
 use Rattle.std.specs.List.{list_any}
-use Rattle.rn_assemble.specs.Uses.{has_method, method_at}
+use Rattle.std.specs.List.Sorted.{IsStrictlySortedBy}
+use Rattle.rn_pattern.specs.Order.{text_cmp}
+use Rattle.rn_pattern.specs.Tree.{Text}
+use Rattle.rn_assemble.specs.Components.{Component}
+use Rattle.rn_assemble.specs.Combine.{of_key}
+use Rattle.rn_assemble.specs.Keyed.{key_at}
+use Rattle.rn_assemble.specs.Listed.{Lists, Live, components_in}
+use Rattle.rn_assemble.specs.Methods.{is_method}
 use Rattle.rn_assemble.proofs.components.Components.uses.Given as goal
 
 abbrev pub invariant-loop-place : goal.invariant-loop-place
 invariant-loop-place l = record {
-  left : list_any (λ place. has_method l.method (method_at l.self.bodies.items l.self.list.items place)) l.place-items
-      ≡ list_any (λ place. has_method l.method (method_at l.self.bodies.items l.self.list.items place)) (drop l.place-index l.place-items);
+  none : (names : List Text) (live : List Live) → Lists names l.self live → IsStrictlySortedBy text_cmp names → l.key < length names + 1
+      → list_any (λ (c : Component). is_method l.method c.method) (take l.place-index (of_key (key_at names l.key) (components_in live))) ≡ false;
 }
