@@ -1,11 +1,11 @@
 -- Steps of expanding: bodies of a context, components added one after the other, and those that are taken out.
-use Rattle.std.proofs.Common.{◌≡◌, ◌≢◌, ℕ, zero, suc, ◌+◌, ◌-◌, ◌<◌, ◌≤◌, Bool, true, false, ◌||◌, cond, List, [], ◌∷◌, ◌++◌, length, get_or, take, drop, map, filter, refl, sym, ap, ◌∙◌, subst, arith, append-nil, append_assoc, Contains, length-drop}
+use Rattle.std.proofs.Common.{◌≡◌, ℕ, ◌+◌, ◌-◌, ◌<◌, ◌≤◌, Bool, true, false, ◌||◌, cond, List, [], ◌∷◌, ◌++◌, length, get_or, take, drop, map, filter, refl, sym, ap, ◌∙◌, subst, arith, append-nil, append_assoc, Contains, length-drop}
 use Rattle.std.specs.Prelude.{not, ◌==◌, slice_range}
 use Rattle.std.specs.List.{AllByRecursion, list_any}
-use Rattle.std.proofs.lemmas.List.{length-map, map-append, length-append, get_or_append_left, get_or-append-add, get_or-map, get_or-drop, take_more, length_push}
+use Rattle.std.proofs.lemmas.List.{length-map, map-append, length-append, get_or_append_left, get_or-append-add, get_or-map, get_or-drop, take_more}
 use Rattle.std.proofs.lemmas.List.Elements.{All-from_recursion}
 use Rattle.rn_pattern.specs.Tree.{Text}
-use Rattle.rn_pattern.proofs.Ascending.{each_join, each_front, each_behind}
+use Rattle.rn_pattern.proofs.Ascending.{each_behind}
 use Rattle.rn_pattern.proofs.InOrder.{contained_each}
 use Rattle.rn_syntax.specs.Tree.{Declaration}
 use Rattle.rn_assemble.specs.declared.bindings.Scope.{Scope}
@@ -17,8 +17,8 @@ use Rattle.rn_assemble.specs.declared.components.Components.{Components}
 use Rattle.rn_assemble.specs.Bound.{BindsAs}
 use Rattle.rn_assemble.specs.Components.{Component}
 use Rattle.rn_assemble.specs.Views.{IsNumbered, written_view}
-use Rattle.rn_assemble.specs.Listed.{IsBody, IsLive, Live, Lists, Rises, components_in, resolved_component}
-use Rattle.rn_assemble.specs.Expanded.{AddsLive, ContextHolds, ContextsHold, IsItem, StartsAt, left_by}
+use Rattle.rn_assemble.specs.Listed.{IsBody, IsLive, Live, Lists, resolved_component}
+use Rattle.rn_assemble.specs.Expanded.{AddsLive, ContextHolds, IsItem, StartsAt, left_by}
 use Rattle.rn_assemble.proofs.LiveLists.{each_to, rises_join}
 
 -- bodies of a context

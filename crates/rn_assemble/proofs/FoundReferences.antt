@@ -1,5 +1,5 @@
 -- The references of keys, by the names that their bodies refer to.
-use Rattle.std.proofs.Common.{◌≡◌, ◌≢◌, ◌⊎◌, inl, inr, ⊎_elim, ℕ, zero, suc, ◌+◌, ◌<◌, ◌≤◌, Bool, true, false, cond, List, [], ◌∷◌, ◌++◌, length, get_or, map, flat_map, filter, Option, Some, None, refl, sym, ap, ◌∙◌, subst, arith, Contains, eqb}
+use Rattle.std.proofs.Common.{◌≡◌, ⊎_elim, ℕ, zero, suc, ◌<◌, Bool, true, false, cond, List, [], ◌∷◌, length, get_or, map, flat_map, filter, Option, Some, refl, sym, ap, ◌∙◌, subst, arith, Contains, eqb}
 use Rattle.std.specs.Prelude.{◌↔◌, Decides, IsSome, slice_get}
 use Rattle.std.specs.List.{AllByRecursion}
 use Rattle.std.specs.List.Sorted.{IsStrictlySortedBy}
@@ -15,11 +15,11 @@ use Rattle.rn_pattern.proofs.InOrder.{contains_behind, contains_front, contains_
 use Rattle.rn_syntax.specs.Tree.{Declaration, Pattern}
 use Rattle.rn_syntax.specs.View.{pattern_view}
 use Rattle.rn_assemble.specs.Resolve.{resolved}
-use Rattle.rn_assemble.specs.Graph.{row, rows_of}
+use Rattle.rn_assemble.specs.Graph.{row}
 use Rattle.rn_assemble.specs.Components.{Key, name_key, same_key, Component}
 use Rattle.rn_assemble.specs.Combine.{bodies, of_key, combined, joined, joined_grammar}
 use Rattle.rn_assemble.specs.Keyed.{IsNumber, key_at}
-use Rattle.rn_assemble.specs.Listed.{Live, IsBody, IsLive, ListsBy, components_in, places_of}
+use Rattle.rn_assemble.specs.Listed.{Live, IsBody, IsLive, ListsBy, components_in}
 use Rattle.rn_assemble.specs.Referred.{AreBodiesAt, names_at}
 use Rattle.rn_assemble.specs.declared.components.Body.{Body}
 use Rattle.rn_assemble.proofs.Combinations.{some_joined, joined_definition}

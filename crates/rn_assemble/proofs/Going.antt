@@ -1,10 +1,10 @@
 -- The step of expanding a module, include by include.
-use Rattle.std.proofs.Common.{◌≡◌, ℕ, zero, suc, ◌+◌, ◌-◌, ◌<◌, ◌≤◌, List, [], ◌∷◌, ◌++◌, length, get_or, take, drop, map, Option, Some, None, Result, Ok, Err, IfOk, refl, sym, ap, ◌∙◌, subst, arith, append_assoc, append-nil}
+use Rattle.std.proofs.Common.{◌≡◌, ℕ, zero, suc, ◌-◌, ◌<◌, List, [], ◌∷◌, ◌++◌, length, take, drop, map, Some, Result, Ok, Err, IfOk, refl, sym, ap, ◌∙◌, subst, arith, append_assoc, append-nil}
 use Rattle.std.specs.Prelude.{slice_range}
 use Rattle.std.specs.List.{AllByRecursion, AllZip}
-use Rattle.std.proofs.lemmas.List.{length-map, length-append}
+use Rattle.std.proofs.lemmas.List.{length-map}
 use Rattle.rn_pattern.specs.Tree.{Text}
-use Rattle.rn_pattern.proofs.Ascending.{each_join, each_front, each_behind}
+use Rattle.rn_pattern.proofs.Ascending.{each_join, each_behind}
 use Rattle.std.specs.List.Sorted.{IsStrictlySortedBy}
 use Rattle.rn_pattern.specs.Order.{text_cmp}
 use Rattle.rn_syntax.specs.Tree as t
@@ -14,13 +14,13 @@ use Rattle.rn_assemble.specs.declared.contents.Include.{Include}
 use Rattle.rn_assemble.specs.declared.components.Body.{Body}
 use Rattle.rn_assemble.specs.declared.components.Components.{Components}
 use Rattle.rn_assemble.specs.Components.{Component, Source, components_within, handed_on, module_components, overridden}
-use Rattle.rn_assemble.specs.Contained.{AreFlat, Inclusion, inclusions, item_inclusions, place_in, Written, written}
-use Rattle.rn_assemble.specs.Listed.{IsContents, IsLive, Live, Lists, ListsBy, Rises, components_in, resolved_component}
+use Rattle.rn_assemble.specs.Contained.{AreFlat, Inclusion, inclusions, item_inclusions, Written, written}
+use Rattle.rn_assemble.specs.Listed.{IsContents, IsLive, Live, Lists, ListsBy, resolved_component}
 use Rattle.rn_assemble.specs.Graph.{rows_of}
 use Rattle.rn_assemble.specs.Views.{IsNumbered, inclusion_view, written_view}
-use Rattle.rn_assemble.specs.Expanded.{AddsLive, CanAdd, CanExpand, CanInclude, ContextHolds, ContextsHold, Enters, Expands, KeepsBodies, KeepsLists, StartsAt, included_in, left_by, name_at}
-use Rattle.rn_assemble.proofs.LiveLists.{each_filtered, lists_more_bodies, rises_filtered}
-use Rattle.rn_assemble.proofs.Expansions.{adds_none, adds_both, starts_grown, live_below}
+use Rattle.rn_assemble.specs.Expanded.{AddsLive, ContextHolds, ContextsHold, Enters, Expands, KeepsBodies, KeepsLists, StartsAt, included_in, left_by}
+use Rattle.rn_assemble.proofs.LiveLists.{lists_more_bodies, rises_filtered}
+use Rattle.rn_assemble.proofs.Expansions.{adds_none, adds_both, starts_grown}
 use Rattle.rn_assemble.proofs.Overriding.{left_is, range_map}
 use Rattle.rn_assemble.proofs.Spliced.{Ordered, spliced, spliced_is, inclusions_ordered}
 use Rattle.rn_assemble.proofs.ModuleLookups.{included_agrees, place_within}

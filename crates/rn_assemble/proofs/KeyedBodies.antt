@@ -1,11 +1,11 @@
 -- The components of a key, by its number.
-use Rattle.std.proofs.Common.{◌≡◌, ℕ, suc, ◌<◌, Bool, true, false, cond, List, [], ◌∷◌, length, map, filter, refl, sym, ap, ◌∙◌, eqb}
+use Rattle.std.proofs.Common.{◌≡◌, ℕ, suc, ◌<◌, Bool, true, false, cond, List, [], ◌∷◌, length, filter, refl, ap, ◌∙◌, eqb}
 use Rattle.std.specs.List.{AllByRecursion}
 use Rattle.std.specs.List.Sorted.{IsStrictlySortedBy}
-use Rattle.rn_pattern.specs.Tree.{Text, Tree}
+use Rattle.rn_pattern.specs.Tree.{Text}
 use Rattle.rn_pattern.specs.Order.{text_cmp}
-use Rattle.rn_assemble.specs.Components.{same_key, Component}
-use Rattle.rn_assemble.specs.Combine.{of_key, bodies}
+use Rattle.rn_assemble.specs.Components.{same_key}
+use Rattle.rn_assemble.specs.Combine.{of_key}
 use Rattle.rn_assemble.specs.Keyed.{key_at}
 use Rattle.rn_assemble.specs.Listed.{Live, components_in}
 use Rattle.rn_assemble.proofs.Numbers.{same_key_at}

@@ -1,16 +1,13 @@
 -- Modules by their names and by their places.
-use Rattle.std.proofs.Common.{◌≡◌, ℕ, zero, suc, ◌+◌, ◌<◌, ◌≤◌, Bool, true, false, cond, List, [], ◌∷◌, ◌++◌, length, get_or, map, Option, Some, None, refl, sym, ap, ◌∙◌, subst, arith, Less, Equal, append-nil}
-use Rattle.std.specs.Prelude.{flat_map, filter, bytes_eq}
+use Rattle.std.proofs.Common.{◌≡◌, ℕ, zero, suc, ◌+◌, ◌<◌, Bool, true, false, cond, List, [], ◌∷◌, length, get_or, map, Option, Some, None, refl, sym, ap, ◌∙◌, arith, Less, Equal, append-nil}
+use Rattle.std.specs.Prelude.{flat_map, bytes_eq}
 use Rattle.std.specs.List.{AllByRecursion, AllZip, position_from}
 use Rattle.std.specs.List.Sorted.{IsStrictlySortedBy}
-use Rattle.std.proofs.lemmas.Bool.{false≢true}
 use Rattle.std.proofs.lemmas.Cmp.{nat_list_cmp_total, tied_itself}
 use Rattle.std.proofs.lemmas.Slice.Eq.{bytes_eq-Decides}
 use Rattle.rn_pattern.specs.Tree.{Text}
 use Rattle.rn_pattern.specs.Order.{text_cmp}
-use Rattle.rn_pattern.proofs.InOrder.{text_no_less}
-use Rattle.rn_assemble.specs.declared.contents.Contents.{Contents}
-use Rattle.rn_assemble.specs.Components.{Component, Source, components_within, module_components, modules_named}
+use Rattle.rn_assemble.specs.Components.{Source, components_within, module_components, modules_named}
 use Rattle.rn_assemble.specs.Contained.{AreFlat, place_in}
 use Rattle.rn_assemble.specs.Expanded.{included_in, name_at}
 use Rattle.rn_assemble.proofs.ModulePlaces.{differs}

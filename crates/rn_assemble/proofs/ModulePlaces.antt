@@ -1,5 +1,5 @@
 -- The place of the module of a name, by a search and by definition.
-use Rattle.std.proofs.Common.{◌≡◌, ℕ, zero, suc, ◌+◌, ◌<◌, ◌≤◌, Bool, true, false, cond, inl, inr, List, [], ◌∷◌, length, get_or, map, Result, Ok, Err, Option, Some, None, refl, sym, ap, ◌∙◌, subst, arith, Contains, Less, Equal}
+use Rattle.std.proofs.Common.{◌≡◌, ℕ, zero, suc, ◌+◌, ◌<◌, Bool, true, false, cond, List, [], ◌∷◌, length, get_or, Result, Ok, Err, Some, None, refl, sym, ap, ◌∙◌, subst, arith, Contains, Less, Equal}
 use Rattle.std.specs.Prelude.{bytes_eq}
 use Rattle.std.specs.Result.{result_ok}
 use Rattle.std.specs.List.{position_from}
@@ -7,13 +7,12 @@ use Rattle.std.specs.List.Sorted.{IsBinarySearchResult, IsSearchInRange, IsStric
 use Rattle.std.proofs.lemmas.List.Elements.{Contains-get_or}
 use Rattle.std.proofs.lemmas.Slice.Eq.{bytes_eq-Decides}
 use Rattle.std.proofs.lemmas.Cmp.{nat_list_cmp_total, tied_itself}
-use Rattle.std.proofs.lemmas.List.{length-map, get_or-map}
 use Rattle.rn_pattern.specs.Tree.{Text}
 use Rattle.rn_pattern.specs.Order.{text_cmp}
 use Rattle.rn_assemble.specs.declared.modules.Source.{Source}
 use Rattle.rn_assemble.specs.Components as s
 use Rattle.rn_assemble.specs.Contained.{place_in}
-use Rattle.rn_assemble.specs.Views.{module_names, source_view, sources_view}
+use Rattle.rn_assemble.specs.Views.{module_names, sources_view}
 use Rattle.rn_assemble.proofs.Named.{place_of, mapped, rise_at}
 
 none_from : (p : Source → Bool) (n : ℕ) (ys : List Source) → ((k : ℕ) (d : Source) → k < length ys → p (get_or ys k d) ≡ false) → position_from p n ys ≡ None

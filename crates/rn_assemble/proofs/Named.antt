@@ -1,6 +1,6 @@
 -- Lists of things that have names: in the order of the names, and searched by a name.
-use Rattle.std.proofs.Common.{◌≡◌, ℕ, zero, suc, ◌+◌, ◌<◌, ◌≤◌, Bool, true, false, inl, inr, ◌⊎◌, List, [], ◌∷◌, ◌++◌, length, get_or, map, Result, Ok, Err, MatchResult, refl, sym, ap, ◌∙◌, subst, arith, Contains, Ordering, Less, Equal, Greater, add-one}
-use Rattle.std.specs.Ordering.{is_lt, is_eq, eq_by_cmp, on, ordering_index, ordering_reverse}
+use Rattle.std.proofs.Common.{◌≡◌, ℕ, ◌+◌, ◌<◌, ◌≤◌, Bool, false, inl, inr, ◌⊎◌, List, [], ◌∷◌, length, get_or, map, Result, Ok, Err, MatchResult, refl, sym, ap, ◌∙◌, subst, arith, Contains, Ordering, Less, Equal, Greater, add-one}
+use Rattle.std.specs.Ordering.{is_lt, on, ordering_index, ordering_reverse}
 use Rattle.std.specs.List.{AllByRecursion, dedup}
 use Rattle.std.specs.List.Sorted.{IsBinarySearchResult, IsSearchInRange, IsNonDecreasingBy, IsStrictlySortedBy, IsSorted, IsPermutation}
 use Rattle.std.proofs.lemmas.Bool.{cases_lt}

@@ -1,23 +1,20 @@
 -- What is reached in a grammar, and comes back to itself, by the numbers of keys.
-use Rattle.std.proofs.Common.{◌≡◌, ◌≢◌, ℕ, zero, suc, ◌+◌, ◌-◌, ◌<◌, ◌≤◌, inl, inr, Bool, true, false, cond, List, [], ◌∷◌, length, get_or, Option, Some, None, refl, sym, ap, ◌∙◌, subst, arith, Contains, Less, Equal}
+use Rattle.std.proofs.Common.{◌≡◌, ℕ, suc, ◌<◌, inl, inr, Bool, true, false, cond, List, [], length, Option, Some, None, refl, sym, ap, ◌∙◌, subst, arith, Contains, Less}
 use Rattle.std.specs.Prelude.{IsSomeAnd, Decides, MatchOption}
 use Rattle.std.specs.List.Sorted.{IsStrictlySortedBy}
 use Rattle.std.proofs.lemmas.Bool.{cases_eq, cases_lt}
-use Rattle.std.proofs.lemmas.Cmp.{nat_list_cmp_total, tied_itself}
-use Rattle.std.proofs.lemmas.Map.Keys.{Less-from_sorted}
 use Rattle.rn_pattern.specs.Tree.{Text, Tree}
 use Rattle.rn_pattern.specs.Order.{text_cmp}
 use Rattle.rn_pattern.specs.Matching.{Grammar, definition_of}
 use Rattle.rn_pattern.specs.Reached.{RefersTo, IsReached, by_start, by_definition}
-use Rattle.rn_pattern.specs.References.{RefersOutside, Reaches, by_one, by_more, LeadsTo, IsRecursive}
+use Rattle.rn_pattern.specs.References.{RefersOutside, by_one, by_more, LeadsTo, IsRecursive}
 use Rattle.rn_pattern.proofs.InOrder.{text_no_less}
 use Rattle.rn_assemble.specs.Graph.{row, is_marked, Reached, at_first, along}
 use Rattle.rn_assemble.specs.Order.{Leads, by_edge, and_edge, HasNoLoop, IsFirstLoop}
-use Rattle.rn_assemble.specs.Components.{Key, start_key, name_key, Component}
+use Rattle.rn_assemble.specs.Components.{name_key, Component}
 use Rattle.rn_assemble.specs.Combine.{joined, joined_grammar}
 use Rattle.rn_assemble.specs.Keyed.{IsNumber, key_at}
-use Rattle.rn_assemble.specs.Least.{IsLeast}
-use Rattle.rn_assemble.specs.Referred.{AreReferences, AreAllReferences, IsLeastRecursive}
+use Rattle.rn_assemble.specs.Referred.{AreAllReferences, IsLeastRecursive}
 use Rattle.rn_assemble.proofs.Numbers.{same_name, names_rise, not_itself, same_number}
 use Rattle.rn_assemble.proofs.FirstLoop.{source_within}
 use Rattle.rn_assemble.proofs.JoinedReferences.{refers_in_definition, definition_refers_to, outside_in_definition, definition_refers_outside, outside_anywhere}

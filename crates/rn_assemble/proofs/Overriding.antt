@@ -1,6 +1,6 @@
 -- Keys and their numbers, and what an include's own components override.
-use Rattle.std.proofs.Common.{◌≡◌, ◌≢◌, ℕ, zero, suc, ◌+◌, ◌<◌, ◌≤◌, Bool, true, false, cond, eqb, inl, inr, List, [], ◌∷◌, ◌++◌, length, get_or, take, drop, map, filter, refl, sym, ap, ◌∙◌, subst, arith, Less, Equal}
-use Rattle.std.specs.Prelude.{not, ◌==◌, ◌||◌, bytes_eq, slice_range}
+use Rattle.std.proofs.Common.{◌≡◌, ◌≢◌, ℕ, zero, suc, ◌<◌, Bool, true, false, cond, inl, inr, List, [], ◌∷◌, length, get_or, take, drop, map, refl, sym, ap, ◌∙◌, arith, Less, Equal}
+use Rattle.std.specs.Prelude.{not, ◌==◌, ◌||◌, slice_range}
 use Rattle.std.specs.List.{AllByRecursion, list_any}
 use Rattle.std.specs.List.Sorted.{IsStrictlySortedBy}
 use Rattle.std.proofs.lemmas.Bool.{cases_lt}
@@ -14,7 +14,7 @@ use Rattle.rn_pattern.specs.Order.{text_cmp}
 use Rattle.rn_syntax.specs.Tree.{Declaration}
 use Rattle.rn_assemble.specs.declared.contents.Component as code
 use Rattle.rn_assemble.specs.declared.components.Body.{Body}
-use Rattle.rn_assemble.specs.Components.{Component, Key, same_key, has_key, overridden}
+use Rattle.rn_assemble.specs.Components.{Component, same_key, has_key, overridden}
 use Rattle.rn_assemble.specs.Keyed.{key_at}
 use Rattle.rn_assemble.specs.Views.{IsNumbered, written_view}
 use Rattle.rn_assemble.specs.Listed.{IsBody, IsLive, Live, components_in, resolved_component}

@@ -1,5 +1,5 @@
 -- How the modules' contents and the components of a set lie in the code.
-use Rattle.std.specs.Prelude.{ℕ, suc, ◌+◌, ◌<◌, ◌≤◌, ◌≡◌, ◌==◌, List, [], ◌∷◌, ◌++◌, length, map, filter, slice_index_or, ⊤}
+use Rattle.std.specs.Prelude.{ℕ, suc, ◌<◌, ◌≤◌, ◌≡◌, ◌==◌, List, [], ◌∷◌, length, map, filter, slice_index_or, ⊤}
 use Rattle.std.specs.List.{AllByRecursion, AllZip}
 use Rattle.rn_pattern.specs.Tree.{Text}
 use Rattle.rn_syntax.specs.Tree.{Declaration}

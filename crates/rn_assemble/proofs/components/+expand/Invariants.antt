@@ -1,5 +1,5 @@
 -- What was added, and what is left to add.
-use Rattle.std.proofs.Common.{◌≡◌, ◌+◌, ◌-◌, ◌*◌, ◌<◌, ◌≤◌, List, length, drop}
+use Rattle.std.proofs.Common.{◌+◌, ◌-◌, ◌*◌, List, drop}
 use Rattle.rn_pattern.specs.Tree.{Text}
 use Rattle.rn_assemble.specs.Components.{Source}
 use Rattle.rn_assemble.specs.Contained.{AreFlat}

@@ -1,10 +1,10 @@
-use Rattle.std.proofs.Common.{◌≡◌, ◌+◌, ◌<◌, ◌≤◌, ◌++◌, ◌∷◌, append-nil, ℕ, List, [], length, get_or, take, refl, sym, ap, ◌∙◌, subst, arith}
+use Rattle.std.proofs.Common.{◌≡◌, ◌+◌, ◌<◌, ◌++◌, ◌∷◌, append-nil, ℕ, List, [], length, get_or, take, sym, ap, ◌∙◌, arith}
 use Rattle.std.specs.Prelude.{flat_map}
 use Rattle.std.proofs.lemmas.List.{map-append, take_all, take_more}
 use Rattle.std.proofs.lemmas.List.Concat.{flat_map-append}
 use Rattle.std.proofs.lemmas.List.Elements.{Contains-get_or}
 use Rattle.rn_assemble.specs.Components.{Component, components}
-use Rattle.rn_assemble.specs.Listed.{Live, components_in}
+use Rattle.rn_assemble.specs.Listed.{Live}
 use Rattle.rn_assemble.specs.Expanded.{name_at}
 use Rattle.rn_assemble.proofs.components.components_of.Goals as goal
 

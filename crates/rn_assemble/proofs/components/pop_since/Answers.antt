@@ -1,4 +1,4 @@
-use Rattle.std.proofs.Common.{◌≡◌, ◌+◌, ◌-◌, ◌<◌, ◌≤◌, ◌++◌, ℕ, List, length, get_or, take, sym, ap, ◌∙◌, subst, arith}
+use Rattle.std.proofs.Common.{◌≡◌, ◌-◌, ◌<◌, ◌≤◌, ℕ, List, length, get_or, take, sym, ap, subst, arith}
 use Rattle.rn_assemble.proofs.LiveLists.{stops_below, stops_empty, goes_below, popped}
 use Rattle.rn_assemble.proofs.components.pop_since.Goals as goal
 

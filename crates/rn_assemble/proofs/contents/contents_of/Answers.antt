@@ -1,4 +1,4 @@
-use Rattle.std.proofs.Common.{◌+◌, List, sym, ap, subst, take, arith}
+use Rattle.std.proofs.Common.{◌+◌, List, sym, subst, take, arith}
 use Rattle.std.proofs.lemmas.List.{take_all}
 use Rattle.std.specs.List.{AllZip}
 use Rattle.rn_assemble.specs.declared.modules.Source.{Source}

@@ -1,5 +1,5 @@
 -- The places of the key are looked at one after the other.
-use Rattle.std.proofs.Common.{length, ℕ, Vec, [], Some, None, ap, sym, ◌∙◌, subst, arith, refl}
+use Rattle.std.proofs.Common.{length, ℕ, Vec, ap, sym, ◌∙◌, subst, arith, refl}
 use Rattle.std.specs.declared.alloc.Global.{Global}
 use Rattle.rn_assemble.specs.Referred.{AreBodiesAt, IsLooked}
 use Rattle.rn_assemble.proofs.Looking.{Looking, looking_begins, looking_on, looking_at, looking_ends, looked_fresh, no_value}

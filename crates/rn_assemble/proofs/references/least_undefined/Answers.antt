@@ -1,5 +1,5 @@
 -- One name more.
-use Rattle.std.proofs.Common.{◌++◌, ap, ◌∙◌, sym, subst, arith, take, get_or, option_map, Some, Option, List, ◌∷◌, []}
+use Rattle.std.proofs.Common.{◌++◌, ap, ◌∙◌, sym, subst, arith, take, get_or, option_map, Some, Option, ◌∷◌, []}
 use Rattle.std.proofs.lemmas.List.{take_all}
 use Rattle.std.proofs.lemmas.Bool.Decides.{not_from_Decides}
 use Rattle.rn_pattern.specs.Tree.{Text}

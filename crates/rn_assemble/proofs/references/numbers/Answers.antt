@@ -1,6 +1,5 @@
 -- One name more.
-use Rattle.std.proofs.Common.{◌++◌, ◌∷◌, [], ap, ◌∙◌, sym, subst, arith, take, get_or, ℕ, Vec}
-use Rattle.std.proofs.lemmas.List.{take_all}
+use Rattle.std.proofs.Common.{◌++◌, ◌∷◌, [], ap, ◌∙◌, sym, subst, take, get_or, ℕ, Vec}
 use Rattle.std.specs.declared.alloc.Global.{Global}
 use Rattle.rn_assemble.specs.Referred.{AreNumbers}
 use Rattle.rn_assemble.specs.Views.{names_of, texts_of}

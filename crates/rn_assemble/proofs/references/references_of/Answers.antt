@@ -1,14 +1,12 @@
 -- Key by key.
-use Rattle.std.proofs.Common.{◌≡◌, ◌<◌, ◌+◌, ◌++◌, ℕ, suc, List, [], length, ap, ◌∙◌, sym, subst, arith, rules, Vec, Contains, None, Some, option_map, vec_len}
-use Rattle.std.specs.declared.alloc.Global.{Global}
+use Rattle.std.proofs.Common.{◌≡◌, ◌<◌, ◌++◌, suc, length, ap, ◌∙◌, sym, subst, arith, rules, None, Some, option_map}
 use Rattle.std.proofs.lemmas.List.{length_push, length-map}
 use Rattle.rn_pattern.specs.Reached.{RefersTo}
 use Rattle.rn_pattern.specs.Order.{text_cmp}
 use Rattle.rn_pattern.specs.References.{RefersOutside, IsUndefined}
 use Rattle.rn_assemble.specs.Least.{IsLeast}
-use Rattle.rn_assemble.specs.Combine.{joined, joined_grammar}
+use Rattle.rn_assemble.specs.Combine.{joined_grammar}
 use Rattle.rn_assemble.specs.Graph.{row, rows_of}
-use Rattle.rn_assemble.specs.Keyed.{key_at}
 use Rattle.rn_assemble.specs.Listed.{components_in}
 use Rattle.rn_assemble.specs.Referred.{AreBodiesAt, AreNumbers, IsLeastOf}
 use Rattle.rn_assemble.specs.Views.{names_of, texts_of}
