@@ -1,6 +1,11 @@
 // From a set to its grammar.
-ghost use Rattle.std.specs.Prelude.{IfErr, OnOk};
+ghost use Rattle.std.specs.Prelude.{IfErr, List, MatchResult, OnOk};
+ghost use Rattle.std.specs.List.Sorted.{IsStrictlySortedBy};
+ghost use Rattle.rn_pattern.specs.Order.{text_cmp};
 ghost use Rattle.rn_assemble.specs.Answers.{HasNoConflict, IsOfModules, IsRefusalOf};
+ghost use Rattle.rn_assemble.specs.Listed.{Lists, Live, components_in};
+ghost use Rattle.rn_assemble.specs.Methods.{CanCombine, IsUncombined};
+ghost use Rattle.rn_assemble.specs.Views.{module_names, names_of};
 
 use crate::combining::combined;
 use crate::components::{Components, components_of};
@@ -31,6 +36,7 @@ pub fn assemble(alloc: Global, set: &ModuleSet) -> Result<Grammar, Refusal>
 
 /// The grammar of the modules.
 fn assembled<'s>(alloc: Global, sources: &[Source<'s>]) -> Result<Grammar, Refusal>
+    requires { IsStrictlySortedBy text_cmp (module_names sources.now) }
     ensures { IfErr result IsOfModules }
 {
     let roots = included_roots(alloc, sources)?;
@@ -76,6 +82,19 @@ fn check_components(
             key: keys.key(alloc, lack.key)?,
         });
     }
+    check_methods(alloc, keys, components)
+}
+
+/// Refuses the least key with two plain components, the least with both methods, and components without a start.
+fn check_methods(
+    alloc: Global,
+    keys: &Keys<'_>,
+    components: &Components<'_, '_, '_>,
+) -> Result<(), Refusal>
+    ensures of_modules { IfErr result IsOfModules }
+    ensures exact { (live : List Live) → Lists (names_of keys.now) components.now live → IsStrictlySortedBy text_cmp (names_of keys.now)
+        → MatchResult result (λ _. CanCombine (components_in live)) (IsUncombined (components_in live)) }
+{
     if let Some(key) = components.least_plain_twice(keys.len()) {
         return Err(Refusal::PlainTwice {
             key: keys.key(alloc, key)?,

@@ -1,5 +1,13 @@
 // Definitions of one key combined (RELAX NG 2001, 4.17).
-ghost use Rattle.std.specs.Prelude.{◌≡◌, ◌+◌, vec_len, IfOk, IfErr};
+ghost use Rattle.std.specs.Prelude.{◌≡◌, ◌+◌, ◌<◌, List, Contains, Decides, false, length, vec_len, IfOk, IfErr};
+ghost use Rattle.std.specs.List.Sorted.{IsStrictlySortedBy};
+ghost use Rattle.std.specs.Option.{option_map_or};
+ghost use Rattle.rn_pattern.specs.Order.{text_cmp};
+ghost use Rattle.rn_pattern.specs.Tree.{Text};
+ghost use Rattle.rn_assemble.specs.Combine as spec;
+ghost use Rattle.rn_assemble.specs.Keyed.{key_at};
+ghost use Rattle.rn_assemble.specs.Listed.{Lists, Live, components_in};
+ghost use Rattle.rn_assemble.specs.Methods.{IsLeastNumber, is_method};
 ghost use Rattle.rn_assemble.specs.Answers.{IsOfModules};
 
 use crate::components::{Body, Components};
@@ -14,15 +22,20 @@ use std::rc::Rc;
 
 impl<'c, 't, 's> Components<'c, 't, 's> {
     /// The method of the component at that place.
-    fn method(&self, place: usize) -> Option<Method> {
+    fn method(&self, place: usize) -> Option<Method>
+        ensures { (names : List Text) (live : List Live) (e : Live) → Lists names self.now live → Contains live e → e.place ≡ place → result ≡ Some e.component.method }
+    {
         let body = self.body(self.body_at(place)?)?;
         Some(body.component.method)
     }
 
     /// Whether some component of the key uses the method.
-    fn uses(&self, key: usize, method: Method) -> bool {
+    fn uses(&self, key: usize, method: Method) -> bool
+        ensures { (names : List Text) (live : List Live) → Lists names self.now live → IsStrictlySortedBy text_cmp names → key < length names + 1
+            → result ≡ spec.uses (is_method method) (key_at names key) (components_in live) }
+    {
         for place in self.of_key(key) {
-            if self.method(*place) == Some(method) {
+            if is_found(self.method(*place), method) {
                 return true;
             }
         }
@@ -30,10 +43,13 @@ impl<'c, 't, 's> Components<'c, 't, 's> {
     }
 
     /// Whether two components of the key are plain.
-    fn is_plain_twice(&self, key: usize) -> bool {
+    fn is_plain_twice(&self, key: usize) -> bool
+        ensures { (names : List Text) (live : List Live) → Lists names self.now live → IsStrictlySortedBy text_cmp names → key < length names + 1
+            → Decides result (spec.IsPlainTwice (key_at names key) (components_in live)) }
+    {
         let mut is_plain = false;
         for place in self.of_key(key) {
-            if self.method(*place) == Some(Method::Plain) {
+            if is_found(self.method(*place), Method::Plain) {
                 if is_plain {
                     return true;
                 }
@@ -44,7 +60,10 @@ impl<'c, 't, 's> Components<'c, 't, 's> {
     }
 
     /// The least of that many keys with two plain components.
-    pub fn least_plain_twice(&self, keys: usize) -> Option<usize> {
+    pub fn least_plain_twice(&self, keys: usize) -> Option<usize>
+        ensures { (names : List Text) (live : List Live) → Lists names self.now live → IsStrictlySortedBy text_cmp names → keys ≡ length names + 1
+            → IsLeastNumber names (λ k. spec.IsPlainTwice k (components_in live)) result }
+    {
         for key in 0..keys {
             if self.is_plain_twice(key) {
                 return Some(key);
@@ -54,13 +73,27 @@ impl<'c, 't, 's> Components<'c, 't, 's> {
     }
 
     /// The least of that many keys whose components use both methods.
-    pub fn least_mixed(&self, keys: usize) -> Option<usize> {
+    pub fn least_mixed(&self, keys: usize) -> Option<usize>
+        ensures { (names : List Text) (live : List Live) → Lists names self.now live → IsStrictlySortedBy text_cmp names → keys ≡ length names + 1
+            → IsLeastNumber names (λ k. spec.IsMixed k (components_in live)) result }
+    {
         for key in 0..keys {
             if self.uses(key, Method::Choice) && self.uses(key, Method::Interleave) {
                 return Some(key);
             }
         }
         None
+    }
+}
+
+/// Whether the method was found.
+fn is_found(found: Option<Method>, method: Method) -> bool
+    ensures { result ≡ option_map_or (is_method method) found false }
+{
+    match method {
+        Method::Plain => matches!(found, Some(Method::Plain)),
+        Method::Choice => matches!(found, Some(Method::Choice)),
+        Method::Interleave => matches!(found, Some(Method::Interleave)),
     }
 }
 

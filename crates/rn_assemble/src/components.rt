@@ -1,17 +1,26 @@
 // The components of a set: includes replaced by what they include, without what they override.
-ghost use Rattle.std.specs.Prelude.{◌≡◌, vec_len};
+ghost use Rattle.std.specs.Prelude.{◌≡◌, ℕ, ◌+◌, ◌<◌, ◌≤◌, ◌==◌, not, List, [], ◌∷◌, ◌++◌, map, flat_map, filter, length, vec_len, slice_get, slice_index_or, slice_range, Contains, IfOk, IfSome, option_copied};
+ghost use Rattle.std.specs.List.{AllByRecursion};
+ghost use Rattle.rn_pattern.specs.Tree.{Text};
+ghost use Rattle.rn_syntax.specs.Tree.{Declaration};
+ghost use Rattle.rn_syntax.specs.View.{prefix_view};
+ghost use Rattle.rn_assemble.specs.Components as specs;
+ghost use Rattle.rn_assemble.specs.Expanded.{AddsLive, CanAdd, CanExpand, CanInclude, CanList, ContextsHold, Enters, Expands, IsItem, KeepsBodies, KeepsLists, included_in, IsListed, left_by, name_at};
+ghost use Rattle.rn_assemble.specs.Graph.{AllBelow, row, rows_of};
+ghost use Rattle.rn_assemble.specs.Listed.{IsBody, Lists, Live, Rises, resolved_component};
+ghost use Rattle.rn_assemble.specs.Views.{written_view};
 
 use crate::bindings::Scope;
-use crate::contents::{Component, Contents, Entry, Include};
+use crate::contents::{Component, Contents, Include};
 use crate::inclusion::INSTANCE_LIMIT;
-use indexmap::IndexMap;
 use std::alloc::{AllocError, Global};
 
-/// A module under the namespace that it inherits.
-#[derive(Clone, Copy, PartialEq, Eq, Hash)]
+/// A module under the namespace that it inherits, and the number of its first body there.
+#[derive(Clone, Copy)]
 struct Context<'t> {
     module: usize,
     inherited: &'t str,
+    first: usize,
 }
 
 /// A component in a context.
@@ -31,8 +40,8 @@ pub(crate) struct Lack {
 /// The components of a set in their order. Each is kept as the number of its body, which many of them share.
 #[derive(Drop)]
 pub(crate) struct Components<'c, 't, 's> {
-    /// The first body of each context.
-    contexts: IndexMap<Context<'t>, usize>,
+    /// The contexts that were met, no more than a set has instances.
+    contexts: Vec<Context<'t>>,
     bodies: Vec<Body<'c, 't, 's>>,
     /// The body of each component, also of those that an include has overridden.
     list: Vec<usize>,
@@ -48,17 +57,11 @@ pub(crate) fn components_of<'c, 't, 's>(
     contents: &'c [Contents<'t, 's>],
     roots: &[usize],
     keys: usize,
-) -> Result<Components<'c, 't, 's>, AllocError> {
-    let mut components = Components {
-        contexts: IndexMap::new(alloc),
-        bodies: Vec::new(alloc),
-        list: Vec::new(alloc),
-        places: Vec::new(alloc),
-        lack: None,
-    };
-    for _ in 0..keys {
-        components.places.push(Vec::new(alloc))?;
-    }
+) -> Result<Components<'c, 't, 's>, AllocError>
+    ensures { (modules : List specs.Source) (names : List Text) → CanList modules names contents.now → keys ≡ length names + 1 → AllBelow (length modules) roots.now
+        → IfOk result (λ components. IsListed names components (flat_map (λ r. specs.components modules (name_at modules r) []) roots.now)) }
+{
+    let mut components = Components::new(alloc, keys)?;
     for root in roots {
         expand(&mut components, contents, *root, "", INSTANCE_LIMIT + 1)?;
     }
@@ -66,13 +69,17 @@ pub(crate) fn components_of<'c, 't, 's>(
 }
 
 /// Adds the components of a module, with includes followed fewer than `depth` times one inside the other.
+#[cycle(expand)]
 fn expand<'c, 't, 's>(
     components: &mut Components<'c, 't, 's>,
     contents: &'c [Contents<'t, 's>],
     module: usize,
     inherited: &'t str,
     depth: usize,
-) -> Result<(), AllocError> {
+) -> Result<(), AllocError>
+    ensures { (modules : List specs.Source) (names : List Text) (live : List Live) → CanExpand modules names contents.now components.old live → «module» < length modules
+        → IfOk result (λ _. Expands names contents.now components.old components.new live (specs.components_within depth modules (name_at modules «module») inherited.now)) }
+{
     if depth == 0 {
         return Ok(());
     }
@@ -84,94 +91,176 @@ fn expand<'c, 't, 's>(
         inherited,
     };
     let first = components.enter(content, module, scope)?;
-    for entry in &content.entries {
-        match entry {
-            Entry::Component(number) => components.add(content, first, *number)?,
-            Entry::Include(include) => {
-                let before = components.list.len();
-                expand(
-                    components,
-                    contents,
-                    include.module,
-                    scope.handed_on(include.inherit),
-                    depth - 1,
-                )?;
-                components.override_since(before, module, content, include);
-                components.add_own(content, first, include)?;
-            }
-        }
+    let mut next = 0;
+    'includes: for include in &content.includes {
+        components.add(content, first, next, include.from)?;
+        expand_include(
+            components,
+            contents,
+            content,
+            module,
+            scope,
+            include,
+            depth - 1,
+        )?;
+        next = include.from;
     }
+    components.add(content, first, next, content.components.len())
+}
+
+/// Adds the components of an included module without those that the include's own components override.
+#[cycle(expand)]
+fn expand_include<'c, 't, 's>(
+    components: &mut Components<'c, 't, 's>,
+    contents: &'c [Contents<'t, 's>],
+    content: &Contents<'t, 's>,
+    module: usize,
+    scope: Scope<'c, 't>,
+    include: &Include<'t>,
+    depth: usize,
+) -> Result<(), AllocError>
+    ensures { (modules : List specs.Source) (names : List Text) (live : List Live) (ds : List Declaration) → CanExpand modules names contents.now components.old live → CanInclude modules names content.now include.now ds
+        → scope.entry.bindings.now ≡ content.now.bindings
+        → IfOk result (λ _. Expands names contents.now components.old components.new live (specs.overridden
+        (included_in depth modules include.now.«module» (specs.handed_on scope.entry.inherited.now ds (prefix_view include.now.inherit)))
+        (map (resolved_component scope.entry.inherited.now ds) (slice_range (map (written_view names) content.now.components.items) include.now.from include.now.to)))) }
+{
+    let before = components.list.len();
+    if let Some(included) = include.module {
+        let inherited = scope.handed_on(include.inherit);
+        expand(components, contents, included, inherited, depth)?;
+    }
+    components.note_lacks(before, module, content, include);
+    components.take_out(before, content, include);
     Ok(())
 }
 
 impl<'c, 't, 's> Components<'c, 't, 's> {
+    /// No components, of that many keys.
+    fn new(alloc: Global, keys: usize) -> Result<Components<'c, 't, 's>, AllocError>
+        ensures contexts { IfOk result (λ components. components.contexts.items ≡ []) }
+        ensures lists { (names : List Text) → keys ≡ length names + 1 → IfOk result (λ components. Lists names components []) }
+    {
+        let mut places = Vec::new(alloc);
+        for _ in 0..keys {
+            places.push(Vec::new(alloc))?;
+        }
+        Ok(Components {
+            contexts: Vec::new(alloc),
+            bodies: Vec::new(alloc),
+            list: Vec::new(alloc),
+            places,
+            lack: None,
+        })
+    }
+
     /// The number of the first body of a module in this context. The bodies are made when it is met first.
     fn enter(
         &mut self,
         content: &'c Contents<'t, 's>,
         module: usize,
         scope: Scope<'c, 't>,
-    ) -> Result<usize, AllocError> {
-        let context = Context {
-            module,
-            inherited: scope.inherited,
-        };
-        if let Some(first) = self.contexts.get(&context) {
-            return Ok(*first);
+    ) -> Result<usize, AllocError>
+        ensures kept { KeepsLists self.old self.new }
+        ensures entered { (contents : List Contents) → ContextsHold contents self.old → IsItem contents «module» content.now → scope.entry.bindings.now ≡ content.now.bindings
+            → IfOk result (λ first. Enters contents self.old self.new first content.now scope.entry.inherited.now) }
+    {
+        if let Some(first) = self.first_body(module, scope.inherited) {
+            return Ok(first);
         }
         let first = self.bodies.len();
+        self.make_bodies(content, scope)?;
+        self.contexts.push(Context {
+            module,
+            inherited: scope.inherited,
+            first,
+        })?;
+        Ok(first)
+    }
+
+    /// The number of the first body of a context that was met.
+    fn first_body(&self, module: usize, inherited: &str) -> Option<usize>
+        ensures { IfSome result (λ first. (q : Context) × Contains self.now.contexts.items q × (q.module ≡ «module») × (q.inherited.now ≡ inherited.now) × (q.first ≡ first)) }
+    {
+        for context in &self.contexts {
+            if context.module == module && context.inherited == inherited {
+                return Some(context.first);
+            }
+        }
+        None
+    }
+
+    /// Adds the bodies of a module in a scope.
+    fn make_bodies(
+        &mut self,
+        content: &'c Contents<'t, 's>,
+        scope: Scope<'c, 't>,
+    ) -> Result<(), AllocError>
+        ensures kept { KeepsLists self.old self.new }
+        ensures contexts { self.new.contexts ≡ self.old.contexts }
+        ensures made { IfOk result (λ _. self.new.bodies.items ≡ self.old.bodies.items ++ map (λ c. record { component = c; scope = scope.entry }) content.now.components.items) }
+    {
         for component in &content.components {
             self.bodies.push(Body {
                 component: *component,
                 scope,
             })?;
         }
-        self.contexts.insert(context, first)?;
-        Ok(first)
+        Ok(())
     }
 
-    /// Adds the component of that number.
+    /// Adds the components of those numbers.
     fn add(
         &mut self,
         content: &Contents<'t, 's>,
         first: usize,
-        number: usize,
-    ) -> Result<(), AllocError> {
-        let (Some(component), Some(body)) = (
-            content.components.get(number),
-            first.checked_add(number),
-        ) else {
-            return Ok(());
-        };
+        from: usize,
+        to: usize,
+    ) -> Result<(), AllocError>
+        ensures kept { KeepsBodies self.old self.new }
+        ensures added { (names : List Text) (live : List Live) (inherited : Text) (ds : List Declaration) → CanAdd names self.old live content.now first inherited ds from to
+            → IfOk result (λ _. AddsLive names self.old self.new live (map (resolved_component inherited ds) (slice_range (map (written_view names) content.now.components.items) from to))) }
+    {
+        for number in from..to {
+            let Some(component) = content.components.get(number) else {
+                return Ok(());
+            };
+            let Some(body) = first.checked_add(number) else {
+                return Ok(());
+            };
+            self.place(component.key, body)?;
+        }
+        Ok(())
+    }
+
+    /// Adds the component of a key with this body.
+    fn place(&mut self, key: usize, body: usize) -> Result<(), AllocError>
+        ensures kept { KeepsBodies self.old self.new }
+        ensures placed { (names : List Text) (live : List Live) (c : specs.Component) → Lists names self.old live → body < length self.old.bodies.items
+            → ((d : Body) → IsBody names (slice_index_or self.old.bodies.items body d) key c)
+            → IfOk result (λ _. Lists names self.new (live ++ record { place = length self.old.list.items; key = key; component = c } ∷ [])) }
+        ensures longer { IfOk result (λ _. length self.new.list.items ≡ length self.old.list.items + 1) }
+    {
         let place = self.list.len();
         self.list.push(body)?;
-        if component.key < self.places.len() {
-            self.places[component.key].push(place)?;
+        if key < self.places.len() {
+            self.places[key].push(place)?;
         }
         Ok(())
     }
 
-    /// Adds an include's own components.
-    fn add_own(
-        &mut self,
-        content: &Contents<'t, 's>,
-        first: usize,
-        include: &Include<'t>,
-    ) -> Result<(), AllocError> {
-        for number in include.from..include.to {
-            self.add(content, first, number)?;
-        }
-        Ok(())
-    }
-
-    /// Takes out the components added since a place whose keys the include's own components have.
-    fn override_since(
+    /// Notes the keys of the include's own components of which no component was added since a place.
+    fn note_lacks(
         &mut self,
         before: usize,
         module: usize,
         content: &Contents<'t, 's>,
         include: &Include<'t>,
-    ) {
+    )
+        ensures kept { KeepsBodies self.old self.new }
+        ensures list { self.new.list ≡ self.old.list }
+        ensures places { self.new.places ≡ self.old.places }
+    {
         for number in include.from..include.to {
             if let Some(component) = content.components.get(number) {
                 let key = component.key;
@@ -180,6 +269,16 @@ impl<'c, 't, 's> Components<'c, 't, 's> {
                 }
             }
         }
+    }
+
+    /// Takes out the components added since a place whose keys the include's own components have.
+    fn take_out(&mut self, before: usize, content: &Contents<'t, 's>, include: &Include<'t>)
+        ensures kept { KeepsBodies self.old self.new }
+        ensures list { self.new.list ≡ self.old.list }
+        ensures taken { (names : List Text) (live added : List Live) → Lists names self.old (live ++ added) → AllByRecursion (λ (e : Live). e.place < before) live → Rises before added
+            → include.now.from ≤ include.now.to → include.now.to ≤ length content.now.components.items
+            → Lists names self.new (live ++ left_by (slice_range content.now.components.items include.now.from include.now.to) added) }
+    {
         for number in include.from..include.to {
             if let Some(component) = content.components.get(number) {
                 self.take_out_since(before, component.key);
@@ -188,7 +287,9 @@ impl<'c, 't, 's> Components<'c, 't, 's> {
     }
 
     /// The places of the components of a key.
-    pub fn of_key(&self, key: usize) -> &[usize] {
+    pub fn of_key(&self, key: usize) -> &[usize]
+        ensures { result.now ≡ row (rows_of self.now.places.items) key }
+    {
         match self.places.get(key) {
             Some(places) => places.as_slice(),
             None => &[],
@@ -204,7 +305,12 @@ impl<'c, 't, 's> Components<'c, 't, 's> {
     }
 
     /// Takes out the components of a key that were added since a place.
-    fn take_out_since(&mut self, before: usize, key: usize) {
+    fn take_out_since(&mut self, before: usize, key: usize)
+        ensures kept { KeepsBodies self.old self.new }
+        ensures list { self.new.list ≡ self.old.list }
+        ensures taken { (names : List Text) (live added : List Live) → Lists names self.old (live ++ added) → AllByRecursion (λ (e : Live). e.place < before) live → Rises before added
+            → Lists names self.new (live ++ filter (λ (e : Live). not (e.key == key)) added) }
+    {
         if key < self.places.len() {
             pop_since(&mut self.places[key], before);
         }
@@ -218,17 +324,25 @@ impl<'c, 't, 's> Components<'c, 't, 's> {
     }
 
     /// The body of that number.
-    pub fn body(&self, number: usize) -> Option<&Body<'c, 't, 's>> {
+    pub fn body(&self, number: usize) -> Option<&Body<'c, 't, 's>>
+        ensures { option_copied result ≡ slice_get self.now.bodies.items number }
+    {
         self.bodies.get(number)
     }
 
     /// The number of the body of the component at that place.
-    pub fn body_at(&self, place: usize) -> Option<usize> {
+    pub fn body_at(&self, place: usize) -> Option<usize>
+        ensures { result ≡ slice_get self.now.list.items place }
+    {
         self.list.get(place).copied()
     }
 
     /// Keeps the least lack.
-    fn note_lack(&mut self, lack: Lack) {
+    fn note_lack(&mut self, lack: Lack)
+        ensures kept { KeepsBodies self.old self.new }
+        ensures list { self.new.list ≡ self.old.list }
+        ensures places { self.new.places ≡ self.old.places }
+    {
         match &self.lack {
             Some(held) if *held <= lack => {}
             _ => self.lack = Some(lack),
@@ -237,7 +351,9 @@ impl<'c, 't, 's> Components<'c, 't, 's> {
 }
 
 /// Takes out the places from a place on, at the end of a list that rises.
-fn pop_since(places: &mut Vec<usize>, before: usize) {
+fn pop_since(places: &mut Vec<usize>, before: usize)
+    ensures { (xs ys : List ℕ) → places.old.items ≡ xs ++ ys → AllByRecursion (λ x. x < before) xs → AllByRecursion (λ y. before ≤ y) ys → places.new.items ≡ xs }
+{
     while let Some(place) = places.last() {
         if *place < before {
             break;

@@ -1,4 +1,14 @@
 // What a module consists of, with each div replaced by its children.
+ghost use Rattle.std.specs.Prelude.{◌≡◌, ◌+◌, ◌<◌, ◌++◌, ◌∷◌, [], map, length, vec_len, Contains, IfOk};
+ghost use Rattle.std.specs.List.{AllByRecursion};
+ghost use Rattle.std.specs.List.Sorted.{IsStrictlySortedBy};
+ghost use Rattle.rn_pattern.specs.Order.{text_cmp};
+ghost use Rattle.rn_syntax.specs.View.{item_view, items_view, pattern_view, prefix_view};
+ghost use Rattle.rn_assemble.specs.Contained.{Inclusion, Written, item_inclusions, inclusions, item_written, written};
+ghost use Rattle.rn_assemble.specs.Keyed.{AreNames, item_defines, defines, key_at};
+ghost use Rattle.rn_assemble.specs.Listed.{AreContents, IsContents};
+ghost use Rattle.rn_assemble.specs.Views.{Adds, inclusion_view, module_names, names_of, source_view, sources_view, written_view};
+
 use crate::bindings::Bindings;
 use crate::inclusion::module_named;
 use crate::keys::{Keys, START};
@@ -14,28 +24,22 @@ pub(crate) struct Component<'t, 's> {
     pub body: &'t Pat<'s>,
 }
 
-/// An include: the module's number, and its own components as numbers among those of the including module.
+/// An include: the number of the module that it names, if there is one, and its own components as numbers among those of
+/// the including module.
 #[derive(Clone, Copy)]
 pub(crate) struct Include<'t> {
-    pub module: usize,
+    pub module: Option<usize>,
     pub inherit: Option<Prefix<'t>>,
     pub from: usize,
     pub to: usize,
 }
 
-/// A component, by its number among those of the module, or an include.
-#[derive(Clone, Copy)]
-pub(crate) enum Entry<'t> {
-    Component(usize),
-    Include(Include<'t>),
-}
-
-/// The entries of a module in the order of the text, its components, and what its declarations bind.
+/// What a module's declarations bind, its components and its includes, in the order of the text.
 #[derive(Drop)]
 pub(crate) struct Contents<'t, 's> {
     pub bindings: Bindings<'t>,
     pub components: Vec<Component<'t, 's>>,
-    pub entries: Vec<Entry<'t>>,
+    pub includes: Vec<Include<'t>>,
 }
 
 /// The contents of each module.
@@ -43,100 +47,129 @@ pub(crate) fn contents_of<'t, 's>(
     alloc: Global,
     sources: &'t [Source<'s>],
     keys: &Keys<'s>,
-) -> Result<Vec<Contents<'t, 's>>, AllocError> {
+) -> Result<Vec<Contents<'t, 's>>, AllocError>
+    requires modules_in_order { IsStrictlySortedBy text_cmp (module_names sources.now) }
+    requires names { AreNames (sources_view sources.now) (names_of keys.now) }
+    ensures { IfOk result (λ all. AreContents (sources_view sources.now) (names_of keys.now) all.items) }
+{
     let mut all = Vec::new(alloc);
     for source in sources {
-        let mut contents = Contents {
-            bindings: Bindings::new(alloc, source.tree.decls.as_slice())?,
-            components: Vec::new(alloc),
-            entries: Vec::new(alloc),
-        };
-        gather(&mut contents, sources, keys, source.tree.items.as_slice())?;
-        all.push(contents)?;
+        all.push(contents_of_module(alloc, sources, keys, source)?)?;
     }
     Ok(all)
 }
 
-/// Adds the items' entries.
+/// The contents of a module.
+fn contents_of_module<'t, 's>(
+    alloc: Global,
+    sources: &[Source<'s>],
+    keys: &Keys<'s>,
+    source: &'t Source<'s>,
+) -> Result<Contents<'t, 's>, AllocError>
+    requires keys_in_order { IsStrictlySortedBy text_cmp (names_of keys.now) }
+    requires defined { AllByRecursion (Contains (names_of keys.now)) (defines (items_view source.now.tree.items.items)) }
+    requires modules_in_order { IsStrictlySortedBy text_cmp (module_names sources.now) }
+    ensures { IfOk result (λ c. IsContents (sources_view sources.now) (names_of keys.now) (source_view source.now) c) }
+{
+    let mut contents = Contents {
+        bindings: Bindings::new(alloc, source.tree.decls.as_slice())?,
+        components: Vec::new(alloc),
+        includes: Vec::new(alloc),
+    };
+    gather(&mut contents, sources, keys, &source.tree.items)?;
+    Ok(contents)
+}
+
+/// Adds what the items consist of.
+#[cycle(gather)]
 fn gather<'t, 's>(
     contents: &mut Contents<'t, 's>,
     sources: &[Source<'s>],
     keys: &Keys<'s>,
     items: &'t [Item<'s>],
-) -> Result<(), AllocError> {
-    for item in items {
-        match item {
-            Item::Define { name, method, body } => {
-                contents
-                    .entries
-                    .push(Entry::Component(contents.components.len()))?;
-                contents.components.push(Component {
-                    key: keys.number(name),
-                    method: *method,
-                    body,
-                })?;
-            }
-            Item::Start { method, body } => {
-                contents
-                    .entries
-                    .push(Entry::Component(contents.components.len()))?;
-                contents.components.push(Component {
-                    key: START,
-                    method: *method,
-                    body,
-                })?;
-            }
-            Item::Div(items) => gather(contents, sources, keys, items.as_slice())?,
-            Item::Include {
-                wanted,
-                inherit,
-                items,
-            } => {
-                let from = contents.components.len();
-                gather_own(&mut contents.components, keys, items.as_slice())?;
-                if let Some(module) = module_named(sources, wanted) {
-                    contents.entries.push(Entry::Include(Include {
-                        module,
-                        inherit: *inherit,
-                        from,
-                        to: contents.components.len(),
-                    }))?;
-                }
-            }
-        }
+) -> Result<(), AllocError>
+    requires keys_in_order { IsStrictlySortedBy text_cmp (names_of keys.now) }
+    requires modules_in_order { IsStrictlySortedBy text_cmp (module_names sources.now) }
+    ensures bindings { contents.new.bindings ≡ contents.old.bindings }
+    ensures components { AllByRecursion (Contains (names_of keys.now)) (defines (items_view items.now)) → IfOk result (λ _. Adds (names_of keys.now) contents.old.components.items contents.new.components.items (written (items_view items.now))) }
+    ensures more { IfOk result (λ _. length contents.new.components.items ≡ length contents.old.components.items + length (written (items_view items.now))) }
+    ensures includes { IfOk result (λ _. map inclusion_view contents.new.includes.items ≡ map inclusion_view contents.old.includes.items ++ inclusions (sources_view sources.now) (length contents.old.components.items) (items_view items.now)) }
+{
+    'items: for item in items {
+        gather_item(contents, sources, keys, item)?;
     }
     Ok(())
 }
 
-/// Adds the components of an include's own items, among which there is no include.
-fn gather_own<'t, 's>(
-    components: &mut Vec<Component<'t, 's>>,
+/// Adds what the item consists of.
+#[cycle(gather)]
+fn gather_item<'t, 's>(
+    contents: &mut Contents<'t, 's>,
+    sources: &[Source<'s>],
     keys: &Keys<'s>,
-    items: &'t [Item<'s>],
-) -> Result<(), AllocError> {
-    for item in items {
-        match item {
-            Item::Define { name, method, body } => {
-                components.push(Component {
-                    key: keys.number(name),
-                    method: *method,
-                    body,
-                })?;
-            }
-            Item::Start { method, body } => {
-                components.push(Component {
-                    key: START,
-                    method: *method,
-                    body,
-                })?;
-            }
-            Item::Div(items) => gather_own(components, keys, items.as_slice())?,
-            Item::Include {
-                wanted: _,
-                inherit: _,
-                items: _,
-            } => {}
+    item: &'t Item<'s>,
+) -> Result<(), AllocError>
+    requires keys_in_order { IsStrictlySortedBy text_cmp (names_of keys.now) }
+    requires modules_in_order { IsStrictlySortedBy text_cmp (module_names sources.now) }
+    ensures bindings { contents.new.bindings ≡ contents.old.bindings }
+    ensures components { AllByRecursion (Contains (names_of keys.now)) (item_defines (item_view item.now)) → IfOk result (λ _. Adds (names_of keys.now) contents.old.components.items contents.new.components.items (item_written (item_view item.now))) }
+    ensures more { IfOk result (λ _. length contents.new.components.items ≡ length contents.old.components.items + length (item_written (item_view item.now))) }
+    ensures includes { IfOk result (λ _. map inclusion_view contents.new.includes.items ≡ map inclusion_view contents.old.includes.items ++ item_inclusions (sources_view sources.now) (length contents.old.components.items) (item_view item.now)) }
+{
+    match item {
+        Item::Define { name, method, body } => {
+            let key = keys.number(name);
+            push_component(contents, keys, key, *method, body)
+        }
+        Item::Start { method, body } => push_component(contents, keys, START, *method, body),
+        Item::Div(items) => gather(contents, sources, keys, items),
+        Item::Include {
+            wanted,
+            inherit,
+            items,
+        } => {
+            let from = contents.components.len();
+            gather(contents, sources, keys, items)?;
+            let module = module_named(sources, wanted);
+            push_include(contents, module, *inherit, from)
         }
     }
+}
+
+/// Adds a component.
+fn push_component<'t, 's>(
+    contents: &mut Contents<'t, 's>,
+    keys: &Keys<'s>,
+    key: usize,
+    method: Method,
+    body: &'t Pat<'s>,
+) -> Result<(), AllocError>
+    ensures bindings { contents.new.bindings ≡ contents.old.bindings }
+    ensures components { key < length (names_of keys.now) + 1 → IfOk result (λ _. Adds (names_of keys.now) contents.old.components.items contents.new.components.items (record { key = key_at (names_of keys.now) key; method = method; pattern = pattern_view body.now } ∷ [])) }
+    ensures more { IfOk result (λ _. length contents.new.components.items ≡ length contents.old.components.items + 1) }
+    ensures includes { contents.new.includes.items ≡ contents.old.includes.items }
+{
+    contents.components.push(Component { key, method, body })?;
+    Ok(())
+}
+
+/// Adds an include, whose own components are those from a number on.
+fn push_include<'t, 's>(
+    contents: &mut Contents<'t, 's>,
+    module: Option<usize>,
+    inherit: Option<Prefix<'t>>,
+    from: usize,
+) -> Result<(), AllocError>
+    ensures bindings { contents.new.bindings ≡ contents.old.bindings }
+    ensures components { contents.new.components.items ≡ contents.old.components.items }
+    ensures includes { IfOk result (λ _. map inclusion_view contents.new.includes.items ≡ map inclusion_view contents.old.includes.items ++ record { module_at = «module»; inherit = prefix_view inherit.entry; first = from; end = length contents.old.components.items } ∷ []) }
+{
+    let to = contents.components.len();
+    contents.includes.push(Include {
+        module,
+        inherit,
+        from,
+        to,
+    })?;
     Ok(())
 }

@@ -1,7 +1,11 @@
 // Which modules include which, and what stands against it.
 ghost use Rattle.std.specs.Prelude.{◌≡◌, ◌<◌, length, vec_len, IfSome, IfOk, IfErr};
+ghost use Rattle.std.specs.List.Sorted.{IsStrictlySortedBy};
+ghost use Rattle.rn_pattern.specs.Order.{text_cmp};
 ghost use Rattle.rn_assemble.specs.Answers.{IsOfModules};
+ghost use Rattle.rn_assemble.specs.Contained.{place_in};
 ghost use Rattle.rn_assemble.specs.Graph.{AllBelow, IsGraph, rows_of};
+ghost use Rattle.rn_assemble.specs.Views.{module_names, sources_view};
 
 use crate::graph::row_at;
 use crate::instances::instances_up_to;
@@ -9,17 +13,20 @@ use crate::modules::Source;
 use crate::refusal::Refusal;
 use rn_syntax::includes;
 use std::alloc::{AllocError, Global};
+use std::cmp::Ordering;
 
 /// The most instances of modules that a set has.
 pub(crate) const INSTANCE_LIMIT: usize = 512;
 
 /// The number of the module of that name.
 pub(crate) fn module_named(sources: &[Source<'_>], name: &str) -> Option<usize>
-    ensures { IfSome result (λ m. m < length sources.now) }
+    ensures within { IfSome result (λ m. m < length sources.now) }
+    ensures place { IsStrictlySortedBy text_cmp (module_names sources.now) → result ≡ place_in (sources_view sources.now) name.now }
 {
-    sources
-        .binary_search_by(|source| source.name.cmp(name))
-        .ok()
+    let compare = |source: &Source<'_>| -> Ordering
+        ensures { result ≡ text_cmp source.now.name.now name.entry.now }
+    { source.name.cmp(name) };
+    sources.binary_search_by(compare).ok()
 }
 
 /// For each module, the modules that its includes name. `Missing` names the least module with an include of none, and

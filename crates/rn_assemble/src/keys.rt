@@ -1,5 +1,10 @@
 // The keys of all components, numbered in their order.
-ghost use Rattle.std.specs.Prelude.{◌≡◌, ◌+◌, ◌<◌, ◌≤◌, vec_len, IfSome};
+ghost use Rattle.std.specs.Prelude.{◌≡◌, ◌+◌, ◌-◌, ◌<◌, ◌≤◌, ◌++◌, [], map, length, vec_len, slice_index_or, Contains, IfOk, IfSome};
+ghost use Rattle.std.specs.List.Sorted.{IsStrictlySortedBy};
+ghost use Rattle.rn_pattern.specs.Order.{text_cmp};
+ghost use Rattle.rn_syntax.specs.View.{item_view, items_view};
+ghost use Rattle.rn_assemble.specs.Keyed.{item_defines, defines, AreNames, IsFound, IsNumber, key_at};
+ghost use Rattle.rn_assemble.specs.Views.{key_view, names_of, sources_view, texts_of};
 
 use crate::modules::Source;
 use crate::refusal::Key;
@@ -17,10 +22,12 @@ pub(crate) struct Keys<'s> {
 
 impl<'s> Keys<'s> {
     /// The keys of these modules.
-    pub fn new(alloc: Global, sources: &[Source<'s>]) -> Result<Keys<'s>, AllocError> {
+    pub fn new(alloc: Global, sources: &[Source<'s>]) -> Result<Keys<'s>, AllocError>
+        ensures { IfOk result (λ keys. AreNames (sources_view sources.now) (names_of keys)) }
+    {
         let mut names = Vec::new(alloc);
         for source in sources {
-            define(source.tree.items.as_slice(), &mut names)?;
+            push_names(&source.tree.items, &mut names)?;
         }
         names.sort()?;
         names.dedup();
@@ -35,7 +42,9 @@ impl<'s> Keys<'s> {
     }
 
     /// The number of a name that a module defines.
-    pub fn number(&self, name: &'s str) -> usize {
+    pub fn number(&self, name: &'s str) -> usize
+        ensures { IsStrictlySortedBy text_cmp (names_of self.now) → Contains (names_of self.now) name.now → IsNumber (names_of self.now) name.now result }
+    {
         match self.names.binary_search(&name) {
             Ok(at) | Err(at) => at + 1,
         }
@@ -43,7 +52,8 @@ impl<'s> Keys<'s> {
 
     /// The number of a name, if a module defines it.
     pub fn find(&self, name: &'s str) -> Option<usize>
-        ensures { IfSome result (λ key. (0 < key) × (key < vec_len self.now.names + 1)) }
+        ensures within { IfSome result (λ key. (0 < key) × (key < vec_len self.now.names + 1)) }
+        ensures found { IsStrictlySortedBy text_cmp (names_of self.now) → IsFound (names_of self.now) name.now result }
     {
         match self.names.binary_search(&name) {
             Ok(at) => Some(at + 1),
@@ -52,7 +62,9 @@ impl<'s> Keys<'s> {
     }
 
     /// The name of that number.
-    pub fn name(&self, number: usize) -> &'s str {
+    pub fn name(&self, number: usize) -> &'s str
+        ensures { 0 < number → number < vec_len self.now.names + 1 → result.now ≡ slice_index_or (names_of self.now) (number - 1) [] }
+    {
         match number.checked_sub(1) {
             Some(at) if at < self.names.len() => self.names[at],
             _ => "",
@@ -60,7 +72,9 @@ impl<'s> Keys<'s> {
     }
 
     /// The key of that number.
-    pub fn key(&self, alloc: Global, number: usize) -> Result<Key, AllocError> {
+    pub fn key(&self, alloc: Global, number: usize) -> Result<Key, AllocError>
+        ensures { number < vec_len self.now.names + 1 → IfOk result (λ key. key_view key ≡ key_at (names_of self.now) number) }
+    {
         if number == START {
             return Ok(Key::Start);
         }
@@ -68,23 +82,28 @@ impl<'s> Keys<'s> {
     }
 }
 
-/// Adds the names that the items define.
-fn define<'s>(items: &[Item<'s>], names: &mut Vec<&'s str>) -> Result<(), AllocError> {
-    for item in items {
-        match item {
-            Item::Define {
-                name,
-                method: _,
-                body: _,
-            } => names.push(*name)?,
-            Item::Start { method: _, body: _ } => {}
-            Item::Div(items) => define(items.as_slice(), names)?,
-            Item::Include {
-                wanted: _,
-                inherit: _,
-                items,
-            } => define(items.as_slice(), names)?,
-        }
+/// Appends the names that the items define.
+#[cycle(names)]
+fn push_names<'s>(items: &[Item<'s>], names: &mut Vec<&'s str>) -> Result<(), AllocError>
+    ensures { IfOk result (λ _. texts_of names.new.items ≡ texts_of names.old.items ++ defines (items_view items.now)) }
+{
+    'items: for item in items {
+        push_item_names(item, names)?;
     }
     Ok(())
+}
+
+/// Appends the names that the item defines.
+#[cycle(names)]
+fn push_item_names<'s>(item: &Item<'s>, names: &mut Vec<&'s str>) -> Result<(), AllocError>
+    ensures { IfOk result (λ _. texts_of names.new.items ≡ texts_of names.old.items ++ item_defines (item_view item.now)) }
+{
+    match item {
+        Item::Define { name, .. } => {
+            names.push(*name)?;
+            Ok(())
+        }
+        Item::Start { .. } => Ok(()),
+        Item::Div(items) | Item::Include { items, .. } => push_names(items, names),
+    }
 }

@@ -7,8 +7,6 @@ ghost use Rattle.rn_pattern.specs.Datatype.{Table};
 ghost use Rattle.rn_pattern.specs.Excepts.{HasExcepts};
 ghost use Rattle.rn_pattern.specs.Matching.{Grammar, definition_of, IsValid};
 ghost use Rattle.rn_modset.specs.Contributions.{Member};
-ghost use Rattle.rn_syntax.specs.Fault.{HasTree};
-ghost use Rattle.rn_syntax.specs.Grammar.{Tokens};
 ghost use Rattle.rn_syntax.specs.Places.{except_places};
 ghost use Rattle.rn_syntax.specs.Tree.{Module};
 ghost use Rattle.rn_assemble.specs.Components.{Key, Component, Source, components_within, instances_within, set_components};
@@ -44,11 +42,6 @@ pub fn plain_components_are_joined()
 pub fn includes_end()
     ensures same_instances { (modules : List Source) (more depth : ℕ) (x : Text) → instances_within depth modules x ≤ depth → instances_within (depth + more) modules x ≡ instances_within depth modules x }
     ensures same_components { (modules : List Source) (more depth : ℕ) (x inherited : Text) → instances_within depth modules x ≤ depth → components_within (depth + more) modules x inherited ≡ components_within depth modules x inherited }
-{}
-
-/// Tokens are one module at most: the grammar of the compact syntax is unambiguous, places included.
-pub fn one_module_tree()
-    ensures { (ts : Tokens) (m n : Module) → HasTree ts m → HasTree ts n → m ≡ n }
 {}
 
 /// A set has one first refusal at most, with all its fields, and one grammar at most; so have its modules.

@@ -1,6 +1,9 @@
 // The effective modules of a set, read.
-ghost use Rattle.std.specs.Prelude.{IfErr, OnOk};
+ghost use Rattle.std.specs.Prelude.{IfErr, IfOk, OnOk};
+ghost use Rattle.std.specs.List.Sorted.{IsStrictlySortedBy};
+ghost use Rattle.rn_pattern.specs.Order.{text_cmp};
 ghost use Rattle.rn_assemble.specs.Answers.{HasNoConflict, IsOfModules, IsRefusalOf};
+ghost use Rattle.rn_assemble.specs.Views.{module_names};
 
 use crate::refusal::Refusal;
 use rn_modset::ModuleSet;
@@ -19,6 +22,7 @@ pub(crate) struct Source<'a> {
 #[tactic(auto, using(crate::proofs::Refused::refused))]
 pub(crate) fn sources<'a>(alloc: Global, set: &'a ModuleSet) -> Result<Vec<Source<'a>>, Refusal>
     ensures ok { OnOk result (HasNoConflict set.now) }
+    ensures in_order { IfOk result (λ sources. IsStrictlySortedBy text_cmp (module_names sources.items)) }
     ensures err { IfErr result (IsRefusalOf set.now) }
 {
     let effective = set.effective(alloc)?;

@@ -1,11 +1,20 @@
 // References, what is reached by them, and loops.
-ghost use Rattle.std.specs.Prelude.{◌≡◌, ◌+◌, ◌<◌, length, vec_len, IfSome, IfOk, IfErr};
+ghost use Rattle.std.specs.Prelude.{◌≡◌, ℕ, ◌+◌, ◌<◌, List, [], length, if◌then◌else◌, ◌++◌, vec_len, map, flat_map, option_map, Decides, IsSome, MatchOption, MatchResult, IfSome, IfOk, IfErr, OnOk};
+ghost use Rattle.std.specs.List.Sorted.{IsStrictlySortedBy};
+ghost use Rattle.rn_pattern.specs.Order.{text_cmp};
+ghost use Rattle.rn_pattern.specs.Tree.{Text};
+ghost use Rattle.rn_assemble.specs.Components.{Component};
 ghost use Rattle.rn_assemble.specs.Answers.{IsOfModules};
-ghost use Rattle.rn_assemble.specs.Graph.{AllBelow, IsGraph, rows_of};
+ghost use Rattle.rn_syntax.specs.View.{pattern_view, patterns_view};
+ghost use Rattle.rn_assemble.specs.Combine.{joined_grammar};
+ghost use Rattle.rn_assemble.specs.Listed.{Lists, Live, components_in};
+ghost use Rattle.rn_assemble.specs.Referred.{AreAllReferences, AreNumbers, AreBodiesAt, IsFresh, IsLeastOf, IsLeastRecursive, IsLeastUndefined, IsLooked, lesser_text, names_at, references, all_references, outer_references, all_outer_references};
+ghost use Rattle.rn_assemble.specs.Views.{names_of, texts_of};
+ghost use Rattle.rn_pattern.specs.Matching.{definition_of};
+ghost use Rattle.rn_assemble.specs.Graph.{AllBelow, IsGraph, is_marked, row, rows_of};
 
 use crate::components::Components;
 use crate::graph::{reached, row_at};
-use crate::inclusion::lesser;
 use crate::keys::{Keys, START};
 use crate::order::least_looped;
 use crate::refusal::Refusal;
@@ -20,7 +29,6 @@ pub(crate) struct References {
 }
 
 /// The references of all components. `Undefined` names the least name that is referred to and has no component.
-#[tactic(auto, using(crate::proofs::Rows::no_rows, crate::proofs::Rows::more_rows, crate::proofs::Rows::is_graph))]
 pub(crate) fn references_of<'s>(
     alloc: Global,
     keys: &Keys<'s>,
@@ -31,15 +39,17 @@ pub(crate) fn references_of<'s>(
     ensures outer { IfOk result (λ r. IsGraph (rows_of r.outer.items)) }
     ensures outer_size { IfOk result (λ r. vec_len r.outer ≡ vec_len keys.now.names + 1) }
     ensures err { IfErr result IsOfModules }
+    ensures found { (live : List Live) → Lists (names_of keys.now) components.now live → IsStrictlySortedBy text_cmp (names_of keys.now)
+        → MatchResult result (λ r. AreAllReferences (names_of keys.now) (components_in live) (rows_of r.all.items) (rows_of r.outer.items)) (IsLeastUndefined (components_in live)) }
 {
-    let mut seen = vec![in alloc; false; components.count_bodies()]?;
+    let mut looked: Vec<Option<usize>> = vec![in alloc; None; components.count_bodies()]?;
     let mut undefined = None;
     let mut all = Vec::new(alloc);
     let mut outer = Vec::new(alloc);
     for key in 0..keys.len() {
-        let mut names = Vec::new(alloc);
-        let mut outside = Vec::new(alloc);
-        refer_key(components, key, &mut seen, &mut names, &mut outside)?;
+        let bodies = bodies_of(alloc, components, key, &mut looked)?;
+        let names = names_in(alloc, components, bodies.as_slice())?;
+        let outside = names_outside(alloc, components, bodies.as_slice())?;
         undefined = least_undefined(keys, components, names.as_slice(), undefined);
         all.push(numbers(alloc, keys, names.as_slice())?)?;
         outer.push(numbers(alloc, keys, outside.as_slice())?)?;
@@ -52,34 +62,98 @@ pub(crate) fn references_of<'s>(
     }
 }
 
-/// Adds the names that a key's components refer to, and those outside elements; each body is looked at once.
-fn refer_key<'s>(
-    components: &Components<'_, '_, 's>,
+/// The bodies of a key's components, each once.
+fn bodies_of(
+    alloc: Global,
+    components: &Components<'_, '_, '_>,
     key: usize,
-    seen: &mut Vec<bool>,
-    names: &mut Vec<&'s str>,
-    outside: &mut Vec<&'s str>,
-) -> Result<(), AllocError> {
+    looked: &mut Vec<Option<usize>>,
+) -> Result<Vec<usize>, AllocError>
+    requires { IsFresh key looked.old.items }
+    ensures size { vec_len looked.new ≡ vec_len looked.old }
+    ensures fresh { OnOk result (IsFresh (key + 1) looked.new.items) }
+    ensures found { IfOk result (λ bodies. AreBodiesAt (length looked.old.items) components.now.list.items (row (rows_of components.now.places.items) key) bodies.items) }
+{
+    let mut bodies = Vec::new(alloc);
     for place in components.of_key(key) {
-        if let Some(number) = components.body_at(*place)
-            && number < seen.len()
-            && !seen[number]
-            && let Some(body) = components.body(number)
-        {
-            seen[number] = true;
-            refer(body.component.body, names)?;
-            refer_outside(body.component.body, outside)?;
+        if let Some(number) = look(components, *place, key, looked) {
+            bodies.push(number)?;
         }
     }
-    Ok(())
+    Ok(bodies)
+}
+
+/// The body at a place, if it was not looked at under the key.
+fn look(
+    components: &Components<'_, '_, '_>,
+    place: usize,
+    key: usize,
+    looked: &mut Vec<Option<usize>>,
+) -> Option<usize>
+    ensures size { vec_len looked.new ≡ vec_len looked.old }
+    ensures looked { IsLooked components.now.list.items place key looked.old.items looked.new.items result }
+{
+    let number = components.body_at(place)?;
+    if number >= looked.len() || looked[number] == Some(key) {
+        return None;
+    }
+    looked[number] = Some(key);
+    Some(number)
+}
+
+/// The names that the bodies refer to.
+fn names_in<'s>(
+    alloc: Global,
+    components: &Components<'_, '_, 's>,
+    bodies: &[usize],
+) -> Result<Vec<&'s str>, AllocError>
+    ensures { IfOk result (λ v. texts_of v.items ≡ flat_map (names_at references components.now.bodies.items) bodies.now) }
+{
+    let mut names = Vec::new(alloc);
+    for number in bodies {
+        if let Some(body) = components.body(*number) {
+            refer(body.component.body, &mut names)?;
+        }
+    }
+    Ok(names)
+}
+
+/// The names that they refer to outside elements.
+fn names_outside<'s>(
+    alloc: Global,
+    components: &Components<'_, '_, 's>,
+    bodies: &[usize],
+) -> Result<Vec<&'s str>, AllocError>
+    ensures { IfOk result (λ v. texts_of v.items ≡ flat_map (names_at outer_references components.now.bodies.items) bodies.now) }
+{
+    let mut names = Vec::new(alloc);
+    for number in bodies {
+        if let Some(body) = components.body(*number) {
+            refer_outside(body.component.body, &mut names)?;
+        }
+    }
+    Ok(names)
 }
 
 /// Whether the name has a component.
-fn is_defined<'s>(keys: &Keys<'s>, components: &Components<'_, '_, 's>, name: &'s str) -> bool {
+fn is_defined<'s>(keys: &Keys<'s>, components: &Components<'_, '_, 's>, name: &'s str) -> bool
+    ensures { (live : List Live) → Lists (names_of keys.now) components.now live → IsStrictlySortedBy text_cmp (names_of keys.now)
+        → Decides result (IsSome (definition_of (joined_grammar (components_in live)) name.now)) }
+{
     match keys.find(name) {
         Some(key) => !components.of_key(key).is_empty(),
         None => false,
     }
+}
+
+/// The lesser of two names, or the one that there is.
+fn lesser_name<'s>(held: Option<&'s str>, other: &'s str) -> &'s str
+    ensures { result.now ≡ lesser_text (option_map (λ s. s.now) held.entry) other.now }
+{
+    let Some(held) = held else {
+        return other;
+    };
+    if other < held { other } else { held }
 }
 
 /// The least of the names that has no component, and of one held before.
@@ -88,10 +162,14 @@ fn least_undefined<'s>(
     components: &Components<'_, '_, 's>,
     names: &[&'s str],
     mut least: Option<&'s str>,
-) -> Option<&'s str> {
+) -> Option<&'s str>
+    ensures { (live : List Live) (before : List Text) → Lists (names_of keys.now) components.now live → IsStrictlySortedBy text_cmp (names_of keys.now)
+        → IsLeastOf (joined_grammar (components_in live)) before (option_map (λ s. s.now) least.entry)
+        → IsLeastOf (joined_grammar (components_in live)) (before ++ texts_of names.now) (option_map (λ s. s.now) result) }
+{
     for name in names {
         if !is_defined(keys, components, name) {
-            least = Some(lesser(least, name));
+            least = Some(lesser_name(least, name));
         }
     }
     least
@@ -100,7 +178,8 @@ fn least_undefined<'s>(
 /// The numbers of the names.
 #[tactic(auto, using(crate::proofs::Rows::none_below, crate::proofs::Rows::below_push))]
 fn numbers<'s>(alloc: Global, keys: &Keys<'s>, names: &[&'s str]) -> Result<Vec<usize>, AllocError>
-    ensures { IfOk result (λ numbers. AllBelow (vec_len keys.now.names + 1) numbers.items) }
+    ensures within { IfOk result (λ numbers. AllBelow (vec_len keys.now.names + 1) numbers.items) }
+    ensures are { IsStrictlySortedBy text_cmp (names_of keys.now) → IfOk result (λ numbers. AreNumbers (names_of keys.now) (texts_of names.now) numbers.items) }
 {
     let mut numbers = Vec::new(alloc);
     for name in names {
@@ -112,45 +191,67 @@ fn numbers<'s>(alloc: Global, keys: &Keys<'s>, names: &[&'s str]) -> Result<Vec<
 }
 
 /// Adds the names that the pattern refers to.
-fn refer<'s>(pattern: &Pat<'s>, names: &mut Vec<&'s str>) -> Result<(), AllocError> {
+#[cycle(refer)]
+fn refer<'s>(pattern: &Pat<'s>, names: &mut Vec<&'s str>) -> Result<(), AllocError>
+    ensures { OnOk result (texts_of names.new.items ≡ texts_of names.old.items ++ references (pattern_view pattern.now)) }
+{
     match pattern {
-        Pat::Ref(name) => names.push(*name)?,
+        Pat::Ref(name) => {
+            names.push(*name)?;
+            Ok(())
+        }
         Pat::Element(_, content)
         | Pat::Attribute(_, content)
         | Pat::List(content)
         | Pat::Mixed(content)
         | Pat::DatumBut(_, _, _, content)
-        | Pat::Repeated(_, content) => refer(content, names)?,
-        Pat::Chain(_, members) => {
-            for member in members {
-                refer(member, names)?;
-            }
-        }
-        Pat::Empty | Pat::NotAllowed | Pat::Text | Pat::Value(_, _) | Pat::Datum(_, _) => {}
+        | Pat::Repeated(_, content) => refer(content, names),
+        Pat::Chain(_, members) => refer_all(members, names),
+        Pat::Empty | Pat::NotAllowed | Pat::Text | Pat::Value(_, _) | Pat::Datum(_, _) => Ok(()),
+    }
+}
+
+#[cycle(refer)]
+fn refer_all<'s>(patterns: &[Pat<'s>], names: &mut Vec<&'s str>) -> Result<(), AllocError>
+    ensures { OnOk result (texts_of names.new.items ≡ texts_of names.old.items ++ all_references (patterns_view patterns.now)) }
+{
+    'patterns: for pattern in patterns {
+        refer(pattern, names)?;
     }
     Ok(())
 }
 
 /// Adds the names that the pattern refers to outside elements.
-fn refer_outside<'s>(pattern: &Pat<'s>, names: &mut Vec<&'s str>) -> Result<(), AllocError> {
+#[cycle(refer_outside)]
+fn refer_outside<'s>(pattern: &Pat<'s>, names: &mut Vec<&'s str>) -> Result<(), AllocError>
+    ensures { OnOk result (texts_of names.new.items ≡ texts_of names.old.items ++ outer_references (pattern_view pattern.now)) }
+{
     match pattern {
-        Pat::Ref(name) => names.push(*name)?,
+        Pat::Ref(name) => {
+            names.push(*name)?;
+            Ok(())
+        }
         Pat::Attribute(_, content)
         | Pat::List(content)
         | Pat::Mixed(content)
         | Pat::DatumBut(_, _, _, content)
-        | Pat::Repeated(_, content) => refer_outside(content, names)?,
-        Pat::Chain(_, members) => {
-            for member in members {
-                refer_outside(member, names)?;
-            }
-        }
+        | Pat::Repeated(_, content) => refer_outside(content, names),
+        Pat::Chain(_, members) => refer_all_outside(members, names),
         Pat::Element(_, _)
         | Pat::Empty
         | Pat::NotAllowed
         | Pat::Text
         | Pat::Value(_, _)
-        | Pat::Datum(_, _) => {}
+        | Pat::Datum(_, _) => Ok(()),
+    }
+}
+
+#[cycle(refer_outside)]
+fn refer_all_outside<'s>(patterns: &[Pat<'s>], names: &mut Vec<&'s str>) -> Result<(), AllocError>
+    ensures { OnOk result (texts_of names.new.items ≡ texts_of names.old.items ++ all_outer_references (patterns_view patterns.now)) }
+{
+    'patterns: for pattern in patterns {
+        refer_outside(pattern, names)?;
     }
     Ok(())
 }
@@ -164,6 +265,8 @@ pub(crate) fn least_recursive(
     requires some { 0 < vec_len references.now.all }
     requires outer { IsGraph (rows_of references.now.outer.items) }
     requires size { vec_len references.now.outer ≡ vec_len references.now.all }
+    ensures { (names : List Text) (cs : List Component) → IsStrictlySortedBy text_cmp names
+        → AreAllReferences names cs (rows_of references.now.all.items) (rows_of references.now.outer.items) → IfOk result (IsLeastRecursive names cs) }
 {
     let first = row_at(references.all.as_slice(), START);
     let reached = reached(alloc, references.all.as_slice(), first)?;
@@ -172,22 +275,31 @@ pub(crate) fn least_recursive(
 }
 
 /// The edges from marked nodes alone.
-#[tactic(auto, using(crate::proofs::Rows::none_below, crate::proofs::Rows::no_rows, crate::proofs::Rows::more_rows, crate::proofs::Rows::is_graph))]
 fn only_marked(
     alloc: Global,
     edges: &[Vec<usize>],
     marks: &[bool],
 ) -> Result<Vec<Vec<usize>>, AllocError>
     requires graph { IsGraph (rows_of edges.now) }
+    requires size { length marks.now ≡ length edges.now }
     ensures graph { IfOk result (λ rows. IsGraph (rows_of rows.items)) }
+    ensures kept { IfOk result (λ rows. (node : ℕ) → row (rows_of rows.items) node ≡ (if is_marked marks.now node then row (rows_of edges.now) node else [])) }
 {
     let mut rows = Vec::with_capacity(alloc, edges.len())?;
     for node in 0..edges.len() {
-        if node < marks.len() && marks[node] {
-            rows.push(edges[node].clone()?)?;
-        } else {
-            rows.push(Vec::new(alloc))?;
-        }
+        let row = kept_row(alloc, &edges[node], marks[node])?;
+        rows.push(row)?;
     }
     Ok(rows)
+}
+
+/// The row, or an empty one.
+fn kept_row(alloc: Global, row: &Vec<usize>, is_kept: bool) -> Result<Vec<usize>, AllocError>
+    ensures { IfOk result (λ v. v.items ≡ (if is_kept then row.now.items else [])) }
+{
+    if is_kept {
+        row.clone()
+    } else {
+        Ok(Vec::new(alloc))
+    }
 }

@@ -47,3 +47,7 @@ all_plain (row ∷ rows) e =
 pub symbols_plain : AllByRecursion IsPlain symbol_rows
 unfolding symbol_rows
 symbols_plain = all_plain symbol_rows refl
+
+pub keywords_plain : AllByRecursion IsPlain keyword_rows
+unfolding keyword_rows
+keywords_plain = all_plain keyword_rows refl

@@ -1,16 +1,20 @@
--- What readers of tokens see, and how far they come.
-use Rattle.std.specs.Prelude.{◌≡◌, ℕ, List, [], ◌∷◌, Option, Some, None, true, map, drop, ◌≤◌, ◌<◌, length}
+-- What readers of tokens see, how far they come, and what their answers say of the grammar.
+use Rattle.std.specs.Prelude.{◌≡◌, ℕ, List, [], ◌∷◌, ◌++◌, Option, Some, None, Result, Ok, Err, Bool, true, not, ◌&&◌, ◌==◌, map, drop, ◌+◌, ◌≤◌, ◌<◌, length}
 use Rattle.std.specs.List.{All}
 use Rattle.std.specs.Str.{chars, encode_utf8_all}
 use Rattle.rn_text.specs.declared.source.Token.{Token}
 use Rattle.rn_text.specs.declared.parts.Part.TheVariants as part
 use Rattle.rn_text.specs.Parts.{spells}
-use Rattle.rn_text.specs.Segments.{segment_text}
+use Rattle.rn_text.specs.Segments.{segment_text, is_segment}
 use Rattle.rn_text.specs.Tokens.{lexeme_of}
 use Rattle.rn_syntax.specs.Terminal as t
 use Rattle.rn_syntax.specs.Terminal.{Terminal, Placed, ◌#◌}
 use Rattle.rn_syntax.specs.Grammar.{Tokens}
 use Rattle.rn_syntax.specs.Tokens.{terminal_of, terminals}
+use Rattle.rn_syntax.specs.Follow.{Anything}
+use Rattle.rn_syntax.specs.Sequence.{IsToken}
+use Rattle.rn_syntax.specs.declared.fault.Fault.{Fault}
+use Rattle.rn_syntax.specs.declared.fault.Fault.TheVariants as f
 use Rattle.rn_syntax.specs.declared.terminals.Terminal as code
 use Rattle.rn_syntax.specs.declared.terminals.Terminal.TheVariants as c
 
@@ -35,6 +39,15 @@ IsSpelled x = spells (part.Token x.kind) (chars x.text.now) ≡ true
 
 abbrev pub AreSpelled : List Token → Type 0
 AreSpelled xs = All IsSpelled xs
+
+-- a character that neither an escape nor a line end of two characters begins with
+abbrev pub is_plain : ℕ → Bool
+is_plain c = not (c == 92) && not (c == 13)
+
+-- a segment that the code saw is one
+abbrev pub IsWhole : code.Terminal → Type 0
+IsWhole (c.Segment x) = is_segment (chars x.text.now) ≡ true
+IsWhole _ = Unit {0}
 
 -- what the code sees of a token, as the grammar sees it: nothing at the end
 abbrev pub seen : code.Terminal → Option Terminal
@@ -66,3 +79,63 @@ rest xs at = drop at (terminals (map lexeme_of xs))
 abbrev pub IsNext : Tokens → Option Terminal → Tokens → Type 0
 IsNext ts None behind = ts ≡ []
 IsNext ts (Some x) behind = (i : ℕ) × (ts ≡ x # i ∷ behind)
+
+-- the byte at which these of the tokens begin; where none is left, that at which the last one ends
+abbrev pub last_end : List Token → ℕ
+last_end [] = 0
+last_end (x ∷ []) = x.end
+last_end (x ∷ y ∷ xs) = last_end (y ∷ xs)
+
+abbrev pub IsPlace : List Token → Tokens → ℕ → Type 0
+IsPlace xs [] at = at ≡ last_end xs
+IsPlace xs (x # i ∷ ts) at = at ≡ i
+
+-- both begin with one token, or both are at the end
+pub data Alike : Tokens → Tokens → Type 0 where
+  ends : Alike [] []
+  same : {x : Placed} {ts us : Tokens} → Alike (x ∷ ts) (x ∷ us)
+
+-- The front of ts up to rest is an N, which stands for x, whatever follows. Before what begins as rest does, it is no other N
+-- that what may follow an N follows.
+pub record Took {A : Type 0} (N : Tokens → A → Tokens → Type 0) (F : Tokens → Type 0) (ts : Tokens) (x : A) (rest : Tokens) : Type 0 where
+  pub front : Tokens
+  pub cut : ts ≡ front ++ rest
+  pub derives : (more : Tokens) → N (front ++ more) x more
+  pub only : (t : Tokens) → Alike t rest → (y : A) (r : Tokens) → N (front ++ t) y r → F r → (y ≡ x) × (r ≡ t)
+
+-- The front of ts before bad begins an N, whatever is to follow that. Before what begins as bad does, it begins none that
+-- what may follow an N follows.
+pub record Stuck {A : Type 0} (N : Tokens → A → Tokens → Type 0) (F : Tokens → Type 0) (ts bad : Tokens) : Type 0 where
+  pub front : Tokens
+  pub cut : ts ≡ front ++ bad
+  pub begins : (more : Tokens) → (w : Tokens) × (x : A) × N (front ++ w) x more
+  pub refuses : (t : Tokens) → Alike t bad → (x : A) (r : Tokens) → N (front ++ t) x r → F r → ⊥
+
+-- a reader stopped for want of memory, or where no N goes on
+abbrev pub Faults : {A : Type 0} → (Tokens → A → Tokens → Type 0) → (Tokens → Type 0) → List Token → ℕ → Fault → Type 0
+Faults N F xs at (f.Stuck bad) = AreSpelled xs → Stuck N F (rest xs at) (rest xs bad)
+Faults N F xs at f.Memory = Unit {0}
+
+-- a reader of an N answered what it stands for, by this view, and the index behind it
+abbrev pub Reads : {A B : Type 0} → (Tokens → A → Tokens → Type 0) → (Tokens → Type 0) → (B → A) → List Token → ℕ → Result (B × ℕ) Fault → Type 0
+Reads N F view xs at (Ok r) = AreSpelled xs → Took N F (rest xs at) (view r.0) (rest xs r.1)
+Reads N F view xs at (Err e) = Faults N F xs at e
+
+-- the same of one that reads one token
+abbrev pub ReadsOne : {A B : Type 0} → (Tokens → A → Tokens → Type 0) → (Tokens → Type 0) → (B → A) → List Token → ℕ → Result B Fault → Type 0
+ReadsOne N F view xs at (Ok x) = AreSpelled xs → Took N F (rest xs at) (view x) (rest xs (at + 1))
+ReadsOne N F view xs at (Err e) = Faults N F xs at e
+
+-- what stands for nothing
+abbrev pub Bare : (Tokens → Tokens → Type 0) → Tokens → Unit {0} → Tokens → Type 0
+Bare N ts u rest = N ts rest
+
+-- the same of one that answers the index alone
+abbrev pub Skips : (Tokens → Tokens → Type 0) → (Tokens → Type 0) → List Token → ℕ → Result ℕ Fault → Type 0
+Skips N F xs at (Ok behind) = AreSpelled xs → Took (Bare N) F (rest xs at) tt (rest xs behind)
+Skips N F xs at (Err e) = Faults (Bare N) F xs at e
+
+-- the same of one that passes this terminal
+abbrev pub Passes : Terminal → List Token → ℕ → Result ℕ Fault → Type 0
+Passes x xs at (Ok behind) = AreSpelled xs → (i : ℕ) × Took (IsToken x) Anything (rest xs at) i (rest xs behind)
+Passes x xs at (Err e) = Faults (IsToken x) Anything xs at e

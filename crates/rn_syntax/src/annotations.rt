@@ -1,6 +1,9 @@
 // Annotations and notes, which leave nothing in the tree.
 ghost use Rattle.std.specs.Prelude.{◌≡◌, ◌≤◌, ◌<◌, length, IfOk, IfSome, IsTrue};
-ghost use Rattle.rn_syntax.specs.Reading.{Passed, Advanced};
+ghost use Rattle.rn_syntax.specs.Follow.{Starts, Anything, no_bracket, no_follow};
+ghost use Rattle.rn_syntax.specs.Grammar.{Closed, IsAnnotation, MayAnnotate, AreFollows};
+ghost use Rattle.rn_syntax.specs.Reading.{Passed, Advanced, Skips, rest};
+ghost use Rattle.rn_syntax.specs.Sequence.{IsNamed, is_note};
 
 use crate::fault::Fault;
 use crate::terminals::{Terminal, next};
@@ -10,6 +13,7 @@ use rn_text::Token;
 fn skip_closed(tokens: &[Token<'_>], mut at: usize) -> Result<usize, Fault>
     requires { at ≤ length tokens.now }
     ensures inside { IfOk result (λ behind. Advanced at behind (length tokens.now)) }
+    ensures skips { Skips Closed Anything tokens.now at result }
 {
     let mut depth: usize = 0;
     'closed: loop {
@@ -39,6 +43,7 @@ fn skip_closed(tokens: &[Token<'_>], mut at: usize) -> Result<usize, Fault>
 pub(crate) fn annotation(tokens: &[Token<'_>], at: usize) -> Result<usize, Fault>
     requires { at ≤ length tokens.now }
     ensures inside { IfOk result (λ behind. Advanced at behind (length tokens.now)) }
+    ensures skips { Skips IsAnnotation Anything tokens.now at result }
 {
     match next(tokens, at) {
         Terminal::LeftBracket => skip_closed(tokens, at + 1),
@@ -50,6 +55,7 @@ pub(crate) fn annotation(tokens: &[Token<'_>], at: usize) -> Result<usize, Fault
 pub(crate) fn skip_annotation(tokens: &[Token<'_>], at: usize) -> Result<usize, Fault>
     requires { at ≤ length tokens.now }
     ensures inside { IfOk result (λ behind. Passed at behind (length tokens.now)) }
+    ensures skips { Skips MayAnnotate (Starts no_bracket) tokens.now at result }
 {
     match next(tokens, at) {
         Terminal::LeftBracket => skip_closed(tokens, at + 1),
@@ -61,6 +67,7 @@ pub(crate) fn skip_annotation(tokens: &[Token<'_>], at: usize) -> Result<usize, 
 fn follow(tokens: &[Token<'_>], at: usize) -> Result<usize, Fault>
     requires { at ≤ length tokens.now }
     ensures inside { IfOk result (λ behind. Advanced at behind (length tokens.now)) }
+    ensures skips { Skips IsNamed Anything tokens.now at result }
 {
     match next(tokens, at) {
         Terminal::Ident(_) | Terminal::Keyword(_) | Terminal::Prefixed(_, _) => {
@@ -74,6 +81,7 @@ fn follow(tokens: &[Token<'_>], at: usize) -> Result<usize, Fault>
 pub(crate) fn skip_follows(tokens: &[Token<'_>], mut at: usize) -> Result<usize, Fault>
     requires { at ≤ length tokens.now }
     ensures inside { IfOk result (λ behind. Passed at behind (length tokens.now)) }
+    ensures skips { Skips AreFollows (Starts no_follow) tokens.now at result }
 {
     'follows: while let Terminal::Follow = next(tokens, at) {
         at = follow(tokens, at + 1)?;
@@ -84,6 +92,7 @@ pub(crate) fn skip_follows(tokens: &[Token<'_>], mut at: usize) -> Result<usize,
 /// Whether a note begins here: a name with a prefix, or one before a bracket.
 pub(crate) fn begins_note(tokens: &[Token<'_>], at: usize) -> bool
     ensures inside { IsTrue result → at < length tokens.now }
+    ensures is { result ≡ is_note (rest tokens.now at) }
 {
     match next(tokens, at) {
         Terminal::Prefixed(_, _) => true,

@@ -1,6 +1,10 @@
 // Datatypes and their parameters.
-ghost use Rattle.std.specs.Prelude.{◌≡◌, ◌≤◌, ◌<◌, length, IfOk, IfSome, IsTrue};
-ghost use Rattle.rn_syntax.specs.Reading.{Passed, Advanced};
+ghost use Rattle.std.specs.Prelude.{◌≡◌, ◌≤◌, ◌<◌, ◌+◌, length, false, IfOk, IfSome, IsTrue, MatchOption};
+ghost use Rattle.rn_syntax.specs.Follow.{Starts, begins_datatype, first, is_end, no_brace, no_tilde};
+ghost use Rattle.rn_syntax.specs.Grammar.{IsDatatype, MayHaveParams};
+ghost use Rattle.rn_syntax.specs.Reading.{Passed, Advanced, Reads, rest};
+ghost use Rattle.rn_syntax.specs.Sequence.{IsHere, IsParam};
+ghost use Rattle.rn_syntax.specs.View.{datatype_view, param_view, params_view};
 
 use crate::annotations::skip_annotation;
 use crate::fault::Fault;
@@ -14,6 +18,7 @@ use std::alloc::Global;
 /// `dt = "string" | "token" | Prefixed`
 pub(crate) fn datatype<'a>(tokens: &[Token<'a>], at: usize) -> Option<Datatype<'a>>
     ensures inside { IfSome result (λ _. at < length tokens.now) }
+    ensures names { MatchOption result (begins_datatype (first (rest tokens.now at)) ≡ false) (λ d. IsHere IsDatatype (rest tokens.now at) (datatype_view d) (rest tokens.now (at + 1))) }
 {
     match next(tokens, at) {
         Terminal::Prefixed(name, local) => {
@@ -25,8 +30,11 @@ pub(crate) fn datatype<'a>(tokens: &[Token<'a>], at: usize) -> Option<Datatype<'
                 local,
             ))
         }
-        Terminal::Keyword(Keyword::String) => Some(Datatype::String(place(tokens, at))),
-        Terminal::Keyword(Keyword::Token) => Some(Datatype::Token(place(tokens, at))),
+        Terminal::Keyword(keyword) => match keyword {
+            Keyword::String => Some(Datatype::String(place(tokens, at))),
+            Keyword::Token => Some(Datatype::Token(place(tokens, at))),
+            _ => None,
+        },
         _ => None,
     }
 }
@@ -35,6 +43,7 @@ pub(crate) fn datatype<'a>(tokens: &[Token<'a>], at: usize) -> Option<Datatype<'
 fn param<'a>(alloc: Global, tokens: &[Token<'a>], at: usize) -> Result<(Param<'a>, usize), Fault>
     requires { at ≤ length tokens.now }
     ensures inside { IfOk result (λ r. Advanced at r.1 (length tokens.now)) }
+    ensures reads { Reads IsParam (Starts no_tilde) param_view tokens.now at result }
 {
     let body = skip_annotation(tokens, at)?;
     let name = word(tokens, body)?;
@@ -46,6 +55,7 @@ fn param<'a>(alloc: Global, tokens: &[Token<'a>], at: usize) -> Result<(Param<'a
 /// Whether the next token is `}`.
 fn is_right_brace(tokens: &[Token<'_>], at: usize) -> bool
     ensures inside { IsTrue result → at < length tokens.now }
+    ensures is { result ≡ is_end (first (rest tokens.now at)) }
 {
     match next(tokens, at) {
         Terminal::RightBrace => true,
@@ -61,6 +71,7 @@ pub(crate) fn params<'a>(
 ) -> Result<(Vec<Param<'a>>, usize), Fault>
     requires { at ≤ length tokens.now }
     ensures inside { IfOk result (λ r. Passed at r.1 (length tokens.now)) }
+    ensures reads { Reads MayHaveParams (Starts no_brace) (λ v. params_view v.items) tokens.now at result }
 {
     let mut params = Vec::new(alloc);
     let Terminal::LeftBrace = next(tokens, at) else {

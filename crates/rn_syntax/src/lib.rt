@@ -9,6 +9,7 @@ mod declarations;
 pub mod fault;
 pub mod included;
 mod items;
+pub mod laws;
 mod literals;
 mod modules;
 mod names;

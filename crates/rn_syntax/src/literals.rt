@@ -1,27 +1,43 @@
 // Literals.
-ghost use Rattle.std.specs.Prelude.{◌≡◌, ◌≤◌, ◌<◌, length, IfOk, IfSome, IsTrue};
-ghost use Rattle.rn_syntax.specs.Reading.{Passed, Advanced};
+ghost use Rattle.std.specs.Prelude.{◌≡◌, ◌≤◌, ◌<◌, length, true, IfOk};
+ghost use Rattle.std.specs.Cow.{cow_str_bytes};
+ghost use Rattle.std.specs.Str.{chars, encode_utf8_all};
+ghost use Rattle.rn_text.specs.Segments as segments;
+ghost use Rattle.rn_text.specs.Segments.{is_segment, after_run};
+ghost use Rattle.rn_syntax.specs.Follow.{Starts, Anything, no_tilde};
+ghost use Rattle.rn_syntax.specs.Grammar.{IsLiteral};
+ghost use Rattle.rn_syntax.specs.Reading.{Advanced, Reads, is_plain};
+ghost use Rattle.rn_syntax.specs.Sequence.{IsSegment};
 
 use crate::fault::Fault;
 use crate::terminals::{Terminal, next};
 use rn_text::Token;
+use rn_text::literals::between_delimiters;
 use std::alloc::{AllocError, Global};
 use std::borrow::CowStr;
 
-/// What stands between the delimiters of a segment.
-fn between_delimiters(segment: &str) -> &str {
-    for delimiter in ["\"\"\"", "'''", "\"", "'"] {
-        if let Some(behind) = segment.strip_prefix(delimiter) {
-            return behind.strip_suffix(delimiter).unwrap_or(behind);
-        }
-    }
-    segment
+/// Whether a character between delimiters stands for itself wherever it comes.
+fn is_plain(c: char) -> bool
+    ensures { result ≡ is_plain c }
+{
+    c != '\\' && c != '\r'
+}
+
+/// What stands behind the plain characters at the front.
+fn behind_plain(text: &str) -> &str
+    ensures { chars result.now ≡ after_run is_plain (chars text.now) }
+{
+    text.trim_start_matches(is_plain)
 }
 
 /// The text of a segment: a slice of it where it is written as it is.
-fn segment_text<'a>(alloc: Global, segment: Token<'a>) -> Result<CowStr<'a>, AllocError> {
-    let written = between_delimiters(segment.text);
-    if !written.contains("\\x") && !written.contains('\r') {
+fn segment_text<'a>(alloc: Global, segment: Token<'a>) -> Result<CowStr<'a>, AllocError>
+    ensures { IfOk result (λ text. is_segment (chars segment.entry.text.now) ≡ true → cow_str_bytes text ≡ encode_utf8_all (segments.segment_text (chars segment.entry.text.now))) }
+{
+    let Some(written) = between_delimiters(segment.text) else {
+        return Ok(CowStr::Borrowed(segment.text));
+    };
+    if behind_plain(written).is_empty() {
         return Ok(CowStr::Borrowed(written));
     }
     let text = rn_text::literal(alloc, &segment)?;
@@ -35,6 +51,7 @@ fn segment_text<'a>(alloc: Global, segment: Token<'a>) -> Result<CowStr<'a>, All
 fn segment<'a>(alloc: Global, tokens: &[Token<'a>], at: usize) -> Result<(CowStr<'a>, usize), Fault>
     requires { at ≤ length tokens.now }
     ensures inside { IfOk result (λ r. Advanced at r.1 (length tokens.now)) }
+    ensures reads { Reads IsSegment Anything cow_str_bytes tokens.now at result }
 {
     match next(tokens, at) {
         Terminal::Segment(token) => Ok((segment_text(alloc, token)?, at + 1)),
@@ -50,6 +67,7 @@ pub(crate) fn literal<'a>(
 ) -> Result<(CowStr<'a>, usize), Fault>
     requires { at ≤ length tokens.now }
     ensures inside { IfOk result (λ r. Advanced at r.1 (length tokens.now)) }
+    ensures reads { Reads IsLiteral (Starts no_tilde) cow_str_bytes tokens.now at result }
 {
     let (first, mut end) = segment(alloc, tokens, at)?;
     let Terminal::Tilde = next(tokens, end) else {

@@ -7,21 +7,11 @@ use crate::datatypes::{datatype, params};
 use crate::fault::Fault;
 use crate::literals::literal;
 use crate::names::name_class;
-use crate::terminals::{Terminal, left_brace, next, place, right_brace, right_paren};
+use crate::terminals::{Terminal, is_operator, left_brace, next, place, right_brace, right_paren};
 use crate::token::{Keyword, Operator};
 use crate::tree::{Datatype, Nc, Pat};
 use rn_text::Token;
 use std::alloc::Global;
-
-/// Whether the next token is this operator.
-fn continues(tokens: &[Token<'_>], at: usize, operator: Operator) -> bool
-    ensures inside { IsTrue result → at < length tokens.now }
-{
-    match next(tokens, at) {
-        Terminal::Operator(other) => other == operator,
-        _ => false,
-    }
-}
 
 /// `pattern = operand ( ("," operand)* | ("&" operand)* | ("|" operand)* )`
 #[cycle(pattern)]
@@ -39,7 +29,7 @@ pub(crate) fn pattern<'a>(
     };
     let mut members = Vec::new(alloc);
     members.push(first)?;
-    'chain: while continues(tokens, end, operator) {
+    'chain: while is_operator(tokens, end, operator) {
         let (member, behind) = operand(alloc, tokens, end + 1)?;
         members.push(member)?;
         end = behind;

@@ -1,11 +1,19 @@
 // The terminals of the grammar: what it sees of each token.
-ghost use Rattle.std.specs.Prelude.{◌≡◌, ◌≤◌, ◌<◌, length, IfOk, IfSome, IsTrue};
-ghost use Rattle.std.specs.Str.{IsUtf8};
-ghost use Rattle.rn_syntax.specs.Reading.{IsInside, Advanced, seen};
+ghost use Rattle.std.specs.Prelude.{◌≡◌, ◌≤◌, ◌<◌, ◌+◌, drop, length, IfOk, IsTrue, MatchBool, ◌≢◌};
+ghost use Rattle.std.specs.Str.{IsUtf8, chars, encode_utf8_all};
+ghost use Rattle.rn_text.specs.Characters.{is_name_char};
+ghost use Rattle.rn_text.specs.Segments.{run_of, after_run};
+ghost use Rattle.rn_syntax.specs.Follow.{Anything, first};
+ghost use Rattle.rn_syntax.specs.Reading.{AreSpelled, IsInside, IsNext, IsPlace, IsSpelled, IsWhole, Advanced, Passes, ReadsOne, rest, seen};
+ghost use Rattle.rn_syntax.specs.Sequence.{IsOf, IsWordAt, IsAssign};
+ghost use Rattle.rn_syntax.specs.declared.token.Method.TheVariants as method;
+ghost use Rattle.rn_syntax.specs.Terminal as terminal;
+ghost use Rattle.rn_syntax.specs.Tokens as tokens;
 ghost use Rattle.rn_syntax.specs.Tokens.{spelled_in, keyword_rows, symbol_rows};
 
 use crate::fault::Fault;
 use crate::token::{Keyword, Method, Operator, Postfix};
+use rn_text::characters::{after_name_chars, split_first};
 use rn_text::{Kind, Token};
 
 /// A token as the grammar sees it.
@@ -39,7 +47,9 @@ pub(crate) enum Terminal<'a> {
 
 #[tactic(auto, unfolding(crate::specs::Tokens::keyword_rows))]
 fn keyword(text: &str) -> Terminal<'_>
-    ensures { seen result ≡ Some (spelled_in keyword_rows text.now) }
+    ensures is { seen result ≡ Some (spelled_in keyword_rows text.now) }
+    ensures whole { IsWhole result }
+    ensures utf8 { IsUtf8 text.now }
 {
     let keyword = match text {
         "attribute" => Keyword::Attribute,
@@ -69,6 +79,7 @@ fn keyword(text: &str) -> Terminal<'_>
 #[tactic(auto, unfolding(crate::specs::Tokens::symbol_rows))]
 pub(crate) fn symbol(text: &str) -> Terminal<'_>
     ensures is { seen result ≡ Some (spelled_in symbol_rows text.now) }
+    ensures whole { IsWhole result }
     ensures utf8 { IsUtf8 text.now }
 {
     match text {
@@ -94,22 +105,51 @@ pub(crate) fn symbol(text: &str) -> Terminal<'_>
     }
 }
 
-/// The prefix and what stands behind the colon.
-fn split_prefix(text: &str) -> (&str, &str) {
-    text.split_once(':').unwrap_or((text, ""))
+/// The name at the front of a text.
+fn front_name(text: &str) -> &str
+    ensures { result.now ≡ encode_utf8_all (run_of is_name_char (chars text.now)) }
+{
+    let behind = after_name_chars(text);
+    text.strip_suffix(behind).unwrap_or(text)
+}
+
+/// What stands behind the first character.
+fn behind_first(text: &str) -> &str
+    ensures { result.now ≡ encode_utf8_all (drop 1 (chars text.now)) }
+{
+    match split_first(text) {
+        Some((_, behind)) => behind,
+        None => text,
+    }
+}
+
+/// What stands behind the name at the front and one character more.
+fn behind_name(text: &str) -> &str
+    ensures { result.now ≡ encode_utf8_all (drop 1 (after_run is_name_char (chars text.now))) }
+{
+    behind_first(after_name_chars(text))
+}
+
+/// A name that is written as it is.
+fn plain_name(text: &str) -> Terminal<'_>
+    ensures is { seen result ≡ Some (terminal.ident text.now) }
+    ensures whole { IsWhole result }
+    ensures utf8 { IsUtf8 text.now }
+{
+    Terminal::Ident(text)
 }
 
 /// What the grammar sees of a token.
-pub(crate) fn terminal_of<'a>(token: Token<'a>) -> Terminal<'a> {
+pub(crate) fn terminal_of<'a>(token: Token<'a>) -> Terminal<'a>
+    ensures is { seen result ≡ Some (tokens.terminal_of token.entry.kind (chars token.entry.text.now)) }
+    ensures whole { IsSpelled token.entry → IsWhole result }
+{
     match token.kind {
-        Kind::Name => Terminal::Ident(token.text),
+        Kind::Name => plain_name(token.text),
         Kind::Keyword => keyword(token.text),
-        Kind::Quoted => Terminal::Ident(token.text.strip_prefix('\\').unwrap_or(token.text)),
-        Kind::Prefixed => {
-            let (prefix, local) = split_prefix(token.text);
-            Terminal::Prefixed(prefix, local)
-        }
-        Kind::AnyOf => Terminal::AnyOf(split_prefix(token.text).0),
+        Kind::Quoted => Terminal::Ident(behind_first(token.text)),
+        Kind::Prefixed => Terminal::Prefixed(front_name(token.text), behind_name(token.text)),
+        Kind::AnyOf => Terminal::AnyOf(front_name(token.text)),
         Kind::Segment => Terminal::Segment(token),
         Kind::Symbol => symbol(token.text),
     }
@@ -118,6 +158,8 @@ pub(crate) fn terminal_of<'a>(token: Token<'a>) -> Terminal<'a> {
 /// The next terminal.
 pub(crate) fn next<'a>(tokens: &[Token<'a>], at: usize) -> Terminal<'a>
     ensures inside { IsInside result at (length tokens.now) }
+    ensures next { IsNext (rest tokens.now at) (seen result) (rest tokens.now (at + 1)) }
+    ensures whole { AreSpelled tokens.now → IsWhole result }
 {
     if at >= tokens.len() {
         return Terminal::End;
@@ -126,7 +168,9 @@ pub(crate) fn next<'a>(tokens: &[Token<'a>], at: usize) -> Terminal<'a>
 }
 
 /// The byte at which a token begins; at the end, that at which the last one ends.
-pub(crate) fn place(tokens: &[Token<'_>], at: usize) -> usize {
+pub(crate) fn place(tokens: &[Token<'_>], at: usize) -> usize
+    ensures { IsPlace tokens.now (rest tokens.now at) result }
+{
     if at < tokens.len() {
         return tokens[at].start;
     }
@@ -139,6 +183,7 @@ pub(crate) fn place(tokens: &[Token<'_>], at: usize) -> usize {
 /// `word = ident | keyword`
 pub(crate) fn word<'a>(tokens: &[Token<'a>], at: usize) -> Result<&'a str, Fault>
     ensures inside { IfOk result (λ _. at < length tokens.now) }
+    ensures reads { ReadsOne (IsOf IsWordAt) Anything (λ s. s.now) tokens.now at result }
 {
     match next(tokens, at) {
         Terminal::Ident(name) => Ok(name),
@@ -149,9 +194,20 @@ pub(crate) fn word<'a>(tokens: &[Token<'a>], at: usize) -> Result<&'a str, Fault
 
 pub(crate) fn is_keyword(tokens: &[Token<'_>], at: usize, wanted: Keyword) -> bool
     ensures inside { IsTrue result → at < length tokens.now }
+    ensures is { MatchBool result (first (rest tokens.now at) ≡ terminal.keyword wanted) (first (rest tokens.now at) ≢ terminal.keyword wanted) }
 {
     match next(tokens, at) {
         Terminal::Keyword(keyword) => keyword == wanted,
+        _ => false,
+    }
+}
+
+pub(crate) fn is_operator(tokens: &[Token<'_>], at: usize, wanted: Operator) -> bool
+    ensures inside { IsTrue result → at < length tokens.now }
+    ensures is { MatchBool result (first (rest tokens.now at) ≡ terminal.operator wanted) (first (rest tokens.now at) ≢ terminal.operator wanted) }
+{
+    match next(tokens, at) {
+        Terminal::Operator(operator) => operator == wanted,
         _ => false,
     }
 }
@@ -160,9 +216,13 @@ pub(crate) fn is_keyword(tokens: &[Token<'_>], at: usize, wanted: Keyword) -> bo
 pub(crate) fn equals(tokens: &[Token<'_>], at: usize) -> Result<usize, Fault>
     requires { at ≤ length tokens.now }
     ensures inside { IfOk result (λ behind. Advanced at behind (length tokens.now)) }
+    ensures passes { Passes (terminal.assign method.Plain) tokens.now at result }
 {
     match next(tokens, at) {
-        Terminal::Assign(Method::Plain) => Ok(at + 1),
+        Terminal::Assign(method) => match method {
+            Method::Plain => Ok(at + 1),
+            _ => Err(Fault::Stuck(at)),
+        },
         _ => Err(Fault::Stuck(at)),
     }
 }
@@ -170,6 +230,7 @@ pub(crate) fn equals(tokens: &[Token<'_>], at: usize) -> Result<usize, Fault>
 /// `assign = "=" | "|=" | "&="`
 pub(crate) fn assign(tokens: &[Token<'_>], at: usize) -> Result<Method, Fault>
     ensures inside { IfOk result (λ _. at < length tokens.now) }
+    ensures reads { ReadsOne (IsOf IsAssign) Anything (λ w. w) tokens.now at result }
 {
     match next(tokens, at) {
         Terminal::Assign(method) => Ok(method),
@@ -181,6 +242,7 @@ pub(crate) fn assign(tokens: &[Token<'_>], at: usize) -> Result<Method, Fault>
 pub(crate) fn left_brace(tokens: &[Token<'_>], at: usize) -> Result<usize, Fault>
     requires { at ≤ length tokens.now }
     ensures inside { IfOk result (λ behind. Advanced at behind (length tokens.now)) }
+    ensures passes { Passes terminal.left_brace tokens.now at result }
 {
     match next(tokens, at) {
         Terminal::LeftBrace => Ok(at + 1),
@@ -192,6 +254,7 @@ pub(crate) fn left_brace(tokens: &[Token<'_>], at: usize) -> Result<usize, Fault
 pub(crate) fn right_brace(tokens: &[Token<'_>], at: usize) -> Result<usize, Fault>
     requires { at ≤ length tokens.now }
     ensures inside { IfOk result (λ behind. Advanced at behind (length tokens.now)) }
+    ensures passes { Passes terminal.right_brace tokens.now at result }
 {
     match next(tokens, at) {
         Terminal::RightBrace => Ok(at + 1),
@@ -203,6 +266,7 @@ pub(crate) fn right_brace(tokens: &[Token<'_>], at: usize) -> Result<usize, Faul
 pub(crate) fn right_paren(tokens: &[Token<'_>], at: usize) -> Result<usize, Fault>
     requires { at ≤ length tokens.now }
     ensures inside { IfOk result (λ behind. Advanced at behind (length tokens.now)) }
+    ensures passes { Passes terminal.right_paren tokens.now at result }
 {
     match next(tokens, at) {
         Terminal::RightParen => Ok(at + 1),

@@ -31,7 +31,7 @@ fn before_three(text: &str, c: char) -> Option<&str>
 }
 
 /// What stands between the delimiters of a segment.
-fn between_delimiters(segment: &str) -> Option<&str>
+pub fn between_delimiters(segment: &str) -> Option<&str>
     ensures cases { MatchOption result (is_delimited (chars segment.now) ≡ false) (λ r. chars r.now ≡ between_delimiters (chars segment.now)) }
     ensures utf8 { IfSome result (λ r. IsUtf8 r.now) }
 {

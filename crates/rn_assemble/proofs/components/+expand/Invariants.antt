@@ -1,4 +1,21 @@
+-- What was added, and what is left to add.
+use Rattle.std.proofs.Common.{◌+◌, ◌-◌, ◌*◌, List, drop}
+use Rattle.rn_pattern.specs.Tree.{Text}
+use Rattle.rn_assemble.specs.Components.{Source}
+use Rattle.rn_assemble.specs.Contained.{AreFlat}
+use Rattle.rn_assemble.specs.Listed.{IsContents, Live}
+use Rattle.rn_assemble.specs.Expanded.{CanExpand}
+use Rattle.rn_assemble.proofs.Going.{Going}
 use Rattle.rn_assemble.proofs.components.+expand.Given as goal
 
+abbrev pub invariant-expand-includes : goal.invariant-expand-includes
+invariant-expand-includes l = record {
+  going : (modules : List Source) (names : List Text) (live : List Live) (m : Source) → CanExpand modules names l.contents l.fn.components live → IsContents modules names m l.content → AreFlat m.tree.items
+      → Going modules names l.contents l.content l.fn.components l.components live m l.scope.inherited.now (l.depth - 1) l.first l.next (drop l.include-index l.content.includes.items);
+}
+
 abbrev pub decreases-expand : goal.decreases-expand
-decreases-expand l = l.depth
+decreases-expand l = 2 * l.depth
+
+abbrev pub decreases-expand_include : goal.decreases-expand_include
+decreases-expand_include l = 2 * l.depth + 1

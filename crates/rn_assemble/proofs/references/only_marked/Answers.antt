@@ -1,24 +1,21 @@
-use Rattle.std.proofs.lemmas.List.Elements.{same_from_all_zip}
-use Rattle.std.proofs.Common.{rules, ◌≡◌, arith, ℕ, [], Vec, ap, ◌∙◌, vec_len}
-use Rattle.std.specs.declared.alloc.Global.{Global}
-use Rattle.rn_assemble.proofs.Rows.{rows_pushed, is_graph, read_within, none_below, below_still}
+use Rattle.std.proofs.Common.{arith, ◌∙◌, ap, sym, cond, [], length}
+use Rattle.std.proofs.lemmas.List.{length_push}
+use Rattle.rn_assemble.specs.Graph.{is_marked}
+use Rattle.rn_assemble.proofs.Rows.{rows_pushed, is_graph, read_within, keep_more, keep_within, row_read}
 use Rattle.rn_assemble.proofs.references.only_marked.Goals as goal
-use Rattle.rn_assemble.proofs.references.only_marked.Goals.{then-node-marks+then-marks-node+in_ok-clone+in_ok-push, else-node-marks+in_ok-push-2}
 
 pub loop-node-preserved : goal.loop-node-preserved
-loop-node-preserved c = elim c.if-node-marks.branch [
-  | then-node-marks+then-marks-node+in_ok-clone+in_ok-push w ↦
-      let same : w.in_ok-clone.field-0.items ≡ w.index-edges-node.result.items = search (rules, same_from_all_zip) in (
-        rows_pushed _ _ _ w.in_ok-clone.field-0 c.loop-node.invariant.0
-            (below_still _ _ _ (read_within c.args.edges.now c.loop-node.node w.index-edges-node.result c.requires.graph c.loop-node-test.true w.index-edges-node.is) same)
-            (ap (λ (v : Vec (Vec ℕ Global) Global). v.items) w.rows-is ∙ w.in_ok-push.ensures.items),
-        (ap (λ (v : Vec (Vec ℕ Global) Global). vec_len v) w.rows-is ∙ omega (arith, w.in_ok-push.ensures.len, c.loop-node.invariant.1)),
-      )
-  | else-node-marks+in_ok-push-2 w ↦ (
-    rows_pushed _ _ _ w.new.result c.loop-node.invariant.0 (below_still _ [] _ (none_below _) w.new.ensures.items) (ap (λ (v : Vec (Vec ℕ Global) Global). v.items) w.rows-is ∙ w.in_ok-push-2.ensures.items),
-    (ap (λ (v : Vec (Vec ℕ Global) Global). vec_len v) w.rows-is ∙ omega (arith, w.in_ok-push-2.ensures.len, c.loop-node.invariant.1)),
-  )
-]
+loop-node-preserved c =
+    let es = c.args.edges.now in
+    let k = c.loop-node.node in
+    let v = c.index-edges-node.result in
+    let here = c.in_ok-row.ensures ∙ ap (λ r. cond (is_marked c.args.marks.now k) r []) (sym (row_read es k v c.loop-node-test.true c.index-edges-node.is)) in
+    record {
+      within = rows_pushed _ _ _ c.in_ok-row.row c.loop-node.invariant.within
+          (keep_within _ (is_marked c.args.marks.now k) v.items _ (read_within es k v c.requires.graph c.loop-node-test.true c.index-edges-node.is) c.in_ok-row.ensures) c.in_ok-push.ensures.items;
+      size = omega (arith, ap length c.in_ok-push.ensures.items, length_push c.loop-node.rows.items c.in_ok-row.row, c.loop-node.invariant.size);
+      kept = keep_more es c.args.marks.now k c.loop-node.rows.items _ c.in_ok-row.row c.loop-node.invariant.size c.loop-node.invariant.kept c.in_ok-push.ensures.items here;
+    }
 
-pub returns : goal.returns
-returns c = record { graph = is_graph _ _ c.loop-node.invariant.0 (omega (arith, c.loop-node.invariant.1, c.loop-node-test.false, c.loop-node.auto.node-end, c.loop-node.rows.ok)) }
+pub returns-clause-graph : goal.returns-clause-graph
+returns-clause-graph c = is_graph _ _ c.loop-node.invariant.within (omega (arith, c.loop-node.invariant.size, c.loop-node-test.false, c.loop-node.auto.node-end))

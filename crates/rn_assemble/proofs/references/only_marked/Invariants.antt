@@ -1,7 +1,12 @@
-use Rattle.std.proofs.Common.{◌≡◌, length, vec_len}
+use Rattle.std.proofs.Common.{◌≡◌, length}
 use Rattle.rn_assemble.specs.Graph.{rows_of}
-use Rattle.rn_assemble.proofs.Rows.{AreRows}
+use Rattle.rn_assemble.proofs.Rows.{AreRows, IsKept}
 use Rattle.rn_assemble.proofs.references.only_marked.Given as goal
 
+-- the rows so far
 abbrev pub invariant-loop-node : goal.invariant-loop-node
-invariant-loop-node l = AreRows (length l.edges) (rows_of l.rows.items) × (vec_len l.rows ≡ l.node)
+invariant-loop-node l = record {
+  within : AreRows (length l.edges) (rows_of l.rows.items);
+  size : length l.rows.items ≡ l.node;
+  kept : IsKept l.edges l.marks l.node l.rows.items;
+}

@@ -1,17 +1,80 @@
-use Rattle.std.proofs.Common.{arith}
-use Rattle.rn_assemble.proofs.Rows.{rows_pushed, is_graph}
+-- Key by key.
+use Rattle.std.proofs.Common.{◌≡◌, ◌<◌, ◌++◌, suc, length, ap, ◌∙◌, sym, subst, arith, rules, None, Some, option_map}
+use Rattle.std.proofs.lemmas.List.{length_push, length-map}
+use Rattle.rn_pattern.specs.Reached.{RefersTo}
+use Rattle.rn_pattern.specs.Order.{text_cmp}
+use Rattle.rn_pattern.specs.References.{RefersOutside, IsUndefined}
+use Rattle.rn_assemble.specs.Least.{IsLeast}
+use Rattle.rn_assemble.specs.Combine.{joined_grammar}
+use Rattle.rn_assemble.specs.Graph.{row, rows_of}
+use Rattle.rn_assemble.specs.Listed.{components_in}
+use Rattle.rn_assemble.specs.Referred.{AreBodiesAt, AreNumbers, IsLeastOf}
+use Rattle.rn_assemble.specs.Views.{names_of, texts_of}
+use Rattle.rn_assemble.proofs.Looking.{none_looked}
+use Rattle.rn_assemble.proofs.Rows.{rows_pushed, is_graph, no_rows}
+use Rattle.rn_assemble.proofs.GatheredReferences.{Gathered, row_of, gathered_begins, gathered_more, gathered_none, gathered_some, names_anywhere, names_outside}
 use Rattle.rn_assemble.proofs.references.references_of.Goals as goal
 
+pub loop-key-init : goal.loop-key-init
+loop-key-init c = record {
+  all = rw (c.new-all.ensures.items) (no_rows _);
+  all_size = ap length c.new-all.ensures.items;
+  outer = rw (c.new-outer.ensures.items) (no_rows _);
+  outer_size = ap length c.new-outer.ensures.items;
+  looked = omega (arith, c.in_ok-looked.ensures.len, c.in_ok-looked.looked.ok, c.count_bodies.ensures);
+  fresh = none_looked _ _ 0 (c.in_ok-looked.ensures.items_if_clones_equal (λ y h. search rules));
+  gathered = λ live l s. rw (c.new-all.ensures.items, c.new-outer.ensures.items) (gathered_begins _ _);
+}
+
 pub loop-key-preserved : goal.loop-key-preserved
-loop-key-preserved c = (
-  rows_pushed _ _ _ c.in_ok-numbers.field-0 c.loop-key.invariant.0 c.in_ok-numbers.ensures c.in_ok-push.ensures.items,
-  omega (arith, c.loop-key.invariant.1, c.in_ok-push.ensures.len),
-  rows_pushed _ _ _ c.in_ok-numbers-2.field-0 c.loop-key.invariant.2 c.in_ok-numbers-2.ensures c.in_ok-push-2.ensures.items,
-  omega (arith, c.loop-key.invariant.3, c.in_ok-push-2.ensures.len),
-)
+loop-key-preserved c = record {
+  all = rows_pushed _ _ _ c.in_ok-numbers.field-0 c.loop-key.invariant.all c.in_ok-numbers.ensures.within c.in_ok-push.ensures.items;
+  all_size = omega (arith, ap length c.in_ok-push.ensures.items, length_push c.loop-key.all.items c.in_ok-numbers.field-0, c.loop-key.invariant.all_size);
+  outer = rows_pushed _ _ _ c.in_ok-numbers-2.field-0 c.loop-key.invariant.outer c.in_ok-numbers-2.ensures.within c.in_ok-push-2.ensures.items;
+  outer_size = omega (arith, ap length c.in_ok-push-2.ensures.items, length_push c.loop-key.outer.items c.in_ok-numbers-2.field-0, c.loop-key.invariant.outer_size);
+  looked = omega (arith, c.bodies_of.ensures.size, c.bodies_of.new.looked.ok, c.loop-key.looked.ok, c.loop-key.invariant.looked);
+  fresh = c.in_ok-bodies.ensures.fresh;
+  gathered = λ live l s.
+      let names = names_of c.args.keys.now in
+      let cs = components_in live in
+      let k = c.loop-key.key in
+      let bs = c.args.components.now.bodies.items in
+      let list = c.args.components.now.list.items in
+      let rows = rows_of c.args.components.now.places.items in
+      let h : k < suc (length names) = omega (arith, c.loop-key-test.true, c.len-key-end.ensures, c.args.keys.now.names.ok, length-map c.args.keys.now.names.items (λ t. t.now)) in
+      let size : length c.loop-key.looked.items ≡ length bs = omega (arith, c.loop-key.invariant.looked, c.args.components.now.bodies.ok) in
+      let found = subst (λ n. AreBodiesAt n list (row rows k) c.in_ok-bodies.bodies.items) size c.in_ok-bodies.ensures.found in
+      let texts = texts_of c.in_ok-names.names.items in
+      let anywhere = names_anywhere names bs list rows live l s k c.in_ok-bodies.bodies.items _ texts h found c.as_slice.ensures.value c.in_ok-names.ensures in
+      let outside = names_outside names bs list rows live l s k c.in_ok-bodies.bodies.items _ (texts_of c.in_ok-outside.outside.items) h found c.as_slice-in-loop-key.ensures.value c.in_ok-outside.ensures in
+      gathered_more names cs c.loop-key.all.items c.loop-key.outer.items c.push.new.self.items c.push-in-loop-key.new.self.items c.in_ok-numbers.field-0 c.in_ok-numbers-2.field-0 k _ _ texts
+      (c.loop-key.invariant.gathered live l s) c.loop-key.invariant.all_size c.loop-key.invariant.outer_size c.in_ok-push.ensures.items c.in_ok-push-2.ensures.items
+      (row_of RefersTo names texts cs k c.in_ok-numbers.field-0.items (subst (λ ts. AreNumbers names (texts_of ts) c.in_ok-numbers.field-0.items) c.as_slice-in-loop-key-3.ensures.value (c.in_ok-numbers.ensures.are s)) anywhere)
+      (row_of RefersOutside names (texts_of c.in_ok-outside.outside.items) cs k c.in_ok-numbers-2.field-0.items (subst (λ ts. AreNumbers names (texts_of ts) c.in_ok-numbers-2.field-0.items) c.as_slice-in-loop-key-4.ensures.value (c.in_ok-numbers-2.ensures.are s)) outside)
+      anywhere
+      (λ before b. subst (λ ns. IsLeastOf (joined_grammar cs) (before ++ texts_of ns) (option_map (λ t. t.now) c.least_undefined-undefined.result)) c.as_slice-in-loop-key-2.ensures.value (c.least_undefined-undefined.ensures live before l s b));
+}
 
 pub returns-clause-all : goal.returns-clause-all
-returns-clause-all c = is_graph _ _ c.loop-key.invariant.0 (omega (arith, c.loop-key.invariant.1, c.loop-key-test.false, c.loop-key.auto.key-end, c.loop-key.all.ok, c.len-key-end.ensures))
+returns-clause-all c = is_graph _ _ c.loop-key.invariant.all (omega (arith, c.loop-key.invariant.all_size, c.loop-key-test.false, c.loop-key.auto.key-end, c.len-key-end.ensures))
 
 pub returns-clause-outer : goal.returns-clause-outer
-returns-clause-outer c = is_graph _ _ c.loop-key.invariant.2 (omega (arith, c.loop-key.invariant.3, c.loop-key-test.false, c.loop-key.auto.key-end, c.loop-key.outer.ok, c.len-key-end.ensures))
+returns-clause-outer c = is_graph _ _ c.loop-key.invariant.outer (omega (arith, c.loop-key.invariant.outer_size, c.loop-key-test.false, c.loop-key.auto.key-end, c.len-key-end.ensures))
+
+pub returns-clause-found : goal.returns-clause-found
+returns-clause-found c = λ live l s.
+    let names = names_of c.args.keys.now in
+    let size : c.loop-key.key ≡ suc (length names) = omega (arith, c.loop-key-test.false, c.loop-key.auto.key-end, c.len-key-end.ensures, c.args.keys.now.names.ok, length-map c.args.keys.now.names.items (λ t. t.now)) in
+    gathered_none names _ _ _ live l s c.loop-key.all.items c.loop-key.outer.items (c.loop-key.invariant.all_size ∙ size) (c.loop-key.invariant.outer_size ∙ size)
+    (subst (λ k. Gathered names (components_in live) c.loop-key.all.items c.loop-key.outer.items k None) size
+    (subst (λ o. Gathered names (components_in live) c.loop-key.all.items c.loop-key.outer.items c.loop-key.key (option_map (λ t. t.now) o)) c.in-None.is (c.loop-key.invariant.gathered live l s)))
+
+pub returns-in-Some-clause-found : goal.returns-in-Some-clause-found
+returns-in-Some-clause-found c = λ live l s.
+    let names = names_of c.args.keys.now in
+    let G = joined_grammar (components_in live) in
+    let size : c.loop-key.key ≡ suc (length names) = omega (arith, c.loop-key-test.false, c.loop-key.auto.key-end, c.len-key-end.ensures, c.args.keys.now.names.ok, length-map c.args.keys.now.names.items (λ t. t.now)) in
+    subst (IsLeast text_cmp (IsUndefined G)) (sym c.in_ok-from_str-in-Some.ensures.ok)
+    (gathered_some names _ _ _ live l s c.loop-key.all.items c.loop-key.outer.items c.in-Some.name.now
+    (subst (λ k. Gathered names (components_in live) c.loop-key.all.items c.loop-key.outer.items k (Some c.in-Some.name.now)) size
+    (subst (λ o. Gathered names (components_in live) c.loop-key.all.items c.loop-key.outer.items c.loop-key.key (option_map (λ t. t.now) o)) c.in-Some.is (c.loop-key.invariant.gathered live l s))))

@@ -1,9 +1,23 @@
-use Rattle.std.proofs.Common.{◌≡◌, ◌+◌, vec_len}
+-- The keys before are done.
+use Rattle.std.proofs.Common.{◌≡◌, ◌+◌, List, length, option_map, vec_len}
+use Rattle.std.specs.List.Sorted.{IsStrictlySortedBy}
+use Rattle.rn_pattern.specs.Order.{text_cmp}
 use Rattle.rn_assemble.specs.Graph.{rows_of}
+use Rattle.rn_assemble.specs.Listed.{Lists, Live, components_in}
+use Rattle.rn_assemble.specs.Referred.{IsFresh}
+use Rattle.rn_assemble.specs.Views.{names_of}
 use Rattle.rn_assemble.proofs.Rows.{AreRows}
+use Rattle.rn_assemble.proofs.GatheredReferences.{Gathered}
 use Rattle.rn_assemble.proofs.references.references_of.Given as goal
 
 abbrev pub invariant-loop-key : goal.invariant-loop-key
-invariant-loop-key l =
-    AreRows (vec_len l.keys.names + 1) (rows_of l.all.items) × (vec_len l.all ≡ l.key)
-    × AreRows (vec_len l.keys.names + 1) (rows_of l.outer.items) × (vec_len l.outer ≡ l.key)
+invariant-loop-key l = record {
+  all : AreRows (vec_len l.keys.names + 1) (rows_of l.all.items);
+  all_size : length l.all.items ≡ l.key;
+  outer : AreRows (vec_len l.keys.names + 1) (rows_of l.outer.items);
+  outer_size : length l.outer.items ≡ l.key;
+  looked : length l.looked.items ≡ vec_len l.components.bodies;
+  fresh : IsFresh l.key l.looked.items;
+  gathered : (live : List Live) → Lists (names_of l.keys) l.components live → IsStrictlySortedBy text_cmp (names_of l.keys)
+      → Gathered (names_of l.keys) (components_in live) l.all.items l.outer.items l.key (option_map (λ s. s.now) l.undefined);
+}

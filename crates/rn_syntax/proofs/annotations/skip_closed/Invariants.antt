@@ -1,4 +1,10 @@
-use Rattle.std.proofs.Common.{◌≤◌, ◌-◌, length}
+-- Of what is behind the first bracket, what is left closes one bracket more than `depth` says.
+use Rattle.std.proofs.Common.{◌≤◌, ◌-◌, length, suc}
+use Rattle.rn_syntax.specs.Grammar.{Closed}
+use Rattle.rn_syntax.specs.Follow.{Anything}
+use Rattle.rn_syntax.specs.Reading.{Bare, rest}
+use Rattle.rn_syntax.proofs.Compose.{Upto}
+use Rattle.rn_syntax.proofs.Skipping.{Closings}
 use Rattle.rn_syntax.proofs.annotations.skip_closed.Given as goal
 
 abbrev pub invariant-closed : goal.invariant-closed
@@ -6,6 +12,7 @@ invariant-closed l = record {
   further : l.fn.at ≤ l.at;
   inside : l.at ≤ length l.tokens;
   small : l.depth ≤ l.at;
+  so_far : Upto (Bare Closed) (Closings (suc l.depth)) Anything (rest l.tokens l.fn.at) (rest l.tokens l.at);
 }
 
 abbrev pub decreases-closed : goal.decreases-closed

@@ -1,10 +1,16 @@
+-- What is left are follows as before.
 use Rattle.std.proofs.Common.{◌≤◌, ◌-◌, length}
+use Rattle.rn_syntax.specs.Grammar.{AreFollows}
+use Rattle.rn_syntax.specs.Follow.{Starts, no_follow}
+use Rattle.rn_syntax.specs.Reading.{Bare, rest, AreSpelled}
+use Rattle.rn_syntax.proofs.Compose.{Upto}
 use Rattle.rn_syntax.proofs.annotations.skip_follows.Given as goal
 
 abbrev pub invariant-follows : goal.invariant-follows
 invariant-follows l = record {
   further : l.fn.at ≤ l.at;
   inside : l.at ≤ length l.tokens;
+  so_far : AreSpelled l.tokens → Upto (Bare AreFollows) (Bare AreFollows) (Starts no_follow) (rest l.tokens l.fn.at) (rest l.tokens l.at);
 }
 
 abbrev pub decreases-follows : goal.decreases-follows

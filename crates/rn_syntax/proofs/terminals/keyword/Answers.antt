@@ -4,9 +4,9 @@ use Rattle.rn_syntax.specs.Tokens.{keyword_rows}
 use Rattle.rn_syntax.proofs.Spelled.{none_spelled}
 use Rattle.rn_syntax.proofs.terminals.keyword.Goals as goal
 
-pub returns-in_default : goal.returns-in_default
+pub returns-in_default-clause-is : goal.returns-in_default-clause-is
 unfolding keyword_rows
-returns-in_default c =
+returns-in_default-clause-is c =
     let n = c.in_default in
     ap Some (sym (none_spelled keyword_rows c.args.text.now (
       n.not-attribute,

@@ -1,42 +1,16 @@
 -- Tokens are one module at most.
 use Rattle.std.proofs.Common.{◌≡◌, ℕ, arith, Bool, true, false, List, [], ◌∷◌, Option, Some, None, refl, sym, ap, subst}
 use Rattle.std.proofs.lemmas.Bool.{false≢true}
-use Rattle.rn_pattern.specs.Tree.{Text}
 use Rattle.rn_syntax.specs.declared.token.Keyword.TheVariants as k
 use Rattle.rn_syntax.specs.Terminal.{Terminal, ◌#◌, ident, keyword, prefixed, tilde, left_brace, right_brace, left_bracket}
 use Rattle.rn_syntax.specs.Tree as t
 use Rattle.rn_syntax.specs.Tree.{Datatype, Params, AnyName, NameClass, Pattern, Uri, Declaration, Item, Module, patterns_of, classes_of, items_of}
 use Rattle.rn_syntax.specs.Grammar as g
+use Rattle.rn_syntax.specs.Follow.{Starts, no_bracket, no_tilde, behind_pattern, first, no_brace, begins_item, is_end, no_inherit, no_declaration}
 use Rattle.rn_syntax.specs.Grammar.{Tokens, IsWord, IsLiteral, Closed, IsAnnotation, MayAnnotate, AreFollows, IsDatatype, AreParams, MayHaveParams, IsAnyName, IsNameClass, AreMoreClasses, IsClassOperand, IsClassPrimary, IsClassCore, IsPattern, AreMore, IsOperand, IsPrimary, IsCore, IsUri, IsDeclaration, AreDeclarations, IsComponent, IsNote, AreInner, MayInherit, MayOverride, AreItems}
 use Rattle.rn_syntax.specs.Fault.{HasTree}
-use Rattle.rn_assemble.proofs.OneClass.{Starts, no_bracket, no_tilde, behind_pattern, literal_one, annotation_one, may_one, word_one, starts_to, first, tail, word_is, no_brace}
-use Rattle.rn_assemble.proofs.OnePattern.{literal_kind, pattern_one}
-
--- what may begin items, or end them
-abbrev pub begins_item : Terminal → Bool
-begins_item (ident n) = true
-begins_item (prefixed n l) = true
-begins_item (keyword k.Start) = true
-begins_item (keyword k.Div) = true
-begins_item (keyword k.Include) = true
-begins_item (keyword k.Grammar) = true
-begins_item left_bracket = true
-begins_item right_brace = true
-begins_item x = false
-
-abbrev pub is_end : Terminal → Bool
-is_end right_brace = true
-is_end x = false
-
-abbrev pub no_inherit : Terminal → Bool
-no_inherit (keyword k.Inherit) = false
-no_inherit x = true
-
-abbrev pub no_declaration : Terminal → Bool
-no_declaration (keyword k.Namespace) = false
-no_declaration (keyword k.Default) = false
-no_declaration (keyword k.Datatypes) = false
-no_declaration x = true
+use Rattle.rn_syntax.proofs.OneClass.{literal_one, annotation_one, may_one, word_one, starts_to, tail, word_is}
+use Rattle.rn_syntax.proofs.OnePattern.{literal_kind, pattern_one}
 
 abbrev pub is_include : Terminal → Bool
 is_include (keyword k.Include) = true
@@ -195,11 +169,11 @@ inner_one (g.note n m) (g.component m' c k) a b = absurd (component_note m' c n)
 inner_one (g.note n m) (g.div m' k l) a b = absurd (keyword_note m' n)
 inner_one {r' = r'} {ys = ys} (g.note n m) (g.note n' m') a b = inner_one m (subst (λ z. AreInner z ys r') (sym (note_one n n')) m') a b
 
-pub inherit_one : {ts r r' : Tokens} {h h' : Option (Text × ℕ)} → MayInherit ts h r → MayInherit ts h' r' → Starts no_inherit r → Starts no_inherit r' → (h ≡ h') × (r ≡ r')
+pub inherit_one : {ts r r' : Tokens} {h h' : Option (List ℕ × ℕ)} → MayInherit ts h r → MayInherit ts h' r' → Starts no_inherit r → Starts no_inherit r' → (h ≡ h') × (r ≡ r')
 inherit_one g.none g.none a b = (refl, refl)
 inherit_one g.none (g.inherit w) a b = absurd (false≢true a)
 inherit_one (g.inherit w) g.none a b = absurd (false≢true b)
-inherit_one (g.inherit {l = l} w) (g.inherit v) a b = (ap (λ (n : Text). Some (n, l)) (word_one w v), refl)
+inherit_one (g.inherit {l = l} w) (g.inherit v) a b = (ap (λ (n : List ℕ). Some (n, l)) (word_one w v), refl)
 
 pub override_one : {ts r r' : Tokens} {xs ys : List Item} → MayOverride ts xs r → MayOverride ts ys r' → Starts no_brace r → Starts no_brace r' → (xs ≡ ys) × (r ≡ r')
 override_one g.none g.none a b = (refl, refl)
@@ -215,7 +189,7 @@ pub override_tilde : {ts r : Tokens} {xs : List Item} → MayOverride ts xs r �
 override_tilde {ts = ts} g.none a = starts_to begins_item no_tilde item_to_tilde ts a
 override_tilde (g.braces n) a = refl
 
-pub inherit_tilde : {ts r : Tokens} {h : Option (Text × ℕ)} → MayInherit ts h r → Starts no_tilde r → Starts no_tilde ts
+pub inherit_tilde : {ts r : Tokens} {h : Option (List ℕ × ℕ)} → MayInherit ts h r → Starts no_tilde r → Starts no_tilde ts
 inherit_tilde g.none a = a
 inherit_tilde (g.inherit w) a = refl
 

@@ -2,48 +2,14 @@
 use Rattle.std.proofs.Common.{◌≡◌, ℕ, Bool, true, false, List, [], ◌∷◌, ◌++◌, refl, sym, ap, subst}
 use Rattle.std.specs.Prelude.{⊤}
 use Rattle.std.proofs.lemmas.Bool.{false≢true}
-use Rattle.rn_pattern.specs.Tree.{Text}
 use Rattle.rn_syntax.specs.Terminal.{Terminal, Placed, ◌#◌, ident, keyword, segment, operator, postfix, minus, tilde, follow, left_brace, left_bracket, other}
 use Rattle.rn_syntax.specs.Tree as t
 use Rattle.rn_syntax.specs.Tree.{Datatype, Params, AnyName, NameClass, Pattern, Uri, Declaration, Item, Module, patterns_of, classes_of, items_of}
 use Rattle.rn_syntax.specs.Grammar as g
+use Rattle.rn_syntax.specs.Follow.{Starts, no_bracket, no_follow, no_tilde, first, no_brace, behind_name, behind_class}
 use Rattle.rn_syntax.specs.Grammar.{Tokens, IsWord, IsLiteral, Closed, IsAnnotation, MayAnnotate, AreFollows, IsDatatype, AreParams, MayHaveParams, IsAnyName, IsNameClass, AreMoreClasses, IsClassOperand, IsClassPrimary, IsClassCore, IsPattern, AreMore, IsOperand, IsPrimary, IsCore, IsUri, IsDeclaration, AreDeclarations, IsComponent, IsNote, AreInner, MayInherit, MayOverride, AreItems}
 
--- the first terminal passes, if there is one
-abbrev pub Starts : (Terminal → Bool) → Tokens → Type 0
-Starts test [] = ⊤
-Starts test (x # i ∷ ts) = test x ≡ true
-
-abbrev pub no_bracket : Terminal → Bool
-no_bracket left_bracket = false
-no_bracket x = true
-
-abbrev pub no_follow : Terminal → Bool
-no_follow follow = false
-no_follow x = true
-
-abbrev pub no_tilde : Terminal → Bool
-no_tilde tilde = false
-no_tilde x = true
-
--- what may stand behind a primary, an operand and a pattern
-abbrev pub behind_primary : Terminal → Bool
-behind_primary follow = false
-behind_primary tilde = false
-behind_primary (segment s) = false
-behind_primary left_brace = false
-behind_primary minus = false
-behind_primary x = true
-
-abbrev pub behind_operand : Terminal → Bool
-behind_operand (postfix s) = false
-behind_operand x = behind_primary x
-
-abbrev pub behind_pattern : Terminal → Bool
-behind_pattern (operator o) = false
-behind_pattern x = behind_operand x
-
-pub literal_one : {ts r r' : Tokens} {s u : Text} → IsLiteral ts s r → IsLiteral ts u r' → Starts no_tilde r → Starts no_tilde r' → (s ≡ u) × (r ≡ r')
+pub literal_one : {ts r r' : Tokens} {s u : List ℕ} → IsLiteral ts s r → IsLiteral ts u r' → Starts no_tilde r → Starts no_tilde r' → (s ≡ u) × (r ≡ r')
 literal_one g.one g.one a b = (refl, refl)
 literal_one g.one (g.joined l) a b = absurd (false≢true a)
 literal_one (g.joined l) g.one a b = absurd (false≢true b)
@@ -73,7 +39,7 @@ follows_one g.none (g.more n c f) a b = absurd (false≢true a)
 follows_one (g.more n c f) g.none a b = absurd (false≢true b)
 follows_one {r' = r'} (g.more n c f) (g.more n' c' f') a b = follows_one f (subst (λ l. AreFollows l r') (sym (annotation_one c c')) f') a b
 
-pub word_one : {x : Terminal} {n l : Text} → IsWord x n → IsWord x l → n ≡ l
+pub word_one : {x : Terminal} {n l : List ℕ} → IsWord x n → IsWord x l → n ≡ l
 word_one g.by_name g.by_name = refl
 word_one g.by_keyword g.by_keyword = refl
 
@@ -92,10 +58,6 @@ pub starts_to : (p q : Terminal → Bool) → ((x : Terminal) → p x ≡ true �
 starts_to p q to [] h = tt
 starts_to p q to (x # i ∷ ts) h = to x h
 
-abbrev pub first : Tokens → Terminal
-first [] = other
-first (x # i ∷ ts) = x
-
 abbrev pub first_placed : Placed → Tokens → Placed
 first_placed d [] = d
 first_placed d (x ∷ ts) = x
@@ -109,11 +71,11 @@ is_word (ident n) = true
 is_word (keyword w) = true
 is_word x = false
 
-pub word_is : {x : Terminal} {n : Text} → IsWord x n → is_word x ≡ true
+pub word_is : {x : Terminal} {n : List ℕ} → IsWord x n → is_word x ≡ true
 word_is g.by_name = refl
 word_is g.by_keyword = refl
 
-pub word_no_bracket : {x : Terminal} {n : Text} → IsWord x n → no_bracket x ≡ true
+pub word_no_bracket : {x : Terminal} {n : List ℕ} → IsWord x n → no_bracket x ≡ true
 word_no_bracket g.by_name = refl
 word_no_bracket g.by_keyword = refl
 
@@ -123,11 +85,11 @@ begins_param (keyword w) = true
 begins_param left_bracket = true
 begins_param x = false
 
-pub word_param : {x : Terminal} {n : Text} → IsWord x n → begins_param x ≡ true
+pub word_param : {x : Terminal} {n : List ℕ} → IsWord x n → begins_param x ≡ true
 word_param g.by_name = refl
 word_param g.by_keyword = refl
 
-pub param_front : {x : Terminal} {n : Text} {i : ℕ} {ts us : Tokens} → MayAnnotate ts (x # i ∷ us) → IsWord x n → Starts begins_param ts
+pub param_front : {x : Terminal} {n : List ℕ} {i : ℕ} {ts us : Tokens} → MayAnnotate ts (x # i ∷ us) → IsWord x n → Starts begins_param ts
 param_front g.bare w = word_param w
 param_front (g.annotated (g.bracketed c)) w = refl
 
@@ -152,10 +114,6 @@ params_one {r' = r'} (g.param {x = x} {n = n} {s = s} {value = v} {mid = mid} {p
     let rest = params_one k (subst (λ y. AreParams y ps' r') (sym el.1) k') in
     ((λ i. (en i, el.0 i) ∷ rest.0 i), rest.1)
 
-abbrev pub no_brace : Terminal → Bool
-no_brace left_brace = false
-no_brace x = true
-
 pub may_params_one : {ts r r' : Tokens} {ps qs : Params} → MayHaveParams ts ps r → MayHaveParams ts qs r' → Starts no_brace r → Starts no_brace r' → (ps ≡ qs) × (r ≡ r')
 may_params_one g.none g.none a b = (refl, refl)
 may_params_one g.none (g.braces k) a b = absurd (false≢true a)
@@ -163,15 +121,6 @@ may_params_one (g.braces k) g.none a b = absurd (false≢true b)
 may_params_one (g.braces k) (g.braces k') a b = params_one k k'
 
 -- ---- name classes
-
-abbrev pub behind_name : Terminal → Bool
-behind_name follow = false
-behind_name minus = false
-behind_name x = true
-
-abbrev pub behind_class : Terminal → Bool
-behind_class (operator o) = false
-behind_class x = behind_name x
 
 pub class_to_name : (x : Terminal) → behind_class x ≡ true → behind_name x ≡ true
 class_to_name (operator o) e = refl
@@ -199,7 +148,7 @@ class_core_front g.prefixed_name = refl
 class_core_front (g.any_name {rest = rest} n) = any_no_bracket rest n
 class_core_front (g.parens c) = refl
 
-pub any_word : {x : Terminal} {n : Text} {i : ℕ} {a : AnyName} → IsWord x n → IsAnyName (x # i) a → ⊥
+pub any_word : {x : Terminal} {n : List ℕ} {i : ℕ} {a : AnyName} → IsWord x n → IsAnyName (x # i) a → ⊥
 any_word w g.all = false≢true (word_is w)
 any_word w g.of = false≢true (word_is w)
 

@@ -1,7 +1,6 @@
 -- Tokens are one pattern at most.
 use Rattle.std.proofs.Common.{◌≡◌, ◌<◌, ◌⊎◌, inl, inr, ⊎_elim, ℕ, arith, Bool, true, false, List, [], ◌∷◌, Some, None, refl, sym, ap, ◌∙◌, subst}
 use Rattle.std.proofs.lemmas.Bool.{false≢true}
-use Rattle.rn_pattern.specs.Tree.{Text}
 use Rattle.rn_syntax.specs.declared.token.Keyword.TheVariants as k
 use Rattle.rn_syntax.specs.declared.token.Operator.{Operator}
 use Rattle.rn_syntax.specs.declared.token.Postfix.{Postfix}
@@ -9,8 +8,9 @@ use Rattle.rn_syntax.specs.Terminal.{Terminal, Placed, ◌#◌, ident, keyword, 
 use Rattle.rn_syntax.specs.Tree as t
 use Rattle.rn_syntax.specs.Tree.{Datatype, Params, AnyName, NameClass, Pattern, Uri, Declaration, Item, Module, patterns_of, classes_of, items_of}
 use Rattle.rn_syntax.specs.Grammar as g
+use Rattle.rn_syntax.specs.Follow.{Starts, no_bracket, no_follow, no_tilde, behind_primary, behind_operand, behind_pattern, first, no_brace, behind_core}
 use Rattle.rn_syntax.specs.Grammar.{Tokens, IsWord, IsLiteral, Closed, IsAnnotation, MayAnnotate, AreFollows, IsDatatype, AreParams, MayHaveParams, IsAnyName, IsNameClass, AreMoreClasses, IsClassOperand, IsClassPrimary, IsClassCore, IsPattern, AreMore, IsOperand, IsPrimary, IsCore, IsUri, IsDeclaration, AreDeclarations, IsComponent, IsNote, AreInner, MayInherit, MayOverride, AreItems}
-use Rattle.rn_assemble.proofs.OneClass.{Starts, no_bracket, no_follow, no_tilde, behind_primary, behind_operand, behind_pattern, literal_one, may_one, follows_one, datatype_one, starts_to, first, first_placed, tail, no_brace, may_params_one, minus_stays, class_one}
+use Rattle.rn_syntax.proofs.OneClass.{literal_one, may_one, follows_one, datatype_one, starts_to, first_placed, tail, may_params_one, minus_stays, class_one}
 
 pub to_operand : (x : Terminal) → behind_pattern x ≡ true → behind_operand x ≡ true
 to_operand (operator o) e = absurd (false≢true e)
@@ -23,13 +23,6 @@ to_primary x e = e
 pub primary_to_follow : (x : Terminal) → behind_primary x ≡ true → no_follow x ≡ true
 primary_to_follow follow e = absurd (false≢true e)
 primary_to_follow x e = refl
-
--- what may stand behind the core of a primary
-abbrev pub behind_core : Terminal → Bool
-behind_core tilde = false
-behind_core (segment s) = false
-behind_core left_brace = false
-behind_core x = true
 
 pub primary_to_core : (x : Terminal) → behind_primary x ≡ true → behind_core x ≡ true
 primary_to_core tilde e = absurd (false≢true e)
@@ -85,7 +78,7 @@ datatype_kind us g.string = refl
 datatype_kind us g.token = refl
 datatype_kind us g.named = refl
 
-pub literal_kind : {ts r : Tokens} {s : Text} → IsLiteral ts s r → kind_of (first ts) ≡ 8
+pub literal_kind : {ts r : Tokens} {s : List ℕ} → IsLiteral ts s r → kind_of (first ts) ≡ 8
 literal_kind g.one = refl
 literal_kind (g.joined l) = refl
 
@@ -160,11 +153,11 @@ except_not {x = x} {i = i} {mid = mid} {after = after} {r = r} {p = p} (g.primar
     false≢true (subst (Starts behind_primary) stays s))
     (datum_core (subst (λ y. IsCore y p aft) e c) n)
 
-pub literal_not : {ts r : Tokens} {s : Text} → IsLiteral ts s r → Starts behind_core ts → ⊥
+pub literal_not : {ts r : Tokens} {s : List ℕ} → IsLiteral ts s r → Starts behind_core ts → ⊥
 literal_not g.one e = false≢true e
 literal_not (g.joined l) e = false≢true e
 
-pub typed_not : {ts r r' : Tokens} {s : Text} {ps : Params} → IsLiteral ts s r → MayHaveParams ts ps r' → Starts behind_core r' → ⊥
+pub typed_not : {ts r r' : Tokens} {s : List ℕ} {ps : Params} → IsLiteral ts s r → MayHaveParams ts ps r' → Starts behind_core r' → ⊥
 typed_not l g.none e = literal_not l e
 typed_not l (g.braces k) e = absurd (omega (arith, literal_kind l))
 

@@ -1,0 +1,77 @@
+-- Items that are gathered one after the other.
+use Rattle.std.proofs.Common.{◌≡◌, ℕ, ◌+◌, ◌<◌, List, ◌∷◌, ◌++◌, length, get_or, take, drop, map, drop-cons, sym, ap, ◌∙◌, subst, [], append_assoc, append-nil, Contains, add-one, inl, inr, arith}
+use Rattle.std.specs.List.{AllByRecursion, AllZip}
+use Rattle.std.specs.Prelude.{flat_map}
+use Rattle.std.proofs.lemmas.List.Elements.{Contains-append_left, Contains-append_right}
+use Rattle.rn_pattern.proofs.InOrder.{contains_cases, each_contained}
+use Rattle.rn_assemble.specs.declared.modules.Source as source
+use Rattle.std.proofs.lemmas.List.{length-map, get_or-map, take_more}
+use Rattle.rn_pattern.specs.Tree.{Text}
+use Rattle.rn_pattern.proofs.Ascending.{each_front, each_behind}
+use Rattle.rn_syntax.specs.declared.tree.Item.{Item}
+use Rattle.rn_syntax.specs.Tree as t
+use Rattle.rn_syntax.specs.View.{item_view, items_view}
+use Rattle.rn_assemble.specs.Components.{Source}
+use Rattle.rn_assemble.specs.Contained.{Written, Inclusion, inclusions, item_inclusions, written, item_written}
+use Rattle.rn_assemble.specs.declared.contents.Component.{Component}
+use Rattle.rn_assemble.specs.Views.{Adds, written_view, source_view, sources_view}
+use Rattle.rn_assemble.specs.Keyed.{AreNames, defines, item_defines}
+
+-- the item at a place, and those behind it
+pub items_at : (xs : List Item) (i : ℕ) (x : Item) → i < length xs → x ≡ get_or xs i x → items_view (drop i xs) ≡ t.item (item_view x) (items_view (drop (i + 1) xs))
+items_at xs i x l e = ap items_view (drop-cons xs i x l) ∙ (λ j. t.item (item_view (sym e j)) (items_view (drop (sym (add-one i) j) xs)))
+
+pub defined_at : (names : List Text) (xs : List Item) (i : ℕ) (x : Item) → i < length xs → x ≡ get_or xs i x → AllByRecursion (Contains names) (defines (items_view (drop i xs))) → AllByRecursion (Contains names) (item_defines (item_view x))
+defined_at names xs i x l e h = each_front (Contains names) _ (defines (items_view (drop (i + 1) xs))) (subst (λ (ys : t.Items). AllByRecursion (Contains names) (defines ys)) (items_at xs i x l e) h)
+
+pub defined_behind : (names : List Text) (xs : List Item) (i : ℕ) (x : Item) → i < length xs → x ≡ get_or xs i x → AllByRecursion (Contains names) (defines (items_view (drop i xs))) → AllByRecursion (Contains names) (defines (items_view (drop (i + 1) xs)))
+defined_behind names xs i x l e h = each_behind (Contains names) (item_defines (item_view x)) _ (subst (λ (ys : t.Items). AllByRecursion (Contains names) (defines ys)) (items_at xs i x l e) h)
+
+-- one more item is gathered, or all of an item's children
+pub adds_none : (names : List Text) (cs : List Component) → Adds names cs cs []
+adds_none names cs = record { is = sym (append-nil (map (written_view names) cs)); numbered = λ h. h }
+
+pub adds_more : (names : List Text) (cs ds es : List Component) (us vs : List Written) → Adds names cs ds us → Adds names ds es vs → Adds names cs es (us ++ vs)
+adds_more names cs ds es us vs a b = record {
+  is = b.is ∙ ap (λ l. l ++ vs) a.is ∙ append_assoc (map (written_view names) cs) us vs;
+  numbered = λ h. b.numbered (a.numbered h);
+}
+
+pub written_to : (xs : List Item) (i : ℕ) (x : Item) → i < length xs → x ≡ get_or xs i x → written (items_view (drop i xs)) ≡ item_written (item_view x) ++ written (items_view (drop (i + 1) xs))
+written_to xs i x l e = ap written (items_at xs i x l e)
+
+module _ (modules : List Source) where
+  pub inclusions_more : (xs : List Item) (i : ℕ) (x : Item) → i < length xs → x ≡ get_or xs i x → (m n : ℕ) → n ≡ m + length (item_written (item_view x)) → (us vs ws : List Inclusion)
+      → us ++ inclusions modules m (items_view (drop i xs)) ≡ ws → vs ≡ us ++ item_inclusions modules m (item_view x) → vs ++ inclusions modules n (items_view (drop (i + 1) xs)) ≡ ws
+  inclusions_more xs i x l e m n s us vs ws h k =
+      ap (λ a. a ++ inclusions modules n (items_view (drop (i + 1) xs))) k ∙ append_assoc us (item_inclusions modules m (item_view x)) (inclusions modules n (items_view (drop (i + 1) xs)))
+      ∙ ap (λ q. us ++ (item_inclusions modules m (item_view x) ++ inclusions modules q (items_view (drop (i + 1) xs)))) s
+      ∙ sym (ap (λ a. us ++ inclusions modules m a) (items_at xs i x l e)) ∙ h
+
+-- each module's contents
+contains_flat : {X Y : Type 0} (f : X → List Y) (xs : List X) (x : X) (y : Y) → Contains xs x → Contains (f x) y → Contains (flat_map f xs) y
+contains_flat f [] x y (k, l, e) d = absurd (omega (arith, l))
+contains_flat f (z ∷ zs) x y c d = elim (contains_cases z x zs c) [
+  | inl e ↦ Contains-append_left (f z) (flat_map f zs) y (subst (λ w. Contains (f w) y) (sym e) d)
+  | inr k ↦ Contains-append_right (f z) (flat_map f zs) y (contains_flat f zs x y k d)
+]
+
+pub defined_each : (ms : List source.Source) (names : List Text) (i : ℕ) (m : source.Source) → AreNames (sources_view ms) names → i < length ms → m ≡ get_or ms i m → AllByRecursion (Contains names) (defines (items_view m.tree.items.items))
+defined_each ms names i m a l e =
+    let at : Contains (sources_view ms) (source_view m) = (i, omega (arith, l, length-map ms source_view), get_or-map source_view ms i m (source_view m) l ∙ ap source_view (sym e)) in
+    each_contained (Contains names) (defines (items_view m.tree.items.items)) (λ x k. (a.defined x).1 (contains_flat (λ (n : Source). defines n.tree.items) (sources_view ms) (source_view m) x at k))
+
+pub zip_seen : {X Y C : Type 0} (f : X → Y) (R : Y → C → Type 0) (xs : List X) (cs : List C) → AllZip (λ x c. R (f x) c) xs cs → AllZip R (map f xs) cs
+zip_seen f R [] [] h = h
+zip_seen f R [] (c ∷ cs) h = h
+zip_seen f R (x ∷ xs) [] h = h
+zip_seen f R (x ∷ xs) (c ∷ cs) h = (h.0, zip_seen f R xs cs h.1)
+
+zip_push : {X C : Type 0} (R : X → C → Type 0) (xs : List X) (cs : List C) (x : X) (c : C) → AllZip R xs cs → R x c → AllZip R (xs ++ x ∷ []) (cs ++ c ∷ [])
+zip_push R [] [] x c h r = (r, tt)
+zip_push R [] (d ∷ cs) x c h r = absurd h
+zip_push R (y ∷ xs) [] x c h r = absurd h
+zip_push R (y ∷ xs) (d ∷ cs) x c h r = (h.0, zip_push R xs cs x c h.1 r)
+
+pub zip_more : {X C : Type 0} (R : X → C → Type 0) (xs : List X) (cs : List C) (i : ℕ) (x : X) (c : C) → i < length xs → x ≡ get_or xs i x → AllZip R (take i xs) cs → R x c → AllZip R (take (i + 1) xs) (cs ++ c ∷ [])
+zip_more R xs cs i x c l e h r = subst (λ ys. AllZip R ys (cs ++ c ∷ [])) (sym (take_more xs i x l ∙ ap (λ y. take i xs ++ y ∷ []) (sym e))) (zip_push R (take i xs) cs x c h r)

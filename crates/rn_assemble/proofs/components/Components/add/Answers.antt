@@ -1,0 +1,37 @@
+use Rattle.std.proofs.Common.{◌≡◌, ◌+◌, ◌<◌, List, length, get_or, map, refl, sym, ap, ◌∙◌, subst, arith}
+use Rattle.std.specs.Prelude.{slice_range}
+use Rattle.rn_assemble.specs.declared.contents.Component as code
+use Rattle.rn_assemble.specs.declared.components.Body.{Body}
+use Rattle.rn_assemble.specs.Components.{Component}
+use Rattle.rn_assemble.specs.Expanded.{AddsLive}
+use Rattle.rn_assemble.specs.Listed.{IsBody, resolved_component}
+use Rattle.rn_assemble.specs.Views.{written_view}
+use Rattle.rn_assemble.proofs.Expansions.{adds_one, body_is, resolved_more}
+use Rattle.rn_assemble.proofs.components.Components.add.Goals as goal
+
+pub loop-number-preserved : goal.loop-number-preserved
+loop-number-preserved c =
+    let i = c.loop-number.invariant in
+    let cs = c.args.content.now.components.items in
+    record {
+      kept = record { contexts = c.in_ok-place.ensures.kept.contexts ∙ i.kept.contexts; bodies = c.in_ok-place.ensures.kept.bodies ∙ i.kept.bodies };
+      added = λ names live u ds k.
+          let h = i.added names live u ds k in
+          let n = c.loop-number.number in
+          let d = c.in-Some.component.now in
+          let at : d ≡ get_or cs n d = subst (λ (l : List code.Component). d ≡ get_or l n d) c.deref.ensures.value (c.in-Some.ensures.lookup.3.1 d) in
+          let below : n < length cs = omega (arith, k.within, c.loop-number-test.true) in
+          let body : c.in-Some-checked_add.body ≡ c.args.first + n = c.in-Some-checked_add.ensures.1 in
+          let same : c.loop-number.self.bodies.items ≡ c.args.self.now.bodies.items = ap (λ v. v.items) i.kept.bodies in
+          let comp : Component = resolved_component u ds (written_view names d) in
+          let lists = c.in_ok-place.ensures.placed names _ comp h.lists (subst (λ (bs : List Body). c.in-Some-checked_add.body < length bs) (sym same) (omega (arith, body, below, k.starts.within)))
+          (λ b. subst (λ (bs : List Body). IsBody names (get_or bs c.in-Some-checked_add.body b) d.key comp) (sym same) (subst (λ m. IsBody names (get_or c.args.self.now.bodies.items m b) d.key comp) (sym body)
+          (body_is names c.args.self.now.bodies.items c.args.first c.args.content.now u ds k.binds k.starts k.numbered n d below at b))) in
+          subst (λ ds. AddsLive names c.args.self.now c.place.new.self live ds) (sym (resolved_more names u ds cs c.args.from n d c.loop-number.auto.number below at))
+          (adds_one names c.args.self.now c.loop-number.self c.place.new.self live _ h _ lists refl (omega (arith, c.in_ok-place.ensures.longer)));
+    }
+
+pub returns-clause-added : goal.returns-clause-added
+returns-clause-added c = λ names live u ds k.
+    let e : c.loop-number.number ≡ c.args.to = omega (arith, c.loop-number-test.false, c.loop-number.auto.number-end, k.ordered) in
+    subst (λ n. AddsLive names c.args.self.now c.loop-number.self live (map (resolved_component u ds) (slice_range (map (written_view names) c.args.content.now.components.items) c.args.from n))) e (c.loop-number.invariant.added names live u ds k)

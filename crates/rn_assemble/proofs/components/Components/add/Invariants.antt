@@ -1,0 +1,15 @@
+use Rattle.std.proofs.Common.{List, map}
+use Rattle.std.specs.Prelude.{slice_range}
+use Rattle.rn_pattern.specs.Tree.{Text}
+use Rattle.rn_syntax.specs.Tree.{Declaration}
+use Rattle.rn_assemble.specs.Expanded.{AddsLive, CanAdd, KeepsBodies}
+use Rattle.rn_assemble.specs.Listed.{Live, resolved_component}
+use Rattle.rn_assemble.specs.Views.{written_view}
+use Rattle.rn_assemble.proofs.components.Components.add.Given as goal
+
+abbrev pub invariant-loop-number : goal.invariant-loop-number
+invariant-loop-number l = record {
+  kept : KeepsBodies l.fn.self l.self;
+  added : (names : List Text) (live : List Live) (inherited : Text) (ds : List Declaration) → CanAdd names l.fn.self live l.content l.first inherited ds l.from l.to
+      → AddsLive names l.fn.self l.self live (map (resolved_component inherited ds) (slice_range (map (written_view names) l.content.components.items) l.from l.number));
+}

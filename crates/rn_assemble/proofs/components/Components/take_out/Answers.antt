@@ -1,0 +1,41 @@
+use Rattle.std.proofs.Common.{◌≡◌, ◌+◌, ◌≤◌, ◌++◌, List, length, get_or, refl, sym, ap, ◌∙◌, subst, arith}
+use Rattle.std.specs.Prelude.{slice_range}
+use Rattle.rn_assemble.specs.declared.contents.Component.{Component}
+use Rattle.rn_assemble.specs.declared.components.Components.{Components}
+use Rattle.rn_assemble.specs.Expanded.{left_by}
+use Rattle.rn_assemble.specs.Listed.{Lists, Live}
+use Rattle.rn_assemble.proofs.LiveLists.{rises_filtered}
+use Rattle.rn_assemble.proofs.Expansions.{range_none, left_none, left_more}
+use Rattle.rn_assemble.proofs.components.Components.take_out.Goals as goal
+use Rattle.rn_assemble.proofs.components.Components.take_out.Goals.{in-Some, in_default}
+
+pub loop-number-init : goal.loop-number-init
+loop-number-init c = record {
+  kept = record { contexts = refl; bodies = refl };
+  list = refl;
+  taken = λ names live added h low high o w. subst (λ (es : List Live). Lists names c.args.self.now (live ++ es)) (sym (ap (λ own. left_by own added) (range_none c.args.content.now.components.items c.args.include.now.from) ∙ left_none added)) h;
+}
+
+pub loop-number-preserved : goal.loop-number-preserved
+loop-number-preserved c =
+    let i = c.loop-number.invariant in
+    let cs = c.args.content.now.components.items in
+    elim c.match-get.branch [
+      | in-Some w ↦
+          let at = w.in-Some.ensures.lookup.3 in
+          let d = w.in-Some.component.now in
+          record {
+            kept = record { contexts = ap (λ (x : Components). x.contexts) w.self-is ∙ w.take_out_since.ensures.kept.contexts ∙ i.kept.contexts; bodies = ap (λ (x : Components). x.bodies) w.self-is ∙ w.take_out_since.ensures.kept.bodies ∙ i.kept.bodies };
+            list = ap (λ (x : Components). x.list) w.self-is ∙ w.take_out_since.ensures.list ∙ i.list;
+            taken = λ names live added h low high o m.
+                let before = i.taken names live added h low high o m in
+                subst (λ (x : Components). Lists names x (live ++ left_by (slice_range cs c.args.include.now.from (c.loop-number.number + 1)) added)) (sym w.self-is)
+                (subst (λ (es : List Live). Lists names w.take_out_since.new.self (live ++ es)) (sym (left_more cs c.args.include.now.from c.loop-number.number d added c.loop-number.auto.number (omega (arith, m, c.loop-number-test.true)) (subst (λ (l : List Component). d ≡ get_or l c.loop-number.number d) c.deref.ensures.value (at.1 d))))
+                (w.take_out_since.ensures.taken names live (left_by (slice_range cs c.args.include.now.from c.loop-number.number) added) before low (rises_filtered _ c.args.before added high)));
+          }
+      | in_default w ↦ record {
+        kept = record { contexts = ap (λ (x : Components). x.contexts) w.self-is ∙ i.kept.contexts; bodies = ap (λ (x : Components). x.bodies) w.self-is ∙ i.kept.bodies };
+        list = ap (λ (x : Components). x.list) w.self-is ∙ i.list;
+        taken = λ names live added h low high o m. absurd (let past : length cs ≤ c.loop-number.number = subst (λ (l : List Component). length l ≤ c.loop-number.number) c.deref.ensures.value w.in_default.ensures.lookup.3 in omega (arith, m, past, c.loop-number-test.true));
+      }
+    ]

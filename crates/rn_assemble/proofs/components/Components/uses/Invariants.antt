@@ -1,0 +1,17 @@
+use Rattle.std.proofs.Common.{◌≡◌, ◌+◌, ◌<◌, List, false, length, take}
+use Rattle.std.specs.List.{list_any}
+use Rattle.std.specs.List.Sorted.{IsStrictlySortedBy}
+use Rattle.rn_pattern.specs.Order.{text_cmp}
+use Rattle.rn_pattern.specs.Tree.{Text}
+use Rattle.rn_assemble.specs.Components.{Component}
+use Rattle.rn_assemble.specs.Combine.{of_key}
+use Rattle.rn_assemble.specs.Keyed.{key_at}
+use Rattle.rn_assemble.specs.Listed.{Lists, Live, components_in}
+use Rattle.rn_assemble.specs.Methods.{is_method}
+use Rattle.rn_assemble.proofs.components.Components.uses.Given as goal
+
+abbrev pub invariant-loop-place : goal.invariant-loop-place
+invariant-loop-place l = record {
+  none : (names : List Text) (live : List Live) → Lists names l.self live → IsStrictlySortedBy text_cmp names → l.key < length names + 1
+      → list_any (λ (c : Component). is_method l.method c.method) (take l.place-index (of_key (key_at names l.key) (components_in live))) ≡ false;
+}

@@ -1,0 +1,28 @@
+use Rattle.std.proofs.Common.{◌≡◌, ◌+◌, ◌<◌, ◌++◌, ◌∷◌, append-nil, ℕ, List, [], length, get_or, take, sym, ap, ◌∙◌, arith}
+use Rattle.std.specs.Prelude.{flat_map}
+use Rattle.std.proofs.lemmas.List.{map-append, take_all, take_more}
+use Rattle.std.proofs.lemmas.List.Concat.{flat_map-append}
+use Rattle.std.proofs.lemmas.List.Elements.{Contains-get_or}
+use Rattle.rn_assemble.specs.Components.{Component, components}
+use Rattle.rn_assemble.specs.Listed.{Live}
+use Rattle.rn_assemble.specs.Expanded.{name_at}
+use Rattle.rn_assemble.proofs.components.components_of.Goals as goal
+
+pub loop-root-preserved : goal.loop-root-preserved
+loop-root-preserved c = record {
+  listed = λ modules names k e b.
+      let roots = c.args.roots.now in
+      let i = c.loop-root.root-index in
+      let f : ℕ → List Component = λ r. components modules (name_at modules r) [] in
+      let h = c.loop-root.invariant.listed modules names k e b in
+      let within : get_or roots i 0 < length modules = b (get_or roots i 0) (Contains-get_or roots i 0 c.loop-root-test.true) in
+      let x = c.in_ok-expand.ensures modules names h.0 (record { modules_in_order = k.modules_in_order; names_in_order = k.names_in_order; flat = k.flat; are = k.are; contexts = h.2; lists = h.1 }) within in
+      let more : flat_map f (take (i + 1) roots) ≡ flat_map f (take i roots) ++ f (get_or roots i 0) = ap (flat_map f) (take_more roots i 0 c.loop-root-test.true) ∙ flat_map-append f (take i roots) (get_or roots i 0 ∷ []) ∙ ap (λ q. flat_map f (take i roots) ++ q) (append-nil (f (get_or roots i 0))) in
+      (h.0 ++ x.adds.added, x.adds.lists, x.contexts, map-append (λ (d : Live). d.component) h.0 x.adds.added ∙ (λ j. h.3 j ++ x.adds.are j) ∙ sym more);
+}
+
+pub returns : goal.returns
+returns c = λ modules names k e b.
+    let f : ℕ → List Component = λ r. components modules (name_at modules r) [] in
+    let h = c.loop-root.invariant.listed modules names k e b in
+    (h.0, h.1, h.3 ∙ ap (flat_map f) (take_all c.loop-root.root-index c.args.roots.now (omega (arith, c.loop-root-test.false))))

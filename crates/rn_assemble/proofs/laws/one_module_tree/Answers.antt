@@ -1,5 +1,0 @@
-use Rattle.rn_assemble.proofs.OneTree.{one_tree}
-use Rattle.rn_assemble.proofs.laws.one_module_tree.Goals as goal
-
-pub returns : goal.returns
-returns c = one_tree

@@ -1,0 +1,61 @@
+-- What a module consists of, with each div replaced by its children (RELAX NG 2001, 4.11): its components in the order of the text, and its includes, each with the place of its own components among them.
+use Rattle.std.specs.Prelude.{ℕ, ◌≡◌, ◌+◌, List, [], ◌∷◌, ◌++◌, length, bytes_eq, Option, ⊤}
+use Rattle.std.specs.List.{position_from}
+use Rattle.rn_pattern.specs.Tree.{Text}
+use Rattle.rn_syntax.specs.declared.token.Method.{Method}
+use Rattle.rn_syntax.specs.Tree as t
+use Rattle.rn_syntax.specs.Tree.{Item, Items, Pattern}
+use Rattle.rn_assemble.specs.Components.{Key, start_key, name_key, Source, includes}
+
+-- a component as it is written
+pub record Written : Type 0 where
+  pub key : Key
+  pub method : Method
+  pub pattern : Pattern
+
+-- an include: the place of the module that it names, if there is one, its prefix, and its own components by their places
+pub record Inclusion : Type 0 where
+  pub module_at : Option ℕ
+  pub inherit : Option (Text × ℕ)
+  pub first : ℕ
+  pub end : ℕ
+
+-- the place of the module of that name
+abbrev pub place_in : List Source → Text → Option ℕ
+place_in modules x = position_from (λ (m : Source). bytes_eq x m.name) 0 modules
+
+abbrev mutual
+  pub item_written : Item → List Written
+  item_written (t.define x m p) = record { key = name_key x; method = m; pattern = p } ∷ []
+  item_written (t.start m p) = record { key = start_key; method = m; pattern = p } ∷ []
+  item_written (t.div xs) = written xs
+  item_written (t.include wanted inherit xs) = written xs
+
+  pub written : Items → List Written
+  written t.no_items = []
+  written (t.item x xs) = item_written x ++ written xs
+
+-- the includes, where the first component has that place
+module _ (modules : List Source) where
+  abbrev mutual
+    pub item_inclusions : ℕ → Item → List Inclusion
+    item_inclusions n (t.define x m p) = []
+    item_inclusions n (t.start m p) = []
+    item_inclusions n (t.div xs) = inclusions n xs
+    item_inclusions n (t.include wanted inherit xs) = inclusions n xs ++ record { module_at = place_in modules wanted; inherit = inherit; first = n; end = n + length (written xs) } ∷ []
+
+    pub inclusions : ℕ → Items → List Inclusion
+    inclusions n t.no_items = []
+    inclusions n (t.item x xs) = item_inclusions n x ++ inclusions (n + length (item_written x)) xs
+
+-- no include is among an include's own items
+abbrev mutual
+  pub IsFlat : Item → Type 0
+  IsFlat (t.define x m p) = ⊤
+  IsFlat (t.start m p) = ⊤
+  IsFlat (t.div xs) = AreFlat xs
+  IsFlat (t.include wanted inherit xs) = includes xs ≡ []
+
+  pub AreFlat : Items → Type 0
+  AreFlat t.no_items = ⊤
+  AreFlat (t.item x xs) = IsFlat x × AreFlat xs

@@ -1,0 +1,118 @@
+-- What expanding an include does to the components of the code.
+use Rattle.std.specs.Prelude.{ℕ, ◌+◌, ◌<◌, ◌≤◌, ◌≡◌, ◌==◌, not, List, [], ◌++◌, length, map, filter, slice_index_or, Option, Some, None}
+use Rattle.std.specs.List.{AllByRecursion, list_any}
+use Rattle.std.specs.List.Sorted.{IsStrictlySortedBy}
+use Rattle.rn_pattern.specs.Tree.{Text}
+use Rattle.rn_pattern.specs.Order.{text_cmp}
+use Rattle.rn_assemble.specs.declared.contents.Component as code
+use Rattle.rn_assemble.specs.declared.contents.Contents.{Contents}
+use Rattle.rn_assemble.specs.declared.contents.Include.{Include}
+use Rattle.rn_assemble.specs.declared.components.Body.{Body}
+use Rattle.rn_assemble.specs.declared.components.Components.{Components}
+use Rattle.rn_syntax.specs.Tree.{Declaration}
+use Rattle.rn_assemble.specs.declared.components.Context.{Context}
+use Rattle.rn_assemble.specs.Bound.{BindsAs}
+use Rattle.rn_assemble.specs.Views.{IsNumbered}
+use Rattle.rn_assemble.specs.Components.{Component, Source, components_within}
+use Rattle.rn_assemble.specs.Contained.{AreFlat}
+use Rattle.rn_assemble.specs.Listed.{AreContents, Live, Lists, Rises, components_in}
+
+-- only bodies and contexts may change
+pub record KeepsLists (old new : Components) : Type 0 where
+  pub list : new.list ≡ old.list
+  pub places : new.places ≡ old.places
+  pub lack : new.lack ≡ old.lack
+
+-- only the list, the places and the lack may change
+pub record KeepsBodies (old new : Components) : Type 0 where
+  pub contexts : new.contexts ≡ old.contexts
+  pub bodies : new.bodies ≡ old.bodies
+
+-- the bodies from a number on are those of the module's components under the inherited namespace
+pub record StartsAt (bodies : List Body) (first : ℕ) (content : Contents) (inherited : Text) : Type 0 where
+  pub within : first + length content.components.items ≤ length bodies
+  pub component : (i : ℕ) (d : Body) (e : code.Component) → i < length content.components.items → (slice_index_or bodies (first + i) d).component ≡ slice_index_or content.components.items i e
+  pub bindings : (i : ℕ) (d : Body) → i < length content.components.items → (slice_index_or bodies (first + i) d).scope.bindings.now ≡ content.bindings
+  pub inherited_is : (i : ℕ) (d : Body) → i < length content.components.items → (slice_index_or bodies (first + i) d).scope.inherited.now ≡ inherited
+
+-- these components were added behind the live ones, at new places
+pub record AddsLive (names : List Text) (old new : Components) (live : List Live) (cs : List Component) : Type 0 where
+  pub added : List Live
+  pub lists : Lists names new (live ++ added)
+  pub rises : Rises (length old.list.items) added
+  pub longer : length old.list.items ≤ length new.list.items
+  pub are : components_in added ≡ cs
+
+-- the components of the numbers from one to another can be added
+pub record CanAdd (names : List Text) (x : Components) (live : List Live) (content : Contents) (first : ℕ) (inherited : Text) (ds : List Declaration) (from to : ℕ) : Type 0 where
+  pub lists : Lists names x live
+  pub binds : BindsAs content.bindings ds
+  pub starts : StartsAt x.bodies.items first content inherited
+  pub numbered : AllByRecursion (IsNumbered names) content.components.items
+  pub ordered : from ≤ to
+  pub within : to ≤ length content.components.items
+
+-- the element at a place of a list
+pub record IsItem (contents : List Contents) (i : ℕ) (content : Contents) : Type 0 where
+  pub within : i < length contents
+  pub is : (d : Contents) → slice_index_or contents i d ≡ content
+
+-- each context that was met has its bodies
+abbrev pub ContextHolds : List Contents → List Body → Context → Type 0
+ContextHolds contents bodies q = (content : Contents) → IsItem contents q.module content → StartsAt bodies q.first content q.inherited.now
+
+abbrev pub ContextsHold : List Contents → Components → Type 0
+ContextsHold contents x = AllByRecursion (ContextHolds contents x.bodies.items) x.contexts.items
+
+-- the bodies of the content are there
+pub record Enters (contents : List Contents) (old new : Components) (first : ℕ) (content : Contents) (inherited : Text) : Type 0 where
+  pub starts : StartsAt new.bodies.items first content inherited
+  pub contexts : ContextsHold contents new
+  pub grows : (more : List Body) × (new.bodies.items ≡ old.bodies.items ++ more)
+
+-- without the components of the keys of these
+abbrev pub left_by : List code.Component → List Live → List Live
+left_by own es = filter (λ (e : Live). not (list_any (λ (c : code.Component). e.key == c.key) own)) es
+
+-- the name of a module by its place
+abbrev pub name_at : List Source → ℕ → Text
+name_at modules i = slice_index_or (map (λ (m : Source). m.name) modules) i []
+
+-- the components of an included module, if there is one
+abbrev pub included_in : ℕ → List Source → Option ℕ → Text → List Component
+included_in depth modules None inherited = []
+included_in depth modules (Some i) inherited = components_within depth modules (name_at modules i) inherited
+
+-- modules and names in their order, the contents of the modules, and the live components so far
+pub record CanExpand (modules : List Source) (names : List Text) (contents : List Contents) (x : Components) (live : List Live) : Type 0 where
+  pub modules_in_order : IsStrictlySortedBy text_cmp (map (λ (m : Source). m.name) modules)
+  pub names_in_order : IsStrictlySortedBy text_cmp names
+  pub flat : AllByRecursion (λ (m : Source). AreFlat m.tree.items) modules
+  pub are : AreContents modules names contents
+  pub contexts : ContextsHold contents x
+  pub lists : Lists names x live
+
+-- the include is one of the module with these contents
+pub record CanInclude (modules : List Source) (names : List Text) (content : Contents) (include : Include) (ds : List Declaration) : Type 0 where
+  pub within : (i : ℕ) → include.«module» ≡ Some i → i < length modules
+  pub ordered : include.from ≤ include.to
+  pub inside : include.to ≤ length content.components.items
+  pub numbered : AllByRecursion (IsNumbered names) content.components.items
+  pub binds : BindsAs content.bindings ds
+
+-- these components were added
+pub record Expands (names : List Text) (contents : List Contents) (old new : Components) (live : List Live) (cs : List Component) : Type 0 where
+  pub adds : AddsLive names old new live cs
+  pub contexts : ContextsHold contents new
+  pub grows : (more : List Body) × (new.bodies.items ≡ old.bodies.items ++ more)
+
+-- modules and names in their order, and the contents of the modules
+pub record CanList (modules : List Source) (names : List Text) (contents : List Contents) : Type 0 where
+  pub modules_in_order : IsStrictlySortedBy text_cmp (map (λ (m : Source). m.name) modules)
+  pub names_in_order : IsStrictlySortedBy text_cmp names
+  pub flat : AllByRecursion (λ (m : Source). AreFlat m.tree.items) modules
+  pub are : AreContents modules names contents
+
+-- the live components are these, in this order
+abbrev pub IsListed : List Text → Components → List Component → Type 0
+IsListed names x cs = (live : List Live) × Lists names x live × (components_in live ≡ cs)

@@ -1,0 +1,41 @@
+-- The names that modules define, and the numbers of keys: the start is 0, and the names follow in their order.
+use Rattle.std.specs.Prelude.{ℕ, zero, suc, ◌<◌, ◌≡◌, ◌↔◌, List, [], ◌∷◌, ◌++◌, length, flat_map, slice_index_or, Contains, Option, Some, None}
+use Rattle.std.specs.List.Sorted.{IsStrictlySortedBy}
+use Rattle.rn_pattern.specs.Tree.{Text}
+use Rattle.rn_pattern.specs.Order.{text_cmp}
+use Rattle.rn_syntax.specs.Tree as t
+use Rattle.rn_syntax.specs.Tree.{Item, Items}
+use Rattle.rn_assemble.specs.Components.{Key, start_key, name_key, Source}
+
+-- the names that items define, those of includes' own items among them
+abbrev mutual
+  pub item_defines : Item → List Text
+  item_defines (t.define x m p) = x ∷ []
+  item_defines (t.start m p) = []
+  item_defines (t.div xs) = defines xs
+  item_defines (t.include wanted inherit xs) = defines xs
+
+  pub defines : Items → List Text
+  defines t.no_items = []
+  defines (t.item x xs) = item_defines x ++ defines xs
+
+-- all names that the modules define, each once, in their order
+pub record AreNames (modules : List Source) (names : List Text) : Type 0 where
+  pub in_order : IsStrictlySortedBy text_cmp names
+  pub defined : (x : Text) → Contains names x ↔ Contains (flat_map (λ (m : Source). defines m.tree.items) modules) x
+
+-- the key of that number
+abbrev pub key_at : List Text → ℕ → Key
+key_at names zero = start_key
+key_at names (suc n) = name_key (slice_index_or names n [])
+
+-- the number is that of the name's key
+pub record IsNumber (names : List Text) (x : Text) (n : ℕ) : Type 0 where
+  pub above : 0 < n
+  pub within : n < suc (length names)
+  pub is : key_at names n ≡ name_key x
+
+-- the number of the name, where it is one of the names
+abbrev pub IsFound : List Text → Text → Option ℕ → Type 0
+IsFound names x None = ¬ Contains names x
+IsFound names x (Some n) = IsNumber names x n

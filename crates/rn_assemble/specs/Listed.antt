@@ -1,0 +1,69 @@
+-- How the modules' contents and the components of a set lie in the code.
+use Rattle.std.specs.Prelude.{ℕ, suc, ◌<◌, ◌≤◌, ◌≡◌, ◌==◌, List, [], ◌∷◌, length, map, filter, slice_index_or, ⊤}
+use Rattle.std.specs.List.{AllByRecursion, AllZip}
+use Rattle.rn_pattern.specs.Tree.{Text}
+use Rattle.rn_syntax.specs.Tree.{Declaration}
+use Rattle.rn_assemble.specs.declared.contents.Contents.{Contents}
+use Rattle.rn_assemble.specs.declared.components.Body.{Body}
+use Rattle.rn_assemble.specs.declared.components.Components.{Components}
+use Rattle.rn_assemble.specs.Graph.{row, rows_of}
+use Rattle.rn_assemble.specs.Resolve.{resolved}
+use Rattle.rn_assemble.specs.Bound.{BindsAs}
+use Rattle.rn_assemble.specs.Components.{Component, Source}
+use Rattle.rn_assemble.specs.Contained.{Written, written, inclusions}
+use Rattle.rn_assemble.specs.Views.{IsNumbered, inclusion_view, written_view}
+
+-- the contents are those of the module
+pub record IsContents (modules : List Source) (names : List Text) (m : Source) (c : Contents) : Type 0 where
+  pub bindings : BindsAs c.bindings m.tree.declarations
+  pub components : map (written_view names) c.components.items ≡ written m.tree.items
+  pub numbered : AllByRecursion (IsNumbered names) c.components.items
+  pub includes : map inclusion_view c.includes.items ≡ inclusions modules 0 m.tree.items
+
+abbrev pub AreContents : List Source → List Text → List Contents → Type 0
+AreContents modules names contents = AllZip (IsContents modules names) modules contents
+
+-- a written component with its names resolved
+abbrev pub resolved_component : Text → List Declaration → Written → Component
+resolved_component inherited ds w = record { key = w.key; method = w.method; body = resolved inherited ds w.pattern }
+
+-- the body is that of the component, whose key has the number
+pub record IsBody (names : List Text) (b : Body) (key : ℕ) (c : Component) : Type 0 where
+  pub key_is : b.component.key ≡ key
+  pub numbered : key < suc (length names)
+  pub shown : (ds : List Declaration) × BindsAs b.scope.bindings.now ds × (c ≡ resolved_component b.scope.inherited.now ds (written_view names b.component))
+
+-- a component that no include has overridden: its place, the number of its key, and what it is
+pub record Live : Type 0 where
+  pub place : ℕ
+  pub key : ℕ
+  pub component : Component
+
+-- bodies, and the number of the body at each place
+module _ (names : List Text) (bodies : List Body) (list : List ℕ) where
+  pub record IsLive (e : Live) : Type 0 where
+    pub within : e.place < length list
+    pub body_within : slice_index_or list e.place 0 < length bodies
+    pub is : (d : Body) → IsBody names (slice_index_or bodies (slice_index_or list e.place 0) d) e.key e.component
+
+-- places from n on, each above those before it
+abbrev pub Rises : ℕ → List Live → Type 0
+Rises n [] = ⊤
+Rises n (e ∷ es) = (n ≤ e.place) × Rises (suc e.place) es
+
+-- the places of the components of a key
+abbrev pub places_of : ℕ → List Live → List ℕ
+places_of key live = map (λ (e : Live). e.place) (filter (λ (e : Live). e.key == key) live)
+
+-- the live components, in order, and the places of each key
+pub record ListsBy (names : List Text) (bodies : List Body) (list : List ℕ) (rows : List (List ℕ)) (live : List Live) : Type 0 where
+  pub size : length rows ≡ suc (length names)
+  pub are : AllByRecursion (IsLive names bodies list) live
+  pub rises : Rises 0 live
+  pub places : (key : ℕ) → key < length rows → row rows key ≡ places_of key live
+
+abbrev pub Lists : List Text → Components → List Live → Type 0
+Lists names x live = ListsBy names x.bodies.items x.list.items (rows_of x.places.items) live
+
+abbrev pub components_in : List Live → List Component
+components_in live = map (λ (e : Live). e.component) live

@@ -1,0 +1,37 @@
+-- Methods of combining, and keys of which something holds, by their numbers.
+use Rattle.std.specs.Prelude.{ℕ, suc, ◌≡◌, ◌<◌, Bool, true, false, List, length, Option, Some, None}
+use Rattle.rn_pattern.specs.Tree.{Text}
+use Rattle.rn_syntax.specs.declared.token.Method.{Method}
+use Rattle.rn_syntax.specs.declared.token.Method.TheVariants as m
+use Rattle.rn_assemble.specs.Components.{Component, Key, has_key, start_key}
+use Rattle.rn_assemble.specs.Combine.{is_plain, is_choice, is_interleave, IsPlainTwice, IsMixed}
+use Rattle.rn_assemble.specs.declared.refusal.Refusal.{Refusal}
+use Rattle.rn_assemble.specs.declared.refusal.Refusal.TheVariants as r
+use Rattle.rn_assemble.specs.Least.{IsLeast, key_cmp}
+use Rattle.rn_assemble.specs.Views.{key_view}
+use Rattle.rn_assemble.specs.Keyed.{key_at}
+
+-- whether a method is the first one
+abbrev pub is_method : Method → Method → Bool
+is_method m.Plain = is_plain
+is_method m.Choice = is_choice
+is_method m.Interleave = is_interleave
+
+-- the number of the least key of which P holds, or it holds of none
+abbrev pub IsLeastNumber : List Text → (Key → Type 0) → Option ℕ → Type 0
+IsLeastNumber names P None = (k : ℕ) → k < suc (length names) → ¬ P (key_at names k)
+IsLeastNumber names P (Some n) = (n < suc (length names)) × P (key_at names n) × ((k : ℕ) → k < n → ¬ P (key_at names k))
+
+-- no key has two plain components, or components of both methods, and there is a start (4.17, 4.18)
+pub record CanCombine (cs : List Component) : Type 0 where
+  pub plain_once : (k : Key) → ¬ IsPlainTwice k cs
+  pub one_method : (k : Key) → ¬ IsMixed k cs
+  pub start : has_key start_key cs ≡ true
+
+-- the first refusal of components that stands, of those on methods and on the start
+abbrev pub IsUncombined : List Component → Refusal → Type 0
+IsUncombined cs (r.PlainTwice k) = IsLeast key_cmp (λ j. IsPlainTwice j cs) (key_view k)
+IsUncombined cs (r.MixedMethods k) = IsLeast key_cmp (λ j. IsMixed j cs) (key_view k) × ((j : Key) → ¬ IsPlainTwice j cs)
+IsUncombined cs r.NoStart = (has_key start_key cs ≡ false) × ((j : Key) → ¬ IsPlainTwice j cs) × ((j : Key) → ¬ IsMixed j cs)
+IsUncombined cs r.Memory = Unit {0}
+IsUncombined cs r = ⊥

@@ -1,0 +1,51 @@
+-- What values of the code stand for.
+use Rattle.std.specs.Prelude.{ℕ, suc, ◌<◌, ◌≡◌, List, ◌++◌, length, map}
+use Rattle.std.specs.List.{AllByRecursion}
+use Rattle.std.specs.Borrow.{Bor}
+use Rattle.std.specs.String.{string_bytes}
+use Rattle.rn_pattern.specs.Tree.{Text}
+use Rattle.rn_syntax.specs.View.{module_view, pattern_view, prefix_view}
+use Rattle.rn_assemble.specs.declared.modules.Source as code_source
+use Rattle.rn_assemble.specs.declared.keys.Keys.{Keys}
+use Rattle.rn_assemble.specs.declared.contents.Component as code_component
+use Rattle.rn_assemble.specs.declared.contents.Include.{Include}
+use Rattle.rn_assemble.specs.declared.refusal.Key as code_key
+use Rattle.rn_assemble.specs.declared.refusal.Key.TheVariants as k
+use Rattle.rn_assemble.specs.Components.{Key, start_key, name_key, Source}
+use Rattle.rn_assemble.specs.Keyed.{key_at}
+use Rattle.rn_assemble.specs.Contained.{Written, Inclusion}
+
+abbrev pub texts_of : List (Bor (List ℕ)) → List Text
+texts_of xs = map (λ (s : Bor (List ℕ)). s.now) xs
+
+-- the names of the keys, in the order of their numbers
+abbrev pub names_of : Keys → List Text
+names_of keys = texts_of keys.names.items
+
+abbrev pub key_view : code_key.Key → Key
+key_view k.Start = start_key
+key_view (k.Define x) = name_key (string_bytes x)
+
+abbrev pub source_view : code_source.Source → Source
+source_view m = record { name = m.name.now; tree = module_view m.tree }
+
+abbrev pub sources_view : List code_source.Source → List Source
+sources_view modules = map source_view modules
+
+abbrev pub module_names : List code_source.Source → List Text
+module_names modules = map (λ (m : code_source.Source). m.name.now) modules
+
+abbrev pub written_view : List Text → code_component.Component → Written
+written_view names c = record { key = key_at names c.key; method = c.method; pattern = pattern_view c.body.now }
+
+-- the number of its key is one of the keys' numbers
+abbrev pub IsNumbered : List Text → code_component.Component → Type 0
+IsNumbered names c = c.key < suc (length names)
+
+-- these components were added
+pub record Adds (names : List Text) (old new : List code_component.Component) (added : List Written) : Type 0 where
+  pub is : map (written_view names) new ≡ map (written_view names) old ++ added
+  pub numbered : AllByRecursion (IsNumbered names) old → AllByRecursion (IsNumbered names) new
+
+abbrev pub inclusion_view : Include → Inclusion
+inclusion_view i = record { module_at = i.module; inherit = prefix_view i.inherit; first = i.from; end = i.to }
