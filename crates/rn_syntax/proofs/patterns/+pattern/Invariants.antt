@@ -12,25 +12,28 @@ abbrev pub decreases-pattern-chain : goal.decreases-pattern-chain
 decreases-pattern-chain l = length l.tokens - l.end
 
 abbrev pub decreases-pattern : goal.decreases-pattern
-decreases-pattern l = 5 * (length l.tokens.now - l.at) + 4
+decreases-pattern l = 6 * (length l.tokens.now - l.at) + 5
 
 abbrev pub decreases-operand : goal.decreases-operand
-decreases-operand l = 5 * (length l.tokens.now - l.at) + 3
+decreases-operand l = 6 * (length l.tokens.now - l.at) + 4
 
 abbrev pub decreases-primary : goal.decreases-primary
-decreases-primary l = 5 * (length l.tokens.now - l.at) + 3
+decreases-primary l = 6 * (length l.tokens.now - l.at) + 4
 
 abbrev pub decreases-behind_datatype : goal.decreases-behind_datatype
-decreases-behind_datatype l = 5 * (length l.tokens.now - l.at) + 4
+decreases-behind_datatype l = 6 * (length l.tokens.now - l.at) + 5
 
 abbrev pub decreases-core : goal.decreases-core
-decreases-core l = 5 * (length l.tokens.now - l.at) + 2
+decreases-core l = 6 * (length l.tokens.now - l.at) + 3
+
+abbrev pub decreases-untyped_core : goal.decreases-untyped_core
+decreases-untyped_core l = 6 * (length l.tokens.now - l.at) + 2
 
 abbrev pub decreases-keyword_core : goal.decreases-keyword_core
-decreases-keyword_core l = 5 * (length l.tokens.now - l.at) + 1
+decreases-keyword_core l = 6 * (length l.tokens.now - l.at) + 1
 
 abbrev pub decreases-named : goal.decreases-named
-decreases-named l = 5 * (length l.tokens.now - l.at) + 4
+decreases-named l = 6 * (length l.tokens.now - l.at) + 5
 
 abbrev pub decreases-braced : goal.decreases-braced
-decreases-braced l = 5 * (length l.tokens.now - l.at) + 4
+decreases-braced l = 6 * (length l.tokens.now - l.at) + 5
