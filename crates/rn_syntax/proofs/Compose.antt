@@ -240,3 +240,13 @@ reads_upto view xs now at (Err f.Memory) to u h = tt
 -- what was read, by another name
 pub took_same : {A : Type 0} {N : Tokens → A → Tokens → Type 0} {F : Tokens → Type 0} {ts rest : Tokens} {x y : A} → x ≡ y → Took N F ts x rest → Took N F ts y rest
 took_same {N = N} {F = F} {ts = ts} {rest = rest} e k = subst (λ z. Took N F ts z rest) e k
+
+-- behind the last part
+pub fits_gives : {A C : Type 0} {F G : Tokens → Type 0} (f : A → C) → ((r : Tokens) → G r → F r) → Fits F (λ (a : A). Gives (f a)) G
+fits_gives {A = A} {C = C} {F = F} {G = G} f to = record { fits = λ a mid c r d g. same d g }
+  where
+    same : {a : A} {mid r : Tokens} {c : C} → Gives (f a) mid c r → G r → F mid
+    same {r = r} gives g = to r g
+
+pub can_gives : {A C : Type 0} (f : A → C) → Can (λ (a : A). Gives (f a))
+can_gives f more = (more, λ a. (f a, gives))

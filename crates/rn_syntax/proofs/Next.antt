@@ -172,3 +172,17 @@ brace_at xs at h e =
 
 pub place_is : (xs : List Token) {ts next : Tokens} {x : Terminal} {i j : ℕ} → ts ≡ x # i ∷ next → IsPlace xs ts j → j ≡ i
 place_is xs {j = j} e h = subst (λ (l : Tokens). IsPlace xs l j) e h
+
+-- this terminal, where it is the first
+pub terminal_at : (xs : List Token) (at : ℕ) (y : Terminal) → at < length xs → first (rest xs at) ≡ y → (i : ℕ) × (rest xs at ≡ y # i ∷ rest xs (at + 1))
+terminal_at xs at y h e =
+    let n = token_at xs at h in
+    let same : n.0 ≡ y = sym (ap first n.2) ∙ e in
+    (n.1, n.2 ∙ ap (λ (x : Terminal). x # n.1 ∷ rest xs (at + 1)) same)
+
+pub word_at_keyword : {w : _} {s : List ℕ} → s ≡ t.spelling w → IsWord (t.keyword w) s
+word_at_keyword {w = w} e = subst (λ (x : List ℕ). IsWord (t.keyword w) x) (sym e) by_keyword
+
+-- the second token after this one
+pub next_two : (xs : List Token) (at : ℕ) {ts : Tokens} {y : Placed} → ts ≡ y ∷ rest xs (at + 1 + 1) → ts ≡ y ∷ rest xs (at + 2)
+next_two xs at {y = y} e = let h : at + 1 + 1 ≡ at + 2 = omega arith in e ∙ ap (λ (n : ℕ). y ∷ rest xs n) h

@@ -20,7 +20,7 @@ use Rattle.rn_syntax.proofs.Repeating.{Behind, Whole, behind_start, part_read, p
 use Rattle.rn_syntax.proofs.Next.{first_next}
 
 -- a token that names a datatype, where the code knows its place
-pub is_here : (P : Placed → Datatype → Type 0) (ts next : Tokens) (x : Terminal) (i j : ℕ) (d : ℕ → Datatype) → ts ≡ x # i ∷ next → j ≡ i → P (x # i) (d i) → IsHere P ts (d j) next
+pub is_here : {A : Type 0} (P : Placed → A → Type 0) (ts next : Tokens) (x : Terminal) (i j : ℕ) (d : ℕ → A) → ts ≡ x # i ∷ next → j ≡ i → P (x # i) (d i) → IsHere P ts (d j) next
 is_here P ts next x i j d here same h = record { token = x # i; holds = subst (λ (n : ℕ). P (x # i) (d n)) (sym same) h; here = here }
 
 -- ---- one parameter

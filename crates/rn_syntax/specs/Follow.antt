@@ -1,7 +1,8 @@
 -- What may stand behind each production, told by its first token.
 use Rattle.std.specs.Prelude.{◌≡◌, Bool, true, false, [], ◌∷◌, ⊤}
 use Rattle.rn_syntax.specs.declared.token.Keyword.TheVariants as k
-use Rattle.rn_syntax.specs.Terminal.{Terminal, ◌#◌, ident, keyword, prefixed, segment, operator, postfix, minus, tilde, follow, left_brace, right_brace, left_bracket, other}
+use Rattle.rn_syntax.specs.declared.token.Postfix.TheVariants as p
+use Rattle.rn_syntax.specs.Terminal.{Terminal, ◌#◌, any_of, ident, keyword, prefixed, segment, operator, postfix, minus, tilde, follow, left_brace, right_brace, left_bracket, other}
 use Rattle.rn_syntax.specs.Grammar.{Tokens}
 
 -- the first terminal passes, if there is one
@@ -101,3 +102,20 @@ begins_datatype (prefixed n l) = true
 begins_datatype (keyword k.String) = true
 begins_datatype (keyword k.Token) = true
 begins_datatype x = false
+
+-- `*`, or a name before `:*`
+abbrev pub begins_any : Terminal → Bool
+begins_any (postfix p.Star) = true
+begins_any (any_of n) = true
+begins_any x = false
+
+abbrev pub no_word : Terminal → Bool
+no_word (ident n) = false
+no_word (keyword w) = false
+no_word x = true
+
+abbrev pub begins_declaration : Terminal → Bool
+begins_declaration (keyword k.Namespace) = true
+begins_declaration (keyword k.Default) = true
+begins_declaration (keyword k.Datatypes) = true
+begins_declaration x = false

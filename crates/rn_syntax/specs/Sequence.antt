@@ -3,7 +3,9 @@ use Rattle.std.specs.Prelude.{◌≡◌, ℕ, List, ◌∷◌, Bool, true, false
 use Rattle.rn_syntax.specs.declared.token.Method.{Method}
 use Rattle.rn_syntax.specs.declared.token.Method.TheVariants as m
 use Rattle.rn_syntax.specs.Terminal.{Terminal, Placed, ◌#◌, assign, ident, prefixed, segment, left_bracket}
-use Rattle.rn_syntax.specs.Grammar.{Tokens, IsWord, IsFollowName, IsAnnotation, MayAnnotate, IsLiteral}
+use Rattle.rn_syntax.specs.Grammar.{Tokens, IsWord, IsFollowName, IsAnnotation, MayAnnotate, IsLiteral, IsClassCore, AreFollows}
+use Rattle.rn_syntax.specs.Tree as t
+use Rattle.rn_syntax.specs.Tree.{NameClass, AnyName}
 
 -- an N, and then what it makes of what follows
 pub data Then {A C : Type 0} (N : Tokens → A → Tokens → Type 0) (M : A → Tokens → C → Tokens → Type 0) : Tokens → C → Tokens → Type 0 where
@@ -24,6 +26,10 @@ pub data IsOf {A : Type 0} (P : Placed → A → Type 0) : Tokens → A → Toke
 -- word
 pub data IsWordAt : Placed → List ℕ → Type 0 where
   word_at : {x : Terminal} {n : List ℕ} {i : ℕ} → IsWord x n → IsWordAt (x # i) n
+
+-- word, with its place
+pub data IsPrefixAt : Placed → List ℕ × ℕ → Type 0 where
+  prefix_at : {x : Terminal} {n : List ℕ} {i : ℕ} → IsWord x n → IsPrefixAt (x # i) (n, i)
 
 -- assign = "=" | "|=" | "&="
 pub data IsAssign : Placed → Method → Type 0 where
@@ -52,3 +58,11 @@ pub record IsHere {A : Type 0} (P : Placed → A → Type 0) (ts : Tokens) (a : 
 -- param = [ann] word "=" literal
 abbrev pub IsParam : Tokens → List ℕ × List ℕ → Tokens → Type 0
 IsParam = Then (λ ts (u : Unit {0}) rest. MayAnnotate ts rest) (λ u. Then (IsOf IsWordAt) (λ n. Then (IsToken (assign m.Plain)) (λ i. Then IsLiteral (λ s. Gives (n, s)))))
+
+-- what is behind the annotation of a name in a name class
+abbrev pub IsClassEnd : Tokens → NameClass → Tokens → Type 0
+IsClassEnd = Then IsClassCore (λ c. Then (λ ts (u : Unit {0}) rest. AreFollows ts rest) (λ u. Gives c))
+
+-- follow*, behind `*` or a name before `:*`
+abbrev pub IsAnyEnd : AnyName → Tokens → NameClass → Tokens → Type 0
+IsAnyEnd a = Then (λ ts (u : Unit {0}) rest. AreFollows ts rest) (λ u. Gives (t.all a))

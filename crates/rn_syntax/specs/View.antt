@@ -85,6 +85,9 @@ abbrev pub uri_view : code_uri.Uri → Uri
 uri_view (u.Literal s) = t.literal (cow_str_bytes s)
 uri_view u.Inherited = t.inherited
 
+abbrev pub place_view : code_prefix.Prefix → List ℕ × ℕ
+place_view p = (p.name.now, p.at)
+
 abbrev pub prefix_view : Option code_prefix.Prefix → Option (List ℕ × ℕ)
 prefix_view None = None
 prefix_view (Some p) = Some (p.name.now, p.at)

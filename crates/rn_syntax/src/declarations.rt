@@ -1,6 +1,11 @@
 // Declarations of prefixes.
-ghost use Rattle.std.specs.Prelude.{◌≡◌, ◌≤◌, ◌<◌, length, IfOk, IfSome, IsTrue};
-ghost use Rattle.rn_syntax.specs.Reading.{Passed, Advanced};
+ghost use Rattle.std.specs.Prelude.{◌≡◌, ◌≤◌, ◌<◌, length, map, IfOk, IsTrue};
+ghost use Rattle.rn_syntax.specs.Declaring.{IsDatatypesEnd, IsDefaultEnd, IsNamespaceEnd, MayPrefix};
+ghost use Rattle.rn_syntax.specs.Follow.{Starts, Anything, begins_declaration, begins_item, first, no_tilde, no_word};
+ghost use Rattle.rn_syntax.specs.Grammar.{AreDeclarations, IsDeclaration, IsUri};
+ghost use Rattle.rn_syntax.specs.Reading.{Passed, Advanced, Reads, ReadsOne, rest};
+ghost use Rattle.rn_syntax.specs.Sequence.{IsOf, IsPrefixAt};
+ghost use Rattle.rn_syntax.specs.View.{declaration_view, place_view, prefix_view, uri_view};
 
 use crate::fault::Fault;
 use crate::literals::literal;
@@ -16,6 +21,7 @@ pub(crate) fn declarations<'a>(
     tokens: &[Token<'a>],
 ) -> Result<(Vec<Declaration<'a>>, usize), Fault>
     ensures inside { IfOk result (λ r. r.1 ≤ length tokens.now) }
+    ensures reads { Reads AreDeclarations (Starts begins_item) (λ v. map declaration_view v.items) tokens.now 0 result }
 {
     let mut declarations = Vec::new(alloc);
     let mut end = 0;
@@ -29,9 +35,13 @@ pub(crate) fn declarations<'a>(
 
 fn begins_declaration(tokens: &[Token<'_>], at: usize) -> bool
     ensures inside { IsTrue result → at < length tokens.now }
+    ensures is { result ≡ begins_declaration (first (rest tokens.now at)) }
 {
     match next(tokens, at) {
-        Terminal::Keyword(Keyword::Namespace | Keyword::Default | Keyword::Datatypes) => true,
+        Terminal::Keyword(keyword) => match keyword {
+            Keyword::Namespace | Keyword::Default | Keyword::Datatypes => true,
+            _ => false,
+        },
         _ => false,
     }
 }
@@ -44,11 +54,15 @@ fn declaration<'a>(
 ) -> Result<(Declaration<'a>, usize), Fault>
     requires { at ≤ length tokens.now }
     ensures inside { IfOk result (λ r. Advanced at r.1 (length tokens.now)) }
+    ensures reads { Reads IsDeclaration (Starts no_tilde) declaration_view tokens.now at result }
 {
     match next(tokens, at) {
-        Terminal::Keyword(Keyword::Namespace) => namespace(alloc, tokens, at + 1),
-        Terminal::Keyword(Keyword::Default) => default(alloc, tokens, at),
-        Terminal::Keyword(Keyword::Datatypes) => datatypes(alloc, tokens, at + 1),
+        Terminal::Keyword(keyword) => match keyword {
+            Keyword::Namespace => namespace(alloc, tokens, at + 1),
+            Keyword::Default => default(alloc, tokens, at + 1, place(tokens, at)),
+            Keyword::Datatypes => datatypes(alloc, tokens, at + 1),
+            _ => Err(Fault::Stuck(at)),
+        },
         _ => Err(Fault::Stuck(at)),
     }
 }
@@ -56,6 +70,7 @@ fn declaration<'a>(
 /// `word`, where it is a prefix
 pub(crate) fn prefix<'a>(tokens: &[Token<'a>], at: usize) -> Result<Prefix<'a>, Fault>
     ensures inside { IfOk result (λ _. at < length tokens.now) }
+    ensures reads { ReadsOne (IsOf IsPrefixAt) Anything place_view tokens.now at result }
 {
     let name = word(tokens, at)?;
     Ok(Prefix {
@@ -72,6 +87,7 @@ fn namespace<'a>(
 ) -> Result<(Declaration<'a>, usize), Fault>
     requires { at ≤ length tokens.now }
     ensures inside { IfOk result (λ r. Advanced at r.1 (length tokens.now)) }
+    ensures reads { Reads IsNamespaceEnd (Starts no_tilde) declaration_view tokens.now at result }
 {
     let prefix = prefix(tokens, at)?;
     let value = equals(tokens, at + 1)?;
@@ -79,25 +95,52 @@ fn namespace<'a>(
     Ok((Declaration::Namespace(prefix, uri), end))
 }
 
-/// `"default" "namespace" [word] "=" uri`
+/// `"namespace" [word] "=" uri`, behind the `default` at this place
 fn default<'a>(
     alloc: Global,
     tokens: &[Token<'a>],
     at: usize,
+    start: usize,
 ) -> Result<(Declaration<'a>, usize), Fault>
-    requires { at < length tokens.now }
+    requires { at ≤ length tokens.now }
     ensures inside { IfOk result (λ r. Advanced at r.1 (length tokens.now)) }
+    ensures reads { Reads (IsDefaultEnd start) (Starts no_tilde) declaration_view tokens.now at result }
 {
-    if !is_keyword(tokens, at + 1, Keyword::Namespace) {
-        return Err(Fault::Stuck(at + 1));
+    if !is_keyword(tokens, at, Keyword::Namespace) {
+        return Err(Fault::Stuck(at));
     }
-    let (prefix, behind) = match next(tokens, at + 2) {
-        Terminal::Ident(_) | Terminal::Keyword(_) => (Some(prefix(tokens, at + 2)?), at + 3),
-        _ => (None, at + 2),
-    };
+    let (prefix, behind) = default_prefix(tokens, at + 1)?;
     let value = equals(tokens, behind)?;
     let (uri, end) = uri(alloc, tokens, value)?;
-    Ok((Declaration::Default(place(tokens, at), prefix, uri), end))
+    Ok((Declaration::Default(start, prefix, uri), end))
+}
+
+/// `[word]`
+fn default_prefix<'a>(
+    tokens: &[Token<'a>],
+    at: usize,
+) -> Result<(Option<Prefix<'a>>, usize), Fault>
+    requires { at ≤ length tokens.now }
+    ensures inside { IfOk result (λ r. Passed at r.1 (length tokens.now)) }
+    ensures reads { Reads MayPrefix (Starts no_word) prefix_view tokens.now at result }
+{
+    match next(tokens, at) {
+        Terminal::Ident(name) => {
+            let prefix = Prefix {
+                name,
+                at: place(tokens, at),
+            };
+            Ok((Some(prefix), at + 1))
+        }
+        Terminal::Keyword(keyword) => {
+            let prefix = Prefix {
+                name: keyword.spelling(),
+                at: place(tokens, at),
+            };
+            Ok((Some(prefix), at + 1))
+        }
+        _ => Ok((None, at)),
+    }
 }
 
 /// `word "=" literal`, behind `datatypes`
@@ -108,6 +151,7 @@ fn datatypes<'a>(
 ) -> Result<(Declaration<'a>, usize), Fault>
     requires { at ≤ length tokens.now }
     ensures inside { IfOk result (λ r. Advanced at r.1 (length tokens.now)) }
+    ensures reads { Reads IsDatatypesEnd (Starts no_tilde) declaration_view tokens.now at result }
 {
     let prefix = prefix(tokens, at)?;
     let value = equals(tokens, at + 1)?;
@@ -119,6 +163,7 @@ fn datatypes<'a>(
 fn uri<'a>(alloc: Global, tokens: &[Token<'a>], at: usize) -> Result<(Uri<'a>, usize), Fault>
     requires { at ≤ length tokens.now }
     ensures inside { IfOk result (λ r. Advanced at r.1 (length tokens.now)) }
+    ensures reads { Reads IsUri (Starts no_tilde) uri_view tokens.now at result }
 {
     if is_keyword(tokens, at, Keyword::Inherit) {
         return Ok((Uri::Inherited, at + 1));

@@ -202,6 +202,16 @@ pub(crate) fn is_keyword(tokens: &[Token<'_>], at: usize, wanted: Keyword) -> bo
     }
 }
 
+pub(crate) fn is_operator(tokens: &[Token<'_>], at: usize, wanted: Operator) -> bool
+    ensures inside { IsTrue result → at < length tokens.now }
+    ensures is { MatchBool result (first (rest tokens.now at) ≡ terminal.operator wanted) (first (rest tokens.now at) ≢ terminal.operator wanted) }
+{
+    match next(tokens, at) {
+        Terminal::Operator(operator) => operator == wanted,
+        _ => false,
+    }
+}
+
 /// What stands behind `=`.
 pub(crate) fn equals(tokens: &[Token<'_>], at: usize) -> Result<usize, Fault>
     requires { at ≤ length tokens.now }

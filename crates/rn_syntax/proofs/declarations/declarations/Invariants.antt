@@ -1,8 +1,15 @@
-use Rattle.std.proofs.Common.{◌≤◌, ◌-◌, length}
+-- The declarations so far, and what is left.
+use Rattle.std.proofs.Common.{◌≤◌, ◌-◌, length, map}
+use Rattle.rn_syntax.specs.Reading.{AreSpelled, rest}
+use Rattle.rn_syntax.specs.View.{declaration_view}
+use Rattle.rn_syntax.proofs.Declared.{So_far}
 use Rattle.rn_syntax.proofs.declarations.declarations.Given as goal
 
 abbrev pub invariant-declarations : goal.invariant-declarations
-invariant-declarations l = record { inside : l.end ≤ length l.tokens }
+invariant-declarations l = record {
+  inside : l.end ≤ length l.tokens;
+  so_far : AreSpelled l.tokens → So_far (map declaration_view l.declarations.items) (rest l.tokens 0) (rest l.tokens l.end);
+}
 
 abbrev pub decreases-declarations : goal.decreases-declarations
 decreases-declarations l = length l.tokens - l.end

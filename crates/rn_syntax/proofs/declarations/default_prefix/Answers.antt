@@ -1,0 +1,18 @@
+use Rattle.std.proofs.Common.{◌+◌, sym, ap, subst, ◌∙◌, refl, true, false}
+use Rattle.std.proofs.lemmas.Result.{err_from_is_err_and}
+use Rattle.rn_syntax.specs.Tree as t
+use Rattle.rn_syntax.specs.View.{declaration_view, place_view, prefix_view, uri_view}
+use Rattle.rn_syntax.proofs.Compose.{on_fault, took_upto, stuck_upto, took_same, reads_upto, token_took}
+use Rattle.rn_syntax.specs.Grammar as g
+use Rattle.rn_syntax.proofs.Declared.{may_prefix, may_none}
+use Rattle.rn_syntax.proofs.Next.{place_is, word_at_keyword}
+use Rattle.rn_syntax.proofs.declarations.default_prefix.Goals as goal
+
+pub returns-in-Ident-clause-reads : goal.returns-in-Ident-clause-reads
+returns-in-Ident-clause-reads c = λ s. let n = c.in-Ident.ensures.next in may_prefix g.by_name (place_is c.args.tokens.now n.1 c.place.ensures) n.1
+
+pub returns-in-Keyword-clause-reads : goal.returns-in-Keyword-clause-reads
+returns-in-Keyword-clause-reads c = λ s. let n = c.in-Keyword.ensures.next in may_prefix (word_at_keyword c.spelling.ensures) (place_is c.args.tokens.now n.1 c.place-in-Keyword.ensures) n.1
+
+pub returns-in_default-clause-reads : goal.returns-in_default-clause-reads
+returns-in_default-clause-reads c = λ s. may_none _ _ c.next.result c.next.ensures.next c.in_default.not-Ident c.in_default.not-Keyword

@@ -1,0 +1,15 @@
+use Rattle.std.proofs.Common.{◌+◌, sym, ap, subst, ◌∙◌, refl, true, false}
+use Rattle.std.proofs.lemmas.Result.{err_from_is_err_and}
+use Rattle.rn_syntax.specs.Tree as t
+use Rattle.rn_syntax.specs.View.{declaration_view, place_view, prefix_view, uri_view}
+use Rattle.rn_syntax.proofs.Compose.{on_fault, took_upto, stuck_upto, took_same, reads_upto, token_took}
+use Rattle.rn_syntax.proofs.Declared.{prefix_took, prefix_stuck}
+use Rattle.rn_syntax.proofs.declarations.prefix.Goals as goal
+
+pub returns-in_err-name-clause-reads : goal.returns-in_err-name-clause-reads
+returns-in_err-name-clause-reads c =
+    let p = err_from_is_err_and c.from_residual.result c.from_residual.ensures.1 in
+    rw (p.1, p.2) (on_fault c.args.tokens.now c.args.at c.args.at _ (λ s bad k. prefix_stuck k) c.in_err-name.ensures.reads)
+
+pub returns-clause-reads : goal.returns-clause-reads
+returns-clause-reads c = λ s. prefix_took c.args.tokens.now (c.in_ok-name.ensures.reads s) c.place.ensures

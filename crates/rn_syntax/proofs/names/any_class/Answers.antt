@@ -1,0 +1,15 @@
+use Rattle.std.proofs.lemmas.Result.{err_from_is_err_and}
+use Rattle.std.proofs.Common.{sym}
+use Rattle.rn_syntax.specs.View.{any_view}
+use Rattle.rn_syntax.specs.Tree as t
+use Rattle.rn_syntax.proofs.Compose.{on_fault, took_same}
+use Rattle.rn_syntax.proofs.Classes.{followed_took, followed_stuck}
+use Rattle.rn_syntax.proofs.names.any_class.Goals as goal
+
+pub returns-in_err-end-clause-reads : goal.returns-in_err-end-clause-reads
+returns-in_err-end-clause-reads c =
+    let p = err_from_is_err_and c.from_residual.result c.from_residual.ensures.1 in
+    rw (p.1, p.2) (on_fault c.args.tokens.now c.args.at c.args.at _ (λ s bad k. followed_stuck (t.all (any_view c.args.any)) k) c.in_err-end.ensures.skips)
+
+pub returns-clause-reads : goal.returns-clause-reads
+returns-clause-reads c = λ s. took_same (sym c.all.ensures) (followed_took (t.all (any_view c.args.any)) (c.in_ok-end.ensures.skips s))
