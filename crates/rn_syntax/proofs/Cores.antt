@@ -1,10 +1,9 @@
 -- Cores, told by the token that they begin with.
-use Rattle.std.proofs.Common.{◌≡◌, ℕ, Bool, true, false, List, [], ◌∷◌, Some, None, refl, ap, sym, ◌∙◌, subst, unwrap_or}
+use Rattle.std.proofs.Common.{◌≡◌, ◌<◌, ◌+◌, ℕ, List, [], ◌∷◌, length, refl, ap, ◌∙◌}
 use Rattle.std.proofs.lemmas.Bool.{false≢true}
 use Rattle.rn_syntax.specs.declared.token.Keyword.{Keyword}
 use Rattle.rn_syntax.specs.declared.token.Keyword.TheVariants as k
-use Rattle.rn_syntax.specs.declared.terminals.Terminal as code
-use Rattle.rn_syntax.specs.declared.terminals.Terminal.TheVariants as c
+use Rattle.rn_text.specs.declared.source.Token.{Token}
 use Rattle.rn_syntax.specs.Terminal.{Terminal, Placed, ◌#◌, ident, keyword, prefixed, segment, left_brace, right_brace, left_paren, right_paren, other}
 use Rattle.rn_syntax.specs.Tree as tree
 use Rattle.rn_syntax.specs.Tree.{Datatype, Params, NameClass, Pattern}
@@ -13,9 +12,9 @@ use Rattle.rn_syntax.specs.Grammar.{Tokens, IsLiteral, IsDatatype, MayHaveParams
 use Rattle.rn_syntax.specs.Follow.{Starts, Anything, first, no_tilde, behind_core, behind_class, behind_pattern, begins_datatype}
 use Rattle.rn_syntax.specs.Sequence.{Then, both, Gives, gives, IsToken, token}
 use Rattle.rn_syntax.specs.Parts.{IsBraced, IsContent}
-use Rattle.rn_syntax.specs.Reading.{Took, Stuck, seen, IsNext}
+use Rattle.rn_syntax.specs.Reading.{Took, Stuck, rest}
 use Rattle.rn_syntax.proofs.Compose.{Upto, Fits, Can, CanBe, upto_at, upto_token, upto_then, took_upto, stuck_upto, reads, stuck_in, stuck_here, took_gives, can_then, can_token, fits_anything, fits_token}
-use Rattle.rn_syntax.proofs.Next.{first_next}
+use Rattle.rn_syntax.proofs.Next.{terminal_at}
 use Rattle.rn_syntax.proofs.Operands.{fits_given, can_given, upto_seen, core_tilde}
 
 -- ---- braces
@@ -45,15 +44,15 @@ module _ {ts now : Tokens} {i : ℕ} (b : Took (IsToken left_brace) Anything ts 
   opened : Upto IsBraced (Closed i) Anything ts now
   opened = reads fits_anything b
 
-  pub inner_stuck : {bad : Tokens} → Stuck IsPattern (Starts behind_pattern) now bad → Stuck IsBraced Anything ts bad
-  inner_stuck h = stuck_upto opened (stuck_in fits_close can_close h)
+  pub braces_inner : {bad : Tokens} → Stuck IsPattern (Starts behind_pattern) now bad → Stuck IsBraced Anything ts bad
+  braces_inner h = stuck_upto opened (stuck_in fits_close can_close h)
 
   module _ {next : Tokens} {p : Pattern} (h : Took IsPattern (Starts behind_pattern) now p next) where
     inner_read : Upto IsBraced (Close p) Anything ts next
     inner_read = upto_then opened (reads fits_close h)
 
-    pub close_stuck : {bad : Tokens} → Stuck (IsToken right_brace) Anything next bad → Stuck IsBraced Anything ts bad
-    close_stuck k = stuck_upto inner_read (stuck_in fits_anything (can_given (λ (j : ℕ). p)) k)
+    pub braces_close : {bad : Tokens} → Stuck (IsToken right_brace) Anything next bad → Stuck IsBraced Anything ts bad
+    braces_close k = stuck_upto inner_read (stuck_in fits_anything (can_given (λ (j : ℕ). p)) k)
 
     pub braced_took : {end : Tokens} {j : ℕ} → Took (IsToken right_brace) Anything next j end → Took IsBraced Anything ts p end
     braced_took {end = end} k = took_upto (upto_then inner_read (reads fits_anything k)) (took_gives p end)
@@ -92,6 +91,9 @@ module _ {ts now : Tokens} {c : NameClass} (h : Took IsNameClass (Starts behind_
   content_took {end = end} {p = p} b = took_upto (upto_then class_read (reads fits_anything b)) (took_gives {A = Pair} (c, p) end)
 
 -- ---- at a keyword
+
+pub keyword_here : (xs : List Token) (at : ℕ) {w : Keyword} (v : Keyword) → at < length xs → first (rest xs at) ≡ keyword w → w ≡ v → (i : ℕ) × (rest xs at ≡ keyword v # i ∷ rest xs (at + 1))
+keyword_here xs at v h e f = terminal_at xs at (keyword v) h (e ∙ ap (λ (w : Keyword). keyword w) f)
 
 can_content : CanBe IsContent
 can_content = can_then (λ more. (ident [] # 0 ∷ more, tree.name (tree.local []), g.one (g.plain (g.primary g.bare (g.word g.by_name) g.none)))) can_pair

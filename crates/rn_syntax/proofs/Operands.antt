@@ -289,3 +289,7 @@ module _ (d : Datatype) {ts : Tokens} where
   pub except_took : {ps : Params} {i : ℕ} {p : Pattern} {now next end : Tokens} → is_segment (first ts) ≡ false → Took MayHaveParams (Starts no_brace) ts ps now → now ≡ minus # i ∷ next
       → Took IsPrimary (Starts behind_primary) next p end → Took (BehindDatatype d) (Starts behind_operand) ts (tree.datum_but d ps i p) end
   except_took {ps = ps} {i = i} {p = p} {end = end} e h m q = took_upto (upto_then (params_read e h) (upto_then (except_at d ps m) (reads (fits_given (λ p. tree.datum_but d ps i p) operand_primary) q))) (took_gives (tree.datum_but d ps i p) end)
+
+-- the primary, by another name
+pub upto_same : {V : Tokens → Pattern → Tokens → Type 0} {G : Tokens → Type 0} {ts now : Tokens} {p q : Pattern} → p ≡ q → Upto V (BehindPrimary p) G ts now → Upto V (BehindPrimary q) G ts now
+upto_same {V = V} {G = G} {ts = ts} {now = now} e u = subst (λ (p : Pattern). Upto V (BehindPrimary p) G ts now) e u

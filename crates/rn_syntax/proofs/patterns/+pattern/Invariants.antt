@@ -1,11 +1,16 @@
 -- Each call stands further on, or reads a smaller part of the production at the same token.
-use Rattle.std.proofs.Common.{◌<◌, ◌≤◌, ◌-◌, ◌+◌, ◌*◌, length}
+use Rattle.std.proofs.Common.{◌<◌, ◌≤◌, ◌-◌, ◌+◌, ◌*◌, length, map}
+use Rattle.rn_syntax.specs.Reading.{AreSpelled, rest}
+use Rattle.rn_syntax.specs.View.{pattern_view}
+use Rattle.rn_syntax.proofs.Chaining.{So_far}
+use Rattle.rn_syntax.proofs.Chains.{operands_chain}
 use Rattle.rn_syntax.proofs.patterns.+pattern.Given as goal
 
 abbrev pub invariant-pattern-chain : goal.invariant-pattern-chain
 invariant-pattern-chain l = record {
   further : l.fn.at < l.end;
   inside : l.end ≤ length l.tokens;
+  so_far : AreSpelled l.tokens → So_far (operands_chain l.operator) (map pattern_view l.members.items) (rest l.tokens l.fn.at) (rest l.tokens l.end);
 }
 
 abbrev pub decreases-pattern-chain : goal.decreases-pattern-chain
