@@ -1,5 +1,5 @@
 -- Modules: a body that nothing follows.
-use Rattle.std.proofs.Common.{◌≡◌, ℕ, Bool, List, [], ◌∷◌, ◌++◌, ◌<◌, length, refl, ap, sym, ◌∙◌, subst, append_assoc, append-nil}
+use Rattle.std.proofs.Common.{◌≡◌, ℕ, Bool, List, [], ◌∷◌, ◌++◌, ◌+◌, ◌<◌, length, refl, ap, sym, ◌∙◌, subst, append_assoc, append-nil}
 use Rattle.rn_text.specs.declared.source.Token.{Token}
 use Rattle.rn_syntax.specs.Terminal.{Terminal, Placed, ◌#◌}
 use Rattle.rn_syntax.specs.Tree.{Declaration, Item, Module, items_of}
@@ -10,7 +10,9 @@ use Rattle.rn_syntax.specs.Follow.{Starts, begins_item}
 use Rattle.rn_syntax.specs.Sequence.{Then, both, Gives, gives, token}
 use Rattle.rn_syntax.specs.Including as i
 use Rattle.rn_syntax.specs.Including.{IsContent, IsBody, Nothing}
-use Rattle.rn_syntax.specs.Reading.{Alike, ends, same, Took, Stuck, rest}
+use Rattle.rn_syntax.specs.declared.fault.Fault.{Fault}
+use Rattle.rn_syntax.specs.declared.fault.Fault.TheVariants as f
+use Rattle.rn_syntax.specs.Reading.{Alike, ends, same, Took, Stuck, Faults, AreSpelled, rest}
 use Rattle.rn_syntax.proofs.Compose.{Upto, Fits, Can, upto_then, took_upto, stuck_upto, reads, stuck_in, took_gives, fits_gives, can_gives, alike_token}
 use Rattle.rn_syntax.proofs.Next.{token_at}
 use Rattle.rn_syntax.proofs.Content.{content_front}
@@ -82,3 +84,11 @@ goes_on {z = z} y more e k = record {
   where
     nonempty : {y : Placed} {u : Tokens} → y ∷ u ≡ [] → ⊥
     nonempty e = cc
+
+-- the code stopped
+pub fault_stops : (xs : List Token) (e : Fault) → Faults IsBody Nothing xs 0 e → (bad : ℕ) → e ≡ f.Stuck bad → AreSpelled xs → Stops (rest xs 0) (rest xs bad)
+fault_stops xs (f.Stuck b) h bad e s = let same : b ≡ bad = cc in subst (λ (n : ℕ). Stops (rest xs 0) (rest xs n)) same (stops (h s))
+fault_stops xs f.Memory h bad e s = cc
+
+pub goes_on_at : (xs : List Token) (at : ℕ) {z : Module} → at < length xs → Took IsBody Nothing (rest xs 0) z (rest xs at) → Stuck IsBody Nothing (rest xs 0) (rest xs at)
+goes_on_at xs at h k = let n = token_at xs at h in goes_on (n.0 # n.1) (rest xs (at + 1)) n.2 k
