@@ -186,3 +186,7 @@ word_at_keyword {w = w} e = subst (λ (x : List ℕ). IsWord (t.keyword w) x) (s
 -- the second token after this one
 pub next_two : (xs : List Token) (at : ℕ) {ts : Tokens} {y : Placed} → ts ≡ y ∷ rest xs (at + 1 + 1) → ts ≡ y ∷ rest xs (at + 2)
 next_two xs at {y = y} e = let h : at + 1 + 1 ≡ at + 2 = omega arith in e ∙ ap (λ (n : ℕ). y ∷ rest xs n) h
+
+-- the index behind two tokens
+pub next_index : (xs : List Token) (at : ℕ) → rest xs (at + 1 + 1) ≡ rest xs (at + 2)
+next_index xs at = let h : at + 1 + 1 ≡ at + 2 = omega arith in ap (rest xs) h

@@ -1,9 +1,14 @@
 -- The faults of a module that the grammar leaves open, each kind over the whole module and at its first place.
-use Rattle.std.specs.Prelude.{◌≡◌, ℕ, List, [], Option, Some, None}
+use Rattle.std.specs.Prelude.{◌≡◌, ℕ, List, [], map, Option, Some, None}
+use Rattle.rn_text.specs.declared.source.Token.{Token}
+use Rattle.rn_text.specs.Tokens.{lexeme_of}
 use Rattle.rn_syntax.specs.declared.fault.SyntaxFault.{SyntaxFault}
 use Rattle.rn_syntax.specs.declared.fault.SyntaxFault.TheVariants.{Deep, Syntax, Prefix, Builtin, ContextValue, Except, Memory}
 use Rattle.rn_syntax.specs.Tree.{Module}
 use Rattle.rn_syntax.specs.Grammar.{Tokens}
+use Rattle.rn_syntax.specs.Tokens.{terminals}
+use Rattle.rn_syntax.specs.Fault.{HasTree, Stops}
+use Rattle.rn_syntax.specs.Reading.{AreSpelled, IsPlace}
 use Rattle.rn_syntax.specs.Places.{deep, first, prefix_places, builtin_places, context_places, except_places}
 
 -- none stands
@@ -21,15 +26,23 @@ HasFault m (ContextValue at) = (first (prefix_places m) ≡ None) × (first (bui
 HasFault m (Except at) = (first (prefix_places m) ≡ None) × (first (builtin_places m) ≡ None) × (first (context_places m) ≡ None) × (first (except_places m) ≡ Some at)
 HasFault m _ = ⊥
 
--- the grammar is not met, or memory was refused
-abbrev pub IsSyntax : SyntaxFault → Type 0
-IsSyntax (Syntax at) = Unit {0}
-IsSyntax Memory = Unit {0}
-IsSyntax _ = ⊥
+-- the tokens before this place begin a module, and with the one there none begins
+abbrev pub StopsAt : List Token → ℕ → Type 0
+StopsAt xs at = (bad : Tokens) × Stops (terminals (map lexeme_of xs)) bad × IsPlace xs bad at
 
--- this is the fault of the tokens, of which Deep comes first
-abbrev pub IsFault : Tokens → SyntaxFault → Type 0
-IsFault ts (Deep at) = deep 0 ts ≡ Some at
-IsFault ts Memory = Unit {0}
-IsFault ts (Syntax at) = deep 0 ts ≡ None
-IsFault ts e = (deep 0 ts ≡ None) × (m : Module) × HasFault m e
+-- the grammar is not met, or memory was refused
+abbrev pub IsSyntax : List Token → SyntaxFault → Type 0
+IsSyntax xs (Syntax at) = AreSpelled xs → StopsAt xs at
+IsSyntax xs Memory = Unit {0}
+IsSyntax xs _ = ⊥
+
+-- no bracket is too many, and the tree of the tokens has the fault
+abbrev pub IsFaultOfTree : List Token → SyntaxFault → Type 0
+IsFaultOfTree xs e = (deep 0 (terminals (map lexeme_of xs)) ≡ None) × (m : Module) × (AreSpelled xs → HasTree (terminals (map lexeme_of xs)) m) × HasFault m e
+
+-- this is the fault of the tokens, of which Deep comes first, and then Syntax
+abbrev pub IsFault : List Token → SyntaxFault → Type 0
+IsFault xs (Deep at) = deep 0 (terminals (map lexeme_of xs)) ≡ Some at
+IsFault xs Memory = Unit {0}
+IsFault xs (Syntax at) = (deep 0 (terminals (map lexeme_of xs)) ≡ None) × (AreSpelled xs → StopsAt xs at)
+IsFault xs e = IsFaultOfTree xs e

@@ -1,6 +1,12 @@
 // The items of a grammar, and those of an include.
-ghost use Rattle.std.specs.Prelude.{◌≡◌, ◌≤◌, ◌<◌, length, IfOk, IfSome, IsTrue};
-ghost use Rattle.rn_syntax.specs.Reading.{Passed, Advanced};
+ghost use Rattle.std.specs.Prelude.{◌≡◌, ◌≤◌, ◌<◌, length, map, IfOk, IsTrue};
+ghost use Rattle.std.specs.Cow.{cow_str_bytes};
+ghost use Rattle.rn_syntax.specs.Follow.{Anything, Starts, begins_item, behind_pattern, first, is_end, no_brace, no_inherit};
+ghost use Rattle.rn_syntax.specs.Grammar.{AreInner, AreItems, IsComponent, MayInherit, MayOverride};
+ghost use Rattle.rn_syntax.specs.Including.{AreItemsBehind, IsDivEnd, IsIncludeEnd, IsInner, IsInnerDivEnd, IsItem, opens_inner, opens_item};
+ghost use Rattle.rn_syntax.specs.Reading.{Passed, Advanced, Reads, rest};
+ghost use Rattle.rn_syntax.specs.Tree as tree;
+ghost use Rattle.rn_syntax.specs.View.{item_view, items_view, pattern_view, prefix_view};
 
 use crate::annotations::{annotation, begins_note, skip_annotation};
 use crate::declarations::prefix;
@@ -8,18 +14,55 @@ use crate::fault::Fault;
 use crate::literals::literal;
 use crate::patterns::pattern;
 use crate::terminals::{Terminal, assign, equals, is_keyword, left_brace, next, right_brace};
-use crate::token::Keyword;
-use crate::tree::{Item, Prefix};
+use crate::token::{Keyword, Method};
+use crate::tree::{Item, Pat, Prefix};
 use rn_text::Token;
 use std::alloc::Global;
+use std::borrow::CowStr;
+
+fn define<'a>(name: &'a str, method: Method, body: Pat<'a>) -> Item<'a>
+    ensures { item_view result ≡ tree.define name.now method (pattern_view body.entry) }
+{
+    Item::Define { name, method, body }
+}
+
+fn start(method: Method, body: Pat<'_>) -> Item<'_>
+    ensures { item_view result ≡ tree.start method (pattern_view body.entry) }
+{
+    Item::Start { method, body }
+}
+
+fn division(items: Vec<Item<'_>>) -> Item<'_>
+    ensures { item_view result ≡ tree.div (items_view items.entry.items) }
+{
+    Item::Div(items)
+}
+
+fn inclusion<'a>(
+    wanted: CowStr<'a>,
+    inherit: Option<Prefix<'a>>,
+    items: Vec<Item<'a>>,
+) -> Item<'a>
+    ensures { item_view result ≡ tree.include (cow_str_bytes wanted.entry) (prefix_view inherit.entry) (items_view items.entry.items) }
+{
+    Item::Include {
+        wanted,
+        inherit,
+        items,
+    }
+}
 
 /// Whether an item begins here, or a note.
 fn begins_item(tokens: &[Token<'_>], at: usize) -> bool
     ensures inside { IsTrue result → at < length tokens.now }
+    ensures is { result ≡ opens_item (first (rest tokens.now at)) }
 {
     match next(tokens, at) {
         Terminal::LeftBracket | Terminal::Ident(_) | Terminal::Prefixed(_, _) => true,
-        Terminal::Keyword(Keyword::Start | Keyword::Div | Keyword::Include) => true,
+        Terminal::Keyword(keyword) => match keyword {
+            Keyword::Start | Keyword::Div | Keyword::Include => true,
+            _ => false,
+        },
         _ => false,
     }
 }
@@ -33,6 +76,7 @@ pub(crate) fn items<'a>(
 ) -> Result<(Vec<Item<'a>>, usize), Fault>
     requires { at ≤ length tokens.now }
     ensures inside { IfOk result (λ r. Passed at r.1 (length tokens.now)) }
+    ensures reads { Reads AreItems (Starts is_end) (λ v. map item_view v.items) tokens.now at result }
 {
     items_behind(alloc, tokens, at, Vec::new(alloc))
 }
@@ -47,6 +91,7 @@ pub(crate) fn items_behind<'a>(
 ) -> Result<(Vec<Item<'a>>, usize), Fault>
     requires { at ≤ length tokens.now }
     ensures inside { IfOk result (λ r. Passed at r.1 (length tokens.now)) }
+    ensures reads { Reads (AreItemsBehind (map item_view read.entry.items)) (Starts is_end) (λ v. map item_view v.items) tokens.now at result }
 {
     let mut items = read;
     let mut end = at;
@@ -72,10 +117,14 @@ pub(crate) fn item<'a>(
 ) -> Result<(Item<'a>, usize), Fault>
     requires { at ≤ length tokens.now }
     ensures inside { IfOk result (λ r. Advanced at r.1 (length tokens.now)) }
+    ensures reads { Reads IsItem (Starts begins_item) item_view tokens.now at result }
 {
     match next(tokens, at) {
-        Terminal::Keyword(Keyword::Div) => div(alloc, tokens, at + 1),
-        Terminal::Keyword(Keyword::Include) => include(alloc, tokens, at + 1),
+        Terminal::Keyword(keyword) => match keyword {
+            Keyword::Div => div(alloc, tokens, at + 1),
+            Keyword::Include => include(alloc, tokens, at + 1),
+            _ => component(alloc, tokens, at),
+        },
         _ => component(alloc, tokens, at),
     }
 }
@@ -84,18 +133,22 @@ pub(crate) fn item<'a>(
 fn component<'a>(alloc: Global, tokens: &[Token<'a>], at: usize) -> Result<(Item<'a>, usize), Fault>
     requires { at ≤ length tokens.now }
     ensures inside { IfOk result (λ r. Advanced at r.1 (length tokens.now)) }
+    ensures reads { Reads IsComponent (Starts behind_pattern) item_view tokens.now at result }
 {
     match next(tokens, at) {
         Terminal::Ident(name) => {
             let method = assign(tokens, at + 1)?;
             let (body, end) = pattern(alloc, tokens, at + 2)?;
-            Ok((Item::Define { name, method, body }, end))
+            Ok((define(name, method, body), end))
         }
-        Terminal::Keyword(Keyword::Start) => {
-            let method = assign(tokens, at + 1)?;
-            let (body, end) = pattern(alloc, tokens, at + 2)?;
-            Ok((Item::Start { method, body }, end))
-        }
+        Terminal::Keyword(keyword) => match keyword {
+            Keyword::Start => {
+                let method = assign(tokens, at + 1)?;
+                let (body, end) = pattern(alloc, tokens, at + 2)?;
+                Ok((start(method, body), end))
+            }
+            _ => Err(Fault::Stuck(at)),
+        },
         _ => Err(Fault::Stuck(at)),
     }
 }
@@ -105,40 +158,38 @@ fn component<'a>(alloc: Global, tokens: &[Token<'a>], at: usize) -> Result<(Item
 fn div<'a>(alloc: Global, tokens: &[Token<'a>], at: usize) -> Result<(Item<'a>, usize), Fault>
     requires { at ≤ length tokens.now }
     ensures inside { IfOk result (λ r. Advanced at r.1 (length tokens.now)) }
+    ensures reads { Reads IsDivEnd Anything item_view tokens.now at result }
 {
     let inside = left_brace(tokens, at)?;
     let (items, end) = items(alloc, tokens, inside)?;
-    Ok((Item::Div(items), right_brace(tokens, end)?))
+    let behind = right_brace(tokens, end)?;
+    Ok((division(items), behind))
 }
 
 /// `literal [ "inherit" "=" word ] [ "{" inner* "}" ]`, behind `include`
 fn include<'a>(alloc: Global, tokens: &[Token<'a>], at: usize) -> Result<(Item<'a>, usize), Fault>
     requires { at ≤ length tokens.now }
     ensures inside { IfOk result (λ r. Advanced at r.1 (length tokens.now)) }
+    ensures reads { Reads IsIncludeEnd (Starts begins_item) item_view tokens.now at result }
 {
-    let (wanted, end) = literal(alloc, tokens, at)?;
-    let (inherit, end) = inherit(tokens, end)?;
-    let (items, end) = overrides(alloc, tokens, end)?;
-    Ok((
-        Item::Include {
-            wanted,
-            inherit,
-            items,
-        },
-        end,
-    ))
+    let (wanted, behind) = literal(alloc, tokens, at)?;
+    let (inherit, own) = inherit(tokens, behind)?;
+    let (items, end) = overrides(alloc, tokens, own)?;
+    Ok((inclusion(wanted, inherit, items), end))
 }
 
 /// `[ "inherit" "=" word ]`
 fn inherit<'a>(tokens: &[Token<'a>], at: usize) -> Result<(Option<Prefix<'a>>, usize), Fault>
     requires { at ≤ length tokens.now }
     ensures inside { IfOk result (λ r. Passed at r.1 (length tokens.now)) }
+    ensures reads { Reads MayInherit (Starts no_inherit) prefix_view tokens.now at result }
 {
     if !is_keyword(tokens, at, Keyword::Inherit) {
         return Ok((None, at));
     }
     let value = equals(tokens, at + 1)?;
-    Ok((Some(prefix(tokens, value)?), value + 1))
+    let prefix = prefix(tokens, value)?;
+    Ok((Some(prefix), value + 1))
 }
 
 /// `[ "{" inner* "}" ]`
@@ -149,21 +200,27 @@ fn overrides<'a>(
 ) -> Result<(Vec<Item<'a>>, usize), Fault>
     requires { at ≤ length tokens.now }
     ensures inside { IfOk result (λ r. Passed at r.1 (length tokens.now)) }
+    ensures reads { Reads MayOverride (Starts no_brace) (λ v. map item_view v.items) tokens.now at result }
 {
     let Terminal::LeftBrace = next(tokens, at) else {
         return Ok((Vec::new(alloc), at));
     };
     let (items, end) = inner_items(alloc, tokens, at + 1)?;
-    Ok((items, right_brace(tokens, end)?))
+    let behind = right_brace(tokens, end)?;
+    Ok((items, behind))
 }
 
 /// Whether an inner item begins here, or a note.
 fn begins_inner(tokens: &[Token<'_>], at: usize) -> bool
     ensures inside { IsTrue result → at < length tokens.now }
+    ensures is { result ≡ opens_inner (first (rest tokens.now at)) }
 {
     match next(tokens, at) {
         Terminal::LeftBracket | Terminal::Ident(_) | Terminal::Prefixed(_, _) => true,
-        Terminal::Keyword(Keyword::Start | Keyword::Div) => true,
+        Terminal::Keyword(keyword) => match keyword {
+            Keyword::Start | Keyword::Div => true,
+            _ => false,
+        },
         _ => false,
     }
 }
@@ -177,6 +234,7 @@ fn inner_items<'a>(
 ) -> Result<(Vec<Item<'a>>, usize), Fault>
     requires { at ≤ length tokens.now }
     ensures inside { IfOk result (λ r. Passed at r.1 (length tokens.now)) }
+    ensures reads { Reads AreInner (Starts is_end) (λ v. map item_view v.items) tokens.now at result }
 {
     let mut items = Vec::new(alloc);
     let mut end = at;
@@ -202,13 +260,30 @@ fn inner_item<'a>(
 ) -> Result<(Item<'a>, usize), Fault>
     requires { at ≤ length tokens.now }
     ensures inside { IfOk result (λ r. Advanced at r.1 (length tokens.now)) }
+    ensures reads { Reads IsInner (Starts begins_item) item_view tokens.now at result }
 {
     match next(tokens, at) {
-        Terminal::Keyword(Keyword::Div) => {
-            let inside = left_brace(tokens, at + 1)?;
-            let (items, end) = inner_items(alloc, tokens, inside)?;
-            Ok((Item::Div(items), right_brace(tokens, end)?))
-        }
+        Terminal::Keyword(keyword) => match keyword {
+            Keyword::Div => inner_div(alloc, tokens, at + 1),
+            _ => component(alloc, tokens, at),
+        },
         _ => component(alloc, tokens, at),
     }
+}
+
+/// `"{" inner* "}"`, behind `div`
+#[cycle(inner_items)]
+fn inner_div<'a>(
+    alloc: Global,
+    tokens: &[Token<'a>],
+    at: usize,
+) -> Result<(Item<'a>, usize), Fault>
+    requires { at ≤ length tokens.now }
+    ensures inside { IfOk result (λ r. Advanced at r.1 (length tokens.now)) }
+    ensures reads { Reads IsInnerDivEnd Anything item_view tokens.now at result }
+{
+    let inside = left_brace(tokens, at)?;
+    let (items, end) = inner_items(alloc, tokens, inside)?;
+    let behind = right_brace(tokens, end)?;
+    Ok((division(items), behind))
 }

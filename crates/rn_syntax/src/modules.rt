@@ -1,32 +1,71 @@
 // Modules.
-ghost use Rattle.std.specs.Prelude.{◌≡◌, ◌≤◌, ◌<◌, length, IfOk, IfSome, IsTrue};
-ghost use Rattle.rn_syntax.specs.Reading.{Passed, Advanced};
+ghost use Rattle.std.specs.Prelude.{◌≡◌, ◌≤◌, ◌<◌, length, map, IfErr, IfOk};
+ghost use Rattle.rn_text.specs.Tokens.{lexeme_of};
+ghost use Rattle.rn_syntax.specs.Fault.{HasTree};
+ghost use Rattle.rn_syntax.specs.Follow.{Starts, is_end};
+ghost use Rattle.rn_syntax.specs.Itemizing.{AreFirstItems};
+ghost use Rattle.rn_syntax.specs.Modular.{IsAnnotatedBody, IsBody, IsGrammarEnd, IsModuleFault};
+ghost use Rattle.rn_syntax.specs.Reading.{AreSpelled, Passed, Reads};
+ghost use Rattle.rn_syntax.specs.Tokens.{terminals};
+ghost use Rattle.rn_syntax.specs.View.{item_view, module_view};
 
-use crate::annotations::{skip_annotation, skip_follows};
+use crate::annotations::{annotation, skip_follows};
 use crate::declarations::declarations;
 use crate::fault::Fault;
 use crate::items::{item, items, items_behind};
-use crate::terminals::{is_keyword, left_brace, right_brace};
+use crate::terminals::{Terminal, is_keyword, left_brace, next, right_brace};
 use crate::token::Keyword;
 use crate::tree::{Item, Module};
 use rn_text::Token;
 use std::alloc::Global;
 
 /// `module = decl* item* | decl* [ann] "grammar" "{" item* "}" follow*`
-pub(crate) fn module<'a>(alloc: Global, tokens: &[Token<'a>]) -> Result<Module<'a>, Fault> {
+pub(crate) fn module<'a>(alloc: Global, tokens: &[Token<'a>]) -> Result<Module<'a>, Fault>
+    ensures tree { IfOk result (λ m. AreSpelled tokens.now → HasTree (terminals (map lexeme_of tokens.now)) (module_view m)) }
+    ensures stuck { IfErr result (IsModuleFault tokens.now) }
+{
     let (decls, at) = declarations(alloc, tokens)?;
-    let body = skip_annotation(tokens, at)?;
-    let (items, end) = if is_keyword(tokens, body, Keyword::Grammar) {
-        grammar(alloc, tokens, body + 1)?
-    } else if body == at {
-        items(alloc, tokens, at)?
-    } else {
-        annotated_items(alloc, tokens, body)?
-    };
+    let (items, end) = body(alloc, tokens, at)?;
     if end < tokens.len() {
         return Err(Fault::Stuck(end));
     }
     Ok(Module { decls, items })
+}
+
+/// `item* | [ann] "grammar" "{" item* "}" follow*`
+fn body<'a>(
+    alloc: Global,
+    tokens: &[Token<'a>],
+    at: usize,
+) -> Result<(Vec<Item<'a>>, usize), Fault>
+    requires { at ≤ length tokens.now }
+    ensures inside { IfOk result (λ r. Passed at r.1 (length tokens.now)) }
+    ensures reads { Reads IsBody (Starts is_end) (λ v. map item_view v.items) tokens.now at result }
+{
+    if let Terminal::LeftBracket = next(tokens, at) {
+        let behind = annotation(tokens, at)?;
+        return annotated_body(alloc, tokens, behind);
+    }
+    if is_keyword(tokens, at, Keyword::Grammar) {
+        return grammar(alloc, tokens, at + 1);
+    }
+    items(alloc, tokens, at)
+}
+
+/// The same behind an annotation.
+fn annotated_body<'a>(
+    alloc: Global,
+    tokens: &[Token<'a>],
+    at: usize,
+) -> Result<(Vec<Item<'a>>, usize), Fault>
+    requires { at ≤ length tokens.now }
+    ensures inside { IfOk result (λ r. Passed at r.1 (length tokens.now)) }
+    ensures reads { Reads IsAnnotatedBody (Starts is_end) (λ v. map item_view v.items) tokens.now at result }
+{
+    if is_keyword(tokens, at, Keyword::Grammar) {
+        return grammar(alloc, tokens, at + 1);
+    }
+    annotated_items(alloc, tokens, at)
 }
 
 /// `"{" item* "}" follow*`, behind `grammar`
@@ -37,11 +76,13 @@ fn grammar<'a>(
 ) -> Result<(Vec<Item<'a>>, usize), Fault>
     requires { at ≤ length tokens.now }
     ensures inside { IfOk result (λ r. Passed at r.1 (length tokens.now)) }
+    ensures reads { Reads IsGrammarEnd (Starts is_end) (λ v. map item_view v.items) tokens.now at result }
 {
     let inside = left_brace(tokens, at)?;
-    let (items, end) = items(alloc, tokens, inside)?;
-    let behind = right_brace(tokens, end)?;
-    Ok((items, skip_follows(tokens, behind)?))
+    let (items, close) = items(alloc, tokens, inside)?;
+    let behind = right_brace(tokens, close)?;
+    let end = skip_follows(tokens, behind)?;
+    Ok((items, end))
 }
 
 /// `item*`, behind the annotation of the first
@@ -52,6 +93,7 @@ fn annotated_items<'a>(
 ) -> Result<(Vec<Item<'a>>, usize), Fault>
     requires { at ≤ length tokens.now }
     ensures inside { IfOk result (λ r. Passed at r.1 (length tokens.now)) }
+    ensures reads { Reads AreFirstItems (Starts is_end) (λ v. map item_view v.items) tokens.now at result }
 {
     let mut read = Vec::new(alloc);
     let (first, end) = item(alloc, tokens, at)?;

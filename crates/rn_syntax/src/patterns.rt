@@ -1,6 +1,13 @@
 // Patterns.
-ghost use Rattle.std.specs.Prelude.{◌≡◌, ◌≤◌, ◌<◌, length, IfOk, IfSome, IsTrue};
-ghost use Rattle.rn_syntax.specs.Reading.{Passed, Advanced};
+ghost use Rattle.std.specs.Prelude.{◌≡◌, ◌≤◌, ◌<◌, Some, None, false, length, IfOk, IsTrue};
+ghost use Rattle.std.specs.Cow.{cow_str_bytes};
+ghost use Rattle.rn_syntax.specs.Follow.{Anything, Starts, begins_datatype, behind_core, behind_operand, behind_pattern, behind_primary, first};
+ghost use Rattle.rn_syntax.specs.Grammar.{IsCore, IsOperand, IsPattern, IsPrimary};
+ghost use Rattle.rn_syntax.specs.Parts.{BehindDatatype, BehindPrimary, BehindType, IsBraced, IsContent};
+ghost use Rattle.rn_syntax.specs.Reading.{Passed, Advanced, Reads, rest};
+ghost use Rattle.rn_syntax.specs.Terminal as terminal;
+ghost use Rattle.rn_syntax.specs.Tree as tree;
+ghost use Rattle.rn_syntax.specs.View.{class_view, datatype_view, params_view, pattern_view, patterns_view};
 
 use crate::annotations::{skip_annotation, skip_follows};
 use crate::datatypes::{datatype, params};
@@ -8,10 +15,92 @@ use crate::fault::Fault;
 use crate::literals::literal;
 use crate::names::name_class;
 use crate::terminals::{Terminal, is_operator, left_brace, next, place, right_brace, right_paren};
-use crate::token::{Keyword, Operator};
-use crate::tree::{Datatype, Nc, Pat};
+use crate::token::{Keyword, Operator, Postfix};
+use crate::tree::{Datatype, Nc, Param, Pat};
 use rn_text::Token;
-use std::alloc::Global;
+use std::alloc::{AllocError, Global};
+use std::borrow::CowStr;
+
+fn element<'a>(alloc: Global, class: Nc<'a>, content: Pat<'a>) -> Result<Pat<'a>, AllocError>
+    ensures { IfOk result (λ p. pattern_view p ≡ tree.element (class_view class.entry) (pattern_view content.entry)) }
+{
+    Ok(Pat::Element(class, Box::new(alloc, content)?))
+}
+
+fn attribute<'a>(alloc: Global, class: Nc<'a>, content: Pat<'a>) -> Result<Pat<'a>, AllocError>
+    ensures { IfOk result (λ p. pattern_view p ≡ tree.attribute (class_view class.entry) (pattern_view content.entry)) }
+{
+    Ok(Pat::Attribute(class, Box::new(alloc, content)?))
+}
+
+fn list<'a>(alloc: Global, content: Pat<'a>) -> Result<Pat<'a>, AllocError>
+    ensures { IfOk result (λ p. pattern_view p ≡ tree.list (pattern_view content.entry)) }
+{
+    Ok(Pat::List(Box::new(alloc, content)?))
+}
+
+fn mixed<'a>(alloc: Global, content: Pat<'a>) -> Result<Pat<'a>, AllocError>
+    ensures { IfOk result (λ p. pattern_view p ≡ tree.mixed (pattern_view content.entry)) }
+{
+    Ok(Pat::Mixed(Box::new(alloc, content)?))
+}
+
+fn reference(name: &str) -> Pat<'_>
+    ensures { pattern_view result ≡ tree.ref name.now }
+{
+    Pat::Ref(name)
+}
+
+fn plain_value(text: CowStr<'_>) -> Pat<'_>
+    ensures { pattern_view result ≡ tree.value None (cow_str_bytes text.entry) }
+{
+    Pat::Value(None, text)
+}
+
+fn value<'a>(datatype: Datatype<'a>, text: CowStr<'a>) -> Pat<'a>
+    ensures { pattern_view result ≡ tree.value (Some (datatype_view datatype.entry)) (cow_str_bytes text.entry) }
+{
+    Pat::Value(Some(datatype), text)
+}
+
+fn datum<'a>(datatype: Datatype<'a>, params: Vec<Param<'a>>) -> Pat<'a>
+    ensures { pattern_view result ≡ tree.datum (datatype_view datatype.entry) (params_view params.entry.items) }
+{
+    Pat::Datum(datatype, params)
+}
+
+fn datum_but<'a>(
+    alloc: Global,
+    datatype: Datatype<'a>,
+    params: Vec<Param<'a>>,
+    at: usize,
+    except: Pat<'a>,
+) -> Result<Pat<'a>, AllocError>
+    ensures { IfOk result (λ p. pattern_view p ≡ tree.datum_but (datatype_view datatype.entry) (params_view params.entry.items) at (pattern_view except.entry)) }
+{
+    Ok(Pat::DatumBut(
+        datatype,
+        params,
+        at,
+        Box::new(alloc, except)?,
+    ))
+}
+
+fn repeated<'a>(
+    alloc: Global,
+    postfix: Postfix,
+    primary: Pat<'a>,
+) -> Result<Pat<'a>, AllocError>
+    ensures { IfOk result (λ p. pattern_view p ≡ tree.repeated postfix (pattern_view primary.entry)) }
+{
+    Ok(Pat::Repeated(postfix, Box::new(alloc, primary)?))
+}
+
+fn chain<'a>(operator: Operator, members: Vec<Pat<'a>>) -> Pat<'a>
+    ensures { pattern_view result ≡ tree.chain operator (patterns_view members.entry.items) }
+{
+    Pat::Chain(operator, members)
+}
 
 /// `pattern = operand ( ("," operand)* | ("&" operand)* | ("|" operand)* )`
 #[cycle(pattern)]
@@ -22,6 +111,7 @@ pub(crate) fn pattern<'a>(
 ) -> Result<(Pat<'a>, usize), Fault>
     requires { at ≤ length tokens.now }
     ensures inside { IfOk result (λ r. Advanced at r.1 (length tokens.now)) }
+    ensures reads { Reads IsPattern (Starts behind_pattern) pattern_view tokens.now at result }
 {
     let (first, mut end) = operand(alloc, tokens, at)?;
     let Terminal::Operator(operator) = next(tokens, end) else {
@@ -34,7 +124,7 @@ pub(crate) fn pattern<'a>(
         members.push(member)?;
         end = behind;
     }
-    Ok((Pat::Chain(operator, members), end))
+    Ok((chain(operator, members), end))
 }
 
 /// `operand = primary [ postfix follow* ] | except`
@@ -42,12 +132,13 @@ pub(crate) fn pattern<'a>(
 fn operand<'a>(alloc: Global, tokens: &[Token<'a>], at: usize) -> Result<(Pat<'a>, usize), Fault>
     requires { at ≤ length tokens.now }
     ensures inside { IfOk result (λ r. Advanced at r.1 (length tokens.now)) }
+    ensures reads { Reads IsOperand (Starts behind_operand) pattern_view tokens.now at result }
 {
     let body = skip_annotation(tokens, at)?;
     if let Some(datatype) = datatype(tokens, body) {
         return behind_datatype(alloc, tokens, body + 1, datatype);
     }
-    let (core, end) = core(alloc, tokens, body)?;
+    let (core, end) = untyped_core(alloc, tokens, body)?;
     let behind = skip_follows(tokens, end)?;
     behind_primary(alloc, tokens, behind, core)
 }
@@ -61,12 +152,13 @@ fn behind_primary<'a>(
 ) -> Result<(Pat<'a>, usize), Fault>
     requires { at ≤ length tokens.now }
     ensures inside { IfOk result (λ r. Passed at r.1 (length tokens.now)) }
+    ensures reads { Reads (BehindPrimary (pattern_view primary.entry)) (Starts behind_operand) pattern_view tokens.now at result }
 {
     let Terminal::Postfix(postfix) = next(tokens, at) else {
         return Ok((primary, at));
     };
     let behind = skip_follows(tokens, at + 1)?;
-    Ok((Pat::Repeated(postfix, Box::new(alloc, primary)?), behind))
+    Ok((repeated(alloc, postfix, primary)?, behind))
 }
 
 /// What stands behind the datatype of an operand: a literal makes it a value, `-` an except.
@@ -79,23 +171,21 @@ fn behind_datatype<'a>(
 ) -> Result<(Pat<'a>, usize), Fault>
     requires { at ≤ length tokens.now }
     ensures inside { IfOk result (λ r. Passed at r.1 (length tokens.now)) }
+    ensures reads { Reads (BehindDatatype (datatype_view datatype.entry)) (Starts behind_operand) pattern_view tokens.now at result }
 {
     if let Terminal::Segment(_) = next(tokens, at) {
         let (text, end) = literal(alloc, tokens, at)?;
         let behind = skip_follows(tokens, end)?;
-        return behind_primary(alloc, tokens, behind, Pat::Value(Some(datatype), text));
+        return behind_primary(alloc, tokens, behind, value(datatype, text));
     }
     let (params, end) = params(alloc, tokens, at)?;
     if let Terminal::Minus = next(tokens, end) {
         let (except, behind) = primary(alloc, tokens, end + 1)?;
-        let except = Box::new(alloc, except)?;
-        return Ok((
-            Pat::DatumBut(datatype, params, place(tokens, end), except),
-            behind,
-        ));
+        let minus = place(tokens, end);
+        return Ok((datum_but(alloc, datatype, params, minus, except)?, behind));
     }
     let behind = skip_follows(tokens, end)?;
-    behind_primary(alloc, tokens, behind, Pat::Datum(datatype, params))
+    behind_primary(alloc, tokens, behind, datum(datatype, params))
 }
 
 /// `primary = [ann] core follow*`
@@ -103,12 +193,10 @@ fn behind_datatype<'a>(
 fn primary<'a>(alloc: Global, tokens: &[Token<'a>], at: usize) -> Result<(Pat<'a>, usize), Fault>
     requires { at ≤ length tokens.now }
     ensures inside { IfOk result (λ r. Advanced at r.1 (length tokens.now)) }
+    ensures reads { Reads IsPrimary (Starts behind_primary) pattern_view tokens.now at result }
 {
     let body = skip_annotation(tokens, at)?;
-    let (core, end) = match datatype(tokens, body) {
-        Some(datatype) => data(alloc, tokens, body + 1, datatype)?,
-        None => core(alloc, tokens, body)?,
-    };
+    let (core, end) = core(alloc, tokens, body)?;
     Ok((core, skip_follows(tokens, end)?))
 }
 
@@ -121,27 +209,47 @@ fn data<'a>(
 ) -> Result<(Pat<'a>, usize), Fault>
     requires { at ≤ length tokens.now }
     ensures inside { IfOk result (λ r. Passed at r.1 (length tokens.now)) }
+    ensures reads { Reads (BehindType (datatype_view datatype.entry)) (Starts behind_core) pattern_view tokens.now at result }
 {
     if let Terminal::Segment(_) = next(tokens, at) {
         let (text, end) = literal(alloc, tokens, at)?;
-        return Ok((Pat::Value(Some(datatype), text), end));
+        return Ok((value(datatype, text), end));
     }
     let (params, end) = params(alloc, tokens, at)?;
-    Ok((Pat::Datum(datatype, params), end))
+    Ok((datum(datatype, params), end))
 }
 
-/// `core`, where no datatype comes
+/// `core`
 #[cycle(pattern)]
 fn core<'a>(alloc: Global, tokens: &[Token<'a>], at: usize) -> Result<(Pat<'a>, usize), Fault>
     requires { at ≤ length tokens.now }
     ensures inside { IfOk result (λ r. Advanced at r.1 (length tokens.now)) }
+    ensures reads { Reads IsCore (Starts behind_core) pattern_view tokens.now at result }
+{
+    match datatype(tokens, at) {
+        Some(datatype) => data(alloc, tokens, at + 1, datatype),
+        None => untyped_core(alloc, tokens, at),
+    }
+}
+
+/// `core`, where no datatype comes
+#[cycle(pattern)]
+fn untyped_core<'a>(
+    alloc: Global,
+    tokens: &[Token<'a>],
+    at: usize,
+) -> Result<(Pat<'a>, usize), Fault>
+    requires inside { at ≤ length tokens.now }
+    requires untyped { begins_datatype (first (rest tokens.now at)) ≡ false }
+    ensures inside { IfOk result (λ r. Advanced at r.1 (length tokens.now)) }
+    ensures reads { Reads IsCore (Starts behind_core) pattern_view tokens.now at result }
 {
     match next(tokens, at) {
         Terminal::Keyword(keyword) => keyword_core(alloc, tokens, at, keyword),
-        Terminal::Ident(name) => Ok((Pat::Ref(name), at + 1)),
+        Terminal::Ident(name) => Ok((reference(name), at + 1)),
         Terminal::Segment(_) => {
             let (text, end) = literal(alloc, tokens, at)?;
-            Ok((Pat::Value(None, text), end))
+            Ok((plain_value(text), end))
         }
         Terminal::LeftParen => {
             let (inner, end) = pattern(alloc, tokens, at + 1)?;
@@ -159,25 +267,28 @@ fn keyword_core<'a>(
     at: usize,
     keyword: Keyword,
 ) -> Result<(Pat<'a>, usize), Fault>
-    requires { at < length tokens.now }
+    requires inside { at < length tokens.now }
+    requires here { first (rest tokens.now at) ≡ terminal.keyword keyword }
+    requires untyped { begins_datatype (first (rest tokens.now at)) ≡ false }
     ensures inside { IfOk result (λ r. Advanced at r.1 (length tokens.now)) }
+    ensures reads { Reads IsCore (Starts behind_core) pattern_view tokens.now at result }
 {
     match keyword {
         Keyword::Element => {
-            let (class, content, end) = named(alloc, tokens, at + 1)?;
-            Ok((Pat::Element(class, Box::new(alloc, content)?), end))
+            let ((class, content), end) = named(alloc, tokens, at + 1)?;
+            Ok((element(alloc, class, content)?, end))
         }
         Keyword::Attribute => {
-            let (class, content, end) = named(alloc, tokens, at + 1)?;
-            Ok((Pat::Attribute(class, Box::new(alloc, content)?), end))
+            let ((class, content), end) = named(alloc, tokens, at + 1)?;
+            Ok((attribute(alloc, class, content)?, end))
         }
         Keyword::List => {
             let (content, end) = braced(alloc, tokens, at + 1)?;
-            Ok((Pat::List(Box::new(alloc, content)?), end))
+            Ok((list(alloc, content)?, end))
         }
         Keyword::Mixed => {
             let (content, end) = braced(alloc, tokens, at + 1)?;
-            Ok((Pat::Mixed(Box::new(alloc, content)?), end))
+            Ok((mixed(alloc, content)?, end))
         }
         Keyword::Empty => Ok((Pat::Empty, at + 1)),
         Keyword::NotAllowed => Ok((Pat::NotAllowed, at + 1)),
@@ -192,13 +303,14 @@ fn named<'a>(
     alloc: Global,
     tokens: &[Token<'a>],
     at: usize,
-) -> Result<(Nc<'a>, Pat<'a>, usize), Fault>
+) -> Result<((Nc<'a>, Pat<'a>), usize), Fault>
     requires { at ≤ length tokens.now }
-    ensures inside { IfOk result (λ r. Advanced at r.2 (length tokens.now)) }
+    ensures inside { IfOk result (λ r. Advanced at r.1 (length tokens.now)) }
+    ensures reads { Reads IsContent Anything (λ r. (class_view r.0, pattern_view r.1)) tokens.now at result }
 {
     let (class, end) = name_class(alloc, tokens, at)?;
     let (content, behind) = braced(alloc, tokens, end)?;
-    Ok((class, content, behind))
+    Ok(((class, content), behind))
 }
 
 /// `"{" pattern "}"`
@@ -206,6 +318,7 @@ fn named<'a>(
 fn braced<'a>(alloc: Global, tokens: &[Token<'a>], at: usize) -> Result<(Pat<'a>, usize), Fault>
     requires { at ≤ length tokens.now }
     ensures inside { IfOk result (λ r. Advanced at r.1 (length tokens.now)) }
+    ensures reads { Reads IsBraced Anything pattern_view tokens.now at result }
 {
     let inside = left_brace(tokens, at)?;
     let (content, end) = pattern(alloc, tokens, inside)?;

@@ -3,7 +3,9 @@ ghost use Rattle.std.specs.Prelude.{◌≡◌, None, IfOk, IfErr, OnOk, MatchOpt
 ghost use Rattle.rn_text.specs.Tokens.{lexeme_of};
 ghost use Rattle.rn_syntax.specs.Tokens.{terminals};
 ghost use Rattle.rn_syntax.specs.Places.{deep, first, prefix_places, builtin_places, context_places};
+ghost use Rattle.rn_syntax.specs.Fault.{HasTree};
 ghost use Rattle.rn_syntax.specs.Faults.{HasFault, HasNoFault, IsFault, IsSyntax};
+ghost use Rattle.rn_syntax.specs.Reading.{AreSpelled};
 ghost use Rattle.rn_syntax.specs.View.{module_view};
 
 use crate::bindings::{Bindings, bind_all};
@@ -19,7 +21,8 @@ use std::alloc::{AllocError, Global};
 
 /// The module that the tokens are, by the grammar alone.
 fn tree<'a>(alloc: Global, tokens: &[Token<'a>]) -> Result<Module<'a>, SyntaxFault>
-    ensures { IfErr result IsSyntax }
+    ensures tree { IfOk result (λ m. AreSpelled tokens.now → HasTree (terminals (map lexeme_of tokens.now)) (module_view m)) }
+    ensures place { IfErr result (IsSyntax tokens.now) }
 {
     match module(alloc, tokens) {
         Ok(module) => Ok(module),
@@ -85,11 +88,14 @@ fn fault(alloc: Global, module: &Module<'_>) -> Result<Option<SyntaxFault>, Allo
 /// The one module that the tokens spell, or the first fault.
 ///
 /// Tested in this order, each over all tokens and each with its first place in bytes: `Deep`, `Syntax`, `Prefix`,
-/// `Builtin`, `ContextValue`, `Except`. `Memory` stands only where memory was refused.
+/// `Builtin`, `ContextValue`, `Except`. `Memory` stands only where memory was refused. The tokens before the place of `Syntax`
+/// begin some module, and no module begins with them and the token there; where the place is the end of the last token, they are
+/// none. What is said of trees is so where each token is spelled as its kind says, as those of a source are.
 pub fn parse<'a>(alloc: Global, tokens: &[Token<'a>]) -> Result<Module<'a>, SyntaxFault>
     ensures shallow { OnOk result (deep 0 (terminals (map lexeme_of tokens.now)) ≡ None) }
+    ensures tree { IfOk result (λ m. AreSpelled tokens.now → HasTree (terminals (map lexeme_of tokens.now)) (module_view m)) }
     ensures sound { IfOk result (λ m. HasNoFault (module_view m)) }
-    ensures fault { IfErr result (IsFault (terminals (map lexeme_of tokens.now))) }
+    ensures fault { IfErr result (IsFault tokens.now) }
 {
     if let Some(at) = too_deep(tokens) {
         return Err(SyntaxFault::Deep { at });

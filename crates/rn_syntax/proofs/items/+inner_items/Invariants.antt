@@ -1,17 +1,27 @@
-use Rattle.std.proofs.Common.{◌≤◌, ◌-◌, ◌+◌, ◌*◌, length}
+-- The items so far, and what is left.
+use Rattle.std.proofs.Common.{◌≤◌, ◌-◌, ◌+◌, ◌*◌, length, map}
+use Rattle.rn_syntax.specs.Grammar.{AreInner}
+use Rattle.rn_syntax.specs.Including.{IsInner}
+use Rattle.rn_syntax.specs.Reading.{AreSpelled, rest}
+use Rattle.rn_syntax.specs.View.{item_view}
+use Rattle.rn_syntax.proofs.Rows.{So_far}
 use Rattle.rn_syntax.proofs.items.+inner_items.Given as goal
 
 abbrev pub invariant-inner_items-inner : goal.invariant-inner_items-inner
 invariant-inner_items-inner l = record {
   further : l.fn.at ≤ l.end;
   inside : l.end ≤ length l.tokens;
+  so_far : AreSpelled l.tokens → So_far AreInner IsInner (map item_view l.items.items) (rest l.tokens l.fn.at) (rest l.tokens l.end);
 }
 
 abbrev pub decreases-inner_items-inner : goal.decreases-inner_items-inner
 decreases-inner_items-inner l = length l.tokens - l.end
 
 abbrev pub decreases-inner_items : goal.decreases-inner_items
-decreases-inner_items l = 2 * (length l.tokens.now - l.at) + 1
+decreases-inner_items l = 3 * (length l.tokens.now - l.at) + 1
 
 abbrev pub decreases-inner_item : goal.decreases-inner_item
-decreases-inner_item l = 2 * (length l.tokens.now - l.at)
+decreases-inner_item l = 3 * (length l.tokens.now - l.at)
+
+abbrev pub decreases-inner_div : goal.decreases-inner_div
+decreases-inner_div l = 3 * (length l.tokens.now - l.at) + 2

@@ -1,10 +1,16 @@
-use Rattle.std.proofs.Common.{◌≤◌, ◌-◌, ◌+◌, ◌*◌, length}
+-- The items so far, and what is left.
+use Rattle.std.proofs.Common.{◌≤◌, ◌-◌, ◌+◌, ◌*◌, length, map}
+use Rattle.rn_syntax.specs.Including.{AreItemsBehind, IsItem}
+use Rattle.rn_syntax.specs.Reading.{AreSpelled, rest}
+use Rattle.rn_syntax.specs.View.{item_view}
+use Rattle.rn_syntax.proofs.Rows.{So_far}
 use Rattle.rn_syntax.proofs.items.+items.Given as goal
 
 abbrev pub invariant-items_behind-items : goal.invariant-items_behind-items
 invariant-items_behind-items l = record {
   further : l.fn.at ≤ l.end;
   inside : l.end ≤ length l.tokens;
+  so_far : AreSpelled l.tokens → So_far (AreItemsBehind (map item_view l.fn.read.items)) IsItem (map item_view l.items.items) (rest l.tokens l.fn.at) (rest l.tokens l.end);
 }
 
 abbrev pub decreases-items_behind-items : goal.decreases-items_behind-items

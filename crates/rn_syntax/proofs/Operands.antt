@@ -1,0 +1,295 @@
+-- What follows the annotation of an operand or of a primary.
+use Rattle.std.proofs.Common.{◌≡◌, ℕ, Bool, true, false, List, [], ◌∷◌, Some, None, refl, ap, sym, ◌∙◌, subst, unwrap_or}
+use Rattle.std.proofs.lemmas.Bool.{false≢true}
+use Rattle.rn_syntax.specs.declared.token.Keyword.TheVariants as k
+use Rattle.rn_syntax.specs.declared.token.Postfix.{Postfix}
+use Rattle.rn_syntax.specs.declared.terminals.Terminal as code
+use Rattle.rn_syntax.specs.declared.terminals.Terminal.TheVariants as c
+use Rattle.rn_syntax.specs.Terminal.{Terminal, Placed, ◌#◌, ident, segment, postfix, minus, left_brace, other}
+use Rattle.rn_syntax.specs.Tree as tree
+use Rattle.rn_syntax.specs.Tree.{Datatype, Params, Pattern}
+use Rattle.rn_syntax.specs.Grammar as g
+use Rattle.rn_syntax.specs.Grammar.{Tokens, AreFollows, MayAnnotate, IsLiteral, IsDatatype, MayHaveParams, IsOperand, IsPrimary, IsCore}
+use Rattle.rn_syntax.specs.Follow.{Starts, first, no_bracket, no_follow, no_tilde, no_brace, behind_core, behind_primary, behind_operand, begins_datatype}
+use Rattle.rn_syntax.specs.Sequence.{Then, both, Gives, gives, IsHere}
+use Rattle.rn_syntax.specs.Parts as part
+use Rattle.rn_syntax.specs.Parts.{BehindPrimary, BehindType, BehindDatatype}
+use Rattle.rn_syntax.specs.Reading.{Alike, Took, Stuck, Bare, seen, IsNext}
+use Rattle.rn_syntax.proofs.OneClass.{starts_to, minus_stays, datatype_one}
+use Rattle.rn_syntax.proofs.OnePattern.{to_primary, primary_to_follow, core_to_tilde, core_to_brace, follows_core, core_front, datatype_front}
+use Rattle.rn_syntax.proofs.Compose.{Upto, Fits, Can, CanBe, upto_at, upto_token, upto_then, took_upto, stuck_upto, reads, stuck_in, took_gives, first_alike, alike_token}
+use Rattle.rn_syntax.proofs.Next.{first_next}
+
+-- ---- words
+
+abbrev pub Follows : Tokens → Unit {0} → Tokens → Type 0
+Follows = Bare AreFollows
+
+-- a value, where what is read last is all that is left
+pub fits_given : {A C : Type 0} {F G : Tokens → Type 0} (f : A → C) → ((r : Tokens) → G r → F r) → Fits F (λ (a : A). Gives (f a)) G
+fits_given {A = A} {C = C} {F = F} {G = G} f to = record { fits = λ a mid z r d w. same d w }
+  where
+    same : {a : A} {z : C} {mid r : Tokens} → Gives (f a) mid z r → G r → F mid
+    same {r = r} gives w = to r w
+
+pub can_given : {A C : Type 0} (f : A → C) → Can (λ (a : A). Gives (f a))
+can_given f more = (more, λ a. (f a, gives))
+
+-- a step before a token that is read later
+pub upto_seen : {A : Type 0} {V W : Tokens → A → Tokens → Type 0} {G : Tokens → Type 0} {x : Placed} {now next : Tokens} → now ≡ x ∷ next
+    → ((t : Tokens) (z : A) (r : Tokens) → W t z r → V t z r) → ((t : Tokens) (z : A) (r : Tokens) → V (x ∷ t) z r → G r → W (x ∷ t) z r) → Upto V W G now now
+upto_seen {V = V} {W = W} e to from = upto_at to (λ t a z r d w. let u = alike_token e a in subst (λ (l : Tokens). W l z r) (sym u.1) (from u.0 z r (subst (λ (l : Tokens). V l z r) u.1 d) w))
+
+operand_primary : (r : Tokens) → Starts behind_operand r → Starts behind_primary r
+operand_primary r w = starts_to behind_operand behind_primary to_primary r w
+
+pub primary_follow : (r : Tokens) → Starts behind_primary r → Starts no_follow r
+primary_follow r w = starts_to behind_primary no_follow primary_to_follow r w
+
+operand_follow : (r : Tokens) → Starts behind_operand r → Starts no_follow r
+operand_follow r w = primary_follow r (operand_primary r w)
+
+pub core_tilde : (r : Tokens) → Starts behind_core r → Starts no_tilde r
+core_tilde r w = starts_to behind_core no_tilde core_to_tilde r w
+
+pub core_brace : (r : Tokens) → Starts behind_core r → Starts no_brace r
+core_brace r w = starts_to behind_core no_brace core_to_brace r w
+
+-- ---- behind a primary
+
+abbrev pub is_postfix : Terminal → Bool
+is_postfix (postfix s) = true
+is_postfix x = false
+
+postfix_at : (p : Pattern) (s : Postfix) {i : ℕ} {now next : Tokens} → now ≡ postfix s # i ∷ next
+    → Upto (BehindPrimary p) (Then Follows (λ u. Gives (tree.repeated s p))) (Starts behind_operand) now next
+postfix_at p s {i = i} e = upto_token e (λ t z r d. to d) (λ t z r d w. from d w)
+  where
+    to : {t r : Tokens} {z : Pattern} → Then Follows (λ u. Gives (tree.repeated s p)) t z r → BehindPrimary p (postfix s # i ∷ t) z r
+    to (both f gives) = part.repeated f
+    from : {t r : Tokens} {z : Pattern} → BehindPrimary p (postfix s # i ∷ t) z r → Starts behind_operand r → Then Follows (λ u. Gives (tree.repeated s p)) t z r
+    from (part.repeated f) w = both f gives
+    from part.alone w = absurd (false≢true w)
+
+pub repeated_took : (p : Pattern) (s : Postfix) {i : ℕ} {now next rest : Tokens} → now ≡ postfix s # i ∷ next → Took Follows (Starts no_follow) next tt rest
+    → Took (BehindPrimary p) (Starts behind_operand) now (tree.repeated s p) rest
+repeated_took p s {rest = rest} e h = took_upto (upto_then (postfix_at p s e) (reads (fits_given (λ u. tree.repeated s p) operand_follow) h)) (took_gives (tree.repeated s p) rest)
+
+pub repeated_stuck : (p : Pattern) (s : Postfix) {i : ℕ} {now next bad : Tokens} → now ≡ postfix s # i ∷ next → Stuck Follows (Starts no_follow) next bad
+    → Stuck (BehindPrimary p) (Starts behind_operand) now bad
+repeated_stuck p s e h = stuck_upto (postfix_at p s e) (stuck_in (fits_given (λ u. tree.repeated s p) operand_follow) (can_given (λ u. tree.repeated s p)) h)
+
+not_postfix : (x : code.Terminal) → ((s : Postfix) → x ≡ c.Postfix s → ⊥) → is_postfix (unwrap_or (seen x) other) ≡ false
+not_postfix (c.Postfix s) h = absurd (h s refl)
+not_postfix x h = refl
+
+only_alone : {p z : Pattern} {t r : Tokens} → is_postfix (first t) ≡ false → BehindPrimary p t z r → (z ≡ p) × (r ≡ t)
+only_alone e part.alone = (refl, refl)
+only_alone e (part.repeated f) = absurd (false≢true (sym e))
+
+pub alone_took : (p : Pattern) (now behind : Tokens) (x : code.Terminal) → IsNext now (seen x) behind → ((s : Postfix) → x ≡ c.Postfix s → ⊥) → Took (BehindPrimary p) (Starts behind_operand) now p now
+alone_took p now behind x e h = record {
+  front = [];
+  cut = refl;
+  derives = λ more. part.alone;
+  only = λ t a y r d w. only_alone (ap is_postfix (first_alike a) ∙ ap is_postfix (first_next now behind (seen x) e) ∙ not_postfix x h) d;
+}
+
+-- the front of what stands behind a primary
+behind_front : {p z : Pattern} {t r : Tokens} → BehindPrimary p t z r → Starts behind_operand r → Starts behind_primary t
+behind_front {t = t} part.alone w = operand_primary t w
+behind_front (part.repeated f) w = refl
+
+-- ---- behind a core: follows, and the rest of an operand
+
+abbrev pub Ends : Pattern → Tokens → Pattern → Tokens → Type 0
+Ends p = Then Follows (λ u. BehindPrimary p)
+
+ends_front : {p z : Pattern} {t r : Tokens} → Ends p t z r → Starts behind_operand r → Starts behind_core t
+ends_front (both f b) w = follows_core f (behind_front b w)
+
+pub fits_ends : {A : Type 0} {F : Tokens → Type 0} (p : A → Pattern) → ((r : Tokens) → Starts behind_core r → F r) → Fits F (λ (a : A). Ends (p a)) (Starts behind_operand)
+fits_ends p to = record { fits = λ a mid z r d w. to mid (ends_front d w) }
+
+pub can_ends : {A : Type 0} (p : A → Pattern) → Can (λ (a : A). Ends (p a))
+can_ends p more = (more, λ a. (p a, both g.none part.alone))
+
+fits_behind : (p : Pattern) → Fits (Starts no_follow) (λ (u : Unit {0}). BehindPrimary p) (Starts behind_operand)
+fits_behind p = record { fits = λ u mid z r d w. primary_follow mid (behind_front d w) }
+
+can_behind : (p : Pattern) → Can (λ (u : Unit {0}). BehindPrimary p)
+can_behind p more = (more, λ u. (p, part.alone))
+
+pub follows_read : (p : Pattern) {now next : Tokens} → Took Follows (Starts no_follow) now tt next → Upto (Ends p) (BehindPrimary p) (Starts behind_operand) now next
+follows_read p h = reads (fits_behind p) h
+
+pub follows_stuck : (p : Pattern) {now bad : Tokens} → Stuck Follows (Starts no_follow) now bad → Stuck (Ends p) (Starts behind_operand) now bad
+follows_stuck p h = stuck_in (fits_behind p) (can_behind p) h
+
+-- ---- behind a datatype
+
+abbrev pub is_segment : Terminal → Bool
+is_segment (segment s) = true
+is_segment x = false
+
+literal_begins : {t r : Tokens} {s : List ℕ} → IsLiteral t s r → is_segment (first t) ≡ true
+literal_begins g.one = refl
+literal_begins (g.joined l) = refl
+
+not_segment : (x : code.Terminal) → ((s : _) → x ≡ c.Segment s → ⊥) → is_segment (unwrap_or (seen x) other) ≡ false
+not_segment (c.Segment s) h = absurd (h s refl)
+not_segment x h = refl
+
+pub no_segment : (now behind : Tokens) (x : code.Terminal) → IsNext now (seen x) behind → ((s : _) → x ≡ c.Segment s → ⊥) → is_segment (first now) ≡ false
+no_segment now behind x e h = ap is_segment (first_next now behind (seen x) e) ∙ not_segment x h
+
+-- no datum ends before a segment
+datum_not : {s : List ℕ} {i : ℕ} {t r : Tokens} {ps : Params} → MayHaveParams (segment s # i ∷ t) ps r → Starts behind_core r → ⊥
+datum_not g.none w = false≢true w
+
+abbrev pub Valued : Datatype → Tokens → Pattern → Tokens → Type 0
+Valued d = Then IsLiteral (λ s. Gives (tree.value (Some d) s))
+
+abbrev pub Datum : Datatype → Tokens → Pattern → Tokens → Type 0
+Datum d = Then MayHaveParams (λ ps. Gives (tree.datum d ps))
+
+module _ (d : Datatype) {now : Tokens} where
+  valued_at : {s : List ℕ} {i : ℕ} {next : Tokens} → now ≡ segment s # i ∷ next → Upto (BehindType d) (Valued d) (Starts behind_core) now now
+  valued_at {s = s} {i = i} e = upto_seen e (λ t z r h. to h) (λ t z r h w. from h w)
+    where
+      to : {t r : Tokens} {z : Pattern} → Valued d t z r → BehindType d t z r
+      to (both l gives) = part.valued l
+      from : {t r : Tokens} {z : Pattern} → BehindType d (segment s # i ∷ t) z r → Starts behind_core r → Valued d (segment s # i ∷ t) z r
+      from (part.valued l) w = both l gives
+      from (part.datum m) w = absurd (datum_not m w)
+
+  pub value_took : {s u : List ℕ} {i : ℕ} {next rest : Tokens} → now ≡ segment s # i ∷ next → Took IsLiteral (Starts no_tilde) now u rest
+      → Took (BehindType d) (Starts behind_core) now (tree.value (Some d) u) rest
+  value_took {u = u} {rest = rest} e h = took_upto (upto_then (valued_at e) (reads (fits_given (λ s. tree.value (Some d) s) core_tilde) h)) (took_gives (tree.value (Some d) u) rest)
+
+  pub value_stuck : {s : List ℕ} {i : ℕ} {next bad : Tokens} → now ≡ segment s # i ∷ next → Stuck IsLiteral (Starts no_tilde) now bad → Stuck (BehindType d) (Starts behind_core) now bad
+  value_stuck e h = stuck_upto (valued_at e) (stuck_in (fits_given (λ s. tree.value (Some d) s) core_tilde) (can_given (λ s. tree.value (Some d) s)) h)
+
+  datum_at : is_segment (first now) ≡ false → Upto (BehindType d) (Datum d) (Starts behind_core) now now
+  datum_at e = upto_at (λ t z r h. to h) (λ t a z r h w. from (ap is_segment (first_alike a) ∙ e) h)
+    where
+      to : {t r : Tokens} {z : Pattern} → Datum d t z r → BehindType d t z r
+      to (both m gives) = part.datum m
+      from : {t r : Tokens} {z : Pattern} → is_segment (first t) ≡ false → BehindType d t z r → Datum d t z r
+      from e (part.datum m) = both m gives
+      from e (part.valued l) = absurd (false≢true (sym e ∙ literal_begins l))
+
+  pub datum_took : {ps : Params} {rest : Tokens} → is_segment (first now) ≡ false → Took MayHaveParams (Starts no_brace) now ps rest → Took (BehindType d) (Starts behind_core) now (tree.datum d ps) rest
+  datum_took {ps = ps} {rest = rest} e h = took_upto (upto_then (datum_at e) (reads (fits_given (λ ps. tree.datum d ps) core_brace) h)) (took_gives (tree.datum d ps) rest)
+
+  pub datum_stuck : {bad : Tokens} → is_segment (first now) ≡ false → Stuck MayHaveParams (Starts no_brace) now bad → Stuck (BehindType d) (Starts behind_core) now bad
+  datum_stuck e h = stuck_upto (datum_at e) (stuck_in (fits_given (λ ps. tree.datum d ps) core_brace) (can_given (λ ps. tree.datum d ps)) h)
+
+-- ---- behind the datatype of an operand
+
+-- what is behind its parameters
+pub data BehindParams (d : Datatype) (ps : Params) : Tokens → Pattern → Tokens → Type 0 where
+  plain : {ts rest : Tokens} {p : Pattern} → Ends (tree.datum d ps) ts p rest → BehindParams d ps ts p rest
+  except : {i : ℕ} {ts rest : Tokens} {p : Pattern} → IsPrimary ts p rest → BehindParams d ps (minus # i ∷ ts) (tree.datum_but d ps i p) rest
+
+params_front : {d : Datatype} {ps : Params} {z : Pattern} {t r : Tokens} → BehindParams d ps t z r → Starts behind_operand r → Starts no_brace t
+params_front {t = t} (plain m) w = core_brace t (ends_front m w)
+params_front (except q) w = refl
+
+fits_params : (d : Datatype) → Fits (Starts no_brace) (BehindParams d) (Starts behind_operand)
+fits_params d = record { fits = λ ps mid z r h w. params_front h w }
+
+can_params : (d : Datatype) → Can (BehindParams d)
+can_params d more = (more, λ ps. (tree.datum d ps, plain (both g.none part.alone)))
+
+primary_behind : {p z : Pattern} {i : ℕ} {us mid r : Tokens} → mid ≡ minus # i ∷ us → BehindPrimary p mid z r → Starts behind_operand r → ⊥
+primary_behind e b w = false≢true (subst (Starts behind_primary) e (behind_front b w))
+
+abbrev Except : Datatype → Params → ℕ → Tokens → Pattern → Tokens → Type 0
+Except d ps i = Then IsPrimary (λ q. Gives (tree.datum_but d ps i q))
+
+except_at : (d : Datatype) (ps : Params) {i : ℕ} {now next : Tokens} → now ≡ minus # i ∷ next → Upto (BehindParams d ps) (Except d ps i) (Starts behind_operand) now next
+except_at d ps {i = i} e = upto_token e (λ t z r h. to h) (λ t z r h w. from h w)
+  where
+    to : {t r : Tokens} {z : Pattern} → Except d ps i t z r → BehindParams d ps (minus # i ∷ t) z r
+    to (both q gives) = except q
+    from : {t r : Tokens} {z : Pattern} → BehindParams d ps (minus # i ∷ t) z r → Starts behind_operand r → Except d ps i t z r
+    from (except q) w = both q gives
+    from (plain (both f b)) w = absurd (primary_behind (minus_stays f) b w)
+
+abbrev is_minus : Terminal → Bool
+is_minus minus = true
+is_minus x = false
+
+not_minus : (x : code.Terminal) → (x ≡ c.Minus → ⊥) → is_minus (unwrap_or (seen x) other) ≡ false
+not_minus c.Minus h = absurd (h refl)
+not_minus x h = refl
+
+plain_at : (d : Datatype) (ps : Params) {now : Tokens} → is_minus (first now) ≡ false → Upto (BehindParams d ps) (Ends (tree.datum d ps)) (Starts behind_operand) now now
+plain_at d ps e = upto_at (λ t z r h. plain h) (λ t a z r h w. from (ap is_minus (first_alike a) ∙ e) h)
+  where
+    from : {t r : Tokens} {z : Pattern} → is_minus (first t) ≡ false → BehindParams d ps t z r → Ends (tree.datum d ps) t z r
+    from e (plain h) = h
+    from e (except q) = absurd (false≢true (sym e))
+
+except_not : {s : List ℕ} {i j : ℕ} {t after : Tokens} {ps : Params} → MayHaveParams (segment s # i ∷ t) ps (minus # j ∷ after) → ⊥
+except_not m = elim m [ ]
+
+abbrev Text : Datatype → Tokens → Pattern → Tokens → Type 0
+Text d = Then IsLiteral (λ s. Ends (tree.value (Some d) s))
+
+abbrev WithParams : Datatype → Tokens → Pattern → Tokens → Type 0
+WithParams d = Then MayHaveParams (BehindParams d)
+
+module _ (d : Datatype) {ts : Tokens} where
+  text_at : {s : List ℕ} {i : ℕ} {next : Tokens} → ts ≡ segment s # i ∷ next → Upto (BehindDatatype d) (Text d) (Starts behind_operand) ts ts
+  text_at {s = s} {i = i} e = upto_seen e (λ t z r h. to h) (λ t z r h w. from h w)
+    where
+      to : {t r : Tokens} {z : Pattern} → Text d t z r → BehindDatatype d t z r
+      to (both l (both f b)) = part.plain (part.valued l) f b
+      from : {t r : Tokens} {z : Pattern} → BehindDatatype d (segment s # i ∷ t) z r → Starts behind_operand r → Text d (segment s # i ∷ t) z r
+      from (part.plain (part.valued l) f b) w = both l (both f b)
+      from (part.plain (part.datum m) f b) w = absurd (datum_not m (follows_core f (behind_front b w)))
+      from (part.except m q) w = absurd (except_not m)
+
+  params_at : is_segment (first ts) ≡ false → Upto (BehindDatatype d) (WithParams d) (Starts behind_operand) ts ts
+  params_at e = upto_at (λ t z r h. to h) (λ t a z r h w. from (ap is_segment (first_alike a) ∙ e) h)
+    where
+      to : {t r : Tokens} {z : Pattern} → WithParams d t z r → BehindDatatype d t z r
+      to (both m (plain (both f b))) = part.plain (part.datum m) f b
+      to (both m (except q)) = part.except m q
+      from : {t r : Tokens} {z : Pattern} → is_segment (first t) ≡ false → BehindDatatype d t z r → WithParams d t z r
+      from e (part.plain (part.valued l) f b) = absurd (false≢true (sym e ∙ literal_begins l))
+      from e (part.plain (part.datum m) f b) = both m (plain (both f b))
+      from e (part.except m q) = both m (except q)
+
+  pub text_stuck : {s : List ℕ} {i : ℕ} {next bad : Tokens} → ts ≡ segment s # i ∷ next → Stuck IsLiteral (Starts no_tilde) ts bad → Stuck (BehindDatatype d) (Starts behind_operand) ts bad
+  text_stuck e h = stuck_upto (text_at e) (stuck_in (fits_ends (λ s. tree.value (Some d) s) core_tilde) (can_ends (λ s. tree.value (Some d) s)) h)
+
+  -- the follows of a value come
+  pub text_read : {s u : List ℕ} {i : ℕ} {next now : Tokens} → ts ≡ segment s # i ∷ next → Took IsLiteral (Starts no_tilde) ts u now
+      → Upto (BehindDatatype d) (Ends (tree.value (Some d) u)) (Starts behind_operand) ts now
+  text_read e h = upto_then (text_at e) (reads (fits_ends (λ s. tree.value (Some d) s) core_tilde) h)
+
+  pub params_stuck : {bad : Tokens} → is_segment (first ts) ≡ false → Stuck MayHaveParams (Starts no_brace) ts bad → Stuck (BehindDatatype d) (Starts behind_operand) ts bad
+  params_stuck e h = stuck_upto (params_at e) (stuck_in (fits_params d) (can_params d) h)
+
+  params_read : {ps : Params} {now : Tokens} → is_segment (first ts) ≡ false → Took MayHaveParams (Starts no_brace) ts ps now → Upto (BehindDatatype d) (BehindParams d ps) (Starts behind_operand) ts now
+  params_read e h = upto_then (params_at e) (reads (fits_params d) h)
+
+  -- the follows of a datum come
+  pub datum_read : {ps : Params} {now : Tokens} (behind : Tokens) (x : code.Terminal) → is_segment (first ts) ≡ false → Took MayHaveParams (Starts no_brace) ts ps now → IsNext now (seen x) behind → (x ≡ c.Minus → ⊥)
+      → Upto (BehindDatatype d) (Ends (tree.datum d ps)) (Starts behind_operand) ts now
+  datum_read {ps = ps} {now = now} behind x e h n m = upto_then (params_read e h) (plain_at d ps (ap is_minus (first_next now behind (seen x) n) ∙ not_minus x m))
+
+  pub except_stuck : {ps : Params} {i : ℕ} {now next bad : Tokens} → is_segment (first ts) ≡ false → Took MayHaveParams (Starts no_brace) ts ps now → now ≡ minus # i ∷ next
+      → Stuck IsPrimary (Starts behind_primary) next bad → Stuck (BehindDatatype d) (Starts behind_operand) ts bad
+  except_stuck {ps = ps} {i = i} e h m q = stuck_upto (upto_then (params_read e h) (except_at d ps m)) (stuck_in (fits_given (λ p. tree.datum_but d ps i p) operand_primary) (can_given (λ p. tree.datum_but d ps i p)) q)
+
+  pub except_took : {ps : Params} {i : ℕ} {p : Pattern} {now next end : Tokens} → is_segment (first ts) ≡ false → Took MayHaveParams (Starts no_brace) ts ps now → now ≡ minus # i ∷ next
+      → Took IsPrimary (Starts behind_primary) next p end → Took (BehindDatatype d) (Starts behind_operand) ts (tree.datum_but d ps i p) end
+  except_took {ps = ps} {i = i} {p = p} {end = end} e h m q = took_upto (upto_then (params_read e h) (upto_then (except_at d ps m) (reads (fits_given (λ p. tree.datum_but d ps i p) operand_primary) q))) (took_gives (tree.datum_but d ps i p) end)
+
+-- the primary, by another name
+pub upto_same : {V : Tokens → Pattern → Tokens → Type 0} {G : Tokens → Type 0} {ts now : Tokens} {p q : Pattern} → p ≡ q → Upto V (BehindPrimary p) G ts now → Upto V (BehindPrimary q) G ts now
+upto_same {V = V} {G = G} {ts = ts} {now = now} e u = subst (λ (p : Pattern). Upto V (BehindPrimary p) G ts now) e u

@@ -1,0 +1,5 @@
+use Rattle.rn_syntax.proofs.SourceTokens.{tokens_are_spelled}
+use Rattle.rn_syntax.proofs.laws.tokens_of_texts_are_spelled.Goals as goal
+
+pub returns : goal.returns
+returns c = tokens_are_spelled

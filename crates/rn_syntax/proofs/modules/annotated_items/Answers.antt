@@ -1,0 +1,17 @@
+use Rattle.std.proofs.Common.{◌++◌, ◌∷◌, [], sym, ap, ◌∙◌, map}
+use Rattle.std.proofs.lemmas.Result.{err_from_is_err_and}
+use Rattle.rn_syntax.specs.View.{item_view}
+use Rattle.rn_syntax.proofs.Compose.{on_fault, reads_upto}
+use Rattle.rn_syntax.proofs.Itemized.{first_read, first_stuck}
+use Rattle.rn_syntax.proofs.modules.annotated_items.Goals as goal
+
+pub returns-in_err-first-clause-reads : goal.returns-in_err-first-clause-reads
+returns-in_err-first-clause-reads c =
+    let p = err_from_is_err_and c.from_residual.result c.from_residual.ensures.1 in
+    rw (p.1, p.2) (on_fault c.args.tokens.now c.args.at c.args.at _ (λ s bad k. first_stuck k) c.in_err-first.ensures.reads)
+
+pub returns-clause-reads : goal.returns-clause-reads
+returns-clause-reads c =
+    reads_upto (λ v. map item_view v.items) c.args.tokens.now c.in_ok-first.end c.args.at _ (λ r g. g)
+      (λ s. first_read (ap (map item_view) (c.in_ok-push.ensures.items ∙ ap (λ l. l ++ c.in_ok-first.first ∷ []) c.new-read.ensures.items)) (c.in_ok-first.ensures.reads s))
+      c.items_behind.ensures.reads

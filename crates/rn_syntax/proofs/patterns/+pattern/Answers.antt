@@ -1,0 +1,256 @@
+-- Each reader of patterns, exit by exit.
+use Rattle.std.proofs.Common.{◌+◌, ◌++◌, ◌∷◌, [], ◌∙◌, sym, ap, map, arith, refl}
+use Rattle.std.proofs.lemmas.List.{map-append}
+use Rattle.std.proofs.lemmas.Result.{err_from_is_err_and}
+use Rattle.rn_syntax.specs.declared.token.Keyword.TheVariants as word
+use Rattle.rn_syntax.specs.Terminal.{operator}
+use Rattle.rn_syntax.specs.Tree as tree
+use Rattle.rn_syntax.specs.View.{datatype_view, params_view, pattern_view}
+use Rattle.rn_syntax.specs.Follow.{first}
+use Rattle.rn_syntax.proofs.Compose.{on_fault, took_same, stuck_upto, reads_upto, upto_then}
+use Rattle.rn_syntax.proofs.Next.{terminal_at, place_is}
+use Rattle.rn_syntax.proofs.Chaining.{chain_read, chain_stuck, chain_end}
+use Rattle.rn_syntax.proofs.Chains.{operands_chain, pattern_stuck, pattern_alone, pattern_first, operands_same}
+use Rattle.rn_syntax.proofs.Operands.{no_segment, text_stuck, text_read, params_stuck, datum_read, except_stuck, except_took, follows_read, follows_stuck, upto_same}
+use Rattle.rn_syntax.proofs.Primaries.{type_at, operand_stuck, operand_typed, operand_core_stuck, operand_core_read, primary_stuck, primary_core_stuck, primary_follows_stuck, primary_took}
+use Rattle.rn_syntax.proofs.Cores.{open_stuck, braces_inner, braces_close, braced_took, class_stuck, content_stuck, content_took, keyword_here, element_stuck, element_took, attribute_stuck, attribute_took, list_stuck, list_took, mixed_stuck, mixed_took, empty_took, not_allowed_took, text_took, ref_took}
+use Rattle.rn_syntax.proofs.Unnamed.{literal_stuck, literal_took, inner_stuck, close_stuck, parens_took, no_core, no_keyword_core}
+use Rattle.rn_syntax.proofs.PatternViews.{view-Empty, view-NotAllowed, view-Text}
+use Rattle.rn_syntax.proofs.patterns.+pattern.Goals as goal
+
+-- ---- braces
+
+pub braced-returns-in_err-inside-clause-reads : goal.braced-returns-in_err-inside-clause-reads
+braced-returns-in_err-inside-clause-reads t c =
+    let p = err_from_is_err_and c.from_residual.result c.from_residual.ensures.1 in
+    rw (p.1, p.2) (on_fault c.args.tokens.now c.args.at c.args.at _ (λ s bad k. open_stuck k) c.in_err-inside.ensures.passes)
+
+pub braced-returns-in_err-content-clause-reads : goal.braced-returns-in_err-content-clause-reads
+braced-returns-in_err-content-clause-reads t c =
+    let p = err_from_is_err_and c.from_residual-in_err-content.result c.from_residual-in_err-content.ensures.1 in
+    rw (p.1, p.2) (on_fault c.args.tokens.now c.in_ok-inside.inside c.args.at _ (λ s bad k. braces_inner (c.in_ok-inside.ensures.passes s).1 k) c.in_err-content.ensures.reads)
+
+pub braced-returns-in_err-right_brace-clause-reads : goal.braced-returns-in_err-right_brace-clause-reads
+braced-returns-in_err-right_brace-clause-reads t c =
+    let p = err_from_is_err_and c.from_residual-in_err-right_brace.result c.from_residual-in_err-right_brace.ensures.1 in
+    rw (p.1, p.2) (on_fault c.args.tokens.now c.in_ok-content.end c.args.at _ (λ s bad k. braces_close (c.in_ok-inside.ensures.passes s).1 (c.in_ok-content.ensures.reads s) k) c.in_err-right_brace.ensures.passes)
+
+pub braced-returns-clause-reads : goal.braced-returns-clause-reads
+braced-returns-clause-reads t c = λ s. braced_took (c.in_ok-inside.ensures.passes s).1 (c.in_ok-content.ensures.reads s) (c.in_ok-right_brace.ensures.passes s).1
+
+pub named-returns-in_err-class-clause-reads : goal.named-returns-in_err-class-clause-reads
+named-returns-in_err-class-clause-reads t c =
+    let p = err_from_is_err_and c.from_residual.result c.from_residual.ensures.1 in
+    rw (p.1, p.2) (on_fault c.args.tokens.now c.args.at c.args.at _ (λ s bad k. class_stuck k) c.in_err-class.ensures.reads)
+
+pub named-returns-in_err-content-clause-reads : goal.named-returns-in_err-content-clause-reads
+named-returns-in_err-content-clause-reads t c =
+    let p = err_from_is_err_and c.from_residual-in_err-content.result c.from_residual-in_err-content.ensures.1 in
+    rw (p.1, p.2) (on_fault c.args.tokens.now c.in_ok-class.end c.args.at _ (λ s bad k. content_stuck (c.in_ok-class.ensures.reads s) k) c.in_err-content.ensures.reads)
+
+pub named-returns-clause-reads : goal.named-returns-clause-reads
+named-returns-clause-reads t c = λ s. content_took (c.in_ok-class.ensures.reads s) (c.in_ok-content.ensures.reads s)
+
+-- ---- cores
+
+pub keyword_core-returns-in_err-class-in-Element-clause-reads : goal.keyword_core-returns-in_err-class-in-Element-clause-reads
+keyword_core-returns-in_err-class-in-Element-clause-reads t c =
+    let p = err_from_is_err_and c.from_residual.result c.from_residual.ensures.1 in
+    rw (p.1, p.2) (on_fault c.args.tokens.now (c.args.at + 1) c.args.at _ (λ s bad k. element_stuck (keyword_here c.args.tokens.now c.args.at word.Element c.requires.inside c.requires.here c.in-Element.is).1 k) c.in_err-class-in-Element.ensures.reads)
+
+pub keyword_core-returns-in_ok-element-in-Element-clause-reads : goal.keyword_core-returns-in_ok-element-in-Element-clause-reads
+keyword_core-returns-in_ok-element-in-Element-clause-reads t c = λ s. took_same (sym c.in_ok-element-in-Element.ensures) (element_took (keyword_here c.args.tokens.now c.args.at word.Element c.requires.inside c.requires.here c.in-Element.is).1 (c.in_ok-class-in-Element.ensures.reads s))
+
+pub keyword_core-returns-in_err-class-in-Attribute-clause-reads : goal.keyword_core-returns-in_err-class-in-Attribute-clause-reads
+keyword_core-returns-in_err-class-in-Attribute-clause-reads t c =
+    let p = err_from_is_err_and c.from_residual-in_err-class-in-Attribute.result c.from_residual-in_err-class-in-Attribute.ensures.1 in
+    rw (p.1, p.2) (on_fault c.args.tokens.now (c.args.at + 1) c.args.at _ (λ s bad k. attribute_stuck (keyword_here c.args.tokens.now c.args.at word.Attribute c.requires.inside c.requires.here c.in-Attribute.is).1 k) c.in_err-class-in-Attribute.ensures.reads)
+
+pub keyword_core-returns-in_ok-attribute-in-Attribute-clause-reads : goal.keyword_core-returns-in_ok-attribute-in-Attribute-clause-reads
+keyword_core-returns-in_ok-attribute-in-Attribute-clause-reads t c = λ s. took_same (sym c.in_ok-attribute-in-Attribute.ensures) (attribute_took (keyword_here c.args.tokens.now c.args.at word.Attribute c.requires.inside c.requires.here c.in-Attribute.is).1 (c.in_ok-class-in-Attribute.ensures.reads s))
+
+pub keyword_core-returns-in_err-content-in-List-clause-reads : goal.keyword_core-returns-in_err-content-in-List-clause-reads
+keyword_core-returns-in_err-content-in-List-clause-reads t c =
+    let p = err_from_is_err_and c.from_residual-in_err-content-in-List.result c.from_residual-in_err-content-in-List.ensures.1 in
+    rw (p.1, p.2) (on_fault c.args.tokens.now (c.args.at + 1) c.args.at _ (λ s bad k. list_stuck (keyword_here c.args.tokens.now c.args.at word.List c.requires.inside c.requires.here c.in-List.is).1 k) c.in_err-content-in-List.ensures.reads)
+
+pub keyword_core-returns-in_ok-list-in-List-clause-reads : goal.keyword_core-returns-in_ok-list-in-List-clause-reads
+keyword_core-returns-in_ok-list-in-List-clause-reads t c = λ s. took_same (sym c.in_ok-list-in-List.ensures) (list_took (keyword_here c.args.tokens.now c.args.at word.List c.requires.inside c.requires.here c.in-List.is).1 (c.in_ok-content-in-List.ensures.reads s))
+
+pub keyword_core-returns-in_err-content-in-Mixed-clause-reads : goal.keyword_core-returns-in_err-content-in-Mixed-clause-reads
+keyword_core-returns-in_err-content-in-Mixed-clause-reads t c =
+    let p = err_from_is_err_and c.from_residual-in_err-content-in-Mixed.result c.from_residual-in_err-content-in-Mixed.ensures.1 in
+    rw (p.1, p.2) (on_fault c.args.tokens.now (c.args.at + 1) c.args.at _ (λ s bad k. mixed_stuck (keyword_here c.args.tokens.now c.args.at word.Mixed c.requires.inside c.requires.here c.in-Mixed.is).1 k) c.in_err-content-in-Mixed.ensures.reads)
+
+pub keyword_core-returns-in_ok-mixed-in-Mixed-clause-reads : goal.keyword_core-returns-in_ok-mixed-in-Mixed-clause-reads
+keyword_core-returns-in_ok-mixed-in-Mixed-clause-reads t c = λ s. took_same (sym c.in_ok-mixed-in-Mixed.ensures) (mixed_took (keyword_here c.args.tokens.now c.args.at word.Mixed c.requires.inside c.requires.here c.in-Mixed.is).1 (c.in_ok-content-in-Mixed.ensures.reads s))
+
+pub keyword_core-returns-in-Empty-clause-reads : goal.keyword_core-returns-in-Empty-clause-reads
+keyword_core-returns-in-Empty-clause-reads t c = λ s. took_same (sym view-Empty) (empty_took (keyword_here c.args.tokens.now c.args.at word.Empty c.requires.inside c.requires.here c.in-Empty.is).1)
+
+pub keyword_core-returns-in-NotAllowed-clause-reads : goal.keyword_core-returns-in-NotAllowed-clause-reads
+keyword_core-returns-in-NotAllowed-clause-reads t c = λ s. took_same (sym view-NotAllowed) (not_allowed_took (keyword_here c.args.tokens.now c.args.at word.NotAllowed c.requires.inside c.requires.here c.in-NotAllowed.is).1)
+
+pub keyword_core-returns-in-Text-clause-reads : goal.keyword_core-returns-in-Text-clause-reads
+keyword_core-returns-in-Text-clause-reads t c = λ s. took_same (sym view-Text) (text_took (keyword_here c.args.tokens.now c.args.at word.Text c.requires.inside c.requires.here c.in-Text.is).1)
+
+pub keyword_core-returns-in_default-clause-reads : goal.keyword_core-returns-in_default-clause-reads
+keyword_core-returns-in_default-clause-reads t c = λ s. no_keyword_core c.args.keyword c.requires.here c.in_default.not-Element c.in_default.not-Attribute c.in_default.not-List c.in_default.not-Mixed c.in_default.not-Empty c.in_default.not-NotAllowed c.in_default.not-Text c.requires.untyped
+
+pub untyped_core-returns-in_err-text-in-Segment-clause-reads : goal.untyped_core-returns-in_err-text-in-Segment-clause-reads
+untyped_core-returns-in_err-text-in-Segment-clause-reads t c =
+    let p = err_from_is_err_and c.from_residual.result c.from_residual.ensures.1 in
+    rw (p.1, p.2) (on_fault c.args.tokens.now c.args.at c.args.at _ (λ s bad k. literal_stuck c.in-Segment.ensures.next.1 k) c.in_err-text-in-Segment.ensures.reads)
+
+pub untyped_core-returns-in_ok-text-in-Segment-clause-reads : goal.untyped_core-returns-in_ok-text-in-Segment-clause-reads
+untyped_core-returns-in_ok-text-in-Segment-clause-reads t c = λ s. took_same (sym c.plain_value.ensures) (literal_took c.in-Segment.ensures.next.1 (c.in_ok-text-in-Segment.ensures.reads s))
+
+pub untyped_core-returns-in_err-inner-in-LeftParen-clause-reads : goal.untyped_core-returns-in_err-inner-in-LeftParen-clause-reads
+untyped_core-returns-in_err-inner-in-LeftParen-clause-reads t c =
+    let p = err_from_is_err_and c.from_residual-in_err-inner-in-LeftParen.result c.from_residual-in_err-inner-in-LeftParen.ensures.1 in
+    rw (p.1, p.2) (on_fault c.args.tokens.now (c.args.at + 1) c.args.at _ (λ s bad k. inner_stuck c.in-LeftParen.ensures.next.1 k) c.in_err-inner-in-LeftParen.ensures.reads)
+
+pub untyped_core-returns-in_err-right_paren-in-LeftParen-clause-reads : goal.untyped_core-returns-in_err-right_paren-in-LeftParen-clause-reads
+untyped_core-returns-in_err-right_paren-in-LeftParen-clause-reads t c =
+    let p = err_from_is_err_and c.from_residual-in_err-right_paren-in-LeftParen.result c.from_residual-in_err-right_paren-in-LeftParen.ensures.1 in
+    rw (p.1, p.2) (on_fault c.args.tokens.now c.in_ok-inner-in-LeftParen.end c.args.at _ (λ s bad k. close_stuck c.in-LeftParen.ensures.next.1 (c.in_ok-inner-in-LeftParen.ensures.reads s) k) c.in_err-right_paren-in-LeftParen.ensures.passes)
+
+pub untyped_core-returns-in_ok-right_paren-in-LeftParen-clause-reads : goal.untyped_core-returns-in_ok-right_paren-in-LeftParen-clause-reads
+untyped_core-returns-in_ok-right_paren-in-LeftParen-clause-reads t c = λ s. parens_took c.in-LeftParen.ensures.next.1 (c.in_ok-inner-in-LeftParen.ensures.reads s) (c.in_ok-right_paren-in-LeftParen.ensures.passes s).1
+
+pub untyped_core-returns-in-Ident-clause-reads : goal.untyped_core-returns-in-Ident-clause-reads
+untyped_core-returns-in-Ident-clause-reads t c = λ s. took_same (sym c.reference.ensures) (ref_took c.in-Ident.ensures.next.1)
+
+pub untyped_core-returns-in_default-clause-reads : goal.untyped_core-returns-in_default-clause-reads
+untyped_core-returns-in_default-clause-reads t c = λ s. no_core _ _ c.next.result c.next.ensures.next c.in_default.not-Keyword c.in_default.not-Ident c.in_default.not-Segment c.in_default.not-LeftParen c.requires.untyped
+
+pub core-returns-in-Some-clause-reads : goal.core-returns-in-Some-clause-reads
+core-returns-in-Some-clause-reads t c = reads_upto pattern_view c.args.tokens.now (c.args.at + 1) c.args.at _ (λ r w. w) (λ s. type_at c.in-Some.ensures.names) c.data.ensures.reads
+
+-- ---- primaries
+
+pub primary-returns-in_err-body-clause-reads : goal.primary-returns-in_err-body-clause-reads
+primary-returns-in_err-body-clause-reads t c =
+    let p = err_from_is_err_and c.from_residual.result c.from_residual.ensures.1 in
+    rw (p.1, p.2) (on_fault c.args.tokens.now c.args.at c.args.at _ (λ s bad k. primary_stuck k) c.in_err-body.ensures.skips)
+
+pub primary-returns-in_err-core-clause-reads : goal.primary-returns-in_err-core-clause-reads
+primary-returns-in_err-core-clause-reads t c =
+    let p = err_from_is_err_and c.from_residual-in_err-core.result c.from_residual-in_err-core.ensures.1 in
+    rw (p.1, p.2) (on_fault c.args.tokens.now c.in_ok-body.body c.args.at _ (λ s bad k. primary_core_stuck (c.in_ok-body.ensures.skips s) k) c.in_err-core.ensures.reads)
+
+pub primary-returns-in_err-skip_follows-clause-reads : goal.primary-returns-in_err-skip_follows-clause-reads
+primary-returns-in_err-skip_follows-clause-reads t c =
+    let p = err_from_is_err_and c.from_residual-in_err-skip_follows.result c.from_residual-in_err-skip_follows.ensures.1 in
+    rw (p.1, p.2) (on_fault c.args.tokens.now c.in_ok-core.end c.args.at _ (λ s bad k. primary_follows_stuck (c.in_ok-body.ensures.skips s) (c.in_ok-core.ensures.reads s) k) c.in_err-skip_follows.ensures.skips)
+
+pub primary-returns-clause-reads : goal.primary-returns-clause-reads
+primary-returns-clause-reads t c = λ s. primary_took (c.in_ok-body.ensures.skips s) (c.in_ok-core.ensures.reads s) (c.in_ok-skip_follows.ensures.skips s)
+
+-- ---- operands
+
+pub behind_datatype-returns-in_err-text-clause-reads : goal.behind_datatype-returns-in_err-text-clause-reads
+behind_datatype-returns-in_err-text-clause-reads t c =
+    let p = err_from_is_err_and c.from_residual.result c.from_residual.ensures.1 in
+    rw (p.1, p.2) (on_fault c.args.tokens.now c.args.at c.args.at _ (λ s bad k. text_stuck (datatype_view c.args.datatype) c.in-Segment.ensures.next.1 k) c.in_err-text.ensures.reads)
+
+pub behind_datatype-returns-in_err-behind-clause-reads : goal.behind_datatype-returns-in_err-behind-clause-reads
+behind_datatype-returns-in_err-behind-clause-reads t c =
+    let p = err_from_is_err_and c.from_residual-in_err-behind.result c.from_residual-in_err-behind.ensures.1 in
+    rw (p.1, p.2) (on_fault c.args.tokens.now c.in_ok-text.end c.args.at _ (λ s bad k. stuck_upto (text_read (datatype_view c.args.datatype) c.in-Segment.ensures.next.1 (c.in_ok-text.ensures.reads s)) (follows_stuck _ k)) c.in_err-behind.ensures.skips)
+
+pub behind_datatype-returns-in-Segment-clause-reads : goal.behind_datatype-returns-in-Segment-clause-reads
+behind_datatype-returns-in-Segment-clause-reads t c = reads_upto pattern_view c.args.tokens.now c.in_ok-behind.behind c.args.at _ (λ r w. w) (λ s. upto_same (sym c.value.ensures) (upto_then (text_read (datatype_view c.args.datatype) c.in-Segment.ensures.next.1 (c.in_ok-text.ensures.reads s)) (follows_read _ (c.in_ok-behind.ensures.skips s)))) c.behind_primary.ensures.reads
+
+pub behind_datatype-returns-in_err-params-clause-reads : goal.behind_datatype-returns-in_err-params-clause-reads
+behind_datatype-returns-in_err-params-clause-reads t c =
+    let p = err_from_is_err_and c.from_residual-in_err-params.result c.from_residual-in_err-params.ensures.1 in
+    rw (p.1, p.2) (on_fault c.args.tokens.now c.args.at c.args.at _ (λ s bad k. params_stuck (datatype_view c.args.datatype) (no_segment _ _ c.next.result c.next.ensures.next c.in_default.not-Segment) k) c.in_err-params.ensures.reads)
+
+pub behind_datatype-returns-in_err-except-clause-reads : goal.behind_datatype-returns-in_err-except-clause-reads
+behind_datatype-returns-in_err-except-clause-reads t c =
+    let p = err_from_is_err_and c.from_residual-in_err-except.result c.from_residual-in_err-except.ensures.1 in
+    rw (p.1, p.2) (on_fault c.args.tokens.now (c.in_ok-params.end + 1) c.args.at _ (λ s bad k. except_stuck (datatype_view c.args.datatype) (no_segment _ _ c.next.result c.next.ensures.next c.in_default.not-Segment) (c.in_ok-params.ensures.reads s) c.in-Minus.ensures.next.1 k) c.in_err-except.ensures.reads)
+
+pub behind_datatype-returns-in-Minus-clause-inside : goal.behind_datatype-returns-in-Minus-clause-inside
+behind_datatype-returns-in-Minus-clause-inside t c = record { further = omega (arith, c.in_ok-params.ensures.inside.further, c.in_ok-except.ensures.inside.further); inside = c.in_ok-except.ensures.inside.inside }
+
+pub behind_datatype-returns-in-Minus-clause-reads : goal.behind_datatype-returns-in-Minus-clause-reads
+behind_datatype-returns-in-Minus-clause-reads t c = λ s.
+    let n = c.in-Minus.ensures.next in
+    let place = place_is c.args.tokens.now n.1 c.place-minus.ensures in
+    took_same (sym (c.in_ok-datum_but.ensures ∙ ap (λ i. tree.datum_but (datatype_view c.args.datatype) (params_view c.in_ok-params.params.items) i (pattern_view c.in_ok-except.except)) place)) (except_took (datatype_view c.args.datatype) (no_segment _ _ c.next.result c.next.ensures.next c.in_default.not-Segment) (c.in_ok-params.ensures.reads s) n.1 (c.in_ok-except.ensures.reads s))
+
+pub behind_datatype-returns-in_err-behind-2-clause-reads : goal.behind_datatype-returns-in_err-behind-2-clause-reads
+behind_datatype-returns-in_err-behind-2-clause-reads t c =
+    let p = err_from_is_err_and c.from_residual-in_err-behind-2.result c.from_residual-in_err-behind-2.ensures.1 in
+    rw (p.1, p.2) (on_fault c.args.tokens.now c.in_ok-params.end c.args.at _ (λ s bad k. stuck_upto (datum_read (datatype_view c.args.datatype) _ c.next-2.result (no_segment _ _ c.next.result c.next.ensures.next c.in_default.not-Segment) (c.in_ok-params.ensures.reads s) c.next-2.ensures.next c.in_default-next.not-Minus) (follows_stuck _ k)) c.in_err-behind-2.ensures.skips)
+
+pub behind_datatype-returns-clause-reads : goal.behind_datatype-returns-clause-reads
+behind_datatype-returns-clause-reads t c = reads_upto pattern_view c.args.tokens.now c.in_ok-behind-2.behind c.args.at _ (λ r w. w) (λ s. upto_same (sym c.datum.ensures) (upto_then (datum_read (datatype_view c.args.datatype) _ c.next-2.result (no_segment _ _ c.next.result c.next.ensures.next c.in_default.not-Segment) (c.in_ok-params.ensures.reads s) c.next-2.ensures.next c.in_default-next.not-Minus) (follows_read _ (c.in_ok-behind-2.ensures.skips s)))) c.behind_primary-2.ensures.reads
+
+pub operand-returns-in_err-body-clause-reads : goal.operand-returns-in_err-body-clause-reads
+operand-returns-in_err-body-clause-reads t c =
+    let p = err_from_is_err_and c.from_residual.result c.from_residual.ensures.1 in
+    rw (p.1, p.2) (on_fault c.args.tokens.now c.args.at c.args.at _ (λ s bad k. operand_stuck k) c.in_err-body.ensures.skips)
+
+pub operand-returns-in-Some-clause-reads : goal.operand-returns-in-Some-clause-reads
+operand-returns-in-Some-clause-reads t c = reads_upto pattern_view c.args.tokens.now (c.in_ok-body.body + 1) c.args.at _ (λ r w. w) (λ s. operand_typed (c.in_ok-body.ensures.skips s) c.in-Some.ensures.names) c.behind_datatype.ensures.reads
+
+pub operand-returns-in_err-core-clause-reads : goal.operand-returns-in_err-core-clause-reads
+operand-returns-in_err-core-clause-reads t c =
+    let p = err_from_is_err_and c.from_residual-in_err-core.result c.from_residual-in_err-core.ensures.1 in
+    rw (p.1, p.2) (on_fault c.args.tokens.now c.in_ok-body.body c.args.at _ (λ s bad k. operand_core_stuck (c.in_ok-body.ensures.skips s) c.in_default.ensures.names k) c.in_err-core.ensures.reads)
+
+pub operand-returns-in_err-behind-clause-reads : goal.operand-returns-in_err-behind-clause-reads
+operand-returns-in_err-behind-clause-reads t c =
+    let p = err_from_is_err_and c.from_residual-in_err-behind.result c.from_residual-in_err-behind.ensures.1 in
+    rw (p.1, p.2) (on_fault c.args.tokens.now c.in_ok-core.end c.args.at _ (λ s bad k. stuck_upto (operand_core_read (c.in_ok-body.ensures.skips s) c.in_default.ensures.names (c.in_ok-core.ensures.reads s)) (follows_stuck _ k)) c.in_err-behind.ensures.skips)
+
+pub operand-returns-clause-reads : goal.operand-returns-clause-reads
+operand-returns-clause-reads t c = reads_upto pattern_view c.args.tokens.now c.in_ok-behind.behind c.args.at _ (λ r w. w) (λ s. upto_then (operand_core_read (c.in_ok-body.ensures.skips s) c.in_default.ensures.names (c.in_ok-core.ensures.reads s)) (follows_read _ (c.in_ok-behind.ensures.skips s))) c.behind_primary.ensures.reads
+
+-- ---- patterns
+
+pub pattern-returns-in_err-first-clause-reads : goal.pattern-returns-in_err-first-clause-reads
+pattern-returns-in_err-first-clause-reads t c =
+    let p = err_from_is_err_and c.from_residual.result c.from_residual.ensures.1 in
+    rw (p.1, p.2) (on_fault c.args.tokens.now c.args.at c.args.at _ (λ s bad k. pattern_stuck k) c.in_err-first.ensures.reads)
+
+pub pattern-returns-in_default-clause-inside : goal.pattern-returns-in_default-clause-inside
+pattern-returns-in_default-clause-inside t c = c.in_ok-first.ensures.inside
+
+pub pattern-returns-in_default-clause-reads : goal.pattern-returns-in_default-clause-reads
+pattern-returns-in_default-clause-reads t c = λ s. pattern_alone _ c.next.result (c.in_ok-first.ensures.reads s) c.next.ensures.next c.in_default.not-Operator
+
+pub pattern-chain-init : goal.pattern-chain-init
+pattern-chain-init t c = record {
+  further = c.in_ok-first.ensures.inside.further;
+  inside = c.in_ok-first.ensures.inside.inside;
+  so_far = λ s.
+      let here = ap first c.in-Operator.ensures.next.1 in
+      operands_same c.in-Operator.operator _ _ (sym (ap (map pattern_view) (c.in_ok-push.ensures.items ∙ ap (λ l. l ++ c.in_ok-first.first ∷ []) c.new-members.ensures.items)))
+        (pattern_first c.in-Operator.operator here (c.in_ok-first.ensures.reads s), here);
+}
+
+pub pattern-chain-preserved : goal.pattern-chain-preserved
+pattern-chain-preserved t c =
+    let here = terminal_at c.args.tokens.now c.chain.end (operator c.in-Operator.operator) (c.chain-test.ensures.inside refl) c.chain-test.ensures.is in
+    record {
+      further = omega (arith, c.in_ok-member.ensures.inside.further);
+      inside = c.in_ok-member.ensures.inside.inside;
+      so_far = λ s. operands_same c.in-Operator.operator _ _ (sym (ap (map pattern_view) c.in_ok-push-2.ensures.items ∙ map-append pattern_view c.chain.members.items (c.in_ok-member.member ∷ [])))
+          (chain_read (operands_chain c.in-Operator.operator) _ _ _ (c.chain.invariant.so_far s) here.1 (c.in_ok-member.ensures.reads s));
+    }
+
+pub pattern-returns-in_err-member-clause-reads : goal.pattern-returns-in_err-member-clause-reads
+pattern-returns-in_err-member-clause-reads t c =
+    let here = terminal_at c.args.tokens.now c.chain.end (operator c.in-Operator.operator) (c.chain-test.ensures.inside refl) c.chain-test.ensures.is in
+    let p = err_from_is_err_and c.from_residual-in_err-member.result c.from_residual-in_err-member.ensures.1 in
+    rw (p.1, p.2) (on_fault c.args.tokens.now (c.chain.end + 1) c.args.at _ (λ s bad k. chain_stuck (operands_chain c.in-Operator.operator) _ _ _ (c.chain.invariant.so_far s) here.1 k) c.in_err-member.ensures.reads)
+
+pub pattern-returns-clause-inside : goal.pattern-returns-clause-inside
+pattern-returns-clause-inside t c = record { further = c.chain.invariant.further; inside = c.chain.invariant.inside }
+
+pub pattern-returns-clause-reads : goal.pattern-returns-clause-reads
+pattern-returns-clause-reads t c = λ s. took_same (sym c.chain-2.ensures) (chain_end (operands_chain c.in-Operator.operator) (map pattern_view c.chain.members.items) _ _ (c.chain.invariant.so_far s) c.chain-test.ensures.is)

@@ -1,0 +1,86 @@
+-- Parts of items and of modules: one item, and what is left of it behind its first token.
+use Rattle.std.specs.Prelude.{◌≡◌, ℕ, List, [], ◌∷◌, ◌++◌, Option, Some, Bool, true, false}
+use Rattle.rn_syntax.specs.declared.token.Method.{Method}
+use Rattle.rn_syntax.specs.declared.token.Method.TheVariants as m
+use Rattle.rn_syntax.specs.declared.token.Keyword.TheVariants as k
+use Rattle.rn_syntax.specs.Terminal.{Terminal, ◌#◌, ident, keyword, prefixed, assign, left_brace, right_brace, left_bracket}
+use Rattle.rn_syntax.specs.Tree as t
+use Rattle.rn_syntax.specs.Tree.{Declaration, Item, Module, Pattern, items_of}
+use Rattle.rn_syntax.specs.Grammar.{Tokens, IsLiteral, IsAnnotation, AreFollows, IsPattern, IsComponent, AreDeclarations, AreItems, AreInner, MayInherit, MayOverride}
+use Rattle.rn_syntax.specs.Sequence.{Then, Gives, IsToken, IsOf, IsAssign, IsPrefixAt}
+
+-- an item or a note begins
+abbrev pub opens_item : Terminal → Bool
+opens_item (ident n) = true
+opens_item (prefixed n l) = true
+opens_item (keyword k.Start) = true
+opens_item (keyword k.Div) = true
+opens_item (keyword k.Include) = true
+opens_item left_bracket = true
+opens_item x = false
+
+-- an inner item or a note begins
+abbrev pub opens_inner : Terminal → Bool
+opens_inner (keyword k.Include) = false
+opens_inner x = opens_item x
+
+-- define | start | "div" "{" item* "}" | include
+pub data IsItem : Tokens → Item → Tokens → Type 0 where
+  component : {ts rest : Tokens} {x : Item} → IsComponent ts x rest → IsItem ts x rest
+  div : {i j l : ℕ} {ts rest : Tokens} {ys : List Item} → AreItems ts ys (right_brace # l ∷ rest) → IsItem (keyword k.Div # i ∷ left_brace # j ∷ ts) (t.div (items_of ys)) rest
+  include : {i : ℕ} {s : List ℕ} {h : Option (List ℕ × ℕ)} {ts behind own rest : Tokens} {ys : List Item}
+      → IsLiteral ts s behind → MayInherit behind h own → MayOverride own ys rest → IsItem (keyword k.Include # i ∷ ts) (t.include s h (items_of ys)) rest
+
+-- define | start | "div" "{" inner* "}"
+pub data IsInner : Tokens → Item → Tokens → Type 0 where
+  component : {ts rest : Tokens} {x : Item} → IsComponent ts x rest → IsInner ts x rest
+  div : {i j l : ℕ} {ts rest : Tokens} {ys : List Item} → AreInner ts ys (right_brace # l ∷ rest) → IsInner (keyword k.Div # i ∷ left_brace # j ∷ ts) (t.div (items_of ys)) rest
+
+-- such a list, `}`, and what it makes of what follows
+abbrev pub UpToBrace : {C : Type 0} → (Tokens → List Item → Tokens → Type 0) → (List Item → Tokens → C → Tokens → Type 0) → Tokens → C → Tokens → Type 0
+UpToBrace L M = Then L (λ xs. Then (IsToken right_brace) (λ j. M xs))
+
+-- the same in braces
+abbrev pub InBraces : {C : Type 0} → (Tokens → List Item → Tokens → Type 0) → (List Item → Tokens → C → Tokens → Type 0) → Tokens → C → Tokens → Type 0
+InBraces L M = Then (IsToken left_brace) (λ i. UpToBrace L M)
+
+-- "{" item* "}", behind `div`
+abbrev pub IsDivEnd : Tokens → Item → Tokens → Type 0
+IsDivEnd = InBraces AreItems (λ xs. Gives (t.div (items_of xs)))
+
+-- "{" inner* "}", behind `div`
+abbrev pub IsInnerDivEnd : Tokens → Item → Tokens → Type 0
+IsInnerDivEnd = InBraces AreInner (λ xs. Gives (t.div (items_of xs)))
+
+-- literal [ "inherit" "=" word ] [ "{" inner* "}" ], behind `include`
+abbrev pub IsIncludeEnd : Tokens → Item → Tokens → Type 0
+IsIncludeEnd = Then IsLiteral (λ s. Then MayInherit (λ h. Then MayOverride (λ ys. Gives (t.include s h (items_of ys)))))
+
+-- item*, behind items that were read
+pub record AreItemsBehind (read : List Item) (ts : Tokens) (all : List Item) (rest : Tokens) : Type 0 where
+  pub more : List Item
+  pub is : all ≡ read ++ more
+  pub behind : AreItems ts more rest
+
+-- "{" item* "}" follow*, behind `grammar`
+abbrev pub IsGrammarEnd : Tokens → List Item → Tokens → Type 0
+IsGrammarEnd = InBraces AreItems (λ xs. Then (λ ts (u : Unit {0}) rest. AreFollows ts rest) (λ u. Gives xs))
+
+-- "grammar" "{" item* "}" follow*, or items of which the first has no annotation here
+pub data IsAnnotatedEnd : Tokens → List Item → Tokens → Type 0 where
+  grammar : {i : ℕ} {ts rest : Tokens} {xs : List Item} → IsGrammarEnd ts xs rest → IsAnnotatedEnd (keyword k.Grammar # i ∷ ts) xs rest
+  items : {ts mid rest : Tokens} {x : Item} {xs : List Item} → IsItem ts x mid → AreItems mid xs rest → IsAnnotatedEnd ts (x ∷ xs) rest
+
+-- item* | [ann] "grammar" "{" item* "}" follow*
+pub data IsContent : Tokens → List Item → Tokens → Type 0 where
+  items : {ts rest : Tokens} {xs : List Item} → AreItems ts xs rest → IsContent ts xs rest
+  grammar : {i : ℕ} {ts rest : Tokens} {xs : List Item} → IsGrammarEnd ts xs rest → IsContent (keyword k.Grammar # i ∷ ts) xs rest
+  annotated : {i : ℕ} {ts mid rest : Tokens} {xs : List Item} → IsAnnotation ts (keyword k.Grammar # i ∷ mid) → IsGrammarEnd mid xs rest → IsContent ts xs rest
+
+-- a module, and then rest
+abbrev pub IsBody : Tokens → Module → Tokens → Type 0
+IsBody = Then AreDeclarations (λ ds. Then IsContent (λ xs. Gives (record { declarations = ds; items = items_of xs })))
+
+-- nothing is left
+abbrev pub Nothing : Tokens → Type 0
+Nothing ts = ts ≡ []

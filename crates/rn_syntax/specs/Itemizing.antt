@@ -1,0 +1,8 @@
+-- Items of which the first stands behind its annotation.
+use Rattle.std.specs.Prelude.{List, ◌∷◌}
+use Rattle.rn_syntax.specs.Tree.{Item}
+use Rattle.rn_syntax.specs.Grammar.{Tokens, AreItems}
+use Rattle.rn_syntax.specs.Including.{IsItem}
+
+pub data AreFirstItems : Tokens → List Item → Tokens → Type 0 where
+  first_items : {ts mid rest : Tokens} {x : Item} {xs : List Item} → IsItem ts x mid → AreItems mid xs rest → AreFirstItems ts (x ∷ xs) rest

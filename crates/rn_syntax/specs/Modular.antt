@@ -1,0 +1,36 @@
+-- Parts of modules.
+use Rattle.std.specs.Prelude.{ℕ, List, ◌∷◌}
+use Rattle.rn_text.specs.declared.source.Token.{Token}
+use Rattle.rn_syntax.specs.declared.token.Keyword.TheVariants as k
+use Rattle.rn_syntax.specs.declared.fault.Fault.{Fault}
+use Rattle.rn_syntax.specs.declared.fault.Fault.TheVariants as f
+use Rattle.rn_syntax.specs.Terminal.{◌#◌, keyword, left_brace, right_brace}
+use Rattle.rn_syntax.specs.Tree.{Item, Module, items_of}
+use Rattle.rn_syntax.specs.Grammar.{Tokens, MayAnnotate, AreFollows, AreItems, AreDeclarations}
+use Rattle.rn_syntax.specs.Fault.{Stops}
+use Rattle.rn_syntax.specs.Sequence.{Then, Gives, IsToken}
+use Rattle.rn_syntax.specs.Reading.{AreSpelled, Bare, rest}
+use Rattle.rn_syntax.specs.Itemizing.{AreFirstItems}
+
+-- "{" item* "}" follow*
+abbrev pub IsGrammarEnd : Tokens → List Item → Tokens → Type 0
+IsGrammarEnd = Then (IsToken left_brace) (λ i. Then AreItems (λ xs. Then (IsToken right_brace) (λ j. Then (Bare AreFollows) (λ u. Gives xs))))
+
+-- item* | [ann] "grammar" "{" item* "}" follow*
+pub data IsBody : Tokens → List Item → Tokens → Type 0 where
+  items_body : {ts rest : Tokens} {xs : List Item} → AreItems ts xs rest → IsBody ts xs rest
+  grammar_body : {i : ℕ} {ts mid rest : Tokens} {xs : List Item} → MayAnnotate ts (keyword k.Grammar # i ∷ mid) → IsGrammarEnd mid xs rest → IsBody ts xs rest
+
+-- the same behind an annotation
+pub data IsAnnotatedBody : Tokens → List Item → Tokens → Type 0 where
+  items_behind : {ts rest : Tokens} {xs : List Item} → AreFirstItems ts xs rest → IsAnnotatedBody ts xs rest
+  grammar_behind : {i : ℕ} {mid rest : Tokens} {xs : List Item} → IsGrammarEnd mid xs rest → IsAnnotatedBody (keyword k.Grammar # i ∷ mid) xs rest
+
+-- a module, before other tokens
+abbrev pub IsModuleBefore : Tokens → Module → Tokens → Type 0
+IsModuleBefore = Then AreDeclarations (λ ds. Then IsBody (λ xs. Gives (record { declarations = ds; items = items_of xs })))
+
+-- the reader of a module stopped where none goes on
+abbrev pub IsModuleFault : List Token → Fault → Type 0
+IsModuleFault xs (f.Stuck bad) = AreSpelled xs → Stops (rest xs 0) (rest xs bad)
+IsModuleFault xs f.Memory = Unit {0}
