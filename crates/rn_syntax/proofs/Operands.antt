@@ -1,39 +1,28 @@
 -- What follows the annotation of an operand or of a primary.
-use Rattle.std.proofs.Common.{◌≡◌, ℕ, Bool, true, false, List, [], ◌∷◌, Some, None, refl, ap, sym, ◌∙◌, subst, unwrap_or}
+use Rattle.std.proofs.Common.{◌≡◌, ℕ, Bool, true, false, List, [], ◌∷◌, Some, refl, ap, sym, ◌∙◌, subst, unwrap_or}
 use Rattle.std.proofs.lemmas.Bool.{false≢true}
-use Rattle.rn_syntax.specs.declared.token.Keyword.TheVariants as k
 use Rattle.rn_syntax.specs.declared.token.Postfix.{Postfix}
 use Rattle.rn_syntax.specs.declared.terminals.Terminal as code
 use Rattle.rn_syntax.specs.declared.terminals.Terminal.TheVariants as c
-use Rattle.rn_syntax.specs.Terminal.{Terminal, Placed, ◌#◌, ident, segment, postfix, minus, left_brace, other}
+use Rattle.rn_syntax.specs.Terminal.{Terminal, Placed, ◌#◌, segment, postfix, minus, other}
 use Rattle.rn_syntax.specs.Tree as tree
 use Rattle.rn_syntax.specs.Tree.{Datatype, Params, Pattern}
 use Rattle.rn_syntax.specs.Grammar as g
 use Rattle.rn_syntax.specs.Grammar.{Tokens, AreFollows, MayAnnotate, IsLiteral, IsDatatype, MayHaveParams, IsOperand, IsPrimary, IsCore}
-use Rattle.rn_syntax.specs.Follow.{Starts, first, no_bracket, no_follow, no_tilde, no_brace, behind_core, behind_primary, behind_operand, begins_datatype}
-use Rattle.rn_syntax.specs.Sequence.{Then, both, Gives, gives, IsHere}
+use Rattle.rn_syntax.specs.Follow.{Starts, first, no_follow, no_tilde, no_brace, behind_core, behind_primary, behind_operand}
+use Rattle.rn_syntax.specs.Sequence.{Then, both, Gives, gives}
 use Rattle.rn_syntax.specs.Parts as part
 use Rattle.rn_syntax.specs.Parts.{BehindPrimary, BehindType, BehindDatatype}
-use Rattle.rn_syntax.specs.Reading.{Alike, Took, Stuck, Bare, seen, IsNext}
-use Rattle.rn_syntax.proofs.OneClass.{starts_to, minus_stays, datatype_one}
-use Rattle.rn_syntax.proofs.OnePattern.{to_primary, primary_to_follow, core_to_tilde, core_to_brace, follows_core, core_front, datatype_front}
-use Rattle.rn_syntax.proofs.Compose.{Upto, Fits, Can, CanBe, upto_at, upto_token, upto_then, took_upto, stuck_upto, reads, stuck_in, took_gives, first_alike, alike_token}
+use Rattle.rn_syntax.specs.Reading.{Took, Stuck, Bare, seen, IsNext}
+use Rattle.rn_syntax.proofs.OneClass.{starts_to, minus_stays}
+use Rattle.rn_syntax.proofs.OnePattern.{to_primary, primary_to_follow, core_to_tilde, core_to_brace, follows_core}
+use Rattle.rn_syntax.proofs.Compose.{Upto, Fits, Can, upto_at, upto_token, upto_then, took_upto, stuck_upto, reads, stuck_in, took_gives, first_alike, alike_token, fits_gives, can_gives}
 use Rattle.rn_syntax.proofs.Next.{first_next}
 
 -- ---- words
 
 abbrev pub Follows : Tokens → Unit {0} → Tokens → Type 0
 Follows = Bare AreFollows
-
--- a value, where what is read last is all that is left
-pub fits_given : {A C : Type 0} {F G : Tokens → Type 0} (f : A → C) → ((r : Tokens) → G r → F r) → Fits F (λ (a : A). Gives (f a)) G
-fits_given {A = A} {C = C} {F = F} {G = G} f to = record { fits = λ a mid z r d w. same d w }
-  where
-    same : {a : A} {z : C} {mid r : Tokens} → Gives (f a) mid z r → G r → F mid
-    same {r = r} gives w = to r w
-
-pub can_given : {A C : Type 0} (f : A → C) → Can (λ (a : A). Gives (f a))
-can_given f more = (more, λ a. (f a, gives))
 
 -- a step before a token that is read later
 pub upto_seen : {A : Type 0} {V W : Tokens → A → Tokens → Type 0} {G : Tokens → Type 0} {x : Placed} {now next : Tokens} → now ≡ x ∷ next
@@ -67,17 +56,18 @@ postfix_at p s {i = i} e = upto_token e (λ t z r d. to d) (λ t z r d w. from d
   where
     to : {t r : Tokens} {z : Pattern} → Then Follows (λ u. Gives (tree.repeated s p)) t z r → BehindPrimary p (postfix s # i ∷ t) z r
     to (both f gives) = part.repeated f
+
     from : {t r : Tokens} {z : Pattern} → BehindPrimary p (postfix s # i ∷ t) z r → Starts behind_operand r → Then Follows (λ u. Gives (tree.repeated s p)) t z r
     from (part.repeated f) w = both f gives
     from part.alone w = absurd (false≢true w)
 
 pub repeated_took : (p : Pattern) (s : Postfix) {i : ℕ} {now next rest : Tokens} → now ≡ postfix s # i ∷ next → Took Follows (Starts no_follow) next tt rest
     → Took (BehindPrimary p) (Starts behind_operand) now (tree.repeated s p) rest
-repeated_took p s {rest = rest} e h = took_upto (upto_then (postfix_at p s e) (reads (fits_given (λ u. tree.repeated s p) operand_follow) h)) (took_gives (tree.repeated s p) rest)
+repeated_took p s {rest = rest} e h = took_upto (upto_then (postfix_at p s e) (reads (fits_gives (λ u. tree.repeated s p) operand_follow) h)) (took_gives (tree.repeated s p) rest)
 
 pub repeated_stuck : (p : Pattern) (s : Postfix) {i : ℕ} {now next bad : Tokens} → now ≡ postfix s # i ∷ next → Stuck Follows (Starts no_follow) next bad
     → Stuck (BehindPrimary p) (Starts behind_operand) now bad
-repeated_stuck p s e h = stuck_upto (postfix_at p s e) (stuck_in (fits_given (λ u. tree.repeated s p) operand_follow) (can_given (λ u. tree.repeated s p)) h)
+repeated_stuck p s e h = stuck_upto (postfix_at p s e) (stuck_in (fits_gives (λ u. tree.repeated s p) operand_follow) (can_gives (λ u. tree.repeated s p)) h)
 
 not_postfix : (x : code.Terminal) → ((s : Postfix) → x ≡ c.Postfix s → ⊥) → is_postfix (unwrap_or (seen x) other) ≡ false
 not_postfix (c.Postfix s) h = absurd (h s refl)
@@ -159,31 +149,33 @@ module _ (d : Datatype) {now : Tokens} where
     where
       to : {t r : Tokens} {z : Pattern} → Valued d t z r → BehindType d t z r
       to (both l gives) = part.valued l
+
       from : {t r : Tokens} {z : Pattern} → BehindType d (segment s # i ∷ t) z r → Starts behind_core r → Valued d (segment s # i ∷ t) z r
       from (part.valued l) w = both l gives
       from (part.datum m) w = absurd (datum_not m w)
 
   pub value_took : {s u : List ℕ} {i : ℕ} {next rest : Tokens} → now ≡ segment s # i ∷ next → Took IsLiteral (Starts no_tilde) now u rest
       → Took (BehindType d) (Starts behind_core) now (tree.value (Some d) u) rest
-  value_took {u = u} {rest = rest} e h = took_upto (upto_then (valued_at e) (reads (fits_given (λ s. tree.value (Some d) s) core_tilde) h)) (took_gives (tree.value (Some d) u) rest)
+  value_took {u = u} {rest = rest} e h = took_upto (upto_then (valued_at e) (reads (fits_gives (λ s. tree.value (Some d) s) core_tilde) h)) (took_gives (tree.value (Some d) u) rest)
 
   pub value_stuck : {s : List ℕ} {i : ℕ} {next bad : Tokens} → now ≡ segment s # i ∷ next → Stuck IsLiteral (Starts no_tilde) now bad → Stuck (BehindType d) (Starts behind_core) now bad
-  value_stuck e h = stuck_upto (valued_at e) (stuck_in (fits_given (λ s. tree.value (Some d) s) core_tilde) (can_given (λ s. tree.value (Some d) s)) h)
+  value_stuck e h = stuck_upto (valued_at e) (stuck_in (fits_gives (λ s. tree.value (Some d) s) core_tilde) (can_gives (λ s. tree.value (Some d) s)) h)
 
   datum_at : is_segment (first now) ≡ false → Upto (BehindType d) (Datum d) (Starts behind_core) now now
   datum_at e = upto_at (λ t z r h. to h) (λ t a z r h w. from (ap is_segment (first_alike a) ∙ e) h)
     where
       to : {t r : Tokens} {z : Pattern} → Datum d t z r → BehindType d t z r
       to (both m gives) = part.datum m
+
       from : {t r : Tokens} {z : Pattern} → is_segment (first t) ≡ false → BehindType d t z r → Datum d t z r
       from e (part.datum m) = both m gives
       from e (part.valued l) = absurd (false≢true (sym e ∙ literal_begins l))
 
   pub datum_took : {ps : Params} {rest : Tokens} → is_segment (first now) ≡ false → Took MayHaveParams (Starts no_brace) now ps rest → Took (BehindType d) (Starts behind_core) now (tree.datum d ps) rest
-  datum_took {ps = ps} {rest = rest} e h = took_upto (upto_then (datum_at e) (reads (fits_given (λ ps. tree.datum d ps) core_brace) h)) (took_gives (tree.datum d ps) rest)
+  datum_took {ps = ps} {rest = rest} e h = took_upto (upto_then (datum_at e) (reads (fits_gives (λ ps. tree.datum d ps) core_brace) h)) (took_gives (tree.datum d ps) rest)
 
   pub datum_stuck : {bad : Tokens} → is_segment (first now) ≡ false → Stuck MayHaveParams (Starts no_brace) now bad → Stuck (BehindType d) (Starts behind_core) now bad
-  datum_stuck e h = stuck_upto (datum_at e) (stuck_in (fits_given (λ ps. tree.datum d ps) core_brace) (can_given (λ ps. tree.datum d ps)) h)
+  datum_stuck e h = stuck_upto (datum_at e) (stuck_in (fits_gives (λ ps. tree.datum d ps) core_brace) (can_gives (λ ps. tree.datum d ps)) h)
 
 -- ---- behind the datatype of an operand
 
@@ -213,6 +205,7 @@ except_at d ps {i = i} e = upto_token e (λ t z r h. to h) (λ t z r h w. from h
   where
     to : {t r : Tokens} {z : Pattern} → Except d ps i t z r → BehindParams d ps (minus # i ∷ t) z r
     to (both q gives) = except q
+
     from : {t r : Tokens} {z : Pattern} → BehindParams d ps (minus # i ∷ t) z r → Starts behind_operand r → Except d ps i t z r
     from (except q) w = both q gives
     from (plain (both f b)) w = absurd (primary_behind (minus_stays f) b w)
@@ -247,6 +240,7 @@ module _ (d : Datatype) {ts : Tokens} where
     where
       to : {t r : Tokens} {z : Pattern} → Text d t z r → BehindDatatype d t z r
       to (both l (both f b)) = part.plain (part.valued l) f b
+
       from : {t r : Tokens} {z : Pattern} → BehindDatatype d (segment s # i ∷ t) z r → Starts behind_operand r → Text d (segment s # i ∷ t) z r
       from (part.plain (part.valued l) f b) w = both l (both f b)
       from (part.plain (part.datum m) f b) w = absurd (datum_not m (follows_core f (behind_front b w)))
@@ -258,6 +252,7 @@ module _ (d : Datatype) {ts : Tokens} where
       to : {t r : Tokens} {z : Pattern} → WithParams d t z r → BehindDatatype d t z r
       to (both m (plain (both f b))) = part.plain (part.datum m) f b
       to (both m (except q)) = part.except m q
+
       from : {t r : Tokens} {z : Pattern} → is_segment (first t) ≡ false → BehindDatatype d t z r → WithParams d t z r
       from e (part.plain (part.valued l) f b) = absurd (false≢true (sym e ∙ literal_begins l))
       from e (part.plain (part.datum m) f b) = both m (plain (both f b))
@@ -284,11 +279,11 @@ module _ (d : Datatype) {ts : Tokens} where
 
   pub except_stuck : {ps : Params} {i : ℕ} {now next bad : Tokens} → is_segment (first ts) ≡ false → Took MayHaveParams (Starts no_brace) ts ps now → now ≡ minus # i ∷ next
       → Stuck IsPrimary (Starts behind_primary) next bad → Stuck (BehindDatatype d) (Starts behind_operand) ts bad
-  except_stuck {ps = ps} {i = i} e h m q = stuck_upto (upto_then (params_read e h) (except_at d ps m)) (stuck_in (fits_given (λ p. tree.datum_but d ps i p) operand_primary) (can_given (λ p. tree.datum_but d ps i p)) q)
+  except_stuck {ps = ps} {i = i} e h m q = stuck_upto (upto_then (params_read e h) (except_at d ps m)) (stuck_in (fits_gives (λ p. tree.datum_but d ps i p) operand_primary) (can_gives (λ p. tree.datum_but d ps i p)) q)
 
   pub except_took : {ps : Params} {i : ℕ} {p : Pattern} {now next end : Tokens} → is_segment (first ts) ≡ false → Took MayHaveParams (Starts no_brace) ts ps now → now ≡ minus # i ∷ next
       → Took IsPrimary (Starts behind_primary) next p end → Took (BehindDatatype d) (Starts behind_operand) ts (tree.datum_but d ps i p) end
-  except_took {ps = ps} {i = i} {p = p} {end = end} e h m q = took_upto (upto_then (params_read e h) (upto_then (except_at d ps m) (reads (fits_given (λ p. tree.datum_but d ps i p) operand_primary) q))) (took_gives (tree.datum_but d ps i p) end)
+  except_took {ps = ps} {i = i} {p = p} {end = end} e h m q = took_upto (upto_then (params_read e h) (upto_then (except_at d ps m) (reads (fits_gives (λ p. tree.datum_but d ps i p) operand_primary) q))) (took_gives (tree.datum_but d ps i p) end)
 
 -- the primary, by another name
 pub upto_same : {V : Tokens → Pattern → Tokens → Type 0} {G : Tokens → Type 0} {ts now : Tokens} {p q : Pattern} → p ≡ q → Upto V (BehindPrimary p) G ts now → Upto V (BehindPrimary q) G ts now
