@@ -5,6 +5,7 @@ ghost use Rattle.rn_pattern.specs.Order.{text_cmp};
 ghost use Rattle.rn_assemble.specs.Answers.{HasNoConflict, IsOfModules, IsRefusalOf};
 ghost use Rattle.rn_assemble.specs.Listed.{Lists, Live, components_in};
 ghost use Rattle.rn_assemble.specs.Methods.{CanCombine, IsUncombined};
+ghost use Rattle.rn_assemble.specs.Sound.{HasSoundReferences, IsUnsound};
 ghost use Rattle.rn_assemble.specs.Views.{module_names, names_of};
 
 use crate::combining::combined;
@@ -117,7 +118,9 @@ fn check_references<'s>(
     keys: &Keys<'s>,
     components: &Components<'_, '_, 's>,
 ) -> Result<(), Refusal>
-    ensures { IfErr result IsOfModules }
+    ensures of_modules { IfErr result IsOfModules }
+    ensures exact { (live : List Live) → Lists (names_of keys.now) components.now live → IsStrictlySortedBy text_cmp (names_of keys.now)
+        → MatchResult result (λ _. HasSoundReferences (components_in live)) (IsUnsound (components_in live)) }
 {
     let references = references_of(alloc, keys, components)?;
     if let Some(key) = least_recursive(alloc, &references)? {

@@ -1,0 +1,32 @@
+use Rattle.std.proofs.Common.{◌≡◌, ◌+◌, ◌<◌, ℕ, List, length, sym, ap, ◌∙◌, subst, arith, Bor}
+use Rattle.std.proofs.lemmas.List.{length-map}
+use Rattle.rn_pattern.specs.Tree.{Text}
+use Rattle.rn_pattern.specs.Order.{text_cmp}
+use Rattle.rn_pattern.specs.References.{IsRecursive}
+use Rattle.rn_assemble.specs.Combine.{joined_grammar}
+use Rattle.rn_assemble.specs.Least.{IsLeast}
+use Rattle.rn_assemble.specs.Listed.{components_in}
+use Rattle.rn_assemble.specs.Referred.{IsLeastRecursive}
+use Rattle.rn_assemble.specs.Views.{names_of}
+use Rattle.rn_assemble.proofs.Unsound.{name_there}
+use Rattle.rn_assemble.proofs.assembly.check_references.Goals as goal
+
+pub returns-in-Some-clause-exact : goal.returns-in-Some-clause-exact
+returns-in-Some-clause-exact c = λ live h o.
+    let names = names_of c.args.keys.now in
+    let cs = components_in live in
+    let found = c.in_ok-references.ensures.found live h o in
+    let least = subst (λ k. IsLeastRecursive names cs k) c.in-Some.is (c.in_ok-key.ensures names cs o found) in
+    let size = length-map c.args.keys.now.names.items (λ (b : Bor (List ℕ)). b.now) in
+    let name : c.name.result.now ≡ least.0 = c.name.ensures least.1.above (omega (arith, least.1.within, size, c.args.keys.now.names.ok.0)) ∙ name_there names least.0 c.in-Some.key least.1 in
+    (subst (λ (x : Text). IsLeast text_cmp (IsRecursive (joined_grammar cs)) x) (sym (c.in_ok-from_str.ensures.ok ∙ name)) least.2, found.defined)
+
+pub returns-clause-exact : goal.returns-clause-exact
+returns-clause-exact c = λ live h o.
+    let names = names_of c.args.keys.now in
+    let cs = components_in live in
+    let found = c.in_ok-references.ensures.found live h o in
+    record {
+      defined = found.defined;
+      loop_free = subst (λ k. IsLeastRecursive names cs k) c.in_default.is (c.in_ok-key.ensures names cs o found);
+    }
