@@ -1,6 +1,6 @@
 // The fault of one module text.
 ghost use Rattle.std.specs.Prelude.{OnOk, IfErr};
-ghost use Rattle.rn_merge.specs.Texts.{IsTokenized, HasPlace};
+ghost use Rattle.rn_merge.specs.Texts.{IsGood, HasPlace};
 
 use rn_syntax::{SyntaxFault, parse};
 use rn_text::{TextFault, tokens};
@@ -67,7 +67,7 @@ impl From<SyntaxFault> for Place {
 /// The first fault of a module text of any length (RELAX NG Compact Syntax, 2 and 3): of its bytes, its tokens, and then
 /// its grammar.
 pub fn check(alloc: Global, text: &[u8]) -> Result<(), Place>
-    ensures ok { OnOk result (IsTokenized text.now) }
+    ensures ok { OnOk result (IsGood text.now) }
     ensures err { IfErr result (HasPlace text.now) }
 {
     let tokens = tokens(alloc, text)?;
