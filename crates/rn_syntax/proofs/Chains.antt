@@ -1,5 +1,5 @@
 -- Operands with one operator between each two.
-use Rattle.std.proofs.Common.{◌≡◌, ℕ, Bool, true, false, List, [], ◌∷◌, ◌++◌, refl, ap, sym, ◌∙◌, subst, unwrap_or}
+use Rattle.std.proofs.Common.{◌≡◌, ℕ, Bool, true, false, List, [], ◌∷◌, refl, ap, sym, ◌∙◌, subst, unwrap_or}
 use Rattle.std.proofs.lemmas.Bool.{false≢true}
 use Rattle.rn_syntax.specs.declared.token.Operator.{Operator}
 use Rattle.rn_syntax.specs.declared.terminals.Terminal as code
@@ -66,6 +66,7 @@ pattern_at = upto_at (λ t z r d. to d) (λ t a z r d w. from d)
     to : {t r : Tokens} {z : Pattern} → Then IsOperand Behind t z r → IsPattern t z r
     to (both d single) = g.one d
     to (both d (several m)) = g.chain d m
+
     from : {t r : Tokens} {z : Pattern} → IsPattern t z r → Then IsOperand Behind t z r
     from (g.one d) = both d single
     from (g.chain d m) = both d (several m)
@@ -92,6 +93,7 @@ pattern_first op {p = p} e h = upto_then (first_read h) (upto_at (λ t z r d. to
     to : {t r : Tokens} {z : Pattern} → Chained (AreMore op) (chain_of op) p t z r → Behind p t z r
     to alone = single
     to (many m) = several m
+
     from : {t r : Tokens} {z : Pattern} → first t ≡ operator op → Behind p t z r → Chained (AreMore op) (chain_of op) p t z r
     from e single = alone
     from e (several {op = op'} m) = same_more (same_op op' op (sym (more_op m) ∙ e)) m

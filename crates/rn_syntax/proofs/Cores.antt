@@ -1,21 +1,20 @@
 -- Cores, told by the token that they begin with.
 use Rattle.std.proofs.Common.{◌≡◌, ◌<◌, ◌+◌, ℕ, List, [], ◌∷◌, length, refl, ap, ◌∙◌}
-use Rattle.std.proofs.lemmas.Bool.{false≢true}
 use Rattle.rn_syntax.specs.declared.token.Keyword.{Keyword}
 use Rattle.rn_syntax.specs.declared.token.Keyword.TheVariants as k
 use Rattle.rn_text.specs.declared.source.Token.{Token}
-use Rattle.rn_syntax.specs.Terminal.{Terminal, Placed, ◌#◌, ident, keyword, prefixed, segment, left_brace, right_brace, left_paren, right_paren, other}
+use Rattle.rn_syntax.specs.Terminal.{Placed, ◌#◌, ident, keyword, left_brace, right_brace}
 use Rattle.rn_syntax.specs.Tree as tree
 use Rattle.rn_syntax.specs.Tree.{Datatype, Params, NameClass, Pattern}
 use Rattle.rn_syntax.specs.Grammar as g
 use Rattle.rn_syntax.specs.Grammar.{Tokens, IsLiteral, IsDatatype, MayHaveParams, IsNameClass, IsPattern, IsCore}
-use Rattle.rn_syntax.specs.Follow.{Starts, Anything, first, no_tilde, behind_core, behind_class, behind_pattern, begins_datatype}
+use Rattle.rn_syntax.specs.Follow.{Starts, Anything, first, behind_core, behind_class, behind_pattern}
 use Rattle.rn_syntax.specs.Sequence.{Then, both, Gives, gives, IsToken, token}
 use Rattle.rn_syntax.specs.Parts.{IsBraced, IsContent}
 use Rattle.rn_syntax.specs.Reading.{Took, Stuck, rest}
-use Rattle.rn_syntax.proofs.Compose.{Upto, Fits, Can, CanBe, upto_at, upto_token, upto_then, took_upto, stuck_upto, reads, stuck_in, stuck_here, took_gives, can_then, can_token, fits_anything, fits_token}
+use Rattle.rn_syntax.proofs.Compose.{Upto, Fits, Can, CanBe, upto_token, upto_then, took_upto, stuck_upto, reads, stuck_in, took_gives, can_then, can_token, fits_anything, fits_token}
 use Rattle.rn_syntax.proofs.Next.{terminal_at}
-use Rattle.rn_syntax.proofs.Operands.{fits_given, can_given, upto_seen, core_tilde}
+use Rattle.rn_syntax.proofs.Operands.{can_given}
 
 -- ---- braces
 
@@ -109,6 +108,7 @@ element_at {i = i} e = upto_token e (λ t z r h. to h) (λ t z r h w. from h)
   where
     to : {t r : Tokens} {z : Pattern} → Element t z r → IsCore (keyword k.Element # i ∷ t) z r
     to (both (both c (both (both token (both p (both token gives))) gives)) gives) = g.element c p
+
     from : {t r : Tokens} {z : Pattern} → IsCore (keyword k.Element # i ∷ t) z r → Element t z r
     from (g.element {c = n} {p = q} c p) = both {a = (n, q)} (both c (both (both token (both p (both token gives))) gives)) gives
     from (g.value l) = elim l [ ]
@@ -120,6 +120,7 @@ attribute_at {i = i} e = upto_token e (λ t z r h. to h) (λ t z r h w. from h)
   where
     to : {t r : Tokens} {z : Pattern} → Attribute t z r → IsCore (keyword k.Attribute # i ∷ t) z r
     to (both (both c (both (both token (both p (both token gives))) gives)) gives) = g.attribute c p
+
     from : {t r : Tokens} {z : Pattern} → IsCore (keyword k.Attribute # i ∷ t) z r → Attribute t z r
     from (g.attribute {c = n} {p = q} c p) = both {a = (n, q)} (both c (both (both token (both p (both token gives))) gives)) gives
     from (g.value l) = elim l [ ]
@@ -134,6 +135,7 @@ list_at {i = i} e = upto_token e (λ t z r h. to h) (λ t z r h w. from h)
   where
     to : {t r : Tokens} {z : Pattern} → Made tree.list t z r → IsCore (keyword k.List # i ∷ t) z r
     to (both (both token (both p (both token gives))) gives) = g.list p
+
     from : {t r : Tokens} {z : Pattern} → IsCore (keyword k.List # i ∷ t) z r → Made tree.list t z r
     from (g.list p) = both (both token (both p (both token gives))) gives
     from (g.value l) = elim l [ ]
@@ -145,6 +147,7 @@ mixed_at {i = i} e = upto_token e (λ t z r h. to h) (λ t z r h w. from h)
   where
     to : {t r : Tokens} {z : Pattern} → Made tree.mixed t z r → IsCore (keyword k.Mixed # i ∷ t) z r
     to (both (both token (both p (both token gives))) gives) = g.mixed p
+
     from : {t r : Tokens} {z : Pattern} → IsCore (keyword k.Mixed # i ∷ t) z r → Made tree.mixed t z r
     from (g.mixed p) = both (both token (both p (both token gives))) gives
     from (g.value l) = elim l [ ]

@@ -1,23 +1,22 @@
 -- What follows the annotation of an operand or of a primary.
-use Rattle.std.proofs.Common.{◌≡◌, ℕ, Bool, true, false, List, [], ◌∷◌, Some, None, refl, ap, sym, ◌∙◌, subst, unwrap_or}
+use Rattle.std.proofs.Common.{◌≡◌, ℕ, Bool, true, false, List, [], ◌∷◌, Some, refl, ap, sym, ◌∙◌, subst, unwrap_or}
 use Rattle.std.proofs.lemmas.Bool.{false≢true}
-use Rattle.rn_syntax.specs.declared.token.Keyword.TheVariants as k
 use Rattle.rn_syntax.specs.declared.token.Postfix.{Postfix}
 use Rattle.rn_syntax.specs.declared.terminals.Terminal as code
 use Rattle.rn_syntax.specs.declared.terminals.Terminal.TheVariants as c
-use Rattle.rn_syntax.specs.Terminal.{Terminal, Placed, ◌#◌, ident, segment, postfix, minus, left_brace, other}
+use Rattle.rn_syntax.specs.Terminal.{Terminal, Placed, ◌#◌, segment, postfix, minus, other}
 use Rattle.rn_syntax.specs.Tree as tree
 use Rattle.rn_syntax.specs.Tree.{Datatype, Params, Pattern}
 use Rattle.rn_syntax.specs.Grammar as g
 use Rattle.rn_syntax.specs.Grammar.{Tokens, AreFollows, MayAnnotate, IsLiteral, IsDatatype, MayHaveParams, IsOperand, IsPrimary, IsCore}
-use Rattle.rn_syntax.specs.Follow.{Starts, first, no_bracket, no_follow, no_tilde, no_brace, behind_core, behind_primary, behind_operand, begins_datatype}
-use Rattle.rn_syntax.specs.Sequence.{Then, both, Gives, gives, IsHere}
+use Rattle.rn_syntax.specs.Follow.{Starts, first, no_follow, no_tilde, no_brace, behind_core, behind_primary, behind_operand}
+use Rattle.rn_syntax.specs.Sequence.{Then, both, Gives, gives}
 use Rattle.rn_syntax.specs.Parts as part
 use Rattle.rn_syntax.specs.Parts.{BehindPrimary, BehindType, BehindDatatype}
-use Rattle.rn_syntax.specs.Reading.{Alike, Took, Stuck, Bare, seen, IsNext}
-use Rattle.rn_syntax.proofs.OneClass.{starts_to, minus_stays, datatype_one}
-use Rattle.rn_syntax.proofs.OnePattern.{to_primary, primary_to_follow, core_to_tilde, core_to_brace, follows_core, core_front, datatype_front}
-use Rattle.rn_syntax.proofs.Compose.{Upto, Fits, Can, CanBe, upto_at, upto_token, upto_then, took_upto, stuck_upto, reads, stuck_in, took_gives, first_alike, alike_token}
+use Rattle.rn_syntax.specs.Reading.{Took, Stuck, Bare, seen, IsNext}
+use Rattle.rn_syntax.proofs.OneClass.{starts_to, minus_stays}
+use Rattle.rn_syntax.proofs.OnePattern.{to_primary, primary_to_follow, core_to_tilde, core_to_brace, follows_core}
+use Rattle.rn_syntax.proofs.Compose.{Upto, Fits, Can, upto_at, upto_token, upto_then, took_upto, stuck_upto, reads, stuck_in, took_gives, first_alike, alike_token}
 use Rattle.rn_syntax.proofs.Next.{first_next}
 
 -- ---- words
@@ -67,6 +66,7 @@ postfix_at p s {i = i} e = upto_token e (λ t z r d. to d) (λ t z r d w. from d
   where
     to : {t r : Tokens} {z : Pattern} → Then Follows (λ u. Gives (tree.repeated s p)) t z r → BehindPrimary p (postfix s # i ∷ t) z r
     to (both f gives) = part.repeated f
+
     from : {t r : Tokens} {z : Pattern} → BehindPrimary p (postfix s # i ∷ t) z r → Starts behind_operand r → Then Follows (λ u. Gives (tree.repeated s p)) t z r
     from (part.repeated f) w = both f gives
     from part.alone w = absurd (false≢true w)
@@ -159,6 +159,7 @@ module _ (d : Datatype) {now : Tokens} where
     where
       to : {t r : Tokens} {z : Pattern} → Valued d t z r → BehindType d t z r
       to (both l gives) = part.valued l
+
       from : {t r : Tokens} {z : Pattern} → BehindType d (segment s # i ∷ t) z r → Starts behind_core r → Valued d (segment s # i ∷ t) z r
       from (part.valued l) w = both l gives
       from (part.datum m) w = absurd (datum_not m w)
@@ -175,6 +176,7 @@ module _ (d : Datatype) {now : Tokens} where
     where
       to : {t r : Tokens} {z : Pattern} → Datum d t z r → BehindType d t z r
       to (both m gives) = part.datum m
+
       from : {t r : Tokens} {z : Pattern} → is_segment (first t) ≡ false → BehindType d t z r → Datum d t z r
       from e (part.datum m) = both m gives
       from e (part.valued l) = absurd (false≢true (sym e ∙ literal_begins l))
@@ -213,6 +215,7 @@ except_at d ps {i = i} e = upto_token e (λ t z r h. to h) (λ t z r h w. from h
   where
     to : {t r : Tokens} {z : Pattern} → Except d ps i t z r → BehindParams d ps (minus # i ∷ t) z r
     to (both q gives) = except q
+
     from : {t r : Tokens} {z : Pattern} → BehindParams d ps (minus # i ∷ t) z r → Starts behind_operand r → Except d ps i t z r
     from (except q) w = both q gives
     from (plain (both f b)) w = absurd (primary_behind (minus_stays f) b w)
@@ -247,6 +250,7 @@ module _ (d : Datatype) {ts : Tokens} where
     where
       to : {t r : Tokens} {z : Pattern} → Text d t z r → BehindDatatype d t z r
       to (both l (both f b)) = part.plain (part.valued l) f b
+
       from : {t r : Tokens} {z : Pattern} → BehindDatatype d (segment s # i ∷ t) z r → Starts behind_operand r → Text d (segment s # i ∷ t) z r
       from (part.plain (part.valued l) f b) w = both l (both f b)
       from (part.plain (part.datum m) f b) w = absurd (datum_not m (follows_core f (behind_front b w)))
@@ -258,6 +262,7 @@ module _ (d : Datatype) {ts : Tokens} where
       to : {t r : Tokens} {z : Pattern} → WithParams d t z r → BehindDatatype d t z r
       to (both m (plain (both f b))) = part.plain (part.datum m) f b
       to (both m (except q)) = part.except m q
+
       from : {t r : Tokens} {z : Pattern} → is_segment (first t) ≡ false → BehindDatatype d t z r → WithParams d t z r
       from e (part.plain (part.valued l) f b) = absurd (false≢true (sym e ∙ literal_begins l))
       from e (part.plain (part.datum m) f b) = both m (plain (both f b))

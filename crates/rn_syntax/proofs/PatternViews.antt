@@ -1,15 +1,12 @@
 -- The trees of patterns of the code, level by level.
-use Rattle.std.proofs.Common.{◌≡◌, ℕ, rules, Box, Vec, Option, Some, None, Global}
-use Rattle.std.specs.Cow.{cow_str_bytes}
-use Rattle.std.specs.declared.borrow.CowStr.{CowStr}
+use Rattle.std.proofs.Common.{◌≡◌, ℕ, rules, Box, Vec, Global}
 use Rattle.rn_syntax.specs.declared.token.Postfix.{Postfix}
-use Rattle.rn_syntax.specs.declared.token.Operator.{Operator}
 use Rattle.rn_syntax.specs.Tree as t
-use Rattle.rn_syntax.specs.View.{class_view, datatype_view, params_view, type_view, pattern_view, patterns_view}
+use Rattle.rn_syntax.specs.View.{class_view, datatype_view, params_view, pattern_view}
 use Rattle.rn_syntax.specs.declared.tree.Nc as code_class
 use Rattle.rn_syntax.specs.declared.tree.Datatype as code_type
 use Rattle.rn_syntax.specs.declared.tree.Param.{Param}
-use Rattle.rn_syntax.specs.declared.tree.Pat.{Pat, Element, Attribute, List, Mixed, Empty, NotAllowed, Text, Value, Datum, DatumBut, Repeated, Chain, the_lemmas}
+use Rattle.rn_syntax.specs.declared.tree.Pat.{Pat, Element, Attribute, List, Mixed, Empty, NotAllowed, Text, DatumBut, Repeated, the_lemmas}
 
 pub view-Element : (c : code_class.Nc) (p : Box Pat Global) → pattern_view (Element c p) ≡ t.element (class_view c) (pattern_view p.value)
 view-Element c p = search (rules, the_lemmas)

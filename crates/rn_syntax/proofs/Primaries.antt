@@ -1,7 +1,7 @@
 -- An operand or a primary, from its annotation on.
-use Rattle.std.proofs.Common.{◌≡◌, ℕ, Bool, true, false, List, [], ◌∷◌, Some, None, refl, ap, sym, ◌∙◌, subst}
+use Rattle.std.proofs.Common.{◌≡◌, ℕ, true, false, List, [], ◌∷◌, Some, refl, ap, sym, ◌∙◌, subst}
 use Rattle.std.proofs.lemmas.Bool.{false≢true}
-use Rattle.rn_syntax.specs.Terminal.{Terminal, Placed, ◌#◌, ident, minus}
+use Rattle.rn_syntax.specs.Terminal.{Placed, ◌#◌, ident, minus}
 use Rattle.rn_syntax.specs.Tree as tree
 use Rattle.rn_syntax.specs.Tree.{Datatype, Params, Pattern}
 use Rattle.rn_syntax.specs.Grammar as g
@@ -126,6 +126,7 @@ operand_core a e = upto_then (operand_body a) (upto_at (λ t z r d. to d) (λ t 
   where
     to : {t r : Tokens} {z : Pattern} → Plain t z r → Bared t z r
     to (both c m) = plain c m
+
     from : {t r : Tokens} {z : Pattern} → begins_datatype (first t) ≡ false → Bared t z r → Plain t z r
     from e (plain c m) = both c m
     from e (except {mid = mid} n m q) = absurd (false≢true (sym e ∙ datatype_begins mid n))

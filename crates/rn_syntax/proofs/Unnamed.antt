@@ -1,5 +1,5 @@
 -- Cores that begin with no keyword, and where none begins.
-use Rattle.std.proofs.Common.{◌≡◌, ℕ, Bool, true, false, List, [], ◌∷◌, Some, None, refl, ap, sym, ◌∙◌, subst, unwrap_or}
+use Rattle.std.proofs.Common.{◌≡◌, ℕ, Bool, true, false, List, ◌∷◌, None, refl, ap, sym, ◌∙◌, unwrap_or}
 use Rattle.std.proofs.lemmas.Bool.{false≢true}
 use Rattle.rn_syntax.specs.declared.token.Keyword.{Keyword}
 use Rattle.rn_syntax.specs.declared.token.Keyword.TheVariants as k
@@ -13,7 +13,7 @@ use Rattle.rn_syntax.specs.Grammar.{Tokens, IsLiteral, IsDatatype, IsPattern, Is
 use Rattle.rn_syntax.specs.Follow.{Starts, Anything, first, no_tilde, behind_core, behind_pattern, begins_datatype}
 use Rattle.rn_syntax.specs.Sequence.{Then, both, Gives, gives, IsToken, token}
 use Rattle.rn_syntax.specs.Reading.{Took, Stuck, seen, IsNext}
-use Rattle.rn_syntax.proofs.Compose.{Upto, Fits, Can, CanBe, upto_token, upto_then, took_upto, stuck_upto, reads, stuck_in, stuck_here, took_gives, fits_anything, fits_token}
+use Rattle.rn_syntax.proofs.Compose.{Upto, Fits, Can, upto_token, upto_then, took_upto, stuck_upto, reads, stuck_in, stuck_here, took_gives, fits_anything, fits_token}
 use Rattle.rn_syntax.proofs.Next.{first_next}
 use Rattle.rn_syntax.proofs.Operands.{fits_given, can_given, upto_seen, core_tilde}
 use Rattle.rn_syntax.proofs.Primaries.{can_core}
@@ -28,6 +28,7 @@ literal_at {s = s} {i = i} e = upto_seen e (λ t z r h. to h) (λ t z r h w. fro
   where
     to : {t r : Tokens} {z : Pattern} → Literal t z r → IsCore t z r
     to (both l gives) = g.value l
+
     from : {t r : Tokens} {z : Pattern} → IsCore (segment s # i ∷ t) z r → Literal (segment s # i ∷ t) z r
     from (g.value l) = both l gives
     from (g.typed_value n l) = elim n [ ]
@@ -52,6 +53,7 @@ parens_at {i = i} e = upto_token e (λ t z r h. to h) (λ t z r h w. from h)
   where
     to : {t r : Tokens} {z : Pattern} → Inner t z r → IsCore (left_paren # i ∷ t) z r
     to (both p (both token gives)) = g.parens p
+
     from : {t r : Tokens} {z : Pattern} → IsCore (left_paren # i ∷ t) z r → Inner t z r
     from (g.parens p) = both p (both token gives)
     from (g.value l) = elim l [ ]

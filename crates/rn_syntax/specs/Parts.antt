@@ -1,10 +1,10 @@
 -- Parts of patterns: what is left of a production behind its front.
 use Rattle.std.specs.Prelude.{ℕ, List, ◌∷◌, Some}
 use Rattle.rn_syntax.specs.declared.token.Postfix.{Postfix}
-use Rattle.rn_syntax.specs.Terminal.{Placed, ◌#◌, postfix, minus, left_brace, right_brace}
+use Rattle.rn_syntax.specs.Terminal.{◌#◌, postfix, minus, left_brace, right_brace}
 use Rattle.rn_syntax.specs.Tree as tree
 use Rattle.rn_syntax.specs.Tree.{Datatype, Params, NameClass, Pattern}
-use Rattle.rn_syntax.specs.Grammar.{Tokens, AreFollows, IsDatatype, IsLiteral, MayHaveParams, IsNameClass, IsPattern, IsPrimary, IsCore}
+use Rattle.rn_syntax.specs.Grammar.{Tokens, AreFollows, IsLiteral, MayHaveParams, IsNameClass, IsPattern, IsPrimary}
 use Rattle.rn_syntax.specs.Sequence.{Then, Gives, IsToken}
 
 -- [ postfix follow* ], behind the primary of an operand

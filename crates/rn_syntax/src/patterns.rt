@@ -78,19 +78,10 @@ fn datum_but<'a>(
 ) -> Result<Pat<'a>, AllocError>
     ensures { IfOk result (λ p. pattern_view p ≡ tree.datum_but (datatype_view datatype.entry) (params_view params.entry.items) at (pattern_view except.entry)) }
 {
-    Ok(Pat::DatumBut(
-        datatype,
-        params,
-        at,
-        Box::new(alloc, except)?,
-    ))
+    Ok(Pat::DatumBut(datatype, params, at, Box::new(alloc, except)?))
 }
 
-fn repeated<'a>(
-    alloc: Global,
-    postfix: Postfix,
-    primary: Pat<'a>,
-) -> Result<Pat<'a>, AllocError>
+fn repeated<'a>(alloc: Global, postfix: Postfix, primary: Pat<'a>) -> Result<Pat<'a>, AllocError>
     ensures { IfOk result (λ p. pattern_view p ≡ tree.repeated postfix (pattern_view primary.entry)) }
 {
     Ok(Pat::Repeated(postfix, Box::new(alloc, primary)?))

@@ -230,7 +230,7 @@ pattern-chain-init t c = record {
   so_far = λ s.
       let here = ap first c.in-Operator.ensures.next.1 in
       operands_same c.in-Operator.operator _ _ (sym (ap (map pattern_view) (c.in_ok-push.ensures.items ∙ ap (λ l. l ++ c.in_ok-first.first ∷ []) c.new-members.ensures.items)))
-        (pattern_first c.in-Operator.operator here (c.in_ok-first.ensures.reads s), here);
+      (pattern_first c.in-Operator.operator here (c.in_ok-first.ensures.reads s), here);
 }
 
 pub pattern-chain-preserved : goal.pattern-chain-preserved
