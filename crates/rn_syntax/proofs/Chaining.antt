@@ -1,11 +1,11 @@
 -- One part, or parts with one terminal between each two.
 use Rattle.std.proofs.Common.{◌≡◌, ℕ, List, [], ◌∷◌, ◌++◌, refl, ap, sym, ◌∙◌, subst, append-nil}
-use Rattle.rn_syntax.specs.Terminal.{Terminal, Placed, ◌#◌}
+use Rattle.rn_syntax.specs.Terminal.{Terminal, ◌#◌}
 use Rattle.rn_syntax.specs.Grammar.{Tokens}
 use Rattle.rn_syntax.specs.Follow.{first}
 use Rattle.rn_syntax.specs.Sequence.{Then, both, Gives, gives}
-use Rattle.rn_syntax.specs.Reading.{Alike, Took, Stuck}
-use Rattle.rn_syntax.proofs.Compose.{Upto, Fits, Can, upto_at, upto_token, upto_then, took_upto, stuck_upto, reads, stuck_in, took_gives, took_same, first_alike}
+use Rattle.rn_syntax.specs.Reading.{Took, Stuck}
+use Rattle.rn_syntax.proofs.Compose.{Upto, Fits, upto_at, upto_token, upto_then, stuck_upto, reads, stuck_in, first_alike}
 use Rattle.rn_syntax.proofs.Repeating.{Behind, Whole, part_read, part_stuck, parts_took}
 
 -- more parts, each behind the terminal, if they come

@@ -1,7 +1,6 @@
 -- Name classes, part by part.
 use Rattle.std.proofs.Common.{◌≡◌, ℕ, Bool, true, false, List, [], ◌∷◌, ◌++◌, refl, ap, sym, ◌∙◌, subst, unwrap_or}
 use Rattle.std.proofs.lemmas.Bool.{false≢true}
-use Rattle.rn_syntax.specs.declared.token.Keyword.{Keyword}
 use Rattle.rn_syntax.specs.declared.token.Operator.TheVariants as o
 use Rattle.rn_syntax.specs.declared.terminals.Terminal as code
 use Rattle.rn_syntax.specs.declared.terminals.Terminal.TheVariants as c
@@ -13,9 +12,9 @@ use Rattle.rn_syntax.specs.Grammar as g
 use Rattle.rn_syntax.specs.Grammar.{Tokens, IsWord, MayAnnotate, AreFollows, IsAnyName, IsNameClass, AreMoreClasses, IsClassOperand, IsClassPrimary, IsClassCore}
 use Rattle.rn_syntax.specs.Follow.{Starts, Anything, first, no_bracket, no_follow, behind_name, behind_class, begins_any}
 use Rattle.rn_syntax.specs.Sequence.{Then, both, Gives, gives, IsToken, token, IsHere, IsClassEnd, IsAnyEnd}
-use Rattle.rn_syntax.specs.Reading.{Alike, Took, Stuck, Bare, seen, IsNext}
-use Rattle.rn_syntax.proofs.OneClass.{class_core_one, class_core_front, any_no_bracket, any_word, any_core, any_one, word_is, minus_stays, name_to_follow, class_to_name, starts_to}
-use Rattle.rn_syntax.proofs.Compose.{Upto, Fits, Can, CanBe, upto_at, upto_token, upto_then, took_upto, stuck_upto, reads, stuck_in, took_gives, first_alike, stuck_here, fits_anything, fits_token, fits_gives, can_gives, can_then, can_token}
+use Rattle.rn_syntax.specs.Reading.{Took, Stuck, Bare, seen, IsNext}
+use Rattle.rn_syntax.proofs.OneClass.{class_core_one, class_core_front, any_no_bracket, any_one, word_is, minus_stays, name_to_follow, class_to_name, starts_to}
+use Rattle.rn_syntax.proofs.Compose.{Upto, Fits, Can, CanBe, upto_at, upto_token, upto_then, took_upto, stuck_upto, reads, stuck_in, took_gives, first_alike, stuck_here, fits_anything, fits_token, fits_gives, can_gives, can_then}
 use Rattle.rn_syntax.proofs.Repeating.{Whole}
 use Rattle.rn_syntax.proofs.Chaining.{Rest, none, some, Chained, alone, many, IsChain, fits_chained, alone_at, So_far}
 use Rattle.rn_syntax.proofs.Next.{first_next}
@@ -39,6 +38,7 @@ parens_at {i = i} e = upto_token e (λ t z r d. to d) (λ t z r d f. from d)
   where
     to : {t r : Tokens} {z : NameClass} → Then IsNameClass Closed t z r → IsClassCore (left_paren # i ∷ t) z r
     to (both k (both token gives)) = g.parens k
+
     from : {t r : Tokens} {z : NameClass} → IsClassCore (left_paren # i ∷ t) z r → Then IsNameClass Closed t z r
     from (g.parens k) = both k (both token gives)
     from (g.word w) = absurd (false≢true (word_is w))
@@ -139,6 +139,7 @@ primary_start = upto_at (λ t z r d. to d) (λ t a z r d g. from d)
   where
     to : {t r : Tokens} {z : NameClass} → Then (Bare MayAnnotate) (λ (u : Unit {0}). IsClassEnd) t z r → IsClassPrimary t z r
     to (both a (both k (both f gives))) = g.primary a k f
+
     from : {t r : Tokens} {z : NameClass} → IsClassPrimary t z r → Then (Bare MayAnnotate) (λ (u : Unit {0}). IsClassEnd) t z r
     from (g.primary a k f) = both a (both k (both f gives))
 
@@ -189,6 +190,7 @@ operand_start = upto_at (λ t z r d. to d) (λ t a z r d g. from d)
     to : {t r : Tokens} {z : NameClass} → Then (Bare MayAnnotate) (λ (u : Unit {0}). OperandEnd) t z r → IsClassOperand t z r
     to (both a (plain_end (both k (both f gives)))) = g.plain (g.primary a k f)
     to (both a (except_end n p)) = g.except a n p
+
     from : {t r : Tokens} {z : NameClass} → IsClassOperand t z r → Then (Bare MayAnnotate) (λ (u : Unit {0}). OperandEnd) t z r
     from (g.plain (g.primary a k f)) = both a (plain_end (both k (both f gives)))
     from (g.except a n p) = both a (except_end n p)
@@ -234,6 +236,7 @@ except_at a {i = i} e = upto_token e (λ t z r d. to d) (λ t z r d f. from d f)
   where
     to : {t r : Tokens} {z : NameClass} → Excepted a t z r → AnyTail a (minus # i ∷ t) z r
     to (both p gives) = except_tail p
+
     from : {t r : Tokens} {z : NameClass} → AnyTail a (minus # i ∷ t) z r → Starts behind_name r → Excepted a t z r
     from (except_tail p) f = both p gives
     from (plain_tail d) f = absurd (false≢true (subst (Starts behind_name) (minus_stays d) f))
@@ -302,6 +305,7 @@ class_start = upto_at (λ t z r d. to d) (λ t a z r d g. from d)
     to : {t r : Tokens} {z : NameClass} → Then IsClassOperand (Chained AreMoreClasses choice_of) t z r → IsNameClass t z r
     to (both d alone) = g.one d
     to (both d (many m)) = g.choice d m
+
     from : {t r : Tokens} {z : NameClass} → IsNameClass t z r → Then IsClassOperand (Chained AreMoreClasses choice_of) t z r
     from (g.one d) = both d alone
     from (g.choice d m) = both d (many m)

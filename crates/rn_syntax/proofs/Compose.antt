@@ -4,7 +4,7 @@ use Rattle.std.proofs.lemmas.Bool.{false≢true}
 use Rattle.rn_syntax.specs.declared.fault.Fault.{Fault}
 use Rattle.rn_syntax.specs.declared.fault.Fault.TheVariants as f
 use Rattle.rn_text.specs.declared.source.Token.{Token}
-use Rattle.rn_syntax.specs.Terminal.{Terminal, Placed, ◌#◌, other}
+use Rattle.rn_syntax.specs.Terminal.{Terminal, Placed, ◌#◌}
 use Rattle.rn_syntax.specs.Grammar.{Tokens}
 use Rattle.rn_syntax.specs.Follow.{Starts, Anything, first}
 use Rattle.rn_syntax.specs.Sequence.{Then, both, Gives, gives, IsToken, token, IsOf, of}
@@ -89,10 +89,10 @@ module _ {A C : Type 0} {N : Tokens → A → Tokens → Type 0} {M : A → Toke
     front = k.front;
     cut = k.cut;
     begins = λ more.
-      let m = can more in
-      let n = k.begins m.0 in
-      let c = m.1 n.1 in
-      (n.0, c.0, both n.2 c.1);
+        let m = can more in
+        let n = k.begins m.0 in
+        let c = m.1 n.1 in
+        (n.0, c.0, both n.2 c.1);
     refuses = refuse_then fits k;
   }
 

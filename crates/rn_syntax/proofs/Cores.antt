@@ -12,8 +12,14 @@ use Rattle.rn_syntax.specs.Follow.{Starts, Anything, first, behind_core, behind_
 use Rattle.rn_syntax.specs.Sequence.{Then, both, Gives, gives, IsToken, token}
 use Rattle.rn_syntax.specs.Parts.{IsBraced, IsContent}
 use Rattle.rn_syntax.specs.Reading.{Took, Stuck, rest}
+<<<<<<< HEAD
 use Rattle.rn_syntax.proofs.Compose.{Upto, Fits, Can, CanBe, upto_token, upto_then, took_upto, stuck_upto, reads, stuck_in, took_gives, can_then, can_token, fits_anything, fits_token, can_gives}
 use Rattle.rn_syntax.proofs.Next.{terminal_at}
+=======
+use Rattle.rn_syntax.proofs.Compose.{Upto, Fits, Can, CanBe, upto_token, upto_then, took_upto, stuck_upto, reads, stuck_in, took_gives, can_then, can_token, fits_anything, fits_token}
+use Rattle.rn_syntax.proofs.Next.{terminal_at}
+use Rattle.rn_syntax.proofs.Operands.{can_given}
+>>>>>>> 8caa1485e682d957aba51ee6bb3a1a25e2f6f3fa
 
 -- ---- braces
 

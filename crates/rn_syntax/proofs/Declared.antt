@@ -1,5 +1,5 @@
 -- Declarations, part by part.
-use Rattle.std.proofs.Common.{◌≡◌, ℕ, Bool, true, false, List, [], ◌∷◌, ◌++◌, Option, Some, None, refl, ap, sym, ◌∙◌, subst, append-nil, unwrap_or}
+use Rattle.std.proofs.Common.{◌≡◌, ℕ, true, false, List, [], ◌∷◌, ◌++◌, Option, Some, None, refl, ap, sym, ◌∙◌, subst, append-nil, unwrap_or}
 use Rattle.std.proofs.lemmas.Bool.{false≢true}
 use Rattle.rn_text.specs.declared.source.Token.{Token}
 use Rattle.rn_syntax.specs.declared.token.Keyword.{Keyword}
@@ -16,11 +16,11 @@ use Rattle.rn_syntax.specs.Grammar.{Tokens, IsWord, IsLiteral, IsUri, IsDeclarat
 use Rattle.rn_syntax.specs.Follow.{Starts, Anything, first, no_tilde, no_word, begins_item, begins_declaration}
 use Rattle.rn_syntax.specs.Sequence.{Then, both, Gives, gives, IsToken, token, IsOf, of, IsHere, IsWordAt, word_at, IsPrefixAt, prefix_at}
 use Rattle.rn_syntax.specs.Declaring.{IsUriEnd, IsNamespaceEnd, IsDatatypesEnd, MayPrefix, no_prefix, prefix, IsDefaultEnd}
-use Rattle.rn_syntax.specs.Reading.{Alike, Took, Stuck, seen, IsNext, IsPlace, rest}
+use Rattle.rn_syntax.specs.Reading.{Took, Stuck, seen, IsNext, IsPlace, rest}
 use Rattle.rn_syntax.proofs.OneClass.{word_one, starts_to}
 use Rattle.rn_syntax.proofs.OneTree.{declarations_tilde, item_to_tilde}
-use Rattle.rn_syntax.proofs.Compose.{Upto, Fits, Can, CanBe, upto_at, upto_token, upto_then, took_upto, stuck_upto, reads, stuck_in, took_gives, first_alike, stuck_here, fits_anything, fits_token, fits_gives, can_gives, can_then, can_token, of_took}
-use Rattle.rn_syntax.proofs.Repeating.{Behind, Whole, behind_start, part_read, part_stuck, parts_took}
+use Rattle.rn_syntax.proofs.Compose.{Upto, Fits, Can, CanBe, upto_at, upto_token, upto_then, took_upto, stuck_upto, reads, stuck_in, took_gives, first_alike, stuck_here, fits_anything, fits_token, fits_gives, can_gives, can_token, of_took}
+use Rattle.rn_syntax.proofs.Repeating.{Whole, behind_start, part_read, part_stuck, parts_took}
 use Rattle.rn_syntax.proofs.Next.{first_next, place_is}
 
 -- ---- prefixes
@@ -76,6 +76,7 @@ literal_at n = upto_at (λ l z r d. to d) (λ l a z r d f. from (λ e. n (sym (f
   where
     to : {l r : Tokens} {u : Uri} → Literal l u r → IsUri l u r
     to (both d gives) = g.literal d
+
     from : {l r : Tokens} {u : Uri} → (first l ≡ keyword k.Inherit → ⊥) → IsUri l u r → Literal l u r
     from n (g.literal d) = both d gives
     from n g.inherited = absurd (n refl)
@@ -220,6 +221,7 @@ namespace_at {i = i} e = upto_token e (λ l z r d. to d) (λ l z r d f. from d)
   where
     to : {l r : Tokens} {z : Declaration} → IsNamespaceEnd l z r → IsDeclaration (keyword k.Namespace # i ∷ l) z r
     to (both (of (prefix_at w)) (both token (both u gives))) = g.namespace w u
+
     from : {l r : Tokens} {z : Declaration} → IsDeclaration (keyword k.Namespace # i ∷ l) z r → IsNamespaceEnd l z r
     from (g.namespace w u) = both (of (prefix_at w)) (both token (both u gives))
 
@@ -228,6 +230,7 @@ datatypes_at {i = i} e = upto_token e (λ l z r d. to d) (λ l z r d f. from d)
   where
     to : {l r : Tokens} {z : Declaration} → IsDatatypesEnd l z r → IsDeclaration (keyword k.Datatypes # i ∷ l) z r
     to (both (of (prefix_at w)) (both token (both u gives))) = g.datatypes w u
+
     from : {l r : Tokens} {z : Declaration} → IsDeclaration (keyword k.Datatypes # i ∷ l) z r → IsDatatypesEnd l z r
     from (g.datatypes w u) = both (of (prefix_at w)) (both token (both u gives))
 
@@ -237,6 +240,7 @@ default_at_place {i = i} e = upto_token e (λ l z r d. to d) (λ l z r d f. from
     to : {l r : Tokens} {z : Declaration} → IsDefaultEnd i l z r → IsDeclaration (keyword k.Default # i ∷ l) z r
     to (both token (both no_prefix (both token (both u gives)))) = g.default u
     to (both token (both (prefix w) (both token (both u gives)))) = g.default_prefix w u
+
     from : {l r : Tokens} {z : Declaration} → IsDeclaration (keyword k.Default # i ∷ l) z r → IsDefaultEnd i l z r
     from (g.default u) = both token (both no_prefix (both token (both u gives)))
     from (g.default_prefix w u) = both token (both (prefix w) (both token (both u gives)))

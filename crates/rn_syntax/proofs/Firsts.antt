@@ -1,5 +1,5 @@
 -- The first of two lists of places.
-use Rattle.std.proofs.Common.{◌≡◌, ℕ, List, [], ◌∷◌, ◌++◌, Option, Some, None, refl}
+use Rattle.std.proofs.Common.{◌≡◌, ℕ, List, [], ◌∷◌, ◌++◌, Some, None, refl}
 use Rattle.rn_syntax.specs.Places.{first}
 
 pub none_first : (xs ys : List ℕ) → first xs ≡ None → first (xs ++ ys) ≡ first ys

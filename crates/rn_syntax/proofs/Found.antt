@@ -1,5 +1,5 @@
 -- A fault of the tree is one of the tokens.
-use Rattle.std.proofs.Common.{◌≡◌, ℕ, List, map, Option, Some, None}
+use Rattle.std.proofs.Common.{◌≡◌, List, map, None}
 use Rattle.rn_text.specs.declared.source.Token.{Token}
 use Rattle.rn_text.specs.Tokens.{lexeme_of}
 use Rattle.rn_syntax.specs.declared.fault.SyntaxFault.{SyntaxFault}

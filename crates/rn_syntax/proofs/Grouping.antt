@@ -1,5 +1,5 @@
 -- Items and what they are made of, part by part.
-use Rattle.std.proofs.Common.{◌≡◌, ℕ, Bool, true, false, List, [], ◌∷◌, ◌++◌, ◌+◌, Option, Some, None, refl, ap, sym, ◌∙◌, subst, unwrap_or, arith}
+use Rattle.std.proofs.Common.{◌≡◌, ℕ, Bool, true, false, List, [], ◌∷◌, ◌++◌, ◌+◌, refl, ap, sym, ◌∙◌, subst, unwrap_or}
 use Rattle.std.proofs.lemmas.Bool.{false≢true}
 use Rattle.rn_text.specs.declared.source.Token.{Token}
 use Rattle.rn_syntax.specs.declared.token.Keyword.{Keyword}
@@ -14,17 +14,16 @@ use Rattle.rn_syntax.specs.Tree as t
 use Rattle.rn_syntax.specs.Tree.{Item, Pattern, items_of}
 use Rattle.rn_syntax.specs.Grammar as g
 use Rattle.rn_syntax.specs.Grammar.{Tokens, IsLiteral, IsPattern, IsComponent, AreItems, AreInner, MayInherit, MayOverride}
-use Rattle.rn_syntax.specs.Follow.{Starts, Anything, first, no_bracket, no_tilde, no_brace, no_inherit, begins_item, behind_pattern, is_end}
-use Rattle.rn_syntax.specs.Sequence.{Then, both, Gives, gives, IsToken, token, IsOf, of, IsAssign, by_method, IsPrefixAt, prefix_at, is_note}
+use Rattle.rn_syntax.specs.Follow.{Starts, Anything, first, no_bracket, begins_item, behind_pattern, is_end}
+use Rattle.rn_syntax.specs.Sequence.{Then, both, Gives, gives, IsToken, token, IsOf, of, IsAssign, by_method, is_note}
 use Rattle.rn_syntax.specs.Including as i
 use Rattle.rn_syntax.specs.Including.{opens_item, opens_inner, IsItem, IsInner, UpToBrace, InBraces, IsDivEnd, IsInnerDivEnd, IsIncludeEnd, AreItemsBehind}
-use Rattle.rn_syntax.specs.Reading.{Alike, Took, Stuck, seen, IsNext, rest}
+use Rattle.rn_syntax.specs.Reading.{Took, Stuck, seen, IsNext, rest}
 use Rattle.rn_syntax.proofs.OneClass.{starts_to}
-use Rattle.rn_syntax.proofs.OneTree.{item_to_pattern, item_to_brace, override_inherit, override_tilde, inherit_tilde}
-use Rattle.rn_syntax.proofs.Compose.{Upto, Fits, Can, CanBe, upto_at, upto_token, upto_then, took_upto, stuck_upto, reads, stuck_in, took_gives, first_alike, stuck_here, fits_anything, fits_token, fits_gives, can_gives, can_then, can_token}
-use Rattle.rn_syntax.proofs.Repeating.{Behind, Whole}
+use Rattle.rn_syntax.proofs.OneTree.{item_to_pattern}
+use Rattle.rn_syntax.proofs.Compose.{Upto, Fits, Can, CanBe, upto_at, upto_token, upto_then, took_upto, stuck_upto, reads, stuck_in, took_gives, first_alike, stuck_here, fits_anything, fits_token, fits_gives, can_gives, can_then}
 use Rattle.rn_syntax.proofs.Next.{first_next, next_index}
-use Rattle.rn_syntax.proofs.Rows.{Row, Rows, none, row, note, IsRow, So_far}
+use Rattle.rn_syntax.proofs.Rows.{Rows, none, row, note, IsRow, So_far}
 
 -- ---- what begins an item
 
@@ -173,6 +172,7 @@ define_at {n = n} {j = j} e = upto_token e (λ l z r d. to d) (λ l z r d g. fro
   where
     to : {l r : Tokens} {z : Item} → MethodBody (t.define n) l z r → IsComponent (ident n # j ∷ l) z r
     to (both (of by_method) (both p gives)) = g.define p
+
     from : {l r : Tokens} {z : Item} → IsComponent (ident n # j ∷ l) z r → MethodBody (t.define n) l z r
     from (g.define p) = both (of by_method) (both p gives)
 
@@ -181,6 +181,7 @@ start_at {j = j} e = upto_token e (λ l z r d. to d) (λ l z r d g. from d)
   where
     to : {l r : Tokens} {z : Item} → MethodBody t.start l z r → IsComponent (keyword k.Start # j ∷ l) z r
     to (both (of by_method) (both p gives)) = g.start p
+
     from : {l r : Tokens} {z : Item} → IsComponent (keyword k.Start # j ∷ l) z r → MethodBody t.start l z r
     from (g.start p) = both (of by_method) (both p gives)
 
@@ -270,6 +271,7 @@ div_item {j = j} e = upto_token e (λ l z r d. to d) (λ l z r d g. from d)
   where
     to : {l r : Tokens} {z : Item} → IsDivEnd l z r → IsItem (keyword k.Div # j ∷ l) z r
     to (both token (both d (both token gives))) = i.div d
+
     from : {l r : Tokens} {z : Item} → IsItem (keyword k.Div # j ∷ l) z r → IsDivEnd l z r
     from (i.div d) = both token (both d (both token gives))
     from (i.component d) = elim d [ ]
@@ -279,6 +281,7 @@ include_item {j = j} e = upto_token e (λ l z r d. to d) (λ l z r d g. from d)
   where
     to : {l r : Tokens} {z : Item} → IsIncludeEnd l z r → IsItem (keyword k.Include # j ∷ l) z r
     to (both d (both h (both o gives))) = i.include d h o
+
     from : {l r : Tokens} {z : Item} → IsItem (keyword k.Include # j ∷ l) z r → IsIncludeEnd l z r
     from (i.include d h o) = both d (both h (both o gives))
     from (i.component d) = elim d [ ]
@@ -288,6 +291,7 @@ div_inner {j = j} e = upto_token e (λ l z r d. to d) (λ l z r d g. from d)
   where
     to : {l r : Tokens} {z : Item} → IsInnerDivEnd l z r → IsInner (keyword k.Div # j ∷ l) z r
     to (both token (both d (both token gives))) = i.div d
+
     from : {l r : Tokens} {z : Item} → IsInner (keyword k.Div # j ∷ l) z r → IsInnerDivEnd l z r
     from (i.div d) = both token (both d (both token gives))
     from (i.component d) = elim d [ ]

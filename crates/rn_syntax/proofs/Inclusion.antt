@@ -1,5 +1,5 @@
 -- Includes, part by part.
-use Rattle.std.proofs.Common.{◌≡◌, ℕ, Bool, true, false, List, [], ◌∷◌, Option, Some, None, refl, ap, sym, ◌∙◌, subst, unwrap_or}
+use Rattle.std.proofs.Common.{◌≡◌, ℕ, true, List, [], ◌∷◌, Option, Some, None, refl, ap, sym, ◌∙◌, unwrap_or}
 use Rattle.std.proofs.lemmas.Bool.{false≢true}
 use Rattle.rn_syntax.specs.declared.token.Keyword.TheVariants as k
 use Rattle.rn_syntax.specs.declared.token.Method.TheVariants as m
@@ -43,6 +43,7 @@ inherit_at {j = j} e = upto_token e (λ l z r d. to d) (λ l z r d f. from d f)
   where
     to : {l r : Tokens} {z : Option Place} → InheritEnd l z r → MayInherit (keyword k.Inherit # j ∷ l) z r
     to (both token (both (of (prefix_at w)) gives)) = g.inherit w
+
     from : {l r : Tokens} {z : Option Place} → MayInherit (keyword k.Inherit # j ∷ l) z r → Starts no_inherit r → InheritEnd l z r
     from (g.inherit w) f = both token (both (of (prefix_at w)) gives)
     from g.none f = absurd (false≢true f)
@@ -72,6 +73,7 @@ override_at {j = j} e = upto_token e (λ l z r d. to d) (λ l z r d f. from d f)
   where
     to : {l r : Tokens} {z : List Item} → UpToBrace AreInner ListGives l z r → MayOverride (left_brace # j ∷ l) z r
     to (both d (both token gives)) = g.braces d
+
     from : {l r : Tokens} {z : List Item} → MayOverride (left_brace # j ∷ l) z r → Starts no_brace r → UpToBrace AreInner ListGives l z r
     from (g.braces d) f = both d (both token gives)
     from g.none f = absurd (false≢true f)

@@ -1,5 +1,5 @@
 -- Items, part by part.
-use Rattle.std.proofs.Common.{◌≡◌, ℕ, Bool, true, false, List, [], ◌∷◌, ◌++◌, refl, ap, sym, ◌∙◌, subst}
+use Rattle.std.proofs.Common.{◌≡◌, ℕ, List, [], ◌∷◌, refl, sym, subst}
 use Rattle.std.proofs.lemmas.Bool.{false≢true}
 use Rattle.rn_syntax.specs.declared.token.Keyword.TheVariants as k
 use Rattle.rn_syntax.specs.declared.token.Method.TheVariants as m
@@ -35,8 +35,11 @@ pub first_items_grammar : {i : ℕ} {ts r : Tokens} {xs : List Item} → AreFirs
 first_items_grammar (first_items (n.component c) r) = component_grammar c
 
 pub can_first_items : CanBe AreFirstItems
-can_first_items more = (keyword k.Start # 0 ∷ t.assign m.Plain # 0 ∷ keyword k.Empty # 0 ∷ more, tree.start m.Plain tree.empty ∷ [],
-    first_items (n.component (g.start (g.one (g.plain (g.primary g.bare g.empty g.none))))) g.none)
+can_first_items more = (
+  keyword k.Start # 0 ∷ t.assign m.Plain # 0 ∷ keyword k.Empty # 0 ∷ more,
+  tree.start m.Plain tree.empty ∷ [],
+  first_items (n.component (g.start (g.one (g.plain (g.primary g.bare g.empty g.none))))) g.none,
+)
 
 -- ---- their reader
 
@@ -45,6 +48,7 @@ start_items = upto_at (λ l z r d. to d) (λ l a z r d h. from d)
   where
     to : {l r : Tokens} {z : List Item} → Then IsItem (λ (y : Item). AreItemsBehind (y ∷ [])) l z r → AreFirstItems l z r
     to {l = l} {r = r} (both d b) = subst (λ (z : List Item). AreFirstItems l z r) (sym b.is) (first_items d b.behind)
+
     from : {l r : Tokens} {z : List Item} → AreFirstItems l z r → Then IsItem (λ (y : Item). AreItemsBehind (y ∷ [])) l z r
     from (first_items {xs = xs} d b) = both d (record { more = xs; is = refl; behind = b })
 

@@ -1,5 +1,5 @@
 -- Modules, part by part.
-use Rattle.std.proofs.Common.{◌≡◌, ℕ, Bool, true, false, List, [], ◌∷◌, ◌++◌, refl, ap, sym, ◌∙◌, subst, append-nil, append_assoc, unwrap_or, map}
+use Rattle.std.proofs.Common.{◌≡◌, ℕ, List, [], ◌∷◌, ◌++◌, refl, ap, sym, ◌∙◌, subst, append-nil, append_assoc, unwrap_or}
 use Rattle.std.proofs.lemmas.Bool.{false≢true}
 use Rattle.rn_text.specs.declared.source.Token.{Token}
 use Rattle.rn_syntax.specs.declared.fault.Fault.{Fault}
@@ -12,17 +12,16 @@ use Rattle.rn_syntax.specs.Terminal.{Terminal, Placed, ◌#◌, keyword, left_br
 use Rattle.rn_syntax.specs.Tree.{Declaration, Item, Module, items_of}
 use Rattle.rn_syntax.specs.Grammar as g
 use Rattle.rn_syntax.specs.Grammar.{Tokens, IsAnnotation, MayAnnotate, AreFollows, AreItems, AreDeclarations, IsModule}
-use Rattle.rn_syntax.specs.Fault.{HasTree, Begins, IsRefused, Stops}
+use Rattle.rn_syntax.specs.Fault.{HasTree, IsRefused, Stops}
 use Rattle.rn_syntax.specs.Follow.{Starts, Anything, first, no_follow, is_end, begins_item}
 use Rattle.rn_syntax.specs.Sequence.{Then, both, Gives, gives, IsToken, token}
 use Rattle.rn_syntax.specs.Itemizing.{AreFirstItems}
 use Rattle.rn_syntax.specs.Modular.{IsGrammarEnd, IsBody, items_body, grammar_body, IsAnnotatedBody, items_behind, grammar_behind, IsModuleBefore, IsModuleFault}
 use Rattle.rn_syntax.specs.Reading.{Alike, ends, same, Took, Stuck, Faults, AreSpelled, Bare, seen, IsNext, rest}
-use Rattle.rn_syntax.proofs.OneClass.{may_one, starts_to, annotation_one}
-use Rattle.rn_syntax.proofs.OneTree.{component_front, component_grammar, keyword_note, is_grammar, items_front, may_item, end_to_item}
-use Rattle.rn_syntax.proofs.Compose.{Upto, Fits, Can, CanBe, upto_at, upto_token, upto_then, took_upto, stuck_upto, reads, stuck_in, took_gives, first_alike, fits_anything, fits_token, fits_gives, can_gives, can_then, can_token, token_took, alike_token}
+use Rattle.rn_syntax.proofs.OneClass.{may_one}
+use Rattle.rn_syntax.proofs.OneTree.{component_front, component_grammar, keyword_note, is_grammar, items_front, may_item}
+use Rattle.rn_syntax.proofs.Compose.{Upto, Fits, Can, CanBe, upto_at, upto_token, upto_then, took_upto, stuck_upto, reads, stuck_in, took_gives, first_alike, fits_anything, fits_token, fits_gives, can_gives, alike_token}
 use Rattle.rn_syntax.proofs.Next.{first_next}
-use Rattle.rn_syntax.proofs.Skipping.{can_annotation}
 use Rattle.rn_syntax.proofs.Itemized.{first_items_to, first_items_from, first_items_grammar, can_first_items}
 
 -- ---- behind `grammar`
@@ -138,6 +137,7 @@ body_bracket {i = i} {now = now} e = upto_at (λ t z r d. to d) (λ t a z r d h.
     to : {t r : Tokens} {xs : List Item} → Annotated t xs r → IsBody t xs r
     to (both a (items_behind d)) = items_body (first_items_to (g.annotated a) d)
     to (both a (grammar_behind d)) = grammar_body (g.annotated a) d
+
     from : {t r : Tokens} {xs : List Item} → IsBody (left_bracket # i ∷ t) xs r → Starts is_end r → Annotated (left_bracket # i ∷ t) xs r
     from (items_body d) h = let s = first_items_from d h in both s.1 (items_behind s.2)
     from (grammar_body (g.annotated a) d) h = both a (grammar_behind d)

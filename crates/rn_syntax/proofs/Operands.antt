@@ -16,7 +16,11 @@ use Rattle.rn_syntax.specs.Parts.{BehindPrimary, BehindType, BehindDatatype}
 use Rattle.rn_syntax.specs.Reading.{Took, Stuck, Bare, seen, IsNext}
 use Rattle.rn_syntax.proofs.OneClass.{starts_to, minus_stays}
 use Rattle.rn_syntax.proofs.OnePattern.{to_primary, primary_to_follow, core_to_tilde, core_to_brace, follows_core}
+<<<<<<< HEAD
 use Rattle.rn_syntax.proofs.Compose.{Upto, Fits, Can, upto_at, upto_token, upto_then, took_upto, stuck_upto, reads, stuck_in, took_gives, first_alike, alike_token, fits_gives, can_gives}
+=======
+use Rattle.rn_syntax.proofs.Compose.{Upto, Fits, Can, upto_at, upto_token, upto_then, took_upto, stuck_upto, reads, stuck_in, took_gives, first_alike, alike_token}
+>>>>>>> 8caa1485e682d957aba51ee6bb3a1a25e2f6f3fa
 use Rattle.rn_syntax.proofs.Next.{first_next}
 
 -- ---- words

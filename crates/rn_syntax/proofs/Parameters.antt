@@ -1,22 +1,20 @@
 -- Datatypes and their parameters.
-use Rattle.std.proofs.Common.{◌≡◌, ℕ, Bool, true, false, List, [], ◌∷◌, ◌++◌, refl, ap, sym, ◌∙◌, subst, unwrap_or, append-nil}
+use Rattle.std.proofs.Common.{◌≡◌, ℕ, true, false, List, [], ◌∷◌, ◌++◌, refl, ap, sym, ◌∙◌, subst, unwrap_or, append-nil}
 use Rattle.std.proofs.lemmas.Bool.{false≢true}
-use Rattle.rn_syntax.specs.declared.token.Keyword.{Keyword}
-use Rattle.rn_syntax.specs.declared.token.Keyword.TheVariants as k
 use Rattle.rn_syntax.specs.declared.token.Method.TheVariants as m
 use Rattle.rn_syntax.specs.declared.terminals.Terminal as code
 use Rattle.rn_syntax.specs.declared.terminals.Terminal.TheVariants as c
 use Rattle.rn_syntax.specs.Terminal as t
 use Rattle.rn_syntax.specs.Terminal.{Terminal, Placed, ◌#◌, ident, keyword, assign, segment, left_brace, right_brace}
-use Rattle.rn_syntax.specs.Tree.{Datatype, Params}
+use Rattle.rn_syntax.specs.Tree.{Params}
 use Rattle.rn_syntax.specs.Grammar as g
 use Rattle.rn_syntax.specs.Grammar.{Tokens, MayAnnotate, IsLiteral, IsDatatype, AreParams, MayHaveParams}
 use Rattle.rn_syntax.specs.Follow.{Starts, Anything, first, is_end, no_bracket, no_tilde, no_brace}
 use Rattle.rn_syntax.specs.Sequence.{Then, both, Gives, gives, IsToken, token, IsOf, of, IsWordAt, word_at, IsHere, IsParam}
 use Rattle.rn_syntax.specs.Reading.{Took, Stuck, Bare, seen, IsNext}
 use Rattle.rn_syntax.proofs.OneClass.{params_no_tilde, param_front, word_no_bracket}
-use Rattle.rn_syntax.proofs.Compose.{Upto, Fits, Can, CanBe, upto_at, upto_token, upto_then, took_upto, stuck_upto, reads, stuck_in, took_gives, can_then, can_token, first_alike, fits_anything}
-use Rattle.rn_syntax.proofs.Repeating.{Behind, Whole, behind_start, part_read, part_stuck, parts_took}
+use Rattle.rn_syntax.proofs.Compose.{Upto, Fits, Can, CanBe, upto_at, upto_token, upto_then, took_upto, reads, stuck_in, took_gives, can_then, first_alike, fits_anything}
+use Rattle.rn_syntax.proofs.Repeating.{Whole, behind_start, part_read, part_stuck, parts_took}
 use Rattle.rn_syntax.proofs.Next.{first_next}
 
 -- a token that names a datatype, where the code knows its place

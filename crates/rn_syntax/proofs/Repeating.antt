@@ -1,9 +1,9 @@
 -- Lists of one production, part by part.
-use Rattle.std.proofs.Common.{◌≡◌, List, [], ◌∷◌, ◌++◌, refl, ap, sym, ◌∙◌, subst, append_assoc, append-nil}
+use Rattle.std.proofs.Common.{◌≡◌, List, [], ◌∷◌, ◌++◌, refl, ap, sym, ◌∙◌, subst, append_assoc}
 use Rattle.rn_syntax.specs.Grammar.{Tokens}
 use Rattle.rn_syntax.specs.Sequence.{Then, both}
-use Rattle.rn_syntax.specs.Reading.{Alike, Took, Stuck}
-use Rattle.rn_syntax.proofs.Compose.{Upto, Fits, Can, upto_at, upto_then, took_upto, stuck_upto, reads, stuck_in}
+use Rattle.rn_syntax.specs.Reading.{Took, Stuck}
+use Rattle.rn_syntax.proofs.Compose.{Upto, Fits, upto_at, upto_then, took_upto, stuck_upto, reads, stuck_in}
 
 -- the parts xs were read, and an N, which is more parts, follows: f makes of them what all stands for
 pub record Behind {A C : Type 0} (N : Tokens → List A → Tokens → Type 0) (f : List A → C) (xs : List A) (ts : Tokens) (z : C) (rest : Tokens) : Type 0 where
@@ -44,8 +44,7 @@ fits_part : {A C : Type 0} {N : Tokens → List A → Tokens → Type 0} {F G : 
 fits_part f xs h = record { fits = λ x mid c r d g. h.fits x mid (x ∷ d.more) r (record { more = d.more; is = refl; behind = d.behind }) g }
 
 module _ {A C : Type 0} {S : Tokens → A → Tokens → Type 0} {N : Tokens → List A → Tokens → Type 0} {F G : Tokens → Type 0} {V : Tokens → C → Tokens → Type 0} (f : List A → C) (xs : List A) {ts now mid : Tokens}
-  (so_far : Upto V (Behind N f xs) G ts now) (u : Upto N (Then S (λ x. Whole N (x ∷ []))) G now mid) (fits : Fits F (λ (x : A). Whole N (x ∷ [])) G) where
-
+    (so_far : Upto V (Behind N f xs) G ts now) (u : Upto N (Then S (λ x. Whole N (x ∷ []))) G now mid) (fits : Fits F (λ (x : A). Whole N (x ∷ [])) G) where
   -- one more was read
   pub part_read : {next : Tokens} {x : A} → Took S F mid x next → Upto V (Behind N f (xs ++ x ∷ [])) G ts next
   part_read k = upto_then so_far (upto_then (part_follows f xs u) (reads (fits_part f xs fits) k))

@@ -1,5 +1,5 @@
 -- Literals, segment by segment.
-use Rattle.std.proofs.Common.{◌≡◌, ℕ, zero, suc, Bool, true, false, List, [], ◌∷◌, ◌++◌, refl, ap, sym, ◌∙◌, subst, append_assoc, append-nil, unwrap_or, cond, not}
+use Rattle.std.proofs.Common.{◌≡◌, ℕ, Bool, true, false, List, [], ◌∷◌, ◌++◌, refl, ap, sym, ◌∙◌, subst, append_assoc, append-nil, unwrap_or, cond, not}
 use Rattle.std.specs.Prelude.{◌&&◌, ◌==◌}
 use Rattle.std.proofs.lemmas.Bool.{false≢true, and_parts}
 use Rattle.rn_text.specs.Segments.{after_run, text_after, escape_front, begins_with, is_x}
@@ -112,11 +112,14 @@ joins_at s {i = i} e = upto_token e (λ t z r d. to d) (λ t z r d f. from d f)
   where
     to : {t r : Tokens} {z : List ℕ} → Then IsSegment (λ (u : List ℕ). Joins (s ++ u)) t z r → Joins s (tilde # i ∷ t) z r
     to (both {a = u} n j) = record { text = u ++ j.text; joined = j.joined ∙ append_assoc s u j.text; behind = onward (literal_to (both n (record { text = j.text; joined = refl; behind = j.behind }))) }
+
     split : {t r : Tokens} {z m : List ℕ} → z ≡ s ++ m → Literal t m r → Then IsSegment (λ (u : List ℕ). Joins (s ++ u)) t z r
     split e (both {a = u} n j) = both n (record { text = j.text; joined = e ∙ ap (λ (l : List ℕ). s ++ l) j.joined ∙ sym (append_assoc s u j.text); behind = j.behind })
+
     behind_tilde : {t r : Tokens} {z m : List ℕ} → z ≡ s ++ m → More (tilde # i ∷ t) m r → Starts no_tilde r → Then IsSegment (λ (u : List ℕ). Joins (s ++ u)) t z r
     behind_tilde e (onward l) f = split e (literal_from l)
     behind_tilde e nothing f = absurd (false≢true f)
+
     from : {t r : Tokens} {z : List ℕ} → Joins s (tilde # i ∷ t) z r → Starts no_tilde r → Then IsSegment (λ (u : List ℕ). Joins (s ++ u)) t z r
     from j f = behind_tilde j.joined j.behind f
 
@@ -130,6 +133,7 @@ joins_end s now behind x e h = upto_at (λ t z r d. to d) (λ t a z r d f. from 
   where
     to : {t r : Tokens} {z : List ℕ} → Gives s t z r → Joins s t z r
     to gives = record { text = []; joined = sym (append-nil s); behind = nothing }
+
     from : {t r : Tokens} {z m : List ℕ} → no_tilde (first t) ≡ true → z ≡ s ++ m → More t m r → Gives s t z r
     from {r = r} n e nothing = subst (λ (y : List ℕ). Gives s r y r) (sym (e ∙ append-nil s)) gives
     from n e (onward l) = absurd (false≢true n)

@@ -1,5 +1,5 @@
 -- Annotations, bracket by bracket, and what follows them.
-use Rattle.std.proofs.Common.{◌≡◌, ◌<◌, ℕ, zero, suc, Bool, true, false, List, [], ◌∷◌, ◌++◌, ◌⊎◌, inl, inr, refl, ap, sym, ◌∙◌, subst, Option, Some, None, unwrap_or, Bor}
+use Rattle.std.proofs.Common.{◌≡◌, ℕ, zero, suc, Bool, true, false, List, [], ◌∷◌, ◌⊎◌, inl, inr, refl, ap, sym, ◌∙◌, subst, unwrap_or, Bor}
 use Rattle.std.proofs.lemmas.Bool.{false≢true}
 use Rattle.rn_syntax.specs.declared.terminals.Terminal as code
 use Rattle.rn_syntax.specs.declared.terminals.Terminal.TheVariants as c
@@ -9,11 +9,10 @@ use Rattle.rn_syntax.specs.Terminal.{Terminal, Placed, ◌#◌, left_bracket, ri
 use Rattle.rn_syntax.specs.Grammar as g
 use Rattle.rn_syntax.specs.Grammar.{Tokens, Closed, IsAnnotation, MayAnnotate, AreFollows, IsFollowName}
 use Rattle.rn_syntax.specs.Follow.{Starts, Anything, first, no_bracket, no_follow}
-use Rattle.rn_syntax.specs.Sequence.{Then, both, Gives, gives, IsToken, token, IsNamed, named}
-use Rattle.rn_syntax.specs.Reading.{Alike, ends, same, Took, Stuck, Bare, seen, IsNext}
-use Rattle.rn_syntax.proofs.Compose.{Upto, Fits, Can, CanBe, upto_at, upto_then, took_upto, stuck_upto, reads, stuck_in, took_gives, token_took, stuck_here, first_alike, alike_end, upto_token, fits_anything}
+use Rattle.rn_syntax.specs.Sequence.{Then, both, Gives, gives, IsNamed, named}
+use Rattle.rn_syntax.specs.Reading.{Alike, Took, Stuck, Bare, seen, IsNext}
+use Rattle.rn_syntax.proofs.Compose.{Upto, Can, CanBe, upto_at, upto_then, stuck_upto, reads, stuck_in, stuck_here, first_alike, alike_end, upto_token, fits_anything}
 use Rattle.rn_syntax.proofs.Next.{first_next}
-use Rattle.rn_syntax.proofs.OneClass.{closed_one}
 
 -- this many brackets close
 abbrev pub Closings : ℕ → Tokens → Unit {0} → Tokens → Type 0
@@ -45,6 +44,7 @@ opening n {i = i} e = upto_token e (λ t z r d. to d) (λ t z r d g. from d)
   where
     to : {t r : Tokens} {z : Unit {0}} → Closings (suc (suc n)) t z r → Closings (suc n) (left_bracket # i ∷ t) z r
     to (both c (both d m)) = both (g.nested c d) m
+
     from : {t r : Tokens} {z : Unit {0}} → Closings (suc n) (left_bracket # i ∷ t) z r → Closings (suc (suc n)) t z r
     from (both (g.nested c d) m) = both c (both d m)
     from (both (g.other e c) m) = absurd (false≢true (sym e))
@@ -55,6 +55,7 @@ passing n {x = x} {i = i} plain e = upto_token e (λ t z r d. to d) (λ t z r d 
   where
     to : {t r : Tokens} {z : Unit {0}} → Closings (suc n) t z r → Closings (suc n) (x # i ∷ t) z r
     to (both c m) = both (g.other plain c) m
+
     from : {y : Terminal} {t r : Tokens} {z : Unit {0}} → is_bracket y ≡ false → Closings (suc n) (y # i ∷ t) z r → Closings (suc n) t z r
     from h (both (g.other e c) m) = both c m
     from h (both g.close m) = absurd (false≢true (sym h))
@@ -218,6 +219,7 @@ follow_at {i = i} e = upto_token e (λ t z r d. to d) (λ t z r d f. from d f)
   where
     to : {t r : Tokens} {z : Unit {0}} → Then (Bare IsNamed) (λ (u : Unit {0}). Bare AreFollows) t z r → AreFollows (follow # i ∷ t) r
     to (both (named n a) m) = g.more n a m
+
     from : {t r : Tokens} {z : Unit {0}} → AreFollows (follow # i ∷ t) r → Starts no_follow r → Then (Bare IsNamed) (λ (u : Unit {0}). Bare AreFollows) t z r
     from (g.more n a m) f = both (named n a) m
     from g.none f = absurd (false≢true f)

@@ -1,14 +1,13 @@
 -- What the tables of keywords and symbols make of bytes and of the characters that they spell.
-use Rattle.std.proofs.Common.{◌≡◌, ℕ, Bool, true, false, cond, List, [], ◌∷◌, Option, Some, None, refl, sym, ap, ◌∙◌, subst, ◌<◌, ltb, ⊎_elim}
-use Rattle.std.specs.Prelude.{◌&&◌}
-use Rattle.std.specs.List.{AllByRecursion, list_all}
+use Rattle.std.proofs.Common.{◌≡◌, ℕ, Bool, true, false, cond, List, [], ◌∷◌, refl, sym, ap, ◌∙◌}
+use Rattle.std.specs.List.{AllByRecursion}
 use Rattle.std.specs.Str.{bytes_eq, chars, encode_utf8_all, IsUtf8}
-use Rattle.std.proofs.lemmas.Bool.{cond-true, cond-false, false_from_ne_true, cases_Bool, and_parts}
-use Rattle.std.proofs.lemmas.Str.{encodes-chars, chars-encodes}
+use Rattle.std.proofs.lemmas.Bool.{cond-false, false_from_ne_true}
+use Rattle.std.proofs.lemmas.Str.{encodes-chars}
 use Rattle.std.proofs.lemmas.Slice.Eq.{bytes_eq-Decides}
 use Rattle.rn_syntax.specs.Terminal as t
 use Rattle.rn_syntax.specs.Terminal.{Terminal}
-use Rattle.rn_syntax.specs.Tokens.{spelled_in, keyword_rows, symbol_rows}
+use Rattle.rn_syntax.specs.Tokens.{spelled_in}
 
 -- bytes that no row spells
 pub none_spelled : (rows : List (List ℕ × Terminal)) (cs : List ℕ) → AllByRecursion (λ (row : List ℕ × Terminal). cs ≡ row.0 → ⊥) rows → spelled_in rows cs ≡ t.other

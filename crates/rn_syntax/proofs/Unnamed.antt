@@ -13,7 +13,11 @@ use Rattle.rn_syntax.specs.Grammar.{Tokens, IsLiteral, IsDatatype, IsPattern, Is
 use Rattle.rn_syntax.specs.Follow.{Starts, Anything, first, no_tilde, behind_core, behind_pattern, begins_datatype}
 use Rattle.rn_syntax.specs.Sequence.{Then, both, Gives, gives, IsToken, token}
 use Rattle.rn_syntax.specs.Reading.{Took, Stuck, seen, IsNext}
+<<<<<<< HEAD
 use Rattle.rn_syntax.proofs.Compose.{Upto, Fits, Can, upto_token, upto_then, took_upto, stuck_upto, reads, stuck_in, stuck_here, took_gives, fits_anything, fits_token, fits_gives, can_gives}
+=======
+use Rattle.rn_syntax.proofs.Compose.{Upto, Fits, Can, upto_token, upto_then, took_upto, stuck_upto, reads, stuck_in, stuck_here, took_gives, fits_anything, fits_token}
+>>>>>>> 8caa1485e682d957aba51ee6bb3a1a25e2f6f3fa
 use Rattle.rn_syntax.proofs.Next.{first_next}
 use Rattle.rn_syntax.proofs.Operands.{upto_seen, core_tilde}
 use Rattle.rn_syntax.proofs.Primaries.{can_core}

@@ -1,13 +1,11 @@
--- Parts of items and of modules: one item, and what is left of it behind its first token.
-use Rattle.std.specs.Prelude.{◌≡◌, ℕ, List, [], ◌∷◌, ◌++◌, Option, Some, Bool, true, false}
-use Rattle.rn_syntax.specs.declared.token.Method.{Method}
-use Rattle.rn_syntax.specs.declared.token.Method.TheVariants as m
+-- Parts of items: one item, and what is left of it behind its first token.
+use Rattle.std.specs.Prelude.{◌≡◌, ℕ, List, ◌∷◌, ◌++◌, Option, Bool, true, false}
 use Rattle.rn_syntax.specs.declared.token.Keyword.TheVariants as k
-use Rattle.rn_syntax.specs.Terminal.{Terminal, ◌#◌, ident, keyword, prefixed, assign, left_brace, right_brace, left_bracket}
+use Rattle.rn_syntax.specs.Terminal.{Terminal, ◌#◌, ident, keyword, prefixed, left_brace, right_brace, left_bracket}
 use Rattle.rn_syntax.specs.Tree as t
 use Rattle.rn_syntax.specs.Tree.{Declaration, Item, Module, Pattern, items_of}
-use Rattle.rn_syntax.specs.Grammar.{Tokens, IsLiteral, IsAnnotation, AreFollows, IsPattern, IsComponent, AreDeclarations, AreItems, AreInner, MayInherit, MayOverride}
-use Rattle.rn_syntax.specs.Sequence.{Then, Gives, IsToken, IsOf, IsAssign, IsPrefixAt}
+use Rattle.rn_syntax.specs.Grammar.{Tokens, IsLiteral, IsComponent, AreItems, AreInner, MayInherit, MayOverride}
+use Rattle.rn_syntax.specs.Sequence.{Then, Gives, IsToken}
 
 -- an item or a note begins
 abbrev pub opens_item : Terminal → Bool
@@ -61,26 +59,3 @@ pub record AreItemsBehind (read : List Item) (ts : Tokens) (all : List Item) (re
   pub more : List Item
   pub is : all ≡ read ++ more
   pub behind : AreItems ts more rest
-
--- "{" item* "}" follow*, behind `grammar`
-abbrev pub IsGrammarEnd : Tokens → List Item → Tokens → Type 0
-IsGrammarEnd = InBraces AreItems (λ xs. Then (λ ts (u : Unit {0}) rest. AreFollows ts rest) (λ u. Gives xs))
-
--- "grammar" "{" item* "}" follow*, or items of which the first has no annotation here
-pub data IsAnnotatedEnd : Tokens → List Item → Tokens → Type 0 where
-  grammar : {i : ℕ} {ts rest : Tokens} {xs : List Item} → IsGrammarEnd ts xs rest → IsAnnotatedEnd (keyword k.Grammar # i ∷ ts) xs rest
-  items : {ts mid rest : Tokens} {x : Item} {xs : List Item} → IsItem ts x mid → AreItems mid xs rest → IsAnnotatedEnd ts (x ∷ xs) rest
-
--- item* | [ann] "grammar" "{" item* "}" follow*
-pub data IsContent : Tokens → List Item → Tokens → Type 0 where
-  items : {ts rest : Tokens} {xs : List Item} → AreItems ts xs rest → IsContent ts xs rest
-  grammar : {i : ℕ} {ts rest : Tokens} {xs : List Item} → IsGrammarEnd ts xs rest → IsContent (keyword k.Grammar # i ∷ ts) xs rest
-  annotated : {i : ℕ} {ts mid rest : Tokens} {xs : List Item} → IsAnnotation ts (keyword k.Grammar # i ∷ mid) → IsGrammarEnd mid xs rest → IsContent ts xs rest
-
--- a module, and then rest
-abbrev pub IsBody : Tokens → Module → Tokens → Type 0
-IsBody = Then AreDeclarations (λ ds. Then IsContent (λ xs. Gives (record { declarations = ds; items = items_of xs })))
-
--- nothing is left
-abbrev pub Nothing : Tokens → Type 0
-Nothing ts = ts ≡ []

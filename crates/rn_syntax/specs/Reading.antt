@@ -1,5 +1,5 @@
 -- What readers of tokens see, how far they come, and what their answers say of the grammar.
-use Rattle.std.specs.Prelude.{◌≡◌, ℕ, List, [], ◌∷◌, ◌++◌, Option, Some, None, Result, Ok, Err, Bool, true, not, ◌&&◌, ◌==◌, map, drop, ◌+◌, ◌≤◌, ◌<◌, length}
+use Rattle.std.specs.Prelude.{◌≡◌, ℕ, List, [], ◌∷◌, ◌++◌, Option, Some, None, Result, Ok, Err, Bool, true, not, ◌&&◌, ◌==◌, map, drop, ◌+◌, ◌≤◌, ◌<◌}
 use Rattle.std.specs.List.{All}
 use Rattle.std.specs.Str.{chars, encode_utf8_all}
 use Rattle.rn_text.specs.declared.source.Token.{Token}
@@ -10,7 +10,7 @@ use Rattle.rn_text.specs.Tokens.{lexeme_of}
 use Rattle.rn_syntax.specs.Terminal as t
 use Rattle.rn_syntax.specs.Terminal.{Terminal, Placed, ◌#◌}
 use Rattle.rn_syntax.specs.Grammar.{Tokens}
-use Rattle.rn_syntax.specs.Tokens.{terminal_of, terminals}
+use Rattle.rn_syntax.specs.Tokens.{terminals}
 use Rattle.rn_syntax.specs.Follow.{Anything}
 use Rattle.rn_syntax.specs.Sequence.{IsToken}
 use Rattle.rn_syntax.specs.declared.fault.Fault.{Fault}

@@ -1,5 +1,5 @@
 -- The tree that a tree of the code stands for.
-use Rattle.std.specs.Prelude.{ℕ, List, [], ◌∷◌, map, Option, Some, None}
+use Rattle.std.specs.Prelude.{ℕ, List, map, Option, Some, None}
 use Rattle.std.specs.Cow.{cow_str_bytes}
 use Rattle.rn_syntax.specs.declared.tree.Prefix as code_prefix
 use Rattle.rn_syntax.specs.declared.tree.Name as code_name

@@ -116,10 +116,7 @@ fn default<'a>(
 }
 
 /// `[word]`
-fn default_prefix<'a>(
-    tokens: &[Token<'a>],
-    at: usize,
-) -> Result<(Option<Prefix<'a>>, usize), Fault>
+fn default_prefix<'a>(tokens: &[Token<'a>], at: usize) -> Result<(Option<Prefix<'a>>, usize), Fault>
     requires { at ≤ length tokens.now }
     ensures inside { IfOk result (λ r. Passed at r.1 (length tokens.now)) }
     ensures reads { Reads MayPrefix (Starts no_word) prefix_view tokens.now at result }

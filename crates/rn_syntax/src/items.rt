@@ -38,11 +38,7 @@ fn division(items: Vec<Item<'_>>) -> Item<'_>
     Item::Div(items)
 }
 
-fn inclusion<'a>(
-    wanted: CowStr<'a>,
-    inherit: Option<Prefix<'a>>,
-    items: Vec<Item<'a>>,
-) -> Item<'a>
+fn inclusion<'a>(wanted: CowStr<'a>, inherit: Option<Prefix<'a>>, items: Vec<Item<'a>>) -> Item<'a>
     ensures { item_view result ≡ tree.include (cow_str_bytes wanted.entry) (prefix_view inherit.entry) (items_view items.entry.items) }
 {
     Item::Include {
@@ -273,11 +269,7 @@ fn inner_item<'a>(
 
 /// `"{" inner* "}"`, behind `div`
 #[cycle(inner_items)]
-fn inner_div<'a>(
-    alloc: Global,
-    tokens: &[Token<'a>],
-    at: usize,
-) -> Result<(Item<'a>, usize), Fault>
+fn inner_div<'a>(alloc: Global, tokens: &[Token<'a>], at: usize) -> Result<(Item<'a>, usize), Fault>
     requires { at ≤ length tokens.now }
     ensures inside { IfOk result (λ r. Advanced at r.1 (length tokens.now)) }
     ensures reads { Reads IsInnerDivEnd Anything item_view tokens.now at result }

@@ -33,11 +33,7 @@ pub(crate) fn module<'a>(alloc: Global, tokens: &[Token<'a>]) -> Result<Module<'
 }
 
 /// `item* | [ann] "grammar" "{" item* "}" follow*`
-fn body<'a>(
-    alloc: Global,
-    tokens: &[Token<'a>],
-    at: usize,
-) -> Result<(Vec<Item<'a>>, usize), Fault>
+fn body<'a>(alloc: Global, tokens: &[Token<'a>], at: usize) -> Result<(Vec<Item<'a>>, usize), Fault>
     requires { at ≤ length tokens.now }
     ensures inside { IfOk result (λ r. Passed at r.1 (length tokens.now)) }
     ensures reads { Reads IsBody (Starts is_end) (λ v. map item_view v.items) tokens.now at result }

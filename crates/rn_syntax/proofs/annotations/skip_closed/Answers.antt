@@ -1,9 +1,6 @@
 -- Each token opens a bracket, closes one, or leaves them.
-use Rattle.std.proofs.Common.{arith, ◌≡◌, ℕ, suc, zero, ◌-◌, ◌+◌, subst}
-use Rattle.rn_syntax.specs.Grammar.{Closed}
-use Rattle.rn_syntax.specs.Follow.{Anything}
-use Rattle.rn_syntax.specs.Reading.{Bare, rest}
-use Rattle.rn_syntax.proofs.Compose.{Upto, upto_then, took_upto, stuck_upto, took_gives}
+use Rattle.std.proofs.Common.{arith, ◌≡◌, suc, zero, ◌-◌, ◌+◌}
+use Rattle.rn_syntax.proofs.Compose.{upto_then, took_upto, stuck_upto, took_gives}
 use Rattle.rn_syntax.proofs.Next.{inside_of}
 use Rattle.rn_syntax.proofs.Skipping.{closings_start, closings_same, closing, opening, passing, refusing, is_plain}
 use Rattle.rn_syntax.proofs.annotations.skip_closed.Goals as goal

@@ -1,5 +1,5 @@
 -- One declaration more is bound, and its place, if it is wrong, comes behind those before.
-use Rattle.std.proofs.Common.{◌≡◌, ◌+◌, ◌++◌, ◌∷◌, [], map, ap, ◌∙◌, sym, take, drop, refl, arith, ◌<◌, length}
+use Rattle.std.proofs.Common.{◌≡◌, ◌+◌, ◌++◌, ◌∷◌, [], map, ap, ◌∙◌, sym, take, drop, arith, ◌<◌, length}
 use Rattle.std.proofs.lemmas.List.{map-append, take_more}
 use Rattle.rn_syntax.specs.View.{declaration_view}
 use Rattle.rn_syntax.specs.Places.{declarations_places, declaration_places}

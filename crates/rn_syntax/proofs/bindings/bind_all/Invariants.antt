@@ -1,5 +1,5 @@
 -- Those before the index are bound; the first wrong place is known, or lies in what is left.
-use Rattle.std.proofs.Common.{◌≡◌, [], take, drop, map, Option, Some, None, is_some}
+use Rattle.std.proofs.Common.{◌≡◌, [], take, drop, map, is_some}
 use Rattle.std.specs.Prelude.{if◌then◌else◌}
 use Rattle.rn_syntax.specs.Places.{first, declarations_places}
 use Rattle.rn_syntax.specs.View.{declaration_view}

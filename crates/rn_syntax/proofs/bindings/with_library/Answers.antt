@@ -1,12 +1,10 @@
 -- The prefix, which was not bound, is bound to the library, and the others as before.
-use Rattle.std.proofs.Common.{◌≡◌, ap, ◌∙◌, sym, is_some, subst, option_map, false, ◌∷◌, [], Some}
+use Rattle.std.proofs.Common.{◌≡◌, ap, ◌∙◌, sym, is_some, subst, option_map, false, Some}
 use Rattle.std.specs.Prelude.{if◌then◌else◌}
 use Rattle.std.specs.HashMap as hash
 use Rattle.std.specs.Str.{bytes_eq}
 use Rattle.std.proofs.lemmas.Map.Text.{hash_map_updates_str}
 use Rattle.std.proofs.lemmas.Slice.Eq.{bytes_eq-Decides}
-use Rattle.rn_syntax.specs.Places.{declared_library}
-use Rattle.rn_syntax.specs.View.{declaration_view}
 use Rattle.rn_syntax.proofs.Bound.{put_absent}
 use Rattle.rn_syntax.proofs.bindings.with_library.Goals as goal
 

@@ -1,5 +1,5 @@
 -- The prefix is bound, and the others as before.
-use Rattle.std.proofs.Common.{◌≡◌, ap, ◌∙◌, sym, is_some}
+use Rattle.std.proofs.Common.{ap, ◌∙◌, sym, is_some}
 use Rattle.std.specs.Prelude.{◌||◌}
 use Rattle.std.specs.HashMap as hash
 use Rattle.std.specs.Str.{bytes_eq}

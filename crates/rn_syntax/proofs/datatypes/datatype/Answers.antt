@@ -1,6 +1,6 @@
 -- The token there names a datatype.
-use Rattle.std.proofs.Common.{subst, sym, ap}
-use Rattle.rn_syntax.specs.Terminal.{◌#◌, keyword, prefixed}
+use Rattle.std.proofs.Common.{subst, sym}
+use Rattle.rn_syntax.specs.Terminal.{◌#◌, keyword}
 use Rattle.rn_syntax.specs.Tree as t
 use Rattle.rn_syntax.specs.Grammar as g
 use Rattle.rn_syntax.specs.Grammar.{IsDatatype}

@@ -1,8 +1,6 @@
-use Rattle.std.proofs.Common.{◌+◌, sym, ap, subst, ◌∙◌, refl, true, false}
-use Rattle.std.proofs.lemmas.Result.{err_from_is_err_and}
-use Rattle.rn_syntax.specs.Tree as t
-use Rattle.rn_syntax.specs.View.{declaration_view, place_view, prefix_view, uri_view}
-use Rattle.rn_syntax.proofs.Compose.{on_fault, took_upto, stuck_upto, took_same, reads_upto, token_took}
+use Rattle.std.proofs.Common.{◌+◌}
+use Rattle.rn_syntax.specs.View.{declaration_view}
+use Rattle.rn_syntax.proofs.Compose.{reads_upto}
 use Rattle.rn_syntax.proofs.Declared.{namespace_at, default_at, datatypes_at, no_keyword, no_such_keyword}
 use Rattle.rn_syntax.proofs.Next.{place_is}
 use Rattle.rn_syntax.proofs.declarations.declaration.Goals as goal

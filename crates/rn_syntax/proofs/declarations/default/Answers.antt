@@ -1,8 +1,6 @@
-use Rattle.std.proofs.Common.{◌+◌, sym, ap, subst, ◌∙◌, refl, true, false}
+use Rattle.std.proofs.Common.{◌+◌, refl}
 use Rattle.std.proofs.lemmas.Result.{err_from_is_err_and}
-use Rattle.rn_syntax.specs.Tree as t
-use Rattle.rn_syntax.specs.View.{declaration_view, place_view, prefix_view, uri_view}
-use Rattle.rn_syntax.proofs.Compose.{on_fault, took_upto, stuck_upto, took_same, reads_upto, token_took}
+use Rattle.rn_syntax.proofs.Compose.{on_fault, took_upto, stuck_upto, token_took}
 use Rattle.rn_syntax.specs.declared.token.Keyword.TheVariants as k
 use Rattle.rn_syntax.specs.Terminal.{keyword}
 use Rattle.rn_syntax.proofs.Compose.{upto_then}

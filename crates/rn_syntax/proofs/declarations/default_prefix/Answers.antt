@@ -1,8 +1,3 @@
-use Rattle.std.proofs.Common.{◌+◌, sym, ap, subst, ◌∙◌, refl, true, false}
-use Rattle.std.proofs.lemmas.Result.{err_from_is_err_and}
-use Rattle.rn_syntax.specs.Tree as t
-use Rattle.rn_syntax.specs.View.{declaration_view, place_view, prefix_view, uri_view}
-use Rattle.rn_syntax.proofs.Compose.{on_fault, took_upto, stuck_upto, took_same, reads_upto, token_took}
 use Rattle.rn_syntax.specs.Grammar as g
 use Rattle.rn_syntax.proofs.Declared.{may_prefix, may_none}
 use Rattle.rn_syntax.proofs.Next.{place_is, word_at_keyword}

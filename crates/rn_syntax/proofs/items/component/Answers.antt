@@ -1,8 +1,6 @@
 use Rattle.std.proofs.Common.{◌+◌, sym}
 use Rattle.std.proofs.lemmas.Result.{err_from_is_err_and}
-use Rattle.rn_syntax.specs.Tree as t
 use Rattle.rn_syntax.proofs.Compose.{on_fault, took_same}
-use Rattle.rn_syntax.proofs.Next.{next_index}
 use Rattle.rn_syntax.proofs.Grouping.{define_at, start_at, body_method, body_stuck, body_took, method_read, no_component, no_start}
 use Rattle.rn_syntax.proofs.items.component.Goals as goal
 
@@ -15,7 +13,7 @@ pub returns-in_err-body-in-Ident-clause-reads : goal.returns-in_err-body-in-Iden
 returns-in_err-body-in-Ident-clause-reads c =
     let p = err_from_is_err_and c.from_residual-in_err-body-in-Ident.result c.from_residual-in_err-body-in-Ident.ensures.1 in
     rw (p.1, p.2) (on_fault c.args.tokens.now (c.args.at + 2) c.args.at _
-      (λ s bad k. body_stuck _ (define_at c.in-Ident.ensures.next.1) (method_read c.args.tokens.now c.args.at (c.in_ok-method-in-Ident.ensures.reads s)) k) c.in_err-body-in-Ident.ensures.reads)
+    (λ s bad k. body_stuck _ (define_at c.in-Ident.ensures.next.1) (method_read c.args.tokens.now c.args.at (c.in_ok-method-in-Ident.ensures.reads s)) k) c.in_err-body-in-Ident.ensures.reads)
 
 pub returns-in_ok-body-in-Ident-clause-reads : goal.returns-in_ok-body-in-Ident-clause-reads
 returns-in_ok-body-in-Ident-clause-reads c = λ s.
@@ -30,7 +28,7 @@ pub returns-in_err-body-in-Start-clause-reads : goal.returns-in_err-body-in-Star
 returns-in_err-body-in-Start-clause-reads c =
     let p = err_from_is_err_and c.from_residual-in_err-body-in-Start.result c.from_residual-in_err-body-in-Start.ensures.1 in
     rw (p.1, p.2) (on_fault c.args.tokens.now (c.args.at + 2) c.args.at _
-      (λ s bad k. body_stuck _ (start_at (rw c.in-Start.is at c.in-Keyword.ensures.next.1)) (method_read c.args.tokens.now c.args.at (c.in_ok-method-in-Start.ensures.reads s)) k) c.in_err-body-in-Start.ensures.reads)
+    (λ s bad k. body_stuck _ (start_at (rw c.in-Start.is at c.in-Keyword.ensures.next.1)) (method_read c.args.tokens.now c.args.at (c.in_ok-method-in-Start.ensures.reads s)) k) c.in_err-body-in-Start.ensures.reads)
 
 pub returns-in_ok-body-in-Start-clause-reads : goal.returns-in_ok-body-in-Start-clause-reads
 returns-in_ok-body-in-Start-clause-reads c = λ s.

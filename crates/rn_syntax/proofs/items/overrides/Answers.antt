@@ -20,7 +20,7 @@ pub returns-in_err-behind-clause-reads : goal.returns-in_err-behind-clause-reads
 returns-in_err-behind-clause-reads c =
     let p = err_from_is_err_and c.from_residual-in_err-behind.result c.from_residual-in_err-behind.ensures.1 in
     rw (p.1, p.2) (on_fault c.args.tokens.now c.in_ok-items.end c.args.at _
-      (λ s bad k. stuck_upto (upto_then (override_at c.in-LeftBrace.ensures.next.1) (list_read AreInner ListGives (Starts no_brace) can_inner can_list (c.in_ok-items.ensures.reads s))) (brace_stuck AreInner ListGives (Starts no_brace) can_inner can_list _ k)) c.in_err-behind.ensures.passes)
+    (λ s bad k. stuck_upto (upto_then (override_at c.in-LeftBrace.ensures.next.1) (list_read AreInner ListGives (Starts no_brace) can_inner can_list (c.in_ok-items.ensures.reads s))) (brace_stuck AreInner ListGives (Starts no_brace) can_inner can_list _ k)) c.in_err-behind.ensures.passes)
 
 pub returns-clause-reads : goal.returns-clause-reads
 returns-clause-reads c = λ s.

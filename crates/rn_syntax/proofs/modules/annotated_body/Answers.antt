@@ -1,9 +1,8 @@
-use Rattle.std.proofs.Common.{◌+◌, sym, ap, ◌∙◌, refl, map}
-use Rattle.std.proofs.lemmas.Result.{err_from_is_err_and}
+use Rattle.std.proofs.Common.{◌+◌, refl, map}
 use Rattle.rn_syntax.specs.declared.token.Keyword.TheVariants as k
 use Rattle.rn_syntax.specs.Terminal.{keyword}
 use Rattle.rn_syntax.specs.View.{item_view}
-use Rattle.rn_syntax.proofs.Compose.{on_fault, reads_upto}
+use Rattle.rn_syntax.proofs.Compose.{reads_upto}
 use Rattle.rn_syntax.proofs.Next.{terminal_at}
 use Rattle.rn_syntax.proofs.Modular.{behind_grammar, behind_items}
 use Rattle.rn_syntax.proofs.modules.annotated_body.Goals as goal

@@ -1,4 +1,4 @@
-use Rattle.std.proofs.Common.{◌++◌, ◌∷◌, [], sym, ap, ◌∙◌, map}
+use Rattle.std.proofs.Common.{◌++◌, ◌∷◌, [], ap, ◌∙◌, map}
 use Rattle.std.proofs.lemmas.Result.{err_from_is_err_and}
 use Rattle.rn_syntax.specs.View.{item_view}
 use Rattle.rn_syntax.proofs.Compose.{on_fault, reads_upto}
@@ -13,5 +13,5 @@ returns-in_err-first-clause-reads c =
 pub returns-clause-reads : goal.returns-clause-reads
 returns-clause-reads c =
     reads_upto (λ v. map item_view v.items) c.args.tokens.now c.in_ok-first.end c.args.at _ (λ r g. g)
-      (λ s. first_read (ap (map item_view) (c.in_ok-push.ensures.items ∙ ap (λ l. l ++ c.in_ok-first.first ∷ []) c.new-read.ensures.items)) (c.in_ok-first.ensures.reads s))
-      c.items_behind.ensures.reads
+    (λ s. first_read (ap (map item_view) (c.in_ok-push.ensures.items ∙ ap (λ l. l ++ c.in_ok-first.first ∷ []) c.new-read.ensures.items)) (c.in_ok-first.ensures.reads s))
+    c.items_behind.ensures.reads

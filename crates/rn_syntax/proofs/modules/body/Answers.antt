@@ -1,4 +1,4 @@
-use Rattle.std.proofs.Common.{◌+◌, sym, ap, ◌∙◌, refl, map}
+use Rattle.std.proofs.Common.{◌+◌, refl, map}
 use Rattle.std.proofs.lemmas.Result.{err_from_is_err_and}
 use Rattle.rn_syntax.specs.declared.token.Keyword.TheVariants as k
 use Rattle.rn_syntax.specs.Terminal.{keyword}

@@ -1,10 +1,5 @@
-use Rattle.std.proofs.Common.{◌+◌, sym, ap, ◌∙◌, refl, map}
 use Rattle.std.proofs.lemmas.Result.{err_from_is_err_and}
-use Rattle.rn_syntax.specs.declared.token.Keyword.TheVariants as k
-use Rattle.rn_syntax.specs.Terminal.{keyword}
-use Rattle.rn_syntax.specs.View.{item_view}
-use Rattle.rn_syntax.proofs.Compose.{on_fault, reads_upto}
-use Rattle.rn_syntax.proofs.Next.{terminal_at}
+use Rattle.rn_syntax.proofs.Compose.{on_fault}
 use Rattle.rn_syntax.proofs.Modular.{grammar_brace, grammar_items, grammar_close, grammar_follows, grammar_took}
 use Rattle.rn_syntax.proofs.modules.grammar.Goals as goal
 

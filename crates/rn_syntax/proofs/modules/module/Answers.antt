@@ -1,4 +1,3 @@
-use Rattle.std.proofs.Common.{◌+◌, sym, ap, ◌∙◌, refl, map}
 use Rattle.std.proofs.lemmas.Result.{err_from_is_err_and}
 use Rattle.rn_syntax.proofs.Next.{token_at, rest_past}
 use Rattle.rn_syntax.proofs.Modular.{module_fault, module_declarations, module_body, module_took, whole_tree, took_stops}

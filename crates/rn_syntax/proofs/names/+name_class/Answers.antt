@@ -2,14 +2,13 @@ use Rattle.std.proofs.Common.{◌+◌, ◌++◌, ◌∷◌, [], ◌∙◌, sym, 
 use Rattle.std.proofs.lemmas.List.{map-append}
 use Rattle.std.proofs.lemmas.Result.{err_from_is_err_and}
 use Rattle.rn_syntax.specs.Grammar as g
-use Rattle.rn_syntax.specs.Tree as t
 use Rattle.rn_syntax.specs.View.{class_view, any_view}
 use Rattle.rn_syntax.proofs.Compose.{on_fault, took_same, took_upto, stuck_upto, reads_upto, upto_then}
 use Rattle.rn_syntax.proofs.Chaining.{chain_read, chain_stuck, chain_end}
 use Rattle.rn_syntax.specs.Terminal.{operator}
 use Rattle.rn_syntax.specs.declared.token.Operator.TheVariants as o
 use Rattle.rn_syntax.proofs.Next.{terminal_at, next_two, place_is, word_at_keyword}
-use Rattle.rn_syntax.proofs.Classes.{word_core, prefixed_core, parens_inner, parens_stuck, parens_took, no_core, followed_took, followed_stuck, end_core, end_stuck, primary_body, primary_stuck, any_at, operand_body, operand_stuck, operand_plain, operand_any, except_took, except_stuck, tail_plain, choice_of, classes_chain, class_first, class_stuck, class_alone, so_far_same}
+use Rattle.rn_syntax.proofs.Classes.{word_core, prefixed_core, parens_inner, parens_stuck, parens_took, no_core, followed_took, followed_stuck, end_core, end_stuck, primary_body, primary_stuck, any_at, operand_body, operand_stuck, operand_plain, operand_any, except_took, except_stuck, tail_plain, classes_chain, class_first, class_stuck, class_alone, so_far_same}
 use Rattle.rn_syntax.proofs.names.+name_class.Goals as goal
 
 -- ---- cores
@@ -83,8 +82,8 @@ class_operand-returns-in_default-clause-reads t c =
 pub class_operand-returns-in_default-next-clause-reads : goal.class_operand-returns-in_default-next-clause-reads
 class_operand-returns-in_default-next-clause-reads t c =
     reads_upto class_view c.args.tokens.now (c.in_ok-body.body + 1) c.args.at _ (λ r g. g)
-      (λ s. upto_then (operand_body (c.in_ok-body.ensures.skips s)) (upto_then (operand_any c.in-Some.ensures.names) (tail_plain (any_view c.in-Some.any) _ _ c.next.result c.next.ensures.next c.in_default-next.not-Minus)))
-      c.any_class.ensures.reads
+    (λ s. upto_then (operand_body (c.in_ok-body.ensures.skips s)) (upto_then (operand_any c.in-Some.ensures.names) (tail_plain (any_view c.in-Some.any) _ _ c.next.result c.next.ensures.next c.in_default-next.not-Minus)))
+    c.any_class.ensures.reads
 
 pub class_operand-returns-in_err-except-clause-reads : goal.class_operand-returns-in_err-except-clause-reads
 class_operand-returns-in_err-except-clause-reads t c =

@@ -1,5 +1,5 @@
 -- The declarations that are bound are the module's.
-use Rattle.std.proofs.Common.{◌≡◌, ap, ◌∙◌, map, []}
+use Rattle.std.proofs.Common.{ap, ◌∙◌, map, []}
 use Rattle.rn_syntax.specs.Places.{first, items_places, context_value}
 use Rattle.rn_syntax.specs.View.{declaration_view, items_view}
 use Rattle.rn_syntax.proofs.reader.context_value_place.Goals as goal

@@ -1,6 +1,6 @@
 -- All characters but the first.
-use Rattle.std.proofs.Common.{sym, ap, ◌∙◌, drop, [], ◌≡◌}
-use Rattle.std.specs.Str.{chars, encode_utf8_all}
+use Rattle.std.proofs.Common.{sym, ap, ◌∙◌, drop}
+use Rattle.std.specs.Str.{encode_utf8_all}
 use Rattle.std.proofs.lemmas.Str.{encodes-chars}
 use Rattle.rn_syntax.proofs.terminals.behind_first.Goals as goal
 

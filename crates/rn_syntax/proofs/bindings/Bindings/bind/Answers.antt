@@ -1,5 +1,5 @@
 -- What the last declaration binds comes to what the others bind.
-use Rattle.std.proofs.Common.{◌≡◌, ◌++◌, ◌∷◌, [], map, ap, ◌∙◌, is_some}
+use Rattle.std.proofs.Common.{◌≡◌, ◌++◌, ◌∷◌, [], map, ap, ◌∙◌}
 use Rattle.std.proofs.lemmas.List.{map-append}
 use Rattle.rn_syntax.specs.View.{declaration_view}
 use Rattle.rn_syntax.proofs.Bound.{default_more, namespace_more, library_more, library_step}
