@@ -16,17 +16,23 @@ use Rattle.rn_syntax.specs.Parts.{BehindPrimary, BehindType, BehindDatatype}
 use Rattle.rn_syntax.specs.Reading.{Took, Stuck, Bare, seen, IsNext}
 use Rattle.rn_syntax.proofs.OneClass.{starts_to, minus_stays}
 use Rattle.rn_syntax.proofs.OnePattern.{to_primary, primary_to_follow, core_to_tilde, core_to_brace, follows_core}
-<<<<<<< HEAD
-use Rattle.rn_syntax.proofs.Compose.{Upto, Fits, Can, upto_at, upto_token, upto_then, took_upto, stuck_upto, reads, stuck_in, took_gives, first_alike, alike_token, fits_gives, can_gives}
-=======
 use Rattle.rn_syntax.proofs.Compose.{Upto, Fits, Can, upto_at, upto_token, upto_then, took_upto, stuck_upto, reads, stuck_in, took_gives, first_alike, alike_token}
->>>>>>> 8caa1485e682d957aba51ee6bb3a1a25e2f6f3fa
 use Rattle.rn_syntax.proofs.Next.{first_next}
 
 -- ---- words
 
 abbrev pub Follows : Tokens → Unit {0} → Tokens → Type 0
 Follows = Bare AreFollows
+
+-- a value, where what is read last is all that is left
+pub fits_given : {A C : Type 0} {F G : Tokens → Type 0} (f : A → C) → ((r : Tokens) → G r → F r) → Fits F (λ (a : A). Gives (f a)) G
+fits_given {A = A} {C = C} {F = F} {G = G} f to = record { fits = λ a mid z r d w. same d w }
+  where
+    same : {a : A} {z : C} {mid r : Tokens} → Gives (f a) mid z r → G r → F mid
+    same {r = r} gives w = to r w
+
+pub can_given : {A C : Type 0} (f : A → C) → Can (λ (a : A). Gives (f a))
+can_given f more = (more, λ a. (f a, gives))
 
 -- a step before a token that is read later
 pub upto_seen : {A : Type 0} {V W : Tokens → A → Tokens → Type 0} {G : Tokens → Type 0} {x : Placed} {now next : Tokens} → now ≡ x ∷ next
@@ -67,11 +73,11 @@ postfix_at p s {i = i} e = upto_token e (λ t z r d. to d) (λ t z r d w. from d
 
 pub repeated_took : (p : Pattern) (s : Postfix) {i : ℕ} {now next rest : Tokens} → now ≡ postfix s # i ∷ next → Took Follows (Starts no_follow) next tt rest
     → Took (BehindPrimary p) (Starts behind_operand) now (tree.repeated s p) rest
-repeated_took p s {rest = rest} e h = took_upto (upto_then (postfix_at p s e) (reads (fits_gives (λ u. tree.repeated s p) operand_follow) h)) (took_gives (tree.repeated s p) rest)
+repeated_took p s {rest = rest} e h = took_upto (upto_then (postfix_at p s e) (reads (fits_given (λ u. tree.repeated s p) operand_follow) h)) (took_gives (tree.repeated s p) rest)
 
 pub repeated_stuck : (p : Pattern) (s : Postfix) {i : ℕ} {now next bad : Tokens} → now ≡ postfix s # i ∷ next → Stuck Follows (Starts no_follow) next bad
     → Stuck (BehindPrimary p) (Starts behind_operand) now bad
-repeated_stuck p s e h = stuck_upto (postfix_at p s e) (stuck_in (fits_gives (λ u. tree.repeated s p) operand_follow) (can_gives (λ u. tree.repeated s p)) h)
+repeated_stuck p s e h = stuck_upto (postfix_at p s e) (stuck_in (fits_given (λ u. tree.repeated s p) operand_follow) (can_given (λ u. tree.repeated s p)) h)
 
 not_postfix : (x : code.Terminal) → ((s : Postfix) → x ≡ c.Postfix s → ⊥) → is_postfix (unwrap_or (seen x) other) ≡ false
 not_postfix (c.Postfix s) h = absurd (h s refl)
@@ -160,10 +166,10 @@ module _ (d : Datatype) {now : Tokens} where
 
   pub value_took : {s u : List ℕ} {i : ℕ} {next rest : Tokens} → now ≡ segment s # i ∷ next → Took IsLiteral (Starts no_tilde) now u rest
       → Took (BehindType d) (Starts behind_core) now (tree.value (Some d) u) rest
-  value_took {u = u} {rest = rest} e h = took_upto (upto_then (valued_at e) (reads (fits_gives (λ s. tree.value (Some d) s) core_tilde) h)) (took_gives (tree.value (Some d) u) rest)
+  value_took {u = u} {rest = rest} e h = took_upto (upto_then (valued_at e) (reads (fits_given (λ s. tree.value (Some d) s) core_tilde) h)) (took_gives (tree.value (Some d) u) rest)
 
   pub value_stuck : {s : List ℕ} {i : ℕ} {next bad : Tokens} → now ≡ segment s # i ∷ next → Stuck IsLiteral (Starts no_tilde) now bad → Stuck (BehindType d) (Starts behind_core) now bad
-  value_stuck e h = stuck_upto (valued_at e) (stuck_in (fits_gives (λ s. tree.value (Some d) s) core_tilde) (can_gives (λ s. tree.value (Some d) s)) h)
+  value_stuck e h = stuck_upto (valued_at e) (stuck_in (fits_given (λ s. tree.value (Some d) s) core_tilde) (can_given (λ s. tree.value (Some d) s)) h)
 
   datum_at : is_segment (first now) ≡ false → Upto (BehindType d) (Datum d) (Starts behind_core) now now
   datum_at e = upto_at (λ t z r h. to h) (λ t a z r h w. from (ap is_segment (first_alike a) ∙ e) h)
@@ -176,10 +182,10 @@ module _ (d : Datatype) {now : Tokens} where
       from e (part.valued l) = absurd (false≢true (sym e ∙ literal_begins l))
 
   pub datum_took : {ps : Params} {rest : Tokens} → is_segment (first now) ≡ false → Took MayHaveParams (Starts no_brace) now ps rest → Took (BehindType d) (Starts behind_core) now (tree.datum d ps) rest
-  datum_took {ps = ps} {rest = rest} e h = took_upto (upto_then (datum_at e) (reads (fits_gives (λ ps. tree.datum d ps) core_brace) h)) (took_gives (tree.datum d ps) rest)
+  datum_took {ps = ps} {rest = rest} e h = took_upto (upto_then (datum_at e) (reads (fits_given (λ ps. tree.datum d ps) core_brace) h)) (took_gives (tree.datum d ps) rest)
 
   pub datum_stuck : {bad : Tokens} → is_segment (first now) ≡ false → Stuck MayHaveParams (Starts no_brace) now bad → Stuck (BehindType d) (Starts behind_core) now bad
-  datum_stuck e h = stuck_upto (datum_at e) (stuck_in (fits_gives (λ ps. tree.datum d ps) core_brace) (can_gives (λ ps. tree.datum d ps)) h)
+  datum_stuck e h = stuck_upto (datum_at e) (stuck_in (fits_given (λ ps. tree.datum d ps) core_brace) (can_given (λ ps. tree.datum d ps)) h)
 
 -- ---- behind the datatype of an operand
 
@@ -283,11 +289,11 @@ module _ (d : Datatype) {ts : Tokens} where
 
   pub except_stuck : {ps : Params} {i : ℕ} {now next bad : Tokens} → is_segment (first ts) ≡ false → Took MayHaveParams (Starts no_brace) ts ps now → now ≡ minus # i ∷ next
       → Stuck IsPrimary (Starts behind_primary) next bad → Stuck (BehindDatatype d) (Starts behind_operand) ts bad
-  except_stuck {ps = ps} {i = i} e h m q = stuck_upto (upto_then (params_read e h) (except_at d ps m)) (stuck_in (fits_gives (λ p. tree.datum_but d ps i p) operand_primary) (can_gives (λ p. tree.datum_but d ps i p)) q)
+  except_stuck {ps = ps} {i = i} e h m q = stuck_upto (upto_then (params_read e h) (except_at d ps m)) (stuck_in (fits_given (λ p. tree.datum_but d ps i p) operand_primary) (can_given (λ p. tree.datum_but d ps i p)) q)
 
   pub except_took : {ps : Params} {i : ℕ} {p : Pattern} {now next end : Tokens} → is_segment (first ts) ≡ false → Took MayHaveParams (Starts no_brace) ts ps now → now ≡ minus # i ∷ next
       → Took IsPrimary (Starts behind_primary) next p end → Took (BehindDatatype d) (Starts behind_operand) ts (tree.datum_but d ps i p) end
-  except_took {ps = ps} {i = i} {p = p} {end = end} e h m q = took_upto (upto_then (params_read e h) (upto_then (except_at d ps m) (reads (fits_gives (λ p. tree.datum_but d ps i p) operand_primary) q))) (took_gives (tree.datum_but d ps i p) end)
+  except_took {ps = ps} {i = i} {p = p} {end = end} e h m q = took_upto (upto_then (params_read e h) (upto_then (except_at d ps m) (reads (fits_given (λ p. tree.datum_but d ps i p) operand_primary) q))) (took_gives (tree.datum_but d ps i p) end)
 
 -- the primary, by another name
 pub upto_same : {V : Tokens → Pattern → Tokens → Type 0} {G : Tokens → Type 0} {ts now : Tokens} {p q : Pattern} → p ≡ q → Upto V (BehindPrimary p) G ts now → Upto V (BehindPrimary q) G ts now
