@@ -1,0 +1,42 @@
+-- Overrides of what isn't there, in the instances of a module (RELAX NG 4.7).
+use Rattle.std.specs.Prelude.{◌≡◌, ◌⊎◌, ℕ, zero, suc, ◌<◌, true, List, [], ◌∷◌, ◌++◌, length, Option, Some, None, Contains}
+use Rattle.rn_pattern.specs.Tree.{Text}
+use Rattle.rn_pattern.specs.Order.{text_cmp}
+use Rattle.rn_syntax.specs.Tree as t
+use Rattle.rn_syntax.specs.Tree.{Declaration, Item, Items}
+use Rattle.rn_assemble.specs.declared.components.Lack.{Lack}
+use Rattle.rn_assemble.specs.Components.{Key, Source, handed_on, modules_named, components_within, instance_limit}
+use Rattle.rn_assemble.specs.Expanded.{name_at}
+use Rattle.rn_assemble.specs.Keyed.{key_at}
+use Rattle.rn_assemble.specs.Least.{IsLeast, key_cmp}
+use Rattle.rn_assemble.specs.Refusal.{items_lack}
+
+-- each include of the items: the name that it wants, and the namespace that it hands on
+module _ (inherited : Text) (ds : List Declaration) where
+  abbrev mutual
+    pub item_handed : Item → List (Text × Text)
+    item_handed (t.define x m p) = []
+    item_handed (t.start m p) = []
+    item_handed (t.div xs) = handed xs
+    item_handed (t.include wanted inherit xs) = (wanted, handed_on inherited ds inherit) ∷ handed xs
+
+    pub handed : Items → List (Text × Text)
+    handed t.no_items = []
+    handed (t.item x xs) = item_handed x ++ handed xs
+
+-- the module x under a namespace, or a module that it includes, fewer than depth times one inside the other, is called y and lacks a key that an include of it defines
+abbrev pub LacksWithin : (depth : ℕ) → List Source → (x inherited y : Text) → Key → Type 0
+LacksWithin zero modules x inherited y k = ⊥
+LacksWithin (suc depth) modules x inherited y k = (m : Source) × Contains (modules_named x modules) m
+    × (((x ≡ y) × (items_lack (components_within depth modules) inherited m.tree.declarations m.tree.items k ≡ true))
+    ⊎ ((w : Text × Text) × Contains {X = Text × Text} (handed inherited m.tree.declarations m.tree.items) w × LacksWithin depth modules w.0 w.1 y k))
+
+-- one of the modules of these numbers, under no namespace, or one that it includes, lacks the key
+abbrev pub LacksFrom : List Source → List ℕ → Text → Key → Type 0
+LacksFrom modules numbers y k = (n : ℕ) × Contains numbers n × LacksWithin (suc instance_limit) modules (name_at modules n) [] y k
+
+-- the numbers of the least module of which P holds for some key, and of the least key there, or P holds of none
+abbrev pub IsLeastLack : List Source → List Text → (Text → Key → Type 0) → Option Lack → Type 0
+IsLeastLack modules names P None = (y : Text) (k : Key) → ¬ P y k
+IsLeastLack modules names P (Some l) = (l.«module» < length modules) × (l.key < suc (length names))
+    × IsLeast text_cmp (λ y. (k : Key) × P y k) (name_at modules l.«module») × IsLeast key_cmp (P (name_at modules l.«module»)) (key_at names l.key)
