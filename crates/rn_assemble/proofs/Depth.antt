@@ -56,10 +56,10 @@ sums_agree f g (x ∷ xs) h = omega (arith, sum_by-cons f x xs, sum_by-cons g x 
 
 module _ (modules : List Source) where
   -- what the modules of this name include
-  abbrev wanted : Text → List Text
+  abbrev pub wanted : Text → List Text
   wanted x = flat_map (λ (m : Source). includes m.tree.items) (modules_named x modules)
 
-  few : (depth : ℕ) (x : Text) → instances_within (suc depth) modules x ≤ suc depth → AllByRecursion (λ y. instances_within depth modules y ≤ depth) (wanted x)
+  pub few : (depth : ℕ) (x : Text) → instances_within (suc depth) modules x ≤ suc depth → AllByRecursion (λ y. instances_within depth modules y ≤ depth) (wanted x)
   few depth x h = parts_up_to (instances_within depth modules) depth (wanted x) (omega (arith, h))
 
   same_count : (depth : ℕ) (x : Text) → instances_within depth modules x ≤ depth → instances_within (suc depth) modules x ≡ instances_within depth modules x

@@ -36,11 +36,11 @@ pub map_contained : {X Y : Type 0} (f : X → Y) (xs : List X) (y : Y) → Conta
 map_contained f [] y c = absurd (omega (arith, c.1))
 map_contained f (x ∷ xs) y c = ⊎_elim (λ e. (x, contains_front x xs, e)) (λ k. let r = map_contained f xs y k in (r.0, contains_behind x r.0 xs r.1, r.2)) (contains_cases (f x) y (map f xs) c)
 
-flat_contains : {X Y : Type 0} (f : X → List Y) (xs : List X) (x : X) (y : Y) → Contains xs x → Contains (f x) y → Contains (flat_map f xs) y
+pub flat_contains : {X Y : Type 0} (f : X → List Y) (xs : List X) (x : X) (y : Y) → Contains xs x → Contains (f x) y → Contains (flat_map f xs) y
 flat_contains f [] x y c d = absurd (omega (arith, c.1))
 flat_contains f (z ∷ xs) x y c d = ⊎_elim (λ e. Contains-append_left (f z) (flat_map f xs) y (subst (λ w. Contains (f w) y) (sym e) d)) (λ k. Contains-append_right (f z) (flat_map f xs) y (flat_contains f xs x y k d)) (contains_cases z x xs c)
 
-flat_contained : {X Y : Type 0} (f : X → List Y) (xs : List X) (y : Y) → Contains (flat_map f xs) y → (x : X) × Contains xs x × Contains (f x) y
+pub flat_contained : {X Y : Type 0} (f : X → List Y) (xs : List X) (y : Y) → Contains (flat_map f xs) y → (x : X) × Contains xs x × Contains (f x) y
 flat_contained f [] y c = absurd (omega (arith, c.1))
 flat_contained f (x ∷ xs) y c = ⊎_elim (λ d. (x, contains_front x xs, d)) (λ k. let r = flat_contained f xs y k in (r.0, contains_behind x r.0 xs r.1, r.2)) (Contains-append_cases (f x) (flat_map f xs) y c)
 
