@@ -39,7 +39,7 @@ unfolding IsStrictlySortedBy
 one_entry [] h x v w (i, l, is) d = absurd (omega (arith, l))
 one_entry (e ∷ ds) h x v w c d = one_entry_at e ds x v w h.0 (one_entry ds h.1 x v w) (contains_cases e (x, v) ds c) (contains_cases e (x, w) ds d)
 
-one_fault : (f g : TextFault) → fault_rank f ≡ fault_rank g → f ≡ g
+pub one_fault : (f g : TextFault) → fault_rank f ≡ fault_rank g → f ≡ g
 one_fault encoding encoding e = refl
 one_fault lexical lexical e = refl
 one_fault deep_brackets deep_brackets e = refl

@@ -1,9 +1,18 @@
 // The effective modules of a set, read.
-ghost use Rattle.std.specs.Prelude.{IfErr, IfOk, OnOk};
+ghost use Rattle.std.specs.Prelude.{IfErr, IfOk, List, MatchResult, map};
 ghost use Rattle.std.specs.List.Sorted.{IsStrictlySortedBy};
+ghost use Rattle.std.specs.Str.{IsUtf8, chars};
+ghost use Rattle.std.specs.String.{string_bytes};
+ghost use Rattle.rn_text.specs.Tokens.{HasFault, HasTokens, lexeme_of};
+ghost use Rattle.rn_text.specs.declared.source.Token as source;
 ghost use Rattle.rn_pattern.specs.Order.{text_cmp};
-ghost use Rattle.rn_assemble.specs.Answers.{HasNoConflict, IsOfModules, IsRefusalOf};
-ghost use Rattle.rn_assemble.specs.Views.{module_names};
+ghost use Rattle.rn_pattern.specs.Tree.{Text};
+ghost use Rattle.rn_syntax.specs.Faults.{IsFault};
+ghost use Rattle.rn_syntax.specs.View.{module_view};
+ghost use Rattle.rn_assemble.specs.Reading.{IsFaultOf, IsRead};
+ghost use Rattle.rn_assemble.specs.Refusal.{AreModules};
+ghost use Rattle.rn_assemble.specs.Refused.{IsFirstRefusal};
+ghost use Rattle.rn_assemble.specs.Views.{module_names, sources_view};
 
 use crate::refusal::Refusal;
 use rn_modset::ModuleSet;
@@ -18,12 +27,12 @@ pub(crate) struct Source<'a> {
     pub tree: Module<'a>,
 }
 
-/// The effective modules, in the order of their names, or the refusal of the least name whose module has a fault.
-#[tactic(auto, using(crate::proofs::Refused::refused))]
+/// The effective modules, in the order of their names. Or the first refusal of the set, where that is a conflict or the
+/// first fault of a text: the fault of the least name whose module has one.
 pub(crate) fn sources<'a>(alloc: Global, set: &'a ModuleSet) -> Result<Vec<Source<'a>>, Refusal>
-    ensures ok { OnOk result (HasNoConflict set.now) }
+    ensures ok { IfOk result (λ sources. AreModules set.now (sources_view sources.items)) }
     ensures in_order { IfOk result (λ sources. IsStrictlySortedBy text_cmp (module_names sources.items)) }
-    ensures err { IfErr result (IsRefusalOf set.now) }
+    ensures err { IfErr result (IsFirstRefusal set.now) }
 {
     let effective = set.effective(alloc)?;
     let mut sources = Vec::new(alloc);
@@ -35,9 +44,9 @@ pub(crate) fn sources<'a>(alloc: Global, set: &'a ModuleSet) -> Result<Vec<Sourc
     Ok(sources)
 }
 
-/// The tree of a module's text. Its tokens are given up here.
+/// The tree of a module's text, or the refusal of its first fault. Its tokens are given up here.
 fn read<'a>(alloc: Global, name: &str, text: &'a [u8]) -> Result<Module<'a>, Refusal>
-    ensures { IfErr result IsOfModules }
+    ensures { MatchResult result (λ tree. IsRead text.now (module_view tree)) (IsFaultOf name.now text.now) }
 {
     let tokens = match tokens(alloc, text) {
         Ok(tokens) => tokens,
@@ -51,7 +60,7 @@ fn read<'a>(alloc: Global, name: &str, text: &'a [u8]) -> Result<Module<'a>, Ref
 
 /// The refusal of a module whose text has no tokens.
 fn unreadable(module: String, fault: TextFault) -> Refusal
-    ensures { IsOfModules result }
+    ensures { (text : Text) → HasFault text fault → IsFaultOf (string_bytes «module») text result }
 {
     match fault {
         TextFault::Encoding { at: _ } => Refusal::Encoding { module },
@@ -62,7 +71,8 @@ fn unreadable(module: String, fault: TextFault) -> Refusal
 
 /// The refusal of a module whose tokens are none, or which has a fault.
 fn no_module(module: String, fault: SyntaxFault) -> Refusal
-    ensures { IsOfModules result }
+    ensures { (text : Text) (tokens : List source.Token) → IsUtf8 text → HasTokens (chars text) (map lexeme_of tokens) → IsFault tokens fault
+        → IsFaultOf (string_bytes «module») text result }
 {
     match fault {
         SyntaxFault::Deep { at: _ } => Refusal::Deep { module },
