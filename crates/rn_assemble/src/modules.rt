@@ -1,9 +1,11 @@
 // The effective modules of a set, read.
-ghost use Rattle.std.specs.Prelude.{IfErr, IfOk, OnOk};
+ghost use Rattle.std.specs.Prelude.{IfErr, IfOk};
 ghost use Rattle.std.specs.List.Sorted.{IsStrictlySortedBy};
 ghost use Rattle.rn_pattern.specs.Order.{text_cmp};
-ghost use Rattle.rn_assemble.specs.Answers.{HasNoConflict, IsOfModules, IsRefusalOf};
-ghost use Rattle.rn_assemble.specs.Views.{module_names};
+ghost use Rattle.rn_assemble.specs.Answers.{IsOfModules};
+ghost use Rattle.rn_assemble.specs.Refusal.{AreModules};
+ghost use Rattle.rn_assemble.specs.Refused.{IsFirstRefusal};
+ghost use Rattle.rn_assemble.specs.Views.{module_names, sources_view};
 
 use crate::refusal::Refusal;
 use rn_modset::ModuleSet;
@@ -21,9 +23,9 @@ pub(crate) struct Source<'a> {
 /// The effective modules, in the order of their names, or the refusal of the least name whose module has a fault.
 #[tactic(auto, using(crate::proofs::Refused::refused))]
 pub(crate) fn sources<'a>(alloc: Global, set: &'a ModuleSet) -> Result<Vec<Source<'a>>, Refusal>
-    ensures ok { OnOk result (HasNoConflict set.now) }
+    ensures ok { IfOk result (λ sources. AreModules set.now (sources_view sources.items)) }
     ensures in_order { IfOk result (λ sources. IsStrictlySortedBy text_cmp (module_names sources.items)) }
-    ensures err { IfErr result (IsRefusalOf set.now) }
+    ensures err { IfErr result (IsFirstRefusal set.now) }
 {
     let effective = set.effective(alloc)?;
     let mut sources = Vec::new(alloc);
