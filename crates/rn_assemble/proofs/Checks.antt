@@ -1,10 +1,11 @@
 -- Modules whose includes were followed: their components, and their least override of what isn't there.
-use Rattle.std.proofs.Common.{◌≡◌, ℕ, ◌<◌, List, [], ◌∷◌, length, get_or, map, Option, Some, None, Result, Ok, Err, refl, sym, ap, ◌∙◌, subst, arith, Ordering}
+use Rattle.std.proofs.Common.{◌≡◌, ℕ, ◌<◌, List, [], ◌∷◌, length, get_or, map, Option, Some, None, Result, refl, sym, ap, ◌∙◌, subst, arith, Ordering}
 use Rattle.std.specs.Prelude.{◌↔◌, true, flat_map, MatchResult}
 use Rattle.std.specs.List.{AllByRecursion}
 use Rattle.std.specs.List.Sorted.{IsStrictlySortedBy}
 use Rattle.std.proofs.lemmas.List.{get_or-map, length-map}
 use Rattle.std.proofs.lemmas.List.Folds.{flat_map-map}
+use Rattle.std.proofs.lemmas.Result.{MatchResult-weaker}
 use Rattle.rn_pattern.specs.Tree.{Text}
 use Rattle.rn_pattern.specs.Order.{text_cmp}
 use Rattle.rn_assemble.specs.declared.components.Components.{Components}
@@ -36,10 +37,9 @@ pub source_names : (ms : List code_source.Source) → map (λ (m : Source). m.na
 source_names [] = refl
 source_names (m ∷ ms) = ap (λ (l : List Text). m.name.now ∷ l) (source_names ms)
 
-pub source_name : (ms : List code_source.Source) (i : ℕ) (m : code_source.Source) → i < length ms → m ≡ get_or ms i m → m.name.now ≡ name_at (sources_view ms) i
-source_name ms i m l e =
-    sym (get_or-map (λ (n : Source). n.name) (sources_view ms) i (source_view m) [] (omega (arith, l, length-map ms source_view))
-    ∙ ap (λ (n : Source). n.name) (get_or-map source_view ms i m (source_view m) l ∙ ap source_view (sym e)))
+pub source_name : (ms : List code_source.Source) (i : ℕ) (d : code_source.Source) → i < length ms → (get_or ms i d).name.now ≡ name_at (sources_view ms) i
+source_name ms i d l =
+    sym (get_or-map (λ (n : Source). n.name) (sources_view ms) i (source_view d) [] (omega (arith, l, length-map ms source_view)) ∙ ap (λ (n : Source). n.name) (get_or-map source_view ms i d (source_view d) l))
 
 -- the components of the roots are those of the set
 from_roots : (modules : List Source) (numbers : List ℕ) → AreIncluded modules numbers → flat_map (λ n. components modules (name_at modules n) []) numbers ≡ set_components modules
@@ -82,9 +82,9 @@ module _ (modules : List Source) (names : List Text) (x : Components) (h : AreEx
   pub passed_includes : NoneBelow modules 5
   passed_includes = none_included modules h.numbers h.included
 
-  module _ (no : (y : Text) (k : Key) → ¬ Lacks modules y k) where
+  module _ (never : (y : Text) (k : Key) → ¬ Lacks modules y k) where
     pub passed_overrides : NoneBelow modules 6
-    passed_overrides = none_lacking modules passed_includes no
+    passed_overrides = none_lacking modules passed_includes never
 
     module _ (can : CanCombine (set_components modules)) where
       pub passed_methods : NoneBelow modules 9
@@ -94,11 +94,8 @@ module _ (modules : List Source) (names : List Text) (x : Components) (h : AreEx
         passed_references : NoneBelow modules 11
         passed_references = none_sound modules passed_methods sound
 
-        joined_at : (r : Result code_grammar.Grammar code.Refusal) → MatchResult r (IsJoinedGrammar (set_components modules)) (IsMisnamed (set_components modules)) → MatchResult r (λ g. IsGrammarOf modules (grammar_view g)) (IsFirstOfModules modules)
-        joined_at (Ok g) j = joined_grammar_of modules passed_references g j
-        joined_at (Err q) m = misnamed_first modules passed_references q m
-
         pub joined_or_first : (r : Result code_grammar.Grammar code.Refusal)
             → ((live : List Live) → Lists names x live → IsStrictlySortedBy text_cmp names → has_key start_key (components_in live) ≡ true → MatchResult r (IsJoinedGrammar (components_in live)) (IsMisnamed (components_in live)))
             → MatchResult r (λ g. IsGrammarOf modules (grammar_view g)) (IsFirstOfModules modules)
-        joined_or_first r f = joined_at r (at_set (λ cs. has_key start_key cs ≡ true → MatchResult r (IsJoinedGrammar cs) (IsMisnamed cs)) f can.start)
+        joined_or_first r f =
+            MatchResult-weaker r (at_set (λ cs. has_key start_key cs ≡ true → MatchResult r (IsJoinedGrammar cs) (IsMisnamed cs)) f can.start) (joined_grammar_of modules passed_references) (misnamed_first modules passed_references)

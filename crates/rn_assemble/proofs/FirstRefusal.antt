@@ -32,28 +32,28 @@ module _ (modules : List Source) where
   none_included numbers a q l h = absurd (omega (arith, l))
 
   pub none_lacking : NoneBelow 5 → ((y : Text) (k : Key) → ¬ Lacks modules y k) → NoneBelow 6
-  none_lacking n no (override x k) l h = no x k h.1.holds
-  none_lacking n no q l h = n q (omega (arith, l)) h
+  none_lacking n never (override x k) l h = never x k h.1.holds
+  none_lacking n never q l h = n q (omega (arith, l)) h
 
   none_plain : NoneBelow 6 → ((k : Key) → ¬ IsPlainTwice k (set_components modules)) → NoneBelow 7
-  none_plain n no (plain_twice k) l h = no k h.holds
-  none_plain n no q l h = n q (omega (arith, l)) h
+  none_plain n never (plain_twice k) l h = never k h.holds
+  none_plain n never q l h = n q (omega (arith, l)) h
 
   none_mixed : NoneBelow 7 → ((k : Key) → ¬ IsMixed k (set_components modules)) → NoneBelow 8
-  none_mixed n no (mixed_methods k) l h = no k h.holds
-  none_mixed n no q l h = n q (omega (arith, l)) h
+  none_mixed n never (mixed_methods k) l h = never k h.holds
+  none_mixed n never q l h = n q (omega (arith, l)) h
 
   none_startless : NoneBelow 8 → has_key start_key (set_components modules) ≡ true → NoneBelow 9
   none_startless n e no_start l h = false≢true (sym h ∙ e)
   none_startless n e q l h = n q (omega (arith, l)) h
 
   none_undefined : NoneBelow 9 → ((x : Text) → ¬ IsUndefined (grammar_of modules) x) → NoneBelow 10
-  none_undefined n no (undefined x) l h = no x h.holds
-  none_undefined n no q l h = n q (omega (arith, l)) h
+  none_undefined n never (undefined x) l h = never x h.holds
+  none_undefined n never q l h = n q (omega (arith, l)) h
 
   none_recursive : NoneBelow 10 → ((x : Text) → ¬ IsRecursive (grammar_of modules) x) → NoneBelow 11
-  none_recursive n no (recursive x) l h = no x h.holds
-  none_recursive n no q l h = n q (omega (arith, l)) h
+  none_recursive n never (recursive x) l h = never x h.holds
+  none_recursive n never q l h = n q (omega (arith, l)) h
 
   pub none_combined : NoneBelow 6 → CanCombine (set_components modules) → NoneBelow 9
   none_combined n c = none_startless (none_mixed (none_plain n c.plain_once) c.one_method) c.start

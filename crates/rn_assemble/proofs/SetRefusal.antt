@@ -17,8 +17,8 @@ use Rattle.rn_assemble.proofs.OneSet.{one_effective, one_modules}
 module _ (s : List Member) (modules : List Source) (a : AreModules s modules) where
   stands_back : (q : Refusal) → Stands s q → StandsFor modules q
   stands_back (conflict x v) h = a.effective.agreed x v h.0
-  stands_back (faulty f x) (texts, e, least, inside) = absurd (a.faultless x (subst (λ (ts : List Module). IsFaulty ts x) (one_effective s texts a.texts e a.effective) least.holds))
-  stands_back q (ms, b, h) = subst (λ (l : List Source). StandsFor l q) (one_modules one_tree s ms modules b a) h
+  stands_back (faulty f x) h = absurd (a.faultless x (subst (λ (ts : List Module). IsFaulty ts x) (one_effective s h.0 a.texts h.1 a.effective) h.2.holds))
+  stands_back q h = subst (λ (l : List Source). StandsFor l q) (one_modules one_tree s h.0 modules h.1 a) h.2
 
   first_at : (o : Option Refusal) (A : Type 0) → MatchOption o A (IsFirstFor modules) → MatchOption o A (IsFirst s)
   first_at None A h = h

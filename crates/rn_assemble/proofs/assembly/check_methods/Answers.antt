@@ -1,4 +1,4 @@
-use Rattle.std.proofs.Common.{◌≡◌, ◌+◌, ◌<◌, ◌≤◌, ℕ, suc, List, length, refl, sym, ap, ◌∙◌, subst, arith, Bor, inl, inr}
+use Rattle.std.proofs.Common.{◌≡◌, ◌<◌, ℕ, List, length, sym, ap, ◌∙◌, subst, arith, Bor, inl, inr}
 use Rattle.std.proofs.lemmas.Bool.{false≢true}
 use Rattle.std.proofs.lemmas.Bool.Decides.{eqb_tells}
 use Rattle.std.proofs.lemmas.List.{length-map}
@@ -7,7 +7,6 @@ use Rattle.rn_assemble.specs.Components.{Key}
 use Rattle.rn_assemble.specs.Graph.{rows_of}
 use Rattle.rn_assemble.specs.Least.{IsLeast, key_cmp}
 use Rattle.rn_assemble.specs.Listed.{components_in}
-use Rattle.rn_assemble.specs.Methods.{IsLeastNumber}
 use Rattle.rn_assemble.specs.Views.{names_of}
 use Rattle.rn_assemble.proofs.LeastKeys.{least_key, no_key, plain_has, mixed_has, start_there, no_start}
 use Rattle.rn_assemble.proofs.assembly.check_methods.Goals as goal
