@@ -227,7 +227,7 @@ pub no_excepts : (modules : List Source) → AllByRecursion (λ (m : Source). Is
 no_excepts [] h = tt
 no_excepts (m ∷ ms) h = (h.0.excepts, no_excepts ms h.1)
 
-stands : (s : List Member) (modules : List Source) → AreModules s modules → (q : Refusal) → StandsFor modules q → Stands s q
+pub stands : (s : List Member) (modules : List Source) → AreModules s modules → (q : Refusal) → StandsFor modules q → Stands s q
 stands s modules a (conflict x r) h = absurd h
 stands s modules a (faulty f x) h = absurd h
 stands s modules a q h = (modules, a, h)

@@ -1,23 +1,28 @@
 // Definitions of one key combined (RELAX NG 2001, 4.17).
-ghost use Rattle.std.specs.Prelude.{◌≡◌, ◌+◌, ◌<◌, List, Contains, Decides, false, length, vec_len, IfOk, IfErr};
+ghost use Rattle.std.specs.Prelude.{◌≡◌, ◌+◌, ◌<◌, List, Contains, Decides, true, false, length, vec_len, IfOk, IfErr, MatchResult};
 ghost use Rattle.std.specs.List.Sorted.{IsStrictlySortedBy};
 ghost use Rattle.std.specs.Option.{option_map_or};
 ghost use Rattle.rn_pattern.specs.Order.{text_cmp};
 ghost use Rattle.rn_pattern.specs.Tree.{Text};
 ghost use Rattle.rn_assemble.specs.Combine as spec;
+ghost use Rattle.rn_assemble.specs.Components.{has_key, start_key};
+ghost use Rattle.rn_assemble.specs.Joining.{IsJoinedGrammar, IsMisnamed};
 ghost use Rattle.rn_assemble.specs.Keyed.{key_at};
 ghost use Rattle.rn_assemble.specs.Listed.{Lists, Live, components_in};
 ghost use Rattle.rn_assemble.specs.Methods.{IsLeastNumber, is_method};
 ghost use Rattle.rn_assemble.specs.Answers.{IsOfModules};
+ghost use Rattle.rn_assemble.specs.Views.{names_of};
 
 use crate::components::{Body, Components};
-use crate::keys::Keys;
+use crate::grammar::Grammar;
+use crate::keys::{Keys, START};
 use crate::name_classes::keeps_name_rules;
 use crate::refusal::Refusal;
 use crate::resolution::pattern;
+use indexmap::IndexMap;
 use rn_pattern::Pattern;
 use rn_syntax::Method;
-use std::alloc::Global;
+use std::alloc::{AllocError, Global};
 use std::rc::Rc;
 
 impl<'c, 't, 's> Components<'c, 't, 's> {
@@ -217,4 +222,45 @@ fn resolved(alloc: Global, keys: &Keys<'_>, body: &Body<'_, '_, '_>) -> Result<P
         });
     }
     Ok(pattern)
+}
+
+/// The combined patterns, those of names in the order of each one's first component.
+pub(crate) fn grammar(
+    alloc: Global,
+    keys: &Keys<'_>,
+    components: &Components<'_, '_, '_>,
+) -> Result<Grammar, Refusal>
+    ensures { (live : List Live) → Lists (names_of keys.now) components.now live → IsStrictlySortedBy text_cmp (names_of keys.now) → has_key start_key (components_in live) ≡ true
+        → MatchResult result (IsJoinedGrammar (components_in live)) (IsMisnamed (components_in live)) }
+{
+    let mut patterns = combined(alloc, keys, components)?;
+    let Some(start) = patterns[START].take() else {
+        return Err(Refusal::NoStart);
+    };
+    let mut defs = IndexMap::new(alloc);
+    for first in first_places(alloc, components, keys.len())? {
+        let (_, key) = first;
+        if key < patterns.len()
+            && let Some(pattern) = patterns[key].take()
+        {
+            defs.insert(String::from_str(alloc, keys.name(key))?, pattern)?;
+        }
+    }
+    Ok(Grammar { start, defs })
+}
+
+/// The place of the first component of each defined name, with the name's number, in the order of places.
+fn first_places(
+    alloc: Global,
+    components: &Components<'_, '_, '_>,
+    keys: usize,
+) -> Result<Vec<(usize, usize)>, AllocError> {
+    let mut firsts = Vec::new(alloc);
+    for key in START + 1..keys {
+        if let Some(place) = components.of_key(key).first() {
+            firsts.push((*place, key))?;
+        }
+    }
+    firsts.sort_unstable();
+    Ok(firsts)
 }

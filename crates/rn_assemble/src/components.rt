@@ -7,6 +7,7 @@ ghost use Rattle.rn_syntax.specs.View.{prefix_view};
 ghost use Rattle.rn_assemble.specs.Components as specs;
 ghost use Rattle.rn_assemble.specs.Expanded.{AddsLive, CanAdd, CanExpand, CanInclude, CanList, ContextsHold, Enters, Expands, IsItem, KeepsBodies, KeepsLists, included_in, IsListed, left_by, name_at};
 ghost use Rattle.rn_assemble.specs.Graph.{AllBelow, row, rows_of};
+ghost use Rattle.rn_assemble.specs.Lacking.{IsLeastLack, LacksFrom};
 ghost use Rattle.rn_assemble.specs.Listed.{IsBody, Lists, Live, Rises, resolved_component};
 ghost use Rattle.rn_assemble.specs.Views.{written_view};
 
@@ -58,8 +59,10 @@ pub(crate) fn components_of<'c, 't, 's>(
     roots: &[usize],
     keys: usize,
 ) -> Result<Components<'c, 't, 's>, AllocError>
-    ensures { (modules : List specs.Source) (names : List Text) → CanList modules names contents.now → keys ≡ length names + 1 → AllBelow (length modules) roots.now
+    ensures listed { (modules : List specs.Source) (names : List Text) → CanList modules names contents.now → keys ≡ length names + 1 → AllBelow (length modules) roots.now
         → IfOk result (λ components. IsListed names components (flat_map (λ r. specs.components modules (name_at modules r) []) roots.now)) }
+    ensures lacks { (modules : List specs.Source) (names : List Text) → CanList modules names contents.now → keys ≡ length names + 1 → AllBelow (length modules) roots.now
+        → IfOk result (λ components. IsLeastLack modules names (LacksFrom modules roots.now) components.lack) }
 {
     let mut components = Components::new(alloc, keys)?;
     for root in roots {

@@ -1,15 +1,18 @@
 // Which modules include which, and what stands against it.
-ghost use Rattle.std.specs.Prelude.{◌≡◌, ◌<◌, length, vec_len, IfSome, IfOk, IfErr};
+ghost use Rattle.std.specs.Prelude.{◌≡◌, ◌<◌, length, vec_len, IfSome, IfOk, IfErr, MatchResult};
 ghost use Rattle.std.specs.List.Sorted.{IsStrictlySortedBy};
 ghost use Rattle.rn_pattern.specs.Order.{text_cmp};
 ghost use Rattle.rn_assemble.specs.Answers.{IsOfModules};
 ghost use Rattle.rn_assemble.specs.Contained.{place_in};
 ghost use Rattle.rn_assemble.specs.Graph.{AllBelow, IsGraph, rows_of};
+ghost use Rattle.rn_assemble.specs.Included.{AreIncluded};
+ghost use Rattle.rn_assemble.specs.Refused.{IsFirstOfModules};
 ghost use Rattle.rn_assemble.specs.Views.{module_names, sources_view};
 
 use crate::graph::row_at;
 use crate::instances::instances_up_to;
 use crate::modules::Source;
+use crate::order::least_looped;
 use crate::refusal::Refusal;
 use rn_syntax::includes;
 use std::alloc::{AllocError, Global};
@@ -27,6 +30,24 @@ pub(crate) fn module_named(sources: &[Source<'_>], name: &str) -> Option<usize>
         ensures { result ≡ text_cmp source.now.name.now name.entry.now }
     { source.name.cmp(name) };
     sources.binary_search_by(compare).ok()
+}
+
+/// The modules that no module includes, where no include refuses the set.
+pub(crate) fn included_roots(alloc: Global, sources: &[Source<'_>]) -> Result<Vec<usize>, Refusal>
+    requires { IsStrictlySortedBy text_cmp (module_names sources.now) }
+    ensures { MatchResult result (λ roots. AreIncluded (sources_view sources.now) roots.items) (IsFirstOfModules (sources_view sources.now)) }
+{
+    let rows = inclusions(alloc, sources)?;
+    if let Some(module) = least_looped(alloc, rows.as_slice())? {
+        return Err(Refusal::Cycle {
+            module: String::from_str(alloc, sources[module].name)?,
+        });
+    }
+    let roots = roots(alloc, rows.as_slice())?;
+    if has_too_many_instances(rows.as_slice(), roots.as_slice()) {
+        return Err(Refusal::Instances);
+    }
+    Ok(roots)
 }
 
 /// For each module, the modules that its includes name. `Missing` names the least module with an include of none, and

@@ -1,4 +1,4 @@
-use Rattle.std.proofs.Common.{◌≡◌, ◌+◌, ◌<◌, ◌≤◌, ℕ, suc, List, length, refl, sym, ap, ◌∙◌, subst, arith, Bor, inl, inr}
+use Rattle.std.proofs.Common.{◌≡◌, ◌<◌, ℕ, List, length, sym, ap, ◌∙◌, subst, arith, Bor, inl, inr}
 use Rattle.std.proofs.lemmas.Bool.{false≢true}
 use Rattle.std.proofs.lemmas.Bool.Decides.{eqb_tells}
 use Rattle.std.proofs.lemmas.List.{length-map}
@@ -7,13 +7,12 @@ use Rattle.rn_assemble.specs.Components.{Key}
 use Rattle.rn_assemble.specs.Graph.{rows_of}
 use Rattle.rn_assemble.specs.Least.{IsLeast, key_cmp}
 use Rattle.rn_assemble.specs.Listed.{components_in}
-use Rattle.rn_assemble.specs.Methods.{IsLeastNumber}
 use Rattle.rn_assemble.specs.Views.{names_of}
 use Rattle.rn_assemble.proofs.LeastKeys.{least_key, no_key, plain_has, mixed_has, start_there, no_start}
 use Rattle.rn_assemble.proofs.assembly.check_methods.Goals as goal
 
-pub returns-in-Some-clause-exact : goal.returns-in-Some-clause-exact
-returns-in-Some-clause-exact c = λ live h o.
+pub returns-in-Some : goal.returns-in-Some
+returns-in-Some c = λ live h o.
     let x = c.args.components.now in
     let names = names_of c.args.keys.now in
     let P : Key → Type 0 = λ j. IsPlainTwice j (components_in live) in
@@ -22,8 +21,8 @@ returns-in-Some-clause-exact c = λ live h o.
     let key_is = c.in_ok-key.ensures (omega (arith, least.0, size, c.args.keys.now.names.ok.0)) in
     subst (λ k. IsLeast key_cmp P k) (sym key_is) (least_key names o P (plain_has names x.bodies.items x.list.items (rows_of x.places.items) live h) c.in-Some.key least)
 
-pub returns-in-Some-least_mixed-clause-exact : goal.returns-in-Some-least_mixed-clause-exact
-returns-in-Some-least_mixed-clause-exact c = λ live h o.
+pub returns-in-Some-least_mixed : goal.returns-in-Some-least_mixed
+returns-in-Some-least_mixed c = λ live h o.
     let x = c.args.components.now in
     let names = names_of c.args.keys.now in
     let P : Key → Type 0 = λ j. IsMixed j (components_in live) in
@@ -35,8 +34,8 @@ returns-in-Some-least_mixed-clause-exact c = λ live h o.
       no_key names o (λ j. IsPlainTwice j (components_in live)) (plain_has names x.bodies.items x.list.items (rows_of x.places.items) live h) none,
     )
 
-pub returns-then-is_empty-clause-exact : goal.returns-then-is_empty-clause-exact
-returns-then-is_empty-clause-exact c = λ live h o.
+pub returns-then-is_empty : goal.returns-then-is_empty
+returns-then-is_empty c = λ live h o.
     let x = c.args.components.now in
     let names = names_of c.args.keys.now in
     let size = length-map c.args.keys.now.names.items (λ (b : Bor (List ℕ)). b.now) in
@@ -48,8 +47,8 @@ returns-then-is_empty-clause-exact c = λ live h o.
       no_key names o (λ j. IsMixed j (components_in live)) (mixed_has names x.bodies.items x.list.items (rows_of x.places.items) live h) no_mixed,
     )
 
-pub returns-clause-exact : goal.returns-clause-exact
-returns-clause-exact c = λ live h o.
+pub returns : goal.returns
+returns c = λ live h o.
     let x = c.args.components.now in
     let names = names_of c.args.keys.now in
     let size = length-map c.args.keys.now.names.items (λ (b : Bor (List ℕ)). b.now) in

@@ -1,4 +1,4 @@
-use Rattle.std.proofs.Common.{◌≡◌, ◌+◌, ◌<◌, ℕ, List, length, sym, ap, ◌∙◌, subst, arith, Bor}
+use Rattle.std.proofs.Common.{◌≡◌, ℕ, List, sym, ◌∙◌, subst, arith, Bor}
 use Rattle.std.proofs.lemmas.List.{length-map}
 use Rattle.rn_pattern.specs.Tree.{Text}
 use Rattle.rn_pattern.specs.Order.{text_cmp}
@@ -11,8 +11,8 @@ use Rattle.rn_assemble.specs.Views.{names_of}
 use Rattle.rn_assemble.proofs.Unsound.{name_there}
 use Rattle.rn_assemble.proofs.assembly.check_references.Goals as goal
 
-pub returns-in-Some-clause-exact : goal.returns-in-Some-clause-exact
-returns-in-Some-clause-exact c = λ live h o.
+pub returns-in-Some : goal.returns-in-Some
+returns-in-Some c = λ live h o.
     let names = names_of c.args.keys.now in
     let cs = components_in live in
     let found = c.in_ok-references.ensures.found live h o in
@@ -21,8 +21,8 @@ returns-in-Some-clause-exact c = λ live h o.
     let name : c.name.result.now ≡ least.0 = c.name.ensures least.1.above (omega (arith, least.1.within, size, c.args.keys.now.names.ok.0)) ∙ name_there names least.0 c.in-Some.key least.1 in
     (subst (λ (x : Text). IsLeast text_cmp (IsRecursive (joined_grammar cs)) x) (sym (c.in_ok-from_str.ensures.ok ∙ name)) least.2, found.defined)
 
-pub returns-clause-exact : goal.returns-clause-exact
-returns-clause-exact c = λ live h o.
+pub returns : goal.returns
+returns c = λ live h o.
     let names = names_of c.args.keys.now in
     let cs = components_in live in
     let found = c.in_ok-references.ensures.found live h o in

@@ -1,0 +1,25 @@
+use Rattle.std.proofs.Common.{◌≡◌, ℕ, ◌+◌, List, length, sym, subst, arith, Bor}
+use Rattle.std.specs.List.Sorted.{IsStrictlySortedBy}
+use Rattle.std.proofs.lemmas.List.{length-map}
+use Rattle.rn_pattern.specs.Tree.{Text}
+use Rattle.rn_pattern.specs.Order.{text_cmp}
+use Rattle.rn_assemble.specs.declared.contents.Contents.{Contents}
+use Rattle.rn_assemble.specs.Expanded.{CanList}
+use Rattle.rn_assemble.specs.Included.{AreIncluded}
+use Rattle.rn_assemble.specs.Listed.{AreContents}
+use Rattle.rn_assemble.specs.Views.{names_of, sources_view}
+use Rattle.rn_assemble.proofs.Checks.{expanded, source_names}
+use Rattle.rn_assemble.proofs.assembly.assembled.Goals as goal
+
+pub joined-requires : goal.joined-requires
+joined-requires c =
+    let modules = sources_view c.args.sources.now in
+    let keys = c.in_ok-keys.keys in
+    let names = names_of keys in
+    let order = subst (λ (ns : List Text). IsStrictlySortedBy text_cmp ns) (sym (source_names c.args.sources.now)) c.requires.in_order in
+    let included = subst (λ (ns : List ℕ). AreIncluded modules ns) (sym c.as_slice-2.ensures.value) c.in_ok-roots.ensures in
+    let are = subst (λ (cs : List Contents). AreContents modules names cs) (sym c.as_slice.ensures.value) c.in_ok-contents.ensures in
+    let can : CanList modules names c.as_slice.result.now = record { modules_in_order = order; names_in_order = c.in_ok-keys.ensures.in_order; flat = c.requires.flat; are = are } in
+    let size : c.len.result ≡ length names + 1 = omega (arith, c.len.ensures, length-map keys.names.items (λ (b : Bor (List ℕ)). b.now), keys.names.ok.0) in
+    let found = c.in_ok-components.ensures in
+    expanded modules names c.in_ok-components.components c.as_slice-2.result.now order c.requires.flat included c.in_ok-keys.ensures (found.listed modules names can size included.within) (found.lacks modules names can size included.within)

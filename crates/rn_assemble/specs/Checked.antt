@@ -1,0 +1,34 @@
+-- What is known of modules whose includes were followed, and what is found of their components.
+use Rattle.std.specs.Prelude.{ℕ, ◌≡◌, List, ⊤}
+use Rattle.std.specs.List.Sorted.{IsStrictlySortedBy}
+use Rattle.std.specs.String.{string_bytes}
+use Rattle.rn_pattern.specs.Tree.{Text}
+use Rattle.rn_pattern.specs.Order.{text_cmp}
+use Rattle.rn_pattern.specs.Matching.{Grammar}
+use Rattle.rn_assemble.specs.declared.components.Components.{Components}
+use Rattle.rn_assemble.specs.declared.refusal.Refusal as code
+use Rattle.rn_assemble.specs.declared.refusal.Refusal.TheVariants as r
+use Rattle.rn_assemble.specs.Components.{Source, set_components}
+use Rattle.rn_assemble.specs.Expanded.{IsListed}
+use Rattle.rn_assemble.specs.Included.{AreIncluded}
+use Rattle.rn_assemble.specs.Lacking.{IsLeastLack}
+use Rattle.rn_assemble.specs.Refusal.{Refusal, override, Lacks, StandsFor, grammar_of}
+use Rattle.rn_assemble.specs.Views.{key_view}
+
+-- no include refuses the modules, and these are their components, by the numbers of these names, and their least override of what isn't there
+pub record AreExpanded (modules : List Source) (names : List Text) (x : Components) : Type 0 where
+  pub numbers : List ℕ
+  pub included : AreIncluded modules numbers
+  pub in_order : IsStrictlySortedBy text_cmp names
+  pub listed : IsListed names x (set_components modules)
+  pub lack : IsLeastLack modules names (Lacks modules) x.lack
+
+-- the least override of what isn't there, or want of memory
+abbrev pub IsLacking : List Source → code.Refusal → Type 0
+IsLacking modules (r.Override m k) = StandsFor modules (override (string_bytes m) (key_view k))
+IsLacking modules r.Memory = ⊤
+IsLacking modules _ = ⊥
+
+-- no refusal stands for the modules, and this is their grammar
+abbrev pub IsGrammarOf : List Source → Grammar → Type 0
+IsGrammarOf modules g = ((q : Refusal) → ¬ StandsFor modules q) × (g ≡ grammar_of modules)
