@@ -100,12 +100,12 @@ module _ (modules : List Source) (names : List Text) (contents : List Contents) 
         within = g.within.1;
       }
 
-each_drop : {X : Type 0} (P : X → Type 0) (n : ℕ) (xs : List X) → AllByRecursion P xs → AllByRecursion P (drop n xs)
+pub each_drop : {X : Type 0} (P : X → Type 0) (n : ℕ) (xs : List X) → AllByRecursion P xs → AllByRecursion P (drop n xs)
 each_drop P zero xs h = h
 each_drop P (suc n) [] h = h
 each_drop P (suc n) (x ∷ xs) h = each_drop P n xs h.1
 
-each_take : {X : Type 0} (P : X → Type 0) (n : ℕ) (xs : List X) → AllByRecursion P xs → AllByRecursion P (take n xs)
+pub each_take : {X : Type 0} (P : X → Type 0) (n : ℕ) (xs : List X) → AllByRecursion P xs → AllByRecursion P (take n xs)
 each_take P zero xs h = tt
 each_take P (suc n) [] h = h
 each_take P (suc n) (x ∷ xs) h = (h.0, each_take P n xs h.1)
