@@ -160,6 +160,10 @@ pub if_ok_to : {A E P Q : Type 0} (r : Result A E) → (P → Q) → IfOk r (λ 
 if_ok_to (Ok a) f h = f h
 if_ok_to (Err e) f h = tt
 
+pub if_ok_always : {A E P : Type 0} (r : Result A E) → P → IfOk r (λ _. P)
+if_ok_always (Ok a) p = p
+if_ok_always (Err e) p = tt
+
 -- at the end
 pub finishes : (modules : List Source) (names : List Text) (contents : List Contents) (content : Contents) (live : List Live) (m : Source) (u : Text) (depth first : ℕ) (old now new : Components) (n end : ℕ)
     (g : Going modules names contents content old now live m u depth first n []) → end ≡ length content.components.items

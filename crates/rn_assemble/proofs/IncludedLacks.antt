@@ -1,5 +1,5 @@
 -- The lacks of a module are those that its includes bring.
-use Rattle.std.proofs.Common.{◌≡◌, ◌⊎◌, inl, inr, ⊎_elim, ℕ, zero, suc, ◌+◌, ◌-◌, ◌<◌, ◌≤◌, Bool, true, false, ◌&&◌, ◌||◌, List, [], ◌∷◌, ◌++◌, length, drop, map, Option, Some, None, refl, sym, ap, ◌∙◌, subst, arith, Contains, append-nil}
+use Rattle.std.proofs.Common.{◌≡◌, ◌⊎◌, inl, inr, ⊎_elim, ℕ, zero, suc, ◌+◌, ◌-◌, ◌≤◌, Bool, true, false, ◌&&◌, ◌||◌, List, [], ◌∷◌, ◌++◌, length, drop, map, Option, Some, None, refl, sym, ap, ◌∙◌, subst, arith, Contains}
 use Rattle.std.specs.Prelude.{bytes_eq, not, slice_range}
 use Rattle.std.specs.List.{Any, AllByRecursion, AllZip, list_any}
 use Rattle.std.proofs.Math.Bool.{or-false}
@@ -183,7 +183,7 @@ module_noted depth modules names x u m content old new named flat is h =
     let ws = written m.tree.items in
     let js = inclusions modules 0 m.tree.items in
     let here : Notes (AtNumbers modules names (By ws js)) old new = subst (λ (ks : List Inclusion). Notes (AtNumbers modules names (By ws ks)) old new) is.includes
-        (subst (λ (vs : List Written). Notes (AtNumbers modules names (By vs (map inclusion_view content.includes.items))) old new) is.components h) in
+    (subst (λ (vs : List Written). Notes (AtNumbers modules names (By vs (map inclusion_view content.includes.items))) old new) is.components h) in
     notes_to (AtNumbers modules names (By ws js)) (AtNumbers modules names (LacksWithin (suc depth) modules x u)) old new
     (λ l p. (p.0, p.1, brought_lacks depth modules x u m named flat (name_at modules l.«module») (key_at names l.key) p.2))
     (λ l p. (p.0, p.1, lacks_brought depth modules x u m named flat (name_at modules l.«module») (key_at names l.key) p.2)) here

@@ -1,5 +1,5 @@
 -- The least lack that is held: how it goes on from lack to lack, and what it is in the end.
-use Rattle.std.proofs.Common.{◌≡◌, ◌⊎◌, inl, inr, ⊎_elim, ℕ, suc, ◌<◌, ◌≤◌, List, [], ◌∷◌, ◌++◌, length, map, Option, Some, None, Result, Ok, Err, IfOk, refl, sym, ap, ◌∙◌, subst, arith, Contains, Less}
+use Rattle.std.proofs.Common.{◌≡◌, ◌⊎◌, inl, inr, ⊎_elim, ℕ, suc, ◌<◌, List, [], ◌∷◌, ◌++◌, length, map, Option, Some, None, refl, sym, ap, ◌∙◌, subst, arith, Contains, Less}
 use Rattle.std.specs.List.Sorted.{IsStrictlySortedBy}
 use Rattle.std.proofs.lemmas.List.{length-map}
 use Rattle.std.proofs.lemmas.List.Elements.{Contains-append_left, Contains-push, Contains-push_cases}
@@ -136,7 +136,3 @@ module _ (modules : List Source) (names : List Text) (mo : IsStrictlySortedBy te
     least_lack (Some l) h =
         let at : AtNumbers modules names P l = met (AtNumbers modules names P) l (h.one l refl) in
         (at.0, at.1, least_module l at.0 at.1 at.2 h.least, least_key l at.0 at.1 at.2 h.least)
-
-pub if_ok_always : {A E P : Type 0} (r : Result A E) → P → IfOk r (λ _. P)
-if_ok_always (Ok a) p = p
-if_ok_always (Err e) p = tt

@@ -1,4 +1,4 @@
-use Rattle.std.proofs.Common.{◌≡◌, ◌+◌, ◌-◌, ◌<◌, ◌≤◌, ◌++◌, ◌∷◌, [], ℕ, suc, List, length, get_or, take, drop, map, Option, Some, None, refl, sym, ap, ◌∙◌, subst, arith}
+use Rattle.std.proofs.Common.{◌≡◌, ◌+◌, ◌-◌, ◌<◌, ◌≤◌, ◌++◌, ◌∷◌, [], ℕ, suc, List, length, get_or, take, drop, map, Option, None, refl, sym, ap, ◌∙◌, subst, arith}
 use Rattle.std.specs.Prelude.{slice_range}
 use Rattle.std.specs.List.{AllByRecursion}
 use Rattle.std.proofs.lemmas.List.{drop_more, drop_all, map-append, take_all, take_more}
@@ -18,10 +18,10 @@ use Rattle.rn_assemble.specs.Expanded.{CanExpand, CanInclude, Expands, IsItem, i
 use Rattle.rn_assemble.specs.Noting.{AtNumbers, IncludedLacks, InclusionLacks, IsOwnLack, Notes}
 use Rattle.rn_assemble.specs.Views.{inclusion_view, written_view}
 use Rattle.rn_assemble.proofs.Expansions.{live_below}
-use Rattle.rn_assemble.proofs.Going.{Going, going_none, going_more, finishes, overrides, expands_none, lists_same, contexts_same, zip_size, if_ok_to}
+use Rattle.rn_assemble.proofs.Going.{Going, going_none, going_more, finishes, overrides, expands_none, lists_same, contexts_same, zip_size, if_ok_always, if_ok_to}
 use Rattle.rn_assemble.proofs.IncludedLacks.{module_noted}
 use Rattle.rn_assemble.proofs.ModuleLookups.{module_at, expanded_is}
-use Rattle.rn_assemble.proofs.NotedLacks.{SomeLacks, if_ok_always, notes_none, some_none, some_more}
+use Rattle.rn_assemble.proofs.NotedLacks.{SomeLacks, notes_none, some_none, some_more}
 use Rattle.rn_assemble.proofs.OwnLacks.{include_noted}
 use Rattle.rn_assemble.proofs.components.+expand.Goals as goal
 use Rattle.rn_assemble.proofs.components.+expand.Goals.{expand_include-in-Some+in_ok-expand, expand_include-in_default}
@@ -44,9 +44,10 @@ expand-includes-init t c = record {
       let at = c.in-Some.ensures.lookup.3 in
       let item : IsItem c.args.contents.now c.args.«module» c.in-Some.content.now = record { within = at.0; is = λ d. sym (at.1 d) } in
       let P = InclusionLacks (c.args.depth - 1) modules (name_at modules c.args.«module») c.args.inherited.now m.tree.declarations (map (written_view names) c.in-Some.content.now.components.items) in
-      let kept = c.in_ok-first.ensures.kept in
-      (going_none modules names c.args.contents.now c.in-Some.content.now live m c.args.inherited.now (c.args.depth - 1) c.in_ok-first.first c.args.components.now c.enter.new.self is flat k.lists kept (c.in_ok-first.ensures.entered c.args.contents.now k.contexts item refl),
-      λ w. subst (λ (o : Option Lack). Notes (AtNumbers modules names (SomeLacks P [])) c.args.components.now.lack o) (sym kept.lack) (some_none modules names P c.args.components.now.lack));
+      let kept = c.in_ok-first.ensures.kept in (
+        going_none modules names c.args.contents.now c.in-Some.content.now live m c.args.inherited.now (c.args.depth - 1) c.in_ok-first.first c.args.components.now c.enter.new.self is flat k.lists kept (c.in_ok-first.ensures.entered c.args.contents.now k.contexts item refl),
+        λ w. subst (λ (o : Option Lack). Notes (AtNumbers modules names (SomeLacks P [])) c.args.components.now.lack o) (sym kept.lack) (some_none modules names P c.args.components.now.lack),
+      );
 }
 
 pub expand-includes-preserved : goal.expand-includes-preserved
@@ -73,11 +74,12 @@ expand-includes-preserved t c = record {
       let e = c.in_ok-expand_include.ensures.expands modules names ((live ++ g.adds.added) ++ a.added) ds can one refl in
       let P = InclusionLacks (c.args.depth - 1) modules (name_at modules c.args.«module») u ds (map (written_view names) content.components.items) in
       let more : map inclusion_view (take (i + 1) items) ≡ map inclusion_view (take i items) ++ inclusion_view x ∷ [] = ap (map inclusion_view) (take_more items i none below ∙ ap (λ (q : Include). take i items ++ q ∷ []) at) ∙ map-append inclusion_view (take i items) (x ∷ []) in
-      let now = c.expand_include.new.components in
-      (going_more modules names contents content live m u (c.args.depth - 1) c.in_ok-first.first c.args.components.now c.includes.components c.add.new.self now c.includes.next x (drop (i + 1) items) g a kept e,
-      λ w. subst (λ (js : List Inclusion). Notes (AtNumbers modules names (SomeLacks P js)) c.args.components.now.lack now.lack) (sym more)
-          (some_more modules names P (map inclusion_view (take i items)) (inclusion_view x) c.args.components.now.lack c.includes.components.lack now.lack (h.1 w)
-          (subst (λ (o : Option Lack). Notes (AtNumbers modules names (P (inclusion_view x))) o now.lack) c.in_ok-add.ensures.lack (c.in_ok-expand_include.ensures.lacks modules names ((live ++ g.adds.added) ++ a.added) ds can one refl w))));
+      let now = c.expand_include.new.components in (
+        going_more modules names contents content live m u (c.args.depth - 1) c.in_ok-first.first c.args.components.now c.includes.components c.add.new.self now c.includes.next x (drop (i + 1) items) g a kept e,
+        λ w. subst (λ (js : List Inclusion). Notes (AtNumbers modules names (SomeLacks P js)) c.args.components.now.lack now.lack) (sym more)
+            (some_more modules names P (map inclusion_view (take i items)) (inclusion_view x) c.args.components.now.lack c.includes.components.lack now.lack (h.1 w)
+            (subst (λ (o : Option Lack). Notes (AtNumbers modules names (P (inclusion_view x))) o now.lack) c.in_ok-add.ensures.lack (c.in_ok-expand_include.ensures.lacks modules names ((live ++ g.adds.added) ++ a.added) ds can one refl w))),
+      );
 }
 
 pub expand-returns-clause-expands : goal.expand-returns-clause-expands
@@ -133,20 +135,20 @@ expand_include-returns t c =
     let n = c.note_lacks.ensures in
     let before : length old.list.items ≡ c.len-before.result = sym (c.len-before.ensures ∙ old.list.ok.0) in
     let included : (modules : List specs.Source) (names : List Text) (live : List Live) (ds : List Declaration) → CanExpand modules names contents old live → CanInclude modules names content include ds → c.args.scope.bindings.now ≡ content.bindings
-        → Expands names contents old mid live (included_in c.args.depth modules include.«module» (specs.handed_on u ds (prefix_view include.inherit))) =
+    → Expands names contents old mid live (included_in c.args.depth modules include.«module» (specs.handed_on u ds (prefix_view include.inherit))) =
     λ modules names live ds k i same.
-        let v = specs.handed_on u ds (prefix_view include.inherit) in
-        let binds : BindsAs c.args.scope.bindings.now ds = subst (λ b. BindsAs b ds) (sym same) i.binds in
-        elim c.match-include.branch [
-          | expand_include-in-Some+in_ok-expand w ↦
-              subst (λ (x : Components). Expands names contents old x live (included_in c.args.depth modules include.«module» v)) (sym w.components-is)
-              (subst (λ o. Expands names contents old w.expand.new.components live (included_in c.args.depth modules o v)) (sym w.in-Some.is)
-              (subst (λ (x : Text). Expands names contents old w.expand.new.components live (specs.components_within c.args.depth modules (name_at modules w.in-Some.included) x)) (w.handed_on-inherited.ensures ds binds)
-              (w.in_ok-expand.ensures.expands modules names live k (i.within w.in-Some.included w.in-Some.is))))
-          | expand_include-in_default w ↦
-              subst (λ (x : Components). Expands names contents old x live (included_in c.args.depth modules include.«module» v)) (sym w.components-is)
-              (subst (λ o. Expands names contents old old live (included_in c.args.depth modules o v)) (sym w.in_default.is) (expands_none names contents old live k.lists k.contexts))
-        ] in
+    let v = specs.handed_on u ds (prefix_view include.inherit) in
+    let binds : BindsAs c.args.scope.bindings.now ds = subst (λ b. BindsAs b ds) (sym same) i.binds in
+    elim c.match-include.branch [
+      | expand_include-in-Some+in_ok-expand w ↦
+          subst (λ (x : Components). Expands names contents old x live (included_in c.args.depth modules include.«module» v)) (sym w.components-is)
+          (subst (λ o. Expands names contents old w.expand.new.components live (included_in c.args.depth modules o v)) (sym w.in-Some.is)
+          (subst (λ (x : Text). Expands names contents old w.expand.new.components live (specs.components_within c.args.depth modules (name_at modules w.in-Some.included) x)) (w.handed_on-inherited.ensures ds binds)
+          (w.in_ok-expand.ensures.expands modules names live k (i.within w.in-Some.included w.in-Some.is))))
+      | expand_include-in_default w ↦
+          subst (λ (x : Components). Expands names contents old x live (included_in c.args.depth modules include.«module» v)) (sym w.components-is)
+          (subst (λ o. Expands names contents old old live (included_in c.args.depth modules o v)) (sym w.in_default.is) (expands_none names contents old live k.lists k.contexts))
+    ] in
     record {
       expands = λ modules names live ds k i same.
           let e = included modules names live ds k i same in
