@@ -100,12 +100,12 @@ module _ (modules : List Source) (names : List Text) (contents : List Contents) 
         within = g.within.1;
       }
 
-each_drop : {X : Type 0} (P : X → Type 0) (n : ℕ) (xs : List X) → AllByRecursion P xs → AllByRecursion P (drop n xs)
+pub each_drop : {X : Type 0} (P : X → Type 0) (n : ℕ) (xs : List X) → AllByRecursion P xs → AllByRecursion P (drop n xs)
 each_drop P zero xs h = h
 each_drop P (suc n) [] h = h
 each_drop P (suc n) (x ∷ xs) h = each_drop P n xs h.1
 
-each_take : {X : Type 0} (P : X → Type 0) (n : ℕ) (xs : List X) → AllByRecursion P xs → AllByRecursion P (take n xs)
+pub each_take : {X : Type 0} (P : X → Type 0) (n : ℕ) (xs : List X) → AllByRecursion P xs → AllByRecursion P (take n xs)
 each_take P zero xs h = tt
 each_take P (suc n) [] h = h
 each_take P (suc n) (x ∷ xs) h = (h.0, each_take P n xs h.1)
@@ -159,6 +159,10 @@ zip_size R (x ∷ xs) (c ∷ cs) z = ap suc (zip_size R xs cs z.1)
 pub if_ok_to : {A E P Q : Type 0} (r : Result A E) → (P → Q) → IfOk r (λ _. P) → IfOk r (λ _. Q)
 if_ok_to (Ok a) f h = f h
 if_ok_to (Err e) f h = tt
+
+pub if_ok_always : {A E P : Type 0} (r : Result A E) → P → IfOk r (λ _. P)
+if_ok_always (Ok a) p = p
+if_ok_always (Err e) p = tt
 
 -- at the end
 pub finishes : (modules : List Source) (names : List Text) (contents : List Contents) (content : Contents) (live : List Live) (m : Source) (u : Text) (depth first : ℕ) (old now new : Components) (n end : ℕ)

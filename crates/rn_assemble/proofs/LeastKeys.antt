@@ -33,7 +33,7 @@ numbered names [] h k ne = absurd (ne refl)
 numbered names (e ∷ live) h k ne = numbered_at names k (same_key k e.component.key) e.component (of_key k (components_in live)) e.key h.0.0 h.0.1 refl ne (numbered names live h.1 k)
 
 -- the order of keys is that of their numbers
-less_number : (names : List Text) → IsStrictlySortedBy text_cmp names → (m n : ℕ) → m < suc (length names) → n < suc (length names) → key_cmp (key_at names m) (key_at names n) ≡ Less → m < n
+pub less_number : (names : List Text) → IsStrictlySortedBy text_cmp names → (m n : ℕ) → m < suc (length names) → n < suc (length names) → key_cmp (key_at names m) (key_at names n) ≡ Less → m < n
 less_number names o zero zero l k e = cc
 less_number names o zero (suc n) l k e = omega arith
 less_number names o (suc m) zero l k e = cc
@@ -61,7 +61,7 @@ has_at : (b : Bool) (c : Component) (rest : List Component) (r : Bool) → (0 < 
 has_at true c rest r f l = refl
 has_at false c rest r f l = f l
 
-has_some : (k : Key) (ds : List Component) → 0 < length (of_key k ds) → has_key k ds ≡ true
+pub has_some : (k : Key) (ds : List Component) → 0 < length (of_key k ds) → has_key k ds ≡ true
 has_some k [] l = absurd (omega (arith, l))
 has_some k (c ∷ ds) l = has_at (same_key k c.key) c (of_key k ds) (has_key k ds) (has_some k ds) l
 
@@ -69,7 +69,7 @@ lacks_at : (b : Bool) (c : Component) (rest : List Component) (r : Bool) → (le
 lacks_at true c rest r f l = absurd (omega (arith, l))
 lacks_at false c rest r f l = f l
 
-has_none : (k : Key) (ds : List Component) → length (of_key k ds) ≡ 0 → has_key k ds ≡ false
+pub has_none : (k : Key) (ds : List Component) → length (of_key k ds) ≡ 0 → has_key k ds ≡ false
 has_none k [] l = refl
 has_none k (c ∷ ds) l = lacks_at (same_key k c.key) c (of_key k ds) (has_key k ds) (has_none k ds) l
 

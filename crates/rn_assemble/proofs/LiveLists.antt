@@ -217,10 +217,10 @@ popped items now whole is e =
 
 -- the end of a list is taken off down to a bound
 module _ (before : ℕ) (xs ys : List ℕ) (low : AllByRecursion (λ x. x < before) xs) (high : AllByRecursion (λ y. before ≤ y) ys) where
-  low_at : (k d : ℕ) → k < length xs → get_or (xs ++ ys) k d < before
+  pub low_at : (k d : ℕ) → k < length xs → get_or (xs ++ ys) k d < before
   low_at k d l = subst (λ x. x < before) (sym (get_or_append_left xs ys d k l)) (All-from_recursion (λ x. x < before) xs low k d l)
 
-  high_at : (k d : ℕ) → length xs ≤ k → k < length (xs ++ ys) → before ≤ get_or (xs ++ ys) k d
+  pub high_at : (k d : ℕ) → length xs ≤ k → k < length (xs ++ ys) → before ≤ get_or (xs ++ ys) k d
   high_at k d m l = subst (λ x. before ≤ x) (sym (get_or-append_right xs ys (length xs) k d refl m)) (All-from_recursion (λ y. before ≤ y) ys high (k - length xs) d (omega (arith, m, l, length-append xs ys)))
 
   -- the last is below the bound

@@ -36,7 +36,7 @@ module _ (names : List Text) (o : IsStrictlySortedBy text_cmp names) where
       let less : Less ≡ Equal = sym (Less-from_sorted text_cmp names m n [] o l k) ∙ ap (λ t. text_cmp t (get_or names n [])) e ∙ tied_itself nat_list_cmp_total (get_or names n []) in
       cc
 
-  apart_both : (m n : ℕ) → m ≢ n → m < length names → n < length names → ¬ (get_or names m [] ≡ get_or names n [])
+  pub apart_both : (m n : ℕ) → m ≢ n → m < length names → n < length names → ¬ (get_or names m [] ≡ get_or names n [])
   apart_both m n ne l k = elim (cases_lt m n) [
     | inl h ↦ apart m n h k
     | inr h ↦ λ e. apart n m (omega (arith, h, ne)) l (sym e)
@@ -63,11 +63,10 @@ module _ (names : List Text) (o : IsStrictlySortedBy text_cmp names) where
     abbrev res : List code.Component → List Component
     res cs = map (resolved_component u ds) (map (written_view names) cs)
 
-    same_any : (e : Live) (cs : List code.Component) → e.key < suc (length names) → e.component.key ≡ key_at names e.key → AllByRecursion (IsNumbered names) cs → list_any (λ (c : code.Component). e.key == c.key) cs ≡ has_key e.component.key (res cs)
-    same_any e [] l k h = refl
-    same_any e (c ∷ cs) l k h =
-        let here : (e.key == c.key) ≡ same_key e.component.key (key_at names c.key) = same_number e.key c.key l h.0 ∙ ap (λ j. same_key j (key_at names c.key)) (sym k) in
-        λ i. here i || same_any e cs l k h.1 i
+    -- a number is that of a key of these just where they have its key
+    pub same_any : (n : ℕ) (cs : List code.Component) → n < suc (length names) → AllByRecursion (IsNumbered names) cs → list_any (λ (c : code.Component). n == c.key) cs ≡ has_key (key_at names n) (res cs)
+    same_any n [] l h = refl
+    same_any n (c ∷ cs) l h = let here = same_number n c.key l h.0 in λ i. here i || same_any n cs l h.1 i
 
     kept_at : (b c : Bool) (e : Live) (es : List Live) (xs : List Component) → b ≡ c → components_in es ≡ xs → components_in (cond (not b) (e ∷ es) es) ≡ cond (not c) (e.component ∷ xs) xs
     kept_at true c e es xs h s = s ∙ ap (λ d. cond (not d) (e.component ∷ xs) xs) h
@@ -78,4 +77,4 @@ module _ (names : List Text) (o : IsStrictlySortedBy text_cmp names) where
     left_is bodies list cs n [] h = refl
     left_is bodies list cs n (e ∷ es) h =
         kept_at (list_any (λ (c : code.Component). e.key == c.key) cs) (has_key e.component.key (res cs)) e (left_by cs es) (overridden (components_in es) (res cs))
-        (same_any e cs (numbered_live names bodies list e h.0) (key_of_live bodies list e h.0) n) (left_is bodies list cs n es h.1)
+        (same_any e.key cs (numbered_live names bodies list e h.0) n ∙ ap (λ j. has_key j (res cs)) (sym (key_of_live bodies list e h.0))) (left_is bodies list cs n es h.1)

@@ -14,11 +14,11 @@ abbrev pub Ordered : ℕ → ℕ → List Inclusion → Type 0
 Ordered end n [] = n ≤ end
 Ordered end n (i ∷ is) = (n ≤ i.first) × (i.first ≤ i.end) × (i.end ≤ end) × Ordered end i.first is
 
-no_includes_front : (xs ys : List Text) → xs ++ ys ≡ [] → xs ≡ []
+pub no_includes_front : (xs ys : List Text) → xs ++ ys ≡ [] → xs ≡ []
 no_includes_front [] ys e = refl
 no_includes_front (x ∷ xs) ys e = cc
 
-no_includes_behind : (xs ys : List Text) → xs ++ ys ≡ [] → ys ≡ []
+pub no_includes_behind : (xs ys : List Text) → xs ++ ys ≡ [] → ys ≡ []
 no_includes_behind [] ys e = e
 no_includes_behind (x ∷ xs) ys e = cc
 
@@ -50,6 +50,19 @@ same_front xs ys us vs e l = sym (take_at xs ys (length us) l) ∙ ap (take (len
 same_behind : {X : Type 0} (xs ys us vs : List X) → xs ++ ys ≡ us ++ vs → length xs ≡ length us → ys ≡ vs
 same_behind xs ys us vs e l = sym (drop_at xs ys (length us) l) ∙ ap (drop (length us)) e ∙ drop_at us vs (length us) refl
 
+-- the two parts of a range, and the range of the whole list
+pub range_parts : {X : Type 0} (ws xs ys : List X) (n : ℕ) → n + length (xs ++ ys) ≤ length ws → slice_range ws n (n + length (xs ++ ys)) ≡ xs ++ ys → (slice_range ws n (n + length xs) ≡ xs) × (slice_range ws (n + length xs) (n + length xs + length ys) ≡ ys)
+range_parts ws xs ys n l e =
+    let m = n + length xs in
+    let size = length-append xs ys in
+    let end : n + length (xs ++ ys) ≡ m + length ys = omega (arith, size) in
+    let both : slice_range ws n m ++ slice_range ws m (m + length ys) ≡ xs ++ ys = sym (range_both ws n m (m + length ys) (omega arith) (omega arith)) ∙ ap (slice_range ws n) (sym end) ∙ e in
+    let len : length (slice_range ws n m) ≡ length xs = range_size ws n m (omega (arith, l, size)) ∙ omega arith in
+    (same_front _ _ xs ys both len, same_behind _ _ xs ys both len)
+
+pub whole_range : {X : Type 0} (ws : List X) → slice_range ws 0 (0 + length ws) ≡ ws
+whole_range ws = let n : 0 + length ws ≡ length ws = omega arith in ap (slice_range ws 0) n ∙ take_rest ws 0
+
 module _ (at : Option ℕ → Text → List Component) (u : Text) (ds : List Declaration) where
   -- what is left from a place on
   abbrev pub spliced : List Written → List Inclusion → ℕ → List Component
@@ -65,7 +78,7 @@ module _ (modules : List Source) where
     item_none n (t.div xs) e = items_none n xs e
     item_none n (t.include w h xs) e = cc
 
-    items_none : (n : ℕ) (xs : Items) → includes xs ≡ [] → inclusions modules n xs ≡ []
+    pub items_none : (n : ℕ) (xs : Items) → includes xs ≡ [] → inclusions modules n xs ≡ []
     items_none n t.no_items e = refl
     items_none n (t.item x xs) e =
         let first = item_none n x (no_includes_front (item_includes x) (includes xs) e) in
@@ -117,7 +130,7 @@ module _ (modules : List Source) where
       item_plain (t.div xs) e = items_plain xs e
       item_plain (t.include w h xs) e = cc
 
-      items_plain : (xs : Items) → includes xs ≡ [] → all_components f u ds xs ≡ res (written xs)
+      pub items_plain : (xs : Items) → includes xs ≡ [] → all_components f u ds xs ≡ res (written xs)
       items_plain t.no_items e = refl
       items_plain (t.item x xs) e =
           let first = item_plain x (no_includes_front (item_includes x) (includes xs) e) in
@@ -149,11 +162,10 @@ module _ (modules : List Source) where
           let m = n + length (item_written x) in
           let size = length-append (item_written x) (written xs) in
           let end : n + length (item_written x ++ written xs) ≡ m + length (written xs) = omega (arith, size) in
-          let both : slice_range ws n m ++ slice_range ws m (m + length (written xs)) ≡ item_written x ++ written xs = sym (range_both ws n m (m + length (written xs)) (omega arith) (omega arith)) ∙ ap (slice_range ws n) (sym end) ∙ e in
-          let len : length (slice_range ws n m) ≡ length (item_written x) = range_size ws n m (omega (arith, l, size)) ∙ omega arith in
+          let parts = range_parts ws (item_written x) (written xs) n l e in
           let ordered = subst (λ k. Ordered (length ws) k js) end o in
-          let first = item_spliced ws x (inclusions modules m xs ++ js) n fl.0 (omega (arith, l, size)) (same_front _ _ (item_written x) (written xs) both len) (items_ordered (length ws) m xs js fl.1 (omega (arith, l, size)) ordered) in
-          let rest = items_spliced ws xs js m fl.1 (omega (arith, l, size)) (same_behind _ _ (item_written x) (written xs) both len) ordered in
+          let first = item_spliced ws x (inclusions modules m xs ++ js) n fl.0 (omega (arith, l, size)) parts.0 (items_ordered (length ws) m xs js fl.1 (omega (arith, l, size)) ordered) in
+          let rest = items_spliced ws xs js m fl.1 (omega (arith, l, size)) parts.1 ordered in
           ap (λ is. spliced at u ds ws is n) (append_assoc (item_inclusions modules n x) (inclusions modules m xs) js) ∙ first ∙ ap (λ r. item_components f u ds x ++ r) (rest ∙ ap (λ k. all_components f u ds xs ++ spliced at u ds ws js k) (sym end))
           ∙ sym (append_assoc (item_components f u ds x) (all_components f u ds xs) (spliced at u ds ws js (n + length (item_written x ++ written xs))))
 
@@ -162,7 +174,6 @@ module _ (modules : List Source) where
     spliced_is xs fl =
         let ws = written xs in
         let n : 0 + length ws ≡ length ws = omega arith in
-        let whole : slice_range ws 0 (0 + length ws) ≡ ws = ap (slice_range ws 0) n ∙ take_rest ws 0 in
         let none : spliced at u ds ws [] (0 + length ws) ≡ [] = ap (λ k. spliced at u ds ws [] k) n ∙ ap res (nothing ws (length ws)) in
-        ap (λ is. spliced at u ds ws is 0) (sym (append-nil (inclusions modules 0 xs))) ∙ items_spliced ws xs [] 0 fl (omega arith) whole (omega arith)
+        ap (λ is. spliced at u ds ws is 0) (sym (append-nil (inclusions modules 0 xs))) ∙ items_spliced ws xs [] 0 fl (omega arith) (whole_range ws) (omega arith)
         ∙ ap (λ r. all_components f u ds xs ++ r) none ∙ append-nil (all_components f u ds xs)

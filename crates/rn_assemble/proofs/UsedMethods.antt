@@ -41,11 +41,11 @@ body_there names bodies list rows live e n h c en eb =
     let same : s.number ≡ n = let q : Some s.number ≡ Some n = sym s.at ∙ en in cc in
     let q : Some s.body ≡ None = sym s.is ∙ ap (slice_get bodies) same ∙ eb in cc
 
-kept_contains_at : (b : Bool) (x y : Live) (xs : List Live) (ys : List Live) → Contains (cond b (x ∷ ys) ys) y → (Contains ys y → Contains xs y) → Contains (x ∷ xs) y
+kept_contains_at : {X : Type 0} (b : Bool) (x y : X) (xs ys : List X) → Contains (cond b (x ∷ ys) ys) y → (Contains ys y → Contains xs y) → Contains (x ∷ xs) y
 kept_contains_at true x y xs ys c f = elim (contains_cases x y ys c) [ inl e ↦ subst (λ z. Contains (x ∷ xs) z) e (contains_front x xs) | inr k ↦ contains_behind x y xs (f k) ]
 kept_contains_at false x y xs ys c f = contains_behind x y xs (f c)
 
-kept_contains : (p : Live → Bool) (xs : List Live) (y : Live) → Contains (filter p xs) y → Contains xs y
+pub kept_contains : {X : Type 0} (p : X → Bool) (xs : List X) (y : X) → Contains (filter p xs) y → Contains xs y
 kept_contains p [] y c = c
 kept_contains p (x ∷ xs) y c = kept_contains_at (p x) x y xs (filter p xs) c (kept_contains p xs y)
 

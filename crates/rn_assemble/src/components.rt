@@ -1,15 +1,19 @@
 // The components of a set: includes replaced by what they include, without what they override.
-ghost use Rattle.std.specs.Prelude.{◌≡◌, ℕ, ◌+◌, ◌<◌, ◌≤◌, ◌==◌, not, List, [], ◌∷◌, ◌++◌, map, flat_map, filter, length, vec_len, slice_get, slice_index_or, slice_range, Contains, IfOk, IfSome, option_copied};
+ghost use Rattle.std.specs.Prelude.{◌≡◌, ℕ, suc, ◌+◌, ◌<◌, ◌≤◌, ◌==◌, not, List, [], ◌∷◌, ◌++◌, map, flat_map, filter, length, vec_len, slice_get, slice_index_or, slice_range, Contains, IfOk, IfSome, option_copied};
 ghost use Rattle.std.specs.List.{AllByRecursion};
+ghost use Rattle.std.specs.List.Sorted.{IsStrictlySortedBy};
+ghost use Rattle.rn_pattern.specs.Order.{text_cmp};
 ghost use Rattle.rn_pattern.specs.Tree.{Text};
 ghost use Rattle.rn_syntax.specs.Tree.{Declaration};
 ghost use Rattle.rn_syntax.specs.View.{prefix_view};
 ghost use Rattle.rn_assemble.specs.Components as specs;
 ghost use Rattle.rn_assemble.specs.Expanded.{AddsLive, CanAdd, CanExpand, CanInclude, CanList, ContextsHold, Enters, Expands, IsItem, KeepsBodies, KeepsLists, included_in, IsListed, left_by, name_at};
 ghost use Rattle.rn_assemble.specs.Graph.{AllBelow, row, rows_of};
-ghost use Rattle.rn_assemble.specs.Lacking.{IsLeastLack, LacksFrom};
-ghost use Rattle.rn_assemble.specs.Listed.{IsBody, Lists, Live, Rises, resolved_component};
-ghost use Rattle.rn_assemble.specs.Views.{written_view};
+ghost use Rattle.rn_assemble.specs.Keyed.{key_at};
+ghost use Rattle.rn_assemble.specs.Lacking.{IsLeastLack, LacksFrom, LacksWithin};
+ghost use Rattle.rn_assemble.specs.Listed.{IsBody, Lists, Live, Rises, components_in, resolved_component};
+ghost use Rattle.rn_assemble.specs.Noting.{AtNumbers, InclusionLacks, IsOwnLack, Notes};
+ghost use Rattle.rn_assemble.specs.Views.{IsNumbered, inclusion_view, written_view};
 
 use crate::bindings::Scope;
 use crate::contents::{Component, Contents, Include};
@@ -80,8 +84,10 @@ fn expand<'c, 't, 's>(
     inherited: &'t str,
     depth: usize,
 ) -> Result<(), AllocError>
-    ensures { (modules : List specs.Source) (names : List Text) (live : List Live) → CanExpand modules names contents.now components.old live → «module» < length modules
+    ensures expands { (modules : List specs.Source) (names : List Text) (live : List Live) → CanExpand modules names contents.now components.old live → «module» < length modules
         → IfOk result (λ _. Expands names contents.now components.old components.new live (specs.components_within depth modules (name_at modules «module») inherited.now)) }
+    ensures lacks { (modules : List specs.Source) (names : List Text) (live : List Live) → CanExpand modules names contents.now components.old live → «module» < length modules
+        → IfOk result (λ _. Notes (AtNumbers modules names (LacksWithin depth modules (name_at modules «module») inherited.now)) components.old.lack components.new.lack) }
 {
     if depth == 0 {
         return Ok(());
@@ -122,11 +128,15 @@ fn expand_include<'c, 't, 's>(
     include: &Include<'t>,
     depth: usize,
 ) -> Result<(), AllocError>
-    ensures { (modules : List specs.Source) (names : List Text) (live : List Live) (ds : List Declaration) → CanExpand modules names contents.now components.old live → CanInclude modules names content.now include.now ds
+    ensures expands { (modules : List specs.Source) (names : List Text) (live : List Live) (ds : List Declaration) → CanExpand modules names contents.now components.old live → CanInclude modules names content.now include.now ds
         → scope.entry.bindings.now ≡ content.now.bindings
         → IfOk result (λ _. Expands names contents.now components.old components.new live (specs.overridden
         (included_in depth modules include.now.«module» (specs.handed_on scope.entry.inherited.now ds (prefix_view include.now.inherit)))
         (map (resolved_component scope.entry.inherited.now ds) (slice_range (map (written_view names) content.now.components.items) include.now.from include.now.to)))) }
+    ensures lacks { (modules : List specs.Source) (names : List Text) (live : List Live) (ds : List Declaration) → CanExpand modules names contents.now components.old live → CanInclude modules names content.now include.now ds
+        → scope.entry.bindings.now ≡ content.now.bindings → «module» < length modules
+        → IfOk result (λ _. Notes (AtNumbers modules names (InclusionLacks depth modules (name_at modules «module») scope.entry.inherited.now ds (map (written_view names) content.now.components.items) (inclusion_view include.now)))
+        components.old.lack components.new.lack) }
 {
     let before = components.list.len();
     if let Some(included) = include.module {
@@ -143,6 +153,7 @@ impl<'c, 't, 's> Components<'c, 't, 's> {
     fn new(alloc: Global, keys: usize) -> Result<Components<'c, 't, 's>, AllocError>
         ensures contexts { IfOk result (λ components. components.contexts.items ≡ []) }
         ensures lists { (names : List Text) → keys ≡ length names + 1 → IfOk result (λ components. Lists names components []) }
+        ensures lack { IfOk result (λ components. components.lack ≡ None) }
     {
         let mut places = Vec::new(alloc);
         for _ in 0..keys {
@@ -221,6 +232,7 @@ impl<'c, 't, 's> Components<'c, 't, 's> {
         to: usize,
     ) -> Result<(), AllocError>
         ensures kept { KeepsBodies self.old self.new }
+        ensures lack { self.new.lack ≡ self.old.lack }
         ensures added { (names : List Text) (live : List Live) (inherited : Text) (ds : List Declaration) → CanAdd names self.old live content.now first inherited ds from to
             → IfOk result (λ _. AddsLive names self.old self.new live (map (resolved_component inherited ds) (slice_range (map (written_view names) content.now.components.items) from to))) }
     {
@@ -239,6 +251,7 @@ impl<'c, 't, 's> Components<'c, 't, 's> {
     /// Adds the component of a key with this body.
     fn place(&mut self, key: usize, body: usize) -> Result<(), AllocError>
         ensures kept { KeepsBodies self.old self.new }
+        ensures lack { self.new.lack ≡ self.old.lack }
         ensures placed { (names : List Text) (live : List Live) (c : specs.Component) → Lists names self.old live → body < length self.old.bodies.items
             → ((d : Body) → IsBody names (slice_index_or self.old.bodies.items body d) key c)
             → IfOk result (λ _. Lists names self.new (live ++ record { place = length self.old.list.items; key = key; component = c } ∷ [])) }
@@ -263,6 +276,9 @@ impl<'c, 't, 's> Components<'c, 't, 's> {
         ensures kept { KeepsBodies self.old self.new }
         ensures list { self.new.list ≡ self.old.list }
         ensures places { self.new.places ≡ self.old.places }
+        ensures noted { (names : List Text) (live added : List Live) → Lists names self.old (live ++ added) → IsStrictlySortedBy text_cmp names → AllByRecursion (λ (e : Live). e.place < before) live → Rises before added
+            → AllByRecursion (IsNumbered names) content.now.components.items → include.now.from ≤ include.now.to → include.now.to ≤ length content.now.components.items
+            → Notes (IsOwnLack names «module» (slice_range content.now.components.items include.now.from include.now.to) (components_in added)) self.old.lack self.new.lack }
     {
         for number in include.from..include.to {
             if let Some(component) = content.components.get(number) {
@@ -278,6 +294,7 @@ impl<'c, 't, 's> Components<'c, 't, 's> {
     fn take_out(&mut self, before: usize, content: &Contents<'t, 's>, include: &Include<'t>)
         ensures kept { KeepsBodies self.old self.new }
         ensures list { self.new.list ≡ self.old.list }
+        ensures lack { self.new.lack ≡ self.old.lack }
         ensures taken { (names : List Text) (live added : List Live) → Lists names self.old (live ++ added) → AllByRecursion (λ (e : Live). e.place < before) live → Rises before added
             → include.now.from ≤ include.now.to → include.now.to ≤ length content.now.components.items
             → Lists names self.new (live ++ left_by (slice_range content.now.components.items include.now.from include.now.to) added) }
@@ -300,7 +317,10 @@ impl<'c, 't, 's> Components<'c, 't, 's> {
     }
 
     /// Whether a component of the key was added since a place.
-    fn has_since(&self, before: usize, key: usize) -> bool {
+    fn has_since(&self, before: usize, key: usize) -> bool
+        ensures { (names : List Text) (live added : List Live) → Lists names self.now (live ++ added) → IsStrictlySortedBy text_cmp names → AllByRecursion (λ (e : Live). e.place < before) live → Rises before added
+            → key < suc (length names) → result ≡ specs.has_key (key_at names key) (components_in added) }
+    {
         match self.of_key(key).last() {
             Some(place) => before <= *place,
             None => false,
@@ -311,6 +331,7 @@ impl<'c, 't, 's> Components<'c, 't, 's> {
     fn take_out_since(&mut self, before: usize, key: usize)
         ensures kept { KeepsBodies self.old self.new }
         ensures list { self.new.list ≡ self.old.list }
+        ensures lack { self.new.lack ≡ self.old.lack }
         ensures taken { (names : List Text) (live added : List Live) → Lists names self.old (live ++ added) → AllByRecursion (λ (e : Live). e.place < before) live → Rises before added
             → Lists names self.new (live ++ filter (λ (e : Live). not (e.key == key)) added) }
     {
@@ -345,6 +366,7 @@ impl<'c, 't, 's> Components<'c, 't, 's> {
         ensures kept { KeepsBodies self.old self.new }
         ensures list { self.new.list ≡ self.old.list }
         ensures places { self.new.places ≡ self.old.places }
+        ensures noted { Notes (λ l. l ≡ lack) self.old.lack self.new.lack }
     {
         match &self.lack {
             Some(held) if *held <= lack => {}

@@ -1,14 +1,18 @@
-use Rattle.std.proofs.Common.{◌≡◌, ◌+◌, List, [], length, take}
+use Rattle.std.proofs.Common.{◌≡◌, ◌+◌, List, [], None, length, take}
 use Rattle.std.specs.Prelude.{flat_map}
 use Rattle.rn_pattern.specs.Tree.{Text}
 use Rattle.rn_assemble.specs.Components.{Source, components}
 use Rattle.rn_assemble.specs.Expanded.{CanList, ContextsHold, name_at}
 use Rattle.rn_assemble.specs.Graph.{AllBelow}
+use Rattle.rn_assemble.specs.Lacking.{LacksFrom}
 use Rattle.rn_assemble.specs.Listed.{Live, Lists, components_in}
+use Rattle.rn_assemble.specs.Noting.{AtNumbers, Notes}
 use Rattle.rn_assemble.proofs.components.components_of.Given as goal
 
 abbrev pub invariant-loop-root : goal.invariant-loop-root
 invariant-loop-root l = record {
   listed : (modules : List Source) (names : List Text) → CanList modules names l.contents → l.keys ≡ length names + 1 → AllBelow (length modules) l.roots
       → (live : List Live) × Lists names l.components live × ContextsHold l.contents l.components × (components_in live ≡ flat_map (λ r. components modules (name_at modules r) []) (take l.root-index l.roots));
+  lacks : (modules : List Source) (names : List Text) → CanList modules names l.contents → l.keys ≡ length names + 1 → AllBelow (length modules) l.roots
+      → Notes (AtNumbers modules names (LacksFrom modules (take l.root-index l.roots))) None l.components.lack;
 }

@@ -15,6 +15,7 @@ loop-number-preserved c =
     let cs = c.args.content.now.components.items in
     record {
       kept = record { contexts = c.in_ok-place.ensures.kept.contexts ∙ i.kept.contexts; bodies = c.in_ok-place.ensures.kept.bodies ∙ i.kept.bodies };
+      lack = c.in_ok-place.ensures.lack ∙ i.lack;
       added = λ names live u ds k.
           let h = i.added names live u ds k in
           let n = c.loop-number.number in

@@ -1,4 +1,4 @@
-use Rattle.std.proofs.Common.{List, map}
+use Rattle.std.proofs.Common.{◌≡◌, List, map}
 use Rattle.std.specs.Prelude.{slice_range}
 use Rattle.rn_pattern.specs.Tree.{Text}
 use Rattle.rn_syntax.specs.Tree.{Declaration}
@@ -10,6 +10,7 @@ use Rattle.rn_assemble.proofs.components.Components.add.Given as goal
 abbrev pub invariant-loop-number : goal.invariant-loop-number
 invariant-loop-number l = record {
   kept : KeepsBodies l.fn.self l.self;
+  lack : l.self.lack ≡ l.fn.self.lack;
   added : (names : List Text) (live : List Live) (inherited : Text) (ds : List Declaration) → CanAdd names l.fn.self live l.content l.first inherited ds l.from l.to
       → AddsLive names l.fn.self l.self live (map (resolved_component inherited ds) (slice_range (map (written_view names) l.content.components.items) l.from l.number));
 }

@@ -1,5 +1,13 @@
-use Rattle.std.proofs.Common.{◌≡◌}
+use Rattle.std.proofs.Common.{◌≡◌, ◌<◌, ◌≤◌, ◌++◌, List, length}
+use Rattle.std.specs.Prelude.{slice_range}
+use Rattle.std.specs.List.{AllByRecursion}
+use Rattle.std.specs.List.Sorted.{IsStrictlySortedBy}
+use Rattle.rn_pattern.specs.Order.{text_cmp}
+use Rattle.rn_pattern.specs.Tree.{Text}
 use Rattle.rn_assemble.specs.Expanded.{KeepsBodies}
+use Rattle.rn_assemble.specs.Listed.{Lists, Live, Rises, components_in}
+use Rattle.rn_assemble.specs.Noting.{IsOwnLack, Notes}
+use Rattle.rn_assemble.specs.Views.{IsNumbered}
 use Rattle.rn_assemble.proofs.components.Components.note_lacks.Given as goal
 
 abbrev pub invariant-loop-number : goal.invariant-loop-number
@@ -7,4 +15,7 @@ invariant-loop-number l = record {
   kept : KeepsBodies l.fn.self l.self;
   list : l.self.list ≡ l.fn.self.list;
   places : l.self.places ≡ l.fn.self.places;
+  noted : (names : List Text) (live added : List Live) → Lists names l.fn.self (live ++ added) → IsStrictlySortedBy text_cmp names → AllByRecursion (λ (e : Live). e.place < l.before) live → Rises l.before added
+      → AllByRecursion (IsNumbered names) l.content.components.items → l.include.from ≤ l.include.to → l.include.to ≤ length l.content.components.items
+      → Notes (IsOwnLack names l.«module» (slice_range l.content.components.items l.include.from l.number) (components_in added)) l.fn.self.lack l.self.lack;
 }

@@ -13,6 +13,7 @@ pub loop-number-init : goal.loop-number-init
 loop-number-init c = record {
   kept = record { contexts = refl; bodies = refl };
   list = refl;
+  lack = refl;
   taken = λ names live added h low high o w. subst (λ (es : List Live). Lists names c.args.self.now (live ++ es)) (sym (ap (λ own. left_by own added) (range_none c.args.content.now.components.items c.args.include.now.from) ∙ left_none added)) h;
 }
 
@@ -27,6 +28,7 @@ loop-number-preserved c =
           record {
             kept = record { contexts = ap (λ (x : Components). x.contexts) w.self-is ∙ w.take_out_since.ensures.kept.contexts ∙ i.kept.contexts; bodies = ap (λ (x : Components). x.bodies) w.self-is ∙ w.take_out_since.ensures.kept.bodies ∙ i.kept.bodies };
             list = ap (λ (x : Components). x.list) w.self-is ∙ w.take_out_since.ensures.list ∙ i.list;
+            lack = ap (λ (x : Components). x.lack) w.self-is ∙ w.take_out_since.ensures.lack ∙ i.lack;
             taken = λ names live added h low high o m.
                 let before = i.taken names live added h low high o m in
                 subst (λ (x : Components). Lists names x (live ++ left_by (slice_range cs c.args.include.now.from (c.loop-number.number + 1)) added)) (sym w.self-is)
@@ -36,6 +38,7 @@ loop-number-preserved c =
       | in_default w ↦ record {
         kept = record { contexts = ap (λ (x : Components). x.contexts) w.self-is ∙ i.kept.contexts; bodies = ap (λ (x : Components). x.bodies) w.self-is ∙ i.kept.bodies };
         list = ap (λ (x : Components). x.list) w.self-is ∙ i.list;
+        lack = ap (λ (x : Components). x.lack) w.self-is ∙ i.lack;
         taken = λ names live added h low high o m. absurd (let past : length cs ≤ c.loop-number.number = subst (λ (l : List Component). length l ≤ c.loop-number.number) c.deref.ensures.value w.in_default.ensures.lookup.3 in omega (arith, m, past, c.loop-number-test.true));
       }
     ]

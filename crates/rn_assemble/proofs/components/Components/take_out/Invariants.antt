@@ -10,6 +10,7 @@ abbrev pub invariant-loop-number : goal.invariant-loop-number
 invariant-loop-number l = record {
   kept : KeepsBodies l.fn.self l.self;
   list : l.self.list ≡ l.fn.self.list;
+  lack : l.self.lack ≡ l.fn.self.lack;
   taken : (names : List Text) (live added : List Live) → Lists names l.fn.self (live ++ added) → AllByRecursion (λ (e : Live). e.place < l.before) live → Rises l.before added
       → l.include.from ≤ l.include.to → l.include.to ≤ length l.content.components.items
       → Lists names l.self (live ++ left_by (slice_range l.content.components.items l.include.from l.number) added);
