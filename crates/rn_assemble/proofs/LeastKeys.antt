@@ -28,7 +28,7 @@ numbered_at : (names : List Text) (k : Key) (b : Bool) (c : Component) (rest : L
 numbered_at names k true c rest n l e s ne f = (n, l, (same_key-Decides k c.key).0 s ∙ e)
 numbered_at names k false c rest n l e s ne f = f ne
 
-numbered : (names : List Text) (live : List Live) → AllByRecursion (IsKeyed names) live → (k : Key) → of_key k (components_in live) ≢ [] → (m : ℕ) × (m < suc (length names)) × (k ≡ key_at names m)
+pub numbered : (names : List Text) (live : List Live) → AllByRecursion (IsKeyed names) live → (k : Key) → of_key k (components_in live) ≢ [] → (m : ℕ) × (m < suc (length names)) × (k ≡ key_at names m)
 numbered names [] h k ne = absurd (ne refl)
 numbered names (e ∷ live) h k ne = numbered_at names k (same_key k e.component.key) e.component (of_key k (components_in live)) e.key h.0.0 h.0.1 refl ne (numbered names live h.1 k)
 
@@ -61,7 +61,7 @@ has_at : (b : Bool) (c : Component) (rest : List Component) (r : Bool) → (0 < 
 has_at true c rest r f l = refl
 has_at false c rest r f l = f l
 
-has_some : (k : Key) (ds : List Component) → 0 < length (of_key k ds) → has_key k ds ≡ true
+pub has_some : (k : Key) (ds : List Component) → 0 < length (of_key k ds) → has_key k ds ≡ true
 has_some k [] l = absurd (omega (arith, l))
 has_some k (c ∷ ds) l = has_at (same_key k c.key) c (of_key k ds) (has_key k ds) (has_some k ds) l
 
@@ -69,7 +69,7 @@ lacks_at : (b : Bool) (c : Component) (rest : List Component) (r : Bool) → (le
 lacks_at true c rest r f l = absurd (omega (arith, l))
 lacks_at false c rest r f l = f l
 
-has_none : (k : Key) (ds : List Component) → length (of_key k ds) ≡ 0 → has_key k ds ≡ false
+pub has_none : (k : Key) (ds : List Component) → length (of_key k ds) ≡ 0 → has_key k ds ≡ false
 has_none k [] l = refl
 has_none k (c ∷ ds) l = lacks_at (same_key k c.key) c (of_key k ds) (has_key k ds) (has_none k ds) l
 

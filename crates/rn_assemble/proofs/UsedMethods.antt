@@ -45,7 +45,7 @@ kept_contains_at : (b : Bool) (x y : Live) (xs : List Live) (ys : List Live) →
 kept_contains_at true x y xs ys c f = elim (contains_cases x y ys c) [ inl e ↦ subst (λ z. Contains (x ∷ xs) z) e (contains_front x xs) | inr k ↦ contains_behind x y xs (f k) ]
 kept_contains_at false x y xs ys c f = contains_behind x y xs (f c)
 
-kept_contains : (p : Live → Bool) (xs : List Live) (y : Live) → Contains (filter p xs) y → Contains xs y
+pub kept_contains : (p : Live → Bool) (xs : List Live) (y : Live) → Contains (filter p xs) y → Contains xs y
 kept_contains p [] y c = c
 kept_contains p (x ∷ xs) y c = kept_contains_at (p x) x y xs (filter p xs) c (kept_contains p xs y)
 

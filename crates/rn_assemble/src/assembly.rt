@@ -8,9 +8,9 @@ ghost use Rattle.rn_assemble.specs.Methods.{CanCombine, IsUncombined};
 ghost use Rattle.rn_assemble.specs.Sound.{HasSoundReferences, IsUnsound};
 ghost use Rattle.rn_assemble.specs.Views.{module_names, names_of};
 
-use crate::combining::combined;
 use crate::components::{Components, components_of};
 use crate::contents::contents_of;
+use crate::definitions::grammar;
 use crate::grammar::Grammar;
 use crate::inclusion::{has_too_many_instances, inclusions, roots};
 use crate::keys::{Keys, START};
@@ -18,10 +18,8 @@ use crate::modules::{Source, sources};
 use crate::order::least_looped;
 use crate::references::{least_recursive, references_of};
 use crate::refusal::Refusal;
-use indexmap::IndexMap;
 use rn_modset::ModuleSet;
-use rn_pattern::Pattern;
-use std::alloc::{AllocError, Global};
+use std::alloc::Global;
 
 /// The grammar of the set: the components of all modules that no module includes, with includes replaced by what they
 /// include, joined for each name in their order (RELAX NG 2001, 4.7, 4.11, 4.17). Or the first refusal that stands, of those
@@ -129,44 +127,4 @@ fn check_references<'s>(
         });
     }
     Ok(())
-}
-
-/// The combined patterns, those of names in the order of each one's first component.
-fn grammar(
-    alloc: Global,
-    keys: &Keys<'_>,
-    components: &Components<'_, '_, '_>,
-) -> Result<Grammar, Refusal>
-    ensures { IfErr result IsOfModules }
-{
-    let mut patterns = combined(alloc, keys, components)?;
-    let Some(start) = patterns[START].take() else {
-        return Err(Refusal::NoStart);
-    };
-    let mut defs = IndexMap::new(alloc);
-    for first in first_places(alloc, components, keys.len())? {
-        let (_, key) = first;
-        if key < patterns.len()
-            && let Some(pattern) = patterns[key].take()
-        {
-            defs.insert(String::from_str(alloc, keys.name(key))?, pattern)?;
-        }
-    }
-    Ok(Grammar { start, defs })
-}
-
-/// The place of the first component of each defined name, with the name's number, in the order of places.
-fn first_places(
-    alloc: Global,
-    components: &Components<'_, '_, '_>,
-    keys: usize,
-) -> Result<Vec<(usize, usize)>, AllocError> {
-    let mut firsts = Vec::new(alloc);
-    for key in START + 1..keys {
-        if let Some(place) = components.of_key(key).first() {
-            firsts.push((*place, key))?;
-        }
-    }
-    firsts.sort_unstable();
-    Ok(firsts)
 }
