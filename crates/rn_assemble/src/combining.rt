@@ -1,5 +1,5 @@
 // Definitions of one key combined (RELAX NG 2001, 4.17).
-ghost use Rattle.std.specs.Prelude.{◌≡◌, ◌+◌, ◌<◌, ℕ, List, Contains, Decides, None, false, length, map, option_map, slice_index_or, IfOk, IfErr, IfSome, IsSomeAnd, MatchResult};
+ghost use Rattle.std.specs.Prelude.{◌≡◌, ◌+◌, ◌<◌, ℕ, List, Contains, Decides, None, false, length, map, option_map, IfOk, IfErr, IfSome, IsSomeAnd, MatchResult};
 ghost use Rattle.std.specs.List.Sorted.{IsStrictlySortedBy};
 ghost use Rattle.std.specs.Option.{option_map_or};
 ghost use Rattle.rn_pattern.specs.Order.{text_cmp};
@@ -24,7 +24,7 @@ use crate::refusal::Refusal;
 use crate::resolution::{choice, interleave, pattern};
 use rn_pattern::Pattern;
 use rn_syntax::Method;
-use std::alloc::{AllocError, Global};
+use std::alloc::Global;
 use std::rc::Rc;
 
 impl<'c, 't, 's> Components<'c, 't, 's> {
@@ -118,24 +118,12 @@ pub(crate) fn combined(
     ensures exact { (live : List Live) → Lists (names_of keys.now) components.now live → IsStrictlySortedBy text_cmp (names_of keys.now)
         → MatchResult result (λ patterns. AreCombined (names_of keys.now) (components_in live) patterns.items) (IsMisnamed (components_in live)) }
 {
-    let mut shared = none_shared(alloc, components.count_bodies())?;
+    let mut shared: Shared = vec![in alloc; None; components.count_bodies()]?;
     let mut patterns = Vec::with_capacity(alloc, keys.len())?;
     for key in 0..keys.len() {
         patterns.push(join(alloc, keys, components, &mut shared, key)?)?;
     }
     Ok(patterns)
-}
-
-/// Of that many bodies, none resolved.
-fn none_shared(alloc: Global, bodies: usize) -> Result<Shared, AllocError>
-    ensures size { IfOk result (λ shared. length shared.items ≡ bodies) }
-    ensures none { IfOk result (λ shared. (n : ℕ) → slice_index_or shared.items n None ≡ None) }
-{
-    let mut shared = Vec::with_capacity(alloc, bodies)?;
-    for _ in 0..bodies {
-        shared.push(None)?;
-    }
-    Ok(shared)
 }
 
 /// The pattern of one component is its own; several are one list, in their order.
