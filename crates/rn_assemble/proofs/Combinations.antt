@@ -23,7 +23,7 @@ abbrev pub some_joined : (Trees → Tree) → List Tree → Option Tree
 some_joined over [] = None
 some_joined over (p ∷ ps) = Some (join over (p ∷ ps))
 
-abbrev is_some : List Tree → Bool
+abbrev pub is_some : List Tree → Bool
 is_some [] = false
 is_some (p ∷ ps) = true
 
@@ -58,7 +58,7 @@ named_by start_key x ys c cs h = h
 named_by (name_key y) x ys c cs h = named_at (bytes_eq x y) x y ys c cs refl h
 
 -- a name is defined where it has a component
-named : (x : Text) (cs : List Component) → list_any (bytes_eq x) (defined_names cs) ≡ is_some (bodies (name_key x) cs)
+pub named : (x : Text) (cs : List Component) → list_any (bytes_eq x) (defined_names cs) ≡ is_some (bodies (name_key x) cs)
 named x [] = refl
 named x (c ∷ cs) = named_by c.key x (defined_names cs) c (of_key (name_key x) cs) (named x cs)
 

@@ -28,7 +28,7 @@ numbered_at : (names : List Text) (k : Key) (b : Bool) (c : Component) (rest : L
 numbered_at names k true c rest n l e s ne f = (n, l, (same_key-Decides k c.key).0 s ∙ e)
 numbered_at names k false c rest n l e s ne f = f ne
 
-numbered : (names : List Text) (live : List Live) → AllByRecursion (IsKeyed names) live → (k : Key) → of_key k (components_in live) ≢ [] → (m : ℕ) × (m < suc (length names)) × (k ≡ key_at names m)
+pub numbered : (names : List Text) (live : List Live) → AllByRecursion (IsKeyed names) live → (k : Key) → of_key k (components_in live) ≢ [] → (m : ℕ) × (m < suc (length names)) × (k ≡ key_at names m)
 numbered names [] h k ne = absurd (ne refl)
 numbered names (e ∷ live) h k ne = numbered_at names k (same_key k e.component.key) e.component (of_key k (components_in live)) e.key h.0.0 h.0.1 refl ne (numbered names live h.1 k)
 

@@ -16,19 +16,26 @@ use Rattle.rn_assemble.specs.Components.{Component}
 use Rattle.rn_assemble.specs.Combine.{is_plain, of_key}
 use Rattle.rn_assemble.specs.Graph.{row}
 use Rattle.rn_assemble.specs.Keyed.{key_at}
-use Rattle.rn_assemble.specs.Listed.{IsLive, Live, ListsBy, components_in}
+use Rattle.rn_assemble.specs.Listed.{IsBody, IsLive, Live, ListsBy, components_in}
 use Rattle.rn_assemble.specs.Methods.{is_method}
 use Rattle.rn_assemble.proofs.FoundReferences.{shown, all_keyed, row_is}
 use Rattle.rn_assemble.proofs.KeyedBodies.{of_key_at}
 
--- the method of a live component
-pub method_of : (names : List Text) (bodies : List Body) (list : List ℕ) (rows : List (List ℕ)) (live : List Live) (e : Live) (n : ℕ) (b : Body) → ListsBy names bodies list rows live → Contains live e
-    → slice_get list e.place ≡ Some n → slice_get bodies n ≡ Some b → b.component.method ≡ e.component.method
-method_of names bodies list rows live e n b h c en eb =
+-- the body of a live component
+pub live_body : (names : List Text) (bodies : List Body) (list : List ℕ) (rows : List (List ℕ)) (live : List Live) (e : Live) (n : ℕ) (b : Body) → ListsBy names bodies list rows live → Contains live e
+    → slice_get list e.place ≡ Some n → slice_get bodies n ≡ Some b → IsBody names b e.key e.component
+live_body names bodies list rows live e n b h c en eb =
     let s = shown names bodies list e (contained_each (IsLive names bodies list) live h.are e c) in
     let same : s.number ≡ n = let q : Some s.number ≡ Some n = sym s.at ∙ en in cc in
     let body : s.body ≡ b = let q : Some s.body ≡ Some b = sym s.is ∙ ap (slice_get bodies) same ∙ eb in cc in
-    sym (ap (λ (d : Component). d.method) s.made.shown.2 ∙ ap (λ (d : Body). d.component.method) body)
+    subst (λ (d : Body). IsBody names d e.key e.component) body s.made
+
+-- and its method
+pub method_of : (names : List Text) (bodies : List Body) (list : List ℕ) (rows : List (List ℕ)) (live : List Live) (e : Live) (n : ℕ) (b : Body) → ListsBy names bodies list rows live → Contains live e
+    → slice_get list e.place ≡ Some n → slice_get bodies n ≡ Some b → b.component.method ≡ e.component.method
+method_of names bodies list rows live e n b h c en eb =
+    let made = live_body names bodies list rows live e n b h c en eb in
+    sym (ap (λ (d : Component). d.method) made.shown.2)
 
 pub method_there : (names : List Text) (bodies : List Body) (list : List ℕ) (rows : List (List ℕ)) (live : List Live) (e : Live) → ListsBy names bodies list rows live → Contains live e → slice_get list e.place ≡ None → ⊥
 method_there names bodies list rows live e h c en =
@@ -86,7 +93,7 @@ any_at : (a b c : Bool) → (a || b) ≡ true → (b ≡ true → c ≡ true) �
 any_at true b c e f = refl
 any_at false b c e f = f e
 
-any_front : {X : Type 0} (p : X → Bool) (xs ys : List X) → list_any p xs ≡ true → list_any p (xs ++ ys) ≡ true
+pub any_front : {X : Type 0} (p : X → Bool) (xs ys : List X) → list_any p xs ≡ true → list_any p (xs ++ ys) ≡ true
 any_front p [] ys e = cc
 any_front p (x ∷ xs) ys e = any_at (p x) (list_any p xs) (list_any p (xs ++ ys)) e (any_front p xs ys)
 
@@ -98,7 +105,7 @@ any_behind_at : (a b c : Bool) → (a || b) ≡ false → (b ≡ false → c ≡
 any_behind_at true b c e f = e
 any_behind_at false b c e f = f e
 
-or_true : (a b : Bool) → b ≡ true → (a || b) ≡ true
+pub or_true : (a b : Bool) → b ≡ true → (a || b) ≡ true
 or_true true b e = refl
 or_true false b e = e
 
@@ -106,7 +113,7 @@ any_behind : {X : Type 0} (p : X → Bool) (xs : List X) (x : X) → list_any p 
 any_behind p [] x e f = or_false_same (p x) false f refl
 any_behind p (y ∷ xs) x e f = any_behind_at (p y) (list_any p xs) (list_any p (xs ++ x ∷ [])) e (λ g. any_behind p xs x g f)
 
-any_last : {X : Type 0} (p : X → Bool) (xs : List X) (x : X) → p x ≡ true → list_any p (xs ++ x ∷ []) ≡ true
+pub any_last : {X : Type 0} (p : X → Bool) (xs : List X) (x : X) → p x ≡ true → list_any p (xs ++ x ∷ []) ≡ true
 any_last p [] x f = ap (λ b. b || false) f
 any_last p (y ∷ xs) x f = or_true (p y) (list_any p (xs ++ x ∷ [])) (any_last p xs x f)
 

@@ -16,9 +16,9 @@ ghost use Rattle.rn_assemble.specs.Refused.{IsFirstOfModules, IsFirstRefusal};
 ghost use Rattle.rn_assemble.specs.Sound.{HasSoundReferences, IsUnsound};
 ghost use Rattle.rn_assemble.specs.Views.{module_names, names_of, sources_view};
 
-use crate::combining::grammar;
 use crate::components::{Components, Lack, components_of};
 use crate::contents::contents_of;
+use crate::definitions::grammar;
 use crate::grammar::Grammar;
 use crate::inclusion::included_roots;
 use crate::keys::{Keys, START};

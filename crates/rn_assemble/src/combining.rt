@@ -1,28 +1,30 @@
 // Definitions of one key combined (RELAX NG 2001, 4.17).
-ghost use Rattle.std.specs.Prelude.{◌≡◌, ◌+◌, ◌<◌, List, Contains, Decides, true, false, length, vec_len, IfOk, IfErr, MatchResult};
+ghost use Rattle.std.specs.Prelude.{◌≡◌, ◌+◌, ◌<◌, ℕ, List, Contains, Decides, None, false, length, map, option_map, IfOk, IfErr, IfSome, IsSomeAnd, MatchResult};
 ghost use Rattle.std.specs.List.Sorted.{IsStrictlySortedBy};
 ghost use Rattle.std.specs.Option.{option_map_or};
 ghost use Rattle.rn_pattern.specs.Order.{text_cmp};
-ghost use Rattle.rn_pattern.specs.Tree.{Text};
+ghost use Rattle.rn_pattern.specs.NameRules.{KeepsNameRules};
+ghost use Rattle.rn_pattern.specs.Tree.{Text, trees_of};
+ghost use Rattle.rn_pattern.specs.View.{pattern_view, shared_view};
 ghost use Rattle.rn_assemble.specs.Combine as spec;
-ghost use Rattle.rn_assemble.specs.Components.{has_key, start_key};
-ghost use Rattle.rn_assemble.specs.Joining.{IsJoinedGrammar, IsMisnamed};
+ghost use Rattle.rn_assemble.specs.Components.{Component};
+ghost use Rattle.rn_assemble.specs.Joining.{IsMisnamed};
 ghost use Rattle.rn_assemble.specs.Keyed.{key_at};
-ghost use Rattle.rn_assemble.specs.Listed.{Lists, Live, components_in};
+ghost use Rattle.rn_assemble.specs.Listed.{IsBody, Lists, Live, components_in};
+ghost use Rattle.rn_assemble.specs.Patterns.{AreCombined, AreShared, AreSound, IsMisnamedAs, IsSound, pattern_of};
+ghost use Rattle.rn_assemble.specs.Refusal.{BreaksNameRules};
+ghost use Rattle.rn_assemble.specs.Views.{names_of};
 ghost use Rattle.rn_assemble.specs.Methods.{IsLeastNumber, is_method};
 ghost use Rattle.rn_assemble.specs.Answers.{IsOfModules};
-ghost use Rattle.rn_assemble.specs.Views.{names_of};
 
 use crate::components::{Body, Components};
-use crate::grammar::Grammar;
-use crate::keys::{Keys, START};
+use crate::keys::Keys;
 use crate::name_classes::keeps_name_rules;
 use crate::refusal::Refusal;
-use crate::resolution::pattern;
-use indexmap::IndexMap;
+use crate::resolution::{choice, interleave, pattern};
 use rn_pattern::Pattern;
 use rn_syntax::Method;
-use std::alloc::{AllocError, Global};
+use std::alloc::Global;
 use std::rc::Rc;
 
 impl<'c, 't, 's> Components<'c, 't, 's> {
@@ -112,13 +114,11 @@ pub(crate) fn combined(
     keys: &Keys<'_>,
     components: &Components<'_, '_, '_>,
 ) -> Result<Vec<Option<Pattern>>, Refusal>
-    ensures ok { IfOk result (λ patterns. vec_len patterns ≡ vec_len keys.now.names + 1) }
-    ensures err { IfErr result IsOfModules }
+    ensures of_modules { IfErr result IsOfModules }
+    ensures exact { (live : List Live) → Lists (names_of keys.now) components.now live → IsStrictlySortedBy text_cmp (names_of keys.now)
+        → MatchResult result (λ patterns. AreCombined (names_of keys.now) (components_in live) patterns.items) (IsMisnamed (components_in live)) }
 {
-    let mut shared = Vec::with_capacity(alloc, components.count_bodies())?;
-    for _ in 0..components.count_bodies() {
-        shared.push(None)?;
-    }
+    let mut shared: Shared = vec![in alloc; None; components.count_bodies()]?;
     let mut patterns = Vec::with_capacity(alloc, keys.len())?;
     for key in 0..keys.len() {
         patterns.push(join(alloc, keys, components, &mut shared, key)?)?;
@@ -134,86 +134,134 @@ fn join(
     shared: &mut Shared,
     key: usize,
 ) -> Result<Option<Pattern>, Refusal>
-    ensures { IfErr result IsOfModules }
+    requires { length shared.old.items ≡ length components.now.bodies.items }
+    ensures size { length shared.new.items ≡ length shared.old.items }
+    ensures of_modules { IfErr result IsOfModules }
+    ensures kept { AreShared (names_of keys.now) components.now.bodies.items shared.old.items → AreShared (names_of keys.now) components.now.bodies.items shared.new.items }
+    ensures exact { (live : List Live) → Lists (names_of keys.now) components.now live → IsStrictlySortedBy text_cmp (names_of keys.now) → key < length (names_of keys.now) + 1
+        → AreShared (names_of keys.now) components.now.bodies.items shared.old.items
+        → MatchResult result (λ p. (option_map pattern_view p ≡ pattern_of (components_in live) (key_at (names_of keys.now) key)) × ¬ BreaksNameRules (components_in live) (key_at (names_of keys.now) key))
+        (IsMisnamedAs (key_at (names_of keys.now) key) (BreaksNameRules (components_in live) (key_at (names_of keys.now) key))) }
 {
-    let places = components.of_key(key);
-    match places {
+    match components.of_key(key) {
         [] => Ok(None),
         [place] => alone(alloc, keys, components, *place),
         _ => {
-            let members = members(alloc, keys, components, shared, places)?;
-            if components.uses(key, Method::Interleave) {
-                Ok(Some(Pattern::Interleave(members)))
-            } else {
-                Ok(Some(Pattern::Choice(members)))
-            }
+            let members = members(alloc, keys, components, shared, key)?;
+            Ok(Some(node(components, key, members)))
         }
     }
 }
 
-/// The pattern of one component.
+/// The list of the members, by the key's method.
+fn node(components: &Components<'_, '_, '_>, key: usize, members: Vec<Rc<Pattern>>) -> Pattern
+    ensures { (names : List Text) (live : List Live) → Lists names components.now live → IsStrictlySortedBy text_cmp names → key < length names + 1
+        → pattern_view result ≡ spec.combined (key_at names key) (components_in live) (trees_of (map shared_view members.items)) }
+{
+    if components.uses(key, Method::Interleave) {
+        interleave(members)
+    } else {
+        choice(members)
+    }
+}
+
+/// The pattern of the component at a place.
 fn alone(
     alloc: Global,
     keys: &Keys<'_>,
     components: &Components<'_, '_, '_>,
     place: usize,
 ) -> Result<Option<Pattern>, Refusal>
-    ensures { IfErr result IsOfModules }
+    ensures of_modules { IfErr result IsOfModules }
+    ensures exact { (live : List Live) (e : Live) → Lists (names_of keys.now) components.now live → Contains live e → e.place ≡ place
+        → MatchResult result (λ p. IsSomeAnd p (λ q. IsSound e.component (pattern_view q))) (IsMisnamedAs e.component.key (¬ KeepsNameRules e.component.body)) }
 {
-    match components.body_at(place) {
-        Some(number) => match components.body(number) {
-            Some(body) => Ok(Some(resolved(alloc, keys, body)?)),
-            None => Ok(None),
-        },
-        None => Ok(None),
-    }
+    let Some(number) = components.body_at(place) else {
+        return Ok(None);
+    };
+    let Some(body) = components.body(number) else {
+        return Ok(None);
+    };
+    Ok(Some(resolved(alloc, keys, body)?))
 }
 
-/// The patterns of the components, each body resolved once.
+/// The patterns of the key's components, each body resolved once.
 fn members(
     alloc: Global,
     keys: &Keys<'_>,
     components: &Components<'_, '_, '_>,
     shared: &mut Shared,
-    places: &[usize],
+    key: usize,
 ) -> Result<Vec<Rc<Pattern>>, Refusal>
-    ensures { IfErr result IsOfModules }
+    requires { length shared.old.items ≡ length components.now.bodies.items }
+    ensures size { length shared.new.items ≡ length shared.old.items }
+    ensures of_modules { IfErr result IsOfModules }
+    ensures kept { AreShared (names_of keys.now) components.now.bodies.items shared.old.items → AreShared (names_of keys.now) components.now.bodies.items shared.new.items }
+    ensures exact { (live : List Live) → Lists (names_of keys.now) components.now live → IsStrictlySortedBy text_cmp (names_of keys.now) → key < length (names_of keys.now) + 1
+        → AreShared (names_of keys.now) components.now.bodies.items shared.old.items
+        → MatchResult result (λ members. AreSound (spec.of_key (key_at (names_of keys.now) key) (components_in live)) (map shared_view members.items))
+        (IsMisnamedAs (key_at (names_of keys.now) key) (BreaksNameRules (components_in live) (key_at (names_of keys.now) key))) }
 {
+    let places = components.of_key(key);
     let mut members = Vec::with_capacity(alloc, places.len())?;
     for place in places {
-        if let Some(number) = components.body_at(*place) {
-            share(alloc, keys, components, shared, number)?;
-            if let Some(Some(pattern)) = shared.get(number) {
-                members.push(pattern.clone()?)?;
-            }
+        if let Some(pattern) = member(alloc, keys, components, shared, *place)? {
+            members.push(pattern)?;
         }
     }
     Ok(members)
 }
 
-/// Resolves a body that wasn't yet.
-fn share(
+/// The pattern of the component at a place, shared by all components of its body.
+fn member(
     alloc: Global,
     keys: &Keys<'_>,
     components: &Components<'_, '_, '_>,
     shared: &mut Shared,
-    number: usize,
-) -> Result<(), Refusal>
-    ensures { IfErr result IsOfModules }
+    place: usize,
+) -> Result<Option<Rc<Pattern>>, Refusal>
+    requires { length shared.old.items ≡ length components.now.bodies.items }
+    ensures size { length shared.new.items ≡ length shared.old.items }
+    ensures of_modules { IfErr result IsOfModules }
+    ensures kept { AreShared (names_of keys.now) components.now.bodies.items shared.old.items → AreShared (names_of keys.now) components.now.bodies.items shared.new.items }
+    ensures exact { (live : List Live) (e : Live) → Lists (names_of keys.now) components.now live → Contains live e → e.place ≡ place
+        → AreShared (names_of keys.now) components.now.bodies.items shared.old.items
+        → MatchResult result (λ p. IsSomeAnd p (λ q. IsSound e.component (shared_view q))) (IsMisnamedAs e.component.key (¬ KeepsNameRules e.component.body)) }
 {
-    if let Some(body) = components.body(number)
-        && number < shared.len()
-        && shared[number].is_none()
-    {
-        let pattern = resolved(alloc, keys, body)?;
-        shared[number] = Some(Rc::new(alloc, pattern)?);
+    let Some(number) = components.body_at(place) else {
+        return Ok(None);
+    };
+    let Some(body) = components.body(number) else {
+        return Ok(None);
+    };
+    Ok(Some(share(alloc, keys, body, &mut shared[number])?))
+}
+
+/// The pattern of the body, which is resolved where none is held.
+fn share(
+    alloc: Global,
+    keys: &Keys<'_>,
+    body: &Body<'_, '_, '_>,
+    held: &mut Option<Rc<Pattern>>,
+) -> Result<Rc<Pattern>, Refusal>
+    ensures of_modules { IfErr result IsOfModules }
+    ensures kept { (key : ℕ) (c : Component) → IsBody (names_of keys.now) body.now key c → IfSome held.old (λ p. IsSound c (shared_view p)) → IfSome held.new (λ p. IsSound c (shared_view p)) }
+    ensures exact { (key : ℕ) (c : Component) → IsBody (names_of keys.now) body.now key c → IfSome held.old (λ p. IsSound c (shared_view p))
+        → MatchResult result (λ p. IsSound c (shared_view p)) (IsMisnamedAs c.key (¬ KeepsNameRules c.body)) }
+{
+    if let Some(pattern) = &*held {
+        return Ok(pattern.clone()?);
     }
-    Ok(())
+    let pattern = Rc::new(alloc, resolved(alloc, keys, body)?)?;
+    *held = Some(pattern.clone()?);
+    Ok(pattern)
 }
 
 /// The pattern of a body that keeps the restrictions on name classes.
 fn resolved(alloc: Global, keys: &Keys<'_>, body: &Body<'_, '_, '_>) -> Result<Pattern, Refusal>
-    ensures { IfErr result IsOfModules }
+    ensures of_modules { IfErr result IsOfModules }
+    ensures exact { (key : ℕ) (c : Component) → IsBody (names_of keys.now) body.now key c
+        → MatchResult result (λ p. IsSound c (pattern_view p)) (IsMisnamedAs c.key (¬ KeepsNameRules c.body)) }
 {
     let pattern = pattern(alloc, body.scope, body.component.body)?;
     if !keeps_name_rules(&pattern) {
@@ -222,45 +270,4 @@ fn resolved(alloc: Global, keys: &Keys<'_>, body: &Body<'_, '_, '_>) -> Result<P
         });
     }
     Ok(pattern)
-}
-
-/// The combined patterns, those of names in the order of each one's first component.
-pub(crate) fn grammar(
-    alloc: Global,
-    keys: &Keys<'_>,
-    components: &Components<'_, '_, '_>,
-) -> Result<Grammar, Refusal>
-    ensures { (live : List Live) → Lists (names_of keys.now) components.now live → IsStrictlySortedBy text_cmp (names_of keys.now) → has_key start_key (components_in live) ≡ true
-        → MatchResult result (IsJoinedGrammar (components_in live)) (IsMisnamed (components_in live)) }
-{
-    let mut patterns = combined(alloc, keys, components)?;
-    let Some(start) = patterns[START].take() else {
-        return Err(Refusal::NoStart);
-    };
-    let mut defs = IndexMap::new(alloc);
-    for first in first_places(alloc, components, keys.len())? {
-        let (_, key) = first;
-        if key < patterns.len()
-            && let Some(pattern) = patterns[key].take()
-        {
-            defs.insert(String::from_str(alloc, keys.name(key))?, pattern)?;
-        }
-    }
-    Ok(Grammar { start, defs })
-}
-
-/// The place of the first component of each defined name, with the name's number, in the order of places.
-fn first_places(
-    alloc: Global,
-    components: &Components<'_, '_, '_>,
-    keys: usize,
-) -> Result<Vec<(usize, usize)>, AllocError> {
-    let mut firsts = Vec::new(alloc);
-    for key in START + 1..keys {
-        if let Some(place) = components.of_key(key).first() {
-            firsts.push((*place, key))?;
-        }
-    }
-    firsts.sort_unstable();
-    Ok(firsts)
 }

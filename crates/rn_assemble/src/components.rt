@@ -340,6 +340,13 @@ impl<'c, 't, 's> Components<'c, 't, 's> {
         }
     }
 
+    /// How many places there are.
+    pub fn count(&self) -> usize
+        ensures { result ≡ vec_len self.now.list }
+    {
+        self.list.len()
+    }
+
     /// How many bodies there are.
     pub fn count_bodies(&self) -> usize
         ensures { result ≡ vec_len self.now.bodies }

@@ -6,6 +6,7 @@ mod bindings;
 mod combining;
 mod components;
 mod contents;
+mod definitions;
 pub mod grammar;
 pub mod graph;
 mod inclusion;

@@ -253,13 +253,13 @@ fn group(members: Vec<Rc<Pattern>>) -> Pattern
     Pattern::Group(members)
 }
 
-fn interleave(members: Vec<Rc<Pattern>>) -> Pattern
+pub(crate) fn interleave(members: Vec<Rc<Pattern>>) -> Pattern
     ensures { pattern_view result ≡ tree.interleave (trees_of (map shared_view members.items)) }
 {
     Pattern::Interleave(members)
 }
 
-fn choice(members: Vec<Rc<Pattern>>) -> Pattern
+pub(crate) fn choice(members: Vec<Rc<Pattern>>) -> Pattern
     ensures { pattern_view result ≡ tree.choice (trees_of (map shared_view members.items)) }
 {
     Pattern::Choice(members)

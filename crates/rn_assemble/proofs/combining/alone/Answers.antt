@@ -1,0 +1,22 @@
+use Rattle.std.proofs.Common.{sym, ap, ◌∙◌}
+use Rattle.std.specs.Prelude.{IsSomeAnd, slice_get}
+use Rattle.rn_pattern.specs.NameRules.{KeepsNameRules}
+use Rattle.rn_pattern.specs.View.{pattern_view}
+use Rattle.rn_assemble.specs.Graph.{rows_of}
+use Rattle.rn_assemble.specs.Patterns.{IsMisnamedAs, IsSound}
+use Rattle.rn_assemble.specs.Views.{names_of}
+use Rattle.rn_assemble.proofs.KeyPatterns.{refused_by}
+use Rattle.rn_assemble.proofs.UsedMethods.{live_body}
+use Rattle.rn_assemble.proofs.combining.alone.Goals as goal
+
+pub returns-in_err-resolved-clause-exact : goal.returns-in_err-resolved-clause-exact
+returns-in_err-resolved-clause-exact c = λ live e h k p.
+    let x = c.args.components.now in
+    let is = live_body (names_of c.args.keys.now) x.bodies.items x.list.items (rows_of x.places.items) live e c.in-Some.number c.in-Some-body.body.now h k (ap (slice_get x.list.items) p ∙ sym c.in-Some.ensures) (sym c.in-Some-body.ensures) in
+    refused_by (λ o. IsSomeAnd o (λ q. IsSound e.component (pattern_view q))) (IsMisnamedAs e.component.key (¬ KeepsNameRules e.component.body)) c.from_residual.result c.in_err-resolved.field-0.0 c.from_residual.ensures.1 (c.in_err-resolved.ensures.exact e.key e.component is)
+
+pub returns-clause-exact : goal.returns-clause-exact
+returns-clause-exact c = λ live e h k p.
+    let x = c.args.components.now in
+    let is = live_body (names_of c.args.keys.now) x.bodies.items x.list.items (rows_of x.places.items) live e c.in-Some.number c.in-Some-body.body.now h k (ap (slice_get x.list.items) p ∙ sym c.in-Some.ensures) (sym c.in-Some-body.ensures) in
+    c.in_ok-resolved.ensures.exact e.key e.component is

@@ -1,0 +1,20 @@
+use Rattle.std.proofs.Common.{ap, ◌∙◌}
+use Rattle.rn_pattern.specs.NameRules.{KeepsNameRules}
+use Rattle.rn_pattern.specs.View.{pattern_view, shared_view}
+use Rattle.rn_assemble.specs.Patterns.{IsMisnamedAs, IsSound}
+use Rattle.rn_assemble.proofs.KeyPatterns.{refused_by}
+use Rattle.rn_assemble.proofs.combining.share.Goals as goal
+
+pub returns-in_err-resolved-clause-exact : goal.returns-in_err-resolved-clause-exact
+returns-in_err-resolved-clause-exact c = λ key d is held.
+    refused_by (λ p. IsSound d (shared_view p)) (IsMisnamedAs d.key (¬ KeepsNameRules d.body)) c.from_residual-in_err-resolved.result c.in_err-resolved.field-0.0 c.from_residual-in_err-resolved.ensures.1 (c.in_err-resolved.ensures.exact key d is)
+
+pub returns-clause-kept : goal.returns-clause-kept
+returns-clause-kept c = λ key d is held.
+    let sound = c.in_ok-resolved.ensures.exact key d is in
+    (ap pattern_view (c.in_ok-clone-2.ensures.cases ∙ c.in_ok-pattern.ensures.ok) ∙ sound.0, sound.1)
+
+pub returns-clause-exact : goal.returns-clause-exact
+returns-clause-exact c = λ key d is held.
+    let sound = c.in_ok-resolved.ensures.exact key d is in
+    (ap pattern_view c.in_ok-pattern.ensures.ok ∙ sound.0, sound.1)

@@ -1,0 +1,63 @@
+-- The patterns of keys and of bodies in the code, and the names in the order of their first components.
+use Rattle.std.specs.Prelude.{ℕ, suc, ◌≡◌, ◌<◌, ◌⊎◌, nat_lt, true, false, if◌then◌else◌, List, length, map, filter, slice_get, slice_index_or, option_map, Option, Some, None, IfSome, Contains, ⊤}
+use Rattle.std.specs.List.{AllByRecursion}
+use Rattle.std.specs.declared.alloc.Global.{Global}
+use Rattle.std.specs.declared.rc.Rc.{Rc}
+use Rattle.rn_pattern.specs.NameRules.{KeepsNameRules}
+use Rattle.rn_pattern.specs.Tree.{Text, Tree}
+use Rattle.rn_pattern.specs.View.{pattern_view, shared_view}
+use Rattle.rn_pattern.specs.declared.tree.Pattern.{Pattern}
+use Rattle.rn_assemble.specs.declared.components.Body.{Body}
+use Rattle.rn_assemble.specs.declared.refusal.Refusal.{Refusal}
+use Rattle.rn_assemble.specs.declared.refusal.Refusal.TheVariants as r
+use Rattle.rn_assemble.specs.Components.{Component, Key, has_key, start_key}
+use Rattle.rn_assemble.specs.Combine.{joined}
+use Rattle.rn_assemble.specs.Keyed.{key_at}
+use Rattle.rn_assemble.specs.Listed.{IsBody, Live, components_in}
+use Rattle.rn_assemble.specs.Refusal.{BreaksNameRules}
+use Rattle.rn_assemble.specs.Views.{key_view}
+
+-- the tree stands for the component's body, which keeps the restrictions on name classes
+abbrev pub IsSound : Component → Tree → Type 0
+IsSound c p = (p ≡ c.body) × KeepsNameRules c.body
+
+-- the trees stand for the components' bodies, which all keep the restrictions
+abbrev pub AreSound : List Component → List Tree → Type 0
+AreSound cs ps = (ps ≡ map (λ (c : Component). c.body) cs) × AllByRecursion (λ (c : Component). KeepsNameRules c.body) cs
+
+-- the refusal of a key, for this reason, or want of memory
+abbrev pub IsMisnamedAs : Key → Type 0 → Refusal → Type 0
+IsMisnamedAs k Why (r.NameClass j) = (key_view j ≡ k) × Why
+IsMisnamedAs k Why r.Memory = ⊤
+IsMisnamedAs k Why _ = ⊥
+
+-- the body of a number, resolved, stands for each component that it is the body of
+pub record AreShared (names : List Text) (bodies : List Body) (shared : List (Option (Rc Pattern Global))) : Type 0 where
+  pub size : length shared ≡ length bodies
+  pub are : (n key : ℕ) (b : Body) (c : Component) → slice_get bodies n ≡ Some b → IsBody names b key c → IfSome (slice_index_or shared n None) (λ p. IsSound c (shared_view p))
+
+-- the pattern of a key's components, where it has some
+abbrev pub pattern_of : List Component → Key → Option Tree
+pattern_of cs k = if has_key k cs then Some (joined cs k) else None
+
+-- the tree at a number, where there is one
+abbrev pub tree_at : List (Option Pattern) → ℕ → Option Tree
+tree_at patterns n = option_map pattern_view (slice_index_or patterns n None)
+
+-- the pattern of each key stands at its number, and none breaks the restrictions on name classes
+pub record AreCombined (names : List Text) (cs : List Component) (patterns : List (Option Pattern)) : Type 0 where
+  pub are : (n : ℕ) → n < suc (length names) → tree_at patterns n ≡ pattern_of cs (key_at names n)
+  pub keep : (k : Key) → ¬ BreaksNameRules cs k
+
+-- each name without a component among those done has its pattern at its number
+abbrev pub HavePatterns : List Text → List Component → List Component → List (Option Pattern) → Type 0
+HavePatterns names cs done patterns = (n : ℕ) → 0 < n → n < suc (length names) → has_key (key_at names n) done ≡ false → tree_at patterns n ≡ pattern_of cs (key_at names n)
+
+-- the live components before a place
+abbrev pub before : ℕ → List Live → List Live
+before place live = filter (λ (e : Live). nat_lt e.place place) live
+
+-- the number of the name whose first component is at the place
+abbrev pub IsFirstAt : List Text → List Live → ℕ → Option ℕ → Type 0
+IsFirstAt names live place None = (e : Live) → Contains live e → e.place ≡ place → (e.component.key ≡ start_key) ⊎ (has_key e.component.key (components_in (before place live)) ≡ true)
+IsFirstAt names live place (Some n) = (0 < n) × (n < suc (length names)) × ((e : Live) × Contains live e × (e.place ≡ place) × (e.component.key ≡ key_at names n)) × (has_key (key_at names n) (components_in (before place live)) ≡ false)

@@ -1,0 +1,91 @@
+// The grammar of components: the combined pattern of each key, by the names of the definitions.
+ghost use Rattle.std.specs.Prelude.{◌≡◌, List, [], None, true, length, slice_index_or, slice_set, IfErr, IfOk, MatchResult};
+ghost use Rattle.std.specs.List.Sorted.{IsStrictlySortedBy};
+ghost use Rattle.rn_pattern.specs.Order.{text_cmp};
+ghost use Rattle.rn_pattern.specs.Tree.{Text};
+ghost use Rattle.rn_assemble.specs.Answers.{IsOfModules};
+ghost use Rattle.rn_assemble.specs.Combine.{joined_grammar};
+ghost use Rattle.rn_assemble.specs.Components.{has_key, start_key};
+ghost use Rattle.rn_assemble.specs.GrammarView.{definitions_view};
+ghost use Rattle.rn_assemble.specs.Joining.{IsJoinedGrammar, IsMisnamed};
+ghost use Rattle.rn_assemble.specs.Listed.{Lists, Live, components_in};
+ghost use Rattle.rn_assemble.specs.Patterns.{HavePatterns, IsFirstAt};
+ghost use Rattle.rn_assemble.specs.Views.{names_of};
+ghost use Rattle.rn_assemble.specs.declared.refusal.Refusal.TheVariants.{Memory};
+
+use crate::combining::combined;
+use crate::components::Components;
+use crate::grammar::Grammar;
+use crate::keys::{Keys, START};
+use crate::refusal::Refusal;
+use indexmap::IndexMap;
+use rn_pattern::Pattern;
+use std::alloc::Global;
+
+/// The combined patterns, those of names in the order of each one's first component.
+pub(crate) fn grammar(
+    alloc: Global,
+    keys: &Keys<'_>,
+    components: &Components<'_, '_, '_>,
+) -> Result<Grammar, Refusal>
+    ensures of_modules { IfErr result IsOfModules }
+    ensures exact { (live : List Live) → Lists (names_of keys.now) components.now live → IsStrictlySortedBy text_cmp (names_of keys.now) → has_key start_key (components_in live) ≡ true
+        → MatchResult result (IsJoinedGrammar (components_in live)) (IsMisnamed (components_in live)) }
+{
+    let mut patterns = combined(alloc, keys, components)?;
+    let Some(start) = take(&mut patterns, START) else {
+        return Err(Refusal::NoStart);
+    };
+    let defs = definitions(alloc, keys, components, &mut patterns)?;
+    Ok(Grammar { start, defs })
+}
+
+/// The definitions of all names that have components, which take their patterns.
+fn definitions(
+    alloc: Global,
+    keys: &Keys<'_>,
+    components: &Components<'_, '_, '_>,
+    patterns: &mut Vec<Option<Pattern>>,
+) -> Result<IndexMap<String, Pattern>, Refusal>
+    ensures memory { IfErr result (λ r. r ≡ Memory) }
+    ensures exact { (live : List Live) → Lists (names_of keys.now) components.now live → IsStrictlySortedBy text_cmp (names_of keys.now)
+        → HavePatterns (names_of keys.now) (components_in live) [] patterns.old.items
+        → IfOk result (λ defs. definitions_view defs.entries ≡ (joined_grammar (components_in live)).definitions) }
+{
+    let mut defs = IndexMap::new(alloc);
+    for place in 0..components.count() {
+        if let Some(key) = components.first_at(place)
+            && let Some(pattern) = take(patterns, key)
+        {
+            defs.insert(String::from_str(alloc, keys.name(key))?, pattern)?;
+        }
+    }
+    Ok(defs)
+}
+
+/// Takes out the pattern of a key.
+fn take(patterns: &mut Vec<Option<Pattern>>, key: usize) -> Option<Pattern>
+    ensures taken { result ≡ slice_index_or patterns.old.items key None }
+    ensures left { patterns.new.items ≡ slice_set patterns.old.items key None }
+{
+    if key < patterns.len() {
+        patterns[key].take()
+    } else {
+        None
+    }
+}
+
+impl<'c, 't, 's> Components<'c, 't, 's> {
+    /// The number of the name whose first component is at that place.
+    fn first_at(&self, place: usize) -> Option<usize>
+        ensures { (names : List Text) (live : List Live) → Lists names self.now live → IsStrictlySortedBy text_cmp names → IsFirstAt names live place result }
+    {
+        let key = self.body(self.body_at(place)?)?.component.key;
+        let first = *self.of_key(key).first()?;
+        if key != START && first == place {
+            Some(key)
+        } else {
+            None
+        }
+    }
+}
