@@ -72,32 +72,29 @@ module _ (ms : List Source) (o : IsStrictlySortedBy text_cmp (map (λ (m : Sourc
       let rest = among_same i l ns (λ k c. b k (contains_behind n k ns c)) in
       λ j. here j || rest j
 
-  pub entries_named : (rows : List (List ℕ)) → AreInclusions ms rows → map (name_at ms) (entries rows) ≡ map (λ (m : Source). m.name) (roots ms)
-  entries_named rows h =
-      ap (map (name_at ms)) (keep_same (λ x. not (list_any (λ y. eqb x y) (concat rows))) (λ x. q (name_at ms x)) numbers agree)
-      ∙ keep_mapped (name_at ms) q numbers
-      ∙ ap (filter q) named
-      ∙ sym (keep_mapped (λ (m : Source). m.name) q ms)
-    where
-      all : List Text
-      all = flat_map (λ (m : Source). includes m.tree.items) ms
+  module _ (rows : List (List ℕ)) (h : AreInclusions ms rows) where
+    abbrev numbers : List ℕ
+    numbers = range_with_len 0 (length rows)
 
-      q : Text → Bool
-      q x = not (list_any (bytes_eq x) all)
+    abbrev all : List Text
+    all = flat_map (λ (m : Source). includes m.tree.items) ms
 
-      numbers : List ℕ
-      numbers = range_with_len 0 (length rows)
+    same : all ≡ map (name_at ms) (concat rows)
+    same = joined_names (name_at ms) ms rows h.size (λ i d l. h.named i l ∙ included_at ms o i d l)
 
-      same : all ≡ map (name_at ms) (concat rows)
-      same = joined_names (name_at ms) ms rows h.size (λ i d l. h.named i l ∙ included_at ms o i d l)
+    agree : (x : ℕ) → Contains numbers x → not (list_any (λ y. eqb x y) (concat rows)) ≡ not (list_any (bytes_eq (name_at ms x)) all)
+    agree x c =
+        let below : AllBelow (length ms) (concat rows) = subst (λ n. AllBelow n (concat rows)) h.size (edges_below rows h.graph) in
+        let l : x < length ms = subst (λ n. x < n) h.size (All-contains (λ y. y < length rows) numbers x (range_below (length rows)) c) in
+        sym (ap not (ap (list_any (bytes_eq (name_at ms x))) same ∙ among_same x l (concat rows) below))
 
-      below : AllBelow (length ms) (concat rows)
-      below = subst (λ n. AllBelow n (concat rows)) h.size (edges_below rows h.graph)
+    named : map (name_at ms) numbers ≡ map (λ (m : Source). m.name) ms
+    named = sym (fill_by_all (name_at ms) (map (λ (m : Source). m.name) ms) (length rows) [] (length-map ms (λ (m : Source). m.name) ∙ sym h.size) (λ k l. refl))
 
-      agree : (x : ℕ) → Contains numbers x → not (list_any (λ y. eqb x y) (concat rows)) ≡ q (name_at ms x)
-      agree x c =
-          let l : x < length ms = subst (λ n. x < n) h.size (All-contains (λ y. y < length rows) numbers x (range_below (length rows)) c) in
-          sym (ap not (ap (list_any (bytes_eq (name_at ms x))) same ∙ among_same x l (concat rows) below))
-
-      named : map (name_at ms) numbers ≡ map (λ (m : Source). m.name) ms
-      named = sym (fill_by_all (name_at ms) (map (λ (m : Source). m.name) ms) (length rows) [] (length-map ms (λ (m : Source). m.name) ∙ sym h.size) (λ k l. refl))
+    -- the entries are the roots
+    pub entries_named : map (name_at ms) (entries rows) ≡ map (λ (m : Source). m.name) (roots ms)
+    entries_named =
+        ap (map (name_at ms)) (keep_same (λ x. not (list_any (λ y. eqb x y) (concat rows))) (λ x. not (list_any (bytes_eq (name_at ms x)) all)) numbers agree)
+        ∙ keep_mapped (name_at ms) (λ x. not (list_any (bytes_eq x) all)) numbers
+        ∙ ap (filter (λ x. not (list_any (bytes_eq x) all))) named
+        ∙ sym (keep_mapped (λ (m : Source). m.name) (λ x. not (list_any (bytes_eq x) all)) ms)

@@ -71,11 +71,9 @@ module _ (ms : List Source) where
     rise i j h l = Less-from_sorted text_cmp (map (λ (m : Source). m.name) ms) i j [] o h (omega (arith, l, length-map ms (λ (m : Source). m.name)))
 
     pub same_place : (i j : ℕ) → i < length ms → j < length ms → name_at ms i ≡ name_at ms j → i ≡ j
-    same_place i j a b e = ⊎_elim (λ q. q)
-    (⊎_elim
-    (λ h. absurd (not_itself (name_at ms j) (subst (λ z. text_cmp z (name_at ms j) ≡ Less) e (rise i j h b))))
-    (λ h. absurd (not_itself (name_at ms i) (subst (λ z. text_cmp z (name_at ms i) ≡ Less) (sym e) (rise j i h a)))))
-    (cases_order i j)
+    same_place i j a b e = ⊎_elim (λ q. q) (⊎_elim
+      (λ h. absurd (not_itself (name_at ms j) (subst (λ z. text_cmp z (name_at ms j) ≡ Less) e (rise i j h b))))
+      (λ h. absurd (not_itself (name_at ms i) (subst (λ z. text_cmp z (name_at ms i) ≡ Less) (sym e) (rise j i h a))))) (cases_order i j)
 
     module _ (rows : List (List ℕ)) (h : AreInclusions ms rows) where
       -- an include leads from a row to a row
@@ -116,9 +114,9 @@ module _ (ms : List Source) where
       no_cycle n x r = let k = loop_at x r in n k.0 k.3
 
       not_before : (i k : ℕ) → i < length ms → k < length ms → IsFirstLoop rows i → Leads rows k k → ¬ (text_cmp (name_at ms k) (name_at ms i) ≡ Less)
-      not_before i k a b f l less = ⊎_elim (λ e. not_itself (name_at ms i) (subst (λ n. text_cmp (name_at ms n) (name_at ms i) ≡ Less) e less))
-      (⊎_elim (λ lt. f.least k lt l) (λ gt. text_no_less (name_at ms i) (name_at ms k) (rise i k gt b) less))
-      (cases_order k i)
+      not_before i k a b f l less = ⊎_elim (λ e. not_itself (name_at ms i) (subst (λ n. text_cmp (name_at ms n) (name_at ms i) ≡ Less) e less)) (⊎_elim
+        (λ lt. f.least k lt l)
+        (λ gt. text_no_less (name_at ms i) (name_at ms k) (rise i k gt b) less)) (cases_order k i)
 
       pub first_cycle : (i : ℕ) → i < length ms → IsFirstLoop rows i → IsLeast text_cmp (λ y. Reaches (Includes ms) y y) (name_at ms i)
       first_cycle i l f = record {

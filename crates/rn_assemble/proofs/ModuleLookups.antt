@@ -34,7 +34,7 @@ found_named w n k (m ∷ ms) h = found_at (bytes_eq w m.name) w n k m ms refl (f
 pub place_within : (w : Text) (k : ℕ) (ms : List Source) → place_in ms w ≡ Some k → k < length ms
 place_within w k ms h = let r = found_named w 0 k ms h in omega (arith, r.1, r.2)
 
-place_name : (w : Text) (k : ℕ) (ms : List Source) → place_in ms w ≡ Some k → name_at ms k ≡ w
+pub place_name : (w : Text) (k : ℕ) (ms : List Source) → place_in ms w ≡ Some k → name_at ms k ≡ w
 place_name w k ms h = let r = found_named w 0 k ms h in let e : k ≡ r.0 = omega (arith, r.1) in ap (name_at ms) e ∙ r.3
 
 nothing_there : (depth : ℕ) (ms : List Source) (w v : Text) → modules_named w ms ≡ [] → [] ≡ components_within depth ms w v

@@ -12,10 +12,9 @@ use crate::combining::combined;
 use crate::components::{Components, components_of};
 use crate::contents::contents_of;
 use crate::grammar::Grammar;
-use crate::inclusion::{has_too_many_instances, inclusions, roots};
+use crate::inclusion::included_roots;
 use crate::keys::{Keys, START};
 use crate::modules::{Source, sources};
-use crate::order::least_looped;
 use crate::references::{least_recursive, references_of};
 use crate::refusal::Refusal;
 use indexmap::IndexMap;
@@ -47,23 +46,6 @@ fn assembled<'s>(alloc: Global, sources: &[Source<'s>]) -> Result<Grammar, Refus
     check_components(alloc, sources, &keys, &components)?;
     check_references(alloc, &keys, &components)?;
     grammar(alloc, &keys, &components)
-}
-
-/// The modules that no module includes, where no include refuses the set.
-fn included_roots(alloc: Global, sources: &[Source<'_>]) -> Result<Vec<usize>, Refusal>
-    ensures { IfErr result IsOfModules }
-{
-    let rows = inclusions(alloc, sources)?;
-    if let Some(module) = least_looped(alloc, rows.as_slice())? {
-        return Err(Refusal::Cycle {
-            module: String::from_str(alloc, sources[module].name)?,
-        });
-    }
-    let roots = roots(alloc, rows.as_slice())?;
-    if has_too_many_instances(rows.as_slice(), roots.as_slice()) {
-        return Err(Refusal::Instances);
-    }
-    Ok(roots)
 }
 
 /// Refuses overrides of what isn't there, and components that can't be combined.

@@ -2,7 +2,7 @@ use Rattle.std.proofs.Common.{◌≡◌, length, ap, sym, ◌∙◌, subst, ℕ,
 use Rattle.std.specs.declared.alloc.Global.{Global}
 use Rattle.rn_assemble.specs.Graph.{AllBelow}
 use Rattle.rn_assemble.proofs.Rows.{graph_still, below_still}
-use Rattle.rn_assemble.proofs.assembly.included_roots.Goals as goal
+use Rattle.rn_assemble.proofs.inclusion.included_roots.Goals as goal
 
 pub least_looped-requires : goal.least_looped-requires
 least_looped-requires c = graph_still _ _ c.in_ok-rows.ensures.graph c.as_slice.ensures.value
