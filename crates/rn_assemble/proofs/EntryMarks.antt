@@ -45,8 +45,8 @@ row_marked seen seen' rows k x l h e =
     e
     ∙ ap (λ b. b || list_any (λ y. eqb x y) (row rows k)) h
     ∙ sym (ap (λ rs. list_any (λ y. eqb x y) (concat rs)) (take_more rows k [] l)
-      ∙ ap (list_any (λ y. eqb x y)) (concat-append (take k rows) (row rows k ∷ []) ∙ ap (λ r. concat (take k rows) ++ r) (append-nil (row rows k)))
-      ∙ list_any-append (λ y. eqb x y) (concat (take k rows)) (row rows k))
+    ∙ ap (list_any (λ y. eqb x y)) (concat-append (take k rows) (row rows k ∷ []) ∙ ap (λ r. concat (take k rows) ++ r) (append-nil (row rows k)))
+    ∙ list_any-append (λ y. eqb x y) (concat (take k rows)) (row rows k))
 
 -- ---- the nodes without a mark, in order
 

@@ -1,5 +1,5 @@
 -- Includes by the names of modules and by their numbers.
-use Rattle.std.proofs.Common.{◌≡◌, ◌⊎◌, ⊎_elim, ℕ, zero, suc, ◌+◌, ◌<◌, true, false, List, [], ◌∷◌, length, get_or, map, Option, Some, None, refl, sym, ap, ◌∙◌, subst, arith, append-nil, Less}
+use Rattle.std.proofs.Common.{◌≡◌, ⊎_elim, ℕ, zero, suc, ◌+◌, ◌<◌, true, false, List, [], ◌∷◌, length, get_or, map, Option, Some, None, refl, sym, ap, ◌∙◌, subst, arith, append-nil, Less}
 use Rattle.std.specs.Prelude.{Contains, bytes_eq, flat_map, sum_by}
 use Rattle.std.specs.List.{list_any}
 use Rattle.std.specs.List.Sorted.{IsStrictlySortedBy}
@@ -72,8 +72,8 @@ module _ (ms : List Source) where
 
     pub same_place : (i j : ℕ) → i < length ms → j < length ms → name_at ms i ≡ name_at ms j → i ≡ j
     same_place i j a b e = ⊎_elim (λ q. q) (⊎_elim
-      (λ h. absurd (not_itself (name_at ms j) (subst (λ z. text_cmp z (name_at ms j) ≡ Less) e (rise i j h b))))
-      (λ h. absurd (not_itself (name_at ms i) (subst (λ z. text_cmp z (name_at ms i) ≡ Less) (sym e) (rise j i h a))))) (cases_order i j)
+        (λ h. absurd (not_itself (name_at ms j) (subst (λ z. text_cmp z (name_at ms j) ≡ Less) e (rise i j h b))))
+        (λ h. absurd (not_itself (name_at ms i) (subst (λ z. text_cmp z (name_at ms i) ≡ Less) (sym e) (rise j i h a))))) (cases_order i j)
 
     module _ (rows : List (List ℕ)) (h : AreInclusions ms rows) where
       -- an include leads from a row to a row
@@ -115,8 +115,8 @@ module _ (ms : List Source) where
 
       not_before : (i k : ℕ) → i < length ms → k < length ms → IsFirstLoop rows i → Leads rows k k → ¬ (text_cmp (name_at ms k) (name_at ms i) ≡ Less)
       not_before i k a b f l less = ⊎_elim (λ e. not_itself (name_at ms i) (subst (λ n. text_cmp (name_at ms n) (name_at ms i) ≡ Less) e less)) (⊎_elim
-        (λ lt. f.least k lt l)
-        (λ gt. text_no_less (name_at ms i) (name_at ms k) (rise i k gt b) less)) (cases_order k i)
+          (λ lt. f.least k lt l)
+          (λ gt. text_no_less (name_at ms i) (name_at ms k) (rise i k gt b) less)) (cases_order k i)
 
       pub first_cycle : (i : ℕ) → i < length ms → IsFirstLoop rows i → IsLeast text_cmp (λ y. Reaches (Includes ms) y y) (name_at ms i)
       first_cycle i l f = record {

@@ -1,5 +1,5 @@
 -- Row by row, and node by node.
-use Rattle.std.proofs.Common.{ℕ, Vec, ap, sym, ◌∙◌, subst, arith, eqb}
+use Rattle.std.proofs.Common.{ℕ, Vec, ap, ◌∙◌, arith, eqb}
 use Rattle.std.specs.Prelude.{◌||◌}
 use Rattle.std.specs.List.{list_any}
 use Rattle.std.specs.declared.alloc.Global.{Global}
@@ -26,9 +26,9 @@ pub loop-includer-preserved : goal.loop-includer-preserved
 loop-includer-preserved c = record {
   size = c.mark_row.ensures.size ∙ c.loop-includer.invariant.size;
   marked = λ x. row_marked c.loop-includer.included.items c.mark_row.new.included.items (rows_of c.args.rows.now) c.loop-includer.includer x
-    (omega (arith, c.loop-includer-test.true, length-map c.args.rows.now (λ (v : Vec ℕ Global). v.items)))
-    (c.loop-includer.invariant.marked x)
-    (c.mark_row.ensures.marks x ∙ ap (λ r. is_marked c.loop-includer.included.items x || list_any (λ y. eqb x y) r) c.row_at.ensures);
+      (omega (arith, c.loop-includer-test.true, length-map c.args.rows.now (λ (v : Vec ℕ Global). v.items)))
+      (c.loop-includer.invariant.marked x)
+      (c.mark_row.ensures.marks x ∙ ap (λ r. is_marked c.loop-includer.included.items x || list_any (λ y. eqb x y) r) c.row_at.ensures);
 }
 
 pub loop-node-init : goal.loop-node-init
