@@ -24,7 +24,8 @@ use std::cmp::Ordering;
 /// The most instances of modules that a set has.
 pub(crate) const INSTANCE_LIMIT: usize = 512;
 
-/// The modules that no module includes, where no include refuses the set.
+/// The modules that no module includes. Or the first refusal that stands, of `Missing`, `Cycle` and `Instances`; `Memory`
+/// stands for want of memory alone.
 pub(crate) fn included_roots(alloc: Global, sources: &[Source<'_>]) -> Result<Vec<usize>, Refusal>
     requires { IsStrictlySortedBy text_cmp (module_names sources.now) }
     ensures { MatchResult result (λ roots. AreIncluded (sources_view sources.now) roots.items) (IsFirstOfModules (sources_view sources.now)) }
