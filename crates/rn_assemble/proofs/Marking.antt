@@ -108,8 +108,11 @@ module _ (rows : List (List ℕ)) (first : List ℕ) where
           let e : get_or o l.0 0 ≡ x = get_or_default o l.0 0 x l.1 ∙ l.2 in
           w.closed l.0 (omega (arith, l.1, h)) y (subst (λ (z : ℕ). Contains (row rows z) y) (sym e) c)
 
+pub not_marked : (s : List Bool) (n : ℕ) → s ≡ replicate n false → (y : ℕ) → is_marked s y ≡ false
+not_marked s n e y = ap (λ (l : List Bool). get_or l y false) e ∙ (elim (cases_lt y n) [
+  | inl h ↦ get_or-replicate n y false false h
+  | inr h ↦ get_or_past (replicate n false) y false (omega (arith, h, length-replicate n false))
+])
+
 pub none_yet : (s : List Bool) (n : ℕ) → s ≡ replicate n false → (y : ℕ) → is_marked s y ≡ true → ⊥
-none_yet s n e y m = false≢true (sym (at n) ∙ ap (λ (l : List Bool). get_or l y false) (sym e) ∙ m)
-  where
-    at : (n : ℕ) → get_or (replicate n false) y false ≡ false
-    at n = elim (cases_lt y n) [ inl h ↦ get_or-replicate n y false false h | inr h ↦ get_or_past (replicate n false) y false (omega (arith, h, length-replicate n false)) ]
+none_yet s n e y m = false≢true (sym (not_marked s n e y) ∙ m)

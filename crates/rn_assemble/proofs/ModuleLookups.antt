@@ -1,9 +1,10 @@
 -- Modules by their names and by their places.
-use Rattle.std.proofs.Common.{◌≡◌, ℕ, zero, suc, ◌+◌, ◌<◌, Bool, true, false, cond, List, [], ◌∷◌, length, get_or, map, Option, Some, None, refl, sym, ap, ◌∙◌, arith, Less, Equal, append-nil}
+use Rattle.std.proofs.Common.{◌≡◌, ℕ, zero, suc, ◌+◌, ◌<◌, Bool, true, false, cond, List, [], ◌∷◌, length, get_or, map, Option, Some, None, refl, sym, ap, ◌∙◌, subst, arith, Less, Equal, append-nil}
 use Rattle.std.specs.Prelude.{flat_map, bytes_eq}
 use Rattle.std.specs.List.{AllByRecursion, AllZip, position_from}
 use Rattle.std.specs.List.Sorted.{IsStrictlySortedBy}
 use Rattle.std.proofs.lemmas.Cmp.{nat_list_cmp_total, tied_itself}
+use Rattle.std.proofs.lemmas.List.Elements.{All-from_recursion}
 use Rattle.std.proofs.lemmas.Slice.Eq.{bytes_eq-Decides}
 use Rattle.rn_pattern.specs.Tree.{Text}
 use Rattle.rn_pattern.specs.Order.{text_cmp}
@@ -57,18 +58,33 @@ less_at x [] i h l = absurd (omega (arith, l))
 less_at x (m ∷ ms) zero h l = h.0
 less_at x (m ∷ ms) (suc i) h l = less_at x ms i h.1 (omega (arith, l))
 
+-- the module at a place, the one of its name
+pub one_named : (ms : List Source) → IsStrictlySortedBy text_cmp (map (λ (m : Source). m.name) ms) → (i : ℕ) → i < length ms → (m : Source) × ((d : Source) → get_or ms i d ≡ m) × (modules_named (name_at ms i) ms ≡ m ∷ [])
+unfolding IsStrictlySortedBy
+one_named [] o i l = absurd (omega (arith, l))
+one_named (m ∷ ms) o zero l = (m, λ d. refl, ap (λ b. cond b (m ∷ modules_named m.name ms) (modules_named m.name ms)) ((bytes_eq-Decides m.name m.name).1 refl) ∙ ap (λ l. m ∷ l) (all_other m.name ms o.0))
+one_named (m ∷ ms) o (suc i) l =
+    let r = one_named ms o.1 i (omega (arith, l)) in
+    let x = name_at ms i in
+    let above = less_at m.name ms i o.0 (omega (arith, l)) in
+    (r.0, r.1, ap (λ b. cond b (m ∷ modules_named x ms) (modules_named x ms)) (differs x m.name (λ e. let t : Less ≡ Equal = sym above ∙ ap (text_cmp m.name) e ∙ tied_itself nat_list_cmp_total m.name in cc)) ∙ r.2)
+
+zip_at : {C : Type 0} (R : Source → C → Type 0) (ms : List Source) (cs : List C) → AllZip R ms cs → (i : ℕ) → i < length ms → (d : Source) (e : C) → R (get_or ms i d) (get_or cs i e)
+zip_at R [] cs z i l d e = absurd (omega (arith, l))
+zip_at R (m ∷ ms) [] z i l d e = absurd z
+zip_at R (m ∷ ms) (c ∷ cs) z zero l d e = z.0
+zip_at R (m ∷ ms) (c ∷ cs) z (suc i) l d e = zip_at R ms cs z.1 i (omega (arith, l)) d e
+
 -- R holds of the module at a place and what stands there
 pub module_at : {C : Type 0} (R : Source → C → Type 0) (ms : List Source) (cs : List C) → IsStrictlySortedBy text_cmp (map (λ (m : Source). m.name) ms) → AllZip R ms cs → AllByRecursion (λ (m : Source). AreFlat m.tree.items) ms → (i : ℕ) → i < length ms
     → (m : Source) × ((c : C) → R m (get_or cs i c)) × (modules_named (name_at ms i) ms ≡ m ∷ []) × AreFlat m.tree.items
-unfolding IsStrictlySortedBy
-module_at R [] cs o z f i l = absurd (omega (arith, l))
-module_at R (m ∷ ms) [] o z f i l = absurd z
-module_at R (m ∷ ms) (c ∷ cs) o z f zero l = (m, λ d. z.0, ap (λ b. cond b (m ∷ modules_named m.name ms) (modules_named m.name ms)) ((bytes_eq-Decides m.name m.name).1 refl) ∙ ap (λ l. m ∷ l) (all_other m.name ms o.0), f.0)
-module_at R (m ∷ ms) (c ∷ cs) o z f (suc i) l =
-    let r = module_at R ms cs o.1 z.1 f.1 i (omega (arith, l)) in
-    let x = name_at ms i in
-    let above = less_at m.name ms i o.0 (omega (arith, l)) in
-    (r.0, r.1, ap (λ b. cond b (m ∷ modules_named x ms) (modules_named x ms)) (differs x m.name (λ e. let t : Less ≡ Equal = sym above ∙ ap (text_cmp m.name) e ∙ tied_itself nat_list_cmp_total m.name in cc)) ∙ r.2, r.3)
+module_at R ms cs o z f i l =
+    let r = one_named ms o i l in (
+      r.0,
+      λ c. subst (λ m. R m (get_or cs i c)) (r.1 r.0) (zip_at R ms cs z i l r.0 c),
+      r.2,
+      subst (λ (m : Source). AreFlat m.tree.items) (r.1 r.0) (All-from_recursion (λ (m : Source). AreFlat m.tree.items) ms f i r.0 l),
+    )
 
 pub expanded_is : (depth : ℕ) (ms : List Source) (i : ℕ) (u : Text) (m : Source) → modules_named (name_at ms i) ms ≡ m ∷ [] → components_within (suc depth) ms (name_at ms i) u ≡ module_components (components_within depth ms) u m.tree
 expanded_is depth ms i u m e = ap (flat_map (λ (k : Source). module_components (components_within depth ms) u k.tree)) e ∙ append-nil (module_components (components_within depth ms) u m.tree)

@@ -17,8 +17,8 @@ use Rattle.rn_assemble.specs.Keyed.{IsNumber, key_at}
 use Rattle.rn_assemble.specs.Referred.{AreAllReferences, IsLeastRecursive}
 use Rattle.rn_assemble.proofs.Numbers.{same_name, names_rise, not_itself, same_number}
 use Rattle.rn_assemble.proofs.FirstLoop.{source_within}
+use Rattle.rn_assemble.proofs.Steps.{lead_first, reach_last}
 use Rattle.rn_assemble.proofs.JoinedReferences.{refers_in_definition, definition_refers_to, outside_in_definition, definition_refers_outside, outside_anywhere}
-use Rattle.rn_assemble.proofs.Rooted.{reach_last}
 
 module _ (names : List Text) (sorted : IsStrictlySortedBy text_cmp names) (cs : List Component) (all outer : List (List ℕ)) (refs : AreAllReferences names cs all outer) where
   abbrev G : Grammar
@@ -58,10 +58,6 @@ module _ (names : List Text) (sorted : IsStrictlySortedBy text_cmp names) (cs : 
       subst (Contains (row all k)) (same_number names sorted x.0 n.0 m n.1 x.1) n.2
 
   -- ---- steps outside elements
-
-  lead_first : {k m n : ℕ} → Contains (row outer k) m → Leads outer m n → Leads outer k n
-  lead_first c (by_edge d) = and_edge (by_edge c) d
-  lead_first c (and_edge l d) = and_edge (lead_first c l) d
 
   step : (a b : Text) (n : ℕ) → IsNumber names a n → IsSomeAnd (definition_of G a) (RefersOutside b) → (m : ℕ) × IsNumber names b m × Contains (row outer n) m
   step a b n i h = refs.outside.all n b i.within (subst (λ k. RefersOutside b (joined cs k)) (sym i.is) (definition_refers_outside b cs a h))

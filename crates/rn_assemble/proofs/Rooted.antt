@@ -13,6 +13,7 @@ use Rattle.rn_pattern.proofs.InOrder.{contains_behind, contains_cases, contains_
 use Rattle.rn_assemble.specs.Components.{Source, Includes, includes, modules_named, roots}
 use Rattle.rn_assemble.proofs.Depth.{wanted}
 use Rattle.rn_assemble.proofs.FoundReferences.{flat_contains, flat_contained, map_contains}
+use Rattle.rn_assemble.proofs.Steps.{reach_last}
 
 module _ {X : Type 0} where
   -- what passes a test, in what a filter keeps
@@ -39,11 +40,6 @@ module _ {X : Type 0} where
         let r = without x zs k in
         (z ∷ r.0, omega (arith, r.1), λ y other d. ⊎_elim (λ s. subst (λ w. Contains (z ∷ r.0) w) s (contains_front z r.0)) (λ j. contains_behind z y r.0 (r.2 y other j)) (contains_cases z y zs d))
   ]
-
--- one step more
-pub reach_last : {Step : Text → Text → Type 0} {a b c : Text} → Reaches Step a b → Step b c → Reaches Step a c
-reach_last (by_one s) t = by_more s (by_one t)
-reach_last (by_more s r) t = by_more s (reach_last r t)
 
 module _ (modules : List Source) where
   -- the module by which x includes y

@@ -1,18 +1,21 @@
 // Which modules include which, and what stands against it.
-ghost use Rattle.std.specs.Prelude.{◌≡◌, ◌<◌, length, vec_len, IfSome, IfOk, IfErr, MatchResult};
+ghost use Rattle.std.specs.Prelude.{◌≡◌, ◌<◌, ◌==◌, ◌||◌, ◌↔◌, ℕ, length, vec_len, option_map, sum_by, IfOk, IfSome, IsTrue, MatchResult};
+ghost use Rattle.std.specs.List.{filter_map, list_any};
 ghost use Rattle.std.specs.List.Sorted.{IsStrictlySortedBy};
 ghost use Rattle.rn_pattern.specs.Order.{text_cmp};
-ghost use Rattle.rn_assemble.specs.Answers.{IsOfModules};
 ghost use Rattle.rn_assemble.specs.Contained.{place_in};
-ghost use Rattle.rn_assemble.specs.Graph.{AllBelow, IsGraph, rows_of};
+ghost use Rattle.rn_assemble.specs.Graph.{AllBelow, IsGraph, is_marked, rows_of};
 ghost use Rattle.rn_assemble.specs.Included.{AreIncluded};
+ghost use Rattle.rn_assemble.specs.Inclusions.{AreInclusions, IsLeastAmong, IsMissing, entries};
+ghost use Rattle.rn_assemble.specs.Instances.{instances_of};
 ghost use Rattle.rn_assemble.specs.Refused.{IsFirstOfModules};
-ghost use Rattle.rn_assemble.specs.Views.{module_names, sources_view};
+ghost use Rattle.rn_assemble.specs.Views.{module_names, sources_view, texts_of};
 
 use crate::graph::row_at;
 use crate::instances::instances_up_to;
 use crate::modules::Source;
 use crate::order::least_looped;
+use crate::references::lesser_name;
 use crate::refusal::Refusal;
 use rn_syntax::includes;
 use std::alloc::{AllocError, Global};
@@ -20,6 +23,26 @@ use std::cmp::Ordering;
 
 /// The most instances of modules that a set has.
 pub(crate) const INSTANCE_LIMIT: usize = 512;
+
+/// The modules that no module includes. Or the first refusal that stands, of `Missing`, `Cycle` and `Instances`; `Memory`
+/// stands for want of memory alone.
+pub(crate) fn included_roots(alloc: Global, sources: &[Source<'_>]) -> Result<Vec<usize>, Refusal>
+    requires { IsStrictlySortedBy text_cmp (module_names sources.now) }
+    ensures { MatchResult result (λ roots. AreIncluded (sources_view sources.now) roots.items) (IsFirstOfModules (sources_view sources.now)) }
+{
+    let inclusions = inclusions(alloc, sources)?;
+    let rows = inclusions.as_slice();
+    if let Some(module) = least_looped(alloc, rows)? {
+        return Err(Refusal::Cycle {
+            module: String::from_str(alloc, sources[module].name)?,
+        });
+    }
+    let roots = roots(alloc, rows)?;
+    if has_too_many_instances(rows, roots.as_slice()) {
+        return Err(Refusal::Instances);
+    }
+    Ok(roots)
+}
 
 /// The number of the module of that name.
 pub(crate) fn module_named(sources: &[Source<'_>], name: &str) -> Option<usize>
@@ -32,31 +55,11 @@ pub(crate) fn module_named(sources: &[Source<'_>], name: &str) -> Option<usize>
     sources.binary_search_by(compare).ok()
 }
 
-/// The modules that no module includes, where no include refuses the set.
-pub(crate) fn included_roots(alloc: Global, sources: &[Source<'_>]) -> Result<Vec<usize>, Refusal>
-    requires { IsStrictlySortedBy text_cmp (module_names sources.now) }
-    ensures { MatchResult result (λ roots. AreIncluded (sources_view sources.now) roots.items) (IsFirstOfModules (sources_view sources.now)) }
-{
-    let rows = inclusions(alloc, sources)?;
-    if let Some(module) = least_looped(alloc, rows.as_slice())? {
-        return Err(Refusal::Cycle {
-            module: String::from_str(alloc, sources[module].name)?,
-        });
-    }
-    let roots = roots(alloc, rows.as_slice())?;
-    if has_too_many_instances(rows.as_slice(), roots.as_slice()) {
-        return Err(Refusal::Instances);
-    }
-    Ok(roots)
-}
-
 /// For each module, the modules that its includes name. `Missing` names the least module with an include of none, and
 /// the least literal of such an include.
-#[tactic(auto, using(crate::proofs::Rows::no_rows, crate::proofs::Rows::more_rows, crate::proofs::Rows::is_graph))]
-pub(crate) fn inclusions(alloc: Global, sources: &[Source<'_>]) -> Result<Vec<Vec<usize>>, Refusal>
-    ensures graph { IfOk result (λ rows. IsGraph (rows_of rows.items)) }
-    ensures size { IfOk result (λ rows. vec_len rows ≡ length sources.now) }
-    ensures err { IfErr result IsOfModules }
+fn inclusions(alloc: Global, sources: &[Source<'_>]) -> Result<Vec<Vec<usize>>, Refusal>
+    requires { IsStrictlySortedBy text_cmp (module_names sources.now) }
+    ensures { MatchResult result (λ rows. AreInclusions (sources_view sources.now) (rows_of rows.items)) (IsFirstOfModules (sources_view sources.now)) }
 {
     let mut rows = Vec::new(alloc);
     for source in sources {
@@ -73,32 +76,27 @@ pub(crate) fn inclusions(alloc: Global, sources: &[Source<'_>]) -> Result<Vec<Ve
 }
 
 /// The least of the literals that names no module.
-fn least_missing<'m>(sources: &[Source<'_>], wanted: &[&'m str]) -> Option<&'m str> {
+fn least_missing<'m>(sources: &[Source<'_>], wanted: &[&'m str]) -> Option<&'m str>
+    requires { IsStrictlySortedBy text_cmp (module_names sources.now) }
+    ensures { IsLeastAmong (IsMissing (sources_view sources.now)) (texts_of wanted.now) (option_map (λ s. s.now) result) }
+{
     let mut least = None;
     for literal in wanted {
         if module_named(sources, literal).is_none() {
-            least = Some(lesser(least, literal));
+            least = Some(lesser_name(least, literal));
         }
     }
     least
 }
 
-/// The lesser of two texts, or the one that there is.
-pub(crate) fn lesser<'m>(held: Option<&'m str>, other: &'m str) -> &'m str {
-    match held {
-        Some(held) if held <= other => held,
-        _ => other,
-    }
-}
-
 /// The modules that the literals name.
-#[tactic(auto, using(crate::proofs::Rows::none_below, crate::proofs::Rows::below_push))]
 fn included(
     alloc: Global,
     sources: &[Source<'_>],
     wanted: &[&str],
 ) -> Result<Vec<usize>, AllocError>
-    ensures { IfOk result (λ row. AllBelow (length sources.now) row.items) }
+    requires { IsStrictlySortedBy text_cmp (module_names sources.now) }
+    ensures { IfOk result (λ row. row.items ≡ filter_map (place_in (sources_view sources.now)) (texts_of wanted.now)) }
 {
     let mut row = Vec::new(alloc);
     for literal in wanted {
@@ -110,10 +108,9 @@ fn included(
 }
 
 /// The modules that no module includes.
-#[tactic(auto, using(crate::proofs::Rows::none_below, crate::proofs::Rows::below_push))]
-pub(crate) fn roots(alloc: Global, rows: &[Vec<usize>]) -> Result<Vec<usize>, AllocError>
+fn roots(alloc: Global, rows: &[Vec<usize>]) -> Result<Vec<usize>, AllocError>
     requires { IsGraph (rows_of rows.now) }
-    ensures { IfOk result (λ roots. AllBelow (length rows.now) roots.items) }
+    ensures { IfOk result (λ roots. roots.items ≡ entries (rows_of rows.now)) }
 {
     let mut included = vec![in alloc; false; rows.len()]?;
     for includer in 0..rows.len() {
@@ -131,7 +128,8 @@ pub(crate) fn roots(alloc: Global, rows: &[Vec<usize>]) -> Result<Vec<usize>, Al
 /// Marks the modules of a row.
 fn mark_row(included: &mut Vec<bool>, row: &[usize])
     requires { AllBelow (vec_len included.old) row.now }
-    ensures { vec_len included.new ≡ vec_len included.old }
+    ensures size { vec_len included.new ≡ vec_len included.old }
+    ensures marks { (x : ℕ) → is_marked included.new.items x ≡ (is_marked included.old.items x || list_any (λ y. x == y) row.now) }
 {
     for node in row {
         included[*node] = true;
@@ -139,9 +137,10 @@ fn mark_row(included: &mut Vec<bool>, row: &[usize])
 }
 
 /// Whether the roots have more instances than a set may have. The count stops there.
-pub(crate) fn has_too_many_instances(rows: &[Vec<usize>], roots: &[usize]) -> bool
+fn has_too_many_instances(rows: &[Vec<usize>], roots: &[usize]) -> bool
     requires graph { IsGraph (rows_of rows.now) }
     requires within { AllBelow (length rows.now) roots.now }
+    ensures { (depth : ℕ) → INSTANCE_LIMIT < depth → (IsTrue result ↔ (INSTANCE_LIMIT < sum_by (instances_of depth (rows_of rows.now)) roots.now)) }
 {
     let mut count = 0;
     for root in roots {

@@ -147,7 +147,7 @@ fn is_defined<'s>(keys: &Keys<'s>, components: &Components<'_, '_, 's>, name: &'
 }
 
 /// The lesser of two names, or the one that there is.
-fn lesser_name<'s>(held: Option<&'s str>, other: &'s str) -> &'s str
+pub(crate) fn lesser_name<'s>(held: Option<&'s str>, other: &'s str) -> &'s str
     ensures { result.now ≡ lesser_text (option_map (λ s. s.now) held.entry) other.now }
 {
     let Some(held) = held else {

@@ -1,11 +1,23 @@
-use Rattle.std.proofs.Common.{ℕ, Vec, ap, ◌∙◌}
+-- One literal more.
+use Rattle.std.proofs.Common.{ap, ◌∙◌, Vec, ℕ}
 use Rattle.std.specs.declared.alloc.Global.{Global}
-use Rattle.rn_assemble.proofs.Rows.{below_still, below_pushed}
+use Rattle.std.proofs.lemmas.List.{take_all}
+use Rattle.rn_assemble.specs.Views.{sources_view, texts_of}
+use Rattle.rn_assemble.proofs.WantedNumbers.{numbers, numbers_more, numbers_still}
 use Rattle.rn_assemble.proofs.inclusion.included.Goals as goal
 use Rattle.rn_assemble.proofs.inclusion.included.Goals.{in-Some+in_ok-push, in_default}
 
+pub loop-literal-init : goal.loop-literal-init
+loop-literal-init c = c.new-row.ensures.items
+
 pub loop-literal-preserved : goal.loop-literal-preserved
-loop-literal-preserved c = elim c.match-module_named.branch [
-  | in-Some+in_ok-push w ↦ below_pushed _ _ _ _ c.loop-literal.invariant w.in-Some.ensures.within (ap (λ (v : Vec ℕ Global). v.items) w.row-is ∙ w.in_ok-push.ensures.items)
-  | in_default w ↦ below_still _ _ _ c.loop-literal.invariant (ap (λ (v : Vec ℕ Global). v.items) w.row-is)
-]
+loop-literal-preserved c =
+    let ms = sources_view c.args.sources.now in
+    let i = c.loop-literal.literal-index in
+    elim c.match-module_named.branch [
+      | in-Some+in_ok-push w ↦ ap (λ (v : Vec ℕ Global). v.items) w.row-is ∙ w.in_ok-push.ensures.items ∙ numbers_more ms c.args.wanted.now i _ c.loop-literal.row.items c.loop-literal-test.true (w.in-Some.ensures.place c.requires) c.loop-literal.invariant
+      | in_default w ↦ ap (λ (v : Vec ℕ Global). v.items) w.row-is ∙ numbers_still ms c.args.wanted.now i c.loop-literal.row.items c.loop-literal-test.true (w.in_default.ensures.place c.requires) c.loop-literal.invariant
+    ]
+
+pub returns : goal.returns
+returns c = c.loop-literal.invariant ∙ ap (λ ws. numbers (sources_view c.args.sources.now) (texts_of ws)) (take_all c.loop-literal.literal-index c.args.wanted.now c.loop-literal-test.false)

@@ -1,6 +1,8 @@
-use Rattle.std.proofs.Common.{length}
-use Rattle.rn_assemble.specs.Graph.{AllBelow}
+-- The numbers of the literals so far.
+use Rattle.std.proofs.Common.{◌≡◌, take}
+use Rattle.rn_assemble.specs.Views.{sources_view, texts_of}
+use Rattle.rn_assemble.proofs.WantedNumbers.{numbers}
 use Rattle.rn_assemble.proofs.inclusion.included.Given as goal
 
 abbrev pub invariant-loop-literal : goal.invariant-loop-literal
-invariant-loop-literal l = AllBelow (length l.sources) l.row.items
+invariant-loop-literal l = l.row.items ≡ numbers (sources_view l.sources) (texts_of (take l.literal-index l.wanted))

@@ -1,7 +1,6 @@
-use Rattle.std.proofs.Common.{◌≡◌, length, vec_len}
-use Rattle.rn_assemble.specs.Graph.{rows_of}
-use Rattle.rn_assemble.proofs.Rows.{AreRows}
+-- The rows of the modules so far.
+use Rattle.rn_assemble.proofs.FirstIncludes.{AreBegun}
 use Rattle.rn_assemble.proofs.inclusion.inclusions.Given as goal
 
 abbrev pub invariant-loop-source : goal.invariant-loop-source
-invariant-loop-source l = AreRows (length l.sources) (rows_of l.rows.items) × (vec_len l.rows ≡ l.source-index)
+invariant-loop-source l = AreBegun l.sources l.source-index l.rows.items
