@@ -28,15 +28,11 @@ use Rattle.rn_assemble.specs.Methods.{CanCombine}
 use Rattle.rn_assemble.specs.Refusal.{Lacks, StandsFor, override}
 use Rattle.rn_assemble.specs.Refused.{IsFirstOfModules}
 use Rattle.rn_assemble.specs.Sound.{HasSoundReferences}
-use Rattle.rn_assemble.specs.Views.{module_names, source_view, sources_view}
+use Rattle.rn_assemble.specs.Views.{source_view, sources_view}
 use Rattle.rn_assemble.proofs.FirstRefusal.{NoneBelow, none_included, none_lacking, none_combined, none_sound, misnamed_first, joined_grammar_of}
 use Rattle.rn_assemble.proofs.Lacking.{lacks_alike}
 
--- names of modules, by their places
-pub source_names : (ms : List code_source.Source) → map (λ (m : Source). m.name) (sources_view ms) ≡ module_names ms
-source_names [] = refl
-source_names (m ∷ ms) = ap (λ (l : List Text). m.name.now ∷ l) (source_names ms)
-
+-- the name of a module, by its place
 pub source_name : (ms : List code_source.Source) (i : ℕ) (d : code_source.Source) → i < length ms → (get_or ms i d).name.now ≡ name_at (sources_view ms) i
 source_name ms i d l =
     sym (get_or-map (λ (n : Source). n.name) (sources_view ms) i (source_view d) [] (omega (arith, l, length-map ms source_view)) ∙ ap (λ (n : Source). n.name) (get_or-map source_view ms i d (source_view d) l))

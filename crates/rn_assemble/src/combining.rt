@@ -1,5 +1,5 @@
 // Definitions of one key combined (RELAX NG 2001, 4.17).
-ghost use Rattle.std.specs.Prelude.{◌≡◌, ◌+◌, ◌<◌, ℕ, List, Contains, Decides, None, false, length, map, option_map, IfOk, IfErr, IfSome, IsSomeAnd, MatchResult};
+ghost use Rattle.std.specs.Prelude.{◌≡◌, ◌+◌, ◌<◌, ℕ, List, Contains, Decides, None, false, length, map, option_map, IfOk, IfSome, IsSomeAnd, MatchResult};
 ghost use Rattle.std.specs.List.Sorted.{IsStrictlySortedBy};
 ghost use Rattle.std.specs.Option.{option_map_or};
 ghost use Rattle.rn_pattern.specs.Order.{text_cmp};
@@ -15,7 +15,6 @@ ghost use Rattle.rn_assemble.specs.Patterns.{AreCombined, AreShared, AreSound, I
 ghost use Rattle.rn_assemble.specs.Refusal.{BreaksNameRules};
 ghost use Rattle.rn_assemble.specs.Views.{names_of};
 ghost use Rattle.rn_assemble.specs.Methods.{IsLeastNumber, is_method};
-ghost use Rattle.rn_assemble.specs.Answers.{IsOfModules};
 
 use crate::components::{Body, Components};
 use crate::keys::Keys;
@@ -114,8 +113,7 @@ pub(crate) fn combined(
     keys: &Keys<'_>,
     components: &Components<'_, '_, '_>,
 ) -> Result<Vec<Option<Pattern>>, Refusal>
-    ensures of_modules { IfErr result IsOfModules }
-    ensures exact { (live : List Live) → Lists (names_of keys.now) components.now live → IsStrictlySortedBy text_cmp (names_of keys.now)
+    ensures { (live : List Live) → Lists (names_of keys.now) components.now live → IsStrictlySortedBy text_cmp (names_of keys.now)
         → MatchResult result (λ patterns. AreCombined (names_of keys.now) (components_in live) patterns.items) (IsMisnamed (components_in live)) }
 {
     let mut shared: Shared = vec![in alloc; None; components.count_bodies()]?;
@@ -136,7 +134,6 @@ fn join(
 ) -> Result<Option<Pattern>, Refusal>
     requires { length shared.old.items ≡ length components.now.bodies.items }
     ensures size { length shared.new.items ≡ length shared.old.items }
-    ensures of_modules { IfErr result IsOfModules }
     ensures kept { AreShared (names_of keys.now) components.now.bodies.items shared.old.items → AreShared (names_of keys.now) components.now.bodies.items shared.new.items }
     ensures exact { (live : List Live) → Lists (names_of keys.now) components.now live → IsStrictlySortedBy text_cmp (names_of keys.now) → key < length (names_of keys.now) + 1
         → AreShared (names_of keys.now) components.now.bodies.items shared.old.items
@@ -172,8 +169,7 @@ fn alone(
     components: &Components<'_, '_, '_>,
     place: usize,
 ) -> Result<Option<Pattern>, Refusal>
-    ensures of_modules { IfErr result IsOfModules }
-    ensures exact { (live : List Live) (e : Live) → Lists (names_of keys.now) components.now live → Contains live e → e.place ≡ place
+    ensures { (live : List Live) (e : Live) → Lists (names_of keys.now) components.now live → Contains live e → e.place ≡ place
         → MatchResult result (λ p. IsSomeAnd p (λ q. IsSound e.component (pattern_view q))) (IsMisnamedAs e.component.key (¬ KeepsNameRules e.component.body)) }
 {
     let Some(number) = components.body_at(place) else {
@@ -195,7 +191,6 @@ fn members(
 ) -> Result<Vec<Rc<Pattern>>, Refusal>
     requires { length shared.old.items ≡ length components.now.bodies.items }
     ensures size { length shared.new.items ≡ length shared.old.items }
-    ensures of_modules { IfErr result IsOfModules }
     ensures kept { AreShared (names_of keys.now) components.now.bodies.items shared.old.items → AreShared (names_of keys.now) components.now.bodies.items shared.new.items }
     ensures exact { (live : List Live) → Lists (names_of keys.now) components.now live → IsStrictlySortedBy text_cmp (names_of keys.now) → key < length (names_of keys.now) + 1
         → AreShared (names_of keys.now) components.now.bodies.items shared.old.items
@@ -222,7 +217,6 @@ fn member(
 ) -> Result<Option<Rc<Pattern>>, Refusal>
     requires { length shared.old.items ≡ length components.now.bodies.items }
     ensures size { length shared.new.items ≡ length shared.old.items }
-    ensures of_modules { IfErr result IsOfModules }
     ensures kept { AreShared (names_of keys.now) components.now.bodies.items shared.old.items → AreShared (names_of keys.now) components.now.bodies.items shared.new.items }
     ensures exact { (live : List Live) (e : Live) → Lists (names_of keys.now) components.now live → Contains live e → e.place ≡ place
         → AreShared (names_of keys.now) components.now.bodies.items shared.old.items
@@ -244,7 +238,6 @@ fn share(
     body: &Body<'_, '_, '_>,
     held: &mut Option<Rc<Pattern>>,
 ) -> Result<Rc<Pattern>, Refusal>
-    ensures of_modules { IfErr result IsOfModules }
     ensures kept { (key : ℕ) (c : Component) → IsBody (names_of keys.now) body.now key c → IfSome held.old (λ p. IsSound c (shared_view p)) → IfSome held.new (λ p. IsSound c (shared_view p)) }
     ensures exact { (key : ℕ) (c : Component) → IsBody (names_of keys.now) body.now key c → IfSome held.old (λ p. IsSound c (shared_view p))
         → MatchResult result (λ p. IsSound c (shared_view p)) (IsMisnamedAs c.key (¬ KeepsNameRules c.body)) }
@@ -259,8 +252,7 @@ fn share(
 
 /// The pattern of a body that keeps the restrictions on name classes.
 fn resolved(alloc: Global, keys: &Keys<'_>, body: &Body<'_, '_, '_>) -> Result<Pattern, Refusal>
-    ensures of_modules { IfErr result IsOfModules }
-    ensures exact { (key : ℕ) (c : Component) → IsBody (names_of keys.now) body.now key c
+    ensures { (key : ℕ) (c : Component) → IsBody (names_of keys.now) body.now key c
         → MatchResult result (λ p. IsSound c (pattern_view p)) (IsMisnamedAs c.key (¬ KeepsNameRules c.body)) }
 {
     let pattern = pattern(alloc, body.scope, body.component.body)?;

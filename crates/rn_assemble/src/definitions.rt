@@ -3,7 +3,6 @@ ghost use Rattle.std.specs.Prelude.{◌≡◌, List, [], None, true, length, sli
 ghost use Rattle.std.specs.List.Sorted.{IsStrictlySortedBy};
 ghost use Rattle.rn_pattern.specs.Order.{text_cmp};
 ghost use Rattle.rn_pattern.specs.Tree.{Text};
-ghost use Rattle.rn_assemble.specs.Answers.{IsOfModules};
 ghost use Rattle.rn_assemble.specs.Combine.{joined_grammar};
 ghost use Rattle.rn_assemble.specs.Components.{has_key, start_key};
 ghost use Rattle.rn_assemble.specs.GrammarView.{definitions_view};
@@ -28,8 +27,7 @@ pub(crate) fn grammar(
     keys: &Keys<'_>,
     components: &Components<'_, '_, '_>,
 ) -> Result<Grammar, Refusal>
-    ensures of_modules { IfErr result IsOfModules }
-    ensures exact { (live : List Live) → Lists (names_of keys.now) components.now live → IsStrictlySortedBy text_cmp (names_of keys.now) → has_key start_key (components_in live) ≡ true
+    ensures { (live : List Live) → Lists (names_of keys.now) components.now live → IsStrictlySortedBy text_cmp (names_of keys.now) → has_key start_key (components_in live) ≡ true
         → MatchResult result (IsJoinedGrammar (components_in live)) (IsMisnamed (components_in live)) }
 {
     let mut patterns = combined(alloc, keys, components)?;

@@ -1,10 +1,9 @@
 // References, what is reached by them, and loops.
-ghost use Rattle.std.specs.Prelude.{◌≡◌, ℕ, ◌+◌, ◌<◌, List, [], length, if◌then◌else◌, ◌++◌, vec_len, map, flat_map, option_map, Decides, IsSome, MatchOption, MatchResult, IfSome, IfOk, IfErr, OnOk};
+ghost use Rattle.std.specs.Prelude.{◌≡◌, ℕ, ◌+◌, ◌<◌, List, [], length, if◌then◌else◌, ◌++◌, vec_len, map, flat_map, option_map, Decides, IsSome, MatchOption, MatchResult, IfSome, IfOk, OnOk};
 ghost use Rattle.std.specs.List.Sorted.{IsStrictlySortedBy};
 ghost use Rattle.rn_pattern.specs.Order.{text_cmp};
 ghost use Rattle.rn_pattern.specs.Tree.{Text};
 ghost use Rattle.rn_assemble.specs.Components.{Component};
-ghost use Rattle.rn_assemble.specs.Answers.{IsOfModules};
 ghost use Rattle.rn_syntax.specs.View.{pattern_view, patterns_view};
 ghost use Rattle.rn_assemble.specs.Combine.{joined_grammar};
 ghost use Rattle.rn_assemble.specs.Listed.{Lists, Live, components_in};
@@ -38,7 +37,6 @@ pub(crate) fn references_of<'s>(
     ensures all_size { IfOk result (λ r. vec_len r.all ≡ vec_len keys.now.names + 1) }
     ensures outer { IfOk result (λ r. IsGraph (rows_of r.outer.items)) }
     ensures outer_size { IfOk result (λ r. vec_len r.outer ≡ vec_len keys.now.names + 1) }
-    ensures err { IfErr result IsOfModules }
     ensures found { (live : List Live) → Lists (names_of keys.now) components.now live → IsStrictlySortedBy text_cmp (names_of keys.now)
         → MatchResult result (λ r. AreAllReferences (names_of keys.now) (components_in live) (rows_of r.all.items) (rows_of r.outer.items)) (IsLeastUndefined (components_in live)) }
 {

@@ -1,14 +1,12 @@
 use Rattle.std.proofs.Common.{◌≡◌, ℕ, ◌+◌, List, length, sym, subst, arith, Bor}
-use Rattle.std.specs.List.Sorted.{IsStrictlySortedBy}
 use Rattle.std.proofs.lemmas.List.{length-map}
-use Rattle.rn_pattern.specs.Tree.{Text}
-use Rattle.rn_pattern.specs.Order.{text_cmp}
 use Rattle.rn_assemble.specs.declared.contents.Contents.{Contents}
 use Rattle.rn_assemble.specs.Expanded.{CanList}
 use Rattle.rn_assemble.specs.Included.{AreIncluded}
 use Rattle.rn_assemble.specs.Listed.{AreContents}
 use Rattle.rn_assemble.specs.Views.{names_of, sources_view}
-use Rattle.rn_assemble.proofs.Checks.{expanded, source_names}
+use Rattle.rn_assemble.proofs.Checks.{expanded}
+use Rattle.rn_assemble.proofs.WantedNumbers.{names_rise}
 use Rattle.rn_assemble.proofs.assembly.assembled.Goals as goal
 
 pub joined-requires : goal.joined-requires
@@ -16,7 +14,7 @@ joined-requires c =
     let modules = sources_view c.args.sources.now in
     let keys = c.in_ok-keys.keys in
     let names = names_of keys in
-    let order = subst (λ (ns : List Text). IsStrictlySortedBy text_cmp ns) (sym (source_names c.args.sources.now)) c.requires.in_order in
+    let order = names_rise c.args.sources.now c.requires.in_order in
     let included = subst (λ (ns : List ℕ). AreIncluded modules ns) (sym c.as_slice-2.ensures.value) c.in_ok-roots.ensures in
     let are = subst (λ (cs : List Contents). AreContents modules names cs) (sym c.as_slice.ensures.value) c.in_ok-contents.ensures in
     let can : CanList modules names c.as_slice.result.now = record { modules_in_order = order; names_in_order = c.in_ok-keys.ensures.in_order; flat = c.requires.flat; are = are } in

@@ -9,14 +9,14 @@ use Rattle.rn_assemble.proofs.KeyPatterns.{refused_by}
 use Rattle.rn_assemble.proofs.UsedMethods.{live_body}
 use Rattle.rn_assemble.proofs.combining.alone.Goals as goal
 
-pub returns-in_err-resolved-clause-exact : goal.returns-in_err-resolved-clause-exact
-returns-in_err-resolved-clause-exact c = λ live e h k p.
+pub returns-in_err-resolved : goal.returns-in_err-resolved
+returns-in_err-resolved c = λ live e h k p.
     let x = c.args.components.now in
     let is = live_body (names_of c.args.keys.now) x.bodies.items x.list.items (rows_of x.places.items) live e c.in-Some.number c.in-Some-body.body.now h k (ap (slice_get x.list.items) p ∙ sym c.in-Some.ensures) (sym c.in-Some-body.ensures) in
-    refused_by (λ o. IsSomeAnd o (λ q. IsSound e.component (pattern_view q))) (IsMisnamedAs e.component.key (¬ KeepsNameRules e.component.body)) c.from_residual.result c.in_err-resolved.field-0.0 c.from_residual.ensures.1 (c.in_err-resolved.ensures.exact e.key e.component is)
+    refused_by (λ o. IsSomeAnd o (λ q. IsSound e.component (pattern_view q))) (IsMisnamedAs e.component.key (¬ KeepsNameRules e.component.body)) c.from_residual.result c.in_err-resolved.field-0.0 c.from_residual.ensures.1 (c.in_err-resolved.ensures e.key e.component is)
 
-pub returns-clause-exact : goal.returns-clause-exact
-returns-clause-exact c = λ live e h k p.
+pub returns : goal.returns
+returns c = λ live e h k p.
     let x = c.args.components.now in
     let is = live_body (names_of c.args.keys.now) x.bodies.items x.list.items (rows_of x.places.items) live e c.in-Some.number c.in-Some-body.body.now h k (ap (slice_get x.list.items) p ∙ sym c.in-Some.ensures) (sym c.in-Some-body.ensures) in
-    c.in_ok-resolved.ensures.exact e.key e.component is
+    c.in_ok-resolved.ensures e.key e.component is

@@ -8,8 +8,8 @@ use Rattle.rn_assemble.specs.Views.{names_of}
 use Rattle.rn_assemble.proofs.KeyPatterns.{combined_all, combined_more, misnamed_first, refused_by}
 use Rattle.rn_assemble.proofs.combining.combined.Goals as goal
 
-pub returns-in_err-join-clause-exact : goal.returns-in_err-join-clause-exact
-returns-in_err-join-clause-exact c = λ live h o.
+pub returns-in_err-join : goal.returns-in_err-join
+returns-in_err-join c = λ live h o.
     let x = c.args.components.now in
     let names = names_of c.args.keys.now in
     let size = length-map c.args.keys.now.names.items (λ (b : Bor (List ℕ)). b.now) in
@@ -31,8 +31,8 @@ loop-key-preserved c = record {
       (c.loop-key.invariant.patterns live h o) (c.in_ok-join.ensures.exact live h o (omega (arith, within)) c.loop-key.invariant.shared);
 }
 
-pub returns-clause-exact : goal.returns-clause-exact
-returns-clause-exact c = λ live h o.
+pub returns : goal.returns
+returns c = λ live h o.
     let x = c.args.components.now in
     let names = names_of c.args.keys.now in
     let size = length-map c.args.keys.now.names.items (λ (b : Bor (List ℕ)). b.now) in

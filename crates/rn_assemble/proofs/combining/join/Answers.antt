@@ -28,7 +28,7 @@ returns-in-len1-clause-exact c = λ live h o k s.
     let size = row_size names x.bodies.items x.list.items (rows_of x.places.items) live h o c.args.key (omega (arith, k)) in
     let some : 0 < length c.of_key.result.now = omega (arith, c.in-len1.len_at_least) in
     let r = at_row names x.bodies.items x.list.items (rows_of x.places.items) live h o c.args.key (omega (arith, k)) 0 (subst (λ (l : List ℕ). 0 < length l) row_now some) in
-    let found = c.alone.ensures.exact live r.0 h r.1 (r.2 ∙ ap (λ (l : List ℕ). get_or l 0 0) (sym row_now)) in
+    let found = c.alone.ensures live r.0 h r.1 (r.2 ∙ ap (λ (l : List ℕ). get_or l 0 0) (sym row_now)) in
     MatchResult-weaker c.alone.result found
     (λ p f. one_found cs key p r.0.component (omega (arith, c.in-len1.len_at_least, c.in-len1.len_below, ap (λ (l : List ℕ). length l) row_now, size)) r.4 f)
     (λ q m. misnamed_for r.0.component.key key (¬ KeepsNameRules r.0.component.body) (BreaksNameRules cs key) q (part_of_key cs key 0 r.0.component r.3 r.4) (breaks_at cs key 0 r.0.component r.3 r.4) m)

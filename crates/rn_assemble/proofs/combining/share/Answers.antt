@@ -7,14 +7,14 @@ use Rattle.rn_assemble.proofs.combining.share.Goals as goal
 
 pub returns-in_err-resolved-clause-exact : goal.returns-in_err-resolved-clause-exact
 returns-in_err-resolved-clause-exact c = λ key d is held.
-    refused_by (λ p. IsSound d (shared_view p)) (IsMisnamedAs d.key (¬ KeepsNameRules d.body)) c.from_residual-in_err-resolved.result c.in_err-resolved.field-0.0 c.from_residual-in_err-resolved.ensures.1 (c.in_err-resolved.ensures.exact key d is)
+    refused_by (λ p. IsSound d (shared_view p)) (IsMisnamedAs d.key (¬ KeepsNameRules d.body)) c.from_residual-in_err-resolved.result c.in_err-resolved.field-0.0 c.from_residual-in_err-resolved.ensures.1 (c.in_err-resolved.ensures key d is)
 
 pub returns-clause-kept : goal.returns-clause-kept
 returns-clause-kept c = λ key d is held.
-    let sound = c.in_ok-resolved.ensures.exact key d is in
+    let sound = c.in_ok-resolved.ensures key d is in
     (ap pattern_view (c.in_ok-clone-2.ensures.cases ∙ c.in_ok-pattern.ensures.ok) ∙ sound.0, sound.1)
 
 pub returns-clause-exact : goal.returns-clause-exact
 returns-clause-exact c = λ key d is held.
-    let sound = c.in_ok-resolved.ensures.exact key d is in
+    let sound = c.in_ok-resolved.ensures key d is in
     (ap pattern_view c.in_ok-pattern.ensures.ok ∙ sound.0, sound.1)
