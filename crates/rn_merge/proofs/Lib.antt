@@ -1,3 +1,7 @@
 mod Moved
 mod Unions
 mod Checked
+mod Verdicts
+mod Brought
+mod Clashes
+mod Runs
