@@ -23,8 +23,11 @@ module _ (name : List ℕ) (revision : ℕ) (text : List ℕ) where
   ]
 
   effective : IsEffective alone name text
-  effective = (revision, record { text = Some text; held = holds; highest = λ r t h. omega (arith, (is_it name r t h).1) },
-    λ t. (λ h. sym (is_it name revision t h).2, λ e. subst (λ (o : Option (List ℕ)). Holds alone name revision o) (sym e) holds))
+  effective = (
+    revision,
+    record { text = Some text; held = holds; highest = λ r t h. omega (arith, (is_it name r t h).1) },
+    λ t. (λ h. sym (is_it name revision t h).2, λ e. subst (λ (o : Option (List ℕ)). Holds alone name revision o) (sym e) holds),
+  )
 
   only : (n t : List ℕ) → IsEffective alone n t → Contains modules (n, t)
   only n t (r, highest, texts) =
@@ -39,9 +42,12 @@ module _ (name : List ℕ) (revision : ℕ) (text : List ℕ) where
   pub effective_alone : AreEffective alone modules
   effective_alone = record {
     in_order = rises;
-    are = λ n t. (λ c. elim (in_from_contains modules (n, t) c) [
-      | inl e ↦ subst (λ (m : Module). IsEffective alone m.0 m.1) e effective
-      | inr k ↦ absurd k
-    ], only n t);
+    are = λ n t. (
+      λ c. elim (in_from_contains modules (n, t) c) [
+        | inl e ↦ subst (λ (m : Module). IsEffective alone m.0 m.1) e effective
+        | inr k ↦ absurd k
+      ],
+      only n t,
+    );
     agreed = λ n r (highest, (t, u, differ, one, other)). differ (sym (is_it n r t one).2 ∙ (is_it n r u other).2);
   }

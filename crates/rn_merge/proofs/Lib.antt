@@ -5,3 +5,4 @@ mod Verdicts
 mod Brought
 mod Clashes
 mod Runs
+mod Alone

@@ -1,6 +1,6 @@
 -- What `merge` answers is the verdict, where its parts keep their promises.
 use Rattle.std.proofs.Common.{◌≡◌, ◌≢◌, List, [], ◌∷◌, refl, sym, ap, subst, ◌∙◌}
-use Rattle.std.specs.Prelude.{IfErr, IfOk, IsSomeAnd, MatchOption, Option, None, Some, Ok, Err, string_bytes}
+use Rattle.std.specs.Prelude.{IfErr, IfOk, IsErrAnd, IsSomeAnd, MatchOption, Option, None, Some, Ok, Err, string_bytes}
 use Rattle.std.proofs.lemmas.Option.{MatchOption-at_some}
 use Rattle.rn_pattern.specs.Tree.{Text}
 use Rattle.rn_pattern.specs.Matching.{Grammar}
@@ -27,6 +27,10 @@ pub refused_first : (s : List Member) (q : code.Refusal) → IsFirstRefusal s q 
 refused_first s r.OutputTooLarge h = absurd cc
 refused_first s r.OutputTooDeep h = absurd cc
 refused_first s q h = h
+
+pub answered_first : (s : List Member) (answer : Answer) (q : code.Refusal) → IsErrAnd answer (λ e. e ≡ q) → IsFirstRefusal s q → IsAnswer s answer
+answered_first s (Ok text) q e h = absurd e
+answered_first s (Err p) q e h = subst (IsRefusedAs s) (sym e) (refused_first s q h)
 
 -- the grammar of a set has what is normalised of it as its canonical grammar
 pub normalised : (s : List Member) (g n : Grammar) → IsAssembled s g → (IsWellFormed g → IsCanonicalOf g n) → IsCanonicalOfSet s n

@@ -1,5 +1,5 @@
 // Laws of merging, over what `merge` and `run_print` promise.
-ghost use Rattle.std.specs.Prelude.{◌≡◌, ◌≢◌, ◌↔◌, ℕ, Bool, Contains, List, [], ◌∷◌};
+ghost use Rattle.std.specs.Prelude.{◌≡◌, ◌≢◌, ◌↔◌, ℕ, Bool, Contains, List, [], ◌∷◌, Option};
 ghost use Rattle.std.specs.Io.KnownBytes.{Appends};
 ghost use Rattle.rn_modset.specs.Contributions.{Member};
 ghost use Rattle.rn_modset.specs.Modules.{AreEffective};
@@ -26,7 +26,7 @@ pub fn one_answer()
 /// A text that is answered is the schema of its set. No refusal of modules stands for the set; no name is defined plainly
 /// twice in its modules, or combined by both methods (RELAX NG Specification, section 4.17). The text is read back as a
 /// module that is valid for exactly the documents of the set's definitions, combined in any pairs and any order. Merged
-/// as the one effective module of a set, under any name, it is answered again.
+/// as the one effective module of a set, or as a contribution alone, under any name, it is answered again.
 pub fn texts_are_the_schemas_of_their_sets()
     ensures unrefused { (s : List Member) (a : Answer) (text : Text) → IsAnswer s a → answer_view a ≡ Some (prints text) → (q : Refusal) → ¬ Stands s q }
     ensures plain_once { (s : List Member) (a : Answer) (text : Text) → IsAnswer s a → answer_view a ≡ Some (prints text)
@@ -36,6 +36,8 @@ pub fn texts_are_the_schemas_of_their_sets()
     ensures documents { (s : List Member) (a : Answer) (text : Text) → IsAnswer s a → answer_view a ≡ Some (prints text) → IsReadAgain s text }
     ensures again { (s : List Member) (a : Answer) (text : Text) → IsAnswer s a → answer_view a ≡ Some (prints text)
         → (u : List Member) (name : Text) → AreEffective u ((name, text) ∷ []) → (b : Answer) → IsAnswer u b → b ≢ Err refusing.Memory → answer_view b ≡ Some (prints text) }
+    ensures alone { (s : List Member) (a : Answer) (text : Text) → IsAnswer s a → answer_view a ≡ Some (prints text) → (name : Text) (revision : ℕ) → (b : Answer)
+        → IsAnswer (record { name = name; revision = revision; text = Some text } ∷ []) b → b ≢ Err refusing.Memory → answer_view b ≡ Some (prints text) }
 {}
 
 /// A refusal of modules that is answered is the first that stands for the set. So where none stands, the answer is a text,
