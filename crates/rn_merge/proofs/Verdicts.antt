@@ -15,7 +15,7 @@ use Rattle.rn_assemble.specs.Refused.{IsFirstRefusal}
 use Rattle.rn_assemble.specs.WellFormed.{IsWellFormed}
 use Rattle.rn_assemble.proofs.NoRefusal.{assembled_well_formed}
 use Rattle.rn_simplify.specs.Printed.{IsPrinted, IsUnprinted}
-use Rattle.rn_simplify.specs.Verdict.{Verdict, prints, IsCanonicalOfSet, IsVerdict}
+use Rattle.rn_simplify.specs.Verdict.{Verdict, prints, refused, too_large, too_deep, IsCanonicalOfSet, IsVerdict}
 use Rattle.rn_simplify.proofs.OneVerdict.{one_verdict}
 use Rattle.rn_simplify.proofs.PrintedAgain.{printed_again}
 use Rattle.rn_merge.specs.Verdicts.{verdict_view, IsRefusedAs, Answer, answer_view, IsAnswer}
@@ -82,9 +82,12 @@ pub verdict_is : (s : List Member) (answer : Answer) (v : Verdict) → IsAnswer 
 verdict_is s (Ok text) v h e = let same : prints (string_bytes text) ≡ v = cc in subst (IsVerdict s) same h
 verdict_is s (Err q) v h e = MatchOption-at_some (q ≡ r.Memory) (IsVerdict s) v e h
 
--- no refusal stands where the verdict is a text
-pub unrefused : (s : List Member) (text : Text) → IsVerdict s (prints text) → (q : Refusal) → ¬ Stands s q
-unrefused s text (n, (g, a, c), short, shallow, is) = a.0
+-- no refusal stands where the verdict is none
+pub unrefused : (s : List Member) (v : Verdict) → ((q : Refusal) → v ≢ refused q) → IsVerdict s v → (q : Refusal) → ¬ Stands s q
+unrefused s (refused p) other h = absurd (other p refl)
+unrefused s (prints text) other (n, (g, a, c), short, shallow, is) = a.0
+unrefused s too_large other (n, (g, a, c), long) = a.0
+unrefused s too_deep other (n, (g, a, c), short, deep) = a.0
 
 -- what is answered for a set whose one effective module is the text that is the verdict of a set
 pub again : (s : List Member) (text : Text) → IsVerdict s (prints text) → (u : List Member) (name : Text) → AreEffective u ((name, text) ∷ []) → (b : Answer) → IsAnswer u b → b ≢ Err r.Memory → answer_view b ≡ Some (prints text)

@@ -18,17 +18,16 @@ ghost use Rattle.rn_merge.specs.declared.run.RunFault.TheVariants as failing;
 ghost use Rattle.rn_merge.specs.declared.run.Status.{Status};
 ghost use Rattle.rn_merge.specs.declared.run.Status.TheVariants.{Done};
 
-/// What `merge` answers a set is one, want of memory aside: the same bytes, or the same refusal with all its fields.
+/// `merge` has one answer for a set, want of memory aside: the same bytes, or the same refusal with all its fields.
 pub fn one_answer()
     ensures { (s : List Member) (a b : Answer) → IsAnswer s a → IsAnswer s b → a ≢ Err refusing.Memory → b ≢ Err refusing.Memory → answer_view a ≡ answer_view b }
 {}
 
-/// A text that is answered is the schema of its set. No refusal of modules stands for the set; no name is defined plainly
-/// twice in its modules, or combined by both methods (RELAX NG Specification, section 4.17). The text is read back as a
-/// module that is valid for exactly the documents of the set's definitions, combined in any pairs and any order. Merged
-/// as the one effective module of a set, or as a contribution alone, under any name, it is answered again.
+/// A text that is answered is the schema of its set. No name is defined plainly twice in the set's modules, or combined by
+/// both methods (RELAX NG Specification, section 4.17). The text is read back as a module that is valid for exactly the
+/// documents of the set's definitions, combined in any pairs and any order. Merged as the one effective module of a set,
+/// or as a contribution alone, under any name, it is answered again.
 pub fn texts_are_the_schemas_of_their_sets()
-    ensures unrefused { (s : List Member) (a : Answer) (text : Text) → IsAnswer s a → answer_view a ≡ Some (prints text) → (q : Refusal) → ¬ Stands s q }
     ensures plain_once { (s : List Member) (a : Answer) (text : Text) → IsAnswer s a → answer_view a ≡ Some (prints text)
         → (modules : List Source) → AreModules s modules → (k : Key) → ¬ IsPlainTwice k (set_components modules) }
     ensures one_method { (s : List Member) (a : Answer) (text : Text) → IsAnswer s a → answer_view a ≡ Some (prints text)
@@ -40,10 +39,11 @@ pub fn texts_are_the_schemas_of_their_sets()
         → IsAnswer (record { name = name; revision = revision; text = Some text } ∷ []) b → b ≢ Err refusing.Memory → answer_view b ≡ Some (prints text) }
 {}
 
-/// A refusal of modules that is answered is the first that stands for the set. So where none stands, the answer is a text,
-/// or that the text would be too long or too deep, or want of memory.
+/// A refusal of modules is answered exactly where one stands, want of memory aside, and it is the first. So where none
+/// stands, the answer is a text, or that the text would be too long or too deep.
 pub fn refusals_stand()
-    ensures { (s : List Member) (a : Answer) (q : Refusal) → IsAnswer s a → answer_view a ≡ Some (refused q) → IsFirst s q }
+    ensures first { (s : List Member) (a : Answer) (q : Refusal) → IsAnswer s a → answer_view a ≡ Some (refused q) → IsFirst s q }
+    ensures none { (s : List Member) (a : Answer) (v : Verdict) → IsAnswer s a → answer_view a ≡ Some v → ((q : Refusal) → v ≢ refused q) → (q : Refusal) → ¬ Stands s q }
 {}
 
 /// The union of bundles holds exactly what they bring. So bundles that bring the same contributions have one union, however

@@ -6,14 +6,11 @@ use Rattle.rn_merge.proofs.Clashes.{plain_once, one_method}
 use Rattle.rn_merge.proofs.Verdicts.{verdict_is, unrefused, again}
 use Rattle.rn_merge.proofs.laws.texts_are_the_schemas_of_their_sets.Goals as goal
 
-pub returns-clause-unrefused : goal.returns-clause-unrefused
-returns-clause-unrefused c = λ s a text h e. unrefused s text (verdict_is s a (prints text) h e)
-
 pub returns-clause-plain_once : goal.returns-clause-plain_once
-returns-clause-plain_once c = λ s a text h e modules are. plain_once s modules are (unrefused s text (verdict_is s a (prints text) h e))
+returns-clause-plain_once c = λ s a text h e modules are. plain_once s modules are (unrefused s (prints text) (λ q. λ k. cc) (verdict_is s a (prints text) h e))
 
 pub returns-clause-one_method : goal.returns-clause-one_method
-returns-clause-one_method c = λ s a text h e modules are. one_method s modules are (unrefused s text (verdict_is s a (prints text) h e))
+returns-clause-one_method c = λ s a text h e modules are. one_method s modules are (unrefused s (prints text) (λ q. λ k. cc) (verdict_is s a (prints text) h e))
 
 pub returns-clause-documents : goal.returns-clause-documents
 returns-clause-documents c = λ s a text h e. printed_read s text (verdict_is s a (prints text) h e)
