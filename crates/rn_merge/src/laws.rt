@@ -55,9 +55,9 @@ pub fn contributions_alone_make_the_union()
     ensures any_order { (bundles others : List (List ℕ)) (s : List Member) (fault : RunFault) → IsUnion bundles s → AreSame bundles others → HasNoUnion others fault → fault ≡ failing.Memory }
 {}
 
-/// Runs over bundles that bring the same contributions tell one verdict: they wrote the same text, or answered the same
-/// refusal. The same bundles, in any order and however often, bring the same. What is written is read back for exactly
-/// the documents of the union's definitions.
+/// Runs that are done, over bundles that bring the same contributions, tell one verdict: they wrote the same text, or
+/// answered the same refusal. The same bundles, in any order and however often, bring the same. What is written is read
+/// back for exactly the documents of the union's definitions.
 pub fn runs_tell_one_verdict()
     ensures one { (bundles others : List (List ℕ)) (old new before after : Option (List ℕ)) (failed broken : Bool) (status other : Status)
         → IsRun bundles old new failed (Ok status) → IsRun others before after broken (Ok other) → BringSame bundles others
