@@ -1,6 +1,7 @@
 //! Merging a set of modules into one flat schema, and the work of the program `rnc-merge`.
 #![tactic(auto)]
 
+pub mod laws;
 pub mod lines;
 pub mod run;
 pub mod streams;

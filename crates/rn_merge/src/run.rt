@@ -60,8 +60,9 @@ pub fn read_bundles(alloc: Global, bundles: &[Vec<u8>]) -> Result<ModuleSet, Run
     Ok(union)
 }
 
-/// Writes the schema of the union of the bundles to a sink that has not failed. Nothing is written where there is no
-/// schema; `Write` where the sink has failed, which then took a front of the text.
+/// Writes the schema of the union of the bundles to a sink that has not failed, or answers the refusal that is the verdict
+/// of the union. Nothing is written where there is no schema; `Write` where the sink has failed, which then took a front
+/// of the text.
 pub fn run_print<W: Sink>(
     alloc: Global,
     bundles: &[Vec<u8>],
