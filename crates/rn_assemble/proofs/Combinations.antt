@@ -1,11 +1,11 @@
 -- However components are paired up and in whatever order, what is combined of them matches the same.
-use Rattle.std.proofs.Common.{◌≡◌, ◌↔◌, inl, inr, ⊎_elim, ℕ, zero, suc, Bool, true, false, ◌||◌, cond, not, List, [], ◌∷◌, ◌++◌, length, map, arith, Option, Some, None, refl, sym, ap, ◌∙◌, subst}
+use Rattle.std.proofs.Common.{◌≡◌, ◌↔◌, ℕ, zero, suc, Bool, true, false, ◌||◌, cond, not, List, [], ◌∷◌, ◌++◌, length, map, arith, Option, Some, None, refl, sym, ap, ◌∙◌, subst}
 use Rattle.std.specs.Prelude.{bytes_eq, IsSomeAnd, MatchOption, IsPermutation, filter}
 use Rattle.std.specs.Map.{lookup}
 use Rattle.std.specs.Cmp.Lexicographic.{bytes_decides}
 use Rattle.std.proofs.lemmas.Bool.{false≢true}
 use Rattle.std.proofs.lemmas.List.Sorted.{length_permutation}
-use Rattle.rn_pattern.specs.Tree.{Text, Tree, Trees, interleave, choice, no_trees, more_trees, trees_of}
+use Rattle.rn_pattern.specs.Tree.{Text, Tree, Trees, interleave, choice, trees_of}
 use Rattle.rn_pattern.specs.Document.{Attribute, Item}
 use Rattle.rn_pattern.specs.Datatype.{Table}
 use Rattle.rn_pattern.specs.Matching.{Matches, Grammar, definition_of, MatchesWithin, IsValid, Meaning}

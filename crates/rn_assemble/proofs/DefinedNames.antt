@@ -1,17 +1,13 @@
 -- The names that components define, one component after the other.
-use Rattle.std.proofs.Common.{◌≡◌, Bool, true, false, ◌||◌, cond, List, [], ◌∷◌, ◌++◌, length, map, filter, not, refl, sym, ap, ◌∙◌, subst, inl, inr, append-nil}
-use Rattle.std.specs.Prelude.{bytes_eq, String, string_bytes}
+use Rattle.std.proofs.Common.{◌≡◌, Bool, true, false, ◌||◌, cond, List, [], ◌∷◌, ◌++◌, map, filter, not, refl, sym, ap, ◌∙◌, inl, inr, append-nil}
+use Rattle.std.specs.Prelude.{bytes_eq}
 use Rattle.std.specs.List.{list_any}
-use Rattle.std.specs.declared.alloc.Global.{Global}
 use Rattle.std.proofs.lemmas.Bool.{false≢true, cases_Bool}
 use Rattle.std.proofs.lemmas.List.Elements.{filter-append}
 use Rattle.std.proofs.lemmas.Slice.Eq.{bytes_eq-Decides}
 use Rattle.rn_pattern.specs.Tree.{Text, Tree}
-use Rattle.rn_pattern.specs.View.{pattern_view}
-use Rattle.rn_pattern.specs.declared.tree.Pattern.{Pattern}
-use Rattle.rn_assemble.specs.Combine.{bodies, defined_names, first_of, of_key}
+use Rattle.rn_assemble.specs.Combine.{defined_names, first_of, of_key}
 use Rattle.rn_assemble.specs.Components.{Component, Key, has_key, name_key, same_key, start_key}
-use Rattle.rn_assemble.specs.GrammarView.{definitions_view}
 use Rattle.rn_assemble.proofs.Combinations.{is_some, named}
 
 or_first : (a b : Bool) → (a || b) ≡ false → a ≡ false

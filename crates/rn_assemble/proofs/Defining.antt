@@ -2,13 +2,11 @@
 use Rattle.std.proofs.Common.{◌≡◌, ◌≢◌, ◌⊎◌, inl, inr, ℕ, zero, suc, ◌+◌, ◌-◌, ◌<◌, ◌≤◌, Bool, true, false, ◌||◌, cond, List, [], ◌∷◌, ◌++◌, length, get_or, set, map, Option, Some, None, refl, sym, ap, ◌∙◌, subst, arith, Contains}
 use Rattle.std.specs.Prelude.{bytes_eq, option_map, String, string_bytes}
 use Rattle.std.specs.List.{AllByRecursion, list_any}
-use Rattle.std.specs.List.Sorted.{IsStrictlySortedBy}
 use Rattle.std.specs.String.{string_eq}
 use Rattle.std.specs.declared.alloc.Global.{Global}
 use Rattle.std.proofs.lemmas.Bool.{cases_Bool, cases_eq, false≢true}
 use Rattle.std.proofs.lemmas.List.{get_or-set_other, map-append}
 use Rattle.indexmap.specs.IndexMap.{insert_entry}
-use Rattle.rn_pattern.specs.Order.{text_cmp}
 use Rattle.rn_pattern.specs.Tree.{Text, Tree}
 use Rattle.rn_pattern.specs.View.{pattern_view}
 use Rattle.rn_pattern.specs.declared.tree.Pattern.{Pattern}
@@ -18,7 +16,7 @@ use Rattle.rn_assemble.specs.Components.{Component, Key, has_key, name_key, same
 use Rattle.rn_assemble.specs.GrammarView.{definitions_view}
 use Rattle.rn_assemble.specs.Keyed.{key_at}
 use Rattle.rn_assemble.specs.Listed.{IsLive, Live, ListsBy, Rises, components_in}
-use Rattle.rn_assemble.specs.Patterns.{HavePatterns, IsFirstAt, before, pattern_of, tree_at}
+use Rattle.rn_assemble.specs.Patterns.{AreCombined, HavePatterns, IsFirstAt, before, tree_at}
 use Rattle.rn_assemble.proofs.DefinedNames.{defined_known, defined_new, defined_start, names_mapped, not_among}
 use Rattle.rn_assemble.proofs.FirstPlaces.{all_before, before_more, before_next, key_there, none_before}
 use Rattle.rn_assemble.proofs.LiveLists.{each_to}
@@ -117,20 +115,22 @@ module _ (names : List Text) (live : List Live) (rises : Rises 0 live) where
       let is = pattern_is patterns entries p n f h in
       let wrong : None ≡ Some (joined cs (key_at names n)) = sym (ap (option_map pattern_view) none) ∙ is in cc
 
-  pub defining_more : (patterns : List (Option Pattern)) (entries : List (String Global × Pattern)) (p n : ℕ) (s : String Global) (q : Pattern) → IsFirstAt names live p (Some n) → Defining patterns entries p
-      → get_or patterns n None ≡ Some q → string_bytes s ≡ get_or names (n - 1) [] → Defining (set patterns n None) (insert_entry string_eq entries s q) (p + 1)
-  defining_more patterns entries p n s q f h is name =
+  -- a name begins there, and its definition is added
+  pub defining_more : (patterns : List (Option Pattern)) (entries entries' : List (String Global × Pattern)) (p n : ℕ) (s : Text) (q : Pattern) → IsFirstAt names live p (Some n) → Defining patterns entries p
+      → get_or patterns n None ≡ Some q → s ≡ get_or names (n - 1) [] → (list_any (bytes_eq s) (map (λ (d : Text × Tree). d.0) (definitions_view entries)) ≡ false → definitions_view entries' ≡ definitions_view entries ++ (s, pattern_view q) ∷ [])
+      → Defining (set patterns n None) entries' (p + 1)
+  defining_more patterns entries entries' p n s q f h is name added =
       let x = get_or names (n - 1) [] in
       let key = number_name names n f.0 in
       let more = one_more p f.2.0 f.2.1 f.2.2 in
       let absent : has_key (name_key x) (done p) ≡ false = ap (λ k. has_key k (done p)) (sym key) ∙ f.3 in
-      let new : list_any (bytes_eq (string_bytes s)) (map (λ (d : Text × Tree). d.0) (definitions_view entries)) ≡ false =
+      let new : list_any (bytes_eq s) (map (λ (d : Text × Tree). d.0) (definitions_view entries)) ≡ false =
       (λ i. list_any (bytes_eq (name i)) (map (λ (d : Text × Tree). d.0) (h.made i))) ∙ ap (list_any (bytes_eq x)) (names_mapped (λ y. joined cs (name_key y)) (defined_names (done p))) ∙ not_among x (done p) absent in
       let tree : Some (pattern_view q) ≡ Some (joined cs (key_at names n)) = sym (ap (option_map pattern_view) is) ∙ pattern_is patterns entries p n f h in
       let body : pattern_view q ≡ joined cs (name_key x) = let here : pattern_view q ≡ joined cs (key_at names n) = cc in here ∙ ap (joined cs) key in
       record {
-        made = inserted entries s q new ∙ (λ i. h.made i ++ (name i, body i) ∷ []) ∙ sym (map-append definition (defined_names (done p)) (x ∷ []))
-        ∙ ap (map definition) (sym (ap defined_names more ∙ defined_new (done p) f.2.0.component x (f.2.3 ∙ key) absent));
+        made = added new ∙ (λ i. h.made i ++ (name i, body i) ∷ []) ∙ sym (map-append definition (defined_names (done p)) (x ∷ []))
+            ∙ ap (map definition) (sym (ap defined_names more ∙ defined_new (done p) f.2.0.component x (f.2.3 ∙ key) absent));
         left = λ m above l none.
             let before_it = ap (has_key (key_at names m)) (sym more) ∙ none in
             elim (cases_eq m n) [
@@ -145,3 +145,12 @@ module _ (names : List Text) (live : List Live) (rises : Rises 0 live) where
 
 pub places_within : (names : List Text) (bodies : List Body) (list : List ℕ) (rows : List (List ℕ)) (live : List Live) (p : ℕ) → ListsBy names bodies list rows live → length list ≤ p → AllByRecursion (λ (e : Live). e.place < p) live
 places_within names bodies list rows live p h l = each_to (IsLive names bodies list) (λ (e : Live). e.place < p) (λ e k. omega (arith, k.within, l)) live h.are
+
+-- the pattern of the start, and those that are left without it
+pub start_there : (names : List Text) (cs : List Component) (patterns : List (Option Pattern)) → AreCombined names cs patterns → has_key start_key cs ≡ true → tree_at patterns 0 ≡ Some (joined cs start_key)
+start_there names cs patterns h t = h.are 0 (omega arith) ∙ ap (λ b. cond b (Some (joined cs start_key)) None) t
+
+pub others_left : (names : List Text) (cs : List Component) (patterns left : List (Option Pattern)) → AreCombined names cs patterns → left ≡ set patterns 0 None → HavePatterns names cs [] left
+others_left names cs patterns left h e = λ n above l none.
+    let other : n ≢ 0 = λ z. omega (arith, z, above) in
+    ap (λ ps. tree_at ps n) e ∙ ap (option_map pattern_view) (get_or-set_other patterns 0 n None None other) ∙ h.are n l

@@ -1,15 +1,15 @@
 -- The first component of each name, by its place.
-use Rattle.std.proofs.Common.{◌≡◌, ◌≢◌, ◌⊎◌, inl, inr, ℕ, zero, suc, ◌+◌, ◌<◌, ◌≤◌, Bool, true, false, ◌||◌, cond, List, [], ◌∷◌, ◌++◌, length, get_or, map, filter, Option, Some, None, refl, sym, ap, ◌∙◌, subst, arith, Contains, eqb}
+use Rattle.std.proofs.Common.{◌≡◌, ◌≢◌, ◌⊎◌, inl, inr, ℕ, suc, ◌+◌, ◌<◌, ◌≤◌, Bool, true, false, ◌||◌, cond, List, [], ◌∷◌, ◌++◌, length, map, filter, Some, None, refl, sym, ap, ◌∙◌, subst, arith, Contains, eqb}
 use Rattle.std.specs.Prelude.{nat_lt, slice_get}
 use Rattle.std.specs.List.{AllByRecursion}
 use Rattle.std.specs.List.Sorted.{IsStrictlySortedBy}
 use Rattle.std.proofs.lemmas.Bool.{cases_eq, cases_lt, lt-ltb, le-ltb, eq-eqb, eqb-true}
-use Rattle.std.proofs.lemmas.List.{get_or_past, length-map}
+use Rattle.std.proofs.lemmas.List.{get_or_past}
 use Rattle.rn_pattern.specs.Order.{text_cmp}
 use Rattle.rn_pattern.specs.Tree.{Text}
 use Rattle.rn_pattern.proofs.InOrder.{contained_each, contains_behind, contains_cases, contains_front}
 use Rattle.rn_assemble.specs.declared.components.Body.{Body}
-use Rattle.rn_assemble.specs.Components.{Component, Key, has_key, same_key, start_key}
+use Rattle.rn_assemble.specs.Components.{Key, has_key, same_key}
 use Rattle.rn_assemble.specs.Combine.{of_key}
 use Rattle.rn_assemble.specs.Graph.{row}
 use Rattle.rn_assemble.specs.Keyed.{key_at}
@@ -129,7 +129,7 @@ module _ (names : List Text) (bodies : List Body) (list : List ℕ) (rows : List
     | inr g ↦ let wrong : None ≡ Some q = ap (λ r. slice_get r 0) (sym (get_or_past rows k [] g)) ∙ h in cc
   ]
 
-  live_keyed : (e : Live) → Contains live e → IsKeyed names e
+  pub live_keyed : (e : Live) → Contains live e → IsKeyed names e
   live_keyed e c = keyed names bodies list e (contained_each (IsLive names bodies list) live lists.are e c)
 
   -- the first place of a row

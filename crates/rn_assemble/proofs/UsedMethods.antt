@@ -1,23 +1,18 @@
 -- The methods of the components of a key, one after the other.
-use Rattle.std.proofs.Common.{◌≡◌, ℕ, zero, suc, ◌+◌, ◌<◌, ◌≤◌, Bool, true, false, ◌||◌, cond, List, [], ◌∷◌, ◌++◌, length, get_or, take, drop, map, filter, Option, Some, None, refl, sym, ap, ◌∙◌, subst, arith, Contains, eqb, inl, inr}
-use Rattle.std.specs.Prelude.{Decides, count_by, slice_get}
-use Rattle.std.specs.List.{AllByRecursion, list_any}
+use Rattle.std.proofs.Common.{◌≡◌, ℕ, zero, suc, ◌+◌, ◌<◌, Bool, true, false, ◌||◌, cond, List, [], ◌∷◌, ◌++◌, length, get_or, take, drop, filter, Some, None, refl, sym, ap, ◌∙◌, subst, arith, Contains, eqb, inl, inr}
+use Rattle.std.specs.Prelude.{slice_get}
+use Rattle.std.specs.List.{list_any}
 use Rattle.std.specs.List.Sorted.{IsStrictlySortedBy}
-use Rattle.std.specs.Option.{option_map_or}
-use Rattle.std.proofs.lemmas.List.{length-map, get_or-map, take_more, take-append-drop, take_all}
-use Rattle.std.proofs.lemmas.List.Elements.{Contains-get_or}
+use Rattle.std.proofs.lemmas.List.{length-map, get_or-map, take_more, take-append-drop}
 use Rattle.rn_pattern.specs.Tree.{Text}
 use Rattle.rn_pattern.specs.Order.{text_cmp}
 use Rattle.rn_pattern.proofs.InOrder.{contained_each, contains_cases, contains_front, contains_behind}
-use Rattle.rn_syntax.specs.declared.token.Method.{Method}
-use Rattle.rn_syntax.specs.declared.token.Method.TheVariants as m
 use Rattle.rn_assemble.specs.declared.components.Body.{Body}
 use Rattle.rn_assemble.specs.Components.{Component}
-use Rattle.rn_assemble.specs.Combine.{is_plain, of_key}
+use Rattle.rn_assemble.specs.Combine.{of_key}
 use Rattle.rn_assemble.specs.Graph.{row}
 use Rattle.rn_assemble.specs.Keyed.{key_at}
 use Rattle.rn_assemble.specs.Listed.{IsBody, IsLive, Live, ListsBy, components_in}
-use Rattle.rn_assemble.specs.Methods.{is_method}
 use Rattle.rn_assemble.proofs.FoundReferences.{shown, all_keyed, row_is}
 use Rattle.rn_assemble.proofs.KeyedBodies.{of_key_at}
 

@@ -1,8 +1,10 @@
 // The grammar of components: the combined pattern of each key, by the names of the definitions.
-ghost use Rattle.std.specs.Prelude.{◌≡◌, List, [], None, true, length, slice_index_or, slice_set, IfErr, IfOk, MatchResult};
+ghost use Rattle.std.specs.Prelude.{◌≡◌, ◌∷◌, ◌++◌, List, [], None, false, true, bytes_eq, map, slice_index_or, slice_set, IfErr, IfOk, MatchResult, OnOk};
+ghost use Rattle.std.specs.List.{list_any};
 ghost use Rattle.std.specs.List.Sorted.{IsStrictlySortedBy};
 ghost use Rattle.rn_pattern.specs.Order.{text_cmp};
-ghost use Rattle.rn_pattern.specs.Tree.{Text};
+ghost use Rattle.rn_pattern.specs.Tree.{Text, Tree};
+ghost use Rattle.rn_pattern.specs.View.{pattern_view};
 ghost use Rattle.rn_assemble.specs.Combine.{joined_grammar};
 ghost use Rattle.rn_assemble.specs.Components.{has_key, start_key};
 ghost use Rattle.rn_assemble.specs.GrammarView.{definitions_view};
@@ -52,13 +54,28 @@ fn definitions(
 {
     let mut defs = IndexMap::new(alloc);
     for place in 0..components.count() {
-        if let Some(key) = components.first_at(place)
-            && let Some(pattern) = take(patterns, key)
-        {
-            defs.insert(String::from_str(alloc, keys.name(key))?, pattern)?;
+        if let Some(key) = components.first_at(place) {
+            if let Some(pattern) = take(patterns, key) {
+                define(alloc, &mut defs, keys.name(key), pattern)?;
+            }
         }
     }
     Ok(defs)
+}
+
+/// Adds the definition of a name, behind those of others.
+fn define(
+    alloc: Global,
+    defs: &mut IndexMap<String, Pattern>,
+    name: &str,
+    pattern: Pattern,
+) -> Result<(), Refusal>
+    ensures memory { IfErr result (λ r. r ≡ Memory) }
+    ensures added { OnOk result (list_any (bytes_eq name.now) (map (λ (d : Text × Tree). d.0) (definitions_view defs.old.entries)) ≡ false
+        → definitions_view defs.new.entries ≡ definitions_view defs.old.entries ++ (name.now, pattern_view pattern) ∷ []) }
+{
+    defs.insert(String::from_str(alloc, name)?, pattern)?;
+    Ok(())
 }
 
 /// Takes out the pattern of a key.

@@ -1,4 +1,4 @@
-use Rattle.std.proofs.Common.{◌≡◌, ◌+◌, ◌<◌, ◌≤◌, suc, List, length, sym, ap, ◌∙◌, arith, Bor, ℕ}
+use Rattle.std.proofs.Common.{◌+◌, ◌<◌, ◌≤◌, suc, List, length, ap, ◌∙◌, arith, Bor, ℕ}
 use Rattle.std.proofs.lemmas.List.{length-map, length_push}
 use Rattle.rn_assemble.specs.Graph.{rows_of}
 use Rattle.rn_assemble.specs.Joining.{IsMisnamed}
@@ -16,7 +16,7 @@ returns-in_err-join c = λ live h o.
     let within : c.loop-key.key < suc (length names) = omega (arith, c.loop-key-test.true, c.len-key-end.ensures, size, c.args.keys.now.names.ok.0) in
     refused_by (λ patterns. AreCombined names (components_in live) patterns.items) (IsMisnamed (components_in live)) c.from_residual-in_err-join.result c.in_err-join.field-0.0 c.from_residual-in_err-join.ensures.1
     (misnamed_first names x.bodies.items x.list.items (rows_of x.places.items) live h o c.loop-key.key c.in_err-join.field-0.0 within (λ m l. (c.loop-key.invariant.patterns live h o m l).1)
-        (c.in_err-join.ensures.exact live h o (omega (arith, within)) c.loop-key.invariant.shared))
+    (c.in_err-join.ensures.exact live h o (omega (arith, within)) c.loop-key.invariant.shared))
 
 pub loop-key-preserved : goal.loop-key-preserved
 loop-key-preserved c = record {

@@ -1,12 +1,9 @@
 -- The names of the components before the place are defined.
-use Rattle.std.proofs.Common.{◌≡◌, List, []}
+use Rattle.std.proofs.Common.{List, []}
 use Rattle.std.specs.List.Sorted.{IsStrictlySortedBy}
 use Rattle.rn_pattern.specs.Order.{text_cmp}
-use Rattle.rn_assemble.specs.Combine.{defined_names, joined}
-use Rattle.rn_assemble.specs.Components.{name_key}
-use Rattle.rn_assemble.specs.GrammarView.{definitions_view}
 use Rattle.rn_assemble.specs.Listed.{Lists, Live, components_in}
-use Rattle.rn_assemble.specs.Patterns.{HavePatterns, before}
+use Rattle.rn_assemble.specs.Patterns.{HavePatterns}
 use Rattle.rn_assemble.specs.Views.{names_of}
 use Rattle.rn_assemble.proofs.Defining.{Defining}
 use Rattle.rn_assemble.proofs.definitions.definitions.Given as goal

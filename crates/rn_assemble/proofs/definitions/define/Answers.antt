@@ -1,0 +1,15 @@
+use Rattle.std.proofs.Common.{◌≡◌, ◌++◌, ◌∷◌, [], map, ap, ◌∙◌}
+use Rattle.std.specs.Prelude.{bytes_eq, string_bytes}
+use Rattle.std.specs.List.{list_any}
+use Rattle.rn_pattern.specs.Tree.{Text, Tree}
+use Rattle.rn_pattern.specs.View.{pattern_view}
+use Rattle.rn_assemble.specs.GrammarView.{definitions_view}
+use Rattle.rn_assemble.proofs.Defining.{inserted}
+use Rattle.rn_assemble.proofs.definitions.define.Goals as goal
+
+pub returns-clause-added : goal.returns-clause-added
+returns-clause-added c = λ new.
+    let before = c.args.defs.now.entries in
+    let name : string_bytes c.in_ok-from_str.field-0 ≡ c.args.name.now = c.in_ok-from_str.ensures.ok in
+    let absent = ap (λ s. list_any (bytes_eq s) (map (λ (d : Text × Tree). d.0) (definitions_view before))) name ∙ new in
+    ap definitions_view c.in_ok-insert.ensures.entries ∙ inserted before c.in_ok-from_str.field-0 c.args.pattern absent ∙ ap (λ s. definitions_view before ++ (s, pattern_view c.args.pattern) ∷ []) name
