@@ -1,5 +1,4 @@
 // Module texts, and the one fault of each.
-use crate::large::repeated;
 use rn_merge::{Place, ProgramFault, check, fault_line, status};
 use std::alloc::Global;
 use std::test::Fail;
@@ -164,53 +163,6 @@ fn brackets_are_counted(rt: HostRuntime) -> Result<(), Fail> {
     assert_eq!(rt; answer(alloc, text.as_bytes())?.as_str(), "Syntax 264");
     text.push('(')?;
     assert_eq!(rt; answer(alloc, text.as_bytes())?.as_str(), "Deep 264");
-    Ok(())
-}
-
-/// Shapes of texts of about 4 MB: what stands at the front, the piece that follows so often, and the length of both in bytes.
-const LARGE: [(&str, &str, usize, usize); 6] = [
-    (
-        "start = text\n",
-        "d = element e { attribute a { text }, d* }\n",
-        95_000,
-        4_085_013,
-    ),
-    ("start = d", ", d", 1_300_000, 3_900_009),
-    (
-        "namespace a = \"u\"\nstart = text\n",
-        "[ a:b = \"c\" ] d = text\n",
-        175_000,
-        4_025_031,
-    ),
-    (
-        "namespace a = \"u\"\nstart = text\n",
-        "a:b [ \"c\" ]\n",
-        345_000,
-        4_140_031,
-    ),
-    (
-        "namespace a = \"u\"\nstart = text",
-        " >> a:b [ ]",
-        380_000,
-        4_180_030,
-    ),
-    ("start = \"a\"", " ~ \"b\"", 695_000, 4_170_011),
-];
-
-#[test]
-fn large_texts_are_read(rt: HostRuntime) -> Result<(), Fail> {
-    let alloc = rt.alloc();
-    for (front, piece, count, length) in &LARGE {
-        let good = repeated(alloc, front, piece, *count, "")?;
-        assert_eq!(rt; answer(alloc, good.as_bytes())?.as_str(), "good", "{piece}");
-        let bad = repeated(alloc, front, piece, *count, ")")?;
-        let wanted = format!(in alloc; "Syntax {length}")?;
-        assert_eq!(rt;
-            answer(alloc, bad.as_bytes())?.as_str(),
-            wanted.as_str(),
-            "{piece}"
-        );
-    }
     Ok(())
 }
 
