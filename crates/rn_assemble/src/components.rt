@@ -194,7 +194,7 @@ impl<'c, 't, 's> Components<'c, 't, 's> {
 
     /// The number of the first body of a context that was met.
     fn first_body(&self, module: usize, inherited: &str) -> Option<usize>
-        ensures { IfSome result (λ first. (q : Context) × Contains self.now.contexts.items q × (q.module ≡ «module») × (q.inherited.now ≡ inherited.now) × (q.first ≡ first)) }
+        ensures { IfSome result (λ first. (q : Context) × Contains self.now.contexts.items q × (q.«module» ≡ «module») × (q.inherited.now ≡ inherited.now) × (q.first ≡ first)) }
     {
         for context in &self.contexts {
             if context.module == module && context.inherited == inherited {

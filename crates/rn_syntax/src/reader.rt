@@ -1,19 +1,19 @@
 // The module that tokens spell.
-ghost use Rattle.std.specs.Prelude.{◌≡◌, None, IfOk, IfErr, OnOk, MatchOption, map};
+ghost use Rattle.std.specs.Prelude.{◌≡◌, [], None, IfOk, IfErr, IsTrue, OnOk, MatchOption, map};
 ghost use Rattle.rn_text.specs.Tokens.{lexeme_of};
 ghost use Rattle.rn_syntax.specs.Tokens.{terminals};
-ghost use Rattle.rn_syntax.specs.Places.{deep, first, prefix_places, builtin_places, context_places};
+ghost use Rattle.rn_syntax.specs.Places.{deep, first, declarations_places, prefix_places, builtin_places, context_places};
 ghost use Rattle.rn_syntax.specs.Fault.{HasTree};
 ghost use Rattle.rn_syntax.specs.Faults.{HasFault, HasNoFault, IsFault, IsSyntax};
 ghost use Rattle.rn_syntax.specs.Reading.{AreSpelled};
-ghost use Rattle.rn_syntax.specs.View.{module_view};
+ghost use Rattle.rn_syntax.specs.View.{declaration_view, module_view};
 
 use crate::bindings::{Bindings, bind_all};
 use crate::brackets::too_deep;
 use crate::fault::{Fault, SyntaxFault};
 use crate::modules::module;
 use crate::places::items_place;
-use crate::rules::{Builtins, ContextValues, Excepts, Prefixes};
+use crate::rules::{AllRules, Builtins, ContextValues, Excepts, Prefixes};
 use crate::terminals::place;
 use crate::tree::Module;
 use rn_text::Token;
@@ -33,20 +33,13 @@ fn tree<'a>(alloc: Global, tokens: &[Token<'a>]) -> Result<Module<'a>, SyntaxFau
     }
 }
 
-/// What the declarations of a module bind, and the place of its first wrong or unbound prefix.
-fn prefix_place<'m, 'a>(
-    alloc: Global,
-    module: &'m Module<'a>,
-) -> Result<(Bindings<'m, 'a>, Option<usize>), AllocError>
-    ensures bound { IfOk result (λ r. r.0.declarations.now ≡ «module».now.decls.items) }
-    ensures place { IfOk result (λ r. r.1 ≡ first (prefix_places (module_view «module».now))) }
+/// The place of the first unbound prefix in the items.
+fn prefix_place(bindings: &Bindings<'_, '_>, module: &Module<'_>) -> Option<usize>
+    requires bound { bindings.now.declarations.now ≡ «module».now.decls.items }
+    requires declared { first (declarations_places [] (map declaration_view «module».now.decls.items)) ≡ None }
+    ensures { result ≡ first (prefix_places (module_view «module».now)) }
 {
-    let (bindings, wrong) = bind_all(alloc, &module.decls)?;
-    if let Some(at) = wrong {
-        return Ok((bindings, Some(at)));
-    }
-    let unbound = items_place(&Prefixes(&bindings), &module.items);
-    Ok((bindings, unbound))
+    items_place(&Prefixes(bindings), &module.items)
 }
 
 /// The place of the first type of the empty library that is none of it.
@@ -65,24 +58,51 @@ fn context_value_place(bindings: &Bindings<'_, '_>, module: &Module<'_>) -> Opti
     items_place(&ContextValues(bindings), &module.items)
 }
 
-/// The first fault of a module that the grammar leaves open.
+/// Whether the items of a module are known to keep all rules, by one walk through them.
+fn keeps_rules(bindings: &Bindings<'_, '_>, module: &Module<'_>) -> bool
+    requires bound { bindings.now.declarations.now ≡ «module».now.decls.items }
+    requires declared { first (declarations_places [] (map declaration_view «module».now.decls.items)) ≡ None }
+    ensures { IsTrue result → HasNoFault (module_view «module».now) }
+{
+    match items_place(&AllRules(bindings), &module.items) {
+        None => true,
+        Some(_) => false,
+    }
+}
+
+/// The first fault in the items of a module whose declarations are bound: one walk for each kind, in their order.
+fn items_fault(bindings: &Bindings<'_, '_>, module: &Module<'_>) -> Option<SyntaxFault>
+    requires bound { bindings.now.declarations.now ≡ «module».now.decls.items }
+    requires declared { first (declarations_places [] (map declaration_view «module».now.decls.items)) ≡ None }
+    ensures { MatchOption result (HasNoFault (module_view «module».now)) (HasFault (module_view «module».now)) }
+{
+    if let Some(at) = prefix_place(bindings, module) {
+        return Some(SyntaxFault::Prefix { at });
+    }
+    if let Some(at) = builtin_place(bindings, module) {
+        return Some(SyntaxFault::Builtin { at });
+    }
+    if let Some(at) = context_value_place(bindings, module) {
+        return Some(SyntaxFault::ContextValue { at });
+    }
+    match items_place(&Excepts, &module.items) {
+        Some(at) => Some(SyntaxFault::Except { at }),
+        None => None,
+    }
+}
+
+/// The first fault of a module that the grammar leaves open. Only one that breaks a rule is walked through once a kind.
 fn fault(alloc: Global, module: &Module<'_>) -> Result<Option<SyntaxFault>, AllocError>
     ensures { IfOk result (λ found. MatchOption found (HasNoFault (module_view «module».now)) (HasFault (module_view «module».now))) }
 {
-    let (bindings, wrong) = prefix_place(alloc, module)?;
+    let (bindings, wrong) = bind_all(alloc, &module.decls)?;
     if let Some(at) = wrong {
         return Ok(Some(SyntaxFault::Prefix { at }));
     }
-    if let Some(at) = builtin_place(&bindings, module) {
-        return Ok(Some(SyntaxFault::Builtin { at }));
+    if keeps_rules(&bindings, module) {
+        return Ok(None);
     }
-    if let Some(at) = context_value_place(&bindings, module) {
-        return Ok(Some(SyntaxFault::ContextValue { at }));
-    }
-    match items_place(&Excepts, &module.items) {
-        Some(at) => Ok(Some(SyntaxFault::Except { at })),
-        None => Ok(None),
-    }
+    Ok(items_fault(&bindings, module))
 }
 
 /// The one module that the tokens spell, or the first fault.

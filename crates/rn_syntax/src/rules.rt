@@ -1,5 +1,5 @@
 // The rules on prefixes, datatypes and excepts.
-ghost use Rattle.std.specs.Prelude.{◌≡◌, [], map, not, true};
+ghost use Rattle.std.specs.Prelude.{◌≡◌, ◌++◌, [], map, not, true};
 ghost use Rattle.rn_syntax.specs.Places as places;
 ghost use Rattle.rn_syntax.specs.Places.{first};
 ghost use Rattle.rn_syntax.specs.View.{class_view, classes_view, any_view, datatype_view, pattern_view, patterns_view, declaration_view};
@@ -24,6 +24,10 @@ pub(crate) struct ContextValues<'b, 'm, 'a>(pub &'b Bindings<'m, 'a>);
 /// An except of data holds `notAllowed`, values, data and choices of these (section 7.1.4).
 #[derive(Clone, Copy)]
 pub(crate) struct Excepts;
+
+/// All of these at once.
+#[derive(Clone, Copy)]
+pub(crate) struct AllRules<'b, 'm, 'a>(pub &'b Bindings<'m, 'a>);
 
 /// The place of a namespace prefix that is not bound.
 fn unbound_namespace(bindings: &Bindings<'_, '_>, prefix: Prefix<'_>) -> Option<usize>
@@ -246,5 +250,43 @@ impl Rule for Excepts {
 
     fn inherit(&self, _: Option<Prefix<'_>>) -> Option<usize> {
         None
+    }
+}
+
+impl Rule for AllRules<'_, '_, '_> {
+    ghost classes = { λ s. places.class_places (map declaration_view s.0.now.declarations.now) };
+
+    ghost datatypes = { λ s v x ps. (places.unbound_type (map declaration_view s.0.now.declarations.now) v x ps ++ places.wrong_builtin (map declaration_view s.0.now.declarations.now) v x ps) ++ places.context_value (map declaration_view s.0.now.declarations.now) v x ps };
+
+    ghost excepts = { λ _ i p. places.place_if (not (places.is_allowed p)) i };
+
+    ghost inherits = { λ s. places.inherit_places (map declaration_view s.0.now.declarations.now) };
+
+    fn name_class(&self, class: &Nc<'_>) -> Option<usize> {
+        Prefixes(self.0).name_class(class)
+    }
+
+    #[tactic(auto, using(crate::proofs::Firsts::first_append))]
+    fn value(&self, datatype: Datatype<'_>) -> Option<usize> {
+        Prefixes(self.0)
+            .value(datatype)
+            .or(Builtins(self.0).value(datatype))
+            .or(ContextValues(self.0).value(datatype))
+    }
+
+    #[tactic(auto, using(crate::proofs::Firsts::first_append))]
+    fn data(&self, datatype: Datatype<'_>, params: &[Param<'_>]) -> Option<usize> {
+        Prefixes(self.0)
+            .data(datatype, params)
+            .or(Builtins(self.0).data(datatype, params))
+            .or(ContextValues(self.0).data(datatype, params))
+    }
+
+    fn except(&self, at: usize, excepted: &Pat<'_>) -> Option<usize> {
+        Excepts.except(at, excepted)
+    }
+
+    fn inherit(&self, prefix: Option<Prefix<'_>>) -> Option<usize> {
+        Prefixes(self.0).inherit(prefix)
     }
 }

@@ -1,4 +1,5 @@
 // Module texts, and the one fault of each.
+use crate::large::repeated;
 use rn_merge::{Place, ProgramFault, check, fault_line, status};
 use std::alloc::Global;
 use std::test::Fail;
@@ -166,6 +167,53 @@ fn brackets_are_counted(rt: HostRuntime) -> Result<(), Fail> {
     Ok(())
 }
 
+/// Shapes of texts of about 4 MB: what stands at the front, the piece that follows so often, and the length of both in bytes.
+const LARGE: [(&str, &str, usize, usize); 6] = [
+    (
+        "start = text\n",
+        "d = element e { attribute a { text }, d* }\n",
+        95_000,
+        4_085_013,
+    ),
+    ("start = d", ", d", 1_300_000, 3_900_009),
+    (
+        "namespace a = \"u\"\nstart = text\n",
+        "[ a:b = \"c\" ] d = text\n",
+        175_000,
+        4_025_031,
+    ),
+    (
+        "namespace a = \"u\"\nstart = text\n",
+        "a:b [ \"c\" ]\n",
+        345_000,
+        4_140_031,
+    ),
+    (
+        "namespace a = \"u\"\nstart = text",
+        " >> a:b [ ]",
+        380_000,
+        4_180_030,
+    ),
+    ("start = \"a\"", " ~ \"b\"", 695_000, 4_170_011),
+];
+
+#[test]
+fn large_texts_are_read(rt: HostRuntime) -> Result<(), Fail> {
+    let alloc = rt.alloc();
+    for (front, piece, count, length) in &LARGE {
+        let good = repeated(alloc, front, piece, *count, "")?;
+        assert_eq!(rt; answer(alloc, good.as_bytes())?.as_str(), "good", "{piece}");
+        let bad = repeated(alloc, front, piece, *count, ")")?;
+        let wanted = format!(in alloc; "Syntax {length}")?;
+        assert_eq!(rt;
+            answer(alloc, bad.as_bytes())?.as_str(),
+            wanted.as_str(),
+            "{piece}"
+        );
+    }
+    Ok(())
+}
+
 /// The place of a fault.
 fn place(fault: &Place) -> usize {
     match fault {
@@ -181,25 +229,34 @@ fn place(fault: &Place) -> usize {
     }
 }
 
+/// The length of the first front of a text that is refused at a place behind it, or otherwise than with status 1.
+fn wrong_front(alloc: Global, text: &[u8]) -> Option<usize> {
+    for end in 0..=text.len() {
+        if let Err(fault) = check(alloc, &text[..end]) {
+            if place(&fault) > end || status(&ProgramFault::Check(fault)) != 1 {
+                return Some(end);
+            }
+        }
+    }
+    None
+}
+
+/// Texts that hold much of the grammar.
+const RICH: [&str; 4] = [
+    "[ b ] include \"l\" inherit = p { } start = element r { attribute id { xsd:ID }?, (b & a)+ >> x [ ] } b = string - \"no\"",
+    "start = element r { attribute id { xsd:ID }?, (b & a)+ } a = element a { empty } b = element b { string - string \"no\" }",
+    "start = element r { \"\"\"a\"b\nc\"\"\" }",
+    "namespace s = \"u\" s:n [ p = \"q\" [ ] ] [ a ] x &= mixed { a* | b } >> s:y [ 'z' ]",
+];
+
 #[test]
 fn fronts_are_good_or_have_a_place_within(rt: HostRuntime) -> Result<(), Fail> {
     let alloc = rt.alloc();
-    let texts: [&[u8]; 4] = [
-        b"[ b ] include \"l\" inherit = p { } start = element r { attribute id { xsd:ID }?, (b & a)+ >> x [ ] } b = string - \"no\"",
-        b"start = element r { attribute id { xsd:ID }?, (b & a)+ } a = element a { empty } b = element b { string - string \"no\" }",
-        b"start = element r { \"\"\"a\"b\nc\"\"\" }",
-        b"namespace s = \"u\" s:n [ p = \"q\" [ ] ] [ a ] x &= mixed { a* | b } >> s:y [ 'z' ]",
-    ];
-    for text in texts {
-        for end in 0..=text.len() {
-            if let Err(fault) = check(alloc, &text[..end]) {
-                assert!(rt;
-                    place(&fault) <= end,
-                    "{fault:?} at the front of {end} bytes"
-                );
-                assert_eq!(rt; status(&ProgramFault::Check(fault)), 1);
-            }
-        }
+    for text in &RICH {
+        assert_eq!(rt; wrong_front(alloc, text.as_bytes()), None, "{text}");
+    }
+    for (text, _) in &ROWS {
+        assert_eq!(rt; wrong_front(alloc, text.as_bytes()), None, "{text}");
     }
     Ok(())
 }

@@ -62,7 +62,7 @@ fn instances_are_counted(rt: HostRuntime) -> Result<(), Fail> {
 }
 
 /// A text that so often holds a piece between a front and an end.
-fn repeated(
+pub(crate) fn repeated(
     alloc: Global,
     front: &str,
     piece: &str,
