@@ -23,7 +23,7 @@ fn one_text_has_its_bundle(rt: HostRuntime) -> Result<(), Fail> {
     let bytes = write_bundle(alloc, &set)?;
     assert_eq!(rt; bytes.len(), 97);
     assert_eq!(rt; bytes.as_slice(), ONE.as_bytes());
-    let read = read_bundle(alloc, bytes.as_slice())?;
+    let read = read_bundle(alloc, bytes.as_slice()).map_err(Fail::from)?;
     assert!(rt; read.contains(&module(alloc, "t", 7, b"abc")?));
     let line = list_line(alloc, &module(alloc, "t", 7, b"abc")?)?;
     assert_eq!(rt;
@@ -224,7 +224,7 @@ fn sets_tell_what_they_hold(rt: HostRuntime) -> Result<(), Fail> {
         lines.push_str(format!(in alloc; "{name} {revision}\n")?.as_str())?;
     }
     assert_eq!(rt; lines.as_str(), "a 1\na 2\na 3\nb 1\n");
-    let effective = set.effective(alloc)?;
+    let effective = set.effective(alloc).map_err(Fail::from)?;
     assert_eq!(rt; effective.iter().count(), 2);
     assert_eq!(rt; effective.get("a"), Some(b"x = empty".as_slice()));
     assert_eq!(rt; effective.get("c"), None);

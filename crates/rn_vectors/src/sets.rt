@@ -64,11 +64,6 @@ pub fn set_of_text(alloc: Global, text: &str) -> Result<ModuleSet, Fail> {
     Ok(set)
 }
 
-/// The text that a merge answers for one module.
-pub fn merged(alloc: Global, text: &str) -> Result<String, Fail> {
-    Ok(merge(alloc, &set_of_text(alloc, text)?)?)
-}
-
 /// The answer of a merge, as rows write it.
 pub fn answer(alloc: Global, set: &ModuleSet) -> Result<String, Fail> {
     match merge(alloc, set) {
@@ -78,11 +73,6 @@ pub fn answer(alloc: Global, set: &ModuleSet) -> Result<String, Fail> {
         },
         Err(refusal) => Ok(refusal_line(alloc, &refusal)?),
     }
-}
-
-/// The same for one module.
-pub fn answer_of_text(alloc: Global, text: &str) -> Result<String, Fail> {
-    answer(alloc, &set_of_text(alloc, text)?)
 }
 
 /// Merges each row's set, and what is printed once more.
@@ -104,7 +94,7 @@ pub fn each_prints_itself_again(rt: &(impl Abort + AllocGlobal), rows: &[Row]) -
         if let Ok(text) = merge(alloc, &set) {
             let mut again = ModuleSet::new(alloc);
             let _ = add(&mut again, module(alloc, "z", 9, text.as_bytes())?)?;
-            let reprinted = merge(alloc, &again)?;
+            let reprinted = merge(alloc, &again).map_err(Fail::from)?;
             assert_eq!(rt; reprinted.as_str(), text.as_str(), "row {at}");
         }
     }
@@ -113,9 +103,9 @@ pub fn each_prints_itself_again(rt: &(impl Abort + AllocGlobal), rows: &[Row]) -
 
 /// The lines of a set's schema, whose canonical form is built in the store.
 fn printed_in<P: Patterns>(alloc: Global, set: &ModuleSet, store: &mut P) -> Result<String, Fail> {
-    let grammar = assemble(alloc, set)?;
+    let grammar = assemble(alloc, set).map_err(Fail::from)?;
     let normal = normalise_in(alloc, &grammar, store)?;
-    let text = print(alloc, &normal)?;
+    let text = print(alloc, &normal).map_err(Fail::from)?;
     let lines = text
         .as_str()
         .strip_prefix(FIRST_LINE)

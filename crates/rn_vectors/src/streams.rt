@@ -145,7 +145,7 @@ fn a_sink_that_fails_has_the_bytes_before(rt: HostRuntime) -> Result<(), Fail> {
         assert_eq!(rt; out.taken.as_slice(), &PRINTED.as_bytes()[..place]);
     }
     let mut out = sink_of(alloc, 82);
-    let status = run_print(alloc, given.as_slice(), &mut out)?;
+    let status = run_print(alloc, given.as_slice(), &mut out).map_err(Fail::from)?;
     assert_eq!(rt; status, Status::Done);
     Ok(())
 }
@@ -154,7 +154,7 @@ fn a_sink_that_fails_has_the_bytes_before(rt: HostRuntime) -> Result<(), Fail> {
 fn nothing_is_written_without_a_schema(rt: HostRuntime) -> Result<(), Fail> {
     let alloc = rt.alloc();
     let mut out = sink_of(alloc, 1000);
-    let none = run_print(alloc, &[], &mut out)?;
+    let none = run_print(alloc, &[], &mut out).map_err(Fail::from)?;
     assert_eq!(rt; none, Status::Refused(Refusal::NoStart));
     let mut given = bundles(alloc, &[A, B])?;
     given.push(Vec::from_slice(alloc, b"rncset 1\nend 0")?)?;
@@ -175,7 +175,7 @@ fn nothing_is_written_without_a_schema(rt: HostRuntime) -> Result<(), Fail> {
 fn inputs_are_read_to_their_end(rt: HostRuntime) -> Result<(), Fail> {
     let alloc = rt.alloc();
     let mut whole = source_of(b"five!", usize::MAX);
-    let read = read_input(alloc, &mut whole, 5)?;
+    let read = read_input(alloc, &mut whole, 5).map_err(Fail::from)?;
     assert_eq!(rt; read.as_slice(), b"five!".as_slice());
     assert!(rt; whole.ended() && !whole.failed());
     assert_eq!(rt;
