@@ -5,7 +5,7 @@ use Rattle.rn_modset.specs.Contributions.{Member}
 use Rattle.rn_modset.specs.Modules as effective
 use Rattle.rn_syntax.specs.Tree.{Item, Module, items_of}
 use Rattle.rn_syntax.specs.Grammar as g
-use Rattle.rn_syntax.specs.Grammar.{Tokens, IsComponent, AreInner, MayOverride, AreItems, IsModule}
+use Rattle.rn_syntax.specs.Grammar.{Tokens, IsComponent, AreInnerItems, MayHaveOverrides, AreItems, IsModule}
 use Rattle.rn_assemble.specs.Components.{Source, item_includes, includes}
 use Rattle.rn_assemble.specs.Contained.{IsFlat, AreFlat}
 use Rattle.rn_assemble.specs.Refusal.{IsModuleOf, AreModules}
@@ -18,13 +18,13 @@ component_flat : {ts rest : Tokens} {x : Item} → IsComponent ts x rest → IsF
 component_flat (g.define p) = tt
 component_flat (g.start p) = tt
 
-inner_bare : {ts rest : Tokens} {xs : List Item} → AreInner ts xs rest → includes (items_of xs) ≡ []
+inner_bare : {ts rest : Tokens} {xs : List Item} → AreInnerItems ts xs rest → includes (items_of xs) ≡ []
 inner_bare g.none = refl
 inner_bare (g.component a c m) = let first = component_bare c in let rest = inner_bare m in λ i. first i ++ rest i
 inner_bare (g.div a n m) = let first = inner_bare n in let rest = inner_bare m in λ i. first i ++ rest i
 inner_bare (g.note n m) = inner_bare m
 
-override_bare : {ts rest : Tokens} {xs : List Item} → MayOverride ts xs rest → includes (items_of xs) ≡ []
+override_bare : {ts rest : Tokens} {xs : List Item} → MayHaveOverrides ts xs rest → includes (items_of xs) ≡ []
 override_bare g.none = refl
 override_bare (g.braces n) = inner_bare n
 

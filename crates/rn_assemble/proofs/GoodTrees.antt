@@ -11,7 +11,7 @@ use Rattle.rn_syntax.specs.Terminal.{Terminal, Placed, spelling}
 use Rattle.rn_syntax.specs.Tree as t
 use Rattle.rn_syntax.specs.Tree.{Name, Datatype, Params, AnyName, NameClass, NameClasses, Pattern, Patterns, Uri, Declaration, Item, Items, Module, patterns_of, classes_of, items_of}
 use Rattle.rn_syntax.specs.Grammar as g
-use Rattle.rn_syntax.specs.Grammar.{Tokens, IsWord, IsLiteral, Closed, IsAnnotation, MayAnnotate, AreFollows, IsDatatype, MayHaveParams, IsAnyName, IsNameClass, AreMoreClasses, IsClassOperand, IsClassPrimary, IsClassCore, IsPattern, AreMore, IsOperand, IsPrimary, IsCore, IsUri, IsDeclaration, AreDeclarations, IsComponent, IsNote, AreInner, MayInherit, MayOverride, AreItems, IsModule}
+use Rattle.rn_syntax.specs.Grammar.{Tokens, IsWord, IsLiteral, Closed, IsAnnotation, MayHaveAnnotation, AreFollows, IsDatatype, MayHaveParams, IsAnyName, IsNameClass, AreMoreClasses, IsClassOperand, IsClassPrimary, IsClassCore, IsPattern, AreMore, IsOperand, IsPrimary, IsCore, IsUri, IsDeclaration, AreDeclarations, IsComponent, IsNote, AreInnerItems, MayInherit, MayHaveOverrides, AreItems, IsModule}
 use Rattle.rn_syntax.proofs.Terms.{ascii}
 use Rattle.rn_assemble.specs.Texts.{IsName, IsXml, AreParams}
 use Rattle.rn_assemble.proofs.Terminals.{IsGood, IsGoodPlaced, AreGood, name_is, xml_append}
@@ -128,7 +128,7 @@ closed_good (g.nested c d) h = closed_good d (closed_good c h.1)
 annotation_good : {ts rest : Tokens} → IsAnnotation ts rest → AreGood ts → AreGood rest
 annotation_good (g.bracketed c) h = closed_good c h.1
 
-may_good : {ts rest : Tokens} → MayAnnotate ts rest → AreGood ts → AreGood rest
+may_good : {ts rest : Tokens} → MayHaveAnnotation ts rest → AreGood ts → AreGood rest
 may_good g.bare h = h
 may_good (g.annotated a) h = annotation_good a h
 
@@ -259,7 +259,7 @@ all_items : (xs : List Item) → AllItems xs → AreGoodItems (items_of xs)
 all_items [] h = tt
 all_items (x ∷ xs) h = (h.0, all_items xs h.1)
 
-inner_good : {ts rest : Tokens} {xs : List Item} → AreInner ts xs rest → AreGood ts → AllItems xs × AreGood rest
+inner_good : {ts rest : Tokens} {xs : List Item} → AreInnerItems ts xs rest → AreGood ts → AllItems xs × AreGood rest
 inner_good g.none h = (tt, h)
 inner_good (g.component a c m) h = let first = component_good c (may_good a h) in let rest = inner_good m first.1 in ((first.0, rest.0), rest.1)
 inner_good (g.div {ys = ys} a n m) h = let own = inner_good n (may_good a h).1.1 in let rest = inner_good m own.1.1 in ((all_items ys own.0, rest.0), rest.1)
@@ -269,7 +269,7 @@ inherit_good : {ts rest : Tokens} {i : Option (Text × ℕ)} → MayInherit ts i
 inherit_good g.none h = h
 inherit_good (g.inherit w) h = h.1.1.1
 
-override_good : {ts rest : Tokens} {xs : List Item} → MayOverride ts xs rest → AreGood ts → AllItems xs × AreGood rest
+override_good : {ts rest : Tokens} {xs : List Item} → MayHaveOverrides ts xs rest → AreGood ts → AllItems xs × AreGood rest
 override_good g.none h = (tt, h)
 override_good (g.braces n) h = let own = inner_good n h.1 in (own.0, own.1.1)
 

@@ -9,9 +9,9 @@ use Rattle.rn_syntax.specs.Terminal.{Terminal, Placed, ◌#◌, ident, operator,
 use Rattle.rn_syntax.specs.Tree as t
 use Rattle.rn_syntax.specs.Tree.{AnyName, NameClass, classes_of}
 use Rattle.rn_syntax.specs.Grammar as g
-use Rattle.rn_syntax.specs.Grammar.{Tokens, IsWord, MayAnnotate, AreFollows, IsAnyName, IsNameClass, AreMoreClasses, IsClassOperand, IsClassPrimary, IsClassCore}
+use Rattle.rn_syntax.specs.Grammar.{Tokens, IsWord, MayHaveAnnotation, AreFollows, IsAnyName, IsNameClass, AreMoreClasses, IsClassOperand, IsClassPrimary, IsClassCore}
 use Rattle.rn_syntax.specs.Follow.{Starts, Anything, first, no_bracket, no_follow, behind_name, behind_class, begins_any}
-use Rattle.rn_syntax.specs.Sequence.{Then, both, Gives, gives, IsToken, token, IsHere, IsClassEnd, IsAnyEnd}
+use Rattle.rn_syntax.specs.Sequence.{Then, both, Gives, gives, IsToken, token, IsHere, IsClassEnd, IsAnyClassEnd}
 use Rattle.rn_syntax.specs.Reading.{Took, Stuck, Bare, seen, IsNext}
 use Rattle.rn_syntax.proofs.OneClass.{class_core_one, class_core_front, any_no_bracket, any_one, word_is, minus_stays, name_to_follow, class_to_name, starts_to}
 use Rattle.rn_syntax.proofs.Compose.{Upto, Fits, Can, CanBe, upto_at, upto_token, upto_then, took_upto, stuck_upto, reads, stuck_in, took_gives, first_alike, stuck_here, fits_anything, fits_token, fits_gives, can_gives, can_then}
@@ -134,33 +134,33 @@ end_front (both k d) = class_core_front k
 pub fits_end : Fits (Starts no_bracket) (λ (u : Unit {0}). IsClassEnd) (Starts behind_name)
 fits_end = record { fits = λ u mid k r d g. end_front d }
 
-pub primary_start : {ts : Tokens} → Upto IsClassPrimary (Then (Bare MayAnnotate) (λ (u : Unit {0}). IsClassEnd)) (Starts behind_name) ts ts
+pub primary_start : {ts : Tokens} → Upto IsClassPrimary (Then (Bare MayHaveAnnotation) (λ (u : Unit {0}). IsClassEnd)) (Starts behind_name) ts ts
 primary_start = upto_at (λ t z r d. to d) (λ t a z r d g. from d)
   where
-    to : {t r : Tokens} {z : NameClass} → Then (Bare MayAnnotate) (λ (u : Unit {0}). IsClassEnd) t z r → IsClassPrimary t z r
+    to : {t r : Tokens} {z : NameClass} → Then (Bare MayHaveAnnotation) (λ (u : Unit {0}). IsClassEnd) t z r → IsClassPrimary t z r
     to (both a (both k (both f gives))) = g.primary a k f
 
-    from : {t r : Tokens} {z : NameClass} → IsClassPrimary t z r → Then (Bare MayAnnotate) (λ (u : Unit {0}). IsClassEnd) t z r
+    from : {t r : Tokens} {z : NameClass} → IsClassPrimary t z r → Then (Bare MayHaveAnnotation) (λ (u : Unit {0}). IsClassEnd) t z r
     from (g.primary a k f) = both a (both k (both f gives))
 
-pub primary_body : {ts body : Tokens} → Took (Bare MayAnnotate) (Starts no_bracket) ts tt body → Upto IsClassPrimary IsClassEnd (Starts behind_name) ts body
+pub primary_body : {ts body : Tokens} → Took (Bare MayHaveAnnotation) (Starts no_bracket) ts tt body → Upto IsClassPrimary IsClassEnd (Starts behind_name) ts body
 primary_body a = upto_then primary_start (reads fits_end a)
 
-pub primary_stuck : {ts bad : Tokens} → Stuck (Bare MayAnnotate) (Starts no_bracket) ts bad → Stuck IsClassPrimary (Starts behind_name) ts bad
+pub primary_stuck : {ts bad : Tokens} → Stuck (Bare MayHaveAnnotation) (Starts no_bracket) ts bad → Stuck IsClassPrimary (Starts behind_name) ts bad
 primary_stuck a = stuck_upto primary_start (stuck_in fits_end can_end a)
 
 any_core_is : {y : Placed} {us r : Tokens} {k : NameClass} {a : AnyName} → IsClassCore (y ∷ us) k r → IsAnyName y a → (k ≡ t.all a) × (r ≡ us)
 any_core_is {us = us} k n = class_core_one k (g.any_name n)
 
-any_to : {y : Placed} {a : AnyName} {t r : Tokens} {z : NameClass} → IsAnyName y a → IsAnyEnd a t z r → IsClassEnd (y ∷ t) z r
+any_to : {y : Placed} {a : AnyName} {t r : Tokens} {z : NameClass} → IsAnyName y a → IsAnyClassEnd a t z r → IsClassEnd (y ∷ t) z r
 any_to n (both f gives) = both (g.any_name n) (both f gives)
 
-any_from : {y : Placed} {a : AnyName} {t r : Tokens} {z : NameClass} → IsAnyName y a → IsClassEnd (y ∷ t) z r → IsAnyEnd a t z r
+any_from : {y : Placed} {a : AnyName} {t r : Tokens} {z : NameClass} → IsAnyName y a → IsClassEnd (y ∷ t) z r → IsAnyClassEnd a t z r
 any_from {a = a} {t = t} {r = r} n (both {a = k} k' (both f gives)) =
     let s = any_core_is k' n in
-    subst (λ (z : NameClass). IsAnyEnd a t z r) (sym s.0) (both (subst (λ (l : Tokens). AreFollows l r) s.1 f) gives)
+    subst (λ (z : NameClass). IsAnyClassEnd a t z r) (sym s.0) (both (subst (λ (l : Tokens). AreFollows l r) s.1 f) gives)
 
-pub any_at : {now next : Tokens} {a : AnyName} → IsHere IsAnyName now a next → Upto IsClassEnd (IsAnyEnd a) (Starts behind_name) now next
+pub any_at : {now next : Tokens} {a : AnyName} → IsHere IsAnyName now a next → Upto IsClassEnd (IsAnyClassEnd a) (Starts behind_name) now next
 any_at h = upto_token h.here (λ t z r d. any_to h.holds d) (λ t z r d g. any_from h.holds d)
 
 -- ---- operands
@@ -184,21 +184,21 @@ fits_operand = record { fits = λ u mid k r d g. operand_front d }
 can_operand : Can (λ (u : Unit {0}). OperandEnd)
 can_operand more = let w = can_then can_core can_followed more in (w.0, λ u. (w.1, plain_end w.2))
 
-operand_start : {ts : Tokens} → Upto IsClassOperand (Then (Bare MayAnnotate) (λ (u : Unit {0}). OperandEnd)) (Starts behind_name) ts ts
+operand_start : {ts : Tokens} → Upto IsClassOperand (Then (Bare MayHaveAnnotation) (λ (u : Unit {0}). OperandEnd)) (Starts behind_name) ts ts
 operand_start = upto_at (λ t z r d. to d) (λ t a z r d g. from d)
   where
-    to : {t r : Tokens} {z : NameClass} → Then (Bare MayAnnotate) (λ (u : Unit {0}). OperandEnd) t z r → IsClassOperand t z r
+    to : {t r : Tokens} {z : NameClass} → Then (Bare MayHaveAnnotation) (λ (u : Unit {0}). OperandEnd) t z r → IsClassOperand t z r
     to (both a (plain_end (both k (both f gives)))) = g.plain (g.primary a k f)
     to (both a (except_end n p)) = g.except a n p
 
-    from : {t r : Tokens} {z : NameClass} → IsClassOperand t z r → Then (Bare MayAnnotate) (λ (u : Unit {0}). OperandEnd) t z r
+    from : {t r : Tokens} {z : NameClass} → IsClassOperand t z r → Then (Bare MayHaveAnnotation) (λ (u : Unit {0}). OperandEnd) t z r
     from (g.plain (g.primary a k f)) = both a (plain_end (both k (both f gives)))
     from (g.except a n p) = both a (except_end n p)
 
-pub operand_body : {ts body : Tokens} → Took (Bare MayAnnotate) (Starts no_bracket) ts tt body → Upto IsClassOperand OperandEnd (Starts behind_name) ts body
+pub operand_body : {ts body : Tokens} → Took (Bare MayHaveAnnotation) (Starts no_bracket) ts tt body → Upto IsClassOperand OperandEnd (Starts behind_name) ts body
 operand_body a = upto_then operand_start (reads fits_operand a)
 
-pub operand_stuck : {ts bad : Tokens} → Stuck (Bare MayAnnotate) (Starts no_bracket) ts bad → Stuck IsClassOperand (Starts behind_name) ts bad
+pub operand_stuck : {ts bad : Tokens} → Stuck (Bare MayHaveAnnotation) (Starts no_bracket) ts bad → Stuck IsClassOperand (Starts behind_name) ts bad
 operand_stuck a = stuck_upto operand_start (stuck_in fits_operand can_operand a)
 
 any_begins : {y : Placed} {a : AnyName} (us : Tokens) → IsAnyName y a → begins_any (first (y ∷ us)) ≡ true
@@ -217,7 +217,7 @@ tail_to : {y : Placed} {a : AnyName} {t r : Tokens} {z : NameClass} → IsAnyNam
 tail_to n (plain_tail f) = plain_end (both (g.any_name n) (both f gives))
 tail_to n (except_tail p) = except_end n p
 
-plain_from : {a : AnyName} {t r : Tokens} {z : NameClass} → IsAnyEnd a t z r → AnyTail a t z r
+plain_from : {a : AnyName} {t r : Tokens} {z : NameClass} → IsAnyClassEnd a t z r → AnyTail a t z r
 plain_from (both f gives) = plain_tail f
 
 tail_from : {y : Placed} {a : AnyName} {t r : Tokens} {z : NameClass} → IsAnyName y a → OperandEnd (y ∷ t) z r → AnyTail a t z r
@@ -254,10 +254,10 @@ not_minus : (y : code.Terminal) → (y ≡ c.Minus → ⊥) → unwrap_or (seen 
 not_minus c.Minus h e = h refl
 not_minus y h e = cc
 
-pub tail_plain : (a : AnyName) (now behind : Tokens) (y : code.Terminal) → IsNext now (seen y) behind → (y ≡ c.Minus → ⊥) → Upto (AnyTail a) (IsAnyEnd a) (Starts behind_name) now now
+pub tail_plain : (a : AnyName) (now behind : Tokens) (y : code.Terminal) → IsNext now (seen y) behind → (y ≡ c.Minus → ⊥) → Upto (AnyTail a) (IsAnyClassEnd a) (Starts behind_name) now now
 tail_plain a now behind y e h = upto_at (λ t z r d. plain_from d) (λ t b z r d g. from (λ f. not_minus y h (sym (first_next now behind (seen y) e) ∙ sym (first_alike b) ∙ f)) d)
   where
-    from : {t r : Tokens} {z : NameClass} → (first t ≡ minus → ⊥) → AnyTail a t z r → IsAnyEnd a t z r
+    from : {t r : Tokens} {z : NameClass} → (first t ≡ minus → ⊥) → AnyTail a t z r → IsAnyClassEnd a t z r
     from n (plain_tail f) = both f gives
     from n (except_tail p) = absurd (n refl)
 

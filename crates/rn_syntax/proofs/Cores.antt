@@ -10,7 +10,7 @@ use Rattle.rn_syntax.specs.Grammar as g
 use Rattle.rn_syntax.specs.Grammar.{Tokens, IsLiteral, IsDatatype, MayHaveParams, IsNameClass, IsPattern, IsCore}
 use Rattle.rn_syntax.specs.Follow.{Starts, Anything, first, behind_core, behind_class, behind_pattern}
 use Rattle.rn_syntax.specs.Sequence.{Then, both, Gives, gives, IsToken, token}
-use Rattle.rn_syntax.specs.Parts.{IsBraced, IsContent}
+use Rattle.rn_syntax.specs.Parts.{IsBraced, IsNamed}
 use Rattle.rn_syntax.specs.Reading.{Took, Stuck, rest}
 use Rattle.rn_syntax.proofs.Compose.{Upto, Fits, Can, CanBe, upto_token, upto_then, took_upto, stuck_upto, reads, stuck_in, took_gives, can_then, can_token, fits_anything, fits_token}
 use Rattle.rn_syntax.proofs.Next.{terminal_at}
@@ -76,17 +76,17 @@ can_braced = can_then (can_token left_brace) can_closed
 can_pair : Can {C = Pair} Behind
 can_pair more = let w = can_braced more in (w.0, λ c. ((c, w.1), both w.2 gives))
 
-pub class_stuck : {ts bad : Tokens} → Stuck IsNameClass (Starts behind_class) ts bad → Stuck IsContent Anything ts bad
+pub class_stuck : {ts bad : Tokens} → Stuck IsNameClass (Starts behind_class) ts bad → Stuck IsNamed Anything ts bad
 class_stuck h = stuck_in fits_braced can_pair h
 
 module _ {ts now : Tokens} {c : NameClass} (h : Took IsNameClass (Starts behind_class) ts c now) where
-  class_read : Upto IsContent (Behind c) Anything ts now
+  class_read : Upto IsNamed (Behind c) Anything ts now
   class_read = reads fits_braced h
 
-  pub content_stuck : {bad : Tokens} → Stuck IsBraced Anything now bad → Stuck IsContent Anything ts bad
+  pub content_stuck : {bad : Tokens} → Stuck IsBraced Anything now bad → Stuck IsNamed Anything ts bad
   content_stuck b = stuck_upto class_read (stuck_in fits_anything (can_given {C = Pair} (λ p. (c, p))) b)
 
-  pub content_took : {end : Tokens} {p : Pattern} → Took IsBraced Anything now p end → Took IsContent Anything ts (c, p) end
+  pub content_took : {end : Tokens} {p : Pattern} → Took IsBraced Anything now p end → Took IsNamed Anything ts (c, p) end
   content_took {end = end} {p = p} b = took_upto (upto_then class_read (reads fits_anything b)) (took_gives {A = Pair} (c, p) end)
 
 -- ---- at a keyword
@@ -94,14 +94,14 @@ module _ {ts now : Tokens} {c : NameClass} (h : Took IsNameClass (Starts behind_
 pub keyword_here : (xs : List Token) (at : ℕ) {w : Keyword} (v : Keyword) → at < length xs → first (rest xs at) ≡ keyword w → w ≡ v → (i : ℕ) × (rest xs at ≡ keyword v # i ∷ rest xs (at + 1))
 keyword_here xs at v h e f = terminal_at xs at (keyword v) h (e ∙ ap (λ (w : Keyword). keyword w) f)
 
-can_content : CanBe IsContent
+can_content : CanBe IsNamed
 can_content = can_then (λ more. (ident [] # 0 ∷ more, tree.name (tree.local []), g.one (g.plain (g.primary g.bare (g.word g.by_name) g.none)))) can_pair
 
 abbrev Element : Tokens → Pattern → Tokens → Type 0
-Element = Then IsContent (λ x. Gives (tree.element x.0 x.1))
+Element = Then IsNamed (λ x. Gives (tree.element x.0 x.1))
 
 abbrev Attribute : Tokens → Pattern → Tokens → Type 0
-Attribute = Then IsContent (λ x. Gives (tree.attribute x.0 x.1))
+Attribute = Then IsNamed (λ x. Gives (tree.attribute x.0 x.1))
 
 element_at : {i : ℕ} {now next : Tokens} → now ≡ keyword k.Element # i ∷ next → Upto IsCore Element (Starts behind_core) now next
 element_at {i = i} e = upto_token e (λ t z r h. to h) (λ t z r h w. from h)
@@ -155,16 +155,16 @@ mixed_at {i = i} e = upto_token e (λ t z r h. to h) (λ t z r h w. from h)
     from (g.datum n m) = elim n [ ]
 
 module _ {now next : Tokens} {i : ℕ} where
-  pub element_took : {c : NameClass} {p : Pattern} {end : Tokens} → now ≡ keyword k.Element # i ∷ next → Took IsContent Anything next (c, p) end → Took IsCore (Starts behind_core) now (tree.element c p) end
+  pub element_took : {c : NameClass} {p : Pattern} {end : Tokens} → now ≡ keyword k.Element # i ∷ next → Took IsNamed Anything next (c, p) end → Took IsCore (Starts behind_core) now (tree.element c p) end
   element_took {c = c} {p = p} {end = end} e h = took_upto (upto_then (element_at e) (reads fits_anything h)) (took_gives (tree.element c p) end)
 
-  pub element_stuck : {bad : Tokens} → now ≡ keyword k.Element # i ∷ next → Stuck IsContent Anything next bad → Stuck IsCore (Starts behind_core) now bad
+  pub element_stuck : {bad : Tokens} → now ≡ keyword k.Element # i ∷ next → Stuck IsNamed Anything next bad → Stuck IsCore (Starts behind_core) now bad
   element_stuck e h = stuck_upto (element_at e) (stuck_in fits_anything (can_given (λ (x : Pair). tree.element x.0 x.1)) h)
 
-  pub attribute_took : {c : NameClass} {p : Pattern} {end : Tokens} → now ≡ keyword k.Attribute # i ∷ next → Took IsContent Anything next (c, p) end → Took IsCore (Starts behind_core) now (tree.attribute c p) end
+  pub attribute_took : {c : NameClass} {p : Pattern} {end : Tokens} → now ≡ keyword k.Attribute # i ∷ next → Took IsNamed Anything next (c, p) end → Took IsCore (Starts behind_core) now (tree.attribute c p) end
   attribute_took {c = c} {p = p} {end = end} e h = took_upto (upto_then (attribute_at e) (reads fits_anything h)) (took_gives (tree.attribute c p) end)
 
-  pub attribute_stuck : {bad : Tokens} → now ≡ keyword k.Attribute # i ∷ next → Stuck IsContent Anything next bad → Stuck IsCore (Starts behind_core) now bad
+  pub attribute_stuck : {bad : Tokens} → now ≡ keyword k.Attribute # i ∷ next → Stuck IsNamed Anything next bad → Stuck IsCore (Starts behind_core) now bad
   attribute_stuck e h = stuck_upto (attribute_at e) (stuck_in fits_anything (can_given (λ (x : Pair). tree.attribute x.0 x.1)) h)
 
   pub list_took : {p : Pattern} {end : Tokens} → now ≡ keyword k.List # i ∷ next → Took IsBraced Anything next p end → Took IsCore (Starts behind_core) now (tree.list p) end

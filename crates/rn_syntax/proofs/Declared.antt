@@ -15,7 +15,7 @@ use Rattle.rn_syntax.specs.Grammar as g
 use Rattle.rn_syntax.specs.Grammar.{Tokens, IsWord, IsLiteral, IsUri, IsDeclaration, AreDeclarations}
 use Rattle.rn_syntax.specs.Follow.{Starts, Anything, first, no_tilde, no_word, begins_item, begins_declaration}
 use Rattle.rn_syntax.specs.Sequence.{Then, both, Gives, gives, IsToken, token, IsOf, of, IsHere, IsWordAt, word_at, IsPrefixAt, prefix_at}
-use Rattle.rn_syntax.specs.Declaring.{IsUriEnd, IsNamespaceEnd, IsDatatypesEnd, MayPrefix, no_prefix, prefix, IsDefaultEnd}
+use Rattle.rn_syntax.specs.Declaring.{IsUriEnd, IsNamespaceEnd, IsDatatypesEnd, MayHaveDefaultPrefix, no_prefix, prefix, IsDefaultEnd}
 use Rattle.rn_syntax.specs.Reading.{Took, Stuck, seen, IsNext, IsPlace, rest}
 use Rattle.rn_syntax.proofs.OneClass.{word_one, starts_to}
 use Rattle.rn_syntax.proofs.OneTree.{declarations_tilde, item_to_tilde}
@@ -148,13 +148,13 @@ library_took p {next = next} {s = s} e k = took_upto (upto_then (reads fits_anyt
 
 -- ---- default
 
-may_from : {y : Terminal} {n : List ℕ} {i : ℕ} {l r : Tokens} {p : Option (List ℕ × ℕ)} → IsWord y n → MayPrefix (y # i ∷ l) p r → Starts no_word r → (p ≡ Some (n, i)) × (r ≡ l)
+may_from : {y : Terminal} {n : List ℕ} {i : ℕ} {l r : Tokens} {p : Option (List ℕ × ℕ)} → IsWord y n → MayHaveDefaultPrefix (y # i ∷ l) p r → Starts no_word r → (p ≡ Some (n, i)) × (r ≡ l)
 may_from {i = i} w (prefix v) f = (ap (λ (s : List ℕ). Some (s, i)) (word_one v w), refl)
 may_from g.by_name no_prefix f = absurd (false≢true f)
 may_from g.by_keyword no_prefix f = absurd (false≢true f)
 
-pub may_prefix : {y : Terminal} {n : List ℕ} {i j : ℕ} {now next : Tokens} → IsWord y n → j ≡ i → now ≡ y # i ∷ next → Took MayPrefix (Starts no_word) now (Some (n, j)) next
-may_prefix {y = y} {n = n} {i = i} {now = now} {next = next} w same e = subst (λ (l : ℕ). Took MayPrefix (Starts no_word) now (Some (n, l)) next) (sym same) (record {
+pub may_prefix : {y : Terminal} {n : List ℕ} {i j : ℕ} {now next : Tokens} → IsWord y n → j ≡ i → now ≡ y # i ∷ next → Took MayHaveDefaultPrefix (Starts no_word) now (Some (n, j)) next
+may_prefix {y = y} {n = n} {i = i} {now = now} {next = next} w same e = subst (λ (l : ℕ). Took MayHaveDefaultPrefix (Starts no_word) now (Some (n, l)) next) (sym same) (record {
   front = y # i ∷ [];
   cut = e;
   derives = λ more. prefix w;
@@ -166,12 +166,12 @@ not_word (c.Ident n) h1 h2 = absurd (h1 n refl)
 not_word (c.Keyword w) h1 h2 = absurd (h2 w refl)
 not_word y h1 h2 = refl
 
-none_from : {l r : Tokens} {p : Option (List ℕ × ℕ)} → no_word (first l) ≡ true → MayPrefix l p r → (p ≡ None) × (r ≡ l)
+none_from : {l r : Tokens} {p : Option (List ℕ × ℕ)} → no_word (first l) ≡ true → MayHaveDefaultPrefix l p r → (p ≡ None) × (r ≡ l)
 none_from h no_prefix = (refl, refl)
 none_from h (prefix g.by_name) = absurd (false≢true h)
 none_from h (prefix g.by_keyword) = absurd (false≢true h)
 
-pub may_none : (now behind : Tokens) (y : code.Terminal) → IsNext now (seen y) behind → ((n : _) → y ≡ c.Ident n → ⊥) → ((w : _) → y ≡ c.Keyword w → ⊥) → Took MayPrefix (Starts no_word) now None now
+pub may_none : (now behind : Tokens) (y : code.Terminal) → IsNext now (seen y) behind → ((n : _) → y ≡ c.Ident n → ⊥) → ((w : _) → y ≡ c.Keyword w → ⊥) → Took MayHaveDefaultPrefix (Starts no_word) now None now
 may_none now behind y e h1 h2 = record {
   front = [];
   cut = refl;
@@ -183,7 +183,7 @@ abbrev DefaultUri : ℕ → Option (List ℕ × ℕ) → Tokens → Declaration 
 DefaultUri start p = IsUriEnd (t.default start p)
 
 abbrev pub DefaultPrefix : ℕ → ℕ → Tokens → Declaration → Tokens → Type 0
-DefaultPrefix start i = Then MayPrefix (DefaultUri start)
+DefaultPrefix start i = Then MayHaveDefaultPrefix (DefaultUri start)
 
 fits_default : (start : ℕ) → Fits (Starts no_word) (DefaultUri start) (Starts no_tilde)
 fits_default start = fits_token no_word refl
@@ -208,10 +208,10 @@ default_namespace start n = stuck_in fits_anything (can_prefixed start) (record 
 pub default_upto : (start : ℕ) {i : ℕ} {ts now : Tokens} → Took (IsToken (keyword k.Namespace)) Anything ts i now → Upto (IsDefaultEnd start) (DefaultPrefix start i) (Starts no_tilde) ts now
 default_upto start e = reads fits_anything e
 
-pub default_prefix_stuck : (start i : ℕ) {now bad : Tokens} → Stuck MayPrefix (Starts no_word) now bad → Stuck (DefaultPrefix start i) (Starts no_tilde) now bad
+pub default_prefix_stuck : (start i : ℕ) {now bad : Tokens} → Stuck MayHaveDefaultPrefix (Starts no_word) now bad → Stuck (DefaultPrefix start i) (Starts no_tilde) now bad
 default_prefix_stuck start i k = stuck_in (fits_default start) (can_default start) k
 
-pub default_prefix_upto : (start i : ℕ) {now next : Tokens} {p : Option (List ℕ × ℕ)} → Took MayPrefix (Starts no_word) now p next → Upto (DefaultPrefix start i) (DefaultUri start p) (Starts no_tilde) now next
+pub default_prefix_upto : (start i : ℕ) {now next : Tokens} {p : Option (List ℕ × ℕ)} → Took MayHaveDefaultPrefix (Starts no_word) now p next → Upto (DefaultPrefix start i) (DefaultUri start p) (Starts no_tilde) now next
 default_prefix_upto start i k = reads (fits_default start) k
 
 -- ---- declarations

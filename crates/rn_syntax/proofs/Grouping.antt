@@ -13,11 +13,11 @@ use Rattle.rn_syntax.specs.Terminal.{Terminal, Placed, ◌#◌, ident, keyword, 
 use Rattle.rn_syntax.specs.Tree as t
 use Rattle.rn_syntax.specs.Tree.{Item, Pattern, items_of}
 use Rattle.rn_syntax.specs.Grammar as g
-use Rattle.rn_syntax.specs.Grammar.{Tokens, IsLiteral, IsPattern, IsComponent, AreItems, AreInner, MayInherit, MayOverride}
+use Rattle.rn_syntax.specs.Grammar.{Tokens, IsLiteral, IsPattern, IsComponent, AreItems, AreInnerItems, MayInherit, MayHaveOverrides}
 use Rattle.rn_syntax.specs.Follow.{Starts, Anything, first, no_bracket, begins_item, behind_pattern, is_end}
 use Rattle.rn_syntax.specs.Sequence.{Then, both, Gives, gives, IsToken, token, IsOf, of, IsAssign, by_method, is_note}
 use Rattle.rn_syntax.specs.Including as i
-use Rattle.rn_syntax.specs.Including.{opens_item, opens_inner, IsItem, IsInner, UpToBrace, InBraces, IsDivEnd, IsInnerDivEnd, IsIncludeEnd, AreItemsBehind}
+use Rattle.rn_syntax.specs.Including.{opens_item, opens_inner, IsItem, IsInnerItem, UpToBrace, InBraces, IsDivEnd, IsInnerDivEnd, IsIncludeEnd, AreItemsBehind}
 use Rattle.rn_syntax.specs.Reading.{Took, Stuck, seen, IsNext, rest}
 use Rattle.rn_syntax.proofs.OneClass.{starts_to}
 use Rattle.rn_syntax.proofs.OneTree.{item_to_pattern}
@@ -88,19 +88,19 @@ item_row = record {
   nothing = refl;
 }
 
-inner_begins : (ts : Tokens) (x : Item) (r : Tokens) → IsInner ts x r → opens_inner (first ts) ≡ true
+inner_begins : (ts : Tokens) (x : Item) (r : Tokens) → IsInnerItem ts x r → opens_inner (first ts) ≡ true
 inner_begins ts x r (i.component d) = component_opens ts x r d
 inner_begins ts x r (i.div d) = refl
 
-inner_unbracketed : (ts : Tokens) (x : Item) (r : Tokens) → IsInner ts x r → Starts no_bracket ts
+inner_unbracketed : (ts : Tokens) (x : Item) (r : Tokens) → IsInnerItem ts x r → Starts no_bracket ts
 inner_unbracketed ts x r (i.component d) = component_unbracketed ts x r d
 inner_unbracketed ts x r (i.div d) = refl
 
-inner_plain : (ts : Tokens) (x : Item) (r : Tokens) → IsInner ts x r → is_note ts ≡ false
+inner_plain : (ts : Tokens) (x : Item) (r : Tokens) → IsInnerItem ts x r → is_note ts ≡ false
 inner_plain ts x r (i.component d) = component_plain ts x r d
 inner_plain ts x r (i.div d) = refl
 
-pub inner_row : IsRow IsInner opens_inner
+pub inner_row : IsRow IsInnerItem opens_inner
 inner_row = record {
   begins = inner_begins;
   unbracketed = inner_unbracketed;
@@ -130,13 +130,13 @@ rows_items (row (both a (i.div d)) n) = g.div a d (rows_items n)
 rows_items (row (both a (i.include l h o)) n) = g.include a l h o (rows_items n)
 rows_items (note n d) = g.note n (rows_items d)
 
-inner_rows : {ts r : Tokens} {xs : List Item} → AreInner ts xs r → Rows IsInner ts xs r
+inner_rows : {ts r : Tokens} {xs : List Item} → AreInnerItems ts xs r → Rows IsInnerItem ts xs r
 inner_rows g.none = none
 inner_rows (g.component a d n) = row (both a (i.component d)) (inner_rows n)
 inner_rows (g.div a d n) = row (both a (i.div d)) (inner_rows n)
 inner_rows (g.note n d) = note n (inner_rows d)
 
-rows_inner : {ts r : Tokens} {xs : List Item} → Rows IsInner ts xs r → AreInner ts xs r
+rows_inner : {ts r : Tokens} {xs : List Item} → Rows IsInnerItem ts xs r → AreInnerItems ts xs r
 rows_inner none = g.none
 rows_inner (row (both a (i.component d)) n) = g.component a d (rows_inner n)
 rows_inner (row (both a (i.div d)) n) = g.div a d (rows_inner n)
@@ -145,8 +145,8 @@ rows_inner (note n d) = g.note n (rows_inner d)
 pub behind_so_far : (xs : List Item) (ts : Tokens) → So_far (AreItemsBehind xs) IsItem xs ts ts
 behind_so_far xs ts = upto_at (λ t z r d. record { more = d.more; is = d.is; behind = rows_items d.behind }) (λ t a z r d g. record { more = d.more; is = d.is; behind = items_rows d.behind })
 
-pub inner_so_far : (ts : Tokens) → So_far AreInner IsInner [] ts ts
-inner_so_far ts = upto_at (λ t z r d. subst (λ (l : List Item). AreInner t l r) (sym d.is) (rows_inner d.behind)) (λ t a z r d g. record { more = z; is = refl; behind = inner_rows d })
+pub inner_so_far : (ts : Tokens) → So_far AreInnerItems IsInnerItem [] ts ts
+inner_so_far ts = upto_at (λ t z r d. subst (λ (l : List Item). AreInnerItems t l r) (sym d.is) (rows_inner d.behind)) (λ t a z r d g. record { more = z; is = refl; behind = inner_rows d })
 
 -- behind none there are all
 pub items_behind_none : {xs : List Item} (ts : Tokens) → xs ≡ [] → Upto AreItems (AreItemsBehind xs) (Starts is_end) ts ts
@@ -255,7 +255,7 @@ module _ {C : Type 0} (L : Tokens → List Item → Tokens → Type 0) (M : List
 pub can_items : CanBe AreItems
 can_items more = (more, [], g.none)
 
-pub can_inner : CanBe AreInner
+pub can_inner : CanBe AreInnerItems
 can_inner more = (more, [], g.none)
 
 abbrev pub DivGives : List Item → Tokens → Item → Tokens → Type 0
@@ -286,13 +286,13 @@ include_item {j = j} e = upto_token e (λ l z r d. to d) (λ l z r d g. from d)
     from (i.include d h o) = both d (both h (both o gives))
     from (i.component d) = elim d [ ]
 
-pub div_inner : {j : ℕ} {now next : Tokens} → now ≡ keyword k.Div # j ∷ next → Upto IsInner IsInnerDivEnd (Starts begins_item) now next
+pub div_inner : {j : ℕ} {now next : Tokens} → now ≡ keyword k.Div # j ∷ next → Upto IsInnerItem IsInnerDivEnd (Starts begins_item) now next
 div_inner {j = j} e = upto_token e (λ l z r d. to d) (λ l z r d g. from d)
   where
-    to : {l r : Tokens} {z : Item} → IsInnerDivEnd l z r → IsInner (keyword k.Div # j ∷ l) z r
+    to : {l r : Tokens} {z : Item} → IsInnerDivEnd l z r → IsInnerItem (keyword k.Div # j ∷ l) z r
     to (both token (both d (both token gives))) = i.div d
 
-    from : {l r : Tokens} {z : Item} → IsInner (keyword k.Div # j ∷ l) z r → IsInnerDivEnd l z r
+    from : {l r : Tokens} {z : Item} → IsInnerItem (keyword k.Div # j ∷ l) z r → IsInnerDivEnd l z r
     from (i.div d) = both token (both d (both token gives))
     from (i.component d) = elim d [ ]
 
@@ -313,10 +313,10 @@ abbrev pub not_div : Terminal → Bool
 not_div (keyword k.Div) = false
 not_div y = true
 
-pub component_inner : {now : Tokens} → not_div (first now) ≡ true → Upto IsInner IsComponent (Starts begins_item) now now
+pub component_inner : {now : Tokens} → not_div (first now) ≡ true → Upto IsInnerItem IsComponent (Starts begins_item) now now
 component_inner h = upto_at (λ l z r d. i.component d) (λ l a z r d g. from (ap not_div (first_alike a) ∙ h) d)
   where
-    from : {l r : Tokens} {z : Item} → not_div (first l) ≡ true → IsInner l z r → IsComponent l z r
+    from : {l r : Tokens} {z : Item} → not_div (first l) ≡ true → IsInnerItem l z r → IsComponent l z r
     from h (i.component d) = d
     from h (i.div d) = absurd (false≢true h)
 
@@ -343,10 +343,10 @@ item_keyword {w = w} e h l = component_item (ap (λ (ts : Tokens). not_group (fi
 pub item_other : (now behind : Tokens) (y : code.Terminal) → IsNext now (seen y) behind → ((w : _) → y ≡ c.Keyword w → ⊥) → Upto IsItem IsComponent (Starts begins_item) now now
 item_other now behind y e h = component_item (ap not_group (first_next now behind (seen y) e) ∙ no_keyword_group y h)
 
-pub inner_keyword : {w : Keyword} {j : ℕ} {now next : Tokens} → now ≡ keyword w # j ∷ next → (w ≡ k.Div → ⊥) → Upto IsInner IsComponent (Starts begins_item) now now
+pub inner_keyword : {w : Keyword} {j : ℕ} {now next : Tokens} → now ≡ keyword w # j ∷ next → (w ≡ k.Div → ⊥) → Upto IsInnerItem IsComponent (Starts begins_item) now now
 inner_keyword {w = w} e h = component_inner (ap (λ (ts : Tokens). not_div (first ts)) e ∙ other_div w h)
 
-pub inner_other : (now behind : Tokens) (y : code.Terminal) → IsNext now (seen y) behind → ((w : _) → y ≡ c.Keyword w → ⊥) → Upto IsInner IsComponent (Starts begins_item) now now
+pub inner_other : (now behind : Tokens) (y : code.Terminal) → IsNext now (seen y) behind → ((w : _) → y ≡ c.Keyword w → ⊥) → Upto IsInnerItem IsComponent (Starts begins_item) now now
 inner_other now behind y e h = component_inner (ap not_div (first_next now behind (seen y) e) ∙ no_keyword_div y h)
 
 pub item_pattern : (r : Tokens) → Starts begins_item r → Starts behind_pattern r

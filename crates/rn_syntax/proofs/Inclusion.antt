@@ -10,7 +10,7 @@ use Rattle.rn_syntax.specs.Terminal.{Terminal, ◌#◌, ident, keyword, assign, 
 use Rattle.rn_syntax.specs.Tree as t
 use Rattle.rn_syntax.specs.Tree.{Item, items_of}
 use Rattle.rn_syntax.specs.Grammar as g
-use Rattle.rn_syntax.specs.Grammar.{Tokens, IsLiteral, AreInner, MayInherit, MayOverride}
+use Rattle.rn_syntax.specs.Grammar.{Tokens, IsLiteral, AreInnerItems, MayInherit, MayHaveOverrides}
 use Rattle.rn_syntax.specs.Follow.{Starts, Anything, first, no_tilde, no_brace, no_inherit, begins_item}
 use Rattle.rn_syntax.specs.Sequence.{Then, both, Gives, gives, IsToken, token, IsOf, of, IsPrefixAt, prefix_at}
 use Rattle.rn_syntax.specs.Including.{UpToBrace, IsIncludeEnd}
@@ -68,13 +68,13 @@ ListGives xs = Gives xs
 pub can_list : Can ListGives
 can_list = can_gives (λ (xs : List Item). xs)
 
-pub override_at : {j : ℕ} {now next : Tokens} → now ≡ left_brace # j ∷ next → Upto MayOverride (UpToBrace AreInner ListGives) (Starts no_brace) now next
+pub override_at : {j : ℕ} {now next : Tokens} → now ≡ left_brace # j ∷ next → Upto MayHaveOverrides (UpToBrace AreInnerItems ListGives) (Starts no_brace) now next
 override_at {j = j} e = upto_token e (λ l z r d. to d) (λ l z r d f. from d f)
   where
-    to : {l r : Tokens} {z : List Item} → UpToBrace AreInner ListGives l z r → MayOverride (left_brace # j ∷ l) z r
+    to : {l r : Tokens} {z : List Item} → UpToBrace AreInnerItems ListGives l z r → MayHaveOverrides (left_brace # j ∷ l) z r
     to (both d (both token gives)) = g.braces d
 
-    from : {l r : Tokens} {z : List Item} → MayOverride (left_brace # j ∷ l) z r → Starts no_brace r → UpToBrace AreInner ListGives l z r
+    from : {l r : Tokens} {z : List Item} → MayHaveOverrides (left_brace # j ∷ l) z r → Starts no_brace r → UpToBrace AreInnerItems ListGives l z r
     from (g.braces d) f = both d (both token gives)
     from g.none f = absurd (false≢true f)
 
@@ -82,11 +82,11 @@ not_left_brace : (y : code.Terminal) → (y ≡ c.LeftBrace → ⊥) → no_brac
 not_left_brace c.LeftBrace h = absurd (h refl)
 not_left_brace y h = refl
 
-override_from : {l r : Tokens} {z : List Item} → no_brace (first l) ≡ true → MayOverride l z r → (z ≡ []) × (r ≡ l)
+override_from : {l r : Tokens} {z : List Item} → no_brace (first l) ≡ true → MayHaveOverrides l z r → (z ≡ []) × (r ≡ l)
 override_from h g.none = (refl, refl)
 override_from h (g.braces d) = absurd (false≢true h)
 
-pub no_override : (now behind : Tokens) (y : code.Terminal) → IsNext now (seen y) behind → (y ≡ c.LeftBrace → ⊥) → Took MayOverride (Starts no_brace) now [] now
+pub no_override : (now behind : Tokens) (y : code.Terminal) → IsNext now (seen y) behind → (y ≡ c.LeftBrace → ⊥) → Took MayHaveOverrides (Starts no_brace) now [] now
 no_override now behind y e h = record {
   front = [];
   cut = refl;
@@ -97,7 +97,7 @@ no_override now behind y e h = record {
 -- ---- include
 
 abbrev pub Overrides : List ℕ → Option Place → Tokens → Item → Tokens → Type 0
-Overrides s h = Then MayOverride (λ (ys : List Item). Gives (t.include s h (items_of ys)))
+Overrides s h = Then MayHaveOverrides (λ (ys : List Item). Gives (t.include s h (items_of ys)))
 
 abbrev pub Inherits : List ℕ → Tokens → Item → Tokens → Type 0
 Inherits s = Then MayInherit (Overrides s)
@@ -134,8 +134,8 @@ module _ {now behind : Tokens} {s : List ℕ} (l : Took IsLiteral (Starts no_til
   inherit_stuck k = stuck_upto (reads fits_wanted l) (stuck_in (fits_inherit s) (can_overrides s) k)
 
   module _ {own : Tokens} {h : Option Place} (i : Took MayInherit (Starts no_inherit) behind h own) where
-    pub own_stuck : {bad : Tokens} → Stuck MayOverride (Starts no_brace) own bad → Stuck IsIncludeEnd (Starts begins_item) now bad
+    pub own_stuck : {bad : Tokens} → Stuck MayHaveOverrides (Starts no_brace) own bad → Stuck IsIncludeEnd (Starts begins_item) now bad
     own_stuck k = stuck_upto (upto_then (reads fits_wanted l) (reads (fits_inherit s) i)) (stuck_in (fits_own s h) (can_own s h) k)
 
-    pub include_took : {end : Tokens} {ys : List Item} → Took MayOverride (Starts no_brace) own ys end → Took IsIncludeEnd (Starts begins_item) now (t.include s h (items_of ys)) end
+    pub include_took : {end : Tokens} {ys : List Item} → Took MayHaveOverrides (Starts no_brace) own ys end → Took IsIncludeEnd (Starts begins_item) now (t.include s h (items_of ys)) end
     include_took {end = end} {ys = ys} k = took_upto (upto_then (upto_then (reads fits_wanted l) (reads (fits_inherit s) i)) (reads (fits_own s h) k)) (took_gives (t.include s h (items_of ys)) end)

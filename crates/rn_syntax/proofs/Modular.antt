@@ -11,11 +11,11 @@ use Rattle.rn_syntax.specs.Terminal as x
 use Rattle.rn_syntax.specs.Terminal.{Terminal, Placed, ◌#◌, keyword, left_brace, right_brace, left_bracket}
 use Rattle.rn_syntax.specs.Tree.{Declaration, Item, Module, items_of}
 use Rattle.rn_syntax.specs.Grammar as g
-use Rattle.rn_syntax.specs.Grammar.{Tokens, IsAnnotation, MayAnnotate, AreFollows, AreItems, AreDeclarations, IsModule}
+use Rattle.rn_syntax.specs.Grammar.{Tokens, IsAnnotation, MayHaveAnnotation, AreFollows, AreItems, AreDeclarations, IsModule}
 use Rattle.rn_syntax.specs.Fault.{HasTree, IsRefused, Stops}
 use Rattle.rn_syntax.specs.Follow.{Starts, Anything, first, no_follow, is_end, begins_item}
 use Rattle.rn_syntax.specs.Sequence.{Then, both, Gives, gives, IsToken, token}
-use Rattle.rn_syntax.specs.Itemizing.{AreFirstItems}
+use Rattle.rn_syntax.specs.Itemizing.{AreAnnotatedItems}
 use Rattle.rn_syntax.specs.Modular.{IsGrammarEnd, IsBody, items_body, grammar_body, IsAnnotatedBody, items_behind, grammar_behind, IsModuleBefore, IsModuleFault}
 use Rattle.rn_syntax.specs.Reading.{Alike, ends, same, Took, Stuck, Faults, AreSpelled, Bare, seen, IsNext, rest}
 use Rattle.rn_syntax.proofs.OneClass.{may_one}
@@ -85,7 +85,7 @@ can_grammar more = (left_brace # 0 ∷ right_brace # 0 ∷ more, [], both token 
 -- ---- bodies
 
 -- items don't begin with `grammar`
-items_no_grammar : {ts us r : Tokens} {i : ℕ} {xs : List Item} → AreItems ts xs r → Starts is_end r → MayAnnotate ts (keyword k.Grammar # i ∷ us) → ⊥
+items_no_grammar : {ts us r : Tokens} {i : ℕ} {xs : List Item} → AreItems ts xs r → Starts is_end r → MayHaveAnnotation ts (keyword k.Grammar # i ∷ us) → ⊥
 items_no_grammar g.none e g.bare = false≢true e
 items_no_grammar g.none e (g.annotated (g.bracketed b)) = false≢true e
 items_no_grammar (g.component {after = after} {x = y} m d n) e a = let s = may_one m a (component_front d).1 refl in component_grammar (subst (λ z. g.IsComponent z y after) s d)
@@ -108,10 +108,10 @@ behind_grammar {i = i} e = upto_token e (λ t z r d. grammar_behind d) (λ t z r
     from (grammar_behind d) = d
     from (items_behind d) = absurd (first_items_grammar d)
 
-pub behind_items : {now : Tokens} → (first now ≡ keyword k.Grammar → ⊥) → Upto IsAnnotatedBody AreFirstItems (Starts is_end) now now
+pub behind_items : {now : Tokens} → (first now ≡ keyword k.Grammar → ⊥) → Upto IsAnnotatedBody AreAnnotatedItems (Starts is_end) now now
 behind_items n = upto_at (λ t z r d. items_behind d) (λ t a z r d h. from (λ e. n (sym (first_alike a) ∙ e)) d)
   where
-    from : {t r : Tokens} {xs : List Item} → (first t ≡ keyword k.Grammar → ⊥) → IsAnnotatedBody t xs r → AreFirstItems t xs r
+    from : {t r : Tokens} {xs : List Item} → (first t ≡ keyword k.Grammar → ⊥) → IsAnnotatedBody t xs r → AreAnnotatedItems t xs r
     from n (items_behind d) = d
     from n (grammar_behind d) = absurd (n refl)
 

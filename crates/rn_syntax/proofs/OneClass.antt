@@ -6,7 +6,7 @@ use Rattle.rn_syntax.specs.Tree as t
 use Rattle.rn_syntax.specs.Tree.{Datatype, Params, AnyName, NameClass, Pattern, Uri, Declaration, Item, Module, patterns_of, classes_of, items_of}
 use Rattle.rn_syntax.specs.Grammar as g
 use Rattle.rn_syntax.specs.Follow.{Starts, no_bracket, no_follow, no_tilde, first, no_brace, behind_name, behind_class}
-use Rattle.rn_syntax.specs.Grammar.{Tokens, IsWord, IsLiteral, Closed, IsAnnotation, MayAnnotate, AreFollows, IsDatatype, AreParams, MayHaveParams, IsAnyName, IsNameClass, AreMoreClasses, IsClassOperand, IsClassPrimary, IsClassCore, IsPattern, AreMore, IsOperand, IsPrimary, IsCore, IsUri, IsDeclaration, AreDeclarations, IsComponent, IsNote, AreInner, MayInherit, MayOverride, AreItems}
+use Rattle.rn_syntax.specs.Grammar.{Tokens, IsWord, IsLiteral, Closed, IsAnnotation, MayHaveAnnotation, AreFollows, IsDatatype, AreParams, MayHaveParams, IsAnyName, IsNameClass, AreMoreClasses, IsClassOperand, IsClassPrimary, IsClassCore, IsPattern, AreMore, IsOperand, IsPrimary, IsCore, IsUri, IsDeclaration, AreDeclarations, IsComponent, IsNote, AreInnerItems, MayInherit, MayHaveOverrides, AreItems}
 
 pub literal_one : {ts r r' : Tokens} {s u : List ℕ} → IsLiteral ts s r → IsLiteral ts u r' → Starts no_tilde r → Starts no_tilde r' → (s ≡ u) × (r ≡ r')
 literal_one g.one g.one a b = (refl, refl)
@@ -26,7 +26,7 @@ closed_one {r' = r'} (g.nested c d) (g.nested c' d') = closed_one d (subst (λ l
 pub annotation_one : {ts r r' : Tokens} → IsAnnotation ts r → IsAnnotation ts r' → r ≡ r'
 annotation_one (g.bracketed c) (g.bracketed d) = closed_one c d
 
-pub may_one : {ts r r' : Tokens} → MayAnnotate ts r → MayAnnotate ts r' → Starts no_bracket r → Starts no_bracket r' → r ≡ r'
+pub may_one : {ts r r' : Tokens} → MayHaveAnnotation ts r → MayHaveAnnotation ts r' → Starts no_bracket r → Starts no_bracket r' → r ≡ r'
 may_one g.bare g.bare a b = refl
 may_one g.bare (g.annotated (g.bracketed c)) a b = absurd (false≢true a)
 may_one (g.annotated (g.bracketed c)) g.bare a b = absurd (false≢true b)
@@ -88,7 +88,7 @@ pub word_param : {x : Terminal} {n : List ℕ} → IsWord x n → begins_param x
 word_param g.by_name = refl
 word_param g.by_keyword = refl
 
-pub param_front : {x : Terminal} {n : List ℕ} {i : ℕ} {ts us : Tokens} → MayAnnotate ts (x # i ∷ us) → IsWord x n → Starts begins_param ts
+pub param_front : {x : Terminal} {n : List ℕ} {i : ℕ} {ts us : Tokens} → MayHaveAnnotation ts (x # i ∷ us) → IsWord x n → Starts begins_param ts
 param_front g.bare w = word_param w
 param_front (g.annotated (g.bracketed c)) w = refl
 
@@ -160,7 +160,7 @@ any_core (g.parens c) n = elim n [ ]
 pub minus_stays : {i : ℕ} {us r : Tokens} → AreFollows (minus # i ∷ us) r → r ≡ minus # i ∷ us
 minus_stays g.none = refl
 
-pub except_class_not : {x : Placed} {i : ℕ} {ts mid r : Tokens} {a : AnyName} {c : NameClass} → IsClassPrimary ts c r → MayAnnotate ts (x ∷ minus # i ∷ mid) → IsAnyName x a → Starts behind_name r → ⊥
+pub except_class_not : {x : Placed} {i : ℕ} {ts mid r : Tokens} {a : AnyName} {c : NameClass} → IsClassPrimary ts c r → MayHaveAnnotation ts (x ∷ minus # i ∷ mid) → IsAnyName x a → Starts behind_name r → ⊥
 except_class_not {x = x} {i = i} {mid = mid} {r = r} {c = c} (g.primary {after = after} m k f) a n s =
     let e = may_one m a (class_core_front k) (any_no_bracket (minus # i ∷ mid) n) in
     let is = any_core (subst (λ l. IsClassCore l c after) e k) n in

@@ -9,7 +9,7 @@ use Rattle.rn_syntax.specs.Tree as t
 use Rattle.rn_syntax.specs.Tree.{Datatype, Params, AnyName, NameClass, Pattern, Uri, Declaration, Item, Module, patterns_of, classes_of, items_of}
 use Rattle.rn_syntax.specs.Grammar as g
 use Rattle.rn_syntax.specs.Follow.{Starts, no_bracket, no_follow, no_tilde, behind_primary, behind_operand, behind_pattern, first, no_brace, behind_core}
-use Rattle.rn_syntax.specs.Grammar.{Tokens, IsWord, IsLiteral, Closed, IsAnnotation, MayAnnotate, AreFollows, IsDatatype, AreParams, MayHaveParams, IsAnyName, IsNameClass, AreMoreClasses, IsClassOperand, IsClassPrimary, IsClassCore, IsPattern, AreMore, IsOperand, IsPrimary, IsCore, IsUri, IsDeclaration, AreDeclarations, IsComponent, IsNote, AreInner, MayInherit, MayOverride, AreItems}
+use Rattle.rn_syntax.specs.Grammar.{Tokens, IsWord, IsLiteral, Closed, IsAnnotation, MayHaveAnnotation, AreFollows, IsDatatype, AreParams, MayHaveParams, IsAnyName, IsNameClass, AreMoreClasses, IsClassOperand, IsClassPrimary, IsClassCore, IsPattern, AreMore, IsOperand, IsPrimary, IsCore, IsUri, IsDeclaration, AreDeclarations, IsComponent, IsNote, AreInnerItems, MayInherit, MayHaveOverrides, AreItems}
 use Rattle.rn_syntax.proofs.OneClass.{literal_one, may_one, follows_one, datatype_one, starts_to, first_placed, tail, may_params_one, minus_stays, class_one}
 
 pub to_operand : (x : Terminal) → behind_pattern x ≡ true → behind_operand x ≡ true
@@ -144,7 +144,7 @@ pub params_kind : {mid after : Tokens} {ps : Params} {i : ℕ} → MayHaveParams
 params_kind g.none = refl
 params_kind (g.braces k) = refl
 
-pub except_not : {x : Placed} {i : ℕ} {ts mid after r : Tokens} {d : Datatype} {ps : Params} {p : Pattern} → IsPrimary ts p r → MayAnnotate ts (x ∷ mid) → IsDatatype x d → MayHaveParams mid ps (minus # i ∷ after) → Starts behind_primary r → ⊥
+pub except_not : {x : Placed} {i : ℕ} {ts mid after r : Tokens} {d : Datatype} {ps : Params} {p : Pattern} → IsPrimary ts p r → MayHaveAnnotation ts (x ∷ mid) → IsDatatype x d → MayHaveParams mid ps (minus # i ∷ after) → Starts behind_primary r → ⊥
 except_not {x = x} {i = i} {mid = mid} {after = after} {r = r} {p = p} (g.primary {after = aft} m c f) a n k s =
     let e = may_one m a (core_front c) (datatype_front mid n) in
     ⊎_elim (λ seg. absurd (omega (arith, seg, params_kind k)))

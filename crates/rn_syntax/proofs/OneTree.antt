@@ -7,7 +7,7 @@ use Rattle.rn_syntax.specs.Tree as t
 use Rattle.rn_syntax.specs.Tree.{Datatype, Params, AnyName, NameClass, Pattern, Uri, Declaration, Item, Module, patterns_of, classes_of, items_of}
 use Rattle.rn_syntax.specs.Grammar as g
 use Rattle.rn_syntax.specs.Follow.{Starts, no_bracket, no_tilde, behind_pattern, first, no_brace, begins_item, is_end, no_inherit, no_declaration}
-use Rattle.rn_syntax.specs.Grammar.{Tokens, IsWord, IsLiteral, Closed, IsAnnotation, MayAnnotate, AreFollows, IsDatatype, AreParams, MayHaveParams, IsAnyName, IsNameClass, AreMoreClasses, IsClassOperand, IsClassPrimary, IsClassCore, IsPattern, AreMore, IsOperand, IsPrimary, IsCore, IsUri, IsDeclaration, AreDeclarations, IsComponent, IsNote, AreInner, MayInherit, MayOverride, AreItems}
+use Rattle.rn_syntax.specs.Grammar.{Tokens, IsWord, IsLiteral, Closed, IsAnnotation, MayHaveAnnotation, AreFollows, IsDatatype, AreParams, MayHaveParams, IsAnyName, IsNameClass, AreMoreClasses, IsClassOperand, IsClassPrimary, IsClassCore, IsPattern, AreMore, IsOperand, IsPrimary, IsCore, IsUri, IsDeclaration, AreDeclarations, IsComponent, IsNote, AreInnerItems, MayInherit, MayHaveOverrides, AreItems}
 use Rattle.rn_syntax.specs.Fault.{HasTree}
 use Rattle.rn_syntax.proofs.OneClass.{literal_one, annotation_one, may_one, word_one, starts_to, tail, word_is}
 use Rattle.rn_syntax.proofs.OnePattern.{literal_kind, pattern_one}
@@ -108,11 +108,11 @@ pub component_grammar : {i : ℕ} {ts r : Tokens} {x : Item} → IsComponent (ke
 component_grammar c = elim c [ ]
 
 -- an annotation or not, before what begins an item
-pub may_item : {ts mid : Tokens} → MayAnnotate ts mid → Starts begins_item mid → Starts begins_item ts
+pub may_item : {ts mid : Tokens} → MayHaveAnnotation ts mid → Starts begins_item mid → Starts begins_item ts
 may_item g.bare h = h
 may_item (g.annotated (g.bracketed c)) h = refl
 
-pub may_end : {ts mid : Tokens} → MayAnnotate ts mid → (Starts is_end mid → ⊥) → Starts is_end ts → ⊥
+pub may_end : {ts mid : Tokens} → MayHaveAnnotation ts mid → (Starts is_end mid → ⊥) → Starts is_end ts → ⊥
 may_end g.bare h = h
 may_end (g.annotated (g.bracketed c)) h = λ e. false≢true e
 
@@ -128,22 +128,22 @@ pub note_end : {ts r : Tokens} → IsNote ts r → Starts is_end ts → ⊥
 note_end (g.by_name n) e = false≢true e
 note_end (g.by_prefixed n) e = false≢true e
 
-pub component_note : {ts mid after r : Tokens} {x : Item} → MayAnnotate ts mid → IsComponent mid x after → IsNote ts r → ⊥
+pub component_note : {ts mid after r : Tokens} {x : Item} → MayHaveAnnotation ts mid → IsComponent mid x after → IsNote ts r → ⊥
 component_note g.bare (g.define p) (g.by_name n) = elim n [ ]
 component_note g.bare (g.start p) n = elim n [ ]
 component_note (g.annotated (g.bracketed c)) k n = elim n [ ]
 
-pub keyword_note : {w : _} {i : ℕ} {ts us r : Tokens} → MayAnnotate ts (keyword w # i ∷ us) → IsNote ts r → ⊥
+pub keyword_note : {w : _} {i : ℕ} {ts us r : Tokens} → MayHaveAnnotation ts (keyword w # i ∷ us) → IsNote ts r → ⊥
 keyword_note g.bare n = elim n [ ]
 keyword_note (g.annotated (g.bracketed c)) n = elim n [ ]
 
-pub inner_front : {ts r : Tokens} {xs : List Item} → AreInner ts xs r → Starts is_end r → Starts begins_item ts
+pub inner_front : {ts r : Tokens} {xs : List Item} → AreInnerItems ts xs r → Starts is_end r → Starts begins_item ts
 inner_front {ts = ts} g.none a = starts_to is_end begins_item end_to_item ts a
 inner_front (g.component m c n) a = may_item m (component_front c).0
 inner_front (g.div m n o) a = may_item m refl
 inner_front (g.note n m) a = note_front n
 
-pub inner_one : {ts r r' : Tokens} {xs ys : List Item} → AreInner ts xs r → AreInner ts ys r' → Starts is_end r → Starts is_end r' → (xs ≡ ys) × (r ≡ r')
+pub inner_one : {ts r r' : Tokens} {xs ys : List Item} → AreInnerItems ts xs r → AreInnerItems ts ys r' → Starts is_end r → Starts is_end r' → (xs ≡ ys) × (r ≡ r')
 inner_one g.none g.none a b = (refl, refl)
 inner_one g.none (g.component m c n) a b = absurd (may_end m (component_end c) a)
 inner_one g.none (g.div m n o) a b = absurd (may_end m (λ e. false≢true e) a)
@@ -152,7 +152,7 @@ inner_one (g.component m c n) g.none a b = absurd (may_end m (component_end c) b
 inner_one {r' = r'} (g.component {after = after} m c n) (g.component {after = after'} {x = y} {xs = ys} m' c' n') a b =
     let e = may_one m m' (component_front c).1 (component_front c').1 in
     let f = component_one c (subst (λ z. IsComponent z y after') (sym e) c') (starts_to begins_item behind_pattern item_to_pattern after (inner_front n a)) (starts_to begins_item behind_pattern item_to_pattern after' (inner_front n' b)) in
-    let h = inner_one n (subst (λ z. AreInner z ys r') (sym f.1) n') a b in
+    let h = inner_one n (subst (λ z. AreInnerItems z ys r') (sym f.1) n') a b in
     ((λ i. f.0 i ∷ h.0 i), h.1)
 inner_one (g.component {after = after} {x = x} m c n) (g.div m' n' o) a b = let e = may_one m m' (component_front c).1 refl in absurd (component_keyword (subst (λ z. IsComponent z x after) e c))
 inner_one (g.component m c n) (g.note k l) a b = absurd (component_note m c k)
@@ -160,14 +160,14 @@ inner_one (g.div m n o) g.none a b = absurd (may_end m (λ e. false≢true e) b)
 inner_one (g.div m n o) (g.component {after = after} {x = x} m' c n') a b = let e = may_one m' m (component_front c).1 refl in absurd (component_keyword (subst (λ z. IsComponent z x after) e c))
 inner_one {r' = r'} (g.div m n o) (g.div {l = l'} {after = after'} {ys = zs} {xs = ys} m' n' o') a b =
     let e = may_one m m' refl refl in
-    let f = inner_one n (subst (λ z. AreInner z zs (right_brace # l' ∷ after')) (sym (ap (λ z. tail (tail z)) e)) n') refl refl in
-    let h = inner_one o (subst (λ z. AreInner z ys r') (sym (ap tail f.1)) o') a b in
+    let f = inner_one n (subst (λ z. AreInnerItems z zs (right_brace # l' ∷ after')) (sym (ap (λ z. tail (tail z)) e)) n') refl refl in
+    let h = inner_one o (subst (λ z. AreInnerItems z ys r') (sym (ap tail f.1)) o') a b in
     ((λ i. t.div (items_of (f.0 i)) ∷ h.0 i), h.1)
 inner_one (g.div m n o) (g.note k l) a b = absurd (keyword_note m k)
 inner_one (g.note n m) g.none a b = absurd (note_end n b)
 inner_one (g.note n m) (g.component m' c k) a b = absurd (component_note m' c n)
 inner_one (g.note n m) (g.div m' k l) a b = absurd (keyword_note m' n)
-inner_one {r' = r'} {ys = ys} (g.note n m) (g.note n' m') a b = inner_one m (subst (λ z. AreInner z ys r') (sym (note_one n n')) m') a b
+inner_one {r' = r'} {ys = ys} (g.note n m) (g.note n' m') a b = inner_one m (subst (λ z. AreInnerItems z ys r') (sym (note_one n n')) m') a b
 
 pub inherit_one : {ts r r' : Tokens} {h h' : Option (List ℕ × ℕ)} → MayInherit ts h r → MayInherit ts h' r' → Starts no_inherit r → Starts no_inherit r' → (h ≡ h') × (r ≡ r')
 inherit_one g.none g.none a b = (refl, refl)
@@ -175,17 +175,17 @@ inherit_one g.none (g.inherit w) a b = absurd (false≢true a)
 inherit_one (g.inherit w) g.none a b = absurd (false≢true b)
 inherit_one (g.inherit {l = l} w) (g.inherit v) a b = (ap (λ (n : List ℕ). Some (n, l)) (word_one w v), refl)
 
-pub override_one : {ts r r' : Tokens} {xs ys : List Item} → MayOverride ts xs r → MayOverride ts ys r' → Starts no_brace r → Starts no_brace r' → (xs ≡ ys) × (r ≡ r')
+pub override_one : {ts r r' : Tokens} {xs ys : List Item} → MayHaveOverrides ts xs r → MayHaveOverrides ts ys r' → Starts no_brace r → Starts no_brace r' → (xs ≡ ys) × (r ≡ r')
 override_one g.none g.none a b = (refl, refl)
 override_one g.none (g.braces n) a b = absurd (false≢true a)
 override_one (g.braces n) g.none a b = absurd (false≢true b)
 override_one (g.braces n) (g.braces n') a b = let e = inner_one n n' refl refl in (e.0, ap tail e.1)
 
-pub override_inherit : {ts r : Tokens} {xs : List Item} → MayOverride ts xs r → Starts begins_item r → Starts no_inherit ts
+pub override_inherit : {ts r : Tokens} {xs : List Item} → MayHaveOverrides ts xs r → Starts begins_item r → Starts no_inherit ts
 override_inherit {ts = ts} g.none a = starts_to begins_item no_inherit item_to_inherit ts a
 override_inherit (g.braces n) a = refl
 
-pub override_tilde : {ts r : Tokens} {xs : List Item} → MayOverride ts xs r → Starts begins_item r → Starts no_tilde ts
+pub override_tilde : {ts r : Tokens} {xs : List Item} → MayHaveOverrides ts xs r → Starts begins_item r → Starts no_tilde ts
 override_tilde {ts = ts} g.none a = starts_to begins_item no_tilde item_to_tilde ts a
 override_tilde (g.braces n) a = refl
 
@@ -233,7 +233,7 @@ items_one {r' = r'} (g.include {own = own} {after = after} m l h o n) (g.include
     let f' = items_front n' b in
     let el = literal_one l (subst (λ z. IsLiteral z s' behind') (sym e) l') (inherit_tilde h (override_tilde o f)) (inherit_tilde h' (override_tilde o' f')) in
     let eh = inherit_one h (subst (λ z. MayInherit z i' own') (sym el.1) h') (override_inherit o f) (override_inherit o' f') in
-    let eo = override_one o (subst (λ z. MayOverride z zs after') (sym eh.1) o') (starts_to begins_item no_brace item_to_brace after f) (starts_to begins_item no_brace item_to_brace after' f') in
+    let eo = override_one o (subst (λ z. MayHaveOverrides z zs after') (sym eh.1) o') (starts_to begins_item no_brace item_to_brace after f) (starts_to begins_item no_brace item_to_brace after' f') in
     let en = items_one n (subst (λ z. AreItems z ys r') (sym eo.1) n') a b in
     ((λ i. t.include (el.0 i) (eh.0 i) (items_of (eo.0 i)) ∷ en.0 i), en.1)
 items_one (g.include m l h o n) (g.note k j) a b = absurd (keyword_note m k)
@@ -243,7 +243,7 @@ items_one (g.note n m) (g.div m' k l) a b = absurd (keyword_note m' n)
 items_one (g.note n m) (g.include m' l h o k) a b = absurd (keyword_note m' n)
 items_one {r' = r'} {ys = ys} (g.note n m) (g.note n' m') a b = items_one m (subst (λ z. AreItems z ys r') (sym (note_one n n')) m') a b
 
-pub items_grammar : {ts us : Tokens} {i : ℕ} {xs : List Item} → AreItems ts xs [] → MayAnnotate ts (keyword k.Grammar # i ∷ us) → ⊥
+pub items_grammar : {ts us : Tokens} {i : ℕ} {xs : List Item} → AreItems ts xs [] → MayHaveAnnotation ts (keyword k.Grammar # i ∷ us) → ⊥
 items_grammar g.none (g.annotated b) = elim b [ ]
 items_grammar (g.component {after = after} {x = x} m c n) a = let e = may_one m a (component_front c).1 refl in component_grammar (subst (λ z. IsComponent z x after) e c)
 items_grammar (g.div m n o) a = let e = ap (λ z. is_grammar (first z)) (may_one m a refl refl) in false≢true e
@@ -260,6 +260,6 @@ one_tree ts m n (g.items {xs = xs} d i) (g.grammar d' a' i' f') = let e = declar
 one_tree ts m n (g.grammar d a i f) (g.items {xs = ys} d' i') = let e = declarations_one d d' (may_item a refl) (items_front i' tt) in absurd (items_grammar (subst (λ z. AreItems z ys []) (sym e.1) i') a)
 one_tree ts m n (g.grammar d a i f) (g.grammar {i = p'} {j = q'} {l = l'} {body = body'} {after = after'} {xs = ys} d' a' i' f') =
     let e = declarations_one d d' (may_item a refl) (may_item a' refl) in
-    let u = may_one a (subst (λ z. MayAnnotate z (keyword k.Grammar # p' ∷ left_brace # q' ∷ body')) (sym e.1) a') refl refl in
+    let u = may_one a (subst (λ z. MayHaveAnnotation z (keyword k.Grammar # p' ∷ left_brace # q' ∷ body')) (sym e.1) a') refl refl in
     let h = items_one i (subst (λ z. AreItems z ys (right_brace # l' ∷ after')) (sym (ap (λ z. tail (tail z)) u)) i') refl refl in
     λ j. record { declarations = e.0 j; items = items_of (h.0 j) }

@@ -8,11 +8,11 @@ use Rattle.rn_syntax.specs.Terminal.{Terminal, Placed, ◌#◌, segment, postfix
 use Rattle.rn_syntax.specs.Tree as tree
 use Rattle.rn_syntax.specs.Tree.{Datatype, Params, Pattern}
 use Rattle.rn_syntax.specs.Grammar as g
-use Rattle.rn_syntax.specs.Grammar.{Tokens, AreFollows, MayAnnotate, IsLiteral, IsDatatype, MayHaveParams, IsOperand, IsPrimary, IsCore}
+use Rattle.rn_syntax.specs.Grammar.{Tokens, AreFollows, MayHaveAnnotation, IsLiteral, IsDatatype, MayHaveParams, IsOperand, IsPrimary, IsCore}
 use Rattle.rn_syntax.specs.Follow.{Starts, first, no_follow, no_tilde, no_brace, behind_core, behind_primary, behind_operand}
 use Rattle.rn_syntax.specs.Sequence.{Then, both, Gives, gives}
 use Rattle.rn_syntax.specs.Parts as part
-use Rattle.rn_syntax.specs.Parts.{BehindPrimary, BehindType, BehindDatatype}
+use Rattle.rn_syntax.specs.Parts.{BehindPrimary, IsDataEnd, BehindDatatype}
 use Rattle.rn_syntax.specs.Reading.{Took, Stuck, Bare, seen, IsNext}
 use Rattle.rn_syntax.proofs.OneClass.{starts_to, minus_stays}
 use Rattle.rn_syntax.proofs.OnePattern.{to_primary, primary_to_follow, core_to_tilde, core_to_brace, follows_core}
@@ -154,37 +154,37 @@ abbrev pub Datum : Datatype → Tokens → Pattern → Tokens → Type 0
 Datum d = Then MayHaveParams (λ ps. Gives (tree.datum d ps))
 
 module _ (d : Datatype) {now : Tokens} where
-  valued_at : {s : List ℕ} {i : ℕ} {next : Tokens} → now ≡ segment s # i ∷ next → Upto (BehindType d) (Valued d) (Starts behind_core) now now
+  valued_at : {s : List ℕ} {i : ℕ} {next : Tokens} → now ≡ segment s # i ∷ next → Upto (IsDataEnd d) (Valued d) (Starts behind_core) now now
   valued_at {s = s} {i = i} e = upto_seen e (λ t z r h. to h) (λ t z r h w. from h w)
     where
-      to : {t r : Tokens} {z : Pattern} → Valued d t z r → BehindType d t z r
+      to : {t r : Tokens} {z : Pattern} → Valued d t z r → IsDataEnd d t z r
       to (both l gives) = part.valued l
 
-      from : {t r : Tokens} {z : Pattern} → BehindType d (segment s # i ∷ t) z r → Starts behind_core r → Valued d (segment s # i ∷ t) z r
+      from : {t r : Tokens} {z : Pattern} → IsDataEnd d (segment s # i ∷ t) z r → Starts behind_core r → Valued d (segment s # i ∷ t) z r
       from (part.valued l) w = both l gives
       from (part.datum m) w = absurd (datum_not m w)
 
   pub value_took : {s u : List ℕ} {i : ℕ} {next rest : Tokens} → now ≡ segment s # i ∷ next → Took IsLiteral (Starts no_tilde) now u rest
-      → Took (BehindType d) (Starts behind_core) now (tree.value (Some d) u) rest
+      → Took (IsDataEnd d) (Starts behind_core) now (tree.value (Some d) u) rest
   value_took {u = u} {rest = rest} e h = took_upto (upto_then (valued_at e) (reads (fits_given (λ s. tree.value (Some d) s) core_tilde) h)) (took_gives (tree.value (Some d) u) rest)
 
-  pub value_stuck : {s : List ℕ} {i : ℕ} {next bad : Tokens} → now ≡ segment s # i ∷ next → Stuck IsLiteral (Starts no_tilde) now bad → Stuck (BehindType d) (Starts behind_core) now bad
+  pub value_stuck : {s : List ℕ} {i : ℕ} {next bad : Tokens} → now ≡ segment s # i ∷ next → Stuck IsLiteral (Starts no_tilde) now bad → Stuck (IsDataEnd d) (Starts behind_core) now bad
   value_stuck e h = stuck_upto (valued_at e) (stuck_in (fits_given (λ s. tree.value (Some d) s) core_tilde) (can_given (λ s. tree.value (Some d) s)) h)
 
-  datum_at : is_segment (first now) ≡ false → Upto (BehindType d) (Datum d) (Starts behind_core) now now
+  datum_at : is_segment (first now) ≡ false → Upto (IsDataEnd d) (Datum d) (Starts behind_core) now now
   datum_at e = upto_at (λ t z r h. to h) (λ t a z r h w. from (ap is_segment (first_alike a) ∙ e) h)
     where
-      to : {t r : Tokens} {z : Pattern} → Datum d t z r → BehindType d t z r
+      to : {t r : Tokens} {z : Pattern} → Datum d t z r → IsDataEnd d t z r
       to (both m gives) = part.datum m
 
-      from : {t r : Tokens} {z : Pattern} → is_segment (first t) ≡ false → BehindType d t z r → Datum d t z r
+      from : {t r : Tokens} {z : Pattern} → is_segment (first t) ≡ false → IsDataEnd d t z r → Datum d t z r
       from e (part.datum m) = both m gives
       from e (part.valued l) = absurd (false≢true (sym e ∙ literal_begins l))
 
-  pub datum_took : {ps : Params} {rest : Tokens} → is_segment (first now) ≡ false → Took MayHaveParams (Starts no_brace) now ps rest → Took (BehindType d) (Starts behind_core) now (tree.datum d ps) rest
+  pub datum_took : {ps : Params} {rest : Tokens} → is_segment (first now) ≡ false → Took MayHaveParams (Starts no_brace) now ps rest → Took (IsDataEnd d) (Starts behind_core) now (tree.datum d ps) rest
   datum_took {ps = ps} {rest = rest} e h = took_upto (upto_then (datum_at e) (reads (fits_given (λ ps. tree.datum d ps) core_brace) h)) (took_gives (tree.datum d ps) rest)
 
-  pub datum_stuck : {bad : Tokens} → is_segment (first now) ≡ false → Stuck MayHaveParams (Starts no_brace) now bad → Stuck (BehindType d) (Starts behind_core) now bad
+  pub datum_stuck : {bad : Tokens} → is_segment (first now) ≡ false → Stuck MayHaveParams (Starts no_brace) now bad → Stuck (IsDataEnd d) (Starts behind_core) now bad
   datum_stuck e h = stuck_upto (datum_at e) (stuck_in (fits_given (λ ps. tree.datum d ps) core_brace) (can_given (λ ps. tree.datum d ps)) h)
 
 -- ---- behind the datatype of an operand

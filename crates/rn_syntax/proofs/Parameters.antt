@@ -8,7 +8,7 @@ use Rattle.rn_syntax.specs.Terminal as t
 use Rattle.rn_syntax.specs.Terminal.{Terminal, Placed, ◌#◌, ident, keyword, assign, segment, left_brace, right_brace}
 use Rattle.rn_syntax.specs.Tree.{Params}
 use Rattle.rn_syntax.specs.Grammar as g
-use Rattle.rn_syntax.specs.Grammar.{Tokens, MayAnnotate, IsLiteral, IsDatatype, AreParams, MayHaveParams}
+use Rattle.rn_syntax.specs.Grammar.{Tokens, MayHaveAnnotation, IsLiteral, IsDatatype, AreParams, MayHaveParams}
 use Rattle.rn_syntax.specs.Follow.{Starts, Anything, first, is_end, no_bracket, no_tilde, no_brace}
 use Rattle.rn_syntax.specs.Sequence.{Then, both, Gives, gives, IsToken, token, IsOf, of, IsWordAt, word_at, IsHere, IsParam}
 use Rattle.rn_syntax.specs.Reading.{Took, Stuck, Bare, seen, IsNext}
@@ -65,7 +65,7 @@ can_name more = (ident [] # 0 ∷ more, [], of (word_at g.by_name))
 can_unannotated : Can Unannotated
 can_unannotated more = let w = can_then can_name can_named more in (w.0, λ u. (w.1, w.2))
 
-module _ {ts body : Tokens} (a : Took (Bare MayAnnotate) (Starts no_bracket) ts tt body) where
+module _ {ts body : Tokens} (a : Took (Bare MayHaveAnnotation) (Starts no_bracket) ts tt body) where
   pub param_body : Upto IsParam (Unannotated tt) (Starts no_tilde) ts body
   param_body = reads fits_name a
 
@@ -80,7 +80,7 @@ module _ {ts body : Tokens} (a : Took (Bare MayAnnotate) (Starts no_bracket) ts 
       pub param_read : {rest : Tokens} {s : Text} → Took IsLiteral (Starts no_tilde) value s rest → Took IsParam (Starts no_tilde) ts (n, s) rest
       param_read {rest = rest} {s = s} l = took_upto (upto_then param_value (reads (fits_gives n) l)) (took_gives (n, s) rest)
 
-pub param_stuck-annotation : {ts bad : Tokens} → Stuck (Bare MayAnnotate) (Starts no_bracket) ts bad → Stuck IsParam (Starts no_tilde) ts bad
+pub param_stuck-annotation : {ts bad : Tokens} → Stuck (Bare MayHaveAnnotation) (Starts no_bracket) ts bad → Stuck IsParam (Starts no_tilde) ts bad
 param_stuck-annotation k = stuck_in fits_name can_unannotated k
 
 pub stuck-name : {bad body : Tokens} → Stuck (IsOf IsWordAt) Anything body bad → Stuck (Unannotated tt) (Starts no_tilde) body bad

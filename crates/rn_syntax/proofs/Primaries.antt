@@ -5,11 +5,11 @@ use Rattle.rn_syntax.specs.Terminal.{Placed, ◌#◌, ident, minus}
 use Rattle.rn_syntax.specs.Tree as tree
 use Rattle.rn_syntax.specs.Tree.{Datatype, Params, Pattern}
 use Rattle.rn_syntax.specs.Grammar as g
-use Rattle.rn_syntax.specs.Grammar.{Tokens, AreFollows, MayAnnotate, IsLiteral, IsDatatype, MayHaveParams, IsOperand, IsPrimary, IsCore}
+use Rattle.rn_syntax.specs.Grammar.{Tokens, AreFollows, MayHaveAnnotation, IsLiteral, IsDatatype, MayHaveParams, IsOperand, IsPrimary, IsCore}
 use Rattle.rn_syntax.specs.Follow.{Starts, first, no_bracket, no_follow, behind_core, behind_primary, behind_operand, begins_datatype}
 use Rattle.rn_syntax.specs.Sequence.{Then, both, Gives, gives, IsHere}
 use Rattle.rn_syntax.specs.Parts as part
-use Rattle.rn_syntax.specs.Parts.{BehindPrimary, BehindType, BehindDatatype}
+use Rattle.rn_syntax.specs.Parts.{BehindPrimary, IsDataEnd, BehindDatatype}
 use Rattle.rn_syntax.specs.Reading.{Took, Stuck, Bare}
 use Rattle.rn_syntax.proofs.OneClass.{datatype_one}
 use Rattle.rn_syntax.proofs.OnePattern.{core_front, datatype_front, follows_core}
@@ -17,7 +17,7 @@ use Rattle.rn_syntax.proofs.Compose.{Upto, Fits, Can, CanBe, upto_at, upto_token
 use Rattle.rn_syntax.proofs.Operands.{Follows, Ends, fits_given, can_given, fits_ends, can_ends, primary_follow}
 
 abbrev Annotates : Tokens → Unit {0} → Tokens → Type 0
-Annotates = Bare MayAnnotate
+Annotates = Bare MayHaveAnnotation
 
 pub can_core : CanBe IsCore
 can_core more = (ident [] # 0 ∷ more, tree.ref [], g.ref)
@@ -33,14 +33,14 @@ no_literal : {x : Placed} {us r : Tokens} {s : List ℕ} {d : Datatype} → IsLi
 no_literal g.one n = elim n [ ]
 no_literal (g.joined l) n = elim n [ ]
 
-value_typed : {us r : Tokens} {s : List ℕ} {d e : Datatype} → e ≡ d → IsLiteral us s r → BehindType d us (tree.value (Some e) s) r
-value_typed {us = us} {r = r} {s = s} {d = d} h l = subst (λ (e : Datatype). BehindType d us (tree.value (Some e) s) r) (sym h) (part.valued l)
+value_typed : {us r : Tokens} {s : List ℕ} {d e : Datatype} → e ≡ d → IsLiteral us s r → IsDataEnd d us (tree.value (Some e) s) r
+value_typed {us = us} {r = r} {s = s} {d = d} h l = subst (λ (e : Datatype). IsDataEnd d us (tree.value (Some e) s) r) (sym h) (part.valued l)
 
-datum_typed : {us r : Tokens} {ps : Params} {d e : Datatype} → e ≡ d → MayHaveParams us ps r → BehindType d us (tree.datum e ps) r
-datum_typed {us = us} {r = r} {ps = ps} {d = d} h m = subst (λ (e : Datatype). BehindType d us (tree.datum e ps) r) (sym h) (part.datum m)
+datum_typed : {us r : Tokens} {ps : Params} {d e : Datatype} → e ≡ d → MayHaveParams us ps r → IsDataEnd d us (tree.datum e ps) r
+datum_typed {us = us} {r = r} {ps = ps} {d = d} h m = subst (λ (e : Datatype). IsDataEnd d us (tree.datum e ps) r) (sym h) (part.datum m)
 
 -- what a core with this datatype is
-typed : {x : Placed} {us r : Tokens} {p : Pattern} {d : Datatype} → IsCore (x ∷ us) p r → IsDatatype x d → BehindType d us p r
+typed : {x : Placed} {us r : Tokens} {p : Pattern} {d : Datatype} → IsCore (x ∷ us) p r → IsDatatype x d → IsDataEnd d us p r
 typed (g.typed_value y l) n = value_typed (datatype_one y n) l
 typed (g.datum y m) n = datum_typed (datatype_one y n) m
 typed (g.value l) n = absurd (no_literal l n)
@@ -54,12 +54,12 @@ typed g.text n = elim n [ ]
 typed g.ref n = elim n [ ]
 typed (g.parens p) n = elim n [ ]
 
-core_of : {x : Placed} {us r : Tokens} {p : Pattern} {d : Datatype} → IsDatatype x d → BehindType d us p r → IsCore (x ∷ us) p r
+core_of : {x : Placed} {us r : Tokens} {p : Pattern} {d : Datatype} → IsDatatype x d → IsDataEnd d us p r → IsCore (x ∷ us) p r
 core_of n (part.valued l) = g.typed_value n l
 core_of n (part.datum m) = g.datum n m
 
 -- behind the datatype of a core
-pub type_at : {d : Datatype} {now next : Tokens} → IsHere IsDatatype now d next → Upto IsCore (BehindType d) (Starts behind_core) now next
+pub type_at : {d : Datatype} {now next : Tokens} → IsHere IsDatatype now d next → Upto IsCore (IsDataEnd d) (Starts behind_core) now next
 type_at h = upto_token h.here (λ t z r b. core_of h.holds b) (λ t z r b w. typed b h.holds)
 
 -- ---- an operand

@@ -7,7 +7,7 @@ use Rattle.rn_syntax.specs.Terminal.{Terminal, ◌#◌, ident, keyword, prefixed
 use Rattle.rn_syntax.specs.Tree as t
 use Rattle.rn_syntax.specs.Tree.{Item}
 use Rattle.rn_syntax.specs.Grammar as g
-use Rattle.rn_syntax.specs.Grammar.{Tokens, IsAnnotation, MayAnnotate, IsNote}
+use Rattle.rn_syntax.specs.Grammar.{Tokens, IsAnnotation, MayHaveAnnotation, IsNote}
 use Rattle.rn_syntax.specs.Follow.{Starts, Anything, first, no_bracket, begins_item, is_end}
 use Rattle.rn_syntax.specs.Sequence.{Then, both, is_note}
 use Rattle.rn_syntax.specs.Reading.{Alike, ends, same, Took, Stuck, Bare}
@@ -18,7 +18,7 @@ use Rattle.rn_syntax.proofs.Repeating.{Behind, Whole, parts_took, parts_stuck, p
 
 -- an S with its annotation
 abbrev pub Row : (Tokens → Item → Tokens → Type 0) → Tokens → Item → Tokens → Type 0
-Row S = Then (Bare MayAnnotate) (λ (u : Unit {0}). S)
+Row S = Then (Bare MayHaveAnnotation) (λ (u : Unit {0}). S)
 
 pub data Rows (S : Tokens → Item → Tokens → Type 0) : Tokens → List Item → Tokens → Type 0 where
   none : {ts : Tokens} → Rows S ts [] ts
@@ -97,16 +97,16 @@ module _ {S : Tokens → Item → Tokens → Type 0} {test : Terminal → Bool} 
   fits_row = record { fits = λ u mid x r d g. s.unbracketed mid x r d }
 
   -- an annotation and an S were read
-  pub row_took : {now body next : Tokens} {x : Item} → Took (Bare MayAnnotate) (Starts no_bracket) now tt body → Took S (Starts begins_item) body x next → Took (Row S) (Starts begins_item) now x next
+  pub row_took : {now body next : Tokens} {x : Item} → Took (Bare MayHaveAnnotation) (Starts no_bracket) now tt body → Took S (Starts begins_item) body x next → Took (Row S) (Starts begins_item) now x next
   row_took a k = took_upto (reads fits_row a) k
 
-  pub row_stuck : {now body bad : Tokens} → Took (Bare MayAnnotate) (Starts no_bracket) now tt body → Stuck S (Starts begins_item) body bad → Stuck (Row S) (Starts begins_item) now bad
+  pub row_stuck : {now body bad : Tokens} → Took (Bare MayHaveAnnotation) (Starts no_bracket) now tt body → Stuck S (Starts begins_item) body bad → Stuck (Row S) (Starts begins_item) now bad
   row_stuck a k = stuck_upto (reads fits_row a) k
 
   can_row : Can (λ (u : Unit {0}). S)
   can_row more = (ident [] # 0 ∷ assign m.Plain # 0 ∷ keyword k.Text # 0 ∷ more, λ u. (t.define [] m.Plain t.text, s.named [] 0 more))
 
-  pub row_unannotated : {now bad : Tokens} → Stuck (Bare MayAnnotate) (Starts no_bracket) now bad → Stuck (Row S) (Starts begins_item) now bad
+  pub row_unannotated : {now bad : Tokens} → Stuck (Bare MayHaveAnnotation) (Starts no_bracket) now bad → Stuck (Row S) (Starts begins_item) now bad
   row_unannotated k = stuck_in fits_row can_row k
 
   split : {ts t r : Tokens} {x : Item} {z : List Item} → Row S ts x t → ((y : Item) (mid : Tokens) → Row S ts y mid → Starts begins_item mid → (y ≡ x) × (mid ≡ t)) → Rows S ts z r → Starts is_end r → Whole (Rows S) (x ∷ []) t z r
@@ -204,7 +204,7 @@ abbrev pub So_far : (Tokens → List Item → Tokens → Type 0) → (Tokens →
 So_far V S xs ts now = Upto V (Whole (Rows S) xs) (Starts is_end) ts now
 
 module _ {V : Tokens → List Item → Tokens → Type 0} {S : Tokens → Item → Tokens → Type 0} {test : Terminal → Bool} (s : IsRow S test) (xs : List Item) {ts now : Tokens} (so_far : So_far V S xs ts now) where
-  pub so_far_row : {body next : Tokens} {x : Item} → Took (Bare MayAnnotate) (Starts no_bracket) now tt body → Took S (Starts begins_item) body x next → So_far V S (xs ++ x ∷ []) ts next
+  pub so_far_row : {body next : Tokens} {x : Item} → Took (Bare MayHaveAnnotation) (Starts no_bracket) now tt body → Took S (Starts begins_item) body x next → So_far V S (xs ++ x ∷ []) ts next
   so_far_row a k = upto_then so_far (part_behind (λ (l : List Item). l) xs (rows_row s (row_took s a k)))
 
   pub so_far_note : {y : Terminal} {i : ℕ} {next behind : Tokens} → now ≡ y # i ∷ next → is_note now ≡ true → Took (Bare IsAnnotation) Anything next tt behind → So_far V S xs ts behind
@@ -213,10 +213,10 @@ module _ {V : Tokens → List Item → Tokens → Type 0} {S : Tokens → Item �
   pub stuck_note : {y : Terminal} {i : ℕ} {next bad : Tokens} → now ≡ y # i ∷ next → is_note now ≡ true → Stuck (Bare IsAnnotation) Anything next bad → Stuck V (Starts is_end) ts bad
   stuck_note e h k = parts_stuck (λ (l : List Item). l) xs so_far (rows_note_stuck s e h k)
 
-  pub stuck_annotation : {bad : Tokens} → test (first now) ≡ true → is_note now ≡ false → Stuck (Bare MayAnnotate) (Starts no_bracket) now bad → Stuck V (Starts is_end) ts bad
+  pub stuck_annotation : {bad : Tokens} → test (first now) ≡ true → is_note now ≡ false → Stuck (Bare MayHaveAnnotation) (Starts no_bracket) now bad → Stuck V (Starts is_end) ts bad
   stuck_annotation h p k = parts_stuck (λ (l : List Item). l) xs so_far (rows_stuck s h p (row_unannotated s k))
 
-  pub stuck_row : {body bad : Tokens} → test (first now) ≡ true → is_note now ≡ false → Took (Bare MayAnnotate) (Starts no_bracket) now tt body → Stuck S (Starts begins_item) body bad → Stuck V (Starts is_end) ts bad
+  pub stuck_row : {body bad : Tokens} → test (first now) ≡ true → is_note now ≡ false → Took (Bare MayHaveAnnotation) (Starts no_bracket) now tt body → Stuck S (Starts begins_item) body bad → Stuck V (Starts is_end) ts bad
   stuck_row h p a k = parts_stuck (λ (l : List Item). l) xs so_far (rows_stuck s h p (row_stuck s a k))
 
   pub so_far_took : test (first now) ≡ false → Took V (Starts is_end) ts xs now

@@ -7,9 +7,9 @@ use Rattle.rn_syntax.specs.declared.token.Keyword.{Keyword}
 use Rattle.rn_syntax.specs.Terminal as t
 use Rattle.rn_syntax.specs.Terminal.{Terminal, Placed, ◌#◌, left_bracket, right_bracket, follow, is_bracket}
 use Rattle.rn_syntax.specs.Grammar as g
-use Rattle.rn_syntax.specs.Grammar.{Tokens, Closed, IsAnnotation, MayAnnotate, AreFollows, IsFollowName}
+use Rattle.rn_syntax.specs.Grammar.{Tokens, Closed, IsAnnotation, MayHaveAnnotation, AreFollows, IsFollowName}
 use Rattle.rn_syntax.specs.Follow.{Starts, Anything, first, no_bracket, no_follow}
-use Rattle.rn_syntax.specs.Sequence.{Then, both, Gives, gives, IsNamed, named}
+use Rattle.rn_syntax.specs.Sequence.{Then, both, Gives, gives, IsFollow, named}
 use Rattle.rn_syntax.specs.Reading.{Alike, Took, Stuck, Bare, seen, IsNext}
 use Rattle.rn_syntax.proofs.Compose.{Upto, Can, CanBe, upto_at, upto_then, stuck_upto, reads, stuck_in, stuck_here, first_alike, alike_end, upto_token, fits_anything}
 use Rattle.rn_syntax.proofs.Next.{first_next}
@@ -130,10 +130,10 @@ annotation_at {i = i} e = upto_token e (λ t z r d. g.bracketed d) (λ t z r d g
     from : {t r : Tokens} → IsAnnotation (left_bracket # i ∷ t) r → Closed t r
     from (g.bracketed d) = d
 
-pub may_at : {i : ℕ} {now next : Tokens} → now ≡ left_bracket # i ∷ next → Upto (Bare MayAnnotate) (Bare Closed) (Starts no_bracket) now next
+pub may_at : {i : ℕ} {now next : Tokens} → now ≡ left_bracket # i ∷ next → Upto (Bare MayHaveAnnotation) (Bare Closed) (Starts no_bracket) now next
 may_at {i = i} e = upto_token e (λ t z r d. g.annotated (g.bracketed d)) (λ t z r d f. from d f)
   where
-    from : {t r : Tokens} → MayAnnotate (left_bracket # i ∷ t) r → Starts no_bracket r → Closed t r
+    from : {t r : Tokens} → MayHaveAnnotation (left_bracket # i ∷ t) r → Starts no_bracket r → Closed t r
     from (g.annotated (g.bracketed d)) f = d
     from g.bare f = absurd (false≢true f)
 
@@ -159,12 +159,12 @@ no_annotation now behind x e h = record {
   refuses = λ t a u r d f. false≢true (sym (begins_bracket d) ∙ ap no_bracket (first_alike a) ∙ first_no_bracket now behind x e h);
 }
 
-bare_from : {t r : Tokens} → no_bracket (first t) ≡ true → MayAnnotate t r → r ≡ t
+bare_from : {t r : Tokens} → no_bracket (first t) ≡ true → MayHaveAnnotation t r → r ≡ t
 bare_from h g.bare = refl
 bare_from h (g.annotated (g.bracketed d)) = absurd (false≢true h)
 
 -- nothing is skipped
-pub bare : (now behind : Tokens) (x : code.Terminal) → IsNext now (seen x) behind → (x ≡ c.LeftBracket → ⊥) → Took (Bare MayAnnotate) (Starts no_bracket) now tt now
+pub bare : (now behind : Tokens) (x : code.Terminal) → IsNext now (seen x) behind → (x ≡ c.LeftBracket → ⊥) → Took (Bare MayHaveAnnotation) (Starts no_bracket) now tt now
 bare now behind x e h = record {
   front = [];
   cut = refl;
@@ -185,10 +185,10 @@ name_is (g.by_word g.by_name) = refl
 name_is (g.by_word g.by_keyword) = refl
 name_is g.by_prefixed = refl
 
-named_begins : {t r : Tokens} → IsNamed t r → is_follow_name (first t) ≡ true
+named_begins : {t r : Tokens} → IsFollow t r → is_follow_name (first t) ≡ true
 named_begins (named n d) = name_is n
 
-pub can_named : CanBe (Bare IsNamed)
+pub can_named : CanBe (Bare IsFollow)
 can_named more = (t.ident [] # 0 ∷ left_bracket # 0 ∷ right_bracket # 0 ∷ more, tt, named (g.by_word g.by_name) (g.bracketed g.close))
 
 not_name : (x : code.Terminal) → ((n : _) → x ≡ c.Ident n → ⊥) → ((w : _) → x ≡ c.Keyword w → ⊥) → ((n : _) (l : _) → x ≡ c.Prefixed n l → ⊥) → is_follow_name (unwrap_or (seen x) t.other) ≡ false
@@ -197,7 +197,7 @@ not_name (c.Keyword w) h k l = absurd (k w refl)
 not_name (c.Prefixed n m) h k l = absurd (l n m refl)
 not_name x h k l = refl
 
-pub no_name : (now behind : Tokens) (x : code.Terminal) → IsNext now (seen x) behind → ((n : _) → x ≡ c.Ident n → ⊥) → ((w : _) → x ≡ c.Keyword w → ⊥) → ((n : _) (l : _) → x ≡ c.Prefixed n l → ⊥) → Stuck (Bare IsNamed) Anything now now
+pub no_name : (now behind : Tokens) (x : code.Terminal) → IsNext now (seen x) behind → ((n : _) → x ≡ c.Ident n → ⊥) → ((w : _) → x ≡ c.Keyword w → ⊥) → ((n : _) (l : _) → x ≡ c.Prefixed n l → ⊥) → Stuck (Bare IsFollow) Anything now now
 no_name now behind x e h k l = stuck_here is_follow_name (λ t a r d. named_begins d) (ap is_follow_name (first_next now behind (seen x) e) ∙ not_name x h k l) can_named
 
 -- the name that the code saw
@@ -207,27 +207,27 @@ follow_name x now behind (inl (n, e)) h = let f = subst (λ (y : code.Terminal).
 follow_name x now behind (inr (inl (w, e))) h = let f = subst (λ (y : code.Terminal). IsNext now (seen y) behind) e h in (t.keyword w, f.0, f.1, g.by_word g.by_keyword)
 follow_name x now behind (inr (inr (n, l, e))) h = let f = subst (λ (y : code.Terminal). IsNext now (seen y) behind) e h in (t.prefixed n.now l.now, f.0, f.1, g.by_prefixed)
 
-pub named_at : {x : Terminal} {i : ℕ} {now next : Tokens} → IsFollowName x → now ≡ x # i ∷ next → Upto (Bare IsNamed) (Bare IsAnnotation) Anything now next
+pub named_at : {x : Terminal} {i : ℕ} {now next : Tokens} → IsFollowName x → now ≡ x # i ∷ next → Upto (Bare IsFollow) (Bare IsAnnotation) Anything now next
 named_at {x = x} {i = i} n e = upto_token e (λ t z r d. named n d) (λ t z r d g. from d)
   where
-    from : {t r : Tokens} → IsNamed (x # i ∷ t) r → IsAnnotation t r
+    from : {t r : Tokens} → IsFollow (x # i ∷ t) r → IsAnnotation t r
     from (named n d) = d
 
 -- one more
-pub follow_at : {i : ℕ} {now next : Tokens} → now ≡ follow # i ∷ next → Upto (Bare AreFollows) (Then (Bare IsNamed) (λ (u : Unit {0}). Bare AreFollows)) (Starts no_follow) now next
+pub follow_at : {i : ℕ} {now next : Tokens} → now ≡ follow # i ∷ next → Upto (Bare AreFollows) (Then (Bare IsFollow) (λ (u : Unit {0}). Bare AreFollows)) (Starts no_follow) now next
 follow_at {i = i} e = upto_token e (λ t z r d. to d) (λ t z r d f. from d f)
   where
-    to : {t r : Tokens} {z : Unit {0}} → Then (Bare IsNamed) (λ (u : Unit {0}). Bare AreFollows) t z r → AreFollows (follow # i ∷ t) r
+    to : {t r : Tokens} {z : Unit {0}} → Then (Bare IsFollow) (λ (u : Unit {0}). Bare AreFollows) t z r → AreFollows (follow # i ∷ t) r
     to (both (named n a) m) = g.more n a m
 
-    from : {t r : Tokens} {z : Unit {0}} → AreFollows (follow # i ∷ t) r → Starts no_follow r → Then (Bare IsNamed) (λ (u : Unit {0}). Bare AreFollows) t z r
+    from : {t r : Tokens} {z : Unit {0}} → AreFollows (follow # i ∷ t) r → Starts no_follow r → Then (Bare IsFollow) (λ (u : Unit {0}). Bare AreFollows) t z r
     from (g.more n a m) f = both (named n a) m
     from g.none f = absurd (false≢true f)
 
-pub follow_then : {i : ℕ} {now next end : Tokens} → now ≡ follow # i ∷ next → Took (Bare IsNamed) Anything next tt end → Upto (Bare AreFollows) (Bare AreFollows) (Starts no_follow) now end
+pub follow_then : {i : ℕ} {now next end : Tokens} → now ≡ follow # i ∷ next → Took (Bare IsFollow) Anything next tt end → Upto (Bare AreFollows) (Bare AreFollows) (Starts no_follow) now end
 follow_then e k = upto_then (follow_at e) (reads fits_anything k)
 
-pub follow_stuck : {i : ℕ} {now next bad : Tokens} → now ≡ follow # i ∷ next → Stuck (Bare IsNamed) Anything next bad → Stuck (Bare AreFollows) (Starts no_follow) now bad
+pub follow_stuck : {i : ℕ} {now next bad : Tokens} → now ≡ follow # i ∷ next → Stuck (Bare IsFollow) Anything next bad → Stuck (Bare AreFollows) (Starts no_follow) now bad
 follow_stuck e k = stuck_upto (follow_at e) (stuck_in fits_anything (λ more. (more, λ u. (tt, g.none))) k)
 
 not_follow : (x : code.Terminal) → (x ≡ c.Follow → ⊥) → no_follow (unwrap_or (seen x) t.other) ≡ true

@@ -21,10 +21,10 @@ abbrev pub IsDatatypesEnd : Tokens → Declaration → Tokens → Type 0
 IsDatatypesEnd = Then (IsOf IsPrefixAt) (λ p. Then (IsToken (assign m.Plain)) (λ i. Then IsLiteral (λ s. Gives (t.datatypes p.0 p.1 s))))
 
 -- [word]
-pub data MayPrefix : Tokens → Option (List ℕ × ℕ) → Tokens → Type 0 where
-  no_prefix : {ts : Tokens} → MayPrefix ts None ts
-  prefix : {x : Terminal} {n : List ℕ} {i : ℕ} {ts : Tokens} → IsWord x n → MayPrefix (x # i ∷ ts) (Some (n, i)) ts
+pub data MayHaveDefaultPrefix : Tokens → Option (List ℕ × ℕ) → Tokens → Type 0 where
+  no_prefix : {ts : Tokens} → MayHaveDefaultPrefix ts None ts
+  prefix : {x : Terminal} {n : List ℕ} {i : ℕ} {ts : Tokens} → IsWord x n → MayHaveDefaultPrefix (x # i ∷ ts) (Some (n, i)) ts
 
 -- "namespace" [word] "=" uri
 abbrev pub IsDefaultEnd : ℕ → Tokens → Declaration → Tokens → Type 0
-IsDefaultEnd start = Then (IsToken (keyword k.Namespace)) (λ i. Then MayPrefix (λ p. IsUriEnd (t.default start p)))
+IsDefaultEnd start = Then (IsToken (keyword k.Namespace)) (λ i. Then MayHaveDefaultPrefix (λ p. IsUriEnd (t.default start p)))

@@ -4,7 +4,7 @@ use Rattle.rn_syntax.specs.declared.token.Keyword.TheVariants as k
 use Rattle.rn_syntax.specs.Terminal.{Terminal, ◌#◌, ident, keyword, prefixed, left_brace, right_brace, left_bracket}
 use Rattle.rn_syntax.specs.Tree as t
 use Rattle.rn_syntax.specs.Tree.{Declaration, Item, Module, Pattern, items_of}
-use Rattle.rn_syntax.specs.Grammar.{Tokens, IsLiteral, IsComponent, AreItems, AreInner, MayInherit, MayOverride}
+use Rattle.rn_syntax.specs.Grammar.{Tokens, IsLiteral, IsComponent, AreItems, AreInnerItems, MayInherit, MayHaveOverrides}
 use Rattle.rn_syntax.specs.Sequence.{Then, Gives, IsToken}
 
 -- an item or a note begins
@@ -27,12 +27,12 @@ pub data IsItem : Tokens → Item → Tokens → Type 0 where
   component : {ts rest : Tokens} {x : Item} → IsComponent ts x rest → IsItem ts x rest
   div : {i j l : ℕ} {ts rest : Tokens} {ys : List Item} → AreItems ts ys (right_brace # l ∷ rest) → IsItem (keyword k.Div # i ∷ left_brace # j ∷ ts) (t.div (items_of ys)) rest
   include : {i : ℕ} {s : List ℕ} {h : Option (List ℕ × ℕ)} {ts behind own rest : Tokens} {ys : List Item}
-      → IsLiteral ts s behind → MayInherit behind h own → MayOverride own ys rest → IsItem (keyword k.Include # i ∷ ts) (t.include s h (items_of ys)) rest
+      → IsLiteral ts s behind → MayInherit behind h own → MayHaveOverrides own ys rest → IsItem (keyword k.Include # i ∷ ts) (t.include s h (items_of ys)) rest
 
 -- define | start | "div" "{" inner* "}"
-pub data IsInner : Tokens → Item → Tokens → Type 0 where
-  component : {ts rest : Tokens} {x : Item} → IsComponent ts x rest → IsInner ts x rest
-  div : {i j l : ℕ} {ts rest : Tokens} {ys : List Item} → AreInner ts ys (right_brace # l ∷ rest) → IsInner (keyword k.Div # i ∷ left_brace # j ∷ ts) (t.div (items_of ys)) rest
+pub data IsInnerItem : Tokens → Item → Tokens → Type 0 where
+  component : {ts rest : Tokens} {x : Item} → IsComponent ts x rest → IsInnerItem ts x rest
+  div : {i j l : ℕ} {ts rest : Tokens} {ys : List Item} → AreInnerItems ts ys (right_brace # l ∷ rest) → IsInnerItem (keyword k.Div # i ∷ left_brace # j ∷ ts) (t.div (items_of ys)) rest
 
 -- such a list, `}`, and what it makes of what follows
 abbrev pub UpToBrace : {C : Type 0} → (Tokens → List Item → Tokens → Type 0) → (List Item → Tokens → C → Tokens → Type 0) → Tokens → C → Tokens → Type 0
@@ -48,11 +48,11 @@ IsDivEnd = InBraces AreItems (λ xs. Gives (t.div (items_of xs)))
 
 -- "{" inner* "}", behind `div`
 abbrev pub IsInnerDivEnd : Tokens → Item → Tokens → Type 0
-IsInnerDivEnd = InBraces AreInner (λ xs. Gives (t.div (items_of xs)))
+IsInnerDivEnd = InBraces AreInnerItems (λ xs. Gives (t.div (items_of xs)))
 
 -- literal [ "inherit" "=" word ] [ "{" inner* "}" ], behind `include`
 abbrev pub IsIncludeEnd : Tokens → Item → Tokens → Type 0
-IsIncludeEnd = Then IsLiteral (λ s. Then MayInherit (λ h. Then MayOverride (λ ys. Gives (t.include s h (items_of ys)))))
+IsIncludeEnd = Then IsLiteral (λ s. Then MayInherit (λ h. Then MayHaveOverrides (λ ys. Gives (t.include s h (items_of ys)))))
 
 -- item*, behind items that were read
 pub record AreItemsBehind (read : List Item) (ts : Tokens) (all : List Item) (rest : Tokens) : Type 0 where

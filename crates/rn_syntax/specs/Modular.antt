@@ -6,11 +6,11 @@ use Rattle.rn_syntax.specs.declared.fault.Fault.{Fault}
 use Rattle.rn_syntax.specs.declared.fault.Fault.TheVariants as f
 use Rattle.rn_syntax.specs.Terminal.{◌#◌, keyword, left_brace, right_brace}
 use Rattle.rn_syntax.specs.Tree.{Item, Module, items_of}
-use Rattle.rn_syntax.specs.Grammar.{Tokens, MayAnnotate, AreFollows, AreItems, AreDeclarations}
+use Rattle.rn_syntax.specs.Grammar.{Tokens, MayHaveAnnotation, AreFollows, AreItems, AreDeclarations}
 use Rattle.rn_syntax.specs.Fault.{Stops}
 use Rattle.rn_syntax.specs.Sequence.{Then, Gives, IsToken}
 use Rattle.rn_syntax.specs.Reading.{AreSpelled, Bare, rest}
-use Rattle.rn_syntax.specs.Itemizing.{AreFirstItems}
+use Rattle.rn_syntax.specs.Itemizing.{AreAnnotatedItems}
 
 -- "{" item* "}" follow*
 abbrev pub IsGrammarEnd : Tokens → List Item → Tokens → Type 0
@@ -19,11 +19,11 @@ IsGrammarEnd = Then (IsToken left_brace) (λ i. Then AreItems (λ xs. Then (IsTo
 -- item* | [ann] "grammar" "{" item* "}" follow*
 pub data IsBody : Tokens → List Item → Tokens → Type 0 where
   items_body : {ts rest : Tokens} {xs : List Item} → AreItems ts xs rest → IsBody ts xs rest
-  grammar_body : {i : ℕ} {ts mid rest : Tokens} {xs : List Item} → MayAnnotate ts (keyword k.Grammar # i ∷ mid) → IsGrammarEnd mid xs rest → IsBody ts xs rest
+  grammar_body : {i : ℕ} {ts mid rest : Tokens} {xs : List Item} → MayHaveAnnotation ts (keyword k.Grammar # i ∷ mid) → IsGrammarEnd mid xs rest → IsBody ts xs rest
 
 -- the same behind an annotation
 pub data IsAnnotatedBody : Tokens → List Item → Tokens → Type 0 where
-  items_behind : {ts rest : Tokens} {xs : List Item} → AreFirstItems ts xs rest → IsAnnotatedBody ts xs rest
+  items_behind : {ts rest : Tokens} {xs : List Item} → AreAnnotatedItems ts xs rest → IsAnnotatedBody ts xs rest
   grammar_behind : {i : ℕ} {mid rest : Tokens} {xs : List Item} → IsGrammarEnd mid xs rest → IsAnnotatedBody (keyword k.Grammar # i ∷ mid) xs rest
 
 -- a module, before other tokens

@@ -13,13 +13,13 @@ pub data BehindPrimary (p : Pattern) : Tokens → Pattern → Tokens → Type 0 
   repeated : {s : Postfix} {i : ℕ} {ts rest : Tokens} → AreFollows ts rest → BehindPrimary p (postfix s # i ∷ ts) (tree.repeated s p) rest
 
 -- literal | [ "{" param* "}" ], behind the datatype of a core
-pub data BehindType (d : Datatype) : Tokens → Pattern → Tokens → Type 0 where
-  valued : {s : List ℕ} {ts rest : Tokens} → IsLiteral ts s rest → BehindType d ts (tree.value (Some d) s) rest
-  datum : {ps : Params} {ts rest : Tokens} → MayHaveParams ts ps rest → BehindType d ts (tree.datum d ps) rest
+pub data IsDataEnd (d : Datatype) : Tokens → Pattern → Tokens → Type 0 where
+  valued : {s : List ℕ} {ts rest : Tokens} → IsLiteral ts s rest → IsDataEnd d ts (tree.value (Some d) s) rest
+  datum : {ps : Params} {ts rest : Tokens} → MayHaveParams ts ps rest → IsDataEnd d ts (tree.datum d ps) rest
 
 -- what is behind the datatype of an operand: the rest of a primary and of what repeats it, or an except
 pub data BehindDatatype (d : Datatype) : Tokens → Pattern → Tokens → Type 0 where
-  plain : {ts after mid rest : Tokens} {c p : Pattern} → BehindType d ts c after → AreFollows after mid → BehindPrimary c mid p rest → BehindDatatype d ts p rest
+  plain : {ts after mid rest : Tokens} {c p : Pattern} → IsDataEnd d ts c after → AreFollows after mid → BehindPrimary c mid p rest → BehindDatatype d ts p rest
   except : {i : ℕ} {ts after rest : Tokens} {ps : Params} {p : Pattern} → MayHaveParams ts ps (minus # i ∷ after) → IsPrimary after p rest
       → BehindDatatype d ts (tree.datum_but d ps i p) rest
 
@@ -28,5 +28,5 @@ abbrev pub IsBraced : Tokens → Pattern → Tokens → Type 0
 IsBraced = Then (IsToken left_brace) (λ i. Then IsPattern (λ p. Then (IsToken right_brace) (λ j. Gives p)))
 
 -- nc "{" pattern "}"
-abbrev pub IsContent : Tokens → NameClass × Pattern → Tokens → Type 0
-IsContent = Then IsNameClass (λ c. Then IsBraced (λ p. Gives {A = NameClass × Pattern} (c, p)))
+abbrev pub IsNamed : Tokens → NameClass × Pattern → Tokens → Type 0
+IsNamed = Then IsNameClass (λ c. Then IsBraced (λ p. Gives {A = NameClass × Pattern} (c, p)))

@@ -3,7 +3,7 @@ use Rattle.std.specs.Prelude.{◌≡◌, ℕ, List, ◌∷◌, Bool, true, false
 use Rattle.rn_syntax.specs.declared.token.Method.{Method}
 use Rattle.rn_syntax.specs.declared.token.Method.TheVariants as m
 use Rattle.rn_syntax.specs.Terminal.{Terminal, Placed, ◌#◌, assign, ident, prefixed, segment, left_bracket}
-use Rattle.rn_syntax.specs.Grammar.{Tokens, IsWord, IsFollowName, IsAnnotation, MayAnnotate, IsLiteral, IsClassCore, AreFollows}
+use Rattle.rn_syntax.specs.Grammar.{Tokens, IsWord, IsFollowName, IsAnnotation, MayHaveAnnotation, IsLiteral, IsClassCore, AreFollows}
 use Rattle.rn_syntax.specs.Tree as t
 use Rattle.rn_syntax.specs.Tree.{NameClass, AnyName}
 
@@ -36,8 +36,8 @@ pub data IsAssign : Placed → Method → Type 0 where
   by_method : {w : Method} {i : ℕ} → IsAssign (assign w # i) w
 
 -- ( word | Prefixed ) ann, behind a `>>`
-pub data IsNamed : Tokens → Tokens → Type 0 where
-  named : {x : Terminal} {i : ℕ} {ts rest : Tokens} → IsFollowName x → IsAnnotation ts rest → IsNamed (x # i ∷ ts) rest
+pub data IsFollow : Tokens → Tokens → Type 0 where
+  named : {x : Terminal} {i : ℕ} {ts rest : Tokens} → IsFollowName x → IsAnnotation ts rest → IsFollow (x # i ∷ ts) rest
 
 -- a note comes, not an item
 abbrev pub is_note : Tokens → Bool
@@ -57,12 +57,12 @@ pub record IsHere {A : Type 0} (P : Placed → A → Type 0) (ts : Tokens) (a : 
 
 -- param = [ann] word "=" literal
 abbrev pub IsParam : Tokens → List ℕ × List ℕ → Tokens → Type 0
-IsParam = Then (λ ts (u : Unit {0}) rest. MayAnnotate ts rest) (λ u. Then (IsOf IsWordAt) (λ n. Then (IsToken (assign m.Plain)) (λ i. Then IsLiteral (λ s. Gives (n, s)))))
+IsParam = Then (λ ts (u : Unit {0}) rest. MayHaveAnnotation ts rest) (λ u. Then (IsOf IsWordAt) (λ n. Then (IsToken (assign m.Plain)) (λ i. Then IsLiteral (λ s. Gives (n, s)))))
 
 -- what is behind the annotation of a name in a name class
 abbrev pub IsClassEnd : Tokens → NameClass → Tokens → Type 0
 IsClassEnd = Then IsClassCore (λ c. Then (λ ts (u : Unit {0}) rest. AreFollows ts rest) (λ u. Gives c))
 
 -- follow*, behind `*` or a name before `:*`
-abbrev pub IsAnyEnd : AnyName → Tokens → NameClass → Tokens → Type 0
-IsAnyEnd a = Then (λ ts (u : Unit {0}) rest. AreFollows ts rest) (λ u. Gives (t.all a))
+abbrev pub IsAnyClassEnd : AnyName → Tokens → NameClass → Tokens → Type 0
+IsAnyClassEnd a = Then (λ ts (u : Unit {0}) rest. AreFollows ts rest) (λ u. Gives (t.all a))

@@ -1,9 +1,9 @@
 // Annotations and notes, which leave nothing in the tree.
 ghost use Rattle.std.specs.Prelude.{◌≡◌, ◌≤◌, ◌<◌, length, IfOk, IfSome, IsTrue};
 ghost use Rattle.rn_syntax.specs.Follow.{Starts, Anything, no_bracket, no_follow};
-ghost use Rattle.rn_syntax.specs.Grammar.{Closed, IsAnnotation, MayAnnotate, AreFollows};
+ghost use Rattle.rn_syntax.specs.Grammar.{Closed, IsAnnotation, MayHaveAnnotation, AreFollows};
 ghost use Rattle.rn_syntax.specs.Reading.{Passed, Advanced, Skips, rest};
-ghost use Rattle.rn_syntax.specs.Sequence.{IsNamed, is_note};
+ghost use Rattle.rn_syntax.specs.Sequence.{IsFollow, is_note};
 
 use crate::fault::Fault;
 use crate::terminals::{Terminal, next};
@@ -55,7 +55,7 @@ pub(crate) fn annotation(tokens: &[Token<'_>], at: usize) -> Result<usize, Fault
 pub(crate) fn skip_annotation(tokens: &[Token<'_>], at: usize) -> Result<usize, Fault>
     requires { at ≤ length tokens.now }
     ensures inside { IfOk result (λ behind. Passed at behind (length tokens.now)) }
-    ensures skips { Skips MayAnnotate (Starts no_bracket) tokens.now at result }
+    ensures skips { Skips MayHaveAnnotation (Starts no_bracket) tokens.now at result }
 {
     match next(tokens, at) {
         Terminal::LeftBracket => skip_closed(tokens, at + 1),
@@ -67,7 +67,7 @@ pub(crate) fn skip_annotation(tokens: &[Token<'_>], at: usize) -> Result<usize, 
 fn follow(tokens: &[Token<'_>], at: usize) -> Result<usize, Fault>
     requires { at ≤ length tokens.now }
     ensures inside { IfOk result (λ behind. Advanced at behind (length tokens.now)) }
-    ensures skips { Skips IsNamed Anything tokens.now at result }
+    ensures skips { Skips IsFollow Anything tokens.now at result }
 {
     match next(tokens, at) {
         Terminal::Ident(_) | Terminal::Keyword(_) | Terminal::Prefixed(_, _) => {

@@ -1,6 +1,6 @@
 // Declarations of prefixes.
 ghost use Rattle.std.specs.Prelude.{◌≡◌, ◌≤◌, ◌<◌, length, map, IfOk, IsTrue};
-ghost use Rattle.rn_syntax.specs.Declaring.{IsDatatypesEnd, IsDefaultEnd, IsNamespaceEnd, MayPrefix};
+ghost use Rattle.rn_syntax.specs.Declaring.{IsDatatypesEnd, IsDefaultEnd, IsNamespaceEnd, MayHaveDefaultPrefix};
 ghost use Rattle.rn_syntax.specs.Follow.{Starts, Anything, begins_declaration, begins_item, first, no_tilde, no_word};
 ghost use Rattle.rn_syntax.specs.Grammar.{AreDeclarations, IsDeclaration, IsUri};
 ghost use Rattle.rn_syntax.specs.Reading.{Passed, Advanced, Reads, ReadsOne, rest};
@@ -119,7 +119,7 @@ fn default<'a>(
 fn default_prefix<'a>(tokens: &[Token<'a>], at: usize) -> Result<(Option<Prefix<'a>>, usize), Fault>
     requires { at ≤ length tokens.now }
     ensures inside { IfOk result (λ r. Passed at r.1 (length tokens.now)) }
-    ensures reads { Reads MayPrefix (Starts no_word) prefix_view tokens.now at result }
+    ensures reads { Reads MayHaveDefaultPrefix (Starts no_word) prefix_view tokens.now at result }
 {
     match next(tokens, at) {
         Terminal::Ident(name) => {

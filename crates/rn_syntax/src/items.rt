@@ -2,8 +2,8 @@
 ghost use Rattle.std.specs.Prelude.{◌≡◌, ◌≤◌, ◌<◌, length, map, IfOk, IsTrue};
 ghost use Rattle.std.specs.Cow.{cow_str_bytes};
 ghost use Rattle.rn_syntax.specs.Follow.{Anything, Starts, begins_item, behind_pattern, first, is_end, no_brace, no_inherit};
-ghost use Rattle.rn_syntax.specs.Grammar.{AreInner, AreItems, IsComponent, MayInherit, MayOverride};
-ghost use Rattle.rn_syntax.specs.Including.{AreItemsBehind, IsDivEnd, IsIncludeEnd, IsInner, IsInnerDivEnd, IsItem, opens_inner, opens_item};
+ghost use Rattle.rn_syntax.specs.Grammar.{AreInnerItems, AreItems, IsComponent, MayInherit, MayHaveOverrides};
+ghost use Rattle.rn_syntax.specs.Including.{AreItemsBehind, IsDivEnd, IsIncludeEnd, IsInnerItem, IsInnerDivEnd, IsItem, opens_inner, opens_item};
 ghost use Rattle.rn_syntax.specs.Reading.{Passed, Advanced, Reads, rest};
 ghost use Rattle.rn_syntax.specs.Tree as tree;
 ghost use Rattle.rn_syntax.specs.View.{item_view, items_view, pattern_view, prefix_view};
@@ -196,7 +196,7 @@ fn overrides<'a>(
 ) -> Result<(Vec<Item<'a>>, usize), Fault>
     requires { at ≤ length tokens.now }
     ensures inside { IfOk result (λ r. Passed at r.1 (length tokens.now)) }
-    ensures reads { Reads MayOverride (Starts no_brace) (λ v. map item_view v.items) tokens.now at result }
+    ensures reads { Reads MayHaveOverrides (Starts no_brace) (λ v. map item_view v.items) tokens.now at result }
 {
     let Terminal::LeftBrace = next(tokens, at) else {
         return Ok((Vec::new(alloc), at));
@@ -230,7 +230,7 @@ fn inner_items<'a>(
 ) -> Result<(Vec<Item<'a>>, usize), Fault>
     requires { at ≤ length tokens.now }
     ensures inside { IfOk result (λ r. Passed at r.1 (length tokens.now)) }
-    ensures reads { Reads AreInner (Starts is_end) (λ v. map item_view v.items) tokens.now at result }
+    ensures reads { Reads AreInnerItems (Starts is_end) (λ v. map item_view v.items) tokens.now at result }
 {
     let mut items = Vec::new(alloc);
     let mut end = at;
@@ -256,7 +256,7 @@ fn inner_item<'a>(
 ) -> Result<(Item<'a>, usize), Fault>
     requires { at ≤ length tokens.now }
     ensures inside { IfOk result (λ r. Advanced at r.1 (length tokens.now)) }
-    ensures reads { Reads IsInner (Starts begins_item) item_view tokens.now at result }
+    ensures reads { Reads IsInnerItem (Starts begins_item) item_view tokens.now at result }
 {
     match next(tokens, at) {
         Terminal::Keyword(keyword) => match keyword {

@@ -3,7 +3,7 @@ ghost use Rattle.std.specs.Prelude.{◌≡◌, ◌≤◌, ◌<◌, length, map, 
 ghost use Rattle.rn_text.specs.Tokens.{lexeme_of};
 ghost use Rattle.rn_syntax.specs.Fault.{HasTree};
 ghost use Rattle.rn_syntax.specs.Follow.{Starts, is_end};
-ghost use Rattle.rn_syntax.specs.Itemizing.{AreFirstItems};
+ghost use Rattle.rn_syntax.specs.Itemizing.{AreAnnotatedItems};
 ghost use Rattle.rn_syntax.specs.Modular.{IsAnnotatedBody, IsBody, IsGrammarEnd, IsModuleFault};
 ghost use Rattle.rn_syntax.specs.Reading.{AreSpelled, Passed, Reads};
 ghost use Rattle.rn_syntax.specs.Tokens.{terminals};
@@ -89,7 +89,7 @@ fn annotated_items<'a>(
 ) -> Result<(Vec<Item<'a>>, usize), Fault>
     requires { at ≤ length tokens.now }
     ensures inside { IfOk result (λ r. Passed at r.1 (length tokens.now)) }
-    ensures reads { Reads AreFirstItems (Starts is_end) (λ v. map item_view v.items) tokens.now at result }
+    ensures reads { Reads AreAnnotatedItems (Starts is_end) (λ v. map item_view v.items) tokens.now at result }
 {
     let mut read = Vec::new(alloc);
     let (first, end) = item(alloc, tokens, at)?;

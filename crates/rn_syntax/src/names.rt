@@ -3,7 +3,7 @@ ghost use Rattle.std.specs.Prelude.{◌≡◌, ◌≤◌, ◌<◌, ◌+◌, leng
 ghost use Rattle.rn_syntax.specs.Follow.{Starts, Anything, begins_any, behind_class, behind_name, first};
 ghost use Rattle.rn_syntax.specs.Grammar.{IsAnyName, IsClassCore, IsClassOperand, IsClassPrimary, IsNameClass};
 ghost use Rattle.rn_syntax.specs.Reading.{Advanced, Passed, Reads, rest};
-ghost use Rattle.rn_syntax.specs.Sequence.{IsAnyEnd, IsClassEnd, IsHere};
+ghost use Rattle.rn_syntax.specs.Sequence.{IsAnyClassEnd, IsClassEnd, IsHere};
 ghost use Rattle.rn_syntax.specs.Tree as tree;
 ghost use Rattle.rn_syntax.specs.View.{any_view, class_view, classes_view, name_view};
 
@@ -90,7 +90,7 @@ fn any_class<'a>(
 ) -> Result<(Nc<'a>, usize), Fault>
     requires { at ≤ length tokens.now }
     ensures inside { IfOk result (λ r. Passed at r.1 (length tokens.now)) }
-    ensures reads { Reads (IsAnyEnd (any_view any.entry)) (Starts behind_name) class_view tokens.now at result }
+    ensures reads { Reads (IsAnyClassEnd (any_view any.entry)) (Starts behind_name) class_view tokens.now at result }
 {
     let end = skip_follows(tokens, at)?;
     Ok((all(any), end))

@@ -3,7 +3,7 @@ ghost use Rattle.std.specs.Prelude.{◌≡◌, ◌≤◌, ◌<◌, Some, None, f
 ghost use Rattle.std.specs.Cow.{cow_str_bytes};
 ghost use Rattle.rn_syntax.specs.Follow.{Anything, Starts, begins_datatype, behind_core, behind_operand, behind_pattern, behind_primary, first};
 ghost use Rattle.rn_syntax.specs.Grammar.{IsCore, IsOperand, IsPattern, IsPrimary};
-ghost use Rattle.rn_syntax.specs.Parts.{BehindDatatype, BehindPrimary, BehindType, IsBraced, IsContent};
+ghost use Rattle.rn_syntax.specs.Parts.{BehindDatatype, BehindPrimary, IsDataEnd, IsBraced, IsNamed};
 ghost use Rattle.rn_syntax.specs.Reading.{Passed, Advanced, Reads, rest};
 ghost use Rattle.rn_syntax.specs.Terminal as terminal;
 ghost use Rattle.rn_syntax.specs.Tree as tree;
@@ -200,7 +200,7 @@ fn data<'a>(
 ) -> Result<(Pat<'a>, usize), Fault>
     requires { at ≤ length tokens.now }
     ensures inside { IfOk result (λ r. Passed at r.1 (length tokens.now)) }
-    ensures reads { Reads (BehindType (datatype_view datatype.entry)) (Starts behind_core) pattern_view tokens.now at result }
+    ensures reads { Reads (IsDataEnd (datatype_view datatype.entry)) (Starts behind_core) pattern_view tokens.now at result }
 {
     if let Terminal::Segment(_) = next(tokens, at) {
         let (text, end) = literal(alloc, tokens, at)?;
@@ -297,7 +297,7 @@ fn named<'a>(
 ) -> Result<((Nc<'a>, Pat<'a>), usize), Fault>
     requires { at ≤ length tokens.now }
     ensures inside { IfOk result (λ r. Advanced at r.1 (length tokens.now)) }
-    ensures reads { Reads IsContent Anything (λ r. (class_view r.0, pattern_view r.1)) tokens.now at result }
+    ensures reads { Reads IsNamed Anything (λ r. (class_view r.0, pattern_view r.1)) tokens.now at result }
 {
     let (class, end) = name_class(alloc, tokens, at)?;
     let (content, behind) = braced(alloc, tokens, end)?;

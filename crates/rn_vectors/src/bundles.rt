@@ -1,7 +1,10 @@
 // Bundles: their one spelling, what is read from damaged ones, and runs over several.
-use crate::sets::{add, answer, contribution, module, set_of};
+use crate::contributions::{effective_count, is_effective};
+use crate::sets::{
+    Given, add, answer, bundle, contribution, held, module, refused, set_of, set_of_bundle,
+};
 use rn_merge::{ProgramFault, fault_line, list_line};
-use rn_modset::{AddFault, BundleFault, Contribution, ModuleSet, read_bundle, write_bundle};
+use rn_modset::{AddFault, Contribution, ModuleSet, read_bundle};
 use std::alloc::Global;
 use std::test::Fail;
 
@@ -16,19 +19,33 @@ fn fault(alloc: Global, bytes: &[u8]) -> Result<String, Fail> {
     }
 }
 
+/// The line of a contribution in a list.
+fn listed(alloc: Global, given: &Given) -> Result<String, Fail> {
+    Ok(list_line(alloc, &contribution(alloc, given)?)?)
+}
+
 #[test]
 fn one_text_has_its_bundle(rt: HostRuntime) -> Result<(), Fail> {
     let alloc = rt.alloc();
     let set = set_of(alloc, &[("t", 7, Some("abc"))])?;
-    let bytes = write_bundle(alloc, &set)?;
+    let bytes = bundle(alloc, &set)?;
     assert_eq!(rt; bytes.len(), 97);
     assert_eq!(rt; bytes.as_slice(), ONE.as_bytes());
-    let read = read_bundle(alloc, bytes.as_slice()).map_err(Fail::from)?;
+    let read = set_of_bundle(alloc, bytes.as_slice())?;
     assert!(rt; read.contains(&module(alloc, "t", 7, b"abc")?));
-    let line = list_line(alloc, &module(alloc, "t", 7, b"abc")?)?;
+    Ok(())
+}
+
+#[test]
+fn contributions_have_their_lines(rt: HostRuntime) -> Result<(), Fail> {
+    let alloc = rt.alloc();
     assert_eq!(rt;
-        line.as_str(),
+        listed(alloc, &("t", 7, Some("abc")))?.as_str(),
         "t 7 3 ba7816bf8f01cfea414140de5dae2223b00361a396177a9cb410ff61f20015ad"
+    );
+    assert_eq!(rt;
+        listed(alloc, &("lib", 2, None))?.as_str(),
+        "lib 2 withdrawn"
     );
     Ok(())
 }
@@ -36,17 +53,21 @@ fn one_text_has_its_bundle(rt: HostRuntime) -> Result<(), Fail> {
 #[test]
 fn other_sets_have_their_bundles(rt: HostRuntime) -> Result<(), Fail> {
     let alloc = rt.alloc();
-    let empty = write_bundle(alloc, &ModuleSet::new(alloc))?;
+    let empty = bundle(alloc, &ModuleSet::new(alloc))?;
     assert_eq!(rt; empty.as_slice(), b"rncset 1\nend 0\n".as_slice());
-    let blank = write_bundle(alloc, &set_of(alloc, &[("a", 0, Some(""))])?)?;
-    assert_eq!(rt; blank.len(), 94);
-    let withdrawn = write_bundle(alloc, &set_of(alloc, &[("lib", 2, None)])?)?;
+    let withdrawn = bundle(alloc, &set_of(alloc, &[("lib", 2, None)])?)?;
     assert_eq!(rt;
         withdrawn.as_slice(),
         b"rncset 2\nwithdrawn lib 2\nend 1\n".as_slice()
     );
-    let line = list_line(alloc, &contribution(alloc, &("lib", 2, None))?)?;
-    assert_eq!(rt; line.as_str(), "lib 2 withdrawn");
+    Ok(())
+}
+
+#[test]
+fn bundles_have_their_lengths(rt: HostRuntime) -> Result<(), Fail> {
+    let alloc = rt.alloc();
+    let blank = set_of(alloc, &[("a", 0, Some(""))])?;
+    assert_eq!(rt; bundle(alloc, &blank)?.len(), 94);
     let both = set_of(
         alloc,
         &[
@@ -54,7 +75,7 @@ fn other_sets_have_their_bundles(rt: HostRuntime) -> Result<(), Fail> {
             ("b", 1, Some("doc |= element a { empty }")),
         ],
     )?;
-    assert_eq!(rt; write_bundle(alloc, &both)?.len(), 238);
+    assert_eq!(rt; bundle(alloc, &both)?.len(), 238);
     Ok(())
 }
 
@@ -63,35 +84,42 @@ fn changed(alloc: Global, old: &str, new: &str) -> Result<String, Fail> {
     Ok(ONE.replacen(alloc, old, new, 1)?)
 }
 
+/// Parts of the bundle of one text, what stands in their place, and the line of what is wrong then.
+const DAMAGE: [(&str, &str, &str); 18] = [
+    (" 7 3 ", " 07 3 ", "bundle 0 Header 0"),
+    (" ba78", " Ba78", "bundle 0 Header 0"),
+    (" ba78", " ba79", "bundle 0 Digest 0"),
+    (" 7 3 ", " 7 2 ", "bundle 0 Header 0"),
+    (" 7 3 ", " 7 4 ", "bundle 0 Header 0"),
+    (" 7 3 ", " 7 9 ", "bundle 0 Digest 0"),
+    (" 7 3 ", " 7 10 ", "bundle 0 Truncated"),
+    ("end 1", "end 2", "bundle 0 Header 1"),
+    ("rncset 1", "rncset 3", "bundle 0 Magic"),
+    ("end 1\n", "end 1\n ", "bundle 0 Trailing"),
+    ("rncset 1", "rncset 2", "bundle 0 Header 1"),
+    ("end 1", "withdrawn t 8\nend 2", "bundle 0 Header 1"),
+    (" ba78", " ca78", "bundle 0 Digest 0"),
+    (" 7 3 ", " 18446744073709551615 3 ", "good"),
+    (" 7 3 ", " 18446744073709551616 3 ", "bundle 0 Header 0"),
+    (" 7 3 ", " 7 4194304 ", "bundle 0 Truncated"),
+    (" 7 3 ", " 7 4194305 ", "bundle 0 Header 0"),
+    ("end 1\n", "end 1\n\n", "bundle 0 Trailing"),
+];
+
 #[test]
 fn damage_is_named(rt: HostRuntime) -> Result<(), Fail> {
     let alloc = rt.alloc();
-    let rows = [
-        (" 7 3 ", " 07 3 ", "bundle 0 Header 0"),
-        (" ba78", " Ba78", "bundle 0 Header 0"),
-        (" ba78", " ba79", "bundle 0 Digest 0"),
-        (" 7 3 ", " 7 2 ", "bundle 0 Header 0"),
-        (" 7 3 ", " 7 4 ", "bundle 0 Header 0"),
-        (" 7 3 ", " 7 9 ", "bundle 0 Digest 0"),
-        (" 7 3 ", " 7 10 ", "bundle 0 Truncated"),
-        ("end 1", "end 2", "bundle 0 Header 1"),
-        ("rncset 1", "rncset 3", "bundle 0 Magic"),
-        ("end 1\n", "end 1\n ", "bundle 0 Trailing"),
-        ("rncset 1", "rncset 2", "bundle 0 Header 1"),
-        ("end 1", "withdrawn t 8\nend 2", "bundle 0 Header 1"),
-        (" ba78", " ca78", "bundle 0 Digest 0"),
-        (" 7 3 ", " 18446744073709551615 3 ", "good"),
-        (" 7 3 ", " 18446744073709551616 3 ", "bundle 0 Header 0"),
-        (" 7 3 ", " 7 4194304 ", "bundle 0 Truncated"),
-        (" 7 3 ", " 7 4194305 ", "bundle 0 Header 0"),
-        ("end 1\n", "end 1\n\n", "bundle 0 Trailing"),
-    ];
-    for (old, new, wanted) in rows {
+    for (old, new, wanted) in &DAMAGE {
         let text = changed(alloc, old, new)?;
-        assert_eq!(rt; fault(alloc, text.as_bytes())?.as_str(), wanted, "{new}");
+        assert_eq!(rt; fault(alloc, text.as_bytes())?.as_str(), *wanted, "{new}");
     }
+    Ok(())
+}
+
+#[test]
+fn version_2_has_a_withdrawal(rt: HostRuntime) -> Result<(), Fail> {
     assert_eq!(rt;
-        fault(alloc, b"rncset 2\nend 0\n")?.as_str(),
+        fault(rt.alloc(), b"rncset 2\nend 0\n")?.as_str(),
         "bundle 0 Header 0"
     );
     Ok(())
@@ -116,33 +144,44 @@ fn fronts_are_no_bundles(rt: HostRuntime) -> Result<(), Fail> {
     Ok(())
 }
 
+/// The entry of a text `abc` of revision 7.
+fn entry(alloc: Global, name: &str) -> Result<String, Fail> {
+    Ok(format!(in alloc;
+        "module {name} 7 3 ba7816bf8f01cfea414140de5dae2223b00361a396177a9cb410ff61f20015ad\nabc\n"
+    )?)
+}
+
+/// The line of what is wrong with a bundle of two entries, or `good`.
+fn fault_of_two(alloc: Global, version: u8, first: &str, second: &str) -> Result<String, Fail> {
+    let text = format!(in alloc; "rncset {version}\n{first}{second}end 2\n")?;
+    fault(alloc, text.as_bytes())
+}
+
 #[test]
-fn entries_rise(rt: HostRuntime) -> Result<(), Fail> {
+fn texts_rise(rt: HostRuntime) -> Result<(), Fail> {
     let alloc = rt.alloc();
-    let (first, _) = ONE.split_once("end").ok_or("no end")?;
-    let (_, entry) = first.split_once('\n').ok_or("no line")?;
-    let twice = format!(in alloc; "{first}{entry}end 2\n")?;
-    assert_eq!(rt;
-        fault(alloc, twice.as_bytes())?.as_str(),
-        "bundle 0 Order 1"
-    );
-    let other = entry.replacen(alloc, "module t", "module s", 1)?;
-    let turned = format!(in alloc; "{first}{other}end 2\n")?;
-    assert_eq!(rt;
-        fault(alloc, turned.as_bytes())?.as_str(),
-        "bundle 0 Order 1"
-    );
-    let risen = other.replacen(alloc, "module s", "module u", 1)?;
-    let good = format!(in alloc; "{first}{risen}end 2\n")?;
-    assert_eq!(rt; fault(alloc, good.as_bytes())?.as_str(), "good");
-    let (_, entry) = first.split_once('\n').ok_or("no line")?;
-    let before = format!(in alloc; "rncset 2\nwithdrawn t 7\n{entry}end 2\n")?;
-    assert_eq!(rt; fault(alloc, before.as_bytes())?.as_str(), "good");
-    let behind = format!(in alloc; "rncset 2\n{entry}withdrawn t 7\nend 2\n")?;
-    assert_eq!(rt;
-        fault(alloc, behind.as_bytes())?.as_str(),
-        "bundle 0 Order 1"
-    );
+    for (name, wanted) in [
+        ("t", "bundle 0 Order 1"),
+        ("s", "bundle 0 Order 1"),
+        ("u", "good"),
+    ] {
+        let first = entry(alloc, "t")?;
+        let second = entry(alloc, name)?;
+        let found = fault_of_two(alloc, 1, first.as_str(), second.as_str())?;
+        assert_eq!(rt; found.as_str(), wanted, "{name}");
+    }
+    Ok(())
+}
+
+#[test]
+fn a_withdrawal_stands_before_its_text(rt: HostRuntime) -> Result<(), Fail> {
+    let alloc = rt.alloc();
+    let text = entry(alloc, "t")?;
+    let withdrawal = "withdrawn t 7\n";
+    let good = fault_of_two(alloc, 2, withdrawal, text.as_str())?;
+    assert_eq!(rt; good.as_str(), "good");
+    let turned = fault_of_two(alloc, 2, text.as_str(), withdrawal)?;
+    assert_eq!(rt; turned.as_str(), "bundle 0 Order 1");
     Ok(())
 }
 
@@ -175,33 +214,47 @@ fn numbered(alloc: Global, number: usize) -> Result<Contribution, Fail> {
     module(alloc, name.as_str(), 1, b"")
 }
 
+/// A set of 1,024 numbered names.
+fn full(alloc: Global) -> Result<ModuleSet, Fail> {
+    let mut set = ModuleSet::new(alloc);
+    for number in 0..1024 {
+        let is_new = add(&mut set, numbered(alloc, number)?)?;
+        if !is_new {
+            return Err("held before".into());
+        }
+    }
+    Ok(set)
+}
+
 #[test]
 fn a_full_set_takes_no_more(rt: HostRuntime) -> Result<(), Fail> {
     let alloc = rt.alloc();
-    let mut set = ModuleSet::new(alloc);
-    for number in 0..1024 {
-        assert!(rt; add(&mut set, numbered(alloc, number)?)?);
-    }
-    let more = numbered(alloc, 1024)?;
-    let refused = set.add(more).err().ok_or("taken")?;
-    assert_eq!(rt; refused.1, AddFault::Full);
-    assert_eq!(rt; refused.0.name.as_str(), "m1024");
+    let mut set = full(alloc)?;
+    let (back, fault) = refused(&mut set, numbered(alloc, 1024)?)?;
+    assert_eq!(rt; fault, AddFault::Full);
+    assert_eq!(rt; back.name.as_str(), "m1024");
     assert_eq!(rt; set.len(), 1024);
     assert!(rt; !add(&mut set, numbered(alloc, 7)?)?);
-    let nameless = set.add(module(alloc, "", 1, b"")?).err().ok_or("taken")?;
-    assert_eq!(rt; nameless.1, AddFault::BadName);
-    let long = vec![in alloc; b' '; 4_194_305]?;
-    let text = Contribution {
-        name: String::from_str(alloc, "long")?,
-        revision: 1,
-        text: Some(long),
-    };
-    let refused = set.add(text).err().ok_or("taken")?;
-    assert_eq!(rt; refused.1, AddFault::TooLong);
     let mut other = ModuleSet::new(alloc);
     assert!(rt; add(&mut other, numbered(alloc, 1024)?)?);
     assert_eq!(rt; other.join(&set).err(), Some(AddFault::Full));
     assert_eq!(rt; other.len(), 1);
+    Ok(())
+}
+
+#[test]
+fn a_full_set_names_other_faults_first(rt: HostRuntime) -> Result<(), Fail> {
+    let alloc = rt.alloc();
+    let mut set = full(alloc)?;
+    let (_, fault) = refused(&mut set, module(alloc, "", 1, b"")?)?;
+    assert_eq!(rt; fault, AddFault::BadName);
+    let text = Contribution {
+        name: String::from_str(alloc, "long")?,
+        revision: 1,
+        text: Some(vec![in alloc; b' '; 4_194_305]?),
+    };
+    let (_, fault) = refused(&mut set, text)?;
+    assert_eq!(rt; fault, AddFault::TooLong);
     Ok(())
 }
 
@@ -217,17 +270,13 @@ fn sets_tell_what_they_hold(rt: HostRuntime) -> Result<(), Fail> {
             ("a", 3, Some("x = empty")),
         ],
     )?;
-    let mut lines = String::new(alloc);
-    for one in set.iter() {
-        let name = one.name.as_str();
-        let revision = one.revision;
-        lines.push_str(format!(in alloc; "{name} {revision}\n")?.as_str())?;
-    }
-    assert_eq!(rt; lines.as_str(), "a 1\na 2\na 3\nb 1\n");
-    let effective = set.effective(alloc).map_err(Fail::from)?;
-    assert_eq!(rt; effective.iter().count(), 2);
-    assert_eq!(rt; effective.get("a"), Some(b"x = empty".as_slice()));
-    assert_eq!(rt; effective.get("c"), None);
+    assert_eq!(rt;
+        held(alloc, &set)?.as_str(),
+        "a 1\na 2 withdrawn\na 3\nb 1\n"
+    );
+    assert_eq!(rt; effective_count(alloc, &set)?, 2);
+    assert!(rt; is_effective(alloc, &set, "a", Some(b"x = empty"))?);
+    assert!(rt; is_effective(alloc, &set, "c", None)?);
     assert_eq!(rt; answer(alloc, &set)?.as_str(), "start = text\n");
     Ok(())
 }

@@ -1,9 +1,6 @@
 // Sets: withdrawals, unions, limits and conflicts.
-use crate::sets::{add, contribution, module};
-use rn_modset::{
-    AddFault, Contribution, MAX_TEXT, ModuleSet, SetFault, is_module_name, read_bundle,
-    write_bundle,
-};
+use crate::sets::{add, bundle, contribution, held, module, refused, set_of, set_of_bundle};
+use rn_modset::{AddFault, Contribution, MAX_TEXT, ModuleSet, is_module_name};
 use std::alloc::Global;
 use std::test::Fail;
 
@@ -12,118 +9,144 @@ fn withdrawal(alloc: Global, name: &'static str, revision: u64) -> Result<Contri
     contribution(alloc, &(name, revision, None))
 }
 
+/// How many modules are effective in a set.
+pub fn effective_count(alloc: Global, set: &ModuleSet) -> Result<usize, Fail> {
+    Ok(set.effective(alloc)?.iter().count())
+}
+
+/// Whether this is the text of a set's effective module, or it has none of the name.
+pub fn is_effective(
+    alloc: Global,
+    set: &ModuleSet,
+    name: &str,
+    text: Option<&[u8]>,
+) -> Result<bool, Fail> {
+    Ok(set.effective(alloc)?.get(name) == text)
+}
+
+/// The conflict of a set.
+fn conflict(alloc: Global, set: &ModuleSet) -> Result<String, Fail> {
+    match set.effective(alloc) {
+        Ok(_) => Err("no conflict".into()),
+        Err(fault) => Ok(format!(in alloc; "{fault:?}")?),
+    }
+}
+
 #[test]
 fn withdrawals(rt: HostRuntime) -> Result<(), Fail> {
     let alloc = rt.alloc();
     let mut set = ModuleSet::new(alloc);
     assert!(rt; add(&mut set, withdrawal(alloc, "lib", 2)?)?);
-    assert_eq!(rt; set.effective(alloc)?.iter().count(), 0);
+    assert_eq!(rt; effective_count(alloc, &set)?, 0);
     assert!(rt; add(&mut set, module(alloc, "lib", 3, b"start = text")?)?);
-    assert_eq!(rt;
-        set.effective(alloc)?.get("lib"),
-        Some(b"start = text".as_slice())
-    );
+    assert!(rt; is_effective(alloc, &set, "lib", Some(b"start = text"))?);
     assert!(rt; add(&mut set, withdrawal(alloc, "lib", 3)?)?);
-    match set.effective(alloc) {
-        Err(SetFault::Conflict { module, revision }) => {
-            assert_eq!(rt; module.as_str(), "lib");
-            assert_eq!(rt; revision, 3);
+    assert_eq!(rt;
+        conflict(alloc, &set)?.as_str(),
+        "Conflict { module: \"lib\", revision: 3 }"
+    );
+    Ok(())
+}
+
+/// A set of `count` texts of one module, of the revisions from `first` by two.
+fn revisions(alloc: Global, first: u64, count: u64) -> Result<ModuleSet, Fail> {
+    let mut set = ModuleSet::new(alloc);
+    for n in 0..count {
+        let is_new = add(&mut set, module(alloc, "a", first + 2 * n, b"x")?)?;
+        if !is_new {
+            return Err("held before".into());
         }
-        _ => panic!(rt; "no conflict"),
     }
+    Ok(set)
+}
+
+#[test]
+fn full_sets_add_nothing(rt: HostRuntime) -> Result<(), Fail> {
+    let alloc = rt.alloc();
+    let mut set = revisions(alloc, 0, 1024)?;
+    let (back, fault) = refused(&mut set, module(alloc, "b", 0, b"")?)?;
+    assert_eq!(rt; fault, AddFault::Full);
+    assert!(rt; back == module(alloc, "b", 0, b"")?);
+    assert!(rt; !add(&mut set, module(alloc, "a", 6, b"x")?)?);
+    let (_, fault) = refused(&mut set, module(alloc, "", 0, b"")?)?;
+    assert_eq!(rt; fault, AddFault::BadName);
     Ok(())
 }
 
 #[test]
-fn full_sets(rt: HostRuntime) -> Result<(), Fail> {
+fn full_sets_join_themselves(rt: HostRuntime) -> Result<(), Fail> {
     let alloc = rt.alloc();
-    let mut set = ModuleSet::new(alloc);
-    let mut odd = ModuleSet::new(alloc);
-    for n in 0..1024u64 {
-        assert!(rt; add(&mut set, module(alloc, "a", 2 * n, b"x")?)?);
-        if n < 600 {
-            assert!(rt; add(&mut odd, module(alloc, "a", 2 * n + 1, b"x")?)?);
-        }
-    }
-    match set.add(module(alloc, "b", 0, b"")?) {
-        Err((back, fault)) => {
-            assert_eq!(rt; fault, AddFault::Full);
-            assert_eq!(rt; back, module(alloc, "b", 0, b"")?);
-        }
-        Ok(_) => panic!(rt; "not full"),
-    }
-    assert!(rt; !add(&mut set, module(alloc, "a", 6, b"x")?)?);
-    assert_eq!(rt;
-        set.add(module(alloc, "", 0, b"")?)
-            .map_err(|refused| refused.1),
-        Err(AddFault::BadName)
-    );
+    let mut set = revisions(alloc, 0, 1024)?;
+    let odd = revisions(alloc, 1, 600)?;
     assert_eq!(rt; set.join(&odd), Err(AddFault::Full));
     assert_eq!(rt; set.len(), 1024);
-    let copy = read_bundle(alloc, write_bundle(alloc, &set)?.as_slice())?;
+    let copy = set_of_bundle(alloc, bundle(alloc, &set)?.as_slice())?;
     set.join(&copy)?;
     assert_eq!(rt; set.len(), 1024);
-    let mut both = read_bundle(alloc, write_bundle(alloc, &odd)?.as_slice())?;
+    Ok(())
+}
+
+#[test]
+fn sets_join_themselves(rt: HostRuntime) -> Result<(), Fail> {
+    let alloc = rt.alloc();
+    let odd = revisions(alloc, 1, 600)?;
+    let mut both = set_of_bundle(alloc, bundle(alloc, &odd)?.as_slice())?;
     both.join(&odd)?;
     assert_eq!(rt; both.len(), 600);
-    assert_eq!(rt; both.effective(alloc)?.iter().count(), 1);
+    assert_eq!(rt; effective_count(alloc, &both)?, 1);
     Ok(())
 }
 
 #[test]
 fn joins_in_order(rt: HostRuntime) -> Result<(), Fail> {
     let alloc = rt.alloc();
-    let mut set = ModuleSet::new(alloc);
-    let mut other = ModuleSet::new(alloc);
-    for (name, revision) in [("b", 1u64), ("d", 1), ("a", 3)] {
-        assert!(rt; add(&mut set, module(alloc, name, revision, b"x")?)?);
-    }
-    for (name, revision) in [("c", 1u64), ("a", 3), ("e", 1), ("a", 2)] {
-        assert!(rt; add(&mut other, module(alloc, name, revision, b"x")?)?);
-    }
-    assert!(rt; add(&mut other, withdrawal(alloc, "d", 1)?)?);
+    let mut set = set_of(
+        alloc,
+        &[
+            ("b", 1, Some("x")),
+            ("d", 1, Some("x")),
+            ("a", 3, Some("x")),
+        ],
+    )?;
+    let other = set_of(
+        alloc,
+        &[
+            ("c", 1, Some("x")),
+            ("a", 3, Some("x")),
+            ("e", 1, Some("x")),
+            ("a", 2, Some("x")),
+            ("d", 1, None),
+        ],
+    )?;
     set.join(&other)?;
-    let wanted = [
-        ("a", 2u64, false),
-        ("a", 3, false),
-        ("b", 1, false),
-        ("c", 1, false),
-        ("d", 1, true),
-        ("d", 1, false),
-        ("e", 1, false),
-    ];
-    assert_eq!(rt; set.len(), wanted.len());
-    for (held, (name, revision, withdrawn)) in set.iter().zip(wanted.iter()) {
-        assert_eq!(rt; held.name.as_str(), *name);
-        assert_eq!(rt; held.revision, *revision);
-        assert_eq!(rt; held.text.is_none(), *withdrawn);
-    }
+    assert_eq!(rt; set.len(), 7);
+    assert_eq!(rt;
+        held(alloc, &set)?.as_str(),
+        "a 2\na 3\nb 1\nc 1\nd 1 withdrawn\nd 1\ne 1\n"
+    );
     Ok(())
+}
+
+/// The contribution of a text of so many bytes.
+fn long(alloc: Global, revision: u64, length: usize) -> Result<Contribution, Fail> {
+    Ok(Contribution {
+        name: String::from_str(alloc, "a")?,
+        revision,
+        text: Some(vec![in alloc; b'x'; length]?),
+    })
 }
 
 #[test]
 fn longest_texts(rt: HostRuntime) -> Result<(), Fail> {
     let alloc = rt.alloc();
     let mut set = ModuleSet::new(alloc);
-    let longest = Contribution {
-        name: String::from_str(alloc, "a")?,
-        revision: 0,
-        text: Some(vec![in alloc; b'x'; MAX_TEXT]?),
-    };
-    let longer = Contribution {
-        name: String::from_str(alloc, "a")?,
-        revision: 1,
-        text: Some(vec![in alloc; b'x'; MAX_TEXT + 1]?),
-    };
     assert_eq!(rt; MAX_TEXT, 4_194_304);
-    assert!(rt; add(&mut set, longest)?);
-    assert_eq!(rt;
-        set.add(longer).map_err(|refused| refused.1),
-        Err(AddFault::TooLong)
-    );
-    let bundle = write_bundle(alloc, &set)?;
-    assert_eq!(rt; bundle.len(), MAX_TEXT + 100);
-    assert_eq!(rt; read_bundle(alloc, bundle.as_slice())?.len(), 1);
+    assert!(rt; add(&mut set, long(alloc, 0, MAX_TEXT)?)?);
+    let (_, fault) = refused(&mut set, long(alloc, 1, MAX_TEXT + 1)?)?;
+    assert_eq!(rt; fault, AddFault::TooLong);
+    let bytes = bundle(alloc, &set)?;
+    assert_eq!(rt; bytes.len(), MAX_TEXT + 100);
+    assert_eq!(rt; set_of_bundle(alloc, bytes.as_slice())?.len(), 1);
     Ok(())
 }
 
@@ -157,17 +180,13 @@ fn conflicts(rt: HostRuntime) -> Result<(), Fail> {
     assert!(rt; add(&mut set, module(alloc, "a", 1, b"start = text")?)?);
     assert!(rt; add(&mut set, module(alloc, "a", 1, b"start =  text")?)?);
     assert!(rt; add(&mut set, module(alloc, "b", 1, b"")?)?);
-    match set.effective(alloc) {
-        Err(SetFault::Conflict { module, revision }) => {
-            assert_eq!(rt; module.as_str(), "a");
-            assert_eq!(rt; revision, 1);
-        }
-        _ => panic!(rt; "no conflict"),
-    }
+    assert_eq!(rt;
+        conflict(alloc, &set)?.as_str(),
+        "Conflict { module: \"a\", revision: 1 }"
+    );
     assert!(rt; add(&mut set, module(alloc, "a", 2, b"start = empty")?)?);
-    let modules = set.effective(alloc)?;
-    assert_eq!(rt; modules.iter().count(), 2);
-    assert_eq!(rt; modules.get("a"), Some(b"start = empty".as_slice()));
-    assert_eq!(rt; modules.get("c"), None);
+    assert_eq!(rt; effective_count(alloc, &set)?, 2);
+    assert!(rt; is_effective(alloc, &set, "a", Some(b"start = empty"))?);
+    assert!(rt; is_effective(alloc, &set, "c", None)?);
     Ok(())
 }

@@ -1,6 +1,5 @@
 // Sets and texts at their limits, and long lists and chains.
-use crate::sets::{FIRST_LINE, add, answer, module, set_of_text};
-use rn_merge::{merge, refusal_line};
+use crate::sets::{FIRST_LINE, add, answer, answer_of_text, merged, module};
 use rn_modset::ModuleSet;
 use std::alloc::Global;
 use std::test::Fail;
@@ -83,7 +82,7 @@ fn parentheses_leave_nothing(rt: HostRuntime) -> Result<(), Fail> {
     let open = repeated(alloc, "start = ", "(", 256, "text")?;
     let text = repeated(alloc, open.as_str(), ")", 256, "")?;
     assert_eq!(rt;
-        answer(alloc, &set_of_text(alloc, text.as_str())?)?.as_str(),
+        answer_of_text(alloc, text.as_str())?.as_str(),
         "start = text\n"
     );
     Ok(())
@@ -93,11 +92,11 @@ fn parentheses_leave_nothing(rt: HostRuntime) -> Result<(), Fail> {
 fn the_text_has_a_longest_length(rt: HostRuntime) -> Result<(), Fail> {
     let alloc = rt.alloc();
     let fits = repeated(alloc, "start = element ", "n", 4_194_255, " { text }")?;
-    let printed = merge(alloc, &set_of_text(alloc, fits.as_str())?).map_err(Fail::from)?;
+    let printed = merged(alloc, fits.as_str())?;
     assert_eq!(rt; printed.len(), 4_194_304);
     let long = repeated(alloc, "start = element ", "n", 4_194_256, " { text }")?;
     assert_eq!(rt;
-        answer(alloc, &set_of_text(alloc, long.as_str())?)?.as_str(),
+        answer_of_text(alloc, long.as_str())?.as_str(),
         "OutputTooLarge"
     );
     Ok(())
@@ -127,14 +126,14 @@ fn the_text_has_a_deepest_nesting(rt: HostRuntime) -> Result<(), Fail> {
     let alloc = rt.alloc();
     let deep = nested(alloc, 256, "", "empty | b | c")?;
     assert_eq!(rt;
-        answer(alloc, &set_of_text(alloc, deep.as_str())?)?.as_str(),
+        answer_of_text(alloc, deep.as_str())?.as_str(),
         "OutputTooDeep"
     );
     let fits = nested(alloc, 255, "", "empty | b | c")?;
-    let printed = answer(alloc, &set_of_text(alloc, fits.as_str())?)?;
+    let printed = answer_of_text(alloc, fits.as_str())?;
     assert!(rt; printed.as_str().contains("element x { (b | c)? }"));
     let mixed = nested(alloc, 128, "text & ", "text & a")?;
-    let printed = answer(alloc, &set_of_text(alloc, mixed.as_str())?)?;
+    let printed = answer_of_text(alloc, mixed.as_str())?;
     assert!(rt;
         printed
             .as_str()
@@ -142,7 +141,7 @@ fn the_text_has_a_deepest_nesting(rt: HostRuntime) -> Result<(), Fail> {
     );
     let mixed = nested(alloc, 129, "text & ", "text & a")?;
     assert_eq!(rt;
-        answer(alloc, &set_of_text(alloc, mixed.as_str())?)?.as_str(),
+        answer_of_text(alloc, mixed.as_str())?.as_str(),
         "OutputTooDeep"
     );
     Ok(())
@@ -157,7 +156,7 @@ fn chains_of_references_are_long(rt: HostRuntime) -> Result<(), Fail> {
         text.push_str(format!(in alloc; "x{number:06} = x{next:06}\n")?.as_str())?;
     }
     text.push_str("x099999 = text\n")?;
-    let printed = merge(alloc, &set_of_text(alloc, text.as_str())?).map_err(Fail::from)?;
+    let printed = merged(alloc, text.as_str())?;
     let wanted = format!(in alloc; "{FIRST_LINE}{text}")?;
     assert!(rt; printed.as_str() == wanted.as_str());
     Ok(())
@@ -185,7 +184,7 @@ fn lists_are_long(rt: HostRuntime) -> Result<(), Fail> {
     for separator in [" | ", " & ", ", "] {
         let members = names(alloc, 100_000, separator)?;
         let text = format!(in alloc; "start = element r {{ {members} }}\n{definitions}")?;
-        let printed = merge(alloc, &set_of_text(alloc, text.as_str())?).map_err(Fail::from)?;
+        let printed = merged(alloc, text.as_str())?;
         let wanted = format!(in alloc; "{FIRST_LINE}{text}")?;
         assert!(rt; printed.as_str() == wanted.as_str(), "{separator}");
     }
@@ -199,7 +198,7 @@ fn a_name_is_combined_from_many_definitions(rt: HostRuntime) -> Result<(), Fail>
     for number in 0..100_000 {
         text.push_str(format!(in alloc; "x |= \"{number:06}\" ")?.as_str())?;
     }
-    let printed = merge(alloc, &set_of_text(alloc, text.as_str())?).map_err(Fail::from)?;
+    let printed = merged(alloc, text.as_str())?;
     assert!(rt;
         printed
             .as_str()
@@ -213,7 +212,7 @@ fn a_name_is_combined_from_many_definitions(rt: HostRuntime) -> Result<(), Fail>
 fn a_literal_is_long(rt: HostRuntime) -> Result<(), Fail> {
     let alloc = rt.alloc();
     let text = repeated(alloc, "start = element r { \"", "v", 4_194_240, "\" }\n")?;
-    let printed = merge(alloc, &set_of_text(alloc, text.as_str())?).map_err(Fail::from)?;
+    let printed = merged(alloc, text.as_str())?;
     let wanted = format!(in alloc; "{FIRST_LINE}{text}")?;
     assert!(rt; printed.as_str() == wanted.as_str());
     Ok(())
@@ -242,10 +241,7 @@ fn instances(alloc: Global, includes: usize, definitions: usize) -> Result<Modul
 fn ten_million_components_are_combined(rt: HostRuntime) -> Result<(), Fail> {
     let alloc = rt.alloc();
     let set = instances(alloc, 511, 20_000)?;
-    let printed = match merge(alloc, &set) {
-        Ok(text) => text,
-        Err(refusal) => refusal_line(alloc, &refusal)?,
-    };
+    let printed = answer(alloc, &set)?;
     assert!(rt;
         printed.as_str().contains(
             "x = element e0 { empty } | element e1 { empty } | element e10 { empty }"

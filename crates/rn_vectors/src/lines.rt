@@ -6,6 +6,7 @@ use rn_merge::{
 };
 use rn_modset::{AddFault, BundleFault, Contribution};
 use std::alloc::Global;
+use std::process::Abort;
 use std::test::Fail;
 
 fn text(alloc: Global, text: &str) -> Result<String, Fail> {
@@ -25,9 +26,22 @@ fn planned(alloc: Global, words: &[&str]) -> Result<Result<Job, ProgramFault>, F
     Ok(plan(alloc, words.as_slice()))
 }
 
-fn print(alloc: Global, files: &[&str]) -> Result<Result<Job, ProgramFault>, Fail> {
-    let files = texts(alloc, files)?;
-    Ok(Ok(Job::Print { files }))
+/// The words ask for this job.
+fn plans(rt: &(impl Abort + AllocGlobal), words: &[&str], job: Job) -> Result<(), Fail> {
+    let found = planned(rt.alloc(), words)?;
+    assert_eq!(rt; found, Ok(job), "{words:?}");
+    Ok(())
+}
+
+/// The words have this fault.
+fn refuses(
+    rt: &(impl Abort + AllocGlobal),
+    words: &[&str],
+    fault: ProgramFault,
+) -> Result<(), Fail> {
+    let found = planned(rt.alloc(), words)?;
+    assert_eq!(rt; found, Err(fault), "{words:?}");
+    Ok(())
 }
 
 #[test]
@@ -49,14 +63,14 @@ fn words_of_files(rt: HostRuntime) -> Result<(), Fail> {
         (&["print", "--", "--"], &["--"]),
     ];
     for (words, files) in rows {
-        assert_eq!(rt; planned(alloc, words)?, print(alloc, files)?);
+        let files = texts(alloc, files)?;
+        plans(&rt, words, Job::Print { files })?;
     }
     Ok(())
 }
 
 #[test]
 fn words_refused(rt: HostRuntime) -> Result<(), Fail> {
-    let alloc = rt.alloc();
     let usage: [&[&str]; 30] = [
         &["print"],
         &["zap"],
@@ -90,8 +104,14 @@ fn words_refused(rt: HostRuntime) -> Result<(), Fail> {
         &["list", "--"],
     ];
     for words in usage {
-        assert_eq!(rt; planned(alloc, words)?, Err(ProgramFault::Usage));
+        refuses(&rt, words, ProgramFault::Usage)?;
     }
+    refuses(&rt, &["join", "-", "-"], ProgramFault::Dash)?;
+    refuses(&rt, &["list", "a", "-", "--", "b", "-"], ProgramFault::Dash)
+}
+
+#[test]
+fn revisions_refused(rt: HostRuntime) -> Result<(), Fail> {
     let revisions = [
         "01",
         "",
@@ -105,90 +125,67 @@ fn words_refused(rt: HostRuntime) -> Result<(), Fail> {
         "0x1",
     ];
     for revision in revisions {
-        assert_eq!(rt;
-            planned(alloc, ["pack", "a", revision, "f"].as_slice())?,
-            Err(ProgramFault::Rev)
-        );
-        assert_eq!(rt;
-            planned(alloc, ["withdraw", "a", revision].as_slice())?,
-            Err(ProgramFault::Rev)
-        );
+        refuses(&rt, &["pack", "a", revision, "f"], ProgramFault::Rev)?;
+        refuses(&rt, &["withdraw", "a", revision], ProgramFault::Rev)?;
     }
-    assert_eq!(rt;
-        planned(alloc, ["join", "-", "-"].as_slice())?,
-        Err(ProgramFault::Dash)
-    );
-    assert_eq!(rt;
-        planned(alloc, ["list", "a", "-", "--", "b", "-"].as_slice())?,
-        Err(ProgramFault::Dash)
-    );
     Ok(())
+}
+
+/// The job of packing a module.
+fn pack(alloc: Global, name: &str, revision: u64, file: &str) -> Result<Job, Fail> {
+    Ok(Job::Pack {
+        name: text(alloc, name)?,
+        revision,
+        file: text(alloc, file)?,
+    })
 }
 
 #[test]
 fn words_of_one_module(rt: HostRuntime) -> Result<(), Fail> {
     let alloc = rt.alloc();
-    let packed = Job::Pack {
-        name: text(alloc, "a")?,
-        revision: 0,
-        file: text(alloc, "-")?,
-    };
-    assert_eq!(rt;
-        planned(alloc, ["pack", "a", "0", "-"].as_slice())?,
-        Ok(packed)
-    );
-    let named_as_input = Job::Pack {
-        name: text(alloc, "-")?,
-        revision: 18_446_744_073_709_551_615,
-        file: text(alloc, "--x")?,
-    };
-    assert_eq!(rt;
-        planned(
-            alloc,
-            ["pack", "-", "18446744073709551615", "--", "--x"].as_slice()
-        )?,
-        Ok(named_as_input)
-    );
-    let behind = Job::Pack {
-        name: text(alloc, "-a")?,
-        revision: 10,
-        file: text(alloc, "")?,
-    };
-    assert_eq!(rt;
-        planned(alloc, ["pack", "--", "-a", "10", ""].as_slice())?,
-        Ok(behind)
-    );
-    let withdrawn = Job::Withdraw {
-        name: text(alloc, "")?,
-        revision: 7,
-    };
-    assert_eq!(rt;
-        planned(alloc, ["withdraw", "", "7"].as_slice())?,
-        Ok(withdrawn)
-    );
-    let checked = Job::Check {
-        file: text(alloc, "-")?,
-    };
-    assert_eq!(rt; planned(alloc, ["check", "-"].as_slice())?, Ok(checked));
-    assert_eq!(rt;
-        planned(alloc, ["join", "a"].as_slice())?,
-        Ok(Job::Join {
-            files: texts(alloc, ["a"].as_slice())?
-        })
-    );
-    assert_eq!(rt;
-        planned(alloc, ["list", "a"].as_slice())?,
-        Ok(Job::List {
-            files: texts(alloc, ["a"].as_slice())?
-        })
-    );
+    plans(&rt, &["pack", "a", "0", "-"], pack(alloc, "a", 0, "-")?)?;
+    let named_as_input = pack(alloc, "-", 18_446_744_073_709_551_615, "--x")?;
+    plans(
+        &rt,
+        &["pack", "-", "18446744073709551615", "--", "--x"],
+        named_as_input,
+    )?;
+    let behind = pack(alloc, "-a", 10, "")?;
+    plans(&rt, &["pack", "--", "-a", "10", ""], behind)?;
+    let name = text(alloc, "")?;
+    plans(
+        &rt,
+        &["withdraw", "", "7"],
+        Job::Withdraw { name, revision: 7 },
+    )
+}
+
+#[test]
+fn words_of_other_jobs(rt: HostRuntime) -> Result<(), Fail> {
+    let alloc = rt.alloc();
+    let file = text(alloc, "-")?;
+    plans(&rt, &["check", "-"], Job::Check { file })?;
+    let files = texts(alloc, &["a"])?;
+    plans(&rt, &["join", "a"], Job::Join { files })?;
+    let files = texts(alloc, &["a"])?;
+    plans(&rt, &["list", "a"], Job::List { files })
+}
+
+/// The fault has this line, and the program then ends with this status.
+fn ends(
+    rt: &(impl Abort + AllocGlobal),
+    fault: &ProgramFault,
+    line: &str,
+    number: u8,
+) -> Result<(), Fail> {
+    let found = fault_line(rt.alloc(), fault)?;
+    assert_eq!(rt; found.as_str(), line);
+    assert_eq!(rt; status(fault), number, "{line}");
     Ok(())
 }
 
 #[test]
 fn fault_lines(rt: HostRuntime) -> Result<(), Fail> {
-    let alloc = rt.alloc();
-    let module = |name: &str| text(alloc, name);
     let rows = [
         (ProgramFault::Usage, "usage", 2),
         (ProgramFault::Rev, "usage: REV", 2),
@@ -219,100 +216,97 @@ fn fault_lines(rt: HostRuntime) -> Result<(), Fail> {
         (ProgramFault::Refused(Refusal::Memory), "Memory", 3),
         (ProgramFault::Refused(Refusal::Instances), "Instances", 1),
         (
-            ProgramFault::Refused(Refusal::Lexical {
-                module: module("a")?,
-            }),
-            "Lexical a",
-            1,
-        ),
-        (
-            ProgramFault::Refused(Refusal::PlainTwice {
-                key: Key::Define(module("start")?),
-            }),
-            "PlainTwice \\start",
-            1,
-        ),
-        (
             ProgramFault::Refused(Refusal::PlainTwice { key: Key::Start }),
             "PlainTwice start",
             1,
         ),
     ];
-    for (fault, line, number) in rows {
-        assert_eq!(rt; fault_line(alloc, &fault)?.as_str(), line);
-        assert_eq!(rt; status(&fault), number);
+    for (fault, line, number) in &rows {
+        ends(&rt, fault, line, *number)?;
     }
     Ok(())
 }
 
 #[test]
-fn refusal_lines(rt: HostRuntime) -> Result<(), Fail> {
-    let alloc = rt.alloc();
-    let module = |name: &str| text(alloc, name);
-    let rows = [
-        (
-            Refusal::Conflict {
-                module: module("a")?,
-                revision: 1,
-            },
-            "Conflict a 1",
-        ),
-        (
-            Refusal::Missing {
-                module: module("main")?,
-                wanted: module("gone")?,
-            },
-            "Missing main \"gone\"",
-        ),
-        (
-            Refusal::Missing {
-                module: module("main")?,
-                wanted: module("")?,
-            },
-            "Missing main \"\"",
-        ),
-        (
-            Refusal::Cycle {
-                module: module("a")?,
-            },
-            "Cycle a",
-        ),
-        (
-            Refusal::Override {
-                module: module("main")?,
-                key: Key::Define(module("z")?),
-            },
-            "Override main z",
-        ),
-        (
-            Refusal::Override {
-                module: module("main")?,
-                key: Key::Start,
-            },
-            "Override main start",
-        ),
-        (
-            Refusal::MixedMethods {
-                key: Key::Define(module("x")?),
-            },
-            "MixedMethods x",
-        ),
-        (Refusal::NoStart, "NoStart"),
-        (
-            Refusal::Undefined {
-                name: module("start")?,
-            },
-            "Undefined \\start",
-        ),
-        (Refusal::Recursive { name: module("a")? }, "Recursive a"),
-        (Refusal::NameClass { key: Key::Start }, "NameClass start"),
-        (Refusal::OutputTooLarge, "OutputTooLarge"),
-        (Refusal::OutputTooDeep, "OutputTooDeep"),
-    ];
-    for (refusal, line) in rows {
-        assert_eq!(rt; refusal_line(alloc, &refusal)?.as_str(), line);
-    }
+fn fault_lines_of_refusals(rt: HostRuntime) -> Result<(), Fail> {
+    let module = text(rt.alloc(), "a")?;
+    ends(
+        &rt,
+        &ProgramFault::Refused(Refusal::Lexical { module }),
+        "Lexical a",
+        1,
+    )?;
+    let key = define(rt.alloc(), "start")?;
+    ends(
+        &rt,
+        &ProgramFault::Refused(Refusal::PlainTwice { key }),
+        "PlainTwice \\start",
+        1,
+    )
+}
+
+/// The key of a definition.
+fn define(alloc: Global, name: &str) -> Result<Key, Fail> {
+    Ok(Key::Define(text(alloc, name)?))
+}
+
+/// The refusal has this line.
+fn shows(rt: &(impl Abort + AllocGlobal), refusal: Refusal, line: &str) -> Result<(), Fail> {
+    let found = refusal_line(rt.alloc(), &refusal)?;
+    assert_eq!(rt; found.as_str(), line);
     Ok(())
+}
+
+#[test]
+fn refusal_lines_of_modules(rt: HostRuntime) -> Result<(), Fail> {
+    let alloc = rt.alloc();
+    let module = text(alloc, "a")?;
+    let conflict = Refusal::Conflict {
+        module,
+        revision: 1,
+    };
+    shows(&rt, conflict, "Conflict a 1")?;
+    for (wanted, line) in [("gone", "Missing main \"gone\""), ("", "Missing main \"\"")] {
+        let module = text(alloc, "main")?;
+        let wanted = text(alloc, wanted)?;
+        shows(&rt, Refusal::Missing { module, wanted }, line)?;
+    }
+    let module = text(alloc, "a")?;
+    shows(&rt, Refusal::Cycle { module }, "Cycle a")
+}
+
+#[test]
+fn refusal_lines_of_keys(rt: HostRuntime) -> Result<(), Fail> {
+    let alloc = rt.alloc();
+    let module = text(alloc, "main")?;
+    let key = define(alloc, "z")?;
+    shows(&rt, Refusal::Override { module, key }, "Override main z")?;
+    let module = text(alloc, "main")?;
+    let key = Key::Start;
+    shows(
+        &rt,
+        Refusal::Override { module, key },
+        "Override main start",
+    )?;
+    let key = define(alloc, "x")?;
+    shows(&rt, Refusal::MixedMethods { key }, "MixedMethods x")?;
+    let key = Key::Start;
+    shows(&rt, Refusal::NameClass { key }, "NameClass start")
+}
+
+#[test]
+fn refusal_lines_of_references(rt: HostRuntime) -> Result<(), Fail> {
+    let name = text(rt.alloc(), "start")?;
+    shows(&rt, Refusal::Undefined { name }, "Undefined \\start")?;
+    let name = text(rt.alloc(), "a")?;
+    shows(&rt, Refusal::Recursive { name }, "Recursive a")
+}
+
+#[test]
+fn refusal_lines_without_a_name(rt: HostRuntime) -> Result<(), Fail> {
+    shows(&rt, Refusal::NoStart, "NoStart")?;
+    shows(&rt, Refusal::OutputTooLarge, "OutputTooLarge")?;
+    shows(&rt, Refusal::OutputTooDeep, "OutputTooDeep")
 }
 
 #[test]

@@ -1,7 +1,7 @@
 // Sets made from rows, and what a merge answers for them.
-use rn_assemble::assemble;
+use rn_assemble::{Grammar, assemble};
 use rn_merge::{merge, refusal_line};
-use rn_modset::{Contribution, ModuleSet};
+use rn_modset::{AddFault, Contribution, ModuleSet, read_bundle, write_bundle};
 use rn_pattern::{Interned, Patterns, Plain};
 use rn_simplify::{normalise_in, print};
 use std::alloc::Global;
@@ -44,8 +44,46 @@ pub fn contribution(alloc: Global, given: &Given) -> Result<Contribution, Fail> 
 
 /// Adds a contribution that the set takes.
 pub fn add(set: &mut ModuleSet, contribution: Contribution) -> Result<bool, Fail> {
-    set.add(contribution)
-        .map_err(|refused| Fail::from(refused.1))
+    match set.add(contribution) {
+        Ok(is_new) => Ok(is_new),
+        Err((_, fault)) => Err(fault.into()),
+    }
+}
+
+/// What a set hands back of a contribution that it refuses.
+pub fn refused(
+    set: &mut ModuleSet,
+    contribution: Contribution,
+) -> Result<(Contribution, AddFault), Fail> {
+    match set.add(contribution) {
+        Ok(_) => Err("the contribution is taken".into()),
+        Err(refused) => Ok(refused),
+    }
+}
+
+/// The contributions that a set holds, a line each.
+pub fn held(alloc: Global, set: &ModuleSet) -> Result<String, Fail> {
+    let mut lines = String::new(alloc);
+    for contribution in set.iter() {
+        let name = contribution.name.as_str();
+        let revision = contribution.revision;
+        let kind = match contribution.text {
+            Some(_) => "",
+            None => " withdrawn",
+        };
+        lines.push_str(format!(in alloc; "{name} {revision}{kind}\n")?.as_str())?;
+    }
+    Ok(lines)
+}
+
+/// The bundle of a set.
+pub fn bundle(alloc: Global, set: &ModuleSet) -> Result<Vec<u8>, Fail> {
+    Ok(write_bundle(alloc, set)?)
+}
+
+/// The set of a bundle.
+pub fn set_of_bundle(alloc: Global, bytes: &[u8]) -> Result<ModuleSet, Fail> {
+    Ok(read_bundle(alloc, bytes)?)
 }
 
 /// The set of a row's contributions.
@@ -64,15 +102,22 @@ pub fn set_of_text(alloc: Global, text: &str) -> Result<ModuleSet, Fail> {
     Ok(set)
 }
 
+/// The text that a merge answers for one module.
+pub fn merged(alloc: Global, text: &str) -> Result<String, Fail> {
+    Ok(merge(alloc, &set_of_text(alloc, text)?)?)
+}
+
 /// The answer of a merge, as rows write it.
 pub fn answer(alloc: Global, set: &ModuleSet) -> Result<String, Fail> {
     match merge(alloc, set) {
-        Ok(text) => match text.as_str().strip_prefix(FIRST_LINE) {
-            Some(lines) => Ok(String::from_str(alloc, lines)?),
-            None => Err("the first line is missing".into()),
-        },
+        Ok(text) => lines_of(alloc, text.as_str()),
         Err(refusal) => Ok(refusal_line(alloc, &refusal)?),
     }
+}
+
+/// The same for one module.
+pub fn answer_of_text(alloc: Global, text: &str) -> Result<String, Fail> {
+    answer(alloc, &set_of_text(alloc, text)?)
 }
 
 /// Merges each row's set, and what is printed once more.
@@ -94,23 +139,34 @@ pub fn each_prints_itself_again(rt: &(impl Abort + AllocGlobal), rows: &[Row]) -
         if let Ok(text) = merge(alloc, &set) {
             let mut again = ModuleSet::new(alloc);
             let _ = add(&mut again, module(alloc, "z", 9, text.as_bytes())?)?;
-            let reprinted = merge(alloc, &again).map_err(Fail::from)?;
+            let reprinted = merge(alloc, &again)?;
             assert_eq!(rt; reprinted.as_str(), text.as_str(), "row {at}");
         }
     }
     Ok(())
 }
 
-/// The lines of a set's schema, whose canonical form is built in the store.
-fn printed_in<P: Patterns>(alloc: Global, set: &ModuleSet, store: &mut P) -> Result<String, Fail> {
-    let grammar = assemble(alloc, set).map_err(Fail::from)?;
-    let normal = normalise_in(alloc, &grammar, store)?;
-    let text = print(alloc, &normal).map_err(Fail::from)?;
-    let lines = text
-        .as_str()
-        .strip_prefix(FIRST_LINE)
-        .ok_or("the first line is missing")?;
-    Ok(String::from_str(alloc, lines)?)
+/// The lines behind the first one of a schema.
+fn lines_of(alloc: Global, text: &str) -> Result<String, Fail> {
+    match text.strip_prefix(FIRST_LINE) {
+        Some(lines) => Ok(String::from_str(alloc, lines)?),
+        None => Err("the first line is missing".into()),
+    }
+}
+
+/// The grammar of a set.
+fn grammar_of(alloc: Global, set: &ModuleSet) -> Result<Grammar, Fail> {
+    Ok(assemble(alloc, set)?)
+}
+
+/// The schema of a grammar, whose canonical form is built in the store.
+fn printed_in<P: Patterns>(
+    alloc: Global,
+    grammar: &Grammar,
+    store: &mut P,
+) -> Result<String, Fail> {
+    let normal = normalise_in(alloc, grammar, store)?;
+    Ok(print(alloc, &normal)?)
 }
 
 /// Prints each row's schema from a store that looks for equal patterns, and from one that doesn't.
@@ -120,11 +176,12 @@ pub fn each_prints_in_both_stores(
 ) -> Result<(), Fail> {
     let alloc = rt.alloc();
     for (at, row) in rows.iter().enumerate() {
-        let set = set_of(alloc, row.set)?;
-        let plain = printed_in(alloc, &set, &mut Plain::new(alloc))?;
-        assert_eq!(rt; plain.as_str(), row.answer, "row {at}");
-        let interned = printed_in(alloc, &set, &mut Interned::new(alloc))?;
-        assert_eq!(rt; interned.as_str(), row.answer, "row {at}");
+        let grammar = grammar_of(alloc, &set_of(alloc, row.set)?)?;
+        let plain = printed_in(alloc, &grammar, &mut Plain::new(alloc))?;
+        let lines = lines_of(alloc, plain.as_str())?;
+        assert_eq!(rt; lines.as_str(), row.answer, "row {at}");
+        let interned = printed_in(alloc, &grammar, &mut Interned::new(alloc))?;
+        assert_eq!(rt; interned.as_str(), plain.as_str(), "row {at}");
     }
     Ok(())
 }

@@ -1,6 +1,7 @@
 // The canonical form of each constructor by rows, and the order.
 use rn_pattern::{Interned, NameClass, Pattern, Patterns, Plain};
 use std::alloc::{AllocError, Global};
+use std::cmp::Ordering;
 use std::test::Fail;
 
 fn text(alloc: Global, s: &str) -> Result<String, AllocError> {
@@ -60,14 +61,20 @@ fn interned_shares(rt: HostRuntime) -> Result<(), Fail> {
     let a = store.reference("a")?;
     let b = store.reference("b")?;
     let first = store.choice(&[b, a])?;
-    let second = store.choice(&[a, b, a])?;
-    assert!(rt; first == second);
+    assert!(rt; store.choice(&[a, b, a])? == first);
     assert_eq!(rt; store.nodes(), 3);
+    Ok(())
+}
+
+#[test]
+fn interned_counts_what_is_new(rt: HostRuntime) -> Result<(), Fail> {
+    let mut store = Interned::new(rt.alloc());
+    let a = store.reference("a")?;
+    let choice = store.choice(&[a, a])?;
+    assert!(rt; choice == a);
     let pair = store.ileave(&[a, a])?;
-    assert!(rt; pair != first);
-    assert_eq!(rt; store.nodes(), 4);
-    assert!(rt; store.choice(&[a, a])? == a);
-    assert_eq!(rt; store.nodes(), 4);
+    assert!(rt; pair != a);
+    assert_eq!(rt; store.nodes(), 2);
     Ok(())
 }
 
@@ -82,59 +89,91 @@ fn plain_looks_for_nothing(rt: HostRuntime) -> Result<(), Fail> {
     Ok(())
 }
 
+/// Name classes in their order, of the numbers 0 to 7.
+fn class(alloc: Global, number: usize) -> Result<NameClass, AllocError> {
+    match number {
+        0 => Ok(NameClass::AnyName(None)),
+        1 => {
+            let except = Box::new(alloc, name(alloc, "", "a")?)?;
+            Ok(NameClass::AnyName(Some(except)))
+        }
+        2 => Ok(NameClass::NsName(text(alloc, "u")?, None)),
+        3 => {
+            let except = Box::new(alloc, name(alloc, "u", "a")?)?;
+            Ok(NameClass::NsName(text(alloc, "u")?, Some(except)))
+        }
+        4 => Ok(NameClass::NsName(text(alloc, "v")?, None)),
+        5 => name(alloc, "a", "c"),
+        6 => name(alloc, "b", "b"),
+        _ => Ok(NameClass::Choice(Vec::new(alloc))),
+    }
+}
+
+/// How the name classes of two numbers stand to each other.
+fn ordered_classes(alloc: Global, one: usize, other: usize) -> Result<Ordering, AllocError> {
+    Ok(class(alloc, one)?.cmp(&class(alloc, other)?))
+}
+
 #[test]
-fn orders(rt: HostRuntime) -> Result<(), Fail> {
-    let alloc = rt.alloc();
-    let classes = [
-        NameClass::AnyName(None),
-        NameClass::AnyName(Some(Box::new(alloc, name(alloc, "", "a")?)?)),
-        NameClass::NsName(text(alloc, "u")?, None),
-        NameClass::NsName(
-            text(alloc, "u")?,
-            Some(Box::new(alloc, name(alloc, "u", "a")?)?),
-        ),
-        NameClass::NsName(text(alloc, "v")?, None),
-        name(alloc, "a", "c")?,
-        name(alloc, "b", "b")?,
-        NameClass::Choice(Vec::new(alloc)),
-    ];
-    for i in 0..classes.len() {
-        for j in 0..classes.len() {
-            assert!(rt; classes[i].cmp(&classes[j]) == i.cmp(&j));
+fn name_classes_are_ordered(rt: HostRuntime) -> Result<(), Fail> {
+    for one in 0..8usize {
+        for other in 0..8usize {
+            assert!(rt; ordered_classes(rt.alloc(), one, other)? == one.cmp(&other));
         }
     }
-    let patterns = [
-        Pattern::NotAllowed,
-        Pattern::Empty,
-        Pattern::Text,
-        Pattern::Ref(text(alloc, "a")?),
-        Pattern::Ref(text(alloc, "b")?),
-        Pattern::Value(text(alloc, "")?, text(alloc, "token")?, text(alloc, "x")?),
-        Pattern::Datum(
-            text(alloc, "")?,
-            text(alloc, "token")?,
-            Vec::new(alloc),
-            None,
-        ),
-        Pattern::Datum(
-            text(alloc, "")?,
-            text(alloc, "token")?,
-            Vec::new(alloc),
-            Some(Box::new(alloc, Pattern::Empty)?),
-        ),
-        Pattern::List(Box::new(alloc, Pattern::Text)?),
-        Pattern::Attribute(name(alloc, "", "a")?, Box::new(alloc, Pattern::Text)?),
-        Pattern::Element(name(alloc, "", "a")?, Box::new(alloc, Pattern::Empty)?),
-        Pattern::Element(name(alloc, "", "a")?, Box::new(alloc, Pattern::Text)?),
-        Pattern::Element(name(alloc, "", "b")?, Box::new(alloc, Pattern::Empty)?),
-        Pattern::OneOrMore(Box::new(alloc, Pattern::Text)?),
-        Pattern::Group(Vec::new(alloc)),
-        Pattern::Interleave(Vec::new(alloc)),
-        Pattern::Choice(Vec::new(alloc)),
-    ];
-    for i in 0..patterns.len() {
-        for j in 0..patterns.len() {
-            assert!(rt; patterns[i].cmp(&patterns[j]) == i.cmp(&j));
+    Ok(())
+}
+
+/// A value or data of the type `token`.
+fn typed(alloc: Global, number: usize) -> Result<Pattern, AllocError> {
+    let library = text(alloc, "")?;
+    let type_name = text(alloc, "token")?;
+    match number {
+        5 => Ok(Pattern::Value(library, type_name, text(alloc, "x")?)),
+        6 => Ok(Pattern::Datum(library, type_name, Vec::new(alloc), None)),
+        _ => {
+            let except = Box::new(alloc, Pattern::Empty)?;
+            Ok(Pattern::Datum(library, type_name, Vec::new(alloc), Some(except)))
+        }
+    }
+}
+
+/// An element of this name.
+fn element(alloc: Global, local: &str, content: Pattern) -> Result<Pattern, AllocError> {
+    Ok(Pattern::Element(name(alloc, "", local)?, Box::new(alloc, content)?))
+}
+
+/// Patterns in their order, of the numbers 0 to 16.
+fn pattern(alloc: Global, number: usize) -> Result<Pattern, AllocError> {
+    match number {
+        0 => Ok(Pattern::NotAllowed),
+        1 => Ok(Pattern::Empty),
+        2 => Ok(Pattern::Text),
+        3 => Ok(Pattern::Ref(text(alloc, "a")?)),
+        4 => Ok(Pattern::Ref(text(alloc, "b")?)),
+        5..=7 => typed(alloc, number),
+        8 => Ok(Pattern::List(Box::new(alloc, Pattern::Text)?)),
+        9 => Ok(Pattern::Attribute(name(alloc, "", "a")?, Box::new(alloc, Pattern::Text)?)),
+        10 => element(alloc, "a", Pattern::Empty),
+        11 => element(alloc, "a", Pattern::Text),
+        12 => element(alloc, "b", Pattern::Empty),
+        13 => Ok(Pattern::OneOrMore(Box::new(alloc, Pattern::Text)?)),
+        14 => Ok(Pattern::Group(Vec::new(alloc))),
+        15 => Ok(Pattern::Interleave(Vec::new(alloc))),
+        _ => Ok(Pattern::Choice(Vec::new(alloc))),
+    }
+}
+
+/// How the patterns of two numbers stand to each other.
+fn ordered_patterns(alloc: Global, one: usize, other: usize) -> Result<Ordering, AllocError> {
+    Ok(pattern(alloc, one)?.cmp(&pattern(alloc, other)?))
+}
+
+#[test]
+fn patterns_are_ordered(rt: HostRuntime) -> Result<(), Fail> {
+    for one in 0..17usize {
+        for other in 0..17usize {
+            assert!(rt; ordered_patterns(rt.alloc(), one, other)? == one.cmp(&other));
         }
     }
     Ok(())

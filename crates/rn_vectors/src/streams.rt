@@ -1,12 +1,12 @@
 // Runs over bundles, with sources and sinks that fail at a known byte.
 ghost use Rattle.std.specs.Prelude.{◌≡◌, false, IfOk};
 
-use crate::sets::{Given, set_of};
+use crate::sets::{Given, bundle, set_of};
 use rn_assemble::Refusal;
 use rn_merge::{
     Failed, ReadFault, RunFault, Sink, Source, Status, read_input, run_print, write_output,
 };
-use rn_modset::{BundleFault, write_bundle};
+use rn_modset::BundleFault;
 use std::alloc::Global;
 use std::test::Fail;
 
@@ -114,21 +114,25 @@ fn bundles(alloc: Global, given: &[Given]) -> Result<Vec<Vec<u8>>, Fail> {
     let mut bundles = Vec::new(alloc);
     for one in given {
         let set = set_of(alloc, &[*one])?;
-        bundles.push(write_bundle(alloc, &set)?)?;
+        bundles.push(bundle(alloc, &set)?)?;
     }
     Ok(bundles)
+}
+
+/// A run into a sink that has room for so many bytes: what it took, and the run's answer.
+fn run(alloc: Global, given: &[Vec<u8>], room: usize) -> (Vec<u8>, Result<Status, RunFault>) {
+    let mut out = sink_of(alloc, room);
+    let answer = run_print(alloc, given, &mut out);
+    (out.taken, answer)
 }
 
 #[test]
 fn bundles_are_merged_in_any_order(rt: HostRuntime) -> Result<(), Fail> {
     let alloc = rt.alloc();
-    for given in [[A, B, A], [B, A, A], [A, A, B]] {
-        let mut out = sink_of(alloc, 1000);
-        let status = run_print(alloc, bundles(alloc, &given)?.as_slice(), &mut out).map_err(
-            Fail::from,
-        )?;
-        assert_eq!(rt; status, Status::Done);
-        assert_eq!(rt; out.taken.as_slice(), PRINTED.as_bytes());
+    for given in &[[A, B, A], [B, A, A], [A, A, B]] {
+        let (taken, answer) = run(alloc, bundles(alloc, given)?.as_slice(), 1000);
+        assert_eq!(rt; answer, Ok(Status::Done));
+        assert_eq!(rt; taken.as_slice(), PRINTED.as_bytes());
     }
     Ok(())
 }
@@ -139,54 +143,51 @@ fn a_sink_that_fails_has_the_bytes_before(rt: HostRuntime) -> Result<(), Fail> {
     let given = bundles(alloc, &[A, B])?;
     assert_eq!(rt; PRINTED.len(), 82);
     for place in 0..82 {
-        let mut out = sink_of(alloc, place);
-        let fault = run_print(alloc, given.as_slice(), &mut out).err();
-        assert_eq!(rt; fault, Some(RunFault::Write));
-        assert_eq!(rt; out.taken.as_slice(), &PRINTED.as_bytes()[..place]);
+        let (taken, answer) = run(alloc, given.as_slice(), place);
+        assert_eq!(rt; answer, Err(RunFault::Write));
+        assert_eq!(rt; taken.as_slice(), &PRINTED.as_bytes()[..place]);
     }
-    let mut out = sink_of(alloc, 82);
-    let status = run_print(alloc, given.as_slice(), &mut out).map_err(Fail::from)?;
-    assert_eq!(rt; status, Status::Done);
+    let (_, answer) = run(alloc, given.as_slice(), 82);
+    assert_eq!(rt; answer, Ok(Status::Done));
     Ok(())
 }
 
 #[test]
 fn nothing_is_written_without_a_schema(rt: HostRuntime) -> Result<(), Fail> {
     let alloc = rt.alloc();
-    let mut out = sink_of(alloc, 1000);
-    let none = run_print(alloc, &[], &mut out).map_err(Fail::from)?;
-    assert_eq!(rt; none, Status::Refused(Refusal::NoStart));
+    let (taken, answer) = run(alloc, &[], 1000);
+    assert_eq!(rt; answer, Ok(Status::Refused(Refusal::NoStart)));
+    assert_eq!(rt; taken.len(), 0);
     let mut given = bundles(alloc, &[A, B])?;
     given.push(Vec::from_slice(alloc, b"rncset 1\nend 0")?)?;
-    let mut second = sink_of(alloc, 1000);
-    let fault = run_print(alloc, given.as_slice(), &mut second).err();
-    assert_eq!(rt;
-        fault,
-        Some(RunFault::Bundle {
-            index: 2,
-            fault: BundleFault::Truncated
-        })
-    );
-    assert_eq!(rt; out.taken.len() + second.taken.len(), 0);
+    let (taken, answer) = run(alloc, given.as_slice(), 1000);
+    let index = 2;
+    let fault = BundleFault::Truncated;
+    assert_eq!(rt; answer, Err(RunFault::Bundle { index, fault }));
+    assert_eq!(rt; taken.len(), 0);
     Ok(())
+}
+
+/// What is read of a source that fails at a place, up to a length.
+fn read(alloc: Global, until_failure: usize, limit: usize) -> Result<Vec<u8>, ReadFault> {
+    read_input(alloc, &mut source_of(b"five!", until_failure), limit)
 }
 
 #[test]
 fn inputs_are_read_to_their_end(rt: HostRuntime) -> Result<(), Fail> {
     let alloc = rt.alloc();
     let mut whole = source_of(b"five!", usize::MAX);
-    let read = read_input(alloc, &mut whole, 5).map_err(Fail::from)?;
-    assert_eq!(rt; read.as_slice(), b"five!".as_slice());
+    let bytes = read_input(alloc, &mut whole, 5)?;
+    assert_eq!(rt; bytes.as_slice(), b"five!".as_slice());
     assert!(rt; whole.ended() && !whole.failed());
-    assert_eq!(rt;
-        read_input(alloc, &mut source_of(b"five!", usize::MAX), 4).err(),
-        Some(ReadFault::Large)
-    );
-    assert_eq!(rt;
-        read_input(alloc, &mut source_of(b"five!", 3), 5).err(),
-        Some(ReadFault::Read)
-    );
-    let mut out = sink_of(alloc, 3);
+    assert_eq!(rt; read(alloc, usize::MAX, 4).err(), Some(ReadFault::Large));
+    assert_eq!(rt; read(alloc, 3, 5).err(), Some(ReadFault::Read));
+    Ok(())
+}
+
+#[test]
+fn outputs_have_the_bytes_before_a_failure(rt: HostRuntime) -> Result<(), Fail> {
+    let mut out = sink_of(rt.alloc(), 3);
     assert_eq!(rt; write_output(&mut out, b"five!").err(), Some(Failed));
     assert!(rt; out.failed());
     assert_eq!(rt; out.taken.as_slice(), b"fiv".as_slice());

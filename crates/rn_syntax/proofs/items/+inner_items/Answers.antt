@@ -1,7 +1,7 @@
 use Rattle.std.proofs.Common.{◌+◌, ◌∷◌, [], ◌∙◌, sym, ap, map, arith, refl}
 use Rattle.std.proofs.lemmas.List.{map-append}
 use Rattle.std.proofs.lemmas.Result.{err_from_is_err_and}
-use Rattle.rn_syntax.specs.Grammar.{AreInner}
+use Rattle.rn_syntax.specs.Grammar.{AreInnerItems}
 use Rattle.rn_syntax.specs.Follow.{Anything}
 use Rattle.rn_syntax.specs.View.{item_view}
 use Rattle.rn_syntax.proofs.Compose.{on_fault, took_same, took_upto, stuck_upto, reads_upto, took_gives, upto_then}
@@ -70,22 +70,22 @@ inner_item-returns-in_default-clause-reads t c =
 pub inner_div-returns-in_err-inside-clause-reads : goal.inner_div-returns-in_err-inside-clause-reads
 inner_div-returns-in_err-inside-clause-reads t c =
     let p = err_from_is_err_and c.from_residual.result c.from_residual.ensures.1 in
-    rw (p.1, p.2) (on_fault c.args.tokens.now c.args.at c.args.at _ (λ s bad k. open_stuck AreInner DivGives Anything can_inner can_div k) c.in_err-inside.ensures.passes)
+    rw (p.1, p.2) (on_fault c.args.tokens.now c.args.at c.args.at _ (λ s bad k. open_stuck AreInnerItems DivGives Anything can_inner can_div k) c.in_err-inside.ensures.passes)
 
 pub inner_div-returns-in_err-items-clause-reads : goal.inner_div-returns-in_err-items-clause-reads
 inner_div-returns-in_err-items-clause-reads t c =
     let p = err_from_is_err_and c.from_residual-in_err-items.result c.from_residual-in_err-items.ensures.1 in
     rw (p.1, p.2) (on_fault c.args.tokens.now c.in_ok-inside.inside c.args.at _
-    (λ s bad k. stuck_upto (open_read AreInner DivGives Anything can_inner can_div (c.in_ok-inside.ensures.passes s).1) (list_stuck AreInner DivGives Anything can_inner can_div k)) c.in_err-items.ensures.reads)
+    (λ s bad k. stuck_upto (open_read AreInnerItems DivGives Anything can_inner can_div (c.in_ok-inside.ensures.passes s).1) (list_stuck AreInnerItems DivGives Anything can_inner can_div k)) c.in_err-items.ensures.reads)
 
 pub inner_div-returns-in_err-behind-clause-reads : goal.inner_div-returns-in_err-behind-clause-reads
 inner_div-returns-in_err-behind-clause-reads t c =
     let p = err_from_is_err_and c.from_residual-in_err-behind.result c.from_residual-in_err-behind.ensures.1 in
     rw (p.1, p.2) (on_fault c.args.tokens.now c.in_ok-items.end c.args.at _
-    (λ s bad k. stuck_upto (upto_then (open_read AreInner DivGives Anything can_inner can_div (c.in_ok-inside.ensures.passes s).1) (list_read AreInner DivGives Anything can_inner can_div (c.in_ok-items.ensures.reads s)))
-    (brace_stuck AreInner DivGives Anything can_inner can_div _ k)) c.in_err-behind.ensures.passes)
+    (λ s bad k. stuck_upto (upto_then (open_read AreInnerItems DivGives Anything can_inner can_div (c.in_ok-inside.ensures.passes s).1) (list_read AreInnerItems DivGives Anything can_inner can_div (c.in_ok-items.ensures.reads s)))
+    (brace_stuck AreInnerItems DivGives Anything can_inner can_div _ k)) c.in_err-behind.ensures.passes)
 
 pub inner_div-returns-clause-reads : goal.inner_div-returns-clause-reads
 inner_div-returns-clause-reads t c = λ s.
     took_same (sym c.division.ensures)
-    (took_upto (upto_then (open_read AreInner DivGives Anything can_inner can_div (c.in_ok-inside.ensures.passes s).1) (brace_read AreInner DivGives Anything can_inner can_div (c.in_ok-items.ensures.reads s) (c.in_ok-behind.ensures.passes s).1)) (took_gives _ _))
+    (took_upto (upto_then (open_read AreInnerItems DivGives Anything can_inner can_div (c.in_ok-inside.ensures.passes s).1) (brace_read AreInnerItems DivGives Anything can_inner can_div (c.in_ok-items.ensures.reads s) (c.in_ok-behind.ensures.passes s).1)) (took_gives _ _))

@@ -1,7 +1,7 @@
 -- The items so far, and what is left.
 use Rattle.std.proofs.Common.{◌≤◌, ◌-◌, ◌+◌, ◌*◌, length, map}
-use Rattle.rn_syntax.specs.Grammar.{AreInner}
-use Rattle.rn_syntax.specs.Including.{IsInner}
+use Rattle.rn_syntax.specs.Grammar.{AreInnerItems}
+use Rattle.rn_syntax.specs.Including.{IsInnerItem}
 use Rattle.rn_syntax.specs.Reading.{AreSpelled, rest}
 use Rattle.rn_syntax.specs.View.{item_view}
 use Rattle.rn_syntax.proofs.Rows.{So_far}
@@ -11,7 +11,7 @@ abbrev pub invariant-inner_items-inner : goal.invariant-inner_items-inner
 invariant-inner_items-inner l = record {
   further : l.fn.at ≤ l.end;
   inside : l.end ≤ length l.tokens;
-  so_far : AreSpelled l.tokens → So_far AreInner IsInner (map item_view l.items.items) (rest l.tokens l.fn.at) (rest l.tokens l.end);
+  so_far : AreSpelled l.tokens → So_far AreInnerItems IsInnerItem (map item_view l.items.items) (rest l.tokens l.fn.at) (rest l.tokens l.end);
 }
 
 abbrev pub decreases-inner_items-inner : goal.decreases-inner_items-inner
