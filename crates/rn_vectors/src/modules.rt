@@ -1,12 +1,23 @@
 // What a text's module is: brackets, and the literals of its includes.
-use rn_syntax::{Item, SyntaxFault, includes, parse};
+use rn_syntax::{Item, Module, SyntaxFault, includes, parse};
+use rn_text::{Token, tokens};
 use std::alloc::Global;
 use std::borrow::CowStr;
 use std::test::Fail;
 
+/// The tokens of a text.
+fn tokens_of(alloc: Global, text: &str) -> Result<Vec<Token<'_>>, Fail> {
+    Ok(tokens(alloc, text.as_bytes())?)
+}
+
+/// The module of tokens.
+fn module_of<'a>(alloc: Global, tokens: &[Token<'a>]) -> Result<Module<'a>, Fail> {
+    Ok(parse(alloc, tokens)?)
+}
+
 /// The fault of a text whose tokens are good.
 fn fault(alloc: Global, text: &str) -> Result<Option<SyntaxFault>, Fail> {
-    let tokens = rn_text::tokens(alloc, text.as_bytes())?;
+    let tokens = tokens_of(alloc, text)?;
     match parse(alloc, tokens.as_slice()) {
         Ok(_) => Ok(None),
         Err(fault) => Ok(Some(fault)),
@@ -33,20 +44,23 @@ fn nested(
     Ok(text)
 }
 
+/// Texts of brackets: what stands before them, a bracket, what is inside, its closing one, and the place in bytes of the one that is too deep.
+const BRACKETS: [(&str, &str, &str, &str, usize); 5] = [
+    ("start = ", "(", "text", ")", 264),
+    ("start = ", "list {", "text", "}", 8 + 256 * 6 + 5),
+    ("", "div {", "", "}", 256 * 5 + 4),
+    ("a ", "[", "", "]", 258),
+    ("start = ", "(", "", "", 264),
+];
+
 #[test]
 fn deep_brackets(rt: HostRuntime) -> Result<(), Fail> {
-    for (front, open, inner, close, at) in [
-        ("start = ", "(", "text", ")", 264),
-        ("start = ", "list {", "text", "}", 8 + 256 * 6 + 5),
-        ("", "div {", "", "}", 256 * 5 + 4),
-        ("a ", "[", "", "]", 258),
-        ("start = ", "(", "", "", 264),
-    ] {
+    for (front, open, inner, close, at) in &BRACKETS {
         let good = nested(rt.alloc(), front, open, inner, close, 256)?;
         let deep = nested(rt.alloc(), front, open, inner, close, 257)?;
         assert_eq!(rt;
             fault(rt.alloc(), deep.as_str())?,
-            Some(SyntaxFault::Deep { at }),
+            Some(SyntaxFault::Deep { at: *at }),
             "{front}"
         );
         match fault(rt.alloc(), good.as_str())? {
@@ -61,8 +75,8 @@ fn deep_brackets(rt: HostRuntime) -> Result<(), Fail> {
 fn include_literals(rt: HostRuntime) -> Result<(), Fail> {
     let text =
         "include 'a' { } div { include \"b\" ~ 'c' div { include \"l\\x{69}b\" } } include \"\\x\"";
-    let tokens = rn_text::tokens(rt.alloc(), text.as_bytes())?;
-    let module = parse(rt.alloc(), tokens.as_slice())?;
+    let tokens = tokens_of(rt.alloc(), text)?;
+    let module = module_of(rt.alloc(), tokens.as_slice())?;
     let found = includes(rt.alloc(), &module)?;
     assert_eq!(rt; found.as_slice(), ["a", "bc", "lib", "\\x"].as_slice());
     Ok(())
@@ -70,8 +84,8 @@ fn include_literals(rt: HostRuntime) -> Result<(), Fail> {
 
 /// Whether the literal of the only include of a text is a slice of it.
 fn is_borrowed(alloc: Global, text: &str) -> Result<Option<bool>, Fail> {
-    let tokens = rn_text::tokens(alloc, text.as_bytes())?;
-    let module = parse(alloc, tokens.as_slice())?;
+    let tokens = tokens_of(alloc, text)?;
+    let module = module_of(alloc, tokens.as_slice())?;
     match module.items.as_slice() {
         [
             Item::Include {
