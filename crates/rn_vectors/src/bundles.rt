@@ -1,7 +1,8 @@
 // Bundles: their one spelling, what is read from damaged ones, and runs over several.
 use crate::contributions::{effective_count, is_effective};
 use crate::sets::{
-    Given, add, answer, bundle, contribution, held, module, refused, set_of, set_of_bundle,
+    Given, add, answer, bundle, contribution, held, module, refused, same, same_bytes, same_count,
+    same_for, same_in_row, set_of, set_of_bundle,
 };
 use rn_merge::{ProgramFault, fault_line, list_line};
 use rn_modset::{AddFault, Contribution, ModuleSet, read_bundle};
@@ -29,8 +30,8 @@ fn one_text_has_its_bundle(rt: HostRuntime) -> Result<(), Fail> {
     let alloc = rt.alloc();
     let set = set_of(alloc, &[("t", 7, Some("abc"))])?;
     let bytes = bundle(alloc, &set)?;
-    assert_eq!(rt; bytes.len(), 97);
-    assert_eq!(rt; bytes.as_slice(), ONE.as_bytes());
+    same_count(&rt, bytes.len(), 97);
+    same_bytes(&rt, bytes.as_slice(), ONE.as_bytes());
     let read = set_of_bundle(alloc, bytes.as_slice())?;
     assert!(rt; read.contains(&module(alloc, "t", 7, b"abc")?));
     Ok(())
@@ -39,13 +40,15 @@ fn one_text_has_its_bundle(rt: HostRuntime) -> Result<(), Fail> {
 #[test]
 fn contributions_have_their_lines(rt: HostRuntime) -> Result<(), Fail> {
     let alloc = rt.alloc();
-    assert_eq!(rt;
+    same(
+        &rt,
         listed(alloc, &("t", 7, Some("abc")))?.as_str(),
-        "t 7 3 ba7816bf8f01cfea414140de5dae2223b00361a396177a9cb410ff61f20015ad"
+        "t 7 3 ba7816bf8f01cfea414140de5dae2223b00361a396177a9cb410ff61f20015ad",
     );
-    assert_eq!(rt;
+    same(
+        &rt,
         listed(alloc, &("lib", 2, None))?.as_str(),
-        "lib 2 withdrawn"
+        "lib 2 withdrawn",
     );
     Ok(())
 }
@@ -54,12 +57,9 @@ fn contributions_have_their_lines(rt: HostRuntime) -> Result<(), Fail> {
 fn other_sets_have_their_bundles(rt: HostRuntime) -> Result<(), Fail> {
     let alloc = rt.alloc();
     let empty = bundle(alloc, &ModuleSet::new(alloc))?;
-    assert_eq!(rt; empty.as_slice(), b"rncset 1\nend 0\n".as_slice());
+    same_bytes(&rt, empty.as_slice(), b"rncset 1\nend 0\n");
     let withdrawn = bundle(alloc, &set_of(alloc, &[("lib", 2, None)])?)?;
-    assert_eq!(rt;
-        withdrawn.as_slice(),
-        b"rncset 2\nwithdrawn lib 2\nend 1\n".as_slice()
-    );
+    assert!(rt; withdrawn.as_slice() == b"rncset 2\nwithdrawn lib 2\nend 1\n".as_slice());
     Ok(())
 }
 
@@ -67,7 +67,7 @@ fn other_sets_have_their_bundles(rt: HostRuntime) -> Result<(), Fail> {
 fn bundles_have_their_lengths(rt: HostRuntime) -> Result<(), Fail> {
     let alloc = rt.alloc();
     let blank = set_of(alloc, &[("a", 0, Some(""))])?;
-    assert_eq!(rt; bundle(alloc, &blank)?.len(), 94);
+    same_count(&rt, bundle(alloc, &blank)?.len(), 94);
     let both = set_of(
         alloc,
         &[
@@ -75,7 +75,7 @@ fn bundles_have_their_lengths(rt: HostRuntime) -> Result<(), Fail> {
             ("b", 1, Some("doc |= element a { empty }")),
         ],
     )?;
-    assert_eq!(rt; bundle(alloc, &both)?.len(), 238);
+    same_count(&rt, bundle(alloc, &both)?.len(), 238);
     Ok(())
 }
 
@@ -111,16 +111,17 @@ fn damage_is_named(rt: HostRuntime) -> Result<(), Fail> {
     let alloc = rt.alloc();
     for (old, new, wanted) in &DAMAGE {
         let text = changed(alloc, old, new)?;
-        assert_eq!(rt; fault(alloc, text.as_bytes())?.as_str(), *wanted, "{new}");
+        same_for(&rt, new, fault(alloc, text.as_bytes())?.as_str(), *wanted);
     }
     Ok(())
 }
 
 #[test]
 fn version_2_has_a_withdrawal(rt: HostRuntime) -> Result<(), Fail> {
-    assert_eq!(rt;
+    same(
+        &rt,
         fault(rt.alloc(), b"rncset 2\nend 0\n")?.as_str(),
-        "bundle 0 Header 0"
+        "bundle 0 Header 0",
     );
     Ok(())
 }
@@ -135,11 +136,7 @@ fn fronts_are_no_bundles(rt: HostRuntime) -> Result<(), Fail> {
         } else {
             "bundle 0 Truncated"
         };
-        assert_eq!(rt;
-            fault(alloc, &bytes[..end])?.as_str(),
-            wanted,
-            "{end} bytes"
-        );
+        same_in_row(&rt, end, fault(alloc, &bytes[..end])?.as_str(), wanted);
     }
     Ok(())
 }
@@ -168,7 +165,7 @@ fn texts_rise(rt: HostRuntime) -> Result<(), Fail> {
         let first = entry(alloc, "t")?;
         let second = entry(alloc, name)?;
         let found = fault_of_two(alloc, 1, first.as_str(), second.as_str())?;
-        assert_eq!(rt; found.as_str(), wanted, "{name}");
+        same_for(&rt, name, found.as_str(), wanted);
     }
     Ok(())
 }
@@ -179,9 +176,9 @@ fn a_withdrawal_stands_before_its_text(rt: HostRuntime) -> Result<(), Fail> {
     let text = entry(alloc, "t")?;
     let withdrawal = "withdrawn t 7\n";
     let good = fault_of_two(alloc, 2, withdrawal, text.as_str())?;
-    assert_eq!(rt; good.as_str(), "good");
+    same(&rt, good.as_str(), "good");
     let turned = fault_of_two(alloc, 2, text.as_str(), withdrawal)?;
-    assert_eq!(rt; turned.as_str(), "bundle 0 Order 1");
+    same(&rt, turned.as_str(), "bundle 0 Order 1");
     Ok(())
 }
 
@@ -199,11 +196,12 @@ fn withdrawn(alloc: Global, count: usize) -> Result<String, Fail> {
 fn entries_are_limited(rt: HostRuntime) -> Result<(), Fail> {
     let alloc = rt.alloc();
     let most = withdrawn(alloc, 1024)?;
-    assert_eq!(rt; fault(alloc, most.as_bytes())?.as_str(), "good");
+    same(&rt, fault(alloc, most.as_bytes())?.as_str(), "good");
     let more = withdrawn(alloc, 1025)?;
-    assert_eq!(rt;
+    same(
+        &rt,
         fault(alloc, more.as_bytes())?.as_str(),
-        "bundle 0 Header 1024"
+        "bundle 0 Header 1024",
     );
     Ok(())
 }
@@ -231,14 +229,14 @@ fn a_full_set_takes_no_more(rt: HostRuntime) -> Result<(), Fail> {
     let alloc = rt.alloc();
     let mut set = full(alloc)?;
     let (back, fault) = refused(&mut set, numbered(alloc, 1024)?)?;
-    assert_eq!(rt; fault, AddFault::Full);
-    assert_eq!(rt; back.name.as_str(), "m1024");
-    assert_eq!(rt; set.len(), 1024);
+    assert!(rt; fault == AddFault::Full);
+    same(&rt, back.name.as_str(), "m1024");
+    same_count(&rt, set.len(), 1024);
     assert!(rt; !add(&mut set, numbered(alloc, 7)?)?);
     let mut other = ModuleSet::new(alloc);
     assert!(rt; add(&mut other, numbered(alloc, 1024)?)?);
-    assert_eq!(rt; other.join(&set).err(), Some(AddFault::Full));
-    assert_eq!(rt; other.len(), 1);
+    assert!(rt; other.join(&set).err() == Some(AddFault::Full));
+    same_count(&rt, other.len(), 1);
     Ok(())
 }
 
@@ -247,14 +245,14 @@ fn a_full_set_names_other_faults_first(rt: HostRuntime) -> Result<(), Fail> {
     let alloc = rt.alloc();
     let mut set = full(alloc)?;
     let (_, fault) = refused(&mut set, module(alloc, "", 1, b"")?)?;
-    assert_eq!(rt; fault, AddFault::BadName);
+    assert!(rt; fault == AddFault::BadName);
     let text = Contribution {
         name: String::from_str(alloc, "long")?,
         revision: 1,
         text: Some(vec![in alloc; b' '; 4_194_305]?),
     };
     let (_, fault) = refused(&mut set, text)?;
-    assert_eq!(rt; fault, AddFault::TooLong);
+    assert!(rt; fault == AddFault::TooLong);
     Ok(())
 }
 
@@ -270,13 +268,14 @@ fn sets_tell_what_they_hold(rt: HostRuntime) -> Result<(), Fail> {
             ("a", 3, Some("x = empty")),
         ],
     )?;
-    assert_eq!(rt;
+    same(
+        &rt,
         held(alloc, &set)?.as_str(),
-        "a 1\na 2 withdrawn\na 3\nb 1\n"
+        "a 1\na 2 withdrawn\na 3\nb 1\n",
     );
-    assert_eq!(rt; effective_count(alloc, &set)?, 2);
+    same_count(&rt, effective_count(alloc, &set)?, 2);
     assert!(rt; is_effective(alloc, &set, "a", Some(b"x = empty"))?);
     assert!(rt; is_effective(alloc, &set, "c", None)?);
-    assert_eq!(rt; answer(alloc, &set)?.as_str(), "start = text\n");
+    same(&rt, answer(alloc, &set)?.as_str(), "start = text\n");
     Ok(())
 }

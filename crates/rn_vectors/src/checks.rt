@@ -1,5 +1,6 @@
 // Module texts, and the one fault of each.
 use crate::large::repeated;
+use crate::sets::{same, same_for};
 use rn_merge::{Place, ProgramFault, check, fault_line, status};
 use std::alloc::Global;
 use std::test::Fail;
@@ -148,9 +149,13 @@ fn texts_have_their_fault(rt: HostRuntime) -> Result<(), Fail> {
     let alloc = rt.alloc();
     for (text, wanted) in &ROWS {
         let found = answer(alloc, text.as_bytes())?;
-        assert_eq!(rt; found.as_str(), *wanted, "{text}");
+        same_for(&rt, text, found.as_str(), *wanted);
     }
-    assert_eq!(rt; answer(alloc, b"start = text\xff")?.as_str(), "Encoding 12");
+    same(
+        &rt,
+        answer(alloc, b"start = text\xff")?.as_str(),
+        "Encoding 12",
+    );
     Ok(())
 }
 
@@ -161,9 +166,9 @@ fn brackets_are_counted(rt: HostRuntime) -> Result<(), Fail> {
     for _ in 0..256 {
         text.push('(')?;
     }
-    assert_eq!(rt; answer(alloc, text.as_bytes())?.as_str(), "Syntax 264");
+    same(&rt, answer(alloc, text.as_bytes())?.as_str(), "Syntax 264");
     text.push('(')?;
-    assert_eq!(rt; answer(alloc, text.as_bytes())?.as_str(), "Deep 264");
+    same(&rt, answer(alloc, text.as_bytes())?.as_str(), "Deep 264");
     Ok(())
 }
 
@@ -202,13 +207,14 @@ fn large_texts_are_read(rt: HostRuntime) -> Result<(), Fail> {
     let alloc = rt.alloc();
     for (front, piece, count, length) in &LARGE {
         let good = repeated(alloc, front, piece, *count, "")?;
-        assert_eq!(rt; answer(alloc, good.as_bytes())?.as_str(), "good", "{piece}");
+        same_for(&rt, piece, answer(alloc, good.as_bytes())?.as_str(), "good");
         let bad = repeated(alloc, front, piece, *count, ")")?;
         let wanted = format!(in alloc; "Syntax {length}")?;
-        assert_eq!(rt;
+        same_for(
+            &rt,
+            piece,
             answer(alloc, bad.as_bytes())?.as_str(),
             wanted.as_str(),
-            "{piece}"
         );
     }
     Ok(())
@@ -253,10 +259,10 @@ const RICH: [&str; 4] = [
 fn fronts_are_good_or_have_a_place_within(rt: HostRuntime) -> Result<(), Fail> {
     let alloc = rt.alloc();
     for text in &RICH {
-        assert_eq!(rt; wrong_front(alloc, text.as_bytes()), None, "{text}");
+        assert!(rt; wrong_front(alloc, text.as_bytes()).is_none(), "{text}");
     }
     for (text, _) in &ROWS {
-        assert_eq!(rt; wrong_front(alloc, text.as_bytes()), None, "{text}");
+        assert!(rt; wrong_front(alloc, text.as_bytes()).is_none(), "{text}");
     }
     Ok(())
 }

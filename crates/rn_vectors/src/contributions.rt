@@ -1,5 +1,7 @@
 // Sets: withdrawals, unions, limits and conflicts.
-use crate::sets::{add, bundle, contribution, held, module, refused, set_of, set_of_bundle};
+use crate::sets::{
+    add, bundle, contribution, held, module, refused, same, same_count, set_of, set_of_bundle,
+};
 use rn_modset::{AddFault, Contribution, MAX_TEXT, ModuleSet, is_module_name};
 use std::alloc::Global;
 use std::test::Fail;
@@ -37,13 +39,14 @@ fn withdrawals(rt: HostRuntime) -> Result<(), Fail> {
     let alloc = rt.alloc();
     let mut set = ModuleSet::new(alloc);
     assert!(rt; add(&mut set, withdrawal(alloc, "lib", 2)?)?);
-    assert_eq!(rt; effective_count(alloc, &set)?, 0);
+    same_count(&rt, effective_count(alloc, &set)?, 0);
     assert!(rt; add(&mut set, module(alloc, "lib", 3, b"start = text")?)?);
     assert!(rt; is_effective(alloc, &set, "lib", Some(b"start = text"))?);
     assert!(rt; add(&mut set, withdrawal(alloc, "lib", 3)?)?);
-    assert_eq!(rt;
+    same(
+        &rt,
         conflict(alloc, &set)?.as_str(),
-        "Conflict { module: \"lib\", revision: 3 }"
+        "Conflict { module: \"lib\", revision: 3 }",
     );
     Ok(())
 }
@@ -65,11 +68,11 @@ fn full_sets_add_nothing(rt: HostRuntime) -> Result<(), Fail> {
     let alloc = rt.alloc();
     let mut set = revisions(alloc, 0, 1024)?;
     let (back, fault) = refused(&mut set, module(alloc, "b", 0, b"")?)?;
-    assert_eq!(rt; fault, AddFault::Full);
+    assert!(rt; fault == AddFault::Full);
     assert!(rt; back == module(alloc, "b", 0, b"")?);
     assert!(rt; !add(&mut set, module(alloc, "a", 6, b"x")?)?);
     let (_, fault) = refused(&mut set, module(alloc, "", 0, b"")?)?;
-    assert_eq!(rt; fault, AddFault::BadName);
+    assert!(rt; fault == AddFault::BadName);
     Ok(())
 }
 
@@ -78,11 +81,11 @@ fn full_sets_join_themselves(rt: HostRuntime) -> Result<(), Fail> {
     let alloc = rt.alloc();
     let mut set = revisions(alloc, 0, 1024)?;
     let odd = revisions(alloc, 1, 600)?;
-    assert_eq!(rt; set.join(&odd), Err(AddFault::Full));
-    assert_eq!(rt; set.len(), 1024);
+    assert!(rt; set.join(&odd) == Err(AddFault::Full));
+    same_count(&rt, set.len(), 1024);
     let copy = set_of_bundle(alloc, bundle(alloc, &set)?.as_slice())?;
     set.join(&copy)?;
-    assert_eq!(rt; set.len(), 1024);
+    same_count(&rt, set.len(), 1024);
     Ok(())
 }
 
@@ -92,8 +95,8 @@ fn sets_join_themselves(rt: HostRuntime) -> Result<(), Fail> {
     let odd = revisions(alloc, 1, 600)?;
     let mut both = set_of_bundle(alloc, bundle(alloc, &odd)?.as_slice())?;
     both.join(&odd)?;
-    assert_eq!(rt; both.len(), 600);
-    assert_eq!(rt; effective_count(alloc, &both)?, 1);
+    same_count(&rt, both.len(), 600);
+    same_count(&rt, effective_count(alloc, &both)?, 1);
     Ok(())
 }
 
@@ -119,10 +122,11 @@ fn joins_in_order(rt: HostRuntime) -> Result<(), Fail> {
         ],
     )?;
     set.join(&other)?;
-    assert_eq!(rt; set.len(), 7);
-    assert_eq!(rt;
+    same_count(&rt, set.len(), 7);
+    same(
+        &rt,
         held(alloc, &set)?.as_str(),
-        "a 2\na 3\nb 1\nc 1\nd 1 withdrawn\nd 1\ne 1\n"
+        "a 2\na 3\nb 1\nc 1\nd 1 withdrawn\nd 1\ne 1\n",
     );
     Ok(())
 }
@@ -140,13 +144,13 @@ fn long(alloc: Global, revision: u64, length: usize) -> Result<Contribution, Fai
 fn longest_texts(rt: HostRuntime) -> Result<(), Fail> {
     let alloc = rt.alloc();
     let mut set = ModuleSet::new(alloc);
-    assert_eq!(rt; MAX_TEXT, 4_194_304);
+    assert!(rt; MAX_TEXT == 4_194_304);
     assert!(rt; add(&mut set, long(alloc, 0, MAX_TEXT)?)?);
     let (_, fault) = refused(&mut set, long(alloc, 1, MAX_TEXT + 1)?)?;
-    assert_eq!(rt; fault, AddFault::TooLong);
+    assert!(rt; fault == AddFault::TooLong);
     let bytes = bundle(alloc, &set)?;
-    assert_eq!(rt; bytes.len(), MAX_TEXT + 100);
-    assert_eq!(rt; set_of_bundle(alloc, bytes.as_slice())?.len(), 1);
+    same_count(&rt, bytes.len(), MAX_TEXT + 100);
+    same_count(&rt, set_of_bundle(alloc, bytes.as_slice())?.len(), 1);
     Ok(())
 }
 
@@ -166,7 +170,7 @@ fn module_names(rt: HostRuntime) -> Result<(), Fail> {
         (long.as_str(), true),
     ];
     for (name, wanted) in cases {
-        assert_eq!(rt; is_module_name(name), wanted);
+        assert!(rt; is_module_name(name) == wanted);
     }
     long.push_str("n")?;
     assert!(rt; !is_module_name(long.as_str()));
@@ -180,12 +184,13 @@ fn conflicts(rt: HostRuntime) -> Result<(), Fail> {
     assert!(rt; add(&mut set, module(alloc, "a", 1, b"start = text")?)?);
     assert!(rt; add(&mut set, module(alloc, "a", 1, b"start =  text")?)?);
     assert!(rt; add(&mut set, module(alloc, "b", 1, b"")?)?);
-    assert_eq!(rt;
+    same(
+        &rt,
         conflict(alloc, &set)?.as_str(),
-        "Conflict { module: \"a\", revision: 1 }"
+        "Conflict { module: \"a\", revision: 1 }",
     );
     assert!(rt; add(&mut set, module(alloc, "a", 2, b"start = empty")?)?);
-    assert_eq!(rt; effective_count(alloc, &set)?, 2);
+    same_count(&rt, effective_count(alloc, &set)?, 2);
     assert!(rt; is_effective(alloc, &set, "a", Some(b"start = empty"))?);
     assert!(rt; is_effective(alloc, &set, "c", None)?);
     Ok(())

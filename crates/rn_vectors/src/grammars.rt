@@ -1,4 +1,5 @@
 // Sets and what they give: each set is written with its modules parted by lines of their names.
+use crate::sets::same;
 use rn_assemble::{Grammar, Key, Refusal, assemble};
 use rn_modset::{Contribution, ModuleSet};
 use rn_pattern::{NameClass, Pattern};
@@ -169,7 +170,7 @@ fn check(rt: &(impl Abort + Print), alloc: Global, rows: &[(&str, &str)]) -> Res
     for (text, wanted) in rows {
         let set = set_of(alloc, text)?;
         let given = answer(alloc, &set)?;
-        assert_eq!(rt; given.as_str(), *wanted);
+        same(rt, given.as_str(), *wanted);
     }
     Ok(())
 }

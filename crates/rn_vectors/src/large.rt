@@ -1,5 +1,5 @@
 // Sets and texts at their limits, and long lists and chains.
-use crate::sets::{FIRST_LINE, add, answer, answer_of_text, merged, module};
+use crate::sets::{FIRST_LINE, add, answer, answer_of_text, merged, module, same, same_count};
 use rn_modset::ModuleSet;
 use std::alloc::Global;
 use std::test::Fail;
@@ -46,17 +46,31 @@ fn tower(alloc: Global, last: usize) -> Result<ModuleSet, Fail> {
 #[test]
 fn instances_are_counted(rt: HostRuntime) -> Result<(), Fail> {
     let alloc = rt.alloc();
-    assert_eq!(rt;
+    same(
+        &rt,
         answer(alloc, &doubling(alloc, 8)?)?.as_str(),
-        "start = element r { y }\ny = text\n"
+        "start = element r { y }\ny = text\n",
     );
-    assert_eq!(rt; answer(alloc, &doubling(alloc, 9)?)?.as_str(), "Instances");
-    assert_eq!(rt; answer(alloc, &doubling(alloc, 40)?)?.as_str(), "Instances");
-    assert_eq!(rt;
+    same(
+        &rt,
+        answer(alloc, &doubling(alloc, 9)?)?.as_str(),
+        "Instances",
+    );
+    same(
+        &rt,
+        answer(alloc, &doubling(alloc, 40)?)?.as_str(),
+        "Instances",
+    );
+    same(
+        &rt,
         answer(alloc, &tower(alloc, 511)?)?.as_str(),
-        "start = text\n"
+        "start = text\n",
     );
-    assert_eq!(rt; answer(alloc, &tower(alloc, 512)?)?.as_str(), "Instances");
+    same(
+        &rt,
+        answer(alloc, &tower(alloc, 512)?)?.as_str(),
+        "Instances",
+    );
     Ok(())
 }
 
@@ -81,9 +95,10 @@ fn parentheses_leave_nothing(rt: HostRuntime) -> Result<(), Fail> {
     let alloc = rt.alloc();
     let open = repeated(alloc, "start = ", "(", 256, "text")?;
     let text = repeated(alloc, open.as_str(), ")", 256, "")?;
-    assert_eq!(rt;
+    same(
+        &rt,
         answer_of_text(alloc, text.as_str())?.as_str(),
-        "start = text\n"
+        "start = text\n",
     );
     Ok(())
 }
@@ -93,11 +108,12 @@ fn the_text_has_a_longest_length(rt: HostRuntime) -> Result<(), Fail> {
     let alloc = rt.alloc();
     let fits = repeated(alloc, "start = element ", "n", 4_194_255, " { text }")?;
     let printed = merged(alloc, fits.as_str())?;
-    assert_eq!(rt; printed.len(), 4_194_304);
+    same_count(&rt, printed.len(), 4_194_304);
     let long = repeated(alloc, "start = element ", "n", 4_194_256, " { text }")?;
-    assert_eq!(rt;
+    same(
+        &rt,
         answer_of_text(alloc, long.as_str())?.as_str(),
-        "OutputTooLarge"
+        "OutputTooLarge",
     );
     Ok(())
 }
@@ -125,9 +141,10 @@ fn nested(alloc: Global, count: usize, before: &str, innermost: &str) -> Result<
 fn the_text_has_a_deepest_nesting(rt: HostRuntime) -> Result<(), Fail> {
     let alloc = rt.alloc();
     let deep = nested(alloc, 256, "", "empty | b | c")?;
-    assert_eq!(rt;
+    same(
+        &rt,
         answer_of_text(alloc, deep.as_str())?.as_str(),
-        "OutputTooDeep"
+        "OutputTooDeep",
     );
     let fits = nested(alloc, 255, "", "empty | b | c")?;
     let printed = answer_of_text(alloc, fits.as_str())?;
@@ -140,9 +157,10 @@ fn the_text_has_a_deepest_nesting(rt: HostRuntime) -> Result<(), Fail> {
             .contains("element x { mixed { element x { mixed { a } } } }")
     );
     let mixed = nested(alloc, 129, "text & ", "text & a")?;
-    assert_eq!(rt;
+    same(
+        &rt,
         answer_of_text(alloc, mixed.as_str())?.as_str(),
-        "OutputTooDeep"
+        "OutputTooDeep",
     );
     Ok(())
 }
@@ -263,9 +281,10 @@ fn overrides_are_nested(rt: HostRuntime) -> Result<(), Fail> {
         let _ = add(&mut set, module(alloc, name.as_str(), 1, text.as_bytes())?)?;
     }
     let _ = add(&mut set, module(alloc, "c511", 1, b"start = x x = text")?)?;
-    assert_eq!(rt;
+    same(
+        &rt,
         answer(alloc, &set)?.as_str(),
-        "start = x\nx = element e0 { empty }\n"
+        "start = x\nx = element e0 { empty }\n",
     );
     Ok(())
 }

@@ -20,6 +20,31 @@ pub struct Row {
     pub answer: &'static str,
 }
 
+/// Two texts are the same.
+pub fn same(rt: &impl Abort, found: &str, wanted: &str) {
+    assert_eq!(rt; found, wanted);
+}
+
+/// Two texts are the same, found for what is given.
+pub fn same_for(rt: &impl Abort, given: &str, found: &str, wanted: &str) {
+    assert_eq!(rt; found, wanted, "{given}");
+}
+
+/// Two texts are the same, found in a row.
+pub fn same_in_row(rt: &impl Abort, row: usize, found: &str, wanted: &str) {
+    assert_eq!(rt; found, wanted, "row {row}");
+}
+
+/// Bytes are the same.
+pub fn same_bytes(rt: &impl Abort, found: &[u8], wanted: &[u8]) {
+    assert_eq!(rt; found, wanted);
+}
+
+/// Two counts are the same.
+pub fn same_count(rt: &impl Abort, found: usize, wanted: usize) {
+    assert_eq!(rt; found, wanted);
+}
+
 /// The contribution of a module's text.
 pub fn module(alloc: Global, name: &str, revision: u64, text: &[u8]) -> Result<Contribution, Fail> {
     Ok(Contribution {
@@ -126,7 +151,7 @@ pub fn each_answers(rt: &(impl Abort + AllocGlobal), rows: &[Row]) -> Result<(),
     for (at, row) in rows.iter().enumerate() {
         let set = set_of(alloc, row.set)?;
         let found = answer(alloc, &set)?;
-        assert_eq!(rt; found.as_str(), row.answer, "row {at}");
+        same_in_row(rt, at, found.as_str(), row.answer);
     }
     Ok(())
 }
@@ -140,7 +165,7 @@ pub fn each_prints_itself_again(rt: &(impl Abort + AllocGlobal), rows: &[Row]) -
             let mut again = ModuleSet::new(alloc);
             let _ = add(&mut again, module(alloc, "z", 9, text.as_bytes())?)?;
             let reprinted = merge(alloc, &again)?;
-            assert_eq!(rt; reprinted.as_str(), text.as_str(), "row {at}");
+            same_in_row(rt, at, reprinted.as_str(), text.as_str());
         }
     }
     Ok(())
@@ -179,9 +204,9 @@ pub fn each_prints_in_both_stores(
         let grammar = grammar_of(alloc, &set_of(alloc, row.set)?)?;
         let plain = printed_in(alloc, &grammar, &mut Plain::new(alloc))?;
         let lines = lines_of(alloc, plain.as_str())?;
-        assert_eq!(rt; lines.as_str(), row.answer, "row {at}");
+        same_in_row(rt, at, lines.as_str(), row.answer);
         let interned = printed_in(alloc, &grammar, &mut Interned::new(alloc))?;
-        assert_eq!(rt; interned.as_str(), plain.as_str(), "row {at}");
+        same_in_row(rt, at, interned.as_str(), plain.as_str());
     }
     Ok(())
 }

@@ -1,7 +1,7 @@
 // Runs over bundles, with sources and sinks that fail at a known byte.
 ghost use Rattle.std.specs.Prelude.{◌≡◌, false, IfOk};
 
-use crate::sets::{Given, bundle, set_of};
+use crate::sets::{Given, bundle, same_bytes, same_count, set_of};
 use rn_assemble::Refusal;
 use rn_merge::{
     Failed, ReadFault, RunFault, Sink, Source, Status, read_input, run_print, write_output,
@@ -131,8 +131,8 @@ fn bundles_are_merged_in_any_order(rt: HostRuntime) -> Result<(), Fail> {
     let alloc = rt.alloc();
     for given in &[[A, B, A], [B, A, A], [A, A, B]] {
         let (taken, answer) = run(alloc, bundles(alloc, given)?.as_slice(), 1000);
-        assert_eq!(rt; answer, Ok(Status::Done));
-        assert_eq!(rt; taken.as_slice(), PRINTED.as_bytes());
+        assert!(rt; answer == Ok(Status::Done));
+        same_bytes(&rt, taken.as_slice(), PRINTED.as_bytes());
     }
     Ok(())
 }
@@ -141,14 +141,14 @@ fn bundles_are_merged_in_any_order(rt: HostRuntime) -> Result<(), Fail> {
 fn a_sink_that_fails_has_the_bytes_before(rt: HostRuntime) -> Result<(), Fail> {
     let alloc = rt.alloc();
     let given = bundles(alloc, &[A, B])?;
-    assert_eq!(rt; PRINTED.len(), 82);
+    same_count(&rt, PRINTED.len(), 82);
     for place in 0..82 {
         let (taken, answer) = run(alloc, given.as_slice(), place);
-        assert_eq!(rt; answer, Err(RunFault::Write));
-        assert_eq!(rt; taken.as_slice(), &PRINTED.as_bytes()[..place]);
+        assert!(rt; answer == Err(RunFault::Write));
+        same_bytes(&rt, taken.as_slice(), &PRINTED.as_bytes()[..place]);
     }
     let (_, answer) = run(alloc, given.as_slice(), 82);
-    assert_eq!(rt; answer, Ok(Status::Done));
+    assert!(rt; answer == Ok(Status::Done));
     Ok(())
 }
 
@@ -156,15 +156,15 @@ fn a_sink_that_fails_has_the_bytes_before(rt: HostRuntime) -> Result<(), Fail> {
 fn nothing_is_written_without_a_schema(rt: HostRuntime) -> Result<(), Fail> {
     let alloc = rt.alloc();
     let (taken, answer) = run(alloc, &[], 1000);
-    assert_eq!(rt; answer, Ok(Status::Refused(Refusal::NoStart)));
-    assert_eq!(rt; taken.len(), 0);
+    assert!(rt; answer == Ok(Status::Refused(Refusal::NoStart)));
+    same_count(&rt, taken.len(), 0);
     let mut given = bundles(alloc, &[A, B])?;
     given.push(Vec::from_slice(alloc, b"rncset 1\nend 0")?)?;
     let (taken, answer) = run(alloc, given.as_slice(), 1000);
     let index = 2;
     let fault = BundleFault::Truncated;
-    assert_eq!(rt; answer, Err(RunFault::Bundle { index, fault }));
-    assert_eq!(rt; taken.len(), 0);
+    assert!(rt; answer == Err(RunFault::Bundle { index, fault }));
+    same_count(&rt, taken.len(), 0);
     Ok(())
 }
 
@@ -178,18 +178,18 @@ fn inputs_are_read_to_their_end(rt: HostRuntime) -> Result<(), Fail> {
     let alloc = rt.alloc();
     let mut whole = source_of(b"five!", usize::MAX);
     let bytes = read_input(alloc, &mut whole, 5)?;
-    assert_eq!(rt; bytes.as_slice(), b"five!".as_slice());
+    same_bytes(&rt, bytes.as_slice(), b"five!");
     assert!(rt; whole.ended() && !whole.failed());
-    assert_eq!(rt; read(alloc, usize::MAX, 4).err(), Some(ReadFault::Large));
-    assert_eq!(rt; read(alloc, 3, 5).err(), Some(ReadFault::Read));
+    assert!(rt; read(alloc, usize::MAX, 4).err() == Some(ReadFault::Large));
+    assert!(rt; read(alloc, 3, 5).err() == Some(ReadFault::Read));
     Ok(())
 }
 
 #[test]
 fn outputs_have_the_bytes_before_a_failure(rt: HostRuntime) -> Result<(), Fail> {
     let mut out = sink_of(rt.alloc(), 3);
-    assert_eq!(rt; write_output(&mut out, b"five!").err(), Some(Failed));
+    assert!(rt; write_output(&mut out, b"five!").err() == Some(Failed));
     assert!(rt; out.failed());
-    assert_eq!(rt; out.taken.as_slice(), b"fiv".as_slice());
+    same_bytes(&rt, out.taken.as_slice(), b"fiv");
     Ok(())
 }

@@ -1,4 +1,5 @@
 // Tokens and literals by example, characters at the ends of their ranges, and long sources.
+use crate::sets::{same, same_count};
 use rn_text::{Kind, TextFault, Token, is_keyword, is_ncname, literal, tokens, write_literal};
 use std::alloc::Global;
 use std::test::Fail;
@@ -81,18 +82,32 @@ const SOURCES: [(&str, &str); 38] = [
 fn sources_are_cut(rt: HostRuntime) -> Result<(), Fail> {
     let alloc = rt.alloc();
     for (source, wanted) in SOURCES {
-        assert_eq!(rt; shown(alloc, source.as_bytes())?.as_str(), wanted);
+        same(&rt, shown(alloc, source.as_bytes())?.as_str(), wanted);
     }
-    assert_eq!(rt;
+    same(
+        &rt,
         shown(alloc, b"start = text\xFF")?.as_str(),
-        "Encoding { at: 12 }"
+        "Encoding { at: 12 }",
     );
-    assert_eq!(rt; shown(alloc, b"a\xE2\x82")?.as_str(), "Encoding { at: 1 }");
-    assert_eq!(rt; shown(alloc, b"\x01\xFF")?.as_str(), "Encoding { at: 1 }");
-    assert_eq!(rt; shown(alloc, b"| > a\x01")?.as_str(), "Lexical { at: 5 }");
-    assert_eq!(rt;
+    same(
+        &rt,
+        shown(alloc, b"a\xE2\x82")?.as_str(),
+        "Encoding { at: 1 }",
+    );
+    same(
+        &rt,
+        shown(alloc, b"\x01\xFF")?.as_str(),
+        "Encoding { at: 1 }",
+    );
+    same(
+        &rt,
+        shown(alloc, b"| > a\x01")?.as_str(),
+        "Lexical { at: 5 }",
+    );
+    same(
+        &rt,
         shown(alloc, b"a\xEF\xBF\xBE")?.as_str(),
-        "Lexical { at: 1 }"
+        "Lexical { at: 1 }",
     );
     Ok(())
 }
@@ -116,7 +131,7 @@ fn segments_are_read(rt: HostRuntime) -> Result<(), Fail> {
     for (segment, wanted) in SEGMENTS {
         let found = tokens(alloc, segment.as_bytes()).ok().ok_or("a fault")?;
         let first = found.as_slice().first().ok_or("no token")?;
-        assert_eq!(rt; literal(alloc, first)?.as_str(), wanted);
+        same(&rt, literal(alloc, first)?.as_str(), wanted);
     }
     Ok(())
 }
@@ -139,7 +154,7 @@ fn literals_are_written(rt: HostRuntime) -> Result<(), Fail> {
     for (text, wanted) in LITERALS {
         let mut out = String::new(alloc);
         write_literal(&mut out, text)?;
-        assert_eq!(rt; out.as_str(), wanted);
+        same(&rt, out.as_str(), wanted);
         let mut read = String::new(alloc);
         let found = tokens(alloc, wanted.as_bytes()).ok().ok_or("a fault")?;
         for token in found.as_slice() {
@@ -147,7 +162,7 @@ fn literals_are_written(rt: HostRuntime) -> Result<(), Fail> {
                 read.push_str(literal(alloc, token)?.as_str())?;
             }
         }
-        assert_eq!(rt; read.as_str(), text);
+        same(&rt, read.as_str(), text);
     }
     Ok(())
 }
@@ -228,14 +243,14 @@ fn many(alloc: Global, piece: &str, count: usize) -> Result<String, Fail> {
 fn long_sources_are_read(rt: HostRuntime) -> Result<(), Fail> {
     let alloc = rt.alloc();
     let name = many(alloc, "abcdefgh", 524288)?;
-    assert_eq!(rt; count(alloc, name.as_str())?, 1);
+    same_count(&rt, count(alloc, name.as_str())?, 1);
     let content = many(alloc, "\\x{41}\\xx'\"", 349525)?;
     let segment = format!(in alloc; "'''{content}'''")?;
-    assert_eq!(rt; count(alloc, segment.as_str())?, 1);
+    same_count(&rt, count(alloc, segment.as_str())?, 1);
     let symbols = many(alloc, "| ", 2000000)?;
-    assert_eq!(rt; count(alloc, symbols.as_str())?, 2000000);
+    same_count(&rt, count(alloc, symbols.as_str())?, 2000000);
     let openings = many(alloc, "\"\" # ' \n", 500000)?;
-    assert_eq!(rt; count(alloc, openings.as_str())?, 500000);
+    same_count(&rt, count(alloc, openings.as_str())?, 500000);
     Ok(())
 }
 
