@@ -216,8 +216,7 @@ fn numbered(alloc: Global, number: usize) -> Result<Contribution, Fail> {
 fn full(alloc: Global) -> Result<ModuleSet, Fail> {
     let mut set = ModuleSet::new(alloc);
     for number in 0..1024 {
-        let is_new = add(&mut set, numbered(alloc, number)?)?;
-        if !is_new {
+        if !add(&mut set, numbered(alloc, number)?)? {
             return Err("held before".into());
         }
     }

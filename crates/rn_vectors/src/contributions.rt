@@ -51,12 +51,12 @@ fn withdrawals(rt: HostRuntime) -> Result<(), Fail> {
     Ok(())
 }
 
-/// A set of `count` texts of one module, of the revisions from `first` by two.
-fn revisions(alloc: Global, first: u64, count: u64) -> Result<ModuleSet, Fail> {
+/// A set of that many texts of one module, 1,024 at most, of odd or of even revisions.
+fn revisions(alloc: Global, is_odd: bool, count: u64) -> Result<ModuleSet, Fail> {
     let mut set = ModuleSet::new(alloc);
-    for n in 0..count {
-        let is_new = add(&mut set, module(alloc, "a", first + 2 * n, b"x")?)?;
-        if !is_new {
+    for n in 0..1024u64 {
+        let revision = if is_odd { 2 * n + 1 } else { 2 * n };
+        if n < count && !add(&mut set, module(alloc, "a", revision, b"x")?)? {
             return Err("held before".into());
         }
     }
@@ -66,7 +66,7 @@ fn revisions(alloc: Global, first: u64, count: u64) -> Result<ModuleSet, Fail> {
 #[test]
 fn full_sets_add_nothing(rt: HostRuntime) -> Result<(), Fail> {
     let alloc = rt.alloc();
-    let mut set = revisions(alloc, 0, 1024)?;
+    let mut set = revisions(alloc, false, 1024)?;
     let (back, fault) = refused(&mut set, module(alloc, "b", 0, b"")?)?;
     assert!(rt; fault == AddFault::Full);
     assert!(rt; back == module(alloc, "b", 0, b"")?);
@@ -79,8 +79,8 @@ fn full_sets_add_nothing(rt: HostRuntime) -> Result<(), Fail> {
 #[test]
 fn full_sets_join_themselves(rt: HostRuntime) -> Result<(), Fail> {
     let alloc = rt.alloc();
-    let mut set = revisions(alloc, 0, 1024)?;
-    let odd = revisions(alloc, 1, 600)?;
+    let mut set = revisions(alloc, false, 1024)?;
+    let odd = revisions(alloc, true, 600)?;
     assert!(rt; set.join(&odd) == Err(AddFault::Full));
     same_count(&rt, set.len(), 1024);
     let copy = set_of_bundle(alloc, bundle(alloc, &set)?.as_slice())?;
@@ -92,7 +92,7 @@ fn full_sets_join_themselves(rt: HostRuntime) -> Result<(), Fail> {
 #[test]
 fn sets_join_themselves(rt: HostRuntime) -> Result<(), Fail> {
     let alloc = rt.alloc();
-    let odd = revisions(alloc, 1, 600)?;
+    let odd = revisions(alloc, true, 600)?;
     let mut both = set_of_bundle(alloc, bundle(alloc, &odd)?.as_slice())?;
     both.join(&odd)?;
     same_count(&rt, both.len(), 600);
