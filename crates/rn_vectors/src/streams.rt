@@ -168,20 +168,21 @@ fn nothing_is_written_without_a_schema(rt: HostRuntime) -> Result<(), Fail> {
     Ok(())
 }
 
-/// What is read of a source that fails at a place, up to a length.
-fn read(alloc: Global, until_failure: usize, limit: usize) -> Result<Vec<u8>, ReadFault> {
-    read_input(alloc, &mut source_of(b"five!", until_failure), limit)
+#[test]
+fn inputs_are_read_to_their_end(rt: HostRuntime) -> Result<(), Fail> {
+    let mut whole = source_of(b"five!", usize::MAX);
+    let bytes = read_input(rt.alloc(), &mut whole, 5)?;
+    same_bytes(&rt, bytes.as_slice(), b"five!");
+    assert!(rt; whole.ended() && !whole.failed());
+    Ok(())
 }
 
 #[test]
-fn inputs_are_read_to_their_end(rt: HostRuntime) -> Result<(), Fail> {
-    let alloc = rt.alloc();
-    let mut whole = source_of(b"five!", usize::MAX);
-    let bytes = read_input(alloc, &mut whole, 5)?;
-    same_bytes(&rt, bytes.as_slice(), b"five!");
-    assert!(rt; whole.ended() && !whole.failed());
-    assert!(rt; read(alloc, usize::MAX, 4).err() == Some(ReadFault::Large));
-    assert!(rt; read(alloc, 3, 5).err() == Some(ReadFault::Read));
+fn inputs_are_refused(rt: HostRuntime) -> Result<(), Fail> {
+    let mut long = source_of(b"five!", usize::MAX);
+    assert!(rt; read_input(rt.alloc(), &mut long, 4).err() == Some(ReadFault::Large));
+    let mut broken = source_of(b"five!", 3);
+    assert!(rt; read_input(rt.alloc(), &mut broken, 5).err() == Some(ReadFault::Read));
     Ok(())
 }
 
