@@ -36,7 +36,7 @@ pub(crate) struct Body<'c, 't, 's> {
 }
 
 /// An include of a module that has no component of a key which the include's own components have.
-#[derive(Clone, Copy, Debug, PartialEq, Eq, PartialOrd, Ord)]
+#[derive(Clone, Copy, PartialEq, Eq, PartialOrd, Ord)]
 pub(crate) struct Lack {
     pub module: usize,
     pub key: usize,

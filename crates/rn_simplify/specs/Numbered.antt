@@ -1,10 +1,11 @@
 -- Definitions by their numbers, and what references to them become.
-use Rattle.std.specs.Prelude.{◌≡◌, ℕ, Bool, IsTrue, All, IfSome, List, Option, Some, None, Contains, map, position, bytes_eq, slice_index_or, slice_set, option_and_then}
+use Rattle.std.specs.Prelude.{◌≡◌, ℕ, Bool, IsTrue, All, IfSome, List, Option, Some, None, Contains, Decides, map, position, bytes_eq, slice_index_or, slice_set, option_and_then}
 use Rattle.std.specs.List.{filter_map}
 use Rattle.std.specs.Option.{option_map_or}
 use Rattle.std.specs.Map.{lookup}
 use Rattle.rn_pattern.specs.Tree.{Text, Tree, ref}
 use Rattle.rn_pattern.specs.Matching.{Grammar}
+use Rattle.rn_assemble.specs.Graph.{Reached, is_marked}
 use Rattle.rn_pattern.specs.Canonical.{canonical, ref_unless_settled}
 use Rattle.rn_simplify.specs.Referred.{Scope, references}
 use Rattle.rn_simplify.specs.declared.references.Scope.TheVariants.{Everywhere}
@@ -27,6 +28,10 @@ graph_of G = rows_by Everywhere G.definitions G.definitions
 
 abbrev pub start_of : Grammar → List ℕ
 start_of G = numbers_of G.definitions (references Everywhere G.start)
+
+-- each mark tells whether the start reaches the definition of its number
+abbrev pub MarksReached : Grammar → List Bool → Type 0
+MarksReached G marks = (k : ℕ) → Decides (is_marked marks k) (Reached (graph_of G) (start_of G) k)
 
 -- the ids that are there are the store's
 abbrev pub AreKnown : {I : Type 0} → (I → Bool) → List (Option I) → Type 0

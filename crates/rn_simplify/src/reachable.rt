@@ -7,7 +7,7 @@ ghost use Rattle.rn_pattern.specs.Reached.{IsPruned};
 ghost use Rattle.rn_pattern.specs.View.{pattern_view};
 ghost use Rattle.rn_simplify.specs.Marked.{marked};
 ghost use Rattle.rn_simplify.specs.NormalView.{normal_view};
-ghost use Rattle.rn_simplify.specs.Numbered.{rows_by};
+ghost use Rattle.rn_simplify.specs.Numbered.{MarksReached, rows_by};
 ghost use Rattle.rn_simplify.specs.declared.references.Scope.TheVariants.{Everywhere};
 
 use crate::normal::Normal;
@@ -29,12 +29,26 @@ pub(crate) fn pruned(
     requires distinct { IsDistinct bytes_eq (map (λ d. d.0) (definitions_view forms.items)) }
     ensures { IfOk result (λ n. IsPruned (record { start = pattern_view start; definitions = definitions_view forms.items }) (normal_view n)) }
 {
-    let rows = rows_of_forms(alloc, names, &forms)?;
-    let first = referred(alloc, names, &start, Scope::Everywhere)?;
-    let is_reached = reached(alloc, &rows, &first)?;
+    let is_reached = reached_forms(alloc, names, &start, &forms)?;
     let mut defs = only_marked(alloc, forms, &is_reached)?;
     defs.sort_by(|a: &(String, Pattern), b: &(String, Pattern)| a.0.cmp(&b.0))?;
     Ok(Normal { start, defs })
+}
+
+/// For each form, whether the start reaches it.
+fn reached_forms(
+    alloc: Global,
+    names: &IndexMap<String, Pattern>,
+    start: &Pattern,
+    forms: &[(String, Pattern)],
+) -> Result<Vec<bool>, AllocError>
+    requires { map (λ d. d.0) (definitions_view forms.now) ≡ map (λ d. d.0) (definitions_view names.now.entries) }
+    ensures size { IfOk result (λ marks. length marks.items ≡ length forms.now) }
+    ensures reached { IfOk result (λ marks. MarksReached (record { start = pattern_view start.now; definitions = definitions_view forms.now }) marks.items) }
+{
+    let rows = rows_of_forms(alloc, names, forms)?;
+    let first = referred(alloc, names, start, Scope::Everywhere)?;
+    reached(alloc, &rows, &first)
 }
 
 /// The references of each form.

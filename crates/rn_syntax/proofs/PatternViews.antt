@@ -1,8 +1,12 @@
 -- The trees of patterns of the code, level by level.
-use Rattle.std.proofs.Common.{◌≡◌, ℕ, rules, Box, Vec, Global}
+use Rattle.std.proofs.Common.{◌≡◌, ◌∙◌, ℕ, ap, rules, Box, Vec, Global}
+use Rattle.std.proofs.lemmas.Result.{IfOk-weaker}
+use Rattle.std.specs.Result.{IfOk}
+use Rattle.std.specs.Prelude.{Result}
+use Rattle.std.specs.declared.alloc.AllocError.{AllocError}
 use Rattle.rn_syntax.specs.declared.token.Postfix.{Postfix}
 use Rattle.rn_syntax.specs.Tree as t
-use Rattle.rn_syntax.specs.View.{class_view, datatype_view, params_view, pattern_view}
+use Rattle.rn_syntax.specs.View.{boxed_view, class_view, datatype_view, params_view, pattern_view}
 use Rattle.rn_syntax.specs.declared.tree.Nc as code_class
 use Rattle.rn_syntax.specs.declared.tree.Datatype as code_type
 use Rattle.rn_syntax.specs.declared.tree.Param.{Param}
@@ -34,3 +38,7 @@ view-DatumBut x ps i p = search (rules, the_lemmas)
 
 pub view-Repeated : (s : Postfix) (p : Box Pat Global) → pattern_view (Repeated s p) ≡ t.repeated s (pattern_view p.value)
 view-Repeated s p = search (rules, the_lemmas)
+
+-- a pattern in a box, where there is memory for it
+pub boxed_is : (x : Pat) {y : t.Pattern} (r : Result (Box Pat Global) AllocError) → IfOk r (λ p. p.value ≡ x) → pattern_view x ≡ y → IfOk r (λ p. boxed_view p ≡ y)
+boxed_is x r h seen = IfOk-weaker r _ _ (λ p held. ap pattern_view held ∙ seen) h

@@ -1,5 +1,6 @@
 -- The tree that a tree of the code stands for.
-use Rattle.std.specs.Prelude.{ℕ, List, map, Option, Some, None}
+use Rattle.std.specs.Prelude.{ℕ, Box, List, map, Option, Some, None}
+use Rattle.std.specs.declared.alloc.Global.{Global}
 use Rattle.std.specs.Cow.{cow_str_bytes}
 use Rattle.rn_syntax.specs.declared.tree.Prefix as code_prefix
 use Rattle.rn_syntax.specs.declared.tree.Name as code_name
@@ -78,6 +79,9 @@ pattern_step (Pat-F.Chain op ps) = t.chain op (patterns_of ps.items)
 abbrev pub pattern_view : code_pattern.Pat → Pattern
 pattern_view = code_pattern.fold-Pat Pattern pattern_step
 
+abbrev pub boxed_view : Box code_pattern.Pat Global → Pattern
+boxed_view p = pattern_view p.value
+
 abbrev pub patterns_view : List code_pattern.Pat → t.Patterns
 patterns_view ps = patterns_of (map pattern_view ps)
 
@@ -99,8 +103,8 @@ declaration_view (e.Datatypes p s) = t.datatypes p.name.now p.at (cow_str_bytes 
 
 -- one level, with each item inside already seen as its tree
 abbrev pub item_step : Item-F Item → Item
-item_step (Item-F.Define x w p) = t.define x.now w (pattern_view p)
-item_step (Item-F.Start w p) = t.start w (pattern_view p)
+item_step (Item-F.Define x w p) = t.define x.now w (boxed_view p)
+item_step (Item-F.Start w p) = t.start w (boxed_view p)
 item_step (Item-F.Div xs) = t.div (items_of xs.items)
 item_step (Item-F.Include s p xs) = t.include (cow_str_bytes s) (prefix_view p) (items_of xs.items)
 

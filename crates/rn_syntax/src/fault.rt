@@ -34,7 +34,7 @@ impl From<AllocError> for SyntaxFault {
 }
 
 /// Why a reader of tokens stopped.
-#[derive(Clone, Copy, Debug)]
+#[derive(Clone, Copy)]
 pub(crate) enum Fault {
     /// At the token of this number, or at the end.
     Stuck(usize),

@@ -6,7 +6,7 @@ ghost use Rattle.rn_syntax.specs.Grammar.{AreInnerItems, AreItems, IsComponent, 
 ghost use Rattle.rn_syntax.specs.Including.{AreItemsBehind, IsDivEnd, IsIncludeEnd, IsInnerItem, IsInnerDivEnd, IsItem, opens_inner, opens_item};
 ghost use Rattle.rn_syntax.specs.Reading.{Passed, Advanced, Reads, rest};
 ghost use Rattle.rn_syntax.specs.Tree as tree;
-ghost use Rattle.rn_syntax.specs.View.{item_view, items_view, pattern_view, prefix_view};
+ghost use Rattle.rn_syntax.specs.View.{boxed_view, item_view, items_view, prefix_view};
 
 use crate::annotations::{annotation, begins_note, skip_annotation};
 use crate::declarations::prefix;
@@ -20,14 +20,14 @@ use rn_text::Token;
 use std::alloc::Global;
 use std::borrow::CowStr;
 
-fn define<'a>(name: &'a str, method: Method, body: Pat<'a>) -> Item<'a>
-    ensures { item_view result ≡ tree.define name.now method (pattern_view body.entry) }
+fn define<'a>(name: &'a str, method: Method, body: Box<Pat<'a>>) -> Item<'a>
+    ensures { item_view result ≡ tree.define name.now method (boxed_view body.entry) }
 {
     Item::Define { name, method, body }
 }
 
-fn start(method: Method, body: Pat<'_>) -> Item<'_>
-    ensures { item_view result ≡ tree.start method (pattern_view body.entry) }
+fn start(method: Method, body: Box<Pat<'_>>) -> Item<'_>
+    ensures { item_view result ≡ tree.start method (boxed_view body.entry) }
 {
     Item::Start { method, body }
 }

@@ -1,5 +1,5 @@
 // Patterns.
-ghost use Rattle.std.specs.Prelude.{◌≡◌, ◌≤◌, ◌<◌, Some, None, false, length, IfOk, IsTrue};
+ghost use Rattle.std.specs.Prelude.{◌≡◌, ◌≤◌, ◌<◌, ◌++◌, ◌∷◌, [], Some, None, false, length, map, IfOk, IsTrue, OnOk};
 ghost use Rattle.std.specs.Cow.{cow_str_bytes};
 ghost use Rattle.rn_syntax.specs.Follow.{Anything, Starts, begins_datatype, behind_core, behind_operand, behind_pattern, behind_primary, first};
 ghost use Rattle.rn_syntax.specs.Grammar.{IsCore, IsOperand, IsPattern, IsPrimary};
@@ -7,7 +7,7 @@ ghost use Rattle.rn_syntax.specs.Parts.{BehindDatatype, BehindPrimary, IsDataEnd
 ghost use Rattle.rn_syntax.specs.Reading.{Passed, Advanced, Reads, rest};
 ghost use Rattle.rn_syntax.specs.Terminal as terminal;
 ghost use Rattle.rn_syntax.specs.Tree as tree;
-ghost use Rattle.rn_syntax.specs.View.{class_view, datatype_view, params_view, pattern_view, patterns_view};
+ghost use Rattle.rn_syntax.specs.View.{boxed_view, class_view, datatype_view, params_view, pattern_view, patterns_view};
 
 use crate::annotations::{skip_annotation, skip_follows};
 use crate::datatypes::{datatype, params};
@@ -21,52 +21,93 @@ use rn_text::Token;
 use std::alloc::{AllocError, Global};
 use std::borrow::CowStr;
 
-fn element<'a>(alloc: Global, class: Nc<'a>, content: Pat<'a>) -> Result<Pat<'a>, AllocError>
-    ensures { IfOk result (λ p. pattern_view p ≡ tree.element (class_view class.entry) (pattern_view content.entry)) }
+/// A pattern in its box. The readers hand boxes on, which are small.
+fn boxed<'a>(alloc: Global, pattern: Pat<'a>) -> Result<Box<Pat<'a>>, AllocError>
+    ensures { IfOk result (λ p. p.value ≡ pattern.entry) }
 {
-    Ok(Pat::Element(class, Box::new(alloc, content)?))
+    Ok(Box::new(alloc, pattern)?)
 }
 
-fn attribute<'a>(alloc: Global, class: Nc<'a>, content: Pat<'a>) -> Result<Pat<'a>, AllocError>
-    ensures { IfOk result (λ p. pattern_view p ≡ tree.attribute (class_view class.entry) (pattern_view content.entry)) }
+fn element<'a>(
+    alloc: Global,
+    class: Nc<'a>,
+    content: Box<Pat<'a>>,
+) -> Result<Box<Pat<'a>>, AllocError>
+    ensures { IfOk result (λ p. boxed_view p ≡ tree.element (class_view class.entry) (boxed_view content.entry)) }
 {
-    Ok(Pat::Attribute(class, Box::new(alloc, content)?))
+    boxed(alloc, Pat::Element(class, content))
 }
 
-fn list<'a>(alloc: Global, content: Pat<'a>) -> Result<Pat<'a>, AllocError>
-    ensures { IfOk result (λ p. pattern_view p ≡ tree.list (pattern_view content.entry)) }
+fn attribute<'a>(
+    alloc: Global,
+    class: Nc<'a>,
+    content: Box<Pat<'a>>,
+) -> Result<Box<Pat<'a>>, AllocError>
+    ensures { IfOk result (λ p. boxed_view p ≡ tree.attribute (class_view class.entry) (boxed_view content.entry)) }
 {
-    Ok(Pat::List(Box::new(alloc, content)?))
+    boxed(alloc, Pat::Attribute(class, content))
 }
 
-fn mixed<'a>(alloc: Global, content: Pat<'a>) -> Result<Pat<'a>, AllocError>
-    ensures { IfOk result (λ p. pattern_view p ≡ tree.mixed (pattern_view content.entry)) }
+fn list<'a>(alloc: Global, content: Box<Pat<'a>>) -> Result<Box<Pat<'a>>, AllocError>
+    ensures { IfOk result (λ p. boxed_view p ≡ tree.list (boxed_view content.entry)) }
 {
-    Ok(Pat::Mixed(Box::new(alloc, content)?))
+    boxed(alloc, Pat::List(content))
 }
 
-fn reference(name: &str) -> Pat<'_>
-    ensures { pattern_view result ≡ tree.ref name.now }
+fn mixed<'a>(alloc: Global, content: Box<Pat<'a>>) -> Result<Box<Pat<'a>>, AllocError>
+    ensures { IfOk result (λ p. boxed_view p ≡ tree.mixed (boxed_view content.entry)) }
 {
-    Pat::Ref(name)
+    boxed(alloc, Pat::Mixed(content))
 }
 
-fn plain_value(text: CowStr<'_>) -> Pat<'_>
-    ensures { pattern_view result ≡ tree.value None (cow_str_bytes text.entry) }
+fn empty<'a>(alloc: Global) -> Result<Box<Pat<'a>>, AllocError>
+    ensures { IfOk result (λ p. boxed_view p ≡ tree.empty) }
 {
-    Pat::Value(None, text)
+    boxed(alloc, Pat::Empty)
 }
 
-fn value<'a>(datatype: Datatype<'a>, text: CowStr<'a>) -> Pat<'a>
-    ensures { pattern_view result ≡ tree.value (Some (datatype_view datatype.entry)) (cow_str_bytes text.entry) }
+fn not_allowed<'a>(alloc: Global) -> Result<Box<Pat<'a>>, AllocError>
+    ensures { IfOk result (λ p. boxed_view p ≡ tree.not_allowed) }
 {
-    Pat::Value(Some(datatype), text)
+    boxed(alloc, Pat::NotAllowed)
 }
 
-fn datum<'a>(datatype: Datatype<'a>, params: Vec<Param<'a>>) -> Pat<'a>
-    ensures { pattern_view result ≡ tree.datum (datatype_view datatype.entry) (params_view params.entry.items) }
+fn text<'a>(alloc: Global) -> Result<Box<Pat<'a>>, AllocError>
+    ensures { IfOk result (λ p. boxed_view p ≡ tree.text) }
 {
-    Pat::Datum(datatype, params)
+    boxed(alloc, Pat::Text)
+}
+
+fn reference(alloc: Global, name: &str) -> Result<Box<Pat<'_>>, AllocError>
+    ensures { IfOk result (λ p. boxed_view p ≡ tree.ref name.now) }
+{
+    boxed(alloc, Pat::Ref(name))
+}
+
+fn plain_value(alloc: Global, text: CowStr<'_>) -> Result<Box<Pat<'_>>, AllocError>
+    ensures { IfOk result (λ p. boxed_view p ≡ tree.value None (cow_str_bytes text.entry)) }
+{
+    boxed(alloc, Pat::Value(None, text))
+}
+
+fn value<'a>(
+    alloc: Global,
+    datatype: Datatype<'a>,
+    text: CowStr<'a>,
+) -> Result<Box<Pat<'a>>, AllocError>
+    ensures { IfOk result (λ p. boxed_view p ≡ tree.value (Some (datatype_view datatype.entry)) (cow_str_bytes text.entry)) }
+{
+    boxed(alloc, Pat::Value(Some(datatype), text))
+}
+
+fn datum<'a>(
+    alloc: Global,
+    datatype: Datatype<'a>,
+    params: Vec<Param<'a>>,
+) -> Result<Box<Pat<'a>>, AllocError>
+    ensures { IfOk result (λ p. boxed_view p ≡ tree.datum (datatype_view datatype.entry) (params_view params.entry.items)) }
+{
+    boxed(alloc, Pat::Datum(datatype, params))
 }
 
 fn datum_but<'a>(
@@ -74,23 +115,39 @@ fn datum_but<'a>(
     datatype: Datatype<'a>,
     params: Vec<Param<'a>>,
     at: usize,
-    except: Pat<'a>,
-) -> Result<Pat<'a>, AllocError>
-    ensures { IfOk result (λ p. pattern_view p ≡ tree.datum_but (datatype_view datatype.entry) (params_view params.entry.items) at (pattern_view except.entry)) }
+    except: Box<Pat<'a>>,
+) -> Result<Box<Pat<'a>>, AllocError>
+    ensures { IfOk result (λ p. boxed_view p ≡ tree.datum_but (datatype_view datatype.entry) (params_view params.entry.items) at (boxed_view except.entry)) }
 {
-    Ok(Pat::DatumBut(datatype, params, at, Box::new(alloc, except)?))
+    boxed(alloc, Pat::DatumBut(datatype, params, at, except))
 }
 
-fn repeated<'a>(alloc: Global, postfix: Postfix, primary: Pat<'a>) -> Result<Pat<'a>, AllocError>
-    ensures { IfOk result (λ p. pattern_view p ≡ tree.repeated postfix (pattern_view primary.entry)) }
+fn repeated<'a>(
+    alloc: Global,
+    postfix: Postfix,
+    primary: Box<Pat<'a>>,
+) -> Result<Box<Pat<'a>>, AllocError>
+    ensures { IfOk result (λ p. boxed_view p ≡ tree.repeated postfix (boxed_view primary.entry)) }
 {
-    Ok(Pat::Repeated(postfix, Box::new(alloc, primary)?))
+    boxed(alloc, Pat::Repeated(postfix, primary))
 }
 
-fn chain<'a>(operator: Operator, members: Vec<Pat<'a>>) -> Pat<'a>
-    ensures { pattern_view result ≡ tree.chain operator (patterns_view members.entry.items) }
+fn chain<'a>(
+    alloc: Global,
+    operator: Operator,
+    members: Vec<Pat<'a>>,
+) -> Result<Box<Pat<'a>>, AllocError>
+    ensures { IfOk result (λ p. boxed_view p ≡ tree.chain operator (patterns_view members.entry.items)) }
 {
-    Pat::Chain(operator, members)
+    boxed(alloc, Pat::Chain(operator, members))
+}
+
+/// Adds a member to those of a chain, which lie side by side.
+fn push_member<'a>(members: &mut Vec<Pat<'a>>, member: Box<Pat<'a>>) -> Result<(), AllocError>
+    ensures { OnOk result (map pattern_view members.new.items ≡ map pattern_view members.old.items ++ boxed_view member.entry ∷ []) }
+{
+    members.push(Box::into_inner(member))?;
+    Ok(())
 }
 
 /// `pattern = operand ( ("," operand)* | ("&" operand)* | ("|" operand)* )`
@@ -99,31 +156,35 @@ pub(crate) fn pattern<'a>(
     alloc: Global,
     tokens: &[Token<'a>],
     at: usize,
-) -> Result<(Pat<'a>, usize), Fault>
+) -> Result<(Box<Pat<'a>>, usize), Fault>
     requires { at ≤ length tokens.now }
     ensures inside { IfOk result (λ r. Advanced at r.1 (length tokens.now)) }
-    ensures reads { Reads IsPattern (Starts behind_pattern) pattern_view tokens.now at result }
+    ensures reads { Reads IsPattern (Starts behind_pattern) boxed_view tokens.now at result }
 {
     let (first, mut end) = operand(alloc, tokens, at)?;
     let Terminal::Operator(operator) = next(tokens, end) else {
         return Ok((first, end));
     };
     let mut members = Vec::new(alloc);
-    members.push(first)?;
+    push_member(&mut members, first)?;
     'chain: while is_operator(tokens, end, operator) {
         let (member, behind) = operand(alloc, tokens, end + 1)?;
-        members.push(member)?;
+        push_member(&mut members, member)?;
         end = behind;
     }
-    Ok((chain(operator, members), end))
+    Ok((chain(alloc, operator, members)?, end))
 }
 
 /// `operand = primary [ postfix follow* ] | except`
 #[cycle(pattern)]
-fn operand<'a>(alloc: Global, tokens: &[Token<'a>], at: usize) -> Result<(Pat<'a>, usize), Fault>
+fn operand<'a>(
+    alloc: Global,
+    tokens: &[Token<'a>],
+    at: usize,
+) -> Result<(Box<Pat<'a>>, usize), Fault>
     requires { at ≤ length tokens.now }
     ensures inside { IfOk result (λ r. Advanced at r.1 (length tokens.now)) }
-    ensures reads { Reads IsOperand (Starts behind_operand) pattern_view tokens.now at result }
+    ensures reads { Reads IsOperand (Starts behind_operand) boxed_view tokens.now at result }
 {
     let body = skip_annotation(tokens, at)?;
     if let Some(datatype) = datatype(tokens, body) {
@@ -139,11 +200,11 @@ fn behind_primary<'a>(
     alloc: Global,
     tokens: &[Token<'a>],
     at: usize,
-    primary: Pat<'a>,
-) -> Result<(Pat<'a>, usize), Fault>
+    primary: Box<Pat<'a>>,
+) -> Result<(Box<Pat<'a>>, usize), Fault>
     requires { at ≤ length tokens.now }
     ensures inside { IfOk result (λ r. Passed at r.1 (length tokens.now)) }
-    ensures reads { Reads (BehindPrimary (pattern_view primary.entry)) (Starts behind_operand) pattern_view tokens.now at result }
+    ensures reads { Reads (BehindPrimary (boxed_view primary.entry)) (Starts behind_operand) boxed_view tokens.now at result }
 {
     let Terminal::Postfix(postfix) = next(tokens, at) else {
         return Ok((primary, at));
@@ -159,15 +220,15 @@ fn behind_datatype<'a>(
     tokens: &[Token<'a>],
     at: usize,
     datatype: Datatype<'a>,
-) -> Result<(Pat<'a>, usize), Fault>
+) -> Result<(Box<Pat<'a>>, usize), Fault>
     requires { at ≤ length tokens.now }
     ensures inside { IfOk result (λ r. Passed at r.1 (length tokens.now)) }
-    ensures reads { Reads (BehindDatatype (datatype_view datatype.entry)) (Starts behind_operand) pattern_view tokens.now at result }
+    ensures reads { Reads (BehindDatatype (datatype_view datatype.entry)) (Starts behind_operand) boxed_view tokens.now at result }
 {
     if let Terminal::Segment(_) = next(tokens, at) {
         let (text, end) = literal(alloc, tokens, at)?;
         let behind = skip_follows(tokens, end)?;
-        return behind_primary(alloc, tokens, behind, value(datatype, text));
+        return behind_primary(alloc, tokens, behind, value(alloc, datatype, text)?);
     }
     let (params, end) = params(alloc, tokens, at)?;
     if let Terminal::Minus = next(tokens, end) {
@@ -176,15 +237,19 @@ fn behind_datatype<'a>(
         return Ok((datum_but(alloc, datatype, params, minus, except)?, behind));
     }
     let behind = skip_follows(tokens, end)?;
-    behind_primary(alloc, tokens, behind, datum(datatype, params))
+    behind_primary(alloc, tokens, behind, datum(alloc, datatype, params)?)
 }
 
 /// `primary = [ann] core follow*`
 #[cycle(pattern)]
-fn primary<'a>(alloc: Global, tokens: &[Token<'a>], at: usize) -> Result<(Pat<'a>, usize), Fault>
+fn primary<'a>(
+    alloc: Global,
+    tokens: &[Token<'a>],
+    at: usize,
+) -> Result<(Box<Pat<'a>>, usize), Fault>
     requires { at ≤ length tokens.now }
     ensures inside { IfOk result (λ r. Advanced at r.1 (length tokens.now)) }
-    ensures reads { Reads IsPrimary (Starts behind_primary) pattern_view tokens.now at result }
+    ensures reads { Reads IsPrimary (Starts behind_primary) boxed_view tokens.now at result }
 {
     let body = skip_annotation(tokens, at)?;
     let (core, end) = core(alloc, tokens, body)?;
@@ -197,25 +262,25 @@ fn data<'a>(
     tokens: &[Token<'a>],
     at: usize,
     datatype: Datatype<'a>,
-) -> Result<(Pat<'a>, usize), Fault>
+) -> Result<(Box<Pat<'a>>, usize), Fault>
     requires { at ≤ length tokens.now }
     ensures inside { IfOk result (λ r. Passed at r.1 (length tokens.now)) }
-    ensures reads { Reads (IsDataEnd (datatype_view datatype.entry)) (Starts behind_core) pattern_view tokens.now at result }
+    ensures reads { Reads (IsDataEnd (datatype_view datatype.entry)) (Starts behind_core) boxed_view tokens.now at result }
 {
     if let Terminal::Segment(_) = next(tokens, at) {
         let (text, end) = literal(alloc, tokens, at)?;
-        return Ok((value(datatype, text), end));
+        return Ok((value(alloc, datatype, text)?, end));
     }
     let (params, end) = params(alloc, tokens, at)?;
-    Ok((datum(datatype, params), end))
+    Ok((datum(alloc, datatype, params)?, end))
 }
 
 /// `core`
 #[cycle(pattern)]
-fn core<'a>(alloc: Global, tokens: &[Token<'a>], at: usize) -> Result<(Pat<'a>, usize), Fault>
+fn core<'a>(alloc: Global, tokens: &[Token<'a>], at: usize) -> Result<(Box<Pat<'a>>, usize), Fault>
     requires { at ≤ length tokens.now }
     ensures inside { IfOk result (λ r. Advanced at r.1 (length tokens.now)) }
-    ensures reads { Reads IsCore (Starts behind_core) pattern_view tokens.now at result }
+    ensures reads { Reads IsCore (Starts behind_core) boxed_view tokens.now at result }
 {
     match datatype(tokens, at) {
         Some(datatype) => data(alloc, tokens, at + 1, datatype),
@@ -229,18 +294,18 @@ fn untyped_core<'a>(
     alloc: Global,
     tokens: &[Token<'a>],
     at: usize,
-) -> Result<(Pat<'a>, usize), Fault>
+) -> Result<(Box<Pat<'a>>, usize), Fault>
     requires inside { at ≤ length tokens.now }
     requires untyped { begins_datatype (first (rest tokens.now at)) ≡ false }
     ensures inside { IfOk result (λ r. Advanced at r.1 (length tokens.now)) }
-    ensures reads { Reads IsCore (Starts behind_core) pattern_view tokens.now at result }
+    ensures reads { Reads IsCore (Starts behind_core) boxed_view tokens.now at result }
 {
     match next(tokens, at) {
         Terminal::Keyword(keyword) => keyword_core(alloc, tokens, at, keyword),
-        Terminal::Ident(name) => Ok((reference(name), at + 1)),
+        Terminal::Ident(name) => Ok((reference(alloc, name)?, at + 1)),
         Terminal::Segment(_) => {
             let (text, end) = literal(alloc, tokens, at)?;
-            Ok((plain_value(text), end))
+            Ok((plain_value(alloc, text)?, end))
         }
         Terminal::LeftParen => {
             let (inner, end) = pattern(alloc, tokens, at + 1)?;
@@ -257,12 +322,12 @@ fn keyword_core<'a>(
     tokens: &[Token<'a>],
     at: usize,
     keyword: Keyword,
-) -> Result<(Pat<'a>, usize), Fault>
+) -> Result<(Box<Pat<'a>>, usize), Fault>
     requires inside { at < length tokens.now }
     requires here { first (rest tokens.now at) ≡ terminal.keyword keyword }
     requires untyped { begins_datatype (first (rest tokens.now at)) ≡ false }
     ensures inside { IfOk result (λ r. Advanced at r.1 (length tokens.now)) }
-    ensures reads { Reads IsCore (Starts behind_core) pattern_view tokens.now at result }
+    ensures reads { Reads IsCore (Starts behind_core) boxed_view tokens.now at result }
 {
     match keyword {
         Keyword::Element => {
@@ -281,9 +346,9 @@ fn keyword_core<'a>(
             let (content, end) = braced(alloc, tokens, at + 1)?;
             Ok((mixed(alloc, content)?, end))
         }
-        Keyword::Empty => Ok((Pat::Empty, at + 1)),
-        Keyword::NotAllowed => Ok((Pat::NotAllowed, at + 1)),
-        Keyword::Text => Ok((Pat::Text, at + 1)),
+        Keyword::Empty => Ok((empty(alloc)?, at + 1)),
+        Keyword::NotAllowed => Ok((not_allowed(alloc)?, at + 1)),
+        Keyword::Text => Ok((text(alloc)?, at + 1)),
         _ => Err(Fault::Stuck(at)),
     }
 }
@@ -294,10 +359,10 @@ fn named<'a>(
     alloc: Global,
     tokens: &[Token<'a>],
     at: usize,
-) -> Result<((Nc<'a>, Pat<'a>), usize), Fault>
+) -> Result<((Nc<'a>, Box<Pat<'a>>), usize), Fault>
     requires { at ≤ length tokens.now }
     ensures inside { IfOk result (λ r. Advanced at r.1 (length tokens.now)) }
-    ensures reads { Reads IsNamed Anything (λ r. (class_view r.0, pattern_view r.1)) tokens.now at result }
+    ensures reads { Reads IsNamed Anything (λ r. (class_view r.0, boxed_view r.1)) tokens.now at result }
 {
     let (class, end) = name_class(alloc, tokens, at)?;
     let (content, behind) = braced(alloc, tokens, end)?;
@@ -306,10 +371,14 @@ fn named<'a>(
 
 /// `"{" pattern "}"`
 #[cycle(pattern)]
-fn braced<'a>(alloc: Global, tokens: &[Token<'a>], at: usize) -> Result<(Pat<'a>, usize), Fault>
+fn braced<'a>(
+    alloc: Global,
+    tokens: &[Token<'a>],
+    at: usize,
+) -> Result<(Box<Pat<'a>>, usize), Fault>
     requires { at ≤ length tokens.now }
     ensures inside { IfOk result (λ r. Advanced at r.1 (length tokens.now)) }
-    ensures reads { Reads IsBraced Anything pattern_view tokens.now at result }
+    ensures reads { Reads IsBraced Anything boxed_view tokens.now at result }
 {
     let inside = left_brace(tokens, at)?;
     let (content, end) = pattern(alloc, tokens, inside)?;

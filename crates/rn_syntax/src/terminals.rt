@@ -17,7 +17,7 @@ use rn_text::characters::{after_name_chars, split_first};
 use rn_text::{Kind, Token};
 
 /// A token as the grammar sees it.
-#[derive(Clone, Copy, Debug)]
+#[derive(Clone, Copy)]
 pub(crate) enum Terminal<'a> {
     /// A name, without the backslash of a quoted one.
     Ident(&'a str),

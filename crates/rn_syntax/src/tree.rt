@@ -88,11 +88,11 @@ pub enum Item<'a> {
     Define {
         name: &'a str,
         method: Method,
-        body: Pat<'a>,
+        body: Box<Pat<'a>>,
     },
     Start {
         method: Method,
-        body: Pat<'a>,
+        body: Box<Pat<'a>>,
     },
     Div(Vec<Item<'a>>),
     /// The prefix is the word behind `inherit =`.

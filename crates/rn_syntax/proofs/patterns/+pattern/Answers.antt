@@ -1,11 +1,10 @@
 -- Each reader of patterns, exit by exit.
 use Rattle.std.proofs.Common.{◌+◌, ◌++◌, ◌∷◌, [], ◌∙◌, sym, ap, map, arith, refl}
-use Rattle.std.proofs.lemmas.List.{map-append}
 use Rattle.std.proofs.lemmas.Result.{err_from_is_err_and}
 use Rattle.rn_syntax.specs.declared.token.Keyword.TheVariants as word
 use Rattle.rn_syntax.specs.Terminal.{operator}
 use Rattle.rn_syntax.specs.Tree as tree
-use Rattle.rn_syntax.specs.View.{datatype_view, params_view, pattern_view}
+use Rattle.rn_syntax.specs.View.{boxed_view, datatype_view, params_view, pattern_view}
 use Rattle.rn_syntax.specs.Follow.{first}
 use Rattle.rn_syntax.proofs.Compose.{on_fault, took_same, stuck_upto, reads_upto, upto_then}
 use Rattle.rn_syntax.proofs.Next.{terminal_at, place_is}
@@ -15,7 +14,6 @@ use Rattle.rn_syntax.proofs.Operands.{no_segment, text_stuck, text_read, params_
 use Rattle.rn_syntax.proofs.Primaries.{type_at, operand_stuck, operand_typed, operand_core_stuck, operand_core_read, primary_stuck, primary_core_stuck, primary_follows_stuck, primary_took}
 use Rattle.rn_syntax.proofs.Cores.{open_stuck, braces_inner, braces_close, braced_took, class_stuck, content_stuck, content_took, keyword_here, element_stuck, element_took, attribute_stuck, attribute_took, list_stuck, list_took, mixed_stuck, mixed_took, empty_took, not_allowed_took, text_took, ref_took}
 use Rattle.rn_syntax.proofs.Unnamed.{literal_stuck, literal_took, inner_stuck, close_stuck, parens_took, no_core, no_keyword_core}
-use Rattle.rn_syntax.proofs.PatternViews.{view-Empty, view-NotAllowed, view-Text}
 use Rattle.rn_syntax.proofs.patterns.+pattern.Goals as goal
 
 -- ---- braces
@@ -85,25 +83,25 @@ keyword_core-returns-in_err-content-in-Mixed-clause-reads t c =
 pub keyword_core-returns-in_ok-mixed-in-Mixed-clause-reads : goal.keyword_core-returns-in_ok-mixed-in-Mixed-clause-reads
 keyword_core-returns-in_ok-mixed-in-Mixed-clause-reads t c = λ s. took_same (sym c.in_ok-mixed-in-Mixed.ensures) (mixed_took (keyword_here c.args.tokens.now c.args.at word.Mixed c.requires.inside c.requires.here c.in-Mixed.is).1 (c.in_ok-content-in-Mixed.ensures.reads s))
 
-pub keyword_core-returns-in-Empty-clause-reads : goal.keyword_core-returns-in-Empty-clause-reads
-keyword_core-returns-in-Empty-clause-reads t c = λ s. took_same (sym view-Empty) (empty_took (keyword_here c.args.tokens.now c.args.at word.Empty c.requires.inside c.requires.here c.in-Empty.is).1)
+pub keyword_core-returns-in_ok-empty-in-Empty-clause-reads : goal.keyword_core-returns-in_ok-empty-in-Empty-clause-reads
+keyword_core-returns-in_ok-empty-in-Empty-clause-reads t c = λ s. took_same (sym c.in_ok-empty-in-Empty.ensures) (empty_took (keyword_here c.args.tokens.now c.args.at word.Empty c.requires.inside c.requires.here c.in-Empty.is).1)
 
-pub keyword_core-returns-in-NotAllowed-clause-reads : goal.keyword_core-returns-in-NotAllowed-clause-reads
-keyword_core-returns-in-NotAllowed-clause-reads t c = λ s. took_same (sym view-NotAllowed) (not_allowed_took (keyword_here c.args.tokens.now c.args.at word.NotAllowed c.requires.inside c.requires.here c.in-NotAllowed.is).1)
+pub keyword_core-returns-in_ok-not_allowed-in-NotAllowed-clause-reads : goal.keyword_core-returns-in_ok-not_allowed-in-NotAllowed-clause-reads
+keyword_core-returns-in_ok-not_allowed-in-NotAllowed-clause-reads t c = λ s. took_same (sym c.in_ok-not_allowed-in-NotAllowed.ensures) (not_allowed_took (keyword_here c.args.tokens.now c.args.at word.NotAllowed c.requires.inside c.requires.here c.in-NotAllowed.is).1)
 
-pub keyword_core-returns-in-Text-clause-reads : goal.keyword_core-returns-in-Text-clause-reads
-keyword_core-returns-in-Text-clause-reads t c = λ s. took_same (sym view-Text) (text_took (keyword_here c.args.tokens.now c.args.at word.Text c.requires.inside c.requires.here c.in-Text.is).1)
+pub keyword_core-returns-in_ok-text-in-Text-clause-reads : goal.keyword_core-returns-in_ok-text-in-Text-clause-reads
+keyword_core-returns-in_ok-text-in-Text-clause-reads t c = λ s. took_same (sym c.in_ok-text-in-Text.ensures) (text_took (keyword_here c.args.tokens.now c.args.at word.Text c.requires.inside c.requires.here c.in-Text.is).1)
 
 pub keyword_core-returns-in_default-clause-reads : goal.keyword_core-returns-in_default-clause-reads
 keyword_core-returns-in_default-clause-reads t c = λ s. no_keyword_core c.args.keyword c.requires.here c.in_default.not-Element c.in_default.not-Attribute c.in_default.not-List c.in_default.not-Mixed c.in_default.not-Empty c.in_default.not-NotAllowed c.in_default.not-Text c.requires.untyped
 
 pub untyped_core-returns-in_err-text-in-Segment-clause-reads : goal.untyped_core-returns-in_err-text-in-Segment-clause-reads
 untyped_core-returns-in_err-text-in-Segment-clause-reads t c =
-    let p = err_from_is_err_and c.from_residual.result c.from_residual.ensures.1 in
+    let p = err_from_is_err_and c.from_residual-in_err-text-in-Segment.result c.from_residual-in_err-text-in-Segment.ensures.1 in
     rw (p.1, p.2) (on_fault c.args.tokens.now c.args.at c.args.at _ (λ s bad k. literal_stuck c.in-Segment.ensures.next.1 k) c.in_err-text-in-Segment.ensures.reads)
 
-pub untyped_core-returns-in_ok-text-in-Segment-clause-reads : goal.untyped_core-returns-in_ok-text-in-Segment-clause-reads
-untyped_core-returns-in_ok-text-in-Segment-clause-reads t c = λ s. took_same (sym c.plain_value.ensures) (literal_took c.in-Segment.ensures.next.1 (c.in_ok-text-in-Segment.ensures.reads s))
+pub untyped_core-returns-in_ok-plain_value-in-Segment-clause-reads : goal.untyped_core-returns-in_ok-plain_value-in-Segment-clause-reads
+untyped_core-returns-in_ok-plain_value-in-Segment-clause-reads t c = λ s. took_same (sym c.in_ok-plain_value-in-Segment.ensures) (literal_took c.in-Segment.ensures.next.1 (c.in_ok-text-in-Segment.ensures.reads s))
 
 pub untyped_core-returns-in_err-inner-in-LeftParen-clause-reads : goal.untyped_core-returns-in_err-inner-in-LeftParen-clause-reads
 untyped_core-returns-in_err-inner-in-LeftParen-clause-reads t c =
@@ -118,14 +116,14 @@ untyped_core-returns-in_err-right_paren-in-LeftParen-clause-reads t c =
 pub untyped_core-returns-in_ok-right_paren-in-LeftParen-clause-reads : goal.untyped_core-returns-in_ok-right_paren-in-LeftParen-clause-reads
 untyped_core-returns-in_ok-right_paren-in-LeftParen-clause-reads t c = λ s. parens_took c.in-LeftParen.ensures.next.1 (c.in_ok-inner-in-LeftParen.ensures.reads s) (c.in_ok-right_paren-in-LeftParen.ensures.passes s).1
 
-pub untyped_core-returns-in-Ident-clause-reads : goal.untyped_core-returns-in-Ident-clause-reads
-untyped_core-returns-in-Ident-clause-reads t c = λ s. took_same (sym c.reference.ensures) (ref_took c.in-Ident.ensures.next.1)
+pub untyped_core-returns-in_ok-reference-in-Ident-clause-reads : goal.untyped_core-returns-in_ok-reference-in-Ident-clause-reads
+untyped_core-returns-in_ok-reference-in-Ident-clause-reads t c = λ s. took_same (sym c.in_ok-reference-in-Ident.ensures) (ref_took c.in-Ident.ensures.next.1)
 
 pub untyped_core-returns-in_default-clause-reads : goal.untyped_core-returns-in_default-clause-reads
 untyped_core-returns-in_default-clause-reads t c = λ s. no_core _ _ c.next.result c.next.ensures.next c.in_default.not-Keyword c.in_default.not-Ident c.in_default.not-Segment c.in_default.not-LeftParen c.requires.untyped
 
 pub core-returns-in-Some-clause-reads : goal.core-returns-in-Some-clause-reads
-core-returns-in-Some-clause-reads t c = reads_upto pattern_view c.args.tokens.now (c.args.at + 1) c.args.at _ (λ r w. w) (λ s. type_at c.in-Some.ensures.names) c.data.ensures.reads
+core-returns-in-Some-clause-reads t c = reads_upto boxed_view c.args.tokens.now (c.args.at + 1) c.args.at _ (λ r w. w) (λ s. type_at c.in-Some.ensures.names) c.data.ensures.reads
 
 -- ---- primaries
 
@@ -160,7 +158,7 @@ behind_datatype-returns-in_err-behind-clause-reads t c =
     rw (p.1, p.2) (on_fault c.args.tokens.now c.in_ok-text.end c.args.at _ (λ s bad k. stuck_upto (text_read (datatype_view c.args.datatype) c.in-Segment.ensures.next.1 (c.in_ok-text.ensures.reads s)) (follows_stuck _ k)) c.in_err-behind.ensures.skips)
 
 pub behind_datatype-returns-in-Segment-clause-reads : goal.behind_datatype-returns-in-Segment-clause-reads
-behind_datatype-returns-in-Segment-clause-reads t c = reads_upto pattern_view c.args.tokens.now c.in_ok-behind.behind c.args.at _ (λ r w. w) (λ s. upto_same (sym c.value.ensures) (upto_then (text_read (datatype_view c.args.datatype) c.in-Segment.ensures.next.1 (c.in_ok-text.ensures.reads s)) (follows_read _ (c.in_ok-behind.ensures.skips s)))) c.behind_primary.ensures.reads
+behind_datatype-returns-in-Segment-clause-reads t c = reads_upto boxed_view c.args.tokens.now c.in_ok-behind.behind c.args.at _ (λ r w. w) (λ s. upto_same (sym c.in_ok-value.ensures) (upto_then (text_read (datatype_view c.args.datatype) c.in-Segment.ensures.next.1 (c.in_ok-text.ensures.reads s)) (follows_read _ (c.in_ok-behind.ensures.skips s)))) c.behind_primary.ensures.reads
 
 pub behind_datatype-returns-in_err-params-clause-reads : goal.behind_datatype-returns-in_err-params-clause-reads
 behind_datatype-returns-in_err-params-clause-reads t c =
@@ -179,7 +177,7 @@ pub behind_datatype-returns-in-Minus-clause-reads : goal.behind_datatype-returns
 behind_datatype-returns-in-Minus-clause-reads t c = λ s.
     let n = c.in-Minus.ensures.next in
     let place = place_is c.args.tokens.now n.1 c.place-minus.ensures in
-    took_same (sym (c.in_ok-datum_but.ensures ∙ ap (λ i. tree.datum_but (datatype_view c.args.datatype) (params_view c.in_ok-params.params.items) i (pattern_view c.in_ok-except.except)) place)) (except_took (datatype_view c.args.datatype) (no_segment _ _ c.next.result c.next.ensures.next c.in_default.not-Segment) (c.in_ok-params.ensures.reads s) n.1 (c.in_ok-except.ensures.reads s))
+    took_same (sym (c.in_ok-datum_but.ensures ∙ ap (λ i. tree.datum_but (datatype_view c.args.datatype) (params_view c.in_ok-params.params.items) i (boxed_view c.in_ok-except.except)) place)) (except_took (datatype_view c.args.datatype) (no_segment _ _ c.next.result c.next.ensures.next c.in_default.not-Segment) (c.in_ok-params.ensures.reads s) n.1 (c.in_ok-except.ensures.reads s))
 
 pub behind_datatype-returns-in_err-behind-2-clause-reads : goal.behind_datatype-returns-in_err-behind-2-clause-reads
 behind_datatype-returns-in_err-behind-2-clause-reads t c =
@@ -187,7 +185,7 @@ behind_datatype-returns-in_err-behind-2-clause-reads t c =
     rw (p.1, p.2) (on_fault c.args.tokens.now c.in_ok-params.end c.args.at _ (λ s bad k. stuck_upto (datum_read (datatype_view c.args.datatype) _ c.next-2.result (no_segment _ _ c.next.result c.next.ensures.next c.in_default.not-Segment) (c.in_ok-params.ensures.reads s) c.next-2.ensures.next c.in_default-next.not-Minus) (follows_stuck _ k)) c.in_err-behind-2.ensures.skips)
 
 pub behind_datatype-returns-clause-reads : goal.behind_datatype-returns-clause-reads
-behind_datatype-returns-clause-reads t c = reads_upto pattern_view c.args.tokens.now c.in_ok-behind-2.behind c.args.at _ (λ r w. w) (λ s. upto_same (sym c.datum.ensures) (upto_then (datum_read (datatype_view c.args.datatype) _ c.next-2.result (no_segment _ _ c.next.result c.next.ensures.next c.in_default.not-Segment) (c.in_ok-params.ensures.reads s) c.next-2.ensures.next c.in_default-next.not-Minus) (follows_read _ (c.in_ok-behind-2.ensures.skips s)))) c.behind_primary-2.ensures.reads
+behind_datatype-returns-clause-reads t c = reads_upto boxed_view c.args.tokens.now c.in_ok-behind-2.behind c.args.at _ (λ r w. w) (λ s. upto_same (sym c.in_ok-datum.ensures) (upto_then (datum_read (datatype_view c.args.datatype) _ c.next-2.result (no_segment _ _ c.next.result c.next.ensures.next c.in_default.not-Segment) (c.in_ok-params.ensures.reads s) c.next-2.ensures.next c.in_default-next.not-Minus) (follows_read _ (c.in_ok-behind-2.ensures.skips s)))) c.behind_primary-2.ensures.reads
 
 pub operand-returns-in_err-body-clause-reads : goal.operand-returns-in_err-body-clause-reads
 operand-returns-in_err-body-clause-reads t c =
@@ -195,7 +193,7 @@ operand-returns-in_err-body-clause-reads t c =
     rw (p.1, p.2) (on_fault c.args.tokens.now c.args.at c.args.at _ (λ s bad k. operand_stuck k) c.in_err-body.ensures.skips)
 
 pub operand-returns-in-Some-clause-reads : goal.operand-returns-in-Some-clause-reads
-operand-returns-in-Some-clause-reads t c = reads_upto pattern_view c.args.tokens.now (c.in_ok-body.body + 1) c.args.at _ (λ r w. w) (λ s. operand_typed (c.in_ok-body.ensures.skips s) c.in-Some.ensures.names) c.behind_datatype.ensures.reads
+operand-returns-in-Some-clause-reads t c = reads_upto boxed_view c.args.tokens.now (c.in_ok-body.body + 1) c.args.at _ (λ r w. w) (λ s. operand_typed (c.in_ok-body.ensures.skips s) c.in-Some.ensures.names) c.behind_datatype.ensures.reads
 
 pub operand-returns-in_err-core-clause-reads : goal.operand-returns-in_err-core-clause-reads
 operand-returns-in_err-core-clause-reads t c =
@@ -208,7 +206,7 @@ operand-returns-in_err-behind-clause-reads t c =
     rw (p.1, p.2) (on_fault c.args.tokens.now c.in_ok-core.end c.args.at _ (λ s bad k. stuck_upto (operand_core_read (c.in_ok-body.ensures.skips s) c.in_default.ensures.names (c.in_ok-core.ensures.reads s)) (follows_stuck _ k)) c.in_err-behind.ensures.skips)
 
 pub operand-returns-clause-reads : goal.operand-returns-clause-reads
-operand-returns-clause-reads t c = reads_upto pattern_view c.args.tokens.now c.in_ok-behind.behind c.args.at _ (λ r w. w) (λ s. upto_then (operand_core_read (c.in_ok-body.ensures.skips s) c.in_default.ensures.names (c.in_ok-core.ensures.reads s)) (follows_read _ (c.in_ok-behind.ensures.skips s))) c.behind_primary.ensures.reads
+operand-returns-clause-reads t c = reads_upto boxed_view c.args.tokens.now c.in_ok-behind.behind c.args.at _ (λ r w. w) (λ s. upto_then (operand_core_read (c.in_ok-body.ensures.skips s) c.in_default.ensures.names (c.in_ok-core.ensures.reads s)) (follows_read _ (c.in_ok-behind.ensures.skips s))) c.behind_primary.ensures.reads
 
 -- ---- patterns
 
@@ -229,7 +227,7 @@ pattern-chain-init t c = record {
   inside = c.in_ok-first.ensures.inside.inside;
   so_far = λ s.
       let here = ap first c.in-Operator.ensures.next.1 in
-      operands_same c.in-Operator.operator _ _ (sym (ap (map pattern_view) (c.in_ok-push.ensures.items ∙ ap (λ l. l ++ c.in_ok-first.first ∷ []) c.new-members.ensures.items)))
+      operands_same c.in-Operator.operator _ _ (sym (c.in_ok-push_member.ensures ∙ ap (λ l. map pattern_view l ++ boxed_view c.in_ok-first.first ∷ []) c.new-members.ensures.items))
       (pattern_first c.in-Operator.operator here (c.in_ok-first.ensures.reads s), here);
 }
 
@@ -239,7 +237,7 @@ pattern-chain-preserved t c =
     record {
       further = omega (arith, c.in_ok-member.ensures.inside.further);
       inside = c.in_ok-member.ensures.inside.inside;
-      so_far = λ s. operands_same c.in-Operator.operator _ _ (sym (ap (map pattern_view) c.in_ok-push-2.ensures.items ∙ map-append pattern_view c.chain.members.items (c.in_ok-member.member ∷ [])))
+      so_far = λ s. operands_same c.in-Operator.operator _ _ (sym c.in_ok-push_member-2.ensures)
           (chain_read (operands_chain c.in-Operator.operator) _ _ _ (c.chain.invariant.so_far s) here.1 (c.in_ok-member.ensures.reads s));
     }
 
@@ -253,4 +251,4 @@ pub pattern-returns-clause-inside : goal.pattern-returns-clause-inside
 pattern-returns-clause-inside t c = record { further = c.chain.invariant.further; inside = c.chain.invariant.inside }
 
 pub pattern-returns-clause-reads : goal.pattern-returns-clause-reads
-pattern-returns-clause-reads t c = λ s. took_same (sym c.chain-2.ensures) (chain_end (operands_chain c.in-Operator.operator) (map pattern_view c.chain.members.items) _ _ (c.chain.invariant.so_far s) c.chain-test.ensures.is)
+pattern-returns-clause-reads t c = λ s. took_same (sym c.in_ok-chain.ensures) (chain_end (operands_chain c.in-Operator.operator) (map pattern_view c.chain.members.items) _ _ (c.chain.invariant.so_far s) c.chain-test.ensures.is)

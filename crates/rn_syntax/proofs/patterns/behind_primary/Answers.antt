@@ -1,7 +1,7 @@
 -- A postfix repeats the primary; what else comes leaves it.
 use Rattle.std.proofs.Common.{◌+◌, sym}
 use Rattle.std.proofs.lemmas.Result.{err_from_is_err_and}
-use Rattle.rn_syntax.specs.View.{pattern_view}
+use Rattle.rn_syntax.specs.View.{boxed_view}
 use Rattle.rn_syntax.proofs.Compose.{on_fault, took_same}
 use Rattle.rn_syntax.proofs.Operands.{alone_took, repeated_took, repeated_stuck}
 use Rattle.rn_syntax.proofs.patterns.behind_primary.Goals as goal
@@ -12,7 +12,7 @@ returns-in_default-clause-reads c = λ s. alone_took _ _ _ c.next.result c.next.
 pub returns-in_err-behind-clause-reads : goal.returns-in_err-behind-clause-reads
 returns-in_err-behind-clause-reads c =
     let p = err_from_is_err_and c.from_residual.result c.from_residual.ensures.1 in
-    rw (p.1, p.2) (on_fault c.args.tokens.now (c.args.at + 1) c.args.at _ (λ s bad k. repeated_stuck (pattern_view c.args.primary) c.in-Postfix.postfix c.in-Postfix.ensures.next.1 k) c.in_err-behind.ensures.skips)
+    rw (p.1, p.2) (on_fault c.args.tokens.now (c.args.at + 1) c.args.at _ (λ s bad k. repeated_stuck (boxed_view c.args.primary) c.in-Postfix.postfix c.in-Postfix.ensures.next.1 k) c.in_err-behind.ensures.skips)
 
 pub returns-clause-reads : goal.returns-clause-reads
 returns-clause-reads c = λ s. took_same (sym c.in_ok-repeated.ensures) (repeated_took _ _ c.in-Postfix.ensures.next.1 (c.in_ok-behind.ensures.skips s))

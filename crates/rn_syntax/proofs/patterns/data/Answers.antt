@@ -12,7 +12,7 @@ returns-in_err-text-clause-reads c =
     rw (p.1, p.2) (on_fault c.args.tokens.now c.args.at c.args.at _ (λ s bad k. value_stuck (datatype_view c.args.datatype) c.in-Segment.ensures.next.1 k) c.in_err-text.ensures.reads)
 
 pub returns-in-Segment-clause-reads : goal.returns-in-Segment-clause-reads
-returns-in-Segment-clause-reads c = λ s. took_same (sym c.value.ensures) (value_took (datatype_view c.args.datatype) c.in-Segment.ensures.next.1 (c.in_ok-text.ensures.reads s))
+returns-in-Segment-clause-reads c = λ s. took_same (sym c.in_ok-value.ensures) (value_took (datatype_view c.args.datatype) c.in-Segment.ensures.next.1 (c.in_ok-text.ensures.reads s))
 
 pub returns-in_err-params-clause-reads : goal.returns-in_err-params-clause-reads
 returns-in_err-params-clause-reads c =
@@ -23,4 +23,4 @@ returns-in_err-params-clause-reads c =
 pub returns-clause-reads : goal.returns-clause-reads
 returns-clause-reads c = λ s.
     let e = no_segment _ _ c.next.result c.next.ensures.next c.in_default.not-Segment in
-    took_same (sym c.datum.ensures) (datum_took (datatype_view c.args.datatype) e (c.in_ok-params.ensures.reads s))
+    took_same (sym c.in_ok-datum.ensures) (datum_took (datatype_view c.args.datatype) e (c.in_ok-params.ensures.reads s))

@@ -1,8 +1,5 @@
-use Rattle.std.proofs.Common.{ap, ◌∙◌}
-use Rattle.rn_syntax.specs.Tree as t
-use Rattle.rn_syntax.specs.View.{pattern_view}
-use Rattle.rn_syntax.proofs.PatternViews.{view-Repeated}
+use Rattle.rn_syntax.proofs.PatternViews.{boxed_is, view-Repeated}
 use Rattle.rn_syntax.proofs.patterns.repeated.Goals as goal
 
 pub returns : goal.returns
-returns c = view-Repeated _ _ ∙ ap (λ p. t.repeated c.args.postfix (pattern_view p)) c.in_ok-new.ensures.ok
+returns c = boxed_is _ c.boxed.result c.boxed.ensures (view-Repeated _ _)
