@@ -1,4 +1,4 @@
--- Parts of declarations: what is left of them behind their first word.
+-- Parts of declarations: what is left of them behind their first word (compact syntax, section 2, decl).
 use Rattle.std.specs.Prelude.{ℕ, List, ◌∷◌, Option, Some, None}
 use Rattle.rn_syntax.specs.declared.token.Keyword.TheVariants as k
 use Rattle.rn_syntax.specs.declared.token.Method.TheVariants as m

@@ -1,4 +1,5 @@
--- The faults of a module that the grammar leaves open, each kind over the whole module and at its first place.
+-- The faults of a module that the grammar leaves open, each kind over the whole module and at its first place (compact syntax,
+-- section 2; RELAX NG 2001, 7.1.4).
 use Rattle.std.specs.Prelude.{◌≡◌, ℕ, List, map, Some, None}
 use Rattle.rn_text.specs.declared.source.Token.{Token}
 use Rattle.rn_text.specs.Tokens.{lexeme_of}

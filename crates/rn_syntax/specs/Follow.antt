@@ -1,4 +1,4 @@
--- What may stand behind each production, told by its first token.
+-- What may stand behind each production, told by its first token (compact syntax, section 2).
 use Rattle.std.specs.Prelude.{◌≡◌, Bool, true, false, [], ◌∷◌, ⊤}
 use Rattle.rn_syntax.specs.declared.token.Keyword.TheVariants as k
 use Rattle.rn_syntax.specs.declared.token.Postfix.TheVariants as p

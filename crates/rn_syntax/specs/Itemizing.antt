@@ -1,4 +1,4 @@
--- Items of which the first stands behind its annotation.
+-- Items of which the first stands behind its annotation (compact syntax, section 2, grammarContent).
 use Rattle.std.specs.Prelude.{List, ◌∷◌}
 use Rattle.rn_syntax.specs.Tree.{Item}
 use Rattle.rn_syntax.specs.Grammar.{Tokens, AreItems}

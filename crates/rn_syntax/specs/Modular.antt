@@ -1,4 +1,4 @@
--- Parts of modules.
+-- Parts of modules (compact syntax, section 2, topLevel).
 use Rattle.std.specs.Prelude.{ℕ, List, ◌∷◌}
 use Rattle.rn_text.specs.declared.source.Token.{Token}
 use Rattle.rn_syntax.specs.declared.token.Keyword.TheVariants as k

@@ -1,4 +1,4 @@
--- Parts of patterns: what is left of a production behind its front.
+-- Parts of patterns: what is left of a production behind its front (compact syntax, section 2, pattern).
 use Rattle.std.specs.Prelude.{ℕ, List, ◌∷◌, Some}
 use Rattle.rn_syntax.specs.declared.token.Postfix.{Postfix}
 use Rattle.rn_syntax.specs.Terminal.{◌#◌, postfix, minus, left_brace, right_brace}

@@ -1,4 +1,4 @@
-// Annotations and notes, which leave nothing in the tree.
+// Annotations and notes, which leave nothing in the tree (compact syntax, section 2, annotations).
 ghost use Rattle.std.specs.Prelude.{◌≡◌, ◌≤◌, ◌<◌, length, IfOk, IfSome, IsTrue};
 ghost use Rattle.rn_syntax.specs.Follow.{Starts, Anything, no_bracket, no_follow};
 ghost use Rattle.rn_syntax.specs.Grammar.{Closed, IsAnnotation, MayHaveAnnotation, AreFollows};

@@ -1,4 +1,4 @@
-// Datatypes and their parameters.
+// Datatypes and their parameters (compact syntax, section 2, datatypeName and param).
 ghost use Rattle.std.specs.Prelude.{◌≡◌, ◌≤◌, ◌<◌, ◌+◌, length, false, IfOk, IfSome, IsTrue, MatchOption};
 ghost use Rattle.rn_syntax.specs.Follow.{Starts, begins_datatype, first, is_end, no_brace, no_tilde};
 ghost use Rattle.rn_syntax.specs.Grammar.{IsDatatype, MayHaveParams};

@@ -1,4 +1,4 @@
-// Declarations of prefixes.
+// Declarations of prefixes (compact syntax, section 2, decl).
 ghost use Rattle.std.specs.Prelude.{◌≡◌, ◌≤◌, ◌<◌, length, map, IfOk, IsTrue};
 ghost use Rattle.rn_syntax.specs.Declaring.{IsDatatypesEnd, IsDefaultEnd, IsNamespaceEnd, MayHaveDefaultPrefix};
 ghost use Rattle.rn_syntax.specs.Follow.{Starts, Anything, begins_declaration, begins_item, first, no_tilde, no_word};

@@ -6,7 +6,8 @@ ghost use Rattle.rn_syntax.specs.View.{item_view, items_view, module_view};
 use crate::tree::{Item, Module};
 use std::alloc::{AllocError, Global};
 
-/// The literals of a module's includes, in the order of the text.
+/// The literals of a module's includes (RELAX NG Compact Syntax, 2, include), in the order of the text. Refused
+/// only where memory is.
 pub fn includes<'m>(alloc: Global, module: &'m Module<'_>) -> Result<Vec<&'m str>, AllocError>
     ensures { IfOk result (λ found. map (λ s. s.now) found.items ≡ tree.includes (module_view «module».now).items) }
 {

@@ -1,4 +1,4 @@
-// The items of a grammar, and those of an include.
+// The items of a grammar, and those of an include (compact syntax, section 2, grammarContent and includeContent).
 ghost use Rattle.std.specs.Prelude.{◌≡◌, ◌≤◌, ◌<◌, length, map, IfOk, IsTrue};
 ghost use Rattle.std.specs.Cow.{cow_str_bytes};
 ghost use Rattle.rn_syntax.specs.Follow.{Anything, Starts, begins_item, behind_pattern, first, is_end, no_brace, no_inherit};

@@ -1,4 +1,4 @@
-// Literals.
+// Literals (compact syntax, section 2, literal).
 ghost use Rattle.std.specs.Prelude.{◌≡◌, ◌≤◌, ◌<◌, length, true, IfOk};
 ghost use Rattle.std.specs.Cow.{cow_str_bytes};
 ghost use Rattle.std.specs.Str.{chars, encode_utf8_all};

@@ -1,4 +1,4 @@
-// Name classes.
+// Name classes (compact syntax, section 2, nameClass).
 ghost use Rattle.std.specs.Prelude.{◌≡◌, ◌≤◌, ◌<◌, ◌+◌, length, false, IfOk, IfSome, MatchOption};
 ghost use Rattle.rn_syntax.specs.Follow.{Starts, Anything, begins_any, behind_class, behind_name, first};
 ghost use Rattle.rn_syntax.specs.Grammar.{IsAnyName, IsClassCore, IsClassOperand, IsClassPrimary, IsNameClass};

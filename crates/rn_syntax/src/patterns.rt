@@ -1,4 +1,4 @@
-// Patterns.
+// Patterns (compact syntax, section 2, pattern).
 ghost use Rattle.std.specs.Prelude.{◌≡◌, ◌≤◌, ◌<◌, ◌++◌, ◌∷◌, [], Some, None, false, length, map, IfOk, IsTrue, OnOk};
 ghost use Rattle.std.specs.Cow.{cow_str_bytes};
 ghost use Rattle.rn_syntax.specs.Follow.{Anything, Starts, begins_datatype, behind_core, behind_operand, behind_pattern, behind_primary, first};

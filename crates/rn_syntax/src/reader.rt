@@ -105,7 +105,7 @@ fn fault(alloc: Global, module: &Module<'_>) -> Result<Option<SyntaxFault>, Allo
     Ok(items_fault(&bindings, module))
 }
 
-/// The one module that the tokens spell, or the first fault.
+/// The one module that the tokens spell (RELAX NG Compact Syntax, 2), or the first fault.
 ///
 /// Tested in this order, each over all tokens and each with its first place in bytes: `Deep`, `Syntax`, `Prefix`,
 /// `Builtin`, `ContextValue`, `Except`. `Memory` stands only where memory was refused. The tokens before the place of `Syntax`
