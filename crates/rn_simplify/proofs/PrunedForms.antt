@@ -1,6 +1,6 @@
 -- The forms that are reached, sorted by their names, are the grammar of forms, pruned.
 use Rattle.std.proofs.Common.{◌≡◌, ⊎_elim, ◌+◌, ◌<◌, ℕ, zero, suc, Bool, true, false, cond, List, [], ◌∷◌, length, map, get_or, reverse, position, Some, refl, sym, ap, ◌∙◌, subst, arith, Ordering, Less, Equal, Greater, Bor}
-use Rattle.std.specs.Prelude.{bytes_eq, Contains, Decides, IsPermutation, IsSortedBy, String, string_bytes}
+use Rattle.std.specs.Prelude.{bytes_eq, Contains, IsPermutation, IsSortedBy, String, string_bytes}
 use Rattle.std.specs.Ordering.{is_lt, ordering_reverse}
 use Rattle.std.specs.Cmp.{IsStrictWeakOrder}
 use Rattle.std.specs.Fn.{ComparesAs, Called}
@@ -22,10 +22,10 @@ use Rattle.rn_pattern.specs.Reached.{IsReached, IsPruned}
 use Rattle.rn_pattern.specs.View.{pattern_view}
 use Rattle.rn_pattern.specs.declared.tree.Pattern.{Pattern}
 use Rattle.rn_pattern.proofs.InOrder.{contains_front, contains_behind, contains_cases}
-use Rattle.rn_assemble.specs.Graph.{Reached, is_marked}
+use Rattle.rn_assemble.specs.Graph.{is_marked}
 use Rattle.rn_assemble.specs.GrammarView.{definitions_view}
 use Rattle.rn_simplify.specs.Marked.{marked}
-use Rattle.rn_simplify.specs.Numbered.{graph_of, numbers_of, rows_by, start_of}
+use Rattle.rn_simplify.specs.Numbered.{MarksReached, numbers_of, rows_by}
 use Rattle.rn_simplify.specs.Referred.{Scope, references}
 use Rattle.rn_simplify.proofs.Ordered.{equal_is}
 use Rattle.rn_simplify.proofs.ReferredIn.{contains_none}
@@ -136,7 +136,7 @@ numbers_same ds es xs e = λ i. filter_map (λ x. position (bytes_eq x) (sym e i
 
 -- the pruned grammar: N has those of F that have a mark, in the order of their names
 module _ (F : Grammar) (forms kept : List (String Global × Pattern)) (marks : List Bool) (whole : definitions_view forms ≡ F.definitions) (moved : IsPermutation (reverse (marked marks forms)) kept)
-    (exact : (k : ℕ) → Decides (is_marked marks k) (Reached (graph_of F) (start_of F) k)) where
+    (exact : MarksReached F marks) where
   shuffled : IsPermutation (marked marks forms) kept
   shuffled = IsPermutation-trans (marked marks forms) (reverse (marked marks forms)) kept (IsPermutation-reverse (marked marks forms)) moved
 

@@ -1,6 +1,6 @@
 -- Definitions that are reached, sorted by ranks along references outside elements, can be settled in that order.
 use Rattle.std.proofs.Common.{◌≡◌, ◌⊎◌, inl, inr, ◌<◌, ◌≤◌, ℕ, Bool, true, false, cond, nat_eq, List, [], length, take, get_or, Option, Some, None, refl, sym, ap, ◌∙◌, subst, arith, Vec}
-use Rattle.std.specs.Prelude.{bytes_eq, Contains, Decides, IsSomeAnd, IsPermutation, String, string_bytes}
+use Rattle.std.specs.Prelude.{bytes_eq, Contains, IsSomeAnd, IsPermutation, String, string_bytes}
 use Rattle.std.specs.declared.alloc.Global.{Global}
 use Rattle.std.specs.Option.{option_map_or}
 use Rattle.std.specs.List.Sorted.{IsNonDecreasingBy}
@@ -17,12 +17,12 @@ use Rattle.rn_pattern.specs.declared.tree.Pattern.{Pattern}
 use Rattle.rn_pattern.specs.Matching.{Grammar, definition_of}
 use Rattle.rn_pattern.specs.Reached.{RefersTo, IsReached, by_start, by_definition}
 use Rattle.rn_pattern.specs.References.{RefersOutside, Reaches, by_one, by_more, LeadsTo}
-use Rattle.rn_assemble.specs.Graph.{AllBelow, IsGraph, Reached, is_marked, row, rows_of}
+use Rattle.rn_assemble.specs.Graph.{AllBelow, IsGraph, is_marked, row, rows_of}
 use Rattle.rn_assemble.specs.GrammarView.{definitions_view}
 use Rattle.rn_assemble.specs.Order.{Leads, by_edge, and_edge, rank_of, IsRanking}
 use Rattle.rn_assemble.specs.WellFormed.{IsWellFormed}
 use Rattle.rn_simplify.specs.Marked.{ArePlaces}
-use Rattle.rn_simplify.specs.Numbered.{graph_of, number_of, numbers_of, start_of}
+use Rattle.rn_simplify.specs.Numbered.{MarksReached, number_of, numbers_of}
 use Rattle.rn_simplify.specs.Referred.{references}
 use Rattle.rn_simplify.specs.Settling.{IsSettlingOrder}
 use Rattle.rn_simplify.specs.declared.references.Scope.TheVariants.{OutsideElements}
@@ -50,7 +50,7 @@ taken_at xs i j v l h e = (j, omega (arith, length-take-le i xs l, h), get_or-ta
 pub before_taken : (xs : List ℕ) (i v : ℕ) → i ≤ length xs → Contains (take i xs) v → (j : ℕ) × (j < i) × (get_or xs j v ≡ v)
 before_taken xs i v l (j, h, e) = let m : j < i = omega (arith, length-take-le i xs l, h) in (j, m, sym (get_or-take i xs j v m) ∙ e)
 
-module _ (G : Grammar) (marks : List Bool) (outs : List (List ℕ)) (marked : (k : ℕ) → Decides (is_marked marks k) (Reached (graph_of G) (start_of G) k)) where
+module _ (G : Grammar) (marks : List Bool) (outs : List (List ℕ)) (marked : MarksReached G marks) where
   abbrev ds : List (Text × Tree)
   ds = G.definitions
 

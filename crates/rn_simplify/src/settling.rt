@@ -1,13 +1,13 @@
 // The definitions of a grammar in an order in which each comes after those that it refers to outside elements (RELAX NG, 4.19).
-ghost use Rattle.std.specs.Prelude.{◌≡◌, ◌<◌, [], ℕ, Decides, IfOk, length, cond, slice_index_or};
-ghost use Rattle.rn_assemble.specs.Graph.{AllBelow, IsGraph, Reached, is_marked, row, rows_of};
+ghost use Rattle.std.specs.Prelude.{◌≡◌, ◌<◌, [], ℕ, IfOk, length, cond, slice_index_or};
+ghost use Rattle.rn_assemble.specs.Graph.{AllBelow, IsGraph, is_marked, row, rows_of};
 ghost use Rattle.rn_assemble.specs.Order.{HasNoLoop, IsRanking};
 ghost use Rattle.rn_assemble.specs.GrammarView.{definitions_view, grammar_view};
 ghost use Rattle.rn_assemble.specs.WellFormed.{IsWellFormed};
 ghost use Rattle.rn_pattern.specs.Tree.{Text, Tree};
 ghost use Rattle.rn_pattern.specs.View.{pattern_view};
 ghost use Rattle.rn_simplify.specs.Marked.{ArePlaces};
-ghost use Rattle.rn_simplify.specs.Numbered.{graph_of, numbers_of, rows_by, start_of};
+ghost use Rattle.rn_simplify.specs.Numbered.{MarksReached, numbers_of, rows_by};
 ghost use Rattle.rn_simplify.specs.Referred.{references};
 ghost use Rattle.rn_simplify.specs.Settling.{IsSettlingOrder};
 ghost use Rattle.rn_simplify.specs.declared.references.Scope.TheVariants.{Everywhere, OutsideElements};
@@ -83,8 +83,7 @@ fn places(alloc: Global, marks: &[bool]) -> Result<Vec<usize>, AllocError>
 /// For each definition, whether the start reaches it.
 fn reached_definitions(alloc: Global, grammar: &Grammar) -> Result<Vec<bool>, AllocError>
     ensures size { IfOk result (λ v. length v.items ≡ length (grammar_view grammar.now).definitions) }
-    ensures exact { IfOk result (λ v. (k : ℕ) → Decides (is_marked v.items k)
-        (Reached (graph_of (grammar_view grammar.now)) (start_of (grammar_view grammar.now)) k)) }
+    ensures exact { IfOk result (λ v. MarksReached (grammar_view grammar.now) v.items) }
 {
     let names = grammar.defs();
     let rows = all_references(alloc, names)?;
