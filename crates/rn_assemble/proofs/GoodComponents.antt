@@ -11,6 +11,7 @@ use Rattle.rn_modset.specs.Modules as effective
 use Rattle.rn_syntax.specs.Tree as t
 use Rattle.rn_syntax.specs.Tree.{Declaration, Item, Items, Module, NameClass}
 use Rattle.rn_syntax.specs.Places.{class_places, unbound_type, wrong_builtin, context_value, inherit_places, declarations_places, item_places, items_places, prefix_places, builtin_places, context_places, except_places}
+use Rattle.rn_syntax.proofs.EmptyLists.{nil_parts}
 use Rattle.rn_assemble.specs.Texts.{IsXml}
 use Rattle.rn_assemble.specs.Components.{Component, Source, has_key, overridden, handed_on, item_components, all_components, module_components, modules_named, components_within, components, instance_limit, roots, set_components}
 use Rattle.rn_assemble.specs.Refusal.{TextFault, prefix, builtin, context_value as context_fault, except, IsModuleOf, HasFault, AreModules, grammar_of}
@@ -19,7 +20,6 @@ use Rattle.rn_assemble.proofs.ComponentExcepts.{in_item, in_items, resolved_has,
 use Rattle.rn_assemble.proofs.GoodTrees.{IsGoodItem, AreGoodItems, AreGoodDeclarations, IsGoodModule, module_good}
 use Rattle.rn_assemble.proofs.GoodPatterns.{default_xml, namespace_xml, has_none, resolved_writable}
 use Rattle.rn_assemble.proofs.JoinedKept.{IsWritableComponent, joined_writable}
-use Rattle.rn_assemble.proofs.OneModule.{nil_parts}
 use Rattle.rn_assemble.proofs.Terminals.{xml_nothing, tokens_good}
 
 module _ (ds : List Declaration) where

@@ -17,6 +17,7 @@ use Rattle.rn_pattern.proofs.InOrder.{contains_cases}
 use Rattle.rn_pattern.proofs.OpenedKeeps.{opened_valid}
 use Rattle.rn_syntax.specs.Tree as t
 use Rattle.rn_syntax.specs.Tree.{Declaration, Module}
+use Rattle.rn_syntax.proofs.EmptyLists.{nil_parts}
 use Rattle.rn_assemble.specs.Components.{Key, start_key, name_key, same_key, Component, Source, has_key, item_includes, includes, Includes, components, instances, instances_within, roots, set_components}
 use Rattle.rn_assemble.specs.Combine.{of_key, bodies, combined, IsPlainTwice, IsMixed, IsCombination, join, joined, joined_grammar, read, components_of, AreDistinct}
 use Rattle.rn_assemble.specs.WellFormed.{IsWellFormed}
@@ -24,7 +25,7 @@ use Rattle.rn_assemble.specs.Refusal.{Refusal, conflict, faulty, missing, cycle,
 use Rattle.rn_assemble.proofs.Combinations.{combined_valid, some_joined, joined_definition}
 use Rattle.rn_assemble.proofs.Joined.{plain_once, not_mixed, sorted_distinct, mapped_distinct}
 use Rattle.rn_assemble.proofs.JoinedKept.{joined_excepts, joined_definition_excepts}
-use Rattle.rn_assemble.proofs.OneModule.{nil_parts, one_module}
+use Rattle.rn_assemble.proofs.OneModule.{one_module}
 use Rattle.rn_simplify.specs.ReadBack.{IsReadBack}
 use Rattle.rn_pattern.proofs.Pruned.{canonical_grammar_valid}
 use Rattle.rn_simplify.proofs.FixedPoint.{fixed_point, one_canonical}
