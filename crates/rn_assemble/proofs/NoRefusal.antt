@@ -174,7 +174,8 @@ module _ (G : Grammar) where
 keys_of : List Component → List Key
 keys_of cs = map (λ (c : Component). c.key) cs
 
-key_is : (k l : Key) → same_key k l ≡ true → k ≡ l
+-- keys that are the same by test are equal
+pub key_is : (k l : Key) → same_key k l ≡ true → k ≡ l
 key_is start_key start_key e = refl
 key_is start_key (name_key y) e = absurd (false≢true e)
 key_is (name_key x) start_key e = absurd (false≢true e)

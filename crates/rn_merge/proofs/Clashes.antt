@@ -1,21 +1,15 @@
 -- A set without refusal has no name that is plain twice, and none that is combined by both methods.
-use Rattle.std.proofs.Common.{◌≡◌, ◌≢◌, ◌<◌, ◌⊎◌, inl, inr, Bool, true, false, cond, ◌&&◌, List, [], ◌∷◌, map, refl, sym, ap, subst, ◌∙◌, arith}
+use Rattle.std.proofs.Common.{◌≡◌, ◌≢◌, ◌<◌, ◌⊎◌, inl, inr, Bool, true, false, cond, ◌&&◌, List, [], ◌∷◌, map, refl, sym, subst, arith}
 use Rattle.std.specs.Prelude.{count_by}
 use Rattle.std.specs.List.{list_any}
-use Rattle.std.specs.Cmp.Lexicographic.{bytes_decides}
 use Rattle.std.proofs.lemmas.Bool.{false≢true}
 use Rattle.rn_modset.specs.Contributions.{Member}
 use Rattle.rn_modset.proofs.Membership.{In, contains_from_in}
-use Rattle.rn_assemble.specs.Components.{Key, start_key, name_key, same_key, Component, Source, set_components}
+use Rattle.rn_assemble.specs.Components.{Key, same_key, Component, Source, set_components}
 use Rattle.rn_assemble.specs.Combine.{of_key, is_plain, is_choice, is_interleave, IsPlainTwice, IsMixed}
 use Rattle.rn_assemble.specs.Refusal.{Refusal, plain_twice, mixed_methods, Stands, AreModules}
 use Rattle.rn_assemble.proofs.NoLeast.{no_key}
-
-key_is : (k l : Key) → same_key k l ≡ true → k ≡ l
-key_is start_key start_key e = refl
-key_is start_key (name_key y) e = absurd (false≢true e)
-key_is (name_key x) start_key e = absurd (false≢true e)
-key_is (name_key x) (name_key y) e = ap name_key ((bytes_decides x y).0 e)
+use Rattle.rn_assemble.proofs.NoRefusal.{key_is}
 
 abbrev keys : List Component → List Key
 keys cs = map (λ (c : Component). c.key) cs
