@@ -1,5 +1,5 @@
 // The grammar of components: the combined pattern of each key, by the names of the definitions.
-ghost use Rattle.std.specs.Prelude.{◌≡◌, ◌∷◌, ◌++◌, List, [], None, false, true, bytes_eq, map, slice_index_or, slice_set, IfErr, IfOk, MatchResult, OnOk};
+ghost use Rattle.std.specs.Prelude.{◌≡◌, ◌∷◌, ◌++◌, List, [], None, false, true, bytes_eq, map, slice_index_or, slice_set, IfOk, MatchResult, OnOk};
 ghost use Rattle.std.specs.List.{list_any};
 ghost use Rattle.std.specs.List.Sorted.{IsStrictlySortedBy};
 ghost use Rattle.rn_pattern.specs.Order.{text_cmp};
@@ -12,7 +12,6 @@ ghost use Rattle.rn_assemble.specs.Joining.{IsJoinedGrammar, IsMisnamed};
 ghost use Rattle.rn_assemble.specs.Listed.{Lists, Live, components_in};
 ghost use Rattle.rn_assemble.specs.Patterns.{HavePatterns, IsFirstAt};
 ghost use Rattle.rn_assemble.specs.Views.{names_of};
-ghost use Rattle.rn_assemble.specs.declared.refusal.Refusal.TheVariants.{Memory};
 
 use crate::combining::combined;
 use crate::components::Components;
@@ -21,7 +20,7 @@ use crate::keys::{Keys, START};
 use crate::refusal::Refusal;
 use indexmap::IndexMap;
 use rn_pattern::Pattern;
-use std::alloc::Global;
+use std::alloc::{AllocError, Global};
 
 /// The combined patterns, those of names in the order of each one's first component.
 pub(crate) fn grammar(
@@ -46,9 +45,8 @@ fn definitions(
     keys: &Keys<'_>,
     components: &Components<'_, '_, '_>,
     patterns: &mut Vec<Option<Pattern>>,
-) -> Result<IndexMap<String, Pattern>, Refusal>
-    ensures memory { IfErr result (λ r. r ≡ Memory) }
-    ensures exact { (live : List Live) → Lists (names_of keys.now) components.now live → IsStrictlySortedBy text_cmp (names_of keys.now)
+) -> Result<IndexMap<String, Pattern>, AllocError>
+    ensures { (live : List Live) → Lists (names_of keys.now) components.now live → IsStrictlySortedBy text_cmp (names_of keys.now)
         → HavePatterns (names_of keys.now) (components_in live) [] patterns.old.items
         → IfOk result (λ defs. definitions_view defs.entries ≡ (joined_grammar (components_in live)).definitions) }
 {
@@ -69,9 +67,8 @@ fn define(
     defs: &mut IndexMap<String, Pattern>,
     name: &str,
     pattern: Pattern,
-) -> Result<(), Refusal>
-    ensures memory { IfErr result (λ r. r ≡ Memory) }
-    ensures added { OnOk result (list_any (bytes_eq name.now) (map (λ (d : Text × Tree). d.0) (definitions_view defs.old.entries)) ≡ false
+) -> Result<(), AllocError>
+    ensures { OnOk result (list_any (bytes_eq name.now) (map (λ (d : Text × Tree). d.0) (definitions_view defs.old.entries)) ≡ false
         → definitions_view defs.new.entries ≡ definitions_view defs.old.entries ++ (name.now, pattern_view pattern) ∷ []) }
 {
     defs.insert(String::from_str(alloc, name)?, pattern)?;

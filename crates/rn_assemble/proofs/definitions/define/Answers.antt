@@ -7,8 +7,8 @@ use Rattle.rn_assemble.specs.GrammarView.{definitions_view}
 use Rattle.rn_assemble.proofs.Defining.{inserted}
 use Rattle.rn_assemble.proofs.definitions.define.Goals as goal
 
-pub returns-clause-added : goal.returns-clause-added
-returns-clause-added c = λ new.
+pub returns : goal.returns
+returns c = λ new.
     let before = c.args.defs.now.entries in
     let name : string_bytes c.in_ok-from_str.field-0 ≡ c.args.name.now = c.in_ok-from_str.ensures.ok in
     let absent = ap (λ s. list_any (bytes_eq s) (map (λ (d : Text × Tree). d.0) (definitions_view before))) name ∙ new in

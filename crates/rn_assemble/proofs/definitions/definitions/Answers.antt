@@ -25,7 +25,7 @@ loop-place-preserved c = λ live h o p.
           let f : IsFirstAt names live place (Some w.in-Some.key) = subst (IsFirstAt names live place) w.in-Some.is first in
           let size = length-map c.args.keys.now.names.items (λ (b : Bor (List ℕ)). b.now) in
           let name : w.name.result.now ≡ get_or names (w.in-Some.key - 1) [] = w.name.ensures f.0 (omega (arith, f.1, size, c.args.keys.now.names.ok.0)) in
-          let more = defining_more names live h.rises patterns entries w.define.new.defs.entries place w.in-Some.key w.name.result.now w.in-Some-take.pattern f before (sym w.take.ensures.taken ∙ w.in-Some-take.is) name w.in_ok-define.ensures.added in
+          let more = defining_more names live h.rises patterns entries w.define.new.defs.entries place w.in-Some.key w.name.result.now w.in-Some-take.pattern f before (sym w.take.ensures.taken ∙ w.in-Some-take.is) name w.in_ok-define.ensures in
           subst (λ ps. Defining names live h.rises ps c.match-first_at.defs.entries (place + 1)) (sym (ap (λ v. v.items) w.patterns-is ∙ w.take.ensures.left))
           (subst (λ es. Defining names live h.rises (set patterns w.in-Some.key None) es (place + 1)) (sym (ap (λ m. m.entries) w.defs-is)) more)
       | in-Some+in_default-take w ↦
@@ -37,8 +37,8 @@ loop-place-preserved c = λ live h o p.
           (subst (λ es. Defining names live h.rises patterns es (place + 1)) (sym (ap (λ m. m.entries) w.defs-is)) same)
     ]
 
-pub returns-clause-exact : goal.returns-clause-exact
-returns-clause-exact c = λ live h o p.
+pub returns : goal.returns
+returns c = λ live h o p.
     let names = names_of c.args.keys.now in
     let x = c.args.components.now in
     let past : length x.list.items ≤ c.loop-place.place = omega (arith, c.loop-place-test.false, c.count-place-end.ensures, x.list.ok.0) in
