@@ -1,6 +1,6 @@
 -- The definitions of a grammar, made place by place.
 use Rattle.std.proofs.Common.{◌≡◌, ◌≢◌, ◌⊎◌, inl, inr, ℕ, zero, suc, ◌+◌, ◌-◌, ◌<◌, ◌≤◌, Bool, true, false, ◌||◌, cond, List, [], ◌∷◌, ◌++◌, length, get_or, set, map, Option, Some, None, refl, sym, ap, ◌∙◌, subst, arith, Contains}
-use Rattle.std.specs.Prelude.{bytes_eq, option_map, String, string_bytes}
+use Rattle.std.specs.Prelude.{Box, bytes_eq, option_map, String, string_bytes}
 use Rattle.std.specs.List.{AllByRecursion, list_any}
 use Rattle.std.specs.String.{string_eq}
 use Rattle.std.specs.declared.alloc.Global.{Global}
@@ -16,7 +16,7 @@ use Rattle.rn_assemble.specs.Components.{Component, Key, has_key, name_key, same
 use Rattle.rn_assemble.specs.GrammarView.{definitions_view}
 use Rattle.rn_assemble.specs.Keyed.{key_at}
 use Rattle.rn_assemble.specs.Listed.{IsLive, Live, ListsBy, Rises, components_in}
-use Rattle.rn_assemble.specs.Patterns.{AreCombined, HavePatterns, IsFirstAt, before, tree_at}
+use Rattle.rn_assemble.specs.Patterns.{AreCombined, HavePatterns, IsFirstAt, before, boxed_view, tree_at}
 use Rattle.rn_assemble.proofs.DefinedNames.{defined_known, defined_new, defined_start, names_mapped, not_among}
 use Rattle.rn_assemble.proofs.FirstPlaces.{all_before, before_more, before_next, key_there, none_before}
 use Rattle.rn_assemble.proofs.LiveLists.{each_to}
@@ -73,11 +73,11 @@ module _ (names : List Text) (live : List Live) (rises : Rises 0 live) where
   definition x = (x, joined cs (name_key x))
 
   -- the names of the components before the place are defined, and the other patterns are left
-  pub record Defining (patterns : List (Option Pattern)) (entries : List (String Global × Pattern)) (p : ℕ) : Type 0 where
+  pub record Defining (patterns : List (Option (Box Pattern Global))) (entries : List (String Global × Pattern)) (p : ℕ) : Type 0 where
     pub made : definitions_view entries ≡ map definition (defined_names (done p))
     pub left : HavePatterns names cs (done p) patterns
 
-  pub defining_begins : (patterns : List (Option Pattern)) → HavePatterns names cs [] patterns → Defining patterns [] 0
+  pub defining_begins : (patterns : List (Option (Box Pattern Global))) → HavePatterns names cs [] patterns → Defining patterns [] 0
   defining_begins patterns h =
       let none : done 0 ≡ [] = ap (λ es. components_in es) (none_before 0 0 live (omega arith) rises) in
       record {
@@ -89,7 +89,7 @@ module _ (names : List Text) (live : List Live) (rises : Rises 0 live) where
   one_more p e c s = ap (λ es. components_in es) (before_more 0 p live e rises c s) ∙ map-append (λ (d : Live). d.component) (before p live) (e ∷ [])
 
   -- no name begins at the place
-  pub defining_same : (patterns : List (Option Pattern)) (entries : List (String Global × Pattern)) (p : ℕ) → IsFirstAt names live p None → Defining patterns entries p → Defining patterns entries (p + 1)
+  pub defining_same : (patterns : List (Option (Box Pattern Global))) (entries : List (String Global × Pattern)) (p : ℕ) → IsFirstAt names live p None → Defining patterns entries p → Defining patterns entries (p + 1)
   defining_same patterns entries p f h = elim (before_next p live) [
     | inl k ↦
         let more = one_more p k.0 k.1 k.2 in
@@ -105,19 +105,19 @@ module _ (names : List Text) (live : List Live) (rises : Rises 0 live) where
         }
   ]
 
-  pattern_is : (patterns : List (Option Pattern)) (entries : List (String Global × Pattern)) (p n : ℕ) → IsFirstAt names live p (Some n) → Defining patterns entries p → tree_at patterns n ≡ Some (joined cs (key_at names n))
+  pattern_is : (patterns : List (Option (Box Pattern Global))) (entries : List (String Global × Pattern)) (p n : ℕ) → IsFirstAt names live p (Some n) → Defining patterns entries p → tree_at patterns n ≡ Some (joined cs (key_at names n))
   pattern_is patterns entries p n f h =
       h.left n f.0 f.1 f.3 ∙ ap (λ b. cond b (Some (joined cs (key_at names n))) None) (key_there (key_at names n) live f.2.0 f.2.1 f.2.3)
 
   -- the pattern of a name that begins at the place is there
-  pub pattern_there : (patterns : List (Option Pattern)) (entries : List (String Global × Pattern)) (p n : ℕ) → IsFirstAt names live p (Some n) → Defining patterns entries p → get_or patterns n None ≡ None → ⊥
+  pub pattern_there : (patterns : List (Option (Box Pattern Global))) (entries : List (String Global × Pattern)) (p n : ℕ) → IsFirstAt names live p (Some n) → Defining patterns entries p → get_or patterns n None ≡ None → ⊥
   pattern_there patterns entries p n f h none =
       let is = pattern_is patterns entries p n f h in
-      let wrong : None ≡ Some (joined cs (key_at names n)) = sym (ap (option_map pattern_view) none) ∙ is in cc
+      let wrong : None ≡ Some (joined cs (key_at names n)) = sym (ap (option_map boxed_view) none) ∙ is in cc
 
   -- a name begins there, and its definition is added
-  pub defining_more : (patterns : List (Option Pattern)) (entries entries' : List (String Global × Pattern)) (p n : ℕ) (s : Text) (q : Pattern) → IsFirstAt names live p (Some n) → Defining patterns entries p
-      → get_or patterns n None ≡ Some q → s ≡ get_or names (n - 1) [] → (list_any (bytes_eq s) (map (λ (d : Text × Tree). d.0) (definitions_view entries)) ≡ false → definitions_view entries' ≡ definitions_view entries ++ (s, pattern_view q) ∷ [])
+  pub defining_more : (patterns : List (Option (Box Pattern Global))) (entries entries' : List (String Global × Pattern)) (p n : ℕ) (s : Text) (q : Box Pattern Global) → IsFirstAt names live p (Some n) → Defining patterns entries p
+      → get_or patterns n None ≡ Some q → s ≡ get_or names (n - 1) [] → (list_any (bytes_eq s) (map (λ (d : Text × Tree). d.0) (definitions_view entries)) ≡ false → definitions_view entries' ≡ definitions_view entries ++ (s, boxed_view q) ∷ [])
       → Defining (set patterns n None) entries' (p + 1)
   defining_more patterns entries entries' p n s q f h is name added =
       let x = get_or names (n - 1) [] in
@@ -126,8 +126,8 @@ module _ (names : List Text) (live : List Live) (rises : Rises 0 live) where
       let absent : has_key (name_key x) (done p) ≡ false = ap (λ k. has_key k (done p)) (sym key) ∙ f.3 in
       let new : list_any (bytes_eq s) (map (λ (d : Text × Tree). d.0) (definitions_view entries)) ≡ false =
       (λ i. list_any (bytes_eq (name i)) (map (λ (d : Text × Tree). d.0) (h.made i))) ∙ ap (list_any (bytes_eq x)) (names_mapped (λ y. joined cs (name_key y)) (defined_names (done p))) ∙ not_among x (done p) absent in
-      let tree : Some (pattern_view q) ≡ Some (joined cs (key_at names n)) = sym (ap (option_map pattern_view) is) ∙ pattern_is patterns entries p n f h in
-      let body : pattern_view q ≡ joined cs (name_key x) = let here : pattern_view q ≡ joined cs (key_at names n) = cc in here ∙ ap (joined cs) key in
+      let tree : Some (boxed_view q) ≡ Some (joined cs (key_at names n)) = sym (ap (option_map boxed_view) is) ∙ pattern_is patterns entries p n f h in
+      let body : boxed_view q ≡ joined cs (name_key x) = let here : boxed_view q ≡ joined cs (key_at names n) = cc in here ∙ ap (joined cs) key in
       record {
         made = added new ∙ (λ i. h.made i ++ (name i, body i) ∷ []) ∙ sym (map-append definition (defined_names (done p)) (x ∷ []))
             ∙ ap (map definition) (sym (ap defined_names more ∙ defined_new (done p) f.2.0.component x (f.2.3 ∙ key) absent));
@@ -135,22 +135,22 @@ module _ (names : List Text) (live : List Live) (rises : Rises 0 live) where
             let before_it = ap (has_key (key_at names m)) (sym more) ∙ none in
             elim (cases_eq m n) [
               | inl same ↦ absurd (false≢true (sym before_it ∙ last_key (key_at names m) (done p) f.2.0.component (f.2.3 ∙ ap (key_at names) (sym same))))
-              | inr other ↦ ap (option_map pattern_view) (get_or-set_other patterns n m None None other) ∙ h.left m above l (fewer (key_at names m) (done p) (f.2.0.component ∷ []) before_it)
+              | inr other ↦ ap (option_map boxed_view) (get_or-set_other patterns n m None None other) ∙ h.left m above l (fewer (key_at names m) (done p) (f.2.0.component ∷ []) before_it)
             ];
       }
 
   -- behind the last place all names are defined
-  pub defining_ends : (patterns : List (Option Pattern)) (entries : List (String Global × Pattern)) (p : ℕ) → AllByRecursion (λ (e : Live). e.place < p) live → Defining patterns entries p → definitions_view entries ≡ (joined_grammar cs).definitions
+  pub defining_ends : (patterns : List (Option (Box Pattern Global))) (entries : List (String Global × Pattern)) (p : ℕ) → AllByRecursion (λ (e : Live). e.place < p) live → Defining patterns entries p → definitions_view entries ≡ (joined_grammar cs).definitions
   defining_ends patterns entries p h d = d.made ∙ ap (λ es. map definition (defined_names (components_in es))) (all_before p live h)
 
 pub places_within : (names : List Text) (bodies : List Body) (list : List ℕ) (rows : List (List ℕ)) (live : List Live) (p : ℕ) → ListsBy names bodies list rows live → length list ≤ p → AllByRecursion (λ (e : Live). e.place < p) live
 places_within names bodies list rows live p h l = each_to (IsLive names bodies list) (λ (e : Live). e.place < p) (λ e k. omega (arith, k.within, l)) live h.are
 
 -- the pattern of the start, and those that are left without it
-pub start_there : (names : List Text) (cs : List Component) (patterns : List (Option Pattern)) → AreCombined names cs patterns → has_key start_key cs ≡ true → tree_at patterns 0 ≡ Some (joined cs start_key)
+pub start_there : (names : List Text) (cs : List Component) (patterns : List (Option (Box Pattern Global))) → AreCombined names cs patterns → has_key start_key cs ≡ true → tree_at patterns 0 ≡ Some (joined cs start_key)
 start_there names cs patterns h t = h.are 0 (omega arith) ∙ ap (λ b. cond b (Some (joined cs start_key)) None) t
 
-pub others_left : (names : List Text) (cs : List Component) (patterns left : List (Option Pattern)) → AreCombined names cs patterns → left ≡ set patterns 0 None → HavePatterns names cs [] left
+pub others_left : (names : List Text) (cs : List Component) (patterns left : List (Option (Box Pattern Global))) → AreCombined names cs patterns → left ≡ set patterns 0 None → HavePatterns names cs [] left
 others_left names cs patterns left h e = λ n above l none.
     let other : n ≢ 0 = λ z. omega (arith, z, above) in
-    ap (λ ps. tree_at ps n) e ∙ ap (option_map pattern_view) (get_or-set_other patterns 0 n None None other) ∙ h.are n l
+    ap (λ ps. tree_at ps n) e ∙ ap (option_map boxed_view) (get_or-set_other patterns 0 n None None other) ∙ h.are n l

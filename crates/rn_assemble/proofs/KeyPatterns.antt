@@ -1,6 +1,6 @@
 -- The pattern of a key, put together from the bodies of its components.
 use Rattle.std.proofs.Common.{◌≡◌, ◌≢◌, ℕ, zero, suc, ◌+◌, ◌<◌, ◌≤◌, Bool, true, false, cond, List, [], ◌∷◌, ◌++◌, length, get_or, take, map, Option, Some, None, Result, Ok, Err, MatchResult, refl, sym, ap, ◌∙◌, subst, arith, below_more}
-use Rattle.std.specs.Prelude.{IsSomeAnd, option_map}
+use Rattle.std.specs.Prelude.{Box, IsSomeAnd, option_map}
 use Rattle.std.specs.List.{AllByRecursion}
 use Rattle.std.specs.Result.{IsErrAnd}
 use Rattle.std.specs.List.Sorted.{IsStrictlySortedBy}
@@ -12,7 +12,7 @@ use Rattle.rn_pattern.specs.NameRules.{KeepsNameRules, KeepNameRules}
 use Rattle.rn_pattern.specs.Opened.{one_or_node}
 use Rattle.rn_pattern.specs.Order.{text_cmp}
 use Rattle.rn_pattern.specs.Tree.{Text, Tree, Trees, no_trees, interleave, choice, trees_of}
-use Rattle.rn_pattern.specs.View.{pattern_view, shared_view}
+use Rattle.rn_pattern.specs.View.{shared_view}
 use Rattle.rn_pattern.specs.declared.tree.Pattern.{Pattern}
 use Rattle.rn_pattern.proofs.Ascending.{each_join}
 use Rattle.rn_assemble.specs.declared.components.Body.{Body}
@@ -25,7 +25,7 @@ use Rattle.rn_assemble.specs.Joining.{IsMisnamed}
 use Rattle.rn_assemble.specs.Keyed.{key_at}
 use Rattle.rn_assemble.specs.Least.{IsLeast, key_cmp}
 use Rattle.rn_assemble.specs.Listed.{Live, ListsBy, components_in}
-use Rattle.rn_assemble.specs.Patterns.{AreCombined, AreSound, IsMisnamedAs, IsSound, pattern_of, tree_at}
+use Rattle.rn_assemble.specs.Patterns.{AreCombined, AreSound, IsMisnamedAs, IsSound, boxed_view, pattern_of, tree_at}
 use Rattle.rn_assemble.specs.Refusal.{BreaksNameRules}
 use Rattle.rn_assemble.specs.Views.{key_view}
 use Rattle.rn_assemble.proofs.FoundReferences.{all_keyed}
@@ -122,9 +122,9 @@ module _ (cs : List Component) (k : Key) where
       let one = one_joined (combined k cs) parts c l is in
       some_pattern p (omega (arith, l)) (s.0 ∙ sym one.0) (subst (AllByRecursion (λ (d : Component). KeepsNameRules d.body)) (sym one.1) (s.1, tt))
 
-  pub one_found : (p : Option Pattern) (c : Component) → length parts ≡ 1 → ((d : Component) → get_or parts 0 d ≡ c) → IsSomeAnd p (λ q. IsSound c (pattern_view q)) → (option_map pattern_view p ≡ pattern_of cs k) × ¬ BreaksNameRules cs k
+  pub one_found : (p : Option (Box Pattern Global)) (c : Component) → length parts ≡ 1 → ((d : Component) → get_or parts 0 d ≡ c) → IsSomeAnd p (λ q. IsSound c (boxed_view q)) → (option_map boxed_view p ≡ pattern_of cs k) × ¬ BreaksNameRules cs k
   one_found None c l is s = absurd s
-  one_found (Some q) c l is s = one_pattern (pattern_view q) c l is s
+  one_found (Some q) c l is s = one_pattern (boxed_view q) c l is s
 
   more_joined : (node : Trees → Tree) (ps : List Tree) → 1 < length ps → node (trees_of ps) ≡ join node ps
   more_joined node [] l = absurd (omega (arith, l))
@@ -168,19 +168,19 @@ module _ (names : List Text) (bs : List Body) (list : List ℕ) (rows : List (Li
       misnamed_then (key_at names n) (BreaksNameRules cs (key_at names n)) (IsMisnamed cs) q
       (λ j is b. subst (IsLeast key_cmp (BreaksNameRules cs)) (sym is) (least_key names o (BreaksNameRules cs) breaks_has n (l, b, before))) tt h
 
-  abbrev IsKept : List (Option Pattern) → ℕ → Type 0
+  abbrev IsKept : List (Option (Box Pattern Global)) → ℕ → Type 0
   IsKept patterns n = (tree_at patterns n ≡ pattern_of cs (key_at names n)) × ¬ BreaksNameRules cs (key_at names n)
 
-  pub combined_all : (patterns : List (Option Pattern)) → ((n : ℕ) → n < suc (length names) → IsKept patterns n) → AreCombined names cs patterns
+  pub combined_all : (patterns : List (Option (Box Pattern Global))) → ((n : ℕ) → n < suc (length names) → IsKept patterns n) → AreCombined names cs patterns
   combined_all patterns h = record {
     are = λ n l. (h n l).0;
     keep = no_key names o (BreaksNameRules cs) breaks_has (λ n l. (h n l).1);
   }
 
   -- one key more
-  pub combined_more : (patterns patterns' : List (Option Pattern)) (p : Option Pattern) (k : ℕ) → length patterns ≡ k → patterns' ≡ patterns ++ p ∷ [] → ((n : ℕ) → n < k → IsKept patterns n)
-      → (option_map pattern_view p ≡ pattern_of cs (key_at names k)) × ¬ BreaksNameRules cs (key_at names k) → (n : ℕ) → n < k + 1 → IsKept patterns' n
+  pub combined_more : (patterns patterns' : List (Option (Box Pattern Global))) (p : Option (Box Pattern Global)) (k : ℕ) → length patterns ≡ k → patterns' ≡ patterns ++ p ∷ [] → ((n : ℕ) → n < k → IsKept patterns n)
+      → (option_map boxed_view p ≡ pattern_of cs (key_at names k)) × ¬ BreaksNameRules cs (key_at names k) → (n : ℕ) → n < k + 1 → IsKept patterns' n
   combined_more patterns patterns' p k l e h here =
       below_more (IsKept patterns') k
-      (λ n lt. (ap (λ ps. tree_at ps n) e ∙ ap (option_map pattern_view) (get_or_append_left patterns (p ∷ []) None n (omega (arith, lt, l))) ∙ (h n lt).0, (h n lt).1))
-      (ap (λ ps. tree_at ps k) e ∙ ap (option_map pattern_view) (get_or_push patterns p None k l) ∙ here.0, here.1)
+      (λ n lt. (ap (λ ps. tree_at ps n) e ∙ ap (option_map boxed_view) (get_or_append_left patterns (p ∷ []) None n (omega (arith, lt, l))) ∙ (h n lt).0, (h n lt).1))
+      (ap (λ ps. tree_at ps k) e ∙ ap (option_map boxed_view) (get_or_push patterns p None k l) ∙ here.0, here.1)

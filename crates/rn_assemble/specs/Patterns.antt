@@ -1,5 +1,5 @@
 -- The patterns of keys and of bodies in the code, and the names in the order of their first components.
-use Rattle.std.specs.Prelude.{ℕ, suc, ◌≡◌, ◌<◌, ◌⊎◌, nat_lt, true, false, if◌then◌else◌, List, length, map, filter, slice_get, slice_index_or, option_map, Option, Some, None, IfSome, Contains, ⊤}
+use Rattle.std.specs.Prelude.{ℕ, suc, ◌≡◌, ◌<◌, ◌⊎◌, nat_lt, true, false, if◌then◌else◌, List, length, map, filter, slice_get, slice_index_or, option_map, Option, Some, None, IfSome, Contains, Box, ⊤}
 use Rattle.std.specs.List.{AllByRecursion}
 use Rattle.std.specs.declared.alloc.Global.{Global}
 use Rattle.std.specs.declared.rc.Rc.{Rc}
@@ -16,6 +16,9 @@ use Rattle.rn_assemble.specs.Keyed.{key_at}
 use Rattle.rn_assemble.specs.Listed.{IsBody, Live, components_in}
 use Rattle.rn_assemble.specs.Refusal.{BreaksNameRules}
 use Rattle.rn_assemble.specs.Views.{key_view}
+
+abbrev pub boxed_view : Box Pattern Global → Tree
+boxed_view p = pattern_view p.value
 
 -- the tree stands for the component's body, which keeps the restrictions on name classes
 abbrev pub IsSound : Component → Tree → Type 0
@@ -41,16 +44,16 @@ abbrev pub pattern_of : List Component → Key → Option Tree
 pattern_of cs k = if has_key k cs then Some (joined cs k) else None
 
 -- the tree at a number, where there is one
-abbrev pub tree_at : List (Option Pattern) → ℕ → Option Tree
-tree_at patterns n = option_map pattern_view (slice_index_or patterns n None)
+abbrev pub tree_at : List (Option (Box Pattern Global)) → ℕ → Option Tree
+tree_at patterns n = option_map boxed_view (slice_index_or patterns n None)
 
 -- the pattern of each key stands at its number, and none breaks the restrictions on name classes
-pub record AreCombined (names : List Text) (cs : List Component) (patterns : List (Option Pattern)) : Type 0 where
+pub record AreCombined (names : List Text) (cs : List Component) (patterns : List (Option (Box Pattern Global))) : Type 0 where
   pub are : (n : ℕ) → n < suc (length names) → tree_at patterns n ≡ pattern_of cs (key_at names n)
   pub keep : (k : Key) → ¬ BreaksNameRules cs k
 
 -- each name without a component among those done has its pattern at its number
-abbrev pub HavePatterns : List Text → List Component → List Component → List (Option Pattern) → Type 0
+abbrev pub HavePatterns : List Text → List Component → List Component → List (Option (Box Pattern Global)) → Type 0
 HavePatterns names cs done patterns = (n : ℕ) → 0 < n → n < suc (length names) → has_key (key_at names n) done ≡ false → tree_at patterns n ≡ pattern_of cs (key_at names n)
 
 -- the live components before a place

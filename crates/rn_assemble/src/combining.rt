@@ -5,13 +5,13 @@ ghost use Rattle.std.specs.Option.{option_map_or};
 ghost use Rattle.rn_pattern.specs.Order.{text_cmp};
 ghost use Rattle.rn_pattern.specs.NameRules.{KeepsNameRules};
 ghost use Rattle.rn_pattern.specs.Tree.{Text, trees_of};
-ghost use Rattle.rn_pattern.specs.View.{pattern_view, shared_view};
+ghost use Rattle.rn_pattern.specs.View.{shared_view};
 ghost use Rattle.rn_assemble.specs.Combine as spec;
 ghost use Rattle.rn_assemble.specs.Components.{Component};
 ghost use Rattle.rn_assemble.specs.Joining.{IsMisnamed};
 ghost use Rattle.rn_assemble.specs.Keyed.{key_at};
 ghost use Rattle.rn_assemble.specs.Listed.{IsBody, Lists, Live, components_in};
-ghost use Rattle.rn_assemble.specs.Patterns.{AreCombined, AreShared, AreSound, IsMisnamedAs, IsSound, pattern_of};
+ghost use Rattle.rn_assemble.specs.Patterns.{AreCombined, AreShared, AreSound, IsMisnamedAs, IsSound, boxed_view, pattern_of};
 ghost use Rattle.rn_assemble.specs.Refusal.{BreaksNameRules};
 ghost use Rattle.rn_assemble.specs.Views.{names_of};
 ghost use Rattle.rn_assemble.specs.Methods.{IsLeastNumber, is_method};
@@ -19,11 +19,12 @@ ghost use Rattle.rn_assemble.specs.Methods.{IsLeastNumber, is_method};
 use crate::components::{Body, Components};
 use crate::keys::Keys;
 use crate::name_classes::keeps_name_rules;
+use crate::nodes::{boxed, choice, interleave, shared};
 use crate::refusal::Refusal;
-use crate::resolution::{choice, interleave, pattern};
+use crate::resolution::pattern;
 use rn_pattern::Pattern;
 use rn_syntax::Method;
-use std::alloc::Global;
+use std::alloc::{AllocError, Global};
 use std::rc::Rc;
 
 impl<'c, 't, 's> Components<'c, 't, 's> {
@@ -112,7 +113,7 @@ pub(crate) fn combined(
     alloc: Global,
     keys: &Keys<'_>,
     components: &Components<'_, '_, '_>,
-) -> Result<Vec<Option<Pattern>>, Refusal>
+) -> Result<Vec<Option<Box<Pattern>>>, Refusal>
     ensures { (live : List Live) → Lists (names_of keys.now) components.now live → IsStrictlySortedBy text_cmp (names_of keys.now)
         → MatchResult result (λ patterns. AreCombined (names_of keys.now) (components_in live) patterns.items) (IsMisnamed (components_in live)) }
 {
@@ -131,13 +132,13 @@ fn join(
     components: &Components<'_, '_, '_>,
     shared: &mut Shared,
     key: usize,
-) -> Result<Option<Pattern>, Refusal>
+) -> Result<Option<Box<Pattern>>, Refusal>
     requires { length shared.old.items ≡ length components.now.bodies.items }
     ensures size { length shared.new.items ≡ length shared.old.items }
     ensures kept { AreShared (names_of keys.now) components.now.bodies.items shared.old.items → AreShared (names_of keys.now) components.now.bodies.items shared.new.items }
     ensures exact { (live : List Live) → Lists (names_of keys.now) components.now live → IsStrictlySortedBy text_cmp (names_of keys.now) → key < length (names_of keys.now) + 1
         → AreShared (names_of keys.now) components.now.bodies.items shared.old.items
-        → MatchResult result (λ p. (option_map pattern_view p ≡ pattern_of (components_in live) (key_at (names_of keys.now) key)) × ¬ BreaksNameRules (components_in live) (key_at (names_of keys.now) key))
+        → MatchResult result (λ p. (option_map boxed_view p ≡ pattern_of (components_in live) (key_at (names_of keys.now) key)) × ¬ BreaksNameRules (components_in live) (key_at (names_of keys.now) key))
         (IsMisnamedAs (key_at (names_of keys.now) key) (BreaksNameRules (components_in live) (key_at (names_of keys.now) key))) }
 {
     match components.of_key(key) {
@@ -145,20 +146,25 @@ fn join(
         [place] => alone(alloc, keys, components, *place),
         _ => {
             let members = members(alloc, keys, components, shared, key)?;
-            Ok(Some(node(components, key, members)))
+            Ok(Some(node(alloc, components, key, members)?))
         }
     }
 }
 
 /// The list of the members, by the key's method.
-fn node(components: &Components<'_, '_, '_>, key: usize, members: Vec<Rc<Pattern>>) -> Pattern
+fn node(
+    alloc: Global,
+    components: &Components<'_, '_, '_>,
+    key: usize,
+    members: Vec<Rc<Pattern>>,
+) -> Result<Box<Pattern>, AllocError>
     ensures { (names : List Text) (live : List Live) → Lists names components.now live → IsStrictlySortedBy text_cmp names → key < length names + 1
-        → pattern_view result ≡ spec.combined (key_at names key) (components_in live) (trees_of (map shared_view members.items)) }
+        → IfOk result (λ p. boxed_view p ≡ spec.combined (key_at names key) (components_in live) (trees_of (map shared_view members.items))) }
 {
     if components.uses(key, Method::Interleave) {
-        interleave(members)
+        boxed(alloc, interleave(members))
     } else {
-        choice(members)
+        boxed(alloc, choice(members))
     }
 }
 
@@ -168,9 +174,9 @@ fn alone(
     keys: &Keys<'_>,
     components: &Components<'_, '_, '_>,
     place: usize,
-) -> Result<Option<Pattern>, Refusal>
+) -> Result<Option<Box<Pattern>>, Refusal>
     ensures { (live : List Live) (e : Live) → Lists (names_of keys.now) components.now live → Contains live e → e.place ≡ place
-        → MatchResult result (λ p. IsSomeAnd p (λ q. IsSound e.component (pattern_view q))) (IsMisnamedAs e.component.key (¬ KeepsNameRules e.component.body)) }
+        → MatchResult result (λ p. IsSomeAnd p (λ q. IsSound e.component (boxed_view q))) (IsMisnamedAs e.component.key (¬ KeepsNameRules e.component.body)) }
 {
     let Some(number) = components.body_at(place) else {
         return Ok(None);
@@ -245,15 +251,19 @@ fn share(
     if let Some(pattern) = &*held {
         return Ok(pattern.clone()?);
     }
-    let pattern = Rc::new(alloc, resolved(alloc, keys, body)?)?;
+    let pattern = shared(alloc, resolved(alloc, keys, body)?)?;
     *held = Some(pattern.clone()?);
     Ok(pattern)
 }
 
 /// The pattern of a body that keeps the restrictions on name classes.
-fn resolved(alloc: Global, keys: &Keys<'_>, body: &Body<'_, '_, '_>) -> Result<Pattern, Refusal>
+fn resolved(
+    alloc: Global,
+    keys: &Keys<'_>,
+    body: &Body<'_, '_, '_>,
+) -> Result<Box<Pattern>, Refusal>
     ensures { (key : ℕ) (c : Component) → IsBody (names_of keys.now) body.now key c
-        → MatchResult result (λ p. IsSound c (pattern_view p)) (IsMisnamedAs c.key (¬ KeepsNameRules c.body)) }
+        → MatchResult result (λ p. IsSound c (boxed_view p)) (IsMisnamedAs c.key (¬ KeepsNameRules c.body)) }
 {
     let pattern = pattern(alloc, body.scope, body.component.body)?;
     if !keeps_name_rules(&pattern) {

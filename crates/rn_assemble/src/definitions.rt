@@ -4,13 +4,12 @@ ghost use Rattle.std.specs.List.{list_any};
 ghost use Rattle.std.specs.List.Sorted.{IsStrictlySortedBy};
 ghost use Rattle.rn_pattern.specs.Order.{text_cmp};
 ghost use Rattle.rn_pattern.specs.Tree.{Text, Tree};
-ghost use Rattle.rn_pattern.specs.View.{pattern_view};
 ghost use Rattle.rn_assemble.specs.Combine.{joined_grammar};
 ghost use Rattle.rn_assemble.specs.Components.{has_key, start_key};
 ghost use Rattle.rn_assemble.specs.GrammarView.{definitions_view};
 ghost use Rattle.rn_assemble.specs.Joining.{IsJoinedGrammar, IsMisnamed};
 ghost use Rattle.rn_assemble.specs.Listed.{Lists, Live, components_in};
-ghost use Rattle.rn_assemble.specs.Patterns.{HavePatterns, IsFirstAt};
+ghost use Rattle.rn_assemble.specs.Patterns.{HavePatterns, IsFirstAt, boxed_view};
 ghost use Rattle.rn_assemble.specs.Views.{names_of};
 
 use crate::combining::combined;
@@ -36,7 +35,10 @@ pub(crate) fn grammar(
         return Err(Refusal::NoStart);
     };
     let defs = definitions(alloc, keys, components, &mut patterns)?;
-    Ok(Grammar { start, defs })
+    Ok(Grammar {
+        start: Box::into_inner(start),
+        defs,
+    })
 }
 
 /// The definitions of all names that have components, which take their patterns.
@@ -44,7 +46,7 @@ fn definitions(
     alloc: Global,
     keys: &Keys<'_>,
     components: &Components<'_, '_, '_>,
-    patterns: &mut Vec<Option<Pattern>>,
+    patterns: &mut Vec<Option<Box<Pattern>>>,
 ) -> Result<IndexMap<String, Pattern>, AllocError>
     ensures { (live : List Live) → Lists (names_of keys.now) components.now live → IsStrictlySortedBy text_cmp (names_of keys.now)
         → HavePatterns (names_of keys.now) (components_in live) [] patterns.old.items
@@ -66,17 +68,18 @@ fn define(
     alloc: Global,
     defs: &mut IndexMap<String, Pattern>,
     name: &str,
-    pattern: Pattern,
+    pattern: Box<Pattern>,
 ) -> Result<(), AllocError>
     ensures { OnOk result (list_any (bytes_eq name.now) (map (λ (d : Text × Tree). d.0) (definitions_view defs.old.entries)) ≡ false
-        → definitions_view defs.new.entries ≡ definitions_view defs.old.entries ++ (name.now, pattern_view pattern) ∷ []) }
+        → definitions_view defs.new.entries ≡ definitions_view defs.old.entries ++ (name.now, boxed_view pattern) ∷ []) }
 {
-    defs.insert(String::from_str(alloc, name)?, pattern)?;
+    let name = String::from_str(alloc, name)?;
+    defs.insert(name, Box::into_inner(pattern))?;
     Ok(())
 }
 
 /// Takes out the pattern of a key.
-fn take(patterns: &mut Vec<Option<Pattern>>, key: usize) -> Option<Pattern>
+fn take(patterns: &mut Vec<Option<Box<Pattern>>>, key: usize) -> Option<Box<Pattern>>
     ensures taken { result ≡ slice_index_or patterns.old.items key None }
     ensures left { patterns.new.items ≡ slice_set patterns.old.items key None }
 {

@@ -15,6 +15,7 @@ mod keys;
 mod loops;
 mod modules;
 mod name_classes;
+mod nodes;
 pub mod order;
 mod references;
 pub mod refusal;

@@ -1,25 +1,23 @@
 // Patterns and name classes with their names resolved.
-ghost use Rattle.std.specs.Prelude.{◌≡◌, List, map, IfOk, string_bytes};
-ghost use Rattle.rn_pattern.specs.Opened.{pair};
+ghost use Rattle.std.specs.Prelude.{◌≡◌, List, [], map, IfOk};
 ghost use Rattle.rn_pattern.specs.Tree as tree;
 ghost use Rattle.rn_pattern.specs.Tree.{Text, name_trees_of, trees_of};
-ghost use Rattle.rn_pattern.specs.View.{name_class_view, parameters_view, pattern_view, shared_view};
+ghost use Rattle.rn_pattern.specs.View.{name_class_view, parameters_view, shared_view};
 ghost use Rattle.rn_syntax.specs.Tree as source;
 ghost use Rattle.rn_syntax.specs.View as seen;
 ghost use Rattle.rn_assemble.specs.Bound.{InScope};
+ghost use Rattle.rn_assemble.specs.Patterns.{boxed_view};
 ghost use Rattle.rn_assemble.specs.Resolve as resolve;
 
 use crate::bindings::Scope;
+use crate::nodes::{
+    boxed, choice, group, interleave, list, mixed, one_or_more, optional, owned, reference, shared,
+    typed_datum, typed_value,
+};
 use rn_pattern::{NameClass, Pattern};
 use rn_syntax::{AnyName, Datatype, Name, Nc, Operator, Param, Pat, Postfix};
 use std::alloc::{AllocError, Global};
 use std::rc::Rc;
-
-fn owned(alloc: Global, text: &str) -> Result<String, AllocError>
-    ensures { IfOk result (λ s. string_bytes s ≡ text.now) }
-{
-    String::from_str(alloc, text)
-}
 
 fn name<'t>(
     alloc: Global,
@@ -142,20 +140,12 @@ fn value<'t>(
     scope: Scope<'_, 't>,
     datatype: &'t Option<Datatype<'_>>,
     text: &str,
-) -> Result<Pattern, AllocError>
-    ensures { InScope scope.entry (λ inherited ds. IfOk result (λ p. pattern_view p ≡ resolve.typed_value inherited ds (seen.type_view datatype.now) text.now)) }
+) -> Result<Box<Pattern>, AllocError>
+    ensures { InScope scope.entry (λ inherited ds. IfOk result (λ p. boxed_view p ≡ resolve.typed_value inherited ds (seen.type_view datatype.now) text.now)) }
 {
     match datatype {
-        Some(datatype) => Ok(Pattern::Value(
-            owned(alloc, library(scope, datatype))?,
-            owned(alloc, type_name(datatype))?,
-            owned(alloc, text)?,
-        )),
-        None => Ok(Pattern::Value(
-            owned(alloc, "")?,
-            owned(alloc, "token")?,
-            owned(alloc, text)?,
-        )),
+        Some(datatype) => typed_value(alloc, library(scope, datatype), type_name(datatype), text),
+        None => typed_value(alloc, "", "token", text),
     }
 }
 
@@ -177,16 +167,18 @@ fn datum<'t>(
     scope: Scope<'_, 't>,
     datatype: &'t Datatype<'_>,
     given: &[Param<'_>],
-) -> Result<Pattern, AllocError>
-    ensures { InScope scope.entry (λ inherited ds. IfOk result (λ p. pattern_view p
+) -> Result<Box<Pattern>, AllocError>
+    ensures { InScope scope.entry (λ inherited ds. IfOk result (λ p. boxed_view p
         ≡ tree.datum (resolve.type_library inherited ds (seen.datatype_view datatype.now)) (resolve.type_name inherited ds (seen.datatype_view datatype.now)) (seen.params_view given.now))) }
 {
-    Ok(Pattern::Datum(
-        owned(alloc, library(scope, datatype))?,
-        owned(alloc, type_name(datatype))?,
-        params(alloc, given)?,
+    let params = params(alloc, given)?;
+    typed_datum(
+        alloc,
+        library(scope, datatype),
+        type_name(datatype),
+        params,
         None,
-    ))
+    )
 }
 
 /// The datatype without the values of a pattern.
@@ -195,102 +187,69 @@ fn datum_but<'t>(
     scope: Scope<'_, 't>,
     datatype: &'t Datatype<'_>,
     given: &[Param<'_>],
-    except: Pattern,
-) -> Result<Pattern, AllocError>
-    ensures { InScope scope.entry (λ inherited ds. IfOk result (λ p. pattern_view p
-        ≡ tree.datum_but (resolve.type_library inherited ds (seen.datatype_view datatype.now)) (resolve.type_name inherited ds (seen.datatype_view datatype.now)) (seen.params_view given.now) (pattern_view except))) }
+    except: Box<Pattern>,
+) -> Result<Box<Pattern>, AllocError>
+    ensures { InScope scope.entry (λ inherited ds. IfOk result (λ p. boxed_view p
+        ≡ tree.datum_but (resolve.type_library inherited ds (seen.datatype_view datatype.now)) (resolve.type_name inherited ds (seen.datatype_view datatype.now)) (seen.params_view given.now) (boxed_view except))) }
 {
-    Ok(Pattern::Datum(
-        owned(alloc, library(scope, datatype))?,
-        owned(alloc, type_name(datatype))?,
-        params(alloc, given)?,
-        Some(Box::new(alloc, except)?),
-    ))
+    let params = params(alloc, given)?;
+    typed_datum(
+        alloc,
+        library(scope, datatype),
+        type_name(datatype),
+        params,
+        Some(except),
+    )
 }
 
-fn element(alloc: Global, class: NameClass, content: Pattern) -> Result<Pattern, AllocError>
-    ensures { IfOk result (λ p. pattern_view p ≡ tree.element (name_class_view class) (pattern_view content)) }
+/// An element; a name without prefix is in the default namespace.
+fn element<'t>(
+    alloc: Global,
+    scope: Scope<'_, 't>,
+    class: &'t Nc<'_>,
+    content: Box<Pattern>,
+) -> Result<Box<Pattern>, AllocError>
+    ensures { InScope scope.entry (λ inherited ds. IfOk result (λ p. boxed_view p
+        ≡ tree.element (resolve.resolved_class inherited ds (resolve.default_of inherited ds) (seen.class_view class.now)) (boxed_view content))) }
 {
-    Ok(Pattern::Element(class, Box::new(alloc, content)?))
+    let class = name_class(alloc, scope, scope.default_namespace(), class)?;
+    boxed(alloc, Pattern::Element(class, content))
 }
 
-fn attribute(alloc: Global, class: NameClass, content: Pattern) -> Result<Pattern, AllocError>
-    ensures { IfOk result (λ p. pattern_view p ≡ tree.attribute (name_class_view class) (pattern_view content)) }
+/// An attribute; a name without prefix is in no namespace.
+fn attribute<'t>(
+    alloc: Global,
+    scope: Scope<'_, 't>,
+    class: &'t Nc<'_>,
+    content: Box<Pattern>,
+) -> Result<Box<Pattern>, AllocError>
+    ensures { InScope scope.entry (λ inherited ds. IfOk result (λ p. boxed_view p
+        ≡ tree.attribute (resolve.resolved_class inherited ds [] (seen.class_view class.now)) (boxed_view content))) }
 {
-    Ok(Pattern::Attribute(class, Box::new(alloc, content)?))
+    let class = name_class(alloc, scope, "", class)?;
+    boxed(alloc, Pattern::Attribute(class, content))
 }
 
-fn list(alloc: Global, content: Pattern) -> Result<Pattern, AllocError>
-    ensures { IfOk result (λ p. pattern_view p ≡ tree.list (pattern_view content)) }
-{
-    Ok(Pattern::List(Box::new(alloc, content)?))
-}
-
-fn one_or_more(alloc: Global, content: Pattern) -> Result<Pattern, AllocError>
-    ensures { IfOk result (λ p. pattern_view p ≡ tree.one_or_more (pattern_view content)) }
-{
-    Ok(Pattern::OneOrMore(Box::new(alloc, content)?))
-}
-
-fn reference(alloc: Global, name: &str) -> Result<Pattern, AllocError>
-    ensures { IfOk result (λ p. pattern_view p ≡ tree.ref name.now) }
-{
-    Ok(Pattern::Ref(owned(alloc, name)?))
-}
-
-fn two(alloc: Global, first: Pattern, second: Pattern) -> Result<Vec<Rc<Pattern>>, AllocError>
-    ensures { IfOk result (λ v. trees_of (map shared_view v.items) ≡ pair (pattern_view first) (pattern_view second)) }
-{
-    let mut members = Vec::with_capacity(alloc, 2)?;
-    members.push(Rc::new(alloc, first)?)?;
-    members.push(Rc::new(alloc, second)?)?;
-    Ok(members)
-}
-
-fn group(members: Vec<Rc<Pattern>>) -> Pattern
-    ensures { pattern_view result ≡ tree.group (trees_of (map shared_view members.items)) }
-{
-    Pattern::Group(members)
-}
-
-pub(crate) fn interleave(members: Vec<Rc<Pattern>>) -> Pattern
-    ensures { pattern_view result ≡ tree.interleave (trees_of (map shared_view members.items)) }
-{
-    Pattern::Interleave(members)
-}
-
-pub(crate) fn choice(members: Vec<Rc<Pattern>>) -> Pattern
-    ensures { pattern_view result ≡ tree.choice (trees_of (map shared_view members.items)) }
-{
-    Pattern::Choice(members)
-}
-
-fn chain(operator: Operator, members: Vec<Rc<Pattern>>) -> Pattern
-    ensures { (inherited : Text) (ds : List source.Declaration) → pattern_view result ≡ resolve.chained inherited ds operator (trees_of (map shared_view members.items)) }
+fn chain(
+    alloc: Global,
+    operator: Operator,
+    members: Vec<Rc<Pattern>>,
+) -> Result<Box<Pattern>, AllocError>
+    ensures { (inherited : Text) (ds : List source.Declaration) → IfOk result (λ p. boxed_view p ≡ resolve.chained inherited ds operator (trees_of (map shared_view members.items))) }
 {
     match operator {
-        Operator::Comma => group(members),
-        Operator::Ampersand => interleave(members),
-        Operator::Bar => choice(members),
+        Operator::Comma => boxed(alloc, group(members)),
+        Operator::Ampersand => boxed(alloc, interleave(members)),
+        Operator::Bar => boxed(alloc, choice(members)),
     }
 }
 
-/// The choice of the pattern and empty.
-fn optional(alloc: Global, content: Pattern) -> Result<Pattern, AllocError>
-    ensures { IfOk result (λ p. pattern_view p ≡ tree.choice (pair (pattern_view content) tree.empty)) }
-{
-    Ok(choice(two(alloc, content, Pattern::Empty)?))
-}
-
-/// The interleave of the pattern and text.
-fn mixed(alloc: Global, content: Pattern) -> Result<Pattern, AllocError>
-    ensures { IfOk result (λ p. pattern_view p ≡ tree.interleave (pair (pattern_view content) tree.text)) }
-{
-    Ok(interleave(two(alloc, content, Pattern::Text)?))
-}
-
-fn repeated(alloc: Global, postfix: Postfix, content: Pattern) -> Result<Pattern, AllocError>
-    ensures { (inherited : Text) (ds : List source.Declaration) → IfOk result (λ p. pattern_view p ≡ resolve.repetition inherited ds postfix (pattern_view content)) }
+fn repeated(
+    alloc: Global,
+    postfix: Postfix,
+    content: Box<Pattern>,
+) -> Result<Box<Pattern>, AllocError>
+    ensures { (inherited : Text) (ds : List source.Declaration) → IfOk result (λ p. boxed_view p ≡ resolve.repetition inherited ds postfix (boxed_view content)) }
 {
     match postfix {
         Postfix::Question => optional(alloc, content),
@@ -305,19 +264,17 @@ pub(crate) fn pattern<'t>(
     alloc: Global,
     scope: Scope<'_, 't>,
     written: &'t Pat<'_>,
-) -> Result<Pattern, AllocError>
-    ensures { InScope scope.entry (λ inherited ds. IfOk result (λ p. pattern_view p ≡ resolve.resolved inherited ds (seen.pattern_view written.now))) }
+) -> Result<Box<Pattern>, AllocError>
+    ensures { InScope scope.entry (λ inherited ds. IfOk result (λ p. boxed_view p ≡ resolve.resolved inherited ds (seen.pattern_view written.now))) }
 {
     match written {
         Pat::Element(class, content) => {
-            let class = name_class(alloc, scope, scope.default_namespace(), class)?;
             let content = pattern(alloc, scope, content)?;
-            element(alloc, class, content)
+            element(alloc, scope, class, content)
         }
         Pat::Attribute(class, content) => {
-            let class = name_class(alloc, scope, "", class)?;
             let content = pattern(alloc, scope, content)?;
-            attribute(alloc, class, content)
+            attribute(alloc, scope, class, content)
         }
         Pat::List(content) => {
             let content = pattern(alloc, scope, content)?;
@@ -327,9 +284,9 @@ pub(crate) fn pattern<'t>(
             let content = pattern(alloc, scope, content)?;
             mixed(alloc, content)
         }
-        Pat::Empty => Ok(Pattern::Empty),
-        Pat::NotAllowed => Ok(Pattern::NotAllowed),
-        Pat::Text => Ok(Pattern::Text),
+        Pat::Empty => boxed(alloc, Pattern::Empty),
+        Pat::NotAllowed => boxed(alloc, Pattern::NotAllowed),
+        Pat::Text => boxed(alloc, Pattern::Text),
         Pat::Ref(name) => reference(alloc, name),
         Pat::Value(datatype, text) => value(alloc, scope, datatype, text.as_str()),
         Pat::Datum(datatype, params) => datum(alloc, scope, datatype, params),
@@ -341,7 +298,10 @@ pub(crate) fn pattern<'t>(
             let content = pattern(alloc, scope, content)?;
             repeated(alloc, *postfix, content)
         }
-        Pat::Chain(operator, members) => Ok(chain(*operator, patterns(alloc, scope, members)?)),
+        Pat::Chain(operator, members) => {
+            let members = patterns(alloc, scope, members)?;
+            chain(alloc, *operator, members)
+        }
     }
 }
 
@@ -355,7 +315,8 @@ fn patterns<'t>(
 {
     let mut members = Vec::new(alloc);
     for member in written {
-        members.push(Rc::new(alloc, pattern(alloc, scope, member)?)?)?;
+        let pattern = pattern(alloc, scope, member)?;
+        members.push(shared(alloc, pattern)?)?;
     }
     Ok(members)
 }

@@ -1,9 +1,8 @@
 use Rattle.std.proofs.Common.{sym, ap, ◌∙◌}
 use Rattle.std.specs.Prelude.{IsSomeAnd, slice_get}
 use Rattle.rn_pattern.specs.NameRules.{KeepsNameRules}
-use Rattle.rn_pattern.specs.View.{pattern_view}
 use Rattle.rn_assemble.specs.Graph.{rows_of}
-use Rattle.rn_assemble.specs.Patterns.{IsMisnamedAs, IsSound}
+use Rattle.rn_assemble.specs.Patterns.{IsMisnamedAs, IsSound, boxed_view}
 use Rattle.rn_assemble.specs.Views.{names_of}
 use Rattle.rn_assemble.proofs.KeyPatterns.{refused_by}
 use Rattle.rn_assemble.proofs.UsedMethods.{live_body}
@@ -13,7 +12,7 @@ pub returns-in_err-resolved : goal.returns-in_err-resolved
 returns-in_err-resolved c = λ live e h k p.
     let x = c.args.components.now in
     let is = live_body (names_of c.args.keys.now) x.bodies.items x.list.items (rows_of x.places.items) live e c.in-Some.number c.in-Some-body.body.now h k (ap (slice_get x.list.items) p ∙ sym c.in-Some.ensures) (sym c.in-Some-body.ensures) in
-    refused_by (λ o. IsSomeAnd o (λ q. IsSound e.component (pattern_view q))) (IsMisnamedAs e.component.key (¬ KeepsNameRules e.component.body)) c.from_residual.result c.in_err-resolved.field-0.0 c.from_residual.ensures.1 (c.in_err-resolved.ensures e.key e.component is)
+    refused_by (λ o. IsSomeAnd o (λ q. IsSound e.component (boxed_view q))) (IsMisnamedAs e.component.key (¬ KeepsNameRules e.component.body)) c.from_residual.result c.in_err-resolved.field-0.0 c.from_residual.ensures.1 (c.in_err-resolved.ensures e.key e.component is)
 
 pub returns : goal.returns
 returns c = λ live e h k p.

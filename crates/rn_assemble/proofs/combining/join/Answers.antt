@@ -32,12 +32,12 @@ returns-in-len1-clause-exact c = λ live h o k s.
     (λ p f. one_found cs key p r.0.component (omega (arith, c.in-len1.len_at_least, c.in-len1.len_below, ap (λ (l : List ℕ). length l) row_now, size)) r.4 f)
     (λ q m. misnamed_for r.0.component.key key (¬ KeepsNameRules r.0.component.body) (BreaksNameRules cs key) q (part_of_key cs key 0 r.0.component r.3 r.4) (breaks_at cs key 0 r.0.component r.3 r.4) m)
 
-pub returns-in_ok-members-in_default-clause-exact : goal.returns-in_ok-members-in_default-clause-exact
-returns-in_ok-members-in_default-clause-exact c = λ live h o k s.
+pub returns-in_ok-node-in_default-clause-exact : goal.returns-in_ok-node-in_default-clause-exact
+returns-in_ok-node-in_default-clause-exact c = λ live h o k s.
     let x = c.args.components.now in
     let names = names_of c.args.keys.now in
     let key = key_at names c.args.key in
     let cs = components_in live in
     let size = row_size names x.bodies.items x.list.items (rows_of x.places.items) live h o c.args.key (omega (arith, k)) in
     let several = c.in_ok-members-in_default.ensures.exact live h o k s in
-    more_pattern cs key _ _ (omega (arith, c.in_default.len_at_least, ap (λ (l : List ℕ). length l) c.of_key.ensures, size)) several (c.node.ensures names live h o k)
+    more_pattern cs key _ _ (omega (arith, c.in_default.len_at_least, ap (λ (l : List ℕ). length l) c.of_key.ensures, size)) several (c.in_ok-node-in_default.ensures names live h o k)

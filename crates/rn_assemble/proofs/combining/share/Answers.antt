@@ -12,9 +12,9 @@ returns-in_err-resolved-clause-exact c = λ key d is held.
 pub returns-clause-kept : goal.returns-clause-kept
 returns-clause-kept c = λ key d is held.
     let sound = c.in_ok-resolved.ensures key d is in
-    (ap pattern_view (c.in_ok-clone-2.ensures.cases ∙ c.in_ok-pattern.ensures.ok) ∙ sound.0, sound.1)
+    (ap pattern_view (c.in_ok-clone-2.ensures.cases ∙ c.in_ok-pattern.ensures) ∙ sound.0, sound.1)
 
 pub returns-clause-exact : goal.returns-clause-exact
 returns-clause-exact c = λ key d is held.
     let sound = c.in_ok-resolved.ensures key d is in
-    (ap pattern_view c.in_ok-pattern.ensures.ok ∙ sound.0, sound.1)
+    (ap pattern_view c.in_ok-pattern.ensures ∙ sound.0, sound.1)

@@ -1,10 +1,13 @@
-use Rattle.std.proofs.Common.{None, ◌∙◌}
+use Rattle.std.proofs.Common.{◌≡◌, ◌∙◌}
+use Rattle.std.proofs.lemmas.Result.{IfOk-weaker}
 use Rattle.rn_pattern.specs.Tree as tree
-use Rattle.rn_pattern.proofs.PatternKinds.{datum_seen}
+use Rattle.rn_pattern.specs.View.{parameters_view}
+use Rattle.rn_assemble.specs.Patterns.{boxed_view}
 use Rattle.rn_assemble.proofs.resolution.datum.Goals as goal
 
 pub returns : goal.returns
 returns c = λ ds b.
-    let l = c.in_ok-owned.ensures ∙ c.library.ensures ds b in
-    let n = c.in_ok-owned-2.ensures ∙ c.type_name.ensures c.args.scope.inherited.now ds in
-    datum_seen _ _ _ None ∙ (λ i. tree.datum (l i) (n i) (c.in_ok-params.ensures i))
+    let l = c.library.ensures ds b in
+    let n = c.type_name.ensures c.args.scope.inherited.now ds in
+    IfOk-weaker c.typed_datum.result (λ p. boxed_view p ≡ tree.datum c.library.result.now c.type_name.result.now (parameters_view c.in_ok-params.params.items)) _
+    (λ p h. h ∙ (λ i. tree.datum (l i) (n i) (c.in_ok-params.ensures i))) c.typed_datum.ensures

@@ -1,12 +1,14 @@
-use Rattle.std.proofs.Common.{Some, ap, ◌∙◌}
+use Rattle.std.proofs.Common.{◌≡◌, ◌∙◌}
+use Rattle.std.proofs.lemmas.Result.{IfOk-weaker}
 use Rattle.rn_pattern.specs.Tree as tree
-use Rattle.rn_pattern.specs.View.{pattern_view}
-use Rattle.rn_pattern.proofs.PatternKinds.{datum_seen}
+use Rattle.rn_pattern.specs.View.{parameters_view}
+use Rattle.rn_assemble.specs.Patterns.{boxed_view}
 use Rattle.rn_assemble.proofs.resolution.datum_but.Goals as goal
 
 pub returns : goal.returns
 returns c = λ ds b.
-    let l = c.in_ok-owned.ensures ∙ c.library.ensures ds b in
-    let n = c.in_ok-owned-2.ensures ∙ c.type_name.ensures c.args.scope.inherited.now ds in
-    let p = ap pattern_view c.in_ok-new.ensures.ok in
-    datum_seen _ _ _ (Some c.in_ok-new.field-0) ∙ (λ i. tree.datum_but (l i) (n i) (c.in_ok-params.ensures i) (p i))
+    let l = c.library.ensures ds b in
+    let n = c.type_name.ensures c.args.scope.inherited.now ds in
+    let e = boxed_view c.args.except in
+    IfOk-weaker c.typed_datum.result (λ p. boxed_view p ≡ tree.datum_but c.library.result.now c.type_name.result.now (parameters_view c.in_ok-params.params.items) e) _
+    (λ p h. h ∙ (λ i. tree.datum_but (l i) (n i) (c.in_ok-params.ensures i) e)) c.typed_datum.ensures

@@ -1,13 +1,16 @@
-use Rattle.std.proofs.Common.{ap, sym, ◌∙◌}
+use Rattle.std.proofs.Common.{◌≡◌, ap, sym, ◌∙◌}
+use Rattle.std.proofs.lemmas.Result.{IfOk-weaker}
 use Rattle.rn_pattern.specs.Tree as tree
 use Rattle.rn_syntax.specs.View.{type_view}
-use Rattle.rn_assemble.specs.Resolve.{typed_value}
-use Rattle.rn_assemble.proofs.Resolved.{value_seen}
+use Rattle.rn_assemble.specs.Patterns.{boxed_view}
+use Rattle.rn_assemble.specs.Resolve as resolve
 use Rattle.rn_assemble.proofs.resolution.value.Goals as goal
 
-pub returns-in_ok-owned-in-Some-3 : goal.returns-in_ok-owned-in-Some-3
-returns-in_ok-owned-in-Some-3 c = λ ds b.
-    let l = c.in_ok-owned-in-Some.ensures ∙ c.library.ensures ds b in
-    let n = c.in_ok-owned-in-Some-2.ensures ∙ c.type_name.ensures c.args.scope.inherited.now ds in
-    value_seen _ _ _ ∙ (λ i. tree.value (l i) (n i) (c.in_ok-owned-in-Some-3.ensures i))
-    ∙ sym (ap (λ d. typed_value c.args.scope.inherited.now ds (type_view d) c.args.text.now) c.in-Some.is)
+pub returns-in-Some : goal.returns-in-Some
+returns-in-Some c = λ ds b.
+    let i = c.args.scope.inherited.now in
+    let l = c.library.ensures ds b in
+    let n = c.type_name.ensures i ds in
+    let s = c.args.text.now in
+    IfOk-weaker c.typed_value.result (λ p. boxed_view p ≡ tree.value c.library.result.now c.type_name.result.now s) _
+    (λ p h. h ∙ (λ j. tree.value (l j) (n j) s) ∙ sym (ap (λ d. resolve.typed_value i ds (type_view d) s) c.in-Some.is)) c.typed_value.ensures

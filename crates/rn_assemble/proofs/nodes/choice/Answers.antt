@@ -1,5 +1,5 @@
 use Rattle.rn_pattern.proofs.PatternKinds.{choice_seen}
-use Rattle.rn_assemble.proofs.resolution.choice.Goals as goal
+use Rattle.rn_assemble.proofs.nodes.choice.Goals as goal
 
 pub returns : goal.returns
 returns c = choice_seen _

@@ -1,5 +1,5 @@
 use Rattle.rn_pattern.proofs.PatternKinds.{interleave_seen}
-use Rattle.rn_assemble.proofs.resolution.interleave.Goals as goal
+use Rattle.rn_assemble.proofs.nodes.interleave.Goals as goal
 
 pub returns : goal.returns
 returns c = interleave_seen _

@@ -1,5 +1,5 @@
 use Rattle.rn_pattern.proofs.PatternKinds.{group_seen}
-use Rattle.rn_assemble.proofs.resolution.group.Goals as goal
+use Rattle.rn_assemble.proofs.nodes.group.Goals as goal
 
 pub returns : goal.returns
 returns c = group_seen _
