@@ -3,9 +3,11 @@ ghost use Rattle.std.specs.Prelude.{◌≡◌, ℕ, ◌+◌, ◌<◌, List, [], 
 ghost use Rattle.std.specs.List.Sorted.{IsStrictlySortedBy};
 ghost use Rattle.rn_pattern.specs.Order.{text_cmp};
 ghost use Rattle.rn_pattern.specs.Tree.{Text};
+ghost use Rattle.rn_pattern.specs.References.{IsUndefined};
 ghost use Rattle.rn_assemble.specs.Components.{Component};
 ghost use Rattle.rn_syntax.specs.View.{pattern_view, patterns_view};
 ghost use Rattle.rn_assemble.specs.Combine.{joined_grammar};
+ghost use Rattle.rn_assemble.specs.Least.{IsLeast};
 ghost use Rattle.rn_assemble.specs.Listed.{Lists, Live, components_in};
 ghost use Rattle.rn_assemble.specs.Referred.{AreAllReferences, AreNumbers, AreBodiesAt, IsFresh, IsLeastOf, IsLeastRecursive, IsLeastUndefined, IsLooked, lesser_text, names_at, references, all_references, outer_references, all_outer_references};
 ghost use Rattle.rn_assemble.specs.Views.{names_of, texts_of};
@@ -46,18 +48,69 @@ pub(crate) fn references_of<'s>(
     let mut outer = Vec::new(alloc);
     for key in 0..keys.len() {
         let bodies = bodies_of(alloc, components, key, &mut looked)?;
-        let names = names_in(alloc, components, bodies.as_slice())?;
-        let outside = names_outside(alloc, components, bodies.as_slice())?;
-        undefined = least_undefined(keys, components, names.as_slice(), undefined);
-        all.push(numbers(alloc, keys, names.as_slice())?)?;
-        outer.push(numbers(alloc, keys, outside.as_slice())?)?;
+        let anywhere = references_in(alloc, keys, components, bodies.as_slice(), &mut undefined)?;
+        all.push(anywhere)?;
+        let outside = references_outside(alloc, keys, components, bodies.as_slice())?;
+        outer.push(outside)?;
     }
     match undefined {
-        Some(name) => Err(Refusal::Undefined {
-            name: String::from_str(alloc, name)?,
-        }),
+        Some(name) => Err(undefined_name(alloc, name)),
         None => Ok(References { all, outer }),
     }
+}
+
+/// The refusal of a set for an undefined name.
+fn undefined_name(alloc: Global, name: &str) -> Refusal
+    ensures { (cs : List Component) → IsLeast text_cmp (IsUndefined (joined_grammar cs)) name.now → IsLeastUndefined cs result }
+{
+    match String::from_str(alloc, name) {
+        Ok(name) => Refusal::Undefined { name },
+        Err(_) => Refusal::Memory,
+    }
+}
+
+/// The numbers of the names that the bodies refer to. `undefined` gets the least of these names that has no component, and
+/// of the one held before.
+fn references_in<'s>(
+    alloc: Global,
+    keys: &Keys<'s>,
+    components: &Components<'_, '_, 's>,
+    bodies: &[usize],
+    undefined: &mut Option<&'s str>,
+) -> Result<Vec<usize>, AllocError>
+    ensures within { IfOk result (λ numbers. AllBelow (vec_len keys.now.names + 1) numbers.items) }
+    ensures are { IsStrictlySortedBy text_cmp (names_of keys.now) → IfOk result (λ numbers. AreNumbers (names_of keys.now) (flat_map (names_at references components.now.bodies.items) bodies.now) numbers.items) }
+    ensures least { OnOk result ((live : List Live) (before : List Text) → Lists (names_of keys.now) components.now live → IsStrictlySortedBy text_cmp (names_of keys.now)
+        → IsLeastOf (joined_grammar (components_in live)) before (option_map (λ s. s.now) undefined.old)
+        → IsLeastOf (joined_grammar (components_in live)) (before ++ flat_map (names_at references components.now.bodies.items) bodies.now) (option_map (λ s. s.now) undefined.new)) }
+{
+    let mut names = Vec::new(alloc);
+    for number in bodies {
+        if let Some(body) = components.body(*number) {
+            refer(body.component.body, &mut names)?;
+        }
+    }
+    *undefined = least_undefined(keys, components, names.as_slice(), *undefined);
+    numbers(alloc, keys, names.as_slice())
+}
+
+/// The numbers of the names that they refer to outside elements.
+fn references_outside<'s>(
+    alloc: Global,
+    keys: &Keys<'s>,
+    components: &Components<'_, '_, 's>,
+    bodies: &[usize],
+) -> Result<Vec<usize>, AllocError>
+    ensures within { IfOk result (λ numbers. AllBelow (vec_len keys.now.names + 1) numbers.items) }
+    ensures are { IsStrictlySortedBy text_cmp (names_of keys.now) → IfOk result (λ numbers. AreNumbers (names_of keys.now) (flat_map (names_at outer_references components.now.bodies.items) bodies.now) numbers.items) }
+{
+    let mut names = Vec::new(alloc);
+    for number in bodies {
+        if let Some(body) = components.body(*number) {
+            refer_outside(body.component.body, &mut names)?;
+        }
+    }
+    numbers(alloc, keys, names.as_slice())
 }
 
 /// The bodies of a key's components, each once.
@@ -97,40 +150,6 @@ fn look(
     }
     looked[number] = Some(key);
     Some(number)
-}
-
-/// The names that the bodies refer to.
-fn names_in<'s>(
-    alloc: Global,
-    components: &Components<'_, '_, 's>,
-    bodies: &[usize],
-) -> Result<Vec<&'s str>, AllocError>
-    ensures { IfOk result (λ v. texts_of v.items ≡ flat_map (names_at references components.now.bodies.items) bodies.now) }
-{
-    let mut names = Vec::new(alloc);
-    for number in bodies {
-        if let Some(body) = components.body(*number) {
-            refer(body.component.body, &mut names)?;
-        }
-    }
-    Ok(names)
-}
-
-/// The names that they refer to outside elements.
-fn names_outside<'s>(
-    alloc: Global,
-    components: &Components<'_, '_, 's>,
-    bodies: &[usize],
-) -> Result<Vec<&'s str>, AllocError>
-    ensures { IfOk result (λ v. texts_of v.items ≡ flat_map (names_at outer_references components.now.bodies.items) bodies.now) }
-{
-    let mut names = Vec::new(alloc);
-    for number in bodies {
-        if let Some(body) = components.body(*number) {
-            refer_outside(body.component.body, &mut names)?;
-        }
-    }
-    Ok(names)
 }
 
 /// Whether the name has a component.

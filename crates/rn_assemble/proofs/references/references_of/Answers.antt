@@ -1,15 +1,12 @@
 -- Key by key.
-use Rattle.std.proofs.Common.{◌≡◌, ◌<◌, ◌++◌, suc, length, ap, ◌∙◌, sym, subst, arith, rules, None, Some, option_map}
+use Rattle.std.proofs.Common.{◌≡◌, ◌<◌, suc, flat_map, length, refl, ap, ◌∙◌, subst, arith, rules, None, Some, option_map}
 use Rattle.std.proofs.lemmas.List.{length_push, length-map}
 use Rattle.rn_pattern.specs.Reached.{RefersTo}
-use Rattle.rn_pattern.specs.Order.{text_cmp}
-use Rattle.rn_pattern.specs.References.{RefersOutside, IsUndefined}
-use Rattle.rn_assemble.specs.Least.{IsLeast}
-use Rattle.rn_assemble.specs.Combine.{joined_grammar}
+use Rattle.rn_pattern.specs.References.{RefersOutside}
 use Rattle.rn_assemble.specs.Graph.{row, rows_of}
 use Rattle.rn_assemble.specs.Listed.{components_in}
-use Rattle.rn_assemble.specs.Referred.{AreBodiesAt, AreNumbers, IsLeastOf}
-use Rattle.rn_assemble.specs.Views.{names_of, texts_of}
+use Rattle.rn_assemble.specs.Referred.{AreBodiesAt, names_at, outer_references, references}
+use Rattle.rn_assemble.specs.Views.{names_of}
 use Rattle.rn_assemble.proofs.Looking.{none_looked}
 use Rattle.rn_assemble.proofs.Rows.{rows_pushed, is_graph, no_rows}
 use Rattle.rn_assemble.proofs.GatheredReferences.{Gathered, row_of, gathered_begins, gathered_more, gathered_none, gathered_some, names_anywhere, names_outside}
@@ -28,10 +25,10 @@ loop-key-init c = record {
 
 pub loop-key-preserved : goal.loop-key-preserved
 loop-key-preserved c = record {
-  all = rows_pushed _ _ _ c.in_ok-numbers.field-0 c.loop-key.invariant.all c.in_ok-numbers.ensures.within c.in_ok-push.ensures.items;
-  all_size = omega (arith, ap length c.in_ok-push.ensures.items, length_push c.loop-key.all.items c.in_ok-numbers.field-0, c.loop-key.invariant.all_size);
-  outer = rows_pushed _ _ _ c.in_ok-numbers-2.field-0 c.loop-key.invariant.outer c.in_ok-numbers-2.ensures.within c.in_ok-push-2.ensures.items;
-  outer_size = omega (arith, ap length c.in_ok-push-2.ensures.items, length_push c.loop-key.outer.items c.in_ok-numbers-2.field-0, c.loop-key.invariant.outer_size);
+  all = rows_pushed _ _ _ c.in_ok-anywhere.anywhere c.loop-key.invariant.all c.in_ok-anywhere.ensures.within c.in_ok-push.ensures.items;
+  all_size = omega (arith, ap length c.in_ok-push.ensures.items, length_push c.loop-key.all.items c.in_ok-anywhere.anywhere, c.loop-key.invariant.all_size);
+  outer = rows_pushed _ _ _ c.in_ok-outside.outside c.loop-key.invariant.outer c.in_ok-outside.ensures.within c.in_ok-push-2.ensures.items;
+  outer_size = omega (arith, ap length c.in_ok-push-2.ensures.items, length_push c.loop-key.outer.items c.in_ok-outside.outside, c.loop-key.invariant.outer_size);
   looked = omega (arith, c.bodies_of.ensures.size, c.bodies_of.new.looked.ok, c.loop-key.looked.ok, c.loop-key.invariant.looked);
   fresh = c.in_ok-bodies.ensures.fresh;
   gathered = λ live l s.
@@ -44,15 +41,16 @@ loop-key-preserved c = record {
       let h : k < suc (length names) = omega (arith, c.loop-key-test.true, c.len-key-end.ensures, c.args.keys.now.names.ok, length-map c.args.keys.now.names.items (λ t. t.now)) in
       let size : length c.loop-key.looked.items ≡ length bs = omega (arith, c.loop-key.invariant.looked, c.args.components.now.bodies.ok) in
       let found = subst (λ n. AreBodiesAt n list (row rows k) c.in_ok-bodies.bodies.items) size c.in_ok-bodies.ensures.found in
-      let texts = texts_of c.in_ok-names.names.items in
-      let anywhere = names_anywhere names bs list rows live l s k c.in_ok-bodies.bodies.items _ texts h found c.as_slice.ensures.value c.in_ok-names.ensures in
-      let outside = names_outside names bs list rows live l s k c.in_ok-bodies.bodies.items _ (texts_of c.in_ok-outside.outside.items) h found c.as_slice-in-loop-key.ensures.value c.in_ok-outside.ensures in
-      gathered_more names cs c.loop-key.all.items c.loop-key.outer.items c.push.new.self.items c.push-in-loop-key.new.self.items c.in_ok-numbers.field-0 c.in_ok-numbers-2.field-0 k _ _ texts
+      let texts = flat_map (names_at references bs) c.as_slice.result.now in
+      let outer = flat_map (names_at outer_references bs) c.as_slice-in-loop-key.result.now in
+      let anywhere = names_anywhere names bs list rows live l s k c.in_ok-bodies.bodies.items _ texts h found c.as_slice.ensures.value refl in
+      let outside = names_outside names bs list rows live l s k c.in_ok-bodies.bodies.items _ outer h found c.as_slice-in-loop-key.ensures.value refl in
+      gathered_more names cs c.loop-key.all.items c.loop-key.outer.items c.push.new.self.items c.push-in-loop-key.new.self.items c.in_ok-anywhere.anywhere c.in_ok-outside.outside k _ _ texts
       (c.loop-key.invariant.gathered live l s) c.loop-key.invariant.all_size c.loop-key.invariant.outer_size c.in_ok-push.ensures.items c.in_ok-push-2.ensures.items
-      (row_of RefersTo names texts cs k c.in_ok-numbers.field-0.items (subst (λ ts. AreNumbers names (texts_of ts) c.in_ok-numbers.field-0.items) c.as_slice-in-loop-key-3.ensures.value (c.in_ok-numbers.ensures.are s)) anywhere)
-      (row_of RefersOutside names (texts_of c.in_ok-outside.outside.items) cs k c.in_ok-numbers-2.field-0.items (subst (λ ts. AreNumbers names (texts_of ts) c.in_ok-numbers-2.field-0.items) c.as_slice-in-loop-key-4.ensures.value (c.in_ok-numbers-2.ensures.are s)) outside)
+      (row_of RefersTo names texts cs k c.in_ok-anywhere.anywhere.items (c.in_ok-anywhere.ensures.are s) anywhere)
+      (row_of RefersOutside names outer cs k c.in_ok-outside.outside.items (c.in_ok-outside.ensures.are s) outside)
       anywhere
-      (λ before b. subst (λ ns. IsLeastOf (joined_grammar cs) (before ++ texts_of ns) (option_map (λ t. t.now) c.least_undefined-undefined.result)) c.as_slice-in-loop-key-2.ensures.value (c.least_undefined-undefined.ensures live before l s b));
+      (λ before b. c.in_ok-anywhere.ensures.least live before l s b);
 }
 
 pub returns-clause-all : goal.returns-clause-all
@@ -72,9 +70,8 @@ returns-clause-found c = λ live l s.
 pub returns-in-Some-clause-found : goal.returns-in-Some-clause-found
 returns-in-Some-clause-found c = λ live l s.
     let names = names_of c.args.keys.now in
-    let G = joined_grammar (components_in live) in
     let size : c.loop-key.key ≡ suc (length names) = omega (arith, c.loop-key-test.false, c.loop-key.auto.key-end, c.len-key-end.ensures, c.args.keys.now.names.ok, length-map c.args.keys.now.names.items (λ t. t.now)) in
-    subst (IsLeast text_cmp (IsUndefined G)) (sym c.in_ok-from_str-in-Some.ensures.ok)
+    c.undefined_name.ensures (components_in live)
     (gathered_some names _ _ _ live l s c.loop-key.all.items c.loop-key.outer.items c.in-Some.name.now
     (subst (λ k. Gathered names (components_in live) c.loop-key.all.items c.loop-key.outer.items k (Some c.in-Some.name.now)) size
     (subst (λ o. Gathered names (components_in live) c.loop-key.all.items c.loop-key.outer.items c.loop-key.key (option_map (λ t. t.now) o)) c.in-Some.is (c.loop-key.invariant.gathered live l s))))
