@@ -1,6 +1,6 @@
 -- A contribution alone is effective.
 use Rattle.std.proofs.Common.{◌≡◌, ℕ, List, [], ◌∷◌, refl, sym, ap, ◌∙◌, subst, arith, inl, inr}
-use Rattle.std.specs.Prelude.{IsTrue, Option, Some, Contains}
+use Rattle.std.specs.Prelude.{Option, Some, Contains}
 use Rattle.std.specs.List.Sorted.{IsStrictlySortedBy}
 use Rattle.rn_modset.specs.Contributions.{Member}
 use Rattle.rn_modset.specs.Modules.{Module, NamesRise, Holds, IsEffective, AreEffective}

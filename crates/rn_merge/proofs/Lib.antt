@@ -2,6 +2,7 @@ mod Moved
 mod Unions
 mod Checked
 mod Verdicts
+mod Refused
 mod Brought
 mod Clashes
 mod Runs

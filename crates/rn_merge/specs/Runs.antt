@@ -9,6 +9,8 @@ use Rattle.rn_modset.specs.declared.faults.AddFault.{AddFault}
 use Rattle.rn_modset.specs.declared.faults.AddFault.TheVariants as adding
 use Rattle.rn_modset.specs.declared.faults.BundleFault.{BundleFault}
 use Rattle.rn_modset.specs.declared.faults.BundleFault.TheVariants as reading
+use Rattle.rn_assemble.specs.declared.refusal.Refusal as code
+use Rattle.rn_assemble.specs.declared.refusal.Refusal.TheVariants as r
 use Rattle.rn_simplify.specs.Verdict.{prints, IsVerdict}
 use Rattle.rn_merge.specs.declared.run.RunFault.{RunFault}
 use Rattle.rn_merge.specs.declared.run.RunFault.TheVariants.{Bundle, Full, Memory, Write}
@@ -85,3 +87,8 @@ abbrev pub LeavesSink : Result Status RunFault → Type 0 → Type 0
 LeavesSink (Ok Done) kept = Unit {0}
 LeavesSink (Err Write) kept = Unit {0}
 LeavesSink result kept = kept
+
+-- what a run comes to whose merge is refused: want of memory is no refusal of the modules
+abbrev pub refused_as : code.Refusal → Result Status RunFault
+refused_as r.Memory = Err Memory
+refused_as q = Ok (Refused q)

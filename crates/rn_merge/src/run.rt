@@ -1,6 +1,6 @@
 // From bundles to the printed schema.
 ghost use Rattle.std.specs.Prelude.{◌≡◌, false, IfOk, IfErr, map};
-ghost use Rattle.rn_merge.specs.Runs.{IsUnion, HasNoUnion, IsRun, LeavesSink};
+ghost use Rattle.rn_merge.specs.Runs.{IsUnion, HasNoUnion, IsRun, LeavesSink, refused_as};
 
 use crate::streams::{Sink, write_output};
 use crate::verdict::merge;
@@ -75,11 +75,20 @@ pub fn run_print<W: Sink>(
     let union = read_bundles(alloc, bundles)?;
     let text = match merge(alloc, &union) {
         Ok(text) => text,
-        Err(Refusal::Memory) => return Err(RunFault::Memory),
-        Err(refusal) => return Ok(Status::Refused(refusal)),
+        Err(refusal) => return refused(refusal),
     };
     match write_output(out, text.as_bytes()) {
         Ok(()) => Ok(Status::Done),
         Err(_) => Err(RunFault::Write),
+    }
+}
+
+/// What a run comes to where `merge` refuses the union: want of memory is no refusal of the modules.
+fn refused(refusal: Refusal) -> Result<Status, RunFault>
+    ensures { result ≡ refused_as refusal }
+{
+    match refusal {
+        Refusal::Memory => Err(RunFault::Memory),
+        refusal => Ok(Status::Refused(refusal)),
     }
 }

@@ -1,4 +1,4 @@
-use Rattle.std.proofs.Common.{List, [], ◌∷◌, Some}
+use Rattle.std.proofs.Common.{[], ◌∷◌, Some}
 use Rattle.rn_simplify.specs.Verdict.{prints}
 use Rattle.rn_simplify.proofs.PrintedSets.{printed_read}
 use Rattle.rn_merge.proofs.Alone.{effective_alone}

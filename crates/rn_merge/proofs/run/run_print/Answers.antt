@@ -1,5 +1,7 @@
-use Rattle.std.proofs.Common.{string_bytes, subst}
+use Rattle.std.proofs.Common.{◌≡◌, map, refl, string_bytes, subst, sym}
+use Rattle.rn_merge.specs.Runs.{IsRun, LeavesSink}
 use Rattle.rn_merge.specs.Streams.{AppendsFront}
+use Rattle.rn_merge.proofs.Refused.{refused_run, refused_leaves}
 use Rattle.rn_merge.proofs.run.run_print.Goals as goal
 
 pub returns-clause-run : goal.returns-clause-run
@@ -11,3 +13,12 @@ returns-clause-run g c = (
   subst (AppendsFront (g.W.Sink.contents c.args.out.now) (g.W.Sink.contents c.write_output.new.out)) c.as_bytes.ensures.value c.write_output.ensures.front,
   c.in-Err-write_output.ensures.err,
 )
+
+pub returns-in-Err-clause-run : goal.returns-in-Err-clause-run
+returns-in-Err-clause-run g c =
+    subst (IsRun (map (λ bundle. bundle.items) c.args.bundles.now) _ _ _) (sym c.refused.ensures) (refused_run _ _ _ _ c.in_ok-union.union c.in-Err.refusal c.in_ok-union.ensures.ok c.in-Err.ensures)
+
+pub returns-in-Err-clause-kept : goal.returns-in-Err-clause-kept
+returns-in-Err-clause-kept g c =
+    let Kept = c.args.out.now ≡ c.args.out.now in
+    subst (λ r. LeavesSink r Kept) (sym c.refused.ensures) (refused_leaves c.in-Err.refusal Kept refl)
