@@ -1,12 +1,12 @@
 -- What a store keeps from call to call.
-use Rattle.std.proofs.Common.{◌≡◌, ℕ, zero, suc, ◌+◌, ◌<◌, ◌++◌, inl, inr, set, arith, length, take, map, get_or, List, [], ◌∷◌, ◌∙◌, refl, sym, ap, subst, Bool, Option, Some, None}
+use Rattle.std.proofs.Common.{◌≡◌, ℕ, zero, suc, ◌+◌, ◌<◌, ◌++◌, inl, inr, set, arith, length, take, map, get_or, replicate, List, [], ◌∷◌, ◌∙◌, refl, sym, ap, subst, Bool, Option, Some, None}
 use Rattle.std.specs.Prelude.{IsTrue, All, IfSome, option_and_then}
 use Rattle.std.specs.Option.{option_map_or}
 use Rattle.std.specs.declared.alloc.Global.{Global}
 use Rattle.std.specs.declared.rc.Rc.{Rc}
 use Rattle.std.proofs.Math.Path.{fun_ext}
 use Rattle.std.proofs.lemmas.Bool.{cases_lt}
-use Rattle.std.proofs.lemmas.List.{take_more, map-append, get_or_past}
+use Rattle.std.proofs.lemmas.List.{take_more, map-append, get_or_past, get_or-replicate, length-replicate}
 use Rattle.std.proofs.lemmas.List.Elements.{All-head, All-tail}
 use Rattle.rn_pattern.specs.Canonical.{canonical, canonical_all}
 use Rattle.rn_pattern.specs.CanonicalShape.{IsCanonicalPattern}
@@ -56,8 +56,10 @@ pub canonical_still : {I : Type 0} (k k' : I → Bool) (t t' : I → Tree) → K
 canonical_still k k' t t' a os h c n d l = canonical_option k k' t t' a _ (h n d l) (c n d l)
 
 -- of ids that are not there all holds
-pub each_of_none : {I : Type 0} (P : I → Type 0) (os : List (Option I)) → All (λ o. o ≡ None) os → All (λ o. IfSome o P) os
-each_of_none P os h n d l = subst (λ o. IfSome o P) (sym (h n d l)) tt
+pub each_of_none : {I : Type 0} (P : I → Type 0) (n : ℕ) (os : List (Option I)) → os ≡ replicate n None → All (λ o. IfSome o P) os
+each_of_none {I = I} P n os e k d l =
+    let there : get_or os k d ≡ None = ap (λ xs. get_or xs k d) e ∙ get_or-replicate n k None d (omega (arith, l, ap length e, length-replicate {A = Option I} n None)) in
+    subst (λ o. IfSome o P) (sym there) tt
 
 forms_push : (s : Text → Tree) (ps : List Tree) (p : Tree) → canonical_all s (trees_of (ps ++ p ∷ [])) ≡ canonical_all s (trees_of ps) ++ canonical s p ∷ []
 forms_push s [] p = refl

@@ -1,15 +1,14 @@
--- What is settled in order, formed and pruned is the canonical grammar.
-use Rattle.std.proofs.Common.{◌≡◌, ℕ, List, [], ◌∷◌, map, Option, Some, None, refl, ap, ◌∙◌, subst}
+-- What is settled in order, and the grammar of the forms.
+use Rattle.std.proofs.Common.{◌≡◌, ℕ, List, [], ◌∷◌, map, Option, Some, None, Result, Ok, Err, IfOk, refl, ap, ◌∙◌}
 use Rattle.std.specs.Option.{option_map_or}
 use Rattle.rn_pattern.specs.Tree.{Text, Tree, ref}
 use Rattle.rn_pattern.specs.Matching.{Grammar, definition_of}
 use Rattle.rn_pattern.specs.Canonical.{canonical, ref_unless_settled}
 use Rattle.rn_pattern.specs.CanonicalShape.{IsCanonicalPattern}
-use Rattle.rn_pattern.specs.Reached.{IsReached, formed, IsPruned, IsCanonicalOf}
+use Rattle.rn_pattern.specs.Reached.{IsReached, formed}
 use Rattle.rn_assemble.specs.WellFormed.{IsWellFormed}
 use Rattle.rn_simplify.specs.Numbered.{AreSettled}
 use Rattle.rn_simplify.specs.Settling.{IsSettling, IsSettlingOrder}
-use Rattle.rn_simplify.proofs.RankOrder.{normal_is}
 use Rattle.rn_simplify.proofs.ReferenceGraph.{number_some}
 use Rattle.rn_simplify.proofs.SettlingOrder.{reached_refers}
 
@@ -18,11 +17,8 @@ module _ (G : Grammar) (t : Text → Tree) (order : List ℕ) (w : IsWellFormed 
   made_at x None e r = absurd (w.defined x (reached_refers G x r, e))
   made_at x (Some p) e r = let (k, n) = number_some G.definitions x p e in settled x k p n e (o.listed x k r n)
 
-  settling_is : IsSettling G t o.rank
+  pub settling_is : IsSettling G t o.rank
   settling_is = record { forms = forms; made = λ x r. made_at x (definition_of G x) refl r; falls = o.falls; below = o.below }
-
-  pub normalised : (F N : Grammar) → F ≡ formed t G → IsPruned F N → IsCanonicalOf G N
-  normalised F N e p = normal_is G t o.rank settling_is N (subst (λ H. IsPruned H N) e p)
 
 pub formed_is : (G : Grammar) (t : Text → Tree) (ds fs : List (Text × Tree)) (p s : Tree) → ds ≡ G.definitions → p ≡ G.start → s ≡ canonical t p → fs ≡ map (λ (d : Text × Tree). (d.0, canonical t d.1)) ds → ◌≡◌ {A = Grammar} (record { start = s; definitions = fs }) (formed t G)
 formed_is G t ds fs p s e f g h =
@@ -33,3 +29,8 @@ formed_is G t ds fs p s e f g h =
 pub names_formed : (t : Text → Tree) (ds : List (Text × Tree)) → map (λ (d : Text × Tree). d.0) (map (λ (d : Text × Tree). (d.0, canonical t d.1)) ds) ≡ map (λ (d : Text × Tree). d.0) ds
 names_formed t [] = refl
 names_formed t (d ∷ ds) = ap (λ ns. d.0 ∷ ns) (names_formed t ds)
+
+-- what holds of a result, and what else does
+pub both_hold : {T E : Type 0} (r : Result T E) (P Q : T → Type 0) → IfOk r P → IfOk r Q → IfOk r (λ x. P x × Q x)
+both_hold (Ok x) P Q p q = (p, q)
+both_hold (Err y) P Q p q = tt

@@ -1,5 +1,5 @@
 -- The forms that are reached, sorted by their names, are the grammar of forms, pruned.
-use Rattle.std.proofs.Common.{◌≡◌, ⊎_elim, ◌+◌, ◌<◌, ℕ, zero, suc, Bool, true, false, cond, List, [], ◌∷◌, length, map, get_or, reverse, position, Some, refl, sym, ap, ◌∙◌, subst, arith, Ordering, Less, Equal, Greater, Bor}
+use Rattle.std.proofs.Common.{◌≡◌, ⊎_elim, ◌+◌, ◌<◌, ℕ, zero, suc, Bool, true, false, cond, List, [], ◌∷◌, length, map, get_or, position, Some, refl, sym, ap, ◌∙◌, subst, arith, Ordering, Less, Equal, Greater, Bor}
 use Rattle.std.specs.Prelude.{bytes_eq, Contains, IsPermutation, IsSortedBy, String, string_bytes}
 use Rattle.std.specs.Ordering.{is_lt, ordering_reverse}
 use Rattle.std.specs.Cmp.{IsStrictWeakOrder}
@@ -11,7 +11,7 @@ use Rattle.std.proofs.lemmas.Bool.{false≢true}
 use Rattle.std.proofs.lemmas.Cmp.{nat_list_cmp_total, nat_list_eq_equiv}
 use Rattle.std.proofs.lemmas.Fn.{always_returns_same}
 use Rattle.std.proofs.lemmas.List.{get_or-map, get_or_default, length-map}
-use Rattle.std.proofs.lemmas.List.Sorted.{IsPermutation-map, IsPermutation-reverse, IsPermutation-trans, IsPermutation-sym, Contains-permutation, ranks_by}
+use Rattle.std.proofs.lemmas.List.Sorted.{IsPermutation-map, IsPermutation-sym, Contains-permutation, ranks_by}
 use Rattle.std.proofs.lemmas.Map.Keys.{IsDistinct-IsPermutation, apart_from_distinct, sorted_from_all_adjacent}
 use Rattle.std.proofs.lemmas.Slice.Eq.{bytes_eq-Decides}
 use denote.Param.Members.{Mut}
@@ -135,16 +135,13 @@ pub numbers_same : (ds es : List (Text × Tree)) (xs : List Text) → map (λ (d
 numbers_same ds es xs e = λ i. filter_map (λ x. position (bytes_eq x) (sym e i)) xs
 
 -- the pruned grammar: N has those of F that have a mark, in the order of their names
-module _ (F : Grammar) (forms kept : List (String Global × Pattern)) (marks : List Bool) (whole : definitions_view forms ≡ F.definitions) (moved : IsPermutation (reverse (marked marks forms)) kept)
+module _ (F : Grammar) (forms kept : List (String Global × Pattern)) (marks : List Bool) (whole : definitions_view forms ≡ F.definitions) (moved : IsPermutation (marked marks forms) kept)
     (exact : MarksReached F marks) where
-  shuffled : IsPermutation (marked marks forms) kept
-  shuffled = IsPermutation-trans (marked marks forms) (reverse (marked marks forms)) kept (IsPermutation-reverse (marked marks forms)) moved
-
   shown : definitions_view (marked marks forms) ≡ marked marks F.definitions
   shown = map-marked (λ (e : String Global × Pattern). (string_bytes e.0, pattern_view e.1)) marks forms ∙ ap (marked marks) whole
 
   moved_view : IsPermutation (marked marks F.definitions) (definitions_view kept)
-  moved_view = subst (λ ds. IsPermutation ds (definitions_view kept)) shown (IsPermutation-map {X = Text × Tree} (λ (e : String Global × Pattern). (string_bytes e.0, pattern_view e.1)) (marked marks forms) kept shuffled)
+  moved_view = subst (λ ds. IsPermutation ds (definitions_view kept)) shown (IsPermutation-map {X = Text × Tree} (λ (e : String Global × Pattern). (string_bytes e.0, pattern_view e.1)) (marked marks forms) kept moved)
 
   pub kept_distinct : IsDistinct bytes_eq (map (λ (d : Text × Tree). d.0) F.definitions) → IsDistinct bytes_eq (names kept)
   kept_distinct d =

@@ -1,5 +1,5 @@
 // From a grammar to its canonical form.
-ghost use Rattle.std.specs.Prelude.{◌≡◌, ◌<◌, All, IfOk, IfSome, OnOk, bytes_eq, length, map, slice_index_or};
+ghost use Rattle.std.specs.Prelude.{◌≡◌, ◌<◌, ℕ, All, IfOk, IfSome, OnOk, bytes_eq, length, map, slice_index_or};
 ghost use Rattle.std.specs.List.{IsDistinct};
 ghost use Rattle.rn_assemble.specs.Graph.{AllBelow};
 ghost use Rattle.rn_assemble.specs.GrammarView.{definitions_view, grammar_view};
@@ -12,12 +12,12 @@ ghost use Rattle.rn_pattern.specs.Tree.{Text, Tree};
 ghost use Rattle.rn_pattern.specs.View.{pattern_view};
 ghost use Rattle.rn_simplify.specs.NormalView.{normal_view};
 ghost use Rattle.rn_simplify.specs.Numbered.{AreKnown, AreSettled, Settles, settled_by};
-ghost use Rattle.rn_simplify.specs.Settling.{IsInOrder};
+ghost use Rattle.rn_simplify.specs.Settling.{IsInOrder, IsSettling};
 
 use crate::canonical::{Settled, canonical, worth};
 use crate::normal::Normal;
 use crate::reachable::pruned;
-use crate::rebuilt::rebuilt;
+use crate::rebuilt::rebuilt_box;
 use crate::settling::{body_of, settling_order};
 use indexmap::IndexMap;
 use rn_assemble::Grammar;
@@ -42,40 +42,55 @@ pub fn normalise_in<P: Patterns>(
     ensures canonical { IfOk result (λ n. IsWellFormed (grammar_view grammar.now) → IsCanonicalOf (grammar_view grammar.now) (normal_view n)) }
     ensures kept { KeepsTrees (P.knows store.old) (P.tree_of store.old) (P.knows store.new) (P.tree_of store.new) }
 {
-    let names = grammar.defs();
-    let order = settling_order(alloc, grammar)?;
-    let worth = settle(alloc, names, &order, store)?;
-    let settled = Settled { names, worth };
+    let settled = settled(alloc, grammar, store)?;
     let start = form(alloc, store, &settled, grammar.start())?;
     let forms = forms(alloc, store, &settled)?;
-    pruned(alloc, names, start, forms)
+    let defs = pruned(alloc, settled.names, &start, forms)?;
+    Ok(Normal {
+        start: Box::into_inner(start),
+        defs,
+    })
 }
 
-/// What each definition is worth, settled in an order in which each comes after those that it refers to outside elements.
-fn settle<P: Patterns>(
+/// What the references to the definitions of a grammar become.
+fn settled<'g, P: Patterns>(
     alloc: Global,
-    names: &IndexMap<String, Pattern>,
-    order: &[usize],
+    grammar: &'g Grammar,
     store: &mut P,
-) -> Result<Vec<Option<P::Id>>, AllocError>
-    requires { AllBelow (length names.now.entries) order.now }
-    ensures size { IfOk result (λ v. length v.items ≡ length names.now.entries) }
-    ensures known { IfOk result (λ v. AreKnown (P.knows store.new) v.items) }
-    ensures canonical { IfOk result (λ v. All (λ o. IfSome o (λ i. IsCanonicalPattern (P.tree_of store.new i))) v.items) }
-    ensures settled { IfOk result (λ v. IsInOrder (definitions_view names.now.entries) order.now
-        → AreSettled (definitions_view names.now.entries) order.now
-        (settled_by (P.tree_of store.new) (definitions_view names.now.entries) v.items)) }
+) -> Result<Settled<'g, P::Id>, AllocError>
+    ensures names { IfOk result (λ s. definitions_view s.names.now.entries ≡ (grammar_view grammar.now).definitions) }
+    ensures known { IfOk result (λ s. AreKnown (P.knows store.new) s.worth.items) }
+    ensures exact { IfOk result (λ s. IsWellFormed (grammar_view grammar.now) → (rank : Text → ℕ)
+        × IsSettling (grammar_view grammar.now) (settled_by (P.tree_of store.new) (definitions_view s.names.now.entries) s.worth.items) rank) }
     ensures kept { KeepsTrees (P.knows store.old) (P.tree_of store.old) (P.knows store.new) (P.tree_of store.new) }
 {
-    let mut none = Vec::new(alloc);
-    for _ in 0..names.len() {
-        none.push(None)?;
-    }
-    let mut settled = Settled { names, worth: none };
+    let order = settling_order(alloc, grammar)?;
+    settle(alloc, grammar.defs(), &order, store)
+}
+
+/// What the references to the definitions become, settled in an order in which each definition comes after those that it
+/// refers to outside elements.
+fn settle<'g, P: Patterns>(
+    alloc: Global,
+    names: &'g IndexMap<String, Pattern>,
+    order: &[usize],
+    store: &mut P,
+) -> Result<Settled<'g, P::Id>, AllocError>
+    requires { AllBelow (length names.now.entries) order.now }
+    ensures names { IfOk result (λ s. s.names.now.entries ≡ names.now.entries) }
+    ensures known { IfOk result (λ s. AreKnown (P.knows store.new) s.worth.items) }
+    ensures canonical { IfOk result (λ s. All (λ o. IfSome o (λ i. IsCanonicalPattern (P.tree_of store.new i))) s.worth.items) }
+    ensures settled { IfOk result (λ s. IsInOrder (definitions_view names.now.entries) order.now
+        → AreSettled (definitions_view names.now.entries) order.now
+        (settled_by (P.tree_of store.new) (definitions_view names.now.entries) s.worth.items)) }
+    ensures kept { KeepsTrees (P.knows store.old) (P.tree_of store.old) (P.knows store.new) (P.tree_of store.new) }
+{
+    let worth = vec![in alloc; None; names.len()]?;
+    let mut settled = Settled { names, worth };
     for number in order {
         settle_one(alloc, *number, store, &mut settled)?;
     }
-    Ok(settled.worth)
+    Ok(settled)
 }
 
 /// Settles the definition of a number by its body.
@@ -102,21 +117,21 @@ fn settle_one<P: Patterns>(
     Ok(())
 }
 
-/// The canonical form of a pattern.
+/// The canonical form of a pattern, in its box.
 fn form<P: Patterns>(
     alloc: Global,
     store: &mut P,
     settled: &Settled<'_, P::Id>,
     pattern: &Pattern,
-) -> Result<Pattern, AllocError>
+) -> Result<Box<Pattern>, AllocError>
     requires { AreKnown (P.knows store.old) settled.now.worth.items }
-    ensures made { IfOk result (λ p. pattern_view p ≡ form.canonical
+    ensures made { IfOk result (λ p. pattern_view p.value ≡ form.canonical
         (settled_by (P.tree_of store.old) (definitions_view settled.now.names.now.entries) settled.now.worth.items)
         (pattern_view pattern.now)) }
     ensures kept { KeepsTrees (P.knows store.old) (P.tree_of store.old) (P.knows store.new) (P.tree_of store.new) }
 {
     let form = canonical(alloc, store, settled, pattern)?;
-    rebuilt(alloc, store, form)
+    rebuilt_box(alloc, store, form)
 }
 
 /// The canonical forms of the definitions, in their order.
@@ -138,7 +153,8 @@ fn forms<P: Patterns>(
     let mut forms = Vec::new(alloc);
     for (name, body) in settled.names {
         let name = name.clone()?;
-        forms.push((name, form(alloc, store, settled, body)?))?;
+        let form = form(alloc, store, settled, body)?;
+        forms.push((name, Box::into_inner(form)))?;
     }
     Ok(forms)
 }

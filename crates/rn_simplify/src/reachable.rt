@@ -1,38 +1,38 @@
 // The definitions that are reached through canonical forms (RELAX NG, 4.19).
-ghost use Rattle.std.specs.Prelude.{◌≡◌, ◌≤◌, ◌∷◌, ◌++◌, [], IfOk, OnOk, cond, length, map, reverse, bytes_eq, vec_len};
+ghost use Rattle.std.specs.Prelude.{◌≡◌, IfOk, drop, length, map, bytes_eq};
 ghost use Rattle.std.specs.List.{IsDistinct};
-ghost use Rattle.rn_assemble.specs.Graph.{rows_of};
+ghost use Rattle.std.specs.Slice.Iter.{iter_rest};
+ghost use Rattle.rn_assemble.specs.Graph.{is_marked, rows_of};
 ghost use Rattle.rn_assemble.specs.GrammarView.{definitions_view};
 ghost use Rattle.rn_pattern.specs.Reached.{IsPruned};
 ghost use Rattle.rn_pattern.specs.View.{pattern_view};
 ghost use Rattle.rn_simplify.specs.Marked.{marked};
-ghost use Rattle.rn_simplify.specs.NormalView.{normal_view};
 ghost use Rattle.rn_simplify.specs.Numbered.{MarksReached, rows_by};
 ghost use Rattle.rn_simplify.specs.declared.references.Scope.TheVariants.{Everywhere};
 
-use crate::normal::Normal;
 use crate::references::{Scope, referred};
 use indexmap::IndexMap;
 use rn_assemble::graph::reached;
 use rn_pattern::Pattern;
 use std::alloc::{AllocError, Global};
 
-/// The start, and the forms that it reaches in the order of their names. The forms have the names of the definitions, in
-/// their order.
+/// The forms that the start reaches, in the order of their names. The forms have the names of the definitions, in their
+/// order.
 pub(crate) fn pruned(
     alloc: Global,
     names: &IndexMap<String, Pattern>,
-    start: Pattern,
-    forms: Vec<(String, Pattern)>,
-) -> Result<Normal, AllocError>
+    start: &Pattern,
+    mut forms: Vec<(String, Pattern)>,
+) -> Result<Vec<(String, Pattern)>, AllocError>
     requires named { map (λ d. d.0) (definitions_view forms.items) ≡ map (λ d. d.0) (definitions_view names.now.entries) }
     requires distinct { IsDistinct bytes_eq (map (λ d. d.0) (definitions_view forms.items)) }
-    ensures { IfOk result (λ n. IsPruned (record { start = pattern_view start; definitions = definitions_view forms.items }) (normal_view n)) }
+    ensures { IfOk result (λ v. IsPruned (record { start = pattern_view start.now; definitions = definitions_view forms.items })
+        (record { start = pattern_view start.now; definitions = definitions_view v.items })) }
 {
-    let is_reached = reached_forms(alloc, names, &start, &forms)?;
-    let mut defs = only_marked(alloc, forms, &is_reached)?;
-    defs.sort_by(|a: &(String, Pattern), b: &(String, Pattern)| a.0.cmp(&b.0))?;
-    Ok(Normal { start, defs })
+    let is_reached = reached_forms(alloc, names, start, &forms)?;
+    keep_marked(&mut forms, &is_reached);
+    forms.sort_by(|a: &(String, Pattern), b: &(String, Pattern)| a.0.cmp(&b.0))?;
+    Ok(forms)
 }
 
 /// For each form, whether the start reaches it.
@@ -66,32 +66,15 @@ fn rows_of_forms(
     Ok(rows)
 }
 
-/// The forms that are marked, the last one first.
-fn only_marked(
-    alloc: Global,
-    mut forms: Vec<(String, Pattern)>,
-    marks: &[bool],
-) -> Result<Vec<(String, Pattern)>, AllocError>
-    requires { vec_len forms ≤ length marks.now }
-    ensures { IfOk result (λ v. v.items ≡ reverse (marked marks.now forms.items)) }
+/// Removes the forms that are not marked.
+fn keep_marked(forms: &mut Vec<(String, Pattern)>, marks: &[bool])
+    ensures { forms.new.items ≡ marked marks.now forms.old.items }
 {
-    let mut kept = Vec::new(alloc);
-    while let Some(form) = forms.pop() {
-        let is_marked = marks[forms.len()];
-        push_if(is_marked, &mut kept, form)?;
-    }
-    Ok(kept)
-}
-
-fn push_if(
-    condition: bool,
-    forms: &mut Vec<(String, Pattern)>,
-    form: (String, Pattern),
-) -> Result<(), AllocError>
-    ensures { OnOk result (forms.new.items ≡ forms.old.items ++ cond condition (form ∷ []) []) }
-{
-    if condition {
-        forms.push(form)?;
-    }
-    Ok(())
+    let mut marks = marks.iter();
+    forms.retain(
+        move |_|
+            ensures is { result ≡ is_marked (iter_rest marks.entry) 0 }
+            ensures rest { iter_rest marks.exit ≡ drop 1 (iter_rest marks.entry) }
+        { marks.next().copied().unwrap_or(false) },
+    );
 }

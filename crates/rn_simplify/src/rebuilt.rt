@@ -9,11 +9,7 @@ use std::rc::Rc;
 
 /// The pattern of an id.
 #[cycle(rebuilt)]
-pub(crate) fn rebuilt<P: Patterns>(
-    alloc: Global,
-    store: &P,
-    id: P::Id,
-) -> Result<Pattern, AllocError>
+fn rebuilt<P: Patterns>(alloc: Global, store: &P, id: P::Id) -> Result<Pattern, AllocError>
     requires { IsTrue (P.knows store.now id) }
     ensures { IfOk result (λ p. pattern_view p ≡ P.tree_of store.now id) }
 {
@@ -32,12 +28,12 @@ pub(crate) fn rebuilt<P: Patterns>(
         }
         Node::List(content) => Ok(Pattern::List(rebuilt_box(alloc, store, *content)?)),
         Node::Attribute(class, content) => {
-            let class = cloned_class(alloc, class)?;
-            Ok(Pattern::Attribute(class, rebuilt_box(alloc, store, *content)?))
+            let content = rebuilt_box(alloc, store, *content)?;
+            Ok(Pattern::Attribute(cloned_class(alloc, class)?, content))
         }
         Node::Element(class, content) => {
-            let class = cloned_class(alloc, class)?;
-            Ok(Pattern::Element(class, rebuilt_box(alloc, store, *content)?))
+            let content = rebuilt_box(alloc, store, *content)?;
+            Ok(Pattern::Element(cloned_class(alloc, class)?, content))
         }
         Node::OneOrMore(content) => Ok(Pattern::OneOrMore(rebuilt_box(alloc, store, *content)?)),
         Node::Group(members) => Ok(Pattern::Group(rebuilt_members(alloc, store, members)?)),
@@ -48,8 +44,13 @@ pub(crate) fn rebuilt<P: Patterns>(
     }
 }
 
+/// The pattern of an id, in its box.
 #[cycle(rebuilt)]
-fn rebuilt_box<P: Patterns>(alloc: Global, store: &P, id: P::Id) -> Result<Box<Pattern>, AllocError>
+pub(crate) fn rebuilt_box<P: Patterns>(
+    alloc: Global,
+    store: &P,
+    id: P::Id,
+) -> Result<Box<Pattern>, AllocError>
     requires { IsTrue (P.knows store.now id) }
     ensures { IfOk result (λ p. pattern_view p.value ≡ P.tree_of store.now id) }
 {
@@ -84,13 +85,12 @@ fn rebuilt_members<P: Patterns>(
 {
     let mut members: Vec<Rc<Pattern>> = Vec::new(alloc);
     for (i, id) in ids.iter().enumerate() {
-        if i > 0 && *id == ids[i - 1] {
-            let member = members[i - 1].clone()?;
-            members.push(member)?;
+        let member = if i > 0 && *id == ids[i - 1] {
+            members[i - 1].clone()?
         } else {
-            let pattern = rebuilt(alloc, store, *id)?;
-            members.push(Rc::new(alloc, pattern)?)?;
-        }
+            Rc::new(alloc, rebuilt(alloc, store, *id)?)?
+        };
+        members.push(member)?;
     }
     Ok(members)
 }

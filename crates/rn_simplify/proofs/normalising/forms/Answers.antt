@@ -25,10 +25,10 @@ loop-name-preserved g c =
     let t = settled_by (r init) ds worth in
     let same = settled_still (k init) (k old) (r init) (r old) inv.kept ds worth c.requires in
     let name = c.in_ok-name.ensures.cases in
-    let made : pattern_view c.in_ok-form.field-0 ≡ form.canonical t (pattern_view c.in-Some.body.now) = c.in_ok-form.ensures.made ∙ ap (λ s. form.canonical s (pattern_view c.in-Some.body.now)) same in
+    let made : pattern_view c.into_inner.result ≡ form.canonical t (pattern_view c.in-Some.body.now) = ap pattern_view c.into_inner.ensures ∙ c.in_ok-form.ensures.made ∙ ap (λ s. form.canonical s (pattern_view c.in-Some.body.now)) same in
     record {
       kept = keeps_then (k init) (k old) (k c.form.new.store) (r init) (r old) (r c.form.new.store) inv.kept c.form.ensures.kept;
-      made = seen_more (λ (d : Text × Tree). (d.0, form.canonical t d.1)) c.loop-name.yielded (c.in-Some.name, c.in-Some.body) c.loop-name.forms.items c.push.new.self.items (c.in_ok-name.name, c.in_ok-form.field-0) inv.made c.in_ok-push.ensures.items (λ i. (name i, made i));
+      made = seen_more (λ (d : Text × Tree). (d.0, form.canonical t d.1)) c.loop-name.yielded (c.in-Some.name, c.in-Some.body) c.loop-name.forms.items c.push.new.self.items (c.in_ok-name.name, c.into_inner.result) inv.made c.in_ok-push.ensures.items (λ i. (name i, made i));
     }
 
 pub returns-clause-made : goal.returns-clause-made

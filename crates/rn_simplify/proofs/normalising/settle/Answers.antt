@@ -1,4 +1,4 @@
-use Rattle.std.proofs.Common.{◌≡◌, ℕ, List, length, get_or, refl, ap, ◌∙◌, subst, arith}
+use Rattle.std.proofs.Common.{◌≡◌, ℕ, List, length, get_or, refl, ap, ◌∙◌, subst, arith, rules}
 use Rattle.std.specs.Prelude.{IsTrue}
 use Rattle.std.proofs.lemmas.List.{take_all}
 use Rattle.std.proofs.lemmas.List.Elements.{Contains-get_or}
@@ -12,7 +12,7 @@ use Rattle.rn_simplify.proofs.SettledMore.{settled_more, settled_none}
 use Rattle.rn_simplify.proofs.normalising.settle.Goals as goal
 
 pub invariant_of-settled : goal.invariant_of-settled
-invariant_of-settled g c = record { sized = omega (arith, c.loop.invariant.1, c.loop-test.false, c.loop.auto.counter-end, c.len-end.ensures.len, c.loop.none.ok.0) }
+invariant_of-settled g c = record { sized = omega (arith, c.in_ok-worth.ensures.len, c.len.ensures.len, c.in_ok-worth.worth.ok.0) }
 
 pub settle_one-requires-clause-within : goal.settle_one-requires-clause-within
 settle_one-requires-clause-within g c =
@@ -24,8 +24,8 @@ pub loop-number-init : goal.loop-number-init
 loop-number-init g c = record {
   kept = λ i h. (h, refl);
   names = refl;
-  known = each_of_none (λ i. IsTrue (g.P.Patterns.knows c.args.store.now i)) c.loop.none.items c.loop.invariant.0;
-  canonical = each_of_none (λ i. IsCanonicalPattern (g.P.Patterns.tree_of c.args.store.now i)) c.loop.none.items c.loop.invariant.0;
+  known = each_of_none (λ i. IsTrue (g.P.Patterns.knows c.args.store.now i)) _ _ (c.in_ok-worth.ensures.items_if_clones_equal (λ y h. search rules));
+  canonical = each_of_none (λ i. IsCanonicalPattern (g.P.Patterns.tree_of c.args.store.now i)) _ _ (c.in_ok-worth.ensures.items_if_clones_equal (λ y h. search rules));
   settled = λ _. settled_none (definitions_view c.args.names.now.entries) c.args.order.now _;
 }
 
@@ -60,5 +60,5 @@ returns-clause-settled g c = λ o.
     let t = settled_by (g.P.Patterns.tree_of c.loop-number.store) ds c.loop-number.settled.worth.items in
     subst (λ (ns : List ℕ). AreSettled ds ns t) (take_all c.loop-number.number-index c.args.order.now (omega arith)) (c.loop-number.invariant.settled o)
 
-pub returns-clause-size : goal.returns-clause-size
-returns-clause-size g c = c.loop-number.settled.sized ∙ ap length c.loop-number.invariant.names
+pub returns-clause-names : goal.returns-clause-names
+returns-clause-names g c = c.loop-number.invariant.names

@@ -1,4 +1,4 @@
-use Rattle.std.proofs.Common.{◌≡◌, take, None, vec_len}
+use Rattle.std.proofs.Common.{◌≡◌, take}
 use Rattle.std.specs.Prelude.{All, IfSome}
 use Rattle.rn_assemble.specs.GrammarView.{definitions_view}
 use Rattle.rn_pattern.specs.CanonicalShape.{IsCanonicalPattern}
@@ -6,9 +6,6 @@ use Rattle.rn_pattern.specs.Store.{KeepsTrees}
 use Rattle.rn_simplify.specs.Numbered.{AreKnown, AreSettled, settled_by}
 use Rattle.rn_simplify.specs.Settling.{IsInOrder}
 use Rattle.rn_simplify.proofs.normalising.settle.Given as goal
-
-abbrev pub invariant-loop : goal.invariant-loop
-invariant-loop g l = All (λ o. o ≡ None) l.none.items × (vec_len l.none ≡ l.counter)
 
 abbrev pub invariant-loop-number : goal.invariant-loop-number
 invariant-loop-number g l = record {

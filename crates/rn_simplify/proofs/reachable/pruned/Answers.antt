@@ -1,4 +1,4 @@
-use Rattle.std.proofs.Common.{ap, refl, ◌∙◌, subst, reverse, rules}
+use Rattle.std.proofs.Common.{ap, refl, ◌∙◌, subst, rules}
 use Rattle.std.specs.Prelude.{IsPermutation}
 use Rattle.rn_pattern.specs.Matching.{Grammar}
 use Rattle.rn_pattern.specs.View.{pattern_view}
@@ -10,9 +10,9 @@ use Rattle.rn_simplify.proofs.reachable.pruned.Goals as goal
 
 pub returns : goal.returns
 returns c =
-    let F : Grammar = record { start = pattern_view c.args.start; definitions = definitions_view c.args.forms.items } in
+    let F : Grammar = record { start = pattern_view c.args.start.now; definitions = definitions_view c.args.forms.items } in
     let marks = c.in_ok-is_reached.is_reached.items in
-    let defs = c.sort_by.new.self.items in
-    let exact : MarksReached F marks = subst (λ es. MarksReached (record { start = pattern_view c.args.start; definitions = definitions_view es }) marks) c.deref.ensures.value c.in_ok-is_reached.ensures.reached in
-    let moved : IsPermutation (reverse (marked marks c.args.forms.items)) defs = subst (λ xs. IsPermutation xs defs) (c.in_ok-defs.ensures ∙ ap (λ ms. reverse (marked ms c.args.forms.items)) c.deref-2.ensures.value) c.sort_by.ensures.permutation in
-    pruned_is F c.args.forms.items defs marks refl moved exact (names_rise defs (kept_distinct F c.args.forms.items defs marks refl moved exact c.requires.distinct) c.in_ok-sort_by.ensures.sorted (λ a r f' k. search rules))
+    let kept = c.sort_by.new.self.items in
+    let exact : MarksReached F marks = subst (λ es. MarksReached (record { start = pattern_view c.args.start.now; definitions = definitions_view es }) marks) c.deref.ensures.value c.in_ok-is_reached.ensures.reached in
+    let moved : IsPermutation (marked marks c.args.forms.items) kept = subst (λ xs. IsPermutation xs kept) (c.keep_marked.ensures ∙ ap (λ ms. marked ms c.args.forms.items) c.deref-2.ensures.value) c.sort_by.ensures.permutation in
+    pruned_is F c.args.forms.items kept marks refl moved exact (names_rise kept (kept_distinct F c.args.forms.items kept marks refl moved exact c.requires.distinct) c.in_ok-sort_by.ensures.sorted (λ a r f' k. search rules))
