@@ -14,6 +14,10 @@ pub fn merge(alloc: Global, set: &ModuleSet) -> Result<String, Refusal>
     ensures { MatchResult result (λ text. IsVerdict set.now (prints (string_bytes text))) (IsRefusedAs set.now) }
 {
     let grammar = assemble(alloc, set)?;
-    let normal = normalise(alloc, &grammar)?;
-    print(alloc, &normal)
+    let normal = normalise(alloc, &grammar);
+    drop(grammar);
+    let normal = normal?;
+    let text = print(alloc, &normal);
+    drop(normal);
+    text
 }

@@ -10,4 +10,4 @@ pub returns : goal.returns
 returns c =
     let n = normal_view c.in_ok-normal.normal in
     let normal = normalised c.args.set.now (grammar_view c.in_ok-grammar.grammar) n c.in_ok-grammar.ensures c.in_ok-normal.ensures in
-    answered c.args.set.now n c.print.result normal c.print.ensures.ok c.print.ensures.err
+    answered c.args.set.now n c.print-text.result normal c.print-text.ensures.ok c.print-text.ensures.err
