@@ -183,7 +183,9 @@ pub fn read_input<S: Source>(
     ensures sound { OnOk result (S.has_failed source.new ≡ false) }
     ensures err { IfErr result (IsReadFault (S.remaining source.old) (S.remaining source.new) (S.has_failed source.new) limit) }
 {
-    let mut piece = room(alloc).map_err(|_| ReadFault::Memory)?;
+    let Ok(mut piece) = room(alloc) else {
+        return Err(ReadFault::Memory);
+    };
     let mut bytes = Vec::new(alloc);
     loop {
         let given = match source.pull(piece.as_mut_slice()) {
@@ -196,9 +198,9 @@ pub fn read_input<S: Source>(
         if given > limit - bytes.len() {
             return Err(ReadFault::Large);
         }
-        bytes
-            .extend_from_slice(&piece[..given])
-            .map_err(|_| ReadFault::Memory)?;
+        if bytes.extend_from_slice(&piece[..given]).is_err() {
+            return Err(ReadFault::Memory);
+        }
     }
 }
 
