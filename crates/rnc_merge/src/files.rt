@@ -15,9 +15,9 @@ const STANDARD_INPUT: &str = "-";
 pub fn read_files(rt: &HostRuntime, files: &[String]) -> Result<Vec<Vec<u8>>, ProgramFault> {
     let mut inputs = Vec::with_capacity(rt.alloc(), files.len())?;
     for (n, file) in files.iter().enumerate() {
-        inputs
-            .push(read_file(rt, n, file.as_str())?)
-            .map_err(|_| ProgramFault::Memory)?;
+        if inputs.push(read_file(rt, n, file.as_str())?).is_err() {
+            return Err(ProgramFault::Memory);
+        }
     }
     Ok(inputs)
 }
@@ -37,9 +37,10 @@ fn read_all<S: Source>(alloc: Global, n: usize, source: &mut S) -> Result<Vec<u8
     requires fresh { S.has_failed source.old ≡ false }
     requires unended { S.has_ended source.old ≡ false }
 {
-    read_input(alloc, source, MAX_INPUT).map_err(|fault| match fault {
-        ReadFault::Read => ProgramFault::Read(n),
-        ReadFault::Large => ProgramFault::Large(n),
-        ReadFault::Memory => ProgramFault::Memory,
-    })
+    match read_input(alloc, source, MAX_INPUT) {
+        Ok(bytes) => Ok(bytes),
+        Err(ReadFault::Read) => Err(ProgramFault::Read(n)),
+        Err(ReadFault::Large) => Err(ProgramFault::Large(n)),
+        Err(ReadFault::Memory) => Err(ProgramFault::Memory),
+    }
 }
