@@ -20,26 +20,10 @@ pub fn perform<W: Sink>(rt: &HostRuntime, job: Job, out: &mut W) -> Result<(), P
             revision,
             file,
         } => {
-            let text = Some(read_file(rt, 0, file.as_str())?);
-            pack(
-                rt.alloc(),
-                Contribution {
-                    name,
-                    revision,
-                    text,
-                },
-                out,
-            )
+            let text = read_file(rt, 0, file.as_str())?;
+            pack(rt.alloc(), name, revision, Some(text), out)
         }
-        Job::Withdraw { name, revision } => pack(
-            rt.alloc(),
-            Contribution {
-                name,
-                revision,
-                text: None,
-            },
-            out,
-        ),
+        Job::Withdraw { name, revision } => pack(rt.alloc(), name, revision, None, out),
         Job::Join { files } => join(
             rt.alloc(),
             read_files(rt, files.as_slice())?.as_slice(),
@@ -62,12 +46,23 @@ pub fn perform<W: Sink>(rt: &HostRuntime, job: Job, out: &mut W) -> Result<(), P
     }
 }
 
-/// Writes the bundle of one contribution.
-fn pack<W: Sink>(alloc: Global, contribution: Contribution, out: &mut W) -> Result<(), ProgramFault>
+/// Writes the bundle of one contribution: of a module text, or of a withdrawal where there is none.
+fn pack<W: Sink>(
+    alloc: Global,
+    name: String,
+    revision: u64,
+    text: Option<Vec<u8>>,
+    out: &mut W,
+) -> Result<(), ProgramFault>
     requires { W.has_failed out.old ≡ false }
     ensures { LeavesSink result (out.new ≡ out.old) }
 {
     let mut set = ModuleSet::new(alloc);
+    let contribution = Contribution {
+        name,
+        revision,
+        text,
+    };
     match set.add(contribution) {
         Ok(_) => write(write_bundle(alloc, &set)?.as_slice(), out),
         Err((_, fault)) => Err(ProgramFault::Add(fault)),
@@ -112,5 +107,8 @@ fn write<W: Sink>(bytes: &[u8], out: &mut W) -> Result<(), ProgramFault>
     requires { W.has_failed out.old ≡ false }
     ensures { LeavesSink result (out.new ≡ out.old) }
 {
-    write_output(out, bytes).map_err(|_| ProgramFault::Write)
+    match write_output(out, bytes) {
+        Ok(()) => Ok(()),
+        Err(_) => Err(ProgramFault::Write),
+    }
 }
