@@ -15,6 +15,7 @@ pub fn merge(alloc: Global, set: &ModuleSet) -> Result<String, Refusal>
 {
     let grammar = assemble(alloc, set)?;
     let normal = normalise(alloc, &grammar);
+    // (its memory is free again before the text is made)
     drop(grammar);
     let normal = normal?;
     let text = print(alloc, &normal);
