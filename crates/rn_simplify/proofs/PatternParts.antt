@@ -42,36 +42,33 @@ pub comma_between : IsSeparator o.Comma comma
 unfolding symbol_rows
 comma_between = record { free = comma_free; breaks = λ ps. record { first = 44; more = text_of (space ∷ ps); is = refl; breaks = refl }; at = λ i. i; from = λ i. i + width (symbol (codes ",")) + width space; is = λ i ps rest. refl }
 
-keyword_of : (s : List ℕ) → is_keyword s ≡ true → Sound (keyword s ∷ [])
-keyword_of s e = keyword_sound s e
-
 pub element_sound : Sound (keyword (codes "element") ∷ [])
 unfolding is_keyword keywords
-element_sound = keyword_of _ refl
+element_sound = keyword_sound _ refl
 
 pub attribute_sound : Sound (keyword (codes "attribute") ∷ [])
 unfolding is_keyword keywords
-attribute_sound = keyword_of _ refl
+attribute_sound = keyword_sound _ refl
 
 pub list_sound : Sound (keyword (codes "list") ∷ [])
 unfolding is_keyword keywords
-list_sound = keyword_of _ refl
+list_sound = keyword_sound _ refl
 
 pub mixed_sound : Sound (keyword (codes "mixed") ∷ [])
 unfolding is_keyword keywords
-mixed_sound = keyword_of _ refl
+mixed_sound = keyword_sound _ refl
 
 pub empty_sound : Sound (keyword (codes "empty") ∷ [])
 unfolding is_keyword keywords
-empty_sound = keyword_of _ refl
+empty_sound = keyword_sound _ refl
 
 pub not_allowed_sound : Sound (keyword (codes "notAllowed") ∷ [])
 unfolding is_keyword keywords
-not_allowed_sound = keyword_of _ refl
+not_allowed_sound = keyword_sound _ refl
 
 pub text_sound : Sound (keyword (codes "text") ∷ [])
 unfolding is_keyword keywords
-text_sound = keyword_of _ refl
+text_sound = keyword_sound _ refl
 
 -- a postfix, which is a break
 postfix_breaks : (c : ℕ) → is_break c ≡ true → Breaks (symbol (c ∷ []) ∷ [])
