@@ -85,7 +85,7 @@ fn changed(alloc: Global, old: &str, new: &str) -> Result<String, Fail> {
 }
 
 /// Parts of the bundle of one text, what stands in their place, and the line of what is wrong then.
-const DAMAGE: [(&str, &str, &str); 18] = [
+static DAMAGE: [(&str, &str, &str); 18] = [
     (" 7 3 ", " 07 3 ", "bundle 0 Header 0"),
     (" ba78", " Ba78", "bundle 0 Header 0"),
     (" ba78", " ba79", "bundle 0 Digest 0"),

@@ -6,7 +6,7 @@ use std::alloc::Global;
 use std::test::Fail;
 
 /// A text, and `good` or the kind of its fault with its place in bytes.
-const ROWS: [(&str, &str); 85] = [
+static ROWS: [(&str, &str); 85] = [
     ("abc", "Syntax 3"),
     ("start = element a { , }", "Syntax 20"),
     ("", "good"),
@@ -173,7 +173,7 @@ fn brackets_are_counted(rt: HostRuntime) -> Result<(), Fail> {
 }
 
 /// Shapes of texts of about 4 MB: what stands at the front, the piece that follows so often, and the length of both in bytes.
-const LARGE: [(&str, &str, usize, usize); 6] = [
+static LARGE: [(&str, &str, usize, usize); 6] = [
     (
         "start = text\n",
         "d = element e { attribute a { text }, d* }\n",
@@ -248,7 +248,7 @@ fn wrong_front(alloc: Global, text: &[u8]) -> Option<usize> {
 }
 
 /// Texts that hold much of the grammar.
-const RICH: [&str; 4] = [
+static RICH: [&str; 4] = [
     "[ b ] include \"l\" inherit = p { } start = element r { attribute id { xsd:ID }?, (b & a)+ >> x [ ] } b = string - \"no\"",
     "start = element r { attribute id { xsd:ID }?, (b & a)+ } a = element a { empty } b = element b { string - string \"no\" }",
     "start = element r { \"\"\"a\"b\nc\"\"\" }",

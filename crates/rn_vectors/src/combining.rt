@@ -2,7 +2,7 @@
 use crate::sets::{Row, each_answers, each_prints_in_both_stores, each_prints_itself_again};
 use std::test::Fail;
 
-const ROWS: [Row; 13] = [
+static ROWS: [Row; 13] = [
     Row {
         set: &[
             ("a", 1, Some("start = doc doc |= element b { text }")),

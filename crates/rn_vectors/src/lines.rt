@@ -27,14 +27,34 @@ fn planned(alloc: Global, words: &[&str]) -> Result<Result<Job, ProgramFault>, F
     Ok(plan(alloc, words.as_slice()))
 }
 
-/// The words ask for this job.
-fn plans(rt: &(impl Abort + AllocGlobal), words: &[&str], job: Job) -> Result<(), Fail> {
-    let is_planned = match planned(rt.alloc(), words)? {
+/// Whether the words ask for this job.
+fn is_planned(alloc: Global, words: &[&str], job: &Job) -> Result<bool, Fail> {
+    let found = planned(alloc, words)?;
+    let is_planned = match &found {
         Ok(found) => found == job,
         Err(_) => false,
     };
-    assert!(rt; is_planned, "{words:?}");
+    drop(found);
+    Ok(is_planned)
+}
+
+/// The words ask for this job.
+fn plans(rt: &(impl Abort + AllocGlobal), words: &[&str], job: Job) -> Result<(), Fail> {
+    let is_planned = is_planned(rt.alloc(), words, &job);
+    drop(job);
+    assert!(rt; is_planned?, "{words:?}");
     Ok(())
+}
+
+/// Whether the words have this fault.
+fn is_refused(alloc: Global, words: &[&str], fault: &ProgramFault) -> Result<bool, Fail> {
+    let found = planned(alloc, words)?;
+    let is_refused = match &found {
+        Ok(_) => false,
+        Err(found) => found == fault,
+    };
+    drop(found);
+    Ok(is_refused)
 }
 
 /// The words have this fault.
@@ -43,11 +63,9 @@ fn refuses(
     words: &[&str],
     fault: ProgramFault,
 ) -> Result<(), Fail> {
-    let is_refused = match planned(rt.alloc(), words)? {
-        Ok(_) => false,
-        Err(found) => found == fault,
-    };
-    assert!(rt; is_refused, "{words:?}");
+    let is_refused = is_refused(rt.alloc(), words, &fault);
+    drop(fault);
+    assert!(rt; is_refused?, "{words:?}");
     Ok(())
 }
 
@@ -234,22 +252,20 @@ fn fault_lines(rt: HostRuntime) -> Result<(), Fail> {
     Ok(())
 }
 
+/// The refusal ends the program with this line, and the status 1.
+fn ends_refused(rt: &(impl Abort + AllocGlobal), refusal: Refusal, line: &str) -> Result<(), Fail> {
+    let fault = ProgramFault::Refused(refusal);
+    let is_shown = ends(rt, &fault, line, 1);
+    drop(fault);
+    is_shown
+}
+
 #[test]
 fn fault_lines_of_refusals(rt: HostRuntime) -> Result<(), Fail> {
     let module = text(rt.alloc(), "a")?;
-    ends(
-        &rt,
-        &ProgramFault::Refused(Refusal::Lexical { module }),
-        "Lexical a",
-        1,
-    )?;
+    ends_refused(&rt, Refusal::Lexical { module }, "Lexical a")?;
     let key = define(rt.alloc(), "start")?;
-    ends(
-        &rt,
-        &ProgramFault::Refused(Refusal::PlainTwice { key }),
-        "PlainTwice \\start",
-        1,
-    )
+    ends_refused(&rt, Refusal::PlainTwice { key }, "PlainTwice \\start")
 }
 
 /// The key of a definition.
@@ -259,8 +275,9 @@ fn define(alloc: Global, name: &str) -> Result<Key, Fail> {
 
 /// The refusal has this line.
 fn shows(rt: &(impl Abort + AllocGlobal), refusal: Refusal, line: &str) -> Result<(), Fail> {
-    let found = refusal_line(rt.alloc(), &refusal)?;
-    same(rt, found.as_str(), line);
+    let found = refusal_line(rt.alloc(), &refusal);
+    drop(refusal);
+    same(rt, found?.as_str(), line);
     Ok(())
 }
 

@@ -45,7 +45,7 @@ fn nested(
 }
 
 /// Texts of brackets: what stands before them, a bracket, what is inside, its closing one, and the place in bytes of the one that is too deep.
-const BRACKETS: [(&str, &str, &str, &str, usize); 5] = [
+static BRACKETS: [(&str, &str, &str, &str, usize); 5] = [
     ("start = ", "(", "text", ")", 264),
     ("start = ", "list {", "text", "}", 8 + 256 * 6 + 5),
     ("", "div {", "", "}", 256 * 5 + 4),

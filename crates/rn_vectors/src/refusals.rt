@@ -2,7 +2,7 @@
 use crate::sets::{Row, each_answers};
 use std::test::Fail;
 
-const ROWS: [Row; 35] = [
+static ROWS: [Row; 35] = [
     Row {
         set: &[
             ("a", 1, Some("x = text")),

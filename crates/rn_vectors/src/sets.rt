@@ -1,5 +1,5 @@
 // Sets made from rows, and what a merge answers for them.
-use rn_assemble::{Grammar, assemble};
+use rn_assemble::assemble;
 use rn_merge::{merge, refusal_line};
 use rn_modset::{AddFault, Contribution, ModuleSet, read_bundle, write_bundle};
 use rn_pattern::{Interned, Patterns, Plain};
@@ -136,7 +136,11 @@ pub fn merged(alloc: Global, text: &str) -> Result<String, Fail> {
 pub fn answer(alloc: Global, set: &ModuleSet) -> Result<String, Fail> {
     match merge(alloc, set) {
         Ok(text) => lines_of(alloc, text.as_str()),
-        Err(refusal) => Ok(refusal_line(alloc, &refusal)?),
+        Err(refusal) => {
+            let line = refusal_line(alloc, &refusal);
+            drop(refusal);
+            Ok(line?)
+        }
     }
 }
 
@@ -179,19 +183,15 @@ fn lines_of(alloc: Global, text: &str) -> Result<String, Fail> {
     }
 }
 
-/// The grammar of a set.
-fn grammar_of(alloc: Global, set: &ModuleSet) -> Result<Grammar, Fail> {
-    Ok(assemble(alloc, set)?)
-}
-
-/// The schema of a grammar, whose canonical form is built in the store.
-fn printed_in<P: Patterns>(
-    alloc: Global,
-    grammar: &Grammar,
-    store: &mut P,
-) -> Result<String, Fail> {
-    let normal = normalise_in(alloc, grammar, store)?;
-    Ok(print(alloc, &normal)?)
+/// The schema of a set, whose canonical form is built in the store.
+fn printed_in<P: Patterns>(alloc: Global, set: &ModuleSet, store: &mut P) -> Result<String, Fail> {
+    let grammar = assemble(alloc, set)?;
+    let normal = normalise_in(alloc, &grammar, store);
+    drop(grammar);
+    let normal = normal?;
+    let text = print(alloc, &normal);
+    drop(normal);
+    Ok(text?)
 }
 
 /// Prints each row's schema from a store that looks for equal patterns, and from one that doesn't.
@@ -201,11 +201,11 @@ pub fn each_prints_in_both_stores(
 ) -> Result<(), Fail> {
     let alloc = rt.alloc();
     for (at, row) in rows.iter().enumerate() {
-        let grammar = grammar_of(alloc, &set_of(alloc, row.set)?)?;
-        let plain = printed_in(alloc, &grammar, &mut Plain::new(alloc))?;
+        let set = set_of(alloc, row.set)?;
+        let plain = printed_in(alloc, &set, &mut Plain::new(alloc))?;
         let lines = lines_of(alloc, plain.as_str())?;
         same_in_row(rt, at, lines.as_str(), row.answer);
-        let interned = printed_in(alloc, &grammar, &mut Interned::new(alloc))?;
+        let interned = printed_in(alloc, &set, &mut Interned::new(alloc))?;
         same_in_row(rt, at, interned.as_str(), plain.as_str());
     }
     Ok(())

@@ -165,9 +165,20 @@ fn pattern(alloc: Global, number: usize) -> Result<Pattern, AllocError> {
     }
 }
 
+/// How a pattern stands to that of a number.
+fn ordered_pattern(alloc: Global, one: &Pattern, other: usize) -> Result<Ordering, AllocError> {
+    let other = pattern(alloc, other)?;
+    let order = one.cmp(&other);
+    drop(other);
+    Ok(order)
+}
+
 /// How the patterns of two numbers stand to each other.
 fn ordered_patterns(alloc: Global, one: usize, other: usize) -> Result<Ordering, AllocError> {
-    Ok(pattern(alloc, one)?.cmp(&pattern(alloc, other)?))
+    let one = pattern(alloc, one)?;
+    let order = ordered_pattern(alloc, &one, other);
+    drop(one);
+    order
 }
 
 #[test]

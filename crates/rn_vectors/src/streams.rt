@@ -1,13 +1,14 @@
 // Runs over bundles, with sources and sinks that fail at a known byte.
 ghost use Rattle.std.specs.Prelude.{◌≡◌, false, IfOk};
 
-use crate::sets::{Given, bundle, same_bytes, same_count, set_of};
+use crate::sets::{Given, bundle, same_bytes, set_of};
 use rn_assemble::Refusal;
 use rn_merge::{
     Failed, ReadFault, RunFault, Sink, Source, Status, read_input, run_print, write_output,
 };
 use rn_modset::BundleFault;
 use std::alloc::Global;
+use std::process::Abort;
 use std::test::Fail;
 
 const A: Given = ("a", 1, Some("start = doc doc |= element b { text }"));
@@ -126,13 +127,34 @@ fn run(alloc: Global, given: &[Vec<u8>], room: usize) -> (Vec<u8>, Result<Status
     (out.taken, answer)
 }
 
+/// A run into a sink that has room for so many bytes gives it these, and has this answer.
+fn runs(
+    rt: &(impl Abort + AllocGlobal),
+    given: &[Vec<u8>],
+    room: usize,
+    taken: &[u8],
+    wanted: Result<Status, RunFault>,
+) {
+    let (found, answer) = run(rt.alloc(), given, room);
+    let is_wanted = answer == wanted;
+    drop(answer);
+    drop(wanted);
+    assert!(rt; is_wanted);
+    same_bytes(rt, found.as_slice(), taken);
+}
+
 #[test]
 fn bundles_are_merged_in_any_order(rt: HostRuntime) -> Result<(), Fail> {
     let alloc = rt.alloc();
     for given in &[[A, B, A], [B, A, A], [A, A, B]] {
-        let (taken, answer) = run(alloc, bundles(alloc, given)?.as_slice(), 1000);
-        assert!(rt; answer == Ok(Status::Done));
-        same_bytes(&rt, taken.as_slice(), PRINTED.as_bytes());
+        let given = bundles(alloc, given)?;
+        runs(
+            &rt,
+            given.as_slice(),
+            1000,
+            PRINTED.as_bytes(),
+            Ok(Status::Done),
+        );
     }
     Ok(())
 }
@@ -143,28 +165,34 @@ fn a_sink_that_fails_has_the_bytes_before(rt: HostRuntime) -> Result<(), Fail> {
     let given = bundles(alloc, &[A, B])?;
     assert!(rt; PRINTED.len() == 82);
     for place in 0..82 {
-        let (taken, answer) = run(alloc, given.as_slice(), place);
-        assert!(rt; answer == Err(RunFault::Write));
-        same_bytes(&rt, taken.as_slice(), &PRINTED.as_bytes()[..place]);
+        let front = &PRINTED.as_bytes()[..place];
+        runs(&rt, given.as_slice(), place, front, Err(RunFault::Write));
     }
-    let (_, answer) = run(alloc, given.as_slice(), 82);
-    assert!(rt; answer == Ok(Status::Done));
+    runs(
+        &rt,
+        given.as_slice(),
+        82,
+        PRINTED.as_bytes(),
+        Ok(Status::Done),
+    );
     Ok(())
 }
 
 #[test]
 fn nothing_is_written_without_a_schema(rt: HostRuntime) -> Result<(), Fail> {
     let alloc = rt.alloc();
-    let (taken, answer) = run(alloc, &[], 1000);
-    assert!(rt; answer == Ok(Status::Refused(Refusal::NoStart)));
-    same_count(&rt, taken.len(), 0);
+    runs(&rt, &[], 1000, b"", Ok(Status::Refused(Refusal::NoStart)));
     let mut given = bundles(alloc, &[A, B])?;
     given.push(Vec::from_slice(alloc, b"rncset 1\nend 0")?)?;
-    let (taken, answer) = run(alloc, given.as_slice(), 1000);
     let index = 2;
     let fault = BundleFault::Truncated;
-    assert!(rt; answer == Err(RunFault::Bundle { index, fault }));
-    same_count(&rt, taken.len(), 0);
+    runs(
+        &rt,
+        given.as_slice(),
+        1000,
+        b"",
+        Err(RunFault::Bundle { index, fault }),
+    );
     Ok(())
 }
 

@@ -19,7 +19,7 @@ fn shown(alloc: Global, src: &[u8]) -> Result<String, Fail> {
     Ok(out)
 }
 
-const SOURCES: [(&str, &str); 38] = [
+static SOURCES: [(&str, &str); 38] = [
     ("", ""),
     ("a:b c:*", "Prefixed a:b 0 3;AnyOf c:* 4 7;"),
     ("a :b", "Lexical { at: 2 }"),
@@ -81,38 +81,30 @@ const SOURCES: [(&str, &str); 38] = [
 #[test]
 fn sources_are_cut(rt: HostRuntime) -> Result<(), Fail> {
     let alloc = rt.alloc();
-    for (source, wanted) in SOURCES {
+    for (source, wanted) in &SOURCES {
         same(&rt, shown(alloc, source.as_bytes())?.as_str(), wanted);
     }
-    same(
-        &rt,
-        shown(alloc, b"start = text\xFF")?.as_str(),
-        "Encoding { at: 12 }",
-    );
-    same(
-        &rt,
-        shown(alloc, b"a\xE2\x82")?.as_str(),
-        "Encoding { at: 1 }",
-    );
-    same(
-        &rt,
-        shown(alloc, b"\x01\xFF")?.as_str(),
-        "Encoding { at: 1 }",
-    );
-    same(
-        &rt,
-        shown(alloc, b"| > a\x01")?.as_str(),
-        "Lexical { at: 5 }",
-    );
-    same(
-        &rt,
-        shown(alloc, b"a\xEF\xBF\xBE")?.as_str(),
-        "Lexical { at: 1 }",
-    );
     Ok(())
 }
 
-const SEGMENTS: [(&str, &str); 10] = [
+static FAULTS: [(&[u8], &str); 5] = [
+    (b"start = text\xFF", "Encoding { at: 12 }"),
+    (b"a\xE2\x82", "Encoding { at: 1 }"),
+    (b"\x01\xFF", "Encoding { at: 1 }"),
+    (b"| > a\x01", "Lexical { at: 5 }"),
+    (b"a\xEF\xBF\xBE", "Lexical { at: 1 }"),
+];
+
+#[test]
+fn faults_have_their_places(rt: HostRuntime) -> Result<(), Fail> {
+    let alloc = rt.alloc();
+    for (source, wanted) in &FAULTS {
+        same(&rt, shown(alloc, source)?.as_str(), wanted);
+    }
+    Ok(())
+}
+
+static SEGMENTS: [(&str, &str); 10] = [
     ("''", ""),
     ("\"\"\"\"\"\"", ""),
     ("'\\xx{41}'", "A"),
@@ -128,7 +120,7 @@ const SEGMENTS: [(&str, &str); 10] = [
 #[test]
 fn segments_are_read(rt: HostRuntime) -> Result<(), Fail> {
     let alloc = rt.alloc();
-    for (segment, wanted) in SEGMENTS {
+    for (segment, wanted) in &SEGMENTS {
         let found = tokens(alloc, segment.as_bytes()).ok().ok_or("a fault")?;
         let first = found.as_slice().first().ok_or("no token")?;
         same(&rt, literal(alloc, first)?.as_str(), wanted);
@@ -136,7 +128,7 @@ fn segments_are_read(rt: HostRuntime) -> Result<(), Fail> {
     Ok(())
 }
 
-const LITERALS: [(&str, &str); 9] = [
+static LITERALS: [(&str, &str); 9] = [
     ("", "\"\""),
     ("a\\xx", "\"a\\\" ~ \"xx\""),
     ("\\x{41}", "\"\\\" ~ \"x{41}\""),
@@ -151,7 +143,7 @@ const LITERALS: [(&str, &str); 9] = [
 #[test]
 fn literals_are_written(rt: HostRuntime) -> Result<(), Fail> {
     let alloc = rt.alloc();
-    for (text, wanted) in LITERALS {
+    for (text, wanted) in &LITERALS {
         let mut out = String::new(alloc);
         write_literal(&mut out, text)?;
         same(&rt, out.as_str(), wanted);
@@ -168,7 +160,7 @@ fn literals_are_written(rt: HostRuntime) -> Result<(), Fail> {
 }
 
 // The first and the last character of each range that may begin a name.
-const STARTS: [(u32, u32); 15] = [
+static STARTS: [(u32, u32); 15] = [
     (0x41, 0x5A),
     (0x5F, 0x5F),
     (0x61, 0x7A),
@@ -187,7 +179,7 @@ const STARTS: [(u32, u32); 15] = [
 ];
 
 // And of each further range that may stand in one.
-const FURTHER: [(u32, u32); 6] = [
+static FURTHER: [(u32, u32); 6] = [
     (0x2D, 0x2E),
     (0x30, 0x39),
     (0xB7, 0xB7),
@@ -209,15 +201,15 @@ fn is_name_with(alloc: Global, front: &str, number: u32) -> Result<bool, Fail> {
 #[test]
 fn names_end_at_their_ranges(rt: HostRuntime) -> Result<(), Fail> {
     let alloc = rt.alloc();
-    for (first, last) in STARTS {
-        assert!(rt; is_name_with(alloc, "", first)?);
-        assert!(rt; is_name_with(alloc, "", last)?);
+    for (first, last) in &STARTS {
+        assert!(rt; is_name_with(alloc, "", *first)?);
+        assert!(rt; is_name_with(alloc, "", *last)?);
         assert!(rt; !is_name_with(alloc, "", first.saturating_sub(1))?);
         assert!(rt; !is_name_with(alloc, "", last.saturating_add(1))?);
     }
-    for (first, last) in FURTHER {
-        assert!(rt; is_name_with(alloc, "a", first)?);
-        assert!(rt; is_name_with(alloc, "a", last)?);
+    for (first, last) in &FURTHER {
+        assert!(rt; is_name_with(alloc, "a", *first)?);
+        assert!(rt; is_name_with(alloc, "a", *last)?);
     }
     for number in [0x2C, 0x2F, 0x3A, 0xB6, 0xB8, 0x2041, 0x203E, 0xF0000] {
         assert!(rt; !is_name_with(alloc, "a", number)?);
