@@ -1,4 +1,5 @@
 use Rattle.std.proofs.Common.{◌≡◌, map, refl, string_bytes, subst, sym}
+use Rattle.std.specs.Io.KnownBytes.{Appends}
 use Rattle.rn_merge.specs.Runs.{IsRun, LeavesSink}
 use Rattle.rn_merge.specs.Streams.{AppendsFront}
 use Rattle.rn_merge.proofs.Refused.{refused_run, refused_leaves}
@@ -22,3 +23,13 @@ pub returns-in-Err-clause-kept : goal.returns-in-Err-clause-kept
 returns-in-Err-clause-kept g c =
     let Kept = c.args.out.now ≡ c.args.out.now in
     subst (λ r. LeavesSink r Kept) (sym c.refused.ensures) (refused_leaves c.in-Err.refusal Kept refl)
+
+pub returns-in-Ok-write_output-clause-run : goal.returns-in-Ok-write_output-clause-run
+returns-in-Ok-write_output-clause-run g c = (
+  c.in_ok-union.union,
+  string_bytes c.in-Ok.text,
+  c.in_ok-union.ensures.ok,
+  c.in-Ok.ensures,
+  subst (Appends (g.W.Sink.contents c.args.out.now) (g.W.Sink.contents c.write_output.new.out)) c.as_bytes.ensures.value c.in-Ok-write_output.ensures.ok,
+  c.in-Ok-write_output.ensures.sound,
+)
