@@ -1,0 +1,177 @@
+#!/usr/bin/env python3
+"""Compares rnc-merge with jing, another reader of the compact syntax, on schemas drawn at random.
+
+compare.py PROGRAM sets COUNT [SEED]: module sets of one to four modules that include, override and combine. Where jing takes the set (a schema
+that includes its roots), the program must print it, jing must take what is printed, both must be valid for the same documents, drawn from the
+set and changed in one place, and what is printed must be printed again. Where the program refuses, jing must refuse.
+compare.py PROGRAM texts COUNT [SEED]: module texts of which a token or more is changed, dropped or put in. `check` must find a fault where jing
+finds a syntax error, and none where jing takes the text.
+
+Needs Debian's jing and a Java compiler. Prints a line for each difference, and then how often each pair of answers came.
+Differences that are known, and left out or told apart: the program takes whatever annotations hold, characters of names that XML's Fifth Edition
+brought, a module without items, and an except in a chain without parentheses. It refuses a bare pattern as a module, a prefix that is declared twice
+and a second default namespace, and a wrong except of data also out of reach and behind a reference. jing alone tests section 7 of the standard.
+"""
+import collections
+import os
+import random
+import re
+import shutil
+import subprocess
+import sys
+import tempfile
+
+import drawing
+import meaning
+import schema
+import writing
+
+HERE = os.path.dirname(os.path.abspath(__file__))
+JARS = ":".join(f"/usr/share/java/{name}.jar" for name in ("jing", "xercesImpl", "xml-resolver"))
+PARTS = re.compile(r'"""(?:[^"]|"{1,2}(?!"))*"""|"[^"\n]*"|\'[^\'\n]*\'|#[^\n]*|\\?[A-Za-z_][\w.\-]*(?::\*|:[A-Za-z_][\w.\-]*)?|>>|\|=|&=|\s+|.', re.S)
+TOKENS = [*"{}()[]=,|&?*+-~:\\1", "|=", "&=", ">>", "x", "p:a", "p:*", "u:x", "xsd:int", "xsd:string", "xml:lang", "a:", "a.b", "-a", "x {", "div {", "\\start", "\\x"]
+TOKENS += [*sorted(schema.KEYWORDS - {"external", "parent"}), '"a"', "'b'", '"""c"""', '"\\x{41}"', "#c\n", *"é·\r\x0c\x85\u00a0\u2028\u3000\u0001\ufffe"]
+
+LAST_ITEM = "\nstart |= notAllowed\n"  # so that each text has an item, and no bare pattern
+
+
+class Program:
+    def __init__(self, path):
+        self.path = path
+
+    def run(self, *words, given=None):
+        ran = subprocess.run([self.path, *words], input=given, capture_output=True)
+        assert ran.returncode in (0, 1), ran
+        return ran.stdout, ran.stderr.decode().strip()
+
+    def bundle(self, path):
+        return self.run("pack", os.path.basename(path), "1", path)[0]
+
+
+def write(path, text):
+    with open(path, "w", encoding="utf-8", newline="") as file:
+        file.write(text)
+    return path
+
+
+def documents(rng, found):
+    sampler, drawn = meaning.Sampler(rng, found), []
+    for _ in range(60):
+        try:
+            drawn.append(sampler.document())
+        except (meaning.NoDocument, RecursionError):
+            continue
+    drawn = drawn[:8]
+    return drawn + [meaning.changed(rng, it) for it in drawn for _ in range(2)]
+
+
+def make_set(program, folder, seed):
+    """Draws a set and writes its modules, its driver, its documents and what is printed. Answers the damage done, the refusal, and whether what is printed stays."""
+    rng = random.Random(seed)
+    modules = drawing.module_set(rng)
+    damage = drawing.damage(rng, modules) if rng.random() < 0.2 else None
+    writer, by_name = writing.Writer(rng), {module.name: module for module in modules}
+    paths = [write(f"{folder}/{module.name}", writer.module(module)) for module in modules]
+    bundles = [write_bytes(f"{path}.bundle", program.bundle(path)) for path in rng.sample(paths, len(paths))]
+    printed, refusal = program.run("print", *bundles)
+    roots = meaning.roots(by_name)
+    write(f"{folder}/driver.rnc", "".join(f'include "{root}"\n' for root in roots))
+    if refusal:
+        return damage, refusal, True
+    path = write_bytes(f"{folder}/printed.rnc", printed)
+    found = [] if damage else [it for root in roots for it in meaning.components(by_name, root, "")]
+    for at, document in enumerate(documents(rng, found)):
+        write(f"{folder}/{at:02}.xml", meaning.xml(document))
+    return damage, "", program.run(given=program.bundle(path))[0] == printed
+
+
+def write_bytes(path, content):
+    with open(path, "wb") as file:
+        file.write(content)
+    return path
+
+
+def jing(paths, room):
+    """What jing says of each schema: whether it takes it, and its documents or its errors."""
+    subprocess.run(["javac", "-cp", JARS, "-d", room, f"{HERE}/Jing.java"], check=True)
+    ran = subprocess.run(["java", "-cp", f"{room}:{JARS}", "Jing"], input="".join(path + "\n" for path in paths), stdout=subprocess.PIPE, text=True, check=True)
+    answers = [line.split("\t", 1) for line in ran.stdout.splitlines()]
+    return {path: (word == "good", rest) for path, (word, rest) in zip(paths, answers, strict=True)}
+
+
+def kind_of(refusal):
+    """The name of a refusal or fault, or nothing."""
+    return refusal.split(" ")[0]
+
+
+def first(errors):
+    """The first of jing's errors without its place and names."""
+    return re.sub(r'"[^"]*"|/\S*', '".."', errors.split("\t")[0].split(" ", 1)[1])[:80]
+
+
+def compare_sets(program, seeds, room):
+    told = {}
+    for seed in seeds:
+        os.mkdir(f"{room}/{seed}")
+        told[f"{room}/{seed}"] = make_set(program, f"{room}/{seed}", seed)
+    printed = [f"{folder}/printed.rnc" for folder, (_, refusal, _) in told.items() if not refusal]
+    answers = jing([f"{folder}/driver.rnc" for folder in told] + printed, room)
+    tally, differences = collections.Counter(), []
+    for folder, (damage, refusal, stays) in told.items():
+        is_good, rest = answers[f"{folder}/driver.rnc"]
+        takes, again = answers.get(f"{folder}/printed.rnc", (False, ""))
+        if not stays or is_good and kind_of(refusal) != "Except" and (not takes or rest != again):
+            differences.append(f"{folder}: {refusal or 'printed'}; jing: {rest[:80]}; of the printed text: {again[:80]}")
+        if is_good:
+            tally["printed, and taken by jing"] += 1
+            tally["documents that are valid"] += rest.count("1")
+            tally["documents that are not valid"] += rest.count("0")
+        else:
+            tally[f"{damage or 'no damage'}: {kind_of(refusal) or 'printed'}; jing: {first(rest)}"] += 1
+    return tally, differences
+
+
+def changed(rng, text):
+    parts = PARTS.findall(text)
+    for _ in range(drawing.weighted(rng, [(6, 1), (2, 2), (1, 3)])):
+        at, token = rng.randrange(len(parts)), rng.choice(TOKENS)
+        parts[at : at + 1] = rng.choice([[], [token], [token, parts[at]], [" ", token, " ", parts[at]], [rng.choice(parts), parts[at]]])
+    return "".join(parts)
+
+
+def compare_texts(program, seeds, room):
+    told = {}
+    for seed in seeds:
+        rng = random.Random(seed)
+        module = drawing.module_set(rng)[0]
+        module.items = [it for it in module.items if isinstance(it, schema.Define)]
+        text = writing.Writer(rng, is_plain=True).module(module)
+        for at in range(8):
+            os.mkdir(f"{room}/{seed}-{at}")
+            path = write(f"{room}/{seed}-{at}/text.rnc", changed(rng, text) + LAST_ITEM)
+            told[path] = program.run("check", path)[1]
+    tally, differences = collections.Counter(), []
+    for path, (is_good, rest) in jing([*told], room).items():
+        fault = kind_of(told[path])
+        tally[f"{fault or 'good'}; jing: {'good' if is_good else first(rest)}"] += 1
+        if is_good and fault not in ("", "Prefix", "Except") or not fault and "syntax error" in rest:
+            differences.append(f"{path}: {told[path] or 'good'}; jing: {rest[:80]}")
+    return tally, differences
+
+
+def main(path, what, count, seed="1"):
+    room = tempfile.mkdtemp(prefix="against-jing-")
+    compare = {"sets": compare_sets, "texts": compare_texts}[what]
+    tally, differences = compare(Program(os.path.abspath(path)), range(int(seed), int(seed) + int(count)), room)
+    for answers, often in sorted(tally.items()):
+        print(f"{often:6} {answers}")
+    print(*differences, f"{len(differences)} differences", sep="\n")
+    if differences:
+        print(f"all files are in {room}")
+        return 1
+    shutil.rmtree(room)
+    return 0
+
+
+if __name__ == "__main__":
+    sys.exit(main(*sys.argv[1:]))
