@@ -4,8 +4,8 @@ import dataclasses
 from schema import INHERIT, Define, Div, Include, Module, group, keys_of
 from schema import AnyName, AnyOf, Attribute, Braced, Chain, Data, Element, Name, NameChoice, Ref, Repeated, Type, Value, Word
 
-SPACES = ["urn:a", "urn:b"]
-LOCALS = ["a", "b", "c", "list", "start"]
+SPACES = ["urn:a", "urn:b", "urn:\"é\\x{41}"]
+LOCALS = ["a", "b", "é", "list", "start"]
 ATTRIBUTES = ["k", "l", "m"]
 TEXTS = ["a", "b", "1", " a", "a  b", "01", '"', "\\x{41}", "a\nb", ""]
 XSD_TYPES = [
@@ -100,7 +100,8 @@ class Drawer:
         return Braced("list", self.words()) if kind == "list" else Word(kind)
 
     def attribute(self, local):
-        pattern = Attribute(Name(self.name([local]).prefix, local), self.string())
+        prefix = "xml" if self.rng.random() < 0.05 else self.name([local]).prefix
+        pattern = Attribute(Name(prefix, local), self.string())
         absent = Chain("|", (Word("empty"), pattern))
         never = Chain("|", (pattern, Word("notAllowed")))
         return weighted(self.rng, [(5, pattern), (3, Repeated("?", pattern)), (1, absent), (0.4, never)])

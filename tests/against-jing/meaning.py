@@ -187,9 +187,9 @@ def escaped(text):
 def xml(element):
     """The element as a document. Each element declares its own namespaces."""
     (space, local), attributes, children = element
-    out = f'<{local} xmlns="{space}"'
+    out = f'<{local} xmlns="{escaped(space)}"'
     for at, ((space, name), value) in enumerate(attributes.items()):
         prefix = "" if not space else "xml:" if space == XML else f"a{at}:"
-        out += f' xmlns:a{at}="{space}"' if prefix == f"a{at}:" else ""
+        out += f' xmlns:a{at}="{escaped(space)}"' if prefix == f"a{at}:" else ""
         out += f' {prefix}{name}="{escaped(value)}"'
     return out + ">" + "".join(escaped(it) if isinstance(it, str) else xml(it) for it in children) + f"</{local}>"
