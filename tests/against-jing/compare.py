@@ -1,9 +1,9 @@
 #!/usr/bin/env python3
 """Compares rnc-merge with jing, another reader of the compact syntax, on schemas drawn at random.
 
-compare.py PROGRAM sets COUNT [SEED]: module sets of one to four modules that include, override and combine. Where jing takes the set (a schema
-that includes its roots), the program must print it, jing must take what is printed, both must be valid for the same documents, drawn from the
-set and changed in one place, and what is printed must be printed again. Where the program refuses, jing must refuse.
+compare.py PROGRAM sets COUNT [SEED]: module sets of one to four modules that include, override and combine. Where jing takes the set (a schema that
+includes its roots and its loops), the program must print it, jing must take what is printed, both must be valid for the same documents, drawn from
+the set and changed in one place, and what is printed must be printed again. Where the program refuses, jing must refuse.
 compare.py PROGRAM texts COUNT [SEED]: module texts of which a token or more is changed, dropped or put in. `check` must find a fault where jing
 finds a syntax error, and none where jing takes the text.
 
@@ -74,12 +74,11 @@ def make_set(program, folder, seed):
     paths = [write(f"{folder}/{module.name}", writer.module(module)) for module in modules]
     bundles = [write_bytes(f"{path}.bundle", program.bundle(path)) for path in rng.sample(paths, len(paths))]
     printed, refusal = program.run("print", *bundles)
-    roots = meaning.roots(by_name)
-    write(f"{folder}/driver.rnc", "".join(f'include "{root}"\n' for root in roots))
+    write(f"{folder}/driver.rnc", "".join(f'include "{name}"\n' for name in meaning.first_modules(by_name)))
     if refusal:
         return damage, refusal, True
     path = write_bytes(f"{folder}/printed.rnc", printed)
-    found = [] if damage else [it for root in roots for it in meaning.components(by_name, root, "")]
+    found = [] if damage else [it for root in meaning.roots(by_name) for it in meaning.components(by_name, root, "")]
     for at, document in enumerate(documents(rng, found)):
         write(f"{folder}/{at:02}.xml", meaning.xml(document))
     return damage, "", program.run(given=program.bundle(path))[0] == printed

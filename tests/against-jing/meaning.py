@@ -46,6 +46,26 @@ def roots(modules):
     return sorted(set(modules) - inner)
 
 
+def reached(modules, name):
+    """The names of the modules that a module includes, itself among them."""
+    seen, left = {name}, [name]
+    while left:
+        inner = {it for it in included(modules[left.pop()].items) if it in modules} - seen
+        seen |= inner
+        left += inner
+    return seen
+
+
+def first_modules(modules):
+    """The roots, and a module of each loop that they don't reach."""
+    found, seen = [], set()
+    for name in [*roots(modules), *sorted(modules)]:
+        if name not in seen:
+            found.append(name)
+            seen |= reached(modules, name)
+    return found
+
+
 class Sampler:
     """Documents of a list of components. An element is its name, its attributes by name, and its children; a name is a namespace and a local name."""
 
