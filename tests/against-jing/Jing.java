@@ -22,7 +22,7 @@ public class Jing {
     public void warning(SAXParseException error) {}
 
     public void error(SAXParseException error) {
-      texts.add(error.getLineNumber() + ":" + error.getColumnNumber() + " " + error.getMessage().replace('\n', ' '));
+      texts.add(error.getLineNumber() + ":" + error.getColumnNumber() + " " + error.getMessage().replace('\t', ' '));
     }
 
     public void fatalError(SAXParseException error) {
@@ -56,7 +56,7 @@ public class Jing {
       } catch (Exception | StackOverflowError fault) {
         answer = "bad\t0:0 " + fault;
       }
-      System.out.println(answer);
+      System.out.println(answer.replaceAll("[\\r\\n]", " "));
     }
   }
 }

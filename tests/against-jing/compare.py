@@ -94,7 +94,7 @@ def jing(paths, room):
     """What jing says of each schema: whether it takes it, and its documents or its errors."""
     subprocess.run(["javac", "-cp", JARS, "-d", room, f"{HERE}/Jing.java"], check=True)
     ran = subprocess.run(["java", "-cp", f"{room}:{JARS}", "Jing"], input="".join(path + "\n" for path in paths), stdout=subprocess.PIPE, text=True, check=True)
-    answers = [line.split("\t", 1) for line in ran.stdout.splitlines()]
+    answers = [line.split("\t", 1) for line in ran.stdout.removesuffix("\n").split("\n")]
     return {path: (word == "good", rest) for path, (word, rest) in zip(paths, answers, strict=True)}
 
 
