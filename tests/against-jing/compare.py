@@ -3,11 +3,12 @@
 
 compare.py PROGRAM sets COUNT [SEED]: module sets of one to four modules that include, override and combine. Where jing takes the set (a schema that
 includes its roots and its loops), the program must print it, jing must take what is printed, both must be valid for the same documents, drawn from
-the set and changed in one place, and what is printed must be printed again. Where jing refuses the set, by another rule than section 7, the program must refuse.
+the set and changed in one place, and what is printed must be printed again. Where jing refuses the set by another rule than section 7, the program
+must refuse it.
 compare.py PROGRAM texts COUNT [SEED]: module texts of which a token or more is changed, dropped or put in. `check` must find a fault where jing
 finds a syntax error, and none where jing takes the text.
 
-Needs Debian's jing and a Java compiler. Prints a line for each difference, and then how often each pair of answers came.
+Needs Debian's jing and a Java compiler. Prints how often each pair of answers came, and then a line for each difference.
 Differences that are known, and left out or told apart: the program takes whatever annotations hold, characters of names that XML's Fifth Edition
 brought, a module without items, and an except in a chain without parentheses. It refuses a bare pattern as a module, a prefix that is declared twice
 and a second default namespace, and a wrong except of data also out of reach and behind a reference. jing alone tests section 7 of the standard.

@@ -59,11 +59,11 @@ class Writer:
                 out += self.maybe_gap() + "-" + self.maybe_gap() + self.names(but, True)
         return f"({out})" if is_operand else out
 
-    def type(self, type_):
+    def type_name(self, type_):
         return f"{type_.prefix}:{type_.name}" if type_.prefix else type_.name
 
     def data(self, data):
-        out = self.type(data.type)
+        out = self.type_name(data.type)
         if data.params:
             params = " ".join(f"{self.word(name)} = {self.literal(value)}" for name, value in data.params)
             out += self.maybe_gap() + "{" + params + "}"
@@ -87,7 +87,7 @@ class Writer:
             case Ref(name):
                 return self.identifier(name)
             case Value(type_, text):
-                return (self.type(type_) + " " if type_ else "") + self.literal(text)
+                return (self.type_name(type_) + " " if type_ else "") + self.literal(text)
             case Data():
                 return self.data(pattern)
             case Word(word):
