@@ -1,11 +1,10 @@
 // Sets and what they give: each set is written with its modules parted by lines of their names.
-use crate::sets::{same, written_set};
+use crate::sets::same;
 use rn_assemble::{Grammar, Key, Refusal, assemble};
-use rn_modset::ModuleSet;
+use rn_modset::{Contribution, ModuleSet};
 use rn_pattern::{NameClass, Pattern};
 use std::alloc::{AllocError, Global};
 use std::process::Abort;
-use std::rc::Rc;
 use std::test::Fail;
 
 /// A grammar in one line: names with their URIs in braces, lists in parentheses.
@@ -75,35 +74,6 @@ fn write_between(out: &mut String, at: usize, between: &str) -> Result<(), Alloc
     }
 }
 
-/// A pattern between two texts.
-#[cycle(write_pattern)]
-fn write_within(
-    out: &mut String,
-    before: &str,
-    pattern: &Pattern,
-    behind: &str,
-) -> Result<(), AllocError> {
-    out.push_str(before)?;
-    write_pattern(out, pattern)?;
-    out.push_str(behind)
-}
-
-/// The members of a list in parentheses.
-#[cycle(write_pattern)]
-fn write_members(
-    out: &mut String,
-    members: &[Rc<Pattern>],
-    between: &str,
-) -> Result<(), AllocError> {
-    out.push_str("(")?;
-    for (i, member) in members.iter().enumerate() {
-        write_between(out, i, between)?;
-        write_pattern(out, member)?;
-    }
-    out.push_str(")")
-}
-
-#[cycle(write_pattern)]
 fn write_pattern(out: &mut String, pattern: &Pattern) -> Result<(), AllocError> {
     match pattern {
         Pattern::NotAllowed => out.push_str("notAllowed"),
@@ -118,23 +88,74 @@ fn write_pattern(out: &mut String, pattern: &Pattern) -> Result<(), AllocError> 
         }
         Pattern::Datum(library, type_name, params, Some(except)) => {
             write_type(out, library, type_name, params.as_slice())?;
-            write_within(out, "-", except, "")
+            out.push_str("-")?;
+            write_pattern(out, except)
         }
-        Pattern::List(body) => write_within(out, "list{", body, "}"),
+        Pattern::List(body) => {
+            out.push_str("list{")?;
+            write_pattern(out, body)?;
+            out.push_str("}")
+        }
         Pattern::Attribute(class, body) => {
             out.push_str("@")?;
             write_class(out, class)?;
-            write_within(out, "{", body, "}")
+            out.push_str("{")?;
+            write_pattern(out, body)?;
+            out.push_str("}")
         }
         Pattern::Element(class, body) => {
             write_class(out, class)?;
-            write_within(out, "{", body, "}")
+            out.push_str("{")?;
+            write_pattern(out, body)?;
+            out.push_str("}")
         }
-        Pattern::OneOrMore(body) => write_within(out, "{", body, "}+"),
-        Pattern::Group(members) => write_members(out, members, ","),
-        Pattern::Interleave(members) => write_members(out, members, "&"),
-        Pattern::Choice(members) => write_members(out, members, "|"),
+        Pattern::OneOrMore(body) => {
+            out.push_str("{")?;
+            write_pattern(out, body)?;
+            out.push_str("}+")
+        }
+        Pattern::Group(members) => {
+            out.push_str("(")?;
+            for (i, member) in members.iter().enumerate() {
+                write_between(out, i, ",")?;
+                write_pattern(out, member)?;
+            }
+            out.push_str(")")
+        }
+        Pattern::Interleave(members) => {
+            out.push_str("(")?;
+            for (i, member) in members.iter().enumerate() {
+                write_between(out, i, "&")?;
+                write_pattern(out, member)?;
+            }
+            out.push_str(")")
+        }
+        Pattern::Choice(members) => {
+            out.push_str("(")?;
+            for (i, member) in members.iter().enumerate() {
+                write_between(out, i, "|")?;
+                write_pattern(out, member)?;
+            }
+            out.push_str(")")
+        }
     }
+}
+
+/// The set whose modules stand in the text, each behind a line `@NAME REVISION`.
+fn set_of(alloc: Global, text: &str) -> Result<ModuleSet, Fail> {
+    let mut set = ModuleSet::new(alloc);
+    for part in text.split('@') {
+        if let Some((head, body)) = part.split_once('\n') {
+            let (name, revision) = head.split_once(' ').unwrap_or((head, "1"));
+            set.add(Contribution {
+                name: String::from_str(alloc, name)?,
+                revision: revision.parse::<u64>()?,
+                text: Some(body.as_bytes().to_vec(alloc)?),
+            })
+            .map_err(|e| e.1)?;
+        }
+    }
+    Ok(set)
 }
 
 /// The grammar of the set written, or the refusal as its name and fields.
@@ -147,7 +168,7 @@ fn answer(alloc: Global, set: &ModuleSet) -> Result<String, AllocError> {
 
 fn check(rt: &(impl Abort + Print), alloc: Global, rows: &[(&str, &str)]) -> Result<(), Fail> {
     for (text, wanted) in rows {
-        let set = written_set(alloc, text)?;
+        let set = set_of(alloc, text)?;
         let given = answer(alloc, &set)?;
         same(rt, given.as_str(), *wanted);
     }
@@ -232,7 +253,7 @@ fn refusals(rt: HostRuntime) -> Result<(), Fail> {
         &rt,
         rt.alloc(),
         &[
-            ("@", "NoStart"),
+            ("", "NoStart"),
             (
                 "@a 1\nstart = text@a 1\nstart =  text",
                 "Conflict { module: \"a\", revision: 1 }",
