@@ -1,12 +1,13 @@
 // Bundles: their one spelling, what is read from damaged ones, and runs over several.
-use crate::contributions::{effective_count, is_effective};
+use crate::contributions::{effective_count, is_effective, long, refuses};
 use crate::sets::{
     Given, add, answer, bundle, contribution, held, module, refused, same, same_bytes, same_count,
-    same_for, same_in_row, set_of, set_of_bundle,
+    same_for, same_in_row, set_of_bundle, written_set,
 };
 use rn_merge::{ProgramFault, fault_line, list_line};
 use rn_modset::{AddFault, Contribution, ModuleSet, read_bundle};
 use std::alloc::Global;
+use std::process::Abort;
 use std::test::Fail;
 
 const ONE: &str =
@@ -28,7 +29,7 @@ fn listed(alloc: Global, given: &Given) -> Result<String, Fail> {
 #[test]
 fn one_text_has_its_bundle(rt: HostRuntime) -> Result<(), Fail> {
     let alloc = rt.alloc();
-    let set = set_of(alloc, &[("t", 7, Some("abc"))])?;
+    let set = written_set(alloc, "@t 7\nabc")?;
     let bytes = bundle(alloc, &set)?;
     same_count(&rt, bytes.len(), 97);
     same_bytes(&rt, bytes.as_slice(), ONE.as_bytes());
@@ -58,7 +59,7 @@ fn other_sets_have_their_bundles(rt: HostRuntime) -> Result<(), Fail> {
     let alloc = rt.alloc();
     let empty = bundle(alloc, &ModuleSet::new(alloc))?;
     same_bytes(&rt, empty.as_slice(), b"rncset 1\nend 0\n");
-    let withdrawn = bundle(alloc, &set_of(alloc, &[("lib", 2, None)])?)?;
+    let withdrawn = bundle(alloc, &written_set(alloc, "@lib 2 withdrawn\n")?)?;
     assert!(rt; withdrawn.as_slice() == b"rncset 2\nwithdrawn lib 2\nend 1\n".as_slice());
     Ok(())
 }
@@ -66,15 +67,10 @@ fn other_sets_have_their_bundles(rt: HostRuntime) -> Result<(), Fail> {
 #[test]
 fn bundles_have_their_lengths(rt: HostRuntime) -> Result<(), Fail> {
     let alloc = rt.alloc();
-    let blank = set_of(alloc, &[("a", 0, Some(""))])?;
+    let blank = written_set(alloc, "@a 0\n")?;
     same_count(&rt, bundle(alloc, &blank)?.len(), 94);
-    let both = set_of(
-        alloc,
-        &[
-            ("a", 1, Some("start = doc doc |= element b { text }")),
-            ("b", 1, Some("doc |= element a { empty }")),
-        ],
-    )?;
+    let text = "@a\nstart = doc doc |= element b { text }@b\ndoc |= element a { empty }";
+    let both = written_set(alloc, text)?;
     same_count(&rt, bundle(alloc, &both)?.len(), 238);
     Ok(())
 }
@@ -223,58 +219,55 @@ fn full(alloc: Global) -> Result<ModuleSet, Fail> {
     Ok(set)
 }
 
-#[test]
-fn a_full_set_takes_no_more(rt: HostRuntime) -> Result<(), Fail> {
-    let alloc = rt.alloc();
-    let mut set = full(alloc)?;
-    let (back, fault) = refused(&mut set, numbered(alloc, 1024)?)?;
-    assert!(rt; fault == AddFault::Full);
-    same(&rt, back.name.as_str(), "m1024");
-    same_count(&rt, set.len(), 1024);
-    assert!(rt; !add(&mut set, numbered(alloc, 7)?)?);
-    let mut other = ModuleSet::new(alloc);
-    assert!(rt; add(&mut other, numbered(alloc, 1024)?)?);
-    assert!(rt; other.join(&set).err() == Some(AddFault::Full));
-    same_count(&rt, other.len(), 1);
+/// What a full set refuses, and what it holds.
+fn takes_no_more(rt: &(impl Abort + AllocGlobal), set: &mut ModuleSet) -> Result<(), Fail> {
+    refuses(rt, set, &("m1024", 1, Some("")), AddFault::Full)?;
+    same_count(rt, set.len(), 1024);
+    assert!(rt; !add(set, numbered(rt.alloc(), 7)?)?);
+    refuses(rt, set, &("", 1, Some("")), AddFault::BadName)
+}
+
+/// A set of one that a full set lacks takes nothing from it.
+fn joins_nothing(rt: &(impl Abort + AllocGlobal), full: &ModuleSet) -> Result<(), Fail> {
+    let mut set = written_set(rt.alloc(), "@m1024\n")?;
+    let is_refused = set.join(full).err() == Some(AddFault::Full);
+    let count = set.len();
+    drop(set);
+    assert!(rt; is_refused);
+    same_count(rt, count, 1);
     Ok(())
 }
 
 #[test]
+fn a_full_set_takes_no_more(rt: HostRuntime) -> Result<(), Fail> {
+    let mut set = full(rt.alloc())?;
+    takes_no_more(&rt, &mut set)?;
+    joins_nothing(&rt, &set)
+}
+
+#[test]
 fn a_full_set_names_other_faults_first(rt: HostRuntime) -> Result<(), Fail> {
-    let alloc = rt.alloc();
-    let mut set = full(alloc)?;
-    let (_, fault) = refused(&mut set, module(alloc, "", 1, b"")?)?;
-    assert!(rt; fault == AddFault::BadName);
-    let text = Contribution {
-        name: String::from_str(alloc, "long")?,
-        revision: 1,
-        text: Some(vec![in alloc; b' '; 4_194_305]?),
-    };
-    let (_, fault) = refused(&mut set, text)?;
+    let mut set = full(rt.alloc())?;
+    let (back, fault) = refused(&mut set, long(rt.alloc(), 1, 4_194_305)?)?;
+    drop(back);
     assert!(rt; fault == AddFault::TooLong);
+    Ok(())
+}
+
+/// What a set holds, what of it is effective, and what it merges to.
+fn tells(rt: &(impl Abort + AllocGlobal), set: &ModuleSet) -> Result<(), Fail> {
+    let lines = "a 1\na 2 withdrawn\na 3\nb 1\n";
+    same(rt, held(rt.alloc(), set)?.as_str(), lines);
+    same_count(rt, effective_count(rt.alloc(), set)?, 2);
+    assert!(rt; is_effective(rt.alloc(), set, "a", Some(b"x = empty"))?);
+    assert!(rt; is_effective(rt.alloc(), set, "c", None)?);
+    same(rt, answer(rt.alloc(), set)?.as_str(), "start = text\n");
     Ok(())
 }
 
 #[test]
 fn sets_tell_what_they_hold(rt: HostRuntime) -> Result<(), Fail> {
-    let alloc = rt.alloc();
-    let set = set_of(
-        alloc,
-        &[
-            ("b", 1, Some("start = text")),
-            ("a", 2, None),
-            ("a", 1, Some("x = text")),
-            ("a", 3, Some("x = empty")),
-        ],
-    )?;
-    same(
-        &rt,
-        held(alloc, &set)?.as_str(),
-        "a 1\na 2 withdrawn\na 3\nb 1\n",
-    );
-    same_count(&rt, effective_count(alloc, &set)?, 2);
-    assert!(rt; is_effective(alloc, &set, "a", Some(b"x = empty"))?);
-    assert!(rt; is_effective(alloc, &set, "c", None)?);
-    same(&rt, answer(alloc, &set)?.as_str(), "start = text\n");
-    Ok(())
+    let text = "@b\nstart = text@a 2 withdrawn\n@a\nx = text@a 3\nx = empty";
+    let set = written_set(rt.alloc(), text)?;
+    tells(&rt, &set)
 }

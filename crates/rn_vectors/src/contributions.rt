@@ -1,15 +1,12 @@
 // Sets: withdrawals, unions, limits and conflicts.
 use crate::sets::{
-    add, bundle, contribution, held, module, refused, same, same_count, set_of, set_of_bundle,
+    Given, add, bundle, contribution, held, is_given, module, refused, same, same_count,
+    set_of_bundle, written_set,
 };
 use rn_modset::{AddFault, Contribution, MAX_TEXT, ModuleSet, is_module_name};
 use std::alloc::Global;
+use std::process::Abort;
 use std::test::Fail;
-
-/// The contribution of a withdrawal.
-fn withdrawal(alloc: Global, name: &'static str, revision: u64) -> Result<Contribution, Fail> {
-    contribution(alloc, &(name, revision, None))
-}
 
 /// How many modules are effective in a set.
 pub fn effective_count(alloc: Global, set: &ModuleSet) -> Result<usize, Fail> {
@@ -34,21 +31,70 @@ fn conflict(alloc: Global, set: &ModuleSet) -> Result<String, Fail> {
     }
 }
 
-#[test]
-fn withdrawals(rt: HostRuntime) -> Result<(), Fail> {
+/// What a set is given or asked, with what must come of it.
+enum Step {
+    /// It takes what it doesn't hold.
+    Takes(Given),
+    /// It holds this already.
+    Holds(Given),
+    /// Its effective modules are that many.
+    Effective(usize),
+    /// The text of its effective module of a name, where it has one.
+    Module(&'static str, Option<&'static [u8]>),
+    /// It has this conflict.
+    Conflict(&'static str),
+}
+
+/// Whether what must come of a step does.
+fn succeeds(alloc: Global, set: &mut ModuleSet, step: &Step) -> Result<bool, Fail> {
+    match step {
+        Step::Takes(given) => add(set, contribution(alloc, given)?),
+        Step::Holds(given) => Ok(!add(set, contribution(alloc, given)?)?),
+        Step::Effective(count) => Ok(effective_count(alloc, set)? == *count),
+        Step::Module(name, text) => is_effective(alloc, set, name, *text),
+        Step::Conflict(wanted) => Ok(conflict(alloc, set)?.as_str() == *wanted),
+    }
+}
+
+/// Each step succeeds in its turn, in a set that is empty at first.
+fn follows(rt: &(impl Abort + AllocGlobal), steps: &[Step]) -> Result<(), Fail> {
     let alloc = rt.alloc();
     let mut set = ModuleSet::new(alloc);
-    assert!(rt; add(&mut set, withdrawal(alloc, "lib", 2)?)?);
-    same_count(&rt, effective_count(alloc, &set)?, 0);
-    assert!(rt; add(&mut set, module(alloc, "lib", 3, b"start = text")?)?);
-    assert!(rt; is_effective(alloc, &set, "lib", Some(b"start = text"))?);
-    assert!(rt; add(&mut set, withdrawal(alloc, "lib", 3)?)?);
-    same(
-        &rt,
-        conflict(alloc, &set)?.as_str(),
-        "Conflict { module: \"lib\", revision: 3 }",
-    );
+    for (at, step) in steps.iter().enumerate() {
+        assert!(rt; succeeds(alloc, &mut set, step)?, "step {at}");
+    }
     Ok(())
+}
+
+static WITHDRAWALS: [Step; 6] = [
+    Step::Takes(("lib", 2, None)),
+    Step::Effective(0),
+    Step::Takes(("lib", 3, Some("start = text"))),
+    Step::Module("lib", Some(b"start = text")),
+    Step::Takes(("lib", 3, None)),
+    Step::Conflict("Conflict { module: \"lib\", revision: 3 }"),
+];
+
+#[test]
+fn withdrawals(rt: HostRuntime) -> Result<(), Fail> {
+    follows(&rt, &WITHDRAWALS)
+}
+
+static CONFLICTS: [Step; 9] = [
+    Step::Takes(("a", 1, Some("start = text"))),
+    Step::Takes(("a", 1, Some("start =  text"))),
+    Step::Takes(("b", 1, Some(""))),
+    Step::Conflict("Conflict { module: \"a\", revision: 1 }"),
+    Step::Takes(("a", 2, Some("start = empty"))),
+    Step::Holds(("a", 1, Some("start = text"))),
+    Step::Effective(2),
+    Step::Module("a", Some(b"start = empty")),
+    Step::Module("c", None),
+];
+
+#[test]
+fn conflicts(rt: HostRuntime) -> Result<(), Fail> {
+    follows(&rt, &CONFLICTS)
 }
 
 /// A set of that many texts of one module, 1,024 at most, of odd or of even revisions.
@@ -63,27 +109,45 @@ fn revisions(alloc: Global, is_odd: bool, count: u64) -> Result<ModuleSet, Fail>
     Ok(set)
 }
 
+/// A set refuses a contribution for this reason, and hands it back.
+pub fn refuses(
+    rt: &(impl Abort + AllocGlobal),
+    set: &mut ModuleSet,
+    given: &Given,
+    wanted: AddFault,
+) -> Result<(), Fail> {
+    let (back, fault) = refused(set, contribution(rt.alloc(), given)?)?;
+    let is_back = is_given(&back, given);
+    drop(back);
+    assert!(rt; is_back && fault == wanted, "{}", given.0);
+    Ok(())
+}
+
+/// What a full set refuses, and what it holds.
+fn adds_nothing(rt: &(impl Abort + AllocGlobal), set: &mut ModuleSet) -> Result<(), Fail> {
+    refuses(rt, set, &("b", 0, Some("")), AddFault::Full)?;
+    assert!(rt; !add(set, module(rt.alloc(), "a", 6, b"x")?)?);
+    refuses(rt, set, &("", 0, Some("")), AddFault::BadName)
+}
+
 #[test]
 fn full_sets_add_nothing(rt: HostRuntime) -> Result<(), Fail> {
-    let alloc = rt.alloc();
-    let mut set = revisions(alloc, false, 1024)?;
-    let (back, fault) = refused(&mut set, module(alloc, "b", 0, b"")?)?;
-    assert!(rt; fault == AddFault::Full);
-    assert!(rt; back == module(alloc, "b", 0, b"")?);
-    assert!(rt; !add(&mut set, module(alloc, "a", 6, b"x")?)?);
-    let (_, fault) = refused(&mut set, module(alloc, "", 0, b"")?)?;
-    assert!(rt; fault == AddFault::BadName);
-    Ok(())
+    let mut set = revisions(rt.alloc(), false, 1024)?;
+    adds_nothing(&rt, &mut set)
+}
+
+/// The set that a set's bundle reads back as.
+fn copied(alloc: Global, set: &ModuleSet) -> Result<ModuleSet, Fail> {
+    set_of_bundle(alloc, bundle(alloc, set)?.as_slice())
 }
 
 #[test]
 fn full_sets_join_themselves(rt: HostRuntime) -> Result<(), Fail> {
-    let alloc = rt.alloc();
-    let mut set = revisions(alloc, false, 1024)?;
-    let odd = revisions(alloc, true, 600)?;
+    let mut set = revisions(rt.alloc(), false, 1024)?;
+    let odd = revisions(rt.alloc(), true, 600)?;
     assert!(rt; set.join(&odd) == Err(AddFault::Full));
     same_count(&rt, set.len(), 1024);
-    let copy = set_of_bundle(alloc, bundle(alloc, &set)?.as_slice())?;
+    let copy = copied(rt.alloc(), &set)?;
     set.join(&copy)?;
     same_count(&rt, set.len(), 1024);
     Ok(())
@@ -91,48 +155,28 @@ fn full_sets_join_themselves(rt: HostRuntime) -> Result<(), Fail> {
 
 #[test]
 fn sets_join_themselves(rt: HostRuntime) -> Result<(), Fail> {
-    let alloc = rt.alloc();
-    let odd = revisions(alloc, true, 600)?;
-    let mut both = set_of_bundle(alloc, bundle(alloc, &odd)?.as_slice())?;
+    let odd = revisions(rt.alloc(), true, 600)?;
+    let mut both = copied(rt.alloc(), &odd)?;
     both.join(&odd)?;
     same_count(&rt, both.len(), 600);
-    same_count(&rt, effective_count(alloc, &both)?, 1);
+    same_count(&rt, effective_count(rt.alloc(), &both)?, 1);
     Ok(())
 }
 
 #[test]
 fn joins_in_order(rt: HostRuntime) -> Result<(), Fail> {
-    let alloc = rt.alloc();
-    let mut set = set_of(
-        alloc,
-        &[
-            ("b", 1, Some("x")),
-            ("d", 1, Some("x")),
-            ("a", 3, Some("x")),
-        ],
-    )?;
-    let other = set_of(
-        alloc,
-        &[
-            ("c", 1, Some("x")),
-            ("a", 3, Some("x")),
-            ("e", 1, Some("x")),
-            ("a", 2, Some("x")),
-            ("d", 1, None),
-        ],
-    )?;
+    let mut set = written_set(rt.alloc(), "@b\nx@d\nx@a 3\nx")?;
+    let text = "@c\nx@a 3\nx@e\nx@a 2\nx@d 1 withdrawn\n";
+    let other = written_set(rt.alloc(), text)?;
     set.join(&other)?;
     same_count(&rt, set.len(), 7);
-    same(
-        &rt,
-        held(alloc, &set)?.as_str(),
-        "a 2\na 3\nb 1\nc 1\nd 1 withdrawn\nd 1\ne 1\n",
-    );
+    let lines = "a 2\na 3\nb 1\nc 1\nd 1 withdrawn\nd 1\ne 1\n";
+    same(&rt, held(rt.alloc(), &set)?.as_str(), lines);
     Ok(())
 }
 
 /// The contribution of a text of so many bytes.
-fn long(alloc: Global, revision: u64, length: usize) -> Result<Contribution, Fail> {
+pub fn long(alloc: Global, revision: u64, length: usize) -> Result<Contribution, Fail> {
     Ok(Contribution {
         name: String::from_str(alloc, "a")?,
         revision,
@@ -142,15 +186,14 @@ fn long(alloc: Global, revision: u64, length: usize) -> Result<Contribution, Fai
 
 #[test]
 fn longest_texts(rt: HostRuntime) -> Result<(), Fail> {
-    let alloc = rt.alloc();
-    let mut set = ModuleSet::new(alloc);
+    let mut set = ModuleSet::new(rt.alloc());
     assert!(rt; MAX_TEXT == 4_194_304);
-    assert!(rt; add(&mut set, long(alloc, 0, MAX_TEXT)?)?);
-    let (_, fault) = refused(&mut set, long(alloc, 1, MAX_TEXT + 1)?)?;
+    assert!(rt; add(&mut set, long(rt.alloc(), 0, MAX_TEXT)?)?);
+    let (back, fault) = refused(&mut set, long(rt.alloc(), 1, MAX_TEXT + 1)?)?;
+    drop(back);
     assert!(rt; fault == AddFault::TooLong);
-    let bytes = bundle(alloc, &set)?;
-    same_count(&rt, bytes.len(), MAX_TEXT + 100);
-    same_count(&rt, set_of_bundle(alloc, bytes.as_slice())?.len(), 1);
+    same_count(&rt, bundle(rt.alloc(), &set)?.len(), MAX_TEXT + 100);
+    same_count(&rt, copied(rt.alloc(), &set)?.len(), 1);
     Ok(())
 }
 
@@ -174,24 +217,5 @@ fn module_names(rt: HostRuntime) -> Result<(), Fail> {
     }
     long.push_str("n")?;
     assert!(rt; !is_module_name(long.as_str()));
-    Ok(())
-}
-
-#[test]
-fn conflicts(rt: HostRuntime) -> Result<(), Fail> {
-    let alloc = rt.alloc();
-    let mut set = ModuleSet::new(alloc);
-    assert!(rt; add(&mut set, module(alloc, "a", 1, b"start = text")?)?);
-    assert!(rt; add(&mut set, module(alloc, "a", 1, b"start =  text")?)?);
-    assert!(rt; add(&mut set, module(alloc, "b", 1, b"")?)?);
-    same(
-        &rt,
-        conflict(alloc, &set)?.as_str(),
-        "Conflict { module: \"a\", revision: 1 }",
-    );
-    assert!(rt; add(&mut set, module(alloc, "a", 2, b"start = empty")?)?);
-    same_count(&rt, effective_count(alloc, &set)?, 2);
-    assert!(rt; is_effective(alloc, &set, "a", Some(b"start = empty"))?);
-    assert!(rt; is_effective(alloc, &set, "c", None)?);
     Ok(())
 }

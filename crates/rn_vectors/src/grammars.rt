@@ -1,10 +1,11 @@
 // Sets and what they give: each set is written with its modules parted by lines of their names.
-use crate::sets::same;
+use crate::sets::{same, written_set};
 use rn_assemble::{Grammar, Key, Refusal, assemble};
-use rn_modset::{Contribution, ModuleSet};
+use rn_modset::ModuleSet;
 use rn_pattern::{NameClass, Pattern};
 use std::alloc::{AllocError, Global};
 use std::process::Abort;
+use std::rc::Rc;
 use std::test::Fail;
 
 /// A grammar in one line: names with their URIs in braces, lists in parentheses.
@@ -74,6 +75,35 @@ fn write_between(out: &mut String, at: usize, between: &str) -> Result<(), Alloc
     }
 }
 
+/// A pattern between two texts.
+#[cycle(write_pattern)]
+fn write_within(
+    out: &mut String,
+    before: &str,
+    pattern: &Pattern,
+    behind: &str,
+) -> Result<(), AllocError> {
+    out.push_str(before)?;
+    write_pattern(out, pattern)?;
+    out.push_str(behind)
+}
+
+/// The members of a list in parentheses.
+#[cycle(write_pattern)]
+fn write_members(
+    out: &mut String,
+    members: &[Rc<Pattern>],
+    between: &str,
+) -> Result<(), AllocError> {
+    out.push_str("(")?;
+    for (i, member) in members.iter().enumerate() {
+        write_between(out, i, between)?;
+        write_pattern(out, member)?;
+    }
+    out.push_str(")")
+}
+
+#[cycle(write_pattern)]
 fn write_pattern(out: &mut String, pattern: &Pattern) -> Result<(), AllocError> {
     match pattern {
         Pattern::NotAllowed => out.push_str("notAllowed"),
@@ -88,74 +118,23 @@ fn write_pattern(out: &mut String, pattern: &Pattern) -> Result<(), AllocError> 
         }
         Pattern::Datum(library, type_name, params, Some(except)) => {
             write_type(out, library, type_name, params.as_slice())?;
-            out.push_str("-")?;
-            write_pattern(out, except)
+            write_within(out, "-", except, "")
         }
-        Pattern::List(body) => {
-            out.push_str("list{")?;
-            write_pattern(out, body)?;
-            out.push_str("}")
-        }
+        Pattern::List(body) => write_within(out, "list{", body, "}"),
         Pattern::Attribute(class, body) => {
             out.push_str("@")?;
             write_class(out, class)?;
-            out.push_str("{")?;
-            write_pattern(out, body)?;
-            out.push_str("}")
+            write_within(out, "{", body, "}")
         }
         Pattern::Element(class, body) => {
             write_class(out, class)?;
-            out.push_str("{")?;
-            write_pattern(out, body)?;
-            out.push_str("}")
+            write_within(out, "{", body, "}")
         }
-        Pattern::OneOrMore(body) => {
-            out.push_str("{")?;
-            write_pattern(out, body)?;
-            out.push_str("}+")
-        }
-        Pattern::Group(members) => {
-            out.push_str("(")?;
-            for (i, member) in members.iter().enumerate() {
-                write_between(out, i, ",")?;
-                write_pattern(out, member)?;
-            }
-            out.push_str(")")
-        }
-        Pattern::Interleave(members) => {
-            out.push_str("(")?;
-            for (i, member) in members.iter().enumerate() {
-                write_between(out, i, "&")?;
-                write_pattern(out, member)?;
-            }
-            out.push_str(")")
-        }
-        Pattern::Choice(members) => {
-            out.push_str("(")?;
-            for (i, member) in members.iter().enumerate() {
-                write_between(out, i, "|")?;
-                write_pattern(out, member)?;
-            }
-            out.push_str(")")
-        }
+        Pattern::OneOrMore(body) => write_within(out, "{", body, "}+"),
+        Pattern::Group(members) => write_members(out, members, ","),
+        Pattern::Interleave(members) => write_members(out, members, "&"),
+        Pattern::Choice(members) => write_members(out, members, "|"),
     }
-}
-
-/// The set whose modules stand in the text, each behind a line `@NAME REVISION`.
-fn set_of(alloc: Global, text: &str) -> Result<ModuleSet, Fail> {
-    let mut set = ModuleSet::new(alloc);
-    for part in text.split('@') {
-        if let Some((head, body)) = part.split_once('\n') {
-            let (name, revision) = head.split_once(' ').unwrap_or((head, "1"));
-            set.add(Contribution {
-                name: String::from_str(alloc, name)?,
-                revision: revision.parse::<u64>()?,
-                text: Some(body.as_bytes().to_vec(alloc)?),
-            })
-            .map_err(|e| e.1)?;
-        }
-    }
-    Ok(set)
 }
 
 /// The grammar of the set written, or the refusal as its name and fields.
@@ -168,7 +147,7 @@ fn answer(alloc: Global, set: &ModuleSet) -> Result<String, AllocError> {
 
 fn check(rt: &(impl Abort + Print), alloc: Global, rows: &[(&str, &str)]) -> Result<(), Fail> {
     for (text, wanted) in rows {
-        let set = set_of(alloc, text)?;
+        let set = written_set(alloc, text)?;
         let given = answer(alloc, &set)?;
         same(rt, given.as_str(), *wanted);
     }
@@ -253,7 +232,7 @@ fn refusals(rt: HostRuntime) -> Result<(), Fail> {
         &rt,
         rt.alloc(),
         &[
-            ("", "NoStart"),
+            ("@", "NoStart"),
             (
                 "@a 1\nstart = text@a 1\nstart =  text",
                 "Conflict { module: \"a\", revision: 1 }",

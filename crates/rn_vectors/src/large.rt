@@ -2,12 +2,19 @@
 use crate::sets::{FIRST_LINE, add, answer, answer_of_text, merged, module, same, same_count};
 use rn_modset::ModuleSet;
 use std::alloc::Global;
+use std::process::Abort;
 use std::test::Fail;
 
 /// Adds a module of revision 1.
 fn add_text(set: &mut ModuleSet, alloc: Global, name: &str, text: &str) -> Result<(), Fail> {
     let _ = add(set, module(alloc, name, 1, text.as_bytes())?)?;
     Ok(())
+}
+
+/// Adds a module of revision 1 that is named by its number.
+fn add_numbered(set: &mut ModuleSet, alloc: Global, number: usize, text: &str) -> Result<(), Fail> {
+    let name = format!(in alloc; "c{number:03}")?;
+    add_text(set, alloc, name.as_str(), text)
 }
 
 /// Modules m0 to m`last`, each but the last including the next twice; the last one defines y.
@@ -33,13 +40,11 @@ fn doubling(alloc: Global, last: usize) -> Result<ModuleSet, Fail> {
 fn tower(alloc: Global, last: usize) -> Result<ModuleSet, Fail> {
     let mut set = ModuleSet::new(alloc);
     for number in 0..last {
-        let name = format!(in alloc; "c{number:03}")?;
         let next = number + 1;
         let text = format!(in alloc; "include \"c{next:03}\"")?;
-        add_text(&mut set, alloc, name.as_str(), text.as_str())?;
+        add_numbered(&mut set, alloc, number, text.as_str())?;
     }
-    let name = format!(in alloc; "c{last:03}")?;
-    add_text(&mut set, alloc, name.as_str(), "start = text")?;
+    add_numbered(&mut set, alloc, last, "start = text")?;
     Ok(set)
 }
 
@@ -137,31 +142,48 @@ fn nested(alloc: Global, count: usize, before: &str, innermost: &str) -> Result<
     )
 }
 
+/// Nested elements: how many, what stands before each but the first, and what is in the innermost, one too deep to be printed.
+static TOO_DEEP: [(usize, &str, &str); 2] = [
+    (256, "", "empty | b | c"),
+    (129, "text & ", "text & a"),
+];
+
+#[test]
+fn deeper_texts_are_refused(rt: HostRuntime) -> Result<(), Fail> {
+    for (count, before, innermost) in &TOO_DEEP {
+        let text = nested(rt.alloc(), *count, before, innermost)?;
+        let found = answer_of_text(rt.alloc(), text.as_str())?;
+        same(&rt, found.as_str(), "OutputTooDeep");
+    }
+    Ok(())
+}
+
+/// And the deepest ones that are printed, with their innermost elements in the text.
+static DEEPEST: [(usize, &str, &str, &str); 2] = [
+    (255, "", "empty | b | c", "element x { (b | c)? }"),
+    (
+        128,
+        "text & ",
+        "text & a",
+        "element x { mixed { element x { mixed { a } } } }",
+    ),
+];
+
 #[test]
 fn the_text_has_a_deepest_nesting(rt: HostRuntime) -> Result<(), Fail> {
-    let alloc = rt.alloc();
-    let deep = nested(alloc, 256, "", "empty | b | c")?;
-    same(
-        &rt,
-        answer_of_text(alloc, deep.as_str())?.as_str(),
-        "OutputTooDeep",
-    );
-    let fits = nested(alloc, 255, "", "empty | b | c")?;
-    let printed = answer_of_text(alloc, fits.as_str())?;
-    assert!(rt; printed.as_str().contains("element x { (b | c)? }"));
-    let mixed = nested(alloc, 128, "text & ", "text & a")?;
-    let printed = answer_of_text(alloc, mixed.as_str())?;
-    assert!(rt;
-        printed
-            .as_str()
-            .contains("element x { mixed { element x { mixed { a } } } }")
-    );
-    let mixed = nested(alloc, 129, "text & ", "text & a")?;
-    same(
-        &rt,
-        answer_of_text(alloc, mixed.as_str())?.as_str(),
-        "OutputTooDeep",
-    );
+    for (count, before, innermost, wanted) in &DEEPEST {
+        let text = nested(rt.alloc(), *count, before, innermost)?;
+        let found = answer_of_text(rt.alloc(), text.as_str())?;
+        assert!(rt; found.as_str().contains(*wanted), "{count}");
+    }
+    Ok(())
+}
+
+/// A schema in its canonical spelling is printed as it is.
+fn prints_itself(rt: &(impl Abort + AllocGlobal), text: &str) -> Result<(), Fail> {
+    let printed = merged(rt.alloc(), text)?;
+    let is_same = printed.as_str().strip_prefix(FIRST_LINE) == Some(text);
+    assert!(rt; is_same);
     Ok(())
 }
 
@@ -174,10 +196,7 @@ fn chains_of_references_are_long(rt: HostRuntime) -> Result<(), Fail> {
         text.push_str(format!(in alloc; "x{number:06} = x{next:06}\n")?.as_str())?;
     }
     text.push_str("x099999 = text\n")?;
-    let printed = merged(alloc, text.as_str())?;
-    let wanted = format!(in alloc; "{FIRST_LINE}{text}")?;
-    assert!(rt; printed.as_str() == wanted.as_str());
-    Ok(())
+    prints_itself(&rt, text.as_str())
 }
 
 /// References x000000, x000001 and so on, with a separator between two.
@@ -192,19 +211,27 @@ fn names(alloc: Global, count: usize, separator: &str) -> Result<String, Fail> {
     Ok(text)
 }
 
+/// The definitions of as many references.
+fn definitions(alloc: Global, count: usize) -> Result<String, Fail> {
+    let mut text = String::new(alloc);
+    for number in 0..count {
+        text.push_str(format!(in alloc; "x{number:06} = text\n")?.as_str())?;
+    }
+    Ok(text)
+}
+
+/// A schema of an element of as many references, with a separator between two.
+fn listed(alloc: Global, count: usize, separator: &str) -> Result<String, Fail> {
+    let members = names(alloc, count, separator)?;
+    let definitions = definitions(alloc, count)?;
+    Ok(format!(in alloc; "start = element r {{ {members} }}\n{definitions}")?)
+}
+
 #[test]
 fn lists_are_long(rt: HostRuntime) -> Result<(), Fail> {
-    let alloc = rt.alloc();
-    let mut definitions = String::new(alloc);
-    for number in 0..100_000 {
-        definitions.push_str(format!(in alloc; "x{number:06} = text\n")?.as_str())?;
-    }
     for separator in [" | ", " & ", ", "] {
-        let members = names(alloc, 100_000, separator)?;
-        let text = format!(in alloc; "start = element r {{ {members} }}\n{definitions}")?;
-        let printed = merged(alloc, text.as_str())?;
-        let wanted = format!(in alloc; "{FIRST_LINE}{text}")?;
-        assert!(rt; printed.as_str() == wanted.as_str(), "{separator}");
+        let text = listed(rt.alloc(), 100_000, separator)?;
+        prints_itself(&rt, text.as_str())?;
     }
     Ok(())
 }
@@ -230,28 +257,26 @@ fn a_name_is_combined_from_many_definitions(rt: HostRuntime) -> Result<(), Fail>
 fn a_literal_is_long(rt: HostRuntime) -> Result<(), Fail> {
     let alloc = rt.alloc();
     let text = repeated(alloc, "start = element r { \"", "v", 4_194_240, "\" }\n")?;
-    let printed = merged(alloc, text.as_str())?;
-    let wanted = format!(in alloc; "{FIRST_LINE}{text}")?;
-    assert!(rt; printed.as_str() == wanted.as_str());
-    Ok(())
+    prints_itself(&rt, text.as_str())
+}
+
+/// So many definitions of x by `|=`.
+fn combined(alloc: Global, count: usize) -> Result<String, Fail> {
+    let mut text = String::new(alloc);
+    for number in 0..count {
+        text.push_str(format!(in alloc; "x |= element e{number} {{ empty }} ")?.as_str())?;
+    }
+    Ok(text)
 }
 
 /// A module that so often includes one of so many definitions, each of them by `|=`.
 fn instances(alloc: Global, includes: usize, definitions: usize) -> Result<ModuleSet, Fail> {
+    let front = "start = element r { x } ";
+    let main = repeated(alloc, front, "include \"lib\" ", includes, "")?;
+    let lib = combined(alloc, definitions)?;
     let mut set = ModuleSet::new(alloc);
-    let main = repeated(
-        alloc,
-        "start = element r { x } ",
-        "include \"lib\" ",
-        includes,
-        "",
-    )?;
-    let _ = add(&mut set, module(alloc, "main", 1, main.as_bytes())?)?;
-    let mut lib = String::new(alloc);
-    for number in 0..definitions {
-        lib.push_str(format!(in alloc; "x |= element e{number} {{ empty }} ")?.as_str())?;
-    }
-    let _ = add(&mut set, module(alloc, "lib", 1, lib.as_bytes())?)?;
+    add_text(&mut set, alloc, "main", main.as_str())?;
+    add_text(&mut set, alloc, "lib", lib.as_str())?;
     Ok(set)
 }
 
@@ -273,14 +298,13 @@ fn overrides_are_nested(rt: HostRuntime) -> Result<(), Fail> {
     let alloc = rt.alloc();
     let mut set = ModuleSet::new(alloc);
     for number in 0..511 {
-        let name = format!(in alloc; "c{number:03}")?;
         let next = number + 1;
         let text = format!(in alloc;
             "include \"c{next:03}\" {{ x = element e{number} {{ empty }} }}"
         )?;
-        let _ = add(&mut set, module(alloc, name.as_str(), 1, text.as_bytes())?)?;
+        add_numbered(&mut set, alloc, number, text.as_str())?;
     }
-    let _ = add(&mut set, module(alloc, "c511", 1, b"start = x x = text")?)?;
+    add_numbered(&mut set, alloc, 511, "start = x x = text")?;
     same(
         &rt,
         answer(alloc, &set)?.as_str(),

@@ -14,12 +14,6 @@ pub const FIRST_LINE: &str = "default namespace = \"\"\n";
 /// A contribution of a row: a module's name, its revision, and its text or, for a withdrawal, nothing.
 pub type Given = (&'static str, u64, Option<&'static str>);
 
-/// A set, and the answer of a merge: the printed lines behind the first one, or the line of the refusal.
-pub struct Row {
-    pub set: &'static [Given],
-    pub answer: &'static str,
-}
-
 /// Two texts are the same.
 pub fn same(rt: &impl Abort, found: &str, wanted: &str) {
     assert_eq!(rt; found, wanted);
@@ -54,17 +48,33 @@ pub fn module(alloc: Global, name: &str, revision: u64, text: &[u8]) -> Result<C
     })
 }
 
+/// The contribution of a module's withdrawal.
+fn withdrawal(alloc: Global, name: &str, revision: u64) -> Result<Contribution, Fail> {
+    Ok(Contribution {
+        name: String::from_str(alloc, name)?,
+        revision,
+        text: None,
+    })
+}
+
 /// The contribution of a row.
 pub fn contribution(alloc: Global, given: &Given) -> Result<Contribution, Fail> {
     let (name, revision, text) = *given;
     match text {
         Some(text) => module(alloc, name, revision, text.as_bytes()),
-        None => Ok(Contribution {
-            name: String::from_str(alloc, name)?,
-            revision,
-            text: None,
-        }),
+        None => withdrawal(alloc, name, revision),
     }
+}
+
+/// Whether a contribution is that of a row.
+pub fn is_given(contribution: &Contribution, given: &Given) -> bool {
+    let (name, revision, text) = *given;
+    let is_text = match (&contribution.text, text) {
+        (Some(found), Some(text)) => found.as_slice() == text.as_bytes(),
+        (None, None) => true,
+        _ => false,
+    };
+    is_text && contribution.name.as_str() == name && contribution.revision == revision
 }
 
 /// Adds a contribution that the set takes.
@@ -111,15 +121,6 @@ pub fn set_of_bundle(alloc: Global, bytes: &[u8]) -> Result<ModuleSet, Fail> {
     Ok(read_bundle(alloc, bytes)?)
 }
 
-/// The set of a row's contributions.
-pub fn set_of(alloc: Global, given: &[Given]) -> Result<ModuleSet, Fail> {
-    let mut set = ModuleSet::new(alloc);
-    for one in given {
-        let _ = add(&mut set, contribution(alloc, one)?)?;
-    }
-    Ok(set)
-}
-
 /// The set of one module `a` of revision 1.
 pub fn set_of_text(alloc: Global, text: &str) -> Result<ModuleSet, Fail> {
     let mut set = ModuleSet::new(alloc);
@@ -127,9 +128,41 @@ pub fn set_of_text(alloc: Global, text: &str) -> Result<ModuleSet, Fail> {
     Ok(set)
 }
 
-/// The text that a merge answers for one module.
+/// The contribution of a module's first line, behind its `@`, and of the text below it.
+fn written_contribution(alloc: Global, head: &str, text: &str) -> Result<Contribution, Fail> {
+    let (name, behind) = head.split_once(' ').unwrap_or((head, "1"));
+    let (revision, kind) = behind.split_once(' ').unwrap_or((behind, ""));
+    let revision = revision.parse::<u64>()?;
+    if kind == "withdrawn" {
+        withdrawal(alloc, name, revision)
+    } else {
+        module(alloc, name, revision, text.as_bytes())
+    }
+}
+
+/// The set whose modules stand in the text, each behind a line `@NAME REVISION`, or `@NAME REVISION withdrawn`, where the
+/// revision may be left out for 1. A text that doesn't begin with `@` is the module `a`.
+pub fn written_set(alloc: Global, text: &str) -> Result<ModuleSet, Fail> {
+    if !text.starts_with('@') {
+        return set_of_text(alloc, text);
+    }
+    let mut set = ModuleSet::new(alloc);
+    for part in text.split('@') {
+        if let Some((head, body)) = part.split_once('\n') {
+            let _ = add(&mut set, written_contribution(alloc, head, body)?)?;
+        }
+    }
+    Ok(set)
+}
+
+/// The text that a merge prints of a set.
+fn printed(alloc: Global, set: &ModuleSet) -> Result<String, Fail> {
+    Ok(merge(alloc, set)?)
+}
+
+/// The same for one module.
 pub fn merged(alloc: Global, text: &str) -> Result<String, Fail> {
-    Ok(merge(alloc, &set_of_text(alloc, text)?)?)
+    printed(alloc, &set_of_text(alloc, text)?)
 }
 
 /// The answer of a merge, as rows write it.
@@ -149,28 +182,33 @@ pub fn answer_of_text(alloc: Global, text: &str) -> Result<String, Fail> {
     answer(alloc, &set_of_text(alloc, text)?)
 }
 
-/// Merges each row's set, and what is printed once more.
-pub fn each_answers(rt: &(impl Abort + AllocGlobal), rows: &[Row]) -> Result<(), Fail> {
+/// Merges each row's set: a row is the set written, and the printed lines behind the first one, or the line of the refusal.
+pub fn each_answers(rt: &(impl Abort + AllocGlobal), rows: &[(&str, &str)]) -> Result<(), Fail> {
     let alloc = rt.alloc();
-    for (at, row) in rows.iter().enumerate() {
-        let set = set_of(alloc, row.set)?;
-        let found = answer(alloc, &set)?;
-        same_in_row(rt, at, found.as_str(), row.answer);
+    for (set, wanted) in rows {
+        let found = answer(alloc, &written_set(alloc, set)?)?;
+        same_for(rt, set, found.as_str(), wanted);
     }
     Ok(())
 }
 
-/// Merges what each set prints as a set of its own, `z` at revision 9: the same is printed again.
-pub fn each_prints_itself_again(rt: &(impl Abort + AllocGlobal), rows: &[Row]) -> Result<(), Fail> {
+/// What a merge prints of a text as a set of its own, `z` at revision 9.
+fn printed_again(alloc: Global, text: &str) -> Result<String, Fail> {
+    let mut set = ModuleSet::new(alloc);
+    let _ = add(&mut set, module(alloc, "z", 9, text.as_bytes())?)?;
+    printed(alloc, &set)
+}
+
+/// Merges what each set prints as a set of its own: the same is printed again.
+pub fn each_prints_itself_again(
+    rt: &(impl Abort + AllocGlobal),
+    rows: &[(&str, &str)],
+) -> Result<(), Fail> {
     let alloc = rt.alloc();
-    for (at, row) in rows.iter().enumerate() {
-        let set = set_of(alloc, row.set)?;
-        if let Ok(text) = merge(alloc, &set) {
-            let mut again = ModuleSet::new(alloc);
-            let _ = add(&mut again, module(alloc, "z", 9, text.as_bytes())?)?;
-            let reprinted = merge(alloc, &again)?;
-            same_in_row(rt, at, reprinted.as_str(), text.as_str());
-        }
+    for (set, _) in rows {
+        let text = printed(alloc, &written_set(alloc, set)?)?;
+        let again = printed_again(alloc, text.as_str())?;
+        same_for(rt, set, again.as_str(), text.as_str());
     }
     Ok(())
 }
@@ -194,19 +232,26 @@ fn printed_in<P: Patterns>(alloc: Global, set: &ModuleSet, store: &mut P) -> Res
     Ok(text?)
 }
 
-/// Prints each row's schema from a store that looks for equal patterns, and from one that doesn't.
+/// The lines of a set's schema behind the first one, built in a store that looks for equal patterns, and in one that doesn't.
+fn lines_in_both(alloc: Global, set: &ModuleSet) -> Result<(String, String), Fail> {
+    let plain = printed_in(alloc, set, &mut Plain::new(alloc))?;
+    let interned = printed_in(alloc, set, &mut Interned::new(alloc))?;
+    Ok((
+        lines_of(alloc, plain.as_str())?,
+        lines_of(alloc, interned.as_str())?,
+    ))
+}
+
+/// Prints each row's schema from both stores.
 pub fn each_prints_in_both_stores(
     rt: &(impl Abort + AllocGlobal),
-    rows: &[Row],
+    rows: &[(&str, &str)],
 ) -> Result<(), Fail> {
     let alloc = rt.alloc();
-    for (at, row) in rows.iter().enumerate() {
-        let set = set_of(alloc, row.set)?;
-        let plain = printed_in(alloc, &set, &mut Plain::new(alloc))?;
-        let lines = lines_of(alloc, plain.as_str())?;
-        same_in_row(rt, at, lines.as_str(), row.answer);
-        let interned = printed_in(alloc, &set, &mut Interned::new(alloc))?;
-        same_in_row(rt, at, interned.as_str(), plain.as_str());
+    for (set, wanted) in rows {
+        let (plain, interned) = lines_in_both(alloc, &written_set(alloc, set)?)?;
+        same_for(rt, set, plain.as_str(), wanted);
+        same_for(rt, set, interned.as_str(), wanted);
     }
     Ok(())
 }

@@ -13,80 +13,108 @@ fn name(alloc: Global, uri: &str, local: &str) -> Result<NameClass, AllocError> 
     Ok(NameClass::Name(text(alloc, uri)?, text(alloc, local)?))
 }
 
-#[test]
-fn lists_are_joined(rt: HostRuntime) -> Result<(), Fail> {
-    let mut store = Interned::new(rt.alloc());
+/// Whether a group within a group leaves its members in it, each as often as before.
+fn joins_lists(store: &mut Interned) -> Result<bool, AllocError> {
     let a = store.reference("a")?;
     let b = store.reference("b")?;
     let ab = store.group(&[a, b])?;
     let aab = store.group(&[a, ab])?;
-    assert!(rt; store.group(&[a, a, b])? == aab);
+    Ok(store.group(&[a, a, b])? == aab)
+}
+
+#[test]
+fn lists_are_joined(rt: HostRuntime) -> Result<(), Fail> {
+    let is_joined = joins_lists(&mut Interned::new(rt.alloc()))?;
+    assert!(rt; is_joined);
     Ok(())
+}
+
+/// Whether an interleave keeps each member as often as it stands, in order.
+fn keeps_repeats(store: &mut Interned) -> Result<bool, AllocError> {
+    let a = store.reference("a")?;
+    let b = store.reference("b")?;
+    let bab = store.ileave(&[b, a, b])?;
+    Ok(store.ileave(&[a, b, b])? == bab && store.ileave(&[a, b])? != bab)
 }
 
 #[test]
 fn repeats_are_kept(rt: HostRuntime) -> Result<(), Fail> {
-    let mut store = Interned::new(rt.alloc());
-    let a = store.reference("a")?;
-    let b = store.reference("b")?;
-    let bab = store.ileave(&[b, a, b])?;
-    assert!(rt; store.ileave(&[a, b, b])? == bab);
-    assert!(rt; store.ileave(&[a, b])? != bab);
+    let is_kept = keeps_repeats(&mut Interned::new(rt.alloc()))?;
+    assert!(rt; is_kept);
     Ok(())
+}
+
+/// Whether `notAllowed` leaves a choice and takes what holds it along.
+fn spreads_not_allowed(store: &mut Plain) -> Result<bool, AllocError> {
+    let no = store.not_allowed()?;
+    let a = store.reference("a")?;
+    Ok(store.choice(&[no, a, no])? == a && store.list(no)? == no && store.one_or_more(no)? == no)
 }
 
 #[test]
 fn not_allowed_spreads(rt: HostRuntime) -> Result<(), Fail> {
-    let mut store = Plain::new(rt.alloc());
-    let no = store.not_allowed()?;
-    let a = store.reference("a")?;
-    assert!(rt; store.choice(&[no, a, no])? == a);
-    assert!(rt; store.list(no)? == no);
-    assert!(rt; store.one_or_more(no)? == no);
+    let is_spread = spreads_not_allowed(&mut Plain::new(rt.alloc()))?;
+    assert!(rt; is_spread);
     Ok(())
+}
+
+/// Whether a repetition of a repetition is that repetition.
+fn repeats_once(store: &mut Plain) -> Result<bool, AllocError> {
+    let a = store.reference("a")?;
+    let some = store.one_or_more(a)?;
+    Ok(store.one_or_more(some)? == some)
 }
 
 #[test]
 fn one_repetition(rt: HostRuntime) -> Result<(), Fail> {
-    let mut store = Plain::new(rt.alloc());
-    let a = store.reference("a")?;
-    let some = store.one_or_more(a)?;
-    assert!(rt; store.one_or_more(some)? == some);
+    let is_one = repeats_once(&mut Plain::new(rt.alloc()))?;
+    assert!(rt; is_one);
     Ok(())
+}
+
+/// Whether a choice that is there already is found, whatever the order of its members.
+fn shares(store: &mut Interned) -> Result<bool, AllocError> {
+    let a = store.reference("a")?;
+    let b = store.reference("b")?;
+    let first = store.choice(&[b, a])?;
+    Ok(store.choice(&[a, b, a])? == first)
 }
 
 #[test]
 fn interned_shares(rt: HostRuntime) -> Result<(), Fail> {
     let mut store = Interned::new(rt.alloc());
     same_count(&rt, store.nodes(), 0);
-    let a = store.reference("a")?;
-    let b = store.reference("b")?;
-    let first = store.choice(&[b, a])?;
-    assert!(rt; store.choice(&[a, b, a])? == first);
+    assert!(rt; shares(&mut store)?);
     same_count(&rt, store.nodes(), 3);
     Ok(())
+}
+
+/// Whether a choice of one pattern is that pattern, and an interleave of it twice is another.
+fn makes_a_pair(store: &mut Interned) -> Result<bool, AllocError> {
+    let a = store.reference("a")?;
+    Ok(store.choice(&[a, a])? == a && store.ileave(&[a, a])? != a)
 }
 
 #[test]
 fn interned_counts_what_is_new(rt: HostRuntime) -> Result<(), Fail> {
     let mut store = Interned::new(rt.alloc());
-    let a = store.reference("a")?;
-    let choice = store.choice(&[a, a])?;
-    assert!(rt; choice == a);
-    let pair = store.ileave(&[a, a])?;
-    assert!(rt; pair != a);
+    assert!(rt; makes_a_pair(&mut store)?);
     same_count(&rt, store.nodes(), 2);
     Ok(())
+}
+
+/// Whether a reference that is there already is made anew, and a choice of the two is the first.
+fn makes_anew(store: &mut Plain) -> Result<bool, AllocError> {
+    let a = store.reference("a")?;
+    let again = store.reference("a")?;
+    Ok(a != again && store.choice(&[a, again])? == a)
 }
 
 #[test]
 fn plain_looks_for_nothing(rt: HostRuntime) -> Result<(), Fail> {
     let mut store = Plain::new(rt.alloc());
-    let a = store.reference("a")?;
-    let again = store.reference("a")?;
-    assert!(rt; a != again);
+    assert!(rt; makes_anew(&mut store)?);
     same_count(&rt, store.nodes(), 2);
-    assert!(rt; store.choice(&[a, again])? == a);
     Ok(())
 }
 

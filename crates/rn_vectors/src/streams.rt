@@ -1,7 +1,7 @@
 // Runs over bundles, with sources and sinks that fail at a known byte.
 ghost use Rattle.std.specs.Prelude.{◌≡◌, false, IfOk};
 
-use crate::sets::{Given, bundle, same_bytes, set_of};
+use crate::sets::{bundle, same_bytes, written_set};
 use rn_assemble::Refusal;
 use rn_merge::{
     Failed, ReadFault, RunFault, Sink, Source, Status, read_input, run_print, write_output,
@@ -11,9 +11,9 @@ use std::alloc::Global;
 use std::process::Abort;
 use std::test::Fail;
 
-const A: Given = ("a", 1, Some("start = doc doc |= element b { text }"));
+const A: &str = "@a\nstart = doc doc |= element b { text }";
 
-const B: Given = ("b", 1, Some("doc |= element a { empty }"));
+const B: &str = "@b\ndoc |= element a { empty }";
 
 const PRINTED: &str =
     "default namespace = \"\"\nstart = doc\ndoc = element a { empty } | element b { text }\n";
@@ -111,10 +111,10 @@ impl Source for Bytes {
 }
 
 /// The bundles of one contribution each.
-fn bundles(alloc: Global, given: &[Given]) -> Result<Vec<Vec<u8>>, Fail> {
+fn bundles(alloc: Global, given: &[&str]) -> Result<Vec<Vec<u8>>, Fail> {
     let mut bundles = Vec::new(alloc);
     for one in given {
-        let set = set_of(alloc, &[*one])?;
+        let set = written_set(alloc, one)?;
         bundles.push(bundle(alloc, &set)?)?;
     }
     Ok(bundles)

@@ -231,18 +231,27 @@ fn many(alloc: Global, piece: &str, count: usize) -> Result<String, Fail> {
     Ok(out)
 }
 
+// Sources of about 4 MB: a piece, how often it stands, and how many tokens it then makes.
+static LONG: [(&str, usize, usize); 3] = [
+    ("abcdefgh", 524288, 1),
+    ("| ", 2000000, 2000000),
+    ("\"\" # ' \n", 500000, 500000),
+];
+
+// A segment of about 4 MB.
+fn long_segment(alloc: Global) -> Result<String, Fail> {
+    let content = many(alloc, "\\x{41}\\xx'\"", 349525)?;
+    Ok(format!(in alloc; "'''{content}'''")?)
+}
+
 #[test]
 fn long_sources_are_read(rt: HostRuntime) -> Result<(), Fail> {
-    let alloc = rt.alloc();
-    let name = many(alloc, "abcdefgh", 524288)?;
-    same_count(&rt, count(alloc, name.as_str())?, 1);
-    let content = many(alloc, "\\x{41}\\xx'\"", 349525)?;
-    let segment = format!(in alloc; "'''{content}'''")?;
-    same_count(&rt, count(alloc, segment.as_str())?, 1);
-    let symbols = many(alloc, "| ", 2000000)?;
-    same_count(&rt, count(alloc, symbols.as_str())?, 2000000);
-    let openings = many(alloc, "\"\" # ' \n", 500000)?;
-    same_count(&rt, count(alloc, openings.as_str())?, 500000);
+    for (piece, times, wanted) in &LONG {
+        let source = many(rt.alloc(), piece, *times)?;
+        same_count(&rt, count(rt.alloc(), source.as_str())?, *wanted);
+    }
+    let segment = long_segment(rt.alloc())?;
+    same_count(&rt, count(rt.alloc(), segment.as_str())?, 1);
     Ok(())
 }
 
