@@ -45,7 +45,7 @@ enum Step {
     Conflict(&'static str),
 }
 
-/// Whether what must come of a step does.
+/// Whether a step comes out as it must.
 fn succeeds(alloc: Global, set: &mut ModuleSet, step: &Step) -> Result<bool, Fail> {
     match step {
         Step::Takes(given) => add(set, contribution(alloc, given)?),
