@@ -1,7 +1,7 @@
 // Bundles: their one spelling, what is read from damaged ones, and runs over several.
 use crate::contributions::{effective_count, is_effective, long, refuses};
 use crate::sets::{
-    Given, add, answer, bundle, contribution, held, module, refused, same, same_bytes, same_count,
+    add, answer, bundle, contribution, held, module, refused, same, same_bytes, same_count,
     same_for, same_in_row, set_of_bundle, written_set,
 };
 use rn_merge::{ProgramFault, fault_line, list_line};
@@ -22,8 +22,8 @@ fn fault(alloc: Global, bytes: &[u8]) -> Result<String, Fail> {
 }
 
 /// The line of a contribution in a list.
-fn listed(alloc: Global, given: &Given) -> Result<String, Fail> {
-    Ok(list_line(alloc, &contribution(alloc, given)?)?)
+fn listed(alloc: Global, written: &str) -> Result<String, Fail> {
+    Ok(list_line(alloc, &contribution(alloc, written)?)?)
 }
 
 #[test]
@@ -43,12 +43,12 @@ fn contributions_have_their_lines(rt: HostRuntime) -> Result<(), Fail> {
     let alloc = rt.alloc();
     same(
         &rt,
-        listed(alloc, &("t", 7, Some("abc")))?.as_str(),
+        listed(alloc, "t 7\nabc")?.as_str(),
         "t 7 3 ba7816bf8f01cfea414140de5dae2223b00361a396177a9cb410ff61f20015ad",
     );
     same(
         &rt,
-        listed(alloc, &("lib", 2, None))?.as_str(),
+        listed(alloc, "lib 2 withdrawn")?.as_str(),
         "lib 2 withdrawn",
     );
     Ok(())
@@ -221,10 +221,10 @@ fn full(alloc: Global) -> Result<ModuleSet, Fail> {
 
 /// What a full set refuses, and what it holds.
 fn takes_no_more(rt: &(impl Abort + AllocGlobal), set: &mut ModuleSet) -> Result<(), Fail> {
-    refuses(rt, set, &("m1024", 1, Some("")), AddFault::Full)?;
+    refuses(rt, set, "m1024", AddFault::Full)?;
     same_count(rt, set.len(), 1024);
     assert!(rt; !add(set, numbered(rt.alloc(), 7)?)?);
-    refuses(rt, set, &("", 1, Some("")), AddFault::BadName)
+    Ok(())
 }
 
 /// A set of one that a full set lacks takes nothing from it.
@@ -248,6 +248,7 @@ fn a_full_set_takes_no_more(rt: HostRuntime) -> Result<(), Fail> {
 #[test]
 fn a_full_set_names_other_faults_first(rt: HostRuntime) -> Result<(), Fail> {
     let mut set = full(rt.alloc())?;
+    refuses(&rt, &mut set, " 1", AddFault::BadName)?;
     let (back, fault) = refused(&mut set, long(rt.alloc(), 1, 4_194_305)?)?;
     drop(back);
     assert!(rt; fault == AddFault::TooLong);

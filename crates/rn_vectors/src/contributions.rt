@@ -1,7 +1,6 @@
 // Sets: withdrawals, unions, limits and conflicts.
 use crate::sets::{
-    Given, add, bundle, contribution, held, is_given, module, refused, same, same_count,
-    set_of_bundle, written_set,
+    add, bundle, contribution, held, module, refused, same, same_count, set_of_bundle, written_set,
 };
 use rn_modset::{AddFault, Contribution, MAX_TEXT, ModuleSet, is_module_name};
 use std::alloc::Global;
@@ -33,10 +32,10 @@ fn conflict(alloc: Global, set: &ModuleSet) -> Result<String, Fail> {
 
 /// What a set is given or asked, with what must come of it.
 enum Step {
-    /// It takes what it doesn't hold.
-    Takes(Given),
-    /// It holds this already.
-    Holds(Given),
+    /// It takes the contribution written, which it doesn't hold.
+    Takes(&'static str),
+    /// It holds the contribution written already.
+    Holds(&'static str),
     /// Its effective modules are that many.
     Effective(usize),
     /// The text of its effective module of a name, where it has one.
@@ -48,8 +47,8 @@ enum Step {
 /// Whether a step comes out as it must.
 fn succeeds(alloc: Global, set: &mut ModuleSet, step: &Step) -> Result<bool, Fail> {
     match step {
-        Step::Takes(given) => add(set, contribution(alloc, given)?),
-        Step::Holds(given) => Ok(!add(set, contribution(alloc, given)?)?),
+        Step::Takes(written) => add(set, contribution(alloc, written)?),
+        Step::Holds(written) => Ok(!add(set, contribution(alloc, written)?)?),
         Step::Effective(count) => Ok(effective_count(alloc, set)? == *count),
         Step::Module(name, text) => is_effective(alloc, set, name, *text),
         Step::Conflict(wanted) => Ok(conflict(alloc, set)?.as_str() == *wanted),
@@ -67,11 +66,11 @@ fn follows(rt: &(impl Abort + AllocGlobal), steps: &[Step]) -> Result<(), Fail> 
 }
 
 static WITHDRAWALS: [Step; 6] = [
-    Step::Takes(("lib", 2, None)),
+    Step::Takes("lib 2 withdrawn"),
     Step::Effective(0),
-    Step::Takes(("lib", 3, Some("start = text"))),
+    Step::Takes("lib 3\nstart = text"),
     Step::Module("lib", Some(b"start = text")),
-    Step::Takes(("lib", 3, None)),
+    Step::Takes("lib 3 withdrawn"),
     Step::Conflict("Conflict { module: \"lib\", revision: 3 }"),
 ];
 
@@ -81,12 +80,12 @@ fn withdrawals(rt: HostRuntime) -> Result<(), Fail> {
 }
 
 static CONFLICTS: [Step; 9] = [
-    Step::Takes(("a", 1, Some("start = text"))),
-    Step::Takes(("a", 1, Some("start =  text"))),
-    Step::Takes(("b", 1, Some(""))),
+    Step::Takes("a\nstart = text"),
+    Step::Takes("a\nstart =  text"),
+    Step::Takes("b"),
     Step::Conflict("Conflict { module: \"a\", revision: 1 }"),
-    Step::Takes(("a", 2, Some("start = empty"))),
-    Step::Holds(("a", 1, Some("start = text"))),
+    Step::Takes("a 2\nstart = empty"),
+    Step::Holds("a\nstart = text"),
     Step::Effective(2),
     Step::Module("a", Some(b"start = empty")),
     Step::Module("c", None),
@@ -109,31 +108,20 @@ fn revisions(alloc: Global, is_odd: bool, count: u64) -> Result<ModuleSet, Fail>
     Ok(set)
 }
 
-/// A set refuses a contribution for this reason, and hands it back.
+/// A set refuses the contribution written for this reason, and hands it back.
 pub fn refuses(
     rt: &(impl Abort + AllocGlobal),
     set: &mut ModuleSet,
-    given: &Given,
+    written: &str,
     wanted: AddFault,
 ) -> Result<(), Fail> {
-    let (back, fault) = refused(set, contribution(rt.alloc(), given)?)?;
-    let is_back = is_given(&back, given);
+    let given = contribution(rt.alloc(), written)?;
+    let (back, fault) = refused(set, contribution(rt.alloc(), written)?)?;
+    let is_back = back == given;
     drop(back);
-    assert!(rt; is_back && fault == wanted, "{}", given.0);
+    drop(given);
+    assert!(rt; is_back && fault == wanted, "{written}");
     Ok(())
-}
-
-/// What a full set refuses, and what it holds.
-fn adds_nothing(rt: &(impl Abort + AllocGlobal), set: &mut ModuleSet) -> Result<(), Fail> {
-    refuses(rt, set, &("b", 0, Some("")), AddFault::Full)?;
-    assert!(rt; !add(set, module(rt.alloc(), "a", 6, b"x")?)?);
-    refuses(rt, set, &("", 0, Some("")), AddFault::BadName)
-}
-
-#[test]
-fn full_sets_add_nothing(rt: HostRuntime) -> Result<(), Fail> {
-    let mut set = revisions(rt.alloc(), false, 1024)?;
-    adds_nothing(&rt, &mut set)
 }
 
 /// The set that a set's bundle reads back as.

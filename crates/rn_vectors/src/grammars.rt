@@ -1,5 +1,5 @@
 // Sets and what they give: each set is written with its modules parted by lines of their names.
-use crate::sets::{same, written_set};
+use crate::sets::{same_for, written_set};
 use rn_assemble::{Grammar, Key, Refusal, assemble};
 use rn_modset::ModuleSet;
 use rn_pattern::{NameClass, Pattern};
@@ -148,8 +148,8 @@ fn answer(alloc: Global, set: &ModuleSet) -> Result<String, AllocError> {
 fn check(rt: &(impl Abort + Print), alloc: Global, rows: &[(&str, &str)]) -> Result<(), Fail> {
     for (text, wanted) in rows {
         let set = written_set(alloc, text)?;
-        let given = answer(alloc, &set)?;
-        same(rt, given.as_str(), *wanted);
+        let found = answer(alloc, &set)?;
+        same_for(rt, text, found.as_str(), wanted);
     }
     Ok(())
 }

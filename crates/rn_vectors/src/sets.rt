@@ -11,9 +11,6 @@ use std::test::Fail;
 /// The line with which each printed schema begins.
 pub const FIRST_LINE: &str = "default namespace = \"\"\n";
 
-/// A contribution of a row: a module's name, its revision, and its text or, for a withdrawal, nothing.
-pub type Given = (&'static str, u64, Option<&'static str>);
-
 /// Two texts are the same.
 pub fn same(rt: &impl Abort, found: &str, wanted: &str) {
     assert_eq!(rt; found, wanted);
@@ -55,26 +52,6 @@ fn withdrawal(alloc: Global, name: &str, revision: u64) -> Result<Contribution, 
         revision,
         text: None,
     })
-}
-
-/// The contribution of a row.
-pub fn contribution(alloc: Global, given: &Given) -> Result<Contribution, Fail> {
-    let (name, revision, text) = *given;
-    match text {
-        Some(text) => module(alloc, name, revision, text.as_bytes()),
-        None => withdrawal(alloc, name, revision),
-    }
-}
-
-/// Whether a contribution is that of a row.
-pub fn is_given(contribution: &Contribution, given: &Given) -> bool {
-    let (name, revision, text) = *given;
-    let is_text = match (&contribution.text, text) {
-        (Some(found), Some(text)) => found.as_slice() == text.as_bytes(),
-        (None, None) => true,
-        _ => false,
-    };
-    is_text && contribution.name.as_str() == name && contribution.revision == revision
 }
 
 /// Adds a contribution that the set takes.
@@ -128,8 +105,10 @@ pub fn set_of_text(alloc: Global, text: &str) -> Result<ModuleSet, Fail> {
     Ok(set)
 }
 
-/// The contribution of a module's first line, behind its `@`, and of the text below it.
-fn written_contribution(alloc: Global, head: &str, text: &str) -> Result<Contribution, Fail> {
+/// The contribution whose first line is `NAME REVISION` or `NAME REVISION withdrawn`, where the revision may be left out for 1;
+/// its text stands below.
+pub fn contribution(alloc: Global, written: &str) -> Result<Contribution, Fail> {
+    let (head, text) = written.split_once('\n').unwrap_or((written, ""));
     let (name, behind) = head.split_once(' ').unwrap_or((head, "1"));
     let (revision, kind) = behind.split_once(' ').unwrap_or((behind, ""));
     let revision = revision.parse::<u64>()?;
@@ -140,16 +119,15 @@ fn written_contribution(alloc: Global, head: &str, text: &str) -> Result<Contrib
     }
 }
 
-/// The set whose modules stand in the text, each behind a line `@NAME REVISION`, or `@NAME REVISION withdrawn`, where the
-/// revision may be left out for 1. A text that doesn't begin with `@` is the module `a`.
+/// The set whose contributions stand in the text, each behind an `@`. A text that doesn't begin with `@` is the module `a`.
 pub fn written_set(alloc: Global, text: &str) -> Result<ModuleSet, Fail> {
     if !text.starts_with('@') {
         return set_of_text(alloc, text);
     }
     let mut set = ModuleSet::new(alloc);
-    for part in text.split('@') {
-        if let Some((head, body)) = part.split_once('\n') {
-            let _ = add(&mut set, written_contribution(alloc, head, body)?)?;
+    for written in text.split('@') {
+        if !written.is_empty() {
+            let _ = add(&mut set, contribution(alloc, written)?)?;
         }
     }
     Ok(set)
