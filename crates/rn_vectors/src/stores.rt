@@ -169,9 +169,7 @@ fn typed(alloc: Global, number: usize) -> Result<Pattern, AllocError> {
 
 /// An element of this name.
 fn element(alloc: Global, local: &str, content: Pattern) -> Result<Pattern, AllocError> {
-    let content = Box::new(alloc, content)?;
-    let class = name(alloc, "", local)?;
-    Ok(Pattern::Element(class, content))
+    Ok(Pattern::Element(name(alloc, "", local)?, Box::new(alloc, content)?))
 }
 
 /// Patterns in their order, of the numbers 0 to 16.
