@@ -5,7 +5,7 @@ ghost use Rattle.rn_syntax.specs.Places.{first};
 ghost use Rattle.rn_syntax.specs.Tree as tree;
 ghost use Rattle.rn_syntax.specs.View.{class_view, datatype_view, params_view, pattern_view, patterns_view, prefix_view, item_view, items_view};
 
-use crate::tree::{Datatype, Item, Nc, Param, Pat, Prefix};
+use crate::tree::{Datatype, Item, Module, Nc, Param, Pat, Prefix};
 
 /// A rule on what stands in patterns: each call answers the first place that breaks it.
 pub(crate) trait Rule {
@@ -85,7 +85,7 @@ fn patterns_place<R: Rule>(rule: &R, patterns: &[Pat<'_>]) -> Option<usize>
 /// The first place in the patterns of items that breaks the rule.
 #[tactic(auto, using(crate::proofs::Firsts::none_first, crate::proofs::Firsts::some_first))]
 #[cycle(items_place)]
-pub(crate) fn items_place<R: Rule>(rule: &R, items: &[Item<'_>]) -> Option<usize>
+fn items_place<R: Rule>(rule: &R, items: &[Item<'_>]) -> Option<usize>
     ensures { result ≡ first (places.items_places (R.classes rule.now) (R.datatypes rule.now) (R.excepts rule.now) (R.inherits rule.now) (items_view items.now)) }
 {
     'items: for item in items {
@@ -111,4 +111,11 @@ fn item_place<R: Rule>(rule: &R, item: &Item<'_>) -> Option<usize>
             }
         }
     }
+}
+
+/// The first place in the patterns of a module that breaks the rule.
+pub(crate) fn module_place<R: Rule>(rule: &R, module: &Module<'_>) -> Option<usize>
+    ensures { result ≡ first (places.items_places (R.classes rule.now) (R.datatypes rule.now) (R.excepts rule.now) (R.inherits rule.now) (items_view «module».now.items.items)) }
+{
+    items_place(rule, &module.items)
 }

@@ -12,7 +12,7 @@ use crate::bindings::{Bindings, bind_all};
 use crate::brackets::too_deep;
 use crate::fault::{Fault, SyntaxFault};
 use crate::modules::module;
-use crate::places::items_place;
+use crate::places::module_place;
 use crate::rules::{AllRules, Builtins, ContextValues, Excepts, Prefixes};
 use crate::terminals::place;
 use crate::tree::Module;
@@ -39,7 +39,7 @@ fn prefix_place(bindings: &Bindings<'_, '_>, module: &Module<'_>) -> Option<usiz
     requires declared { first (declarations_places [] (map declaration_view «module».now.decls.items)) ≡ None }
     ensures { result ≡ first (prefix_places (module_view «module».now)) }
 {
-    items_place(&Prefixes(bindings), &module.items)
+    module_place(&Prefixes(bindings), module)
 }
 
 /// The place of the first type of the empty library that is none of it.
@@ -47,7 +47,7 @@ fn builtin_place(bindings: &Bindings<'_, '_>, module: &Module<'_>) -> Option<usi
     requires { bindings.now.declarations.now ≡ «module».now.decls.items }
     ensures { result ≡ first (builtin_places (module_view «module».now)) }
 {
-    items_place(&Builtins(bindings), &module.items)
+    module_place(&Builtins(bindings), module)
 }
 
 /// The place of the first value of a type that looks at namespace bindings.
@@ -55,7 +55,7 @@ fn context_value_place(bindings: &Bindings<'_, '_>, module: &Module<'_>) -> Opti
     requires { bindings.now.declarations.now ≡ «module».now.decls.items }
     ensures { result ≡ first (context_places (module_view «module».now)) }
 {
-    items_place(&ContextValues(bindings), &module.items)
+    module_place(&ContextValues(bindings), module)
 }
 
 /// Whether the items of a module are known to keep all rules, by one walk through them.
@@ -64,7 +64,7 @@ fn keeps_rules(bindings: &Bindings<'_, '_>, module: &Module<'_>) -> bool
     requires declared { first (declarations_places [] (map declaration_view «module».now.decls.items)) ≡ None }
     ensures { IsTrue result → HasNoFault (module_view «module».now) }
 {
-    match items_place(&AllRules(bindings), &module.items) {
+    match module_place(&AllRules(bindings), module) {
         None => true,
         Some(_) => false,
     }
@@ -85,7 +85,7 @@ fn items_fault(bindings: &Bindings<'_, '_>, module: &Module<'_>) -> Option<Synta
     if let Some(at) = context_value_place(bindings, module) {
         return Some(SyntaxFault::ContextValue { at });
     }
-    match items_place(&Excepts, &module.items) {
+    match module_place(&Excepts, module) {
         Some(at) => Some(SyntaxFault::Except { at }),
         None => None,
     }

@@ -5,6 +5,5 @@ use Rattle.rn_syntax.specs.View.{declaration_view, items_view}
 use Rattle.rn_syntax.proofs.reader.builtin_place.Goals as goal
 
 pub returns : goal.returns
-returns c = c.items_place.ensures
-    ∙ ap (λ xs. first (items_places (λ _. []) (wrong_builtin (map declaration_view c.args.bindings.now.declarations.now)) (λ _ _. []) (λ _. []) (items_view xs))) c.deref.ensures.value
+returns c = c.module_place.ensures
     ∙ ap (λ ds. first (items_places (λ _. []) (wrong_builtin (map declaration_view ds)) (λ _ _. []) (λ _. []) (items_view c.args.module.now.items.items))) c.requires

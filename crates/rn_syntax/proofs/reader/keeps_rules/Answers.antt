@@ -8,5 +8,4 @@ use Rattle.rn_syntax.proofs.reader.keeps_rules.Goals as goal
 pub returns-in-None : goal.returns-in-None
 returns-in-None c = λ z. no_fault (module_view c.args.module.now) c.requires.declared
     (ap (λ ds. first (all_places (map declaration_view ds) (items_view c.args.module.now.items.items))) (sym c.requires.bound)
-    ∙ ap (λ xs. first (all_places (map declaration_view c.args.bindings.now.declarations.now) (items_view xs))) (sym c.deref.ensures.value)
-    ∙ sym c.items_place.ensures ∙ c.in-None.is)
+    ∙ sym c.module_place.ensures ∙ c.in-None.is)

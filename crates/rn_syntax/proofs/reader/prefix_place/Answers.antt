@@ -6,7 +6,6 @@ use Rattle.rn_syntax.proofs.Firsts.{none_first}
 use Rattle.rn_syntax.proofs.reader.prefix_place.Goals as goal
 
 pub returns : goal.returns
-returns c = c.items_place.ensures
-    ∙ ap (λ xs. first (items_places (class_places (map declaration_view c.args.bindings.now.declarations.now)) (unbound_type (map declaration_view c.args.bindings.now.declarations.now)) (λ _ _. []) (inherit_places (map declaration_view c.args.bindings.now.declarations.now)) (items_view xs))) c.deref.ensures.value
+returns c = c.module_place.ensures
     ∙ ap (λ ds. first (items_places (class_places (map declaration_view ds)) (unbound_type (map declaration_view ds)) (λ _ _. []) (inherit_places (map declaration_view ds)) (items_view c.args.module.now.items.items))) c.requires.bound
     ∙ sym (none_first _ _ c.requires.declared)
