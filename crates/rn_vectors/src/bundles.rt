@@ -1,10 +1,10 @@
 // Bundles: their one spelling, what is read from damaged ones, and runs over several.
-use crate::contributions::{effective_count, is_effective, long, refuses};
+use crate::contributions::{effective_count, is_effective, refuses, refuses_a_longer_text};
 use crate::sets::{
-    add, answer, bundle, contribution, held, module, refused, same, same_bytes, same_count,
+    add, answer, bundle, contribution, held, line_of, module, same, same_bytes, same_count,
     same_for, same_in_row, set_of_bundle, written_set,
 };
-use rn_merge::{ProgramFault, fault_line, list_line};
+use rn_merge::{ProgramFault, list_line};
 use rn_modset::{AddFault, Contribution, ModuleSet, read_bundle};
 use std::alloc::Global;
 use std::process::Abort;
@@ -16,8 +16,11 @@ const ONE: &str =
 /// The line of what is wrong with a bundle, or `good`.
 fn fault(alloc: Global, bytes: &[u8]) -> Result<String, Fail> {
     match read_bundle(alloc, bytes) {
-        Ok(_) => Ok(String::from_str(alloc, "good")?),
-        Err(fault) => Ok(fault_line(alloc, &ProgramFault::Bundle(0, fault))?),
+        Ok(set) => {
+            drop(set);
+            Ok(String::from_str(alloc, "good")?)
+        }
+        Err(fault) => line_of(alloc, ProgramFault::Bundle(0, fault)),
     }
 }
 
@@ -29,12 +32,16 @@ fn listed(alloc: Global, written: &str) -> Result<String, Fail> {
 #[test]
 fn one_text_has_its_bundle(rt: HostRuntime) -> Result<(), Fail> {
     let alloc = rt.alloc();
-    let set = written_set(alloc, "@t 7\nabc")?;
-    let bytes = bundle(alloc, &set)?;
+    let bytes = bundle(alloc, &written_set(alloc, "@t 7\nabc")?)?;
     same_count(&rt, bytes.len(), 97);
     same_bytes(&rt, bytes.as_slice(), ONE.as_bytes());
-    let read = set_of_bundle(alloc, bytes.as_slice())?;
-    assert!(rt; read.contains(&module(alloc, "t", 7, b"abc")?));
+    Ok(())
+}
+
+#[test]
+fn one_text_is_read_from_its_bundle(rt: HostRuntime) -> Result<(), Fail> {
+    let read = set_of_bundle(rt.alloc(), ONE.as_bytes())?;
+    assert!(rt; read.contains(&module(rt.alloc(), "t", 7, b"abc")?));
     Ok(())
 }
 
@@ -249,10 +256,7 @@ fn a_full_set_takes_no_more(rt: HostRuntime) -> Result<(), Fail> {
 fn a_full_set_names_other_faults_first(rt: HostRuntime) -> Result<(), Fail> {
     let mut set = full(rt.alloc())?;
     refuses(&rt, &mut set, " 1", AddFault::BadName)?;
-    let (back, fault) = refused(&mut set, long(rt.alloc(), 1, 4_194_305)?)?;
-    drop(back);
-    assert!(rt; fault == AddFault::TooLong);
-    Ok(())
+    refuses_a_longer_text(&rt, &mut set)
 }
 
 /// What a set holds, what of it is effective, and what it merges to.

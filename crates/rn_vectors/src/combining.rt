@@ -54,17 +54,22 @@ static ROWS: [(&str, &str); 13] = [
     ),
 ];
 
+/// The table is named here alone: each function that names it is dearer to prove.
+fn rows() -> &'static [(&'static str, &'static str)] {
+    &ROWS
+}
+
 #[test]
 fn modules_are_combined(rt: HostRuntime) -> Result<(), Fail> {
-    each_answers(&rt, &ROWS)
+    each_answers(&rt, rows())
 }
 
 #[test]
 fn combined_schemas_print_themselves_again(rt: HostRuntime) -> Result<(), Fail> {
-    each_prints_itself_again(&rt, &ROWS)
+    each_prints_itself_again(&rt, rows())
 }
 
 #[test]
 fn both_stores_combine_the_same(rt: HostRuntime) -> Result<(), Fail> {
-    each_prints_in_both_stores(&rt, &ROWS)
+    each_prints_in_both_stores(&rt, rows())
 }

@@ -164,7 +164,7 @@ fn joins_in_order(rt: HostRuntime) -> Result<(), Fail> {
 }
 
 /// The contribution of a text of so many bytes.
-pub fn long(alloc: Global, revision: u64, length: usize) -> Result<Contribution, Fail> {
+fn long(alloc: Global, revision: u64, length: usize) -> Result<Contribution, Fail> {
     Ok(Contribution {
         name: String::from_str(alloc, "a")?,
         revision,
@@ -172,17 +172,32 @@ pub fn long(alloc: Global, revision: u64, length: usize) -> Result<Contribution,
     })
 }
 
-#[test]
-fn longest_texts(rt: HostRuntime) -> Result<(), Fail> {
-    let mut set = ModuleSet::new(rt.alloc());
-    assert!(rt; MAX_TEXT == 4_194_304);
-    assert!(rt; add(&mut set, long(rt.alloc(), 0, MAX_TEXT)?)?);
-    let (back, fault) = refused(&mut set, long(rt.alloc(), 1, MAX_TEXT + 1)?)?;
+/// A set refuses a text that is one byte too long.
+pub fn refuses_a_longer_text(
+    rt: &(impl Abort + AllocGlobal),
+    set: &mut ModuleSet,
+) -> Result<(), Fail> {
+    let (back, fault) = refused(set, long(rt.alloc(), 1, MAX_TEXT + 1)?)?;
     drop(back);
     assert!(rt; fault == AddFault::TooLong);
-    same_count(&rt, bundle(rt.alloc(), &set)?.len(), MAX_TEXT + 100);
-    same_count(&rt, copied(rt.alloc(), &set)?.len(), 1);
     Ok(())
+}
+
+/// The bundle of a set of the longest text reads back.
+fn keeps_the_longest_text(rt: &(impl Abort + AllocGlobal), set: &ModuleSet) -> Result<(), Fail> {
+    let bytes = bundle(rt.alloc(), set)?;
+    same_count(rt, bytes.len(), 4_194_404);
+    same_count(rt, set_of_bundle(rt.alloc(), bytes.as_slice())?.len(), 1);
+    Ok(())
+}
+
+#[test]
+fn longest_texts(rt: HostRuntime) -> Result<(), Fail> {
+    assert!(rt; MAX_TEXT == 4_194_304);
+    let mut set = ModuleSet::new(rt.alloc());
+    assert!(rt; add(&mut set, long(rt.alloc(), 0, MAX_TEXT)?)?);
+    refuses_a_longer_text(&rt, &mut set)?;
+    keeps_the_longest_text(&rt, &set)
 }
 
 #[test]

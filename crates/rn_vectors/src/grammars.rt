@@ -140,8 +140,16 @@ fn write_pattern(out: &mut String, pattern: &Pattern) -> Result<(), AllocError> 
 /// The grammar of the set written, or the refusal as its name and fields.
 fn answer(alloc: Global, set: &ModuleSet) -> Result<String, AllocError> {
     match assemble(alloc, set) {
-        Ok(grammar) => written(alloc, &grammar),
-        Err(refusal) => format!(in alloc; "{refusal:?}"),
+        Ok(grammar) => {
+            let line = written(alloc, &grammar);
+            drop(grammar);
+            line
+        }
+        Err(refusal) => {
+            let line = format!(in alloc; "{refusal:?}");
+            drop(refusal);
+            line
+        }
     }
 }
 

@@ -17,21 +17,30 @@ fn add_numbered(set: &mut ModuleSet, alloc: Global, number: usize, text: &str) -
     add_text(set, alloc, name.as_str(), text)
 }
 
+/// Adds the module m`number`, which includes m`next` twice. The first one has the start.
+fn add_including(
+    set: &mut ModuleSet,
+    alloc: Global,
+    number: usize,
+    next: usize,
+) -> Result<(), Fail> {
+    let start = if number == 0 {
+        "start = element r { y }"
+    } else {
+        ""
+    };
+    let text = format!(in alloc; "include \"m{next}\" include \"m{next}\" {start}")?;
+    let name = format!(in alloc; "m{number}")?;
+    add_text(set, alloc, name.as_str(), text.as_str())
+}
+
 /// Modules m0 to m`last`, each but the last including the next twice; the last one defines y.
 fn doubling(alloc: Global, last: usize) -> Result<ModuleSet, Fail> {
+    let name = format!(in alloc; "m{last}")?;
     let mut set = ModuleSet::new(alloc);
     for number in 0..last {
-        let name = format!(in alloc; "m{number}")?;
-        let next = number + 1;
-        let start = if number == 0 {
-            "start = element r { y }"
-        } else {
-            ""
-        };
-        let text = format!(in alloc; "include \"m{next}\" include \"m{next}\" {start}")?;
-        add_text(&mut set, alloc, name.as_str(), text.as_str())?;
+        add_including(&mut set, alloc, number, number + 1)?;
     }
-    let name = format!(in alloc; "m{last}")?;
     add_text(&mut set, alloc, name.as_str(), "y |= text")?;
     Ok(set)
 }
@@ -48,35 +57,22 @@ fn tower(alloc: Global, last: usize) -> Result<ModuleSet, Fail> {
     Ok(set)
 }
 
+/// A set has this answer.
+fn answers(rt: &(impl Abort + AllocGlobal), set: ModuleSet, wanted: &str) -> Result<(), Fail> {
+    let found = answer(rt.alloc(), &set);
+    drop(set);
+    same(rt, found?.as_str(), wanted);
+    Ok(())
+}
+
 #[test]
 fn instances_are_counted(rt: HostRuntime) -> Result<(), Fail> {
-    let alloc = rt.alloc();
-    same(
-        &rt,
-        answer(alloc, &doubling(alloc, 8)?)?.as_str(),
-        "start = element r { y }\ny = text\n",
-    );
-    same(
-        &rt,
-        answer(alloc, &doubling(alloc, 9)?)?.as_str(),
-        "Instances",
-    );
-    same(
-        &rt,
-        answer(alloc, &doubling(alloc, 40)?)?.as_str(),
-        "Instances",
-    );
-    same(
-        &rt,
-        answer(alloc, &tower(alloc, 511)?)?.as_str(),
-        "start = text\n",
-    );
-    same(
-        &rt,
-        answer(alloc, &tower(alloc, 512)?)?.as_str(),
-        "Instances",
-    );
-    Ok(())
+    let schema = "start = element r { y }\ny = text\n";
+    answers(&rt, doubling(rt.alloc(), 8)?, schema)?;
+    answers(&rt, doubling(rt.alloc(), 9)?, "Instances")?;
+    answers(&rt, doubling(rt.alloc(), 40)?, "Instances")?;
+    answers(&rt, tower(rt.alloc(), 511)?, "start = text\n")?;
+    answers(&rt, tower(rt.alloc(), 512)?, "Instances")
 }
 
 /// A text that so often holds a piece between a front and an end.
@@ -236,20 +232,23 @@ fn lists_are_long(rt: HostRuntime) -> Result<(), Fail> {
     Ok(())
 }
 
-#[test]
-fn a_name_is_combined_from_many_definitions(rt: HostRuntime) -> Result<(), Fail> {
-    let alloc = rt.alloc();
+/// So many definitions of x by `|=`, each with a value of its own.
+fn values(alloc: Global, count: usize) -> Result<String, Fail> {
     let mut text = String::from_str(alloc, "start = x ")?;
-    for number in 0..100_000 {
+    for number in 0..count {
         text.push_str(format!(in alloc; "x |= \"{number:06}\" ")?.as_str())?;
     }
-    let printed = merged(alloc, text.as_str())?;
-    assert!(rt;
-        printed
-            .as_str()
-            .contains("x = \"000000\" | \"000001\" | \"000002\"")
-    );
-    assert!(rt; printed.as_str().ends_with("| \"099999\"\n"));
+    Ok(text)
+}
+
+#[test]
+fn a_name_is_combined_from_many_definitions(rt: HostRuntime) -> Result<(), Fail> {
+    let text = values(rt.alloc(), 100_000)?;
+    let printed = merged(rt.alloc(), text.as_str())?;
+    drop(text);
+    let printed = printed.as_str();
+    assert!(rt; printed.contains("x = \"000000\" | \"000001\" | \"000002\""));
+    assert!(rt; printed.ends_with("| \"099999\"\n"));
     Ok(())
 }
 
@@ -293,22 +292,22 @@ fn ten_million_components_are_combined(rt: HostRuntime) -> Result<(), Fail> {
     Ok(())
 }
 
-#[test]
-fn overrides_are_nested(rt: HostRuntime) -> Result<(), Fail> {
-    let alloc = rt.alloc();
+/// Modules c000 to c`last`, each but the last overriding the x of the next; the last one defines the start.
+fn overriding(alloc: Global, last: usize) -> Result<ModuleSet, Fail> {
     let mut set = ModuleSet::new(alloc);
-    for number in 0..511 {
+    for number in 0..last {
         let next = number + 1;
         let text = format!(in alloc;
             "include \"c{next:03}\" {{ x = element e{number} {{ empty }} }}"
         )?;
         add_numbered(&mut set, alloc, number, text.as_str())?;
     }
-    add_numbered(&mut set, alloc, 511, "start = x x = text")?;
-    same(
-        &rt,
-        answer(alloc, &set)?.as_str(),
-        "start = x\nx = element e0 { empty }\n",
-    );
-    Ok(())
+    add_numbered(&mut set, alloc, last, "start = x x = text")?;
+    Ok(set)
+}
+
+#[test]
+fn overrides_are_nested(rt: HostRuntime) -> Result<(), Fail> {
+    let schema = "start = x\nx = element e0 { empty }\n";
+    answers(&rt, overriding(rt.alloc(), 511)?, schema)
 }

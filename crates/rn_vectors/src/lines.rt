@@ -2,10 +2,10 @@
 use crate::sets::same;
 use rn_assemble::{Key, Refusal};
 use rn_merge::{
-    Failed, Input, Job, Output, Place, ProgramFault, ReadFault, Sink, Source, fault_line,
-    list_line, plan, read_input, refusal_line, status, write_output,
+    Failed, Input, Job, Output, Place, ProgramFault, ReadFault, Sink, Source, fault_line, plan,
+    read_input, refusal_line, status, write_output,
 };
-use rn_modset::{AddFault, BundleFault, Contribution};
+use rn_modset::{AddFault, BundleFault};
 use std::alloc::Global;
 use std::process::Abort;
 use std::test::Fail;
@@ -331,27 +331,4 @@ fn refusal_lines_without_a_name(rt: HostRuntime) -> Result<(), Fail> {
     shows(&rt, Refusal::NoStart, "NoStart")?;
     shows(&rt, Refusal::OutputTooLarge, "OutputTooLarge")?;
     shows(&rt, Refusal::OutputTooDeep, "OutputTooDeep")
-}
-
-#[test]
-fn list_lines(rt: HostRuntime) -> Result<(), Fail> {
-    let alloc = rt.alloc();
-    let packed = Contribution {
-        name: text(alloc, "t")?,
-        revision: 7,
-        text: Some(Vec::from_slice(alloc, b"abc")?),
-    };
-    let line = "t 7 3 ba7816bf8f01cfea414140de5dae2223b00361a396177a9cb410ff61f20015ad";
-    same(&rt, list_line(alloc, &packed)?.as_str(), line);
-    let withdrawn = Contribution {
-        name: text(alloc, "lib")?,
-        revision: 2,
-        text: None,
-    };
-    same(
-        &rt,
-        list_line(alloc, &withdrawn)?.as_str(),
-        "lib 2 withdrawn",
-    );
-    Ok(())
 }

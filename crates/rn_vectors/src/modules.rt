@@ -44,26 +44,33 @@ fn nested(
     Ok(text)
 }
 
-/// Texts of brackets: what stands before them, a bracket, what is inside, its closing one, and the place in bytes of the one that is too deep.
-static BRACKETS: [(&str, &str, &str, &str, usize); 5] = [
-    ("start = ", "(", "text", ")", 264),
-    ("start = ", "list {", "text", "}", 8 + 256 * 6 + 5),
-    ("", "div {", "", "}", 256 * 5 + 4),
-    ("a ", "[", "", "]", 258),
-    ("start = ", "(", "", "", 264),
+/// Texts of brackets: what stands before them, a bracket, what is inside, its closing one, the place in bytes of the one that
+/// is too deep, and whether so many as are allowed make a module.
+static BRACKETS: [(&str, &str, &str, &str, usize, bool); 5] = [
+    ("start = ", "(", "text", ")", 264, true),
+    ("start = ", "list {", "text", "}", 8 + 256 * 6 + 5, true),
+    ("", "div {", "", "}", 256 * 5 + 4, true),
+    ("a ", "[", "", "]", 258, true),
+    ("start = ", "(", "", "", 264, false),
 ];
 
 #[test]
-fn deep_brackets(rt: HostRuntime) -> Result<(), Fail> {
-    for (front, open, inner, close, at) in &BRACKETS {
-        let good = nested(rt.alloc(), front, open, inner, close, 256)?;
-        let deep = nested(rt.alloc(), front, open, inner, close, 257)?;
-        let is_deep = fault(rt.alloc(), deep.as_str())? == Some(SyntaxFault::Deep { at: *at });
-        assert!(rt; is_deep, "{front}");
-        match fault(rt.alloc(), good.as_str())? {
-            None => {}
-            Some(fault) => assert!(rt; fault == SyntaxFault::Syntax { at: good.len() }),
-        }
+fn brackets_too_deep(rt: HostRuntime) -> Result<(), Fail> {
+    for (front, open, inner, close, at, _) in &BRACKETS {
+        let text = nested(rt.alloc(), front, open, inner, close, 257)?;
+        let found = fault(rt.alloc(), text.as_str())?;
+        assert!(rt; found == Some(SyntaxFault::Deep { at: *at }), "{front}");
+    }
+    Ok(())
+}
+
+#[test]
+fn deepest_brackets(rt: HostRuntime) -> Result<(), Fail> {
+    for (front, open, inner, close, _, is_module) in &BRACKETS {
+        let text = nested(rt.alloc(), front, open, inner, close, 256)?;
+        let found = fault(rt.alloc(), text.as_str())?;
+        let at_end = Some(SyntaxFault::Syntax { at: text.len() });
+        assert!(rt; found == if *is_module { None } else { at_end }, "{front}");
     }
     Ok(())
 }

@@ -185,20 +185,29 @@ static SPELLINGS: [(&str, &str); 17] = [
     ),
 ];
 
+/// The tables are named in these two functions alone: each function that names one is dearer to prove.
+fn patterns() -> &'static [(&'static str, &'static str)] {
+    &PATTERNS
+}
+
+fn spellings() -> &'static [(&'static str, &'static str)] {
+    &SPELLINGS
+}
+
 #[test]
 fn modules_print_their_schemas(rt: HostRuntime) -> Result<(), Fail> {
-    each_answers(&rt, &PATTERNS)?;
-    each_answers(&rt, &SPELLINGS)
+    each_answers(&rt, patterns())?;
+    each_answers(&rt, spellings())
 }
 
 #[test]
 fn printed_schemas_print_themselves_again(rt: HostRuntime) -> Result<(), Fail> {
-    each_prints_itself_again(&rt, &PATTERNS)?;
-    each_prints_itself_again(&rt, &SPELLINGS)
+    each_prints_itself_again(&rt, patterns())?;
+    each_prints_itself_again(&rt, spellings())
 }
 
 #[test]
 fn both_stores_print_the_same(rt: HostRuntime) -> Result<(), Fail> {
-    each_prints_in_both_stores(&rt, &PATTERNS)?;
-    each_prints_in_both_stores(&rt, &SPELLINGS)
+    each_prints_in_both_stores(&rt, patterns())?;
+    each_prints_in_both_stores(&rt, spellings())
 }

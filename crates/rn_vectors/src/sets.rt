@@ -1,6 +1,6 @@
 // Sets made from rows, and what a merge answers for them.
 use rn_assemble::assemble;
-use rn_merge::{merge, refusal_line};
+use rn_merge::{ProgramFault, fault_line, merge, refusal_line};
 use rn_modset::{AddFault, Contribution, ModuleSet, read_bundle, write_bundle};
 use rn_pattern::{Interned, Patterns, Plain};
 use rn_simplify::{normalise_in, print};
@@ -189,6 +189,13 @@ pub fn each_prints_itself_again(
         same_for(rt, set, again.as_str(), text.as_str());
     }
     Ok(())
+}
+
+/// The line of a fault.
+pub fn line_of(alloc: Global, fault: ProgramFault) -> Result<String, Fail> {
+    let line = fault_line(alloc, &fault);
+    drop(fault);
+    Ok(line?)
 }
 
 /// The lines behind the first one of a schema.

@@ -169,7 +169,9 @@ fn typed(alloc: Global, number: usize) -> Result<Pattern, AllocError> {
 
 /// An element of this name.
 fn element(alloc: Global, local: &str, content: Pattern) -> Result<Pattern, AllocError> {
-    Ok(Pattern::Element(name(alloc, "", local)?, Box::new(alloc, content)?))
+    let content = Box::new(alloc, content)?;
+    let class = name(alloc, "", local)?;
+    Ok(Pattern::Element(class, content))
 }
 
 /// Patterns in their order, of the numbers 0 to 16.

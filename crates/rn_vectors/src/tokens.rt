@@ -1,7 +1,8 @@
 // Tokens and literals by example, characters at the ends of their ranges, and long sources.
-use crate::sets::{same, same_count};
+use crate::sets::{same, same_count, same_for};
 use rn_text::{Kind, TextFault, Token, is_keyword, is_ncname, literal, tokens, write_literal};
 use std::alloc::Global;
+use std::process::Abort;
 use std::test::Fail;
 
 // The kinds, texts and places of a source's tokens, or its fault.
@@ -121,9 +122,7 @@ static SEGMENTS: [(&str, &str); 10] = [
 fn segments_are_read(rt: HostRuntime) -> Result<(), Fail> {
     let alloc = rt.alloc();
     for (segment, wanted) in &SEGMENTS {
-        let found = tokens(alloc, segment.as_bytes()).ok().ok_or("a fault")?;
-        let first = found.as_slice().first().ok_or("no token")?;
-        same(&rt, literal(alloc, first)?.as_str(), wanted);
+        same_for(&rt, segment, read_back(alloc, segment)?.as_str(), wanted);
     }
     Ok(())
 }
@@ -140,21 +139,31 @@ static LITERALS: [(&str, &str); 9] = [
     ("x\\\"x", "\"x\\\" ~ '\"' ~ \"x\""),
 ];
 
+// The literal of a text.
+fn written(alloc: Global, text: &str) -> Result<String, Fail> {
+    let mut out = String::new(alloc);
+    write_literal(&mut out, text)?;
+    Ok(out)
+}
+
+// The text of the segments of a source.
+fn read_back(alloc: Global, src: &str) -> Result<String, Fail> {
+    let mut read = String::new(alloc);
+    let found = tokens(alloc, src.as_bytes()).ok().ok_or("a fault")?;
+    for token in found.as_slice() {
+        if token.kind == Kind::Segment {
+            read.push_str(literal(alloc, token)?.as_str())?;
+        }
+    }
+    Ok(read)
+}
+
 #[test]
 fn literals_are_written(rt: HostRuntime) -> Result<(), Fail> {
     let alloc = rt.alloc();
-    for (text, wanted) in &LITERALS {
-        let mut out = String::new(alloc);
-        write_literal(&mut out, text)?;
-        same(&rt, out.as_str(), wanted);
-        let mut read = String::new(alloc);
-        let found = tokens(alloc, wanted.as_bytes()).ok().ok_or("a fault")?;
-        for token in found.as_slice() {
-            if token.kind == Kind::Segment {
-                read.push_str(literal(alloc, token)?.as_str())?;
-            }
-        }
-        same(&rt, read.as_str(), text);
+    for (text, literal) in &LITERALS {
+        same_for(&rt, text, written(alloc, text)?.as_str(), literal);
+        same_for(&rt, literal, read_back(alloc, literal)?.as_str(), text);
     }
     Ok(())
 }
@@ -188,6 +197,9 @@ static FURTHER: [(u32, u32); 6] = [
     (0x61, 0x7A),
 ];
 
+// Numbers of characters that stand in no name, most of them beside a range.
+static NO_NAME: [u32; 8] = [0x2C, 0x2F, 0x3A, 0xB6, 0xB8, 0x2041, 0x203E, 0xF0000];
+
 // Whether `front` and the character of this number are a name.
 fn is_name_with(alloc: Global, front: &str, number: u32) -> Result<bool, Fail> {
     let mut text = String::new(alloc);
@@ -198,22 +210,44 @@ fn is_name_with(alloc: Global, front: &str, number: u32) -> Result<bool, Fail> {
     Ok(is_ncname(text.as_str()))
 }
 
+// The characters of these numbers stand behind `front` in a name, or don't.
+fn stand(
+    rt: &(impl Abort + AllocGlobal),
+    front: &str,
+    numbers: &[u32],
+    wanted: bool,
+) -> Result<(), Fail> {
+    for number in numbers {
+        let is_name = is_name_with(rt.alloc(), front, *number)?;
+        assert!(rt; is_name == wanted, "{front} and {number}");
+    }
+    Ok(())
+}
+
+#[test]
+fn names_begin_in_their_ranges(rt: HostRuntime) -> Result<(), Fail> {
+    for (first, last) in &STARTS {
+        stand(&rt, "", &[*first, *last], true)?;
+        stand(
+            &rt,
+            "",
+            &[first.saturating_sub(1), last.saturating_add(1)],
+            false,
+        )?;
+    }
+    Ok(())
+}
+
 #[test]
 fn names_end_at_their_ranges(rt: HostRuntime) -> Result<(), Fail> {
-    let alloc = rt.alloc();
-    for (first, last) in &STARTS {
-        assert!(rt; is_name_with(alloc, "", *first)?);
-        assert!(rt; is_name_with(alloc, "", *last)?);
-        assert!(rt; !is_name_with(alloc, "", first.saturating_sub(1))?);
-        assert!(rt; !is_name_with(alloc, "", last.saturating_add(1))?);
-    }
     for (first, last) in &FURTHER {
-        assert!(rt; is_name_with(alloc, "a", *first)?);
-        assert!(rt; is_name_with(alloc, "a", *last)?);
+        stand(&rt, "a", &[*first, *last], true)?;
     }
-    for number in [0x2C, 0x2F, 0x3A, 0xB6, 0xB8, 0x2041, 0x203E, 0xF0000] {
-        assert!(rt; !is_name_with(alloc, "a", number)?);
-    }
+    stand(&rt, "a", &NO_NAME, false)
+}
+
+#[test]
+fn names_and_keywords_are_told(rt: HostRuntime) -> Result<(), Fail> {
     assert!(rt; !is_ncname(""));
     assert!(rt; !is_ncname("a:b"));
     assert!(rt; is_keyword("notAllowed"));
