@@ -14,6 +14,19 @@ use thiserror::Error;
 /// The word for standard input.
 const STANDARD_INPUT: &str = "-";
 
+/// One file or more, the last word of a command.
+const FILES: &str = "FILE..";
+
+/// The commands, each with its words by place.
+const COMMANDS: [(&str, &[&str]); 6] = [
+    ("pack", &["NAME", "REV", "FILE"]),
+    ("withdraw", &["NAME", "REV"]),
+    ("join", &[FILES]),
+    ("list", &[FILES]),
+    ("print", &[FILES]),
+    ("check", &["FILE"]),
+];
+
 /// What the program is to do. A file is a path, or `-` for standard input.
 #[derive(Debug, Drop, PartialEq, Eq)]
 pub enum Job {
@@ -134,40 +147,32 @@ pub fn plan(alloc: Global, words: &[String]) -> Result<Job, ProgramFault>
 
 /// The commands and their words.
 fn program<'a>(alloc: Global) -> Result<Command<'a>, AllocError> {
-    Command::new(alloc, "rnc-merge")
+    let mut program = Command::new(alloc, "rnc-merge")
         .no_binary_name(true)
-        .subcommand_required(true)
-        .subcommand(with_words(alloc, "pack", ["NAME", "REV", "FILE"].as_slice())?)?
-        .subcommand(with_words(alloc, "withdraw", ["NAME", "REV"].as_slice())?)?
-        .subcommand(with_files(alloc, "join")?)?
-        .subcommand(with_files(alloc, "list")?)?
-        .subcommand(with_files(alloc, "print")?)?
-        .subcommand(with_words(alloc, "check", ["FILE"].as_slice())?)
+        .subcommand_required(true);
+    for (name, words) in COMMANDS {
+        program = program.subcommand(command(alloc, name, words)?)?;
+    }
+    Ok(program)
 }
 
 /// A command of these words.
-fn with_words<'a>(
-    alloc: Global,
-    name: &'a str,
-    places: &[&'a str],
-) -> Result<Command<'a>, AllocError> {
+fn command<'a>(alloc: Global, name: &'a str, words: &[&'a str]) -> Result<Command<'a>, AllocError> {
     let mut command = Command::new(alloc, name);
-    for place in places {
-        let word = Arg::new(alloc, *place)
-            .required(true)
-            .action(ArgAction::Set);
-        command = command.arg(word)?;
+    for word in words {
+        command = command.arg(argument(alloc, word))?;
     }
     Ok(command)
 }
 
-/// A command of one file or more.
-fn with_files<'a>(alloc: Global, name: &'a str) -> Result<Command<'a>, AllocError> {
-    let files = Arg::new(alloc, "FILE")
-        .required(true)
-        .num_args(1..)
-        .action(ArgAction::Append);
-    Command::new(alloc, name).arg(files)
+/// The word of a command at a place, which may be several files at the last.
+fn argument<'a>(alloc: Global, word: &'a str) -> Arg<'a> {
+    let argument = Arg::new(alloc, word).required(true);
+    if word == FILES {
+        argument.num_args(1..).action(ArgAction::Append)
+    } else {
+        argument.action(ArgAction::Set)
+    }
 }
 
 /// What a command asks for with its words.
@@ -225,11 +230,11 @@ fn decimal(text: &str) -> Option<u64> {
     }
 }
 
-/// The words `FILE`, of which one at most is standard input.
+/// The words `FILE..`, of which one at most is standard input.
 fn files(alloc: Global, words: &ArgMatches<'_>) -> Result<Vec<String>, ProgramFault>
     ensures { IfOk result (λ files. AreFiles (map string_bytes files.items)) }
 {
-    let Some(files) = words.get_strs("FILE") else {
+    let Some(files) = words.get_strs(FILES) else {
         return Err(ProgramFault::Usage);
     };
     if files.is_empty() {
