@@ -1,5 +1,5 @@
 -- What stands for a set is what stands for its modules.
-use Rattle.std.proofs.Common.{◌≡◌, List, subst, sym}
+use Rattle.std.proofs.Common.{◌≡◌, List, subst}
 use Rattle.std.specs.Prelude.{MatchOption, Option, Some, None}
 use Rattle.rn_pattern.specs.Matching.{Grammar}
 use Rattle.rn_modset.specs.Contributions.{Member}
@@ -9,7 +9,7 @@ use Rattle.rn_assemble.specs.declared.refusal.Refusal as code
 use Rattle.rn_assemble.specs.declared.refusal.Refusal.TheVariants as r
 use Rattle.rn_assemble.specs.Checked.{IsGrammarOf}
 use Rattle.rn_assemble.specs.Components.{Source}
-use Rattle.rn_assemble.specs.Refusal.{Refusal, conflict, faulty, rank, AreModules, IsAssembled, IsFaulty, IsFirst, IsFirstFor, Stands, StandsFor}
+use Rattle.rn_assemble.specs.Refusal.{Refusal, conflict, faulty, AreModules, IsAssembled, IsFaulty, IsFirst, IsFirstFor, Stands, StandsFor}
 use Rattle.rn_assemble.specs.Refused.{refusal_view, IsFirstOfModules, IsFirstRefusal}
 use Rattle.rn_assemble.proofs.NoRefusal.{stands}
 use Rattle.rn_assemble.proofs.OneSet.{one_effective, one_modules}

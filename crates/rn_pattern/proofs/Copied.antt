@@ -1,5 +1,5 @@
 -- What is copied stands for the same.
-use Rattle.std.proofs.Common.{◌≡◌, List, [], ◌∷◌, map, Option, Some, None, refl, sym, ap}
+use Rattle.std.proofs.Common.{◌≡◌, List, [], ◌∷◌, Option, Some, None, refl}
 use Rattle.std.specs.Prelude.{String, string_bytes, Vec}
 use Rattle.std.specs.List.{AllZip}
 use Rattle.std.specs.Option.{option_map}

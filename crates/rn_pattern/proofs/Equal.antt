@@ -1,11 +1,10 @@
 -- Nodes whose parts the order does not tell apart are equal.
-use Rattle.std.proofs.Common.{◌≡◌, ℕ, Bool, true, false, ◌&&◌, nat_eq, List, [], ◌∷◌, map, refl, sym, ap, ◌∙◌, Ordering, Less, Equal, Greater, nat_cmp}
-use Rattle.std.specs.Bool.{Decides}
+use Rattle.std.proofs.Common.{◌≡◌, Bool, true, false, ◌&&◌, nat_eq, List, [], ◌∷◌, refl, sym, ap, ◌∙◌, Ordering, Less, Equal, Greater, nat_cmp}
 use Rattle.std.specs.Ordering.{ordering_then}
 use Rattle.std.specs.Cmp.Lexicographic.{slice_cmp, pointwise, pointwise_decides}
 use Rattle.std.proofs.lemmas.Cmp.{ranked, tied_itself, nat_cmp_total, nat_list_cmp_total, lists_total}
-use Rattle.rn_pattern.specs.Tree.{Text, Parameters, NameTree, NameTrees, no_names, name_choice}
-use Rattle.rn_pattern.specs.Order.{text_cmp, parameters_cmp, name_cmp, names_cmp}
+use Rattle.rn_pattern.specs.Tree.{NameTree, NameTrees, no_names, name_choice}
+use Rattle.rn_pattern.specs.Order.{text_cmp, parameters_cmp, names_cmp}
 use Rattle.rn_pattern.specs.Key.{Key, key_eq, key_decides, number_decides, text_decides, parameter_decides, names_decides}
 use Rattle.rn_pattern.proofs.Orders.{text_same, parameters_same, name_same}
 use Rattle.rn_pattern.proofs.TotalOrder.{parameters_total, name_cmp_total}

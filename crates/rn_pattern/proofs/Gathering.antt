@@ -7,7 +7,7 @@ use Rattle.std.specs.Prelude.{IfSome, MatchOption}
 use Rattle.rn_pattern.specs.Tree.{Tree, NameTree, name_trees_of}
 use Rattle.rn_pattern.specs.Canonical.{canonical_name, canonical_names}
 use Rattle.rn_pattern.specs.Lists.{members_by}
-use Rattle.rn_pattern.specs.Nodes.{knows, tree_at, NamesBelow}
+use Rattle.rn_pattern.specs.Nodes.{knows, tree_at}
 use Rattle.rn_pattern.specs.Store.{node_view}
 use Rattle.rn_pattern.specs.declared.connector.Connector.{Connector}
 use Rattle.rn_pattern.specs.declared.node.Node.{Node}

@@ -1,5 +1,5 @@
 -- What is hashed of a list, entry by entry.
-use Rattle.std.proofs.Common.{◌≡◌, ◌<◌, ◌+◌, ◌++◌, ℕ, List, [], ◌∷◌, length, map, take, get_or, flat_map, fold, refl, sym, ap, ◌∙◌}
+use Rattle.std.proofs.Common.{◌≡◌, ◌<◌, ◌+◌, ◌++◌, ℕ, List, [], ◌∷◌, length, take, get_or, flat_map, fold, refl, ap, ◌∙◌}
 use Rattle.std.specs.Hash.{fed_then}
 use Rattle.rn_pattern.specs.Tree.{NameTree, name_trees_of}
 use Rattle.rn_pattern.specs.Key.{name_writes, names_writes}

@@ -1,5 +1,5 @@
 -- However the members of a list are paired up, and of a choice or an interleave in whatever order, the same is matched.
-use Rattle.std.proofs.Common.{◌≡◌, ◌↔◌, inl, inr, ⊎_elim, List, [], ◌∷◌, ◌++◌, sym, subst}
+use Rattle.std.proofs.Common.{◌≡◌, ◌↔◌, inl, inr, ⊎_elim, List, ◌++◌, sym, subst}
 use Rattle.std.specs.Prelude.{IsPermutation}
 use Rattle.rn_pattern.specs.Tree.{Tree, Trees, group, interleave, choice, no_trees, more_trees, list_of, trees_of}
 use Rattle.rn_pattern.specs.Document.{Attribute, Item}

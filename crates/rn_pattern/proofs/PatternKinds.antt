@@ -1,5 +1,5 @@
 -- The trees of patterns, and their order where the kinds differ.
-use Rattle.std.proofs.Common.{◌≡◌, ◌<◌, ℕ, List, [], ◌∷◌, map, Option, Some, None, refl, sym, ap, subst, ◌∙◌, arith, Ordering, Less, Equal, Greater, nat_cmp}
+use Rattle.std.proofs.Common.{◌≡◌, List, [], ◌∷◌, map, Option, Some, None, refl, sym, ap, ◌∙◌, arith, Ordering, Equal, nat_cmp}
 use Rattle.std.specs.Prelude.{Box, String, string_bytes, Vec}
 use Rattle.std.specs.Ordering.{ordering_then}
 use Rattle.std.specs.declared.alloc.Global.{Global}

@@ -1,15 +1,14 @@
 -- The parts of a node are those of its tree.
-use Rattle.std.proofs.Common.{◌≡◌, ◌<◌, ◌≤◌, ◌+◌, ℕ, zero, suc, List, [], ◌∷◌, map, length, take, drop, get_or, All, Option, Some, None, refl, sym, ap, ◌∙◌, subst, arith, Ordering, Less, Equal, Greater, nat_cmp}
-use Rattle.std.specs.Prelude.{String, string_bytes, string_cmp, option_to_list}
+use Rattle.std.proofs.Common.{◌≡◌, ◌<◌, ℕ, List, [], ◌∷◌, map, drop, All, Option, Some, None, refl, sym, ap, ◌∙◌, subst, Ordering, Equal, nat_cmp}
+use Rattle.std.specs.Prelude.{String, string_cmp}
 use Rattle.std.proofs.lemmas.List.Elements.{All-nil, All-cons}
 use Rattle.std.specs.declared.alloc.Global.{Global}
 use Rattle.rn_pattern.specs.declared.tree.NameClass.{NameClass}
 use Rattle.rn_pattern.specs.View.{parameters_view}
 use Rattle.std.specs.Ordering.{ordering_then}
 use Rattle.std.specs.Cmp.Lexicographic.{slice_cmp}
-use Rattle.rn_pattern.specs.Tree as tree
-use Rattle.rn_pattern.specs.Tree.{Tree, Trees, no_trees, more_trees, trees_of, not_allowed, empty, text, ref, value, datum, datum_but, list, attribute, element, one_or_more, group, interleave, choice}
-use Rattle.rn_pattern.specs.Order.{rank, text_cmp, parameters_cmp, names_cmp, tree_cmp, trees_cmp, name_cmp}
+use Rattle.rn_pattern.specs.Tree.{Tree, trees_of, not_allowed, empty, text, ref, value, datum, datum_but, list, attribute, element, one_or_more, group, interleave, choice}
+use Rattle.rn_pattern.specs.Order.{rank, text_cmp, parameters_cmp, names_cmp, tree_cmp, trees_cmp}
 use Rattle.rn_pattern.specs.Store.{node_view}
 use Rattle.rn_pattern.specs.Nodes.{NamesBelow, node_rank, node_texts, node_parameters, node_class, node_members}
 use Rattle.rn_pattern.specs.Shown.{texts_in, parameters_in, names_in, members_in, class_view, ShowsTree}

@@ -1,5 +1,5 @@
 -- A list of one name class, and any other.
-use Rattle.std.proofs.Common.{◌≡◌, ℕ, suc, List, [], ◌∷◌, ◌++◌, length, map, refl, sym, ap, ◌∙◌, arith}
+use Rattle.std.proofs.Common.{◌≡◌, List, [], ◌∷◌, ◌++◌, length, refl, ap, arith}
 use Rattle.std.proofs.lemmas.List.{length_push}
 use Rattle.rn_pattern.specs.Tree.{NameTree, name_choice, name_trees_of}
 use Rattle.rn_pattern.specs.Canonical.{name_class_of}

@@ -1,12 +1,13 @@
 -- A sort by what the entries stand for sorts what they stand for.
-use Rattle.std.proofs.Common.{◌≡◌, ◌+◌, ◌<◌, ◌≤◌, ℕ, zero, suc, Bool, true, false, cond, List, [], ◌∷◌, length, map, get_or, refl, sym, ap, ◌∙◌, arith, Ordering, Less, Equal, Greater, Bor}
+use Rattle.std.proofs.Common.{◌≡◌, ◌+◌, Bool, true, false, cond, List, [], ◌∷◌, map, get_or, refl, sym, ap, ◌∙◌, arith, Ordering, Less, Equal, Greater, Bor}
 use Rattle.std.specs.Ordering.{is_lt, is_eq}
 use Rattle.std.specs.Cmp.{IsTotalOrder, IsStrictWeakOrder}
 use Rattle.std.specs.Fn.{ComparesAs, Called}
 use Rattle.std.specs.Prelude.{IsPermutation, IsSortedBy}
 use Rattle.std.specs.List.{dedup, dedup_from}
+use Rattle.std.specs.List.Retain.{IsDeduped}
 use Rattle.std.proofs.lemmas.Cmp.{tied_itself}
-use Rattle.std.proofs.lemmas.Fn.{always_returns_same}
+use Rattle.std.proofs.lemmas.Fn.{always_returns_same, dedup_same}
 use Rattle.std.proofs.lemmas.List.{get_or-map, length-map}
 use Rattle.std.proofs.lemmas.List.Sorted.{IsPermutation-map, ranks_by}
 use denote.Param.Members.{Mut}
@@ -47,6 +48,11 @@ module _ {X Y : Type 0} (R : X → X → Ordering) (o : IsTotalOrder R) (one : (
   map-dedup : (xs : List Y) → map at (dedup same_at xs) ≡ dedup (λ p q. is_eq (R p q)) (map at xs)
   map-dedup [] = refl
   map-dedup (x ∷ xs) = map-dedup_from x xs
+
+  pub ids_deduped : {F : Type 0} {D : F → Y → Y → Bool → F → Y → Y → Type 0} {f : F} (ys zs : List Y) → IsDeduped D f ys zs
+      → ((x y : Y) (b : Bool) (f' : F) (x' y' : Y) → D f x y b f' x' y' → (b ≡ same_at x y) × (f' ≡ f) × (x' ≡ x) × (y' ≡ y))
+      → zs ≡ dedup same_at ys
+  ids_deduped {D = D} {f = f} ys zs d h = dedup_same D same_at f h ys zs d
 
   -- a sort, and then a dedup
   pub ids_sorted_once : (xs ys zs : List Y) → map at ys ≡ sorted R (map at xs) → zs ≡ dedup same_at ys → map at zs ≡ sorted_once R (map at xs)

@@ -1,7 +1,7 @@
 -- The ids of a store are the places of its trees, each once.
-use Rattle.std.specs.Prelude.{◌≡◌, ◌<◌, ℕ, List, length, map, slice_index_or, IsTrue}
+use Rattle.std.specs.Prelude.{◌≡◌, ◌<◌, ℕ, List, length, map, slice_index_or}
 use Rattle.std.specs.List.{range_with_len}
-use Rattle.std.proofs.Common.{refl, sym, ap, ◌∙◌, subst, zero-add}
+use Rattle.std.proofs.Common.{sym, ap, ◌∙◌, subst, zero-add}
 use Rattle.std.proofs.Math.Nat.{lt_trans, ne_of_lt}
 use Rattle.std.proofs.lemmas.Bool.{lt-ltb, ltb-true}
 use Rattle.std.proofs.lemmas.List.FromFn.{length-map-range_with_len, get_or-map-range_with_len}

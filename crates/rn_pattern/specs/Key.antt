@@ -6,7 +6,6 @@ use Rattle.std.specs.Cmp.{IsEquivalence, decided, on_equiv, first_so, second_so,
 use Rattle.std.specs.Cmp.Lexicographic.{pointwise, pointwise_decides, bytes_decides}
 use Rattle.std.specs.Hash as fed
 use mathlib.Core.Path.{refl, ap, subst}
-use mathlib.Core.Bool.{true≢false}
 use Rattle.rn_pattern.specs.Tree as tree
 use Rattle.rn_pattern.specs.Tree.{Text, Parameters, Tree, NameTree, NameTrees, any_name, any_name_but, ns_name, ns_name_but, name, name_choice, no_names, more_names}
 use Rattle.rn_pattern.specs.View.{parameters_view}

@@ -1,5 +1,5 @@
 -- The trees of a list of nodes, each of which names earlier ones by their places.
-use Rattle.std.specs.Prelude.{◌≡◌, ◌++◌, ◌∷◌, [], ℕ, ◌+◌, ◌<◌, List, All, length, slice_index_or, nat_lt, Bool, ⊤, Option, Some, None}
+use Rattle.std.specs.Prelude.{◌++◌, ◌∷◌, [], ℕ, ◌+◌, ◌<◌, List, All, length, slice_index_or, nat_lt, Bool, ⊤, Option, Some, None}
 use Rattle.std.specs.Coded.{×_prop, Π_prop, Unit-prop, le_prop}
 use Rattle.rn_pattern.specs.Tree as tree
 use Rattle.rn_pattern.specs.Tree.{Text, Tree}

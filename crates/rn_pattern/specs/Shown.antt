@@ -1,8 +1,7 @@
 -- The parts of a pattern that the order compares in turn.
 use Rattle.std.specs.Prelude.{◌≡◌, ◌<◌, ℕ, List, [], ◌∷◌, map, All, Option, Some, None, String}
-use Rattle.std.specs.declared.cmp.Ordering.{Ordering}
 use Rattle.std.specs.declared.alloc.Global.{Global}
-use Rattle.rn_pattern.specs.Tree.{Text, Parameters, NameTrees, no_names, more_names, Tree, Trees, not_allowed, empty, text, ref, value, datum, datum_but, list, attribute, element, one_or_more, group, interleave, choice, no_trees, more_trees, trees_of}
+use Rattle.rn_pattern.specs.Tree.{Text, Parameters, NameTrees, no_names, more_names, Tree, Trees, ref, value, datum, datum_but, list, attribute, element, one_or_more, group, interleave, choice, no_trees, more_trees, trees_of}
 use Rattle.rn_pattern.specs.Order.{rank}
 use Rattle.rn_pattern.specs.View.{name_class_view, parameters_view}
 use Rattle.rn_pattern.specs.declared.tree.NameClass.{NameClass}

@@ -1,6 +1,5 @@
 -- What the ids of a store of patterns stand for.
-use Rattle.std.specs.Prelude.{◌≡◌, ◌≢◌, ◌↔◌, ◌⊎◌, AllPairs, Contains, ◌++◌, ◌∷◌, [], ℕ, ◌<◌, List, All, map, length, slice_index_or, nat_lt, Bool, IsTrue, Option, Some, None, String, string_bytes, Vec, ⊤}
-use Rattle.std.specs.declared.alloc.Global.{Global}
+use Rattle.std.specs.Prelude.{◌≡◌, ◌≢◌, ◌↔◌, ◌⊎◌, AllPairs, Contains, ℕ, List, map, length, Bool, IsTrue, Option, Some, None, string_bytes}
 use Rattle.rn_pattern.specs.Tree as tree
 use Rattle.rn_pattern.specs.Tree.{Text, Parameters, Tree, trees_of}
 use Rattle.rn_pattern.specs.Canonical.{datum_but_step}

@@ -1,5 +1,5 @@
 -- The trees that a `NameClass` and a `Pattern` stand for.
-use Rattle.std.specs.Prelude.{List, map, Option, Some, None, String, string_bytes, Vec, Box}
+use Rattle.std.specs.Prelude.{List, map, Option, Some, None, String, string_bytes, Box}
 use Rattle.std.specs.declared.alloc.Global.{Global}
 use Rattle.std.specs.declared.rc.Rc.{Rc}
 use Rattle.rn_pattern.specs.Tree as tree

@@ -1,12 +1,12 @@
 -- A name class rebuilt from the canonical forms of its parts.
-use Rattle.std.proofs.Common.{Some, sym, ap, ◌∙◌}
+use Rattle.std.proofs.Common.{sym, ap, ◌∙◌}
 use Rattle.rn_pattern.specs.Tree as tree
 use Rattle.rn_pattern.specs.Canonical.{canonical_name}
 use Rattle.rn_pattern.specs.View.{name_class_view}
 use Rattle.rn_pattern.specs.declared.tree.NameClass.TheViews as class
 use Rattle.rn_pattern.specs.Canonical.{names_within}
-use Rattle.std.proofs.Common.{map, flat_map, ◌++◌, arith}
-use Rattle.std.proofs.lemmas.List.{take_all, map-append}
+use Rattle.std.proofs.Common.{map, flat_map, arith}
+use Rattle.std.proofs.lemmas.List.{take_all}
 use Rattle.rn_pattern.proofs.Gathering.{flat_map-more, flat_map-through, canonical_names-list}
 use Rattle.rn_pattern.proofs.Seen.{any_name_but_seen, ns_name_but_seen}
 use Rattle.rn_pattern.proofs.+canonical_name.Goals as goal
@@ -31,3 +31,9 @@ tree::NameClass::canonical-returns-in_ok-new-in-Some-except t c =
     ns_name_but_seen c.in_ok-clone-in-Some-except.field-0 c.in_ok-new-in-Some-except.field-0
     ∙ (λ i. tree.ns_name_but (c.in_ok-clone-in-Some-except.ensures.cases i) (inner i))
     ∙ sym (ap (λ n. canonical_name (name_class_view n)) (c.in-NsName.is ∙ ap (class.NsName c.in-NsName.uri) c.in-Some-except.is) ∙ ap canonical_name (ns_name_but_seen c.in-NsName.uri c.in-Some-except.except))
+
+pub name_class::canonical_members-loop-class-preserved : goal.name_class::canonical_members-loop-class-preserved
+name_class::canonical_members-loop-class-preserved t c =
+    let seen = c.in_ok-canonical.ensures ∙ ap (λ n. canonical_name (name_class_view n)) c.class-item.is in
+    c.in_ok-push_members.ensures
+    ∙ flat_map-more (λ n. names_within (canonical_name (name_class_view n))) c.args.classes.now c.loop-class.class-index c.class-item.result c.loop-class-test.true (map name_class_view c.loop-class.members.items) c.loop-class.invariant (names_within (name_class_view c.in_ok-canonical.field-0)) (ap names_within seen)

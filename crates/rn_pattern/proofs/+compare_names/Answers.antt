@@ -1,5 +1,5 @@
 -- The members one by one.
-use Rattle.std.proofs.Common.{◌≡◌, ◌≤◌, ◌<◌, length, map, sym, ◌∙◌, arith}
+use Rattle.std.proofs.Common.{◌+◌, ◌≤◌, ◌<◌, length, map, sym, ◌∙◌, arith}
 use Rattle.rn_pattern.specs.Order.{name_cmp}
 use Rattle.rn_pattern.specs.View.{name_class_view}
 use Rattle.rn_pattern.proofs.Stepwise.{names_cmp-name_trees_of, rest_longer, rest_shorter, rest_level, rest_settled, rest_tied}
@@ -32,3 +32,10 @@ order::compare_name_classes-returns-else-cs-ds t c =
     let all : length xs ≤ c.loop-k.k = omega arith in
     let level : length ys ≤ c.loop-k.k = omega arith in
     sym (names_cmp-name_trees_of (map name_class_view xs) (map name_class_view ys) ∙ c.loop-k.invariant.1 ∙ rest_level name_cmp name_class_view xs ys c.loop-k.k all level)
+
+pub order::compare_name_classes-loop-k-preserved : goal.order::compare_name_classes-loop-k-preserved
+order::compare_name_classes-loop-k-preserved t c =
+    let xs = c.args.cs.now in
+    let ys = c.args.ds.now in
+    let more : c.loop-k.k + 1 ≤ length ys = omega arith in
+    (more, c.loop-k.invariant.1 ∙ rest_tied name_cmp name_class_view xs ys c.loop-k.k c.index-cs-k.result c.index-ds-k.result c.cmp.result c.loop-k-test.true c.if-k-ds.false (c.cmp.ensures ∙ (λ i. name_cmp (name_class_view (c.index-cs-k.is i)) (name_class_view (c.index-ds-k.is i)))) c.in-Equal.is)

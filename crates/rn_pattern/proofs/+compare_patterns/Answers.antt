@@ -1,5 +1,5 @@
 -- The members one by one.
-use Rattle.std.proofs.Common.{◌≡◌, ◌≤◌, ◌<◌, length, map, sym, ◌∙◌, arith}
+use Rattle.std.proofs.Common.{◌+◌, ◌≤◌, ◌<◌, length, map, sym, ◌∙◌, arith}
 use Rattle.rn_pattern.specs.Order.{tree_cmp}
 use Rattle.rn_pattern.specs.View.{pattern_view, shared_view}
 use Rattle.rn_pattern.proofs.Stepwise.{trees_cmp-trees_of, rest_longer, rest_shorter, rest_level, rest_settled, rest_tied}
@@ -112,3 +112,10 @@ tree::Pattern::cmp-returns-in_default t c =
       | tree::Pattern::cmp-in_default-via-in-Choice+in_default w ↦ by_rank ∙ ranks_apart (pattern_view self) (pattern_view other) (λ e. not_choice other w.in_default.not-Choice-1 (sym e ∙ ap (λ n. rank (pattern_view n)) w.in_default.is-0 ∙ rank_choice w.in_default.field-0-0))
       | tree::Pattern::cmp-in_default-via-in_default w ↦ by_rank ∙ plain_order (pattern_view self) (pattern_view other) (not_ref self w.in_default.not-Ref-0) (not_value self w.in_default.not-Value-0) (not_datum self w.in_default.not-Datum-0) (not_list self w.in_default.not-List-0) (not_attribute self w.in_default.not-Attribute-0) (not_element self w.in_default.not-Element-0) (not_oneormore self w.in_default.not-OneOrMore-0) (not_group self w.in_default.not-Group-0) (not_interleave self w.in_default.not-Interleave-0) (not_choice self w.in_default.not-Choice-0)
     ]
+
+pub order::compare_patterns-loop-k-preserved : goal.order::compare_patterns-loop-k-preserved
+order::compare_patterns-loop-k-preserved t c =
+    let xs = c.args.ps.now in
+    let ys = c.args.qs.now in
+    let more : c.loop-k.k + 1 ≤ length ys = omega arith in
+    (more, c.loop-k.invariant.1 ∙ rest_tied tree_cmp shared_view xs ys c.loop-k.k c.index-ps-k.result c.index-qs-k.result c.cmp.result c.loop-k-test.true c.if-k-qs.false (c.cmp.ensures ∙ (λ i. tree_cmp (pattern_view (c.deref.ensures i)) (pattern_view (c.deref-in-loop-k.ensures i))) ∙ (λ i. tree_cmp (shared_view (c.index-ps-k.is i)) (shared_view (c.index-qs-k.is i)))) c.in-Equal.is)

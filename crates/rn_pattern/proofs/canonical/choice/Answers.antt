@@ -1,5 +1,13 @@
+use Rattle.std.proofs.Common.{ap, ◌∙◌}
+use Rattle.rn_pattern.specs.Canonical.{node_of, sorted_once}
 use Rattle.rn_pattern.specs.Nodes.{trees_of_nodes}
+use Rattle.rn_pattern.specs.Order.{tree_cmp}
+use Rattle.rn_pattern.specs.Tree.{choice, not_allowed}
 use Rattle.rn_pattern.proofs.canonical.choice.Goals as goal
+
+pub returns-clause-tree : goal.returns-clause-tree
+returns-clause-tree c = c.listed.ensures.tree (trees_of_nodes c.args.nodes.now.nodes.now)
+    ∙ ap (node_of not_allowed choice) (c.in_ok-members-2.ensures.sorted ∙ ap (sorted_once tree_cmp) c.in_ok-members.ensures.members)
 
 pub returns-clause-stored : goal.returns-clause-stored
 returns-clause-stored c = c.listed.ensures.stored (trees_of_nodes c.args.nodes.now.nodes.now) c.in_ok-members-2.ensures.known

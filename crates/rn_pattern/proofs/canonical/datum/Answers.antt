@@ -1,10 +1,16 @@
 -- The parts of a datatype, copied.
-use Rattle.std.proofs.Common.{◌∙◌}
-use Rattle.rn_pattern.specs.Nodes.{tree_at, trees_of_nodes}
+use Rattle.std.proofs.Common.{List, Option, Some, None, IsTrue, ◌∙◌, length}
+use Rattle.std.specs.Prelude.{IfSome, String, Vec}
+use Rattle.std.specs.declared.alloc.Global.{Global}
+use Rattle.rn_pattern.specs.Tree.{Tree}
+use Rattle.rn_pattern.specs.declared.node.Node.{Node}
+use Rattle.rn_pattern.specs.declared.node.NodeId.{NodeId}
+use Rattle.rn_pattern.specs.Nodes.{NamesBelow, knows, tree_at, trees_of_nodes}
 use Rattle.rn_pattern.specs.Store.{datum_by}
 use Rattle.rn_pattern.specs.View.{parameters_view}
 use Rattle.std.specs.Option.{option_map}
 use Rattle.rn_pattern.proofs.Copied.{datum_seen, parameters_copied}
+use Rattle.rn_pattern.proofs.NodeTrees.{knows_place}
 use Rattle.rn_pattern.proofs.canonical.datum.Goals as goal
 
 pub returns-clause-tree : goal.returns-clause-tree
@@ -14,3 +20,11 @@ returns-clause-tree c =
     datum_seen at c.in_ok-library.library c.in_ok-type_name.type_name c.in_ok-params.params c.excepted.result
     ∙ (λ i. datum_by (c.in_ok-library.ensures.ok i) (c.in_ok-type_name.ensures.ok i) (params i) (option_map at c.excepted.result))
     ∙ c.excepted.ensures.tree c.args.library.now c.args.type_name.now (parameters_view c.args.params.now)
+
+datum_below : (ts : List Tree) (l x : String Global) (ps : Vec (String Global × String Global) Global) (e : Option NodeId) → IfSome e (λ i. IsTrue (knows ts i)) → NamesBelow (length ts) (Node.Datum l x ps e)
+datum_below ts l x ps None h = tt
+datum_below ts l x ps (Some i) h = knows_place ts i h
+
+pub returns-clause-stored : goal.returns-clause-stored
+returns-clause-stored c =
+    datum_below (trees_of_nodes c.args.nodes.now.nodes.now) c.in_ok-library.library c.in_ok-type_name.type_name c.in_ok-params.params c.excepted.result c.excepted.ensures.known

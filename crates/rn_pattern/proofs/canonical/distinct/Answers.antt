@@ -1,5 +1,5 @@
 -- The same patterns, by ids that are each there once.
-use Rattle.std.proofs.Common.{◌≡◌, Bool, nat_eq, map, IsTrue, sym, ap, ◌∙◌, true}
+use Rattle.std.proofs.Common.{Bool, nat_eq, map, IsTrue, sym, ap, ◌∙◌}
 use Rattle.std.proofs.lemmas.List.Sorted.{All-permutation, IsPermutation-map}
 use Rattle.std.proofs.lemmas.List.Filters.{All-dedup, dedup_is}
 use Rattle.std.proofs.lemmas.List.Elements.{All-same}

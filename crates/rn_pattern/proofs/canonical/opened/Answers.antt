@@ -1,5 +1,5 @@
 -- One more part in the members.
-use Rattle.std.proofs.Common.{map, flat_map, ap, ◌∙◌, arith}
+use Rattle.std.proofs.Common.{flat_map, ap, ◌∙◌, arith}
 use Rattle.std.proofs.lemmas.List.{take_all}
 use Rattle.rn_pattern.specs.Lists.{members_by}
 use Rattle.rn_pattern.specs.Nodes.{tree_at, trees_of_nodes}

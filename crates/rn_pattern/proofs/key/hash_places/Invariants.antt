@@ -1,4 +1,4 @@
-use Rattle.std.proofs.Common.{◌≡◌, flat_map, fold, take, ◌++◌}
+use Rattle.std.proofs.Common.{◌≡◌, flat_map, fold, take}
 use Rattle.std.specs.Hash as fed
 use Rattle.rn_pattern.proofs.key.hash_places.Given as goal
 

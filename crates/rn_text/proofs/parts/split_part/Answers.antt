@@ -37,3 +37,15 @@ returns-in_err-after_symbol-clause-cases c =
 
 pub returns-then-is_name_start-clause-cases : goal.returns-then-is_name_start-clause-cases
 returns-then-is_name_start-clause-cases c = c.split_named-kind.ensures.cases
+
+pub returns-then-is_delimiter-clause-cases : goal.returns-then-is_delimiter-clause-cases
+returns-then-is_delimiter-clause-cases c = c.in_ok-after_segment.ensures.cases
+
+pub returns-in_err-after_segment-clause-cases : goal.returns-in_err-after_segment-clause-cases
+returns-in_err-after_segment-clause-cases c = let h = c.in_err-after_segment.ensures.cases in search (rules, h)
+
+pub returns-then-first-eq92-clause-cases : goal.returns-then-first-eq92-clause-cases
+returns-then-first-eq92-clause-cases c = c.in_ok-after_quoted.ensures.cases
+
+pub returns-in_err-after_quoted-clause-cases : goal.returns-in_err-after_quoted-clause-cases
+returns-in_err-after_quoted-clause-cases c = let h = c.in_err-after_quoted.ensures.cases in search (rules, h)

@@ -1,4 +1,4 @@
-use Rattle.std.proofs.Common.{◌≡◌, ◌+◌, ◌<◌, ◌≤◌, ℕ, Bool, true, false, cond, List, length, get_or, suc, take, drop, refl, sym, ap, ◌∙◌, subst, arith}
+use Rattle.std.proofs.Common.{◌≡◌, ◌+◌, ◌<◌, ◌≤◌, ℕ, Bool, true, false, cond, List, length, get_or, take, refl, sym, ap, ◌∙◌, subst, arith}
 use Rattle.std.specs.Prelude.{count_by}
 use Rattle.std.specs.Option.{option_map_or}
 use Rattle.std.proofs.lemmas.Bool.{false≢true}
@@ -6,7 +6,7 @@ use Rattle.std.proofs.lemmas.List.{take_all}
 use Rattle.std.proofs.lemmas.List.Sums.{count_by_more_yes, count_by_more_no, sum_by-take-drop}
 use Rattle.rn_assemble.specs.Components.{Component}
 use Rattle.rn_assemble.specs.Combine.{is_plain}
-use Rattle.rn_assemble.specs.Graph.{rows_of, row}
+use Rattle.rn_assemble.specs.Graph.{rows_of}
 use Rattle.rn_assemble.proofs.UsedMethods.{at_row, row_size, parts}
 use Rattle.rn_assemble.proofs.components.Components.is_plain_twice.Goals as goal
 use Rattle.rn_assemble.proofs.components.Components.is_plain_twice.Goals.{then-is_found+else-is_plain, else-is_found}

@@ -1,5 +1,5 @@
 -- The heads, and then the ids.
-use Rattle.std.proofs.Common.{◌≡◌, nat_eq, Equal, nat_cmp, sym, ap, ◌∙◌, map}
+use Rattle.std.proofs.Common.{◌≡◌, nat_eq, nat_cmp, sym, ◌∙◌, map}
 use Rattle.std.specs.Ordering.{ordering_then}
 use Rattle.std.specs.Cmp.Lexicographic.{slice_cmp, pointwise}
 use Rattle.std.specs.Cmp.Derive.Mapped.{pointwise-map}

@@ -1,9 +1,9 @@
 -- The heads, then the members one by one.
-use Rattle.std.proofs.Common.{◌≡◌, ◌≤◌, ◌<◌, length, get_or, sym, ap, ◌∙◌, arith}
+use Rattle.std.proofs.Common.{◌+◌, ◌≤◌, ◌<◌, length, get_or, sym, ap, ◌∙◌, arith}
 use Rattle.rn_pattern.specs.Nodes.{tree_at, trees_of_nodes}
 use Rattle.rn_pattern.specs.declared.node.NodeId.{NodeId}
 use Rattle.rn_pattern.proofs.ShownTrees.{tree_cmp-settled, tree_cmp-by_members}
-use Rattle.rn_pattern.proofs.Stepwise.{rest_longer, rest_shorter, rest_level, rest_settled}
+use Rattle.rn_pattern.proofs.Stepwise.{rest_longer, rest_shorter, rest_level, rest_settled, rest_tied}
 use Rattle.rn_pattern.proofs.TotalOrder.{tree_cmp_total}
 use Rattle.rn_pattern.specs.Tree as tree
 use Rattle.rn_pattern.specs.Order.{tree_cmp}
@@ -58,3 +58,12 @@ pub returns-then-a-b : goal.returns-then-a-b
 returns-then-a-b t c =
     let ts = trees_of_nodes c.args.self.now.nodes.now in
     sym (tied_itself tree_cmp_total (tree_at ts c.args.a)) ∙ ap (λ k. tree_cmp (tree_at ts c.args.a) (get_or ts k tree.not_allowed)) c.if-a-b.true
+
+pub loop-k-preserved : goal.loop-k-preserved
+loop-k-preserved t c =
+    let at = tree_at (trees_of_nodes c.args.self.now.nodes.now) in
+    let d : NodeId = record { 0 = 0 } in
+    let xs = c.parts-x.result.members.now in
+    let ys = c.parts-y.result.members.now in
+    let more : c.loop-k.k + 1 ≤ length ys = omega arith in
+    (more, c.loop-k.invariant.1 ∙ rest_tied tree_cmp at xs ys c.loop-k.k d d c.compare.result c.loop-k-test.true c.if-k-y.false c.compare.ensures c.in-Equal-compare.is)

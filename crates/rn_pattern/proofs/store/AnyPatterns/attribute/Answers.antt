@@ -1,16 +1,13 @@
 -- The canonical step keeps what is matched.
-use Rattle.std.proofs.Common.{map, ◌≡◌, Option}
-use Rattle.std.specs.Option.{option_map}
 use Rattle.rn_pattern.specs.Tree as tree
 use Rattle.rn_pattern.specs.Tree.{Tree, trees_of}
-use Rattle.rn_pattern.specs.Canonical.{choice_step, group_step, interleave_step, list_step, one_or_more_step, attribute_step, canonical_name}
-use Rattle.rn_pattern.specs.Store.{datum_by, datum_step}
-use Rattle.rn_pattern.specs.View.{name_class_view, parameters_view}
+use Rattle.rn_pattern.specs.Canonical.{attribute_step, canonical_name}
+use Rattle.rn_pattern.specs.View.{name_class_view}
 use Rattle.rn_pattern.specs.Nodes.{knows, tree_at, trees_of_nodes}
 use Rattle.rn_pattern.specs.Reduced.{reduced_tree}
 use Rattle.rn_pattern.specs.declared.node.NodeId.{NodeId}
-use Rattle.rn_pattern.proofs.Constructors.{choice_means, group_means, interleave_means, list_means, one_or_more_means, attribute_means}
-use Rattle.rn_pattern.proofs.Meanings.{means_by, over_store, datum_means}
+use Rattle.rn_pattern.proofs.Constructors.{attribute_means}
+use Rattle.rn_pattern.proofs.Meanings.{means_by, over_store}
 use Rattle.rn_pattern.proofs.store.AnyPatterns.attribute.Goals as goal
 
 pub returns-clause-means : goal.returns-clause-means
