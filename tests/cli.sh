@@ -212,6 +212,21 @@ if [ -w /dev/full ]; then
     done
 fi
 
+# ---- memory
+printf '#!/usr/bin/env bash\nulimit -v 32768 && exec "%s" "$@"\n' "$program" >starved
+chmod +x starved
+{ printf 'start = text' && yes '| text' | head -n 590000; } >choice.rnc
+made choice.set pack a 1 choice.rnc
+row 'a choice of 590,001 members' 0 "${head_line}start = text\n" '' print choice.set
+whole=$program
+program=./starved
+row 'two bundles in 32 MiB' 0 "$schema" '' print a.set b.set
+row 'too little memory for a schema' 3 '' 'Memory\n' print choice.set
+row 'a damaged bundle before memory runs out' 1 '' 'bundle 0 Digest 0\n' print digest.set choice.set
+row 'too little memory to check a text' 3 '' 'Memory\n' check choice.rnc
+row 'too little memory to read a file' 3 '' 'Memory\n' print large
+program=$whole
+
 # ---- usage
 usage() {
     row "usage: $*" 2 '' 'usage\n' "$@"

@@ -1,0 +1,195 @@
+#!/usr/bin/env python3
+"""Refuses each request for memory of the program in turn.
+
+tests/want-of-memory/run.py PROGRAM: runs each job of a table with its first request for memory refused, then its second, and so on until a
+run asks no further, each once alone and once with all requests behind it. A run in which a request was refused ends with status 3, the line
+`Memory` on standard error and nothing on standard output, also where another fault stands; or, where the request alone was refused and then
+made again, with the job's own answer, as the first run without a refusal does. Needs Python 3, a C compiler (`cc`) and a system that loads a library before a program (LD_PRELOAD). Nothing here is in the gate.
+"""
+import itertools
+import os
+import subprocess
+import sys
+import tempfile
+
+HERE = os.path.dirname(os.path.abspath(__file__))
+FIRST_LINE = 'default namespace = ""\n'
+WANT = (3, b"", b"Memory\n")
+
+
+def schema(*lines):
+    """The answer of a run that prints these lines behind the first one."""
+    return 0, (FIRST_LINE + "".join(line + "\n" for line in lines)).encode(), b""
+
+
+def refused(line, status=1):
+    """The answer of a run with a fault."""
+    return status, b"", (line + "\n").encode()
+
+
+def halves(last):
+    """Modules m0 to the last one, each of which includes the next twice."""
+    modules = {f"m{i}": f'include "m{i + 1}" include "m{i + 1}"' for i in range(last)}
+    modules["m0"] += " start = element r { y }"
+    return {**modules, f"m{last}": "y |= text"}
+
+
+# Sets by their modules' texts, and what is printed of each.
+SETS = [
+    (
+        {"a": "start = doc doc |= element b { text }", "b": "doc |= element a { empty }"},
+        schema("start = doc", "doc = element a { empty } | element b { text }"),
+    ),
+    (
+        {"a": "start = element r { x } x &= element a { empty }", "b": "x &= element a { empty }"},
+        schema("start = element r { x }", "x = element a { empty } & element a { empty }"),
+    ),
+    ({"a": "x = text", "b": "x = text start = x"}, refused("PlainTwice x")),
+    ({"a": "x = text", "b": "x |= empty", "c": "x &= text"}, refused("MixedMethods x")),
+    ({}, refused("NoStart")),
+    (
+        {"main": 'include "lib" include "lib" start = element r { y }', "lib": "y |= text"},
+        schema("start = element r { y }", "y = text"),
+    ),
+    ({"a": "x = empty start = element r { x, (x | text)* }"}, schema("start = element r { (text?)* }")),
+    ({"a": "start = a a = a | element x { empty }"}, refused("Recursive a")),
+    ({"main": 'include "lib" { z = text } start = text', "lib": "y = empty"}, refused("Override main z")),
+    ({"main": 'include "gone" start = text'}, refused('Missing main "gone"')),
+    ({"a": 'include "a" start = text'}, refused("Cycle a")),
+    (
+        {"main": 'default namespace = "u" include "lib" start = p', "lib": "p = element p { empty }"},
+        schema('namespace n1 = "u"', "start = p", "p = element n1:p { empty }"),
+    ),
+    ({"a": "start = text a = b"}, refused("Undefined b")),
+    (
+        {
+            "a": "start = element r { attribute id { xsd:ID }?, (b & a)+ } a = element a { empty } "
+            'b = element b { string - string "no" }'
+        },
+        schema(
+            "start = element r { attribute id { xsd:ID }?, (a & b)+ }",
+            "a = element a { empty }",
+            'b = element b { string - string "no" }',
+        ),
+    ),
+    ({"a": 'start = element r { """a"b\nc""" }'}, schema("start = element r { \"a\" ~ '\"' ~ \"b\\x{A}c\" }")),
+    (
+        {"a": 'datatypes d = "http://e/lib" start = element a { d:t { k = "v" } }'},
+        schema('datatypes d1 = "http://e/lib"', 'start = element a { d1:t { k = "v" } }'),
+    ),
+    ({"a": "start = element a { attribute xmlns { text } }"}, refused("NameClass start")),
+    (halves(8), schema("start = element r { y }", "y = text")),
+    (halves(9), refused("Instances")),
+]
+
+# Texts of modules, and the answer of a check.
+TEXTS = [
+    (b"abc", refused("Syntax 3")),
+    (b"start = element a { , }", refused("Syntax 20")),
+    (b"", (0, b"", b"")),
+    (b"start = " + 257 * b"(", refused("Deep 264")),
+    (b"start = text\xff", refused("Encoding 12")),
+    (b'start = "\\x{22}"', refused("Lexical 8")),
+    (b"start = element p:a { text }", refused("Prefix 16")),
+    (b'a = string - ("x"*)', refused("Except 11")),
+]
+
+DIGEST = "ba7816bf8f01cfea414140de5dae2223b00361a396177a9cb410ff61f20015ad"
+ONE = f"rncset 1\nmodule t 7 3 {DIGEST}\nabc\nend 1\n".encode()
+GONE = b"rncset 2\nwithdrawn t 6\nend 1\n"
+BOTH = f"rncset 2\nwithdrawn t 6\nmodule t 7 3 {DIGEST}\nabc\nend 2\n".encode()
+
+# Words with the bytes of the files named in them, and the answer.
+JOBS = [
+    (["pack", "t", "7", "text"], {"text": b"abc"}, (0, ONE, b"")),
+    (["pack", "a b", "7", "text"], {"text": b"abc"}, refused("BadName")),
+    (["withdraw", "t", "6"], {}, (0, GONE, b"")),
+    (["join", "one", "gone"], {"one": ONE, "gone": GONE}, (0, BOTH, b"")),
+    (["join", "one", "cut"], {"one": ONE, "cut": ONE[:-1]}, refused("bundle 1 Truncated")),
+    (["list", "both"], {"both": BOTH}, (0, f"t 6 withdrawn\nt 7 3 {DIGEST}\n".encode(), b"")),
+    (["print", "one", "none"], {"one": ONE}, refused("read 1", 3)),
+    (["print", "-", "-"], {}, refused("usage: -", 2)),
+    (["pack", "t", "07", "text"], {}, refused("usage: REV", 2)),
+    (["zap"], {}, refused("usage", 2)),
+]
+
+
+def run(words, room, refuse=None):
+    """The status, the output and the standard error of a run in a folder, and whether it was refused memory."""
+    environment, reading, writing = dict(os.environ), *os.pipe()
+    if refuse:
+        number, goes_on, shim = refuse
+        environment.update(LD_PRELOAD=shim, REFUSE=str(number), REFUSE_TO=str(writing), **({"REFUSE_ON": "1"} if goes_on else {}))
+    ended = subprocess.run(words, cwd=room, env=environment, pass_fds=[writing], stdin=subprocess.DEVNULL, capture_output=True)
+    os.close(writing)
+    with os.fdopen(reading, "rb") as told:
+        was_refused = told.read() != b""
+    return (ended.returncode, ended.stdout, ended.stderr), was_refused
+
+
+def tried(words, room, wanted, shim, goes_on):
+    """How many requests a job makes, how many of them it can do without, and what is wrong with the first run that isn't as it must be."""
+    spared = 0
+    for number in itertools.count(1):
+        found, was_refused = run(words, room, (number, goes_on, shim))
+        if not was_refused:
+            return number - 1, spared, None if found == wanted else f"answered {found}"
+        if found == wanted and not goes_on:
+            spared += 1
+        elif found != WANT:
+            return number, spared, f"request {number}{' and all behind it' if goes_on else ''} refused: answered {found}"
+
+
+def is_well(program, words, room, wanted, shim):
+    """Tries a job in both ways and prints a line of it. Whether each run was as it must be."""
+    requests, spared, wrong = tried([program, *words], room, wanted, shim, False)
+    wrong = wrong or tried([program, *words], room, wanted, shim, True)[2]
+    answer = (wanted[1] or wanted[2]).decode().splitlines()[-1:]
+    print(f"{'FAILED ' if wrong else ''}{' '.join(words)} {answer}: {wrong or f'{requests} requests, {spared} of them spared'}")
+    return not wrong
+
+
+def bundle(program, room, name, modules):
+    """Writes the bundle of modules into a file of this name, as the program makes it."""
+    made = []
+    for module, text in modules.items():
+        with open(f"{room}/text", "w", encoding="utf-8", newline="") as out:
+            out.write(text)
+        made.append(f"{room}/{module}.set")
+        with open(made[-1], "wb") as out:
+            subprocess.run([program, "pack", module, "1", f"{room}/text"], stdout=out, check=True)
+    if not made:
+        with open(f"{room}/none.set", "wb") as out:
+            out.write(b"rncset 1\nend 0\n")
+        made = [f"{room}/none.set"]
+    with open(f"{room}/{name}", "wb") as out:
+        subprocess.run([program, "join", *made], stdout=out, check=True)
+
+
+def jobs(program, room):
+    """The words and the answer of each job; what it reads is written into the folder before."""
+    for number, (modules, wanted) in enumerate(SETS):
+        bundle(program, room, f"set{number}", modules)
+        yield ["print", f"set{number}"], wanted
+    for number, (text, wanted) in enumerate(TEXTS):
+        with open(f"{room}/text{number}", "wb") as out:
+            out.write(text)
+        yield ["check", f"text{number}"], wanted
+    for words, files, wanted in JOBS:
+        for name, content in files.items():
+            with open(f"{room}/{name}", "wb") as out:
+                out.write(content)
+        yield words, wanted
+
+
+def main():
+    program = os.path.abspath(sys.argv[1])
+    with tempfile.TemporaryDirectory() as room:
+        shim = f"{room}/refuse.so"
+        subprocess.run(["cc", "-O1", "-shared", "-fPIC", "-o", shim, f"{HERE}/refuse.c", "-ldl"], check=True)
+        well = [is_well(program, words, room, wanted, shim) for words, wanted in jobs(program, room)]
+    print(f"{sum(well)} passed, {len(well) - sum(well)} failed")
+    sys.exit(not all(well))
+
+
+main()
