@@ -1,51 +1,63 @@
-// Loaded before a program (LD_PRELOAD), refuses requests for memory: of those that the program makes, counted from 1, the one
-// of the number REFUSE, or with REFUSE_ON also all behind it. At the first one refused a byte goes to the file descriptor
-// REFUSE_TO.
+// Loaded before a program (LD_PRELOAD), refuses requests for memory. They are counted from 1: all of them, or, with REFUSE_BEGIN
+// and REFUSE_END, those behind a request for as many bytes as the one says and before the next for as many as the other. The one
+// of the number REFUSE is refused, with REFUSE_ON all behind it too. At the first one that is refused a byte goes to the file
+// descriptor REFUSE_TO.
 #define _GNU_SOURCE
 #include <dlfcn.h>
 #include <errno.h>
 #include <stdlib.h>
 #include <unistd.h>
 
-static long made, first, goes_on, to;
+static size_t first, begin, end, made;
+static int goes_on, counts, to;
 
-__attribute__((constructor)) static void read_environment(void) {
-    const char *number = getenv("REFUSE"), *descriptor = getenv("REFUSE_TO");
-    goes_on = getenv("REFUSE_ON") != NULL;
-    to = descriptor ? atol(descriptor) : -1;
-    first = number ? atol(number) : 0;
+static size_t number_of(const char *name) {
+    const char *value = getenv(name);
+    return value ? strtoul(value, NULL, 10) : 0;
 }
 
-static int is_refused(void) {
-    if (first == 0)
+__attribute__((constructor)) static void read_environment(void) {
+    first = number_of("REFUSE");
+    begin = number_of("REFUSE_BEGIN");
+    end = number_of("REFUSE_END");
+    goes_on = getenv("REFUSE_ON") != NULL;
+    to = (int)number_of("REFUSE_TO");
+    counts = first && !begin;
+}
+
+static int is_refused(size_t size) {
+    if (first && begin && (size == begin || size == end)) {
+        counts = size == begin;
+        return 0;
+    }
+    if (!counts)
         return 0;
     made++;
-    if (made == first && to >= 0 && write((int)to, "r", 1) != 1)
+    if (made == first && write(to, "r", 1) != 1)
         abort();
-    if (made == first || (goes_on && made > first)) {
-        errno = ENOMEM;
-        return 1;
-    }
-    return 0;
+    if (made < first || (made > first && !goes_on))
+        return 0;
+    errno = ENOMEM;
+    return 1;
 }
 
 void *malloc(size_t size) {
     static void *(*real)(size_t);
     if (!real)
         real = (void *(*)(size_t))dlsym(RTLD_NEXT, "malloc");
-    return is_refused() ? NULL : real(size);
+    return is_refused(size) ? NULL : real(size);
 }
 
 void *calloc(size_t count, size_t size) {
     static void *(*real)(size_t, size_t);
     if (!real)
         real = (void *(*)(size_t, size_t))dlsym(RTLD_NEXT, "calloc");
-    return is_refused() ? NULL : real(count, size);
+    return is_refused(count * size) ? NULL : real(count, size);
 }
 
 void *realloc(void *block, size_t size) {
     static void *(*real)(void *, size_t);
     if (!real)
         real = (void *(*)(void *, size_t))dlsym(RTLD_NEXT, "realloc");
-    return is_refused() ? NULL : real(block, size);
+    return is_refused(size) ? NULL : real(block, size);
 }

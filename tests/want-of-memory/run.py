@@ -1,10 +1,12 @@
 #!/usr/bin/env python3
-"""Refuses each request for memory of the program in turn.
+"""Refuses each request for memory in turn: the program's, and those of each call by itself.
 
-tests/want-of-memory/run.py PROGRAM: runs each job of a table with its first request for memory refused, then its second, and so on until a
-run asks no further, each once alone and once with all requests behind it. A run in which a request was refused ends with status 3, the line
-`Memory` on standard error and nothing on standard output, also where another fault stands; or, where the request alone was refused and then
-made again, with the job's own answer, as the first run without a refusal does. Needs Python 3, a C compiler (`cc`) and a system that loads a library before a program (LD_PRELOAD). Nothing here is in the gate.
+tests/want-of-memory/run.py PROGRAM [TESTS]: runs each job of a table with its first request for memory refused, then its second, and so on
+until a run asks no further, each once alone and once with all requests behind it. A run in which a request was refused ends with status 3, the
+line `Memory` on standard error and nothing on standard output, also where another fault stands; or, where the request alone was refused and
+then made again, with the job's own answer, as the first run without a refusal does. TESTS is the tests' program: in each of its tests named
+`memory` or `layers` the requests between the marks are refused in the same way, and the test tells whether a call answered so.
+Needs Python 3, a C compiler (`cc`) and a system that loads a library before a program (LD_PRELOAD). Nothing here is in the gate.
 """
 import itertools
 import os
@@ -15,6 +17,8 @@ import tempfile
 HERE = os.path.dirname(os.path.abspath(__file__))
 FIRST_LINE = 'default namespace = ""\n'
 WANT = (3, b"", b"Memory\n")
+# The marks of the tests, in bytes.
+MARKS = {"REFUSE_BEGIN": "7654321", "REFUSE_END": "7654322"}
 
 
 def schema(*lines):
@@ -114,12 +118,12 @@ JOBS = [
 ]
 
 
-def run(words, room, refuse=None):
-    """The status, the output and the standard error of a run in a folder, and whether it was refused memory."""
-    environment, reading, writing = dict(os.environ), *os.pipe()
-    if refuse:
-        number, goes_on, shim = refuse
-        environment.update(LD_PRELOAD=shim, REFUSE=str(number), REFUSE_TO=str(writing), **({"REFUSE_ON": "1"} if goes_on else {}))
+def run(words, room, shim, number, goes_on, marks):
+    """The status, the output and the standard error of a run in a folder with a request refused, and whether it came to that request."""
+    reading, writing = os.pipe()
+    environment = {**os.environ, **marks, "LD_PRELOAD": shim, "REFUSE": str(number), "REFUSE_TO": str(writing)}
+    if goes_on:
+        environment["REFUSE_ON"] = "1"
     ended = subprocess.run(words, cwd=room, env=environment, pass_fds=[writing], stdin=subprocess.DEVNULL, capture_output=True)
     os.close(writing)
     with os.fdopen(reading, "rb") as told:
@@ -127,26 +131,38 @@ def run(words, room, refuse=None):
     return (ended.returncode, ended.stdout, ended.stderr), was_refused
 
 
-def tried(words, room, wanted, shim, goes_on):
-    """How many requests a job makes, how many of them it can do without, and what is wrong with the first run that isn't as it must be."""
+def tried(words, room, shim, is_own, is_want, goes_on, marks):
+    """How many requests a job makes, how many of them it can spare, and what is wrong with the first run that isn't as it must be."""
     spared = 0
     for number in itertools.count(1):
-        found, was_refused = run(words, room, (number, goes_on, shim))
+        found, was_refused = run(words, room, shim, number, goes_on, marks)
         if not was_refused:
-            return number - 1, spared, None if found == wanted else f"answered {found}"
-        if found == wanted and not goes_on:
+            return number - 1, spared, None if is_own(found) else f"answered {found}"
+        if is_own(found) and not goes_on:
             spared += 1
-        elif found != WANT:
+        elif not is_want(found):
             return number, spared, f"request {number}{' and all behind it' if goes_on else ''} refused: answered {found}"
 
 
-def is_well(program, words, room, wanted, shim):
+def is_well(name, words, room, shim, is_own, is_want, marks):
     """Tries a job in both ways and prints a line of it. Whether each run was as it must be."""
-    requests, spared, wrong = tried([program, *words], room, wanted, shim, False)
-    wrong = wrong or tried([program, *words], room, wanted, shim, True)[2]
-    answer = (wanted[1] or wanted[2]).decode().splitlines()[-1:]
-    print(f"{'FAILED ' if wrong else ''}{' '.join(words)} {answer}: {wrong or f'{requests} requests, {spared} of them spared'}")
+    requests, spared, wrong = tried(words, room, shim, is_own, is_want, False, marks)
+    wrong = wrong or tried(words, room, shim, is_own, is_want, True, marks)[2]
+    print(f"{'FAILED ' if wrong else ''}{name}: {wrong or f'{requests} requests, {spared} of them spared'}", flush=True)
     return not wrong
+
+
+def is_test_well(program, test, room, shim):
+    """Tries a test of calls: it passes, and tells that a call was refused if a request was."""
+    is_own = (0, b"answered\n", b"").__eq__
+    is_want = (0, b"refused\n", b"").__eq__
+    return is_well(test, [program, test], room, shim, is_own, is_want, MARKS)
+
+
+def tests_of(program):
+    """The names of the tests of calls whose memory is refused."""
+    listed = subprocess.run([program, "--list"], check=True, capture_output=True, text=True).stdout
+    return [line.split(":test")[0] for line in listed.splitlines() if line.startswith(("memory::", "layers::"))]
 
 
 def bundle(program, room, name, modules):
@@ -187,7 +203,12 @@ def main():
     with tempfile.TemporaryDirectory() as room:
         shim = f"{room}/refuse.so"
         subprocess.run(["cc", "-O1", "-shared", "-fPIC", "-o", shim, f"{HERE}/refuse.c", "-ldl"], check=True)
-        well = [is_well(program, words, room, wanted, shim) for words, wanted in jobs(program, room)]
+        well = []
+        for words, wanted in jobs(program, room):
+            name = f"{' '.join(words)} {(wanted[1] or wanted[2]).decode().splitlines()[-1:]}"
+            well.append(is_well(name, [program, *words], room, shim, wanted.__eq__, WANT.__eq__, {}))
+        for tests in map(os.path.abspath, sys.argv[2:]):
+            well += [is_test_well(tests, test, room, shim) for test in tests_of(tests)]
     print(f"{sum(well)} passed, {len(well) - sum(well)} failed")
     sys.exit(not all(well))
 

@@ -10,7 +10,8 @@ use std::alloc::Global;
 use std::process::Abort;
 use std::test::Fail;
 
-const ONE: &str =
+/// The bundle of one text.
+pub const ONE: &str =
     "rncset 1\nmodule t 7 3 ba7816bf8f01cfea414140de5dae2223b00361a396177a9cb410ff61f20015ad\nabc\nend 1\n";
 
 /// The line of what is wrong with a bundle, or `good`.

@@ -14,7 +14,11 @@ mod grammars;
 #[cfg(test)]
 mod large;
 #[cfg(test)]
+mod layers;
+#[cfg(test)]
 mod lines;
+#[cfg(test)]
+mod memory;
 #[cfg(test)]
 mod modules;
 #[cfg(test)]

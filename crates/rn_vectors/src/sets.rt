@@ -1,5 +1,5 @@
 // Sets made from rows, and what a merge answers for them.
-use rn_assemble::assemble;
+use rn_assemble::{Refusal, assemble};
 use rn_merge::{ProgramFault, fault_line, merge, refusal_line};
 use rn_modset::{AddFault, Contribution, ModuleSet, read_bundle, write_bundle};
 use rn_pattern::{Interned, Patterns, Plain};
@@ -144,8 +144,8 @@ pub fn merged(alloc: Global, text: &str) -> Result<String, Fail> {
 }
 
 /// The answer of a merge, as rows write it.
-pub fn answer(alloc: Global, set: &ModuleSet) -> Result<String, Fail> {
-    match merge(alloc, set) {
+pub fn shown(alloc: Global, answer: Result<String, Refusal>) -> Result<String, Fail> {
+    match answer {
         Ok(text) => lines_of(alloc, text.as_str()),
         Err(refusal) => {
             let line = refusal_line(alloc, &refusal);
@@ -153,6 +153,11 @@ pub fn answer(alloc: Global, set: &ModuleSet) -> Result<String, Fail> {
             Ok(line?)
         }
     }
+}
+
+/// What a merge answers for a set, as rows write it.
+pub fn answer(alloc: Global, set: &ModuleSet) -> Result<String, Fail> {
+    shown(alloc, merge(alloc, set))
 }
 
 /// The same for one module.

@@ -9,7 +9,8 @@ fn text(alloc: Global, s: &str) -> Result<String, AllocError> {
     String::from_str(alloc, s)
 }
 
-fn name(alloc: Global, uri: &str, local: &str) -> Result<NameClass, AllocError> {
+/// A name of a namespace.
+pub fn name(alloc: Global, uri: &str, local: &str) -> Result<NameClass, AllocError> {
     Ok(NameClass::Name(text(alloc, uri)?, text(alloc, local)?))
 }
 

@@ -11,22 +11,24 @@ use std::alloc::Global;
 use std::process::Abort;
 use std::test::Fail;
 
-const A: &str = "@a\nstart = doc doc |= element b { text }";
+/// Two sets, and the schema of both.
+pub const A: &str = "@a\nstart = doc doc |= element b { text }";
 
-const B: &str = "@b\ndoc |= element a { empty }";
+pub const B: &str = "@b\ndoc |= element a { empty }";
 
-const PRINTED: &str =
+pub const PRINTED: &str =
     "default namespace = \"\"\nstart = doc\ndoc = element a { empty } | element b { text }\n";
 
 /// A sink in memory that fails once it has taken as many bytes as it has room for.
 #[derive(Drop)]
-struct Room {
-    taken: Vec<u8>,
+pub struct Room {
+    pub taken: Vec<u8>,
     room: usize,
     failed: bool,
 }
 
-fn sink_of(alloc: Global, room: usize) -> Room
+/// A sink with room for so many bytes, of which it holds none yet.
+pub fn sink_of(alloc: Global, room: usize) -> Room
     ensures { result.failed ≡ false }
 {
     Room {
@@ -111,7 +113,7 @@ impl Source for Bytes {
 }
 
 /// The bundles of one contribution each.
-fn bundles(alloc: Global, given: &[&str]) -> Result<Vec<Vec<u8>>, Fail> {
+pub fn bundles(alloc: Global, given: &[&str]) -> Result<Vec<Vec<u8>>, Fail> {
     let mut bundles = Vec::new(alloc);
     for one in given {
         let set = written_set(alloc, one)?;

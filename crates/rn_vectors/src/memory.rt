@@ -1,0 +1,295 @@
+// Calls on sets, texts, bundles and lines, with their requests for memory refused in turn by what tests/want-of-memory loads
+// before the tests' program. A call that is refused answers want of memory, in its own type, and leaves what it was lent.
+// Without a refusal, as in the gate, it gives its own answer. Each test tells whether a call was refused.
+use crate::bundles::ONE;
+use crate::large::repeated;
+use crate::sets::{contribution, held, line_of, same, same_bytes, shown, written_set};
+use crate::streams::{A, B, PRINTED, bundles, sink_of};
+use rn_assemble::Refusal;
+use rn_merge::{
+    Place, ProgramFault, RunFault, Status, check, fault_line, list_line, merge, refusal_line,
+    run_print,
+};
+use rn_modset::{AddFault, BundleFault, ModuleSet, read_bundle, write_bundle};
+use rn_text::{literal, tokens, write_literal};
+use std::alloc::{AllocError, Global};
+use std::process::Abort;
+use std::test::Fail;
+
+/// Requests for so many bytes, which nothing else makes, are marks: the requests behind the first mark and before the second
+/// are those that are refused.
+pub const BEGIN: usize = 7_654_321;
+
+pub const END: usize = 7_654_322;
+
+/// Makes a mark.
+pub fn mark(alloc: Global, bytes: usize) {
+    let room: Result<Vec<u8>, AllocError> = Vec::with_capacity(alloc, bytes);
+    drop(room);
+}
+
+/// Tells whether a call was refused.
+pub fn tell(rt: &HostRuntime, is_refused: bool) -> Result<(), Fail> {
+    let told = if is_refused { "refused" } else { "answered" };
+    println!(rt; "{told}")?;
+    Ok(())
+}
+
+/// Sets, and what a merge answers for them.
+static MERGES: [(&str, &str); 13] = [
+    (
+        "@a\nstart = doc doc |= element b { text }@b\ndoc |= element a { empty }",
+        "start = doc\ndoc = element a { empty } | element b { text }\n",
+    ),
+    (
+        "@a\nstart = element r { x } x &= element a { empty }@b\nx &= element a { empty }",
+        "start = element r { x }\nx = element a { empty } & element a { empty }\n",
+    ),
+    ("@a\nx = text@b\nx = text start = x", "PlainTwice x"),
+    ("@a\nx = text@b\nx |= empty@c\nx &= text", "MixedMethods x"),
+    (
+        "@main\ninclude \"lib\" include \"lib\" start = element r { y }@lib\ny = empty",
+        "PlainTwice y",
+    ),
+    (
+        "@main\ninclude \"lib\" include \"lib\" start = element r { y }@lib\ny |= text",
+        "start = element r { y }\ny = text\n",
+    ),
+    (
+        "x = empty start = element r { x, (x | text)* }",
+        "start = element r { (text?)* }\n",
+    ),
+    (
+        "@main\ninclude \"lib\" { z = text } start = text@lib\ny = empty",
+        "Override main z",
+    ),
+    (
+        "@main\ninclude \"gone\" start = text",
+        "Missing main \"gone\"",
+    ),
+    ("include \"a\" start = text", "Cycle a"),
+    (
+        "start = element r { attribute id { xsd:ID }?, (b & a)+ } a = element a { empty } b = element b { string - string \"no\" }",
+        "start = element r { attribute id { xsd:ID }?, (a & b)+ }\na = element a { empty }\nb = element b { string - string \"no\" }\n",
+    ),
+    (
+        "@m0\ninclude \"m1\" include \"m1\" start = element r { y }@m1\ninclude \"m2\" include \"m2\"@m2\ninclude \"m3\" include \"m3\"@m3\ninclude \"m4\" include \"m4\"@m4\ninclude \"m5\" include \"m5\"@m5\ninclude \"m6\" include \"m6\"@m6\ninclude \"m7\" include \"m7\"@m7\ninclude \"m8\" include \"m8\"@m8\ny |= text",
+        "start = element r { y }\ny = text\n",
+    ),
+    (
+        "@m0\ninclude \"m1\" include \"m1\" start = element r { y }@m1\ninclude \"m2\" include \"m2\"@m2\ninclude \"m3\" include \"m3\"@m3\ninclude \"m4\" include \"m4\"@m4\ninclude \"m5\" include \"m5\"@m5\ninclude \"m6\" include \"m6\"@m6\ninclude \"m7\" include \"m7\"@m7\ninclude \"m8\" include \"m8\"@m8\ninclude \"m9\" include \"m9\"@m9\ny |= text",
+        "Instances",
+    ),
+];
+
+/// What a merge answers, as rows write it, where it isn't refused memory.
+fn merged(alloc: Global, set: &ModuleSet) -> Result<Option<String>, Fail> {
+    mark(alloc, BEGIN);
+    let found = merge(alloc, set);
+    mark(alloc, END);
+    match found {
+        Err(Refusal::Memory) => Ok(None),
+        found => Ok(Some(shown(alloc, found)?)),
+    }
+}
+
+#[test]
+fn sets_are_merged(rt: HostRuntime) -> Result<(), Fail> {
+    let mut was_refused = false;
+    for (set, wanted) in &MERGES {
+        match merged(rt.alloc(), &written_set(rt.alloc(), set)?)? {
+            Some(found) => same(&rt, found.as_str(), wanted),
+            None => was_refused = true,
+        }
+    }
+    tell(&rt, was_refused)
+}
+
+/// What a check answers, as rows write it, where it isn't refused memory.
+fn checked(alloc: Global, text: &[u8]) -> Result<Option<String>, Fail> {
+    mark(alloc, BEGIN);
+    let found = check(alloc, text);
+    mark(alloc, END);
+    match found {
+        Ok(()) => Ok(Some(String::from_str(alloc, "good")?)),
+        Err(Place::Memory) => Ok(None),
+        Err(place) => Ok(Some(line_of(alloc, ProgramFault::Check(place))?)),
+    }
+}
+
+#[test]
+fn texts_are_checked(rt: HostRuntime) -> Result<(), Fail> {
+    let deep = repeated(rt.alloc(), "start = ", "(", 257, "")?;
+    let mut was_refused = false;
+    for (text, wanted) in [
+        (b"abc".as_slice(), "Syntax 3"),
+        (b"start = element a { , }".as_slice(), "Syntax 20"),
+        (b"".as_slice(), "good"),
+        (deep.as_bytes(), "Deep 264"),
+        (b"start = text\xFF".as_slice(), "Encoding 12"),
+    ] {
+        match checked(rt.alloc(), text)? {
+            Some(found) => same(&rt, found.as_str(), wanted),
+            None => was_refused = true,
+        }
+    }
+    tell(&rt, was_refused)
+}
+
+#[test]
+fn bundles_are_printed(rt: HostRuntime) -> Result<(), Fail> {
+    let given = bundles(rt.alloc(), &[B, A, A])?;
+    let mut out = sink_of(rt.alloc(), 82);
+    out.taken.reserve(82)?;
+    mark(rt.alloc(), BEGIN);
+    let answer = run_print(rt.alloc(), given.as_slice(), &mut out);
+    mark(rt.alloc(), END);
+    let is_refused = answer == Err(RunFault::Memory);
+    let is_done = answer == Ok(Status::Done);
+    drop(answer);
+    assert!(rt; is_refused || is_done);
+    let wanted = if is_done { PRINTED } else { "" };
+    same_bytes(&rt, out.taken.as_slice(), wanted.as_bytes());
+    tell(&rt, is_refused)
+}
+
+/// Three contributions, as a set is written.
+const THREE: &str = "@a\nx@b 2\ny@c 3 withdrawn\n";
+
+/// And as it holds them.
+const THREE_HELD: &str = "a 1\nb 2\nc 3 withdrawn\n";
+
+#[test]
+fn a_contribution_is_added(rt: HostRuntime) -> Result<(), Fail> {
+    let mut set = written_set(rt.alloc(), THREE)?;
+    let kept = contribution(rt.alloc(), "d 4\nz")?;
+    let given = contribution(rt.alloc(), "d 4\nz")?;
+    mark(rt.alloc(), BEGIN);
+    let answer = set.add(given);
+    mark(rt.alloc(), END);
+    let Err((back, fault)) = answer else {
+        same(
+            &rt,
+            held(rt.alloc(), &set)?.as_str(),
+            "a 1\nb 2\nc 3 withdrawn\nd 4\n",
+        );
+        return tell(&rt, false);
+    };
+    let is_back = back == kept;
+    drop(back);
+    assert!(rt; is_back && fault == AddFault::Memory);
+    same(&rt, held(rt.alloc(), &set)?.as_str(), THREE_HELD);
+    tell(&rt, true)
+}
+
+#[test]
+fn sets_are_joined(rt: HostRuntime) -> Result<(), Fail> {
+    let mut set = written_set(rt.alloc(), THREE)?;
+    let other = written_set(rt.alloc(), "@a 2\nx@b 2\nz@d\n")?;
+    mark(rt.alloc(), BEGIN);
+    let answer = set.join(&other);
+    mark(rt.alloc(), END);
+    assert!(rt; answer == Ok(()) || answer == Err(AddFault::Memory));
+    let wanted = match answer {
+        Ok(()) => "a 1\na 2\nb 2\nb 2\nc 3 withdrawn\nd 1\n",
+        Err(_) => THREE_HELD,
+    };
+    same(&rt, held(rt.alloc(), &set)?.as_str(), wanted);
+    tell(&rt, answer.is_err())
+}
+
+#[test]
+fn a_bundle_is_written(rt: HostRuntime) -> Result<(), Fail> {
+    let set = written_set(rt.alloc(), "@t 7\nabc")?;
+    mark(rt.alloc(), BEGIN);
+    let answer = write_bundle(rt.alloc(), &set);
+    mark(rt.alloc(), END);
+    let Ok(bytes) = answer else {
+        return tell(&rt, true);
+    };
+    same_bytes(&rt, bytes.as_slice(), ONE.as_bytes());
+    tell(&rt, false)
+}
+
+#[test]
+fn a_bundle_is_read(rt: HostRuntime) -> Result<(), Fail> {
+    mark(rt.alloc(), BEGIN);
+    let answer = read_bundle(rt.alloc(), ONE.as_bytes());
+    mark(rt.alloc(), END);
+    match answer {
+        Ok(set) => {
+            same(&rt, held(rt.alloc(), &set)?.as_str(), "t 7\n");
+            tell(&rt, false)
+        }
+        Err(fault) => {
+            assert!(rt; fault == BundleFault::Memory);
+            tell(&rt, true)
+        }
+    }
+}
+
+#[test]
+fn a_literal_is_written(rt: HostRuntime) -> Result<(), Fail> {
+    let mut out = String::from_str(rt.alloc(), "x")?;
+    mark(rt.alloc(), BEGIN);
+    let answer = write_literal(&mut out, "a\"b\nc");
+    mark(rt.alloc(), END);
+    let wanted = match answer {
+        Ok(()) => "x\"a\" ~ '\"' ~ \"b\\x{A}c\"",
+        Err(_) => "x",
+    };
+    same(&rt, out.as_str(), wanted);
+    tell(&rt, answer.is_err())
+}
+
+/// Whether a text is refused, which is this one otherwise.
+fn is_refused(rt: &impl Abort, answer: Result<String, AllocError>, wanted: &str) -> bool {
+    let Ok(found) = answer else {
+        return true;
+    };
+    same(rt, found.as_str(), wanted);
+    false
+}
+
+#[test]
+fn a_literal_is_read(rt: HostRuntime) -> Result<(), Fail> {
+    let found = tokens(rt.alloc(), b"'\\xx{41}'")?;
+    let segment = found.as_slice().first().ok_or("no token")?;
+    mark(rt.alloc(), BEGIN);
+    let answer = literal(rt.alloc(), segment);
+    mark(rt.alloc(), END);
+    tell(&rt, is_refused(&rt, answer, "A"))
+}
+
+#[test]
+fn a_refusal_has_its_line(rt: HostRuntime) -> Result<(), Fail> {
+    let module = String::from_str(rt.alloc(), "main")?;
+    let wanted = String::from_str(rt.alloc(), "gone")?;
+    let refusal = Refusal::Missing { module, wanted };
+    mark(rt.alloc(), BEGIN);
+    let answer = refusal_line(rt.alloc(), &refusal);
+    mark(rt.alloc(), END);
+    drop(refusal);
+    tell(&rt, is_refused(&rt, answer, "Missing main \"gone\""))
+}
+
+#[test]
+fn a_contribution_has_its_line(rt: HostRuntime) -> Result<(), Fail> {
+    let given = contribution(rt.alloc(), "t 7\nabc")?;
+    mark(rt.alloc(), BEGIN);
+    let answer = list_line(rt.alloc(), &given);
+    mark(rt.alloc(), END);
+    let digest = "ba7816bf8f01cfea414140de5dae2223b00361a396177a9cb410ff61f20015ad";
+    let wanted = format!(in rt.alloc(); "t 7 3 {digest}")?;
+    tell(&rt, is_refused(&rt, answer, wanted.as_str()))
+}
+
+#[test]
+fn a_fault_has_its_line(rt: HostRuntime) -> Result<(), Fail> {
+    let fault = ProgramFault::Bundle(1, BundleFault::Header { entry: 2 });
+    mark(rt.alloc(), BEGIN);
+    let answer = fault_line(rt.alloc(), &fault);
+    mark(rt.alloc(), END);
+    drop(fault);
+    tell(&rt, is_refused(&rt, answer, "bundle 1 Header 2"))
+}
