@@ -11,7 +11,7 @@ use rn_modset::{ModuleSet, SetFault};
 use rn_pattern::{Interned, NameClass, Node, Patterns, Plain};
 use rn_simplify::{Normal, normalise, normalise_in, print};
 use rn_syntax::{SyntaxFault, includes, parse};
-use rn_text::{TextFault, tokens};
+use rn_text::{TextFault, is_keyword, is_ncname, tokens};
 use std::alloc::{AllocError, Global};
 use std::process::Abort;
 use std::test::Fail;
@@ -285,5 +285,32 @@ fn a_canonical_grammar_is_printed(rt: HostRuntime) -> Result<(), Fail> {
         return tell(&rt, true);
     };
     same(&rt, text.as_str(), "start = element r { y }\ny = text\n");
+    tell(&rt, false)
+}
+
+#[test]
+fn names_and_stores_need_no_memory(rt: HostRuntime) -> Result<(), Fail> {
+    let mut store = Interned::new(rt.alloc());
+    let a = store.reference("a")?;
+    let class = name(rt.alloc(), "u", "n")?;
+    mark(rt.alloc(), BEGIN);
+    let are_told = is_ncname("a") && is_keyword("start") && class.cmp(&class).is_eq();
+    let is_kept = is_reference(&store, a, "a") && store.nodes() == 1;
+    let plain = Plain::new(rt.alloc()).nodes();
+    let interned = Interned::new(rt.alloc()).nodes();
+    mark(rt.alloc(), END);
+    assert!(rt; are_told && is_kept && plain == 0 && interned == 0);
+    tell(&rt, false)
+}
+
+#[test]
+fn what_grammars_tell_needs_no_memory(rt: HostRuntime) -> Result<(), Fail> {
+    let grammar = grammar(rt.alloc())?;
+    let normal = normal(rt.alloc())?;
+    mark(rt.alloc(), BEGIN);
+    let is_same = grammar.start().cmp(normal.start()).is_eq();
+    let counts = (grammar.defs().len(), normal.defs().len());
+    mark(rt.alloc(), END);
+    assert!(rt; is_same && counts == (1, 1));
     tell(&rt, false)
 }

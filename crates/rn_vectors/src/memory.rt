@@ -7,8 +7,8 @@ use crate::sets::{contribution, held, line_of, same, same_bytes, shown, written_
 use crate::streams::{A, B, PRINTED, bundles, sink_of};
 use rn_assemble::Refusal;
 use rn_merge::{
-    Place, ProgramFault, RunFault, Status, check, fault_line, list_line, merge, refusal_line,
-    run_print,
+    Input, Output, Place, ProgramFault, RunFault, Sink, Source, Status, check, fault_line,
+    list_line, merge, refusal_line, run_print, status,
 };
 use rn_modset::{AddFault, BundleFault, ModuleSet, read_bundle, write_bundle};
 use rn_text::{literal, tokens, write_literal};
@@ -292,4 +292,43 @@ fn a_fault_has_its_line(rt: HostRuntime) -> Result<(), Fail> {
     mark(rt.alloc(), END);
     drop(fault);
     tell(&rt, is_refused(&rt, answer, "bundle 1 Header 2"))
+}
+
+#[test]
+fn what_a_set_tells_needs_no_memory(rt: HostRuntime) -> Result<(), Fail> {
+    let mut set = written_set(rt.alloc(), THREE)?;
+    let given = contribution(rt.alloc(), "b 2\ny")?;
+    mark(rt.alloc(), BEGIN);
+    let is_held = set.contains(&given) && set.len() == 3 && set.iter().count() == 3;
+    let is_added = set.add(given).is_ok();
+    let is_empty = ModuleSet::new(rt.alloc()).len() == 0;
+    mark(rt.alloc(), END);
+    assert!(rt; is_held && is_added && is_empty);
+    same(&rt, held(rt.alloc(), &set)?.as_str(), THREE_HELD);
+    tell(&rt, false)
+}
+
+#[test]
+fn what_is_effective_needs_no_memory(rt: HostRuntime) -> Result<(), Fail> {
+    let set = written_set(rt.alloc(), THREE)?;
+    let modules = set.effective(rt.alloc())?;
+    mark(rt.alloc(), BEGIN);
+    let count = modules.iter().count();
+    let text = modules.get("b");
+    mark(rt.alloc(), END);
+    assert!(rt; count == 2 && text == Some(b"y".as_slice()));
+    tell(&rt, false)
+}
+
+#[test]
+fn streams_and_statuses_need_no_memory(rt: HostRuntime) -> Result<(), Fail> {
+    let (reader, writer) = (rt.stdin(), rt.stdout());
+    mark(rt.alloc(), BEGIN);
+    let input = Input::new(reader);
+    let output = Output::new(writer);
+    let is_new = !input.failed() && !input.ended() && !output.failed();
+    let number = status(&ProgramFault::Dash);
+    mark(rt.alloc(), END);
+    assert!(rt; is_new && number == 2);
+    tell(&rt, false)
 }
