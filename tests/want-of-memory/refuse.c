@@ -1,7 +1,7 @@
 // Loaded before a program (LD_PRELOAD), refuses requests for memory. They are counted from 1: all of them, or, with REFUSE_BEGIN
 // and REFUSE_END, those behind a request for as many bytes as the one says and before the next for as many as the other. The one
-// of the number REFUSE is refused, with REFUSE_ON all behind it too. At the first one that is refused a byte goes to the file
-// descriptor REFUSE_TO.
+// of the number REFUSE is refused, with REFUSE_ON all behind it too. To the file descriptor REFUSE_TO goes a letter for each mark
+// (b, e) and for the first request that is refused (r).
 #define _GNU_SOURCE
 #include <dlfcn.h>
 #include <errno.h>
@@ -25,16 +25,22 @@ __attribute__((constructor)) static void read_environment(void) {
     counts = first && !begin;
 }
 
+static void tell(const char *letter) {
+    if (write(to, letter, 1) != 1)
+        abort();
+}
+
 static int is_refused(size_t size) {
     if (first && begin && (size == begin || size == end)) {
         counts = size == begin;
+        tell(size == begin ? "b" : "e");
         return 0;
     }
     if (!counts)
         return 0;
     made++;
-    if (made == first && write(to, "r", 1) != 1)
-        abort();
+    if (made == first)
+        tell("r");
     if (made < first || (made > first && !goes_on))
         return 0;
     errno = ENOMEM;

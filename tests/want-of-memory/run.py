@@ -119,7 +119,7 @@ JOBS = [
 
 
 def run(words, room, shim, number, goes_on, marks):
-    """The status, the output and the standard error of a run in a folder with a request refused, and whether it came to that request."""
+    """The status, the output and the standard error of a run in a folder with a request refused, and what `refuse.c` tells of it."""
     reading, writing = os.pipe()
     environment = {**os.environ, **marks, "LD_PRELOAD": shim, "REFUSE": str(number), "REFUSE_TO": str(writing)}
     if goes_on:
@@ -127,17 +127,19 @@ def run(words, room, shim, number, goes_on, marks):
     ended = subprocess.run(words, cwd=room, env=environment, pass_fds=[writing], stdin=subprocess.DEVNULL, capture_output=True)
     os.close(writing)
     with os.fdopen(reading, "rb") as told:
-        was_refused = told.read() != b""
-    return (ended.returncode, ended.stdout, ended.stderr), was_refused
+        return (ended.returncode, ended.stdout, ended.stderr), told.read()
 
 
 def tried(words, room, shim, is_own, is_want, goes_on, marks):
     """How many requests a job makes, how many of them it can spare, and what is wrong with the first run that isn't as it must be."""
     spared = 0
     for number in itertools.count(1):
-        found, was_refused = run(words, room, shim, number, goes_on, marks)
-        if not was_refused:
-            return number - 1, spared, None if is_own(found) else f"answered {found}"
+        found, told = run(words, room, shim, number, goes_on, marks)
+        if marks and told.replace(b"r", b"").replace(b"be", b""):
+            return number, spared, f"the marks are not in pairs: {told}"
+        if b"r" not in told:
+            is_whole = is_own(found) and bool(told) == bool(marks)
+            return number - 1, spared, None if is_whole else f"answered {found}, with the marks {told}"
         if is_own(found) and not goes_on:
             spared += 1
         elif not is_want(found):

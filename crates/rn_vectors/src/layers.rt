@@ -131,7 +131,7 @@ fn a_text_is_cut(rt: HostRuntime) -> Result<(), Fail> {
     let answer = tokens(rt.alloc(), MAIN.as_bytes());
     mark(rt.alloc(), END);
     match answer {
-        Ok(found) => same_count(&rt, found.len(), 10),
+        Ok(found) => same_count(&rt, found.len(), 11),
         Err(fault) => {
             assert!(rt; fault == TextFault::Memory);
             return tell(&rt, true);
