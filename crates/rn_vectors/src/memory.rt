@@ -153,15 +153,15 @@ fn bundles_are_printed(rt: HostRuntime) -> Result<(), Fail> {
     tell(&rt, is_refused)
 }
 
-/// Three contributions, as a set is written.
-const THREE: &str = "@a\nx@b 2\ny@c 3 withdrawn\n";
+/// Four contributions, as a set is written. With them it is full of what it asked room for, so a fifth one asks for more.
+const FOUR: &str = "@a\nx@b 2\ny@c 3 withdrawn\n@e\nv";
 
 /// And as it holds them.
-const THREE_HELD: &str = "a 1\nb 2\nc 3 withdrawn\n";
+const FOUR_HELD: &str = "a 1\nb 2\nc 3 withdrawn\ne 1\n";
 
 #[test]
 fn a_contribution_is_added(rt: HostRuntime) -> Result<(), Fail> {
-    let mut set = written_set(rt.alloc(), THREE)?;
+    let mut set = written_set(rt.alloc(), FOUR)?;
     let kept = contribution(rt.alloc(), "d 4\nz")?;
     let given = contribution(rt.alloc(), "d 4\nz")?;
     mark(rt.alloc(), BEGIN);
@@ -171,28 +171,28 @@ fn a_contribution_is_added(rt: HostRuntime) -> Result<(), Fail> {
         same(
             &rt,
             held(rt.alloc(), &set)?.as_str(),
-            "a 1\nb 2\nc 3 withdrawn\nd 4\n",
+            "a 1\nb 2\nc 3 withdrawn\nd 4\ne 1\n",
         );
         return tell(&rt, false);
     };
     let is_back = back == kept;
     drop(back);
     assert!(rt; is_back && fault == AddFault::Memory);
-    same(&rt, held(rt.alloc(), &set)?.as_str(), THREE_HELD);
+    same(&rt, held(rt.alloc(), &set)?.as_str(), FOUR_HELD);
     tell(&rt, true)
 }
 
 #[test]
 fn sets_are_joined(rt: HostRuntime) -> Result<(), Fail> {
-    let mut set = written_set(rt.alloc(), THREE)?;
+    let mut set = written_set(rt.alloc(), FOUR)?;
     let other = written_set(rt.alloc(), "@a 2\nx@b 2\nz@d\n")?;
     mark(rt.alloc(), BEGIN);
     let answer = set.join(&other);
     mark(rt.alloc(), END);
     assert!(rt; answer == Ok(()) || answer == Err(AddFault::Memory));
     let wanted = match answer {
-        Ok(()) => "a 1\na 2\nb 2\nb 2\nc 3 withdrawn\nd 1\n",
-        Err(_) => THREE_HELD,
+        Ok(()) => "a 1\na 2\nb 2\nb 2\nc 3 withdrawn\nd 1\ne 1\n",
+        Err(_) => FOUR_HELD,
     };
     same(&rt, held(rt.alloc(), &set)?.as_str(), wanted);
     tell(&rt, answer.is_err())
@@ -296,27 +296,27 @@ fn a_fault_has_its_line(rt: HostRuntime) -> Result<(), Fail> {
 
 #[test]
 fn what_a_set_tells_needs_no_memory(rt: HostRuntime) -> Result<(), Fail> {
-    let mut set = written_set(rt.alloc(), THREE)?;
+    let mut set = written_set(rt.alloc(), FOUR)?;
     let given = contribution(rt.alloc(), "b 2\ny")?;
     mark(rt.alloc(), BEGIN);
-    let is_held = set.contains(&given) && set.len() == 3 && set.iter().count() == 3;
+    let is_held = set.contains(&given) && set.len() == 4 && set.iter().count() == 4;
     let is_added = set.add(given).is_ok();
     let is_empty = ModuleSet::new(rt.alloc()).len() == 0;
     mark(rt.alloc(), END);
     assert!(rt; is_held && is_added && is_empty);
-    same(&rt, held(rt.alloc(), &set)?.as_str(), THREE_HELD);
+    same(&rt, held(rt.alloc(), &set)?.as_str(), FOUR_HELD);
     tell(&rt, false)
 }
 
 #[test]
 fn what_is_effective_needs_no_memory(rt: HostRuntime) -> Result<(), Fail> {
-    let set = written_set(rt.alloc(), THREE)?;
+    let set = written_set(rt.alloc(), FOUR)?;
     let modules = set.effective(rt.alloc())?;
     mark(rt.alloc(), BEGIN);
     let count = modules.iter().count();
     let text = modules.get("b");
     mark(rt.alloc(), END);
-    assert!(rt; count == 2 && text == Some(b"y".as_slice()));
+    assert!(rt; count == 3 && text == Some(b"y".as_slice()));
     tell(&rt, false)
 }
 
