@@ -156,15 +156,15 @@ def is_well(name, words, room, shim, is_own, is_want, marks):
 
 def is_test_well(program, test, room, shim):
     """Tries a test of calls: it passes, and tells that a call was refused if a request was."""
-    is_own = (0, b"answered\n", b"").__eq__
-    is_want = (0, b"refused\n", b"").__eq__
+    is_own = lambda found: found[0] == 0 and found[1].startswith(b"answered\n")
+    is_want = lambda found: found[0] == 0 and found[1].startswith(b"refused\n")
     return is_well(test, [program, test], room, shim, is_own, is_want, MARKS)
 
 
 def tests_of(program):
     """The names of the tests of calls whose memory is refused."""
     listed = subprocess.run([program, "--list"], check=True, capture_output=True, text=True).stdout
-    return [line.split(":test")[0] for line in listed.splitlines() if line.startswith(("memory::", "layers::"))]
+    return [line.rsplit(": ", 1)[0] for line in listed.splitlines() if line.startswith(("memory::", "layers::"))]
 
 
 def bundle(program, room, name, modules):
