@@ -1,81 +1,53 @@
 // The places in the patterns of a module that break a rule.
-ghost use Rattle.std.specs.Prelude.{◌≡◌, ℕ, List, [], Bool, true, false, Option};
-ghost use Rattle.rn_syntax.specs.Places as places;
+ghost use Rattle.std.specs.Prelude.{◌≡◌, map};
 ghost use Rattle.rn_syntax.specs.Places.{first};
-ghost use Rattle.rn_syntax.specs.Tree as tree;
-ghost use Rattle.rn_syntax.specs.View.{class_view, datatype_view, params_view, pattern_view, patterns_view, prefix_view, item_view, items_view};
+ghost use Rattle.rn_syntax.specs.Rules as rules;
+ghost use Rattle.rn_syntax.specs.View.{declaration_view, pattern_view, patterns_view, item_view, items_view};
 
-use crate::tree::{Datatype, Item, Module, Nc, Param, Pat, Prefix};
-
-/// A rule on what stands in patterns: each call answers the first place that breaks it.
-pub(crate) trait Rule {
-    ghost classes: { Self → tree.NameClass → List ℕ };
-
-    ghost datatypes: { Self → Bool → tree.Datatype → tree.Params → List ℕ };
-
-    ghost excepts: { Self → ℕ → tree.Pattern → List ℕ };
-
-    ghost inherits: { Self → Option (List ℕ × ℕ) → List ℕ };
-
-    fn name_class(&self, class: &Nc<'_>) -> Option<usize>
-        ensures { result ≡ first (classes self.now (class_view class.now)) };
-
-    /// Of the datatype of a value.
-    fn value(&self, datatype: Datatype<'_>) -> Option<usize>
-        ensures { result ≡ first (datatypes self.now true (datatype_view datatype.entry) []) };
-
-    fn data(&self, datatype: Datatype<'_>, params: &[Param<'_>]) -> Option<usize>
-        ensures { result ≡ first (datatypes self.now false (datatype_view datatype.entry) (params_view params.now)) };
-
-    /// Of what is excepted behind the `-` at this place.
-    fn except(&self, at: usize, excepted: &Pat<'_>) -> Option<usize>
-        ensures { result ≡ first (excepts self.now at (pattern_view excepted.now)) };
-
-    /// Of the prefix behind `inherit =`.
-    fn inherit(&self, prefix: Option<Prefix<'_>>) -> Option<usize>
-        ensures { result ≡ first (inherits self.now (prefix_view prefix.entry)) };
-}
+use crate::bindings::Bindings;
+use crate::rules::Rule;
+use crate::tree::{Item, Module, Pat};
 
 /// The first place in a pattern that breaks the rule.
 #[tactic(auto, using(crate::proofs::Firsts::none_first, crate::proofs::Firsts::some_first))]
 #[cycle(pattern_place)]
-fn pattern_place<R: Rule>(rule: &R, pattern: &Pat<'_>) -> Option<usize>
-    ensures { result ≡ first (places.pattern_places (R.classes rule.now) (R.datatypes rule.now) (R.excepts rule.now) (pattern_view pattern.now)) }
+fn pattern_place(rule: Rule, bindings: &Bindings<'_, '_>, pattern: &Pat<'_>) -> Option<usize>
+    ensures { result ≡ first (rules.pattern_places (map declaration_view bindings.now.declarations.now) rule (pattern_view pattern.now)) }
 {
     match pattern {
         Pat::Element(class, content) | Pat::Attribute(class, content) => {
-            match rule.name_class(class) {
-                None => pattern_place(rule, content),
+            match rule.name_class(bindings, class) {
+                None => pattern_place(rule, bindings, content),
                 wrong => wrong,
             }
         }
         Pat::List(content) | Pat::Mixed(content) | Pat::Repeated(_, content) => {
-            pattern_place(rule, content)
+            pattern_place(rule, bindings, content)
         }
         Pat::Empty | Pat::NotAllowed | Pat::Text | Pat::Ref(_) | Pat::Value(None, _) => None,
-        Pat::Value(Some(datatype), _) => rule.value(*datatype),
-        Pat::Datum(datatype, params) => rule.data(*datatype, params),
+        Pat::Value(Some(datatype), _) => rule.value(bindings, *datatype),
+        Pat::Datum(datatype, params) => rule.data(bindings, *datatype, params),
         Pat::DatumBut(datatype, params, at, excepted) => {
-            if let Some(wrong) = rule.data(*datatype, params) {
+            if let Some(wrong) = rule.data(bindings, *datatype, params) {
                 return Some(wrong);
             }
             match rule.except(*at, excepted) {
-                None => pattern_place(rule, excepted),
+                None => pattern_place(rule, bindings, excepted),
                 wrong => wrong,
             }
         }
-        Pat::Chain(_, members) => patterns_place(rule, members),
+        Pat::Chain(_, members) => patterns_place(rule, bindings, members),
     }
 }
 
 /// The first place in patterns that breaks the rule.
 #[tactic(auto, using(crate::proofs::Firsts::none_first, crate::proofs::Firsts::some_first))]
 #[cycle(pattern_place)]
-fn patterns_place<R: Rule>(rule: &R, patterns: &[Pat<'_>]) -> Option<usize>
-    ensures { result ≡ first (places.patterns_places (R.classes rule.now) (R.datatypes rule.now) (R.excepts rule.now) (patterns_view patterns.now)) }
+fn patterns_place(rule: Rule, bindings: &Bindings<'_, '_>, patterns: &[Pat<'_>]) -> Option<usize>
+    ensures { result ≡ first (rules.patterns_places (map declaration_view bindings.now.declarations.now) rule (patterns_view patterns.now)) }
 {
     'patterns: for pattern in patterns {
-        if let Some(wrong) = pattern_place(rule, pattern) {
+        if let Some(wrong) = pattern_place(rule, bindings, pattern) {
             return Some(wrong);
         }
     }
@@ -85,11 +57,11 @@ fn patterns_place<R: Rule>(rule: &R, patterns: &[Pat<'_>]) -> Option<usize>
 /// The first place in the patterns of items that breaks the rule.
 #[tactic(auto, using(crate::proofs::Firsts::none_first, crate::proofs::Firsts::some_first))]
 #[cycle(items_place)]
-fn items_place<R: Rule>(rule: &R, items: &[Item<'_>]) -> Option<usize>
-    ensures { result ≡ first (places.items_places (R.classes rule.now) (R.datatypes rule.now) (R.excepts rule.now) (R.inherits rule.now) (items_view items.now)) }
+fn items_place(rule: Rule, bindings: &Bindings<'_, '_>, items: &[Item<'_>]) -> Option<usize>
+    ensures { result ≡ first (rules.items_places (map declaration_view bindings.now.declarations.now) rule (items_view items.now)) }
 {
     'items: for item in items {
-        if let Some(wrong) = item_place(rule, item) {
+        if let Some(wrong) = item_place(rule, bindings, item) {
             return Some(wrong);
         }
     }
@@ -98,15 +70,15 @@ fn items_place<R: Rule>(rule: &R, items: &[Item<'_>]) -> Option<usize>
 
 #[tactic(auto, using(crate::proofs::Firsts::none_first, crate::proofs::Firsts::some_first))]
 #[cycle(items_place)]
-fn item_place<R: Rule>(rule: &R, item: &Item<'_>) -> Option<usize>
-    ensures { result ≡ first (places.item_places (R.classes rule.now) (R.datatypes rule.now) (R.excepts rule.now) (R.inherits rule.now) (item_view item.now)) }
+fn item_place(rule: Rule, bindings: &Bindings<'_, '_>, item: &Item<'_>) -> Option<usize>
+    ensures { result ≡ first (rules.item_places (map declaration_view bindings.now.declarations.now) rule (item_view item.now)) }
 {
     match item {
-        Item::Define { body, .. } | Item::Start { body, .. } => pattern_place(rule, body),
-        Item::Div(items) => items_place(rule, items),
+        Item::Define { body, .. } | Item::Start { body, .. } => pattern_place(rule, bindings, body),
+        Item::Div(items) => items_place(rule, bindings, items),
         Item::Include { inherit, items, .. } => {
-            match rule.inherit(*inherit) {
-                None => items_place(rule, items),
+            match rule.inherit(bindings, *inherit) {
+                None => items_place(rule, bindings, items),
                 wrong => wrong,
             }
         }
@@ -114,8 +86,12 @@ fn item_place<R: Rule>(rule: &R, item: &Item<'_>) -> Option<usize>
 }
 
 /// The first place in the patterns of a module that breaks the rule.
-pub(crate) fn module_place<R: Rule>(rule: &R, module: &Module<'_>) -> Option<usize>
-    ensures { result ≡ first (places.items_places (R.classes rule.now) (R.datatypes rule.now) (R.excepts rule.now) (R.inherits rule.now) (items_view «module».now.items.items)) }
+pub(crate) fn module_place(
+    rule: Rule,
+    bindings: &Bindings<'_, '_>,
+    module: &Module<'_>,
+) -> Option<usize>
+    ensures { result ≡ first (rules.items_places (map declaration_view bindings.now.declarations.now) rule (items_view «module».now.items.items)) }
 {
-    items_place(rule, &module.items)
+    items_place(rule, bindings, &module.items)
 }

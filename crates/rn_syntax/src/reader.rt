@@ -2,7 +2,7 @@
 ghost use Rattle.std.specs.Prelude.{◌≡◌, [], None, IfOk, IfErr, IsTrue, OnOk, MatchOption, map};
 ghost use Rattle.rn_text.specs.Tokens.{lexeme_of};
 ghost use Rattle.rn_syntax.specs.Tokens.{terminals};
-ghost use Rattle.rn_syntax.specs.Places.{deep, first, declarations_places, prefix_places, builtin_places, context_places};
+ghost use Rattle.rn_syntax.specs.Places.{deep, first, declarations_places, prefix_places, builtin_places, context_places, except_places};
 ghost use Rattle.rn_syntax.specs.Fault.{HasTree};
 ghost use Rattle.rn_syntax.specs.Faults.{HasFault, HasNoFault, IsFault, IsSyntax};
 ghost use Rattle.rn_syntax.specs.Reading.{AreSpelled};
@@ -13,7 +13,7 @@ use crate::brackets::too_deep;
 use crate::fault::{Fault, SyntaxFault};
 use crate::modules::module;
 use crate::places::module_place;
-use crate::rules::{AllRules, Builtins, ContextValues, Excepts, Prefixes};
+use crate::rules::Rule;
 use crate::terminals::place;
 use crate::tree::Module;
 use rn_text::Token;
@@ -39,7 +39,7 @@ fn prefix_place(bindings: &Bindings<'_, '_>, module: &Module<'_>) -> Option<usiz
     requires declared { first (declarations_places [] (map declaration_view «module».now.decls.items)) ≡ None }
     ensures { result ≡ first (prefix_places (module_view «module».now)) }
 {
-    module_place(&Prefixes(bindings), module)
+    module_place(Rule::Prefixes, bindings, module)
 }
 
 /// The place of the first type of the empty library that is none of it.
@@ -47,7 +47,7 @@ fn builtin_place(bindings: &Bindings<'_, '_>, module: &Module<'_>) -> Option<usi
     requires { bindings.now.declarations.now ≡ «module».now.decls.items }
     ensures { result ≡ first (builtin_places (module_view «module».now)) }
 {
-    module_place(&Builtins(bindings), module)
+    module_place(Rule::Builtins, bindings, module)
 }
 
 /// The place of the first value of a type that looks at namespace bindings.
@@ -55,7 +55,15 @@ fn context_value_place(bindings: &Bindings<'_, '_>, module: &Module<'_>) -> Opti
     requires { bindings.now.declarations.now ≡ «module».now.decls.items }
     ensures { result ≡ first (context_places (module_view «module».now)) }
 {
-    module_place(&ContextValues(bindings), module)
+    module_place(Rule::ContextValues, bindings, module)
+}
+
+/// The place of the first except that holds what none may.
+#[tactic(auto, unfolding(crate::specs::Rules::classes, crate::specs::Rules::datatypes, crate::specs::Rules::excepts, crate::specs::Rules::inherits))]
+fn except_place(bindings: &Bindings<'_, '_>, module: &Module<'_>) -> Option<usize>
+    ensures { result ≡ first (except_places (module_view «module».now)) }
+{
+    module_place(Rule::Excepts, bindings, module)
 }
 
 /// Whether the items of a module are known to keep all rules, by one walk through them.
@@ -64,7 +72,7 @@ fn keeps_rules(bindings: &Bindings<'_, '_>, module: &Module<'_>) -> bool
     requires declared { first (declarations_places [] (map declaration_view «module».now.decls.items)) ≡ None }
     ensures { IsTrue result → HasNoFault (module_view «module».now) }
 {
-    match module_place(&AllRules(bindings), module) {
+    match module_place(Rule::All, bindings, module) {
         None => true,
         Some(_) => false,
     }
@@ -85,7 +93,7 @@ fn items_fault(bindings: &Bindings<'_, '_>, module: &Module<'_>) -> Option<Synta
     if let Some(at) = context_value_place(bindings, module) {
         return Some(SyntaxFault::ContextValue { at });
     }
-    match module_place(&Excepts, module) {
+    match except_place(bindings, module) {
         Some(at) => Some(SyntaxFault::Except { at }),
         None => None,
     }

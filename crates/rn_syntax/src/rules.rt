@@ -1,33 +1,27 @@
 // The rules on prefixes, datatypes and excepts.
-ghost use Rattle.std.specs.Prelude.{◌≡◌, ◌++◌, [], map, not, true};
+ghost use Rattle.std.specs.Prelude.{◌≡◌, [], map, not, true, false};
 ghost use Rattle.rn_syntax.specs.Places as places;
 ghost use Rattle.rn_syntax.specs.Places.{first};
-ghost use Rattle.rn_syntax.specs.View.{class_view, classes_view, any_view, datatype_view, pattern_view, patterns_view, declaration_view};
+ghost use Rattle.rn_syntax.specs.Rules as rules;
+ghost use Rattle.rn_syntax.specs.View.{class_view, classes_view, any_view, datatype_view, params_view, pattern_view, patterns_view, prefix_view, declaration_view};
 
 use crate::bindings::Bindings;
-use crate::places::Rule;
 use crate::token::Operator;
 use crate::tree::{AnyName, Datatype, Name, Nc, Param, Pat, Prefix};
 
-/// Each prefix is bound.
+/// A rule on what stands in patterns, or all of them at once.
 #[derive(Clone, Copy)]
-pub(crate) struct Prefixes<'b, 'm, 'a>(pub &'b Bindings<'m, 'a>);
-
-/// The types of the empty library are `string` and `token`, without parameters.
-#[derive(Clone, Copy)]
-pub(crate) struct Builtins<'b, 'm, 'a>(pub &'b Bindings<'m, 'a>);
-
-/// No value is of a type of XML Schema that looks at namespace bindings.
-#[derive(Clone, Copy)]
-pub(crate) struct ContextValues<'b, 'm, 'a>(pub &'b Bindings<'m, 'a>);
-
-/// An except of data holds `notAllowed`, values, data and choices of these (section 7.1.4).
-#[derive(Clone, Copy)]
-pub(crate) struct Excepts;
-
-/// All of these at once.
-#[derive(Clone, Copy)]
-pub(crate) struct AllRules<'b, 'm, 'a>(pub &'b Bindings<'m, 'a>);
+pub(crate) enum Rule {
+    /// Each prefix is bound.
+    Prefixes,
+    /// The types of the empty library are `string` and `token`, without parameters.
+    Builtins,
+    /// No value is of a type of XML Schema that looks at namespace bindings.
+    ContextValues,
+    /// An except of data holds `notAllowed`, values, data and choices of these (section 7.1.4).
+    Excepts,
+    All,
+}
 
 /// The place of a namespace prefix that is not bound.
 fn unbound_namespace(bindings: &Bindings<'_, '_>, prefix: Prefix<'_>) -> Option<usize>
@@ -92,110 +86,35 @@ fn classes_place(bindings: &Bindings<'_, '_>, classes: &[Nc<'_>]) -> Option<usiz
     None
 }
 
-impl Rule for Prefixes<'_, '_, '_> {
-    ghost classes = { λ s. places.class_places (map declaration_view s.0.now.declarations.now) };
-
-    ghost datatypes = { λ s. places.unbound_type (map declaration_view s.0.now.declarations.now) };
-
-    ghost excepts = { λ _ _ _. [] };
-
-    ghost inherits = { λ s. places.inherit_places (map declaration_view s.0.now.declarations.now) };
-
-    fn name_class(&self, class: &Nc<'_>) -> Option<usize> {
-        class_place(self.0, class)
-    }
-
-    fn value(&self, datatype: Datatype<'_>) -> Option<usize> {
-        unbound_library(self.0, datatype)
-    }
-
-    fn data(&self, datatype: Datatype<'_>, _: &[Param<'_>]) -> Option<usize> {
-        unbound_library(self.0, datatype)
-    }
-
-    fn except(&self, _: usize, _: &Pat<'_>) -> Option<usize> {
-        None
-    }
-
-    fn inherit(&self, prefix: Option<Prefix<'_>>) -> Option<usize> {
-        match prefix {
-            Some(prefix) => unbound_namespace(self.0, prefix),
-            None => None,
+/// The place of a type of the empty library that is none of it.
+fn wrong_builtin(
+    bindings: &Bindings<'_, '_>,
+    datatype: Datatype<'_>,
+    params: &[Param<'_>],
+) -> Option<usize>
+    ensures { result ≡ first (places.wrong_builtin (map declaration_view bindings.now.declarations.now) true (datatype_view datatype.entry) (params_view params.now)) }
+{
+    let (is_wrong, at) = match datatype {
+        Datatype::String(at) | Datatype::Token(at) => (!params.is_empty(), at),
+        Datatype::Named(prefix, name) => {
+            let is_builtin = name == "string" || name == "token";
+            let is_wrong = bindings.is_library(prefix.name, "")
+                && (!params.is_empty() || !is_builtin);
+            (is_wrong, prefix.at)
         }
-    }
+    };
+    if is_wrong { Some(at) } else { None }
 }
 
-impl Rule for Builtins<'_, '_, '_> {
-    ghost classes = { λ _ _. [] };
-
-    ghost datatypes = { λ s. places.wrong_builtin (map declaration_view s.0.now.declarations.now) };
-
-    ghost excepts = { λ _ _ _. [] };
-
-    ghost inherits = { λ _ _. [] };
-
-    fn name_class(&self, _: &Nc<'_>) -> Option<usize> {
-        None
-    }
-
-    fn value(&self, datatype: Datatype<'_>) -> Option<usize> {
-        self.data(datatype, &[])
-    }
-
-    fn data(&self, datatype: Datatype<'_>, params: &[Param<'_>]) -> Option<usize> {
-        let (is_wrong, at) = match datatype {
-            Datatype::String(at) | Datatype::Token(at) => (!params.is_empty(), at),
-            Datatype::Named(prefix, name) => {
-                let is_builtin = name == "string" || name == "token";
-                let is_wrong = self.0.is_library(prefix.name, "")
-                    && (!params.is_empty() || !is_builtin);
-                (is_wrong, prefix.at)
-            }
-        };
-        if is_wrong { Some(at) } else { None }
-    }
-
-    fn except(&self, _: usize, _: &Pat<'_>) -> Option<usize> {
-        None
-    }
-
-    fn inherit(&self, _: Option<Prefix<'_>>) -> Option<usize> {
-        None
-    }
-}
-
-impl Rule for ContextValues<'_, '_, '_> {
-    ghost classes = { λ _ _. [] };
-
-    ghost datatypes = { λ s. places.context_value (map declaration_view s.0.now.declarations.now) };
-
-    ghost excepts = { λ _ _ _. [] };
-
-    ghost inherits = { λ _ _. [] };
-
-    fn name_class(&self, _: &Nc<'_>) -> Option<usize> {
-        None
-    }
-
-    fn value(&self, datatype: Datatype<'_>) -> Option<usize> {
-        let Datatype::Named(prefix, name) = datatype else {
-            return None;
-        };
-        let is_wrong = self.0.is_xml_schema(prefix.name) && (name == "QName" || name == "NOTATION");
-        if is_wrong { Some(prefix.at) } else { None }
-    }
-
-    fn data(&self, _: Datatype<'_>, _: &[Param<'_>]) -> Option<usize> {
-        None
-    }
-
-    fn except(&self, _: usize, _: &Pat<'_>) -> Option<usize> {
-        None
-    }
-
-    fn inherit(&self, _: Option<Prefix<'_>>) -> Option<usize> {
-        None
-    }
+/// The place of a type of XML Schema that looks at namespace bindings.
+fn context_type(bindings: &Bindings<'_, '_>, datatype: Datatype<'_>) -> Option<usize>
+    ensures { result ≡ first (places.context_value (map declaration_view bindings.now.declarations.now) true (datatype_view datatype.entry) []) }
+{
+    let Datatype::Named(prefix, name) = datatype else {
+        return None;
+    };
+    let is_wrong = bindings.is_xml_schema(prefix.name) && (name == "QName" || name == "NOTATION");
+    if is_wrong { Some(prefix.at) } else { None }
 }
 
 /// Whether an except of data may hold the pattern.
@@ -223,70 +142,77 @@ fn are_allowed(patterns: &[Pat<'_>]) -> bool
     true
 }
 
-impl Rule for Excepts {
-    ghost classes = { λ _ _. [] };
-
-    ghost datatypes = { λ _ _ _ _. [] };
-
-    ghost excepts = { λ _ i p. places.place_if (not (places.is_allowed p)) i };
-
-    ghost inherits = { λ _ _. [] };
-
-    fn name_class(&self, _: &Nc<'_>) -> Option<usize> {
-        None
+impl Rule {
+    /// The first place in a name class that breaks the rule.
+    #[tactic(auto, unfolding(crate::specs::Rules::classes))]
+    pub(crate) fn name_class(self, bindings: &Bindings<'_, '_>, class: &Nc<'_>) -> Option<usize>
+        ensures { result ≡ first (rules.classes (map declaration_view bindings.now.declarations.now) self (class_view class.now)) }
+    {
+        match self {
+            Rule::Prefixes | Rule::All => class_place(bindings, class),
+            Rule::Builtins | Rule::ContextValues | Rule::Excepts => None,
+        }
     }
 
-    fn value(&self, _: Datatype<'_>) -> Option<usize> {
-        None
+    /// The same of the datatype of a value.
+    #[tactic(auto, using(crate::proofs::Firsts::first_append), unfolding(crate::specs::Rules::datatypes))]
+    pub(crate) fn value(self, bindings: &Bindings<'_, '_>, datatype: Datatype<'_>) -> Option<usize>
+        ensures { result ≡ first (rules.datatypes (map declaration_view bindings.now.declarations.now) self true (datatype_view datatype.entry) []) }
+    {
+        match self {
+            Rule::Prefixes => unbound_library(bindings, datatype),
+            Rule::Builtins => wrong_builtin(bindings, datatype, &[]),
+            Rule::ContextValues => context_type(bindings, datatype),
+            Rule::Excepts => None,
+            Rule::All => unbound_library(bindings, datatype)
+                .or(wrong_builtin(bindings, datatype, &[]))
+                .or(context_type(bindings, datatype)),
+        }
     }
 
-    fn data(&self, _: Datatype<'_>, _: &[Param<'_>]) -> Option<usize> {
-        None
+    /// The same of the datatype of data.
+    #[tactic(auto, using(crate::proofs::Firsts::first_append, crate::proofs::Firsts::first_behind), unfolding(crate::specs::Rules::datatypes))]
+    pub(crate) fn data(
+        self,
+        bindings: &Bindings<'_, '_>,
+        datatype: Datatype<'_>,
+        params: &[Param<'_>],
+    ) -> Option<usize>
+        ensures { result ≡ first (rules.datatypes (map declaration_view bindings.now.declarations.now) self false (datatype_view datatype.entry) (params_view params.now)) }
+    {
+        match self {
+            Rule::Prefixes => unbound_library(bindings, datatype),
+            Rule::Builtins => wrong_builtin(bindings, datatype, params),
+            Rule::ContextValues | Rule::Excepts => None,
+            Rule::All => {
+                unbound_library(bindings, datatype).or(wrong_builtin(bindings, datatype, params))
+            }
+        }
     }
 
-    fn except(&self, at: usize, excepted: &Pat<'_>) -> Option<usize> {
-        if is_allowed(excepted) { None } else { Some(at) }
+    /// The same of what is excepted behind the `-` at this place.
+    #[tactic(auto, unfolding(crate::specs::Rules::excepts))]
+    pub(crate) fn except(self, at: usize, excepted: &Pat<'_>) -> Option<usize>
+        ensures { result ≡ first (rules.excepts self at (pattern_view excepted.now)) }
+    {
+        match self {
+            Rule::Excepts | Rule::All if !is_allowed(excepted) => Some(at),
+            _ => None,
+        }
     }
 
-    fn inherit(&self, _: Option<Prefix<'_>>) -> Option<usize> {
-        None
-    }
-}
-
-impl Rule for AllRules<'_, '_, '_> {
-    ghost classes = { λ s. places.class_places (map declaration_view s.0.now.declarations.now) };
-
-    ghost datatypes = { λ s v x ps. (places.unbound_type (map declaration_view s.0.now.declarations.now) v x ps ++ places.wrong_builtin (map declaration_view s.0.now.declarations.now) v x ps) ++ places.context_value (map declaration_view s.0.now.declarations.now) v x ps };
-
-    ghost excepts = { λ _ i p. places.place_if (not (places.is_allowed p)) i };
-
-    ghost inherits = { λ s. places.inherit_places (map declaration_view s.0.now.declarations.now) };
-
-    fn name_class(&self, class: &Nc<'_>) -> Option<usize> {
-        Prefixes(self.0).name_class(class)
-    }
-
-    #[tactic(auto, using(crate::proofs::Firsts::first_append))]
-    fn value(&self, datatype: Datatype<'_>) -> Option<usize> {
-        Prefixes(self.0)
-            .value(datatype)
-            .or(Builtins(self.0).value(datatype))
-            .or(ContextValues(self.0).value(datatype))
-    }
-
-    #[tactic(auto, using(crate::proofs::Firsts::first_append))]
-    fn data(&self, datatype: Datatype<'_>, params: &[Param<'_>]) -> Option<usize> {
-        Prefixes(self.0)
-            .data(datatype, params)
-            .or(Builtins(self.0).data(datatype, params))
-            .or(ContextValues(self.0).data(datatype, params))
-    }
-
-    fn except(&self, at: usize, excepted: &Pat<'_>) -> Option<usize> {
-        Excepts.except(at, excepted)
-    }
-
-    fn inherit(&self, prefix: Option<Prefix<'_>>) -> Option<usize> {
-        Prefixes(self.0).inherit(prefix)
+    /// The same of the prefix behind `inherit =`.
+    #[tactic(auto, unfolding(crate::specs::Rules::inherits))]
+    pub(crate) fn inherit(
+        self,
+        bindings: &Bindings<'_, '_>,
+        prefix: Option<Prefix<'_>>,
+    ) -> Option<usize>
+        ensures { result ≡ first (rules.inherits (map declaration_view bindings.now.declarations.now) self (prefix_view prefix.entry)) }
+    {
+        match (self, prefix) {
+            (Rule::Prefixes | Rule::All, Some(prefix)) => unbound_namespace(bindings, prefix),
+            _ => None,
+        }
     }
 }

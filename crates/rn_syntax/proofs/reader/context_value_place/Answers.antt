@@ -1,9 +1,11 @@
 -- The declarations that are bound are the module's.
 use Rattle.std.proofs.Common.{ap, ◌∙◌, map, []}
 use Rattle.rn_syntax.specs.Places.{first, items_places, context_value}
+use Rattle.rn_syntax.specs.Rules.{classes, datatypes, excepts, inherits}
 use Rattle.rn_syntax.specs.View.{declaration_view, items_view}
 use Rattle.rn_syntax.proofs.reader.context_value_place.Goals as goal
 
 pub returns : goal.returns
+unfolding classes datatypes excepts inherits
 returns c = c.module_place.ensures
     ∙ ap (λ ds. first (items_places (λ _. []) (context_value (map declaration_view ds)) (λ _ _. []) (λ _. []) (items_view c.args.module.now.items.items))) c.requires
