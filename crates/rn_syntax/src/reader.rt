@@ -99,18 +99,32 @@ fn items_fault(bindings: &Bindings<'_, '_>, module: &Module<'_>) -> Option<Synta
     }
 }
 
-/// The first fault of a module that the grammar leaves open. Only one that breaks a rule is walked through once a kind.
+/// The first fault of a module that the grammar leaves open, with what its declarations bind and the first place that is wrong
+/// in them. Only a module that breaks a rule is walked through once a kind.
+fn bound_fault(
+    bindings: &Bindings<'_, '_>,
+    wrong: Option<usize>,
+    module: &Module<'_>,
+) -> Option<SyntaxFault>
+    requires bound { bindings.now.declarations.now ≡ «module».now.decls.items }
+    requires wrong { wrong ≡ first (declarations_places [] (map declaration_view «module».now.decls.items)) }
+    ensures { MatchOption result (HasNoFault (module_view «module».now)) (HasFault (module_view «module».now)) }
+{
+    if let Some(at) = wrong {
+        return Some(SyntaxFault::Prefix { at });
+    }
+    if keeps_rules(bindings, module) {
+        return None;
+    }
+    items_fault(bindings, module)
+}
+
+/// The same of a module whose declarations aren't bound yet.
 fn fault(alloc: Global, module: &Module<'_>) -> Result<Option<SyntaxFault>, AllocError>
     ensures { IfOk result (λ found. MatchOption found (HasNoFault (module_view «module».now)) (HasFault (module_view «module».now))) }
 {
     let (bindings, wrong) = bind_all(alloc, &module.decls)?;
-    if let Some(at) = wrong {
-        return Ok(Some(SyntaxFault::Prefix { at }));
-    }
-    if keeps_rules(&bindings, module) {
-        return Ok(None);
-    }
-    Ok(items_fault(&bindings, module))
+    Ok(bound_fault(&bindings, wrong, module))
 }
 
 /// The one module that the tokens spell (RELAX NG Compact Syntax, 2), or the first fault.
