@@ -43,6 +43,24 @@ fn all_references(
     Ok(rows)
 }
 
+/// The references outside elements of the definition with a number, if it is reached; else none.
+fn outside_references_of(
+    alloc: Global,
+    names: &IndexMap<String, Pattern>,
+    number: usize,
+    is_reached: bool,
+) -> Result<Vec<usize>, AllocError>
+    requires { number < length names.now.entries }
+    ensures { IfOk result (λ v. (d : Text × Tree) → v.items ≡ cond is_reached (numbers_of (definitions_view names.now.entries)
+        (references OutsideElements (slice_index_or (definitions_view names.now.entries) number d).1)) []) }
+{
+    if is_reached {
+        referred(alloc, names, body_of(names, number), Scope::OutsideElements)
+    } else {
+        Ok(Vec::new(alloc))
+    }
+}
+
 /// The references outside elements of each definition that is reached, by its number.
 fn outside_references(
     alloc: Global,
@@ -57,12 +75,7 @@ fn outside_references(
 {
     let mut rows = Vec::new(alloc);
     for number in 0..is_reached.len() {
-        if is_reached[number] {
-            let body = body_of(names, number);
-            rows.push(referred(alloc, names, body, Scope::OutsideElements)?)?;
-        } else {
-            rows.push(Vec::new(alloc))?;
-        }
+        rows.push(outside_references_of(alloc, names, number, is_reached[number])?)?;
     }
     Ok(rows)
 }
