@@ -7,7 +7,7 @@ use Rattle.rn_pattern.specs.View.{pattern_view}
 use Rattle.rn_pattern.specs.declared.tree.Pattern.{Pattern}
 use Rattle.rn_assemble.specs.GrammarView.{definitions_view, grammar_view}
 use Rattle.rn_simplify.specs.Numbered.{settled_by}
-use Rattle.rn_simplify.proofs.Known.{settled_still}
+use Rattle.rn_simplify.proofs.Known.{keeps_then, known_still, settled_still}
 use Rattle.rn_simplify.proofs.Normalised.{formed_is, names_formed}
 use Rattle.rn_simplify.proofs.RankOrder.{normal_is}
 use Rattle.rn_simplify.proofs.normalising.normalise_in.Goals as goal
@@ -38,3 +38,20 @@ pub pruned-requires-clause-named : goal.pruned-requires-clause-named
 pruned-requires-clause-named g c =
     let ds = definitions_view c.in_ok-settled.settled.names.now.entries in
     ap (map (λ (d : Text × Tree). d.0)) c.in_ok-forms.ensures.made ∙ names_formed (settled_by (g.P.Patterns.tree_of c.form.new.store) ds c.in_ok-settled.settled.worth.items) ds
+
+pub forms-requires : goal.forms-requires
+forms-requires g c =
+    let k = g.P.Patterns.knows in
+    let r = g.P.Patterns.tree_of in
+    let s = c.settled.new.store in
+    known_still (k s) (k c.form.new.store) (r s) (r c.form.new.store) c.form.ensures.kept c.in_ok-settled.settled.worth.items c.in_ok-settled.ensures.known
+
+pub returns-clause-kept : goal.returns-clause-kept
+returns-clause-kept g c =
+    let k = g.P.Patterns.knows in
+    let r = g.P.Patterns.tree_of in
+    let a = c.args.store.now in
+    let s = c.settled.new.store in
+    let t = c.form.new.store in
+    let u = c.forms.new.store in
+    keeps_then (k a) (k t) (k u) (r a) (r t) (r u) (keeps_then (k a) (k s) (k t) (r a) (r s) (r t) c.settled.ensures.kept c.form.ensures.kept) c.forms.ensures.kept
