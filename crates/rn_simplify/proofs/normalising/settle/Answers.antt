@@ -62,3 +62,20 @@ returns-clause-settled g c = λ o.
 
 pub returns-clause-names : goal.returns-clause-names
 returns-clause-names g c = c.loop-number.invariant.names
+
+pub returns-in_err-settle_one-clause-kept : goal.returns-in_err-settle_one-clause-kept
+returns-in_err-settle_one-clause-kept g c =
+    let k = g.P.Patterns.knows in
+    let r = g.P.Patterns.tree_of in
+    let old = c.loop-number.store in
+    let new = c.settle_one.new.store in
+    keeps_then (k c.args.store.now) (k old) (k new) (r c.args.store.now) (r old) (r new) c.loop-number.invariant.kept c.settle_one.ensures.kept
+
+pub returns-clause-kept : goal.returns-clause-kept
+returns-clause-kept g c = c.loop-number.invariant.kept
+
+pub returns-clause-canonical : goal.returns-clause-canonical
+returns-clause-canonical g c = c.loop-number.invariant.canonical
+
+pub returns-clause-known : goal.returns-clause-known
+returns-clause-known g c = c.loop-number.invariant.known
