@@ -19,6 +19,10 @@ use Rattle.rn_simplify.specs.Numbered.{AreKnown, number_of, settled_by}
 pub keeps_then : {I : Type 0} (k k' k'' : I → Bool) (t t' t'' : I → Tree) → KeepsTrees k t k' t' → KeepsTrees k' t' k'' t'' → KeepsTrees k t k'' t''
 keeps_then k k' k'' t t' t'' a b i h = let x = a i h in let y = b i x.0 in (y.0, y.1 ∙ x.1)
 
+-- the same of the stores themselves
+pub then_kept : {S I : Type 0} (knows : S → I → Bool) (tree_of : S → I → Tree) (a b c : S) → KeepsTrees (knows a) (tree_of a) (knows b) (tree_of b) → KeepsTrees (knows b) (tree_of b) (knows c) (tree_of c) → KeepsTrees (knows a) (tree_of a) (knows c) (tree_of c)
+then_kept knows tree_of a b c h k = keeps_then (knows a) (knows b) (knows c) (tree_of a) (tree_of b) (tree_of c) h k
+
 some_known : {I : Type 0} (k k' : I → Bool) (t t' : I → Tree) → KeepsTrees k t k' t' → (o : Option I) → IfSome o (λ i. IsTrue (k i)) → IfSome o (λ i. IsTrue (k' i))
 some_known k k' t t' a None h = h
 some_known k k' t t' a (Some i) h = (a i h).0

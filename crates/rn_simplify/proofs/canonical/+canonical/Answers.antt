@@ -7,7 +7,7 @@ use Rattle.rn_pattern.proofs.PatternKinds.{group_seen, interleave_seen, choice_s
 use Rattle.rn_pattern.specs.Tree.{Tree, trees_of}
 use Rattle.rn_pattern.specs.View.{pattern_view, shared_view}
 use Rattle.rn_simplify.specs.Numbered.{settled_by}
-use Rattle.rn_simplify.proofs.Known.{keeps_then, known_still, ids_still, all_more, settled_still, trees_still, forms_more}
+use Rattle.rn_simplify.proofs.Known.{keeps_then, then_kept, known_still, ids_still, all_more, settled_still, trees_still, forms_more}
 use Rattle.rn_simplify.proofs.canonical.+canonical.Goals as goal
 
 pub canonical_members-loop-member-init : goal.canonical_members-loop-member-init
@@ -70,3 +70,30 @@ canonical-returns-in_ok-members-in-Choice-clause-made g t c =
     ∙ ap choice_step (c.in_ok-members-in-Choice.ensures.made ∙ ap (λ ps. canonical_all s (trees_of (map shared_view ps))) c.deref-in-Choice.ensures.value)
     ∙ sym (ap (λ p. canonical s (pattern_view p)) c.in-Choice.is ∙ ap (canonical s) (choice_seen c.in-Choice.members)))
     c.choice.ensures.made
+
+pub canonical-returns-in_ok-content-in-List-clause-kept : goal.canonical-returns-in_ok-content-in-List-clause-kept
+canonical-returns-in_ok-content-in-List-clause-kept g t c = then_kept g.P.Patterns.knows g.P.Patterns.tree_of c.args.store.now c.canonical-in-List.new.store c.list.new.self c.canonical-in-List.ensures.kept c.list.ensures.kept
+
+pub canonical-returns-in_ok-content-in-Attribute-clause-kept : goal.canonical-returns-in_ok-content-in-Attribute-clause-kept
+canonical-returns-in_ok-content-in-Attribute-clause-kept g t c = then_kept g.P.Patterns.knows g.P.Patterns.tree_of c.args.store.now c.canonical-in-Attribute.new.store c.attribute.new.self c.canonical-in-Attribute.ensures.kept c.attribute.ensures.kept
+
+pub canonical-returns-in_ok-content-in-Element-clause-kept : goal.canonical-returns-in_ok-content-in-Element-clause-kept
+canonical-returns-in_ok-content-in-Element-clause-kept g t c = then_kept g.P.Patterns.knows g.P.Patterns.tree_of c.args.store.now c.canonical-in-Element.new.store c.element.new.self c.canonical-in-Element.ensures.kept c.element.ensures.kept
+
+pub canonical-returns-in_ok-content-in-OneOrMore-clause-kept : goal.canonical-returns-in_ok-content-in-OneOrMore-clause-kept
+canonical-returns-in_ok-content-in-OneOrMore-clause-kept g t c = then_kept g.P.Patterns.knows g.P.Patterns.tree_of c.args.store.now c.canonical-in-OneOrMore.new.store c.one_or_more.new.self c.canonical-in-OneOrMore.ensures.kept c.one_or_more.ensures.kept
+
+pub canonical-returns-in_ok-members-in-Group-clause-kept : goal.canonical-returns-in_ok-members-in-Group-clause-kept
+canonical-returns-in_ok-members-in-Group-clause-kept g t c = then_kept g.P.Patterns.knows g.P.Patterns.tree_of c.args.store.now c.canonical_members.new.store c.group.new.self c.canonical_members.ensures.kept c.group.ensures.kept
+
+pub canonical-returns-in_ok-members-in-Interleave-clause-kept : goal.canonical-returns-in_ok-members-in-Interleave-clause-kept
+canonical-returns-in_ok-members-in-Interleave-clause-kept g t c = then_kept g.P.Patterns.knows g.P.Patterns.tree_of c.args.store.now c.canonical_members-in-Interleave.new.store c.ileave.new.self c.canonical_members-in-Interleave.ensures.kept c.ileave.ensures.kept
+
+pub canonical-returns-in_ok-members-in-Choice-clause-kept : goal.canonical-returns-in_ok-members-in-Choice-clause-kept
+canonical-returns-in_ok-members-in-Choice-clause-kept g t c = then_kept g.P.Patterns.knows g.P.Patterns.tree_of c.args.store.now c.canonical_members-in-Choice.new.store c.choice.new.self c.canonical_members-in-Choice.ensures.kept c.choice.ensures.kept
+
+pub canonical_members-returns-in_err-id-clause-kept : goal.canonical_members-returns-in_err-id-clause-kept
+canonical_members-returns-in_err-id-clause-kept g t c = then_kept g.P.Patterns.knows g.P.Patterns.tree_of c.args.store.now c.loop-member.store c.canonical.new.store c.loop-member.invariant.kept c.canonical.ensures.kept
+
+pub canonical_members-returns-in_err-push-clause-kept : goal.canonical_members-returns-in_err-push-clause-kept
+canonical_members-returns-in_err-push-clause-kept g t c = then_kept g.P.Patterns.knows g.P.Patterns.tree_of c.args.store.now c.loop-member.store c.canonical.new.store c.loop-member.invariant.kept c.canonical.ensures.kept

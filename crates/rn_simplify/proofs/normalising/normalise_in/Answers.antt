@@ -7,7 +7,7 @@ use Rattle.rn_pattern.specs.View.{pattern_view}
 use Rattle.rn_pattern.specs.declared.tree.Pattern.{Pattern}
 use Rattle.rn_assemble.specs.GrammarView.{definitions_view, grammar_view}
 use Rattle.rn_simplify.specs.Numbered.{settled_by}
-use Rattle.rn_simplify.proofs.Known.{keeps_then, known_still, settled_still}
+use Rattle.rn_simplify.proofs.Known.{then_kept, known_still, settled_still}
 use Rattle.rn_simplify.proofs.Normalised.{formed_is, names_formed}
 use Rattle.rn_simplify.proofs.RankOrder.{normal_is}
 use Rattle.rn_simplify.proofs.normalising.normalise_in.Goals as goal
@@ -51,7 +51,5 @@ returns-clause-kept g c =
     let k = g.P.Patterns.knows in
     let r = g.P.Patterns.tree_of in
     let a = c.args.store.now in
-    let s = c.settled.new.store in
     let t = c.form.new.store in
-    let u = c.forms.new.store in
-    keeps_then (k a) (k t) (k u) (r a) (r t) (r u) (keeps_then (k a) (k s) (k t) (r a) (r s) (r t) c.settled.ensures.kept c.form.ensures.kept) c.forms.ensures.kept
+    then_kept k r a t c.forms.new.store (then_kept k r a c.settled.new.store t c.settled.ensures.kept c.form.ensures.kept) c.forms.ensures.kept

@@ -5,7 +5,7 @@ use Rattle.std.proofs.lemmas.List.Elements.{Contains-get_or}
 use Rattle.rn_pattern.specs.CanonicalShape.{IsCanonicalPattern}
 use Rattle.rn_assemble.specs.GrammarView.{definitions_view}
 use Rattle.rn_simplify.specs.Numbered.{AreSettled, Settles, settled_by}
-use Rattle.rn_simplify.proofs.Known.{keeps_then, each_of_none}
+use Rattle.rn_simplify.proofs.Known.{keeps_then, then_kept, each_of_none}
 use Rattle.rn_simplify.proofs.Numbers.{size_of_view}
 use Rattle.rn_simplify.proofs.ReferenceGraph.{nothing}
 use Rattle.rn_simplify.proofs.SettledMore.{settled_more, settled_none}
@@ -64,12 +64,7 @@ pub returns-clause-names : goal.returns-clause-names
 returns-clause-names g c = c.loop-number.invariant.names
 
 pub returns-in_err-settle_one-clause-kept : goal.returns-in_err-settle_one-clause-kept
-returns-in_err-settle_one-clause-kept g c =
-    let k = g.P.Patterns.knows in
-    let r = g.P.Patterns.tree_of in
-    let old = c.loop-number.store in
-    let new = c.settle_one.new.store in
-    keeps_then (k c.args.store.now) (k old) (k new) (r c.args.store.now) (r old) (r new) c.loop-number.invariant.kept c.settle_one.ensures.kept
+returns-in_err-settle_one-clause-kept g c = then_kept g.P.Patterns.knows g.P.Patterns.tree_of c.args.store.now c.loop-number.store c.settle_one.new.store c.loop-number.invariant.kept c.settle_one.ensures.kept
 
 pub returns-clause-kept : goal.returns-clause-kept
 returns-clause-kept g c = c.loop-number.invariant.kept
