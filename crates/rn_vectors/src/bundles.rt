@@ -1,91 +1,87 @@
 // Bundles: their one spelling, what is read from damaged ones, and runs over several.
 use crate::contributions::{effective_count, is_effective, refuses, refuses_a_longer_text};
 use crate::sets::{
-    add, answer, bundle, contribution, held, line_of, module, same, same_bytes, same_count,
-    same_for, same_in_row, set_of_bundle, written_set,
+    add, answer, bundle, contribution, held, holds, line_of, made, module, owned, push, same,
+    same_bytes, same_count, same_for, set_of_bundle, written_set,
 };
 use rn_merge::{ProgramFault, list_line};
 use rn_modset::{AddFault, Contribution, ModuleSet, read_bundle};
-use std::alloc::Global;
 use std::process::Abort;
-use std::test::Fail;
 
 /// The bundle of one text.
 pub const ONE: &str =
     "rncset 1\nmodule t 7 3 ba7816bf8f01cfea414140de5dae2223b00361a396177a9cb410ff61f20015ad\nabc\nend 1\n";
 
 /// The line of what is wrong with a bundle, or `good`.
-fn fault(alloc: Global, bytes: &[u8]) -> Result<String, Fail> {
-    match read_bundle(alloc, bytes) {
-        Ok(set) => {
-            drop(set);
-            Ok(String::from_str(alloc, "good")?)
-        }
-        Err(fault) => line_of(alloc, ProgramFault::Bundle(0, fault)),
+fn fault(rt: &(impl Abort + AllocGlobal), bytes: &[u8]) -> String {
+    match read_bundle(rt.alloc(), bytes) {
+        Ok(_) => owned(rt, "good"),
+        Err(fault) => line_of(rt, ProgramFault::Bundle(0, fault)),
     }
 }
 
-/// The line of a contribution in a list.
-fn listed(alloc: Global, written: &str) -> Result<String, Fail> {
-    Ok(list_line(alloc, &contribution(alloc, written)?)?)
+/// A bundle has this line of what is wrong with it, or `good`.
+fn is_found(rt: &(impl Abort + AllocGlobal), given: &str, bytes: &[u8], wanted: &str) {
+    same_for(rt, given, fault(rt, bytes).as_str(), wanted);
+}
+
+/// A contribution has this line in a list.
+fn is_listed(rt: &(impl Abort + AllocGlobal), written: &str, wanted: &str) {
+    let line = list_line(rt.alloc(), &contribution(rt, written));
+    same(rt, made(rt, line).as_str(), wanted);
 }
 
 #[test]
-fn one_text_has_its_bundle(rt: HostRuntime) -> Result<(), Fail> {
-    let alloc = rt.alloc();
-    let bytes = bundle(alloc, &written_set(alloc, "@t 7\nabc")?)?;
+fn one_text_has_its_bundle(rt: HostRuntime) {
+    let bytes = bundle(&rt, &written_set(&rt, "@t 7\nabc"));
     same_count(&rt, bytes.len(), 97);
     same_bytes(&rt, bytes.as_slice(), ONE.as_bytes());
-    Ok(())
 }
 
 #[test]
-fn one_text_is_read_from_its_bundle(rt: HostRuntime) -> Result<(), Fail> {
-    let read = set_of_bundle(rt.alloc(), ONE.as_bytes())?;
-    assert!(rt; read.contains(&module(rt.alloc(), "t", 7, b"abc")?));
-    Ok(())
+fn one_text_is_read_from_its_bundle(rt: HostRuntime) {
+    let read = set_of_bundle(&rt, ONE.as_bytes());
+    let is_read = read.contains(&module(&rt, "t", 7, b"abc"));
+    holds(&rt, is_read, "the text is read");
 }
 
 #[test]
-fn contributions_have_their_lines(rt: HostRuntime) -> Result<(), Fail> {
-    let alloc = rt.alloc();
-    same(
+fn contributions_have_their_lines(rt: HostRuntime) {
+    is_listed(
         &rt,
-        listed(alloc, "t 7\nabc")?.as_str(),
+        "t 7\nabc",
         "t 7 3 ba7816bf8f01cfea414140de5dae2223b00361a396177a9cb410ff61f20015ad",
     );
-    same(
-        &rt,
-        listed(alloc, "lib 2 withdrawn")?.as_str(),
-        "lib 2 withdrawn",
-    );
-    Ok(())
+    is_listed(&rt, "lib 2 withdrawn", "lib 2 withdrawn");
 }
 
 #[test]
-fn other_sets_have_their_bundles(rt: HostRuntime) -> Result<(), Fail> {
-    let alloc = rt.alloc();
-    let empty = bundle(alloc, &ModuleSet::new(alloc))?;
+fn other_sets_have_their_bundles(rt: HostRuntime) {
+    let empty = bundle(&rt, &ModuleSet::new(rt.alloc()));
     same_bytes(&rt, empty.as_slice(), b"rncset 1\nend 0\n");
-    let withdrawn = bundle(alloc, &written_set(alloc, "@lib 2 withdrawn\n")?)?;
-    assert!(rt; withdrawn.as_slice() == b"rncset 2\nwithdrawn lib 2\nend 1\n".as_slice());
-    Ok(())
+    let withdrawn = bundle(&rt, &written_set(&rt, "@lib 2 withdrawn\n"));
+    same_bytes(
+        &rt,
+        withdrawn.as_slice(),
+        b"rncset 2\nwithdrawn lib 2\nend 1\n",
+    );
+}
+
+/// The bundle of a set written has so many bytes.
+fn has_length(rt: &(impl Abort + AllocGlobal), written: &str, wanted: usize) {
+    same_count(rt, bundle(rt, &written_set(rt, written)).len(), wanted);
 }
 
 #[test]
-fn bundles_have_their_lengths(rt: HostRuntime) -> Result<(), Fail> {
-    let alloc = rt.alloc();
-    let blank = written_set(alloc, "@a 0\n")?;
-    same_count(&rt, bundle(alloc, &blank)?.len(), 94);
-    let text = "@a\nstart = doc doc |= element b { text }@b\ndoc |= element a { empty }";
-    let both = written_set(alloc, text)?;
-    same_count(&rt, bundle(alloc, &both)?.len(), 238);
-    Ok(())
+fn bundles_have_their_lengths(rt: HostRuntime) {
+    has_length(&rt, "@a 0\n", 94);
+    let text = "@a\nstart = doc doc |= element b { text }\n@b\ndoc |= element a { empty }";
+    has_length(&rt, text, 238);
 }
 
 /// A bundle's text with one part of it replaced.
-fn changed(alloc: Global, old: &str, new: &str) -> Result<String, Fail> {
-    Ok(ONE.replacen(alloc, old, new, 1)?)
+fn changed(rt: &(impl Abort + AllocGlobal), old: &str, new: &str) -> String {
+    made(rt, ONE.replacen(rt.alloc(), old, new, 1))
 }
 
 /// Parts of the bundle of one text, what stands in their place, and the line of what is wrong then.
@@ -111,28 +107,24 @@ static DAMAGE: [(&str, &str, &str); 18] = [
 ];
 
 #[test]
-fn damage_is_named(rt: HostRuntime) -> Result<(), Fail> {
-    let alloc = rt.alloc();
+fn damage_is_named(rt: HostRuntime) {
     for (old, new, wanted) in &DAMAGE {
-        let text = changed(alloc, old, new)?;
-        same_for(&rt, new, fault(alloc, text.as_bytes())?.as_str(), *wanted);
+        let text = changed(&rt, old, new);
+        is_found(&rt, new, text.as_bytes(), wanted);
     }
-    Ok(())
 }
 
 #[test]
-fn version_2_has_a_withdrawal(rt: HostRuntime) -> Result<(), Fail> {
+fn version_2_has_a_withdrawal(rt: HostRuntime) {
     same(
         &rt,
-        fault(rt.alloc(), b"rncset 2\nend 0\n")?.as_str(),
+        fault(&rt, b"rncset 2\nend 0\n").as_str(),
         "bundle 0 Header 0",
     );
-    Ok(())
 }
 
 #[test]
-fn fronts_are_no_bundles(rt: HostRuntime) -> Result<(), Fail> {
-    let alloc = rt.alloc();
+fn fronts_are_no_bundles(rt: HostRuntime) {
     let bytes = ONE.as_bytes();
     for end in 0..bytes.len() {
         let wanted = if end < 9 {
@@ -140,140 +132,132 @@ fn fronts_are_no_bundles(rt: HostRuntime) -> Result<(), Fail> {
         } else {
             "bundle 0 Truncated"
         };
-        same_in_row(&rt, end, fault(alloc, &bytes[..end])?.as_str(), wanted);
+        assert_eq!(rt; fault(&rt, &bytes[..end]).as_str(), wanted, "row {end}");
     }
-    Ok(())
 }
 
 /// The entry of a text `abc` of revision 7.
-fn entry(alloc: Global, name: &str) -> Result<String, Fail> {
-    Ok(format!(in alloc;
-        "module {name} 7 3 ba7816bf8f01cfea414140de5dae2223b00361a396177a9cb410ff61f20015ad\nabc\n"
-    )?)
+fn entry(rt: &(impl Abort + AllocGlobal), name: &str) -> String {
+    made(
+        rt,
+        format!(in rt.alloc();
+            "module {name} 7 3 ba7816bf8f01cfea414140de5dae2223b00361a396177a9cb410ff61f20015ad\nabc\n"
+        ),
+    )
 }
 
-/// The line of what is wrong with a bundle of two entries, or `good`.
-fn fault_of_two(alloc: Global, version: u8, first: &str, second: &str) -> Result<String, Fail> {
-    let text = format!(in alloc; "rncset {version}\n{first}{second}end 2\n")?;
-    fault(alloc, text.as_bytes())
+/// What is wrong with a bundle of two entries, or `good`.
+fn two_have(rt: &(impl Abort + AllocGlobal), version: u8, first: &str, second: &str, wanted: &str) {
+    let text = made(
+        rt,
+        format!(in rt.alloc(); "rncset {version}\n{first}{second}end 2\n"),
+    );
+    is_found(rt, second, text.as_bytes(), wanted);
 }
 
 #[test]
-fn texts_rise(rt: HostRuntime) -> Result<(), Fail> {
-    let alloc = rt.alloc();
+fn texts_rise(rt: HostRuntime) {
+    let first = entry(&rt, "t");
     for (name, wanted) in [
         ("t", "bundle 0 Order 1"),
         ("s", "bundle 0 Order 1"),
         ("u", "good"),
     ] {
-        let first = entry(alloc, "t")?;
-        let second = entry(alloc, name)?;
-        let found = fault_of_two(alloc, 1, first.as_str(), second.as_str())?;
-        same_for(&rt, name, found.as_str(), wanted);
+        two_have(&rt, 1, first.as_str(), entry(&rt, name).as_str(), wanted);
     }
-    Ok(())
 }
 
 #[test]
-fn a_withdrawal_stands_before_its_text(rt: HostRuntime) -> Result<(), Fail> {
-    let alloc = rt.alloc();
-    let text = entry(alloc, "t")?;
+fn a_withdrawal_stands_before_its_text(rt: HostRuntime) {
+    let text = entry(&rt, "t");
     let withdrawal = "withdrawn t 7\n";
-    let good = fault_of_two(alloc, 2, withdrawal, text.as_str())?;
-    same(&rt, good.as_str(), "good");
-    let turned = fault_of_two(alloc, 2, text.as_str(), withdrawal)?;
-    same(&rt, turned.as_str(), "bundle 0 Order 1");
-    Ok(())
+    two_have(&rt, 2, withdrawal, text.as_str(), "good");
+    two_have(&rt, 2, text.as_str(), withdrawal, "bundle 0 Order 1");
+}
+
+/// The entry of a withdrawal of a numbered name.
+fn withdrawal(rt: &(impl Abort + AllocGlobal), number: usize) -> String {
+    made(rt, format!(in rt.alloc(); "withdrawn m{number:04} 1\n"))
 }
 
 /// A bundle of that many withdrawals.
-fn withdrawn(alloc: Global, count: usize) -> Result<String, Fail> {
-    let mut text = String::from_str(alloc, "rncset 2\n")?;
+fn withdrawn(rt: &(impl Abort + AllocGlobal), count: usize) -> String {
+    let mut text = owned(rt, "rncset 2\n");
     for number in 0..count {
-        text.push_str(format!(in alloc; "withdrawn m{number:04} 1\n")?.as_str())?;
+        push(rt, &mut text, withdrawal(rt, number).as_str());
     }
-    text.push_str(format!(in alloc; "end {count}\n")?.as_str())?;
-    Ok(text)
+    let end = made(rt, format!(in rt.alloc(); "end {count}\n"));
+    push(rt, &mut text, end.as_str());
+    text
 }
 
 #[test]
-fn entries_are_limited(rt: HostRuntime) -> Result<(), Fail> {
-    let alloc = rt.alloc();
-    let most = withdrawn(alloc, 1024)?;
-    same(&rt, fault(alloc, most.as_bytes())?.as_str(), "good");
-    let more = withdrawn(alloc, 1025)?;
-    same(
-        &rt,
-        fault(alloc, more.as_bytes())?.as_str(),
-        "bundle 0 Header 1024",
-    );
-    Ok(())
+fn entries_are_limited(rt: HostRuntime) {
+    let most = withdrawn(&rt, 1024);
+    is_found(&rt, "1024 entries", most.as_bytes(), "good");
+    let more = withdrawn(&rt, 1025);
+    is_found(&rt, "1025 entries", more.as_bytes(), "bundle 0 Header 1024");
 }
 
 /// A contribution of a numbered name.
-fn numbered(alloc: Global, number: usize) -> Result<Contribution, Fail> {
-    let name = format!(in alloc; "m{number:04}")?;
-    module(alloc, name.as_str(), 1, b"")
+fn numbered(rt: &(impl Abort + AllocGlobal), number: usize) -> Contribution {
+    let name = made(rt, format!(in rt.alloc(); "m{number:04}"));
+    module(rt, name.as_str(), 1, b"")
 }
 
 /// A set of 1,024 numbered names.
-fn full(alloc: Global) -> Result<ModuleSet, Fail> {
-    let mut set = ModuleSet::new(alloc);
+fn full(rt: &(impl Abort + AllocGlobal)) -> ModuleSet {
+    let mut set = ModuleSet::new(rt.alloc());
     for number in 0..1024 {
-        if !add(&mut set, numbered(alloc, number)?)? {
-            return Err("held before".into());
-        }
+        let is_new = add(rt, &mut set, numbered(rt, number));
+        holds(rt, is_new, "each name is new");
     }
-    Ok(set)
+    set
 }
 
 /// What a full set refuses, and what it holds.
-fn takes_no_more(rt: &(impl Abort + AllocGlobal), set: &mut ModuleSet) -> Result<(), Fail> {
-    refuses(rt, set, "m1024", AddFault::Full)?;
+fn takes_no_more(rt: &(impl Abort + AllocGlobal), set: &mut ModuleSet) {
+    refuses(rt, set, "m1024", AddFault::Full);
     same_count(rt, set.len(), 1024);
-    assert!(rt; !add(set, numbered(rt.alloc(), 7)?)?);
-    Ok(())
+    let is_new = add(rt, set, numbered(rt, 7));
+    holds(rt, !is_new, "what a full set holds is held");
 }
 
 /// A set of one that a full set lacks takes nothing from it.
-fn joins_nothing(rt: &(impl Abort + AllocGlobal), full: &ModuleSet) -> Result<(), Fail> {
-    let mut set = written_set(rt.alloc(), "@m1024\n")?;
-    let is_refused = set.join(full).err() == Some(AddFault::Full);
-    let count = set.len();
-    drop(set);
-    assert!(rt; is_refused);
-    same_count(rt, count, 1);
-    Ok(())
+fn joins_nothing(rt: &(impl Abort + AllocGlobal), full: &ModuleSet) {
+    let mut set = written_set(rt, "@m1024\n");
+    let is_refused = set.join(full) == Err(AddFault::Full);
+    holds(rt, is_refused, "a full set is not joined");
+    same_count(rt, set.len(), 1);
 }
 
 #[test]
-fn a_full_set_takes_no_more(rt: HostRuntime) -> Result<(), Fail> {
-    let mut set = full(rt.alloc())?;
-    takes_no_more(&rt, &mut set)?;
-    joins_nothing(&rt, &set)
+fn a_full_set_takes_no_more(rt: HostRuntime) {
+    let mut set = full(&rt);
+    takes_no_more(&rt, &mut set);
+    joins_nothing(&rt, &set);
 }
 
 #[test]
-fn a_full_set_names_other_faults_first(rt: HostRuntime) -> Result<(), Fail> {
-    let mut set = full(rt.alloc())?;
-    refuses(&rt, &mut set, " 1", AddFault::BadName)?;
-    refuses_a_longer_text(&rt, &mut set)
+fn a_full_set_names_other_faults_first(rt: HostRuntime) {
+    let mut set = full(&rt);
+    refuses(&rt, &mut set, " 1", AddFault::BadName);
+    refuses_a_longer_text(&rt, &mut set);
 }
 
-/// What a set holds, what of it is effective, and what it merges to.
-fn tells(rt: &(impl Abort + AllocGlobal), set: &ModuleSet) -> Result<(), Fail> {
+#[test]
+fn sets_tell_what_they_hold(rt: HostRuntime) {
+    let text = "@b\nstart = text\n@a 2 withdrawn\n@a\nx = text\n@a 3\nx = empty";
+    let set = written_set(&rt, text);
     let lines = "a 1\na 2 withdrawn\na 3\nb 1\n";
-    same(rt, held(rt.alloc(), set)?.as_str(), lines);
-    same_count(rt, effective_count(rt.alloc(), set)?, 2);
-    assert!(rt; is_effective(rt.alloc(), set, "a", Some(b"x = empty"))?);
-    assert!(rt; is_effective(rt.alloc(), set, "c", None)?);
-    same(rt, answer(rt.alloc(), set)?.as_str(), "start = text\n");
-    Ok(())
-}
-
-#[test]
-fn sets_tell_what_they_hold(rt: HostRuntime) -> Result<(), Fail> {
-    let text = "@b\nstart = text@a 2 withdrawn\n@a\nx = text@a 3\nx = empty";
-    let set = written_set(rt.alloc(), text)?;
-    tells(&rt, &set)
+    same(&rt, held(&rt, &set).as_str(), lines);
+    same_count(&rt, effective_count(&rt, &set), 2);
+    let is_highest = is_effective(&rt, &set, "a", Some(b"x = empty"));
+    holds(&rt, is_highest, "the highest revision is effective");
+    holds(
+        &rt,
+        is_effective(&rt, &set, "c", None),
+        "no other module is",
+    );
+    same(&rt, answer(&rt, &set).as_str(), "start = text\n");
 }

@@ -1,181 +1,130 @@
 // Module texts, and the one fault of each.
 use crate::large::repeated;
-use crate::sets::{line_of, same, same_for};
+use crate::sets::{Subject, each_line, holds, line_of, made, owned, push, same, same_for};
 use rn_merge::{Place, ProgramFault, check, status};
 use std::alloc::Global;
 use std::process::Abort;
-use std::test::Fail;
 
 /// A text, and `good` or the kind of its fault with its place in bytes.
-static ROWS: [(&str, &str); 85] = [
-    ("abc", "Syntax 3"),
-    ("start = element a { , }", "Syntax 20"),
-    ("", "good"),
-    ("start = \"\\x{22}\"", "Lexical 8"),
-    ("namespace xmlns = \"u\"", "Prefix 10"),
-    (
-        "default namespace = \"u\" default namespace = \"v\"",
-        "Prefix 24",
-    ),
-    ("start = element p:a { text }", "Prefix 16"),
-    ("a = token { k = \"v\" }", "Builtin 4"),
-    ("a = xsd:QName \"x\"", "ContextValue 4"),
-    ("a = xsd:QName", "good"),
-    ("a = string - text", "Except 11"),
-    ("a = string - (\"x\"*)", "Except 11"),
-    ("grammar { start = text }", "good"),
-    ("start = grammar { start = text }", "Syntax 8"),
-    ("start = element r { ", "Syntax 19"),
-    ("start = text }", "Syntax 13"),
-    ("start = a, b | c", "Syntax 13"),
-    ("start = a??", "Syntax 10"),
-    ("a = b c", "Syntax 7"),
-    ("a = b >> x", "Syntax 10"),
-    ("x [", "Syntax 3"),
-    ("start = \"a", "Lexical 8"),
-    (
-        "namespace xml = \"http://www.w3.org/XML/1998/namespace\" start = text",
-        "good",
-    ),
-    ("namespace xml = \"u\" start = text", "Prefix 10"),
-    ("namespace xml = inherit start = text", "Prefix 10"),
-    (
-        "datatypes xsd = \"http://www.w3.org/2001/XMLSchema-datatypes\" start = text",
-        "good",
-    ),
-    ("datatypes xsd = \"u\" start = text", "Prefix 10"),
-    ("namespace p = \"u\" namespace p = \"u\"", "Prefix 28"),
-    ("start = element xmlns:a { text }", "Prefix 16"),
-    ("include \"b\" inherit = p", "Prefix 22"),
-    ("start = element a { p:int }", "Prefix 20"),
-    ("start = element p:* { text }", "Prefix 16"),
-    (
-        "datatypes d = \"\" start = element a { d:int }",
-        "Builtin 37",
-    ),
-    ("datatypes d = \"\" start = element a { d:string }", "good"),
-    ("a = string { }", "good"),
-    ("a = string - (token - \"x\" | \"y\")", "good"),
-    ("a = string - b", "Except 11"),
-    ("a = string - \"x\"*", "Syntax 16"),
-    ("a = string - \"x\" - \"y\"", "Syntax 17"),
-    ("a = ( [ \"s\" (", "Syntax 12"),
-    ("p:q", "Syntax 3"),
-    ("a = b [ ] c = d", "good"),
-    ("a = [ x:y = \"z\" ] b >> c [ \"d\" ] >> e:f [ ]", "good"),
-    ("default namespace xml = \"u\"", "Prefix 18"),
-    ("start = element a { p:b } namespace", "Syntax 26"),
-    (
-        "[ x ] grammar { div { } a |= text } >> note [ ] >> p:q [ [ ] ]",
-        "good",
-    ),
-    (
-        "start = element a { text | \"b\" ~ 'c' }, attribute * - (p | xml:* - x) { list { string+ } }",
-        "good",
-    ),
-    (
-        "a &= mixed { \\text }? >> b [ ], (token | xsd:ID { k = \"v\" [ ] default = 'w' } - (xsd:y | \"y\"))",
-        "good",
-    ),
-    (
-        "namespace x = \"u\" namespace sch = inherit default namespace = \"v\" sch:ns [ ] start = empty",
-        "good",
-    ),
-    (
-        "default namespace p = inherit include \"l\" inherit = p { div { x = text } start = notAllowed n [ ] }",
-        "good",
-    ),
-    ("a = xsd:QName namespace-2 [ ]", "good"),
-    ("a = string - \"no\", string - token \"no\"", "good"),
-    (
-        "datatypes d = \"\" datatypes xml = \"u\" a = d:string \"x\"",
-        "good",
-    ),
-    (
-        "datatypes xsd = \"http://www.w3.org/2001/XMLSchema-datatypes\" namespace xsd = 'u' start = xsd:x",
-        "good",
-    ),
-    (
-        "a = string - (string - \"x\" | notAllowed | token { })",
-        "good",
-    ),
-    ("p:q [ ] [ ] p:q [ ]", "Syntax 12"),
-    ("[ a ] x [", "Syntax 8"),
-    ("[ a ", "Syntax 3"),
-    ("[ a } start = text", "Syntax 4"),
-    ("a = string - \"no\"?", "Syntax 17"),
-    ("a = string - token - \"no\"", "Syntax 19"),
-    ("include \"l\" { include \"m\" }", "Syntax 14"),
-    ("[ ] grammar { } start = text", "Syntax 16"),
-    ("start = external \"x\"", "Syntax 8"),
-    ("default default", "Syntax 8"),
-    ("namespace = \"u\"", "Syntax 10"),
-    ("namespace a |= \"u\"", "Syntax 12"),
-    ("start = \"a\" ~", "Syntax 13"),
-    ("start = string { k = }", "Syntax 21"),
-    ("start = element * - * - a { text }", "Syntax 22"),
-    ("start text", "Syntax 6"),
-    ("div text", "Syntax 4"),
-    ("start = parent a", "Syntax 8"),
-    (
-        "default namespace = \"u\" default namespace xml = \"v\"",
-        "Prefix 24",
-    ),
-    ("default namespace xml = inherit", "Prefix 18"),
-    ("datatypes xsd = \"u\"", "Prefix 10"),
-    ("start = attribute (a | xmlns:b) { text }", "Prefix 23"),
-    ("start = attribute p:* - q:* { text }", "Prefix 18"),
-    ("include 'l' inherit = p { start = p:x }", "Prefix 22"),
-    ("a = token { k = \"v\" } b = xml:x", "Prefix 26"),
-    ("datatypes d = \"\" a = d:int \"x\"", "Builtin 21"),
-    ("a = xsd:QName \"x\" b = string { k = 'v' }", "Builtin 22"),
-    (
-        "div { a = string - (xsd:NOTATION \"x\") }",
-        "ContextValue 20",
-    ),
-    ("a = string - (token - (a) | 'x')", "Except 20"),
-    ("a = string - (\"x\", \"y\")", "Except 11"),
-];
-
-/// The table is named here alone: each function that names it is dearer to prove.
-fn rows() -> &'static [(&'static str, &'static str)] {
-    &ROWS
-}
+const ROWS: &str = r#"abc => Syntax 3
+start = element a { , } => Syntax 20
+ => good
+start = "\x{22}" => Lexical 8
+namespace xmlns = "u" => Prefix 10
+default namespace = "u" default namespace = "v" => Prefix 24
+start = element p:a { text } => Prefix 16
+a = token { k = "v" } => Builtin 4
+a = xsd:QName "x" => ContextValue 4
+a = xsd:QName => good
+a = string - text => Except 11
+a = string - ("x"*) => Except 11
+grammar { start = text } => good
+start = grammar { start = text } => Syntax 8
+start = element r {  => Syntax 19
+start = text } => Syntax 13
+start = a, b | c => Syntax 13
+start = a?? => Syntax 10
+a = b c => Syntax 7
+a = b >> x => Syntax 10
+x [ => Syntax 3
+start = "a => Lexical 8
+namespace xml = "http://www.w3.org/XML/1998/namespace" start = text => good
+namespace xml = "u" start = text => Prefix 10
+namespace xml = inherit start = text => Prefix 10
+datatypes xsd = "http://www.w3.org/2001/XMLSchema-datatypes" start = text => good
+datatypes xsd = "u" start = text => Prefix 10
+namespace p = "u" namespace p = "u" => Prefix 28
+start = element xmlns:a { text } => Prefix 16
+include "b" inherit = p => Prefix 22
+start = element a { p:int } => Prefix 20
+start = element p:* { text } => Prefix 16
+datatypes d = "" start = element a { d:int } => Builtin 37
+datatypes d = "" start = element a { d:string } => good
+a = string { } => good
+a = string - (token - "x" | "y") => good
+a = string - b => Except 11
+a = string - "x"* => Syntax 16
+a = string - "x" - "y" => Syntax 17
+a = ( [ "s" ( => Syntax 12
+p:q => Syntax 3
+a = b [ ] c = d => good
+a = [ x:y = "z" ] b >> c [ "d" ] >> e:f [ ] => good
+default namespace xml = "u" => Prefix 18
+start = element a { p:b } namespace => Syntax 26
+[ x ] grammar { div { } a |= text } >> note [ ] >> p:q [ [ ] ] => good
+start = element a { text | "b" ~ 'c' }, attribute * - (p | xml:* - x) { list { string+ } } => good
+a &= mixed { \text }? >> b [ ], (token | xsd:ID { k = "v" [ ] default = 'w' } - (xsd:y | "y")) => good
+namespace x = "u" namespace sch = inherit default namespace = "v" sch:ns [ ] start = empty => good
+default namespace p = inherit include "l" inherit = p { div { x = text } start = notAllowed n [ ] } => good
+a = xsd:QName namespace-2 [ ] => good
+a = string - "no", string - token "no" => good
+datatypes d = "" datatypes xml = "u" a = d:string "x" => good
+datatypes xsd = "http://www.w3.org/2001/XMLSchema-datatypes" namespace xsd = 'u' start = xsd:x => good
+a = string - (string - "x" | notAllowed | token { }) => good
+p:q [ ] [ ] p:q [ ] => Syntax 12
+[ a ] x [ => Syntax 8
+[ a  => Syntax 3
+[ a } start = text => Syntax 4
+a = string - "no"? => Syntax 17
+a = string - token - "no" => Syntax 19
+include "l" { include "m" } => Syntax 14
+[ ] grammar { } start = text => Syntax 16
+start = external "x" => Syntax 8
+default default => Syntax 8
+namespace = "u" => Syntax 10
+namespace a |= "u" => Syntax 12
+start = "a" ~ => Syntax 13
+start = string { k = } => Syntax 21
+start = element * - * - a { text } => Syntax 22
+start text => Syntax 6
+div text => Syntax 4
+start = parent a => Syntax 8
+default namespace = "u" default namespace xml = "v" => Prefix 24
+default namespace xml = inherit => Prefix 18
+datatypes xsd = "u" => Prefix 10
+start = attribute (a | xmlns:b) { text } => Prefix 23
+start = attribute p:* - q:* { text } => Prefix 18
+include 'l' inherit = p { start = p:x } => Prefix 22
+a = token { k = "v" } b = xml:x => Prefix 26
+datatypes d = "" a = d:int "x" => Builtin 21
+a = xsd:QName "x" b = string { k = 'v' } => Builtin 22
+div { a = string - (xsd:NOTATION "x") } => ContextValue 20
+a = string - (token - (a) | 'x') => Except 20
+a = string - ("x", "y") => Except 11"#;
 
 /// The answer of a check, as rows write it.
-fn answer(alloc: Global, text: &[u8]) -> Result<String, Fail> {
-    match check(alloc, text) {
-        Ok(()) => Ok(String::from_str(alloc, "good")?),
-        Err(place) => line_of(alloc, ProgramFault::Check(place)),
+fn answer(rt: &(impl Abort + AllocGlobal), text: &[u8]) -> String {
+    match check(rt.alloc(), text) {
+        Ok(()) => owned(rt, "good"),
+        Err(place) => line_of(rt, ProgramFault::Check(place)),
+    }
+}
+
+/// A check.
+struct Check;
+
+impl Subject for Check {
+    fn answers<R: Abort + AllocGlobal>(&self, rt: &R, given: &str, wanted: &str) {
+        same_for(rt, given, answer(rt, given.as_bytes()).as_str(), wanted);
     }
 }
 
 #[test]
-fn texts_have_their_fault(rt: HostRuntime) -> Result<(), Fail> {
-    let alloc = rt.alloc();
-    for (text, wanted) in rows() {
-        let found = answer(alloc, text.as_bytes())?;
-        same_for(&rt, text, found.as_str(), *wanted);
-    }
+fn texts_have_their_fault(rt: HostRuntime) {
+    each_line(&rt, &Check, ROWS);
     same(
         &rt,
-        answer(alloc, b"start = text\xff")?.as_str(),
+        answer(&rt, b"start = text\xff").as_str(),
         "Encoding 12",
     );
-    Ok(())
 }
 
 #[test]
-fn brackets_are_counted(rt: HostRuntime) -> Result<(), Fail> {
-    let alloc = rt.alloc();
-    let mut text = String::from_str(alloc, "start = ")?;
-    for _ in 0..256 {
-        text.push('(')?;
-    }
-    same(&rt, answer(alloc, text.as_bytes())?.as_str(), "Syntax 264");
-    text.push('(')?;
-    same(&rt, answer(alloc, text.as_bytes())?.as_str(), "Deep 264");
-    Ok(())
+fn brackets_are_counted(rt: HostRuntime) {
+    let mut text = repeated(&rt, "start = ", "(", 256, "");
+    same(&rt, answer(&rt, text.as_bytes()).as_str(), "Syntax 264");
+    push(&rt, &mut text, "(");
+    same(&rt, answer(&rt, text.as_bytes()).as_str(), "Deep 264");
 }
 
 /// Shapes of texts of about 4 MB: what stands at the front, the piece that follows so often, and the length of both in bytes.
@@ -209,37 +158,25 @@ static LARGE: [(&str, &str, usize, usize); 6] = [
 ];
 
 /// A text of so many pieces has this answer.
-fn answers(
-    rt: &(impl Abort + AllocGlobal),
-    piece: &str,
-    text: String,
-    wanted: &str,
-) -> Result<(), Fail> {
-    let found = answer(rt.alloc(), text.as_bytes());
-    drop(text);
-    same_for(rt, piece, found?.as_str(), wanted);
-    Ok(())
+fn answers(rt: &(impl Abort + AllocGlobal), piece: &str, text: &str, wanted: &str) {
+    same_for(rt, piece, answer(rt, text.as_bytes()).as_str(), wanted);
 }
 
 #[test]
-fn large_texts_are_read(rt: HostRuntime) -> Result<(), Fail> {
-    let alloc = rt.alloc();
+fn large_texts_are_read(rt: HostRuntime) {
     for (front, piece, count, _) in &LARGE {
-        let text = repeated(alloc, front, piece, *count, "")?;
-        answers(&rt, piece, text, "good")?;
+        let text = repeated(&rt, front, piece, *count, "");
+        answers(&rt, piece, text.as_str(), "good");
     }
-    Ok(())
 }
 
 #[test]
-fn large_texts_have_their_fault_at_the_end(rt: HostRuntime) -> Result<(), Fail> {
-    let alloc = rt.alloc();
+fn large_texts_have_their_fault_at_the_end(rt: HostRuntime) {
     for (front, piece, count, length) in &LARGE {
-        let wanted = format!(in alloc; "Syntax {length}")?;
-        let text = repeated(alloc, front, piece, *count, ")")?;
-        answers(&rt, piece, text, wanted.as_str())?;
+        let wanted = made(&rt, format!(in rt.alloc(); "Syntax {length}"));
+        let text = repeated(&rt, front, piece, *count, ")");
+        answers(&rt, piece, text.as_str(), wanted.as_str());
     }
-    Ok(())
 }
 
 /// The place of a fault.
@@ -269,6 +206,19 @@ fn wrong_front(alloc: Global, text: &[u8]) -> Option<usize> {
     None
 }
 
+/// Checks of the fronts of a text: each is good or has its fault at a place within.
+struct Fronts;
+
+impl Subject for Fronts {
+    fn answers<R: Abort + AllocGlobal>(&self, rt: &R, given: &str, _wanted: &str) {
+        holds(
+            rt,
+            wrong_front(rt.alloc(), given.as_bytes()).is_none(),
+            given,
+        );
+    }
+}
+
 /// Texts that hold much of the grammar.
 static RICH: [&str; 4] = [
     "[ b ] include \"l\" inherit = p { } start = element r { attribute id { xsd:ID }?, (b & a)+ >> x [ ] } b = string - \"no\"",
@@ -278,13 +228,9 @@ static RICH: [&str; 4] = [
 ];
 
 #[test]
-fn fronts_are_good_or_have_a_place_within(rt: HostRuntime) -> Result<(), Fail> {
-    let alloc = rt.alloc();
+fn fronts_are_good_or_have_a_place_within(rt: HostRuntime) {
     for text in &RICH {
-        assert!(rt; wrong_front(alloc, text.as_bytes()).is_none(), "{text}");
+        Fronts.answers(&rt, text, "good");
     }
-    for (text, _) in rows() {
-        assert!(rt; wrong_front(alloc, text.as_bytes()).is_none(), "{text}");
-    }
-    Ok(())
+    each_line(&rt, &Fronts, ROWS);
 }

@@ -1,33 +1,34 @@
 // Sets: withdrawals, unions, limits and conflicts.
+use crate::large::repeated;
 use crate::sets::{
-    add, bundle, contribution, held, module, refused, same, same_count, set_of_bundle, written_set,
+    add, bundle, contribution, held, holds, made, module, owned, push, refused, same, same_count,
+    set_of_bundle, written_set,
 };
 use rn_modset::{AddFault, Contribution, MAX_TEXT, ModuleSet, is_module_name};
-use std::alloc::Global;
 use std::process::Abort;
-use std::test::Fail;
 
 /// How many modules are effective in a set.
-pub fn effective_count(alloc: Global, set: &ModuleSet) -> Result<usize, Fail> {
-    Ok(set.effective(alloc)?.iter().count())
+pub fn effective_count(rt: &(impl Abort + AllocGlobal), set: &ModuleSet) -> usize {
+    set.effective(rt.alloc())
+        .expect(rt, "a conflict")
+        .iter()
+        .count()
 }
 
 /// Whether this is the text of a set's effective module, or it has none of the name.
 pub fn is_effective(
-    alloc: Global,
+    rt: &(impl Abort + AllocGlobal),
     set: &ModuleSet,
     name: &str,
     text: Option<&[u8]>,
-) -> Result<bool, Fail> {
-    Ok(set.effective(alloc)?.get(name) == text)
+) -> bool {
+    set.effective(rt.alloc()).expect(rt, "a conflict").get(name) == text
 }
 
 /// The conflict of a set.
-fn conflict(alloc: Global, set: &ModuleSet) -> Result<String, Fail> {
-    match set.effective(alloc) {
-        Ok(_) => Err("no conflict".into()),
-        Err(fault) => Ok(format!(in alloc; "{fault:?}")?),
-    }
+fn conflict(rt: &(impl Abort + AllocGlobal), set: &ModuleSet) -> String {
+    let fault = set.effective(rt.alloc()).err().expect(rt, "no conflict");
+    made(rt, format!(in rt.alloc(); "{fault:?}"))
 }
 
 /// What a set is given or asked, with what must come of it.
@@ -45,24 +46,22 @@ enum Step {
 }
 
 /// Whether a step comes out as it must.
-fn succeeds(alloc: Global, set: &mut ModuleSet, step: &Step) -> Result<bool, Fail> {
+fn succeeds(rt: &(impl Abort + AllocGlobal), set: &mut ModuleSet, step: &Step) -> bool {
     match step {
-        Step::Takes(written) => add(set, contribution(alloc, written)?),
-        Step::Holds(written) => Ok(!add(set, contribution(alloc, written)?)?),
-        Step::Effective(count) => Ok(effective_count(alloc, set)? == *count),
-        Step::Module(name, text) => is_effective(alloc, set, name, *text),
-        Step::Conflict(wanted) => Ok(conflict(alloc, set)?.as_str() == *wanted),
+        Step::Takes(written) => add(rt, set, contribution(rt, written)),
+        Step::Holds(written) => !add(rt, set, contribution(rt, written)),
+        Step::Effective(count) => effective_count(rt, set) == *count,
+        Step::Module(name, text) => is_effective(rt, set, name, *text),
+        Step::Conflict(wanted) => conflict(rt, set).as_str() == *wanted,
     }
 }
 
 /// Each step succeeds in its turn, in a set that is empty at first.
-fn follows(rt: &(impl Abort + AllocGlobal), steps: &[Step]) -> Result<(), Fail> {
-    let alloc = rt.alloc();
-    let mut set = ModuleSet::new(alloc);
+fn follows(rt: &(impl Abort + AllocGlobal), steps: &[Step]) {
+    let mut set = ModuleSet::new(rt.alloc());
     for (at, step) in steps.iter().enumerate() {
-        assert!(rt; succeeds(alloc, &mut set, step)?, "step {at}");
+        assert!(rt; succeeds(rt, &mut set, step), "step {at}");
     }
-    Ok(())
 }
 
 static WITHDRAWALS: [Step; 6] = [
@@ -75,8 +74,8 @@ static WITHDRAWALS: [Step; 6] = [
 ];
 
 #[test]
-fn withdrawals(rt: HostRuntime) -> Result<(), Fail> {
-    follows(&rt, &WITHDRAWALS)
+fn withdrawals(rt: HostRuntime) {
+    follows(&rt, &WITHDRAWALS);
 }
 
 static CONFLICTS: [Step; 9] = [
@@ -92,20 +91,21 @@ static CONFLICTS: [Step; 9] = [
 ];
 
 #[test]
-fn conflicts(rt: HostRuntime) -> Result<(), Fail> {
-    follows(&rt, &CONFLICTS)
+fn conflicts(rt: HostRuntime) {
+    follows(&rt, &CONFLICTS);
 }
 
 /// A set of that many texts of one module, 1,024 at most, of odd or of even revisions.
-fn revisions(alloc: Global, is_odd: bool, count: u64) -> Result<ModuleSet, Fail> {
-    let mut set = ModuleSet::new(alloc);
+fn revisions(rt: &(impl Abort + AllocGlobal), is_odd: bool, count: u64) -> ModuleSet {
+    let mut set = ModuleSet::new(rt.alloc());
     for n in 0..1024u64 {
         let revision = if is_odd { 2 * n + 1 } else { 2 * n };
-        if n < count && !add(&mut set, module(alloc, "a", revision, b"x")?)? {
-            return Err("held before".into());
+        if n < count {
+            let is_new = add(rt, &mut set, module(rt, "a", revision, b"x"));
+            holds(rt, is_new, "each revision is new");
         }
     }
-    Ok(set)
+    set
 }
 
 /// A set refuses the contribution written for this reason, and hands it back.
@@ -114,111 +114,98 @@ pub fn refuses(
     set: &mut ModuleSet,
     written: &str,
     wanted: AddFault,
-) -> Result<(), Fail> {
-    let given = contribution(rt.alloc(), written)?;
-    let (back, fault) = refused(set, contribution(rt.alloc(), written)?)?;
-    let is_back = back == given;
-    drop(back);
-    drop(given);
-    assert!(rt; is_back && fault == wanted, "{written}");
-    Ok(())
+) {
+    let (back, fault) = refused(rt, set, contribution(rt, written));
+    let is_back = back == contribution(rt, written);
+    holds(rt, is_back && fault == wanted, written);
 }
 
 /// The set that a set's bundle reads back as.
-fn copied(alloc: Global, set: &ModuleSet) -> Result<ModuleSet, Fail> {
-    set_of_bundle(alloc, bundle(alloc, set)?.as_slice())
+fn copied(rt: &(impl Abort + AllocGlobal), set: &ModuleSet) -> ModuleSet {
+    set_of_bundle(rt, bundle(rt, set).as_slice())
+}
+
+/// Joins a set with another, for which there is room.
+fn join(rt: &impl Abort, set: &mut ModuleSet, other: &ModuleSet) {
+    set.join(other).expect(rt, "the sets are not joined");
 }
 
 #[test]
-fn full_sets_join_themselves(rt: HostRuntime) -> Result<(), Fail> {
-    let mut set = revisions(rt.alloc(), false, 1024)?;
-    let odd = revisions(rt.alloc(), true, 600)?;
-    assert!(rt; set.join(&odd) == Err(AddFault::Full));
+fn full_sets_join_themselves(rt: HostRuntime) {
+    let mut set = revisions(&rt, false, 1024);
+    let is_full = set.join(&revisions(&rt, true, 600)) == Err(AddFault::Full);
+    holds(&rt, is_full, "the set is full");
     same_count(&rt, set.len(), 1024);
-    let copy = copied(rt.alloc(), &set)?;
-    set.join(&copy)?;
+    let copy = copied(&rt, &set);
+    join(&rt, &mut set, &copy);
     same_count(&rt, set.len(), 1024);
-    Ok(())
 }
 
 #[test]
-fn sets_join_themselves(rt: HostRuntime) -> Result<(), Fail> {
-    let odd = revisions(rt.alloc(), true, 600)?;
-    let mut both = copied(rt.alloc(), &odd)?;
-    both.join(&odd)?;
+fn sets_join_themselves(rt: HostRuntime) {
+    let odd = revisions(&rt, true, 600);
+    let mut both = copied(&rt, &odd);
+    join(&rt, &mut both, &odd);
     same_count(&rt, both.len(), 600);
-    same_count(&rt, effective_count(rt.alloc(), &both)?, 1);
-    Ok(())
+    same_count(&rt, effective_count(&rt, &both), 1);
 }
 
 #[test]
-fn joins_in_order(rt: HostRuntime) -> Result<(), Fail> {
-    let mut set = written_set(rt.alloc(), "@b\nx@d\nx@a 3\nx")?;
-    let text = "@c\nx@a 3\nx@e\nx@a 2\nx@d 1 withdrawn\n";
-    let other = written_set(rt.alloc(), text)?;
-    set.join(&other)?;
+fn joins_in_order(rt: HostRuntime) {
+    let mut set = written_set(&rt, "@b\nx\n@d\nx\n@a 3\nx");
+    let other = written_set(&rt, "@c\nx\n@a 3\nx\n@e\nx\n@a 2\nx\n@d 1 withdrawn\n");
+    join(&rt, &mut set, &other);
     same_count(&rt, set.len(), 7);
     let lines = "a 2\na 3\nb 1\nc 1\nd 1 withdrawn\nd 1\ne 1\n";
-    same(&rt, held(rt.alloc(), &set)?.as_str(), lines);
-    Ok(())
+    same(&rt, held(&rt, &set).as_str(), lines);
 }
 
 /// The contribution of a text of so many bytes.
-fn long(alloc: Global, revision: u64, length: usize) -> Result<Contribution, Fail> {
-    Ok(Contribution {
-        name: String::from_str(alloc, "a")?,
+fn long(rt: &(impl Abort + AllocGlobal), revision: u64, length: usize) -> Contribution {
+    let text = vec![in rt.alloc(); b'x'; length].expect(rt, "no memory");
+    Contribution {
+        name: owned(rt, "a"),
         revision,
-        text: Some(vec![in alloc; b'x'; length]?),
-    })
+        text: Some(text),
+    }
 }
 
 /// A set refuses a text that is one byte too long.
-pub fn refuses_a_longer_text(
-    rt: &(impl Abort + AllocGlobal),
-    set: &mut ModuleSet,
-) -> Result<(), Fail> {
-    let (back, fault) = refused(set, long(rt.alloc(), 1, MAX_TEXT + 1)?)?;
-    drop(back);
-    assert!(rt; fault == AddFault::TooLong);
-    Ok(())
+pub fn refuses_a_longer_text(rt: &(impl Abort + AllocGlobal), set: &mut ModuleSet) {
+    let (_, fault) = refused(rt, set, long(rt, 1, MAX_TEXT + 1));
+    holds(rt, fault == AddFault::TooLong, "the text is too long");
 }
 
 /// The bundle of a set of the longest text reads back.
-fn keeps_the_longest_text(rt: &(impl Abort + AllocGlobal), set: &ModuleSet) -> Result<(), Fail> {
-    let bytes = bundle(rt.alloc(), set)?;
+fn keeps_the_longest_text(rt: &(impl Abort + AllocGlobal), set: &ModuleSet) {
+    let bytes = bundle(rt, set);
     same_count(rt, bytes.len(), 4_194_404);
-    same_count(rt, set_of_bundle(rt.alloc(), bytes.as_slice())?.len(), 1);
-    Ok(())
+    same_count(rt, set_of_bundle(rt, bytes.as_slice()).len(), 1);
 }
 
 #[test]
-fn longest_texts(rt: HostRuntime) -> Result<(), Fail> {
-    assert!(rt; MAX_TEXT == 4_194_304);
+fn longest_texts(rt: HostRuntime) {
+    same_count(&rt, MAX_TEXT, 4_194_304);
     let mut set = ModuleSet::new(rt.alloc());
-    assert!(rt; add(&mut set, long(rt.alloc(), 0, MAX_TEXT)?)?);
-    refuses_a_longer_text(&rt, &mut set)?;
-    keeps_the_longest_text(&rt, &set)
+    let is_new = add(&rt, &mut set, long(&rt, 0, MAX_TEXT));
+    holds(&rt, is_new, "the longest text is new");
+    refuses_a_longer_text(&rt, &mut set);
+    keeps_the_longest_text(&rt, &set);
 }
 
 #[test]
-fn module_names(rt: HostRuntime) -> Result<(), Fail> {
-    let alloc = rt.alloc();
-    let mut long = String::new(alloc);
-    for _n in 0..200u64 {
-        long.push_str("n")?;
-    }
-    let cases = [
+fn module_names(rt: HostRuntime) {
+    let mut long = repeated(&rt, "", "n", 200, "");
+    for (name, wanted) in [
         ("AZaz09._/-:%~", true),
         ("", false),
         ("a b", false),
         ("a\n", false),
         ("\u{e9}", false),
         (long.as_str(), true),
-    ];
-    for (name, wanted) in cases {
-        assert!(rt; is_module_name(name) == wanted);
+    ] {
+        holds(&rt, is_module_name(name) == wanted, name);
     }
-    long.push_str("n")?;
-    assert!(rt; !is_module_name(long.as_str()));
-    Ok(())
+    push(&rt, &mut long, "n");
+    holds(&rt, !is_module_name(long.as_str()), "a name is too long");
 }

@@ -1,303 +1,338 @@
 // Sets and what they give: each set is written with its modules parted by lines of their names.
-use crate::sets::{same_for, written_set};
+use crate::sets::{Subject, each_set, made, owned, push, same_for, written_set};
 use rn_assemble::{Grammar, Key, Refusal, assemble};
-use rn_modset::ModuleSet;
 use rn_pattern::{NameClass, Pattern};
-use std::alloc::{AllocError, Global};
 use std::process::Abort;
 use std::rc::Rc;
-use std::test::Fail;
 
 /// A grammar in one line: names with their URIs in braces, lists in parentheses.
-fn written(alloc: Global, grammar: &Grammar) -> Result<String, AllocError> {
-    let mut out = String::new(alloc);
-    out.push_str("start = ")?;
-    write_pattern(&mut out, grammar.start())?;
+fn written(rt: &(impl Abort + AllocGlobal), grammar: &Grammar) -> String {
+    let mut out = owned(rt, "start = ");
+    write_pattern(rt, &mut out, grammar.start());
     for (name, body) in grammar.defs().iter() {
-        out.push_str("; ")?;
-        out.push_str(name)?;
-        out.push_str(" = ")?;
-        write_pattern(&mut out, body)?;
+        write_words(rt, &mut out, &["; ", name, " = "]);
+        write_pattern(rt, &mut out, body);
     }
-    Ok(out)
+    out
 }
 
-fn write_words(out: &mut String, words: &[&str]) -> Result<(), AllocError> {
+fn write_words(rt: &impl Abort, out: &mut String, words: &[&str]) {
     for word in words {
-        out.push_str(word)?;
+        push(rt, out, word);
     }
-    Ok(())
 }
 
-fn write_class(out: &mut String, class: &NameClass) -> Result<(), AllocError> {
+fn write_class(rt: &impl Abort, out: &mut String, class: &NameClass) {
     match class {
-        NameClass::AnyName(None) => out.push_str("*"),
+        NameClass::AnyName(None) => push(rt, out, "*"),
         NameClass::AnyName(Some(except)) => {
-            out.push_str("*-")?;
-            write_class(out, except)
+            push(rt, out, "*-");
+            write_class(rt, out, except);
         }
-        NameClass::NsName(uri, None) => write_words(out, &["{", uri, "}*"]),
+        NameClass::NsName(uri, None) => write_words(rt, out, &["{", uri, "}*"]),
         NameClass::NsName(uri, Some(except)) => {
-            write_words(out, &["{", uri, "}*-"])?;
-            write_class(out, except)
+            write_words(rt, out, &["{", uri, "}*-"]);
+            write_class(rt, out, except);
         }
-        NameClass::Name(uri, local) if uri.is_empty() => out.push_str(local),
-        NameClass::Name(uri, local) => write_words(out, &["{", uri, "}", local]),
+        NameClass::Name(uri, local) if uri.is_empty() => push(rt, out, local),
+        NameClass::Name(uri, local) => write_words(rt, out, &["{", uri, "}", local]),
         NameClass::Choice(classes) => {
-            out.push_str("(")?;
+            push(rt, out, "(");
             for class in classes {
-                write_class(out, class)?;
-                out.push_str("|")?;
+                write_class(rt, out, class);
+                push(rt, out, "|");
             }
-            out.push_str(")")
+            push(rt, out, ")");
         }
     }
 }
 
 fn write_type(
+    rt: &impl Abort,
     out: &mut String,
     library: &str,
     type_name: &str,
     params: &[(String, String)],
-) -> Result<(), AllocError> {
-    write_words(out, &["<", library, ">", type_name])?;
+) {
+    write_words(rt, out, &["<", library, ">", type_name]);
     for param in params {
-        write_words(out, &["[", &param.0, "=", &param.1, "]"])?;
+        write_words(rt, out, &["[", &param.0, "=", &param.1, "]"]);
     }
-    Ok(())
 }
 
-fn write_between(out: &mut String, at: usize, between: &str) -> Result<(), AllocError> {
-    if at == 0 {
-        Ok(())
-    } else {
-        out.push_str(between)
+fn write_between(rt: &impl Abort, out: &mut String, at: usize, between: &str) {
+    if at > 0 {
+        push(rt, out, between);
     }
 }
 
 /// A pattern between two texts.
 #[cycle(write_pattern)]
-fn write_within(
-    out: &mut String,
-    before: &str,
-    pattern: &Pattern,
-    behind: &str,
-) -> Result<(), AllocError> {
-    out.push_str(before)?;
-    write_pattern(out, pattern)?;
-    out.push_str(behind)
+fn write_within(rt: &impl Abort, out: &mut String, before: &str, pattern: &Pattern, behind: &str) {
+    push(rt, out, before);
+    write_pattern(rt, out, pattern);
+    push(rt, out, behind);
 }
 
 /// The members of a list in parentheses.
 #[cycle(write_pattern)]
-fn write_members(
-    out: &mut String,
-    members: &[Rc<Pattern>],
-    between: &str,
-) -> Result<(), AllocError> {
-    out.push_str("(")?;
+fn write_members(rt: &impl Abort, out: &mut String, members: &[Rc<Pattern>], between: &str) {
+    push(rt, out, "(");
     for (i, member) in members.iter().enumerate() {
-        write_between(out, i, between)?;
-        write_pattern(out, member)?;
+        write_between(rt, out, i, between);
+        write_pattern(rt, out, member);
     }
-    out.push_str(")")
+    push(rt, out, ")");
 }
 
 #[cycle(write_pattern)]
-fn write_pattern(out: &mut String, pattern: &Pattern) -> Result<(), AllocError> {
+fn write_pattern(rt: &impl Abort, out: &mut String, pattern: &Pattern) {
     match pattern {
-        Pattern::NotAllowed => out.push_str("notAllowed"),
-        Pattern::Empty => out.push_str("empty"),
-        Pattern::Text => out.push_str("text"),
-        Pattern::Ref(name) => out.push_str(name),
+        Pattern::NotAllowed => push(rt, out, "notAllowed"),
+        Pattern::Empty => push(rt, out, "empty"),
+        Pattern::Text => push(rt, out, "text"),
+        Pattern::Ref(name) => push(rt, out, name),
         Pattern::Value(library, type_name, text) => {
-            write_words(out, &["<", library, ">", type_name, "'", text, "'"])
+            write_words(rt, out, &["<", library, ">", type_name, "'", text, "'"]);
         }
         Pattern::Datum(library, type_name, params, None) => {
-            write_type(out, library, type_name, params.as_slice())
+            write_type(rt, out, library, type_name, params.as_slice());
         }
         Pattern::Datum(library, type_name, params, Some(except)) => {
-            write_type(out, library, type_name, params.as_slice())?;
-            write_within(out, "-", except, "")
+            write_type(rt, out, library, type_name, params.as_slice());
+            write_within(rt, out, "-", except, "");
         }
-        Pattern::List(body) => write_within(out, "list{", body, "}"),
+        Pattern::List(body) => write_within(rt, out, "list{", body, "}"),
         Pattern::Attribute(class, body) => {
-            out.push_str("@")?;
-            write_class(out, class)?;
-            write_within(out, "{", body, "}")
+            push(rt, out, "@");
+            write_class(rt, out, class);
+            write_within(rt, out, "{", body, "}");
         }
         Pattern::Element(class, body) => {
-            write_class(out, class)?;
-            write_within(out, "{", body, "}")
+            write_class(rt, out, class);
+            write_within(rt, out, "{", body, "}");
         }
-        Pattern::OneOrMore(body) => write_within(out, "{", body, "}+"),
-        Pattern::Group(members) => write_members(out, members, ","),
-        Pattern::Interleave(members) => write_members(out, members, "&"),
-        Pattern::Choice(members) => write_members(out, members, "|"),
+        Pattern::OneOrMore(body) => write_within(rt, out, "{", body, "}+"),
+        Pattern::Group(members) => write_members(rt, out, members, ","),
+        Pattern::Interleave(members) => write_members(rt, out, members, "&"),
+        Pattern::Choice(members) => write_members(rt, out, members, "|"),
     }
 }
 
-/// The grammar of the set written, or the refusal as its name and fields.
-fn answer(alloc: Global, set: &ModuleSet) -> Result<String, AllocError> {
-    match assemble(alloc, set) {
-        Ok(grammar) => {
-            let line = written(alloc, &grammar);
-            drop(grammar);
-            line
-        }
-        Err(refusal) => {
-            let line = format!(in alloc; "{refusal:?}");
-            drop(refusal);
-            line
-        }
+/// What assembling a set written gives: its grammar, or the refusal as its name and fields.
+struct Assembly;
+
+impl Subject for Assembly {
+    fn answers<R: Abort + AllocGlobal>(&self, rt: &R, given: &str, wanted: &str) {
+        let found = match assemble(rt.alloc(), &written_set(rt, given)) {
+            Ok(grammar) => grammar_line(rt, grammar),
+            Err(refusal) => refusal_line(rt, refusal),
+        };
+        same_for(rt, given, found.as_str(), wanted);
     }
 }
 
-fn check(rt: &(impl Abort + Print), alloc: Global, rows: &[(&str, &str)]) -> Result<(), Fail> {
-    for (text, wanted) in rows {
-        let set = written_set(alloc, text)?;
-        let found = answer(alloc, &set)?;
-        same_for(rt, text, found.as_str(), wanted);
-    }
-    Ok(())
+/// A grammar, as rows write it.
+fn grammar_line(rt: &(impl Abort + AllocGlobal), grammar: Grammar) -> String {
+    written(rt, &grammar)
 }
+
+/// A refusal, as rows write it.
+fn refusal_line(rt: &(impl Abort + AllocGlobal), refusal: Refusal) -> String {
+    made(rt, format!(in rt.alloc(); "{refusal:?}"))
+}
+
+const GRAMMARS: &str = r#"@a
+start = doc doc |= element b { text }
+@b
+doc |= element a { empty }
+=> start = doc; doc = (b{text}|a{empty})
+
+@a
+start = element r { x } x &= element a { empty }
+@b
+x &= element a { empty }
+=> start = r{x}; x = (a{empty}&a{empty})
+
+@main
+include "lib" include "lib" start = element r { y }
+@lib
+y |= text
+=> start = r{y}; y = (text|text)
+
+@main
+default namespace = "u" include "lib" start = p
+@lib
+p = element p { empty }
+=> start = p; p = {u}p{empty}
+
+@main
+include "lib" { start = element r { y } y = text }
+@lib
+start = text y |= element a { empty } y |= element b { empty }
+=> start = r{y}; y = text
+
+@main
+include "l1" { x = text } start = element r { x }
+@l1
+include "l2" x |= empty
+@l2
+x |= element q { empty }
+=> start = r{x}; x = text
+
+@main
+default namespace = "u" namespace v = "w" include "lib" inherit = v start = p
+@lib
+p = element p { empty }
+=> start = p; p = {w}p{empty}
+
+@a
+default namespace = "u" start = element a { attribute b { text } }
+=> start = {u}a{@b{text}}
+
+@a
+div { div { start = text } }
+=> start = text
+
+@a
+start = element r { attribute id { xsd:ID }?, (b & a)+ } a = element a { empty } b = element b { string - string "no" }
+=> start = r{((@id{<http://www.w3.org/2001/XMLSchema-datatypes>ID}|empty),{(b&a)}+)}; a = a{empty}; b = b{<>string-<>string'no'}
+
+@a
+namespace n = "" start = element n:* { attribute xml:lang { text } }
+=> start = {}*{@{http://www.w3.org/XML/1998/namespace}lang{text}}
+
+@a
+datatypes d = "http://e/lib" start = element a { d:t { k = "v" } }
+=> start = a{<http://e/lib>t[k=v]}
+
+@a
+start = mixed { text } b = (b2)* b2 = list { "v" }
+=> start = (text&text); b = ({b2}+|empty); b2 = list{<>token'v'}
+
+@a 1
+start = text
+@a 2
+start = empty
+=> start = empty
+
+@a
+\start = text start = element r { \start }
+=> start = r{start}; start = text
+
+@a
+start = text a = a | element x { empty }
+=> start = text; a = (a|x{empty})
+
+@a
+b = text start = z a = text
+@b
+z = empty b2 = text
+=> start = z; b = text; a = text; z = empty; b2 = text"#;
 
 #[test]
-fn grammars(rt: HostRuntime) -> Result<(), Fail> {
-    check(
-        &rt,
-        rt.alloc(),
-        &[
-            (
-                "@a\nstart = doc doc |= element b { text }@b\ndoc |= element a { empty }",
-                "start = doc; doc = (b{text}|a{empty})",
-            ),
-            (
-                "@a\nstart = element r { x } x &= element a { empty }@b\nx &= element a { empty }",
-                "start = r{x}; x = (a{empty}&a{empty})",
-            ),
-            (
-                "@main\ninclude \"lib\" include \"lib\" start = element r { y }@lib\ny |= text",
-                "start = r{y}; y = (text|text)",
-            ),
-            (
-                "@main\ndefault namespace = \"u\" include \"lib\" start = p@lib\np = element p { empty }",
-                "start = p; p = {u}p{empty}",
-            ),
-            (
-                "@main\ninclude \"lib\" { start = element r { y } y = text }@lib\nstart = text y |= element a { empty } y |= element b { empty }",
-                "start = r{y}; y = text",
-            ),
-            (
-                "@main\ninclude \"l1\" { x = text } start = element r { x }@l1\ninclude \"l2\" x |= empty@l2\nx |= element q { empty }",
-                "start = r{x}; x = text",
-            ),
-            (
-                "@main\ndefault namespace = \"u\" namespace v = \"w\" include \"lib\" inherit = v start = p@lib\np = element p { empty }",
-                "start = p; p = {w}p{empty}",
-            ),
-            (
-                "@a\ndefault namespace = \"u\" start = element a { attribute b { text } }",
-                "start = {u}a{@b{text}}",
-            ),
-            ("@a\ndiv { div { start = text } }", "start = text"),
-            (
-                "@a\nstart = element r { attribute id { xsd:ID }?, (b & a)+ } a = element a { empty } b = element b { string - string \"no\" }",
-                "start = r{((@id{<http://www.w3.org/2001/XMLSchema-datatypes>ID}|empty),{(b&a)}+)}; a = a{empty}; b = b{<>string-<>string'no'}",
-            ),
-            (
-                "@a\nnamespace n = \"\" start = element n:* { attribute xml:lang { text } }",
-                "start = {}*{@{http://www.w3.org/XML/1998/namespace}lang{text}}",
-            ),
-            (
-                "@a\ndatatypes d = \"http://e/lib\" start = element a { d:t { k = \"v\" } }",
-                "start = a{<http://e/lib>t[k=v]}",
-            ),
-            (
-                "@a\nstart = mixed { text } b = (b2)* b2 = list { \"v\" }",
-                "start = (text&text); b = ({b2}+|empty); b2 = list{<>token'v'}",
-            ),
-            ("@a 1\nstart = text@a 2\nstart = empty", "start = empty"),
-            (
-                "@a\n\\start = text start = element r { \\start }",
-                "start = r{start}; start = text",
-            ),
-            (
-                "@a\nstart = text a = a | element x { empty }",
-                "start = text; a = (a|x{empty})",
-            ),
-            (
-                "@a\nb = text start = z a = text@b\nz = empty b2 = text",
-                "start = z; b = text; a = text; z = empty; b2 = text",
-            ),
-        ],
-    )
+fn grammars(rt: HostRuntime) {
+    each_set(&rt, &Assembly, GRAMMARS);
 }
 
+const REFUSALS: &str = r#"@
+=> NoStart
+
+@a 1
+start = text
+@a 1
+start =  text
+=> Conflict { module: "a", revision: 1 }
+
+@a
+x = text
+@b
+x = text start = x
+=> PlainTwice { key: Define("x") }
+
+@a
+x = text
+@b
+x |= empty
+@c
+x &= text
+=> MixedMethods { key: Define("x") }
+
+@main
+include "lib" include "lib" start = element r { y }
+@lib
+y = empty
+=> PlainTwice { key: Define("y") }
+
+@a
+start = a a = a | element x { empty }
+=> Recursive { name: "a" }
+
+@main
+include "lib" { z = text } start = text
+@lib
+y = empty
+=> Override { module: "main", key: Define("z") }
+
+@main
+include "lib" { z = text start = text y = text a = text } start = text
+@lib
+y = empty
+=> Override { module: "main", key: Start }
+
+@main
+include "gone" start = text
+=> Missing { module: "main", wanted: "gone" }
+
+@main
+include "gone" include "a" start = text
+=> Missing { module: "main", wanted: "a" }
+
+@a
+include "a" start = text
+=> Cycle { module: "a" }
+
+@a
+include "b"
+@b
+include "a"
+@c
+start = text
+=> Cycle { module: "a" }
+
+@a
+start = text a = b
+=> Undefined { name: "b" }
+
+@a
+start = text a = c, b
+=> Undefined { name: "b" }
+
+@a
+start = element a { attribute xmlns { text } }
+=> NameClass { key: Start }
+
+@a
+start = element * - (a | *) { text }
+=> NameClass { key: Start }
+
+@a
+start = text b = element b { attribute * - * { text } } a = element a { attribute xmlns { text } }
+=> NameClass { key: Define("a") }
+
+@a
+start = 
+@b
+start = (
+=> Syntax { module: "a" }
+
+@a
+x = p:y
+@b
+start = x
+=> Prefix { module: "a" }"#;
+
 #[test]
-fn refusals(rt: HostRuntime) -> Result<(), Fail> {
-    check(
-        &rt,
-        rt.alloc(),
-        &[
-            ("@", "NoStart"),
-            (
-                "@a 1\nstart = text@a 1\nstart =  text",
-                "Conflict { module: \"a\", revision: 1 }",
-            ),
-            (
-                "@a\nx = text@b\nx = text start = x",
-                "PlainTwice { key: Define(\"x\") }",
-            ),
-            (
-                "@a\nx = text@b\nx |= empty@c\nx &= text",
-                "MixedMethods { key: Define(\"x\") }",
-            ),
-            (
-                "@main\ninclude \"lib\" include \"lib\" start = element r { y }@lib\ny = empty",
-                "PlainTwice { key: Define(\"y\") }",
-            ),
-            (
-                "@a\nstart = a a = a | element x { empty }",
-                "Recursive { name: \"a\" }",
-            ),
-            (
-                "@main\ninclude \"lib\" { z = text } start = text@lib\ny = empty",
-                "Override { module: \"main\", key: Define(\"z\") }",
-            ),
-            (
-                "@main\ninclude \"lib\" { z = text start = text y = text a = text } start = text@lib\ny = empty",
-                "Override { module: \"main\", key: Start }",
-            ),
-            (
-                "@main\ninclude \"gone\" start = text",
-                "Missing { module: \"main\", wanted: \"gone\" }",
-            ),
-            (
-                "@main\ninclude \"gone\" include \"a\" start = text",
-                "Missing { module: \"main\", wanted: \"a\" }",
-            ),
-            ("@a\ninclude \"a\" start = text", "Cycle { module: \"a\" }"),
-            (
-                "@a\ninclude \"b\"@b\ninclude \"a\"@c\nstart = text",
-                "Cycle { module: \"a\" }",
-            ),
-            ("@a\nstart = text a = b", "Undefined { name: \"b\" }"),
-            ("@a\nstart = text a = c, b", "Undefined { name: \"b\" }"),
-            (
-                "@a\nstart = element a { attribute xmlns { text } }",
-                "NameClass { key: Start }",
-            ),
-            (
-                "@a\nstart = element * - (a | *) { text }",
-                "NameClass { key: Start }",
-            ),
-            (
-                "@a\nstart = text b = element b { attribute * - * { text } } a = element a { attribute xmlns { text } }",
-                "NameClass { key: Define(\"a\") }",
-            ),
-            ("@a\nstart = @b\nstart = (", "Syntax { module: \"a\" }"),
-            ("@a\nx = p:y@b\nstart = x", "Prefix { module: \"a\" }"),
-        ],
-    )
+fn refusals(rt: HostRuntime) {
+    each_set(&rt, &Assembly, REFUSALS);
 }

@@ -1,136 +1,131 @@
 // Sets and texts at their limits, and long lists and chains.
-use crate::sets::{FIRST_LINE, add, answer, answer_of_text, merged, module, same, same_count};
+use crate::sets::{
+    FIRST_LINE, add, answer, answer_of_text, holds, made, merged, module, owned, push, same,
+    same_count,
+};
 use rn_modset::ModuleSet;
-use std::alloc::Global;
 use std::process::Abort;
-use std::test::Fail;
 
 /// Adds a module of revision 1.
-fn add_text(set: &mut ModuleSet, alloc: Global, name: &str, text: &str) -> Result<(), Fail> {
-    let _ = add(set, module(alloc, name, 1, text.as_bytes())?)?;
-    Ok(())
+fn add_text(rt: &(impl Abort + AllocGlobal), set: &mut ModuleSet, name: &str, text: &str) {
+    let _ = add(rt, set, module(rt, name, 1, text.as_bytes()));
+}
+
+/// The name of a module by its number.
+fn numbered(rt: &(impl Abort + AllocGlobal), number: usize) -> String {
+    made(rt, format!(in rt.alloc(); "c{number:03}"))
 }
 
 /// Adds a module of revision 1 that is named by its number.
-fn add_numbered(set: &mut ModuleSet, alloc: Global, number: usize, text: &str) -> Result<(), Fail> {
-    let name = format!(in alloc; "c{number:03}")?;
-    add_text(set, alloc, name.as_str(), text)
+fn add_numbered(rt: &(impl Abort + AllocGlobal), set: &mut ModuleSet, number: usize, text: &str) {
+    add_text(rt, set, numbered(rt, number).as_str(), text);
 }
 
-/// Adds the module m`number`, which includes m`next` twice. The first one has the start.
-fn add_including(
-    set: &mut ModuleSet,
-    alloc: Global,
-    number: usize,
-    next: usize,
-) -> Result<(), Fail> {
+/// The text of the module m`number`, which includes m`next` twice. The first one has the start.
+fn including(rt: &(impl Abort + AllocGlobal), number: usize, next: usize) -> String {
     let start = if number == 0 {
         "start = element r { y }"
     } else {
         ""
     };
-    let text = format!(in alloc; "include \"m{next}\" include \"m{next}\" {start}")?;
-    let name = format!(in alloc; "m{number}")?;
-    add_text(set, alloc, name.as_str(), text.as_str())
+    made(
+        rt,
+        format!(in rt.alloc(); "include \"m{next}\" include \"m{next}\" {start}"),
+    )
+}
+
+/// Adds a module of revision 1, m`number`.
+fn add_short(rt: &(impl Abort + AllocGlobal), set: &mut ModuleSet, number: usize, text: &str) {
+    let name = made(rt, format!(in rt.alloc(); "m{number}"));
+    add_text(rt, set, name.as_str(), text);
 }
 
 /// Modules m0 to m`last`, each but the last including the next twice; the last one defines y.
-fn doubling(alloc: Global, last: usize) -> Result<ModuleSet, Fail> {
-    let name = format!(in alloc; "m{last}")?;
-    let mut set = ModuleSet::new(alloc);
+fn doubling(rt: &(impl Abort + AllocGlobal), last: usize) -> ModuleSet {
+    let mut set = ModuleSet::new(rt.alloc());
     for number in 0..last {
-        add_including(&mut set, alloc, number, number + 1)?;
+        let text = including(rt, number, number + 1);
+        add_short(rt, &mut set, number, text.as_str());
     }
-    add_text(&mut set, alloc, name.as_str(), "y |= text")?;
-    Ok(set)
+    add_short(rt, &mut set, last, "y |= text");
+    set
 }
 
 /// Modules c000 to c`last`, each including the next; the last one defines the start.
-fn tower(alloc: Global, last: usize) -> Result<ModuleSet, Fail> {
-    let mut set = ModuleSet::new(alloc);
+fn tower(rt: &(impl Abort + AllocGlobal), last: usize) -> ModuleSet {
+    let mut set = ModuleSet::new(rt.alloc());
     for number in 0..last {
         let next = number + 1;
-        let text = format!(in alloc; "include \"c{next:03}\"")?;
-        add_numbered(&mut set, alloc, number, text.as_str())?;
+        let text = made(rt, format!(in rt.alloc(); "include \"c{next:03}\""));
+        add_numbered(rt, &mut set, number, text.as_str());
     }
-    add_numbered(&mut set, alloc, last, "start = text")?;
-    Ok(set)
+    add_numbered(rt, &mut set, last, "start = text");
+    set
 }
 
 /// A set has this answer.
-fn answers(rt: &(impl Abort + AllocGlobal), set: ModuleSet, wanted: &str) -> Result<(), Fail> {
-    let found = answer(rt.alloc(), &set);
-    drop(set);
-    same(rt, found?.as_str(), wanted);
-    Ok(())
+fn answers(rt: &(impl Abort + AllocGlobal), set: &ModuleSet, wanted: &str) {
+    same(rt, answer(rt, set).as_str(), wanted);
 }
 
 #[test]
-fn instances_are_counted(rt: HostRuntime) -> Result<(), Fail> {
+fn instances_are_counted(rt: HostRuntime) {
     let schema = "start = element r { y }\ny = text\n";
-    answers(&rt, doubling(rt.alloc(), 8)?, schema)?;
-    answers(&rt, doubling(rt.alloc(), 9)?, "Instances")?;
-    answers(&rt, doubling(rt.alloc(), 40)?, "Instances")?;
-    answers(&rt, tower(rt.alloc(), 511)?, "start = text\n")?;
-    answers(&rt, tower(rt.alloc(), 512)?, "Instances")
+    answers(&rt, &doubling(&rt, 8), schema);
+    answers(&rt, &doubling(&rt, 9), "Instances");
+    answers(&rt, &doubling(&rt, 40), "Instances");
+    answers(&rt, &tower(&rt, 511), "start = text\n");
+    answers(&rt, &tower(&rt, 512), "Instances");
 }
 
 /// A text that so often holds a piece between a front and an end.
-pub(crate) fn repeated(
-    alloc: Global,
+pub fn repeated(
+    rt: &(impl Abort + AllocGlobal),
     front: &str,
     piece: &str,
     count: usize,
     end: &str,
-) -> Result<String, Fail> {
-    let mut text = String::from_str(alloc, front)?;
+) -> String {
+    let mut text = owned(rt, front);
     for _ in 0..count {
-        text.push_str(piece)?;
+        push(rt, &mut text, piece);
     }
-    text.push_str(end)?;
-    Ok(text)
+    push(rt, &mut text, end);
+    text
+}
+
+/// A text has this answer.
+fn text_answers(rt: &(impl Abort + AllocGlobal), text: &str, wanted: &str) {
+    same(rt, answer_of_text(rt, text).as_str(), wanted);
 }
 
 #[test]
-fn parentheses_leave_nothing(rt: HostRuntime) -> Result<(), Fail> {
-    let alloc = rt.alloc();
-    let open = repeated(alloc, "start = ", "(", 256, "text")?;
-    let text = repeated(alloc, open.as_str(), ")", 256, "")?;
-    same(
-        &rt,
-        answer_of_text(alloc, text.as_str())?.as_str(),
-        "start = text\n",
-    );
-    Ok(())
+fn parentheses_leave_nothing(rt: HostRuntime) {
+    let open = repeated(&rt, "start = ", "(", 256, "text");
+    let text = repeated(&rt, open.as_str(), ")", 256, "");
+    text_answers(&rt, text.as_str(), "start = text\n");
 }
 
 #[test]
-fn the_text_has_a_longest_length(rt: HostRuntime) -> Result<(), Fail> {
-    let alloc = rt.alloc();
-    let fits = repeated(alloc, "start = element ", "n", 4_194_255, " { text }")?;
-    let printed = merged(alloc, fits.as_str())?;
-    same_count(&rt, printed.len(), 4_194_304);
-    let long = repeated(alloc, "start = element ", "n", 4_194_256, " { text }")?;
-    same(
-        &rt,
-        answer_of_text(alloc, long.as_str())?.as_str(),
-        "OutputTooLarge",
-    );
-    Ok(())
+fn the_text_has_a_longest_length(rt: HostRuntime) {
+    let fits = repeated(&rt, "start = element ", "n", 4_194_255, " { text }");
+    same_count(&rt, merged(&rt, fits.as_str()).len(), 4_194_304);
+    let long = repeated(&rt, "start = element ", "n", 4_194_256, " { text }");
+    text_answers(&rt, long.as_str(), "OutputTooLarge");
 }
 
 /// A start of elements one inside the other, each but the innermost holding `before` and the next.
-fn nested(alloc: Global, count: usize, before: &str, innermost: &str) -> Result<String, Fail> {
-    let mut text = String::from_str(alloc, "start = ")?;
+fn nested(rt: &(impl Abort + AllocGlobal), count: usize, before: &str, innermost: &str) -> String {
+    let mut text = owned(rt, "start = ");
     for number in 0..count {
         if number > 0 {
-            text.push_str(before)?;
+            push(rt, &mut text, before);
         }
-        text.push_str("element x { ")?;
+        push(rt, &mut text, "element x { ");
     }
-    text.push_str(innermost)?;
+    push(rt, &mut text, innermost);
     repeated(
-        alloc,
+        rt,
         text.as_str(),
         " }",
         count,
@@ -145,13 +140,11 @@ static TOO_DEEP: [(usize, &str, &str); 2] = [
 ];
 
 #[test]
-fn deeper_texts_are_refused(rt: HostRuntime) -> Result<(), Fail> {
+fn deeper_texts_are_refused(rt: HostRuntime) {
     for (count, before, innermost) in &TOO_DEEP {
-        let text = nested(rt.alloc(), *count, before, innermost)?;
-        let found = answer_of_text(rt.alloc(), text.as_str())?;
-        same(&rt, found.as_str(), "OutputTooDeep");
+        let text = nested(&rt, *count, before, innermost);
+        text_answers(&rt, text.as_str(), "OutputTooDeep");
     }
-    Ok(())
 }
 
 /// And the deepest ones that are printed, with their innermost elements in the text.
@@ -165,149 +158,155 @@ static DEEPEST: [(usize, &str, &str, &str); 2] = [
     ),
 ];
 
+/// The answer for a text holds this.
+fn answer_holds(rt: &(impl Abort + AllocGlobal), text: &str, wanted: &str) {
+    let found = answer_of_text(rt, text);
+    holds(rt, found.as_str().contains(wanted), wanted);
+}
+
 #[test]
-fn the_text_has_a_deepest_nesting(rt: HostRuntime) -> Result<(), Fail> {
+fn the_text_has_a_deepest_nesting(rt: HostRuntime) {
     for (count, before, innermost, wanted) in &DEEPEST {
-        let text = nested(rt.alloc(), *count, before, innermost)?;
-        let found = answer_of_text(rt.alloc(), text.as_str())?;
-        assert!(rt; found.as_str().contains(*wanted), "{count}");
+        let text = nested(&rt, *count, before, innermost);
+        answer_holds(&rt, text.as_str(), wanted);
     }
-    Ok(())
 }
 
 /// A schema in its canonical spelling is printed as it is.
-fn prints_itself(rt: &(impl Abort + AllocGlobal), text: &str) -> Result<(), Fail> {
-    let printed = merged(rt.alloc(), text)?;
+fn prints_itself(rt: &(impl Abort + AllocGlobal), text: &str) {
+    let printed = merged(rt, text);
     let is_same = printed.as_str().strip_prefix(FIRST_LINE) == Some(text);
-    assert!(rt; is_same);
-    Ok(())
+    holds(rt, is_same, "the schema is printed as it is");
+}
+
+/// The definition of a reference by the next one.
+fn link(rt: &(impl Abort + AllocGlobal), number: usize, next: usize) -> String {
+    made(rt, format!(in rt.alloc(); "x{number:06} = x{next:06}\n"))
 }
 
 #[test]
-fn chains_of_references_are_long(rt: HostRuntime) -> Result<(), Fail> {
-    let alloc = rt.alloc();
-    let mut text = String::from_str(alloc, "start = x000000\n")?;
+fn chains_of_references_are_long(rt: HostRuntime) {
+    let mut text = owned(&rt, "start = x000000\n");
     for number in 0..99_999 {
-        let next = number + 1;
-        text.push_str(format!(in alloc; "x{number:06} = x{next:06}\n")?.as_str())?;
+        push(&rt, &mut text, link(&rt, number, number + 1).as_str());
     }
-    text.push_str("x099999 = text\n")?;
-    prints_itself(&rt, text.as_str())
+    push(&rt, &mut text, "x099999 = text\n");
+    prints_itself(&rt, text.as_str());
 }
 
-/// References x000000, x000001 and so on, with a separator between two.
-fn names(alloc: Global, count: usize, separator: &str) -> Result<String, Fail> {
-    let mut text = String::new(alloc);
+/// A text that holds the numbers from 0 on, so many, each between two texts.
+fn counted(
+    rt: &(impl Abort + AllocGlobal),
+    front: &str,
+    before: &str,
+    count: usize,
+    behind: &str,
+) -> String {
+    let mut text = owned(rt, front);
     for number in 0..count {
-        if number > 0 {
-            text.push_str(separator)?;
-        }
-        text.push_str(format!(in alloc; "x{number:06}")?.as_str())?;
+        let piece = made(rt, format!(in rt.alloc(); "{before}{number:06}{behind}"));
+        push(rt, &mut text, piece.as_str());
     }
-    Ok(text)
+    text
 }
 
-/// The definitions of as many references.
-fn definitions(alloc: Global, count: usize) -> Result<String, Fail> {
-    let mut text = String::new(alloc);
-    for number in 0..count {
-        text.push_str(format!(in alloc; "x{number:06} = text\n")?.as_str())?;
-    }
-    Ok(text)
-}
-
-/// A schema of an element of as many references, with a separator between two.
-fn listed(alloc: Global, count: usize, separator: &str) -> Result<String, Fail> {
-    let members = names(alloc, count, separator)?;
-    let definitions = definitions(alloc, count)?;
-    Ok(format!(in alloc; "start = element r {{ {members} }}\n{definitions}")?)
+/// A schema of an element of as many references, with a separator between two, and of their definitions.
+fn listed(rt: &(impl Abort + AllocGlobal), count: usize, separator: &str) -> String {
+    let before = made(rt, format!(in rt.alloc(); "{separator}x"));
+    let members = counted(rt, "", before.as_str(), count, "");
+    let members = members
+        .as_str()
+        .strip_prefix(separator)
+        .expect(rt, "no member");
+    let definitions = counted(rt, "", "x", count, " = text\n");
+    made(
+        rt,
+        format!(in rt.alloc(); "start = element r {{ {members} }}\n{definitions}"),
+    )
 }
 
 #[test]
-fn lists_are_long(rt: HostRuntime) -> Result<(), Fail> {
+fn lists_are_long(rt: HostRuntime) {
     for separator in [" | ", " & ", ", "] {
-        let text = listed(rt.alloc(), 100_000, separator)?;
-        prints_itself(&rt, text.as_str())?;
+        prints_itself(&rt, listed(&rt, 100_000, separator).as_str());
     }
-    Ok(())
-}
-
-/// So many definitions of x by `|=`, each with a value of its own.
-fn values(alloc: Global, count: usize) -> Result<String, Fail> {
-    let mut text = String::from_str(alloc, "start = x ")?;
-    for number in 0..count {
-        text.push_str(format!(in alloc; "x |= \"{number:06}\" ")?.as_str())?;
-    }
-    Ok(text)
 }
 
 #[test]
-fn a_name_is_combined_from_many_definitions(rt: HostRuntime) -> Result<(), Fail> {
-    let text = values(rt.alloc(), 100_000)?;
-    let printed = merged(rt.alloc(), text.as_str())?;
-    drop(text);
+fn a_name_is_combined_from_many_definitions(rt: HostRuntime) {
+    let text = counted(&rt, "start = x ", "x |= \"", 100_000, "\" ");
+    let printed = merged(&rt, text.as_str());
     let printed = printed.as_str();
-    assert!(rt; printed.contains("x = \"000000\" | \"000001\" | \"000002\""));
-    assert!(rt; printed.ends_with("| \"099999\"\n"));
-    Ok(())
+    let is_first = printed.contains("x = \"000000\" | \"000001\" | \"000002\"");
+    holds(&rt, is_first, "the least values come first");
+    holds(
+        &rt,
+        printed.ends_with("| \"099999\"\n"),
+        "the greatest value comes last",
+    );
 }
 
 #[test]
-fn a_literal_is_long(rt: HostRuntime) -> Result<(), Fail> {
-    let alloc = rt.alloc();
-    let text = repeated(alloc, "start = element r { \"", "v", 4_194_240, "\" }\n")?;
-    prints_itself(&rt, text.as_str())
+fn a_literal_is_long(rt: HostRuntime) {
+    let text = repeated(&rt, "start = element r { \"", "v", 4_194_240, "\" }\n");
+    prints_itself(&rt, text.as_str());
+}
+
+/// A definition of x by `|=`.
+fn definition(rt: &(impl Abort + AllocGlobal), number: usize) -> String {
+    made(
+        rt,
+        format!(in rt.alloc(); "x |= element e{number} {{ empty }} "),
+    )
 }
 
 /// So many definitions of x by `|=`.
-fn combined(alloc: Global, count: usize) -> Result<String, Fail> {
-    let mut text = String::new(alloc);
+fn combined(rt: &(impl Abort + AllocGlobal), count: usize) -> String {
+    let mut text = String::new(rt.alloc());
     for number in 0..count {
-        text.push_str(format!(in alloc; "x |= element e{number} {{ empty }} ")?.as_str())?;
+        push(rt, &mut text, definition(rt, number).as_str());
     }
-    Ok(text)
+    text
 }
 
 /// A module that so often includes one of so many definitions, each of them by `|=`.
-fn instances(alloc: Global, includes: usize, definitions: usize) -> Result<ModuleSet, Fail> {
+fn instances(rt: &(impl Abort + AllocGlobal), includes: usize, definitions: usize) -> ModuleSet {
     let front = "start = element r { x } ";
-    let main = repeated(alloc, front, "include \"lib\" ", includes, "")?;
-    let lib = combined(alloc, definitions)?;
-    let mut set = ModuleSet::new(alloc);
-    add_text(&mut set, alloc, "main", main.as_str())?;
-    add_text(&mut set, alloc, "lib", lib.as_str())?;
-    Ok(set)
+    let main = repeated(rt, front, "include \"lib\" ", includes, "");
+    let mut set = ModuleSet::new(rt.alloc());
+    add_text(rt, &mut set, "main", main.as_str());
+    add_text(rt, &mut set, "lib", combined(rt, definitions).as_str());
+    set
 }
 
 #[test]
-fn ten_million_components_are_combined(rt: HostRuntime) -> Result<(), Fail> {
-    let alloc = rt.alloc();
-    let set = instances(alloc, 511, 20_000)?;
-    let printed = answer(alloc, &set)?;
-    assert!(rt;
-        printed.as_str().contains(
-            "x = element e0 { empty } | element e1 { empty } | element e10 { empty }"
-        )
-    );
-    Ok(())
+fn ten_million_components_are_combined(rt: HostRuntime) {
+    let printed = answer(&rt, &instances(&rt, 511, 20_000));
+    let wanted = "x = element e0 { empty } | element e1 { empty } | element e10 { empty }";
+    holds(&rt, printed.as_str().contains(wanted), wanted);
+}
+
+/// The text of a module that overrides the x of the next.
+fn override_of(rt: &(impl Abort + AllocGlobal), number: usize, next: usize) -> String {
+    made(
+        rt,
+        format!(in rt.alloc(); "include \"c{next:03}\" {{ x = element e{number} {{ empty }} }}"),
+    )
 }
 
 /// Modules c000 to c`last`, each but the last overriding the x of the next; the last one defines the start.
-fn overriding(alloc: Global, last: usize) -> Result<ModuleSet, Fail> {
-    let mut set = ModuleSet::new(alloc);
+fn overriding(rt: &(impl Abort + AllocGlobal), last: usize) -> ModuleSet {
+    let mut set = ModuleSet::new(rt.alloc());
     for number in 0..last {
-        let next = number + 1;
-        let text = format!(in alloc;
-            "include \"c{next:03}\" {{ x = element e{number} {{ empty }} }}"
-        )?;
-        add_numbered(&mut set, alloc, number, text.as_str())?;
+        let text = override_of(rt, number, number + 1);
+        add_numbered(rt, &mut set, number, text.as_str());
     }
-    add_numbered(&mut set, alloc, last, "start = x x = text")?;
-    Ok(set)
+    add_numbered(rt, &mut set, last, "start = x x = text");
+    set
 }
 
 #[test]
-fn overrides_are_nested(rt: HostRuntime) -> Result<(), Fail> {
+fn overrides_are_nested(rt: HostRuntime) {
     let schema = "start = x\nx = element e0 { empty }\n";
-    answers(&rt, overriding(rt.alloc(), 511)?, schema)
+    answers(&rt, &overriding(&rt, 511), schema);
 }

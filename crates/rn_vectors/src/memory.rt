@@ -3,7 +3,9 @@
 // Without a refusal, as in the gate, it gives its own answer. Each test tells whether a call was refused.
 use crate::bundles::ONE;
 use crate::large::repeated;
-use crate::sets::{contribution, held, line_of, same, same_bytes, shown, written_set};
+use crate::sets::{
+    contribution, held, holds, line_of, made, owned, same, same_bytes, shown, written_set,
+};
 use crate::streams::{A, B, PRINTED, bundles, sink_of};
 use rn_assemble::Refusal;
 use rn_merge::{
@@ -14,7 +16,6 @@ use rn_modset::{AddFault, BundleFault, ModuleSet, read_bundle, write_bundle};
 use rn_text::{literal, tokens, write_literal};
 use std::alloc::{AllocError, Global};
 use std::process::Abort;
-use std::test::Fail;
 
 /// Requests for so many bytes, which nothing else makes, are marks: the requests behind the first mark and before the second
 /// are those that are refused.
@@ -29,30 +30,32 @@ pub fn mark(alloc: Global, bytes: usize) {
 }
 
 /// Tells whether a call was refused.
-pub fn tell(rt: &HostRuntime, is_refused: bool) -> Result<(), Fail> {
+pub fn tell(rt: &(impl Abort + Print), is_refused: bool) {
     let told = if is_refused { "refused" } else { "answered" };
-    println!(rt; "{told}")?;
-    Ok(())
+    println!(rt; "{told}").expect(rt, "nothing is told");
 }
 
 /// Sets, and what a merge answers for them.
 static MERGES: [(&str, &str); 13] = [
     (
-        "@a\nstart = doc doc |= element b { text }@b\ndoc |= element a { empty }",
+        "@a\nstart = doc doc |= element b { text }\n@b\ndoc |= element a { empty }",
         "start = doc\ndoc = element a { empty } | element b { text }\n",
     ),
     (
-        "@a\nstart = element r { x } x &= element a { empty }@b\nx &= element a { empty }",
+        "@a\nstart = element r { x } x &= element a { empty }\n@b\nx &= element a { empty }",
         "start = element r { x }\nx = element a { empty } & element a { empty }\n",
     ),
-    ("@a\nx = text@b\nx = text start = x", "PlainTwice x"),
-    ("@a\nx = text@b\nx |= empty@c\nx &= text", "MixedMethods x"),
+    ("@a\nx = text\n@b\nx = text start = x", "PlainTwice x"),
     (
-        "@main\ninclude \"lib\" include \"lib\" start = element r { y }@lib\ny = empty",
+        "@a\nx = text\n@b\nx |= empty\n@c\nx &= text",
+        "MixedMethods x",
+    ),
+    (
+        "@main\ninclude \"lib\" include \"lib\" start = element r { y }\n@lib\ny = empty",
         "PlainTwice y",
     ),
     (
-        "@main\ninclude \"lib\" include \"lib\" start = element r { y }@lib\ny |= text",
+        "@main\ninclude \"lib\" include \"lib\" start = element r { y }\n@lib\ny |= text",
         "start = element r { y }\ny = text\n",
     ),
     (
@@ -60,7 +63,7 @@ static MERGES: [(&str, &str); 13] = [
         "start = element r { (text?)* }\n",
     ),
     (
-        "@main\ninclude \"lib\" { z = text } start = text@lib\ny = empty",
+        "@main\ninclude \"lib\" { z = text } start = text\n@lib\ny = empty",
         "Override main z",
     ),
     (
@@ -73,53 +76,62 @@ static MERGES: [(&str, &str); 13] = [
         "start = element r { attribute id { xsd:ID }?, (a & b)+ }\na = element a { empty }\nb = element b { string - string \"no\" }\n",
     ),
     (
-        "@m0\ninclude \"m1\" include \"m1\" start = element r { y }@m1\ninclude \"m2\" include \"m2\"@m2\ninclude \"m3\" include \"m3\"@m3\ninclude \"m4\" include \"m4\"@m4\ninclude \"m5\" include \"m5\"@m5\ninclude \"m6\" include \"m6\"@m6\ninclude \"m7\" include \"m7\"@m7\ninclude \"m8\" include \"m8\"@m8\ny |= text",
+        "@m0\ninclude \"m1\" include \"m1\" start = element r { y }\n@m1\ninclude \"m2\" include \"m2\"\n@m2\ninclude \"m3\" include \"m3\"\n@m3\ninclude \"m4\" include \"m4\"\n@m4\ninclude \"m5\" include \"m5\"\n@m5\ninclude \"m6\" include \"m6\"\n@m6\ninclude \"m7\" include \"m7\"\n@m7\ninclude \"m8\" include \"m8\"\n@m8\ny |= text",
         "start = element r { y }\ny = text\n",
     ),
     (
-        "@m0\ninclude \"m1\" include \"m1\" start = element r { y }@m1\ninclude \"m2\" include \"m2\"@m2\ninclude \"m3\" include \"m3\"@m3\ninclude \"m4\" include \"m4\"@m4\ninclude \"m5\" include \"m5\"@m5\ninclude \"m6\" include \"m6\"@m6\ninclude \"m7\" include \"m7\"@m7\ninclude \"m8\" include \"m8\"@m8\ninclude \"m9\" include \"m9\"@m9\ny |= text",
+        "@m0\ninclude \"m1\" include \"m1\" start = element r { y }\n@m1\ninclude \"m2\" include \"m2\"\n@m2\ninclude \"m3\" include \"m3\"\n@m3\ninclude \"m4\" include \"m4\"\n@m4\ninclude \"m5\" include \"m5\"\n@m5\ninclude \"m6\" include \"m6\"\n@m6\ninclude \"m7\" include \"m7\"\n@m7\ninclude \"m8\" include \"m8\"\n@m8\ninclude \"m9\" include \"m9\"\n@m9\ny |= text",
         "Instances",
     ),
 ];
 
 /// What a merge answers, as rows write it, where it isn't refused memory.
-fn merged(alloc: Global, set: &ModuleSet) -> Result<Option<String>, Fail> {
-    mark(alloc, BEGIN);
-    let found = merge(alloc, set);
-    mark(alloc, END);
+fn merged(rt: &(impl Abort + AllocGlobal), set: &ModuleSet) -> Option<String> {
+    mark(rt.alloc(), BEGIN);
+    let found = merge(rt.alloc(), set);
+    mark(rt.alloc(), END);
     match found {
-        Err(Refusal::Memory) => Ok(None),
-        found => Ok(Some(shown(alloc, found)?)),
+        Err(Refusal::Memory) => None,
+        found => Some(shown(rt, found)),
+    }
+}
+
+/// Whether an answer is refused, which is this one otherwise.
+pub fn is_refused_answer(rt: &impl Abort, answer: Option<String>, wanted: &str) -> bool {
+    match answer {
+        Some(found) => {
+            same(rt, found.as_str(), wanted);
+            false
+        }
+        None => true,
     }
 }
 
 #[test]
-fn sets_are_merged(rt: HostRuntime) -> Result<(), Fail> {
+fn sets_are_merged(rt: HostRuntime) {
     let mut was_refused = false;
     for (set, wanted) in &MERGES {
-        match merged(rt.alloc(), &written_set(rt.alloc(), set)?)? {
-            Some(found) => same(&rt, found.as_str(), wanted),
-            None => was_refused = true,
-        }
+        let answer = merged(&rt, &written_set(&rt, set));
+        was_refused |= is_refused_answer(&rt, answer, wanted);
     }
-    tell(&rt, was_refused)
+    tell(&rt, was_refused);
 }
 
 /// What a check answers, as rows write it, where it isn't refused memory.
-fn checked(alloc: Global, text: &[u8]) -> Result<Option<String>, Fail> {
-    mark(alloc, BEGIN);
-    let found = check(alloc, text);
-    mark(alloc, END);
+fn checked(rt: &(impl Abort + AllocGlobal), text: &[u8]) -> Option<String> {
+    mark(rt.alloc(), BEGIN);
+    let found = check(rt.alloc(), text);
+    mark(rt.alloc(), END);
     match found {
-        Ok(()) => Ok(Some(String::from_str(alloc, "good")?)),
-        Err(Place::Memory) => Ok(None),
-        Err(place) => Ok(Some(line_of(alloc, ProgramFault::Check(place))?)),
+        Ok(()) => Some(owned(rt, "good")),
+        Err(Place::Memory) => None,
+        Err(place) => Some(line_of(rt, ProgramFault::Check(place))),
     }
 }
 
 #[test]
-fn texts_are_checked(rt: HostRuntime) -> Result<(), Fail> {
-    let deep = repeated(rt.alloc(), "start = ", "(", 257, "")?;
+fn texts_are_checked(rt: HostRuntime) {
+    let deep = repeated(&rt, "start = ", "(", 257, "");
     let mut was_refused = false;
     for (text, wanted) in [
         (b"abc".as_slice(), "Syntax 3"),
@@ -128,109 +140,97 @@ fn texts_are_checked(rt: HostRuntime) -> Result<(), Fail> {
         (deep.as_bytes(), "Deep 264"),
         (b"start = text\xFF".as_slice(), "Encoding 12"),
     ] {
-        match checked(rt.alloc(), text)? {
-            Some(found) => same(&rt, found.as_str(), wanted),
-            None => was_refused = true,
-        }
+        was_refused |= is_refused_answer(&rt, checked(&rt, text), wanted);
     }
-    tell(&rt, was_refused)
+    tell(&rt, was_refused);
 }
 
 #[test]
-fn bundles_are_printed(rt: HostRuntime) -> Result<(), Fail> {
-    let given = bundles(rt.alloc(), &[B, A, A])?;
+fn bundles_are_printed(rt: HostRuntime) {
+    let given = bundles(&rt, &[B, A, A]);
     let mut out = sink_of(rt.alloc(), 82);
-    out.taken.reserve(82)?;
+    out.taken.reserve(82).expect(&rt, "no memory");
     mark(rt.alloc(), BEGIN);
     let answer = run_print(rt.alloc(), given.as_slice(), &mut out);
     mark(rt.alloc(), END);
     let is_refused = answer == Err(RunFault::Memory);
     let is_done = answer == Ok(Status::Done);
-    drop(answer);
-    assert!(rt; is_refused || is_done);
+    holds(&rt, is_refused || is_done, "the run is done or refused");
     let wanted = if is_done { PRINTED } else { "" };
     same_bytes(&rt, out.taken.as_slice(), wanted.as_bytes());
-    tell(&rt, is_refused)
+    tell(&rt, is_refused);
 }
 
 /// Four contributions, as a set is written. With them it is full of what it asked room for, so a fifth one asks for more.
-const FOUR: &str = "@a\nx@b 2\ny@c 3 withdrawn\n@e\nv";
+const FOUR: &str = "@a\nx\n@b 2\ny\n@c 3 withdrawn\n@e\nv";
 
 /// And as it holds them.
 const FOUR_HELD: &str = "a 1\nb 2\nc 3 withdrawn\ne 1\n";
 
 #[test]
-fn a_contribution_is_added(rt: HostRuntime) -> Result<(), Fail> {
-    let mut set = written_set(rt.alloc(), FOUR)?;
-    let kept = contribution(rt.alloc(), "d 4\nz")?;
-    let given = contribution(rt.alloc(), "d 4\nz")?;
+fn a_contribution_is_added(rt: HostRuntime) {
+    let mut set = written_set(&rt, FOUR);
+    let kept = contribution(&rt, "d 4\nz");
+    let given = contribution(&rt, "d 4\nz");
     mark(rt.alloc(), BEGIN);
     let answer = set.add(given);
     mark(rt.alloc(), END);
-    let Err((back, fault)) = answer else {
-        same(
-            &rt,
-            held(rt.alloc(), &set)?.as_str(),
-            "a 1\nb 2\nc 3 withdrawn\nd 4\ne 1\n",
-        );
-        return tell(&rt, false);
+    let wanted = match &answer {
+        Ok(_) => "a 1\nb 2\nc 3 withdrawn\nd 4\ne 1\n",
+        Err((back, fault)) => {
+            let is_back = *back == kept && *fault == AddFault::Memory;
+            holds(&rt, is_back, "the contribution comes back");
+            FOUR_HELD
+        }
     };
-    let is_back = back == kept;
-    drop(back);
-    assert!(rt; is_back && fault == AddFault::Memory);
-    same(&rt, held(rt.alloc(), &set)?.as_str(), FOUR_HELD);
-    tell(&rt, true)
+    same(&rt, held(&rt, &set).as_str(), wanted);
+    tell(&rt, answer.is_err());
 }
 
 #[test]
-fn sets_are_joined(rt: HostRuntime) -> Result<(), Fail> {
-    let mut set = written_set(rt.alloc(), FOUR)?;
-    let other = written_set(rt.alloc(), "@a 2\nx@b 2\nz@d\n")?;
+fn sets_are_joined(rt: HostRuntime) {
+    let mut set = written_set(&rt, FOUR);
+    let other = written_set(&rt, "@a 2\nx\n@b 2\nz\n@d\n");
     mark(rt.alloc(), BEGIN);
     let answer = set.join(&other);
     mark(rt.alloc(), END);
-    assert!(rt; answer == Ok(()) || answer == Err(AddFault::Memory));
+    let is_right = answer == Ok(()) || answer == Err(AddFault::Memory);
+    holds(&rt, is_right, "the set is joined or refused");
     let wanted = match answer {
         Ok(()) => "a 1\na 2\nb 2\nb 2\nc 3 withdrawn\nd 1\ne 1\n",
         Err(_) => FOUR_HELD,
     };
-    same(&rt, held(rt.alloc(), &set)?.as_str(), wanted);
-    tell(&rt, answer.is_err())
+    same(&rt, held(&rt, &set).as_str(), wanted);
+    tell(&rt, answer.is_err());
 }
 
 #[test]
-fn a_bundle_is_written(rt: HostRuntime) -> Result<(), Fail> {
-    let set = written_set(rt.alloc(), "@t 7\nabc")?;
+fn a_bundle_is_written(rt: HostRuntime) {
+    let set = written_set(&rt, "@t 7\nabc");
     mark(rt.alloc(), BEGIN);
     let answer = write_bundle(rt.alloc(), &set);
     mark(rt.alloc(), END);
-    let Ok(bytes) = answer else {
-        return tell(&rt, true);
-    };
-    same_bytes(&rt, bytes.as_slice(), ONE.as_bytes());
-    tell(&rt, false)
+    if let Ok(bytes) = &answer {
+        same_bytes(&rt, bytes.as_slice(), ONE.as_bytes());
+    }
+    tell(&rt, answer.is_err());
 }
 
 #[test]
-fn a_bundle_is_read(rt: HostRuntime) -> Result<(), Fail> {
+fn a_bundle_is_read(rt: HostRuntime) {
     mark(rt.alloc(), BEGIN);
     let answer = read_bundle(rt.alloc(), ONE.as_bytes());
     mark(rt.alloc(), END);
-    match answer {
-        Ok(set) => {
-            same(&rt, held(rt.alloc(), &set)?.as_str(), "t 7\n");
-            tell(&rt, false)
-        }
-        Err(fault) => {
-            assert!(rt; fault == BundleFault::Memory);
-            tell(&rt, true)
-        }
+    match &answer {
+        Ok(set) => same(&rt, held(&rt, set).as_str(), "t 7\n"),
+        Err(fault) => holds(&rt, *fault == BundleFault::Memory, "memory is refused"),
     }
+    tell(&rt, answer.is_err());
 }
 
 #[test]
-fn a_literal_is_written(rt: HostRuntime) -> Result<(), Fail> {
-    let mut out = String::from_str(rt.alloc(), "x")?;
+fn a_literal_is_written(rt: HostRuntime) {
+    let mut out = owned(&rt, "x");
     mark(rt.alloc(), BEGIN);
     let answer = write_literal(&mut out, "a\"b\nc");
     mark(rt.alloc(), END);
@@ -239,89 +239,84 @@ fn a_literal_is_written(rt: HostRuntime) -> Result<(), Fail> {
         Err(_) => "x",
     };
     same(&rt, out.as_str(), wanted);
-    tell(&rt, answer.is_err())
+    tell(&rt, answer.is_err());
 }
 
 /// Whether a text is refused, which is this one otherwise.
 fn is_refused(rt: &impl Abort, answer: Result<String, AllocError>, wanted: &str) -> bool {
-    let Ok(found) = answer else {
-        return true;
-    };
-    same(rt, found.as_str(), wanted);
-    false
+    is_refused_answer(rt, answer.ok(), wanted)
 }
 
 #[test]
-fn a_literal_is_read(rt: HostRuntime) -> Result<(), Fail> {
-    let found = tokens(rt.alloc(), b"'\\xx{41}'")?;
-    let segment = found.as_slice().first().ok_or("no token")?;
+fn a_literal_is_read(rt: HostRuntime) {
+    let found = tokens(rt.alloc(), b"'\\xx{41}'").expect(&rt, "no tokens");
+    let segment = found.as_slice().first().expect(&rt, "no token");
     mark(rt.alloc(), BEGIN);
     let answer = literal(rt.alloc(), segment);
     mark(rt.alloc(), END);
-    tell(&rt, is_refused(&rt, answer, "A"))
+    tell(&rt, is_refused(&rt, answer, "A"));
 }
 
 #[test]
-fn a_refusal_has_its_line(rt: HostRuntime) -> Result<(), Fail> {
-    let module = String::from_str(rt.alloc(), "main")?;
-    let wanted = String::from_str(rt.alloc(), "gone")?;
+fn a_refusal_has_its_line(rt: HostRuntime) {
+    let module = owned(&rt, "main");
+    let wanted = owned(&rt, "gone");
     let refusal = Refusal::Missing { module, wanted };
     mark(rt.alloc(), BEGIN);
     let answer = refusal_line(rt.alloc(), &refusal);
     mark(rt.alloc(), END);
-    drop(refusal);
-    tell(&rt, is_refused(&rt, answer, "Missing main \"gone\""))
+    tell(&rt, is_refused(&rt, answer, "Missing main \"gone\""));
 }
 
 #[test]
-fn a_contribution_has_its_line(rt: HostRuntime) -> Result<(), Fail> {
-    let given = contribution(rt.alloc(), "t 7\nabc")?;
+fn a_contribution_has_its_line(rt: HostRuntime) {
+    let given = contribution(&rt, "t 7\nabc");
     mark(rt.alloc(), BEGIN);
     let answer = list_line(rt.alloc(), &given);
     mark(rt.alloc(), END);
     let digest = "ba7816bf8f01cfea414140de5dae2223b00361a396177a9cb410ff61f20015ad";
-    let wanted = format!(in rt.alloc(); "t 7 3 {digest}")?;
-    tell(&rt, is_refused(&rt, answer, wanted.as_str()))
+    let wanted = made(&rt, format!(in rt.alloc(); "t 7 3 {digest}"));
+    tell(&rt, is_refused(&rt, answer, wanted.as_str()));
 }
 
 #[test]
-fn a_fault_has_its_line(rt: HostRuntime) -> Result<(), Fail> {
+fn a_fault_has_its_line(rt: HostRuntime) {
     let fault = ProgramFault::Bundle(1, BundleFault::Header { entry: 2 });
     mark(rt.alloc(), BEGIN);
     let answer = fault_line(rt.alloc(), &fault);
     mark(rt.alloc(), END);
-    drop(fault);
-    tell(&rt, is_refused(&rt, answer, "bundle 1 Header 2"))
+    tell(&rt, is_refused(&rt, answer, "bundle 1 Header 2"));
 }
 
 #[test]
-fn what_a_set_tells_needs_no_memory(rt: HostRuntime) -> Result<(), Fail> {
-    let mut set = written_set(rt.alloc(), FOUR)?;
-    let given = contribution(rt.alloc(), "b 2\ny")?;
+fn what_a_set_tells_needs_no_memory(rt: HostRuntime) {
+    let mut set = written_set(&rt, FOUR);
+    let given = contribution(&rt, "b 2\ny");
     mark(rt.alloc(), BEGIN);
     let is_held = set.contains(&given) && set.len() == 4 && set.iter().count() == 4;
     let is_added = set.add(given).is_ok();
     let is_empty = ModuleSet::new(rt.alloc()).len() == 0;
     mark(rt.alloc(), END);
-    assert!(rt; is_held && is_added && is_empty);
-    same(&rt, held(rt.alloc(), &set)?.as_str(), FOUR_HELD);
-    tell(&rt, false)
+    holds(&rt, is_held && is_added && is_empty, "the set tells it");
+    same(&rt, held(&rt, &set).as_str(), FOUR_HELD);
+    tell(&rt, false);
 }
 
 #[test]
-fn what_is_effective_needs_no_memory(rt: HostRuntime) -> Result<(), Fail> {
-    let set = written_set(rt.alloc(), FOUR)?;
-    let modules = set.effective(rt.alloc())?;
+fn what_is_effective_needs_no_memory(rt: HostRuntime) {
+    let set = written_set(&rt, FOUR);
+    let modules = set.effective(rt.alloc()).expect(&rt, "a conflict");
     mark(rt.alloc(), BEGIN);
     let count = modules.iter().count();
     let text = modules.get("b");
     mark(rt.alloc(), END);
-    assert!(rt; count == 3 && text == Some(b"y".as_slice()));
-    tell(&rt, false)
+    let is_right = count == 3 && text == Some(b"y".as_slice());
+    holds(&rt, is_right, "the modules are told");
+    tell(&rt, false);
 }
 
 #[test]
-fn streams_and_statuses_need_no_memory(rt: HostRuntime) -> Result<(), Fail> {
+fn streams_and_statuses_need_no_memory(rt: HostRuntime) {
     let (reader, writer) = (rt.stdin(), rt.stdout());
     mark(rt.alloc(), BEGIN);
     let input = Input::new(reader);
@@ -329,6 +324,6 @@ fn streams_and_statuses_need_no_memory(rt: HostRuntime) -> Result<(), Fail> {
     let is_new = !input.failed() && !input.ended() && !output.failed();
     let number = status(&ProgramFault::Dash);
     mark(rt.alloc(), END);
-    assert!(rt; is_new && number == 2);
-    tell(&rt, false)
+    holds(&rt, is_new && number == 2, "the streams are new");
+    tell(&rt, false);
 }

@@ -1,47 +1,39 @@
 // What a text's module is: brackets, and the literals of its includes.
+use crate::large::repeated;
+use crate::sets::{holds, push};
 use rn_syntax::{Item, Module, SyntaxFault, includes, parse};
 use rn_text::{Token, tokens};
-use std::alloc::Global;
 use std::borrow::CowStr;
-use std::test::Fail;
+use std::process::Abort;
 
 /// The tokens of a text.
-fn tokens_of(alloc: Global, text: &str) -> Result<Vec<Token<'_>>, Fail> {
-    Ok(tokens(alloc, text.as_bytes())?)
+fn tokens_of<'a>(rt: &(impl Abort + AllocGlobal), text: &'a str) -> Vec<Token<'a>> {
+    tokens(rt.alloc(), text.as_bytes()).expect(rt, "no tokens")
 }
 
 /// The module of tokens.
-fn module_of<'a>(alloc: Global, tokens: &[Token<'a>]) -> Result<Module<'a>, Fail> {
-    Ok(parse(alloc, tokens)?)
+fn module_of<'a>(rt: &(impl Abort + AllocGlobal), tokens: &[Token<'a>]) -> Module<'a> {
+    parse(rt.alloc(), tokens).expect(rt, "no module")
 }
 
 /// The fault of a text whose tokens are good.
-fn fault(alloc: Global, text: &str) -> Result<Option<SyntaxFault>, Fail> {
-    let tokens = tokens_of(alloc, text)?;
-    match parse(alloc, tokens.as_slice()) {
-        Ok(_) => Ok(None),
-        Err(fault) => Ok(Some(fault)),
-    }
+fn fault(rt: &(impl Abort + AllocGlobal), text: &str) -> Option<SyntaxFault> {
+    let tokens = tokens_of(rt, text);
+    parse(rt.alloc(), tokens.as_slice()).err()
 }
 
 /// A text that opens this many brackets and closes them.
 fn nested(
-    alloc: Global,
+    rt: &(impl Abort + AllocGlobal),
     front: &str,
     open: &str,
     inner: &str,
     close: &str,
     count: usize,
-) -> Result<String, Fail> {
-    let mut text = String::from_str(alloc, front)?;
-    for _ in 0..count {
-        text.push_str(open)?;
-    }
-    text.push_str(inner)?;
-    for _ in 0..count {
-        text.push_str(close)?;
-    }
-    Ok(text)
+) -> String {
+    let mut text = repeated(rt, front, open, count, inner);
+    push(rt, &mut text, repeated(rt, "", close, count, "").as_str());
+    text
 }
 
 /// Texts of brackets: what stands before them, a bracket, what is inside, its closing one, the place in bytes of the one that
@@ -55,60 +47,61 @@ static BRACKETS: [(&str, &str, &str, &str, usize, bool); 5] = [
 ];
 
 #[test]
-fn brackets_too_deep(rt: HostRuntime) -> Result<(), Fail> {
+fn brackets_too_deep(rt: HostRuntime) {
     for (front, open, inner, close, at, _) in &BRACKETS {
-        let text = nested(rt.alloc(), front, open, inner, close, 257)?;
-        let found = fault(rt.alloc(), text.as_str())?;
-        assert!(rt; found == Some(SyntaxFault::Deep { at: *at }), "{front}");
+        let text = nested(&rt, front, open, inner, close, 257);
+        let found = fault(&rt, text.as_str());
+        holds(&rt, found == Some(SyntaxFault::Deep { at: *at }), front);
     }
-    Ok(())
 }
 
 #[test]
-fn deepest_brackets(rt: HostRuntime) -> Result<(), Fail> {
+fn deepest_brackets(rt: HostRuntime) {
     for (front, open, inner, close, _, is_module) in &BRACKETS {
-        let text = nested(rt.alloc(), front, open, inner, close, 256)?;
-        let found = fault(rt.alloc(), text.as_str())?;
+        let text = nested(&rt, front, open, inner, close, 256);
         let at_end = Some(SyntaxFault::Syntax { at: text.len() });
-        assert!(rt; found == if *is_module { None } else { at_end }, "{front}");
+        let wanted = if *is_module { None } else { at_end };
+        holds(&rt, fault(&rt, text.as_str()) == wanted, front);
     }
-    Ok(())
 }
 
 #[test]
-fn include_literals(rt: HostRuntime) -> Result<(), Fail> {
+fn include_literals(rt: HostRuntime) {
     let text =
         "include 'a' { } div { include \"b\" ~ 'c' div { include \"l\\x{69}b\" } } include \"\\x\"";
-    let tokens = tokens_of(rt.alloc(), text)?;
-    let module = module_of(rt.alloc(), tokens.as_slice())?;
-    let found = includes(rt.alloc(), &module)?;
+    let tokens = tokens_of(&rt, text);
+    let module = module_of(&rt, tokens.as_slice());
+    let found = includes(rt.alloc(), &module).expect(&rt, "no memory");
     assert!(rt; found.as_slice() == ["a", "bc", "lib", "\\x"].as_slice());
-    Ok(())
 }
 
-/// Whether the literal of the only include of a text is a slice of it.
-fn is_borrowed(alloc: Global, text: &str) -> Result<Option<bool>, Fail> {
-    let tokens = tokens_of(alloc, text)?;
-    let module = module_of(alloc, tokens.as_slice())?;
+/// Whether the literal of the only include of a module is a slice of its text.
+fn has_borrowed(module: &Module) -> Option<bool> {
     match module.items.as_slice() {
         [
             Item::Include {
                 wanted: CowStr::Borrowed(_),
                 ..
             },
-        ] => Ok(Some(true)),
+        ] => Some(true),
         [
             Item::Include {
                 wanted: CowStr::Owned(_),
                 ..
             },
-        ] => Ok(Some(false)),
-        _ => Ok(None),
+        ] => Some(false),
+        _ => None,
     }
 }
 
+/// Whether the literal of the only include of a text is a slice of it.
+fn is_borrowed(rt: &(impl Abort + AllocGlobal), text: &str) -> Option<bool> {
+    let tokens = tokens_of(rt, text);
+    has_borrowed(&module_of(rt, tokens.as_slice()))
+}
+
 #[test]
-fn borrowed_literals(rt: HostRuntime) -> Result<(), Fail> {
+fn borrowed_literals(rt: HostRuntime) {
     for (text, wanted) in [
         ("include \"lib\"", true),
         ("include '''l\"'b\n'''", true),
@@ -118,7 +111,6 @@ fn borrowed_literals(rt: HostRuntime) -> Result<(), Fail> {
         ("include \"l\\x{69}b\"", false),
         ("include '''a\r'''", false),
     ] {
-        assert!(rt; is_borrowed(rt.alloc(), text)? == Some(wanted), "{text}");
+        holds(&rt, is_borrowed(&rt, text) == Some(wanted), text);
     }
-    Ok(())
 }

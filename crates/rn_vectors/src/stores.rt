@@ -1,17 +1,13 @@
 // The canonical form of each constructor by rows, and the order.
-use crate::sets::same_count;
+use crate::sets::{holds, owned, same_count};
 use rn_pattern::{Interned, NameClass, Pattern, Patterns, Plain};
-use std::alloc::{AllocError, Global};
+use std::alloc::AllocError;
 use std::cmp::Ordering;
-use std::test::Fail;
+use std::process::Abort;
 
-fn text(alloc: Global, s: &str) -> Result<String, AllocError> {
-    String::from_str(alloc, s)
-}
-
-/// A name of a namespace.
-pub fn name(alloc: Global, uri: &str, local: &str) -> Result<NameClass, AllocError> {
-    Ok(NameClass::Name(text(alloc, uri)?, text(alloc, local)?))
+/// What is told of a store holds.
+fn is_told(rt: &impl Abort, told: Result<bool, AllocError>, said: &str) {
+    holds(rt, told.expect(rt, "no memory"), said);
 }
 
 /// Whether a group within a group leaves its members in it, each as often as before.
@@ -24,10 +20,12 @@ fn joins_lists(store: &mut Interned) -> Result<bool, AllocError> {
 }
 
 #[test]
-fn lists_are_joined(rt: HostRuntime) -> Result<(), Fail> {
-    let is_joined = joins_lists(&mut Interned::new(rt.alloc()))?;
-    assert!(rt; is_joined);
-    Ok(())
+fn lists_are_joined(rt: HostRuntime) {
+    is_told(
+        &rt,
+        joins_lists(&mut Interned::new(rt.alloc())),
+        "a group is no member of a group",
+    );
 }
 
 /// Whether an interleave keeps each member as often as it stands, in order.
@@ -39,10 +37,12 @@ fn keeps_repeats(store: &mut Interned) -> Result<bool, AllocError> {
 }
 
 #[test]
-fn repeats_are_kept(rt: HostRuntime) -> Result<(), Fail> {
-    let is_kept = keeps_repeats(&mut Interned::new(rt.alloc()))?;
-    assert!(rt; is_kept);
-    Ok(())
+fn repeats_are_kept(rt: HostRuntime) {
+    is_told(
+        &rt,
+        keeps_repeats(&mut Interned::new(rt.alloc())),
+        "an interleave keeps repeats",
+    );
 }
 
 /// Whether `notAllowed` leaves a choice and takes what holds it along.
@@ -53,10 +53,12 @@ fn spreads_not_allowed(store: &mut Plain) -> Result<bool, AllocError> {
 }
 
 #[test]
-fn not_allowed_spreads(rt: HostRuntime) -> Result<(), Fail> {
-    let is_spread = spreads_not_allowed(&mut Plain::new(rt.alloc()))?;
-    assert!(rt; is_spread);
-    Ok(())
+fn not_allowed_spreads(rt: HostRuntime) {
+    is_told(
+        &rt,
+        spreads_not_allowed(&mut Plain::new(rt.alloc())),
+        "notAllowed spreads",
+    );
 }
 
 /// Whether a repetition of a repetition is that repetition.
@@ -67,10 +69,12 @@ fn repeats_once(store: &mut Plain) -> Result<bool, AllocError> {
 }
 
 #[test]
-fn one_repetition(rt: HostRuntime) -> Result<(), Fail> {
-    let is_one = repeats_once(&mut Plain::new(rt.alloc()))?;
-    assert!(rt; is_one);
-    Ok(())
+fn one_repetition(rt: HostRuntime) {
+    is_told(
+        &rt,
+        repeats_once(&mut Plain::new(rt.alloc())),
+        "one repetition",
+    );
 }
 
 /// Whether a choice that is there already is found, whatever the order of its members.
@@ -88,14 +92,17 @@ fn makes_a_pair(store: &mut Interned) -> Result<bool, AllocError> {
 }
 
 #[test]
-fn interned_counts_what_is_new(rt: HostRuntime) -> Result<(), Fail> {
+fn interned_counts_what_is_new(rt: HostRuntime) {
     let mut store = Interned::new(rt.alloc());
     same_count(&rt, store.nodes(), 0);
-    assert!(rt; shares(&mut store)?);
+    is_told(&rt, shares(&mut store), "a choice is shared");
     same_count(&rt, store.nodes(), 3);
-    assert!(rt; makes_a_pair(&mut store)?);
+    is_told(
+        &rt,
+        makes_a_pair(&mut store),
+        "an interleave of a pattern twice",
+    );
     same_count(&rt, store.nodes(), 4);
-    Ok(())
 }
 
 /// Whether a reference that is there already is made anew, and a choice of the two is the first.
@@ -106,112 +113,121 @@ fn makes_anew(store: &mut Plain) -> Result<bool, AllocError> {
 }
 
 #[test]
-fn plain_looks_for_nothing(rt: HostRuntime) -> Result<(), Fail> {
+fn plain_looks_for_nothing(rt: HostRuntime) {
     let mut store = Plain::new(rt.alloc());
-    assert!(rt; makes_anew(&mut store)?);
+    is_told(&rt, makes_anew(&mut store), "a reference is made anew");
     same_count(&rt, store.nodes(), 2);
-    Ok(())
+}
+
+/// A name of a namespace.
+pub fn name(rt: &(impl Abort + AllocGlobal), uri: &str, local: &str) -> NameClass {
+    NameClass::Name(owned(rt, uri), owned(rt, local))
+}
+
+/// The name `a` of a namespace, as an except.
+fn except(rt: &(impl Abort + AllocGlobal), uri: &str) -> Option<Box<NameClass>> {
+    Some(Box::new(rt.alloc(), name(rt, uri, "a")).expect(rt, "no memory"))
 }
 
 /// Name classes in their order, of the numbers 0 to 7.
-fn class(alloc: Global, number: usize) -> Result<NameClass, AllocError> {
+fn class(rt: &(impl Abort + AllocGlobal), number: usize) -> NameClass {
     match number {
-        0 => Ok(NameClass::AnyName(None)),
-        1 => {
-            let except = Box::new(alloc, name(alloc, "", "a")?)?;
-            Ok(NameClass::AnyName(Some(except)))
-        }
-        2 => Ok(NameClass::NsName(text(alloc, "u")?, None)),
-        3 => {
-            let except = Box::new(alloc, name(alloc, "u", "a")?)?;
-            Ok(NameClass::NsName(text(alloc, "u")?, Some(except)))
-        }
-        4 => Ok(NameClass::NsName(text(alloc, "v")?, None)),
-        5 => name(alloc, "a", "c"),
-        6 => name(alloc, "b", "b"),
-        _ => Ok(NameClass::Choice(Vec::new(alloc))),
+        0 => NameClass::AnyName(None),
+        1 => NameClass::AnyName(except(rt, "")),
+        2 => NameClass::NsName(owned(rt, "u"), None),
+        3 => NameClass::NsName(owned(rt, "u"), except(rt, "u")),
+        4 => NameClass::NsName(owned(rt, "v"), None),
+        5 => name(rt, "a", "c"),
+        6 => name(rt, "b", "b"),
+        _ => NameClass::Choice(Vec::new(rt.alloc())),
     }
 }
 
 /// How the name classes of two numbers stand to each other.
-fn ordered_classes(alloc: Global, one: usize, other: usize) -> Result<Ordering, AllocError> {
-    Ok(class(alloc, one)?.cmp(&class(alloc, other)?))
+fn ordered_classes(rt: &(impl Abort + AllocGlobal), one: usize, other: usize) -> Ordering {
+    class(rt, one).cmp(&class(rt, other))
 }
 
 #[test]
-fn name_classes_are_ordered(rt: HostRuntime) -> Result<(), Fail> {
+fn name_classes_are_ordered(rt: HostRuntime) {
     for one in 0..8usize {
         for other in 0..8usize {
-            assert!(rt; ordered_classes(rt.alloc(), one, other)? == one.cmp(&other));
+            let order = ordered_classes(&rt, one, other);
+            holds(
+                &rt,
+                order == one.cmp(&other),
+                "name classes have their order",
+            );
         }
     }
-    Ok(())
 }
 
-/// A value or data of the type `token`.
-fn typed(alloc: Global, number: usize) -> Result<Pattern, AllocError> {
-    let library = text(alloc, "")?;
-    let type_name = text(alloc, "token")?;
-    match number {
-        5 => Ok(Pattern::Value(library, type_name, text(alloc, "x")?)),
-        6 => Ok(Pattern::Datum(library, type_name, Vec::new(alloc), None)),
-        _ => {
-            let except = Box::new(alloc, Pattern::Empty)?;
-            Ok(Pattern::Datum(library, type_name, Vec::new(alloc), Some(except)))
-        }
-    }
+/// A pattern in its box.
+fn boxed(rt: &(impl Abort + AllocGlobal), pattern: Pattern) -> Box<Pattern> {
+    Box::new(rt.alloc(), pattern).expect(rt, "no memory")
+}
+
+/// A value of the type `token`.
+fn value(rt: &(impl Abort + AllocGlobal)) -> Pattern {
+    Pattern::Value(owned(rt, ""), owned(rt, "token"), owned(rt, "x"))
+}
+
+/// Data of the type `token`.
+fn datum(rt: &(impl Abort + AllocGlobal), except: Option<Box<Pattern>>) -> Pattern {
+    Pattern::Datum(
+        owned(rt, ""),
+        owned(rt, "token"),
+        Vec::new(rt.alloc()),
+        except,
+    )
+}
+
+/// An attribute `a` of a text.
+fn attribute(rt: &(impl Abort + AllocGlobal)) -> Pattern {
+    Pattern::Attribute(name(rt, "", "a"), boxed(rt, Pattern::Text))
 }
 
 /// An element of this name.
-fn element(alloc: Global, local: &str, content: Pattern) -> Result<Pattern, AllocError> {
-    let content = Box::new(alloc, content)?;
-    let class = name(alloc, "", local)?;
-    Ok(Pattern::Element(class, content))
+fn element(rt: &(impl Abort + AllocGlobal), local: &str, content: Pattern) -> Pattern {
+    Pattern::Element(name(rt, "", local), boxed(rt, content))
 }
 
 /// Patterns in their order, of the numbers 0 to 16.
-fn pattern(alloc: Global, number: usize) -> Result<Pattern, AllocError> {
+fn pattern(rt: &(impl Abort + AllocGlobal), number: usize) -> Pattern {
     match number {
-        0 => Ok(Pattern::NotAllowed),
-        1 => Ok(Pattern::Empty),
-        2 => Ok(Pattern::Text),
-        3 => Ok(Pattern::Ref(text(alloc, "a")?)),
-        4 => Ok(Pattern::Ref(text(alloc, "b")?)),
-        5..=7 => typed(alloc, number),
-        8 => Ok(Pattern::List(Box::new(alloc, Pattern::Text)?)),
-        9 => Ok(Pattern::Attribute(name(alloc, "", "a")?, Box::new(alloc, Pattern::Text)?)),
-        10 => element(alloc, "a", Pattern::Empty),
-        11 => element(alloc, "a", Pattern::Text),
-        12 => element(alloc, "b", Pattern::Empty),
-        13 => Ok(Pattern::OneOrMore(Box::new(alloc, Pattern::Text)?)),
-        14 => Ok(Pattern::Group(Vec::new(alloc))),
-        15 => Ok(Pattern::Interleave(Vec::new(alloc))),
-        _ => Ok(Pattern::Choice(Vec::new(alloc))),
+        0 => Pattern::NotAllowed,
+        1 => Pattern::Empty,
+        2 => Pattern::Text,
+        3 => Pattern::Ref(owned(rt, "a")),
+        4 => Pattern::Ref(owned(rt, "b")),
+        5 => value(rt),
+        6 => datum(rt, None),
+        7 => datum(rt, Some(boxed(rt, Pattern::Empty))),
+        8 => Pattern::List(boxed(rt, Pattern::Text)),
+        9 => attribute(rt),
+        10 => element(rt, "a", Pattern::Empty),
+        11 => element(rt, "a", Pattern::Text),
+        12 => element(rt, "b", Pattern::Empty),
+        13 => Pattern::OneOrMore(boxed(rt, Pattern::Text)),
+        14 => Pattern::Group(Vec::new(rt.alloc())),
+        15 => Pattern::Interleave(Vec::new(rt.alloc())),
+        _ => Pattern::Choice(Vec::new(rt.alloc())),
     }
-}
-
-/// How a pattern stands to that of a number.
-fn ordered_pattern(alloc: Global, one: &Pattern, other: usize) -> Result<Ordering, AllocError> {
-    let other = pattern(alloc, other)?;
-    let order = one.cmp(&other);
-    drop(other);
-    Ok(order)
 }
 
 /// How the patterns of two numbers stand to each other.
-fn ordered_patterns(alloc: Global, one: usize, other: usize) -> Result<Ordering, AllocError> {
-    let one = pattern(alloc, one)?;
-    let order = ordered_pattern(alloc, &one, other);
-    drop(one);
-    order
+fn ordered_patterns(rt: &(impl Abort + AllocGlobal), one: usize, other: usize) -> Ordering {
+    let one = boxed(rt, pattern(rt, one));
+    let other = boxed(rt, pattern(rt, other));
+    one.cmp(&other)
 }
 
 #[test]
-fn patterns_are_ordered(rt: HostRuntime) -> Result<(), Fail> {
+fn patterns_are_ordered(rt: HostRuntime) {
     for one in 0..17usize {
         for other in 0..17usize {
-            assert!(rt; ordered_patterns(rt.alloc(), one, other)? == one.cmp(&other));
+            let order = ordered_patterns(&rt, one, other);
+            holds(&rt, order == one.cmp(&other), "patterns have their order");
         }
     }
-    Ok(())
 }

@@ -1,7 +1,7 @@
 // Runs over bundles, with sources and sinks that fail at a known byte.
 ghost use Rattle.std.specs.Prelude.{◌≡◌, false, IfOk};
 
-use crate::sets::{bundle, same_bytes, written_set};
+use crate::sets::{bundle, holds, same_bytes, written_set};
 use rn_assemble::Refusal;
 use rn_merge::{
     Failed, ReadFault, RunFault, Sink, Source, Status, read_input, run_print, write_output,
@@ -9,7 +9,6 @@ use rn_merge::{
 use rn_modset::BundleFault;
 use std::alloc::Global;
 use std::process::Abort;
-use std::test::Fail;
 
 /// Two sets, and the schema of both.
 pub const A: &str = "@a\nstart = doc doc |= element b { text }";
@@ -113,20 +112,13 @@ impl Source for Bytes {
 }
 
 /// The bundles of one contribution each.
-pub fn bundles(alloc: Global, given: &[&str]) -> Result<Vec<Vec<u8>>, Fail> {
-    let mut bundles = Vec::new(alloc);
+pub fn bundles(rt: &(impl Abort + AllocGlobal), given: &[&str]) -> Vec<Vec<u8>> {
+    let mut bundles = Vec::new(rt.alloc());
     for one in given {
-        let set = written_set(alloc, one)?;
-        bundles.push(bundle(alloc, &set)?)?;
+        let bundle = bundle(rt, &written_set(rt, one));
+        bundles.push(bundle).expect(rt, "no memory");
     }
-    Ok(bundles)
-}
-
-/// A run into a sink that has room for so many bytes: what it took, and the run's answer.
-fn run(alloc: Global, given: &[Vec<u8>], room: usize) -> (Vec<u8>, Result<Status, RunFault>) {
-    let mut out = sink_of(alloc, room);
-    let answer = run_print(alloc, given, &mut out);
-    (out.taken, answer)
+    bundles
 }
 
 /// A run into a sink that has room for so many bytes gives it these, and has this answer.
@@ -137,34 +129,34 @@ fn runs(
     taken: &[u8],
     wanted: Result<Status, RunFault>,
 ) {
-    let (found, answer) = run(rt.alloc(), given, room);
-    let is_wanted = answer == wanted;
-    drop(answer);
-    drop(wanted);
-    assert!(rt; is_wanted);
-    same_bytes(rt, found.as_slice(), taken);
+    let mut out = sink_of(rt.alloc(), room);
+    let is_wanted = run_print(rt.alloc(), given, &mut out) == wanted;
+    holds(rt, is_wanted, "the run has this answer");
+    same_bytes(rt, out.taken.as_slice(), taken);
+}
+
+/// A run into a sink with much room gives it the whole schema.
+fn prints(rt: &(impl Abort + AllocGlobal), given: &[&str]) {
+    let given = bundles(rt, given);
+    runs(
+        rt,
+        given.as_slice(),
+        1000,
+        PRINTED.as_bytes(),
+        Ok(Status::Done),
+    );
 }
 
 #[test]
-fn bundles_are_merged_in_any_order(rt: HostRuntime) -> Result<(), Fail> {
-    let alloc = rt.alloc();
-    for given in &[[A, B, A], [B, A, A], [A, A, B]] {
-        let given = bundles(alloc, given)?;
-        runs(
-            &rt,
-            given.as_slice(),
-            1000,
-            PRINTED.as_bytes(),
-            Ok(Status::Done),
-        );
-    }
-    Ok(())
+fn bundles_are_merged_in_any_order(rt: HostRuntime) {
+    prints(&rt, &[A, B, A]);
+    prints(&rt, &[B, A, A]);
+    prints(&rt, &[A, A, B]);
 }
 
 #[test]
-fn a_sink_that_fails_has_the_bytes_before(rt: HostRuntime) -> Result<(), Fail> {
-    let alloc = rt.alloc();
-    let given = bundles(alloc, &[A, B])?;
+fn a_sink_that_fails_has_the_bytes_before(rt: HostRuntime) {
+    let given = bundles(&rt, &[A, B]);
     assert!(rt; PRINTED.len() == 82);
     for place in 0..82 {
         let front = &PRINTED.as_bytes()[..place];
@@ -177,50 +169,46 @@ fn a_sink_that_fails_has_the_bytes_before(rt: HostRuntime) -> Result<(), Fail> {
         PRINTED.as_bytes(),
         Ok(Status::Done),
     );
-    Ok(())
 }
 
 #[test]
-fn nothing_is_written_without_a_schema(rt: HostRuntime) -> Result<(), Fail> {
-    let alloc = rt.alloc();
+fn nothing_is_written_without_a_schema(rt: HostRuntime) {
     runs(&rt, &[], 1000, b"", Ok(Status::Refused(Refusal::NoStart)));
-    let mut given = bundles(alloc, &[A, B])?;
-    given.push(Vec::from_slice(alloc, b"rncset 1\nend 0")?)?;
+    let mut given = bundles(&rt, &[A, B]);
+    let cut = Vec::from_slice(rt.alloc(), b"rncset 1\nend 0").expect(&rt, "no memory");
+    given.push(cut).expect(&rt, "no memory");
     let index = 2;
     let fault = BundleFault::Truncated;
-    runs(
-        &rt,
-        given.as_slice(),
-        1000,
-        b"",
-        Err(RunFault::Bundle { index, fault }),
-    );
-    Ok(())
+    let wanted = Err(RunFault::Bundle { index, fault });
+    runs(&rt, given.as_slice(), 1000, b"", wanted);
 }
 
 #[test]
-fn inputs_are_read_to_their_end(rt: HostRuntime) -> Result<(), Fail> {
+fn inputs_are_read_to_their_end(rt: HostRuntime) {
     let mut whole = source_of(b"five!", usize::MAX);
-    let bytes = read_input(rt.alloc(), &mut whole, 5)?;
+    let bytes = read_input(rt.alloc(), &mut whole, 5).expect(&rt, "the input is read");
     same_bytes(&rt, bytes.as_slice(), b"five!");
-    assert!(rt; whole.ended() && !whole.failed());
-    Ok(())
+    holds(&rt, whole.ended() && !whole.failed(), "the input ends");
 }
 
 #[test]
-fn inputs_are_refused(rt: HostRuntime) -> Result<(), Fail> {
+fn inputs_are_refused(rt: HostRuntime) {
     let mut long = source_of(b"five!", usize::MAX);
-    assert!(rt; read_input(rt.alloc(), &mut long, 4).err() == Some(ReadFault::Large));
+    let fault = read_input(rt.alloc(), &mut long, 4).err();
+    holds(
+        &rt,
+        fault == Some(ReadFault::Large),
+        "the input is too long",
+    );
     let mut broken = source_of(b"five!", 3);
-    assert!(rt; read_input(rt.alloc(), &mut broken, 5).err() == Some(ReadFault::Read));
-    Ok(())
+    let fault = read_input(rt.alloc(), &mut broken, 5).err();
+    holds(&rt, fault == Some(ReadFault::Read), "the input breaks off");
 }
 
 #[test]
-fn outputs_have_the_bytes_before_a_failure(rt: HostRuntime) -> Result<(), Fail> {
+fn outputs_have_the_bytes_before_a_failure(rt: HostRuntime) {
     let mut out = sink_of(rt.alloc(), 3);
-    assert!(rt; write_output(&mut out, b"five!").err() == Some(Failed));
-    assert!(rt; out.failed());
+    let is_failed = write_output(&mut out, b"five!") == Err(Failed);
+    holds(&rt, is_failed && out.failed(), "the output fails");
     same_bytes(&rt, out.taken.as_slice(), b"fiv");
-    Ok(())
 }

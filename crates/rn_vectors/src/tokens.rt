@@ -1,23 +1,42 @@
 // Tokens and literals by example, characters at the ends of their ranges, and long sources.
-use crate::sets::{same, same_count, same_for};
+use crate::large::repeated;
+use crate::sets::{
+    Subject, each_pair, granted, holds, made, owned, push, same, same_count, same_for,
+};
 use rn_text::{Kind, TextFault, Token, is_keyword, is_ncname, literal, tokens, write_literal};
-use std::alloc::Global;
+use std::alloc::{AllocError, Global};
 use std::process::Abort;
-use std::test::Fail;
+
+// The kind, the text and the place of a token.
+fn line(alloc: Global, token: &Token) -> Result<String, AllocError> {
+    let (kind, text, start, end) = (token.kind, token.text, token.start, token.end);
+    format!(in alloc; "{kind:?} {text} {start} {end};")
+}
+
+// The kinds, texts and places of tokens.
+fn lines(rt: &(impl Abort + AllocGlobal), found: &[Token]) -> String {
+    let mut out = String::new(rt.alloc());
+    for token in found {
+        push(rt, &mut out, made(rt, line(rt.alloc(), token)).as_str());
+    }
+    out
+}
 
 // The kinds, texts and places of a source's tokens, or its fault.
-fn shown(alloc: Global, src: &[u8]) -> Result<String, Fail> {
-    let found = match tokens(alloc, src) {
-        Ok(found) => found,
-        Err(fault) => return Ok(format!(in alloc; "{fault:?}")?),
-    };
-    let mut out = String::new(alloc);
-    for token in found.as_slice() {
-        let (kind, text, start, end) = (token.kind, token.text, token.start, token.end);
-        let line = format!(in alloc; "{kind:?} {text} {start} {end};")?;
-        out.push_str(line.as_str())?;
+fn shown(rt: &(impl Abort + AllocGlobal), src: &[u8]) -> String {
+    match tokens(rt.alloc(), src) {
+        Ok(found) => lines(rt, found.as_slice()),
+        Err(fault) => made(rt, format!(in rt.alloc(); "{fault:?}")),
     }
-    Ok(out)
+}
+
+// The tokens of a source.
+struct Tokens;
+
+impl Subject for Tokens {
+    fn answers<R: Abort + AllocGlobal>(&self, rt: &R, given: &str, wanted: &str) {
+        same(rt, shown(rt, given.as_bytes()).as_str(), wanted);
+    }
 }
 
 static SOURCES: [(&str, &str); 38] = [
@@ -80,12 +99,8 @@ static SOURCES: [(&str, &str); 38] = [
 ];
 
 #[test]
-fn sources_are_cut(rt: HostRuntime) -> Result<(), Fail> {
-    let alloc = rt.alloc();
-    for (source, wanted) in &SOURCES {
-        same(&rt, shown(alloc, source.as_bytes())?.as_str(), wanted);
-    }
-    Ok(())
+fn sources_are_cut(rt: HostRuntime) {
+    each_pair(&rt, &Tokens, &SOURCES);
 }
 
 static FAULTS: [(&[u8], &str); 5] = [
@@ -97,12 +112,10 @@ static FAULTS: [(&[u8], &str); 5] = [
 ];
 
 #[test]
-fn faults_have_their_places(rt: HostRuntime) -> Result<(), Fail> {
-    let alloc = rt.alloc();
+fn faults_have_their_places(rt: HostRuntime) {
     for (source, wanted) in &FAULTS {
-        same(&rt, shown(alloc, source)?.as_str(), wanted);
+        same(&rt, shown(&rt, source).as_str(), wanted);
     }
-    Ok(())
 }
 
 static SEGMENTS: [(&str, &str); 10] = [
@@ -118,20 +131,25 @@ static SEGMENTS: [(&str, &str); 10] = [
     ("name", ""),
 ];
 
+// The literal's text of a token.
+fn text_of(rt: &(impl Abort + AllocGlobal), token: &Token) -> String {
+    made(rt, literal(rt.alloc(), token))
+}
+
 // The literal's text of a source's first token, whatever its kind.
-fn first_read(alloc: Global, src: &str) -> Result<String, Fail> {
-    let found = tokens(alloc, src.as_bytes()).ok().ok_or("a fault")?;
-    let first = found.as_slice().first().ok_or("no token")?;
-    Ok(literal(alloc, first)?)
+struct FirstLiteral;
+
+impl Subject for FirstLiteral {
+    fn answers<R: Abort + AllocGlobal>(&self, rt: &R, given: &str, wanted: &str) {
+        let found = tokens(rt.alloc(), given.as_bytes()).expect(rt, "a fault");
+        let first = found.as_slice().first().expect(rt, "no token");
+        same_for(rt, given, text_of(rt, first).as_str(), wanted);
+    }
 }
 
 #[test]
-fn segments_are_read(rt: HostRuntime) -> Result<(), Fail> {
-    let alloc = rt.alloc();
-    for (segment, wanted) in &SEGMENTS {
-        same_for(&rt, segment, first_read(alloc, segment)?.as_str(), wanted);
-    }
-    Ok(())
+fn segments_are_read(rt: HostRuntime) {
+    each_pair(&rt, &FirstLiteral, &SEGMENTS);
 }
 
 static LITERALS: [(&str, &str); 9] = [
@@ -147,32 +165,42 @@ static LITERALS: [(&str, &str); 9] = [
 ];
 
 // The literal of a text.
-fn written(alloc: Global, text: &str) -> Result<String, Fail> {
-    let mut out = String::new(alloc);
-    write_literal(&mut out, text)?;
-    Ok(out)
+fn written(rt: &(impl Abort + AllocGlobal), text: &str) -> String {
+    let mut out = String::new(rt.alloc());
+    granted(rt, write_literal(&mut out, text));
+    out
+}
+
+// The text of the segments among tokens.
+fn text_of_segments(rt: &(impl Abort + AllocGlobal), found: &[Token]) -> String {
+    let mut read = String::new(rt.alloc());
+    for token in found {
+        if token.kind == Kind::Segment {
+            push(rt, &mut read, text_of(rt, token).as_str());
+        }
+    }
+    read
 }
 
 // The text of the segments of a source.
-fn read_back(alloc: Global, src: &str) -> Result<String, Fail> {
-    let mut read = String::new(alloc);
-    let found = tokens(alloc, src.as_bytes()).ok().ok_or("a fault")?;
-    for token in found.as_slice() {
-        if token.kind == Kind::Segment {
-            read.push_str(literal(alloc, token)?.as_str())?;
-        }
+fn read_back(rt: &(impl Abort + AllocGlobal), src: &str) -> String {
+    let found = tokens(rt.alloc(), src.as_bytes()).expect(rt, "a fault");
+    text_of_segments(rt, found.as_slice())
+}
+
+// The literal of a text, which is read back.
+struct Literal;
+
+impl Subject for Literal {
+    fn answers<R: Abort + AllocGlobal>(&self, rt: &R, given: &str, wanted: &str) {
+        same_for(rt, given, written(rt, given).as_str(), wanted);
+        same_for(rt, wanted, read_back(rt, wanted).as_str(), given);
     }
-    Ok(read)
 }
 
 #[test]
-fn literals_are_written(rt: HostRuntime) -> Result<(), Fail> {
-    let alloc = rt.alloc();
-    for (text, literal) in &LITERALS {
-        same_for(&rt, text, written(alloc, text)?.as_str(), literal);
-        same_for(&rt, literal, read_back(alloc, literal)?.as_str(), text);
-    }
-    Ok(())
+fn literals_are_written(rt: HostRuntime) {
+    each_pair(&rt, &Literal, &LITERALS);
 }
 
 // The first and the last character of each range that may begin a name.
@@ -208,68 +236,54 @@ static FURTHER: [(u32, u32); 6] = [
 static NO_NAME: [u32; 8] = [0x2C, 0x2F, 0x3A, 0xB6, 0xB8, 0x2041, 0x203E, 0xF0000];
 
 // Whether `front` and the character of this number are a name.
-fn is_name_with(alloc: Global, front: &str, number: u32) -> Result<bool, Fail> {
-    let mut text = String::new(alloc);
-    text.push_str(front)?;
+fn is_name_with(rt: &(impl Abort + AllocGlobal), front: &str, number: u32) -> bool {
+    let mut text = owned(rt, front);
     if let Some(c) = char::from_u32(number) {
-        text.push(c)?;
+        granted(rt, text.push(c));
     }
-    Ok(is_ncname(text.as_str()))
+    is_ncname(text.as_str())
 }
 
-// The characters of these numbers stand behind `front` in a name, or don't.
-fn stand(
-    rt: &(impl Abort + AllocGlobal),
-    front: &str,
-    numbers: &[u32],
-    wanted: bool,
-) -> Result<(), Fail> {
-    for number in numbers {
-        let is_name = is_name_with(rt.alloc(), front, *number)?;
-        assert!(rt; is_name == wanted, "{front} and {number}");
-    }
-    Ok(())
+// The character of this number stands behind `front` in a name, or doesn't.
+fn stands(rt: &(impl Abort + AllocGlobal), front: &str, number: u32, wanted: bool) {
+    assert!(rt;
+        is_name_with(rt, front, number) == wanted,
+        "{front} and {number}"
+    );
 }
 
 #[test]
-fn names_begin_in_their_ranges(rt: HostRuntime) -> Result<(), Fail> {
+fn names_begin_in_their_ranges(rt: HostRuntime) {
     for (first, last) in &STARTS {
-        stand(&rt, "", &[*first, *last], true)?;
-        stand(
-            &rt,
-            "",
-            &[first.saturating_sub(1), last.saturating_add(1)],
-            false,
-        )?;
+        stands(&rt, "", *first, true);
+        stands(&rt, "", *last, true);
+        stands(&rt, "", first.saturating_sub(1), false);
+        stands(&rt, "", last.saturating_add(1), false);
     }
-    Ok(())
 }
 
 #[test]
-fn names_end_at_their_ranges(rt: HostRuntime) -> Result<(), Fail> {
+fn names_end_at_their_ranges(rt: HostRuntime) {
     for (first, last) in &FURTHER {
-        stand(&rt, "a", &[*first, *last], true)?;
+        stands(&rt, "a", *first, true);
+        stands(&rt, "a", *last, true);
     }
-    stand(&rt, "a", &NO_NAME, false)
+    for number in &NO_NAME {
+        stands(&rt, "a", *number, false);
+    }
 }
 
 #[test]
-fn names_and_keywords_are_told(rt: HostRuntime) -> Result<(), Fail> {
-    assert!(rt; !is_ncname(""));
-    assert!(rt; !is_ncname("a:b"));
-    assert!(rt; is_keyword("notAllowed"));
-    assert!(rt; !is_keyword("notallowed"));
-    assert!(rt; !is_keyword(""));
-    Ok(())
-}
-
-// A text of so many pieces.
-fn many(alloc: Global, piece: &str, count: usize) -> Result<String, Fail> {
-    let mut out = String::new(alloc);
-    for _ in 0..count {
-        out.push_str(piece)?;
-    }
-    Ok(out)
+fn names_and_keywords_are_told(rt: HostRuntime) {
+    holds(&rt, !is_ncname(""), "no name");
+    holds(&rt, !is_ncname("a:b"), "no name with a colon");
+    holds(&rt, is_keyword("notAllowed"), "a keyword");
+    holds(
+        &rt,
+        !is_keyword("notallowed"),
+        "no keyword in small letters",
+    );
+    holds(&rt, !is_keyword(""), "no keyword without letters");
 }
 
 // Sources of about 4 MB: a piece, how often it stands, and how many tokens it then makes.
@@ -279,24 +293,29 @@ static LONG: [(&str, usize, usize); 3] = [
     ("\"\" # ' \n", 500000, 500000),
 ];
 
-// A segment of about 4 MB.
-fn long_segment(alloc: Global) -> Result<String, Fail> {
-    let content = many(alloc, "\\x{41}\\xx'\"", 349525)?;
-    Ok(format!(in alloc; "'''{content}'''")?)
+// How many tokens a source has.
+fn count(rt: &(impl Abort + AllocGlobal), src: &str) -> usize {
+    tokens(rt.alloc(), src.as_bytes())
+        .expect(rt, "a fault")
+        .len()
+}
+
+// A source of so many pieces between quotes has so many tokens.
+fn has_tokens(
+    rt: &(impl Abort + AllocGlobal),
+    quotes: &str,
+    piece: &str,
+    times: usize,
+    wanted: usize,
+) {
+    let source = repeated(rt, quotes, piece, times, quotes);
+    same_count(rt, count(rt, source.as_str()), wanted);
 }
 
 #[test]
-fn long_sources_are_read(rt: HostRuntime) -> Result<(), Fail> {
+fn long_sources_are_read(rt: HostRuntime) {
     for (piece, times, wanted) in &LONG {
-        let source = many(rt.alloc(), piece, *times)?;
-        same_count(&rt, count(rt.alloc(), source.as_str())?, *wanted);
+        has_tokens(&rt, "", piece, *times, *wanted);
     }
-    let segment = long_segment(rt.alloc())?;
-    same_count(&rt, count(rt.alloc(), segment.as_str())?, 1);
-    Ok(())
-}
-
-// How many tokens a source has.
-fn count(alloc: Global, src: &str) -> Result<usize, Fail> {
-    Ok(tokens(alloc, src.as_bytes()).ok().ok_or("a fault")?.len())
+    has_tokens(&rt, "'''", "\\x{41}\\xx'\"", 349525, 1);
 }
