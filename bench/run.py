@@ -81,10 +81,15 @@ def made(path, shape, n):
     """Writes the bundle in a process of its own, so that this one stays small, and answers its length."""
     child = os.fork()
     if child == 0:
-        with open(path, "wb") as out:
-            out.write(bundle(shape(n)))
-        os._exit(0)
-    os.waitpid(child, 0)
+        status = 1
+        try:
+            with open(path, "wb") as out:
+                out.write(bundle(shape(n)))
+            status = 0
+        finally:
+            os._exit(status)
+    if os.waitstatus_to_exitcode(os.waitpid(child, 0)[1]) != 0:
+        sys.exit(f"no bundle of {shape.__name__} at {n:,}")
     return os.path.getsize(path)
 
 

@@ -168,6 +168,14 @@ row 'a bad name comes first' 1 '' 'BadName\n' pack '' 0 long.rnc
 truncate -s 268435457 large
 row 'a file over 256 MiB' 3 '' 'large 1\n' print none.set large
 
+# ---- unions
+{ printf 'rncset 2\n' && printf 'withdrawn w%04d 0\n' {0..1023} && printf 'end 1024\n'; } >full.set
+made union.set join full.set full.set
+same 'a full set takes what it holds' union.set full.set
+row 'a union of 1,025 contributions' 1 '' 'Full\n' join full.set b2.set
+row 'a union that is full, and a file behind it' 1 '' 'Full\n' print full.set b2.set t.rnc
+row 'a file before the one that makes the union full' 1 '' 'bundle 1 Magic\n' print full.set t.rnc b2.set
+
 # ---- damaged bundles
 head -c 8 t.set >short.set
 row 'no first line' 1 '' 'bundle 0 Magic\n' print short.set
@@ -213,7 +221,7 @@ if [ -w /dev/full ]; then
 fi
 
 # ---- memory
-printf '#!/usr/bin/env bash\nulimit -v 32768 && exec "%s" "$@"\n' "$program" >starved
+printf '#!/usr/bin/env bash\nulimit -v 32768 && exec %q "$@"\n' "$program" >starved
 chmod +x starved
 { printf 'start = text' && yes '| text' | head -n 590000; } >choice.rnc
 made choice.set pack a 1 choice.rnc

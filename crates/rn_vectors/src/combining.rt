@@ -89,6 +89,31 @@ namespace n1 = "w"
 start = p
 p = element n1:p { empty }
 --
+@main
+default namespace = "u" include "l"
+@l
+include "k"
+@k
+start = element p { text }
+=>
+namespace n1 = "u"
+start = element n1:p { text }
+--
+@main
+default namespace = "u" include "l"
+@l
+namespace v = inherit start = element v:p { text }
+=>
+namespace n1 = "u"
+start = element n1:p { text }
+--
+@main
+include "l" inherit = xml
+@l
+start = element p { text }
+=>
+start = element xml:p { text }
+--
 @a
 start = text x = text
 @b

@@ -131,6 +131,18 @@ fn join(rt: &impl Abort, set: &mut ModuleSet, other: &ModuleSet) {
 }
 
 #[test]
+fn new_sets_are_empty(rt: HostRuntime) {
+    let mut set = ModuleSet::new(rt.alloc());
+    holds(&rt, set.is_empty(), "a new set holds nothing");
+    let _ = add(&rt, &mut set, module(&rt, "a", 0, b""));
+    holds(
+        &rt,
+        !set.is_empty(),
+        "a set of one contribution is not empty",
+    );
+}
+
+#[test]
 fn full_sets_join_themselves(rt: HostRuntime) {
     let mut set = revisions(&rt, false, 1024);
     let is_full = set.join(&revisions(&rt, true, 600)) == Err(AddFault::Full);

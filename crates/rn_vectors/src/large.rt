@@ -107,6 +107,13 @@ fn parentheses_leave_nothing(rt: HostRuntime) {
 }
 
 #[test]
+fn parentheses_are_not_too_deep(rt: HostRuntime) {
+    let open = repeated(&rt, "start = ", "(", 257, "text");
+    let text = repeated(&rt, open.as_str(), ")", 257, "");
+    text_answers(&rt, text.as_str(), "Deep a");
+}
+
+#[test]
 fn the_text_has_a_longest_length(rt: HostRuntime) {
     let fits = repeated(&rt, "start = element ", "n", 4_194_255, " { text }");
     same_count(&rt, merged(&rt, fits.as_str()).len(), 4_194_304);
@@ -232,6 +239,11 @@ fn lists_are_long(rt: HostRuntime) {
     }
 }
 
+/// A printed schema has one choice, of so many members.
+fn has_members(rt: &impl Abort, printed: &str, count: usize) {
+    same_count(rt, printed.split(" | ").count(), count);
+}
+
 #[test]
 fn a_name_is_combined_from_many_definitions(rt: HostRuntime) {
     let text = counted(&rt, "start = x ", "x |= \"", 100_000, "\" ");
@@ -244,6 +256,7 @@ fn a_name_is_combined_from_many_definitions(rt: HostRuntime) {
         printed.ends_with("| \"099999\"\n"),
         "the greatest value comes last",
     );
+    has_members(&rt, printed, 100_000);
 }
 
 #[test]
@@ -284,6 +297,7 @@ fn ten_million_components_are_combined(rt: HostRuntime) {
     let printed = answer(&rt, &instances(&rt, 511, 20_000));
     let wanted = "x = element e0 { empty } | element e1 { empty } | element e10 { empty }";
     holds(&rt, printed.as_str().contains(wanted), wanted);
+    has_members(&rt, printed.as_str(), 20_000);
 }
 
 /// The text of a module that overrides the x of the next.

@@ -187,6 +187,7 @@ fn fault_lines(rt: HostRuntime) {
     ends(&rt, ProgramFault::Write, "write", 3);
     ends(&rt, ProgramFault::Memory, "Memory", 3);
     ends(&rt, ProgramFault::Add(AddFault::TooLong), "TooLong", 1);
+    ends(&rt, ProgramFault::Add(AddFault::Full), "Full", 1);
     ends(&rt, ProgramFault::Add(AddFault::Memory), "Memory", 3);
 }
 

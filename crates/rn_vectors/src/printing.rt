@@ -151,6 +151,67 @@ start = element r { (x, mixed { y })* } x = element x { empty } y = element y { 
 start = element r { (x, mixed { y })* }
 x = element x { empty }
 y = element y { empty }
+--
+start = a a = element x { a }
+=>
+start = a
+a = element x { a }
+--
+start = element r { a* | b } a = element a { empty } b = element b { empty } c = element c { empty }
+=>
+start = element r { (b | a+)? }
+a = element a { empty }
+b = element b { empty }
+--
+start = element r { (a*)+ } a = element a { empty } b = element b { empty } c = element c { empty }
+=>
+start = element r { (a*)+ }
+a = element a { empty }
+--
+start = element r { (a*)* } a = element a { empty } b = element b { empty } c = element c { empty }
+=>
+start = element r { (a*)* }
+a = element a { empty }
+--
+start = element r { (a+)? } a = element a { empty } b = element b { empty } c = element c { empty }
+=>
+start = element r { a* }
+a = element a { empty }
+--
+start = element r { mixed { a, b } } a = element a { empty } b = element b { empty } c = element c { empty }
+=>
+start = element r { mixed { a, b } }
+a = element a { empty }
+b = element b { empty }
+--
+start = element r { mixed { (a, b) & c } } a = element a { empty } b = element b { empty } c = element c { empty }
+=>
+start = element r { mixed { c & (a, b) } }
+a = element a { empty }
+b = element b { empty }
+c = element c { empty }
+--
+start = element r { mixed { a }? } a = element a { empty } b = element b { empty } c = element c { empty }
+=>
+start = element r { mixed { a }? }
+a = element a { empty }
+--
+start = element r { mixed { a }* } a = element a { empty } b = element b { empty } c = element c { empty }
+=>
+start = element r { mixed { a }* }
+a = element a { empty }
+--
+start = element r { token | string - "x" } a = element a { empty } b = element b { empty } c = element c { empty }
+=>
+start = element r { (string - "x") | token }
+--
+start = element r { string - (string - "y") } a = element a { empty } b = element b { empty } c = element c { empty }
+=>
+start = element r { string - (string - "y") }
+--
+start = element r { string - notAllowed } a = element a { empty } b = element b { empty } c = element c { empty }
+=>
+start = element r { string }
 "#;
 
 /// Names, namespaces, datatypes and literals as they are spelled.
@@ -232,6 +293,38 @@ start = text
 start = element * - (a | xml:*) { attribute xml:* - xml:lang { text }* }
 =>
 start = element * - (xml:* | a) { attribute xml:* - xml:lang { text }* }
+--
+start = element (b | a | b) { text }
+=>
+start = element a | b { text }
+--
+start = element (a | a) { text }
+=>
+start = element a { text }
+--
+start = element b | * - a { text }
+=>
+start = element (* - a) | b { text }
+--
+namespace n = "u" start = element n:* { text }
+=>
+namespace n1 = "u"
+start = element n1:* { text }
+--
+namespace n = "u" start = text x = element n:z { text }
+=>
+start = text
+--
+namespace n = 'a"b' start = element n:a { text }
+=>
+namespace n1 = "a" ~ '"' ~ "b"
+start = element n1:a { text }
+--
+datatypes z = "b" datatypes y = "a" start = element r { z:t | y:t }
+=>
+datatypes d1 = "a"
+datatypes d2 = "b"
+start = element r { d1:t | d2:t }
 "#;
 
 #[test]

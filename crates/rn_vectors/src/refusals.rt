@@ -33,6 +33,15 @@ y = empty
 start = a a = a | element x { empty }
 => Recursive a
 
+start = a a = list { a }
+=> Recursive a
+
+start = a a = attribute x { a }
+=> Recursive a
+
+start = a a = b b = b
+=> Recursive b
+
 @main
 include "lib" { z = text } start = text
 @lib
@@ -142,6 +151,9 @@ namespace x = "http://www.w3.org/2000/xmlns" start = attribute x:b { text }
 => NameClass start
 
 namespace x = "http://www.w3.org/2000/xmlns" start = element a { attribute * - x:* { text } }
+=> NameClass start
+
+start = element r { attribute * - xmlns { text }+ }
 => NameClass start
 
 include 'gone \x{22}' start = text

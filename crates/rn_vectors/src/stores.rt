@@ -148,17 +148,22 @@ fn ordered_classes(rt: &(impl Abort + AllocGlobal), one: usize, other: usize) ->
     class(rt, one).cmp(&class(rt, other))
 }
 
+/// The name class of a number stands to each other as the numbers do.
+fn class_is_ordered(rt: &(impl Abort + AllocGlobal), one: usize) {
+    for other in 0..8usize {
+        let order = ordered_classes(rt, one, other);
+        holds(
+            rt,
+            order == one.cmp(&other),
+            "name classes have their order",
+        );
+    }
+}
+
 #[test]
 fn name_classes_are_ordered(rt: HostRuntime) {
-    for one in 0..8usize {
-        for other in 0..8usize {
-            let order = ordered_classes(&rt, one, other);
-            holds(
-                &rt,
-                order == one.cmp(&other),
-                "name classes have their order",
-            );
-        }
+    for number in 0..8usize {
+        class_is_ordered(&rt, number);
     }
 }
 
@@ -222,12 +227,17 @@ fn ordered_patterns(rt: &(impl Abort + AllocGlobal), one: usize, other: usize) -
     one.cmp(&other)
 }
 
+/// The pattern of a number stands to each other as the numbers do.
+fn pattern_is_ordered(rt: &(impl Abort + AllocGlobal), one: usize) {
+    for other in 0..17usize {
+        let order = ordered_patterns(rt, one, other);
+        holds(rt, order == one.cmp(&other), "patterns have their order");
+    }
+}
+
 #[test]
 fn patterns_are_ordered(rt: HostRuntime) {
-    for one in 0..17usize {
-        for other in 0..17usize {
-            let order = ordered_patterns(&rt, one, other);
-            holds(&rt, order == one.cmp(&other), "patterns have their order");
-        }
+    for number in 0..17usize {
+        pattern_is_ordered(&rt, number);
     }
 }
