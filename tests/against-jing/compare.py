@@ -12,6 +12,7 @@ Needs Debian's jing and a Java compiler. Prints how often each pair of answers c
 Differences that are known, and left out or told apart: the program takes whatever annotations hold, characters of names that XML's Fifth Edition
 brought, a module without items, and an except in a chain without parentheses. It refuses a bare pattern as a module, a prefix that is declared twice
 and a second default namespace, and a wrong except of data also out of reach and behind a reference. jing alone tests section 7 of the standard.
+An include that overrides one name by two components isn't drawn: jing then loses what other modules add to that name (4.7 keeps it).
 """
 import collections
 import os
