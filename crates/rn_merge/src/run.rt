@@ -19,12 +19,16 @@ pub enum Status {
 /// Why a run came to nothing. Bundles count from 0.
 #[derive(Debug, Drop, PartialEq, Eq, Error)]
 pub enum RunFault {
+    /// The bytes of this number are no bundle.
     #[error("bundle {index}: {fault}")]
     Bundle { index: usize, fault: BundleFault },
+    /// The union has more than 1,024 contributions.
     #[error("the union is full")]
     Full,
+    /// A request for memory was refused.
     #[error("out of memory")]
     Memory,
+    /// The sink failed before it had all of the text; it has taken a front of it.
     #[error("not all was written")]
     Write,
 }

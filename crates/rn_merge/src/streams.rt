@@ -13,11 +13,14 @@ const PIECE: usize = 65_536;
 #[derive(Clone, Copy, Debug, PartialEq, Eq)]
 pub struct Failed;
 
-/// Why no input was read: the source has failed, it gave more bytes than the limit, or memory was wanted.
+/// Why no input was read.
 #[derive(Clone, Copy, Debug, PartialEq, Eq)]
 pub enum ReadFault {
+    /// The source failed.
     Read,
+    /// The source gave more bytes than the limit.
     Large,
+    /// A request for memory was refused.
     Memory,
 }
 

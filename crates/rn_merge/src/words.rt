@@ -62,26 +62,37 @@ pub enum Job {
 /// Why the program did not do its work. Files count from 0.
 #[derive(Debug, Drop, PartialEq, Eq, Error)]
 pub enum ProgramFault {
+    /// The words have the form of no command.
     #[error("usage")]
     Usage,
+    /// The word for the revision is none.
     #[error("usage: REV")]
     Rev,
+    /// `-` is given twice.
     #[error("usage: -")]
     Dash,
+    /// The file of this number can't be read.
     #[error("read {0}")]
     Read(usize),
+    /// The file of this number has more than 268,435,456 bytes.
     #[error("large {0}")]
     Large(usize),
+    /// The output can't be written.
     #[error("write")]
     Write,
+    /// A request for memory was refused.
     #[error("out of memory")]
     Memory,
+    /// The file of this number is no bundle.
     #[error("bundle {0}")]
     Bundle(usize, BundleFault),
+    /// A contribution, or a union, is past its limits.
     #[error("{0}")]
     Add(AddFault),
+    /// The set has no schema.
     #[error("{0}")]
     Refused(Refusal),
+    /// The text that was checked has a fault.
     #[error("{0}")]
     Check(Place),
 }
