@@ -25,25 +25,6 @@ pub struct Parts<'a> {
     pub members: &'a [NodeId],
 }
 
-/// The parts of a node that has its kind alone.
-fn bare<'a>(kind: u8) -> Parts<'a>
-    ensures kind { result.kind ≡ kind }
-    ensures texts { result.first.now ∷ result.second.now ∷ result.third.now ∷ [] ≡ [] ∷ [] ∷ [] ∷ [] }
-    ensures parameters { result.parameters.now ≡ [] }
-    ensures class { result.class ≡ None }
-    ensures members { result.members.now ≡ [] }
-{
-    Parts {
-        kind,
-        first: "",
-        second: "",
-        third: "",
-        parameters: &[],
-        class: None,
-        members: &[],
-    }
-}
-
 /// The parts of `notAllowed`.
 pub fn parts_of_none<'a>() -> Parts<'a>
     ensures kind { result.kind ≡ 0 }
@@ -52,7 +33,15 @@ pub fn parts_of_none<'a>() -> Parts<'a>
     ensures class { result.class ≡ None }
     ensures members { result.members.now ≡ [] }
 {
-    bare(0)
+    Parts {
+        kind: 0,
+        first: "",
+        second: "",
+        third: "",
+        parameters: &[],
+        class: None,
+        members: &[],
+    }
 }
 
 /// The parts of the node, borrowed from it.
@@ -63,57 +52,83 @@ pub fn parts_of(node: &Node<NodeId>) -> Parts<'_>
     ensures class { option_copied result.class ≡ node_class node.now }
     ensures members { result.members.now ≡ node_members node.now }
 {
+    let (first, second, third) = texts(node);
+    Parts {
+        kind: kind(node),
+        first,
+        second,
+        third,
+        parameters: parameters(node),
+        class: class(node),
+        members: members(node),
+    }
+}
+
+/// The place of the node's kind in the order.
+fn kind(node: &Node<NodeId>) -> u8
+    ensures { result ≡ node_rank node.now }
+{
     match node {
-        Node::NotAllowed => bare(0),
-        Node::Empty => bare(1),
-        Node::Text => bare(2),
-        Node::Ref(name) => Parts {
-            first: name,
-            ..bare(3)
-        },
-        Node::Value(library, kind, text) => Parts {
-            first: library,
-            second: kind,
-            third: text,
-            ..bare(4)
-        },
-        Node::Datum(library, kind, parameters, except) => Parts {
-            first: library,
-            second: kind,
-            parameters,
-            members: except.as_slice(),
-            ..bare(5)
-        },
-        Node::List(content) => Parts {
-            members: slice::from_ref(content),
-            ..bare(6)
-        },
-        Node::Attribute(class, content) => Parts {
-            class: Some(class),
-            members: slice::from_ref(content),
-            ..bare(7)
-        },
-        Node::Element(class, content) => Parts {
-            class: Some(class),
-            members: slice::from_ref(content),
-            ..bare(8)
-        },
-        Node::OneOrMore(content) => Parts {
-            members: slice::from_ref(content),
-            ..bare(9)
-        },
-        Node::Group(members) => Parts {
-            members,
-            ..bare(10)
-        },
-        Node::Interleave(members) => Parts {
-            members,
-            ..bare(11)
-        },
-        Node::Choice(members) => Parts {
-            members,
-            ..bare(12)
-        },
+        Node::NotAllowed => 0,
+        Node::Empty => 1,
+        Node::Text => 2,
+        Node::Ref(_) => 3,
+        Node::Value(_, _, _) => 4,
+        Node::Datum(_, _, _, _) => 5,
+        Node::List(_) => 6,
+        Node::Attribute(_, _) => 7,
+        Node::Element(_, _) => 8,
+        Node::OneOrMore(_) => 9,
+        Node::Group(_) => 10,
+        Node::Interleave(_) => 11,
+        Node::Choice(_) => 12,
+    }
+}
+
+/// A definition's name, or the datatype library, the type and the text. What a kind lacks is empty.
+fn texts(node: &Node<NodeId>) -> (&str, &str, &str)
+    ensures { result.0.now ∷ result.1.now ∷ result.2.now ∷ [] ≡ node_texts node.now }
+{
+    match node {
+        Node::Ref(name) => (name, "", ""),
+        Node::Value(library, kind, text) => (library, kind, text),
+        Node::Datum(library, kind, _, _) => (library, kind, ""),
+        _ => ("", "", ""),
+    }
+}
+
+/// The parameters of a datatype, empty for every other kind.
+fn parameters(node: &Node<NodeId>) -> &[(String, String)]
+    ensures { result.now ≡ node_parameters node.now }
+{
+    match node {
+        Node::Datum(_, _, parameters, _) => parameters,
+        _ => &[],
+    }
+}
+
+/// The name class of an attribute or an element, none for every other kind.
+fn class(node: &Node<NodeId>) -> Option<&NameClass>
+    ensures { option_copied result ≡ node_class node.now }
+{
+    match node {
+        Node::Attribute(class, _) | Node::Element(class, _) => Some(class),
+        _ => None,
+    }
+}
+
+/// The ids in the node, in order.
+fn members(node: &Node<NodeId>) -> &[NodeId]
+    ensures { result.now ≡ node_members node.now }
+{
+    match node {
+        Node::Datum(_, _, _, except) => except.as_slice(),
+        Node::List(content)
+        | Node::Attribute(_, content)
+        | Node::Element(_, content)
+        | Node::OneOrMore(content) => slice::from_ref(content),
+        Node::Group(members) | Node::Interleave(members) | Node::Choice(members) => members,
+        _ => &[],
     }
 }
 
