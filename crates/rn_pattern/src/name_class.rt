@@ -68,11 +68,8 @@ fn choice_of(mut members: Vec<NameClass>) -> Result<NameClass, AllocError>
 {
     members.sort_by(|c, d| c.cmp(d))?;
     members.dedup_by(|c, d| c.cmp(d) == Ordering::Equal);
-    if members.len() != 1 {
-        return Ok(NameClass::Choice(members));
-    }
-    match members.pop() {
-        Some(only) => Ok(only),
-        None => Ok(NameClass::Choice(members)),
-    }
+    Ok(match members.len() {
+        1 => members.remove(0),
+        _ => NameClass::Choice(members),
+    })
 }
