@@ -84,7 +84,7 @@ pub enum ProgramFault {
     #[error("out of memory")]
     Memory,
     /// The file of this number is no bundle.
-    #[error("bundle {0}")]
+    #[error("bundle {0}: {1}")]
     Bundle(usize, BundleFault),
     /// A contribution, or a union, is past its limits.
     #[error("{0}")]
