@@ -1,11 +1,10 @@
 -- Nodes to which edges lead, marked row after row.
-use Rattle.std.proofs.Common.{◌≡◌, ◌≢◌, ℕ, zero, suc, ◌+◌, ◌<◌, ◌≤◌, Bool, true, false, List, [], ◌∷◌, ◌++◌, length, get_or, set, take, filter, refl, sym, ap, ◌∙◌, arith, add-one, append-nil, eqb, cond}
+use Rattle.std.proofs.Common.{◌≡◌, ◌≢◌, ℕ, suc, ◌+◌, ◌<◌, Bool, true, false, List, [], ◌∷◌, ◌++◌, length, get_or, set, take, filter, Option, Some, None, refl, sym, ap, ◌∙◌, arith, append-nil, eqb, cond}
 use Rattle.std.specs.Prelude.{not, ◌||◌}
-use Rattle.std.specs.List.{concat, list_any, range_with_len}
+use Rattle.std.specs.List.{concat, cons_option, enumerate_from, filter_map, list_any, range_with_len}
 use Rattle.std.proofs.lemmas.Bool.{eq-eqb, eqb-true, false≢true}
 use Rattle.std.proofs.lemmas.Grind.{get_or-set_at}
-use Rattle.std.proofs.lemmas.List.{get_or-set_other, take_all, take_more}
-use Rattle.std.proofs.lemmas.List.Elements.{filter-append, filter_agree}
+use Rattle.std.proofs.lemmas.List.{get_or-set_other, take_more}
 use Rattle.std.proofs.lemmas.List.Folds.{concat-append, list_any-append, list_any_more}
 use Rattle.rn_assemble.specs.Graph.{is_marked, row}
 use Rattle.rn_assemble.specs.Inclusions.{entries}
@@ -50,27 +49,23 @@ row_marked seen seen' rows k x l h e =
 
 -- ---- the nodes without a mark, in order
 
-range_suc : (a n : ℕ) → range_with_len a (suc n) ≡ range_with_len a n ++ (a + n) ∷ []
-range_suc a zero = let e : a ≡ a + zero = omega arith in ap (λ m. m ∷ []) e
-range_suc a (suc n) = let e : a + 1 + n ≡ a + suc n = omega arith in ap (λ l. a ∷ l) (range_suc (a + 1) n ∙ ap (λ m. range_with_len (a + 1) n ++ m ∷ []) e)
+-- the number of a mark that is not set
+abbrev pub number : ℕ × Bool → Option ℕ
+number p = cond (not p.1) (Some p.0) None
 
-abbrev pub unmarked : List Bool → ℕ → List ℕ
-unmarked seen n = filter (λ x. not (is_marked seen x)) (range_with_len 0 n)
+picked_at : (n : ℕ) (b : Bool) (ns : List ℕ) → cons_option (number (n, b)) ns ≡ cond (not b) (n ∷ ns) ns
+picked_at n true ns = refl
+picked_at n false ns = refl
 
-unmarked_suc : (seen : List Bool) (n : ℕ) → unmarked seen (n + 1) ≡ unmarked seen n ++ cond (not (is_marked seen n)) (n ∷ []) []
-unmarked_suc seen n =
-    let e : 0 + n ≡ n = omega arith in
-    let next : range_with_len 0 (n + 1) ≡ range_with_len 0 n ++ n ∷ [] = rw add-one (range_suc 0 n ∙ ap (λ m. range_with_len 0 n ++ m ∷ []) e) in
-    ap (filter (λ x. not (is_marked seen x))) next ∙ filter-append (λ x. not (is_marked seen x)) (range_with_len 0 n) (n ∷ [])
+picked : (test : ℕ → Bool) (seen : List Bool) (n : ℕ) → ((k : ℕ) → is_marked seen k ≡ test (n + k)) → filter_map number (enumerate_from n seen) ≡ filter (λ x. not (test x)) (range_with_len n (length seen))
+picked test [] n h = refl
+picked test (b ∷ seen) n h =
+    let here : n + 0 ≡ n = omega arith in
+    let rest = picked test seen (n + 1) (λ k. let e : n + suc k ≡ n + 1 + k = omega arith in h (suc k) ∙ ap test e) in
+    let kept = filter (λ x. not (test x)) (range_with_len (n + 1) (length seen)) in
+    ap (cons_option (number (n, b))) rest ∙ picked_at n b kept ∙ ap (λ a. cond (not a) (n ∷ kept) kept) (h 0 ∙ ap test here)
 
-pub unmarked_more : (seen : List Bool) (n : ℕ) (xs ys : List ℕ) → xs ≡ unmarked seen n → is_marked seen n ≡ false → ys ≡ xs ++ n ∷ [] → ys ≡ unmarked seen (n + 1)
-unmarked_more seen n xs ys h m e = e ∙ ap (λ l. l ++ n ∷ []) h ∙ sym (unmarked_suc seen n ∙ ap (λ b. unmarked seen n ++ cond (not b) (n ∷ []) []) m)
-
-pub unmarked_still : (seen : List Bool) (n : ℕ) (xs ys : List ℕ) → xs ≡ unmarked seen n → is_marked seen n ≡ true → ys ≡ xs → ys ≡ unmarked seen (n + 1)
-unmarked_still seen n xs ys h m e = e ∙ h ∙ sym (unmarked_suc seen n ∙ ap (λ b. unmarked seen n ++ cond (not b) (n ∷ []) []) m ∙ append-nil (unmarked seen n))
-
-pub unmarked_entries : (seen : List Bool) (rows : List (List ℕ)) (k n : ℕ) (xs : List ℕ) → ((x : ℕ) → is_marked seen x ≡ list_any (λ y. eqb x y) (concat (take k rows))) → length rows ≤ k → n ≡ length rows → xs ≡ unmarked seen n → xs ≡ entries rows
-unmarked_entries seen rows k n xs h l e is =
-    is
-    ∙ ap (unmarked seen) e
-    ∙ filter_agree (λ x. not (is_marked seen x)) (λ x. not (list_any (λ y. eqb x y) (concat rows))) (λ x. ap not (h x ∙ ap (λ rs. list_any (λ y. eqb x y) (concat rs)) (take_all k rows l))) (range_with_len 0 (length rows))
+pub unmarked_entries : (seen : List Bool) (rows : List (List ℕ)) → length seen ≡ length rows → ((x : ℕ) → is_marked seen x ≡ list_any (λ y. eqb x y) (concat rows)) → filter_map number (enumerate_from 0 seen) ≡ entries rows
+unmarked_entries seen rows size h =
+    picked (λ x. list_any (λ y. eqb x y) (concat rows)) seen 0 (λ k. let e : k ≡ 0 + k = omega arith in h k ∙ ap (λ x. list_any (λ y. eqb x y) (concat rows)) e)
+    ∙ ap (λ n. filter (λ x. not (list_any (λ y. eqb x y) (concat rows))) (range_with_len 0 n)) size

@@ -1,6 +1,6 @@
 // Which modules include which, and what stands against it.
 ghost use Rattle.std.specs.Prelude.{◌≡◌, ◌<◌, ◌==◌, ◌||◌, ◌↔◌, ℕ, length, vec_len, option_map, sum_by, IfOk, IfSome, IsTrue, MatchResult};
-ghost use Rattle.std.specs.List.{filter_map, list_any};
+ghost use Rattle.std.specs.List.{concat, filter_map, list_any};
 ghost use Rattle.std.specs.List.Sorted.{IsStrictlySortedBy};
 ghost use Rattle.rn_pattern.specs.Order.{text_cmp};
 ghost use Rattle.rn_assemble.specs.Contained.{place_in};
@@ -112,17 +112,25 @@ fn roots(alloc: Global, rows: &[Vec<usize>]) -> Result<Vec<usize>, AllocError>
     requires { IsGraph (rows_of rows.now) }
     ensures { IfOk result (λ roots. roots.items ≡ entries (rows_of rows.now)) }
 {
-    let mut included = vec![in alloc; false; rows.len()]?;
+    let included = included_marks(alloc, rows)?;
+    included
+        .iter()
+        .enumerate()
+        .filter_map(|(module, is_included)| (!*is_included).then_some(module))
+        .collect(alloc)
+}
+
+/// For each module, whether some module includes it.
+fn included_marks(alloc: Global, rows: &[Vec<usize>]) -> Result<Vec<bool>, AllocError>
+    requires { IsGraph (rows_of rows.now) }
+    ensures size { IfOk result (λ marks. vec_len marks ≡ length rows.now) }
+    ensures exact { IfOk result (λ marks. (x : ℕ) → is_marked marks.items x ≡ list_any (λ y. x == y) (concat (rows_of rows.now))) }
+{
+    let mut marks = vec![in alloc; false; rows.len()]?;
     for includer in 0..rows.len() {
-        mark_row(&mut included, row_at(rows, includer));
+        mark_row(&mut marks, row_at(rows, includer));
     }
-    let mut roots = Vec::new(alloc);
-    for (node, is_included) in included.iter().enumerate() {
-        if !*is_included {
-            roots.push(node)?;
-        }
-    }
-    Ok(roots)
+    Ok(marks)
 }
 
 /// Marks the modules of a row.
