@@ -1,18 +1,24 @@
 -- The methods of the components of a key, one after the other.
 use Rattle.std.proofs.Common.{◌≡◌, ℕ, zero, suc, ◌+◌, ◌<◌, Bool, true, false, ◌||◌, cond, List, [], ◌∷◌, ◌++◌, length, get_or, take, drop, filter, Some, None, refl, sym, ap, ◌∙◌, subst, arith, Contains, eqb, inl, inr}
-use Rattle.std.specs.Prelude.{slice_get}
+use denote.Enum.Bare.{sameb}
+use Rattle.std.specs.Prelude.{Option, slice_get}
 use Rattle.std.specs.List.{list_any}
+use Rattle.std.specs.Option.{option_eq}
 use Rattle.std.specs.List.Sorted.{IsStrictlySortedBy}
 use Rattle.std.proofs.lemmas.List.{length-map, get_or-map, take_more, take-append-drop}
 use Rattle.rn_pattern.specs.Tree.{Text}
 use Rattle.rn_pattern.specs.Order.{text_cmp}
 use Rattle.rn_pattern.proofs.InOrder.{contained_each, contains_cases, contains_front, contains_behind}
+use Rattle.rn_syntax.specs.contracts.token.Method.{the_type}
+use Rattle.rn_syntax.specs.declared.token.Method.{Method}
+use Rattle.rn_syntax.specs.declared.token.Method.TheVariants as m
 use Rattle.rn_assemble.specs.declared.components.Body.{Body}
 use Rattle.rn_assemble.specs.Components.{Component}
 use Rattle.rn_assemble.specs.Combine.{of_key}
 use Rattle.rn_assemble.specs.Graph.{row}
 use Rattle.rn_assemble.specs.Keyed.{key_at}
 use Rattle.rn_assemble.specs.Listed.{IsBody, IsLive, Live, ListsBy, components_in}
+use Rattle.rn_assemble.specs.Methods.{is_method}
 use Rattle.rn_assemble.proofs.FoundReferences.{shown, all_keyed, row_is}
 use Rattle.rn_assemble.proofs.KeyedBodies.{of_key_at}
 
@@ -119,3 +125,18 @@ pub any_found : {X : Type 0} (p : X → Bool) (xs : List X) (i : ℕ) (x : X) �
 any_found p xs i x l e f =
     let front : list_any p (take (i + 1) xs) ≡ true = ap (list_any p) (take_more xs i x l ∙ ap (λ y. take i xs ++ y ∷ []) (e x)) ∙ any_last p (take i xs) x f in
     ap (list_any p) (sym (take-append-drop (i + 1) xs)) ∙ any_front p (take (i + 1) xs) (drop (i + 1) xs) front
+
+-- a method that was found is tested by equality
+same_method : (a b : Method) → sameb the_type a b ≡ is_method b a
+same_method m.Plain m.Plain = refl
+same_method m.Plain m.Choice = refl
+same_method m.Plain m.Interleave = refl
+same_method m.Choice m.Plain = refl
+same_method m.Choice m.Choice = refl
+same_method m.Choice m.Interleave = refl
+same_method m.Interleave m.Plain = refl
+same_method m.Interleave m.Choice = refl
+same_method m.Interleave m.Interleave = refl
+
+pub found_method : (found : Option Method) (a b : Method) → found ≡ Some a → option_eq (sameb the_type) found (Some b) ≡ is_method b a
+found_method found a b e = ap (λ o. option_eq (sameb the_type) o (Some b)) e ∙ same_method a b

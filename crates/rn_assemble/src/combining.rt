@@ -1,7 +1,6 @@
 // Definitions of one key combined (RELAX NG 2001, 4.17).
-ghost use Rattle.std.specs.Prelude.{◌≡◌, ◌+◌, ◌<◌, ℕ, List, Contains, Decides, None, false, length, map, option_map, IfOk, IfSome, IsSomeAnd, MatchResult};
+ghost use Rattle.std.specs.Prelude.{◌≡◌, ◌+◌, ◌<◌, ℕ, List, Contains, Decides, None, length, map, option_map, IfOk, IfSome, IsSomeAnd, MatchResult};
 ghost use Rattle.std.specs.List.Sorted.{IsStrictlySortedBy};
-ghost use Rattle.std.specs.Option.{option_map_or};
 ghost use Rattle.rn_pattern.specs.Order.{text_cmp};
 ghost use Rattle.rn_pattern.specs.NameRules.{KeepsNameRules};
 ghost use Rattle.rn_pattern.specs.Tree.{Text, trees_of};
@@ -42,7 +41,7 @@ impl<'c, 't, 's> Components<'c, 't, 's> {
             → result ≡ spec.uses (is_method method) (key_at names key) (components_in live) }
     {
         for place in self.of_key(key) {
-            if is_found(self.method(*place), method) {
+            if self.method(*place) == Some(method) {
                 return true;
             }
         }
@@ -56,7 +55,7 @@ impl<'c, 't, 's> Components<'c, 't, 's> {
     {
         let mut is_plain = false;
         for place in self.of_key(key) {
-            if is_found(self.method(*place), Method::Plain) {
+            if self.method(*place) == Some(Method::Plain) {
                 if is_plain {
                     return true;
                 }
@@ -90,17 +89,6 @@ impl<'c, 't, 's> Components<'c, 't, 's> {
             }
         }
         None
-    }
-}
-
-/// Whether the method was found.
-fn is_found(found: Option<Method>, method: Method) -> bool
-    ensures { result ≡ option_map_or (is_method method) found false }
-{
-    match method {
-        Method::Plain => matches!(found, Some(Method::Plain)),
-        Method::Choice => matches!(found, Some(Method::Choice)),
-        Method::Interleave => matches!(found, Some(Method::Interleave)),
     }
 }
 

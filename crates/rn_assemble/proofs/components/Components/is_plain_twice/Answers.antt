@@ -1,15 +1,15 @@
 use Rattle.std.proofs.Common.{◌≡◌, ◌+◌, ◌<◌, ◌≤◌, ℕ, Bool, true, false, cond, List, length, get_or, take, refl, sym, ap, ◌∙◌, subst, arith}
 use Rattle.std.specs.Prelude.{count_by}
-use Rattle.std.specs.Option.{option_map_or}
 use Rattle.std.proofs.lemmas.Bool.{false≢true}
 use Rattle.std.proofs.lemmas.List.{take_all}
 use Rattle.std.proofs.lemmas.List.Sums.{count_by_more_yes, count_by_more_no, sum_by-take-drop}
+use Rattle.rn_syntax.specs.declared.token.Method.TheVariants.{Plain}
 use Rattle.rn_assemble.specs.Components.{Component}
 use Rattle.rn_assemble.specs.Combine.{is_plain}
 use Rattle.rn_assemble.specs.Graph.{rows_of}
-use Rattle.rn_assemble.proofs.UsedMethods.{at_row, row_size, parts}
+use Rattle.rn_assemble.proofs.UsedMethods.{at_row, row_size, parts, found_method}
 use Rattle.rn_assemble.proofs.components.Components.is_plain_twice.Goals as goal
-use Rattle.rn_assemble.proofs.components.Components.is_plain_twice.Goals.{then-is_found+else-is_plain, else-is_found}
+use Rattle.rn_assemble.proofs.components.Components.is_plain_twice.Goals.{then-eq+else-is_plain, else-eq}
 
 at_most_one : (b : Bool) → cond {A = ℕ} b 1 0 ≤ 1
 at_most_one true = omega arith
@@ -24,7 +24,7 @@ returns-then-is_plain c = λ names live h o k.
     let all = parts names x.bodies.items x.list.items (rows_of x.places.items) live h o c.args.key (omega (arith, k)) in
     let r = at_row names x.bodies.items x.list.items (rows_of x.places.items) live h o c.args.key (omega (arith, k)) i (subst (λ (l : List ℕ). i < length l) row_now c.loop-place-test.true) in
     let found = c.method.ensures names live r.0 h r.1 (r.2 ∙ ap (λ (l : List ℕ). get_or l i 0) (sym row_now)) in
-    let tested : is_plain r.0.component.method ≡ true = sym (c.is_found.ensures ∙ ap (λ f. option_map_or is_plain f false) found) ∙ c.if-is_found.true in
+    let tested : is_plain r.0.component.method ≡ true = sym (c.eq.ensures ∙ found_method c.method.result r.0.component.method Plain found) ∙ c.if-eq.true in
     let before : count_by p (take i all) ≡ 1 = c.loop-place.invariant.counted names live h o k ∙ ap (λ b. cond {A = ℕ} b 1 0) c.if-is_plain.true in
     let more = count_by_more_yes p all i r.0.component r.3 (ap p (r.4 r.0.component) ∙ tested) in
     let whole = sum_by-take-drop (λ (d : Component). cond {A = ℕ} (p d) 1 0) all (i + 1) in
@@ -40,16 +40,16 @@ loop-place-preserved c = record {
       let all = parts names x.bodies.items x.list.items (rows_of x.places.items) live h o c.args.key (omega (arith, k)) in
       let r = at_row names x.bodies.items x.list.items (rows_of x.places.items) live h o c.args.key (omega (arith, k)) i (subst (λ (l : List ℕ). i < length l) row_now c.loop-place-test.true) in
       let found = c.method.ensures names live r.0 h r.1 (r.2 ∙ ap (λ (l : List ℕ). get_or l i 0) (sym row_now)) in
-      let is = c.is_found.ensures ∙ ap (λ f. option_map_or is_plain f false) found in
-      elim c.if-is_found.branch [
-        | then-is_found+else-is_plain w ↦
-            let tested : is_plain r.0.component.method ≡ true = sym is ∙ w.if-is_found.true in
+      let is = c.eq.ensures ∙ found_method c.method.result r.0.component.method Plain found in
+      elim c.if-eq.branch [
+        | then-eq+else-is_plain w ↦
+            let tested : is_plain r.0.component.method ≡ true = sym is ∙ w.if-eq.true in
             let before : count_by p (take i all) ≡ 0 = c.loop-place.invariant.counted names live h o k ∙ ap (λ b. cond {A = ℕ} b 1 0) w.if-is_plain.false in
             let more = count_by_more_yes p all i r.0.component r.3 (ap p (r.4 r.0.component) ∙ tested) in
             let one : count_by p (take (i + 1) all) ≡ 1 = omega (arith, before, more) in
             one ∙ sym (ap (λ b. cond {A = ℕ} b 1 0) w.is_plain-is)
-        | else-is_found w ↦
-            let tested : is_plain r.0.component.method ≡ false = sym is ∙ w.if-is_found.false in
+        | else-eq w ↦
+            let tested : is_plain r.0.component.method ≡ false = sym is ∙ w.if-eq.false in
             count_by_more_no p all i r.0.component r.3 (ap p (r.4 r.0.component) ∙ tested) ∙ c.loop-place.invariant.counted names live h o k ∙ sym (ap (λ b. cond {A = ℕ} b 1 0) w.is_plain-is)
       ];
 }
