@@ -1,7 +1,8 @@
 // Reachability in a graph whose nodes are numbers.
 
-ghost use Rattle.std.specs.Prelude.{◌≡◌, ℕ, ◌+◌, ◌<◌, ◌≤◌, Decides, ◌∷◌, ◌++◌, [], length, vec_len, take, IfOk, OnOk, if◌then◌else◌, slice_set};
+ghost use Rattle.std.specs.Prelude.{◌≡◌, ℕ, ◌+◌, ◌<◌, ◌≤◌, Decides, ◌∷◌, ◌++◌, [], length, map, vec_len, take, IfOk, OnOk, if◌then◌else◌, slice_index_or, slice_set};
 ghost use Rattle.rn_assemble.specs.Graph.{AllBelow, row, IsGraph, is_marked, Agrees, Marks, Reached, rows_of};
+ghost use Rattle.rn_assemble.specs.Order.{IsNext};
 
 use std::alloc::{AllocError, Global};
 
@@ -36,6 +37,29 @@ pub(crate) fn row_at(edges: &[Vec<usize>], node: usize) -> &[usize]
     ensures { result.now ≡ row (rows_of edges.now) node }
 {
     &edges[node]
+}
+
+/// For each node, how many edges it has.
+pub(crate) fn lengths(alloc: Global, edges: &[Vec<usize>]) -> Result<Vec<usize>, AllocError>
+    ensures { IfOk result (λ lengths. lengths.items ≡ map (λ row. length row) (rows_of edges.now)) }
+{
+    edges.iter().map(|row| row.len()).collect(alloc)
+}
+
+/// The node that the next edge to look at leads to from a node, if there is one. Of each node so many edges are left; they are
+/// taken from the end.
+pub(crate) fn next_of(left: &[usize], edges: &[Vec<usize>], node: usize) -> Option<usize>
+    requires graph { IsGraph (rows_of edges.now) }
+    requires within { node < length edges.now }
+    requires counted { node < length left.now }
+    requires at_most { slice_index_or left.now node 0 ≤ length (row (rows_of edges.now) node) }
+    ensures { IsNext (rows_of edges.now) left.now node result }
+{
+    let left = left[node];
+    if left == 0 {
+        return None;
+    }
+    Some(row_at(edges, node)[left - 1])
 }
 
 /// For each node, whether it is reached from the first ones.

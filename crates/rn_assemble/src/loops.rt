@@ -2,10 +2,10 @@
 
 ghost use Rattle.std.specs.Prelude.{◌≡◌, ℕ, ◌-◌, ◌<◌, ◌≤◌, ◌≢◌, ◌⊎◌, [], Contains, length, vec_len, slice_index_or, take, drop, min, MatchBool, MatchOption, None, IfOk, OnOk};
 ghost use Rattle.rn_assemble.specs.Graph.{row, IsGraph, rows_of};
-ghost use Rattle.rn_assemble.specs.Order.{IsNext, EndsWith};
+ghost use Rattle.rn_assemble.specs.Order.{EndsWith};
 ghost use Rattle.rn_assemble.specs.Loops.{Grouping, GroupsOn, IsLeastLooped, IsClosed, IsSettled, IsStage, IsAtWork, IsJoined, AllLead, Rises, node_at, place_of, work};
 
-use crate::graph::row_at;
+use crate::graph::{lengths, next_of, row_at};
 use std::alloc::{AllocError, Global};
 
 /// How far a node is.
@@ -42,13 +42,9 @@ pub(crate) fn begin(alloc: Global, edges: &[Vec<usize>]) -> Result<Search, Alloc
     ensures grouping { IfOk result (λ s. Grouping (rows_of edges.now) s) }
     ensures empty { IfOk result (λ s. s.stack.items ≡ []) }
 {
-    let mut left = Vec::new(alloc);
-    for row in edges {
-        left.push(row.len())?;
-    }
     Ok(Search {
         places: vec![in alloc; None; edges.len()]?,
-        left,
+        left: lengths(alloc, edges)?,
         stack: Vec::new(alloc),
         path: Vec::new(alloc),
         bounds: Vec::new(alloc),
@@ -227,20 +223,6 @@ fn node_of(search: &Search, edges: &[Vec<usize>], place: usize) -> usize
     search.stack[place]
 }
 
-/// The node that the next edge to look at leads to, if there is one.
-fn next_of(search: &Search, edges: &[Vec<usize>], node: usize) -> Option<usize>
-    requires graph { IsGraph (rows_of edges.now) }
-    requires grouping { Grouping (rows_of edges.now) search.now }
-    requires within { node < length edges.now }
-    ensures { IsNext (rows_of edges.now) search.now.left.items node result }
-{
-    let left = search.left[node];
-    if left == 0 {
-        return None;
-    }
-    Some(row_at(edges, node)[left - 1])
-}
-
 /// How far the node is.
 fn stage_of(search: &Search, edges: &[Vec<usize>], node: usize) -> Stage
     requires grouping { Grouping (rows_of edges.now) search.now }
@@ -270,7 +252,7 @@ fn step(search: &mut Search, edges: &[Vec<usize>]) -> Result<(), AllocError>
         close(search, edges, begin);
         return Ok(());
     };
-    let Some(next) = next_of(search, edges, node_of(search, edges, place)) else {
+    let Some(next) = next_of(&search.left, edges, node_of(search, edges, place)) else {
         leave(search, edges, place);
         return Ok(());
     };

@@ -2,9 +2,9 @@
 
 ghost use Rattle.std.specs.Prelude.{◌≡◌, ℕ, ◌+◌, ◌-◌, ◌<◌, ◌≤◌, ◌∷◌, ◌++◌, [], Contains, length, vec_len, slice_index_or, IfOk, OnOk, IfSome, MatchOption};
 ghost use Rattle.rn_assemble.specs.Graph.{row, IsGraph, rows_of};
-ghost use Rattle.rn_assemble.specs.Order.{Walking, IsPath, Leads, IsNext, GoesOn, GoesOnOrLoops, EndsOrLoops, IsOrdered, EndsWith, work, mark_of, IsDone, HasNoLoop, IsFirstLoop};
+ghost use Rattle.rn_assemble.specs.Order.{Walking, IsPath, Leads, GoesOn, GoesOnOrLoops, EndsOrLoops, IsOrdered, EndsWith, work, mark_of, IsDone, HasNoLoop, IsFirstLoop};
 
-use crate::graph::row_at;
+use crate::graph::{lengths, next_of};
 use crate::loops;
 use std::alloc::{AllocError, Global};
 
@@ -90,20 +90,6 @@ fn last_of(walk: &Walk, edges: &[Vec<usize>]) -> usize
     walk.path[walk.path.len() - 1]
 }
 
-/// The node that the next edge to look at leads to, if there is one.
-fn next_of(walk: &Walk, edges: &[Vec<usize>], node: usize) -> Option<usize>
-    requires graph { IsGraph (rows_of edges.now) }
-    requires walking { Walking (rows_of edges.now) walk.now }
-    requires within { node < length edges.now }
-    ensures { IsNext (rows_of edges.now) walk.now.left.items node result }
-{
-    let left = walk.left[node];
-    if left == 0 {
-        return None;
-    }
-    Some(row_at(edges, node)[left - 1])
-}
-
 /// One step of the walk. Answers a node on a loop, if the step meets one.
 fn step(walk: &mut Walk, edges: &[Vec<usize>]) -> Result<Option<usize>, AllocError>
     requires graph { IsGraph (rows_of edges.now) }
@@ -112,7 +98,7 @@ fn step(walk: &mut Walk, edges: &[Vec<usize>]) -> Result<Option<usize>, AllocErr
     ensures { IfOk result (λ o. GoesOnOrLoops (rows_of edges.now) walk.old walk.new o) }
 {
     let node = last_of(walk, edges);
-    let Some(next) = next_of(walk, edges, node) else {
+    let Some(next) = next_of(&walk.left, edges, node) else {
         finish(walk, edges, node)?;
         return Ok(None);
     };
@@ -143,13 +129,9 @@ fn begin(alloc: Global, edges: &[Vec<usize>]) -> Result<Walk, AllocError>
     ensures walking { IfOk result (λ w. Walking (rows_of edges.now) w) }
     ensures empty { IfOk result (λ w. w.path.items ≡ []) }
 {
-    let mut left = Vec::new(alloc);
-    for row in edges {
-        left.push(row.len())?;
-    }
     Ok(Walk {
         marks: vec![in alloc; Mark::New; edges.len()]?,
-        left,
+        left: lengths(alloc, edges)?,
         ranks: vec![in alloc; 0; edges.len()]?,
         order: Vec::new(alloc),
         path: Vec::new(alloc),

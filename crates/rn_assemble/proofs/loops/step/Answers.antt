@@ -1,4 +1,4 @@
-use Rattle.std.proofs.Common.{◌-◌, ℕ, inl, arith, get_or, sym, ap, ◌∙◌, subst}
+use Rattle.std.proofs.Common.{◌-◌, ℕ, List, inl, arith, get_or, sym, ap, ◌∙◌, subst}
 use Rattle.std.specs.Prelude.{Contains}
 use Rattle.rn_assemble.specs.Graph.{row, rows_of}
 use Rattle.rn_assemble.specs.Loops.{AllLead, IsClosed}
@@ -42,4 +42,6 @@ pass-requires-clause-settled c =
     let s = c.args.search.now in
     let rows = rows_of c.args.edges.now in
     inl (subst (IsClosed s.places.items s.stack.items)
-    (c.in-Some-next_of.ensures.is ∙ ap (λ (x : ℕ). get_or (row rows x) (get_or s.left.items x 0 - 1) 0) c.node_of.ensures.is) c.in-Closed.ensures)
+    (c.in-Some-next_of.ensures.is
+    ∙ ap (λ (ls : List ℕ). get_or (row rows c.node_of.result) (get_or ls c.node_of.result 0 - 1) 0) c.deref.ensures.value
+    ∙ ap (λ (x : ℕ). get_or (row rows x) (get_or s.left.items x 0 - 1) 0) c.node_of.ensures.is) c.in-Closed.ensures)
