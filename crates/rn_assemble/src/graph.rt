@@ -62,7 +62,8 @@ pub(crate) fn next_of(left: &[usize], edges: &[Vec<usize>], node: usize) -> Opti
     Some(row_at(edges, node)[left - 1])
 }
 
-/// For each node, whether it is reached from the first ones.
+/// For each node, whether it is one of the first or is reached from them. The only error is want of memory; the edges and the
+/// first nodes are what they were.
 pub fn reached(
     alloc: Global,
     edges: &[Vec<usize>],

@@ -10,7 +10,7 @@ use std::alloc::{AllocError, Global};
 
 /// How far a node is.
 #[derive(Clone, Copy, PartialEq, Eq)]
-pub enum Mark {
+enum Mark {
     /// Not met yet.
     New,
     /// On the path.
@@ -28,7 +28,7 @@ pub enum Order {
 
 /// A walk along the edges: a path from node to node, and the ranks of the nodes that it left behind.
 #[derive(Drop)]
-pub struct Walk {
+struct Walk {
     marks: Vec<Mark>,
     /// Of each node, how many of its edges are still to be looked at; they are taken from the end.
     left: Vec<usize>,
@@ -138,7 +138,8 @@ fn begin(alloc: Global, edges: &[Vec<usize>]) -> Result<Walk, AllocError>
     })
 }
 
-/// Ranks by which each edge leads to a lower one, or a node on a loop.
+/// Ranks by which each edge leads to a lower one, or a node on a loop. The only error is want of memory; the edges are what
+/// they were.
 pub fn ranks(alloc: Global, edges: &[Vec<usize>]) -> Result<Order, AllocError>
     requires graph { IsGraph (rows_of edges.now) }
     ensures { IfOk result (λ o. IsOrdered (rows_of edges.now) o) }
@@ -155,7 +156,8 @@ pub fn ranks(alloc: Global, edges: &[Vec<usize>]) -> Result<Order, AllocError>
     Ok(Order::Ranked(walk.ranks))
 }
 
-/// The least node that comes back to itself along one edge or more, if there is one.
+/// The least node that comes back to itself along one edge or more, if there is one. The only error is want of memory; the
+/// edges are what they were.
 pub fn least_looped(alloc: Global, edges: &[Vec<usize>]) -> Result<Option<usize>, AllocError>
     requires { IsGraph (rows_of edges.now) }
     ensures within { IfOk result (λ node. IfSome node (λ x. x < length edges.now)) }
