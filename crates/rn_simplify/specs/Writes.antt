@@ -130,6 +130,10 @@ bound_to u = infix_of (codes "=") ++ (literal u ++ line_end ∷ [])
 abbrev pub defined_as : s.Prefixes → Tree → List Piece
 defined_as f p = infix_of (codes "=") ++ ((written_tree f p).pieces ++ line_end ∷ [])
 
+-- what stops a writer behind an append: there was no memory for it, or the text has become too large; else what stopped it before
+abbrev pub stop_behind : (appended : Bool) → Writer → Option Stop
+stop_behind appended w = cond appended (cond (nat_lt most_bytes (length (string_bytes w.text))) (Some TooLarge) w.stopped) (Some Memory)
+
 -- why the writer has no text
 abbrev pub IsHindrance : Writer → Refusal → Type 0
 IsHindrance w r.Memory = w.stopped ≡ Some Memory

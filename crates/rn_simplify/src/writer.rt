@@ -2,7 +2,7 @@
 ghost use Rattle.std.specs.Prelude.{◌≡◌, ◌∷◌, [], None, cond, chars, decimal, false, string_bytes, IfErr, IfOk};
 ghost use Rattle.rn_text.specs.Characters.{is_keyword};
 ghost use Rattle.rn_text.specs.Literals.{literal_bytes};
-ghost use Rattle.rn_simplify.specs.Writes.{IsHindrance, WritesBytes, opening, closing, none};
+ghost use Rattle.rn_simplify.specs.Writes.{IsHindrance, WritesBytes, opening, closing, none, stop_behind};
 
 use rn_assemble::Refusal;
 use rn_text::{is_keyword, write_literal};
@@ -60,17 +60,24 @@ impl Writer {
         }
     }
 
+    /// Stops if there was no memory for what was to be appended, or if the text has become too large.
+    fn note_append(&mut self, appended: bool)
+        ensures { self.new ≡ record self.old { stopped = stop_behind appended self.old } }
+    {
+        if !appended {
+            self.stopped = Some(Stop::Memory);
+        } else if self.text.len() > MOST_BYTES {
+            self.stopped = Some(Stop::TooLarge);
+        }
+    }
+
     /// Appends pieces that are no brackets.
     pub(crate) fn put(&mut self, pieces: &str)
         ensures { WritesBytes pieces.now none self.old self.new }
     {
-        if self.stopped.is_some() {
-            return;
-        }
-        if self.text.push_str(pieces).is_err() {
-            self.stopped = Some(Stop::Memory);
-        } else if self.text.len() > MOST_BYTES {
-            self.stopped = Some(Stop::TooLarge);
+        if self.stopped.is_none() {
+            let appended = self.text.push_str(pieces).is_ok();
+            self.note_append(appended);
         }
     }
 
@@ -98,13 +105,9 @@ impl Writer {
     pub(crate) fn literal(&mut self, text: &str)
         ensures { WritesBytes (literal_bytes text.now) none self.old self.new }
     {
-        if self.stopped.is_some() {
-            return;
-        }
-        if write_literal(&mut self.text, text).is_err() {
-            self.stopped = Some(Stop::Memory);
-        } else if self.text.len() > MOST_BYTES {
-            self.stopped = Some(Stop::TooLarge);
+        if self.stopped.is_none() {
+            let appended = write_literal(&mut self.text, text).is_ok();
+            self.note_append(appended);
         }
     }
 
@@ -122,13 +125,9 @@ impl Writer {
     pub(crate) fn number(&mut self, number: usize)
         ensures { WritesBytes (decimal number) none self.old self.new }
     {
-        if self.stopped.is_some() {
-            return;
-        }
-        if write!(self.text, "{number}").is_err() {
-            self.stopped = Some(Stop::Memory);
-        } else if self.text.len() > MOST_BYTES {
-            self.stopped = Some(Stop::TooLarge);
+        if self.stopped.is_none() {
+            let appended = write!(self.text, "{number}").is_ok();
+            self.note_append(appended);
         }
     }
 }
