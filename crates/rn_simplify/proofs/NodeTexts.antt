@@ -1,23 +1,28 @@
 -- The texts of patterns, node by node.
-use Rattle.std.proofs.Common.{◌≡◌, ℕ, suc, ◌+◌, ◌<◌, List, [], ◌∷◌, ◌++◌, length, drop, get_or, refl, sym, ap, ◌∙◌, subst, cond, nat_eq, true, false, Bool, Option, Some, None, ◌≢◌, ◌-◌, ◌≤◌, arith, rules, take, length-drop}
+use Rattle.std.proofs.Common.{◌≡◌, ℕ, suc, ◌+◌, ◌<◌, List, [], ◌∷◌, ◌++◌, length, drop, get_or, refl, sym, ap, ◌∙◌, subst, cond, nat_eq, true, false, Bool, Option, Some, None, ◌≢◌, ◌-◌, ◌≤◌, arith, rules, take, length-drop, append-nil}
 use Rattle.std.proofs.Math.Dec.{eqb-suc-zero}
-use Rattle.std.specs.Prelude.{codes, Box}
+use Rattle.std.specs.Prelude.{codes, string_bytes, Box, MatchOption, String}
 use Rattle.std.specs.declared.rc.Rc.{Rc}
+use Rattle.std.specs.declared.vec.Vec.{Vec}
 use Rattle.std.specs.declared.alloc.Global.{Global}
-use Rattle.std.specs.Str.{chars}
+use Rattle.std.specs.Str.{chars, IsUtf8}
+use Rattle.std.proofs.lemmas.Str.{encodes-chars}
+use Rattle.rn_text.specs.declared.parts.Kind.TheVariants.{Keyword}
+use Rattle.rn_text.specs.declared.parts.Part.TheVariants.{Token}
 use Rattle.rn_text.specs.Parts.{Piece}
 use Rattle.rn_pattern.specs.Tree as tree
-use Rattle.rn_pattern.specs.Tree.{Text, Parameters, NameTree, Tree}
+use Rattle.rn_pattern.specs.Tree.{Text, NameTree, Tree}
 use Rattle.rn_pattern.specs.declared.tree.Pattern.{Pattern}
 use Rattle.rn_pattern.specs.declared.tree.Pattern.TheOpen.{Pattern-F}
 use Rattle.rn_pattern.specs.declared.tree.Pattern.TheViews.{out-Pattern, roll-Pattern, the_lemmas}
 use Rattle.rn_pattern.specs.declared.tree.Pattern.TheFolds.{fold-roll-Pattern}
 use Rattle.rn_simplify.specs.declared.writer.Writer.{Writer}
 use Rattle.rn_simplify.specs.Spelling.{Prefixes, Written, symbol, keyword, space, infix_of, braced, parenthesized, primary, operand, chain, chain_or_one, datum_pieces, optional, optional_one, written_name, written_tree, written_choice, written_interleave}
-use Rattle.rn_pattern.specs.View.{pattern_step, pattern_view}
+use Rattle.rn_pattern.specs.View.{parameters_view, pattern_step, pattern_view}
 use Rattle.rn_simplify.specs.Writes.{rows_of, begins, none, opening, closing, Writes, WritesBytes}
-use Rattle.rn_simplify.proofs.Writing.{writes_nil, writes_then, writes_pieces}
-use Rattle.rn_simplify.proofs.PartTexts.{writes_minus, writes_braced, writes_parenthesized}
+use Rattle.rn_simplify.proofs.Writing.{writes_nil, writes_as, writes_then, writes_pieces}
+use Rattle.rn_simplify.proofs.PartTexts.{writes_minus, writes_braced, writes_parenthesized, writes_part}
+use Rattle.rn_simplify.proofs.PatternTexts.{space_written}
 use Rattle.rn_simplify.proofs.Chains.{before, before_none, before_some, writes_row_more}
 use Rattle.std.proofs.lemmas.List.{take_more, take_all, get_or-drop}
 use Rattle.rn_pattern.specs.declared.tree.Pattern.TheVariants as pat
@@ -56,27 +61,38 @@ writes_mixed_word : {a b : Writer} → WritesBytes (codes "mixed") none a b → 
 unfolding lib.Utf8.encode chars
 writes_mixed_word h = writes_pieces _ refl (λ n. refl) h
 
-writes_attribute_word : {a b : Writer} → WritesBytes (codes "attribute ") none a b → Writes (keyword (codes "attribute") ∷ space ∷ []) a b
-unfolding lib.Utf8.encode chars
-writes_attribute_word h = writes_pieces _ refl (λ n. refl) h
-
-writes_element_word : {a b : Writer} → WritesBytes (codes "element ") none a b → Writes (keyword (codes "element") ∷ space ∷ []) a b
-unfolding lib.Utf8.encode chars
-writes_element_word h = writes_pieces _ refl (λ n. refl) h
-
 -- ---- nodes of one pattern
 
-pub writes_datum_but : (f : Prefixes) (l x : Text) (ps : Parameters) (p : Tree) {a b c d : Writer} → Writes (datum_pieces f l x ps) a b → WritesBytes (codes " - ") none b c → Writes (primary (written_tree f p)) c d → Writes (written_tree f (tree.datum_but l x ps p)).pieces a d
-writes_datum_but f l x ps p h j k = writes_then (datum_pieces f l x ps) (infix_of (codes "-") ++ primary (written_tree f p)) h (writes_then (infix_of (codes "-")) (primary (written_tree f p)) (writes_minus j) k)
+pub writes_except : (f : Prefixes) (p : Tree) {a b c : Writer} → WritesBytes (codes " - ") none a b → Writes (primary (written_tree f p)) b c → Writes (infix_of (codes "-") ++ primary (written_tree f p)) a c
+writes_except f p h k = writes_then (infix_of (codes "-")) (primary (written_tree f p)) (writes_minus h) k
+
+-- with what is excepted, if anything is
+pub writes_datum : (f : Prefixes) (l x : String Global) (ps : Vec (String Global × String Global) Global) (o : Option (Box Pattern Global)) {a b c : Writer} → Writes (datum_pieces f (string_bytes l) (string_bytes x) (parameters_view ps.items)) a b → MatchOption o (Writes [] b c) (λ p. Writes (infix_of (codes "-") ++ primary (written_tree f (pattern_view p.value))) b c) → Writes (written_tree f (pattern_view (pat.Datum l x ps o))).pieces a c
+writes_datum f l x ps None {a} {b} {c} h k =
+    let e : pattern_view (pat.Datum l x ps None) ≡ tree.datum (string_bytes l) (string_bytes x) (parameters_view ps.items) = ap pattern_view (sym (pat.rolls-Datum l x ps None)) ∙ fold-roll-Pattern Tree pattern_step (Pattern-F.Datum l x ps None) in
+    subst (λ t. Writes (written_tree f t).pieces a c) (sym e)
+    (writes_as (append-nil _) (writes_then (datum_pieces f (string_bytes l) (string_bytes x) (parameters_view ps.items)) [] h k))
+writes_datum f l x ps (Some p) {a} {b} {c} h k =
+    let e : pattern_view (pat.Datum l x ps (Some p)) ≡ tree.datum_but (string_bytes l) (string_bytes x) (parameters_view ps.items) (pattern_view p.value) = ap pattern_view (sym (pat.rolls-Datum l x ps (Some p))) ∙ fold-roll-Pattern Tree pattern_step (Pattern-F.Datum l x ps (Some p)) in
+    subst (λ t. Writes (written_tree f t).pieces a c) (sym e)
+    (writes_then (datum_pieces f (string_bytes l) (string_bytes x) (parameters_view ps.items)) (infix_of (codes "-") ++ primary (written_tree f (pattern_view p.value))) h k)
 
 pub writes_list : (f : Prefixes) (p : Tree) {a b c : Writer} → WritesBytes (codes "list") none a b → Writes (braced (written_tree f p).pieces) b c → Writes (written_tree f (tree.list p)).pieces a c
 writes_list f p h k = writes_then (keyword (codes "list") ∷ []) (braced (written_tree f p).pieces) (writes_list_word h) k
 
-pub writes_attribute : (f : Prefixes) (n : NameTree) (p : Tree) {a b c d : Writer} → WritesBytes (codes "attribute ") none a b → Writes (written_name f n).pieces b c → Writes (braced (written_tree f p).pieces) c d → Writes (written_tree f (tree.attribute n p)).pieces a d
-writes_attribute f n p h j k = writes_then (keyword (codes "attribute") ∷ space ∷ []) ((written_name f n).pieces ++ braced (written_tree f p).pieces) (writes_attribute_word h) (writes_then (written_name f n).pieces (braced (written_tree f p).pieces) j k)
+-- the keyword and the name class of an element or an attribute
+pub writes_head : (f : Prefixes) (k : Text) (n : NameTree) {a b c d : Writer} → IsUtf8 k → WritesBytes k none a b → WritesBytes (32 ∷ []) none b c → Writes (written_name f n).pieces c d → Writes (keyword (chars k) ∷ space ∷ (written_name f n).pieces) a d
+writes_head f k n u h j l =
+    writes_then (keyword (chars k) ∷ []) (space ∷ (written_name f n).pieces) (writes_part (Token Keyword) (chars k) k refl (encodes-chars k u) h)
+    (writes_then (space ∷ []) (written_name f n).pieces (space_written j) l)
 
-pub writes_element : (f : Prefixes) (n : NameTree) (p : Tree) {a b c d : Writer} → WritesBytes (codes "element ") none a b → Writes (written_name f n).pieces b c → Writes (braced (written_tree f p).pieces) c d → Writes (written_tree f (tree.element n p)).pieces a d
-writes_element f n p h j k = writes_then (keyword (codes "element") ∷ space ∷ []) ((written_name f n).pieces ++ braced (written_tree f p).pieces) (writes_element_word h) (writes_then (written_name f n).pieces (braced (written_tree f p).pieces) j k)
+pub writes_attribute : (f : Prefixes) (n : NameTree) (p : Tree) {a b c : Writer} → Writes (keyword (chars (codes "attribute")) ∷ space ∷ (written_name f n).pieces) a b → Writes (braced (written_tree f p).pieces) b c → Writes (written_tree f (tree.attribute n p)).pieces a c
+unfolding lib.Utf8.encode chars
+writes_attribute f n p h k = writes_then (keyword (codes "attribute") ∷ space ∷ (written_name f n).pieces) (braced (written_tree f p).pieces) h k
+
+pub writes_element : (f : Prefixes) (n : NameTree) (p : Tree) {a b c : Writer} → Writes (keyword (chars (codes "element")) ∷ space ∷ (written_name f n).pieces) a b → Writes (braced (written_tree f p).pieces) b c → Writes (written_tree f (tree.element n p)).pieces a c
+unfolding lib.Utf8.encode chars
+writes_element f n p h k = writes_then (keyword (codes "element") ∷ space ∷ (written_name f n).pieces) (braced (written_tree f p).pieces) h k
 
 pub writes_one_or_more : (f : Prefixes) (p : Tree) {a b c : Writer} → Writes (primary (written_tree f p)) a b → WritesBytes (codes "+") none b c → Writes (written_tree f (tree.one_or_more p)).pieces a c
 writes_one_or_more f p h k = writes_then (primary (written_tree f p)) (symbol (codes "+") ∷ []) h (writes_plus k)

@@ -42,7 +42,7 @@ value_but : (b : Bool) (xs ys : List Piece) {a c : Writer} → b ≡ false → W
 value_but true xs ys e h = absurd cc
 value_but false xs ys e h = h
 
-space_written : {a b : Writer} → WritesBytes (32 ∷ []) none a b → Writes (space ∷ []) a b
+pub space_written : {a b : Writer} → WritesBytes (32 ∷ []) none a b → Writes (space ∷ []) a b
 unfolding lib.Utf8.encode chars
 space_written h = writes_pieces (space ∷ []) refl (λ n. refl) h
 

@@ -1,15 +1,15 @@
 // The text of a pattern (compact syntax, section 2, pattern).
-ghost use Rattle.std.specs.Prelude.{◌≡◌, ℕ, ◌<◌, ◌≤◌, drop, length, ◌∷◌, [], List, Some, map, string_bytes, codes, bytes_eq, ◌&&◌};
+ghost use Rattle.std.specs.Prelude.{◌≡◌, ℕ, ◌<◌, ◌≤◌, drop, length, ◌∷◌, [], List, Some, map, string_bytes, codes, bytes_eq, chars, ◌&&◌, ◌++◌, MatchOption};
 ghost use Rattle.rn_text.specs.Parts.{Piece};
-ghost use Rattle.rn_simplify.specs.Spelling.{braced, chain, chain_or_one, datum_pieces, infix_of, operand, optional, optional_one, params_pieces, parenthesized, primary, value_pieces, written_choice, written_interleave, written_tree};
-ghost use Rattle.rn_pattern.specs.View.{parameters_view, pattern_view};
+ghost use Rattle.rn_simplify.specs.Spelling.{braced, chain, chain_or_one, datum_pieces, infix_of, keyword, operand, optional, optional_one, params_pieces, parenthesized, primary, space, value_pieces, written_choice, written_interleave, written_name, written_tree};
+ghost use Rattle.rn_pattern.specs.View.{name_class_view, parameters_view, pattern_view};
 ghost use Rattle.rn_simplify.specs.Writes.{bytes_of, depth_after, prefixes_view, rows_of, Writes};
 
 use crate::declarations::Prefixes;
 use crate::name_class::write_class;
 use crate::shapes::{Shape, begins_with_empty, begins_with_text, shape_of_pattern};
 use crate::writer::Writer;
-use rn_pattern::Pattern;
+use rn_pattern::{NameClass, Pattern};
 use std::rc::Rc;
 
 /// Writes a pattern.
@@ -28,26 +28,20 @@ pub(crate) fn write_pattern(writer: &mut Writer, prefixes: &Prefixes, pattern: &
         Pattern::Value(library, type_name, text) => {
             write_value(writer, prefixes, library, type_name, text);
         }
-        Pattern::Datum(library, type_name, params, None) => {
+        Pattern::Datum(library, type_name, params, except) => {
             write_data(writer, prefixes, library, type_name, params);
-        }
-        Pattern::Datum(library, type_name, params, Some(except)) => {
-            write_data(writer, prefixes, library, type_name, params);
-            writer.put(" - ");
-            write_primary(writer, prefixes, except);
+            write_except(writer, prefixes, except);
         }
         Pattern::List(content) => {
             writer.put("list");
             write_braced(writer, prefixes, content);
         }
         Pattern::Attribute(class, content) => {
-            writer.put("attribute ");
-            write_class(writer, prefixes, class);
+            write_head(writer, prefixes, "attribute", class);
             write_braced(writer, prefixes, content);
         }
         Pattern::Element(class, content) => {
-            writer.put("element ");
-            write_class(writer, prefixes, class);
+            write_head(writer, prefixes, "element", class);
             write_braced(writer, prefixes, content);
         }
         Pattern::OneOrMore(content) => {
@@ -57,6 +51,17 @@ pub(crate) fn write_pattern(writer: &mut Writer, prefixes: &Prefixes, pattern: &
         Pattern::Group(members) => write_chain(writer, prefixes, members, 0, ", "),
         Pattern::Interleave(members) => write_interleave(writer, prefixes, members),
         Pattern::Choice(members) => write_choice(writer, prefixes, members),
+    }
+}
+
+/// Writes the except of a datatype, if it has one, behind a minus sign.
+#[cycle(pattern)]
+fn write_except(writer: &mut Writer, prefixes: &Prefixes, except: &Option<Box<Pattern>>)
+    ensures { MatchOption except.now (Writes [] writer.old writer.new) (λ p. Writes (infix_of (codes "-") ++ primary (written_tree (prefixes_view prefixes.now) (pattern_view p.value))) writer.old writer.new) }
+{
+    if let Some(except) = except {
+        writer.put(" - ");
+        write_primary(writer, prefixes, except);
     }
 }
 
@@ -196,6 +201,15 @@ fn write_optional_one(writer: &mut Writer, prefixes: &Prefixes, other: &Pattern)
         write_primary(writer, prefixes, other);
         writer.put("?");
     }
+}
+
+/// Writes the keyword and the name class of an element or an attribute.
+fn write_head(writer: &mut Writer, prefixes: &Prefixes, word: &str, class: &NameClass)
+    ensures { Writes (keyword (chars word.now) ∷ space ∷ (written_name (prefixes_view prefixes.now) (name_class_view class.now)).pieces) writer.old writer.new }
+{
+    writer.put(word);
+    writer.put(" ");
+    write_class(writer, prefixes, class);
 }
 
 /// Whether the datatype is the built-in token, whose values are written as their literals alone.

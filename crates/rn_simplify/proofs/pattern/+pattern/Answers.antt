@@ -1,18 +1,18 @@
-use Rattle.std.proofs.Common.{rules, ◌≡◌, ◌-◌, ℕ, length, take, drop, nat_eq, true, false, None, Some, sym, ap, ◌∙◌, subst, refl}
-use Rattle.std.specs.Prelude.{codes}
+use Rattle.std.proofs.Common.{rules, ◌≡◌, ◌-◌, ℕ, length, take, drop, nat_eq, true, false, None, Some, [], ◌++◌, sym, ap, ◌∙◌, subst, refl}
+use Rattle.std.specs.Prelude.{codes, string_bytes, MatchOption}
 use Rattle.std.specs.Str.{chars}
 use Rattle.rn_pattern.specs.Tree as tree
 use Rattle.rn_pattern.specs.Tree.{Tree}
 use Rattle.rn_pattern.specs.declared.tree.Pattern.TheFolds.{fold_out-Pattern, fold-roll-Pattern}
 use Rattle.rn_pattern.specs.declared.tree.Pattern.TheViews.{the_lemmas}
-use Rattle.rn_simplify.specs.Spelling.{chain, comma, infix_of, operand, optional_one, written_choice, written_interleave, written_tree}
+use Rattle.rn_simplify.specs.Spelling.{chain, comma, datum_pieces, infix_of, operand, optional_one, primary, written_choice, written_interleave, written_tree}
 use Rattle.rn_pattern.specs.View.{name_class_view, parameters_view, pattern_step, pattern_view}
 use Rattle.rn_simplify.specs.Writes.{bytes_of, depth_after, prefixes_view, rows_of, Writes}
 use Rattle.rn_simplify.proofs.Writing.{writes_as, writes_pieces}
 use Rattle.rn_simplify.proofs.PartTexts.{writes_identifier, writes_braced, writes_parenthesized}
 use Rattle.rn_simplify.proofs.Chains.{before}
 use Rattle.rn_simplify.proofs.Members.{group_rows, interleave_rows, choice_rows}
-use Rattle.rn_simplify.proofs.NodeTexts.{writes_not_allowed, writes_empty, writes_text, writes_datum_but, writes_list, writes_attribute, writes_element, writes_one_or_more, writes_repeated, writes_maybe, writes_no_other, writes_one_other, writes_others, writes_no_choice, writes_optional, writes_choice, writes_no_interleave, writes_mixed, writes_interleave, writes_one_mixed, writes_several_mixed, row_count, not_repeated, chain_begins, chain_more, chain_no_connector, chain_connector, chain_ends}
+use Rattle.rn_simplify.proofs.NodeTexts.{writes_not_allowed, writes_empty, writes_text, writes_except, writes_datum, writes_list, writes_attribute, writes_element, writes_one_or_more, writes_repeated, writes_maybe, writes_no_other, writes_one_other, writes_others, writes_no_choice, writes_optional, writes_choice, writes_no_interleave, writes_mixed, writes_interleave, writes_one_mixed, writes_several_mixed, row_count, not_repeated, chain_begins, chain_more, chain_no_connector, chain_connector, chain_ends}
 use Rattle.rn_simplify.proofs.pattern.+pattern.Goals as goal
 use Rattle.rn_simplify.proofs.pattern.+pattern.Goals.{write_chain-then-i-first, write_chain-else-i-first}
 
@@ -145,15 +145,24 @@ write_pattern-returns-in-Ref t c =
     let e : pattern_view c.args.pattern.now ≡ tree.ref x = search (rules, the_lemmas, fold_out-Pattern Tree pattern_step, fold-roll-Pattern Tree pattern_step) in
     subst (λ q. Writes (written_tree f q).pieces c.args.writer.now c.identifier.new.self) (sym e) (writes_identifier x c.deref.utf8 c.identifier.ensures)
 
-pub write_pattern-returns-in-Datum-default-default-default-Some : goal.write_pattern-returns-in-Datum-default-default-default-Some
-write_pattern-returns-in-Datum-default-default-default-Some t c =
+pub write_except-returns-in-Some : goal.write_except-returns-in-Some
+write_except-returns-in-Some t c =
     let f = prefixes_view c.args.prefixes.now in
-    let l = c.deref-in-Datum-default-default-default-Some.result.now in
-    let x = c.deref-in-Datum-default-default-default-Some-2.result.now in
-    let ps = parameters_view c.deref-in-Datum-default-default-default-Some-3.result.now in
-    let p = pattern_view c.deref-in-Datum-default-default-default-Some-4.result.now in
-    let e : pattern_view c.args.pattern.now ≡ tree.datum_but l x ps p = search (rules, the_lemmas, fold_out-Pattern Tree pattern_step, fold-roll-Pattern Tree pattern_step) in
-    subst (λ q. Writes (written_tree f q).pieces c.args.writer.now c.write_primary.new.writer) (sym e) (writes_datum_but f l x ps p c.write_data-in-Datum-default-default-default-Some.ensures c.put-in-Datum-default-default-default-Some.ensures c.write_primary.ensures)
+    let a = c.args.writer.now in
+    let b = c.write_primary.new.writer in
+    subst (λ o. MatchOption o (Writes [] a b) (λ p. Writes (infix_of (codes "-") ++ primary (written_tree f (pattern_view p.value))) a b)) (sym c.in-Some.is)
+    (subst (λ p. Writes (infix_of (codes "-") ++ primary (written_tree f (pattern_view p))) a b) c.deref.ensures (writes_except f (pattern_view c.deref.result.now) c.put.ensures c.write_primary.ensures))
+
+pub write_pattern-returns-in-Datum : goal.write_pattern-returns-in-Datum
+write_pattern-returns-in-Datum t c =
+    let f = prefixes_view c.args.prefixes.now in
+    let l = c.in-Datum.library in
+    let x = c.in-Datum.type_name in
+    let ps = c.in-Datum.params in
+    let e = ap (λ k. datum_pieces f k c.deref-in-Datum-2.result.now (parameters_view c.deref-in-Datum-3.result.now)) c.deref-in-Datum.ensures
+    ∙ ap (λ k. datum_pieces f (string_bytes l) k (parameters_view c.deref-in-Datum-3.result.now)) c.deref-in-Datum-2.ensures
+    ∙ ap (λ qs. datum_pieces f (string_bytes l) (string_bytes x) (parameters_view qs)) c.deref-in-Datum-3.ensures.value in
+    subst (λ p. Writes (written_tree f (pattern_view p)).pieces c.args.writer.now c.write_except.new.writer) (sym c.in-Datum.is) (writes_datum f l x ps c.in-Datum.except (writes_as e c.write_data.ensures) c.write_except.ensures)
 
 pub write_pattern-returns-in-List : goal.write_pattern-returns-in-List
 write_pattern-returns-in-List t c =
@@ -168,7 +177,7 @@ write_pattern-returns-in-Attribute t c =
     let n = name_class_view c.in-Attribute.class in
     let p = pattern_view c.deref-in-Attribute.result.now in
     let e : pattern_view c.args.pattern.now ≡ tree.attribute n p = search (rules, the_lemmas, fold_out-Pattern Tree pattern_step, fold-roll-Pattern Tree pattern_step) in
-    subst (λ q. Writes (written_tree f q).pieces c.args.writer.now c.write_braced-in-Attribute.new.writer) (sym e) (writes_attribute f n p c.put-in-Attribute.ensures c.write_class.ensures c.write_braced-in-Attribute.ensures)
+    subst (λ q. Writes (written_tree f q).pieces c.args.writer.now c.write_braced-in-Attribute.new.writer) (sym e) (writes_attribute f n p c.write_head.ensures c.write_braced-in-Attribute.ensures)
 
 pub write_pattern-returns-in-Element : goal.write_pattern-returns-in-Element
 write_pattern-returns-in-Element t c =
@@ -176,14 +185,14 @@ write_pattern-returns-in-Element t c =
     let n = name_class_view c.in-Element.class in
     let p = pattern_view c.deref-in-Element.result.now in
     let e : pattern_view c.args.pattern.now ≡ tree.element n p = search (rules, the_lemmas, fold_out-Pattern Tree pattern_step, fold-roll-Pattern Tree pattern_step) in
-    subst (λ q. Writes (written_tree f q).pieces c.args.writer.now c.write_braced-in-Element.new.writer) (sym e) (writes_element f n p c.put-in-Element.ensures c.write_class-in-Element.ensures c.write_braced-in-Element.ensures)
+    subst (λ q. Writes (written_tree f q).pieces c.args.writer.now c.write_braced-in-Element.new.writer) (sym e) (writes_element f n p c.write_head-in-Element.ensures c.write_braced-in-Element.ensures)
 
 pub write_pattern-returns-in-OneOrMore : goal.write_pattern-returns-in-OneOrMore
 write_pattern-returns-in-OneOrMore t c =
     let f = prefixes_view c.args.prefixes.now in
     let p = pattern_view c.deref-in-OneOrMore.result.now in
     let e : pattern_view c.args.pattern.now ≡ tree.one_or_more p = search (rules, the_lemmas, fold_out-Pattern Tree pattern_step, fold-roll-Pattern Tree pattern_step) in
-    subst (λ q. Writes (written_tree f q).pieces c.args.writer.now c.put-in-OneOrMore.new.self) (sym e) (writes_one_or_more f p c.write_primary-in-OneOrMore.ensures c.put-in-OneOrMore.ensures)
+    subst (λ q. Writes (written_tree f q).pieces c.args.writer.now c.put-in-OneOrMore.new.self) (sym e) (writes_one_or_more f p c.write_primary.ensures c.put-in-OneOrMore.ensures)
 
 pub write_pattern-returns-in-Group : goal.write_pattern-returns-in-Group
 write_pattern-returns-in-Group t c =
