@@ -1,6 +1,6 @@
 // From an id of a store back to its pattern.
 ghost use Rattle.std.specs.Prelude.{◌≡◌, All, IfOk, IfSome, IsTrue, map};
-ghost use Rattle.rn_pattern.specs.View.{excepted_view, name_class_view, parameters_view, pattern_view, shared_view};
+ghost use Rattle.rn_pattern.specs.View.{excepted_view, name_class_view, pattern_view, shared_view};
 ghost use Rattle.rn_simplify.specs.Sizes.{except_trees};
 
 use rn_pattern::{NameClass, Node, Pattern, Patterns};
@@ -22,7 +22,7 @@ fn rebuilt<P: Patterns>(alloc: Global, store: &P, id: P::Id) -> Result<Pattern, 
             Ok(Pattern::Value(library.clone()?, type_name.clone()?, text.clone()?))
         }
         Node::Datum(library, type_name, params, except) => {
-            let params = cloned_params(alloc, params)?;
+            let params = params.to_vec(alloc)?;
             let except = rebuilt_except(alloc, store, *except)?;
             Ok(Pattern::Datum(library.clone()?, type_name.clone()?, params, except))
         }
@@ -93,19 +93,6 @@ fn rebuilt_members<P: Patterns>(
         members.push(member)?;
     }
     Ok(members)
-}
-
-fn cloned_params(
-    alloc: Global,
-    params: &[(String, String)],
-) -> Result<Vec<(String, String)>, AllocError>
-    ensures { IfOk result (λ v. parameters_view v.items ≡ parameters_view params.now) }
-{
-    let mut copy = Vec::new(alloc);
-    for (name, text) in params {
-        copy.push((name.clone()?, text.clone()?))?;
-    }
-    Ok(copy)
 }
 
 #[cycle(cloned_class)]

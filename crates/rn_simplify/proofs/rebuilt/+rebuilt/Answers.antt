@@ -1,11 +1,15 @@
-use Rattle.std.proofs.Common.{◌≡◌, ◌+◌, ◌*◌, ◌<◌, ◌≤◌, sym, ap, ◌∙◌, subst, map, arith}
+use Rattle.std.proofs.Common.{◌≡◌, ◌+◌, ◌*◌, ◌<◌, ◌≤◌, Option, Some, None, refl, sym, ap, ◌∙◌, subst, map, arith}
 use Rattle.std.proofs.lemmas.List.{take_all}
-use Rattle.rn_pattern.proofs.PatternKinds.{group_seen, interleave_seen, choice_seen}
-use Rattle.std.specs.Prelude.{All, IsTrue}
-use Rattle.rn_pattern.specs.Tree.{group, interleave, choice, trees_of}
+use Rattle.std.specs.Prelude.{All, IsTrue, String, string_bytes, Vec}
+use Rattle.std.specs.declared.alloc.Global.{Global}
+use Rattle.rn_pattern.proofs.Copied.{parameters_copied}
+use Rattle.rn_pattern.proofs.PatternKinds.{datum_of, datum_seen, group_seen, interleave_seen, choice_seen}
+use Rattle.rn_pattern.specs.Tree.{Tree, group, interleave, choice, trees_of}
+use Rattle.rn_pattern.specs.View.{parameters_view}
+use Rattle.rn_pattern.specs.declared.node.Node.{Node}
 use Rattle.rn_pattern.specs.Store.{node_view}
 use Rattle.rn_pattern.specs.Nodes.{node_members}
-use Rattle.rn_simplify.specs.Sizes.{tree_size, ids_size}
+use Rattle.rn_simplify.specs.Sizes.{tree_size, ids_size, except_trees}
 use Rattle.rn_simplify.proofs.NodeSizes.{members_size, member_size}
 use Rattle.rn_simplify.proofs.rebuilt.+rebuilt.Goals as goal
 
@@ -51,6 +55,25 @@ rebuilt_members-rebuilt-requires g t c κs within =
     let m : tree_size (at x) ≤ ids_size at is = subst (λ y. tree_size (at y) ≤ ids_size at is) (sym c.index-ids-i.is) (member_size at is c.loop-i.i x c.loop-i-test.true) in
     let h : IsTrue (k x) = subst (λ y. IsTrue (k y)) (sym c.index-ids-i.is) (c.requires c.loop-i.i x c.loop-i-test.true) in
     (omega (arith, m, c.decreases), (within.0, (within.1, h)))
+
+node_of_datum : {I : Type 0} (at : I → Tree) (l x : String Global) (ps : Vec (String Global × String Global) Global) (e : Option I) → datum_of (string_bytes l) (string_bytes x) (parameters_view ps.items) (except_trees at e) ≡ node_view at (Node.Datum l x ps e)
+node_of_datum at l x ps None = refl
+node_of_datum at l x ps (Some i) = refl
+
+pub rebuilt-returns-in_ok-clone-in-Datum-2 : goal.rebuilt-returns-in_ok-clone-in-Datum-2
+rebuilt-returns-in_ok-clone-in-Datum-2 g t c =
+    let at = g.P.Patterns.tree_of c.args.store.now in
+    let d = c.in-Datum in
+    let params = c.in_ok-params-in-Datum.params in
+    let except = c.in_ok-except-in-Datum.except in
+    let l = c.in_ok-clone-in-Datum.ensures.cases in
+    let x = c.in_ok-clone-in-Datum-2.ensures.cases in
+    let ps = parameters_copied c.deref.result.now params.items c.in_ok-params-in-Datum.ensures.ok ∙ ap parameters_view c.deref.ensures.value in
+    let e = c.in_ok-except-in-Datum.ensures in
+    datum_seen c.in_ok-clone-in-Datum.field-0 c.in_ok-clone-in-Datum-2.field-0 params except
+    ∙ (λ i. datum_of (l i) (x i) (ps i) (e i))
+    ∙ node_of_datum at d.library d.type_name d.params d.except
+    ∙ sym (ap (node_view at) d.is) ∙ c.node.ensures.root
 
 pub rebuilt-returns-in_ok-rebuilt_members-in-Group : goal.rebuilt-returns-in_ok-rebuilt_members-in-Group
 rebuilt-returns-in_ok-rebuilt_members-in-Group g t c =
