@@ -1,14 +1,15 @@
 // The canonical form of a pattern, built in a store (RELAX NG, 4.20 and 4.21).
-ghost use Rattle.std.specs.Prelude.{◌≡◌, All, IfOk, IfSome, IsTrue, None, length, map, option_and_then, slice_index_or};
-ghost use Rattle.std.specs.Option.{option_map_or};
+ghost use Rattle.std.specs.Prelude.{◌≡◌, All, IfOk, IfSome, IsSome, IsTrue, None, Some, length, map, option_and_then, slice_index_or};
+ghost use Rattle.std.specs.Option.{option_map, option_map_or};
 ghost use Rattle.rn_assemble.specs.GrammarView.{definitions_view};
 ghost use Rattle.rn_pattern.specs.Canonical as form;
 ghost use Rattle.rn_pattern.specs.Canonical.{canonical_all, ref_unless_settled};
 ghost use Rattle.rn_pattern.specs.CanonicalShape.{IsCanonicalPattern};
 ghost use Rattle.rn_pattern.specs.Store.{KeepsTrees, StandsFor};
 ghost use Rattle.rn_pattern.specs.Tree as tree;
-ghost use Rattle.rn_pattern.specs.Tree.{Text, trees_of};
+ghost use Rattle.rn_pattern.specs.Tree.{Text, Tree, trees_of};
 ghost use Rattle.rn_pattern.specs.View.{pattern_view, shared_view};
+ghost use Rattle.rn_simplify.specs.Contents.{content_of, members_of};
 ghost use Rattle.rn_simplify.specs.Numbered.{AreKnown, number_of, settled_by};
 
 use indexmap::IndexMap;
@@ -95,33 +96,16 @@ pub(crate) fn canonical<P: Patterns>(
             let except = canonical(alloc, store, settled, except)?;
             store.datum(library, type_name, params, Some(except))
         }
-        Pattern::List(content) => {
+        Pattern::List(content)
+        | Pattern::Attribute(_, content)
+        | Pattern::Element(_, content)
+        | Pattern::OneOrMore(content) => {
             let content = canonical(alloc, store, settled, content)?;
-            store.list(content)
+            over_content(store, pattern, content)
         }
-        Pattern::Attribute(class, content) => {
-            let content = canonical(alloc, store, settled, content)?;
-            store.attribute(class, content)
-        }
-        Pattern::Element(class, content) => {
-            let content = canonical(alloc, store, settled, content)?;
-            store.element(class, content)
-        }
-        Pattern::OneOrMore(content) => {
-            let content = canonical(alloc, store, settled, content)?;
-            store.one_or_more(content)
-        }
-        Pattern::Group(members) => {
+        Pattern::Group(members) | Pattern::Interleave(members) | Pattern::Choice(members) => {
             let members = canonical_members(alloc, store, settled, members)?;
-            store.group(&members)
-        }
-        Pattern::Interleave(members) => {
-            let members = canonical_members(alloc, store, settled, members)?;
-            store.ileave(&members)
-        }
-        Pattern::Choice(members) => {
-            let members = canonical_members(alloc, store, settled, members)?;
-            store.choice(&members)
+            over_members(store, pattern, &members)
         }
     }
 }
@@ -146,4 +130,45 @@ fn canonical_members<P: Patterns>(
         ids.push(id)?;
     }
     Ok(ids)
+}
+
+/// The id of the canonical form of a pattern with a content, by the id of the content's.
+fn over_content<P: Patterns>(
+    store: &mut P,
+    pattern: &Pattern,
+    content: P::Id,
+) -> Result<P::Id, AllocError>
+    requires known { IsTrue (P.knows store.old content) }
+    requires has_content { IsSome (content_of (pattern_view pattern.now)) }
+    ensures made { (settled : Text → Tree) → option_map (form.canonical settled) (content_of (pattern_view pattern.now)) ≡ Some (P.tree_of store.old content)
+        → IfOk result (StandsFor (P.knows store.new) (P.tree_of store.new) (form.canonical settled (pattern_view pattern.now))) }
+    ensures kept { KeepsTrees (P.knows store.old) (P.tree_of store.old) (P.knows store.new) (P.tree_of store.new) }
+{
+    match pattern {
+        Pattern::List(_) => store.list(content),
+        Pattern::Attribute(class, _) => store.attribute(class, content),
+        Pattern::Element(class, _) => store.element(class, content),
+        Pattern::OneOrMore(_) => store.one_or_more(content),
+        _ => unreachable!(),
+    }
+}
+
+/// The id of the canonical form of a list of members, by the ids of the members'.
+fn over_members<P: Patterns>(
+    store: &mut P,
+    pattern: &Pattern,
+    members: &[P::Id],
+) -> Result<P::Id, AllocError>
+    requires known { All (λ i. IsTrue (P.knows store.old i)) members.now }
+    requires has_members { IsSome (members_of (pattern_view pattern.now)) }
+    ensures made { (settled : Text → Tree) → option_map (canonical_all settled) (members_of (pattern_view pattern.now)) ≡ Some (map (P.tree_of store.old) members.now)
+        → IfOk result (StandsFor (P.knows store.new) (P.tree_of store.new) (form.canonical settled (pattern_view pattern.now))) }
+    ensures kept { KeepsTrees (P.knows store.old) (P.tree_of store.old) (P.knows store.new) (P.tree_of store.new) }
+{
+    match pattern {
+        Pattern::Group(_) => store.group(members),
+        Pattern::Interleave(_) => store.ileave(members),
+        Pattern::Choice(_) => store.choice(members),
+        _ => unreachable!(),
+    }
 }

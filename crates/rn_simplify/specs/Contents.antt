@@ -1,0 +1,19 @@
+-- The patterns that stand in a pattern.
+use Rattle.std.specs.Prelude.{Option, Some, None}
+use Rattle.rn_pattern.specs.Tree as t
+use Rattle.rn_pattern.specs.Tree.{Tree, Trees}
+
+-- the content of a list, an attribute, an element or a repetition
+abbrev pub content_of : Tree → Option Tree
+content_of (t.list p) = Some p
+content_of (t.attribute n p) = Some p
+content_of (t.element n p) = Some p
+content_of (t.one_or_more p) = Some p
+content_of p = None
+
+-- the members of a group, an interleave or a choice
+abbrev pub members_of : Tree → Option Trees
+members_of (t.group ps) = Some ps
+members_of (t.interleave ps) = Some ps
+members_of (t.choice ps) = Some ps
+members_of p = None
