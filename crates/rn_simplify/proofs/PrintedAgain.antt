@@ -43,7 +43,7 @@ module _ (one_tree : (ts : Tokens) (m n : t.Module) → HasTree ts m → HasTree
     same_tree m h = one_module_of one_tree (spelling n) m r.tree h is_module
 
     -- the text has no fault
-    no_fault : (f : TextFault) → ¬ HasFault (spelling n) f
+    pub no_fault : (f : TextFault) → ¬ HasFault (spelling n) f
     no_fault encoding h = h r.utf8
     no_fault lexical (u, h) = h r.tokens r.has_tokens
     no_fault deep_brackets (u, (ts, has, e)) = false≢true (sym shallow ∙ r.shallow ∙ ap (λ l. is_some (deep 0 (terminals l))) (sym (same_tokens ts has)) ∙ e)

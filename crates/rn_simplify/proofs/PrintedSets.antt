@@ -3,14 +3,16 @@ use Rattle.std.proofs.Common.{List, subst, arith}
 use Rattle.rn_pattern.specs.Tree.{Text}
 use Rattle.rn_pattern.specs.Reached.{IsCanonicalOf}
 use Rattle.rn_modset.specs.Contributions.{Member}
+use Rattle.rn_syntax.proofs.OneTree.{one_tree}
 use Rattle.rn_assemble.specs.Components.{set_components}
-use Rattle.rn_assemble.specs.Refusal.{grammar_of}
+use Rattle.rn_assemble.specs.Refusal.{HasFault, grammar_of}
 use Rattle.rn_assemble.proofs.ComponentExcepts.{set_excepts}
 use Rattle.rn_assemble.proofs.GoodComponents.{modules_faultless, set_grammar_writable}
 use Rattle.rn_assemble.proofs.NoRefusal.{no_excepts, assembled_well_formed}
 use Rattle.rn_simplify.specs.ReadAgain.{IsReadAgain}
 use Rattle.rn_simplify.specs.Verdict.{IsVerdict, prints}
 use Rattle.rn_simplify.proofs.Binding.{spelling_reads_back}
+use Rattle.rn_simplify.proofs.PrintedAgain.{no_fault}
 use Rattle.rn_simplify.proofs.ReadAgain.{combination_read, read_canonical, read_only, read_well_formed, none_stands}
 use Rattle.rn_simplify.proofs.Spelled.{spellable}
 
@@ -23,7 +25,9 @@ printed_read s text (n, (g, (none, (modules, a, e)), c), short, shallow, is) =
       modules = modules;
       are_modules = a;
       normal = n;
+      canonical = k;
       text_is = is;
+      no_fault = λ f h. no_fault one_tree n r shallow f (subst (λ t. HasFault t f) is h);
       read_back = r;
       same_documents = λ C h. combination_read n r (set_components modules) C (set_excepts modules (no_excepts modules (modules_faultless s modules a))) h k;
       same_normal = read_canonical n r (grammar_of modules) k;

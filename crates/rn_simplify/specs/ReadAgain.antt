@@ -8,19 +8,21 @@ use Rattle.rn_pattern.specs.Reached.{IsCanonicalOf}
 use Rattle.rn_modset.specs.Contributions.{Member}
 use Rattle.rn_assemble.specs.Components.{Source, set_components}
 use Rattle.rn_assemble.specs.Combine.{IsCombination, read}
-use Rattle.rn_assemble.specs.Refusal.{Refusal, AreModules, StandsFor}
+use Rattle.rn_assemble.specs.Refusal.{Refusal, TextFault, AreModules, HasFault, StandsFor, grammar_of}
 use Rattle.rn_assemble.specs.WellFormed.{IsWellFormed}
 use Rattle.rn_simplify.specs.Spelling.{spelling}
 use Rattle.rn_simplify.specs.ReadBack.{IsReadBack}
 
--- the text is that of a canonical grammar and is read back; what is read back is valid for exactly the documents of
--- each combination of the set's components, has that canonical grammar again, and no other, and none of the refusals
--- of modules stands for it
+-- the text is that of the canonical grammar of the set's modules, has no fault, brackets too deep among them, and is
+-- read back; what is read back is valid for exactly the documents of each combination of the set's components, has that
+-- canonical grammar again, and no other, and none of the refusals of modules stands for it
 pub record IsReadAgain (s : List Member) (text : Text) : Type 0 where
   pub modules : List Source
   pub are_modules : AreModules s modules
   pub normal : Grammar
+  pub canonical : IsCanonicalOf (grammar_of modules) normal
   pub text_is : text ≡ spelling normal
+  pub no_fault : (f : TextFault) → ¬ HasFault text f
   pub read_back : IsReadBack normal
   pub same_documents : (C : Grammar) → IsCombination (set_components modules) C → (T : Table) (doc : Item) → IsValid C T doc ↔ IsValid (read read_back.tree) T doc
   pub same_normal : IsCanonicalOf (read read_back.tree) normal

@@ -92,9 +92,9 @@ pub fn one_verdict()
     ensures { (s : List Member) (v w : Verdict) → IsVerdict s v → IsVerdict s w → v ≡ w }
 {}
 
-/// The text that is the verdict of a set is read back: as a module that is valid for exactly the documents of the set's
-/// definitions, combined in any pairs and any order (section 4.17), and that has the same canonical grammar and text
-/// again.
+/// The text that is the verdict of a set is that of its canonical grammar. It has no fault, so it is read back: as a module
+/// that is valid for exactly the documents of the set's definitions, combined in any pairs and any order (section 4.17),
+/// and that has the same canonical grammar and text again.
 pub fn printed_sets_are_read_back()
     ensures { (s : List Member) (text : Text) → IsVerdict s (prints text) → IsReadAgain s text }
 {}
