@@ -276,14 +276,8 @@ pub(crate) fn pattern<'t>(
             let content = pattern(alloc, scope, content)?;
             attribute(alloc, scope, class, content)
         }
-        Pat::List(content) => {
-            let content = pattern(alloc, scope, content)?;
-            list(alloc, content)
-        }
-        Pat::Mixed(content) => {
-            let content = pattern(alloc, scope, content)?;
-            mixed(alloc, content)
-        }
+        Pat::List(content) => list(alloc, pattern(alloc, scope, content)?),
+        Pat::Mixed(content) => mixed(alloc, pattern(alloc, scope, content)?),
         Pat::Empty => boxed(alloc, Pattern::Empty),
         Pat::NotAllowed => boxed(alloc, Pattern::NotAllowed),
         Pat::Text => boxed(alloc, Pattern::Text),
