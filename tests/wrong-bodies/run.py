@@ -4,7 +4,7 @@
 tests/wrong-bodies/run.py [CRATE..]: tries those of these crates, or of all. A crate is checked with wrong bodies of many functions at once, since the
 prover tells of each function by itself whether it is proved. Each must be refused at a goal of its own, and no other function may have an open
 goal. A function that calls one which isn't proved says nothing of its own body: that one is tried in a further check, over what is kept of the
-earlier ones. The crates stand on the libraries that `rt ci` left in crates/*/out.
+earlier ones. The crates stand on the libraries in crates/*/out, as `rt ci` leaves them in a clean checkout.
 tests/wrong-bodies/run.py --stand: only looks whether each text that they change stands once in its file.
 
 A wrong body is a file with a line `file:` and a line `function:`, where it stands and which function must not be proved, and one or more pairs of
