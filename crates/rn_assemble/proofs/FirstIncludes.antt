@@ -7,23 +7,23 @@ use Rattle.std.proofs.lemmas.Bool.{cases_order}
 use Rattle.std.proofs.lemmas.List.{get_or-map, length-map, length_push}
 use Rattle.rn_pattern.specs.Tree.{Text}
 use Rattle.rn_pattern.specs.Order.{text_cmp}
+use Rattle.rn_pattern.specs.Graph.{AllBelow, row, rows_of}
+use Rattle.rn_pattern.specs.Ranks.{HasNoLoop, IsFirstLoop}
 use Rattle.rn_pattern.proofs.InOrder.{text_no_less}
+use Rattle.rn_pattern.proofs.Rows.{AreRows, is_graph, no_rows, row_before, row_behind, rows_pushed}
 use Rattle.rn_syntax.specs.View.{module_view}
 use Rattle.rn_assemble.specs.declared.modules.Source as code
 use Rattle.rn_assemble.specs.Components.{Includes, Source, includes, instance_limit, instances_within, roots}
 use Rattle.rn_assemble.specs.Expanded.{name_at}
-use Rattle.rn_assemble.specs.Graph.{AllBelow, row, rows_of}
 use Rattle.rn_assemble.specs.Included.{AreIncluded}
 use Rattle.rn_assemble.specs.Inclusions.{AreInclusions, IsLeastAmong, IsMissing, entries, included_by}
 use Rattle.rn_assemble.specs.Instances.{instances_of}
-use Rattle.rn_assemble.specs.Order.{HasNoLoop, IsFirstLoop}
 use Rattle.rn_assemble.specs.Refusal.{IsFirstFor, Refusal, StandsFor, Wants, conflict, cycle, faulty, missing, rank, too_many_instances}
 use Rattle.rn_assemble.specs.Views.{module_names, source_view, sources_view}
 use Rattle.rn_assemble.proofs.Entries.{entries_below, entries_named}
 use Rattle.rn_assemble.proofs.Inclusions.{first_cycle, include_stands, included_at, includer, no_cycle, none_missing, not_missing, rise, stands_include, total}
 use Rattle.rn_assemble.proofs.Named.{unmapped}
 use Rattle.rn_assemble.proofs.Numbers.{not_itself}
-use Rattle.rn_assemble.proofs.Rows.{AreRows, is_graph, no_rows, row_before, row_behind, rows_pushed}
 use Rattle.rn_assemble.proofs.WantedNumbers.{found_all, names_rise, numbers}
 
 pub rows_are : (modules : List Source) (rows edges : List (Vec ℕ Global)) → edges ≡ rows → AreInclusions modules (rows_of rows) → AreInclusions modules (rows_of edges)

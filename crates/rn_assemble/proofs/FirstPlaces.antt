@@ -7,11 +7,11 @@ use Rattle.std.proofs.lemmas.Bool.{cases_eq, cases_lt, lt-ltb, le-ltb, eq-eqb, e
 use Rattle.std.proofs.lemmas.List.{get_or_past}
 use Rattle.rn_pattern.specs.Order.{text_cmp}
 use Rattle.rn_pattern.specs.Tree.{Text}
+use Rattle.rn_pattern.specs.Graph.{row}
 use Rattle.rn_pattern.proofs.InOrder.{contained_each, contains_behind, contains_cases, contains_front}
 use Rattle.rn_assemble.specs.declared.components.Body.{Body}
 use Rattle.rn_assemble.specs.Components.{Key, has_key, same_key}
 use Rattle.rn_assemble.specs.Combine.{of_key}
-use Rattle.rn_assemble.specs.Graph.{row}
 use Rattle.rn_assemble.specs.Keyed.{key_at}
 use Rattle.rn_assemble.specs.Listed.{IsLive, Live, ListsBy, Rises, components_in}
 use Rattle.rn_assemble.specs.Patterns.{IsFirstAt, before}

@@ -11,11 +11,11 @@ use Rattle.std.proofs.lemmas.List.{length-map, get_or_default}
 use Rattle.rn_pattern.specs.Tree.{Text, Tree, Trees}
 use Rattle.rn_pattern.specs.Order.{text_cmp}
 use Rattle.rn_pattern.specs.Matching.{definition_of}
+use Rattle.rn_pattern.specs.Graph.{row}
 use Rattle.rn_pattern.proofs.InOrder.{contains_behind, contains_front, contains_cases}
 use Rattle.rn_syntax.specs.Tree.{Declaration, Pattern}
 use Rattle.rn_syntax.specs.View.{pattern_view}
 use Rattle.rn_assemble.specs.Resolve.{resolved}
-use Rattle.rn_assemble.specs.Graph.{row}
 use Rattle.rn_assemble.specs.Components.{Key, name_key, same_key, Component}
 use Rattle.rn_assemble.specs.Combine.{bodies, of_key, combined, joined, joined_grammar}
 use Rattle.rn_assemble.specs.Keyed.{IsNumber, key_at}

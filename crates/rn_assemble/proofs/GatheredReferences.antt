@@ -13,7 +13,9 @@ use Rattle.rn_pattern.specs.Order.{text_cmp}
 use Rattle.rn_pattern.specs.Matching.{Grammar, definition_of}
 use Rattle.rn_pattern.specs.Reached.{RefersTo}
 use Rattle.rn_pattern.specs.References.{RefersOutside, IsUndefined}
-use Rattle.rn_assemble.specs.Graph.{row, rows_of}
+use Rattle.rn_pattern.specs.Graph.{row, rows_of}
+use Rattle.rn_pattern.proofs.FirstLoop.{source_within}
+use Rattle.rn_pattern.proofs.Rows.{row_before, row_behind}
 use Rattle.rn_assemble.specs.Components.{name_key, Component}
 use Rattle.rn_assemble.specs.Combine.{bodies, joined, joined_grammar, defined_names}
 use Rattle.rn_assemble.specs.Keyed.{IsNumber, key_at}
@@ -21,8 +23,6 @@ use Rattle.rn_assemble.specs.Least.{IsLeast}
 use Rattle.rn_assemble.specs.Listed.{Live, ListsBy, components_in}
 use Rattle.rn_assemble.specs.Referred.{AreAllReferences, AreBodiesAt, AreNumbers, IsLeastOf, names_at, references, outer_references}
 use Rattle.rn_assemble.specs.declared.components.Body.{Body}
-use Rattle.rn_assemble.proofs.FirstLoop.{source_within}
-use Rattle.rn_assemble.proofs.Rows.{row_before, row_behind}
 use Rattle.rn_assemble.proofs.JoinedReferences.{refers_of_joined, refers_to_joined, refers_in_definition, outside_of_joined, outside_to_joined, outside_anywhere}
 use Rattle.rn_assemble.proofs.WrittenReferences.{referred, referred_outside}
 use Rattle.rn_assemble.proofs.LeastUndefined.{not_none}

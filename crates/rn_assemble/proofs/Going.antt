@@ -7,6 +7,7 @@ use Rattle.rn_pattern.specs.Tree.{Text}
 use Rattle.rn_pattern.proofs.Ascending.{each_join, each_behind}
 use Rattle.std.specs.List.Sorted.{IsStrictlySortedBy}
 use Rattle.rn_pattern.specs.Order.{text_cmp}
+use Rattle.rn_pattern.specs.Graph.{rows_of}
 use Rattle.rn_syntax.specs.Tree as t
 use Rattle.rn_syntax.specs.Tree.{Declaration}
 use Rattle.rn_assemble.specs.declared.contents.Contents.{Contents}
@@ -16,7 +17,6 @@ use Rattle.rn_assemble.specs.declared.components.Components.{Components}
 use Rattle.rn_assemble.specs.Components.{Component, Source, components_within, handed_on, module_components, overridden}
 use Rattle.rn_assemble.specs.Contained.{AreFlat, Inclusion, inclusions, item_inclusions, Written, written}
 use Rattle.rn_assemble.specs.Listed.{IsContents, IsLive, Live, Lists, ListsBy, resolved_component}
-use Rattle.rn_assemble.specs.Graph.{rows_of}
 use Rattle.rn_assemble.specs.Views.{IsNumbered, inclusion_view, written_view}
 use Rattle.rn_assemble.specs.Expanded.{AddsLive, ContextHolds, ContextsHold, Enters, Expands, KeepsBodies, KeepsLists, StartsAt, included_in, left_by}
 use Rattle.rn_assemble.proofs.LiveLists.{lists_more_bodies, rises_filtered}

@@ -13,17 +13,17 @@ use Rattle.std.proofs.lemmas.Slice.Eq.{bytes_eq-Decides}
 use Rattle.rn_pattern.specs.Tree.{Text}
 use Rattle.rn_pattern.specs.Order.{text_cmp}
 use Rattle.rn_pattern.specs.References.{Reaches, by_one, by_more}
+use Rattle.rn_pattern.specs.Graph.{AllBelow, row}
+use Rattle.rn_pattern.specs.Ranks.{HasNoLoop, IsFirstLoop, Leads, by_edge, and_edge}
 use Rattle.rn_pattern.proofs.InOrder.{contains_behind, contains_front, text_no_less}
+use Rattle.rn_pattern.proofs.FirstLoop.{source_within}
 use Rattle.rn_assemble.specs.Components.{Includes, Source, includes, instances_within, modules_named, roots}
 use Rattle.rn_assemble.specs.Contained.{place_in}
 use Rattle.rn_assemble.specs.Expanded.{name_at}
-use Rattle.rn_assemble.specs.Graph.{AllBelow, row}
 use Rattle.rn_assemble.specs.Inclusions.{AreInclusions, IsMissing, included_by}
 use Rattle.rn_assemble.specs.Instances.{instances_of}
 use Rattle.rn_assemble.specs.Least.{IsLeast}
-use Rattle.rn_assemble.specs.Order.{HasNoLoop, IsFirstLoop, Leads, by_edge, and_edge}
 use Rattle.rn_assemble.specs.Refusal.{Wants}
-use Rattle.rn_assemble.proofs.FirstLoop.{source_within}
 use Rattle.rn_assemble.proofs.ModuleLookups.{none_named, one_named, place_name, place_within}
 use Rattle.rn_assemble.proofs.Named.{mapped, unmapped}
 use Rattle.rn_assemble.proofs.Numbers.{not_itself}

@@ -9,6 +9,7 @@ use Rattle.std.proofs.lemmas.List.{length-append, length-map}
 use Rattle.std.proofs.lemmas.List.Folds.{Any-from_list_any}
 use Rattle.rn_pattern.specs.Tree.{Text}
 use Rattle.rn_pattern.specs.Order.{text_cmp}
+use Rattle.rn_pattern.specs.Graph.{row}
 use Rattle.rn_pattern.proofs.Ascending.{each_behind}
 use Rattle.rn_pattern.proofs.InOrder.{contained_each}
 use Rattle.rn_syntax.specs.Tree.{Declaration}
@@ -19,7 +20,6 @@ use Rattle.rn_assemble.specs.Components.{Component, Source, handed_on, has_key}
 use Rattle.rn_assemble.specs.Combine.{of_key}
 use Rattle.rn_assemble.specs.Contained.{Inclusion}
 use Rattle.rn_assemble.specs.Expanded.{included_in, name_at}
-use Rattle.rn_assemble.specs.Graph.{row}
 use Rattle.rn_assemble.specs.Keyed.{key_at}
 use Rattle.rn_assemble.specs.Listed.{IsLive, Live, ListsBy, Rises, components_in, places_of, resolved_component}
 use Rattle.rn_assemble.specs.Noting.{AtNumbers, IncludedLacks, InclusionLacks, IsOwnLack, Notes, own_lacks}

@@ -10,13 +10,14 @@ use Rattle.std.proofs.lemmas.Cmp.{nat_list_cmp_total}
 use Rattle.std.proofs.lemmas.List.Elements.{Contains-append_left, Contains-push, Contains-push_cases, filter_map-append}
 use Rattle.rn_pattern.specs.Tree.{Text}
 use Rattle.rn_pattern.specs.Order.{text_cmp}
+use Rattle.rn_pattern.specs.Graph.{AllBelow}
 use Rattle.rn_pattern.proofs.InOrder.{contains_behind, contains_cases, contains_front}
+use Rattle.rn_pattern.proofs.Rows.{none_below}
 use Rattle.rn_syntax.specs.Tree as t
 use Rattle.rn_syntax.specs.Tree.{Item, Items}
 use Rattle.rn_assemble.specs.Components.{Source, includes, item_includes}
 use Rattle.rn_assemble.specs.Contained.{place_in}
 use Rattle.rn_assemble.specs.Expanded.{name_at}
-use Rattle.rn_assemble.specs.Graph.{AllBelow}
 use Rattle.rn_assemble.specs.Inclusions.{IsLeastAmong, IsMissing}
 use Rattle.rn_assemble.specs.Referred.{lesser_text}
 use Rattle.rn_assemble.specs.Views.{module_names, sources_view, texts_of}
@@ -25,7 +26,6 @@ use Rattle.rn_assemble.proofs.LeastUndefined.{no_text, texts_more}
 use Rattle.rn_assemble.proofs.Inclusions.{not_missing}
 use Rattle.rn_assemble.proofs.ModuleLookups.{none_named, place_name, place_within}
 use Rattle.rn_assemble.proofs.Numbers.{not_itself}
-use Rattle.rn_assemble.proofs.Rows.{none_below}
 
 -- the literals of includes, in the words of the syntax
 mutual

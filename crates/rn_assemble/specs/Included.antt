@@ -2,7 +2,7 @@
 use Rattle.std.specs.Prelude.{◌≡◌, ℕ, ◌<◌, List, length, map, sum_by}
 use Rattle.rn_pattern.specs.Tree.{Text}
 use Rattle.rn_pattern.specs.References.{Reaches}
-use Rattle.rn_assemble.specs.Graph.{AllBelow}
+use Rattle.rn_pattern.specs.Graph.{AllBelow}
 use Rattle.rn_assemble.specs.Components.{Source, Includes, instance_limit, instances, roots}
 use Rattle.rn_assemble.specs.Refusal.{Wants}
 use Rattle.rn_assemble.specs.Expanded.{name_at}

@@ -3,9 +3,9 @@ use Rattle.std.specs.Prelude.{◌≡◌, ℕ, ◌<◌, ◌==◌, not, List, [], 
 use Rattle.std.specs.List.{concat, list_any, range_with_len}
 use Rattle.rn_pattern.specs.Tree.{Text}
 use Rattle.rn_pattern.specs.Order.{text_cmp}
+use Rattle.rn_pattern.specs.Graph.{IsGraph, row}
 use Rattle.rn_assemble.specs.Components.{Source, includes, modules_named}
 use Rattle.rn_assemble.specs.Expanded.{name_at}
-use Rattle.rn_assemble.specs.Graph.{IsGraph, row}
 use Rattle.rn_assemble.specs.Least.{IsLeast}
 
 -- what the modules of this name include, in the order of the text

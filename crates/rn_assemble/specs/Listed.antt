@@ -2,11 +2,11 @@
 use Rattle.std.specs.Prelude.{ℕ, suc, ◌<◌, ◌≤◌, ◌≡◌, ◌==◌, List, [], ◌∷◌, length, map, filter, slice_index_or, ⊤}
 use Rattle.std.specs.List.{AllByRecursion, AllZip}
 use Rattle.rn_pattern.specs.Tree.{Text}
+use Rattle.rn_pattern.specs.Graph.{row, rows_of}
 use Rattle.rn_syntax.specs.Tree.{Declaration}
 use Rattle.rn_assemble.specs.declared.contents.Contents.{Contents}
 use Rattle.rn_assemble.specs.declared.components.Body.{Body}
 use Rattle.rn_assemble.specs.declared.components.Components.{Components}
-use Rattle.rn_assemble.specs.Graph.{row, rows_of}
 use Rattle.rn_assemble.specs.Resolve.{resolved}
 use Rattle.rn_assemble.specs.Bound.{BindsAs}
 use Rattle.rn_assemble.specs.Components.{Component, Source}

@@ -12,7 +12,7 @@ use Rattle.rn_pattern.specs.References.{RefersOutside, IsUndefined, IsRecursive}
 use Rattle.rn_syntax.specs.View.{pattern_view}
 use Rattle.rn_syntax.specs.Tree as t
 use Rattle.rn_syntax.specs.Tree.{Pattern, Patterns}
-use Rattle.rn_assemble.specs.Graph.{row}
+use Rattle.rn_pattern.specs.Graph.{row}
 use Rattle.rn_assemble.specs.Components.{Component}
 use Rattle.rn_assemble.specs.Combine.{joined, joined_grammar}
 use Rattle.rn_assemble.specs.Keyed.{IsNumber, key_at}

@@ -17,11 +17,11 @@ ghost use Rattle.rn_assemble.specs.Methods.{IsLeastNumber, is_method};
 
 use crate::components::{Body, Components};
 use crate::keys::Keys;
-use crate::name_classes::keeps_name_rules;
 use crate::nodes::{boxed, choice, interleave, shared};
 use crate::refusal::Refusal;
 use crate::resolution::pattern;
 use rn_pattern::Pattern;
+use rn_pattern::name_classes::keeps_name_rules;
 use rn_syntax::Method;
 use std::alloc::{AllocError, Global};
 use std::rc::Rc;

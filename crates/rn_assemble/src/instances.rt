@@ -1,10 +1,10 @@
 // The number of instances of a module, counted no further than a limit.
 
 ghost use Rattle.std.specs.Prelude.{◌≡◌, ℕ, ◌+◌, ◌<◌, ◌≤◌, length, min};
-ghost use Rattle.rn_assemble.specs.Graph.{IsGraph, rows_of};
+ghost use Rattle.rn_pattern.specs.Graph.{IsGraph, rows_of};
 ghost use Rattle.rn_assemble.specs.Instances.{instances_of};
 
-use crate::graph::row_at;
+use rn_pattern::graph::row_at;
 
 /// How many instances a module has, but at most `most`.
 pub fn instances_up_to(edges: &[Vec<usize>], node: usize, most: usize) -> usize

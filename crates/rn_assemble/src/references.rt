@@ -12,13 +12,13 @@ ghost use Rattle.rn_assemble.specs.Listed.{Lists, Live, components_in};
 ghost use Rattle.rn_assemble.specs.Referred.{AreAllReferences, AreNumbers, AreBodiesAt, IsFresh, IsLeastOf, IsLeastRecursive, IsLeastUndefined, IsLooked, lesser_text, names_at, references, all_references, outer_references, all_outer_references};
 ghost use Rattle.rn_assemble.specs.Views.{names_of, texts_of};
 ghost use Rattle.rn_pattern.specs.Matching.{definition_of};
-ghost use Rattle.rn_assemble.specs.Graph.{AllBelow, IsGraph, is_marked, row, rows_of};
+ghost use Rattle.rn_pattern.specs.Graph.{AllBelow, IsGraph, is_marked, row, rows_of};
 
 use crate::components::Components;
-use crate::graph::{reached, row_at};
 use crate::keys::{Keys, START};
-use crate::order::least_looped;
 use crate::refusal::Refusal;
+use rn_pattern::graph::{reached, row_at};
+use rn_pattern::ranks::least_looped;
 use rn_syntax::Pat;
 use std::alloc::{AllocError, Global};
 
@@ -193,7 +193,7 @@ fn least_undefined<'s>(
 }
 
 /// The numbers of the names.
-#[tactic(auto, using(crate::proofs::Rows::none_below, crate::proofs::Rows::below_push))]
+#[tactic(auto, using(rn_pattern::proofs::Rows::none_below, rn_pattern::proofs::Rows::below_push))]
 fn numbers<'s>(alloc: Global, keys: &Keys<'s>, names: &[&'s str]) -> Result<Vec<usize>, AllocError>
     ensures within { IfOk result (λ numbers. AllBelow (vec_len keys.now.names + 1) numbers.items) }
     ensures are { IsStrictlySortedBy text_cmp (names_of keys.now) → IfOk result (λ numbers. AreNumbers (names_of keys.now) (texts_of names.now) numbers.items) }

@@ -38,3 +38,11 @@ pub mod Seen
 pub mod ShownTrees
 pub mod Sharing
 pub mod PatternKinds
+pub mod Marking
+mod Walking
+pub mod Rows
+mod Each
+mod Rising
+mod Grouping
+mod Closing
+pub mod FirstLoop

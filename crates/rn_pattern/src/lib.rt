@@ -5,19 +5,26 @@
 //! `notAllowed` and `empty` are propagated (4.20, 4.21), nested lists are joined, and the members of a choice or an
 //! interleave are put in one order. [`Plain`] keeps each pattern that it is asked for; in [`Interned`] equal patterns
 //! have equal ids.
+//!
+//! [`name_classes`] has the restrictions on name classes (4.16). [`graph`] and [`ranks`] walk graphs whose nodes are numbers:
+//! definitions and what they refer to, modules and what they include.
 #![tactic(auto)]
 
 mod canonical;
 mod connector;
+pub mod graph;
 pub mod interned;
 mod key;
+mod loops;
 mod name_class;
+pub mod name_classes;
 pub mod node;
 mod node_table;
 mod order;
 mod parts;
 pub mod patterns;
 pub mod plain;
+pub mod ranks;
 mod store;
 pub mod tree;
 

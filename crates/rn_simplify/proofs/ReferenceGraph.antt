@@ -10,7 +10,7 @@ use Rattle.std.proofs.lemmas.List.Quantifiers.{position-Some}
 use Rattle.rn_pattern.specs.Tree.{Text, Tree, not_allowed}
 use Rattle.rn_pattern.specs.Matching.{Grammar}
 use Rattle.rn_pattern.specs.Reached.{IsReached, by_start, by_definition}
-use Rattle.rn_assemble.specs.Graph.{AllBelow, IsGraph, Reached, at_first, along, row}
+use Rattle.rn_pattern.specs.Graph.{AllBelow, IsGraph, Reached, at_first, along, row}
 use Rattle.rn_simplify.specs.Numbered.{graph_of, number_of, numbers_of, rows_by, start_of}
 use Rattle.rn_simplify.specs.Referred.{Scope, references}
 use Rattle.rn_simplify.specs.declared.references.Scope.TheVariants.{Everywhere}

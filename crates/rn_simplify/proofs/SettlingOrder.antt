@@ -17,9 +17,9 @@ use Rattle.rn_pattern.specs.declared.tree.Pattern.{Pattern}
 use Rattle.rn_pattern.specs.Matching.{Grammar, definition_of}
 use Rattle.rn_pattern.specs.Reached.{RefersTo, IsReached, by_start, by_definition}
 use Rattle.rn_pattern.specs.References.{RefersOutside, Reaches, by_one, by_more, LeadsTo}
-use Rattle.rn_assemble.specs.Graph.{AllBelow, IsGraph, is_marked, row, rows_of}
+use Rattle.rn_pattern.specs.Graph.{AllBelow, IsGraph, is_marked, row, rows_of}
+use Rattle.rn_pattern.specs.Ranks.{Leads, by_edge, and_edge, rank_of, IsRanking}
 use Rattle.rn_assemble.specs.GrammarView.{definitions_view}
-use Rattle.rn_assemble.specs.Order.{Leads, by_edge, and_edge, rank_of, IsRanking}
 use Rattle.rn_assemble.specs.WellFormed.{IsWellFormed}
 use Rattle.rn_simplify.specs.Marked.{ArePlaces}
 use Rattle.rn_simplify.specs.Numbered.{MarksReached, number_of, numbers_of}

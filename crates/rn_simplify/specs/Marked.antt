@@ -1,7 +1,7 @@
 -- The elements of a list that have a mark.
 use Rattle.std.specs.Prelude.{◌≡◌, ℕ, Bool, true, List, [], ◌∷◌, cond, Contains, nat_eq}
 use Rattle.std.specs.List.{IsDistinct}
-use Rattle.rn_assemble.specs.Graph.{is_marked}
+use Rattle.rn_pattern.specs.Graph.{is_marked}
 
 abbrev pub marked : {X : Type 0} → List Bool → List X → List X
 marked [] xs = []

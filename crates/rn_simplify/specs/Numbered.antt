@@ -5,7 +5,7 @@ use Rattle.std.specs.Option.{option_map_or}
 use Rattle.std.specs.Map.{lookup}
 use Rattle.rn_pattern.specs.Tree.{Text, Tree, ref}
 use Rattle.rn_pattern.specs.Matching.{Grammar}
-use Rattle.rn_assemble.specs.Graph.{Reached, is_marked}
+use Rattle.rn_pattern.specs.Graph.{Reached, is_marked}
 use Rattle.rn_pattern.specs.Canonical.{canonical, ref_unless_settled}
 use Rattle.rn_simplify.specs.Referred.{Scope, references}
 use Rattle.rn_simplify.specs.declared.references.Scope.TheVariants.{Everywhere}

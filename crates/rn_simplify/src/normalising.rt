@@ -1,7 +1,7 @@
 // From a grammar to its canonical form.
 ghost use Rattle.std.specs.Prelude.{◌≡◌, ◌<◌, ℕ, All, IfOk, IfSome, OnOk, bytes_eq, length, map, slice_index_or};
 ghost use Rattle.std.specs.List.{IsDistinct};
-ghost use Rattle.rn_assemble.specs.Graph.{AllBelow};
+ghost use Rattle.rn_pattern.specs.Graph.{AllBelow};
 ghost use Rattle.rn_assemble.specs.GrammarView.{definitions_view, grammar_view};
 ghost use Rattle.rn_assemble.specs.WellFormed.{IsWellFormed};
 ghost use Rattle.rn_pattern.specs.Canonical as form;

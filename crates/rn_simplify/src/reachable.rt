@@ -2,7 +2,7 @@
 ghost use Rattle.std.specs.Prelude.{◌≡◌, IfOk, drop, length, map, bytes_eq};
 ghost use Rattle.std.specs.List.{IsDistinct};
 ghost use Rattle.std.specs.Slice.Iter.{iter_rest};
-ghost use Rattle.rn_assemble.specs.Graph.{is_marked, rows_of};
+ghost use Rattle.rn_pattern.specs.Graph.{is_marked, rows_of};
 ghost use Rattle.rn_assemble.specs.GrammarView.{definitions_view};
 ghost use Rattle.rn_pattern.specs.Reached.{IsPruned};
 ghost use Rattle.rn_pattern.specs.View.{pattern_view};
@@ -12,8 +12,8 @@ ghost use Rattle.rn_simplify.specs.declared.references.Scope.TheVariants.{Everyw
 
 use crate::references::{Scope, referred};
 use indexmap::IndexMap;
-use rn_assemble::graph::reached;
 use rn_pattern::Pattern;
+use rn_pattern::graph::reached;
 use std::alloc::{AllocError, Global};
 
 /// The forms that the start reaches, in the order of their names. The forms have the names of the definitions, in their

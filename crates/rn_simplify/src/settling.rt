@@ -1,7 +1,7 @@
 // The definitions of a grammar in an order in which each comes after those that it refers to outside elements (RELAX NG, 4.19).
 ghost use Rattle.std.specs.Prelude.{◌≡◌, ◌<◌, [], ℕ, IfOk, length, cond, slice_index_or};
-ghost use Rattle.rn_assemble.specs.Graph.{AllBelow, IsGraph, is_marked, row, rows_of};
-ghost use Rattle.rn_assemble.specs.Order.{HasNoLoop, IsRanking};
+ghost use Rattle.rn_pattern.specs.Graph.{AllBelow, IsGraph, is_marked, row, rows_of};
+ghost use Rattle.rn_pattern.specs.Ranks.{HasNoLoop, IsRanking};
 ghost use Rattle.rn_assemble.specs.GrammarView.{definitions_view, grammar_view};
 ghost use Rattle.rn_assemble.specs.WellFormed.{IsWellFormed};
 ghost use Rattle.rn_pattern.specs.Tree.{Text, Tree};
@@ -15,9 +15,9 @@ ghost use Rattle.rn_simplify.specs.declared.references.Scope.TheVariants.{Everyw
 use crate::references::{Scope, referred};
 use indexmap::IndexMap;
 use rn_assemble::Grammar;
-use rn_assemble::graph::reached;
-use rn_assemble::order::{Order, ranks};
 use rn_pattern::Pattern;
+use rn_pattern::graph::reached;
+use rn_pattern::ranks::{Order, ranks};
 use std::alloc::{AllocError, Global};
 
 /// The body of the definition with a number.

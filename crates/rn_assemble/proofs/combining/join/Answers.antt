@@ -1,7 +1,7 @@
 use Rattle.std.proofs.Common.{◌<◌, ℕ, List, get_or, length, sym, ap, ◌∙◌, subst, arith}
 use Rattle.std.proofs.lemmas.Result.{MatchResult-weaker}
 use Rattle.rn_pattern.specs.NameRules.{KeepsNameRules}
-use Rattle.rn_assemble.specs.Graph.{rows_of}
+use Rattle.rn_pattern.specs.Graph.{rows_of}
 use Rattle.rn_assemble.specs.Keyed.{key_at}
 use Rattle.rn_assemble.specs.Listed.{components_in}
 use Rattle.rn_assemble.specs.Refusal.{BreaksNameRules}

@@ -1,9 +1,9 @@
 use Rattle.std.proofs.Common.{◌≡◌, ◌+◌, List, [], None, length, take}
 use Rattle.std.specs.Prelude.{flat_map}
 use Rattle.rn_pattern.specs.Tree.{Text}
+use Rattle.rn_pattern.specs.Graph.{AllBelow}
 use Rattle.rn_assemble.specs.Components.{Source, components}
 use Rattle.rn_assemble.specs.Expanded.{CanList, ContextsHold, name_at}
-use Rattle.rn_assemble.specs.Graph.{AllBelow}
 use Rattle.rn_assemble.specs.Lacking.{LacksFrom}
 use Rattle.rn_assemble.specs.Listed.{Live, Lists, components_in}
 use Rattle.rn_assemble.specs.Noting.{AtNumbers, Notes}

@@ -5,7 +5,7 @@ use Rattle.std.proofs.lemmas.Bool.{lt-ltb, ltb-true}
 use Rattle.std.proofs.lemmas.List.{take_all}
 use Rattle.std.proofs.lemmas.List.Elements.{Contains-get_or}
 use Rattle.std.proofs.lemmas.List.Sums.{sum_by_more}
-use Rattle.rn_assemble.specs.Graph.{rows_of}
+use Rattle.rn_pattern.specs.Graph.{rows_of}
 use Rattle.rn_assemble.specs.Instances.{instances_of}
 use Rattle.rn_assemble.proofs.inclusion.has_too_many_instances.Goals as goal
 

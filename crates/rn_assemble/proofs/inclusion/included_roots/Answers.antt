@@ -4,18 +4,18 @@ use Rattle.std.specs.Prelude.{IfSome, MatchOption, sum_by}
 use Rattle.std.specs.declared.alloc.Global.{Global}
 use Rattle.std.proofs.lemmas.Bool.{false≢true}
 use Rattle.std.proofs.lemmas.List.{length-map}
+use Rattle.rn_pattern.specs.Graph.{AllBelow, rows_of}
+use Rattle.rn_pattern.specs.Ranks.{HasNoLoop, IsFirstLoop}
+use Rattle.rn_pattern.proofs.Rows.{below_still}
 use Rattle.rn_assemble.specs.declared.modules.Source.{Source}
 use Rattle.rn_assemble.specs.Components.{instance_limit}
-use Rattle.rn_assemble.specs.Graph.{AllBelow, rows_of}
 use Rattle.rn_assemble.specs.Included.{AreIncluded}
 use Rattle.rn_assemble.specs.Inclusions.{entries}
 use Rattle.rn_assemble.specs.Instances.{instances_of}
-use Rattle.rn_assemble.specs.Order.{HasNoLoop, IsFirstLoop}
 use Rattle.rn_assemble.specs.Refusal.{IsFirstFor, cycle}
 use Rattle.rn_assemble.specs.Views.{source_view, sources_view}
 use Rattle.rn_assemble.proofs.Entries.{entries_below}
 use Rattle.rn_assemble.proofs.FirstIncludes.{all_included, first_loop, name_seen, rows_are, too_many}
-use Rattle.rn_assemble.proofs.Rows.{below_still}
 use Rattle.rn_assemble.proofs.inclusion.included_roots.Goals as goal
 
 pub least_looped-requires : goal.least_looped-requires

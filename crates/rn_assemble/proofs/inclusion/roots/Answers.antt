@@ -5,7 +5,7 @@ use Rattle.std.specs.declared.alloc.Global.{Global}
 use Rattle.std.proofs.lemmas.Iterator.{items_from_collect, YieldsList-from_slice}
 use Rattle.std.proofs.lemmas.Iterator.Consumers.{YieldsList-at, YieldsList-from_enumerate, YieldsList-from_filter_map}
 use Rattle.std.proofs.lemmas.List.{length-map}
-use Rattle.rn_assemble.specs.Graph.{rows_of}
+use Rattle.rn_pattern.specs.Graph.{rows_of}
 use Rattle.rn_assemble.proofs.EntryMarks.{number, unmarked_entries}
 use Rattle.rn_assemble.proofs.inclusion.roots.Goals as goal
 

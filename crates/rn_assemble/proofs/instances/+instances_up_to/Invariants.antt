@@ -1,4 +1,4 @@
-use Rattle.rn_assemble.specs.Graph.{rows_of}
+use Rattle.rn_pattern.specs.Graph.{rows_of}
 use Rattle.rn_assemble.proofs.Counting.{CountsTo}
 use Rattle.rn_assemble.proofs.instances.+instances_up_to.Given as goal
 

@@ -1,11 +1,11 @@
 use Rattle.std.proofs.Common.{◌≡◌, ℕ, List, Vec, ap, length, sym, subst, ◌∙◌, cond, []}
 use Rattle.std.specs.declared.alloc.Global.{Global}
-use Rattle.rn_assemble.specs.Graph.{AllBelow, Reached, is_marked, row, rows_of}
+use Rattle.rn_pattern.specs.Graph.{AllBelow, Reached, is_marked, row, rows_of}
 use Rattle.std.specs.Prelude.{Decides, MatchOption}
 use Rattle.std.proofs.lemmas.Result.{IfOk-weaker}
-use Rattle.rn_assemble.specs.Order.{HasNoLoop, IsFirstLoop}
+use Rattle.rn_pattern.specs.Ranks.{HasNoLoop, IsFirstLoop}
+use Rattle.rn_pattern.proofs.Rows.{graph_still, row_within}
 use Rattle.rn_assemble.proofs.NumberedReferences.{least}
-use Rattle.rn_assemble.proofs.Rows.{graph_still, row_within}
 use Rattle.rn_assemble.proofs.references.least_recursive.Goals as goal
 
 pub reached-requires-clause-graph : goal.reached-requires-clause-graph

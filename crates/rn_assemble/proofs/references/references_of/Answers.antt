@@ -3,12 +3,12 @@ use Rattle.std.proofs.Common.{◌≡◌, ◌<◌, suc, flat_map, length, refl, a
 use Rattle.std.proofs.lemmas.List.{length_push, length-map}
 use Rattle.rn_pattern.specs.Reached.{RefersTo}
 use Rattle.rn_pattern.specs.References.{RefersOutside}
-use Rattle.rn_assemble.specs.Graph.{row, rows_of}
+use Rattle.rn_pattern.specs.Graph.{row, rows_of}
+use Rattle.rn_pattern.proofs.Rows.{rows_pushed, is_graph, no_rows}
 use Rattle.rn_assemble.specs.Listed.{components_in}
 use Rattle.rn_assemble.specs.Referred.{AreBodiesAt, names_at, outer_references, references}
 use Rattle.rn_assemble.specs.Views.{names_of}
 use Rattle.rn_assemble.proofs.Looking.{none_looked}
-use Rattle.rn_assemble.proofs.Rows.{rows_pushed, is_graph, no_rows}
 use Rattle.rn_assemble.proofs.GatheredReferences.{Gathered, row_of, gathered_begins, gathered_more, gathered_none, gathered_some, names_anywhere, names_outside}
 use Rattle.rn_assemble.proofs.references.references_of.Goals as goal
 

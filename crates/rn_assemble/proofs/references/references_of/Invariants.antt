@@ -2,11 +2,11 @@
 use Rattle.std.proofs.Common.{◌≡◌, ◌+◌, List, length, option_map, vec_len}
 use Rattle.std.specs.List.Sorted.{IsStrictlySortedBy}
 use Rattle.rn_pattern.specs.Order.{text_cmp}
-use Rattle.rn_assemble.specs.Graph.{rows_of}
+use Rattle.rn_pattern.specs.Graph.{rows_of}
+use Rattle.rn_pattern.proofs.Rows.{AreRows}
 use Rattle.rn_assemble.specs.Listed.{Lists, Live, components_in}
 use Rattle.rn_assemble.specs.Referred.{IsFresh}
 use Rattle.rn_assemble.specs.Views.{names_of}
-use Rattle.rn_assemble.proofs.Rows.{AreRows}
 use Rattle.rn_assemble.proofs.GatheredReferences.{Gathered}
 use Rattle.rn_assemble.proofs.references.references_of.Given as goal
 

@@ -5,7 +5,7 @@ use Rattle.std.specs.Prelude.{Contains, Decides}
 use Rattle.std.specs.declared.alloc.Global.{Global}
 use Rattle.rn_pattern.specs.Matching.{Grammar}
 use Rattle.rn_pattern.specs.View.{pattern_view}
-use Rattle.rn_assemble.specs.Graph.{IsGraph, Reached, is_marked, rows_of}
+use Rattle.rn_pattern.specs.Graph.{IsGraph, Reached, is_marked, rows_of}
 use Rattle.rn_assemble.specs.GrammarView.{definitions_view}
 use Rattle.rn_simplify.specs.Numbered.{graph_of, start_of, rows_by}
 use Rattle.rn_simplify.specs.Referred.{references}

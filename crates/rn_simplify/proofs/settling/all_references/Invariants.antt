@@ -1,6 +1,6 @@
 use Rattle.std.proofs.Common.{◌≡◌, map}
 use Rattle.std.specs.Map.Iter.{deref_pair}
-use Rattle.rn_assemble.specs.Graph.{rows_of}
+use Rattle.rn_pattern.specs.Graph.{rows_of}
 use Rattle.rn_assemble.specs.GrammarView.{definitions_view}
 use Rattle.rn_simplify.specs.Numbered.{rows_by}
 use Rattle.rn_simplify.specs.declared.references.Scope.TheVariants.{Everywhere}

@@ -1,6 +1,6 @@
 use Rattle.std.proofs.Common.{cond, []}
 use Rattle.std.specs.Prelude.{slice_index_or}
-use Rattle.rn_assemble.specs.Graph.{is_marked}
+use Rattle.rn_pattern.specs.Graph.{is_marked}
 use Rattle.rn_assemble.specs.GrammarView.{definitions_view}
 use Rattle.rn_simplify.specs.Numbered.{numbers_of}
 use Rattle.rn_simplify.specs.Referred.{references}

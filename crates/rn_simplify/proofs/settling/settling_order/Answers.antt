@@ -1,9 +1,9 @@
 use Rattle.std.proofs.Common.{subst, rules}
 use Rattle.std.specs.List.Sorted.{IsNonDecreasingBy}
 use Rattle.std.proofs.lemmas.List.Sorted.{IsNonDecreasingBy-from_sort_by_key}
-use Rattle.rn_assemble.specs.Graph.{rows_of}
+use Rattle.rn_pattern.specs.Graph.{rows_of}
+use Rattle.rn_pattern.specs.Ranks.{rank_of}
 use Rattle.rn_assemble.specs.GrammarView.{grammar_view}
-use Rattle.rn_assemble.specs.Order.{rank_of}
 use Rattle.rn_simplify.specs.Marked.{ArePlaces}
 use Rattle.rn_simplify.proofs.SettlingOrder.{places_below, outs_graph, no_leads, settling_order_is, outside_size, outside_rows}
 use Rattle.rn_simplify.proofs.settling.settling_order.Goals as goal

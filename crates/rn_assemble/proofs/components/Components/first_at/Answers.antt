@@ -1,7 +1,7 @@
 use Rattle.std.proofs.Common.{◌≡◌, ◌<◌, Some, inl, inr, sym, ap, ◌∙◌, subst, arith}
 use Rattle.std.specs.Prelude.{slice_get, true}
+use Rattle.rn_pattern.specs.Graph.{row, rows_of}
 use Rattle.rn_assemble.specs.Components.{has_key}
-use Rattle.rn_assemble.specs.Graph.{row, rows_of}
 use Rattle.rn_assemble.specs.Keyed.{key_at}
 use Rattle.rn_assemble.specs.Listed.{components_in}
 use Rattle.rn_assemble.specs.Patterns.{IsFirstAt, before}

@@ -1,5 +1,5 @@
 use Rattle.std.proofs.Common.{◌≡◌, ◌-◌, ◌<◌, ◌≤◌, ℕ, List, length, get_or, sym, subst, arith}
-use Rattle.rn_assemble.specs.Graph.{row, rows_of}
+use Rattle.rn_pattern.specs.Graph.{row, rows_of}
 use Rattle.rn_assemble.proofs.OwnLacks.{since_last, since_none}
 use Rattle.rn_assemble.proofs.components.Components.has_since.Goals as goal
 

@@ -4,9 +4,9 @@ use Rattle.std.proofs.lemmas.Bool.{false≢true}
 use Rattle.std.proofs.lemmas.List.{take_all}
 use Rattle.std.proofs.lemmas.List.Sums.{count_by_more_yes, count_by_more_no, sum_by-take-drop}
 use Rattle.rn_syntax.specs.declared.token.Method.TheVariants.{Plain}
+use Rattle.rn_pattern.specs.Graph.{rows_of}
 use Rattle.rn_assemble.specs.Components.{Component}
 use Rattle.rn_assemble.specs.Combine.{is_plain}
-use Rattle.rn_assemble.specs.Graph.{rows_of}
 use Rattle.rn_assemble.proofs.UsedMethods.{at_row, row_size, parts, found_method}
 use Rattle.rn_assemble.proofs.components.Components.is_plain_twice.Goals as goal
 use Rattle.rn_assemble.proofs.components.Components.is_plain_twice.Goals.{then-eq+else-is_plain, else-eq}

@@ -1,5 +1,5 @@
 use Rattle.std.proofs.Common.{◌≡◌, ℕ, [], length}
-use Rattle.rn_assemble.specs.Graph.{row, rows_of}
+use Rattle.rn_pattern.specs.Graph.{row, rows_of}
 use Rattle.rn_assemble.proofs.components.Components.new.Given as goal
 
 abbrev pub invariant-loop : goal.invariant-loop

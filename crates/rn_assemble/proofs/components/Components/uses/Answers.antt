@@ -1,8 +1,8 @@
 use Rattle.std.proofs.Common.{◌≡◌, ◌<◌, ◌≤◌, ℕ, true, false, List, length, get_or, sym, ap, ◌∙◌, subst, arith}
 use Rattle.std.specs.List.{list_any}
 use Rattle.std.proofs.lemmas.List.{take_all}
+use Rattle.rn_pattern.specs.Graph.{rows_of}
 use Rattle.rn_assemble.specs.Components.{Component}
-use Rattle.rn_assemble.specs.Graph.{rows_of}
 use Rattle.rn_assemble.specs.Methods.{is_method}
 use Rattle.rn_assemble.proofs.UsedMethods.{at_row, row_size, parts, any_found, any_more, found_method}
 use Rattle.rn_assemble.proofs.components.Components.uses.Goals as goal

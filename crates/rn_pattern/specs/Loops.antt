@@ -1,0 +1,93 @@
+-- A search for the nodes of a graph that come back to themselves. The nodes that are met stand on a stack, in groups of nodes that lead to one
+-- another (strongly connected ones); each node on the stack leads to all behind it. A group is closed when no edge is left that might join it to another.
+use Rattle.std.specs.Prelude.{◌≡◌, ℕ, ◌+◌, ◌<◌, ◌≤◌, ◌⊎◌, List, length, slice_index_or, take, sum_by, sum, Contains, Option, Some, None}
+use Rattle.rn_pattern.specs.Graph.{row}
+use Rattle.rn_pattern.specs.Ranks.{Leads, EndsWith}
+use Rattle.rn_pattern.specs.declared.loops.Search.{Search}
+use Rattle.rn_pattern.specs.declared.loops.Stage.{Stage}
+use Rattle.rn_pattern.specs.declared.loops.Stage.TheVariants.{New, Open, Closed}
+
+abbrev pub node_at : List ℕ → ℕ → ℕ
+node_at stack i = slice_index_or stack i 0
+
+abbrev pub place_of : List (Option ℕ) → ℕ → Option ℕ
+place_of places x = slice_index_or places x None
+
+-- the second node is the first, or is reached from it
+abbrev pub Comes : List (List ℕ) → ℕ → ℕ → Type 0
+Comes rows x y = (x ≡ y) ⊎ Leads rows x y
+
+-- no group begins behind the place j and up to the place i
+abbrev pub IsNear : List ℕ → ℕ → ℕ → Type 0
+IsNear bounds i j = (c : ℕ) → Contains bounds c → j < c → i < c
+
+-- the node was met, and its group is closed
+abbrev pub IsClosed : List (Option ℕ) → List ℕ → ℕ → Type 0
+IsClosed places stack x = (p : ℕ) × (place_of places x ≡ Some p) × (Contains stack x → ⊥)
+
+-- the node is closed, or stands on the stack near the place i
+abbrev pub IsSettled : List (Option ℕ) → (stack bounds : List ℕ) → ℕ → ℕ → Type 0
+IsSettled places stack bounds i y = IsClosed places stack y ⊎ ((j : ℕ) × (j < length stack) × (node_at stack j ≡ y) × IsNear bounds i j)
+
+-- the least of the nodes of P that come back to themselves, if there is one
+abbrev pub IsLeastLooped : List (List ℕ) → (ℕ → Type 0) → Option ℕ → Type 0
+IsLeastLooped rows P None = (x : ℕ) → P x → ¬ Leads rows x x
+IsLeastLooped rows P (Some m) = Leads rows m m × ((x : ℕ) → P x → Leads rows x x → m ≤ x)
+
+abbrev pub Rises : List ℕ → Type 0
+Rises xs = (i j : ℕ) → i < j → j < length xs → slice_index_or xs i 0 < slice_index_or xs j 0
+
+pub record GroupingBy (rows : List (List ℕ)) (places : List (Option ℕ)) (left stack path bounds : List ℕ) (least : Option ℕ) : Type 0 where
+  pub places_size : length places ≡ length rows
+  pub left_size : length left ≡ length rows
+  pub left_within : (x : ℕ) → slice_index_or left x 0 ≤ length (row rows x)
+  pub fresh : (x : ℕ) → place_of places x ≡ None → slice_index_or left x 0 ≡ length (row rows x)
+  pub placed : (i : ℕ) → i < length stack → place_of places (node_at stack i) ≡ Some i
+  pub path_within : (p : ℕ) → Contains path p → p < length stack
+  pub path_rises : Rises path
+  pub on_path : (i : ℕ) → i < length stack → 0 < slice_index_or left (node_at stack i) 0 → Contains path i
+  pub bounds_within : (c : ℕ) → Contains bounds c → c < length stack
+  pub bounds_rise : Rises bounds
+  pub first_bound : slice_index_or bounds 0 0 ≡ 0
+  pub bounded : 0 < length stack → 0 < length bounds
+  pub leads : (i j : ℕ) → i < length stack → j < length stack → IsNear bounds i j → Comes rows (node_at stack i) (node_at stack j)
+  pub looked : (i k : ℕ) → i < length stack → slice_index_or left (node_at stack i) 0 ≤ k → k < length (row rows (node_at stack i)) → IsSettled places stack bounds i (slice_index_or (row rows (node_at stack i)) k 0)
+  pub closed : (x y : ℕ) → IsClosed places stack x → Contains (row rows x) y → IsClosed places stack y
+  pub least_is : IsLeastLooped rows (IsClosed places stack) least
+
+abbrev pub Grouping : List (List ℕ) → Search → Type 0
+Grouping rows s = GroupingBy rows s.places.items s.left.items s.stack.items s.path.items s.bounds.items s.least
+
+-- what is still to do: a step for each edge, for each node on the stack and on the path, three for a new node
+abbrev pub weight : Option ℕ → ℕ
+weight None = 3
+weight (Some p) = 0
+
+abbrev pub work : Search → ℕ
+work s = sum s.left.items + sum_by weight s.places.items + length s.stack.items + length s.path.items
+
+-- what a part of the search leaves: a search, in which no node is new that was not
+pub record GroupsOn (rows : List (List ℕ)) (old now : Search) : Type 0 where
+  pub grouping : Grouping rows now
+  pub kept : (x : ℕ) → (place_of old.places.items x ≡ None → ⊥) → place_of now.places.items x ≡ None → ⊥
+
+-- how far a node is
+abbrev pub IsStage : List (Option ℕ) → List ℕ → ℕ → Stage → Type 0
+IsStage places stack x New = place_of places x ≡ None
+IsStage places stack x (Open p) = (p < length stack) × (node_at stack p ≡ x)
+IsStage places stack x Closed = IsClosed places stack x
+
+-- each node on the stack leads to the node
+abbrev pub AllLead : List (List ℕ) → List ℕ → ℕ → Type 0
+AllLead rows stack x = (i : ℕ) → i < length stack → Leads rows (node_at stack i) x
+
+-- the last place of the path, if it is not before the place
+abbrev pub IsAtWork : List ℕ → ℕ → Option ℕ → Type 0
+IsAtWork path begin None = (p : ℕ) → Contains path p → p < begin
+IsAtWork path begin (Some p) = (begin ≤ p) × EndsWith path p
+
+-- all groups that begin behind the place are joined to the one before
+pub record IsJoined (old now : List ℕ) (place : ℕ) : Type 0 where
+  pub front : (n : ℕ) × (now ≡ take n old)
+  pub kept : (c : ℕ) → Contains old c → c ≤ place → Contains now c
+  pub within : (c : ℕ) → Contains now c → c ≤ place
