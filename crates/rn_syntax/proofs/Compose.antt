@@ -1,5 +1,5 @@
 -- How readings follow one another.
-use Rattle.std.proofs.Common.{◌≡◌, ℕ, Bool, true, false, List, [], ◌∷◌, ◌++◌, refl, ap, sym, ◌∙◌, subst, append_assoc, Result, Ok, Err}
+use Rattle.std.proofs.Common.{◌≡◌, ◌≤◌, ◌<◌, ◌+◌, ℕ, arith, Bool, true, false, List, [], ◌∷◌, ◌++◌, refl, ap, sym, ◌∙◌, subst, append_assoc, Result, Ok, Err, IfOk}
 use Rattle.std.proofs.lemmas.Bool.{false≢true}
 use Rattle.rn_syntax.specs.declared.fault.Fault.{Fault}
 use Rattle.rn_syntax.specs.declared.fault.Fault.TheVariants as f
@@ -8,7 +8,7 @@ use Rattle.rn_syntax.specs.Terminal.{Terminal, Placed, ◌#◌}
 use Rattle.rn_syntax.specs.Grammar.{Tokens}
 use Rattle.rn_syntax.specs.Follow.{Starts, Anything, first}
 use Rattle.rn_syntax.specs.Sequence.{Then, both, Gives, gives, IsToken, token, IsOf, of}
-use Rattle.rn_syntax.specs.Reading.{Alike, ends, same, Took, Stuck, Faults, AreSpelled, rest, Bare, Skips, Reads}
+use Rattle.rn_syntax.specs.Reading.{Alike, ends, same, Took, Stuck, Faults, AreSpelled, rest, Bare, Skips, Reads, Makes, Passed, Advanced}
 
 -- The front of ts up to now is read: what makes a V of ts is a W of what is left.
 pub record Upto {A : Type 0} (V W : Tokens → A → Tokens → Type 0) (G : Tokens → Type 0) (ts now : Tokens) : Type 0 where
@@ -250,3 +250,40 @@ fits_gives {A = A} {C = C} {F = F} {G = G} f to = record { fits = λ a mid c r d
 
 pub can_gives : {A C : Type 0} (f : A → C) → Can (λ (a : A). Gives (f a))
 can_gives f more = (more, λ a. (f a, gives))
+
+-- ---- what is made
+
+pub made_reads : {A B : Type 0} {N : Tokens → A → Tokens → Type 0} {F : Tokens → Type 0} (view : B → A) (xs : List Token) (at behind : ℕ) (r : Result (B × ℕ) Fault) {x : A} → Makes view x behind r
+    → (AreSpelled xs → Took N F (rest xs at) x (rest xs behind)) → Reads N F view xs at r
+made_reads {N = N} {F = F} view xs at behind (Ok r) {x = x} m h = λ s. took_same (sym m.0) (subst (λ (i : ℕ). Took N F (rest xs at) x (rest xs i)) (sym m.1) (h s))
+made_reads {N = N} {F = F} view xs at behind (Err e) m h = subst (λ (e : Fault). Faults N F xs at e) (sym m) tt
+
+pub made_passed : {A B : Type 0} (view : B → A) (x : A) (at behind len : ℕ) (r : Result (B × ℕ) Fault) → Makes view x behind r → Passed at behind len → IfOk r (λ r. Passed at r.1 len)
+made_passed view x at behind len (Ok r) m h = subst (λ (i : ℕ). Passed at i len) (sym m.1) h
+made_passed view x at behind len (Err e) m h = tt
+
+pub made_advanced : {A B : Type 0} (view : B → A) (x : A) (at behind len : ℕ) (r : Result (B × ℕ) Fault) → Makes view x behind r → Advanced at behind len → IfOk r (λ r. Advanced at r.1 len)
+made_advanced view x at behind len (Ok r) m h = subst (λ (i : ℕ). Advanced at i len) (sym m.1) h
+made_advanced view x at behind len (Err e) m h = tt
+
+-- ---- further on
+
+pub later : (at : ℕ) {behind len : ℕ} → Advanced (at + 1) behind len → Advanced at behind len
+later at h = record { further = omega (arith, h.further); inside = h.inside }
+
+pub one_on : {at len : ℕ} → at < len → Advanced at (at + 1) len
+one_on h = record { further = omega arith; inside = omega (arith, h) }
+
+-- what a reader of the rest answers is further on for one of the whole
+module _ {B : Type 0} (at now len : ℕ) where
+  pub passed_on : (r : Result (B × ℕ) Fault) → at ≤ now → IfOk r (λ r. Passed now r.1 len) → IfOk r (λ r. Passed at r.1 len)
+  passed_on (Ok r) h p = record { further = omega (arith, h, p.further); inside = p.inside }
+  passed_on (Err e) h p = tt
+
+  pub passed_past : (r : Result (B × ℕ) Fault) → at < now → IfOk r (λ r. Passed now r.1 len) → IfOk r (λ r. Advanced at r.1 len)
+  passed_past (Ok r) h p = record { further = omega (arith, h, p.further); inside = p.inside }
+  passed_past (Err e) h p = tt
+
+  pub advanced_on : (r : Result (B × ℕ) Fault) → at ≤ now → IfOk r (λ r. Advanced now r.1 len) → IfOk r (λ r. Advanced at r.1 len)
+  advanced_on (Ok r) h p = record { further = omega (arith, h, p.further); inside = p.inside }
+  advanced_on (Err e) h p = tt

@@ -4,6 +4,7 @@ use Rattle.std.proofs.lemmas.Bool.{false≢true}
 use Rattle.rn_syntax.specs.declared.token.Postfix.{Postfix}
 use Rattle.rn_syntax.specs.declared.terminals.Terminal as code
 use Rattle.rn_syntax.specs.declared.terminals.Terminal.TheVariants as c
+use Rattle.rn_text.specs.declared.source.Token.{Token}
 use Rattle.rn_syntax.specs.Terminal.{Terminal, Placed, ◌#◌, segment, postfix, minus, other}
 use Rattle.rn_syntax.specs.Tree as tree
 use Rattle.rn_syntax.specs.Tree.{Datatype, Params, Pattern}
@@ -12,8 +13,8 @@ use Rattle.rn_syntax.specs.Grammar.{Tokens, AreFollows, MayHaveAnnotation, IsLit
 use Rattle.rn_syntax.specs.Follow.{Starts, first, no_follow, no_tilde, no_brace, behind_core, behind_primary, behind_operand}
 use Rattle.rn_syntax.specs.Sequence.{Then, both, Gives, gives}
 use Rattle.rn_syntax.specs.Parts as part
-use Rattle.rn_syntax.specs.Parts.{BehindPrimary, IsDataEnd, BehindDatatype}
-use Rattle.rn_syntax.specs.Reading.{Took, Stuck, Bare, seen, IsNext}
+use Rattle.rn_syntax.specs.Parts.{BehindCore, BehindPrimary, IsTypedValue, IsDataEnd, BehindDatatype, BehindParams}
+use Rattle.rn_syntax.specs.Reading.{Took, Stuck, Bare, seen, IsNext, rest}
 use Rattle.rn_syntax.proofs.OneClass.{starts_to, minus_stays}
 use Rattle.rn_syntax.proofs.OnePattern.{to_primary, primary_to_follow, core_to_tilde, core_to_brace, follows_core}
 use Rattle.rn_syntax.proofs.Compose.{Upto, Fits, Can, upto_at, upto_token, upto_then, took_upto, stuck_upto, reads, stuck_in, took_gives, first_alike, alike_token}
@@ -102,17 +103,20 @@ behind_front (part.repeated f) w = refl
 
 -- ---- behind a core: follows, and the rest of an operand
 
-abbrev pub Ends : Pattern → Tokens → Pattern → Tokens → Type 0
-Ends p = Then Follows (λ u. BehindPrimary p)
-
-ends_front : {p z : Pattern} {t r : Tokens} → Ends p t z r → Starts behind_operand r → Starts behind_core t
+ends_front : {p z : Pattern} {t r : Tokens} → BehindCore p t z r → Starts behind_operand r → Starts behind_core t
 ends_front (both f b) w = follows_core f (behind_front b w)
 
-pub fits_ends : {A : Type 0} {F : Tokens → Type 0} (p : A → Pattern) → ((r : Tokens) → Starts behind_core r → F r) → Fits F (λ (a : A). Ends (p a)) (Starts behind_operand)
+pub fits_ends : {A : Type 0} {F : Tokens → Type 0} (p : A → Pattern) → ((r : Tokens) → Starts behind_core r → F r) → Fits F (λ (a : A). BehindCore (p a)) (Starts behind_operand)
 fits_ends p to = record { fits = λ a mid z r d w. to mid (ends_front d w) }
 
-pub can_ends : {A : Type 0} (p : A → Pattern) → Can (λ (a : A). Ends (p a))
+pub can_ends : {A : Type 0} (p : A → Pattern) → Can (λ (a : A). BehindCore (p a))
 can_ends p more = (more, λ a. (p a, both g.none part.alone))
+
+fits_core : Fits (Starts behind_core) BehindCore (Starts behind_operand)
+fits_core = fits_ends (λ (p : Pattern). p) (λ r w. w)
+
+can_core : Can BehindCore
+can_core = can_ends (λ (p : Pattern). p)
 
 fits_behind : (p : Pattern) → Fits (Starts no_follow) (λ (u : Unit {0}). BehindPrimary p) (Starts behind_operand)
 fits_behind p = record { fits = λ u mid z r d w. primary_follow mid (behind_front d w) }
@@ -120,10 +124,10 @@ fits_behind p = record { fits = λ u mid z r d w. primary_follow mid (behind_fro
 can_behind : (p : Pattern) → Can (λ (u : Unit {0}). BehindPrimary p)
 can_behind p more = (more, λ u. (p, part.alone))
 
-pub follows_read : (p : Pattern) {now next : Tokens} → Took Follows (Starts no_follow) now tt next → Upto (Ends p) (BehindPrimary p) (Starts behind_operand) now next
+pub follows_read : (p : Pattern) {now next : Tokens} → Took Follows (Starts no_follow) now tt next → Upto (BehindCore p) (BehindPrimary p) (Starts behind_operand) now next
 follows_read p h = reads (fits_behind p) h
 
-pub follows_stuck : (p : Pattern) {now bad : Tokens} → Stuck Follows (Starts no_follow) now bad → Stuck (Ends p) (Starts behind_operand) now bad
+pub follows_stuck : (p : Pattern) {now bad : Tokens} → Stuck Follows (Starts no_follow) now bad → Stuck (BehindCore p) (Starts behind_operand) now bad
 follows_stuck p h = stuck_in (fits_behind p) (can_behind p) h
 
 -- ---- behind a datatype
@@ -147,29 +151,25 @@ no_segment now behind x e h = ap is_segment (first_next now behind (seen x) e) �
 datum_not : {s : List ℕ} {i : ℕ} {t r : Tokens} {ps : Params} → MayHaveParams (segment s # i ∷ t) ps r → Starts behind_core r → ⊥
 datum_not g.none w = false≢true w
 
-abbrev pub Valued : Datatype → Tokens → Pattern → Tokens → Type 0
-Valued d = Then IsLiteral (λ s. Gives (tree.value (Some d) s))
-
 abbrev pub Datum : Datatype → Tokens → Pattern → Tokens → Type 0
 Datum d = Then MayHaveParams (λ ps. Gives (tree.datum d ps))
 
 module _ (d : Datatype) {now : Tokens} where
-  valued_at : {s : List ℕ} {i : ℕ} {next : Tokens} → now ≡ segment s # i ∷ next → Upto (IsDataEnd d) (Valued d) (Starts behind_core) now now
+  pub valued_at : {s : List ℕ} {i : ℕ} {next : Tokens} → now ≡ segment s # i ∷ next → Upto (IsDataEnd d) (IsTypedValue d) (Starts behind_core) now now
   valued_at {s = s} {i = i} e = upto_seen e (λ t z r h. to h) (λ t z r h w. from h w)
     where
-      to : {t r : Tokens} {z : Pattern} → Valued d t z r → IsDataEnd d t z r
+      to : {t r : Tokens} {z : Pattern} → IsTypedValue d t z r → IsDataEnd d t z r
       to (both l gives) = part.valued l
 
-      from : {t r : Tokens} {z : Pattern} → IsDataEnd d (segment s # i ∷ t) z r → Starts behind_core r → Valued d (segment s # i ∷ t) z r
+      from : {t r : Tokens} {z : Pattern} → IsDataEnd d (segment s # i ∷ t) z r → Starts behind_core r → IsTypedValue d (segment s # i ∷ t) z r
       from (part.valued l) w = both l gives
       from (part.datum m) w = absurd (datum_not m w)
 
-  pub value_took : {s u : List ℕ} {i : ℕ} {next rest : Tokens} → now ≡ segment s # i ∷ next → Took IsLiteral (Starts no_tilde) now u rest
-      → Took (IsDataEnd d) (Starts behind_core) now (tree.value (Some d) u) rest
-  value_took {u = u} {rest = rest} e h = took_upto (upto_then (valued_at e) (reads (fits_given (λ s. tree.value (Some d) s) core_tilde) h)) (took_gives (tree.value (Some d) u) rest)
+  pub value_took : {u : List ℕ} {rest : Tokens} → Took IsLiteral (Starts no_tilde) now u rest → Took (IsTypedValue d) (Starts behind_core) now (tree.value (Some d) u) rest
+  value_took {u = u} {rest = rest} h = took_upto (reads (fits_given (λ s. tree.value (Some d) s) core_tilde) h) (took_gives (tree.value (Some d) u) rest)
 
-  pub value_stuck : {s : List ℕ} {i : ℕ} {next bad : Tokens} → now ≡ segment s # i ∷ next → Stuck IsLiteral (Starts no_tilde) now bad → Stuck (IsDataEnd d) (Starts behind_core) now bad
-  value_stuck e h = stuck_upto (valued_at e) (stuck_in (fits_given (λ s. tree.value (Some d) s) core_tilde) (can_given (λ s. tree.value (Some d) s)) h)
+  pub value_stuck : {bad : Tokens} → Stuck IsLiteral (Starts no_tilde) now bad → Stuck (IsTypedValue d) (Starts behind_core) now bad
+  value_stuck h = stuck_in (fits_given (λ s. tree.value (Some d) s) core_tilde) (can_given (λ s. tree.value (Some d) s)) h
 
   datum_at : is_segment (first now) ≡ false → Upto (IsDataEnd d) (Datum d) (Starts behind_core) now now
   datum_at e = upto_at (λ t z r h. to h) (λ t a z r h w. from (ap is_segment (first_alike a) ∙ e) h)
@@ -189,20 +189,15 @@ module _ (d : Datatype) {now : Tokens} where
 
 -- ---- behind the datatype of an operand
 
--- what is behind its parameters
-pub data BehindParams (d : Datatype) (ps : Params) : Tokens → Pattern → Tokens → Type 0 where
-  plain : {ts rest : Tokens} {p : Pattern} → Ends (tree.datum d ps) ts p rest → BehindParams d ps ts p rest
-  except : {i : ℕ} {ts rest : Tokens} {p : Pattern} → IsPrimary ts p rest → BehindParams d ps (minus # i ∷ ts) (tree.datum_but d ps i p) rest
-
 params_front : {d : Datatype} {ps : Params} {z : Pattern} {t r : Tokens} → BehindParams d ps t z r → Starts behind_operand r → Starts no_brace t
-params_front {t = t} (plain m) w = core_brace t (ends_front m w)
-params_front (except q) w = refl
+params_front {t = t} (part.followed m) w = core_brace t (ends_front m w)
+params_front (part.excepted q) w = refl
 
 fits_params : (d : Datatype) → Fits (Starts no_brace) (BehindParams d) (Starts behind_operand)
 fits_params d = record { fits = λ ps mid z r h w. params_front h w }
 
 can_params : (d : Datatype) → Can (BehindParams d)
-can_params d more = (more, λ ps. (tree.datum d ps, plain (both g.none part.alone)))
+can_params d more = (more, λ ps. (tree.datum d ps, part.followed (both g.none part.alone)))
 
 primary_behind : {p z : Pattern} {i : ℕ} {us mid r : Tokens} → mid ≡ minus # i ∷ us → BehindPrimary p mid z r → Starts behind_operand r → ⊥
 primary_behind e b w = false≢true (subst (Starts behind_primary) e (behind_front b w))
@@ -214,11 +209,11 @@ except_at : (d : Datatype) (ps : Params) {i : ℕ} {now next : Tokens} → now �
 except_at d ps {i = i} e = upto_token e (λ t z r h. to h) (λ t z r h w. from h w)
   where
     to : {t r : Tokens} {z : Pattern} → Except d ps i t z r → BehindParams d ps (minus # i ∷ t) z r
-    to (both q gives) = except q
+    to (both q gives) = part.excepted q
 
     from : {t r : Tokens} {z : Pattern} → BehindParams d ps (minus # i ∷ t) z r → Starts behind_operand r → Except d ps i t z r
-    from (except q) w = both q gives
-    from (plain (both f b)) w = absurd (primary_behind (minus_stays f) b w)
+    from (part.excepted q) w = both q gives
+    from (part.followed (both f b)) w = absurd (primary_behind (minus_stays f) b w)
 
 abbrev is_minus : Terminal → Bool
 is_minus minus = true
@@ -228,18 +223,18 @@ not_minus : (x : code.Terminal) → (x ≡ c.Minus → ⊥) → is_minus (unwrap
 not_minus c.Minus h = absurd (h refl)
 not_minus x h = refl
 
-plain_at : (d : Datatype) (ps : Params) {now : Tokens} → is_minus (first now) ≡ false → Upto (BehindParams d ps) (Ends (tree.datum d ps)) (Starts behind_operand) now now
-plain_at d ps e = upto_at (λ t z r h. plain h) (λ t a z r h w. from (ap is_minus (first_alike a) ∙ e) h)
+plain_at : (d : Datatype) (ps : Params) {now : Tokens} → is_minus (first now) ≡ false → Upto (BehindParams d ps) (BehindCore (tree.datum d ps)) (Starts behind_operand) now now
+plain_at d ps e = upto_at (λ t z r h. part.followed h) (λ t a z r h w. from (ap is_minus (first_alike a) ∙ e) h)
   where
-    from : {t r : Tokens} {z : Pattern} → is_minus (first t) ≡ false → BehindParams d ps t z r → Ends (tree.datum d ps) t z r
-    from e (plain h) = h
-    from e (except q) = absurd (false≢true (sym e))
+    from : {t r : Tokens} {z : Pattern} → is_minus (first t) ≡ false → BehindParams d ps t z r → BehindCore (tree.datum d ps) t z r
+    from e (part.followed h) = h
+    from e (part.excepted q) = absurd (false≢true (sym e))
 
 except_not : {s : List ℕ} {i j : ℕ} {t after : Tokens} {ps : Params} → MayHaveParams (segment s # i ∷ t) ps (minus # j ∷ after) → ⊥
 except_not m = elim m [ ]
 
 abbrev Text : Datatype → Tokens → Pattern → Tokens → Type 0
-Text d = Then IsLiteral (λ s. Ends (tree.value (Some d) s))
+Text d = Then (IsTypedValue d) BehindCore
 
 abbrev WithParams : Datatype → Tokens → Pattern → Tokens → Type 0
 WithParams d = Then MayHaveParams (BehindParams d)
@@ -249,10 +244,10 @@ module _ (d : Datatype) {ts : Tokens} where
   text_at {s = s} {i = i} e = upto_seen e (λ t z r h. to h) (λ t z r h w. from h w)
     where
       to : {t r : Tokens} {z : Pattern} → Text d t z r → BehindDatatype d t z r
-      to (both l (both f b)) = part.plain (part.valued l) f b
+      to (both (both l gives) (both f b)) = part.plain (part.valued l) f b
 
       from : {t r : Tokens} {z : Pattern} → BehindDatatype d (segment s # i ∷ t) z r → Starts behind_operand r → Text d (segment s # i ∷ t) z r
-      from (part.plain (part.valued l) f b) w = both l (both f b)
+      from (part.plain (part.valued l) f b) w = both (both l gives) (both f b)
       from (part.plain (part.datum m) f b) w = absurd (datum_not m (follows_core f (behind_front b w)))
       from (part.except m q) w = absurd (except_not m)
 
@@ -260,41 +255,39 @@ module _ (d : Datatype) {ts : Tokens} where
   params_at e = upto_at (λ t z r h. to h) (λ t a z r h w. from (ap is_segment (first_alike a) ∙ e) h)
     where
       to : {t r : Tokens} {z : Pattern} → WithParams d t z r → BehindDatatype d t z r
-      to (both m (plain (both f b))) = part.plain (part.datum m) f b
-      to (both m (except q)) = part.except m q
+      to (both m (part.followed (both f b))) = part.plain (part.datum m) f b
+      to (both m (part.excepted q)) = part.except m q
 
       from : {t r : Tokens} {z : Pattern} → is_segment (first t) ≡ false → BehindDatatype d t z r → WithParams d t z r
       from e (part.plain (part.valued l) f b) = absurd (false≢true (sym e ∙ literal_begins l))
-      from e (part.plain (part.datum m) f b) = both m (plain (both f b))
-      from e (part.except m q) = both m (except q)
+      from e (part.plain (part.datum m) f b) = both m (part.followed (both f b))
+      from e (part.except m q) = both m (part.excepted q)
 
-  pub text_stuck : {s : List ℕ} {i : ℕ} {next bad : Tokens} → ts ≡ segment s # i ∷ next → Stuck IsLiteral (Starts no_tilde) ts bad → Stuck (BehindDatatype d) (Starts behind_operand) ts bad
-  text_stuck e h = stuck_upto (text_at e) (stuck_in (fits_ends (λ s. tree.value (Some d) s) core_tilde) (can_ends (λ s. tree.value (Some d) s)) h)
+  pub text_stuck : {s : List ℕ} {i : ℕ} {next bad : Tokens} → ts ≡ segment s # i ∷ next → Stuck (IsTypedValue d) (Starts behind_core) ts bad → Stuck (BehindDatatype d) (Starts behind_operand) ts bad
+  text_stuck e h = stuck_upto (text_at e) (stuck_in fits_core can_core h)
 
-  -- the follows of a value come
-  pub text_read : {s u : List ℕ} {i : ℕ} {next now : Tokens} → ts ≡ segment s # i ∷ next → Took IsLiteral (Starts no_tilde) ts u now
-      → Upto (BehindDatatype d) (Ends (tree.value (Some d) u)) (Starts behind_operand) ts now
-  text_read e h = upto_then (text_at e) (reads (fits_ends (λ s. tree.value (Some d) s) core_tilde) h)
+  -- what follows a value comes
+  pub text_read : {s : List ℕ} {i : ℕ} {next now : Tokens} {p : Pattern} → ts ≡ segment s # i ∷ next → Took (IsTypedValue d) (Starts behind_core) ts p now
+      → Upto (BehindDatatype d) (BehindCore p) (Starts behind_operand) ts now
+  text_read e h = upto_then (text_at e) (reads fits_core h)
 
   pub params_stuck : {bad : Tokens} → is_segment (first ts) ≡ false → Stuck MayHaveParams (Starts no_brace) ts bad → Stuck (BehindDatatype d) (Starts behind_operand) ts bad
   params_stuck e h = stuck_upto (params_at e) (stuck_in (fits_params d) (can_params d) h)
 
-  params_read : {ps : Params} {now : Tokens} → is_segment (first ts) ≡ false → Took MayHaveParams (Starts no_brace) ts ps now → Upto (BehindDatatype d) (BehindParams d ps) (Starts behind_operand) ts now
+  pub params_read : {ps : Params} {now : Tokens} → is_segment (first ts) ≡ false → Took MayHaveParams (Starts no_brace) ts ps now → Upto (BehindDatatype d) (BehindParams d ps) (Starts behind_operand) ts now
   params_read e h = upto_then (params_at e) (reads (fits_params d) h)
 
-  -- the follows of a datum come
-  pub datum_read : {ps : Params} {now : Tokens} (behind : Tokens) (x : code.Terminal) → is_segment (first ts) ≡ false → Took MayHaveParams (Starts no_brace) ts ps now → IsNext now (seen x) behind → (x ≡ c.Minus → ⊥)
-      → Upto (BehindDatatype d) (Ends (tree.datum d ps)) (Starts behind_operand) ts now
-  datum_read {ps = ps} {now = now} behind x e h n m = upto_then (params_read e h) (plain_at d ps (ap is_minus (first_next now behind (seen x) n) ∙ not_minus x m))
+module _ (d : Datatype) (ps : Params) {ts : Tokens} where
+  -- what follows a datum comes
+  pub datum_read : (behind : Tokens) (x : code.Terminal) → IsNext ts (seen x) behind → (x ≡ c.Minus → ⊥) → Upto (BehindParams d ps) (BehindCore (tree.datum d ps)) (Starts behind_operand) ts ts
+  datum_read behind x n m = plain_at d ps (ap is_minus (first_next ts behind (seen x) n) ∙ not_minus x m)
 
-  pub except_stuck : {ps : Params} {i : ℕ} {now next bad : Tokens} → is_segment (first ts) ≡ false → Took MayHaveParams (Starts no_brace) ts ps now → now ≡ minus # i ∷ next
-      → Stuck IsPrimary (Starts behind_primary) next bad → Stuck (BehindDatatype d) (Starts behind_operand) ts bad
-  except_stuck {ps = ps} {i = i} e h m q = stuck_upto (upto_then (params_read e h) (except_at d ps m)) (stuck_in (fits_given (λ p. tree.datum_but d ps i p) operand_primary) (can_given (λ p. tree.datum_but d ps i p)) q)
+  pub except_stuck : {i : ℕ} {next bad : Tokens} → ts ≡ minus # i ∷ next → Stuck IsPrimary (Starts behind_primary) next bad → Stuck (BehindParams d ps) (Starts behind_operand) ts bad
+  except_stuck {i = i} m q = stuck_upto (except_at d ps m) (stuck_in (fits_given (λ p. tree.datum_but d ps i p) operand_primary) (can_given (λ p. tree.datum_but d ps i p)) q)
 
-  pub except_took : {ps : Params} {i : ℕ} {p : Pattern} {now next end : Tokens} → is_segment (first ts) ≡ false → Took MayHaveParams (Starts no_brace) ts ps now → now ≡ minus # i ∷ next
-      → Took IsPrimary (Starts behind_primary) next p end → Took (BehindDatatype d) (Starts behind_operand) ts (tree.datum_but d ps i p) end
-  except_took {ps = ps} {i = i} {p = p} {end = end} e h m q = took_upto (upto_then (params_read e h) (upto_then (except_at d ps m) (reads (fits_given (λ p. tree.datum_but d ps i p) operand_primary) q))) (took_gives (tree.datum_but d ps i p) end)
+  pub except_took : {i : ℕ} {p : Pattern} {next end : Tokens} → ts ≡ minus # i ∷ next → Took IsPrimary (Starts behind_primary) next p end → Took (BehindParams d ps) (Starts behind_operand) ts (tree.datum_but d ps i p) end
+  except_took {i = i} {p = p} {end = end} m q = took_upto (upto_then (except_at d ps m) (reads (fits_given (λ p. tree.datum_but d ps i p) operand_primary) q)) (took_gives (tree.datum_but d ps i p) end)
 
--- the primary, by another name
-pub upto_same : {V : Tokens → Pattern → Tokens → Type 0} {G : Tokens → Type 0} {ts now : Tokens} {p q : Pattern} → p ≡ q → Upto V (BehindPrimary p) G ts now → Upto V (BehindPrimary q) G ts now
-upto_same {V = V} {G = G} {ts = ts} {now = now} e u = subst (λ (p : Pattern). Upto V (BehindPrimary p) G ts now) e u
+-- what follows a core that was made, by its other names
+pub core_made : {V : Tokens → Pattern → Tokens → Type 0} {G : Tokens → Type 0} {ts : Tokens} (xs : List Token) {p q : Pattern} {i j : ℕ} → (q ≡ p) × (j ≡ i) → Upto V (BehindCore p) G ts (rest xs i) → Upto V (BehindCore q) G ts (rest xs j)
+core_made {V = V} {G = G} {ts = ts} xs {q = q} {i = i} m u = subst (λ (k : ℕ). Upto V (BehindCore q) G ts (rest xs k)) (sym m.1) (subst (λ (z : Pattern). Upto V (BehindCore z) G ts (rest xs i)) (sym m.0) u)

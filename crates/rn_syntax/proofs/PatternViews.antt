@@ -1,9 +1,8 @@
 -- The trees of patterns of the code, level by level.
 use Rattle.std.proofs.Common.{◌≡◌, ◌∙◌, ℕ, ap, rules, Box, Vec, Global}
-use Rattle.std.proofs.lemmas.Result.{IfOk-weaker}
-use Rattle.std.specs.Result.{IfOk}
-use Rattle.std.specs.Prelude.{Result}
-use Rattle.std.specs.declared.alloc.AllocError.{AllocError}
+use Rattle.std.specs.Prelude.{Result, Ok, Err}
+use Rattle.rn_syntax.specs.declared.fault.Fault.{Fault}
+use Rattle.rn_syntax.specs.Reading.{Makes}
 use Rattle.rn_syntax.specs.declared.token.Postfix.{Postfix}
 use Rattle.rn_syntax.specs.Tree as t
 use Rattle.rn_syntax.specs.View.{boxed_view, class_view, datatype_view, params_view, pattern_view}
@@ -40,5 +39,6 @@ pub view-Repeated : (s : Postfix) (p : Box Pat Global) → pattern_view (Repeate
 view-Repeated s p = search (rules, the_lemmas)
 
 -- a pattern in a box, where there is memory for it
-pub boxed_is : (x : Pat) {y : t.Pattern} (r : Result (Box Pat Global) AllocError) → IfOk r (λ p. p.value ≡ x) → pattern_view x ≡ y → IfOk r (λ p. boxed_view p ≡ y)
-boxed_is x r h seen = IfOk-weaker r _ _ (λ p held. ap pattern_view held ∙ seen) h
+pub boxed_is : (x : Pat) {y : t.Pattern} (behind : ℕ) (r : Result (Box Pat Global × ℕ) Fault) → Makes (λ b. b.value) x behind r → pattern_view x ≡ y → Makes boxed_view y behind r
+boxed_is x behind (Ok r) m seen = (ap pattern_view m.0 ∙ seen, m.1)
+boxed_is x behind (Err e) m seen = m

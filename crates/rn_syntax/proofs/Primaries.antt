@@ -9,12 +9,12 @@ use Rattle.rn_syntax.specs.Grammar.{Tokens, AreFollows, MayHaveAnnotation, IsLit
 use Rattle.rn_syntax.specs.Follow.{Starts, first, no_bracket, no_follow, behind_core, behind_primary, behind_operand, begins_datatype}
 use Rattle.rn_syntax.specs.Sequence.{Then, both, Gives, gives, IsHere}
 use Rattle.rn_syntax.specs.Parts as part
-use Rattle.rn_syntax.specs.Parts.{BehindPrimary, IsDataEnd, BehindDatatype}
+use Rattle.rn_syntax.specs.Parts.{BehindCore, BehindPrimary, IsDataEnd, BehindDatatype}
 use Rattle.rn_syntax.specs.Reading.{Took, Stuck, Bare}
 use Rattle.rn_syntax.proofs.OneClass.{datatype_one}
 use Rattle.rn_syntax.proofs.OnePattern.{core_front, datatype_front, follows_core}
 use Rattle.rn_syntax.proofs.Compose.{Upto, Fits, Can, CanBe, upto_at, upto_token, upto_then, took_upto, stuck_upto, reads, stuck_in, took_gives, first_alike, can_then}
-use Rattle.rn_syntax.proofs.Operands.{Follows, Ends, fits_given, can_given, fits_ends, can_ends, primary_follow}
+use Rattle.rn_syntax.proofs.Operands.{Follows, fits_given, can_given, fits_ends, can_ends, primary_follow}
 
 abbrev Annotates : Tokens → Unit {0} → Tokens → Type 0
 Annotates = Bare MayHaveAnnotation
@@ -66,7 +66,7 @@ type_at h = upto_token h.here (λ t z r b. core_of h.holds b) (λ t z r b w. typ
 
 -- what is behind its annotation
 pub data Bared : Tokens → Pattern → Tokens → Type 0 where
-  plain : {ts mid rest : Tokens} {c p : Pattern} → IsCore ts c mid → Ends c mid p rest → Bared ts p rest
+  plain : {ts mid rest : Tokens} {c p : Pattern} → IsCore ts c mid → BehindCore c mid p rest → Bared ts p rest
   except : {x : Placed} {i : ℕ} {mid after rest : Tokens} {d : Datatype} {ps : Params} {p : Pattern}
       → IsDatatype x d → MayHaveParams mid ps (minus # i ∷ after) → IsPrimary after p rest → Bared (x ∷ mid) (tree.datum_but d ps i p) rest
 
@@ -118,7 +118,7 @@ pub operand_typed : {ts now next : Tokens} {d : Datatype} → Took Annotates (St
 operand_typed a h = upto_then (operand_body a) (upto_token h.here (λ t z r b. bared_of h.holds b) (λ t z r b w. typed_bared b h.holds))
 
 abbrev Plain : Tokens → Pattern → Tokens → Type 0
-Plain = Then IsCore Ends
+Plain = Then IsCore BehindCore
 
 -- at a core of an operand
 operand_core : {ts now : Tokens} → Took Annotates (Starts no_bracket) ts tt now → begins_datatype (first now) ≡ false → Upto IsOperand Plain (Starts behind_operand) ts now
@@ -137,7 +137,7 @@ same_core r w = w
 pub operand_core_stuck : {ts now bad : Tokens} → Took Annotates (Starts no_bracket) ts tt now → begins_datatype (first now) ≡ false → Stuck IsCore (Starts behind_core) now bad → Stuck IsOperand (Starts behind_operand) ts bad
 operand_core_stuck a e h = stuck_upto (operand_core a e) (stuck_in (fits_ends (λ c. c) same_core) (can_ends (λ c. c)) h)
 
-pub operand_core_read : {ts now next : Tokens} {c : Pattern} → Took Annotates (Starts no_bracket) ts tt now → begins_datatype (first now) ≡ false → Took IsCore (Starts behind_core) now c next → Upto IsOperand (Ends c) (Starts behind_operand) ts next
+pub operand_core_read : {ts now next : Tokens} {c : Pattern} → Took Annotates (Starts no_bracket) ts tt now → begins_datatype (first now) ≡ false → Took IsCore (Starts behind_core) now c next → Upto IsOperand (BehindCore c) (Starts behind_operand) ts next
 operand_core_read a e h = upto_then (operand_core a e) (reads (fits_ends (λ c. c) same_core) h)
 
 -- ---- a primary

@@ -6,11 +6,25 @@ use Rattle.rn_syntax.specs.Tree as tree
 use Rattle.rn_syntax.specs.Tree.{Datatype, Params, NameClass, Pattern}
 use Rattle.rn_syntax.specs.Grammar.{Tokens, AreFollows, IsLiteral, MayHaveParams, IsNameClass, IsPattern, IsPrimary}
 use Rattle.rn_syntax.specs.Sequence.{Then, Gives, IsToken}
+use Rattle.rn_syntax.specs.Reading.{Bare}
 
 -- [ postfix follow* ], behind the primary of an operand
 pub data BehindPrimary (p : Pattern) : Tokens → Pattern → Tokens → Type 0 where
   alone : {ts : Tokens} → BehindPrimary p ts p ts
   repeated : {s : Postfix} {i : ℕ} {ts rest : Tokens} → AreFollows ts rest → BehindPrimary p (postfix s # i ∷ ts) (tree.repeated s p) rest
+
+-- follow* [ postfix follow* ], behind the core of an operand
+abbrev pub BehindCore : Pattern → Tokens → Pattern → Tokens → Type 0
+BehindCore p = Then (Bare AreFollows) (λ (u : Unit {0}). BehindPrimary p)
+
+-- literal, behind the datatype of a value
+abbrev pub IsTypedValue : Datatype → Tokens → Pattern → Tokens → Type 0
+IsTypedValue d = Then IsLiteral (λ s. Gives (tree.value (Some d) s))
+
+-- what is behind the parameters of an operand
+pub data BehindParams (d : Datatype) (ps : Params) : Tokens → Pattern → Tokens → Type 0 where
+  followed : {ts rest : Tokens} {p : Pattern} → BehindCore (tree.datum d ps) ts p rest → BehindParams d ps ts p rest
+  excepted : {i : ℕ} {ts rest : Tokens} {p : Pattern} → IsPrimary ts p rest → BehindParams d ps (minus # i ∷ ts) (tree.datum_but d ps i p) rest
 
 -- literal | [ "{" param* "}" ], behind the datatype of a core
 pub data IsDataEnd (d : Datatype) : Tokens → Pattern → Tokens → Type 0 where

@@ -121,6 +121,11 @@ abbrev pub Reads : {A B : Type 0} → (Tokens → A → Tokens → Type 0) → (
 Reads N F view xs at (Ok r) = AreSpelled xs → Took N F (rest xs at) (view r.0) (rest xs r.1)
 Reads N F view xs at (Err e) = Faults N F xs at e
 
+-- this was made of what is read up to this index, unless there was no memory for it
+abbrev pub Makes : {A B : Type 0} → (B → A) → A → ℕ → Result (B × ℕ) Fault → Type 0
+Makes view x behind (Ok r) = (view r.0 ≡ x) × (r.1 ≡ behind)
+Makes view x behind (Err e) = e ≡ f.Memory
+
 -- the same of one that reads one token
 abbrev pub ReadsOne : {A B : Type 0} → (Tokens → A → Tokens → Type 0) → (Tokens → Type 0) → (B → A) → List Token → ℕ → Result B Fault → Type 0
 ReadsOne N F view xs at (Ok x) = AreSpelled xs → Took N F (rest xs at) (view x) (rest xs (at + 1))

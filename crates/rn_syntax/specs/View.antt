@@ -42,6 +42,9 @@ class_step (Nc-F.Choice cs) = t.choice (classes_of cs.items)
 abbrev pub class_view : code_class.Nc → NameClass
 class_view = code_class.fold-Nc NameClass class_step
 
+abbrev pub boxed_class_view : Box code_class.Nc Global → NameClass
+boxed_class_view c = class_view c.value
+
 abbrev pub classes_view : List code_class.Nc → t.NameClasses
 classes_view cs = classes_of (map class_view cs)
 

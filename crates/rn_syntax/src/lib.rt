@@ -3,7 +3,9 @@
 
 mod annotations;
 mod bindings;
+mod boxes;
 mod brackets;
+mod constructors;
 mod datatypes;
 mod declarations;
 pub mod fault;

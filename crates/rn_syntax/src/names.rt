@@ -1,13 +1,14 @@
 // Name classes (compact syntax, section 2, nameClass).
-ghost use Rattle.std.specs.Prelude.{◌≡◌, ◌≤◌, ◌<◌, ◌+◌, length, false, IfOk, IfSome, MatchOption};
+ghost use Rattle.std.specs.Prelude.{◌≡◌, ◌≤◌, ◌<◌, ◌+◌, ◌++◌, ◌∷◌, [], length, map, false, IfOk, IfSome, OnOk, MatchOption};
 ghost use Rattle.rn_syntax.specs.Follow.{Starts, Anything, begins_any, behind_class, behind_name, first};
 ghost use Rattle.rn_syntax.specs.Grammar.{IsAnyName, IsClassCore, IsClassOperand, IsClassPrimary, IsNameClass};
-ghost use Rattle.rn_syntax.specs.Reading.{Advanced, Passed, Reads, rest};
+ghost use Rattle.rn_syntax.specs.Reading.{Advanced, Passed, Makes, Reads, rest};
 ghost use Rattle.rn_syntax.specs.Sequence.{IsAnyClassEnd, IsClassEnd, IsHere};
 ghost use Rattle.rn_syntax.specs.Tree as tree;
-ghost use Rattle.rn_syntax.specs.View.{any_view, class_view, classes_view, name_view};
+ghost use Rattle.rn_syntax.specs.View.{any_view, boxed_class_view, class_view, classes_view, name_view};
 
 use crate::annotations::{skip_annotation, skip_follows};
+use crate::boxes::boxed;
 use crate::fault::Fault;
 use crate::terminals::{Terminal, is_operator, next, place, right_paren};
 use crate::token::{Operator, Postfix};
@@ -15,28 +16,45 @@ use crate::tree::{AnyName, Name, Nc, Prefix};
 use rn_text::Token;
 use std::alloc::{AllocError, Global};
 
-fn one(name: Name<'_>) -> Nc<'_>
-    ensures { class_view result ≡ tree.name (name_view name.entry) }
+fn one(alloc: Global, name: Name<'_>, end: usize) -> Result<(Box<Nc<'_>>, usize), Fault>
+    ensures { Makes boxed_class_view (tree.name (name_view name.entry)) end result }
 {
-    Nc::Name(name)
+    boxed(alloc, Nc::Name(name), end)
 }
 
-fn all(any: AnyName<'_>) -> Nc<'_>
-    ensures { class_view result ≡ tree.all (any_view any.entry) }
+fn all(alloc: Global, any: AnyName<'_>, end: usize) -> Result<(Box<Nc<'_>>, usize), Fault>
+    ensures { Makes boxed_class_view (tree.all (any_view any.entry)) end result }
 {
-    Nc::All(any)
+    boxed(alloc, Nc::All(any), end)
 }
 
-fn all_but<'a>(alloc: Global, any: AnyName<'a>, except: Nc<'a>) -> Result<Nc<'a>, AllocError>
-    ensures { IfOk result (λ c. class_view c ≡ tree.all_but (any_view any.entry) (class_view except.entry)) }
+fn all_but<'a>(
+    alloc: Global,
+    any: AnyName<'a>,
+    except: Box<Nc<'a>>,
+    end: usize,
+) -> Result<(Box<Nc<'a>>, usize), Fault>
+    ensures { Makes boxed_class_view (tree.all_but (any_view any.entry) (boxed_class_view except.entry)) end result }
 {
-    Ok(Nc::AllBut(any, Box::new(alloc, except)?))
+    boxed(alloc, Nc::AllBut(any, except), end)
 }
 
-fn choice(members: Vec<Nc<'_>>) -> Nc<'_>
-    ensures { class_view result ≡ tree.choice (classes_view members.entry.items) }
+fn choice<'a>(
+    alloc: Global,
+    members: Vec<Nc<'a>>,
+    end: usize,
+) -> Result<(Box<Nc<'a>>, usize), Fault>
+    ensures { Makes boxed_class_view (tree.choice (classes_view members.entry.items)) end result }
 {
-    Nc::Choice(members)
+    boxed(alloc, Nc::Choice(members), end)
+}
+
+/// Adds a member to those of a choice, which lie side by side.
+fn push_member<'a>(members: &mut Vec<Nc<'a>>, member: Box<Nc<'a>>) -> Result<(), AllocError>
+    ensures { OnOk result (map class_view members.new.items ≡ map class_view members.old.items ++ boxed_class_view member.entry ∷ []) }
+{
+    members.push(Box::into_inner(member))?;
+    Ok(())
 }
 
 /// `nc = ncoperand ( "|" ncoperand )*`
@@ -45,23 +63,23 @@ pub(crate) fn name_class<'a>(
     alloc: Global,
     tokens: &[Token<'a>],
     at: usize,
-) -> Result<(Nc<'a>, usize), Fault>
+) -> Result<(Box<Nc<'a>>, usize), Fault>
     requires { at ≤ length tokens.now }
     ensures inside { IfOk result (λ r. Advanced at r.1 (length tokens.now)) }
-    ensures reads { Reads IsNameClass (Starts behind_class) class_view tokens.now at result }
+    ensures reads { Reads IsNameClass (Starts behind_class) boxed_class_view tokens.now at result }
 {
     let (first, mut end) = class_operand(alloc, tokens, at)?;
     if !is_operator(tokens, end, Operator::Bar) {
         return Ok((first, end));
     }
     let mut members = Vec::new(alloc);
-    members.push(first)?;
+    push_member(&mut members, first)?;
     'choice: while is_operator(tokens, end, Operator::Bar) {
         let (class, behind) = class_operand(alloc, tokens, end + 1)?;
-        members.push(class)?;
+        push_member(&mut members, class)?;
         end = behind;
     }
-    Ok((choice(members), end))
+    choice(alloc, members, end)
 }
 
 /// `"*" | AnyOf`
@@ -84,16 +102,17 @@ fn any_name<'a>(tokens: &[Token<'a>], at: usize) -> Option<AnyName<'a>>
 
 /// `follow*`, behind `*` or `AnyOf`
 fn any_class<'a>(
+    alloc: Global,
     tokens: &[Token<'_>],
     at: usize,
     any: AnyName<'a>,
-) -> Result<(Nc<'a>, usize), Fault>
+) -> Result<(Box<Nc<'a>>, usize), Fault>
     requires { at ≤ length tokens.now }
     ensures inside { IfOk result (λ r. Passed at r.1 (length tokens.now)) }
-    ensures reads { Reads (IsAnyClassEnd (any_view any.entry)) (Starts behind_name) class_view tokens.now at result }
+    ensures reads { Reads (IsAnyClassEnd (any_view any.entry)) (Starts behind_name) boxed_class_view tokens.now at result }
 {
     let end = skip_follows(tokens, at)?;
-    Ok((all(any), end))
+    all(alloc, any, end)
 }
 
 /// `ncoperand = ncprimary | [ann] ( "*" | AnyOf ) "-" ncprimary`
@@ -102,20 +121,20 @@ fn class_operand<'a>(
     alloc: Global,
     tokens: &[Token<'a>],
     at: usize,
-) -> Result<(Nc<'a>, usize), Fault>
+) -> Result<(Box<Nc<'a>>, usize), Fault>
     requires { at ≤ length tokens.now }
     ensures inside { IfOk result (λ r. Advanced at r.1 (length tokens.now)) }
-    ensures reads { Reads IsClassOperand (Starts behind_name) class_view tokens.now at result }
+    ensures reads { Reads IsClassOperand (Starts behind_name) boxed_class_view tokens.now at result }
 {
     let body = skip_annotation(tokens, at)?;
     let Some(any) = any_name(tokens, body) else {
         return class_end(alloc, tokens, body);
     };
     let Terminal::Minus = next(tokens, body + 1) else {
-        return any_class(tokens, body + 1, any);
+        return any_class(alloc, tokens, body + 1, any);
     };
     let (except, end) = class_primary(alloc, tokens, body + 2)?;
-    Ok((all_but(alloc, any, except)?, end))
+    all_but(alloc, any, except, end)
 }
 
 /// `ncprimary = [ann] ( word | Prefixed | "*" | AnyOf | "(" nc ")" ) follow*`
@@ -124,25 +143,29 @@ fn class_primary<'a>(
     alloc: Global,
     tokens: &[Token<'a>],
     at: usize,
-) -> Result<(Nc<'a>, usize), Fault>
+) -> Result<(Box<Nc<'a>>, usize), Fault>
     requires { at ≤ length tokens.now }
     ensures inside { IfOk result (λ r. Advanced at r.1 (length tokens.now)) }
-    ensures reads { Reads IsClassPrimary (Starts behind_name) class_view tokens.now at result }
+    ensures reads { Reads IsClassPrimary (Starts behind_name) boxed_class_view tokens.now at result }
 {
     let body = skip_annotation(tokens, at)?;
     match any_name(tokens, body) {
-        Some(any) => any_class(tokens, body + 1, any),
+        Some(any) => any_class(alloc, tokens, body + 1, any),
         None => class_end(alloc, tokens, body),
     }
 }
 
 /// `( word | Prefixed | "(" nc ")" ) follow*`
 #[cycle(name_class)]
-fn class_end<'a>(alloc: Global, tokens: &[Token<'a>], at: usize) -> Result<(Nc<'a>, usize), Fault>
+fn class_end<'a>(
+    alloc: Global,
+    tokens: &[Token<'a>],
+    at: usize,
+) -> Result<(Box<Nc<'a>>, usize), Fault>
     requires inside { at ≤ length tokens.now }
     requires none { begins_any (first (rest tokens.now at)) ≡ false }
     ensures inside { IfOk result (λ r. Advanced at r.1 (length tokens.now)) }
-    ensures reads { Reads IsClassEnd (Starts behind_name) class_view tokens.now at result }
+    ensures reads { Reads IsClassEnd (Starts behind_name) boxed_class_view tokens.now at result }
 {
     let (class, behind) = class_core(alloc, tokens, at)?;
     let end = skip_follows(tokens, behind)?;
@@ -151,21 +174,25 @@ fn class_end<'a>(alloc: Global, tokens: &[Token<'a>], at: usize) -> Result<(Nc<'
 
 /// `word | Prefixed | "(" nc ")"`
 #[cycle(name_class)]
-fn class_core<'a>(alloc: Global, tokens: &[Token<'a>], at: usize) -> Result<(Nc<'a>, usize), Fault>
+fn class_core<'a>(
+    alloc: Global,
+    tokens: &[Token<'a>],
+    at: usize,
+) -> Result<(Box<Nc<'a>>, usize), Fault>
     requires inside { at ≤ length tokens.now }
     requires none { begins_any (first (rest tokens.now at)) ≡ false }
     ensures inside { IfOk result (λ r. Advanced at r.1 (length tokens.now)) }
-    ensures reads { Reads IsClassCore Anything class_view tokens.now at result }
+    ensures reads { Reads IsClassCore Anything boxed_class_view tokens.now at result }
 {
     match next(tokens, at) {
-        Terminal::Ident(name) => Ok((one(Name::Local(name)), at + 1)),
-        Terminal::Keyword(keyword) => Ok((one(Name::Local(keyword.spelling())), at + 1)),
+        Terminal::Ident(name) => one(alloc, Name::Local(name), at + 1),
+        Terminal::Keyword(keyword) => one(alloc, Name::Local(keyword.spelling()), at + 1),
         Terminal::Prefixed(name, local) => {
             let prefix = Prefix {
                 name,
                 at: place(tokens, at),
             };
-            Ok((one(Name::Prefixed(prefix, local)), at + 1))
+            one(alloc, Name::Prefixed(prefix, local), at + 1)
         }
         Terminal::LeftParen => {
             let (class, end) = name_class(alloc, tokens, at + 1)?;

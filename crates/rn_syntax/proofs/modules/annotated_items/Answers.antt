@@ -1,7 +1,7 @@
-use Rattle.std.proofs.Common.{◌++◌, ◌∷◌, [], ap, ◌∙◌, map}
+use Rattle.std.proofs.Common.{arith, ◌++◌, ◌∷◌, [], ap, ◌∙◌, map}
 use Rattle.std.proofs.lemmas.Result.{err_from_is_err_and}
 use Rattle.rn_syntax.specs.View.{item_view}
-use Rattle.rn_syntax.proofs.Compose.{on_fault, reads_upto}
+use Rattle.rn_syntax.proofs.Compose.{on_fault, passed_on, reads_upto}
 use Rattle.rn_syntax.proofs.Itemized.{first_read, first_stuck}
 use Rattle.rn_syntax.proofs.modules.annotated_items.Goals as goal
 
@@ -9,6 +9,9 @@ pub returns-in_err-first-clause-reads : goal.returns-in_err-first-clause-reads
 returns-in_err-first-clause-reads c =
     let p = err_from_is_err_and c.from_residual.result c.from_residual.ensures.1 in
     rw (p.1, p.2) (on_fault c.args.tokens.now c.args.at c.args.at _ (λ s bad k. first_stuck k) c.in_err-first.ensures.reads)
+
+pub returns-clause-inside : goal.returns-clause-inside
+returns-clause-inside c = passed_on _ c.in_ok-first.end _ c.items_behind.result (omega (arith, c.in_ok-first.ensures.inside.further)) c.items_behind.ensures.inside
 
 pub returns-clause-reads : goal.returns-clause-reads
 returns-clause-reads c =

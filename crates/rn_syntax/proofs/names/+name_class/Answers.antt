@@ -1,9 +1,8 @@
 use Rattle.std.proofs.Common.{◌+◌, ◌++◌, ◌∷◌, [], ◌∙◌, sym, ap, map, arith, refl}
-use Rattle.std.proofs.lemmas.List.{map-append}
 use Rattle.std.proofs.lemmas.Result.{err_from_is_err_and}
 use Rattle.rn_syntax.specs.Grammar as g
-use Rattle.rn_syntax.specs.View.{class_view, any_view}
-use Rattle.rn_syntax.proofs.Compose.{on_fault, took_same, took_upto, stuck_upto, reads_upto, upto_then}
+use Rattle.rn_syntax.specs.View.{class_view, boxed_class_view, any_view}
+use Rattle.rn_syntax.proofs.Compose.{on_fault, made_advanced, made_reads, one_on, passed_past, advanced_on, took_upto, stuck_upto, reads_upto, upto_then}
 use Rattle.rn_syntax.proofs.Chaining.{chain_read, chain_stuck, chain_end}
 use Rattle.rn_syntax.specs.Terminal.{operator}
 use Rattle.rn_syntax.specs.declared.token.Operator.TheVariants as o
@@ -13,14 +12,23 @@ use Rattle.rn_syntax.proofs.names.+name_class.Goals as goal
 
 -- ---- cores
 
+pub class_core-returns-in-Ident-clause-inside : goal.class_core-returns-in-Ident-clause-inside
+class_core-returns-in-Ident-clause-inside t c = made_advanced boxed_class_view _ _ _ _ c.one.result c.one.ensures (one_on c.in-Ident.ensures.inside)
+
 pub class_core-returns-in-Ident-clause-reads : goal.class_core-returns-in-Ident-clause-reads
-class_core-returns-in-Ident-clause-reads t c = λ s. took_same (sym c.one.ensures) (word_core g.by_name c.in-Ident.ensures.next.1)
+class_core-returns-in-Ident-clause-reads t c = made_reads boxed_class_view c.args.tokens.now c.args.at (c.args.at + 1) c.one.result c.one.ensures (λ s. word_core g.by_name c.in-Ident.ensures.next.1)
+
+pub class_core-returns-in-Keyword-clause-inside : goal.class_core-returns-in-Keyword-clause-inside
+class_core-returns-in-Keyword-clause-inside t c = made_advanced boxed_class_view _ _ _ _ c.one-in-Keyword.result c.one-in-Keyword.ensures (one_on c.in-Keyword.ensures.inside)
 
 pub class_core-returns-in-Keyword-clause-reads : goal.class_core-returns-in-Keyword-clause-reads
-class_core-returns-in-Keyword-clause-reads t c = λ s. took_same (sym c.one-in-Keyword.ensures) (word_core (word_at_keyword c.spelling.ensures) c.in-Keyword.ensures.next.1)
+class_core-returns-in-Keyword-clause-reads t c = made_reads boxed_class_view c.args.tokens.now c.args.at (c.args.at + 1) c.one-in-Keyword.result c.one-in-Keyword.ensures (λ s. word_core (word_at_keyword c.spelling.ensures) c.in-Keyword.ensures.next.1)
+
+pub class_core-returns-in-Prefixed-clause-inside : goal.class_core-returns-in-Prefixed-clause-inside
+class_core-returns-in-Prefixed-clause-inside t c = made_advanced boxed_class_view _ _ _ _ c.one-in-Prefixed.result c.one-in-Prefixed.ensures (one_on c.in-Prefixed.ensures.inside)
 
 pub class_core-returns-in-Prefixed-clause-reads : goal.class_core-returns-in-Prefixed-clause-reads
-class_core-returns-in-Prefixed-clause-reads t c = λ s. took_same (sym c.one-in-Prefixed.ensures) (let n = c.in-Prefixed.ensures.next in prefixed_core (place_is c.args.tokens.now n.1 c.place.ensures) n.1)
+class_core-returns-in-Prefixed-clause-reads t c = made_reads boxed_class_view c.args.tokens.now c.args.at (c.args.at + 1) c.one-in-Prefixed.result c.one-in-Prefixed.ensures (λ s. let n = c.in-Prefixed.ensures.next in prefixed_core (place_is c.args.tokens.now n.1 c.place.ensures) n.1)
 
 pub class_core-returns-in_err-class-in-LeftParen-clause-reads : goal.class_core-returns-in_err-class-in-LeftParen-clause-reads
 class_core-returns-in_err-class-in-LeftParen-clause-reads t c =
@@ -31,6 +39,9 @@ pub class_core-returns-in_err-behind-in-LeftParen-clause-reads : goal.class_core
 class_core-returns-in_err-behind-in-LeftParen-clause-reads t c =
     let p = err_from_is_err_and c.from_residual-in_err-behind-in-LeftParen.result c.from_residual-in_err-behind-in-LeftParen.ensures.1 in
     rw (p.1, p.2) (on_fault c.args.tokens.now c.in_ok-class-in-LeftParen.end c.args.at _ (λ s bad k. parens_stuck c.in-LeftParen.ensures.next.1 (c.in_ok-class-in-LeftParen.ensures.reads s) k) c.in_err-behind-in-LeftParen.ensures.passes)
+
+pub class_core-returns-in_ok-behind-in-LeftParen-clause-inside : goal.class_core-returns-in_ok-behind-in-LeftParen-clause-inside
+class_core-returns-in_ok-behind-in-LeftParen-clause-inside t c = record { further = omega (arith, c.in_ok-class-in-LeftParen.ensures.inside.further, c.in_ok-behind-in-LeftParen.ensures.inside.further); inside = c.in_ok-behind-in-LeftParen.ensures.inside.inside }
 
 pub class_core-returns-in_ok-behind-in-LeftParen-clause-reads : goal.class_core-returns-in_ok-behind-in-LeftParen-clause-reads
 class_core-returns-in_ok-behind-in-LeftParen-clause-reads t c = λ s. parens_took c.in-LeftParen.ensures.next.1 (c.in_ok-class-in-LeftParen.ensures.reads s) (c.in_ok-behind-in-LeftParen.ensures.passes s).1
@@ -48,10 +59,13 @@ class_end-returns-in_err-class-clause-reads t c =
 pub class_end-returns-in_err-end-clause-reads : goal.class_end-returns-in_err-end-clause-reads
 class_end-returns-in_err-end-clause-reads t c =
     let p = err_from_is_err_and c.from_residual-in_err-end.result c.from_residual-in_err-end.ensures.1 in
-    rw (p.1, p.2) (on_fault c.args.tokens.now c.in_ok-class.behind c.args.at _ (λ s bad k. stuck_upto (end_core (c.in_ok-class.ensures.reads s)) (followed_stuck (class_view c.in_ok-class.class) k)) c.in_err-end.ensures.skips)
+    rw (p.1, p.2) (on_fault c.args.tokens.now c.in_ok-class.behind c.args.at _ (λ s bad k. stuck_upto (end_core (c.in_ok-class.ensures.reads s)) (followed_stuck (boxed_class_view c.in_ok-class.class) k)) c.in_err-end.ensures.skips)
+
+pub class_end-returns-clause-inside : goal.class_end-returns-clause-inside
+class_end-returns-clause-inside t c = record { further = omega (arith, c.in_ok-class.ensures.inside.further, c.in_ok-end.ensures.inside.further); inside = c.in_ok-end.ensures.inside.inside }
 
 pub class_end-returns-clause-reads : goal.class_end-returns-clause-reads
-class_end-returns-clause-reads t c = λ s. took_upto (end_core (c.in_ok-class.ensures.reads s)) (followed_took (class_view c.in_ok-class.class) (c.in_ok-end.ensures.skips s))
+class_end-returns-clause-reads t c = λ s. took_upto (end_core (c.in_ok-class.ensures.reads s)) (followed_took (boxed_class_view c.in_ok-class.class) (c.in_ok-end.ensures.skips s))
 
 -- ---- primaries
 
@@ -60,13 +74,19 @@ class_primary-returns-in_err-body-clause-reads t c =
     let p = err_from_is_err_and c.from_residual.result c.from_residual.ensures.1 in
     rw (p.1, p.2) (on_fault c.args.tokens.now c.args.at c.args.at _ (λ s bad k. primary_stuck k) c.in_err-body.ensures.skips)
 
+pub class_primary-returns-in-Some-clause-inside : goal.class_primary-returns-in-Some-clause-inside
+class_primary-returns-in-Some-clause-inside t c = passed_past _ (c.in_ok-body.body + 1) _ c.any_class.result (omega (arith, c.in_ok-body.ensures.inside.further)) c.any_class.ensures.inside
+
 pub class_primary-returns-in-Some-clause-reads : goal.class_primary-returns-in-Some-clause-reads
 class_primary-returns-in-Some-clause-reads t c =
-    reads_upto class_view c.args.tokens.now (c.in_ok-body.body + 1) c.args.at _ (λ r g. g) (λ s. upto_then (primary_body (c.in_ok-body.ensures.skips s)) (any_at c.in-Some.ensures.names)) c.any_class.ensures.reads
+    reads_upto boxed_class_view c.args.tokens.now (c.in_ok-body.body + 1) c.args.at _ (λ r g. g) (λ s. upto_then (primary_body (c.in_ok-body.ensures.skips s)) (any_at c.in-Some.ensures.names)) c.any_class.ensures.reads
+
+pub class_primary-returns-in-None-clause-inside : goal.class_primary-returns-in-None-clause-inside
+class_primary-returns-in-None-clause-inside t c = advanced_on _ c.in_ok-body.body _ c.class_end.result c.in_ok-body.ensures.inside.further c.class_end.ensures.inside
 
 pub class_primary-returns-in-None-clause-reads : goal.class_primary-returns-in-None-clause-reads
 class_primary-returns-in-None-clause-reads t c =
-    reads_upto class_view c.args.tokens.now c.in_ok-body.body c.args.at _ (λ r g. g) (λ s. primary_body (c.in_ok-body.ensures.skips s)) c.class_end.ensures.reads
+    reads_upto boxed_class_view c.args.tokens.now c.in_ok-body.body c.args.at _ (λ r g. g) (λ s. primary_body (c.in_ok-body.ensures.skips s)) c.class_end.ensures.reads
 
 -- ---- operands
 
@@ -75,13 +95,19 @@ class_operand-returns-in_err-body-clause-reads t c =
     let p = err_from_is_err_and c.from_residual.result c.from_residual.ensures.1 in
     rw (p.1, p.2) (on_fault c.args.tokens.now c.args.at c.args.at _ (λ s bad k. operand_stuck k) c.in_err-body.ensures.skips)
 
+pub class_operand-returns-in_default-clause-inside : goal.class_operand-returns-in_default-clause-inside
+class_operand-returns-in_default-clause-inside t c = advanced_on _ c.in_ok-body.body _ c.class_end.result c.in_ok-body.ensures.inside.further c.class_end.ensures.inside
+
 pub class_operand-returns-in_default-clause-reads : goal.class_operand-returns-in_default-clause-reads
 class_operand-returns-in_default-clause-reads t c =
-    reads_upto class_view c.args.tokens.now c.in_ok-body.body c.args.at _ (λ r g. g) (λ s. upto_then (operand_body (c.in_ok-body.ensures.skips s)) (operand_plain c.in_default.ensures.names)) c.class_end.ensures.reads
+    reads_upto boxed_class_view c.args.tokens.now c.in_ok-body.body c.args.at _ (λ r g. g) (λ s. upto_then (operand_body (c.in_ok-body.ensures.skips s)) (operand_plain c.in_default.ensures.names)) c.class_end.ensures.reads
+
+pub class_operand-returns-in_default-next-clause-inside : goal.class_operand-returns-in_default-next-clause-inside
+class_operand-returns-in_default-next-clause-inside t c = passed_past _ (c.in_ok-body.body + 1) _ c.any_class.result (omega (arith, c.in_ok-body.ensures.inside.further)) c.any_class.ensures.inside
 
 pub class_operand-returns-in_default-next-clause-reads : goal.class_operand-returns-in_default-next-clause-reads
 class_operand-returns-in_default-next-clause-reads t c =
-    reads_upto class_view c.args.tokens.now (c.in_ok-body.body + 1) c.args.at _ (λ r g. g)
+    reads_upto boxed_class_view c.args.tokens.now (c.in_ok-body.body + 1) c.args.at _ (λ r g. g)
     (λ s. upto_then (operand_body (c.in_ok-body.ensures.skips s)) (upto_then (operand_any c.in-Some.ensures.names) (tail_plain (any_view c.in-Some.any) _ _ c.next.result c.next.ensures.next c.in_default-next.not-Minus)))
     c.any_class.ensures.reads
 
@@ -92,11 +118,14 @@ class_operand-returns-in_err-except-clause-reads t c =
     let p = err_from_is_err_and c.from_residual-in_err-except.result c.from_residual-in_err-except.ensures.1 in
     rw (p.1, p.2) (on_fault c.args.tokens.now (c.in_ok-body.body + 2) c.args.at _ (λ s bad k. except_stuck (any_view c.in-Some.any) (upto_then (operand_body (c.in_ok-body.ensures.skips s)) (operand_any c.in-Some.ensures.names)) e k) c.in_err-except.ensures.reads)
 
+pub class_operand-returns-clause-inside : goal.class_operand-returns-clause-inside
+class_operand-returns-clause-inside t c = made_advanced boxed_class_view _ _ _ _ c.all_but.result c.all_but.ensures (record { further = omega (arith, c.in_ok-body.ensures.inside.further, c.in_ok-except.ensures.inside.further); inside = c.in_ok-except.ensures.inside.inside })
+
 pub class_operand-returns-clause-reads : goal.class_operand-returns-clause-reads
-class_operand-returns-clause-reads t c = λ s.
+class_operand-returns-clause-reads t c =
     let n = c.in-Minus.ensures.next in
     let e = next_two c.args.tokens.now c.in_ok-body.body n.1 in
-    took_same (sym c.in_ok-all_but.ensures) (except_took (any_view c.in-Some.any) (upto_then (operand_body (c.in_ok-body.ensures.skips s)) (operand_any c.in-Some.ensures.names)) e (c.in_ok-except.ensures.reads s))
+    made_reads boxed_class_view c.args.tokens.now c.args.at c.in_ok-except.end c.all_but.result c.all_but.ensures (λ s. except_took (any_view c.in-Some.any) (upto_then (operand_body (c.in_ok-body.ensures.skips s)) (operand_any c.in-Some.ensures.names)) e (c.in_ok-except.ensures.reads s))
 
 -- ---- name classes
 
@@ -105,6 +134,9 @@ name_class-returns-in_err-first-clause-reads t c =
     let p = err_from_is_err_and c.from_residual.result c.from_residual.ensures.1 in
     rw (p.1, p.2) (on_fault c.args.tokens.now c.args.at c.args.at _ (λ s bad k. class_stuck k) c.in_err-first.ensures.reads)
 
+pub name_class-returns-then-not-is_operator-clause-inside : goal.name_class-returns-then-not-is_operator-clause-inside
+name_class-returns-then-not-is_operator-clause-inside t c = c.in_ok-first.ensures.inside
+
 pub name_class-returns-then-not-is_operator-clause-reads : goal.name_class-returns-then-not-is_operator-clause-reads
 name_class-returns-then-not-is_operator-clause-reads t c = λ s. class_alone (c.in_ok-first.ensures.reads s) c.if-not-is_operator.ensures.is
 
@@ -112,7 +144,7 @@ pub name_class-choice-init : goal.name_class-choice-init
 name_class-choice-init t c = record {
   further = c.in_ok-first.ensures.inside.further;
   inside = c.in_ok-first.ensures.inside.inside;
-  so_far = λ s. so_far_same _ _ (sym (ap (map class_view) (c.in_ok-push.ensures.items ∙ ap (λ l. l ++ c.in_ok-first.first ∷ []) c.new-members.ensures.items)))
+  so_far = λ s. so_far_same _ _ (sym (c.in_ok-push_member.ensures ∙ ap (λ l. map class_view l ++ boxed_class_view c.in_ok-first.first ∷ []) c.new-members.ensures.items))
       (class_first (c.in_ok-first.ensures.reads s), c.if-not-is_operator.ensures.is);
 }
 
@@ -122,7 +154,7 @@ name_class-choice-preserved t c =
     record {
       further = omega (arith, c.in_ok-class.ensures.inside.further);
       inside = c.in_ok-class.ensures.inside.inside;
-      so_far = λ s. so_far_same _ _ (sym (ap (map class_view) c.in_ok-push-2.ensures.items ∙ map-append class_view c.choice.members.items (c.in_ok-class.class ∷ [])))
+      so_far = λ s. so_far_same _ _ (sym c.in_ok-push_member-2.ensures)
           (chain_read classes_chain _ _ _ (c.choice.invariant.so_far s) here.1 (c.in_ok-class.ensures.reads s));
     }
 
@@ -132,5 +164,8 @@ name_class-returns-in_err-class-clause-reads t c =
     let p = err_from_is_err_and c.from_residual-in_err-class.result c.from_residual-in_err-class.ensures.1 in
     rw (p.1, p.2) (on_fault c.args.tokens.now (c.choice.end + 1) c.args.at _ (λ s bad k. chain_stuck classes_chain _ _ _ (c.choice.invariant.so_far s) here.1 k) c.in_err-class.ensures.reads)
 
+pub name_class-returns-clause-inside : goal.name_class-returns-clause-inside
+name_class-returns-clause-inside t c = made_advanced boxed_class_view _ _ _ _ c.choice-2.result c.choice-2.ensures (record { further = c.choice.invariant.further; inside = c.choice.invariant.inside })
+
 pub name_class-returns-clause-reads : goal.name_class-returns-clause-reads
-name_class-returns-clause-reads t c = λ s. took_same (sym c.choice-2.ensures) (chain_end classes_chain (map class_view c.choice.members.items) _ _ (c.choice.invariant.so_far s) c.choice-test.ensures.is)
+name_class-returns-clause-reads t c = made_reads boxed_class_view c.args.tokens.now c.args.at c.choice.end c.choice-2.result c.choice-2.ensures (λ s. chain_end classes_chain (map class_view c.choice.members.items) _ _ (c.choice.invariant.so_far s) c.choice-test.ensures.is)

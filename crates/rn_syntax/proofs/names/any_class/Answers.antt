@@ -1,8 +1,7 @@
 use Rattle.std.proofs.lemmas.Result.{err_from_is_err_and}
-use Rattle.std.proofs.Common.{sym}
-use Rattle.rn_syntax.specs.View.{any_view}
+use Rattle.rn_syntax.specs.View.{any_view, boxed_class_view}
 use Rattle.rn_syntax.specs.Tree as t
-use Rattle.rn_syntax.proofs.Compose.{on_fault, took_same}
+use Rattle.rn_syntax.proofs.Compose.{on_fault, made_passed, made_reads}
 use Rattle.rn_syntax.proofs.Classes.{followed_took, followed_stuck}
 use Rattle.rn_syntax.proofs.names.any_class.Goals as goal
 
@@ -11,5 +10,8 @@ returns-in_err-end-clause-reads c =
     let p = err_from_is_err_and c.from_residual.result c.from_residual.ensures.1 in
     rw (p.1, p.2) (on_fault c.args.tokens.now c.args.at c.args.at _ (λ s bad k. followed_stuck (t.all (any_view c.args.any)) k) c.in_err-end.ensures.skips)
 
+pub returns-clause-inside : goal.returns-clause-inside
+returns-clause-inside c = made_passed boxed_class_view _ _ _ _ c.all.result c.all.ensures c.in_ok-end.ensures.inside
+
 pub returns-clause-reads : goal.returns-clause-reads
-returns-clause-reads c = λ s. took_same (sym c.all.ensures) (followed_took (t.all (any_view c.args.any)) (c.in_ok-end.ensures.skips s))
+returns-clause-reads c = made_reads boxed_class_view c.args.tokens.now c.args.at c.in_ok-end.end c.all.result c.all.ensures (λ s. followed_took (t.all (any_view c.args.any)) (c.in_ok-end.ensures.skips s))

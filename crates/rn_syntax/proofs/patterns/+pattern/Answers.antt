@@ -6,11 +6,11 @@ use Rattle.rn_syntax.specs.Terminal.{operator}
 use Rattle.rn_syntax.specs.Tree as tree
 use Rattle.rn_syntax.specs.View.{boxed_view, datatype_view, params_view, pattern_view}
 use Rattle.rn_syntax.specs.Follow.{first}
-use Rattle.rn_syntax.proofs.Compose.{on_fault, took_same, stuck_upto, reads_upto, upto_then}
+use Rattle.rn_syntax.proofs.Compose.{on_fault, took_same, reads_upto, made_reads, made_passed, made_advanced, later, one_on, passed_on, passed_past}
 use Rattle.rn_syntax.proofs.Next.{terminal_at, place_is}
 use Rattle.rn_syntax.proofs.Chaining.{chain_read, chain_stuck, chain_end}
 use Rattle.rn_syntax.proofs.Chains.{operands_chain, pattern_stuck, pattern_alone, pattern_first, operands_same}
-use Rattle.rn_syntax.proofs.Operands.{no_segment, text_stuck, text_read, params_stuck, datum_read, except_stuck, except_took, follows_read, follows_stuck, upto_same}
+use Rattle.rn_syntax.proofs.Operands.{no_segment, text_stuck, text_read, params_stuck, params_read, datum_read, except_stuck, except_took, core_made}
 use Rattle.rn_syntax.proofs.Primaries.{type_at, operand_stuck, operand_typed, operand_core_stuck, operand_core_read, primary_stuck, primary_core_stuck, primary_follows_stuck, primary_took}
 use Rattle.rn_syntax.proofs.Cores.{open_stuck, braces_inner, braces_close, braced_took, class_stuck, content_stuck, content_took, keyword_here, element_stuck, element_took, attribute_stuck, attribute_took, list_stuck, list_took, mixed_stuck, mixed_took, empty_took, not_allowed_took, text_took, ref_took}
 use Rattle.rn_syntax.proofs.Unnamed.{literal_stuck, literal_took, inner_stuck, close_stuck, parens_took, no_core, no_keyword_core}
@@ -33,6 +33,9 @@ braced-returns-in_err-right_brace-clause-reads t c =
     let p = err_from_is_err_and c.from_residual-in_err-right_brace.result c.from_residual-in_err-right_brace.ensures.1 in
     rw (p.1, p.2) (on_fault c.args.tokens.now c.in_ok-content.end c.args.at _ (λ s bad k. braces_close (c.in_ok-inside.ensures.passes s).1 (c.in_ok-content.ensures.reads s) k) c.in_err-right_brace.ensures.passes)
 
+pub braced-returns-clause-inside : goal.braced-returns-clause-inside
+braced-returns-clause-inside t c = record { further = omega (arith, c.in_ok-inside.ensures.inside.further, c.in_ok-content.ensures.inside.further, c.in_ok-right_brace.ensures.inside.further); inside = c.in_ok-right_brace.ensures.inside.inside }
+
 pub braced-returns-clause-reads : goal.braced-returns-clause-reads
 braced-returns-clause-reads t c = λ s. braced_took (c.in_ok-inside.ensures.passes s).1 (c.in_ok-content.ensures.reads s) (c.in_ok-right_brace.ensures.passes s).1
 
@@ -46,6 +49,9 @@ named-returns-in_err-content-clause-reads t c =
     let p = err_from_is_err_and c.from_residual-in_err-content.result c.from_residual-in_err-content.ensures.1 in
     rw (p.1, p.2) (on_fault c.args.tokens.now c.in_ok-class.end c.args.at _ (λ s bad k. content_stuck (c.in_ok-class.ensures.reads s) k) c.in_err-content.ensures.reads)
 
+pub named-returns-clause-inside : goal.named-returns-clause-inside
+named-returns-clause-inside t c = record { further = omega (arith, c.in_ok-class.ensures.inside.further, c.in_ok-content.ensures.inside.further); inside = c.in_ok-content.ensures.inside.inside }
+
 pub named-returns-clause-reads : goal.named-returns-clause-reads
 named-returns-clause-reads t c = λ s. content_took (c.in_ok-class.ensures.reads s) (c.in_ok-content.ensures.reads s)
 
@@ -56,52 +62,76 @@ keyword_core-returns-in_err-class-in-Element-clause-reads t c =
     let p = err_from_is_err_and c.from_residual.result c.from_residual.ensures.1 in
     rw (p.1, p.2) (on_fault c.args.tokens.now (c.args.at + 1) c.args.at _ (λ s bad k. element_stuck (keyword_here c.args.tokens.now c.args.at word.Element c.requires.inside c.requires.here c.in-Element.is).1 k) c.in_err-class-in-Element.ensures.reads)
 
-pub keyword_core-returns-in_ok-element-in-Element-clause-reads : goal.keyword_core-returns-in_ok-element-in-Element-clause-reads
-keyword_core-returns-in_ok-element-in-Element-clause-reads t c = λ s. took_same (sym c.in_ok-element-in-Element.ensures) (element_took (keyword_here c.args.tokens.now c.args.at word.Element c.requires.inside c.requires.here c.in-Element.is).1 (c.in_ok-class-in-Element.ensures.reads s))
+pub keyword_core-returns-in_ok-class-in-Element-clause-inside : goal.keyword_core-returns-in_ok-class-in-Element-clause-inside
+keyword_core-returns-in_ok-class-in-Element-clause-inside t c = made_advanced boxed_view _ _ _ _ c.element.result c.element.ensures (later _ c.in_ok-class-in-Element.ensures.inside)
+
+pub keyword_core-returns-in_ok-class-in-Element-clause-reads : goal.keyword_core-returns-in_ok-class-in-Element-clause-reads
+keyword_core-returns-in_ok-class-in-Element-clause-reads t c = made_reads boxed_view c.args.tokens.now c.args.at c.in_ok-class-in-Element.end c.element.result c.element.ensures (λ s. element_took (keyword_here c.args.tokens.now c.args.at word.Element c.requires.inside c.requires.here c.in-Element.is).1 (c.in_ok-class-in-Element.ensures.reads s))
 
 pub keyword_core-returns-in_err-class-in-Attribute-clause-reads : goal.keyword_core-returns-in_err-class-in-Attribute-clause-reads
 keyword_core-returns-in_err-class-in-Attribute-clause-reads t c =
     let p = err_from_is_err_and c.from_residual-in_err-class-in-Attribute.result c.from_residual-in_err-class-in-Attribute.ensures.1 in
     rw (p.1, p.2) (on_fault c.args.tokens.now (c.args.at + 1) c.args.at _ (λ s bad k. attribute_stuck (keyword_here c.args.tokens.now c.args.at word.Attribute c.requires.inside c.requires.here c.in-Attribute.is).1 k) c.in_err-class-in-Attribute.ensures.reads)
 
-pub keyword_core-returns-in_ok-attribute-in-Attribute-clause-reads : goal.keyword_core-returns-in_ok-attribute-in-Attribute-clause-reads
-keyword_core-returns-in_ok-attribute-in-Attribute-clause-reads t c = λ s. took_same (sym c.in_ok-attribute-in-Attribute.ensures) (attribute_took (keyword_here c.args.tokens.now c.args.at word.Attribute c.requires.inside c.requires.here c.in-Attribute.is).1 (c.in_ok-class-in-Attribute.ensures.reads s))
+pub keyword_core-returns-in_ok-class-in-Attribute-clause-inside : goal.keyword_core-returns-in_ok-class-in-Attribute-clause-inside
+keyword_core-returns-in_ok-class-in-Attribute-clause-inside t c = made_advanced boxed_view _ _ _ _ c.attribute.result c.attribute.ensures (later _ c.in_ok-class-in-Attribute.ensures.inside)
+
+pub keyword_core-returns-in_ok-class-in-Attribute-clause-reads : goal.keyword_core-returns-in_ok-class-in-Attribute-clause-reads
+keyword_core-returns-in_ok-class-in-Attribute-clause-reads t c = made_reads boxed_view c.args.tokens.now c.args.at c.in_ok-class-in-Attribute.end c.attribute.result c.attribute.ensures (λ s. attribute_took (keyword_here c.args.tokens.now c.args.at word.Attribute c.requires.inside c.requires.here c.in-Attribute.is).1 (c.in_ok-class-in-Attribute.ensures.reads s))
 
 pub keyword_core-returns-in_err-content-in-List-clause-reads : goal.keyword_core-returns-in_err-content-in-List-clause-reads
 keyword_core-returns-in_err-content-in-List-clause-reads t c =
     let p = err_from_is_err_and c.from_residual-in_err-content-in-List.result c.from_residual-in_err-content-in-List.ensures.1 in
     rw (p.1, p.2) (on_fault c.args.tokens.now (c.args.at + 1) c.args.at _ (λ s bad k. list_stuck (keyword_here c.args.tokens.now c.args.at word.List c.requires.inside c.requires.here c.in-List.is).1 k) c.in_err-content-in-List.ensures.reads)
 
-pub keyword_core-returns-in_ok-list-in-List-clause-reads : goal.keyword_core-returns-in_ok-list-in-List-clause-reads
-keyword_core-returns-in_ok-list-in-List-clause-reads t c = λ s. took_same (sym c.in_ok-list-in-List.ensures) (list_took (keyword_here c.args.tokens.now c.args.at word.List c.requires.inside c.requires.here c.in-List.is).1 (c.in_ok-content-in-List.ensures.reads s))
+pub keyword_core-returns-in_ok-content-in-List-clause-inside : goal.keyword_core-returns-in_ok-content-in-List-clause-inside
+keyword_core-returns-in_ok-content-in-List-clause-inside t c = made_advanced boxed_view _ _ _ _ c.list.result c.list.ensures (later _ c.in_ok-content-in-List.ensures.inside)
+
+pub keyword_core-returns-in_ok-content-in-List-clause-reads : goal.keyword_core-returns-in_ok-content-in-List-clause-reads
+keyword_core-returns-in_ok-content-in-List-clause-reads t c = made_reads boxed_view c.args.tokens.now c.args.at c.in_ok-content-in-List.end c.list.result c.list.ensures (λ s. list_took (keyword_here c.args.tokens.now c.args.at word.List c.requires.inside c.requires.here c.in-List.is).1 (c.in_ok-content-in-List.ensures.reads s))
 
 pub keyword_core-returns-in_err-content-in-Mixed-clause-reads : goal.keyword_core-returns-in_err-content-in-Mixed-clause-reads
 keyword_core-returns-in_err-content-in-Mixed-clause-reads t c =
     let p = err_from_is_err_and c.from_residual-in_err-content-in-Mixed.result c.from_residual-in_err-content-in-Mixed.ensures.1 in
     rw (p.1, p.2) (on_fault c.args.tokens.now (c.args.at + 1) c.args.at _ (λ s bad k. mixed_stuck (keyword_here c.args.tokens.now c.args.at word.Mixed c.requires.inside c.requires.here c.in-Mixed.is).1 k) c.in_err-content-in-Mixed.ensures.reads)
 
-pub keyword_core-returns-in_ok-mixed-in-Mixed-clause-reads : goal.keyword_core-returns-in_ok-mixed-in-Mixed-clause-reads
-keyword_core-returns-in_ok-mixed-in-Mixed-clause-reads t c = λ s. took_same (sym c.in_ok-mixed-in-Mixed.ensures) (mixed_took (keyword_here c.args.tokens.now c.args.at word.Mixed c.requires.inside c.requires.here c.in-Mixed.is).1 (c.in_ok-content-in-Mixed.ensures.reads s))
+pub keyword_core-returns-in_ok-content-in-Mixed-clause-inside : goal.keyword_core-returns-in_ok-content-in-Mixed-clause-inside
+keyword_core-returns-in_ok-content-in-Mixed-clause-inside t c = made_advanced boxed_view _ _ _ _ c.mixed.result c.mixed.ensures (later _ c.in_ok-content-in-Mixed.ensures.inside)
 
-pub keyword_core-returns-in_ok-empty-in-Empty-clause-reads : goal.keyword_core-returns-in_ok-empty-in-Empty-clause-reads
-keyword_core-returns-in_ok-empty-in-Empty-clause-reads t c = λ s. took_same (sym c.in_ok-empty-in-Empty.ensures) (empty_took (keyword_here c.args.tokens.now c.args.at word.Empty c.requires.inside c.requires.here c.in-Empty.is).1)
+pub keyword_core-returns-in_ok-content-in-Mixed-clause-reads : goal.keyword_core-returns-in_ok-content-in-Mixed-clause-reads
+keyword_core-returns-in_ok-content-in-Mixed-clause-reads t c = made_reads boxed_view c.args.tokens.now c.args.at c.in_ok-content-in-Mixed.end c.mixed.result c.mixed.ensures (λ s. mixed_took (keyword_here c.args.tokens.now c.args.at word.Mixed c.requires.inside c.requires.here c.in-Mixed.is).1 (c.in_ok-content-in-Mixed.ensures.reads s))
 
-pub keyword_core-returns-in_ok-not_allowed-in-NotAllowed-clause-reads : goal.keyword_core-returns-in_ok-not_allowed-in-NotAllowed-clause-reads
-keyword_core-returns-in_ok-not_allowed-in-NotAllowed-clause-reads t c = λ s. took_same (sym c.in_ok-not_allowed-in-NotAllowed.ensures) (not_allowed_took (keyword_here c.args.tokens.now c.args.at word.NotAllowed c.requires.inside c.requires.here c.in-NotAllowed.is).1)
+pub keyword_core-returns-in-Empty-clause-inside : goal.keyword_core-returns-in-Empty-clause-inside
+keyword_core-returns-in-Empty-clause-inside t c = made_advanced boxed_view _ _ _ _ c.empty.result c.empty.ensures (one_on c.requires.inside)
 
-pub keyword_core-returns-in_ok-text-in-Text-clause-reads : goal.keyword_core-returns-in_ok-text-in-Text-clause-reads
-keyword_core-returns-in_ok-text-in-Text-clause-reads t c = λ s. took_same (sym c.in_ok-text-in-Text.ensures) (text_took (keyword_here c.args.tokens.now c.args.at word.Text c.requires.inside c.requires.here c.in-Text.is).1)
+pub keyword_core-returns-in-Empty-clause-reads : goal.keyword_core-returns-in-Empty-clause-reads
+keyword_core-returns-in-Empty-clause-reads t c = made_reads boxed_view c.args.tokens.now c.args.at (c.args.at + 1) c.empty.result c.empty.ensures (λ s. empty_took (keyword_here c.args.tokens.now c.args.at word.Empty c.requires.inside c.requires.here c.in-Empty.is).1)
+
+pub keyword_core-returns-in-NotAllowed-clause-inside : goal.keyword_core-returns-in-NotAllowed-clause-inside
+keyword_core-returns-in-NotAllowed-clause-inside t c = made_advanced boxed_view _ _ _ _ c.not_allowed.result c.not_allowed.ensures (one_on c.requires.inside)
+
+pub keyword_core-returns-in-NotAllowed-clause-reads : goal.keyword_core-returns-in-NotAllowed-clause-reads
+keyword_core-returns-in-NotAllowed-clause-reads t c = made_reads boxed_view c.args.tokens.now c.args.at (c.args.at + 1) c.not_allowed.result c.not_allowed.ensures (λ s. not_allowed_took (keyword_here c.args.tokens.now c.args.at word.NotAllowed c.requires.inside c.requires.here c.in-NotAllowed.is).1)
+
+pub keyword_core-returns-in-Text-clause-inside : goal.keyword_core-returns-in-Text-clause-inside
+keyword_core-returns-in-Text-clause-inside t c = made_advanced boxed_view _ _ _ _ c.text.result c.text.ensures (one_on c.requires.inside)
+
+pub keyword_core-returns-in-Text-clause-reads : goal.keyword_core-returns-in-Text-clause-reads
+keyword_core-returns-in-Text-clause-reads t c = made_reads boxed_view c.args.tokens.now c.args.at (c.args.at + 1) c.text.result c.text.ensures (λ s. text_took (keyword_here c.args.tokens.now c.args.at word.Text c.requires.inside c.requires.here c.in-Text.is).1)
 
 pub keyword_core-returns-in_default-clause-reads : goal.keyword_core-returns-in_default-clause-reads
 keyword_core-returns-in_default-clause-reads t c = λ s. no_keyword_core c.args.keyword c.requires.here c.in_default.not-Element c.in_default.not-Attribute c.in_default.not-List c.in_default.not-Mixed c.in_default.not-Empty c.in_default.not-NotAllowed c.in_default.not-Text c.requires.untyped
 
 pub untyped_core-returns-in_err-text-in-Segment-clause-reads : goal.untyped_core-returns-in_err-text-in-Segment-clause-reads
 untyped_core-returns-in_err-text-in-Segment-clause-reads t c =
-    let p = err_from_is_err_and c.from_residual-in_err-text-in-Segment.result c.from_residual-in_err-text-in-Segment.ensures.1 in
+    let p = err_from_is_err_and c.from_residual.result c.from_residual.ensures.1 in
     rw (p.1, p.2) (on_fault c.args.tokens.now c.args.at c.args.at _ (λ s bad k. literal_stuck c.in-Segment.ensures.next.1 k) c.in_err-text-in-Segment.ensures.reads)
 
-pub untyped_core-returns-in_ok-plain_value-in-Segment-clause-reads : goal.untyped_core-returns-in_ok-plain_value-in-Segment-clause-reads
-untyped_core-returns-in_ok-plain_value-in-Segment-clause-reads t c = λ s. took_same (sym c.in_ok-plain_value-in-Segment.ensures) (literal_took c.in-Segment.ensures.next.1 (c.in_ok-text-in-Segment.ensures.reads s))
+pub untyped_core-returns-in_ok-text-in-Segment-clause-inside : goal.untyped_core-returns-in_ok-text-in-Segment-clause-inside
+untyped_core-returns-in_ok-text-in-Segment-clause-inside t c = made_advanced boxed_view _ _ _ _ c.plain_value.result c.plain_value.ensures c.in_ok-text-in-Segment.ensures.inside
+
+pub untyped_core-returns-in_ok-text-in-Segment-clause-reads : goal.untyped_core-returns-in_ok-text-in-Segment-clause-reads
+untyped_core-returns-in_ok-text-in-Segment-clause-reads t c = made_reads boxed_view c.args.tokens.now c.args.at c.in_ok-text-in-Segment.end c.plain_value.result c.plain_value.ensures (λ s. literal_took c.in-Segment.ensures.next.1 (c.in_ok-text-in-Segment.ensures.reads s))
 
 pub untyped_core-returns-in_err-inner-in-LeftParen-clause-reads : goal.untyped_core-returns-in_err-inner-in-LeftParen-clause-reads
 untyped_core-returns-in_err-inner-in-LeftParen-clause-reads t c =
@@ -113,14 +143,23 @@ untyped_core-returns-in_err-right_paren-in-LeftParen-clause-reads t c =
     let p = err_from_is_err_and c.from_residual-in_err-right_paren-in-LeftParen.result c.from_residual-in_err-right_paren-in-LeftParen.ensures.1 in
     rw (p.1, p.2) (on_fault c.args.tokens.now c.in_ok-inner-in-LeftParen.end c.args.at _ (λ s bad k. close_stuck c.in-LeftParen.ensures.next.1 (c.in_ok-inner-in-LeftParen.ensures.reads s) k) c.in_err-right_paren-in-LeftParen.ensures.passes)
 
+pub untyped_core-returns-in_ok-right_paren-in-LeftParen-clause-inside : goal.untyped_core-returns-in_ok-right_paren-in-LeftParen-clause-inside
+untyped_core-returns-in_ok-right_paren-in-LeftParen-clause-inside t c = record { further = omega (arith, c.in_ok-inner-in-LeftParen.ensures.inside.further, c.in_ok-right_paren-in-LeftParen.ensures.inside.further); inside = c.in_ok-right_paren-in-LeftParen.ensures.inside.inside }
+
 pub untyped_core-returns-in_ok-right_paren-in-LeftParen-clause-reads : goal.untyped_core-returns-in_ok-right_paren-in-LeftParen-clause-reads
 untyped_core-returns-in_ok-right_paren-in-LeftParen-clause-reads t c = λ s. parens_took c.in-LeftParen.ensures.next.1 (c.in_ok-inner-in-LeftParen.ensures.reads s) (c.in_ok-right_paren-in-LeftParen.ensures.passes s).1
 
-pub untyped_core-returns-in_ok-reference-in-Ident-clause-reads : goal.untyped_core-returns-in_ok-reference-in-Ident-clause-reads
-untyped_core-returns-in_ok-reference-in-Ident-clause-reads t c = λ s. took_same (sym c.in_ok-reference-in-Ident.ensures) (ref_took c.in-Ident.ensures.next.1)
+pub untyped_core-returns-in-Ident-clause-inside : goal.untyped_core-returns-in-Ident-clause-inside
+untyped_core-returns-in-Ident-clause-inside t c = made_advanced boxed_view _ _ _ _ c.reference.result c.reference.ensures (one_on c.in-Ident.ensures.inside)
+
+pub untyped_core-returns-in-Ident-clause-reads : goal.untyped_core-returns-in-Ident-clause-reads
+untyped_core-returns-in-Ident-clause-reads t c = made_reads boxed_view c.args.tokens.now c.args.at (c.args.at + 1) c.reference.result c.reference.ensures (λ s. ref_took c.in-Ident.ensures.next.1)
 
 pub untyped_core-returns-in_default-clause-reads : goal.untyped_core-returns-in_default-clause-reads
 untyped_core-returns-in_default-clause-reads t c = λ s. no_core _ _ c.next.result c.next.ensures.next c.in_default.not-Keyword c.in_default.not-Ident c.in_default.not-Segment c.in_default.not-LeftParen c.requires.untyped
+
+pub core-returns-in-Some-clause-inside : goal.core-returns-in-Some-clause-inside
+core-returns-in-Some-clause-inside t c = passed_past _ (c.args.at + 1) _ c.data.result (omega arith) c.data.ensures.inside
 
 pub core-returns-in-Some-clause-reads : goal.core-returns-in-Some-clause-reads
 core-returns-in-Some-clause-reads t c = reads_upto boxed_view c.args.tokens.now (c.args.at + 1) c.args.at _ (λ r w. w) (λ s. type_at c.in-Some.ensures.names) c.data.ensures.reads
@@ -142,55 +181,67 @@ primary-returns-in_err-skip_follows-clause-reads t c =
     let p = err_from_is_err_and c.from_residual-in_err-skip_follows.result c.from_residual-in_err-skip_follows.ensures.1 in
     rw (p.1, p.2) (on_fault c.args.tokens.now c.in_ok-core.end c.args.at _ (λ s bad k. primary_follows_stuck (c.in_ok-body.ensures.skips s) (c.in_ok-core.ensures.reads s) k) c.in_err-skip_follows.ensures.skips)
 
+pub primary-returns-clause-inside : goal.primary-returns-clause-inside
+primary-returns-clause-inside t c = record { further = omega (arith, c.in_ok-body.ensures.inside.further, c.in_ok-core.ensures.inside.further, c.in_ok-skip_follows.ensures.inside.further); inside = c.in_ok-skip_follows.ensures.inside.inside }
+
 pub primary-returns-clause-reads : goal.primary-returns-clause-reads
 primary-returns-clause-reads t c = λ s. primary_took (c.in_ok-body.ensures.skips s) (c.in_ok-core.ensures.reads s) (c.in_ok-skip_follows.ensures.skips s)
 
 -- ---- operands
 
-pub behind_datatype-returns-in_err-text-clause-reads : goal.behind_datatype-returns-in_err-text-clause-reads
-behind_datatype-returns-in_err-text-clause-reads t c =
+pub behind_datatype-returns-in_err-core-clause-reads : goal.behind_datatype-returns-in_err-core-clause-reads
+behind_datatype-returns-in_err-core-clause-reads t c =
     let p = err_from_is_err_and c.from_residual.result c.from_residual.ensures.1 in
-    rw (p.1, p.2) (on_fault c.args.tokens.now c.args.at c.args.at _ (λ s bad k. text_stuck (datatype_view c.args.datatype) c.in-Segment.ensures.next.1 k) c.in_err-text.ensures.reads)
+    rw (p.1, p.2) (on_fault c.args.tokens.now c.args.at c.args.at _ (λ s bad k. text_stuck (datatype_view c.args.datatype) c.in-Segment.ensures.next.1 k) c.in_err-core.ensures.reads)
 
-pub behind_datatype-returns-in_err-behind-clause-reads : goal.behind_datatype-returns-in_err-behind-clause-reads
-behind_datatype-returns-in_err-behind-clause-reads t c =
-    let p = err_from_is_err_and c.from_residual-in_err-behind.result c.from_residual-in_err-behind.ensures.1 in
-    rw (p.1, p.2) (on_fault c.args.tokens.now c.in_ok-text.end c.args.at _ (λ s bad k. stuck_upto (text_read (datatype_view c.args.datatype) c.in-Segment.ensures.next.1 (c.in_ok-text.ensures.reads s)) (follows_stuck _ k)) c.in_err-behind.ensures.skips)
+pub behind_datatype-returns-in-Segment-clause-inside : goal.behind_datatype-returns-in-Segment-clause-inside
+behind_datatype-returns-in-Segment-clause-inside t c = passed_on _ c.in_ok-core.end _ c.behind_core.result (omega (arith, c.in_ok-core.ensures.inside.further)) c.behind_core.ensures.inside
 
 pub behind_datatype-returns-in-Segment-clause-reads : goal.behind_datatype-returns-in-Segment-clause-reads
-behind_datatype-returns-in-Segment-clause-reads t c = reads_upto boxed_view c.args.tokens.now c.in_ok-behind.behind c.args.at _ (λ r w. w) (λ s. upto_same (sym c.in_ok-value.ensures) (upto_then (text_read (datatype_view c.args.datatype) c.in-Segment.ensures.next.1 (c.in_ok-text.ensures.reads s)) (follows_read _ (c.in_ok-behind.ensures.skips s)))) c.behind_primary.ensures.reads
+behind_datatype-returns-in-Segment-clause-reads t c = reads_upto boxed_view c.args.tokens.now c.in_ok-core.end c.args.at _ (λ r w. w) (λ s. text_read (datatype_view c.args.datatype) c.in-Segment.ensures.next.1 (c.in_ok-core.ensures.reads s)) c.behind_core.ensures.reads
 
 pub behind_datatype-returns-in_err-params-clause-reads : goal.behind_datatype-returns-in_err-params-clause-reads
 behind_datatype-returns-in_err-params-clause-reads t c =
     let p = err_from_is_err_and c.from_residual-in_err-params.result c.from_residual-in_err-params.ensures.1 in
     rw (p.1, p.2) (on_fault c.args.tokens.now c.args.at c.args.at _ (λ s bad k. params_stuck (datatype_view c.args.datatype) (no_segment _ _ c.next.result c.next.ensures.next c.in_default.not-Segment) k) c.in_err-params.ensures.reads)
 
-pub behind_datatype-returns-in_err-except-clause-reads : goal.behind_datatype-returns-in_err-except-clause-reads
-behind_datatype-returns-in_err-except-clause-reads t c =
-    let p = err_from_is_err_and c.from_residual-in_err-except.result c.from_residual-in_err-except.ensures.1 in
-    rw (p.1, p.2) (on_fault c.args.tokens.now (c.in_ok-params.end + 1) c.args.at _ (λ s bad k. except_stuck (datatype_view c.args.datatype) (no_segment _ _ c.next.result c.next.ensures.next c.in_default.not-Segment) (c.in_ok-params.ensures.reads s) c.in-Minus.ensures.next.1 k) c.in_err-except.ensures.reads)
-
-pub behind_datatype-returns-in-Minus-clause-inside : goal.behind_datatype-returns-in-Minus-clause-inside
-behind_datatype-returns-in-Minus-clause-inside t c = record { further = omega (arith, c.in_ok-params.ensures.inside.further, c.in_ok-except.ensures.inside.further); inside = c.in_ok-except.ensures.inside.inside }
-
-pub behind_datatype-returns-in-Minus-clause-reads : goal.behind_datatype-returns-in-Minus-clause-reads
-behind_datatype-returns-in-Minus-clause-reads t c = λ s.
-    let n = c.in-Minus.ensures.next in
-    let place = place_is c.args.tokens.now n.1 c.place-minus.ensures in
-    took_same (sym (c.in_ok-datum_but.ensures ∙ ap (λ i. tree.datum_but (datatype_view c.args.datatype) (params_view c.in_ok-params.params.items) i (boxed_view c.in_ok-except.except)) place)) (except_took (datatype_view c.args.datatype) (no_segment _ _ c.next.result c.next.ensures.next c.in_default.not-Segment) (c.in_ok-params.ensures.reads s) n.1 (c.in_ok-except.ensures.reads s))
-
-pub behind_datatype-returns-in_err-behind-2-clause-reads : goal.behind_datatype-returns-in_err-behind-2-clause-reads
-behind_datatype-returns-in_err-behind-2-clause-reads t c =
-    let p = err_from_is_err_and c.from_residual-in_err-behind-2.result c.from_residual-in_err-behind-2.ensures.1 in
-    rw (p.1, p.2) (on_fault c.args.tokens.now c.in_ok-params.end c.args.at _ (λ s bad k. stuck_upto (datum_read (datatype_view c.args.datatype) _ c.next-2.result (no_segment _ _ c.next.result c.next.ensures.next c.in_default.not-Segment) (c.in_ok-params.ensures.reads s) c.next-2.ensures.next c.in_default-next.not-Minus) (follows_stuck _ k)) c.in_err-behind-2.ensures.skips)
+pub behind_datatype-returns-clause-inside : goal.behind_datatype-returns-clause-inside
+behind_datatype-returns-clause-inside t c = passed_on _ c.in_ok-params.end _ c.behind_params.result c.in_ok-params.ensures.inside.further c.behind_params.ensures.inside
 
 pub behind_datatype-returns-clause-reads : goal.behind_datatype-returns-clause-reads
-behind_datatype-returns-clause-reads t c = reads_upto boxed_view c.args.tokens.now c.in_ok-behind-2.behind c.args.at _ (λ r w. w) (λ s. upto_same (sym c.in_ok-datum.ensures) (upto_then (datum_read (datatype_view c.args.datatype) _ c.next-2.result (no_segment _ _ c.next.result c.next.ensures.next c.in_default.not-Segment) (c.in_ok-params.ensures.reads s) c.next-2.ensures.next c.in_default-next.not-Minus) (follows_read _ (c.in_ok-behind-2.ensures.skips s)))) c.behind_primary-2.ensures.reads
+behind_datatype-returns-clause-reads t c = reads_upto boxed_view c.args.tokens.now c.in_ok-params.end c.args.at _ (λ r w. w) (λ s. params_read (datatype_view c.args.datatype) (no_segment _ _ c.next.result c.next.ensures.next c.in_default.not-Segment) (c.in_ok-params.ensures.reads s)) c.behind_params.ensures.reads
+
+pub behind_params-returns-in_err-core-clause-reads : goal.behind_params-returns-in_err-core-clause-reads
+behind_params-returns-in_err-core-clause-reads t c =
+    let p = err_from_is_err_and c.from_residual.result c.from_residual.ensures.1 in
+    rw (p.1, p.2, c.in_err-core.ensures) tt
+
+pub behind_params-returns-in_default-clause-reads : goal.behind_params-returns-in_default-clause-reads
+behind_params-returns-in_default-clause-reads t c = reads_upto boxed_view c.args.tokens.now c.in_ok-core.end c.args.at _ (λ r w. w)
+    (λ s. core_made c.args.tokens.now c.in_ok-core.ensures (datum_read (datatype_view c.args.datatype) (params_view c.args.params.items) _ c.next.result c.next.ensures.next c.in_default.not-Minus)) c.behind_core.ensures.reads
+
+pub behind_params-returns-in_err-except-clause-reads : goal.behind_params-returns-in_err-except-clause-reads
+behind_params-returns-in_err-except-clause-reads t c =
+    let p = err_from_is_err_and c.from_residual-in_err-except.result c.from_residual-in_err-except.ensures.1 in
+    rw (p.1, p.2) (on_fault c.args.tokens.now (c.args.at + 1) c.args.at _ (λ s bad k. except_stuck (datatype_view c.args.datatype) (params_view c.args.params.items) c.in-Minus.ensures.next.1 k) c.in_err-except.ensures.reads)
+
+pub behind_params-returns-clause-inside : goal.behind_params-returns-clause-inside
+behind_params-returns-clause-inside t c = made_passed boxed_view _ _ _ _ c.datum_but.result c.datum_but.ensures (record { further = omega (arith, c.in_ok-except.ensures.inside.further); inside = c.in_ok-except.ensures.inside.inside })
+
+pub behind_params-returns-clause-reads : goal.behind_params-returns-clause-reads
+behind_params-returns-clause-reads t c =
+    let n = c.in-Minus.ensures.next in
+    let d = datatype_view c.args.datatype in
+    let ps = params_view c.args.params.items in
+    made_reads boxed_view c.args.tokens.now c.args.at c.in_ok-except.end c.datum_but.result c.datum_but.ensures (λ s. took_same (sym (ap (λ i. tree.datum_but d ps i (boxed_view c.in_ok-except.except)) (place_is c.args.tokens.now n.1 c.place.ensures))) (except_took d ps n.1 (c.in_ok-except.ensures.reads s)))
 
 pub operand-returns-in_err-body-clause-reads : goal.operand-returns-in_err-body-clause-reads
 operand-returns-in_err-body-clause-reads t c =
     let p = err_from_is_err_and c.from_residual.result c.from_residual.ensures.1 in
     rw (p.1, p.2) (on_fault c.args.tokens.now c.args.at c.args.at _ (λ s bad k. operand_stuck k) c.in_err-body.ensures.skips)
+
+pub operand-returns-in-Some-clause-inside : goal.operand-returns-in-Some-clause-inside
+operand-returns-in-Some-clause-inside t c = passed_past _ (c.in_ok-body.body + 1) _ c.behind_datatype.result (omega (arith, c.in_ok-body.ensures.inside.further)) c.behind_datatype.ensures.inside
 
 pub operand-returns-in-Some-clause-reads : goal.operand-returns-in-Some-clause-reads
 operand-returns-in-Some-clause-reads t c = reads_upto boxed_view c.args.tokens.now (c.in_ok-body.body + 1) c.args.at _ (λ r w. w) (λ s. operand_typed (c.in_ok-body.ensures.skips s) c.in-Some.ensures.names) c.behind_datatype.ensures.reads
@@ -200,13 +251,11 @@ operand-returns-in_err-core-clause-reads t c =
     let p = err_from_is_err_and c.from_residual-in_err-core.result c.from_residual-in_err-core.ensures.1 in
     rw (p.1, p.2) (on_fault c.args.tokens.now c.in_ok-body.body c.args.at _ (λ s bad k. operand_core_stuck (c.in_ok-body.ensures.skips s) c.in_default.ensures.names k) c.in_err-core.ensures.reads)
 
-pub operand-returns-in_err-behind-clause-reads : goal.operand-returns-in_err-behind-clause-reads
-operand-returns-in_err-behind-clause-reads t c =
-    let p = err_from_is_err_and c.from_residual-in_err-behind.result c.from_residual-in_err-behind.ensures.1 in
-    rw (p.1, p.2) (on_fault c.args.tokens.now c.in_ok-core.end c.args.at _ (λ s bad k. stuck_upto (operand_core_read (c.in_ok-body.ensures.skips s) c.in_default.ensures.names (c.in_ok-core.ensures.reads s)) (follows_stuck _ k)) c.in_err-behind.ensures.skips)
+pub operand-returns-clause-inside : goal.operand-returns-clause-inside
+operand-returns-clause-inside t c = passed_past _ c.in_ok-core.end _ c.behind_core.result (omega (arith, c.in_ok-body.ensures.inside.further, c.in_ok-core.ensures.inside.further)) c.behind_core.ensures.inside
 
 pub operand-returns-clause-reads : goal.operand-returns-clause-reads
-operand-returns-clause-reads t c = reads_upto boxed_view c.args.tokens.now c.in_ok-behind.behind c.args.at _ (λ r w. w) (λ s. upto_then (operand_core_read (c.in_ok-body.ensures.skips s) c.in_default.ensures.names (c.in_ok-core.ensures.reads s)) (follows_read _ (c.in_ok-behind.ensures.skips s))) c.behind_primary.ensures.reads
+operand-returns-clause-reads t c = reads_upto boxed_view c.args.tokens.now c.in_ok-core.end c.args.at _ (λ r w. w) (λ s. operand_core_read (c.in_ok-body.ensures.skips s) c.in_default.ensures.names (c.in_ok-core.ensures.reads s)) c.behind_core.ensures.reads
 
 -- ---- patterns
 
@@ -248,7 +297,7 @@ pattern-returns-in_err-member-clause-reads t c =
     rw (p.1, p.2) (on_fault c.args.tokens.now (c.chain.end + 1) c.args.at _ (λ s bad k. chain_stuck (operands_chain c.in-Operator.operator) _ _ _ (c.chain.invariant.so_far s) here.1 k) c.in_err-member.ensures.reads)
 
 pub pattern-returns-clause-inside : goal.pattern-returns-clause-inside
-pattern-returns-clause-inside t c = record { further = c.chain.invariant.further; inside = c.chain.invariant.inside }
+pattern-returns-clause-inside t c = made_advanced boxed_view _ _ _ _ c.chain-2.result c.chain-2.ensures (record { further = c.chain.invariant.further; inside = c.chain.invariant.inside })
 
 pub pattern-returns-clause-reads : goal.pattern-returns-clause-reads
-pattern-returns-clause-reads t c = λ s. took_same (sym c.in_ok-chain.ensures) (chain_end (operands_chain c.in-Operator.operator) (map pattern_view c.chain.members.items) _ _ (c.chain.invariant.so_far s) c.chain-test.ensures.is)
+pattern-returns-clause-reads t c = made_reads boxed_view c.args.tokens.now c.args.at c.chain.end c.chain-2.result c.chain-2.ensures (λ s. chain_end (operands_chain c.in-Operator.operator) (map pattern_view c.chain.members.items) _ _ (c.chain.invariant.so_far s) c.chain-test.ensures.is)

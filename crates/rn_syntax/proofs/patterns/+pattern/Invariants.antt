@@ -28,6 +28,9 @@ decreases-primary l = 6 * (length l.tokens.now - l.at) + 4
 abbrev pub decreases-behind_datatype : goal.decreases-behind_datatype
 decreases-behind_datatype l = 6 * (length l.tokens.now - l.at) + 5
 
+abbrev pub decreases-behind_params : goal.decreases-behind_params
+decreases-behind_params l = 6 * (length l.tokens.now - l.at) + 4
+
 abbrev pub decreases-core : goal.decreases-core
 decreases-core l = 6 * (length l.tokens.now - l.at) + 3
 

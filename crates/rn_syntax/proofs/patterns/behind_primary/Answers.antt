@@ -1,8 +1,8 @@
 -- A postfix repeats the primary; what else comes leaves it.
-use Rattle.std.proofs.Common.{◌+◌, sym}
+use Rattle.std.proofs.Common.{◌+◌}
 use Rattle.std.proofs.lemmas.Result.{err_from_is_err_and}
 use Rattle.rn_syntax.specs.View.{boxed_view}
-use Rattle.rn_syntax.proofs.Compose.{on_fault, took_same}
+use Rattle.rn_syntax.proofs.Compose.{on_fault, made_reads}
 use Rattle.rn_syntax.proofs.Operands.{alone_took, repeated_took, repeated_stuck}
 use Rattle.rn_syntax.proofs.patterns.behind_primary.Goals as goal
 
@@ -15,4 +15,4 @@ returns-in_err-behind-clause-reads c =
     rw (p.1, p.2) (on_fault c.args.tokens.now (c.args.at + 1) c.args.at _ (λ s bad k. repeated_stuck (boxed_view c.args.primary) c.in-Postfix.postfix c.in-Postfix.ensures.next.1 k) c.in_err-behind.ensures.skips)
 
 pub returns-clause-reads : goal.returns-clause-reads
-returns-clause-reads c = λ s. took_same (sym c.in_ok-repeated.ensures) (repeated_took _ _ c.in-Postfix.ensures.next.1 (c.in_ok-behind.ensures.skips s))
+returns-clause-reads c = made_reads boxed_view c.args.tokens.now c.args.at c.in_ok-behind.behind c.repeated.result c.repeated.ensures (λ s. repeated_took _ _ c.in-Postfix.ensures.next.1 (c.in_ok-behind.ensures.skips s))

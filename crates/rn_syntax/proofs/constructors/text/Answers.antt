@@ -1,0 +1,5 @@
+use Rattle.rn_syntax.proofs.PatternViews.{boxed_is, view-Text}
+use Rattle.rn_syntax.proofs.constructors.text.Goals as goal
+
+pub returns : goal.returns
+returns c = boxed_is _ c.args.end c.boxed.result c.boxed.ensures view-Text

@@ -1,5 +1,0 @@
-use Rattle.rn_syntax.proofs.PatternViews.{boxed_is, view-Repeated}
-use Rattle.rn_syntax.proofs.patterns.repeated.Goals as goal
-
-pub returns : goal.returns
-returns c = boxed_is _ c.boxed.result c.boxed.ensures (view-Repeated _ _)

@@ -1,0 +1,161 @@
+// Patterns made by their readers, each in its box with the index behind it.
+ghost use Rattle.std.specs.Prelude.{◌≡◌, ◌++◌, ◌∷◌, [], Some, None, map, OnOk};
+ghost use Rattle.std.specs.Cow.{cow_str_bytes};
+ghost use Rattle.rn_syntax.specs.Reading.{Makes};
+ghost use Rattle.rn_syntax.specs.Tree as tree;
+ghost use Rattle.rn_syntax.specs.View.{boxed_class_view, boxed_view, datatype_view, params_view, pattern_view, patterns_view};
+
+use crate::boxes::boxed;
+use crate::fault::Fault;
+use crate::token::{Operator, Postfix};
+use crate::tree::{Datatype, Nc, Param, Pat};
+use std::alloc::{AllocError, Global};
+use std::borrow::CowStr;
+
+pub(crate) fn element<'a>(
+    alloc: Global,
+    class: Box<Nc<'a>>,
+    content: Box<Pat<'a>>,
+    end: usize,
+) -> Result<(Box<Pat<'a>>, usize), Fault>
+    ensures { Makes boxed_view (tree.element (boxed_class_view class.entry) (boxed_view content.entry)) end result }
+{
+    boxed(alloc, Pat::Element(Box::into_inner(class), content), end)
+}
+
+pub(crate) fn attribute<'a>(
+    alloc: Global,
+    class: Box<Nc<'a>>,
+    content: Box<Pat<'a>>,
+    end: usize,
+) -> Result<(Box<Pat<'a>>, usize), Fault>
+    ensures { Makes boxed_view (tree.attribute (boxed_class_view class.entry) (boxed_view content.entry)) end result }
+{
+    boxed(alloc, Pat::Attribute(Box::into_inner(class), content), end)
+}
+
+pub(crate) fn list<'a>(
+    alloc: Global,
+    content: Box<Pat<'a>>,
+    end: usize,
+) -> Result<(Box<Pat<'a>>, usize), Fault>
+    ensures { Makes boxed_view (tree.list (boxed_view content.entry)) end result }
+{
+    boxed(alloc, Pat::List(content), end)
+}
+
+pub(crate) fn mixed<'a>(
+    alloc: Global,
+    content: Box<Pat<'a>>,
+    end: usize,
+) -> Result<(Box<Pat<'a>>, usize), Fault>
+    ensures { Makes boxed_view (tree.mixed (boxed_view content.entry)) end result }
+{
+    boxed(alloc, Pat::Mixed(content), end)
+}
+
+pub(crate) fn empty<'a>(alloc: Global, end: usize) -> Result<(Box<Pat<'a>>, usize), Fault>
+    ensures { Makes boxed_view tree.empty end result }
+{
+    boxed(alloc, Pat::Empty, end)
+}
+
+pub(crate) fn not_allowed<'a>(alloc: Global, end: usize) -> Result<(Box<Pat<'a>>, usize), Fault>
+    ensures { Makes boxed_view tree.not_allowed end result }
+{
+    boxed(alloc, Pat::NotAllowed, end)
+}
+
+pub(crate) fn text<'a>(alloc: Global, end: usize) -> Result<(Box<Pat<'a>>, usize), Fault>
+    ensures { Makes boxed_view tree.text end result }
+{
+    boxed(alloc, Pat::Text, end)
+}
+
+pub(crate) fn reference(
+    alloc: Global,
+    name: &str,
+    end: usize,
+) -> Result<(Box<Pat<'_>>, usize), Fault>
+    ensures { Makes boxed_view (tree.ref name.now) end result }
+{
+    boxed(alloc, Pat::Ref(name), end)
+}
+
+pub(crate) fn plain_value(
+    alloc: Global,
+    text: CowStr<'_>,
+    end: usize,
+) -> Result<(Box<Pat<'_>>, usize), Fault>
+    ensures { Makes boxed_view (tree.value None (cow_str_bytes text.entry)) end result }
+{
+    boxed(alloc, Pat::Value(None, text), end)
+}
+
+pub(crate) fn value<'a>(
+    alloc: Global,
+    datatype: Datatype<'a>,
+    text: CowStr<'a>,
+    end: usize,
+) -> Result<(Box<Pat<'a>>, usize), Fault>
+    ensures { Makes boxed_view (tree.value (Some (datatype_view datatype.entry)) (cow_str_bytes text.entry)) end result }
+{
+    boxed(alloc, Pat::Value(Some(datatype), text), end)
+}
+
+pub(crate) fn datum<'a>(
+    alloc: Global,
+    datatype: Datatype<'a>,
+    params: Vec<Param<'a>>,
+    end: usize,
+) -> Result<(Box<Pat<'a>>, usize), Fault>
+    ensures { Makes boxed_view (tree.datum (datatype_view datatype.entry) (params_view params.entry.items)) end result }
+{
+    boxed(alloc, Pat::Datum(datatype, params), end)
+}
+
+pub(crate) fn datum_but<'a>(
+    alloc: Global,
+    datatype: Datatype<'a>,
+    params: Vec<Param<'a>>,
+    at: usize,
+    except: Box<Pat<'a>>,
+    end: usize,
+) -> Result<(Box<Pat<'a>>, usize), Fault>
+    ensures { Makes boxed_view (tree.datum_but (datatype_view datatype.entry) (params_view params.entry.items) at (boxed_view except.entry)) end result }
+{
+    boxed(alloc, Pat::DatumBut(datatype, params, at, except), end)
+}
+
+pub(crate) fn repeated<'a>(
+    alloc: Global,
+    postfix: Postfix,
+    primary: Box<Pat<'a>>,
+    end: usize,
+) -> Result<(Box<Pat<'a>>, usize), Fault>
+    ensures { Makes boxed_view (tree.repeated postfix (boxed_view primary.entry)) end result }
+{
+    boxed(alloc, Pat::Repeated(postfix, primary), end)
+}
+
+pub(crate) fn chain<'a>(
+    alloc: Global,
+    operator: Operator,
+    members: Vec<Pat<'a>>,
+    end: usize,
+) -> Result<(Box<Pat<'a>>, usize), Fault>
+    ensures { Makes boxed_view (tree.chain operator (patterns_view members.entry.items)) end result }
+{
+    boxed(alloc, Pat::Chain(operator, members), end)
+}
+
+/// Adds a member to those of a chain, which lie side by side.
+pub(crate) fn push_member<'a>(
+    members: &mut Vec<Pat<'a>>,
+    member: Box<Pat<'a>>,
+) -> Result<(), AllocError>
+    ensures { OnOk result (map pattern_view members.new.items ≡ map pattern_view members.old.items ++ boxed_view member.entry ∷ []) }
+{
+    members.push(Box::into_inner(member))?;
+    Ok(())
+}
