@@ -1,16 +1,28 @@
--- The members of a pattern that is a list.
-use Rattle.std.proofs.Common.{◌≡◌, ◌⊎◌, inl, inr, map, Some, ap, ◌∙◌}
-use Rattle.std.specs.Prelude.{Vec}
+-- The members of a pattern that is a list, and the content of one that has one.
+use Rattle.std.proofs.Common.{◌≡◌, ◌⊎◌, inl, inr, map, Some, ap, sym, ◌∙◌}
+use Rattle.std.specs.Prelude.{Box, Vec}
 use Rattle.std.specs.declared.alloc.Global.{Global}
 use Rattle.std.specs.declared.rc.Rc.{Rc}
-use Rattle.rn_pattern.specs.Tree.{trees_of}
-use Rattle.rn_pattern.specs.View.{pattern_view, shared_view}
-use Rattle.rn_pattern.specs.declared.tree.Pattern.{Pattern}
+use Rattle.rn_pattern.specs.Tree.{Tree, trees_of}
+use Rattle.rn_pattern.specs.View.{pattern_step, pattern_view, shared_view}
+use Rattle.rn_pattern.specs.declared.tree.NameClass.{NameClass}
+use Rattle.rn_pattern.specs.declared.tree.Pattern.{Pattern, fold-roll-Pattern}
+use Rattle.rn_pattern.specs.declared.tree.Pattern.TheOpen.{Pattern-F}
 use Rattle.rn_pattern.specs.declared.tree.Pattern.TheVariants as variant
 use Rattle.rn_pattern.proofs.PatternKinds.{group_seen, interleave_seen, choice_seen}
-use Rattle.rn_simplify.specs.Contents.{members_of}
+use Rattle.rn_simplify.specs.Contents.{content_of, members_of}
 
 pub members_seen : (p : Pattern) (v : Vec (Rc Pattern Global) Global) → (p ≡ variant.Group v) ⊎ ((p ≡ variant.Interleave v) ⊎ (p ≡ variant.Choice v)) → members_of (pattern_view p) ≡ Some (trees_of (map shared_view v.items))
 members_seen p v (inl e) = ap (λ q. members_of (pattern_view q)) e ∙ ap members_of (group_seen v)
 members_seen p v (inr (inl e)) = ap (λ q. members_of (pattern_view q)) e ∙ ap members_of (interleave_seen v)
 members_seen p v (inr (inr e)) = ap (λ q. members_of (pattern_view q)) e ∙ ap members_of (choice_seen v)
+
+-- a pattern over a content
+abbrev pub IsOver : Pattern → Box Pattern Global → Type 0
+IsOver p b = (p ≡ variant.List b) ⊎ (((c : NameClass) × p ≡ variant.Attribute c b) ⊎ (((c : NameClass) × p ≡ variant.Element c b) ⊎ (p ≡ variant.OneOrMore b)))
+
+pub content_seen : (p : Pattern) (b : Box Pattern Global) → IsOver p b → content_of (pattern_view p) ≡ Some (pattern_view b.value)
+content_seen p b (inl e) = ap (λ q. content_of (pattern_view q)) (e ∙ sym (variant.rolls-List b)) ∙ ap content_of (fold-roll-Pattern Tree pattern_step (Pattern-F.List b))
+content_seen p b (inr (inl e)) = ap (λ q. content_of (pattern_view q)) (e.1 ∙ sym (variant.rolls-Attribute e.0 b)) ∙ ap content_of (fold-roll-Pattern Tree pattern_step (Pattern-F.Attribute e.0 b))
+content_seen p b (inr (inr (inl e))) = ap (λ q. content_of (pattern_view q)) (e.1 ∙ sym (variant.rolls-Element e.0 b)) ∙ ap content_of (fold-roll-Pattern Tree pattern_step (Pattern-F.Element e.0 b))
+content_seen p b (inr (inr (inr e))) = ap (λ q. content_of (pattern_view q)) (e ∙ sym (variant.rolls-OneOrMore b)) ∙ ap content_of (fold-roll-Pattern Tree pattern_step (Pattern-F.OneOrMore b))

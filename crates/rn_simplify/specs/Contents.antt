@@ -1,5 +1,5 @@
 -- The patterns that stand in a pattern.
-use Rattle.std.specs.Prelude.{Option, Some, None}
+use Rattle.std.specs.Prelude.{Bool, true, false, Option, Some, None}
 use Rattle.rn_pattern.specs.Tree as t
 use Rattle.rn_pattern.specs.Tree.{Tree, Trees}
 
@@ -17,3 +17,12 @@ members_of (t.group ps) = Some ps
 members_of (t.interleave ps) = Some ps
 members_of (t.choice ps) = Some ps
 members_of p = None
+
+-- no datatype, and no pattern in it
+abbrev pub is_leaf : Tree → Bool
+is_leaf t.not_allowed = true
+is_leaf t.empty = true
+is_leaf t.text = true
+is_leaf (t.ref x) = true
+is_leaf (t.value l x s) = true
+is_leaf p = false

@@ -9,7 +9,7 @@ ghost use Rattle.rn_pattern.specs.Store.{KeepsTrees, StandsFor};
 ghost use Rattle.rn_pattern.specs.Tree as tree;
 ghost use Rattle.rn_pattern.specs.Tree.{Text, Tree, trees_of};
 ghost use Rattle.rn_pattern.specs.View.{pattern_view, shared_view};
-ghost use Rattle.rn_simplify.specs.Contents.{content_of, members_of};
+ghost use Rattle.rn_simplify.specs.Contents.{content_of, is_leaf, members_of};
 ghost use Rattle.rn_simplify.specs.Numbered.{AreKnown, number_of, settled_by};
 
 use indexmap::IndexMap;
@@ -84,11 +84,11 @@ pub(crate) fn canonical<P: Patterns>(
     ensures kept { KeepsTrees (P.knows store.old) (P.tree_of store.old) (P.knows store.new) (P.tree_of store.new) }
 {
     match pattern {
-        Pattern::NotAllowed => store.not_allowed(),
-        Pattern::Empty => store.empty(),
-        Pattern::Text => store.text(),
-        Pattern::Ref(name) => reference(store, settled, name),
-        Pattern::Value(library, type_name, text) => store.value(library, type_name, text),
+        Pattern::NotAllowed
+        | Pattern::Empty
+        | Pattern::Text
+        | Pattern::Ref(_)
+        | Pattern::Value(_, _, _) => leaf(store, settled, pattern),
         Pattern::Datum(library, type_name, params, None) => store.datum(
             library, type_name, params, None,
         ),
@@ -107,6 +107,28 @@ pub(crate) fn canonical<P: Patterns>(
             let members = canonical_members(alloc, store, settled, members)?;
             over_members(store, pattern, &members)
         }
+    }
+}
+
+/// The id of the canonical form of a pattern that has no other pattern in it and is no datatype.
+fn leaf<P: Patterns>(
+    store: &mut P,
+    settled: &Settled<'_, P::Id>,
+    pattern: &Pattern,
+) -> Result<P::Id, AllocError>
+    requires known { AreKnown (P.knows store.old) settled.now.worth.items }
+    requires leaf { IsTrue (is_leaf (pattern_view pattern.now)) }
+    ensures made { IfOk result (StandsFor (P.knows store.new) (P.tree_of store.new)
+        (form.canonical (settled_by (P.tree_of store.old) (definitions_view settled.now.names.now.entries) settled.now.worth.items) (pattern_view pattern.now))) }
+    ensures kept { KeepsTrees (P.knows store.old) (P.tree_of store.old) (P.knows store.new) (P.tree_of store.new) }
+{
+    match pattern {
+        Pattern::NotAllowed => store.not_allowed(),
+        Pattern::Empty => store.empty(),
+        Pattern::Text => store.text(),
+        Pattern::Ref(name) => reference(store, settled, name),
+        Pattern::Value(library, type_name, text) => store.value(library, type_name, text),
+        _ => unreachable!(),
     }
 }
 

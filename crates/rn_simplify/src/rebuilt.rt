@@ -1,6 +1,11 @@
 // From an id of a store back to its pattern.
-ghost use Rattle.std.specs.Prelude.{◌≡◌, All, IfOk, IfSome, IsTrue, map};
-ghost use Rattle.rn_pattern.specs.View.{excepted_view, name_class_view, pattern_view, shared_view};
+ghost use Rattle.std.specs.Prelude.{◌≡◌, All, IfOk, IfSome, IsSome, IsTrue, Some, map, string_bytes};
+ghost use Rattle.std.specs.Option.{option_map};
+ghost use Rattle.rn_pattern.specs.Nodes.{node_members};
+ghost use Rattle.rn_pattern.specs.Store.{node_view};
+ghost use Rattle.rn_pattern.specs.Tree.{Tree};
+ghost use Rattle.rn_pattern.specs.View.{excepted_view, name_class_view, parameters_view, pattern_view, shared_view};
+ghost use Rattle.rn_simplify.specs.NodeKinds.{datum_over, has_members, is_leaf, node_content};
 ghost use Rattle.rn_simplify.specs.Sizes.{except_trees};
 
 use rn_pattern::{NameClass, Node, Pattern, Patterns};
@@ -13,7 +18,35 @@ fn rebuilt<P: Patterns>(alloc: Global, store: &P, id: P::Id) -> Result<Pattern, 
     requires { IsTrue (P.knows store.now id) }
     ensures { IfOk result (λ p. pattern_view p ≡ P.tree_of store.now id) }
 {
-    match store.node(id) {
+    let node = store.node(id);
+    match node {
+        Node::NotAllowed | Node::Empty | Node::Text | Node::Ref(_) | Node::Value(_, _, _) => {
+            leaf(node)
+        }
+        Node::Datum(library, type_name, params, except) => {
+            let except = rebuilt_except(alloc, store, *except)?;
+            datum(alloc, library, type_name, params, except)
+        }
+        Node::List(content)
+        | Node::Attribute(_, content)
+        | Node::Element(_, content)
+        | Node::OneOrMore(content) => {
+            let content = rebuilt_box(alloc, store, *content)?;
+            over_content(alloc, node, content)
+        }
+        Node::Group(members) | Node::Interleave(members) | Node::Choice(members) => {
+            let members = rebuilt_members(alloc, store, members)?;
+            Ok(over_members(node, members))
+        }
+    }
+}
+
+/// The pattern of a node that names no other.
+fn leaf<Id>(node: &Node<Id>) -> Result<Pattern, AllocError>
+    requires { IsTrue (is_leaf node.now) }
+    ensures { (at : Id → Tree) → IfOk result (λ p. pattern_view p ≡ node_view at node.now) }
+{
+    match node {
         Node::NotAllowed => Ok(Pattern::NotAllowed),
         Node::Empty => Ok(Pattern::Empty),
         Node::Text => Ok(Pattern::Text),
@@ -21,26 +54,53 @@ fn rebuilt<P: Patterns>(alloc: Global, store: &P, id: P::Id) -> Result<Pattern, 
         Node::Value(library, type_name, text) => {
             Ok(Pattern::Value(library.clone()?, type_name.clone()?, text.clone()?))
         }
-        Node::Datum(library, type_name, params, except) => {
-            let params = params.to_vec(alloc)?;
-            let except = rebuilt_except(alloc, store, *except)?;
-            Ok(Pattern::Datum(library.clone()?, type_name.clone()?, params, except))
-        }
-        Node::List(content) => Ok(Pattern::List(rebuilt_box(alloc, store, *content)?)),
-        Node::Attribute(class, content) => {
-            let content = rebuilt_box(alloc, store, *content)?;
-            Ok(Pattern::Attribute(cloned_class(alloc, class)?, content))
-        }
-        Node::Element(class, content) => {
-            let content = rebuilt_box(alloc, store, *content)?;
-            Ok(Pattern::Element(cloned_class(alloc, class)?, content))
-        }
-        Node::OneOrMore(content) => Ok(Pattern::OneOrMore(rebuilt_box(alloc, store, *content)?)),
-        Node::Group(members) => Ok(Pattern::Group(rebuilt_members(alloc, store, members)?)),
-        Node::Interleave(members) => Ok(Pattern::Interleave(rebuilt_members(
-            alloc, store, members,
-        )?)),
-        Node::Choice(members) => Ok(Pattern::Choice(rebuilt_members(alloc, store, members)?)),
+        _ => unreachable!(),
+    }
+}
+
+fn datum(
+    alloc: Global,
+    library: &String,
+    type_name: &String,
+    params: &[(String, String)],
+    except: Option<Box<Pattern>>,
+) -> Result<Pattern, AllocError>
+    ensures { IfOk result (λ p. pattern_view p ≡ datum_over (string_bytes library.now) (string_bytes type_name.now) (parameters_view params.now) (excepted_view except)) }
+{
+    let params = params.to_vec(alloc)?;
+    Ok(Pattern::Datum(library.clone()?, type_name.clone()?, params, except))
+}
+
+/// The pattern of a node with a content, over the content's pattern.
+fn over_content<Id>(
+    alloc: Global,
+    node: &Node<Id>,
+    content: Box<Pattern>,
+) -> Result<Pattern, AllocError>
+    requires { IsSome (node_content node.now) }
+    ensures { (at : Id → Tree) → option_map at (node_content node.now) ≡ Some (pattern_view content.value)
+        → IfOk result (λ p. pattern_view p ≡ node_view at node.now) }
+{
+    match node {
+        Node::List(_) => Ok(Pattern::List(content)),
+        Node::Attribute(class, _) => Ok(Pattern::Attribute(cloned_class(alloc, class)?, content)),
+        Node::Element(class, _) => Ok(Pattern::Element(cloned_class(alloc, class)?, content)),
+        Node::OneOrMore(_) => Ok(Pattern::OneOrMore(content)),
+        _ => unreachable!(),
+    }
+}
+
+/// The pattern of a node with a list of members, over the members' patterns.
+fn over_members<Id>(node: &Node<Id>, members: Vec<Rc<Pattern>>) -> Pattern
+    requires { IsTrue (has_members node.now) }
+    ensures { (at : Id → Tree) → map at (node_members node.now) ≡ map shared_view members.items
+        → pattern_view result ≡ node_view at node.now }
+{
+    match node {
+        Node::Group(_) => Pattern::Group(members),
+        Node::Interleave(_) => Pattern::Interleave(members),
+        Node::Choice(_) => Pattern::Choice(members),
+        _ => unreachable!(),
     }
 }
 
@@ -54,8 +114,32 @@ pub(crate) fn rebuilt_box<P: Patterns>(
     requires { IsTrue (P.knows store.now id) }
     ensures { IfOk result (λ p. pattern_view p.value ≡ P.tree_of store.now id) }
 {
-    let pattern = rebuilt(alloc, store, id)?;
-    Ok(Box::new(alloc, pattern)?)
+    boxed(alloc, rebuilt(alloc, store, id)?)
+}
+
+fn boxed<T: Drop>(alloc: Global, value: T) -> Result<Box<T>, AllocError>
+    ensures { IfOk result (λ b. b.value ≡ value) }
+{
+    Ok(Box::new(alloc, value)?)
+}
+
+/// The pattern of an id, to be shared.
+#[cycle(rebuilt)]
+fn rebuilt_shared<P: Patterns>(
+    alloc: Global,
+    store: &P,
+    id: P::Id,
+) -> Result<Rc<Pattern>, AllocError>
+    requires { IsTrue (P.knows store.now id) }
+    ensures { IfOk result (λ p. shared_view p ≡ P.tree_of store.now id) }
+{
+    shared(alloc, rebuilt(alloc, store, id)?)
+}
+
+fn shared<T: Drop>(alloc: Global, value: T) -> Result<Rc<T>, AllocError>
+    ensures { IfOk result (λ r. r.value ≡ value) }
+{
+    Ok(Rc::new(alloc, value)?)
 }
 
 #[cycle(rebuilt)]
@@ -88,7 +172,7 @@ fn rebuilt_members<P: Patterns>(
         let member = if i > 0 && *id == ids[i - 1] {
             members[i - 1].clone()?
         } else {
-            Rc::new(alloc, rebuilt(alloc, store, *id)?)?
+            rebuilt_shared(alloc, store, *id)?
         };
         members.push(member)?;
     }
@@ -115,7 +199,7 @@ fn cloned_class(alloc: Global, class: &NameClass) -> Result<NameClass, AllocErro
 fn cloned_box(alloc: Global, class: &NameClass) -> Result<Box<NameClass>, AllocError>
     ensures { IfOk result (λ c. name_class_view c.value ≡ name_class_view class.now) }
 {
-    Ok(Box::new(alloc, cloned_class(alloc, class)?)?)
+    boxed(alloc, cloned_class(alloc, class)?)
 }
 
 #[cycle(cloned_class)]

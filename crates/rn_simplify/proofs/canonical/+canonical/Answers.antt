@@ -6,7 +6,7 @@ use Rattle.rn_pattern.specs.Canonical.{canonical, canonical_all}
 use Rattle.rn_pattern.specs.Tree.{trees_of}
 use Rattle.rn_pattern.specs.View.{pattern_view, shared_view}
 use Rattle.rn_simplify.specs.Numbered.{settled_by}
-use Rattle.rn_simplify.proofs.Contents.{members_seen}
+use Rattle.rn_simplify.proofs.Contents.{content_seen, members_seen}
 use Rattle.rn_simplify.proofs.Known.{keeps_then, then_kept, known_still, ids_still, all_more, settled_still, trees_still, forms_more}
 use Rattle.rn_simplify.proofs.canonical.+canonical.Goals as goal
 
@@ -57,3 +57,10 @@ canonical_members-returns-in_err-id-clause-kept g t c = then_kept g.P.Patterns.k
 
 pub canonical_members-returns-in_err-push-clause-kept : goal.canonical_members-returns-in_err-push-clause-kept
 canonical_members-returns-in_err-push-clause-kept g t c = then_kept g.P.Patterns.knows g.P.Patterns.tree_of c.args.store.now c.loop-member.store c.canonical.new.store c.loop-member.invariant.kept c.canonical.ensures.kept
+
+pub canonical-returns-in_ok-content-in-List-clause-made : goal.canonical-returns-in_ok-content-in-List-clause-made
+canonical-returns-in_ok-content-in-List-clause-made g t c =
+    let s = settled_by (g.P.Patterns.tree_of c.args.store.now) (definitions_view c.args.settled.now.names.now.entries) c.args.settled.now.worth.items in
+    c.over_content.ensures.made s
+    (ap (option_map (canonical s)) (content_seen c.args.pattern.now c.in-List.content c.in-List.is)
+    ∙ ap Some (ap (λ p. canonical s (pattern_view p)) (sym c.deref-in-List.ensures) ∙ sym c.in_ok-content-in-List.ensures.made.1))
