@@ -1,10 +1,10 @@
 #!/usr/bin/env python3
 """Refuses each request for memory in turn: the program's, and those of each call by itself.
 
-tests/want-of-memory/run.py PROGRAM [TESTS]: runs each job of a table with its first request for memory refused, then its second, and so on
+tests/want-of-memory/run.py PROGRAM [TESTS..]: runs each job of a table with its first request for memory refused, then its second, and so on
 until a run asks no further, each once alone and once with all requests behind it. A run in which a request was refused ends with status 3, the
 line `Memory` on standard error and nothing on standard output, also where another fault stands; or, where the request alone was refused and
-then made again, with the job's own answer, as the first run without a refusal does. TESTS is the tests' program: in each of its tests named
+then made again, with the job's own answer, as the first run without a refusal does. TESTS are the tests' programs: in each of their tests named
 `memory` or `layers` the requests between the marks are refused in the same way, and the test tells whether a call answered so.
 Needs Python 3, a C compiler (`cc`) and a system that loads a library before a program (LD_PRELOAD). Nothing here is in the gate.
 """

@@ -1,6 +1,6 @@
 // Module texts, and the one fault of each.
-use crate::large::repeated;
-use crate::sets::{Subject, each_line, holds, line_of, made, owned, push, same, same_for};
+use crate::merges::line_of;
+use crate::rows::{Subject, each_line, holds, made, owned, push, repeated, same, same_for};
 use rn_merge::{Place, ProgramFault, check, status};
 use std::alloc::Global;
 use std::process::Abort;

@@ -1,5 +1,6 @@
 // Sets of several contributions that print a schema. Each printed schema, merged alone, is printed again.
-use crate::sets::{BothStores, Merge, MergeAgain, each_schema};
+use crate::merges::{BothStores, Merge, MergeAgain};
+use crate::rows::each_schema;
 
 const ROWS: &str = r#"@a
 start = doc doc |= element b { text }
@@ -25,6 +26,16 @@ start =  text
 start = empty
 =>
 start = empty
+--
+@b
+start = text
+@a 2 withdrawn
+@a
+x = text
+@a 3
+x = empty
+=>
+start = text
 --
 @a
 start = text

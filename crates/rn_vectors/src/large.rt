@@ -1,14 +1,14 @@
 // Sets and texts at their limits, and long lists and chains.
-use crate::sets::{
-    FIRST_LINE, add, answer, answer_of_text, holds, made, merged, module, owned, push, same,
-    same_count,
-};
+use crate::merges::{FIRST_LINE, answer, answer_of_text, merged};
+use crate::rows::{holds, made, owned, push, repeated, same, same_count};
 use rn_modset::ModuleSet;
+use rn_units::samples::module;
 use std::process::Abort;
 
 /// Adds a module of revision 1.
 fn add_text(rt: &(impl Abort + AllocGlobal), set: &mut ModuleSet, name: &str, text: &str) {
-    let _ = add(rt, set, module(rt, name, 1, text.as_bytes()));
+    let module = module(rt.alloc(), name, 1, text.as_bytes()).expect(rt, "no memory");
+    holds(rt, set.add(module).is_ok(), name);
 }
 
 /// The name of a module by its number.
@@ -76,22 +76,6 @@ fn instances_are_counted(rt: HostRuntime) {
     answers(&rt, &doubling(&rt, 40), "Instances");
     answers(&rt, &tower(&rt, 511), "start = text\n");
     answers(&rt, &tower(&rt, 512), "Instances");
-}
-
-/// A text that so often holds a piece between a front and an end.
-pub fn repeated(
-    rt: &(impl Abort + AllocGlobal),
-    front: &str,
-    piece: &str,
-    count: usize,
-    end: &str,
-) -> String {
-    let mut text = owned(rt, front);
-    for _ in 0..count {
-        push(rt, &mut text, piece);
-    }
-    push(rt, &mut text, end);
-    text
 }
 
 /// A text has this answer.

@@ -2,15 +2,9 @@
 #![tactic(auto)]
 
 #[cfg(test)]
-mod bundles;
-#[cfg(test)]
 mod checks;
 #[cfg(test)]
 mod combining;
-#[cfg(test)]
-mod contributions;
-#[cfg(test)]
-mod grammars;
 #[cfg(test)]
 mod large;
 #[cfg(test)]
@@ -20,16 +14,12 @@ mod lines;
 #[cfg(test)]
 mod memory;
 #[cfg(test)]
-mod modules;
+mod merges;
 #[cfg(test)]
 mod printing;
 #[cfg(test)]
 mod refusals;
 #[cfg(test)]
-mod sets;
-#[cfg(test)]
-mod stores;
+mod rows;
 #[cfg(test)]
 mod streams;
-#[cfg(test)]
-mod tokens;

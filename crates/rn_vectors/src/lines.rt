@@ -1,7 +1,7 @@
 // Words, lines, sources and sinks.
-use crate::sets::{Subject, each_line, holds, made, owned, same};
+use crate::rows::{Subject, contribution, each_line, holds, made, owned, same};
 use rn_assemble::{Key, Refusal};
-use rn_merge::{Job, Place, ProgramFault, fault_line, plan, refusal_line, status};
+use rn_merge::{Job, Place, ProgramFault, fault_line, list_line, plan, refusal_line, status};
 use rn_modset::{AddFault, BundleFault};
 use std::process::Abort;
 
@@ -191,23 +191,38 @@ fn fault_lines(rt: HostRuntime) {
     ends(&rt, ProgramFault::Add(AddFault::Memory), "Memory", 3);
 }
 
+/// The fault of the first bundle has this line, and the program then ends with status 1.
+fn ends_at_bundle(rt: &(impl Abort + AllocGlobal), fault: BundleFault, line: &str) {
+    ends(rt, ProgramFault::Bundle(0, fault), line, 1);
+}
+
 #[test]
 fn fault_lines_of_bundles(rt: HostRuntime) {
+    ends_at_bundle(&rt, BundleFault::Magic, "bundle 0 Magic");
+    ends_at_bundle(&rt, BundleFault::Order { entry: 1 }, "bundle 0 Order 1");
+    ends_at_bundle(&rt, BundleFault::Digest { entry: 0 }, "bundle 0 Digest 0");
+    ends_at_bundle(&rt, BundleFault::Truncated, "bundle 0 Truncated");
+    ends_at_bundle(&rt, BundleFault::Trailing, "bundle 0 Trailing");
     let header = BundleFault::Header { entry: 2 };
     ends(&rt, ProgramFault::Bundle(1, header), "bundle 1 Header 2", 1);
-    let trailing = BundleFault::Trailing;
-    ends(
+    let memory = ProgramFault::Bundle(0, BundleFault::Memory);
+    ends(&rt, memory, "Memory", 3);
+}
+
+/// A contribution has this line in a list.
+fn is_listed(rt: &(impl Abort + AllocGlobal), written: &str, wanted: &str) {
+    let line = list_line(rt.alloc(), &contribution(rt, written));
+    same(rt, made(rt, line).as_str(), wanted);
+}
+
+#[test]
+fn contributions_have_their_lines(rt: HostRuntime) {
+    is_listed(
         &rt,
-        ProgramFault::Bundle(0, trailing),
-        "bundle 0 Trailing",
-        1,
+        "t 7\nabc",
+        "t 7 3 ba7816bf8f01cfea414140de5dae2223b00361a396177a9cb410ff61f20015ad",
     );
-    ends(
-        &rt,
-        ProgramFault::Bundle(0, BundleFault::Memory),
-        "Memory",
-        3,
-    );
+    is_listed(&rt, "lib 2 withdrawn", "lib 2 withdrawn");
 }
 
 #[test]

@@ -1,33 +1,18 @@
-// Calls on sets, texts, bundles and lines, with their requests for memory refused in turn by what tests/want-of-memory loads
+// Merges, checks, runs and lines, with their requests for memory refused in turn by what tests/want-of-memory loads
 // before the tests' program. A call that is refused answers want of memory, in its own type, and leaves what it was lent.
 // Without a refusal, as in the gate, it gives its own answer. Each test tells whether a call was refused.
-use crate::bundles::ONE;
-use crate::large::repeated;
-use crate::sets::{
-    contribution, held, holds, line_of, made, owned, same, same_bytes, shown, written_set,
-};
+use crate::merges::{line_of, shown};
+use crate::rows::{contribution, holds, made, owned, repeated, same, same_bytes, written_set};
 use crate::streams::{A, B, PRINTED, bundles, sink_of};
 use rn_assemble::Refusal;
 use rn_merge::{
     Input, Output, Place, ProgramFault, RunFault, Sink, Source, Status, check, fault_line,
     list_line, merge, refusal_line, run_print, status,
 };
-use rn_modset::{AddFault, BundleFault, ModuleSet, read_bundle, write_bundle};
-use rn_text::{literal, tokens, write_literal};
-use std::alloc::{AllocError, Global};
+use rn_modset::{BundleFault, ModuleSet};
+use rn_units::samples::{BEGIN, END, mark};
+use std::alloc::AllocError;
 use std::process::Abort;
-
-/// Requests for so many bytes, which nothing else makes, are marks: the requests behind the first mark and before the second
-/// are those that are refused.
-pub const BEGIN: usize = 7_654_321;
-
-pub const END: usize = 7_654_322;
-
-/// Makes a mark.
-pub fn mark(alloc: Global, bytes: usize) {
-    let room: Result<Vec<u8>, AllocError> = Vec::with_capacity(alloc, bytes);
-    drop(room);
-}
 
 /// Tells whether a call was refused.
 pub fn tell(rt: &(impl Abort + Print), is_refused: bool) {
@@ -161,100 +146,9 @@ fn bundles_are_printed(rt: HostRuntime) {
     tell(&rt, is_refused);
 }
 
-/// Four contributions, as a set is written. With them it is full of what it asked room for, so a fifth one asks for more.
-const FOUR: &str = "@a\nx\n@b 2\ny\n@c 3 withdrawn\n@e\nv";
-
-/// And as it holds them.
-const FOUR_HELD: &str = "a 1\nb 2\nc 3 withdrawn\ne 1\n";
-
-#[test]
-fn a_contribution_is_added(rt: HostRuntime) {
-    let mut set = written_set(&rt, FOUR);
-    let kept = contribution(&rt, "d 4\nz");
-    let given = contribution(&rt, "d 4\nz");
-    mark(rt.alloc(), BEGIN);
-    let answer = set.add(given);
-    mark(rt.alloc(), END);
-    let wanted = match &answer {
-        Ok(_) => "a 1\nb 2\nc 3 withdrawn\nd 4\ne 1\n",
-        Err((back, fault)) => {
-            let is_back = *back == kept && *fault == AddFault::Memory;
-            holds(&rt, is_back, "the contribution comes back");
-            FOUR_HELD
-        }
-    };
-    same(&rt, held(&rt, &set).as_str(), wanted);
-    tell(&rt, answer.is_err());
-}
-
-#[test]
-fn sets_are_joined(rt: HostRuntime) {
-    let mut set = written_set(&rt, FOUR);
-    let other = written_set(&rt, "@a 2\nx\n@b 2\nz\n@d\n");
-    mark(rt.alloc(), BEGIN);
-    let answer = set.join(&other);
-    mark(rt.alloc(), END);
-    let is_right = answer == Ok(()) || answer == Err(AddFault::Memory);
-    holds(&rt, is_right, "the set is joined or refused");
-    let wanted = match answer {
-        Ok(()) => "a 1\na 2\nb 2\nb 2\nc 3 withdrawn\nd 1\ne 1\n",
-        Err(_) => FOUR_HELD,
-    };
-    same(&rt, held(&rt, &set).as_str(), wanted);
-    tell(&rt, answer.is_err());
-}
-
-#[test]
-fn a_bundle_is_written(rt: HostRuntime) {
-    let set = written_set(&rt, "@t 7\nabc");
-    mark(rt.alloc(), BEGIN);
-    let answer = write_bundle(rt.alloc(), &set);
-    mark(rt.alloc(), END);
-    if let Ok(bytes) = &answer {
-        same_bytes(&rt, bytes.as_slice(), ONE.as_bytes());
-    }
-    tell(&rt, answer.is_err());
-}
-
-#[test]
-fn a_bundle_is_read(rt: HostRuntime) {
-    mark(rt.alloc(), BEGIN);
-    let answer = read_bundle(rt.alloc(), ONE.as_bytes());
-    mark(rt.alloc(), END);
-    match &answer {
-        Ok(set) => same(&rt, held(&rt, set).as_str(), "t 7\n"),
-        Err(fault) => holds(&rt, *fault == BundleFault::Memory, "memory is refused"),
-    }
-    tell(&rt, answer.is_err());
-}
-
-#[test]
-fn a_literal_is_written(rt: HostRuntime) {
-    let mut out = owned(&rt, "x");
-    mark(rt.alloc(), BEGIN);
-    let answer = write_literal(&mut out, "a\"b\nc");
-    mark(rt.alloc(), END);
-    let wanted = match answer {
-        Ok(()) => "x\"a\" ~ '\"' ~ \"b\\x{A}c\"",
-        Err(_) => "x",
-    };
-    same(&rt, out.as_str(), wanted);
-    tell(&rt, answer.is_err());
-}
-
 /// Whether a text is refused, which is this one otherwise.
 fn is_refused(rt: &impl Abort, answer: Result<String, AllocError>, wanted: &str) -> bool {
     is_refused_answer(rt, answer.ok(), wanted)
-}
-
-#[test]
-fn a_literal_is_read(rt: HostRuntime) {
-    let found = tokens(rt.alloc(), b"'\\xx{41}'").expect(&rt, "no tokens");
-    let segment = found.as_slice().first().expect(&rt, "no token");
-    mark(rt.alloc(), BEGIN);
-    let answer = literal(rt.alloc(), segment);
-    mark(rt.alloc(), END);
-    tell(&rt, is_refused(&rt, answer, "A"));
 }
 
 #[test]
@@ -286,33 +180,6 @@ fn a_fault_has_its_line(rt: HostRuntime) {
     let answer = fault_line(rt.alloc(), &fault);
     mark(rt.alloc(), END);
     tell(&rt, is_refused(&rt, answer, "bundle 1 Header 2"));
-}
-
-#[test]
-fn what_a_set_tells_needs_no_memory(rt: HostRuntime) {
-    let mut set = written_set(&rt, FOUR);
-    let given = contribution(&rt, "b 2\ny");
-    mark(rt.alloc(), BEGIN);
-    let is_held = set.contains(&given) && set.len() == 4 && set.iter().count() == 4;
-    let is_added = set.add(given).is_ok();
-    let is_empty = ModuleSet::new(rt.alloc()).len() == 0;
-    mark(rt.alloc(), END);
-    holds(&rt, is_held && is_added && is_empty, "the set tells it");
-    same(&rt, held(&rt, &set).as_str(), FOUR_HELD);
-    tell(&rt, false);
-}
-
-#[test]
-fn what_is_effective_needs_no_memory(rt: HostRuntime) {
-    let set = written_set(&rt, FOUR);
-    let modules = set.effective(rt.alloc()).expect(&rt, "a conflict");
-    mark(rt.alloc(), BEGIN);
-    let count = modules.iter().count();
-    let text = modules.get("b");
-    mark(rt.alloc(), END);
-    let is_right = count == 3 && text == Some(b"y".as_slice());
-    holds(&rt, is_right, "the modules are told");
-    tell(&rt, false);
 }
 
 #[test]

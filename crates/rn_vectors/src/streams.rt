@@ -1,12 +1,12 @@
 // Runs over bundles, with sources and sinks that fail at a known byte.
 ghost use Rattle.std.specs.Prelude.{◌≡◌, false, IfOk};
 
-use crate::sets::{bundle, holds, same_bytes, written_set};
+use crate::rows::{holds, same_bytes, written_set};
 use rn_assemble::Refusal;
 use rn_merge::{
     Failed, ReadFault, RunFault, Sink, Source, Status, read_input, run_print, write_output,
 };
-use rn_modset::BundleFault;
+use rn_modset::{BundleFault, write_bundle};
 use std::alloc::Global;
 use std::process::Abort;
 
@@ -115,7 +115,7 @@ impl Source for Bytes {
 pub fn bundles(rt: &(impl Abort + AllocGlobal), given: &[&str]) -> Vec<Vec<u8>> {
     let mut bundles = Vec::new(rt.alloc());
     for one in given {
-        let bundle = bundle(rt, &written_set(rt, one));
+        let bundle = write_bundle(rt.alloc(), &written_set(rt, one)).expect(rt, "no memory");
         bundles.push(bundle).expect(rt, "no memory");
     }
     bundles

@@ -1,7 +1,6 @@
 // Tokens and literals by example, characters at the ends of their ranges, and long sources.
-use crate::large::repeated;
-use crate::sets::{
-    Subject, each_pair, granted, holds, made, owned, push, same, same_count, same_for,
+use crate::rows::{
+    Subject, each_pair, granted, holds, made, owned, push, repeated, same, same_count, same_for,
 };
 use rn_text::{Kind, TextFault, Token, is_keyword, is_ncname, literal, tokens, write_literal};
 use std::alloc::{AllocError, Global};

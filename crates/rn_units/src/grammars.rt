@@ -1,5 +1,5 @@
 // Sets and what they give: each set is written with its modules parted by lines of their names.
-use crate::sets::{Subject, each_set, made, owned, push, same_for, written_set};
+use crate::rows::{Subject, each_set, made, owned, push, same_for, written_set};
 use rn_assemble::{Grammar, Key, Refusal, assemble};
 use rn_pattern::{NameClass, Pattern};
 use std::process::Abort;

@@ -1,6 +1,5 @@
 // What a text's module is: brackets, and the literals of its includes.
-use crate::large::repeated;
-use crate::sets::{holds, push};
+use crate::rows::{holds, push, repeated};
 use rn_syntax::{Item, Module, SyntaxFault, includes, parse};
 use rn_text::{Token, tokens};
 use std::borrow::CowStr;

@@ -1,9 +1,8 @@
 // Sets: withdrawals, unions, limits and conflicts.
-use crate::large::repeated;
-use crate::sets::{
-    add, bundle, contribution, held, holds, made, module, owned, push, refused, same, same_count,
-    set_of_bundle, written_set,
+use crate::rows::{
+    contribution, holds, made, owned, push, repeated, same, same_count, written_set,
 };
+use crate::sets::{add, bundle, held, module, refused, set_of_bundle};
 use rn_modset::{AddFault, Contribution, MAX_TEXT, ModuleSet, is_module_name};
 use std::process::Abort;
 

@@ -1,5 +1,6 @@
 // The canonical form of each constructor by rows, and the order.
-use crate::sets::{holds, owned, same_count};
+use crate::rows::{holds, owned, same_count};
+use crate::samples;
 use rn_pattern::{Interned, NameClass, Pattern, Patterns, Plain};
 use std::alloc::AllocError;
 use std::cmp::Ordering;
@@ -120,8 +121,8 @@ fn plain_looks_for_nothing(rt: HostRuntime) {
 }
 
 /// A name of a namespace.
-pub fn name(rt: &(impl Abort + AllocGlobal), uri: &str, local: &str) -> NameClass {
-    NameClass::Name(owned(rt, uri), owned(rt, local))
+fn name(rt: &(impl Abort + AllocGlobal), uri: &str, local: &str) -> NameClass {
+    samples::name(rt.alloc(), uri, local).expect(rt, "no memory")
 }
 
 /// The name `a` of a namespace, as an except.

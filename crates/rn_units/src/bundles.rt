@@ -1,34 +1,22 @@
-// Bundles: their one spelling, what is read from damaged ones, and runs over several.
+// Bundles: their one spelling, what is read from damaged ones, and sets at their limits.
 use crate::contributions::{effective_count, is_effective, refuses, refuses_a_longer_text};
-use crate::sets::{
-    add, answer, bundle, contribution, held, holds, line_of, made, module, owned, push, same,
-    same_bytes, same_count, same_for, set_of_bundle, written_set,
-};
-use rn_merge::{ProgramFault, list_line};
+use crate::rows::{holds, made, owned, push, same, same_bytes, same_count, same_for, written_set};
+use crate::samples::ONE;
+use crate::sets::{add, bundle, held, module, set_of_bundle};
 use rn_modset::{AddFault, Contribution, ModuleSet, read_bundle};
 use std::process::Abort;
 
-/// The bundle of one text.
-pub const ONE: &str =
-    "rncset 1\nmodule t 7 3 ba7816bf8f01cfea414140de5dae2223b00361a396177a9cb410ff61f20015ad\nabc\nend 1\n";
-
-/// The line of what is wrong with a bundle, or `good`.
+/// What is wrong with a bundle, or `good`.
 fn fault(rt: &(impl Abort + AllocGlobal), bytes: &[u8]) -> String {
     match read_bundle(rt.alloc(), bytes) {
         Ok(_) => owned(rt, "good"),
-        Err(fault) => line_of(rt, ProgramFault::Bundle(0, fault)),
+        Err(fault) => made(rt, format!(in rt.alloc(); "{fault:?}")),
     }
 }
 
-/// A bundle has this line of what is wrong with it, or `good`.
+/// A bundle has this fault, or is `good`.
 fn is_found(rt: &(impl Abort + AllocGlobal), given: &str, bytes: &[u8], wanted: &str) {
     same_for(rt, given, fault(rt, bytes).as_str(), wanted);
-}
-
-/// A contribution has this line in a list.
-fn is_listed(rt: &(impl Abort + AllocGlobal), written: &str, wanted: &str) {
-    let line = list_line(rt.alloc(), &contribution(rt, written));
-    same(rt, made(rt, line).as_str(), wanted);
 }
 
 #[test]
@@ -43,16 +31,6 @@ fn one_text_is_read_from_its_bundle(rt: HostRuntime) {
     let read = set_of_bundle(&rt, ONE.as_bytes());
     let is_read = read.contains(&module(&rt, "t", 7, b"abc"));
     holds(&rt, is_read, "the text is read");
-}
-
-#[test]
-fn contributions_have_their_lines(rt: HostRuntime) {
-    is_listed(
-        &rt,
-        "t 7\nabc",
-        "t 7 3 ba7816bf8f01cfea414140de5dae2223b00361a396177a9cb410ff61f20015ad",
-    );
-    is_listed(&rt, "lib 2 withdrawn", "lib 2 withdrawn");
 }
 
 #[test]
@@ -84,26 +62,26 @@ fn changed(rt: &(impl Abort + AllocGlobal), old: &str, new: &str) -> String {
     made(rt, ONE.replacen(rt.alloc(), old, new, 1))
 }
 
-/// Parts of the bundle of one text, what stands in their place, and the line of what is wrong then.
+/// Parts of the bundle of one text, what stands in their place, and what is wrong then.
 static DAMAGE: [(&str, &str, &str); 18] = [
-    (" 7 3 ", " 07 3 ", "bundle 0 Header 0"),
-    (" ba78", " Ba78", "bundle 0 Header 0"),
-    (" ba78", " ba79", "bundle 0 Digest 0"),
-    (" 7 3 ", " 7 2 ", "bundle 0 Header 0"),
-    (" 7 3 ", " 7 4 ", "bundle 0 Header 0"),
-    (" 7 3 ", " 7 9 ", "bundle 0 Digest 0"),
-    (" 7 3 ", " 7 10 ", "bundle 0 Truncated"),
-    ("end 1", "end 2", "bundle 0 Header 1"),
-    ("rncset 1", "rncset 3", "bundle 0 Magic"),
-    ("end 1\n", "end 1\n ", "bundle 0 Trailing"),
-    ("rncset 1", "rncset 2", "bundle 0 Header 1"),
-    ("end 1", "withdrawn t 8\nend 2", "bundle 0 Header 1"),
-    (" ba78", " ca78", "bundle 0 Digest 0"),
+    (" 7 3 ", " 07 3 ", "Header { entry: 0 }"),
+    (" ba78", " Ba78", "Header { entry: 0 }"),
+    (" ba78", " ba79", "Digest { entry: 0 }"),
+    (" 7 3 ", " 7 2 ", "Header { entry: 0 }"),
+    (" 7 3 ", " 7 4 ", "Header { entry: 0 }"),
+    (" 7 3 ", " 7 9 ", "Digest { entry: 0 }"),
+    (" 7 3 ", " 7 10 ", "Truncated"),
+    ("end 1", "end 2", "Header { entry: 1 }"),
+    ("rncset 1", "rncset 3", "Magic"),
+    ("end 1\n", "end 1\n ", "Trailing"),
+    ("rncset 1", "rncset 2", "Header { entry: 1 }"),
+    ("end 1", "withdrawn t 8\nend 2", "Header { entry: 1 }"),
+    (" ba78", " ca78", "Digest { entry: 0 }"),
     (" 7 3 ", " 18446744073709551615 3 ", "good"),
-    (" 7 3 ", " 18446744073709551616 3 ", "bundle 0 Header 0"),
-    (" 7 3 ", " 7 4194304 ", "bundle 0 Truncated"),
-    (" 7 3 ", " 7 4194305 ", "bundle 0 Header 0"),
-    ("end 1\n", "end 1\n\n", "bundle 0 Trailing"),
+    (" 7 3 ", " 18446744073709551616 3 ", "Header { entry: 0 }"),
+    (" 7 3 ", " 7 4194304 ", "Truncated"),
+    (" 7 3 ", " 7 4194305 ", "Header { entry: 0 }"),
+    ("end 1\n", "end 1\n\n", "Trailing"),
 ];
 
 #[test]
@@ -119,7 +97,7 @@ fn version_2_has_a_withdrawal(rt: HostRuntime) {
     same(
         &rt,
         fault(&rt, b"rncset 2\nend 0\n").as_str(),
-        "bundle 0 Header 0",
+        "Header { entry: 0 }",
     );
 }
 
@@ -127,11 +105,7 @@ fn version_2_has_a_withdrawal(rt: HostRuntime) {
 fn fronts_are_no_bundles(rt: HostRuntime) {
     let bytes = ONE.as_bytes();
     for end in 0..bytes.len() {
-        let wanted = if end < 9 {
-            "bundle 0 Magic"
-        } else {
-            "bundle 0 Truncated"
-        };
+        let wanted = if end < 9 { "Magic" } else { "Truncated" };
         assert_eq!(rt; fault(&rt, &bytes[..end]).as_str(), wanted, "row {end}");
     }
 }
@@ -159,8 +133,8 @@ fn two_have(rt: &(impl Abort + AllocGlobal), version: u8, first: &str, second: &
 fn texts_rise(rt: HostRuntime) {
     let first = entry(&rt, "t");
     for (name, wanted) in [
-        ("t", "bundle 0 Order 1"),
-        ("s", "bundle 0 Order 1"),
+        ("t", "Order { entry: 1 }"),
+        ("s", "Order { entry: 1 }"),
         ("u", "good"),
     ] {
         two_have(&rt, 1, first.as_str(), entry(&rt, name).as_str(), wanted);
@@ -172,7 +146,7 @@ fn a_withdrawal_stands_before_its_text(rt: HostRuntime) {
     let text = entry(&rt, "t");
     let withdrawal = "withdrawn t 7\n";
     two_have(&rt, 2, withdrawal, text.as_str(), "good");
-    two_have(&rt, 2, text.as_str(), withdrawal, "bundle 0 Order 1");
+    two_have(&rt, 2, text.as_str(), withdrawal, "Order { entry: 1 }");
 }
 
 /// The entry of a withdrawal of a numbered name.
@@ -196,7 +170,12 @@ fn entries_are_limited(rt: HostRuntime) {
     let most = withdrawn(&rt, 1024);
     is_found(&rt, "1024 entries", most.as_bytes(), "good");
     let more = withdrawn(&rt, 1025);
-    is_found(&rt, "1025 entries", more.as_bytes(), "bundle 0 Header 1024");
+    is_found(
+        &rt,
+        "1025 entries",
+        more.as_bytes(),
+        "Header { entry: 1024 }",
+    );
 }
 
 /// A contribution of a numbered name.
@@ -259,5 +238,4 @@ fn sets_tell_what_they_hold(rt: HostRuntime) {
         is_effective(&rt, &set, "c", None),
         "no other module is",
     );
-    same(&rt, answer(&rt, &set).as_str(), "start = text\n");
 }

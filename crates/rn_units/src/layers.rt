@@ -1,0 +1,173 @@
+// Constructors of patterns, and what reads a module and assembles a set, with their requests for memory refused in turn as in `memory`.
+ghost use Rattle.std.specs.Prelude.{All, IsTrue};
+ghost use Rattle.rn_pattern.specs.Store.{KeepsTrees};
+
+use crate::memory::{MAIN, SET, tell};
+use crate::rows::{holds, owned, same_count, written_set};
+use crate::samples::{BEGIN, END, is_reference, mark, name};
+use rn_assemble::{Grammar, Refusal, assemble};
+use rn_modset::ModuleSet;
+use rn_pattern::{Interned, NameClass, Patterns, Plain};
+use rn_syntax::{SyntaxFault, includes, parse};
+use rn_text::{is_keyword, is_ncname, tokens};
+use std::alloc::AllocError;
+use std::process::Abort;
+
+/// What constructors are given besides patterns.
+#[derive(Drop)]
+struct Parts {
+    class: NameClass,
+    parameters: Vec<(String, String)>,
+}
+
+fn given(rt: &(impl Abort + AllocGlobal)) -> Parts {
+    let mut parameters = Vec::new(rt.alloc());
+    let parameter = (owned(rt, "k"), owned(rt, "v"));
+    parameters.push(parameter).expect(rt, "no memory");
+    Parts {
+        class: name(rt.alloc(), "u", "n").expect(rt, "no memory"),
+        parameters,
+    }
+}
+
+/// A pattern of each constructor, of the numbers 0 to 12, over patterns of the store.
+fn made<P: Patterns>(
+    store: &mut P,
+    parts: &Parts,
+    a: P::Id,
+    members: &[P::Id],
+    number: usize,
+) -> Result<P::Id, AllocError>
+    requires a { IsTrue (P.knows store.old a) }
+    requires members { All (λ i. IsTrue (P.knows store.old i)) members.now }
+    ensures { KeepsTrees (P.knows store.old) (P.tree_of store.old) (P.knows store.new) (P.tree_of store.new) }
+{
+    match number {
+        0 => store.not_allowed(),
+        1 => store.empty(),
+        2 => store.text(),
+        3 => store.reference("c"),
+        4 => store.value("", "token", "x"),
+        5 => store.datum("u", "t", parts.parameters.as_slice(), Some(a)),
+        6 => store.list(a),
+        7 => store.attribute(&parts.class, a),
+        8 => store.element(&parts.class, a),
+        9 => store.choice(members),
+        10 => store.group(members),
+        11 => store.ileave(members),
+        _ => store.one_or_more(a),
+    }
+}
+
+/// Whether a constructor is refused in a store of two references, which stay.
+fn is_refused<P: Patterns>(
+    rt: &(impl Abort + AllocGlobal),
+    store: &mut P,
+    parts: &Parts,
+    number: usize,
+) -> bool {
+    let a = store.reference("a").expect(rt, "no memory");
+    let b = store.reference("b").expect(rt, "no memory");
+    let mut members = Vec::new(rt.alloc());
+    members.push(b).expect(rt, "no memory");
+    members.push(a).expect(rt, "no memory");
+    mark(rt.alloc(), BEGIN);
+    let answer = made(store, parts, a, members.as_slice(), number);
+    mark(rt.alloc(), END);
+    let are_kept = is_reference(store, a, "a") && is_reference(store, b, "b");
+    holds(rt, are_kept, "a pattern is lost");
+    answer.is_err()
+}
+
+#[test]
+fn constructors_of_a_plain_store(rt: HostRuntime) {
+    let parts = given(&rt);
+    let mut was_refused = false;
+    for number in 0..13 {
+        let mut store = Plain::new(rt.alloc());
+        if is_refused(&rt, &mut store, &parts, number) {
+            same_count(&rt, store.nodes(), 2);
+            was_refused = true;
+        }
+    }
+    tell(&rt, was_refused);
+}
+
+#[test]
+fn constructors_of_an_interned_store(rt: HostRuntime) {
+    let parts = given(&rt);
+    let mut was_refused = false;
+    for number in 0..13 {
+        let mut store = Interned::new(rt.alloc());
+        if is_refused(&rt, &mut store, &parts, number) {
+            same_count(&rt, store.nodes(), 2);
+            was_refused = true;
+        }
+    }
+    tell(&rt, was_refused);
+}
+
+#[test]
+fn a_module_is_read(rt: HostRuntime) {
+    let found = tokens(rt.alloc(), MAIN.as_bytes()).expect(&rt, "no tokens");
+    mark(rt.alloc(), BEGIN);
+    let answer = parse(rt.alloc(), found.as_slice());
+    mark(rt.alloc(), END);
+    match &answer {
+        Ok(module) => same_count(&rt, module.items.len(), 3),
+        Err(fault) => holds(&rt, *fault == SyntaxFault::Memory, "memory is refused"),
+    }
+    tell(&rt, answer.is_err());
+}
+
+#[test]
+fn includes_are_listed(rt: HostRuntime) {
+    let found = tokens(rt.alloc(), MAIN.as_bytes()).expect(&rt, "no tokens");
+    let module = parse(rt.alloc(), found.as_slice()).expect(&rt, "no module");
+    mark(rt.alloc(), BEGIN);
+    let answer = includes(rt.alloc(), &module);
+    mark(rt.alloc(), END);
+    if let Ok(literals) = &answer {
+        assert!(rt; literals.as_slice() == ["lib", "lib"].as_slice());
+    }
+    tell(&rt, answer.is_err());
+}
+
+/// Whether memory is refused to what assembles a set, of which the grammar has one definition.
+fn is_refused_grammar(rt: &(impl Abort + AllocGlobal), set: &ModuleSet) -> bool {
+    mark(rt.alloc(), BEGIN);
+    let answer = assemble(rt.alloc(), set);
+    mark(rt.alloc(), END);
+    is_assembled(rt, &answer);
+    answer.is_err()
+}
+
+/// A grammar has one definition, or memory is refused.
+fn is_assembled(rt: &impl Abort, answer: &Result<Grammar, Refusal>) {
+    match answer {
+        Ok(grammar) => same_count(rt, grammar.defs().len(), 1),
+        Err(refusal) => holds(rt, *refusal == Refusal::Memory, "memory is refused"),
+    }
+}
+
+#[test]
+fn a_set_is_assembled(rt: HostRuntime) {
+    let set = written_set(&rt, SET);
+    tell(&rt, is_refused_grammar(&rt, &set));
+}
+
+#[test]
+fn names_and_stores_need_no_memory(rt: HostRuntime) {
+    let mut store = Interned::new(rt.alloc());
+    let a = store.reference("a").expect(&rt, "no memory");
+    let class = name(rt.alloc(), "u", "n").expect(&rt, "no memory");
+    mark(rt.alloc(), BEGIN);
+    let are_told = is_ncname("a") && is_keyword("start") && class.cmp(&class).is_eq();
+    let is_kept = is_reference(&store, a, "a") && store.nodes() == 1;
+    let plain = Plain::new(rt.alloc()).nodes();
+    let interned = Interned::new(rt.alloc()).nodes();
+    mark(rt.alloc(), END);
+    holds(&rt, are_told && is_kept, "names and stores are told");
+    holds(&rt, plain == 0 && interned == 0, "new stores are empty");
+    tell(&rt, false);
+}

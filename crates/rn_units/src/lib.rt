@@ -1,0 +1,24 @@
+//! Unit tests of single layers, and the samples that tests are given.
+#![tactic(auto)]
+
+#[cfg(test)]
+mod bundles;
+#[cfg(test)]
+mod contributions;
+#[cfg(test)]
+mod grammars;
+#[cfg(test)]
+mod layers;
+#[cfg(test)]
+mod memory;
+#[cfg(test)]
+mod modules;
+#[cfg(test)]
+mod rows;
+pub mod samples;
+#[cfg(test)]
+mod sets;
+#[cfg(test)]
+mod stores;
+#[cfg(test)]
+mod tokens;

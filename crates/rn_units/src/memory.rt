@@ -1,0 +1,172 @@
+// Calls on texts, literals, sets and bundles, with their requests for memory refused in turn by what tests/want-of-memory loads
+// before the tests' program. A call that is refused answers want of memory, in its own type, and leaves what it was lent.
+// Without a refusal, as in the gate, it gives its own answer. Each test tells whether a call was refused.
+use crate::rows::{contribution, holds, made, owned, same, same_bytes, same_count, written_set};
+use crate::samples::{BEGIN, END, ONE, held, mark};
+use rn_modset::{AddFault, BundleFault, ModuleSet, SetFault, read_bundle, write_bundle};
+use rn_text::{TextFault, literal, tokens, write_literal};
+use std::process::Abort;
+
+/// Tells whether a call was refused.
+pub fn tell(rt: &(impl Abort + Print), is_refused: bool) {
+    let told = if is_refused { "refused" } else { "answered" };
+    println!(rt; "{told}").expect(rt, "nothing is told");
+}
+
+/// A module.
+pub const MAIN: &str = "include \"lib\" include \"lib\" start = element r { y }";
+
+/// The set of it and of what it includes.
+pub const SET: &str =
+    "@main\ninclude \"lib\" include \"lib\" start = element r { y }\n@lib\ny |= text";
+
+#[test]
+fn a_text_is_cut(rt: HostRuntime) {
+    mark(rt.alloc(), BEGIN);
+    let answer = tokens(rt.alloc(), MAIN.as_bytes());
+    mark(rt.alloc(), END);
+    match &answer {
+        Ok(found) => same_count(&rt, found.len(), 11),
+        Err(fault) => holds(&rt, *fault == TextFault::Memory, "memory is refused"),
+    }
+    tell(&rt, answer.is_err());
+}
+
+#[test]
+fn a_literal_is_read(rt: HostRuntime) {
+    let found = tokens(rt.alloc(), b"'\\xx{41}'").expect(&rt, "no tokens");
+    let segment = found.as_slice().first().expect(&rt, "no token");
+    mark(rt.alloc(), BEGIN);
+    let answer = literal(rt.alloc(), segment);
+    mark(rt.alloc(), END);
+    if let Ok(text) = &answer {
+        same(&rt, text.as_str(), "A");
+    }
+    tell(&rt, answer.is_err());
+}
+
+/// Four contributions, as a set is written. With them it is full of what it asked room for, so a fifth one asks for more.
+const FOUR: &str = "@a\nx\n@b 2\ny\n@c 3 withdrawn\n@e\nv";
+
+/// And as it holds them.
+const FOUR_HELD: &str = "a 1\nb 2\nc 3 withdrawn\ne 1\n";
+
+/// A set holds the contributions of these lines.
+fn holds_these(rt: &(impl Abort + AllocGlobal), set: &ModuleSet, wanted: &str) {
+    same(rt, made(rt, held(rt.alloc(), set)).as_str(), wanted);
+}
+
+#[test]
+fn a_contribution_is_added(rt: HostRuntime) {
+    let mut set = written_set(&rt, FOUR);
+    let kept = contribution(&rt, "d 4\nz");
+    let given = contribution(&rt, "d 4\nz");
+    mark(rt.alloc(), BEGIN);
+    let answer = set.add(given);
+    mark(rt.alloc(), END);
+    let wanted = match &answer {
+        Ok(_) => "a 1\nb 2\nc 3 withdrawn\nd 4\ne 1\n",
+        Err((back, fault)) => {
+            let is_back = *back == kept && *fault == AddFault::Memory;
+            holds(&rt, is_back, "the contribution comes back");
+            FOUR_HELD
+        }
+    };
+    holds_these(&rt, &set, wanted);
+    tell(&rt, answer.is_err());
+}
+
+#[test]
+fn sets_are_joined(rt: HostRuntime) {
+    let mut set = written_set(&rt, FOUR);
+    let other = written_set(&rt, "@a 2\nx\n@b 2\nz\n@d\n");
+    mark(rt.alloc(), BEGIN);
+    let answer = set.join(&other);
+    mark(rt.alloc(), END);
+    let is_right = answer == Ok(()) || answer == Err(AddFault::Memory);
+    holds(&rt, is_right, "the set is joined or refused");
+    let wanted = match answer {
+        Ok(()) => "a 1\na 2\nb 2\nb 2\nc 3 withdrawn\nd 1\ne 1\n",
+        Err(_) => FOUR_HELD,
+    };
+    holds_these(&rt, &set, wanted);
+    tell(&rt, answer.is_err());
+}
+
+#[test]
+fn a_bundle_is_written(rt: HostRuntime) {
+    let set = written_set(&rt, "@t 7\nabc");
+    mark(rt.alloc(), BEGIN);
+    let answer = write_bundle(rt.alloc(), &set);
+    mark(rt.alloc(), END);
+    if let Ok(bytes) = &answer {
+        same_bytes(&rt, bytes.as_slice(), ONE.as_bytes());
+    }
+    tell(&rt, answer.is_err());
+}
+
+#[test]
+fn a_bundle_is_read(rt: HostRuntime) {
+    mark(rt.alloc(), BEGIN);
+    let answer = read_bundle(rt.alloc(), ONE.as_bytes());
+    mark(rt.alloc(), END);
+    match &answer {
+        Ok(set) => holds_these(&rt, set, "t 7\n"),
+        Err(fault) => holds(&rt, *fault == BundleFault::Memory, "memory is refused"),
+    }
+    tell(&rt, answer.is_err());
+}
+
+#[test]
+fn a_literal_is_written(rt: HostRuntime) {
+    let mut out = owned(&rt, "x");
+    mark(rt.alloc(), BEGIN);
+    let answer = write_literal(&mut out, "a\"b\nc");
+    mark(rt.alloc(), END);
+    let wanted = match answer {
+        Ok(()) => "x\"a\" ~ '\"' ~ \"b\\x{A}c\"",
+        Err(_) => "x",
+    };
+    same(&rt, out.as_str(), wanted);
+    tell(&rt, answer.is_err());
+}
+
+#[test]
+fn effective_modules_are_found(rt: HostRuntime) {
+    let set = written_set(&rt, SET);
+    mark(rt.alloc(), BEGIN);
+    let answer = set.effective(rt.alloc());
+    mark(rt.alloc(), END);
+    match &answer {
+        Ok(modules) => same_count(&rt, modules.iter().count(), 2),
+        Err(fault) => holds(&rt, *fault == SetFault::Memory, "memory is refused"),
+    }
+    tell(&rt, answer.is_err());
+}
+
+#[test]
+fn what_a_set_tells_needs_no_memory(rt: HostRuntime) {
+    let mut set = written_set(&rt, FOUR);
+    let given = contribution(&rt, "b 2\ny");
+    mark(rt.alloc(), BEGIN);
+    let is_held = set.contains(&given) && set.len() == 4 && set.iter().count() == 4;
+    let is_added = set.add(given).is_ok();
+    let is_empty = ModuleSet::new(rt.alloc()).len() == 0;
+    mark(rt.alloc(), END);
+    holds(&rt, is_held && is_added && is_empty, "the set tells it");
+    holds_these(&rt, &set, FOUR_HELD);
+    tell(&rt, false);
+}
+
+#[test]
+fn what_is_effective_needs_no_memory(rt: HostRuntime) {
+    let set = written_set(&rt, FOUR);
+    let modules = set.effective(rt.alloc()).expect(&rt, "a conflict");
+    mark(rt.alloc(), BEGIN);
+    let count = modules.iter().count();
+    let text = modules.get("b");
+    mark(rt.alloc(), END);
+    let is_right = count == 3 && text == Some(b"y".as_slice());
+    holds(&rt, is_right, "the modules are told");
+    tell(&rt, false);
+}

@@ -1,0 +1,111 @@
+// What a merge answers for sets, and what its layers do. A helper that lacks memory, or is given what it can't take, ends its test.
+use crate::rows::{Subject, made, owned, same_for, written_set};
+use rn_assemble::{Grammar, Refusal, assemble};
+use rn_merge::{ProgramFault, fault_line, merge, refusal_line};
+use rn_modset::ModuleSet;
+use rn_pattern::{Interned, Patterns, Plain};
+use rn_simplify::{Normal, normalise_in, print};
+use std::process::Abort;
+
+/// The line with which each printed schema begins.
+pub const FIRST_LINE: &str = "default namespace = \"\"\n";
+
+/// The text that a merge prints of a set.
+fn printed(rt: &(impl Abort + AllocGlobal), set: &ModuleSet) -> String {
+    merge(rt.alloc(), set).expect(rt, "the set is refused")
+}
+
+/// The same for one module.
+pub fn merged(rt: &(impl Abort + AllocGlobal), text: &str) -> String {
+    printed(rt, &written_set(rt, text))
+}
+
+/// The answer of a merge, as rows write it.
+pub fn shown(rt: &(impl Abort + AllocGlobal), answer: Result<String, Refusal>) -> String {
+    match answer {
+        Ok(text) => owned(rt, lines_of(rt, text.as_str())),
+        Err(refusal) => made(rt, refusal_line(rt.alloc(), &refusal)),
+    }
+}
+
+/// What a merge answers for a set, as rows write it.
+pub fn answer(rt: &(impl Abort + AllocGlobal), set: &ModuleSet) -> String {
+    shown(rt, merge(rt.alloc(), set))
+}
+
+/// The same for one module.
+pub fn answer_of_text(rt: &(impl Abort + AllocGlobal), text: &str) -> String {
+    answer(rt, &written_set(rt, text))
+}
+
+/// The lines behind the first one of a schema.
+fn lines_of<'a>(rt: &impl Abort, text: &'a str) -> &'a str {
+    text.strip_prefix(FIRST_LINE)
+        .expect(rt, "the first line is missing")
+}
+
+/// A merge, which answers for a set the printed lines behind the first one, or the line of its refusal.
+pub struct Merge;
+
+impl Subject for Merge {
+    fn answers<R: Abort + AllocGlobal>(&self, rt: &R, given: &str, wanted: &str) {
+        let found = answer(rt, &written_set(rt, given));
+        same_for(rt, given, found.as_str(), wanted);
+    }
+}
+
+/// A merge of what a set prints, as a set of its own, `z` at revision 9: the same is printed again.
+pub struct MergeAgain;
+
+impl Subject for MergeAgain {
+    fn answers<R: Abort + AllocGlobal>(&self, rt: &R, given: &str, _wanted: &str) {
+        let text = printed(rt, &written_set(rt, given));
+        let again = made(rt, format!(in rt.alloc(); "@z 9\n{text}"));
+        let again = printed(rt, &written_set(rt, again.as_str()));
+        same_for(rt, given, again.as_str(), text.as_str());
+    }
+}
+
+/// The grammar of a set.
+pub fn grammar(rt: &(impl Abort + AllocGlobal), set: &ModuleSet) -> Box<Grammar> {
+    let grammar = assemble(rt.alloc(), set).expect(rt, "no grammar");
+    Box::new(rt.alloc(), grammar).expect(rt, "no memory")
+}
+
+/// The canonical form of a grammar, built in the store.
+fn normal_in<P: Patterns>(
+    rt: &(impl Abort + AllocGlobal),
+    grammar: &Grammar,
+    store: &mut P,
+) -> Box<Normal> {
+    let normal = normalise_in(rt.alloc(), grammar, store).expect(rt, "no memory");
+    Box::new(rt.alloc(), normal).expect(rt, "no memory")
+}
+
+/// The schema of a grammar, whose canonical form is built in the store, has these lines behind the first one.
+fn prints_in<P: Patterns>(
+    rt: &(impl Abort + AllocGlobal),
+    grammar: &Grammar,
+    store: &mut P,
+    given: &str,
+    wanted: &str,
+) {
+    let text = print(rt.alloc(), &normal_in(rt, grammar, store)).expect(rt, "no text");
+    same_for(rt, given, lines_of(rt, text.as_str()), wanted);
+}
+
+/// A merge whose canonical form is built in a store that looks for equal patterns, and in one that doesn't.
+pub struct BothStores;
+
+impl Subject for BothStores {
+    fn answers<R: Abort + AllocGlobal>(&self, rt: &R, given: &str, wanted: &str) {
+        let grammar = grammar(rt, &written_set(rt, given));
+        prints_in(rt, &grammar, &mut Plain::new(rt.alloc()), given, wanted);
+        prints_in(rt, &grammar, &mut Interned::new(rt.alloc()), given, wanted);
+    }
+}
+
+/// The line of a fault.
+pub fn line_of(rt: &(impl Abort + AllocGlobal), fault: ProgramFault) -> String {
+    made(rt, fault_line(rt.alloc(), &fault))
+}
