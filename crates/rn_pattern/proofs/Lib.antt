@@ -24,6 +24,9 @@ pub mod Settled
 pub mod Ranked
 pub mod Constructors
 pub mod Examples
+pub mod Accepting
+pub mod Accepted
+pub mod Tried
 pub mod NodeTrees
 pub mod SortedBy
 pub mod Gathering

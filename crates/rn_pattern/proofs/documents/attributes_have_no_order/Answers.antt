@@ -1,0 +1,35 @@
+use Rattle.std.proofs.Common.{refl, [], ◌∷◌}
+use Rattle.std.specs.Prelude.{codes}
+use Rattle.rn_pattern.specs.Examples.{said, no_library, a_of, a_with, a_holding, x_and_y, all_but_x, x_is_one, x_one, y_two, z_three}
+use Rattle.rn_pattern.proofs.Tried.{accepted, rejected}
+use Rattle.rn_pattern.proofs.documents.attributes_have_no_order.Goals as goal
+
+pub returns-clause-in_order : goal.returns-clause-in_order
+returns-clause-in_order c = accepted 0 (a_holding x_and_y) no_library (a_with (x_one ∷ y_two ∷ [])) refl refl
+
+pub returns-clause-turned : goal.returns-clause-turned
+returns-clause-turned c = accepted 0 (a_holding x_and_y) no_library (a_with (y_two ∷ x_one ∷ [])) refl refl
+
+pub returns-clause-short : goal.returns-clause-short
+returns-clause-short c = rejected (a_holding x_and_y) no_library (a_with (x_one ∷ [])) refl (λ n. refl)
+
+pub returns-clause-long : goal.returns-clause-long
+returns-clause-long c = rejected (a_holding x_and_y) no_library (a_with (x_one ∷ y_two ∷ z_three ∷ [])) refl (λ n. refl)
+
+pub returns-clause-except_others : goal.returns-clause-except_others
+returns-clause-except_others c = accepted 0 (a_holding all_but_x) no_library (a_with (y_two ∷ z_three ∷ [])) refl refl
+
+pub returns-clause-except_x : goal.returns-clause-except_x
+returns-clause-except_x c = rejected (a_holding all_but_x) no_library (a_with (x_one ∷ [])) refl (λ n. refl)
+
+pub returns-clause-except_x_with_other : goal.returns-clause-except_x_with_other
+returns-clause-except_x_with_other c = rejected (a_holding all_but_x) no_library (a_with (y_two ∷ x_one ∷ [])) refl (λ n. refl)
+
+pub returns-clause-value_itself : goal.returns-clause-value_itself
+returns-clause-value_itself c = accepted 0 (a_holding x_is_one) no_library (a_with (x_one ∷ [])) refl refl
+
+pub returns-clause-value_other : goal.returns-clause-value_other
+returns-clause-value_other c = rejected (a_holding x_is_one) no_library (a_with (said (codes "x") (codes "2") ∷ [])) refl (λ n. refl)
+
+pub returns-clause-value_in_content : goal.returns-clause-value_in_content
+returns-clause-value_in_content c = rejected (a_holding x_is_one) no_library (a_of (codes "1")) refl (λ n. refl)

@@ -1,0 +1,21 @@
+use Rattle.std.proofs.Common.{refl, [], ◌∷◌}
+use Rattle.std.specs.Prelude.{codes}
+use Rattle.rn_pattern.specs.Document.{string}
+use Rattle.rn_pattern.specs.Examples.{blank, no_break_space, no_library, a_then_b, doc_of, doc_a_b, doc_padded_by}
+use Rattle.rn_pattern.proofs.Tried.{accepted, rejected}
+use Rattle.rn_pattern.proofs.documents.white_space_pads_elements.Goals as goal
+
+pub returns-clause-none : goal.returns-clause-none
+returns-clause-none c = accepted 0 a_then_b no_library doc_a_b refl refl
+
+pub returns-clause-blank : goal.returns-clause-blank
+returns-clause-blank c = accepted 0 a_then_b no_library (doc_padded_by blank) refl refl
+
+pub returns-clause-letter : goal.returns-clause-letter
+returns-clause-letter c = rejected a_then_b no_library (doc_padded_by (codes "x")) refl (λ n. refl)
+
+pub returns-clause-no_break_space : goal.returns-clause-no_break_space
+returns-clause-no_break_space c = rejected a_then_b no_library (doc_padded_by no_break_space) refl (λ n. refl)
+
+pub returns-clause-no_elements : goal.returns-clause-no_elements
+returns-clause-no_elements c = rejected a_then_b no_library (doc_of (string blank ∷ [])) refl (λ n. refl)
