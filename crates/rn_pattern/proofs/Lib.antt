@@ -29,6 +29,8 @@ pub mod Accepted
 pub mod Tried
 pub mod NodeTrees
 pub mod SortedBy
+pub mod SortedMembers
+pub mod BuiltCanonical
 pub mod Gathering
 pub mod Single
 pub mod Copied
