@@ -1,10 +1,10 @@
 -- What is made of canonical patterns is canonical, and so are the patterns of a store.
-use Rattle.std.proofs.Common.{◌≡◌, ◌<◌, ℕ, List, [], ◌∷◌, map, length, Bool, true, false, IsTrue, Option, Some, None, inl, inr, refl, sym, ap, ◌∙◌, subst, arith}
+use Rattle.std.proofs.Common.{◌≡◌, List, [], ◌∷◌, map, length, Bool, IsTrue, Option, Some, None, inl, inr, sym, ap, ◌∙◌, subst, arith}
 use Rattle.std.specs.Prelude.{◌⊎◌, All, IfSome}
 use Rattle.std.specs.Option.{option_map}
 use Rattle.std.specs.List.{AllByRecursion}
-use Rattle.std.proofs.lemmas.List.Elements.{recursion_from_All, All-head, All-tail}
-use Rattle.rn_pattern.specs.Tree.{Text, Parameters, NameTree, Tree, choice, group, interleave}
+use Rattle.std.proofs.lemmas.List.Elements.{recursion_from_All}
+use Rattle.rn_pattern.specs.Tree.{Text, Parameters, Tree}
 use Rattle.rn_pattern.specs.Canonical.{choice_step, group_step, interleave_step}
 use Rattle.rn_pattern.specs.CanonicalShape.{AnyName, IsCanonicalPattern}
 use Rattle.rn_pattern.specs.Nodes.{knows, tree_at}
@@ -72,6 +72,6 @@ module _ {S : Type 0} (trees : S → List Tree) where
     at_first = λ s e i h. absurd (none_known s e i h);
     answered = λ old new t answer holds made keeps adds stands. answered_canonical (knows (trees old)) (tree_at (trees old)) holds (knows (trees new)) (tree_at (trees new)) t answer made keeps adds stands;
     refused = λ old new holds keeps e i h.
-    let known : IsTrue (knows (trees old) i) = place_known (trees old) i (omega (arith, e, knows_place (trees new) i h)) in
-    subst IsCanonicalPattern (sym (keeps i known).1) (holds i known);
+        let known : IsTrue (knows (trees old) i) = place_known (trees old) i (omega (arith, e, knows_place (trees new) i h)) in
+        subst IsCanonicalPattern (sym (keeps i known).1) (holds i known);
   }

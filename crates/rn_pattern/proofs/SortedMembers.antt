@@ -1,6 +1,6 @@
 -- Sorting keeps the members: each as often as it stands, or each once.
 use Rattle.std.proofs.Common.{◌≡◌, ◌↔◌, List, [], ◌∷◌, Ordering, Less, Equal, Greater}
-use Rattle.std.specs.Prelude.{All, Contains, IsPermutation}
+use Rattle.std.specs.Prelude.{Contains, IsPermutation}
 use Rattle.std.specs.Ordering.{match_ordering}
 use Rattle.std.specs.List.{AllByRecursion}
 use Rattle.std.proofs.lemmas.List.Elements.{All-contains, All-contains_itself, All-from_recursion, recursion_from_All}
