@@ -23,7 +23,7 @@ pub mod CanonicalForm
 pub mod Settled
 pub mod Ranked
 pub mod Constructors
-pub mod Examples
+pub mod Computed
 pub mod Accepting
 pub mod Accepted
 pub mod Tried

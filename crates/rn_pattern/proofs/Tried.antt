@@ -80,7 +80,7 @@ apart (string s ∷ node u l a k ∷ is) e =
 apart (node u l a k ∷ is) e = apart is e
 
 mutual
-  document : (i : Item) → is_document i ≡ true → IsDocument i
+  pub document : (i : Item) → is_document i ≡ true → IsDocument i
   document (node u l a k) e =
       let (names, rest) = passed (has_distinct_names a) (strings_stand_apart (items_of k) && are_documents k) e in
       let (strings, within) = passed (strings_stand_apart (items_of k)) (are_documents k) rest in

@@ -238,6 +238,10 @@ y_two = said (codes "y") (codes "2")
 abbrev pub z_three : Attribute
 z_three = said (codes "z") (codes "3")
 
+-- the same name as x has, in the namespace urn:u
+abbrev pub x_in_u : Attribute
+x_in_u = record x_one { uri = codes "urn:u" }
+
 -- start = element C { empty }
 abbrev pub named_by : NameTree → Grammar
 named_by c = only (element c empty)
@@ -251,6 +255,10 @@ of_u_but_a = ns_name_but (codes "urn:u") (name (codes "urn:u") (codes "a"))
 
 abbrev pub all_but_a : NameTree
 all_but_a = any_name_but (plain (codes "a"))
+
+-- all names but those of urn:u
+abbrev pub all_but_u : NameTree
+all_but_u = any_name_but of_u
 
 -- a, or a name of urn:u
 abbrev pub a_or_of_u : NameTree

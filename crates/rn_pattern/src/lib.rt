@@ -34,5 +34,5 @@ pub use patterns::Patterns;
 pub use plain::Plain;
 pub use tree::{NameClass, Pattern};
 
-pub mod documents;
+pub mod examples;
 pub mod laws;

@@ -2,7 +2,7 @@ use Rattle.std.proofs.Common.{refl}
 use Rattle.std.specs.Prelude.{codes}
 use Rattle.rn_pattern.specs.Examples.{no_library, a_of, a_holding, one, any_int, positive, numbers, spellings}
 use Rattle.rn_pattern.proofs.Tried.{accepted, rejected}
-use Rattle.rn_pattern.proofs.documents.datatype_libraries_answer.Goals as goal
+use Rattle.rn_pattern.proofs.examples.datatype_libraries_answer.Goals as goal
 
 pub returns-clause-value_itself : goal.returns-clause-value_itself
 returns-clause-value_itself c = accepted 0 (a_holding one) numbers (a_of (codes "1")) refl refl

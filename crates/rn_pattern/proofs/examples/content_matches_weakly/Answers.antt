@@ -3,7 +3,7 @@ use Rattle.std.specs.Prelude.{codes}
 use Rattle.rn_pattern.specs.Tree.{empty}
 use Rattle.rn_pattern.specs.Examples.{string_is, token_is, any_string, leaf, said, blank, no_library, a_of, a_with, a_of_b, a_holding, x_is_empty, x_one}
 use Rattle.rn_pattern.proofs.Tried.{accepted, rejected}
-use Rattle.rn_pattern.proofs.documents.content_matches_weakly.Goals as goal
+use Rattle.rn_pattern.proofs.examples.content_matches_weakly.Goals as goal
 
 pub returns-clause-blank_for_nothing : goal.returns-clause-blank_for_nothing
 returns-clause-blank_for_nothing c = accepted 0 (a_holding empty) no_library (a_of blank) refl refl

@@ -3,7 +3,7 @@ use Rattle.std.specs.Prelude.{codes}
 use Rattle.rn_pattern.specs.Document.{string}
 use Rattle.rn_pattern.specs.Examples.{blank, no_break_space, no_library, a_then_b, doc_of, doc_a_b, doc_padded_by}
 use Rattle.rn_pattern.proofs.Tried.{accepted, rejected}
-use Rattle.rn_pattern.proofs.documents.white_space_pads_elements.Goals as goal
+use Rattle.rn_pattern.proofs.examples.white_space_pads_elements.Goals as goal
 
 pub returns-clause-none : goal.returns-clause-none
 returns-clause-none c = accepted 0 a_then_b no_library doc_a_b refl refl

@@ -3,7 +3,7 @@ use Rattle.std.specs.Prelude.{codes}
 use Rattle.rn_pattern.specs.Tree.{empty, list}
 use Rattle.rn_pattern.specs.Examples.{leaf, padded_x_y, no_library, a_of, a_holding, x_then_y, some_x}
 use Rattle.rn_pattern.proofs.Tried.{accepted, rejected}
-use Rattle.rn_pattern.proofs.documents.lists_split_at_white_space.Goals as goal
+use Rattle.rn_pattern.proofs.examples.lists_split_at_white_space.Goals as goal
 
 pub returns-clause-two : goal.returns-clause-two
 returns-clause-two c = accepted 0 (a_holding x_then_y) no_library (a_of (codes "x y")) refl refl

@@ -2,7 +2,7 @@ use Rattle.std.proofs.Common.{refl, [], ◌∷◌}
 use Rattle.std.specs.Prelude.{codes}
 use Rattle.rn_pattern.specs.Examples.{leaf, no_library, a_or_b, b_of_text, a_of, a_with, b_of_a, x_one}
 use Rattle.rn_pattern.proofs.Tried.{accepted, rejected, from_one}
-use Rattle.rn_pattern.proofs.documents.elements_hold_what_their_pattern_matches.Goals as goal
+use Rattle.rn_pattern.proofs.examples.elements_hold_what_their_pattern_matches.Goals as goal
 
 pub returns-clause-a_alone : goal.returns-clause-a_alone
 returns-clause-a_alone c = accepted 1 a_or_b no_library (leaf (codes "a")) refl refl

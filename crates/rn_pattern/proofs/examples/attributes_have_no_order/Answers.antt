@@ -2,7 +2,7 @@ use Rattle.std.proofs.Common.{refl, [], ◌∷◌}
 use Rattle.std.specs.Prelude.{codes}
 use Rattle.rn_pattern.specs.Examples.{said, no_library, a_of, a_with, a_holding, x_and_y, all_but_x, x_is_one, x_one, y_two, z_three}
 use Rattle.rn_pattern.proofs.Tried.{accepted, rejected}
-use Rattle.rn_pattern.proofs.documents.attributes_have_no_order.Goals as goal
+use Rattle.rn_pattern.proofs.examples.attributes_have_no_order.Goals as goal
 
 pub returns-clause-in_order : goal.returns-clause-in_order
 returns-clause-in_order c = accepted 0 (a_holding x_and_y) no_library (a_with (x_one ∷ y_two ∷ [])) refl refl

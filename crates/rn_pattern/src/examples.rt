@@ -1,9 +1,11 @@
-//! What matching means, by documents that are valid and documents that are not: laws whose clauses are examples (RELAX NG
-//! Specification, section 6). `Accepts` and `Rejects` also say that the example is a document.
+//! What the definitions mean, by examples: laws whose clauses are documents that are valid and documents that are not (RELAX
+//! NG Specification, section 6), items that are no documents (section 2), and name classes that may stand or not (section
+//! 4.16). `Accepts` and `Rejects` also say that the example is a document.
 ghost use Rattle.std.specs.Prelude.{[], ◌∷◌, codes};
-ghost use Rattle.rn_pattern.specs.Tree.{any_name, empty, list};
-ghost use Rattle.rn_pattern.specs.Document.{string};
-ghost use Rattle.rn_pattern.specs.Examples.{Accepts, Rejects, string_is, token_is, any_string, leaf, said, blank, no_break_space, padded_x_y, padded_x, no_library, a_or_b, b_of_text, a_of, a_with, b_of_a, a_of_b, a_then_b, a_and_b, a_twice_and_b, doc_of, doc_a_b, doc_b_a, doc_a, doc_a_a, doc_a_b_a, doc_a_a_a_b, doc_padded_by, doc_text_a_text, doc_text_b, mixed_a, some_a, any_a, a_holding, x_then_y, some_x, string_but_x, token_but_x, one, any_int, positive, numbers, spellings, x_and_y, all_but_x, x_is_one, x_is_empty, x_one, y_two, z_three, named_by, of_u, of_u_but_a, all_but_a, a_or_of_u, a_in_u, b_in_u, b_in_v, through_two, nested, doc_doc_a_a, doc_doc_b};
+ghost use Rattle.rn_pattern.specs.Tree.{any_name, any_name_but, ns_name, ns_name_but, name, attribute, element, empty, list, text};
+ghost use Rattle.rn_pattern.specs.Document.{string, IsDocument};
+ghost use Rattle.rn_pattern.specs.NameRules.{KeepsNameRules, declarations};
+ghost use Rattle.rn_pattern.specs.Examples.{Accepts, Rejects, plain, tag, x_in_u, all_but_u, string_is, token_is, any_string, leaf, said, blank, no_break_space, padded_x_y, padded_x, no_library, a_or_b, b_of_text, a_of, a_with, b_of_a, a_of_b, a_then_b, a_and_b, a_twice_and_b, doc_of, doc_a_b, doc_b_a, doc_a, doc_a_a, doc_a_b_a, doc_a_a_a_b, doc_padded_by, doc_text_a_text, doc_text_b, mixed_a, some_a, any_a, a_holding, x_then_y, some_x, string_but_x, token_but_x, one, any_int, positive, numbers, spellings, x_and_y, all_but_x, x_is_one, x_is_empty, x_one, y_two, z_three, named_by, of_u, of_u_but_a, all_but_a, a_or_of_u, a_in_u, b_in_u, b_in_v, through_two, nested, doc_doc_a_a, doc_doc_b};
 
 /// An element with the content and attributes that its pattern matches: nothing for `empty`, strings for `text`
 /// (sections 6.2.3 and 6.2.4); it stands in a choice (6.2.1), behind one reference.
@@ -242,4 +244,44 @@ pub fn references_stand_for_definitions()
     ensures nested { Accepts nested no_library doc_doc_a_a }
     // but not at the second
     ensures nested_other { Rejects nested no_library doc_doc_b }
+{}
+
+/// What an item must keep to be a document (section 2).
+pub fn documents_and_other_items()
+    // two attributes with one local name, in two namespaces
+    ensures two_names { IsDocument (a_with (x_one ∷ x_in_u ∷ [])) }
+    // two attributes with one name
+    ensures one_name_twice { ¬ IsDocument (a_with (x_one ∷ x_one ∷ [])) }
+    // the same in an element inside
+    ensures one_name_twice_inside { ¬ IsDocument (doc_of (a_with (x_one ∷ x_one ∷ []) ∷ [])) }
+    // two strings side by side
+    ensures two_strings { ¬ IsDocument (tag (codes "a") (string (codes "x") ∷ string (codes "y") ∷ [])) }
+    // a string that is empty
+    ensures empty_string { ¬ IsDocument (a_of []) }
+    // no element
+    ensures no_element { ¬ IsDocument (string (codes "x")) }
+{}
+
+/// The restrictions on name classes (section 4.16).
+pub fn name_classes_keep_restrictions()
+    // an except of anyName may hold an nsName
+    ensures any_but_namespace { KeepsNameRules (element all_but_u empty) }
+    // but no anyName
+    ensures any_but_any { ¬ KeepsNameRules (element (any_name_but any_name) empty) }
+    // at any depth
+    ensures any_but_any_inside { ¬ KeepsNameRules (element (any_name_but (ns_name_but (codes "urn:u") any_name)) empty) }
+    // an except of nsName may hold a name
+    ensures namespace_but_name { KeepsNameRules (element of_u_but_a empty) }
+    // but no nsName
+    ensures namespace_but_namespace { ¬ KeepsNameRules (element (ns_name_but (codes "urn:u") of_u) empty) }
+    // an attribute in no namespace
+    ensures attribute { KeepsNameRules x_is_one }
+    // unless it is xmlns
+    ensures attribute_xmlns { ¬ KeepsNameRules (attribute (plain (codes "xmlns")) text) }
+    // which an element may be
+    ensures element_xmlns { KeepsNameRules (element (plain (codes "xmlns")) empty) }
+    // an attribute in the namespace of declarations
+    ensures attribute_declaration { ¬ KeepsNameRules (attribute (name declarations (codes "x")) text) }
+    // any attribute of that namespace
+    ensures attributes_of_declarations { ¬ KeepsNameRules (attribute (ns_name declarations) text) }
 {}

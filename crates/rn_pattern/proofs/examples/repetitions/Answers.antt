@@ -2,7 +2,7 @@ use Rattle.std.proofs.Common.{refl}
 use Rattle.std.specs.Prelude.{codes}
 use Rattle.rn_pattern.specs.Examples.{leaf, no_library, doc_a_b, doc_a, doc_a_a, some_a, any_a}
 use Rattle.rn_pattern.proofs.Tried.{accepted, rejected}
-use Rattle.rn_pattern.proofs.documents.repetitions.Goals as goal
+use Rattle.rn_pattern.proofs.examples.repetitions.Goals as goal
 
 pub returns-clause-some_once : goal.returns-clause-some_once
 returns-clause-some_once c = accepted 0 some_a no_library doc_a refl refl
