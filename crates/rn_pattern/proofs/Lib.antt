@@ -25,6 +25,7 @@ pub mod Ranked
 pub mod Constructors
 pub mod Computed
 pub mod Accepting
+pub mod AcceptedParts
 pub mod Accepted
 pub mod Tried
 pub mod NodeTrees

@@ -44,6 +44,13 @@ token_is s = value [] (codes "token") s
 abbrev pub any_string : Tree
 any_string = datum [] (codes "string") []
 
+-- a type that the built-in library does not have
+abbrev pub unknown_type : Tree
+unknown_type = datum [] (codes "int") []
+
+abbrev pub unknown_value : Tree
+unknown_value = value [] (codes "int") (codes "1")
+
 -- elements and attributes in no namespace
 abbrev pub items_from : List Item → Items
 items_from [] = no_items
@@ -63,6 +70,16 @@ leaf_in u x = node u x [] no_items
 
 abbrev pub said : Text → Text → Attribute
 said x s = record { uri = []; local = x; content = s }
+
+-- x="1", y="2" and z="3"
+abbrev pub x_one : Attribute
+x_one = said (codes "x") (codes "1")
+
+abbrev pub y_two : Attribute
+y_two = said (codes "y") (codes "2")
+
+abbrev pub z_three : Attribute
+z_three = said (codes "z") (codes "3")
 
 -- a space, a tab, a line feed and a carriage return
 abbrev pub blank : Text
@@ -98,6 +115,10 @@ a_of s = tag (codes "a") (string s ∷ [])
 -- <a> with these attributes
 abbrev pub a_with : List Attribute → Item
 a_with a = tag_with (codes "a") a []
+
+-- <b x="1"/>
+abbrev pub b_with_x : Item
+b_with_x = tag_with (codes "b") (x_one ∷ []) []
 
 -- <b><a/></b>, and <a><b/></a>
 abbrev pub b_of_a : Item
@@ -158,6 +179,17 @@ doc_text_a_text = doc_of (string (codes "one") ∷ leaf (codes "a") ∷ string (
 abbrev pub doc_text_b : Item
 doc_text_b = doc_of (string (codes "one") ∷ leaf (codes "b") ∷ [])
 
+-- <doc>, the text, <a/><b/></doc>, and <doc><a/><b/>, the text, </doc>
+abbrev pub doc_led_by : Text → Item
+doc_led_by s = doc_of (string s ∷ leaf (codes "a") ∷ leaf (codes "b") ∷ [])
+
+abbrev pub doc_ended_by : Text → Item
+doc_ended_by s = doc_of (leaf (codes "a") ∷ leaf (codes "b") ∷ string s ∷ [])
+
+-- <doc x="1"><a/><b/></doc>
+abbrev pub doc_with_x : Item
+doc_with_x = tag_with (codes "doc") (x_one ∷ []) (leaf (codes "a") ∷ leaf (codes "b") ∷ [])
+
 -- start = element doc { text & element a { empty }* }
 abbrev pub mixed_a : Grammar
 mixed_a = only (holding (codes "doc") (in_any_order (text ∷ repeated (holding (codes "a") empty) ∷ [])))
@@ -169,6 +201,10 @@ some_a = only (holding (codes "doc") (one_or_more (holding (codes "a") empty)))
 -- start = element doc { element a { empty }* }
 abbrev pub any_a : Grammar
 any_a = only (holding (codes "doc") (repeated (holding (codes "a") empty)))
+
+-- <a x="1"> of this text
+abbrev pub a_with_x_of : Text → Item
+a_with_x_of s = tag_with (codes "a") (x_one ∷ []) (string s ∷ [])
 
 -- start = element a { P }
 abbrev pub a_holding : Tree → Grammar
@@ -216,6 +252,14 @@ spellings = record numbers { equal = (codes "urn:numbers", codes "int", codes "1
 abbrev pub x_and_y : Tree
 x_and_y = in_turn (attribute (plain (codes "x")) text ∷ attribute (plain (codes "y")) text ∷ [])
 
+-- attribute x { text } & attribute y { text }
+abbrev pub x_beside_y : Tree
+x_beside_y = in_any_order (attribute (plain (codes "x")) text ∷ attribute (plain (codes "y")) text ∷ [])
+
+-- attribute x { text }, string
+abbrev pub x_and_string : Tree
+x_and_string = in_turn (attribute (plain (codes "x")) text ∷ any_string ∷ [])
+
 -- attribute * - x { text }+
 abbrev pub all_but_x : Tree
 all_but_x = one_or_more (attribute (any_name_but (plain (codes "x"))) text)
@@ -227,16 +271,6 @@ x_is_one = attribute (plain (codes "x")) (token_is (codes "1"))
 -- attribute x { empty }
 abbrev pub x_is_empty : Tree
 x_is_empty = attribute (plain (codes "x")) empty
-
--- x="1", y="2" and z="3"
-abbrev pub x_one : Attribute
-x_one = said (codes "x") (codes "1")
-
-abbrev pub y_two : Attribute
-y_two = said (codes "y") (codes "2")
-
-abbrev pub z_three : Attribute
-z_three = said (codes "z") (codes "3")
 
 -- the same name as x has, in the namespace urn:u
 abbrev pub x_in_u : Attribute

@@ -1,11 +1,11 @@
-//! What the definitions mean, by examples: laws whose clauses are documents that are valid and documents that are not (RELAX
-//! NG Specification, section 6), items that are no documents (section 2), and name classes that may stand or not (section
-//! 4.16). `Accepts` and `Rejects` also say that the example is a document.
+//! What the definitions mean, by examples: laws whose clauses are documents that are valid and documents that are not
+//! (RELAX NG Specification, section 6), items that are no documents (section 2), and name classes that may stand or not
+//! (section 4.16). `Accepts` and `Rejects` also say that the example is a document.
 ghost use Rattle.std.specs.Prelude.{[], ◌∷◌, codes};
 ghost use Rattle.rn_pattern.specs.Tree.{any_name, any_name_but, ns_name, ns_name_but, name, attribute, element, empty, list, text};
 ghost use Rattle.rn_pattern.specs.Document.{string, IsDocument};
 ghost use Rattle.rn_pattern.specs.NameRules.{KeepsNameRules, declarations};
-ghost use Rattle.rn_pattern.specs.Examples.{Accepts, Rejects, plain, tag, x_in_u, all_but_u, string_is, token_is, any_string, leaf, said, blank, no_break_space, padded_x_y, padded_x, no_library, a_or_b, b_of_text, a_of, a_with, b_of_a, a_of_b, a_then_b, a_and_b, a_twice_and_b, doc_of, doc_a_b, doc_b_a, doc_a, doc_a_a, doc_a_b_a, doc_a_a_a_b, doc_padded_by, doc_text_a_text, doc_text_b, mixed_a, some_a, any_a, a_holding, x_then_y, some_x, string_but_x, token_but_x, one, any_int, positive, numbers, spellings, x_and_y, all_but_x, x_is_one, x_is_empty, x_one, y_two, z_three, named_by, of_u, of_u_but_a, all_but_a, a_or_of_u, a_in_u, b_in_u, b_in_v, through_two, nested, doc_doc_a_a, doc_doc_b};
+ghost use Rattle.rn_pattern.specs.Examples.{Accepts, Rejects, plain, string_is, token_is, any_string, unknown_type, unknown_value, tag, leaf, said, x_one, y_two, z_three, blank, no_break_space, padded_x_y, padded_x, no_library, a_or_b, b_of_text, a_of, a_with, b_with_x, b_of_a, a_of_b, a_then_b, a_and_b, a_twice_and_b, doc_of, doc_a_b, doc_b_a, doc_a, doc_a_a, doc_a_b_a, doc_a_a_a_b, doc_padded_by, doc_text_a_text, doc_text_b, doc_led_by, doc_ended_by, doc_with_x, mixed_a, some_a, any_a, a_with_x_of, a_holding, x_then_y, some_x, string_but_x, token_but_x, one, any_int, positive, numbers, spellings, x_and_y, x_beside_y, x_and_string, all_but_x, x_is_one, x_is_empty, x_in_u, named_by, of_u, of_u_but_a, all_but_a, all_but_u, a_or_of_u, a_in_u, b_in_u, b_in_v, through_two, nested, doc_doc_a_a, doc_doc_b};
 
 /// An element with the content and attributes that its pattern matches: nothing for `empty`, strings for `text`
 /// (sections 6.2.3 and 6.2.4); it stands in a choice (6.2.1), behind one reference.
@@ -24,6 +24,10 @@ pub fn elements_hold_what_their_pattern_matches()
     ensures a_with_x { Rejects a_or_b no_library (a_with (x_one ∷ [])) }
     // 6.2.4: an element is no string
     ensures b_of_a { Rejects a_or_b no_library b_of_a }
+    // 6.1: the local name alone is not the name
+    ensures a_in_other_namespace { Rejects a_or_b no_library a_in_u }
+    // 6.2.4: `text` matches no attribute
+    ensures b_with_attribute { Rejects a_or_b no_library b_with_x }
 {}
 
 /// White space before, between and behind elements says nothing (section 6.2.7); other strings there aren't matched.
@@ -38,6 +42,16 @@ pub fn white_space_pads_elements()
     ensures no_break_space { Rejects a_then_b no_library (doc_padded_by no_break_space) }
     // 6.2.2: white space alone has no elements in it
     ensures no_elements { Rejects a_then_b no_library (doc_of (string blank ∷ [])) }
+    // 6.2.7: before an element
+    ensures letter_before { Rejects a_then_b no_library (doc_led_by (codes "x")) }
+    // 6.2.7: and behind one
+    ensures letter_behind { Rejects a_then_b no_library (doc_ended_by (codes "x")) }
+    // 6.2.7: white space on one side alone
+    ensures blank_before { Accepts a_then_b no_library (doc_led_by blank) }
+    // 6.2.7: and on the other
+    ensures blank_behind { Accepts a_then_b no_library (doc_ended_by blank) }
+    // 6.2.7: elements match no attribute of their parent
+    ensures attribute { Rejects a_then_b no_library doc_with_x }
 {}
 
 /// Weak matching of the content of an element and of the text of an attribute (section 6.2.7): white space may be taken
@@ -61,6 +75,10 @@ pub fn content_matches_weakly()
     ensures blank_attribute { Accepts (a_holding x_is_empty) no_library (a_with (said (codes "x") blank ∷ [])) }
     // other text is not
     ensures some_attribute { Rejects (a_holding x_is_empty) no_library (a_with (x_one ∷ [])) }
+    // white space for no content, beside an attribute
+    ensures blank_beside_attribute { Accepts (a_holding x_is_one) no_library (a_with_x_of blank) }
+    // no content for the empty string, beside an attribute
+    ensures nothing_beside_attribute { Accepts (a_holding x_and_string) no_library (a_with (x_one ∷ [])) }
 {}
 
 /// A list matches a string by its words between white space (section 6.2.10).
@@ -83,6 +101,8 @@ pub fn lists_split_at_white_space()
     ensures none_of_some { Rejects (a_holding some_x) no_library (leaf (codes "a")) }
     // 6.2.7 and 6.2.3: the empty string has no words
     ensures none_of_none { Accepts (a_holding (list empty)) no_library (leaf (codes "a")) }
+    // a list matches no attribute
+    ensures attribute { Rejects (a_holding some_x) no_library (a_with_x_of (codes "x")) }
 {}
 
 /// Values of the built-in types, and data with an except (sections 6.2.8 and 6.2.9).
@@ -105,6 +125,16 @@ pub fn values_and_excepts()
     ensures token_excepted { Rejects (a_holding token_but_x) no_library (a_of padded_x) }
     // a token that the except does not match
     ensures token_other { Accepts (a_holding token_but_x) no_library (a_of (codes "y")) }
+    // a value matches no attribute
+    ensures value_with_attribute { Rejects (a_holding (token_is (codes "x"))) no_library (a_with_x_of (codes "x")) }
+    // nor does data
+    ensures data_with_attribute { Rejects (a_holding any_string) no_library (a_with_x_of (codes "x")) }
+    // nor data with an except
+    ensures except_with_attribute { Rejects (a_holding string_but_x) no_library (a_with_x_of (codes "y")) }
+    // 6.2.9: the built-in types are string and token
+    ensures unknown_type { Rejects (a_holding unknown_type) no_library (a_of (codes "1")) }
+    // 6.2.9: no other has a value
+    ensures unknown_value { Rejects (a_holding unknown_value) no_library (a_of (codes "1")) }
 {}
 
 /// Data and values of a datatype library: what its table allows, and takes as equal (section 6.2.8).
@@ -198,6 +228,12 @@ pub fn attributes_have_no_order()
     ensures value_other { Rejects (a_holding x_is_one) no_library (a_with (said (codes "x") (codes "2") ∷ [])) }
     // 6.2.7: content is no attribute
     ensures value_in_content { Rejects (a_holding x_is_one) no_library (a_of (codes "1")) }
+    // 6.2.6: an interleave splits them as a group does
+    ensures interleaved { Accepts (a_holding x_beside_y) no_library (a_with (y_two ∷ x_one ∷ [])) }
+    // 6.2.7: x is not there
+    ensures interleaved_short { Rejects (a_holding x_beside_y) no_library (a_with (y_two ∷ [])) }
+    // 6.2.7: content is left
+    ensures value_beside_content { Rejects (a_holding x_is_one) no_library (a_with_x_of (codes "y")) }
 {}
 
 /// Names that a name class holds (section 6.1).

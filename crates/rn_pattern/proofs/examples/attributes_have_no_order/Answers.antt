@@ -1,6 +1,6 @@
 use Rattle.std.proofs.Common.{refl, [], ◌∷◌}
 use Rattle.std.specs.Prelude.{codes}
-use Rattle.rn_pattern.specs.Examples.{said, no_library, a_of, a_with, a_holding, x_and_y, all_but_x, x_is_one, x_one, y_two, z_three}
+use Rattle.rn_pattern.specs.Examples.{said, x_one, y_two, z_three, no_library, a_of, a_with, a_with_x_of, a_holding, x_and_y, x_beside_y, all_but_x, x_is_one}
 use Rattle.rn_pattern.proofs.Tried.{accepted, rejected}
 use Rattle.rn_pattern.proofs.examples.attributes_have_no_order.Goals as goal
 
@@ -33,3 +33,12 @@ returns-clause-value_other c = rejected (a_holding x_is_one) no_library (a_with 
 
 pub returns-clause-value_in_content : goal.returns-clause-value_in_content
 returns-clause-value_in_content c = rejected (a_holding x_is_one) no_library (a_of (codes "1")) refl (λ n. refl)
+
+pub returns-clause-interleaved : goal.returns-clause-interleaved
+returns-clause-interleaved c = accepted 0 (a_holding x_beside_y) no_library (a_with (y_two ∷ x_one ∷ [])) refl refl
+
+pub returns-clause-interleaved_short : goal.returns-clause-interleaved_short
+returns-clause-interleaved_short c = rejected (a_holding x_beside_y) no_library (a_with (y_two ∷ [])) refl (λ n. refl)
+
+pub returns-clause-value_beside_content : goal.returns-clause-value_beside_content
+returns-clause-value_beside_content c = rejected (a_holding x_is_one) no_library (a_with_x_of (codes "y")) refl (λ n. refl)

@@ -1,7 +1,7 @@
 use Rattle.std.proofs.Common.{refl, [], ◌∷◌}
 use Rattle.std.specs.Prelude.{codes}
 use Rattle.rn_pattern.specs.Tree.{empty}
-use Rattle.rn_pattern.specs.Examples.{string_is, token_is, any_string, leaf, said, blank, no_library, a_of, a_with, a_of_b, a_holding, x_is_empty, x_one}
+use Rattle.rn_pattern.specs.Examples.{string_is, token_is, any_string, leaf, said, x_one, blank, no_library, a_of, a_with, a_of_b, a_with_x_of, a_holding, x_and_string, x_is_one, x_is_empty}
 use Rattle.rn_pattern.proofs.Tried.{accepted, rejected}
 use Rattle.rn_pattern.proofs.examples.content_matches_weakly.Goals as goal
 
@@ -31,3 +31,9 @@ returns-clause-blank_attribute c = accepted 0 (a_holding x_is_empty) no_library 
 
 pub returns-clause-some_attribute : goal.returns-clause-some_attribute
 returns-clause-some_attribute c = rejected (a_holding x_is_empty) no_library (a_with (x_one ∷ [])) refl (λ n. refl)
+
+pub returns-clause-blank_beside_attribute : goal.returns-clause-blank_beside_attribute
+returns-clause-blank_beside_attribute c = accepted 0 (a_holding x_is_one) no_library (a_with_x_of blank) refl refl
+
+pub returns-clause-nothing_beside_attribute : goal.returns-clause-nothing_beside_attribute
+returns-clause-nothing_beside_attribute c = accepted 0 (a_holding x_and_string) no_library (a_with (x_one ∷ [])) refl refl

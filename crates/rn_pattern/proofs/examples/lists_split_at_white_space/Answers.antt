@@ -1,7 +1,7 @@
 use Rattle.std.proofs.Common.{refl}
 use Rattle.std.specs.Prelude.{codes}
 use Rattle.rn_pattern.specs.Tree.{empty, list}
-use Rattle.rn_pattern.specs.Examples.{leaf, padded_x_y, no_library, a_of, a_holding, x_then_y, some_x}
+use Rattle.rn_pattern.specs.Examples.{leaf, padded_x_y, no_library, a_of, a_with_x_of, a_holding, x_then_y, some_x}
 use Rattle.rn_pattern.proofs.Tried.{accepted, rejected}
 use Rattle.rn_pattern.proofs.examples.lists_split_at_white_space.Goals as goal
 
@@ -31,3 +31,6 @@ returns-clause-none_of_some c = rejected (a_holding some_x) no_library (leaf (co
 
 pub returns-clause-none_of_none : goal.returns-clause-none_of_none
 returns-clause-none_of_none c = accepted 0 (a_holding (list empty)) no_library (leaf (codes "a")) refl refl
+
+pub returns-clause-attribute : goal.returns-clause-attribute
+returns-clause-attribute c = rejected (a_holding some_x) no_library (a_with_x_of (codes "x")) refl (λ n. refl)
