@@ -135,7 +135,7 @@ a_then_b = only (holding (codes "doc") (in_turn (holding (codes "a") empty ∷ h
 abbrev pub a_and_b : Grammar
 a_and_b = only (holding (codes "doc") (in_any_order (holding (codes "a") empty ∷ holding (codes "b") empty ∷ [])))
 
--- start = element doc { element a { empty } & element a { empty } & element b { empty } }
+-- start = element doc { element a { empty } & element a { empty } & element b { empty } }; section 7.4 forbids it in a schema, 6.2.6 says what it matches
 abbrev pub a_twice_and_b : Grammar
 a_twice_and_b = only (holding (codes "doc") (in_any_order (holding (codes "a") empty ∷ holding (codes "a") empty ∷ holding (codes "b") empty ∷ [])))
 
