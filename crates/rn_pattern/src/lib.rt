@@ -25,6 +25,7 @@ mod parts;
 pub mod patterns;
 pub mod plain;
 pub mod ranks;
+pub mod seed;
 mod store;
 pub mod tree;
 
@@ -32,6 +33,7 @@ pub use interned::Interned;
 pub use node::{Node, NodeId};
 pub use patterns::Patterns;
 pub use plain::Plain;
+pub use seed::Seed;
 pub use tree::{NameClass, Pattern};
 
 pub mod laws;
