@@ -25,7 +25,9 @@ use crate::keys::{Keys, START};
 use crate::modules::{Source, sources};
 use crate::references::{least_recursive, references_of};
 use crate::refusal::Refusal;
+use crate::seeds::seed_of;
 use rn_modset::ModuleSet;
+use rn_pattern::Seed;
 use std::alloc::Global;
 
 /// The grammar of the set: the components of all modules that no module includes, with includes replaced by what they
@@ -36,11 +38,11 @@ pub fn assemble(alloc: Global, set: &ModuleSet) -> Result<Grammar, Refusal>
     ensures { MatchResult result (λ g. IsAssembled set.now (grammar_view g)) (IsFirstRefusal set.now) }
 {
     let sources = sources(alloc, set)?;
-    assembled(alloc, sources.as_slice())
+    assembled(alloc, sources.as_slice(), &seed_of(set))
 }
 
 /// The grammar of the modules, or the first refusal that stands for them.
-fn assembled<'s>(alloc: Global, sources: &[Source<'s>]) -> Result<Grammar, Refusal>
+fn assembled<'s>(alloc: Global, sources: &[Source<'s>], seed: &Seed) -> Result<Grammar, Refusal>
     requires in_order { IsStrictlySortedBy text_cmp (module_names sources.now) }
     requires flat { AllByRecursion (λ (m : specs.Source). AreFlat m.tree.items) (sources_view sources.now) }
     ensures { MatchResult result (λ g. IsGrammarOf (sources_view sources.now) (grammar_view g)) (IsFirstOfModules (sources_view sources.now)) }
@@ -49,7 +51,7 @@ fn assembled<'s>(alloc: Global, sources: &[Source<'s>]) -> Result<Grammar, Refus
     let keys = Keys::new(alloc, sources)?;
     let contents = contents_of(alloc, sources, &keys)?;
     let components = components_of(alloc, contents.as_slice(), roots.as_slice(), keys.len())?;
-    joined(alloc, sources, &keys, &components)
+    joined(alloc, sources, &keys, &components, seed)
 }
 
 /// The grammar to which the components of the modules are joined, or the first refusal that stands for them.
@@ -58,6 +60,7 @@ fn joined<'s>(
     sources: &[Source<'_>],
     keys: &Keys<'s>,
     components: &Components<'_, '_, 's>,
+    seed: &Seed,
 ) -> Result<Grammar, Refusal>
     requires { AreExpanded (sources_view sources.now) (names_of keys.now) components.now }
     ensures { MatchResult result (λ g. IsGrammarOf (sources_view sources.now) (grammar_view g)) (IsFirstOfModules (sources_view sources.now)) }
@@ -65,7 +68,7 @@ fn joined<'s>(
     check_overrides(alloc, sources, keys, components.lack)?;
     check_methods(alloc, keys, components)?;
     check_references(alloc, keys, components)?;
-    grammar(alloc, keys, components)
+    grammar(alloc, keys, components, seed)
 }
 
 /// Refuses the least override of what isn't there.

@@ -4,13 +4,16 @@ ghost use Rattle.rn_assemble.specs.GrammarView.{definitions_view, grammar_view};
 ghost use Rattle.rn_pattern.specs.View.{pattern_view};
 
 use indexmap::IndexMap;
-use rn_pattern::Pattern;
+use rn_pattern::{Pattern, Seed};
+
+/// Definitions by their names. The names are hashed by a seed that whoever writes them can't choose.
+pub type Definitions = IndexMap<String, Pattern, Seed>;
 
 /// The combined definitions of a set, for which none of the refusals of a set stands.
 #[derive(Drop)]
 pub struct Grammar {
     pub(crate) start: Pattern,
-    pub(crate) defs: IndexMap<String, Pattern>,
+    pub(crate) defs: Definitions,
 }
 
 impl Grammar {
@@ -22,7 +25,7 @@ impl Grammar {
     }
 
     /// The definitions, in the order of each name's first component.
-    pub fn defs(&self) -> &IndexMap<String, Pattern>
+    pub fn defs(&self) -> &Definitions
         ensures { definitions_view result.now.entries ≡ (grammar_view self.now).definitions }
     {
         &self.defs

@@ -16,9 +16,10 @@ mod nodes;
 mod references;
 pub mod refusal;
 mod resolution;
+mod seeds;
 
 pub use assembly::assemble;
-pub use grammar::Grammar;
+pub use grammar::{Definitions, Grammar};
 pub use refusal::{Key, Refusal};
 
 pub mod laws;
