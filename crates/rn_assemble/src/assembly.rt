@@ -26,7 +26,9 @@ use crate::keys::{Keys, START};
 use crate::modules::{Source, sources};
 use crate::references::{least_recursive, references_of};
 use crate::refusal::Refusal;
+use crate::seeds::seed_of;
 use rn_modset::ModuleSet;
+use rn_pattern::Seed;
 use std::alloc::Global;
 
 /// The grammar of the set: the components of all modules that no module includes, with includes replaced by what they
@@ -37,12 +39,12 @@ pub fn assemble(alloc: Global, set: &ModuleSet) -> Result<Grammar, Refusal>
     ensures { MatchResult result (λ g. IsAssembled set.now (grammar_view g)) (IsFirstRefusal set.now) }
 {
     let sources = sources(alloc, set)?;
-    let joined = assembled(alloc, sources.as_slice())?;
+    let joined = assembled(alloc, sources.as_slice(), &seed_of(set))?;
     Ok(Grammar { joined })
 }
 
 /// The grammar of the modules, or the first refusal that stands for them.
-fn assembled<'s>(alloc: Global, sources: &[Source<'s>]) -> Result<Joined, Refusal>
+fn assembled<'s>(alloc: Global, sources: &[Source<'s>], seed: &Seed) -> Result<Joined, Refusal>
     requires in_order { IsStrictlySortedBy text_cmp (module_names sources.now) }
     requires flat { AllByRecursion (λ (m : specs.Source). AreFlat m.tree.items) (sources_view sources.now) }
     ensures { MatchResult result (λ g. IsGrammarOf (sources_view sources.now) (joined_view g)) (IsFirstOfModules (sources_view sources.now)) }
@@ -51,7 +53,7 @@ fn assembled<'s>(alloc: Global, sources: &[Source<'s>]) -> Result<Joined, Refusa
     let keys = Keys::new(alloc, sources)?;
     let contents = contents_of(alloc, sources, &keys)?;
     let components = components_of(alloc, contents.as_slice(), roots.as_slice(), keys.len())?;
-    joined(alloc, sources, &keys, &components)
+    joined(alloc, sources, &keys, &components, seed)
 }
 
 /// The grammar to which the components of the modules are joined, or the first refusal that stands for them.
@@ -60,6 +62,7 @@ fn joined<'s>(
     sources: &[Source<'_>],
     keys: &Keys<'s>,
     components: &Components<'_, '_, 's>,
+    seed: &Seed,
 ) -> Result<Joined, Refusal>
     requires { AreExpanded (sources_view sources.now) (names_of keys.now) components.now }
     ensures { MatchResult result (λ g. IsGrammarOf (sources_view sources.now) (joined_view g)) (IsFirstOfModules (sources_view sources.now)) }
@@ -67,7 +70,7 @@ fn joined<'s>(
     check_overrides(alloc, sources, keys, components.lack)?;
     check_methods(alloc, keys, components)?;
     check_references(alloc, keys, components)?;
-    grammar(alloc, keys, components)
+    grammar(alloc, keys, components, seed)
 }
 
 /// Refuses the least override of what isn't there.

@@ -17,21 +17,25 @@ use crate::components::Components;
 use crate::keys::{Keys, START};
 use crate::refusal::Refusal;
 use indexmap::IndexMap;
-use rn_pattern::Pattern;
+use rn_pattern::{Pattern, Seed};
 use std::alloc::{AllocError, Global};
+
+/// Definitions by their names. The names are hashed by a seed that whoever writes them can't choose.
+pub type Definitions = IndexMap<String, Pattern, Seed>;
 
 /// The grammar to which components are joined.
 #[derive(Drop)]
 pub(crate) struct Joined {
     pub start: Pattern,
-    pub defs: IndexMap<String, Pattern>,
+    pub defs: Definitions,
 }
 
-/// The combined patterns, those of names in the order of each one's first component.
+/// The combined patterns, those of names in the order of each one's first component, in a map that hashes by the seed.
 pub(crate) fn grammar(
     alloc: Global,
     keys: &Keys<'_>,
     components: &Components<'_, '_, '_>,
+    seed: &Seed,
 ) -> Result<Joined, Refusal>
     requires { HasStart (names_of keys.now) components.now }
     ensures { (live : List Live) → Lists (names_of keys.now) components.now live → IsStrictlySortedBy text_cmp (names_of keys.now) → has_key start_key (components_in live) ≡ true
@@ -39,7 +43,7 @@ pub(crate) fn grammar(
 {
     let mut patterns = combined(alloc, keys, components)?;
     let start = take(&mut patterns, START).unwrap();
-    let defs = definitions(alloc, keys, components, &mut patterns)?;
+    let defs = definitions(alloc, keys, components, seed, &mut patterns)?;
     Ok(Joined {
         start: Box::into_inner(start),
         defs,
@@ -51,13 +55,14 @@ fn definitions(
     alloc: Global,
     keys: &Keys<'_>,
     components: &Components<'_, '_, '_>,
+    seed: &Seed,
     patterns: &mut Vec<Option<Box<Pattern>>>,
-) -> Result<IndexMap<String, Pattern>, AllocError>
+) -> Result<Definitions, AllocError>
     ensures { (live : List Live) → Lists (names_of keys.now) components.now live → IsStrictlySortedBy text_cmp (names_of keys.now)
         → HavePatterns (names_of keys.now) (components_in live) [] patterns.old.items
         → IfOk result (λ defs. definitions_view defs.entries ≡ (joined_grammar (components_in live)).definitions) }
 {
-    let mut defs = IndexMap::new(alloc);
+    let mut defs = IndexMap::with_hasher(alloc, *seed);
     for place in 0..components.count() {
         if let Some(key) = components.first_at(place) {
             if let Some(pattern) = take(patterns, key) {
@@ -71,7 +76,7 @@ fn definitions(
 /// Adds the definition of a name, behind those of others.
 fn define(
     alloc: Global,
-    defs: &mut IndexMap<String, Pattern>,
+    defs: &mut Definitions,
     name: &str,
     pattern: Box<Pattern>,
 ) -> Result<(), AllocError>

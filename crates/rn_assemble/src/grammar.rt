@@ -3,8 +3,7 @@ ghost use Rattle.rn_assemble.specs.JoinedView.{joined_view};
 ghost use Rattle.rn_assemble.specs.OneProof.{IsWellFormed-prop};
 ghost use Rattle.rn_assemble.specs.WellFormed.{IsWellFormed, HasWritableTexts};
 
-use crate::definitions::Joined;
-use indexmap::IndexMap;
+use crate::definitions::{Definitions, Joined};
 use rn_pattern::Pattern;
 
 /// The combined definitions of a set, for which none of the refusals of a set stands. So every reference is defined, no
@@ -30,7 +29,7 @@ impl Grammar {
     }
 
     /// The definitions, in the order of each name's first component.
-    pub fn defs(&self) -> &IndexMap<String, Pattern>
+    pub fn defs(&self) -> &Definitions
         ensures { definitions_view result.now.entries ≡ (grammar_view self.now).definitions }
     {
         &self.joined.defs

@@ -16,8 +16,10 @@ mod nodes;
 mod references;
 pub mod refusal;
 mod resolution;
+mod seeds;
 
 pub use assembly::assemble;
+pub use definitions::Definitions;
 pub use grammar::Grammar;
 pub use refusal::{Key, Refusal};
 

@@ -12,7 +12,7 @@ ghost use Rattle.rn_pattern.specs.View.{pattern_view, shared_view};
 ghost use Rattle.rn_simplify.specs.Contents.{content_of, is_leaf, members_of};
 ghost use Rattle.rn_simplify.specs.Numbered.{AreKnown, number_of, settled_by};
 
-use indexmap::IndexMap;
+use rn_assemble::Definitions;
 use rn_pattern::{Node, Pattern, Patterns};
 use std::alloc::{AllocError, Global};
 use std::rc::Rc;
@@ -20,7 +20,7 @@ use std::rc::Rc;
 /// What the references to the definitions of a grammar become.
 #[derive(Drop)]
 pub(crate) struct Settled<'g, Id> {
-    pub(crate) names: &'g IndexMap<String, Pattern>,
+    pub(crate) names: &'g Definitions,
     /// By the definition's number: the id of notAllowed or empty if the definition is worth that.
     pub(crate) worth: Vec<Option<Id>>,
     ghost sized: { length worth.items ≡ length names.now.entries },

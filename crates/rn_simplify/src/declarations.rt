@@ -10,6 +10,8 @@ use crate::mentions::Mentions;
 use crate::normal::Normal;
 use crate::writer::Writer;
 use indexmap::IndexSet;
+use rn_pattern::Seed;
+use sha2::{Digest, Sha256};
 use std::alloc::{AllocError, Global};
 use std::collections::BTreeSet;
 
@@ -24,10 +26,10 @@ fn declared(
     alloc: Global,
     texts: BTreeSet<String>,
     known: &str,
-) -> Result<IndexSet<String>, AllocError>
+) -> Result<IndexSet<String, Seed>, AllocError>
     ensures { IfOk result (λ r. map (λ u. string_bytes u) r.keys ≡ filter (is_other known.now) (map (λ u. string_bytes u) texts.keys)) }
 {
-    let mut rest = IndexSet::new(alloc);
+    let mut rest = IndexSet::with_hasher(alloc, seed_of(&texts));
     for text in texts {
         if !text.is_empty() && text.as_str() != known {
             rest.insert(text)?;
@@ -36,8 +38,18 @@ fn declared(
     Ok(rest)
 }
 
+/// A seed that depends on each of the texts, so that nobody can choose texts for it.
+fn seed_of(texts: &BTreeSet<String>) -> Seed {
+    let mut digest = Sha256::new();
+    for text in texts {
+        digest.update(text.as_bytes());
+        digest.update(b"\xff");
+    }
+    Seed::of(&digest.finalize())
+}
+
 /// The place of a text, counted from 1; the number of the texts if it isn't there.
-fn place(texts: &IndexSet<String>, text: &str) -> usize
+fn place(texts: &IndexSet<String, Seed>, text: &str) -> usize
     ensures { result ≡ place text.now (map (λ u. string_bytes u) texts.now.keys) }
 {
     let count = texts.len();
@@ -50,8 +62,8 @@ fn place(texts: &IndexSet<String>, text: &str) -> usize
 /// The prefixes of a grammar: `n1`, `n2` and so on for the namespaces, `d1`, `d2` and so on for the libraries.
 #[derive(Drop)]
 pub(crate) struct Prefixes {
-    pub(crate) namespaces: IndexSet<String>,
-    pub(crate) libraries: IndexSet<String>,
+    pub(crate) namespaces: IndexSet<String, Seed>,
+    pub(crate) libraries: IndexSet<String, Seed>,
     /// The empty namespace has the prefix `n0`.
     pub(crate) empty_namespace: bool,
 }

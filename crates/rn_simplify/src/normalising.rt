@@ -19,8 +19,7 @@ use crate::normal::Normal;
 use crate::reachable::pruned;
 use crate::rebuilt::rebuilt_box;
 use crate::settling::{body_of, settling_order};
-use indexmap::IndexMap;
-use rn_assemble::Grammar;
+use rn_assemble::{Definitions, Grammar};
 use rn_pattern::{Interned, Pattern, Patterns};
 use std::alloc::{AllocError, Global};
 
@@ -28,7 +27,7 @@ use std::alloc::{AllocError, Global};
 pub fn normalise(alloc: Global, grammar: &Grammar) -> Result<Normal, AllocError>
     ensures { IfOk result (λ n. IsWellFormed (grammar_view grammar.now) → IsCanonicalOf (grammar_view grammar.now) (normal_view n)) }
 {
-    let mut store = Interned::new(alloc);
+    let mut store = Interned::with_seed(alloc, *grammar.defs().hasher());
     normalise_in(alloc, grammar, &mut store)
 }
 
@@ -72,7 +71,7 @@ fn settled<'g, P: Patterns>(
 /// refers to outside elements.
 fn settle<'g, P: Patterns>(
     alloc: Global,
-    names: &'g IndexMap<String, Pattern>,
+    names: &'g Definitions,
     order: &[usize],
     store: &mut P,
 ) -> Result<Settled<'g, P::Id>, AllocError>

@@ -11,7 +11,7 @@ ghost use Rattle.rn_simplify.specs.Numbered.{MarksReached, rows_by};
 ghost use Rattle.rn_simplify.specs.declared.references.Scope.TheVariants.{Everywhere};
 
 use crate::references::{Scope, referred};
-use indexmap::IndexMap;
+use rn_assemble::Definitions;
 use rn_pattern::Pattern;
 use rn_pattern::graph::reached;
 use std::alloc::{AllocError, Global};
@@ -20,7 +20,7 @@ use std::alloc::{AllocError, Global};
 /// order.
 pub(crate) fn pruned(
     alloc: Global,
-    names: &IndexMap<String, Pattern>,
+    names: &Definitions,
     start: &Pattern,
     mut forms: Vec<(String, Pattern)>,
 ) -> Result<Vec<(String, Pattern)>, AllocError>
@@ -38,7 +38,7 @@ pub(crate) fn pruned(
 /// For each form, whether the start reaches it.
 fn reached_forms(
     alloc: Global,
-    names: &IndexMap<String, Pattern>,
+    names: &Definitions,
     start: &Pattern,
     forms: &[(String, Pattern)],
 ) -> Result<Vec<bool>, AllocError>
@@ -54,7 +54,7 @@ fn reached_forms(
 /// The references of each form.
 fn rows_of_forms(
     alloc: Global,
-    names: &IndexMap<String, Pattern>,
+    names: &Definitions,
     forms: &[(String, Pattern)],
 ) -> Result<Vec<Vec<usize>>, AllocError>
     ensures { IfOk result (λ v. rows_of v.items ≡ rows_by Everywhere (definitions_view names.now.entries) (definitions_view forms.now)) }

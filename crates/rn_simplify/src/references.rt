@@ -6,7 +6,7 @@ ghost use Rattle.rn_pattern.specs.View.{pattern_view, shared_view};
 ghost use Rattle.rn_simplify.specs.Numbered.{numbers_of};
 ghost use Rattle.rn_simplify.specs.Referred.{all_references, references};
 
-use indexmap::IndexMap;
+use rn_assemble::Definitions;
 use rn_pattern::Pattern;
 use std::alloc::{AllocError, Global};
 use std::rc::Rc;
@@ -21,7 +21,7 @@ pub(crate) enum Scope {
 /// The numbers of the definitions that a pattern refers to. Names that have no definition are passed over.
 pub(crate) fn referred(
     alloc: Global,
-    names: &IndexMap<String, Pattern>,
+    names: &Definitions,
     pattern: &Pattern,
     scope: Scope,
 ) -> Result<Vec<usize>, AllocError>
@@ -34,7 +34,7 @@ pub(crate) fn referred(
 
 #[cycle(referred)]
 fn add(
-    names: &IndexMap<String, Pattern>,
+    names: &Definitions,
     pattern: &Pattern,
     scope: Scope,
     numbers: &mut Vec<usize>,
@@ -65,7 +65,7 @@ fn add(
 
 #[cycle(referred)]
 fn add_all(
-    names: &IndexMap<String, Pattern>,
+    names: &Definitions,
     members: &[Rc<Pattern>],
     scope: Scope,
     numbers: &mut Vec<usize>,
@@ -79,11 +79,7 @@ fn add_all(
     Ok(())
 }
 
-fn add_name(
-    names: &IndexMap<String, Pattern>,
-    name: &str,
-    numbers: &mut Vec<usize>,
-) -> Result<(), AllocError>
+fn add_name(names: &Definitions, name: &str, numbers: &mut Vec<usize>) -> Result<(), AllocError>
     ensures { OnOk result (numbers.new.items ≡ numbers.old.items
         ++ numbers_of (definitions_view names.now.entries) (name.now ∷ [])) }
 {

@@ -13,15 +13,14 @@ ghost use Rattle.rn_simplify.specs.Settling.{IsSettlingOrder};
 ghost use Rattle.rn_simplify.specs.declared.references.Scope.TheVariants.{Everywhere, OutsideElements};
 
 use crate::references::{Scope, referred};
-use indexmap::IndexMap;
-use rn_assemble::Grammar;
+use rn_assemble::{Definitions, Grammar};
 use rn_pattern::Pattern;
 use rn_pattern::graph::reached;
 use rn_pattern::ranks::{Order, ranks};
 use std::alloc::{AllocError, Global};
 
 /// The body of the definition with a number.
-pub(crate) fn body_of(names: &IndexMap<String, Pattern>, number: usize) -> &Pattern
+pub(crate) fn body_of(names: &Definitions, number: usize) -> &Pattern
     requires { number < length names.now.entries }
     ensures { (d : Text × Tree) → pattern_view result.now ≡ (slice_index_or (definitions_view names.now.entries) number d).1 }
 {
@@ -30,10 +29,7 @@ pub(crate) fn body_of(names: &IndexMap<String, Pattern>, number: usize) -> &Patt
 }
 
 /// The references of each definition, by its number.
-fn all_references(
-    alloc: Global,
-    names: &IndexMap<String, Pattern>,
-) -> Result<Vec<Vec<usize>>, AllocError>
+fn all_references(alloc: Global, names: &Definitions) -> Result<Vec<Vec<usize>>, AllocError>
     ensures { IfOk result (λ v. rows_of v.items ≡ rows_by Everywhere (definitions_view names.now.entries) (definitions_view names.now.entries)) }
 {
     let mut rows = Vec::new(alloc);
@@ -46,7 +42,7 @@ fn all_references(
 /// The references outside elements of the definition with a number, if it is reached; else none.
 fn outside_references_of(
     alloc: Global,
-    names: &IndexMap<String, Pattern>,
+    names: &Definitions,
     number: usize,
     is_reached: bool,
 ) -> Result<Vec<usize>, AllocError>
@@ -64,7 +60,7 @@ fn outside_references_of(
 /// The references outside elements of each definition that is reached, by its number.
 fn outside_references(
     alloc: Global,
-    names: &IndexMap<String, Pattern>,
+    names: &Definitions,
     is_reached: &[bool],
 ) -> Result<Vec<Vec<usize>>, AllocError>
     requires { length is_reached.now ≡ length names.now.entries }
