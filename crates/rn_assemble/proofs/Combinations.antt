@@ -34,7 +34,7 @@ lookup_name_at : (b : Bool) (x y : Text) (f : Text → Tree) (r : Bool) (o : Opt
 lookup_name_at true x y f r o e h = ap (λ t. Some (f t)) (sym (same_text x y e))
 lookup_name_at false x y f r o e h = h
 
-lookup_name : (x : Text) (f : Text → Tree) (xs : List Text) → lookup (bytes_eq x) (map (λ y. (y, f y)) xs) ≡ cond (list_any (bytes_eq x) xs) (Some (f x)) None
+pub lookup_name : (x : Text) (f : Text → Tree) (xs : List Text) → lookup (bytes_eq x) (map (λ y. (y, f y)) xs) ≡ cond (list_any (bytes_eq x) xs) (Some (f x)) None
 lookup_name x f [] = refl
 lookup_name x f (y ∷ ys) = lookup_name_at (bytes_eq x y) x y f (list_any (bytes_eq x) ys) (lookup (bytes_eq x) (map (λ y. (y, f y)) ys)) refl (lookup_name x f ys)
 

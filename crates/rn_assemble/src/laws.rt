@@ -1,5 +1,5 @@
 // Laws of components, of what is combined of them, and of refusals.
-ghost use Rattle.std.specs.Prelude.{◌≡◌, ◌↔◌, ◌≤◌, ◌+◌, ℕ, List, [], IfSome};
+ghost use Rattle.std.specs.Prelude.{◌≡◌, ◌↔◌, ◌≤◌, ◌+◌, ℕ, List, [], IfSome, true};
 ghost use Rattle.std.specs.List.{AllByRecursion};
 ghost use Rattle.rn_pattern.specs.Tree.{Text};
 ghost use Rattle.rn_pattern.specs.Document.{Item};
@@ -9,7 +9,7 @@ ghost use Rattle.rn_pattern.specs.Matching.{Grammar, definition_of, IsValid};
 ghost use Rattle.rn_modset.specs.Contributions.{Member};
 ghost use Rattle.rn_syntax.specs.Places.{except_places};
 ghost use Rattle.rn_syntax.specs.Tree.{Module};
-ghost use Rattle.rn_assemble.specs.Components.{Key, Component, Source, components_within, instances_within, set_components};
+ghost use Rattle.rn_assemble.specs.Components.{Key, Component, Source, components_within, has_key, instances_within, set_components, start_key};
 ghost use Rattle.rn_assemble.specs.Combine.{IsCombination, IsPlainTwice, IsMixed, joined_grammar, components_of, AreDistinct};
 ghost use Rattle.rn_assemble.specs.WellFormed.{IsWellFormed, HasWritableTexts};
 ghost use Rattle.rn_assemble.specs.Refusal.{Refusal, Stands, IsFirst, IsFirstFor, IsAssembled, AreModules, grammar_of};
@@ -19,6 +19,11 @@ ghost use Rattle.rn_assemble.specs.Refusal.{Refusal, Stands, IsFirst, IsFirstFor
 /// sections 4.17 and 6).
 pub fn combinations_are_valid_alike()
     ensures { (cs : List Component) (C : Grammar) → IsCombination cs C → (T : Table) (doc : Item) → IsValid C T doc ↔ IsValid (joined_grammar cs) T doc }
+{}
+
+/// Components with a start have a combination.
+pub fn components_have_a_combination()
+    ensures { (cs : List Component) → has_key start_key cs ≡ true → (C : Grammar) × IsCombination cs C }
 {}
 
 /// The components of modules in which no except is at fault have excepts of data, values and choices of them alone, and

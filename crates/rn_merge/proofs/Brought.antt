@@ -1,5 +1,5 @@
 -- The union of bundles holds what they bring, whatever their order.
-use Rattle.std.proofs.Common.{◌≡◌, ℕ, ◌≤◌, ◌⊎◌, inl, inr, ⊎_elim, Bool, true, false, List, [], ◌∷◌, length, take, drop, refl, sym, ap, subst, ◌∙◌, arith, take-append-drop}
+use Rattle.std.proofs.Common.{◌≡◌, ◌≢◌, ℕ, ◌≤◌, ◌⊎◌, inl, inr, ⊎_elim, Bool, true, false, List, [], ◌∷◌, length, take, drop, refl, sym, ap, subst, ◌∙◌, arith, take-append-drop}
 use Rattle.std.specs.Prelude.{Contains, Some, slice_get}
 use Rattle.std.proofs.lemmas.Bool.{or_cases, or_left, or_right}
 use Rattle.std.proofs.lemmas.Option.{slice_get_within, get_or_from_slice_get}
@@ -15,7 +15,7 @@ use Rattle.rn_modset.proofs.Unions.{has_union, rises_union, length_union}
 use Rattle.rn_merge.specs.declared.run.RunFault.{RunFault}
 use Rattle.rn_merge.specs.declared.run.RunFault.TheVariants.{Bundle, Full, Memory, Write}
 use Rattle.rn_merge.specs.Laws.{Brings, BringSame, AreSame}
-use Rattle.rn_merge.specs.Runs.{unions, AreBundles, IsUnion, HasNoUnion}
+use Rattle.rn_merge.specs.Runs.{unions, AreBundles, IsTooMany, IsUnion, HasNoUnion}
 
 -- ---- unions
 
@@ -50,7 +50,7 @@ rises_unions s (t ∷ ts) h = rises_unions (union s t) ts (rises_union s t h)
 union_rises : (bundles : List (List ℕ)) (s : List Member) → IsUnion bundles s → Rises s
 union_rises bundles s h = subst Rises (sym h.is) (rises_unions [] h.sets none_kept.rises)
 
-same_truth : (a b : Bool) → (a ≡ true → b ≡ true) → (b ≡ true → a ≡ true) → a ≡ b
+pub same_truth : (a b : Bool) → (a ≡ true → b ≡ true) → (b ≡ true → a ≡ true) → a ≡ b
 same_truth true b f g = sym (f refl)
 same_truth false true f g = g refl
 same_truth false false f g = refl
@@ -116,20 +116,31 @@ in_take : (n : ℕ) (bundles : List (List ℕ)) (b : List ℕ) → Contains (tak
 in_take n bundles b c =
     contains_from_in bundles b (subst (λ (l : List (List ℕ)). In b l) (take-append-drop n bundles) (in_left b (take n bundles) (drop n bundles) (in_from_contains (take n bundles) b c)))
 
+-- bundles that bring no more than those that have a union are not too many
+pub not_too_many : (bundles others : List (List ℕ)) (s : List Member) → IsUnion bundles s → ((m : Member) → Brings others m → Brings bundles m) → IsTooMany others → ⊥
+not_too_many bundles others s h inside k =
+    let front = take k.index others in
+    let before : (q : Member) → In q k.before → In q s = λ q i.
+    let (b, t, c, is, m) = brought front k.before k.union_before q (contains_from_in k.before q i) in
+    in_from_contains s q (held bundles s h q (inside q (b, t, in_take k.index others b c, is, m))) in
+    let next : (q : Member) → In q k.next → In q s = λ q i.
+    in_from_contains s q (held bundles s h q (inside q (k.bytes, k.next, at_index others k.index k.bytes k.at, k.is_bundle, contains_from_in k.next q i))) in
+    let few = no_longer (union k.before k.next) s (rises_union k.before k.next (union_rises front k.before k.union_before)) (union_rises bundles s h)
+    (λ q i. ⊎_elim (λ a. before q a) (λ b. next q b) (in_union_either k.before k.next q i)) in
+    absurd (omega (arith, few, k.many, h.few))
+
 -- bundles that have a union have no fault in any other order, and are not too many
 pub no_fault : (bundles others : List (List ℕ)) (s : List Member) (fault : RunFault) → IsUnion bundles s → ((b : List ℕ) → Contains others b → Contains bundles b) → HasNoUnion others fault → fault ≡ Memory
 no_fault bundles others s (Bundle i f) h inside k =
     let (t, j, is) = set_of_bundle bundles h.sets h.are k.bytes (in_from_contains bundles k.bytes (inside k.bytes (at_index others i k.bytes k.at))) in
     absurd (k.is_damage (bundle_fault k.bytes t f is k.has))
-no_fault bundles others s Full h inside k =
-    let front = take k.index others in
-    let before : (q : Member) → In q k.before → In q s = λ q i.
-    let (b, t, c, is, m) = brought front k.before k.union_before q (contains_from_in k.before q i) in
-    in_from_contains s q (held bundles s h q (b, t, inside b (in_take k.index others b c), is, m)) in
-    let next : (q : Member) → In q k.next → In q s = λ q i.
-    in_from_contains s q (held bundles s h q (k.bytes, k.next, inside k.bytes (at_index others k.index k.bytes k.at), k.is_bundle, contains_from_in k.next q i)) in
-    let few = no_longer (union k.before k.next) s (rises_union k.before k.next (union_rises front k.before k.union_before)) (union_rises bundles s h)
-    (λ q i. ⊎_elim (λ a. before q a) (λ b. next q b) (in_union_either k.before k.next q i)) in
-    absurd (omega (arith, few, k.many, h.few))
+no_fault bundles others s Full h inside k = absurd (not_too_many bundles others s h (λ m (b, t, c, is, l). (b, t, inside b c, is, l)) k)
 no_fault bundles others s Memory h inside k = refl
 no_fault bundles others s Write h inside k = absurd k
+
+-- where the one have a union, others that bring the same are not too many
+pub never_full : (bundles others : List (List ℕ)) (s : List Member) (fault : RunFault) → IsUnion bundles s → BringSame bundles others → HasNoUnion others fault → fault ≢ Full
+never_full bundles others s (Bundle i f) h same k = λ e. cc
+never_full bundles others s Full h same k = λ e. not_too_many bundles others s h (λ m. (same m).1) k
+never_full bundles others s Memory h same k = λ e. cc
+never_full bundles others s Write h same k = λ e. cc

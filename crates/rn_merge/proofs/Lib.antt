@@ -7,3 +7,5 @@ mod Brought
 mod Clashes
 mod Runs
 mod Alone
+mod Schemas
+mod Calls

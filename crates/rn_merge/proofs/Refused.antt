@@ -4,11 +4,12 @@ use Rattle.rn_modset.specs.Contributions.{Member}
 use Rattle.rn_assemble.specs.declared.refusal.Refusal as code
 use Rattle.rn_assemble.specs.declared.refusal.Refusal.TheVariants as r
 use Rattle.rn_merge.specs.Runs.{IsUnion, IsRun, LeavesSink, refused_as}
+use Rattle.rn_merge.specs.Schemas.{RefusesFirst}
 use Rattle.rn_merge.specs.Verdicts.{IsRefusedAs}
 
-pub refused_run : (bundles : List (List ℕ)) (old new : Option (List ℕ)) (failed : Bool) (s : List Member) (q : code.Refusal) → IsUnion bundles s → IsRefusedAs s q → IsRun bundles old new failed (refused_as q)
-refused_run bundles old new failed s r.Memory union h = tt
-refused_run bundles old new failed s q union h = (s, union, h)
+pub refused_run : (bundles : List (List ℕ)) (old new : Option (List ℕ)) (failed : Bool) (s : List Member) (q : code.Refusal) → IsUnion bundles s → IsRefusedAs s q → RefusesFirst s q → IsRun bundles old new failed (refused_as q)
+refused_run bundles old new failed s r.Memory union h first = tt
+refused_run bundles old new failed s q union h first = (s, union, h, first)
 
 pub refused_leaves : (q : code.Refusal) (Kept : Type 0) → Kept → LeavesSink (refused_as q) Kept
 refused_leaves r.Memory Kept kept = kept

@@ -32,10 +32,6 @@ pub answered_first : (s : List Member) (answer : Answer) (q : code.Refusal) → 
 answered_first s (Ok text) q e h = absurd e
 answered_first s (Err p) q e h = subst (IsRefusedAs s) (sym e) (refused_first s q h)
 
--- the grammar of a set has what is normalised of it as its canonical grammar
-pub normalised : (s : List Member) (g n : Grammar) → IsAssembled s g → (IsWellFormed g → IsCanonicalOf g n) → IsCanonicalOfSet s n
-normalised s g n (none, (modules, a, e)) c = (g, (none, (modules, a, e)), c (subst IsWellFormed (sym e) (assembled_well_formed s modules a none)))
-
 unprinted : (s : List Member) (n : Grammar) (q : code.Refusal) → IsCanonicalOfSet s n → IsUnprinted n q → IsRefusedAs s q
 unprinted s n r.OutputTooLarge c h = (n, c, h)
 unprinted s n r.OutputTooDeep c h = (n, c, h.0, h.1)
@@ -77,20 +73,9 @@ one_answer s a b h k some other =
     let (w, f, also) = verdict_of_answer s b k other in
     e ∙ ap Some (one_of_verdicts s v w is also) ∙ sym f
 
--- an answer that is a verdict is that of the set
-pub verdict_is : (s : List Member) (answer : Answer) (v : Verdict) → IsAnswer s answer → answer_view answer ≡ Some v → IsVerdict s v
-verdict_is s (Ok text) v h e = let same : prints (string_bytes text) ≡ v = cc in subst (IsVerdict s) same h
-verdict_is s (Err q) v h e = MatchOption-at_some (q ≡ r.Memory) (IsVerdict s) v e h
-
 -- no refusal stands where the verdict is none
 pub unrefused : (s : List Member) (v : Verdict) → ((q : Refusal) → v ≢ refused q) → IsVerdict s v → (q : Refusal) → ¬ Stands s q
 unrefused s (refused p) other h = absurd (other p refl)
 unrefused s (prints text) other (n, (g, a, c), short, shallow, is) = a.0
 unrefused s too_large other (n, (g, a, c), long) = a.0
 unrefused s too_deep other (n, (g, a, c), short, deep) = a.0
-
--- what is answered for a set whose one effective module is the text that is the verdict of a set
-pub again : (s : List Member) (text : Text) → IsVerdict s (prints text) → (u : List Member) (name : Text) → AreEffective u ((name, text) ∷ []) → (b : Answer) → IsAnswer u b → b ≢ Err r.Memory → answer_view b ≡ Some (prints text)
-again s text h u name a b k some =
-    let (w, f, is) = verdict_of_answer u b k some in
-    f ∙ ap Some (one_of_verdicts u w (prints text) is (printed_again one_tree s text h u name a))

@@ -1,5 +1,6 @@
 -- Runs over bundles: the union of the sets of which they are the bundles, and what is written.
-use Rattle.std.specs.Prelude.{◌≡◌, ◌≢◌, ℕ, ◌<◌, ◌≤◌, Bool, true, false, List, [], ◌∷◌, length, take, IsSomeAnd, Option, Result, Ok, Err, slice_get, Some}
+use Rattle.std.specs.Prelude.{◌≡◌, ◌≢◌, ℕ, ◌<◌, ◌≤◌, Bool, true, false, List, [], ◌∷◌, length, map, take, IsSomeAnd, Option, Result, Ok, Err, slice_get, Some, Vec}
+use Rattle.std.specs.declared.alloc.Global.{Global}
 use Rattle.std.specs.Io.KnownBytes.{Appends}
 use Rattle.rn_modset.specs.Contributions.{Member}
 use Rattle.rn_modset.specs.Sets.{union}
@@ -11,13 +12,18 @@ use Rattle.rn_modset.specs.declared.faults.BundleFault.{BundleFault}
 use Rattle.rn_modset.specs.declared.faults.BundleFault.TheVariants as reading
 use Rattle.rn_assemble.specs.declared.refusal.Refusal as code
 use Rattle.rn_assemble.specs.declared.refusal.Refusal.TheVariants as r
-use Rattle.rn_simplify.specs.Verdict.{prints, IsVerdict}
+use Rattle.rn_simplify.specs.Verdict.{IsVerdict}
 use Rattle.rn_merge.specs.declared.run.RunFault.{RunFault}
 use Rattle.rn_merge.specs.declared.run.RunFault.TheVariants.{Bundle, Full, Memory, Write}
 use Rattle.rn_merge.specs.declared.run.Status.{Status}
 use Rattle.rn_merge.specs.declared.run.Status.TheVariants.{Done, Refused}
 use Rattle.rn_merge.specs.Streams.{AppendsFront}
+use Rattle.rn_merge.specs.Schemas.{IsSchema, RefusesFirst}
 use Rattle.rn_merge.specs.Verdicts.{verdict_view}
+
+-- the bytes of each bundle
+abbrev pub bundles_view : List (Vec ℕ Global) → List (List ℕ)
+bundles_view bundles = map (λ bundle. bundle.items) bundles
 
 -- sets joined to a set, one after the other
 abbrev pub unions : List Member → List (List Member) → List Member
@@ -74,12 +80,13 @@ abbrev pub join_fault : AddFault → RunFault
 join_fault adding.Memory = Memory
 join_fault _ = Full
 
--- what came of a run: the bundles have a union, and its verdict is a text, all of which was written, or a refusal; or they
--- have none; or the verdict is a text, of which the sink took a front and then failed
+-- what came of a run: the bundles have a union, and its schema was written, all of it; or there is a refusal, which is the
+-- first of the union, or its schema would be too long or too deep; or they have no union; or there is a schema, of which
+-- the sink took a front and then failed
 abbrev pub IsRun : List (List ℕ) → Option (List ℕ) → Option (List ℕ) → Bool → Result Status RunFault → Type 0
-IsRun bundles old new failed (Ok Done) = (s : List Member) × (text : List ℕ) × IsUnion bundles s × IsVerdict s (prints text) × Appends old new text × (failed ≡ false)
-IsRun bundles old new failed (Ok (Refused refusal)) = (s : List Member) × IsUnion bundles s × IsSomeAnd (verdict_view refusal) (IsVerdict s)
-IsRun bundles old new failed (Err Write) = (s : List Member) × (text : List ℕ) × IsUnion bundles s × IsVerdict s (prints text) × AppendsFront old new text × (failed ≡ true)
+IsRun bundles old new failed (Ok Done) = (s : List Member) × (text : List ℕ) × IsUnion bundles s × IsSchema s text × Appends old new text × (failed ≡ false)
+IsRun bundles old new failed (Ok (Refused refusal)) = (s : List Member) × IsUnion bundles s × IsSomeAnd (verdict_view refusal) (IsVerdict s) × RefusesFirst s refusal
+IsRun bundles old new failed (Err Write) = (s : List Member) × (text : List ℕ) × IsUnion bundles s × IsSchema s text × AppendsFront old new text × (failed ≡ true)
 IsRun bundles old new failed (Err fault) = HasNoUnion bundles fault
 
 -- a run that comes to no text leaves the sink as it was

@@ -1,6 +1,6 @@
 // From bundles to the printed schema.
-ghost use Rattle.std.specs.Prelude.{◌≡◌, false, IfOk, IfErr, map};
-ghost use Rattle.rn_merge.specs.Runs.{IsUnion, HasNoUnion, IsRun, LeavesSink, refused_as};
+ghost use Rattle.std.specs.Prelude.{◌≡◌, false, IfOk, IfErr};
+ghost use Rattle.rn_merge.specs.Runs.{bundles_view, IsUnion, HasNoUnion, IsRun, LeavesSink, refused_as};
 
 use crate::streams::{Sink, write_output};
 use crate::verdict::merge;
@@ -49,8 +49,8 @@ impl From<AddFault> for RunFault {
 /// The union of the sets of which these are the bundles. `Bundle` where the first that is no bundle comes before the
 /// union has more than 1,024 contributions, else `Full` where it has.
 pub fn read_bundles(alloc: Global, bundles: &[Vec<u8>]) -> Result<ModuleSet, RunFault>
-    ensures ok { IfOk result (IsUnion (map (λ bundle. bundle.items) bundles.now)) }
-    ensures err { IfErr result (HasNoUnion (map (λ bundle. bundle.items) bundles.now)) }
+    ensures ok { IfOk result (IsUnion (bundles_view bundles.now)) }
+    ensures err { IfErr result (HasNoUnion (bundles_view bundles.now)) }
 {
     let mut union = ModuleSet::new(alloc);
     for (index, bundle) in bundles.iter().enumerate() {
@@ -65,15 +65,16 @@ pub fn read_bundles(alloc: Global, bundles: &[Vec<u8>]) -> Result<ModuleSet, Run
 }
 
 /// Writes the schema of the union of the bundles to a sink that has not failed, or answers the refusal that is the verdict
-/// of the union. Nothing is written where there is no schema; `Write` where the sink has failed, which then took a front
-/// of the text.
+/// of the union, of modules the first that stands. What is written has all that `merge` promises of a text. Nothing is
+/// written where there is no schema; `Write` where the sink has failed, which then took a front of the text.
 pub fn run_print<W: Sink>(
     alloc: Global,
     bundles: &[Vec<u8>],
     out: &mut W,
 ) -> Result<Status, RunFault>
     requires { W.has_failed out.old ≡ false }
-    ensures run { IsRun (map (λ bundle. bundle.items) bundles.now) (W.contents out.old) (W.contents out.new) (W.has_failed out.new) result }
+    ensures run { IsRun (bundles_view bundles.now) (W.contents out.old) (W.contents out.new)
+        (W.has_failed out.new) result }
     ensures kept { LeavesSink result (out.new ≡ out.old) }
 {
     let union = read_bundles(alloc, bundles)?;

@@ -13,7 +13,7 @@ use Rattle.rn_simplify.specs.ReadAgain.{IsReadAgain}
 use Rattle.rn_simplify.specs.Verdict.{IsVerdict, prints}
 use Rattle.rn_simplify.proofs.Binding.{spelling_reads_back}
 use Rattle.rn_simplify.proofs.PrintedAgain.{no_fault}
-use Rattle.rn_simplify.proofs.ReadAgain.{combination_read, read_canonical, read_only, read_well_formed, none_stands}
+use Rattle.rn_simplify.proofs.ReadAgain.{combination_read, joined_read, read_canonical, read_only, read_well_formed, none_stands}
 use Rattle.rn_simplify.proofs.Spelled.{spellable}
 
 pub printed_read : (s : List Member) (text : Text) → IsVerdict s (prints text) → IsReadAgain s text
@@ -29,6 +29,7 @@ printed_read s text (n, (g, (none, (modules, a, e)), c), short, shallow, is) =
       text_is = is;
       no_fault = λ f h. no_fault one_tree n r shallow f (subst (λ t. HasFault t f) is h);
       read_back = r;
+      joined_documents = joined_read n r (grammar_of modules) k w;
       same_documents = λ C h. combination_read n r (set_components modules) C (set_excepts modules (no_excepts modules (modules_faultless s modules a))) h k;
       same_normal = read_canonical n r (grammar_of modules) k;
       no_other = read_only n r (grammar_of modules) k;

@@ -47,6 +47,13 @@ module _ (N : Grammar) (r : IsReadBack N) where
   pub combination_read : (cs : List Component) (C : Grammar) → AllByRecursion (λ (c : Component). HasExcepts c.body) cs → IsCombination cs C → IsCanonicalOf (joined_grammar cs) N → (T : Table) (doc : Item) → IsValid C T doc ↔ IsValid (read r.tree) T doc
   combination_read cs C e c n T doc = subst (λ R. IsValid C T doc ↔ IsValid R T doc) (sym r.same) (combination_valid cs C N e c n T doc)
 
+  -- and so has the grammar itself
+  pub joined_read : (G : Grammar) → IsCanonicalOf G N → IsWellFormed G → (T : Table) (doc : Item) → IsValid G T doc ↔ IsValid (read r.tree) T doc
+  joined_read G c w T doc =
+      let first = normal_valid G N c w T doc in
+      let second = opened_valid N T doc in
+      subst (λ R. IsValid G T doc ↔ IsValid R T doc) (sym r.same) (λ v. second.0 (first.0 v), λ v. first.1 (second.1 v))
+
   module _ (G : Grammar) (c : IsCanonicalOf G N) where
     -- what is read back has the canonical grammar that was printed, and no other
     pub read_canonical : IsCanonicalOf (read r.tree) N

@@ -14,8 +14,9 @@ use Rattle.rn_simplify.specs.Spelling.{spelling}
 use Rattle.rn_simplify.specs.ReadBack.{IsReadBack}
 
 -- the text is that of the canonical grammar of the set's modules, has no fault, brackets too deep among them, and is
--- read back; what is read back is valid for exactly the documents of each combination of the set's components, has that
--- canonical grammar again, and no other, and none of the refusals of modules stands for it
+-- read back; what is read back is valid for exactly the documents of the joined definitions of the set, and of each
+-- combination of its components, has that canonical grammar again, and no other, and none of the refusals of modules
+-- stands for it
 pub record IsReadAgain (s : List Member) (text : Text) : Type 0 where
   pub modules : List Source
   pub are_modules : AreModules s modules
@@ -24,6 +25,7 @@ pub record IsReadAgain (s : List Member) (text : Text) : Type 0 where
   pub text_is : text ≡ spelling normal
   pub no_fault : (f : TextFault) → ¬ HasFault text f
   pub read_back : IsReadBack normal
+  pub joined_documents : (T : Table) (doc : Item) → IsValid (grammar_of modules) T doc ↔ IsValid (read read_back.tree) T doc
   pub same_documents : (C : Grammar) → IsCombination (set_components modules) C → (T : Table) (doc : Item) → IsValid C T doc ↔ IsValid (read read_back.tree) T doc
   pub same_normal : IsCanonicalOf (read read_back.tree) normal
   pub no_other : (M : Grammar) → IsCanonicalOf (read read_back.tree) M → M ≡ normal

@@ -1,18 +1,26 @@
 // The canonical grammar.
-ghost use Rattle.std.specs.Prelude.{◌≡◌};
-ghost use Rattle.rn_pattern.specs.View.{pattern_view};
-ghost use Rattle.rn_simplify.specs.NormalView.{definitions_view, normal_view};
+ghost use Rattle.rn_assemble.specs.OneProof.{IsWellFormed-prop};
+ghost use Rattle.rn_assemble.specs.WellFormed.{IsWellFormed};
+ghost use Rattle.rn_simplify.specs.Sources.{HasSource, parts_view};
 
 use rn_pattern::Pattern;
 
-/// A grammar in its canonical form: the start, and the definitions that are reached from it.
+/// A grammar in its canonical form: the start, and the definitions that are reached from it. It is the canonical grammar of
+/// a grammar for which no refusal stands, and keeps what that keeps: every reference is defined, no loop is reached, excepts
+/// and name classes keep their restrictions (RELAX NG Specification, sections 4.16, 4.18, 4.19 and 7.1.4).
 #[derive(Drop)]
 pub struct Normal {
     pub(crate) start: Pattern,
     pub(crate) defs: Vec<(String, Pattern)>,
+    pub ghost well_formed: { IsWellFormed (parts_view start defs.items) } by { IsWellFormed-prop (parts_view start defs.items) },
+    pub ghost source: { ∥ HasSource (parts_view start defs.items) ∥₁ },
 }
 
 impl Normal {
+    ghost use Rattle.std.specs.Prelude.{◌≡◌};
+    ghost use Rattle.rn_pattern.specs.View.{pattern_view};
+    ghost use Rattle.rn_simplify.specs.NormalView.{definitions_view, normal_view};
+
     /// The canonical start.
     pub fn start(&self) -> &Pattern
         ensures { pattern_view result.now ≡ (normal_view self.now).start }

@@ -3,7 +3,6 @@ ghost use Rattle.std.specs.Prelude.{◌≡◌, ◌<◌, ℕ, All, IfOk, IfSome, 
 ghost use Rattle.std.specs.List.{IsDistinct};
 ghost use Rattle.rn_pattern.specs.Graph.{AllBelow};
 ghost use Rattle.rn_assemble.specs.GrammarView.{definitions_view, grammar_view};
-ghost use Rattle.rn_assemble.specs.WellFormed.{IsWellFormed};
 ghost use Rattle.rn_pattern.specs.Canonical as form;
 ghost use Rattle.rn_pattern.specs.CanonicalShape.{IsCanonicalPattern};
 ghost use Rattle.rn_pattern.specs.Reached.{IsCanonicalOf};
@@ -13,6 +12,7 @@ ghost use Rattle.rn_pattern.specs.View.{pattern_view};
 ghost use Rattle.rn_simplify.specs.NormalView.{normal_view};
 ghost use Rattle.rn_simplify.specs.Numbered.{AreKnown, AreSettled, Settles, settled_by};
 ghost use Rattle.rn_simplify.specs.Settling.{IsInOrder, IsSettling};
+ghost use Rattle.rn_simplify.specs.Sources.{AreValidAlike, parts_view};
 
 use crate::canonical::{Settled, canonical, worth};
 use crate::normal::Normal;
@@ -23,32 +23,51 @@ use rn_assemble::{Definitions, Grammar};
 use rn_pattern::{Interned, Pattern, Patterns};
 use std::alloc::{AllocError, Global};
 
-/// The canonical grammar of a well-formed grammar, built in a store of its own. The only error is want of memory.
+/// The canonical grammar of a grammar, built in a store of its own. It is valid for exactly the same documents, for every
+/// table of datatypes (RELAX NG Specification, sections 4.18 to 4.21 and 6). The only error is want of memory.
 pub fn normalise(alloc: Global, grammar: &Grammar) -> Result<Normal, AllocError>
-    ensures { IfOk result (λ n. IsWellFormed (grammar_view grammar.now) → IsCanonicalOf (grammar_view grammar.now) (normal_view n)) }
+    ensures canonical { IfOk result (λ n. IsCanonicalOf (grammar_view grammar.now) (normal_view n)) }
+    ensures documents { IfOk result (λ n. AreValidAlike (grammar_view grammar.now) (normal_view n)) }
 {
     let mut store = Interned::with_seed(alloc, *grammar.defs().hasher());
     normalise_in(alloc, grammar, &mut store)
 }
 
-/// The canonical grammar of a well-formed grammar, built in `store`, whose earlier ids keep their patterns. After a refusal
-/// they keep them too, and the store may hold more ids. The only error is want of memory.
+/// The canonical grammar of a grammar, built in `store`, whose earlier ids keep their patterns. After a refusal they keep
+/// them too, and the store may hold more ids. The only error is want of memory.
 pub fn normalise_in<P: Patterns>(
     alloc: Global,
     grammar: &Grammar,
     store: &mut P,
 ) -> Result<Normal, AllocError>
-    ensures canonical { IfOk result (λ n. IsWellFormed (grammar_view grammar.now) → IsCanonicalOf (grammar_view grammar.now) (normal_view n)) }
+    ensures canonical { IfOk result (λ n. IsCanonicalOf (grammar_view grammar.now) (normal_view n)) }
+    ensures documents { IfOk result (λ n. AreValidAlike (grammar_view grammar.now) (normal_view n)) }
+    ensures kept { KeepsTrees (P.knows store.old) (P.tree_of store.old) (P.knows store.new) (P.tree_of store.new) }
+{
+    let (start, defs) = canonical_parts(alloc, grammar, store)?;
+    Ok(Normal {
+        start: Box::into_inner(start),
+        defs,
+    })
+}
+
+/// A start, and definitions by their names.
+type Parts = (Box<Pattern>, Vec<(String, Pattern)>);
+
+/// The canonical start and the canonical definitions that it reaches.
+fn canonical_parts<P: Patterns>(
+    alloc: Global,
+    grammar: &Grammar,
+    store: &mut P,
+) -> Result<Parts, AllocError>
+    ensures canonical { IfOk result (λ parts. IsCanonicalOf (grammar_view grammar.now) (parts_view parts.0.value parts.1.items)) }
     ensures kept { KeepsTrees (P.knows store.old) (P.tree_of store.old) (P.knows store.new) (P.tree_of store.new) }
 {
     let settled = settled(alloc, grammar, store)?;
     let start = form(alloc, store, &settled, grammar.start())?;
     let forms = forms(alloc, store, &settled)?;
     let defs = pruned(alloc, settled.names, &start, forms)?;
-    Ok(Normal {
-        start: Box::into_inner(start),
-        defs,
-    })
+    Ok((start, defs))
 }
 
 /// What the references to the definitions of a grammar become.
@@ -59,7 +78,7 @@ fn settled<'g, P: Patterns>(
 ) -> Result<Settled<'g, P::Id>, AllocError>
     ensures names { IfOk result (λ s. definitions_view s.names.now.entries ≡ (grammar_view grammar.now).definitions) }
     ensures known { IfOk result (λ s. AreKnown (P.knows store.new) s.worth.items) }
-    ensures exact { IfOk result (λ s. IsWellFormed (grammar_view grammar.now) → (rank : Text → ℕ)
+    ensures exact { IfOk result (λ s. (rank : Text → ℕ)
         × IsSettling (grammar_view grammar.now) (settled_by (P.tree_of store.new) (definitions_view s.names.now.entries) s.worth.items) rank) }
     ensures kept { KeepsTrees (P.knows store.old) (P.tree_of store.old) (P.knows store.new) (P.tree_of store.new) }
 {

@@ -3,7 +3,6 @@ ghost use Rattle.std.specs.Prelude.{◌≡◌, ◌<◌, [], ℕ, IfOk, length, c
 ghost use Rattle.rn_pattern.specs.Graph.{AllBelow, IsGraph, is_marked, row, rows_of};
 ghost use Rattle.rn_pattern.specs.Ranks.{HasNoLoop, IsRanking};
 ghost use Rattle.rn_assemble.specs.GrammarView.{definitions_view, grammar_view};
-ghost use Rattle.rn_assemble.specs.WellFormed.{IsWellFormed};
 ghost use Rattle.rn_pattern.specs.Tree.{Text, Tree};
 ghost use Rattle.rn_pattern.specs.View.{pattern_view};
 ghost use Rattle.rn_simplify.specs.Marked.{ArePlaces};
@@ -100,21 +99,22 @@ fn reached_definitions(alloc: Global, grammar: &Grammar) -> Result<Vec<bool>, Al
     reached(alloc, &rows, &start)
 }
 
-/// Ranks by which each row refers to lower ones; where the rows loop there are none.
+/// Ranks by which each row refers to lower ones, where no row leads back to itself.
 fn ranks_of(alloc: Global, rows: &[Vec<usize>]) -> Result<Vec<usize>, AllocError>
-    requires { IsGraph (rows_of rows.now) }
-    ensures { IfOk result (λ v. HasNoLoop (rows_of rows.now) → IsRanking (rows_of rows.now) v.items) }
+    requires graph { IsGraph (rows_of rows.now) }
+    requires loop_free { HasNoLoop (rows_of rows.now) }
+    ensures { IfOk result (λ v. IsRanking (rows_of rows.now) v.items) }
 {
     match ranks(alloc, rows)? {
         Order::Ranked(ranks) => Ok(ranks),
-        Order::Looped(_) => Ok(Vec::new(alloc)),
+        Order::Looped(_) => unreachable!(),
     }
 }
 
 /// The numbers of the definitions that the start reaches, in the order in which they can be settled.
 pub(crate) fn settling_order(alloc: Global, grammar: &Grammar) -> Result<Vec<usize>, AllocError>
     ensures within { IfOk result (λ v. AllBelow (length (grammar_view grammar.now).definitions) v.items) }
-    ensures order { IfOk result (λ v. IsWellFormed (grammar_view grammar.now) → IsSettlingOrder (grammar_view grammar.now) v.items) }
+    ensures order { IfOk result (λ v. IsSettlingOrder (grammar_view grammar.now) v.items) }
 {
     let is_reached = reached_definitions(alloc, grammar)?;
     let outside = outside_references(alloc, grammar.defs(), &is_reached)?;

@@ -1,4 +1,4 @@
-use Rattle.rn_merge.proofs.Brought.{brought, held, one_union, no_fault}
+use Rattle.rn_merge.proofs.Brought.{brought, held, one_union, never_full, no_fault}
 use Rattle.rn_merge.proofs.laws.contributions_alone_make_the_union.Goals as goal
 
 pub returns-clause-held : goal.returns-clause-held
@@ -6,6 +6,9 @@ returns-clause-held c = λ bundles s h m. (brought bundles s h m, held bundles s
 
 pub returns-clause-one : goal.returns-clause-one
 returns-clause-one c = one_union
+
+pub returns-clause-never_full : goal.returns-clause-never_full
+returns-clause-never_full c = never_full
 
 pub returns-clause-any_order : goal.returns-clause-any_order
 returns-clause-any_order c = λ bundles others s fault h same. no_fault bundles others s fault h (λ b. (same b).1)

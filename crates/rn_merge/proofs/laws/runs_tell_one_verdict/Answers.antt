@@ -1,12 +1,12 @@
 use Rattle.rn_merge.proofs.Brought.{same_brought}
-use Rattle.rn_merge.proofs.Runs.{one_told, run_read}
+use Rattle.rn_merge.proofs.Runs.{one_told, run_never_full}
 use Rattle.rn_merge.proofs.laws.runs_tell_one_verdict.Goals as goal
 
 pub returns-clause-one : goal.returns-clause-one
 returns-clause-one c = one_told
 
+pub returns-clause-never_full : goal.returns-clause-never_full
+returns-clause-never_full c = run_never_full
+
 pub returns-clause-any_order : goal.returns-clause-any_order
 returns-clause-any_order c = same_brought
-
-pub returns-clause-documents : goal.returns-clause-documents
-returns-clause-documents c = run_read

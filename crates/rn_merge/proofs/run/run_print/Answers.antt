@@ -1,8 +1,9 @@
-use Rattle.std.proofs.Common.{◌≡◌, map, refl, string_bytes, subst, sym}
+use Rattle.std.proofs.Common.{◌≡◌, refl, string_bytes, subst, sym}
 use Rattle.std.specs.Io.KnownBytes.{Appends}
-use Rattle.rn_merge.specs.Runs.{IsRun, LeavesSink}
+use Rattle.rn_merge.specs.Runs.{bundles_view, IsRun, LeavesSink}
 use Rattle.rn_merge.specs.Streams.{AppendsFront}
 use Rattle.rn_merge.proofs.Refused.{refused_run, refused_leaves}
+use Rattle.rn_merge.proofs.Schemas.{schema}
 use Rattle.rn_merge.proofs.run.run_print.Goals as goal
 
 pub returns-clause-run : goal.returns-clause-run
@@ -10,14 +11,14 @@ returns-clause-run g c = (
   c.in_ok-union.union,
   string_bytes c.in-Ok.text,
   c.in_ok-union.ensures.ok,
-  c.in-Ok.ensures,
+  schema c.in_ok-union.union (string_bytes c.in-Ok.text) c.in-Ok.ensures.verdict,
   subst (AppendsFront (g.W.Sink.contents c.args.out.now) (g.W.Sink.contents c.write_output.new.out)) c.as_bytes.ensures.value c.write_output.ensures.front,
   c.in-Err-write_output.ensures.err,
 )
 
 pub returns-in-Err-clause-run : goal.returns-in-Err-clause-run
 returns-in-Err-clause-run g c =
-    subst (IsRun (map (λ bundle. bundle.items) c.args.bundles.now) _ _ _) (sym c.refused.ensures) (refused_run _ _ _ _ c.in_ok-union.union c.in-Err.refusal c.in_ok-union.ensures.ok c.in-Err.ensures)
+    subst (IsRun (bundles_view c.args.bundles.now) _ _ _) (sym c.refused.ensures) (refused_run _ _ _ _ c.in_ok-union.union c.in-Err.refusal c.in_ok-union.ensures.ok c.in-Err.ensures.verdict c.in-Err.ensures.first)
 
 pub returns-in-Err-clause-kept : goal.returns-in-Err-clause-kept
 returns-in-Err-clause-kept g c =
@@ -29,7 +30,7 @@ returns-in-Ok-write_output-clause-run g c = (
   c.in_ok-union.union,
   string_bytes c.in-Ok.text,
   c.in_ok-union.ensures.ok,
-  c.in-Ok.ensures,
+  schema c.in_ok-union.union (string_bytes c.in-Ok.text) c.in-Ok.ensures.verdict,
   subst (Appends (g.W.Sink.contents c.args.out.now) (g.W.Sink.contents c.write_output.new.out)) c.as_bytes.ensures.value c.in-Ok-write_output.ensures.ok,
   c.in-Ok-write_output.ensures.sound,
 )

@@ -1,13 +1,53 @@
+use Rattle.std.proofs.lemmas.Result.{IfOk-weaker}
 use Rattle.rn_assemble.specs.GrammarView.{grammar_view}
 use Rattle.rn_simplify.specs.NormalView.{normal_view}
-use Rattle.rn_merge.proofs.Verdicts.{answered_first, normalised, answered}
+use Rattle.rn_merge.proofs.Schemas.{answered_refusal, lacking, printed_refusal, printed_schema}
+use Rattle.rn_merge.proofs.Verdicts.{answered_first, answered}
 use Rattle.rn_merge.proofs.verdict.merge.Goals as goal
 
-pub returns-in_err-grammar : goal.returns-in_err-grammar
-returns-in_err-grammar c = answered_first c.args.set.now c.from_residual.result c.in_err-grammar.field-0.0 c.from_residual.ensures.1 c.in_err-grammar.ensures
+pub returns-in_err-grammar-clause-verdict : goal.returns-in_err-grammar-clause-verdict
+returns-in_err-grammar-clause-verdict c =
+    answered_first c.args.set.now c.from_residual.result c.in_err-grammar.field-0.0 c.from_residual.ensures.1 c.in_err-grammar.ensures
 
-pub returns : goal.returns
-returns c =
-    let n = normal_view c.in_ok-normal.normal in
-    let normal = normalised c.args.set.now (grammar_view c.in_ok-grammar.grammar) n c.in_ok-grammar.ensures c.in_ok-normal.ensures in
-    answered c.args.set.now n c.print-text.result normal c.print-text.ensures.ok c.print-text.ensures.err
+pub returns-in_err-grammar-clause-first : goal.returns-in_err-grammar-clause-first
+returns-in_err-grammar-clause-first c =
+    let s = c.args.set.now in
+    answered_refusal s c.from_residual.result (answered_first s c.from_residual.result c.in_err-grammar.field-0.0 c.from_residual.ensures.1 c.in_err-grammar.ensures)
+
+pub returns-clause-verdict : goal.returns-clause-verdict
+returns-clause-verdict c =
+    answered c.args.set.now (normal_view c.in_ok-normal.normal) c.print-text.result (grammar_view c.in_ok-grammar.grammar, c.in_ok-grammar.ensures, c.in_ok-normal.ensures.canonical) c.print-text.ensures.ok c.print-text.ensures.err
+
+pub returns-clause-first : goal.returns-clause-first
+returns-clause-first c =
+    printed_refusal c.args.set.now c.print-text.result (grammar_view c.in_ok-grammar.grammar) (normal_view c.in_ok-normal.normal) c.in_ok-grammar.ensures c.in_ok-normal.ensures.canonical c.print-text.ensures.ok c.print-text.ensures.err
+
+pub returns-clause-documents : goal.returns-clause-documents
+returns-clause-documents c =
+    IfOk-weaker c.print-text.result _ _ (λ t h. h.documents)
+    (printed_schema c.args.set.now c.print-text.result (grammar_view c.in_ok-grammar.grammar) (normal_view c.in_ok-normal.normal) c.in_ok-grammar.ensures c.in_ok-normal.ensures.canonical c.print-text.ensures.ok c.print-text.ensures.err)
+
+pub returns-clause-unrefused : goal.returns-clause-unrefused
+returns-clause-unrefused c =
+    IfOk-weaker c.print-text.result _ _ (λ t h. h.unrefused)
+    (printed_schema c.args.set.now c.print-text.result (grammar_view c.in_ok-grammar.grammar) (normal_view c.in_ok-normal.normal) c.in_ok-grammar.ensures c.in_ok-normal.ensures.canonical c.print-text.ensures.ok c.print-text.ensures.err)
+
+pub returns-clause-plain_once : goal.returns-clause-plain_once
+returns-clause-plain_once c =
+    IfOk-weaker c.print-text.result _ _ (λ t h. h.plain_once)
+    (printed_schema c.args.set.now c.print-text.result (grammar_view c.in_ok-grammar.grammar) (normal_view c.in_ok-normal.normal) c.in_ok-grammar.ensures c.in_ok-normal.ensures.canonical c.print-text.ensures.ok c.print-text.ensures.err)
+
+pub returns-clause-one_method : goal.returns-clause-one_method
+returns-clause-one_method c =
+    IfOk-weaker c.print-text.result _ _ (λ t h. h.one_method)
+    (printed_schema c.args.set.now c.print-text.result (grammar_view c.in_ok-grammar.grammar) (normal_view c.in_ok-normal.normal) c.in_ok-grammar.ensures c.in_ok-normal.ensures.canonical c.print-text.ensures.ok c.print-text.ensures.err)
+
+pub returns-clause-again : goal.returns-clause-again
+returns-clause-again c =
+    IfOk-weaker c.print-text.result _ _ (λ t h. h.again)
+    (printed_schema c.args.set.now c.print-text.result (grammar_view c.in_ok-grammar.grammar) (normal_view c.in_ok-normal.normal) c.in_ok-grammar.ensures c.in_ok-normal.ensures.canonical c.print-text.ensures.ok c.print-text.ensures.err)
+
+pub returns-clause-alone : goal.returns-clause-alone
+returns-clause-alone c =
+    IfOk-weaker c.print-text.result _ _ (λ t h. h.alone)
+    (printed_schema c.args.set.now c.print-text.result (grammar_view c.in_ok-grammar.grammar) (normal_view c.in_ok-normal.normal) c.in_ok-grammar.ensures c.in_ok-normal.ensures.canonical c.print-text.ensures.ok c.print-text.ensures.err)

@@ -26,8 +26,9 @@ returns-clause-exact g c =
     let order = c.in_ok-order.order.items in
     let ensures = c.settle.ensures in
     IfOk-weaker c.settle.result _ _
-    (λ s h w.
-    let o = c.in_ok-order.ensures.order w in
+    (λ s h.
+    let w = c.args.grammar.now.well_formed in
+    let o = c.in_ok-order.ensures.order in
     let es = definitions_view s.names.now.entries in
     let worth = s.worth.items in
     let ordered : IsInOrder ds c.deref.result.now = subst (IsInOrder ds) (sym c.deref.ensures.value) (subst (λ (fs : List (Text × Tree)). IsInOrder fs order) (sym c.defs.ensures) o.in_order) in

@@ -3,9 +3,11 @@ use Rattle.std.specs.Prelude.{string_bytes}
 use Rattle.rn_simplify.specs.NormalView.{definitions_view, normal_view}
 use Rattle.rn_simplify.specs.Spelling.{definition_lines}
 use Rattle.rn_simplify.specs.Printed.{IsPrinted, IsUnprinted}
+use Rattle.rn_simplify.specs.ReadBack.{IsReadBack}
 use Rattle.rn_simplify.specs.Writes.{IsHindrance, prefixes_view, Writes}
 use Rattle.rn_simplify.proofs.Answered.{if_ok, if_err, printed, unprinted}
 use Rattle.rn_simplify.proofs.LineTexts.{writes_lines}
+use Rattle.rn_simplify.proofs.SourceTexts.{read_back}
 use Rattle.rn_simplify.proofs.printing.print.Goals as goal
 
 pub returns : goal.returns
@@ -18,5 +20,6 @@ returns c =
     let whole = writes_lines g f c.in_ok-prefixes.prefixes.empty_namespace c.in_ok-prefixes.ensures.prefixes c.in_ok-prefixes.ensures.empty c.write_declarations.ensures c.write_start.ensures lines in
     record {
       ok = if_ok _ (λ t. IsPrinted g (string_bytes t)) (λ t h. subst (λ s. IsPrinted g (string_bytes s)) (sym h.2) (printed g a.ensures.text a.ensures.outside a.ensures.shallow a.ensures.goes whole h.0 h.1)) c.finish.result c.finish.ensures.ok;
+      read_back = if_ok _ (λ t. ∥ IsReadBack g ∥₁) (λ t h. read_back g c.args.normal.now.source (printed g a.ensures.text a.ensures.outside a.ensures.shallow a.ensures.goes whole h.0 h.1).0) c.finish.result c.finish.ensures.ok;
       err = if_err (IsHindrance z) (IsUnprinted g) (unprinted g a.ensures.text a.ensures.outside a.ensures.shallow a.ensures.goes whole) c.finish.result c.finish.ensures.err;
     }

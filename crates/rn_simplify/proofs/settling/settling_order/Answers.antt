@@ -8,8 +8,8 @@ use Rattle.rn_simplify.specs.Marked.{ArePlaces}
 use Rattle.rn_simplify.proofs.SettlingOrder.{places_below, outs_graph, no_leads, settling_order_is, outside_size, outside_rows}
 use Rattle.rn_simplify.proofs.settling.settling_order.Goals as goal
 
-pub ranks_of-requires : goal.ranks_of-requires
-ranks_of-requires c =
+pub ranks_of-requires-clause-graph : goal.ranks_of-requires-clause-graph
+ranks_of-requires-clause-graph c =
     let G = grammar_view c.args.grammar.now in
     let marks = c.in_ok-is_reached.is_reached.items in
     let es = c.defs.result.now.entries in
@@ -18,13 +18,25 @@ ranks_of-requires c =
     (outside_size es G.definitions c.deref.result.now marks c.in_ok-outside.outside.items outs c.defs.ensures c.deref.ensures.value c.deref-2.ensures.value c.in_ok-outside.ensures.size)
     (outside_rows es G.definitions c.deref.result.now marks c.in_ok-outside.outside.items outs c.defs.ensures c.deref.ensures.value c.deref-2.ensures.value c.in_ok-outside.ensures.rows)
 
+pub ranks_of-requires-clause-loop_free : goal.ranks_of-requires-clause-loop_free
+ranks_of-requires-clause-loop_free c =
+    let G = grammar_view c.args.grammar.now in
+    let marks = c.in_ok-is_reached.is_reached.items in
+    let es = c.defs.result.now.entries in
+    let outs = c.deref-2.result.now in
+    no_leads G marks (rows_of outs) c.in_ok-is_reached.ensures.exact
+    (outside_size es G.definitions c.deref.result.now marks c.in_ok-outside.outside.items outs c.defs.ensures c.deref.ensures.value c.deref-2.ensures.value c.in_ok-outside.ensures.size)
+    (outside_rows es G.definitions c.deref.result.now marks c.in_ok-outside.outside.items outs c.defs.ensures c.deref.ensures.value c.deref-2.ensures.value c.in_ok-outside.ensures.rows)
+    c.args.grammar.now.well_formed
+
 pub returns-clause-within : goal.returns-clause-within
 returns-clause-within c =
     let G = grammar_view c.args.grammar.now in
     places_below G c.in_ok-is_reached.is_reached.items (rows_of c.deref-2.result.now) c.in_ok-is_reached.ensures.exact c.in_ok-order.order.items c.sort_by_key.new.self.items (subst (λ ms. ArePlaces ms c.in_ok-order.order.items) c.deref-3.ensures.value c.in_ok-order.ensures) c.sort_by_key.ensures.permutation
 
 pub returns-clause-order : goal.returns-clause-order
-returns-clause-order c = λ w.
+returns-clause-order c =
+    let w = c.args.grammar.now.well_formed in
     let G = grammar_view c.args.grammar.now in
     let marks = c.in_ok-is_reached.is_reached.items in
     let es = c.defs.result.now.entries in
@@ -33,4 +45,4 @@ returns-clause-order c = λ w.
     let size = outside_size es G.definitions c.deref.result.now marks c.in_ok-outside.outside.items outs c.defs.ensures c.deref.ensures.value c.deref-2.ensures.value c.in_ok-outside.ensures.size in
     let each = outside_rows es G.definitions c.deref.result.now marks c.in_ok-outside.outside.items outs c.defs.ensures c.deref.ensures.value c.deref-2.ensures.value c.in_ok-outside.ensures.rows in
     let up : IsNonDecreasingBy (rank_of ranks) c.sort_by_key.new.self.items = IsNonDecreasingBy-from_sort_by_key (rank_of ranks) c.sort_by_key.new.self.items c.in_ok-sort_by_key.ensures.sorted (λ a r f' k. search rules) in
-    settling_order_is G marks (rows_of outs) c.in_ok-is_reached.ensures.exact size each w ranks (c.in_ok-ranks.ensures (no_leads G marks (rows_of outs) c.in_ok-is_reached.ensures.exact size each w)) c.in_ok-order.order.items c.sort_by_key.new.self.items (subst (λ ms. ArePlaces ms c.in_ok-order.order.items) c.deref-3.ensures.value c.in_ok-order.ensures) c.sort_by_key.ensures.permutation up
+    settling_order_is G marks (rows_of outs) c.in_ok-is_reached.ensures.exact size each w ranks c.in_ok-ranks.ensures c.in_ok-order.order.items c.sort_by_key.new.self.items (subst (λ ms. ArePlaces ms c.in_ok-order.order.items) c.deref-3.ensures.value c.in_ok-order.ensures) c.sort_by_key.ensures.permutation up
