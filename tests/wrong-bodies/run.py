@@ -7,8 +7,9 @@ call one that isn't. A function that calls one which isn't proved says nothing o
 kept of the earlier ones. The crates stand on the libraries in crates/*/out, as `rt ci` leaves them in a clean checkout.
 tests/wrong-bodies/run.py --stand: only looks whether each text that they change stands once in its file.
 
-A wrong body is a file with a line `file:` and a line `function:`, where it stands and which function must not be proved, and one or more pairs of
-lines `old:` and `new:`, each of which changes what the earlier ones made.
+A wrong body is a file with a line `file:` and a line `function:`, where it is and which function must not be proved, and one or more pairs of
+lines `old:` and `new:`, each of which changes what the earlier ones made; `⏎` in them is a line end. It is refused by the function's contract, not
+for its safety alone: what the function ensures, or an invariant from which that follows, must be open.
 """
 import collections
 import concurrent.futures
@@ -26,6 +27,8 @@ PARTS = ("src", "specs", "proofs")
 IN_CYCLE = re.compile(r"#\[cycle\((\w+)\)\](?:\s*#\[[^\]]*\])*\s*(?:pub(?:\(\w+\))? )?fn (\w+)")
 # What is said at a proof file that names what the wrong body took away, or that is for another form of body: that speaks of no contract.
 NAME_LOST = re.compile(r"has no field|is not in scope|has no `|was not admitted|rattle does not read")
+# The name of a goal of the contract: of what the function ensures, or of an invariant of a loop.
+OF_CONTRACT = re.compile(r"`(?:[\w:+]*-)?(?:returns|loop-)")
 # What is said of a function that calls one which isn't proved.
 WAITS = re.compile(r"it calls `|a call of `[^`]*`, which has no proof")
 
@@ -39,6 +42,7 @@ def read_body(crate, name):
     with open(f"{HERE}/{crate}/{name}", encoding="utf-8") as file:
         lines = [line.rstrip("\n").partition(":") for line in file]
     keys, texts = [key for key, _, _ in lines], [text[1:] for _, _, text in lines]
+    texts = [text.replace("⏎", "\n") for text in texts]
     pairs = tuple(zip(texts[2::2], texts[3::2]))
     good = pairs and keys == ["file", "function", *["old", "new"] * len(pairs)]
     return WrongBody(crate, os.path.splitext(name)[0], *texts[:2], pairs) if good else None
@@ -194,7 +198,8 @@ def judged(tried, said):
         if it is None or it.is_proved or not (it.waits or it.goals):
             found[body] = False, "it is still proved" if it and it.is_proved else "no goal of the function is open"
         elif not it.waits:
-            found[body] = True, it.goals[0]
+            of_contract = [goal for goal in it.goals if OF_CONTRACT.search(goal)]
+            found[body] = bool(of_contract), (of_contract or it.goals)[0]
     return found
 
 

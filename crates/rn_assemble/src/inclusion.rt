@@ -113,11 +113,14 @@ fn roots(alloc: Global, rows: &[Vec<usize>]) -> Result<Vec<usize>, AllocError>
     ensures { IfOk result (λ roots. roots.items ≡ entries (rows_of rows.now)) }
 {
     let included = included_marks(alloc, rows)?;
-    included
-        .iter()
-        .enumerate()
-        .filter_map(|(module, is_included)| (!*is_included).then_some(module))
-        .collect(alloc)
+    let mut roots = Vec::with_capacity(alloc, rows.len())?;
+    roots.extend(
+        included
+            .iter()
+            .enumerate()
+            .filter_map(|(module, is_included)| (!*is_included).then_some(module)),
+    )?;
+    Ok(roots)
 }
 
 /// For each module, whether some module includes it.

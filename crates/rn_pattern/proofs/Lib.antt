@@ -23,9 +23,15 @@ pub mod CanonicalForm
 pub mod Settled
 pub mod Ranked
 pub mod Constructors
-pub mod Examples
+pub mod Computed
+pub mod Accepting
+pub mod AcceptedParts
+pub mod Accepted
+pub mod Tried
 pub mod NodeTrees
 pub mod SortedBy
+pub mod SortedMembers
+pub mod BuiltCanonical
 pub mod Gathering
 pub mod Single
 pub mod Copied

@@ -282,6 +282,7 @@ module _ (rows : List (List ℕ)) where
 
   pub all_visited : (w : Walk) → Visited w (length rows) → IsRanking rows w.ranks.items
   all_visited w v = record {
+    sized = v.walking.ranks_size;
     below = λ x h. omega (arith, v.walking.ranked x (done x h), v.walking.order_size, count_by-le-length is_done w.marks.items, v.walking.marks_size);
     falls = λ x y h c. (v.walking.falls x y (done x h) c).1;
   }

@@ -15,8 +15,9 @@ pub data Leads (rows : List (List ℕ)) : ℕ → ℕ → Type 0 where
 abbrev pub rank_of : List ℕ → ℕ → ℕ
 rank_of ranks x = slice_index_or ranks x 0
 
--- each edge leads to a lower rank, and each rank is below the number of nodes
+-- a rank for each node, below the number of nodes, and each edge leads to a lower one
 pub record IsRanking (rows : List (List ℕ)) (ranks : List ℕ) : Type 0 where
+  pub sized : length ranks ≡ length rows
   pub below : (x : ℕ) → x < length rows → rank_of ranks x < length rows
   pub falls : (x y : ℕ) → x < length rows → Contains (row rows x) y → rank_of ranks y < rank_of ranks x
 

@@ -43,7 +43,9 @@ pub fn row_at(edges: &[Vec<usize>], node: usize) -> &[usize]
 pub(crate) fn lengths(alloc: Global, edges: &[Vec<usize>]) -> Result<Vec<usize>, AllocError>
     ensures { IfOk result (λ lengths. lengths.items ≡ map (λ row. length row) (rows_of edges.now)) }
 {
-    edges.iter().map(|row| row.len()).collect(alloc)
+    let mut lengths = Vec::with_capacity(alloc, edges.len())?;
+    lengths.extend(edges.iter().map(|row| row.len()))?;
+    Ok(lengths)
 }
 
 /// The node that the next edge to look at leads to from a node, if there is one. Of each node so many edges are left; they are

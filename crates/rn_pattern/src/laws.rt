@@ -1,5 +1,6 @@
 // Laws of canonical patterns: what they match, their shape and their order.
-ghost use Rattle.std.specs.Prelude.{◌≡◌, ◌↔◌, ℕ, ◌+◌, length, List, IfSome, IsPermutation, IsTrue};
+ghost use Rattle.std.specs.Prelude.{◌≡◌, ◌↔◌, ℕ, ◌+◌, length, List, All, Contains, IfSome, IsPermutation, IsTrue};
+ghost use Rattle.std.specs.List.Sorted.{IsStrictlySortedBy};
 ghost use Rattle.std.specs.Cmp.{IsTotalOrder};
 ghost use Rattle.std.specs.declared.cmp.Ordering.TheVariants.{Equal};
 ghost use Rattle.rn_pattern.specs.Tree.{Text, Parameters, NameTree, Tree, ref, datum_but, list, attribute, element, one_or_more, group, interleave, choice, trees_of};
@@ -8,18 +9,20 @@ ghost use Rattle.rn_pattern.specs.Names.{HoldsName};
 ghost use Rattle.rn_pattern.specs.Datatype.{Table};
 ghost use Rattle.rn_pattern.specs.Matching.{Grammar, definition_of, IsValid, MatchAlike};
 ghost use Rattle.rn_pattern.specs.Order.{name_cmp, tree_cmp};
-ghost use Rattle.rn_pattern.specs.Canonical.{canonical_name, choice_step, group_step, interleave_step, one_or_more_step, list_step, attribute_step, datum_but_step, canonical, settled_within, canonical_within};
-ghost use Rattle.rn_pattern.specs.CanonicalShape.{IsCanonicalName, IsCanonicalPattern};
+ghost use Rattle.rn_pattern.specs.Canonical.{sorted, sorted_once, canonical_name, choice_step, group_step, interleave_step, one_or_more_step, list_step, attribute_step, datum_but_step, canonical, settled_within, canonical_within};
+ghost use Rattle.rn_pattern.specs.CanonicalShape.{IsAscending, IsCanonicalName, IsCanonicalPattern};
 ghost use Rattle.rn_pattern.specs.Excepts.{HasExcepts};
 ghost use Rattle.rn_pattern.specs.Opened.{opened, opened_grammar};
 ghost use Rattle.rn_pattern.specs.Pairing.{PairedUp};
 ghost use Rattle.rn_pattern.specs.Reached.{IsCanonicalOf, formed};
 ghost use Rattle.rn_pattern.specs.Replaced.{replaced_grammar};
+ghost use Rattle.rn_pattern.specs.Built.{StaysCanonical};
 ghost use Rattle.rn_pattern.specs.Store.{AddsOnly, KeepsTrees, StandsFor};
 
 use crate::interned::Interned;
 use crate::node::NodeId;
 use crate::patterns::Patterns;
+use crate::plain::Plain;
 
 /// Each canonical step gives a pattern that matches exactly what the node over its parts matches, in every grammar, for
 /// every table of datatypes, at every depth of references (RELAX NG Specification, sections 4.20, 4.21 and 6.2).
@@ -53,6 +56,37 @@ pub fn canonical_forms_are_canonical()
     ensures patterns { (settled : Text → Tree) → ((x : Text) → IsCanonicalPattern (settled x)) → (p : Tree) → IsCanonicalPattern (canonical settled p) }
     ensures within_grammars { (k : ℕ) (G : Grammar) (p : Tree) → IsCanonicalPattern (canonical_within k G p) }
     ensures name_classes { (c : NameTree) → IsCanonicalName (canonical_name c) }
+{}
+
+/// Each canonical step makes a canonical pattern of canonical parts (sections 4.20 and 4.21).
+pub fn canonical_steps_are_canonical()
+    ensures of_choice { (ps : List Tree) → All IsCanonicalPattern ps → IsCanonicalPattern (choice_step ps) }
+    ensures of_group { (ps : List Tree) → All IsCanonicalPattern ps → IsCanonicalPattern (group_step ps) }
+    ensures of_interleave { (ps : List Tree) → All IsCanonicalPattern ps → IsCanonicalPattern (interleave_step ps) }
+    ensures of_one_or_more { (p : Tree) → IsCanonicalPattern p → IsCanonicalPattern (one_or_more_step p) }
+    ensures of_list { (p : Tree) → IsCanonicalPattern p → IsCanonicalPattern (list_step p) }
+    ensures of_data { (library type : Text) (params : Parameters) (p : Tree) → IsCanonicalPattern p
+        → IsCanonicalPattern (datum_but_step library type params p) }
+    ensures of_attribute { (c : NameTree) (p : Tree) → IsCanonicalPattern p → IsCanonicalPattern (attribute_step (canonical_name c) p) }
+    ensures of_element { (c : NameTree) (p : Tree) → IsCanonicalPattern p → IsCanonicalPattern (element (canonical_name c) p) }
+{}
+
+/// What is sorted has the same members, each as often, in order; what is sorted without repeats has the same members,
+/// each once, in order.
+pub fn sorted_lists_keep_their_members()
+    ensures as_often { (ps : List Tree) → IsPermutation ps (sorted tree_cmp ps) }
+    ensures in_order { (ps : List Tree) → IsAscending tree_cmp (sorted tree_cmp ps) }
+    ensures the_same { (ps : List Tree) (p : Tree) → Contains (sorted_once tree_cmp ps) p ↔ Contains ps p }
+    ensures each_once { (ps : List Tree) → IsStrictlySortedBy tree_cmp (sorted_once tree_cmp ps) }
+    ensures the_same_names { (cs : List NameTree) (c : NameTree) → Contains (sorted_once name_cmp cs) c ↔ Contains cs c }
+    ensures each_name_once { (cs : List NameTree) → IsStrictlySortedBy name_cmp (sorted_once name_cmp cs) }
+{}
+
+/// The ids of a store stand for canonical patterns alone: so it begins, and so each constructor leaves it, whether it
+/// answers or is refused memory. `IsMade` has what each constructor makes of ids that the store knows.
+pub fn stores_stay_canonical()
+    ensures interned { let ids = ⟦<Interned as Patterns>⟧ in StaysCanonical ids.knows ids.tree_of ids.size }
+    ensures plain { let ids = ⟦<Plain as Patterns>⟧ in StaysCanonical ids.knows ids.tree_of ids.size }
 {}
 
 /// A canonical pattern is its own canonical form, so that a second time changes nothing; and it is the canonical form

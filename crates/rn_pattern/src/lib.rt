@@ -6,6 +6,7 @@
 //! interleave are put in one order. [`Plain`] keeps each pattern that it is asked for; in [`Interned`] equal patterns
 //! have equal ids.
 //!
+//! [`laws`] has what is proved of canonical patterns; [`examples`] has documents that are valid and documents that are not.
 //! [`name_classes`] has the restrictions on name classes (4.16). [`graph`] and [`ranks`] walk graphs whose nodes are numbers:
 //! definitions and what they refer to, modules and what they include.
 #![tactic(auto)]
@@ -34,4 +35,5 @@ pub use patterns::Patterns;
 pub use plain::Plain;
 pub use tree::{NameClass, Pattern};
 
+pub mod examples;
 pub mod laws;

@@ -138,8 +138,8 @@ fn begin(alloc: Global, edges: &[Vec<usize>]) -> Result<Walk, AllocError>
     })
 }
 
-/// Ranks by which each edge leads to a lower one, or a node on a loop. The only error is want of memory; the edges are what
-/// they were.
+/// A rank for each node, below the number of nodes, by which each edge leads to a lower one; or a node on a loop. The only
+/// error is want of memory; the edges are what they were.
 pub fn ranks(alloc: Global, edges: &[Vec<usize>]) -> Result<Order, AllocError>
     requires graph { IsGraph (rows_of edges.now) }
     ensures { IfOk result (λ o. IsOrdered (rows_of edges.now) o) }

@@ -1,4 +1,4 @@
-// Calls on texts, literals, sets and bundles, with their requests for memory refused in turn by what tests/want-of-memory loads
+// Calls on texts, literals, sets and bundles, with their requests for memory refused in turn by what tests/out-of-memory loads
 // before the tests' program. A call that is refused answers want of memory, in its own type, and leaves what it was lent.
 // Without a refusal, as in the gate, it gives its own answer. Each test tells whether a call was refused.
 use crate::rows::{contribution, holds, made, owned, same, same_bytes, same_count, written_set};

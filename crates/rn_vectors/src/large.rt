@@ -1,6 +1,8 @@
 // Sets and texts at their limits, and long lists and chains.
-use crate::merges::{FIRST_LINE, answer, answer_of_text, merged};
-use crate::rows::{holds, made, owned, push, repeated, same, same_count};
+use crate::merges::{
+    FIRST_LINE, answer, answer_of_text, merged, prints_again, prints_in_either_store,
+};
+use crate::rows::{holds, made, owned, push, repeated, same, same_count, written_set};
 use rn_modset::ModuleSet;
 use rn_units::samples::module;
 use std::process::Abort;
@@ -161,6 +163,26 @@ fn the_text_has_a_deepest_nesting(rt: HostRuntime) {
         let text = nested(&rt, *count, before, innermost);
         answer_holds(&rt, text.as_str(), wanted);
     }
+}
+
+#[test]
+fn schemas_at_the_limits_print_themselves_again(rt: HostRuntime) {
+    for (count, before, innermost, _) in &DEEPEST {
+        let text = nested(&rt, *count, before, innermost);
+        prints_again(&rt, &written_set(&rt, text.as_str()));
+    }
+    prints_again(&rt, &doubling(&rt, 8));
+    prints_again(&rt, &tower(&rt, 511));
+}
+
+#[test]
+fn either_store_prints_schemas_at_the_limits(rt: HostRuntime) {
+    for (count, before, innermost, _) in &DEEPEST {
+        let text = nested(&rt, *count, before, innermost);
+        prints_in_either_store(&rt, &written_set(&rt, text.as_str()));
+    }
+    prints_in_either_store(&rt, &doubling(&rt, 8));
+    prints_in_either_store(&rt, &tower(&rt, 511));
 }
 
 /// A schema in its canonical spelling is printed as it is.

@@ -1,5 +1,5 @@
 // What a merge answers for sets, and what its layers do. A helper that lacks memory, or is given what it can't take, ends its test.
-use crate::rows::{Subject, made, owned, same_for, written_set};
+use crate::rows::{Subject, made, owned, same, same_for, written_set};
 use rn_assemble::{Grammar, Refusal, assemble};
 use rn_merge::{ProgramFault, fault_line, merge, refusal_line};
 use rn_modset::ModuleSet;
@@ -66,6 +66,14 @@ impl Subject for MergeAgain {
     }
 }
 
+/// What a set prints is printed again, as a set of its own.
+pub fn prints_again(rt: &(impl Abort + AllocGlobal), set: &ModuleSet) {
+    let text = printed(rt, set);
+    let again = made(rt, format!(in rt.alloc(); "@z 9\n{text}"));
+    let again = printed(rt, &written_set(rt, again.as_str()));
+    same(rt, again.as_str(), text.as_str());
+}
+
 /// The grammar of a set.
 pub fn grammar(rt: &(impl Abort + AllocGlobal), set: &ModuleSet) -> Box<Grammar> {
     let grammar = assemble(rt.alloc(), set).expect(rt, "no grammar");
@@ -103,6 +111,15 @@ impl Subject for BothStores {
         prints_in(rt, &grammar, &mut Plain::new(rt.alloc()), given, wanted);
         prints_in(rt, &grammar, &mut Interned::new(rt.alloc()), given, wanted);
     }
+}
+
+/// What a set prints is printed through either store.
+pub fn prints_in_either_store(rt: &(impl Abort + AllocGlobal), set: &ModuleSet) {
+    let text = printed(rt, set);
+    let wanted = lines_of(rt, text.as_str());
+    let grammar = grammar(rt, set);
+    prints_in(rt, &grammar, &mut Plain::new(rt.alloc()), "", wanted);
+    prints_in(rt, &grammar, &mut Interned::new(rt.alloc()), "", wanted);
 }
 
 /// The line of a fault.

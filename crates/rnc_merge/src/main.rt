@@ -28,7 +28,11 @@ fn run(rt: &HostRuntime) -> Result<(), ProgramFault> {
 /// The words behind the program's name.
 fn words(rt: &HostRuntime) -> Result<Vec<String>, ProgramFault> {
     match env::args(rt) {
-        Ok(words) => Ok(words.skip(1).collect(rt.alloc())?),
+        Ok(given) => {
+            let mut words = Vec::with_capacity(rt.alloc(), given.len())?;
+            words.extend(given.skip(1))?;
+            Ok(words)
+        }
         Err(error) if error.kind() == ErrorKind::OutOfMemory => Err(ProgramFault::Memory),
         Err(_) => Err(ProgramFault::Usage),
     }

@@ -1,12 +1,18 @@
 // Loaded before a program (LD_PRELOAD), refuses requests for memory. They are counted from 1: all of them, or, with REFUSE_BEGIN
-// and REFUSE_END, those behind a request for as many bytes as the one says and before the next for as many as the other. The one
-// of the number REFUSE is refused, with REFUSE_ON all behind it too. To the file descriptor REFUSE_TO goes a letter for each mark
-// (b, e) and for the first request that is refused (r).
-#define _GNU_SOURCE
-#include <dlfcn.h>
-#include <errno.h>
-#include <stdlib.h>
-#include <unistd.h>
+// and REFUSE_END, those after a request for as many bytes as the one says and before the next for as many as the other. The one
+// of the number REFUSE is refused, with REFUSE_ON all after it too. To the file descriptor REFUSE_TO goes a letter for each mark
+// (b, e) and for the first request that is refused (r). What it takes of the C library is declared here, so that the compiler
+// of the toolchain, which has no headers, is enough.
+typedef unsigned long size_t;
+#define NULL ((void *)0)
+#define RTLD_NEXT ((void *)-1L)
+#define ENOMEM 12
+extern void *dlsym(void *handle, const char *name);
+extern char *getenv(const char *name);
+extern unsigned long strtoul(const char *text, char **end, int base);
+extern long write(int to, const void *bytes, size_t count);
+extern void abort(void);
+extern int *__errno_location(void);
 
 static size_t first, begin, end, made;
 static int goes_on, counts, to;
@@ -43,7 +49,7 @@ static int is_refused(size_t size) {
         tell("r");
     if (made < first || (made > first && !goes_on))
         return 0;
-    errno = ENOMEM;
+    *__errno_location() = ENOMEM;
     return 1;
 }
 

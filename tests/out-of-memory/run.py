@@ -1,13 +1,15 @@
 #!/usr/bin/env python3
 """Refuses each request for memory in turn: the program's, and those of each call by itself.
 
-tests/want-of-memory/run.py PROGRAM [TESTS..]: runs each job of a table with its first request for memory refused, then its second, and so on
-until a run asks no further, each once alone and once with all requests behind it. A run in which a request was refused ends with status 3, the
-line `Memory` on standard error and nothing on standard output, also where another fault stands; or, where the request alone was refused and
-then made again, with the job's own answer, as the first run without a refusal does. TESTS are the tests' programs: in each of their tests named
-`memory` or `layers` the requests between the marks are refused in the same way, and the test tells whether a call answered so.
-Needs Python 3, a C compiler (`cc`) and a system that loads a library before a program (LD_PRELOAD). Nothing here is in the gate.
+tests/out-of-memory/run.py [PROGRAM [TESTS..]]: runs each job of a table with its first request for memory refused, then its second, and so on
+until a run asks no further, each once alone and once with all requests after it. A run in which a request was refused ends with status 3, the
+line `Memory` on standard error and nothing on standard output, also where there is another fault. A request is spared where the run goes on
+without it and has the job's own answer: only those that the parser of words makes for texts of its own may be. TESTS are the tests'
+programs: in each of their tests named `memory` or `layers` the requests between the marks are refused in the same way, none may be spared,
+and the test tells whether a call answered so. Without words it takes what `rt ci` built.
+Needs Python 3 and a system that loads a library before a program (LD_PRELOAD); the compiler is the toolchain's.
 """
+import collections
 import itertools
 import os
 import subprocess
@@ -15,10 +17,15 @@ import sys
 import tempfile
 
 HERE = os.path.dirname(os.path.abspath(__file__))
+TOP = os.path.dirname(os.path.dirname(HERE))
+BUILT = ["rnc_merge/out/rnc_merge", "rn_units/out/rn_units_tests", "rn_vectors/out/rn_vectors_tests"]
 FIRST_LINE = 'default namespace = ""\n'
 WANT = (3, b"", b"Memory\n")
 # The marks of the tests, in bytes.
 MARKS = {"REFUSE_BEGIN": "7654321", "REFUSE_END": "7654322"}
+
+# What was seen of a job: whether each run was as it must be, how many requests it makes, and how many of them it can spare.
+Told = collections.namedtuple("Told", "is_well requests spared")
 
 
 def schema(*lines):
@@ -146,19 +153,21 @@ def tried(words, room, shim, is_own, is_want, goes_on, marks):
             return number, spared, f"request {number}{' and all behind it' if goes_on else ''} refused: answered {found}"
 
 
-def is_well(name, words, room, shim, is_own, is_want, marks):
-    """Tries a job in both ways and prints a line of it. Whether each run was as it must be."""
+def told(name, words, room, shim, is_own, is_want, marks):
+    """Tries a job in both ways and prints a line of it: how many requests it makes and can spare, and whether each run was as it must be."""
     requests, spared, wrong = tried(words, room, shim, is_own, is_want, False, marks)
     wrong = wrong or tried(words, room, shim, is_own, is_want, True, marks)[2]
+    if spared and marks:
+        wrong = wrong or f"{spared} of {requests} requests are spared"
     print(f"{'FAILED ' if wrong else ''}{name}: {wrong or f'{requests} requests, {spared} of them spared'}", flush=True)
-    return not wrong
+    return Told(not wrong, requests, spared)
 
 
-def is_test_well(program, test, room, shim):
+def told_of_test(program, test, room, shim):
     """Tries a test of calls: it passes, and tells that a call was refused if a request was."""
     is_own = lambda found: found[0] == 0 and found[1].startswith(b"answered\n")
     is_want = lambda found: found[0] == 0 and found[1].startswith(b"refused\n")
-    return is_well(test, [program, test], room, shim, is_own, is_want, MARKS)
+    return told(test, [program, test], room, shim, is_own, is_want, MARKS)
 
 
 def tests_of(program):
@@ -200,17 +209,31 @@ def jobs(program, room):
         yield words, wanted
 
 
+def compiler():
+    """The C compiler of the toolchain."""
+    kit = os.path.dirname(subprocess.run(["rt", "doc"], check=True, capture_output=True, text=True).stdout.strip())
+    return f"{kit}/toolchain/bin/clang"
+
+
+def summed(of, found):
+    """Prints how many requests there were of a kind."""
+    print(f"{of}: {sum(it.requests for it in found)} requests, each refused in turn, {sum(it.spared for it in found)} of them spared")
+
+
 def main():
-    program = os.path.abspath(sys.argv[1])
+    program, *tests = map(os.path.abspath, sys.argv[1:] or (f"{TOP}/crates/{built}" for built in BUILT))
     with tempfile.TemporaryDirectory() as room:
         shim = f"{room}/refuse.so"
-        subprocess.run(["cc", "-O1", "-shared", "-fPIC", "-o", shim, f"{HERE}/refuse.c", "-ldl"], check=True)
-        well = []
+        subprocess.run([compiler(), "-O1", "-shared", "-fPIC", "-nostdlib", "-fuse-ld=lld", "-o", shim, f"{HERE}/refuse.c"], check=True)
+        of_jobs, of_tests = [], []
         for words, wanted in jobs(program, room):
             name = f"{' '.join(words)} {(wanted[1] or wanted[2]).decode().splitlines()[-1:]}"
-            well.append(is_well(name, [program, *words], room, shim, wanted.__eq__, WANT.__eq__, {}))
-        for tests in map(os.path.abspath, sys.argv[2:]):
-            well += [is_test_well(tests, test, room, shim) for test in tests_of(tests)]
+            of_jobs.append(told(name, [program, *words], room, shim, wanted.__eq__, WANT.__eq__, {}))
+        for of in tests:
+            of_tests += [told_of_test(of, test, room, shim) for test in tests_of(of)]
+    summed("the program", of_jobs)
+    summed("calls by themselves", of_tests)
+    well = [it.is_well for it in of_jobs + of_tests]
     print(f"{sum(well)} passed, {len(well) - sum(well)} failed")
     sys.exit(not all(well))
 
