@@ -11,8 +11,9 @@ use rn_text::{is_keyword, write_literal};
 use sha2::{Digest, Sha256};
 use std::alloc::{AllocError, Global};
 
-/// The line of a refusal: its name and its fields, each after one space. A key is `start` or a definition's name, with
-/// a backslash if it is a keyword; the name that an include wants is a literal, and holds XML characters alone.
+/// The line of a refusal, without its line feed: its name and its fields, each after one space. A key is `start` or a
+/// definition's name, with a backslash if it is a keyword; the name that an include wants is a literal, and holds XML
+/// characters alone.
 pub fn refusal_line(alloc: Global, refusal: &Refusal) -> Result<String, AllocError>
     ensures { IfOk result (λ line. string_bytes line ≡ refusal_line refusal.now) }
 {
@@ -120,8 +121,8 @@ fn push_identifier(line: &mut String, name: &str) -> Result<(), AllocError>
     }
 }
 
-/// The line of `list` for a contribution: name, revision, and the text's length in bytes with its digest, or that it is
-/// withdrawn.
+/// The line of `list` for a contribution, without its line feed: name, revision, and the text's length in bytes with its
+/// digest, or that it is withdrawn.
 pub fn list_line(alloc: Global, contribution: &Contribution) -> Result<String, AllocError>
     ensures { IfOk result (λ line. string_bytes line ≡ list_line (member contribution.now)) }
 {
@@ -137,7 +138,7 @@ pub fn list_line(alloc: Global, contribution: &Contribution) -> Result<String, A
     }
 }
 
-/// The line of a fault on standard error. Want of memory inside any fault is the line `Memory`.
+/// The line of a fault on standard error, without its line feed. Want of memory inside any fault is the line `Memory`.
 pub fn fault_line(alloc: Global, fault: &ProgramFault) -> Result<String, AllocError>
     ensures { IfOk result (λ line. string_bytes line ≡ fault_line fault.now) }
 {

@@ -1,13 +1,25 @@
 //! Laws over the definitions that the contracts cite. Each function does nothing: what it ensures is the law.
-ghost use Rattle.std.specs.Prelude.{◌≡◌, ◌≢◌, ◌↔◌, ◌++◌, Bool, List, ℕ};
+ghost use Rattle.std.specs.Prelude.{◌≡◌, ◌≢◌, ◌↔◌, ◌⊎◌, ◌||◌, ◌++◌, Bool, true, List, ℕ};
+ghost use Rattle.std.specs.List.{Contains};
 ghost use Rattle.rn_modset.specs.declared.faults.BundleFault.{BundleFault};
 ghost use Rattle.rn_modset.specs.declared.faults.BundleFault.TheVariants.{Memory};
 ghost use Rattle.rn_modset.specs.Contributions.{Member};
-ghost use Rattle.rn_modset.specs.Sets.{IsSet};
+ghost use Rattle.rn_modset.specs.Sets.{IsSet, Rises, has, with_member, union};
 ghost use Rattle.rn_modset.specs.Grammar.{IsBundle};
 ghost use Rattle.rn_modset.specs.Bundles.{bundle};
 ghost use Rattle.rn_modset.specs.Faults.{IsFront, IsFaultBehind, HasFault};
 ghost use Rattle.rn_modset.specs.Laws.{AreUnionLaws, AreCallLaws};
+
+/// A set holds its members. With a contribution it holds that one too, and a union holds what one of both sets holds.
+/// Members stay in their order, each once.
+pub fn unions_hold_the_members_of_both()
+    ensures members { (s : List Member) (m : Member) → (has s m ≡ true) ↔ Contains s m }
+    ensures with_one { (s : List Member) (m q : Member) → Contains (with_member s m) q ↔ ((q ≡ m) ⊎ Contains s q) }
+    ensures of_both { (s t : List Member) (q : Member) → Contains (union s t) q ↔ (Contains s q ⊎ Contains t q) }
+    ensures tests { (s t : List Member) (q : Member) → has (union s t) q ≡ (has s q || has t q) }
+    ensures one_rises { (s : List Member) (m : Member) → Rises s → Rises (with_member s m) }
+    ensures both_rise { (s t : List Member) → Rises s → Rises (union s t) }
+{}
 
 /// The union of sets is commutative, associative and idempotent, and the empty set changes nothing.
 pub fn union_joins()
@@ -37,7 +49,12 @@ pub fn sets_have_one_bundle()
     ensures one { (a b : List ℕ) (s : List Member) → IsBundle a s → IsBundle b s → a ≡ b }
 {}
 
-/// Bytes have one fault, want of memory aside.
+/// Bytes are the bundle of a set, or they have a fault, want of memory aside.
+pub fn bytes_are_a_bundle_or_have_a_fault()
+    ensures { (bytes : List ℕ) → ((s : List Member) × IsBundle bytes s) ⊎ ((fault : BundleFault) × HasFault bytes fault × (fault ≢ Memory)) }
+{}
+
+/// Bytes have at most one fault, want of memory aside.
 pub fn bytes_have_one_fault()
     ensures { (bytes : List ℕ) (fault other : BundleFault) → HasFault bytes fault → HasFault bytes other → fault ≢ Memory → other ≢ Memory → fault ≡ other }
 {}

@@ -14,12 +14,14 @@ pub mod NamesKept
 pub mod TotalOrder
 pub mod Ascending
 pub mod Sorting
+pub mod Within
 pub mod CanonicalKeeps
 pub mod Validity
 pub mod Pruned
 pub mod Replacing
 pub mod Alike
 pub mod CanonicalForm
+pub mod ListsWithin
 pub mod Settled
 pub mod Ranked
 pub mod Constructors

@@ -7,6 +7,7 @@ ghost use Rattle.rn_pattern.specs.Nodes.{NameEarlier, NameEarlier-prop, trees_of
 use crate::node::{Node, NodeId};
 use crate::node_table::NodeTable;
 use crate::patterns::Patterns;
+use crate::seed::Seed;
 use crate::store::NodeStore;
 use indexmap::IndexSet;
 use std::alloc::{AllocError, Global};
@@ -15,19 +16,26 @@ use std::alloc::{AllocError, Global};
 #[derive(Drop)]
 pub struct Interned {
     alloc: Global,
-    nodes: IndexSet<Node<NodeId>>,
+    nodes: IndexSet<Node<NodeId>, Seed>,
     ghost earlier: { NameEarlier 0 nodes.keys } by { NameEarlier-prop 0 nodes.keys },
     ghost distinct: { IsDistinct node_eq nodes.keys } by { IsDistinct-prop node_eq nodes.keys },
 }
 
 impl Interned {
-    /// A store without ids. It takes no memory.
+    /// A store without ids, for patterns that nobody writes in order to make their hashes equal. It takes no memory.
     pub fn new(alloc: Global) -> Interned
+        ensures { ⟦<Interned as Patterns>⟧.size result ≡ 0 }
+    {
+        Interned::with_seed(alloc, Seed::of(b""))
+    }
+
+    /// A store without ids that hashes by the seed. It takes no memory.
+    pub fn with_seed(alloc: Global, seed: Seed) -> Interned
         ensures { ⟦<Interned as Patterns>⟧.size result ≡ 0 }
     {
         Interned {
             alloc,
-            nodes: IndexSet::new(alloc),
+            nodes: IndexSet::with_hasher(alloc, seed),
         }
     }
 

@@ -26,6 +26,7 @@ mod parts;
 pub mod patterns;
 pub mod plain;
 pub mod ranks;
+pub mod seed;
 mod store;
 pub mod tree;
 
@@ -33,6 +34,7 @@ pub use interned::Interned;
 pub use node::{Node, NodeId};
 pub use patterns::Patterns;
 pub use plain::Plain;
+pub use seed::Seed;
 pub use tree::{NameClass, Pattern};
 
 pub mod examples;

@@ -19,6 +19,10 @@ pub record HasNoFault (m : Module) : Type 0 where
   pub context : first (context_places m) ≡ None
   pub except : first (except_places m) ≡ None
 
+-- the tokens are this module, no bracket of theirs is too many, and no fault stands
+abbrev pub IsSound : List Token → Module → Type 0
+IsSound xs m = (deep 0 (terminals (map lexeme_of xs)) ≡ None) × HasTree (terminals (map lexeme_of xs)) m × HasNoFault m
+
 -- this one stands, and none of those that are looked for before it
 abbrev pub HasFault : Module → SyntaxFault → Type 0
 HasFault m (Prefix at) = first (prefix_places m) ≡ Some at

@@ -2,14 +2,16 @@
 ghost use Rattle.std.specs.Prelude.{◌≡◌, ◌++◌, ◌∷◌, [], ℕ, List, Option, Some, None, is_some, MatchOption, false, map, IfOk, option_map, drop, take, codes, ◌||◌, if◌then◌else◌};
 ghost use Rattle.std.specs.Str.{bytes_eq};
 ghost use Rattle.std.specs.Cow.{cow_str_bytes};
-ghost use Rattle.std.specs.HashMap as hash;
+ghost use Rattle.std.specs.BTreeMap as tree;
+ghost use Rattle.std.specs.Cmp.Lexicographic.{slice_cmp};
+ghost use Rattle.std.specs.Ordering.{nat_cmp};
 ghost use Rattle.rn_syntax.specs.Places as places;
 ghost use Rattle.rn_syntax.specs.Places.{first};
 ghost use Rattle.rn_syntax.specs.View.{declaration_view, uri_view};
 
 use crate::tree::{Declaration, Prefix, Uri};
 use std::alloc::{AllocError, Global};
-use std::collections::HashMap;
+use std::collections::BTreeMap;
 
 /// The namespace of prefix `xml`.
 const XML: &str = "http://www.w3.org/XML/1998/namespace";
@@ -22,11 +24,11 @@ const XML_SCHEMA: &str = "http://www.w3.org/2001/XMLSchema-datatypes";
 pub(crate) struct Bindings<'m, 'a> {
     pub declarations: &'m [Declaration<'a>],
     default: bool,
-    namespaces: HashMap<&'m str, ()>,
-    libraries: HashMap<&'m str, &'m str>,
+    namespaces: BTreeMap<&'m str, ()>,
+    libraries: BTreeMap<&'m str, &'m str>,
     ghost default_is: { default ≡ places.has_default (map declaration_view declarations.now) },
-    ghost namespaces_are: { (p : List ℕ) → is_some (hash.get_by (λ k. bytes_eq p k.now) namespaces) ≡ is_some (places.declared_namespace (map declaration_view declarations.now) p) },
-    ghost libraries_are: { (p : List ℕ) → option_map (λ v. v.now) (hash.get_by (λ k. bytes_eq p k.now) libraries) ≡ places.declared_library (map declaration_view declarations.now) p },
+    ghost namespaces_are: { (p : List ℕ) → is_some (tree.get_by (λ k. slice_cmp nat_cmp p k.now) namespaces) ≡ is_some (places.declared_namespace (map declaration_view declarations.now) p) },
+    ghost libraries_are: { (p : List ℕ) → option_map (λ v. v.now) (tree.get_by (λ k. slice_cmp nat_cmp p k.now) libraries) ≡ places.declared_library (map declaration_view declarations.now) p },
 }
 
 impl<'m, 'a> Bindings<'m, 'a> {
@@ -37,8 +39,8 @@ impl<'m, 'a> Bindings<'m, 'a> {
         Bindings {
             declarations: &[],
             default: false,
-            namespaces: HashMap::new(alloc),
-            libraries: HashMap::new(alloc),
+            namespaces: BTreeMap::new(alloc),
+            libraries: BTreeMap::new(alloc),
         }
     }
 
@@ -179,10 +181,10 @@ fn namespace_prefix<'m>(declaration: &Declaration<'m>) -> Option<&'m str>
 
 /// The namespace prefixes with what a declaration binds.
 fn with_namespace<'m>(
-    mut namespaces: HashMap<&'m str, ()>,
+    mut namespaces: BTreeMap<&'m str, ()>,
     declaration: &Declaration<'m>,
-) -> Result<HashMap<&'m str, ()>, AllocError>
-    ensures { IfOk result (λ m. (p : List ℕ) → is_some (hash.get_by (λ k. bytes_eq p k.now) m) ≡ (is_some (hash.get_by (λ k. bytes_eq p k.now) namespaces.entry) || is_some (places.declared_namespace (declaration_view declaration.now ∷ []) p))) }
+) -> Result<BTreeMap<&'m str, ()>, AllocError>
+    ensures { IfOk result (λ m. (p : List ℕ) → is_some (tree.get_by (λ k. slice_cmp nat_cmp p k.now) m) ≡ (is_some (tree.get_by (λ k. slice_cmp nat_cmp p k.now) namespaces.entry) || is_some (places.declared_namespace (declaration_view declaration.now ∷ []) p))) }
 {
     let Some(prefix) = namespace_prefix(declaration) else {
         return Ok(namespaces);
@@ -193,10 +195,10 @@ fn with_namespace<'m>(
 
 /// The datatype prefixes with what a declaration binds, where it was not bound.
 fn with_library<'m>(
-    mut libraries: HashMap<&'m str, &'m str>,
+    mut libraries: BTreeMap<&'m str, &'m str>,
     declaration: &'m Declaration<'_>,
-) -> Result<HashMap<&'m str, &'m str>, AllocError>
-    ensures { IfOk result (λ m. (p : List ℕ) → option_map (λ v. v.now) (hash.get_by (λ k. bytes_eq p k.now) m) ≡ (if is_some (hash.get_by (λ k. bytes_eq p k.now) libraries.entry) then option_map (λ v. v.now) (hash.get_by (λ k. bytes_eq p k.now) libraries.entry) else places.declared_library (declaration_view declaration.now ∷ []) p)) }
+) -> Result<BTreeMap<&'m str, &'m str>, AllocError>
+    ensures { IfOk result (λ m. (p : List ℕ) → option_map (λ v. v.now) (tree.get_by (λ k. slice_cmp nat_cmp p k.now) m) ≡ (if is_some (tree.get_by (λ k. slice_cmp nat_cmp p k.now) libraries.entry) then option_map (λ v. v.now) (tree.get_by (λ k. slice_cmp nat_cmp p k.now) libraries.entry) else places.declared_library (declaration_view declaration.now ∷ []) p)) }
 {
     let Declaration::Datatypes(prefix, uri) = declaration else {
         return Ok(libraries);

@@ -9,7 +9,7 @@ ghost use Rattle.rn_syntax.specs.View.{declaration_view, place_view, prefix_view
 
 use crate::fault::Fault;
 use crate::literals::literal;
-use crate::terminals::{Terminal, equals, is_keyword, next, place, word};
+use crate::terminals::{Terminal, equals, is_keyword, keyword_text, next, place, word};
 use crate::token::Keyword;
 use crate::tree::{Declaration, Prefix, Uri};
 use rn_text::Token;
@@ -131,7 +131,7 @@ fn default_prefix<'a>(tokens: &[Token<'a>], at: usize) -> Result<(Option<Prefix<
         }
         Terminal::Keyword(keyword) => {
             let prefix = Prefix {
-                name: keyword.spelling(),
+                name: keyword_text(tokens, at, keyword),
                 at: place(tokens, at),
             };
             Ok((Some(prefix), at + 1))

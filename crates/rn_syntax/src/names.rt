@@ -10,7 +10,7 @@ ghost use Rattle.rn_syntax.specs.View.{any_view, boxed_class_view, class_view, c
 use crate::annotations::{skip_annotation, skip_follows};
 use crate::boxes::boxed;
 use crate::fault::Fault;
-use crate::terminals::{Terminal, is_operator, next, place, right_paren};
+use crate::terminals::{Terminal, is_operator, keyword_text, next, place, right_paren};
 use crate::token::{Operator, Postfix};
 use crate::tree::{AnyName, Name, Nc, Prefix};
 use rn_text::Token;
@@ -186,7 +186,10 @@ fn class_core<'a>(
 {
     match next(tokens, at) {
         Terminal::Ident(name) => one(alloc, Name::Local(name), at + 1),
-        Terminal::Keyword(keyword) => one(alloc, Name::Local(keyword.spelling()), at + 1),
+        Terminal::Keyword(keyword) => {
+            let name = keyword_text(tokens, at, keyword);
+            one(alloc, Name::Local(name), at + 1)
+        }
         Terminal::Prefixed(name, local) => {
             let prefix = Prefix {
                 name,

@@ -180,6 +180,22 @@ pub(crate) fn place(tokens: &[Token<'_>], at: usize) -> usize
     }
 }
 
+/// The text of a token.
+fn text_of<'a>(token: &Token<'a>) -> &'a str
+    ensures { result.now ≡ token.now.text.now }
+{
+    token.text
+}
+
+/// The word that spells the keyword at this index: a slice of the source.
+pub(crate) fn keyword_text<'a>(tokens: &[Token<'a>], at: usize, keyword: Keyword) -> &'a str
+    requires inside { at < length tokens.now }
+    requires is { first (rest tokens.now at) ≡ terminal.keyword keyword }
+    ensures { result.now ≡ terminal.spelling keyword }
+{
+    text_of(&tokens[at])
+}
+
 /// `word = ident | keyword`
 pub(crate) fn word<'a>(tokens: &[Token<'a>], at: usize) -> Result<&'a str, Fault>
     ensures inside { IfOk result (λ _. at < length tokens.now) }
@@ -187,7 +203,7 @@ pub(crate) fn word<'a>(tokens: &[Token<'a>], at: usize) -> Result<&'a str, Fault
 {
     match next(tokens, at) {
         Terminal::Ident(name) => Ok(name),
-        Terminal::Keyword(keyword) => Ok(keyword.spelling()),
+        Terminal::Keyword(keyword) => Ok(keyword_text(tokens, at, keyword)),
         _ => Err(Fault::Stuck(at)),
     }
 }

@@ -3,7 +3,7 @@
 use crate::token::{Method, Operator, Postfix};
 use std::borrow::CowStr;
 
-/// A prefix, and its place.
+/// A prefix, and its place: the byte of the source at which its token begins.
 #[derive(Clone, Copy, Debug)]
 pub struct Prefix<'a> {
     pub name: &'a str,
@@ -33,7 +33,7 @@ pub enum Nc<'a> {
     Choice(Vec<Nc<'a>>),
 }
 
-/// The name of a datatype; `string` and `token` with their places.
+/// The name of a datatype; `string` and `token` with the bytes of the source at which they begin.
 #[derive(Clone, Copy, Debug)]
 pub enum Datatype<'a> {
     String(usize),
@@ -61,7 +61,7 @@ pub enum Pat<'a> {
     Ref(&'a str),
     Value(Option<Datatype<'a>>, CowStr<'a>),
     Datum(Datatype<'a>, Vec<Param<'a>>),
-    /// The number is the place of the `-`.
+    /// The number is the byte of the source at which the `-` begins.
     DatumBut(Datatype<'a>, Vec<Param<'a>>, usize, Box<Pat<'a>>),
     Repeated(Postfix, Box<Pat<'a>>),
     Chain(Operator, Vec<Pat<'a>>),
@@ -74,7 +74,7 @@ pub enum Uri<'a> {
     Inherited,
 }
 
-/// A declaration. A default one has the place of its `default`.
+/// A declaration. A default one has the byte of the source at which its `default` begins.
 #[derive(Drop)]
 pub enum Declaration<'a> {
     Namespace(Prefix<'a>, Uri<'a>),

@@ -1,17 +1,27 @@
 // Laws of tokens and literals. The functions have no bodies: their contracts are what is proved.
-ghost use Rattle.std.specs.Prelude.{◌≡◌, ◌++◌, ℕ, List, true};
+ghost use Rattle.std.specs.Prelude.{◌≡◌, ◌≢◌, ◌⊎◌, ◌++◌, ℕ, List, true};
 ghost use Rattle.std.specs.List.{AllByRecursion, list_all};
 ghost use Rattle.std.specs.Str.{chars, IsUtf8, IsValidUpTo};
 ghost use Rattle.rn_text.specs.Characters.{is_xml_char};
 ghost use Rattle.rn_text.specs.Literals.{literal_bytes, literal_of};
 ghost use Rattle.rn_text.specs.Parts.{IsFirstPart, IsSpelled, ends_token, spells};
-ghost use Rattle.rn_text.specs.Tokens.{HasTokens, IsLexicalPlace, Lexeme, SegmentsHaveText, StandInOrder};
+ghost use Rattle.rn_text.specs.Tokens.{HasFault, HasTokens, IsLexicalPlace, Lexeme, SegmentsHaveText, StandInOrder};
 
 use crate::parts::{Kind, Part};
+use crate::source::TextFault;
 
-/// A source is not UTF-8 from one place on, or its text has one token list, or the text is faulty at
-/// one place.
+/// A source has tokens, or it has a fault, want of memory aside. It never has both, nor two faults.
+pub fn sources_have_tokens_or_one_fault()
+    ensures some { (src : List ℕ) → ((tokens : List Lexeme) × IsUtf8 src × HasTokens (chars src) tokens) ⊎ ((fault : TextFault) × HasFault src fault × (fault ≢ TextFault.Memory)) }
+    ensures not_both { (src : List ℕ) (tokens : List Lexeme) (fault : TextFault) → IsUtf8 src → HasTokens (chars src) tokens → HasFault src fault → fault ≡ TextFault.Memory }
+    ensures one { (src : List ℕ) (fault other : TextFault) → HasFault src fault → HasFault src other → fault ≢ TextFault.Memory → other ≢ TextFault.Memory → fault ≡ other }
+{}
+
+/// The text of a source has one token list, or it is faulty at one place, and never both. A source that is not UTF-8 stops
+/// being so at one place.
 pub fn one_token_list()
+    ensures some { (cs : List ℕ) → ((tokens : List Lexeme) × HasTokens cs tokens) ⊎ ((place : ℕ) × IsLexicalPlace cs place) }
+    ensures some_front { (src : List ℕ) → IsUtf8 src ⊎ ((¬ IsUtf8 src) × ((place : ℕ) × IsValidUpTo src place)) }
     ensures one { (cs : List ℕ) (first second : List Lexeme) → HasTokens cs first → HasTokens cs second → first ≡ second }
     ensures or_place { (cs : List ℕ) (tokens : List Lexeme) (place : ℕ) → HasTokens cs tokens → ¬ (IsLexicalPlace cs place) }
     ensures one_place { (cs : List ℕ) (first second : ℕ) → IsLexicalPlace cs first → IsLexicalPlace cs second → first ≡ second }

@@ -12,7 +12,7 @@ returns-in-Ident-clause-reads c = λ s. let n = c.in-Ident.ensures.next in of_to
 pub returns-in-Keyword-clause-reads : goal.returns-in-Keyword-clause-reads
 returns-in-Keyword-clause-reads c = λ s.
     let n = c.in-Keyword.ensures.next in
-    let w = subst (λ x. IsWord (keyword c.in-Keyword.keyword) x) (sym c.spelling.ensures) by_keyword in
+    let w = subst (λ x. IsWord (keyword c.in-Keyword.keyword) x) (sym c.keyword_text.ensures) by_keyword in
     of_took (λ b p. word_at_one w p) n.1 (word_at w)
 
 pub returns-in_default-clause-reads : goal.returns-in_default-clause-reads
