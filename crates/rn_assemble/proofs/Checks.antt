@@ -10,16 +10,16 @@ use Rattle.rn_pattern.specs.Tree.{Text}
 use Rattle.rn_pattern.specs.Order.{text_cmp}
 use Rattle.rn_assemble.specs.declared.components.Components.{Components}
 use Rattle.rn_assemble.specs.declared.components.Lack.{Lack}
-use Rattle.rn_assemble.specs.declared.grammar.Grammar as code_grammar
+use Rattle.rn_assemble.specs.declared.definitions.Joined.{Joined}
 use Rattle.rn_assemble.specs.declared.modules.Source as code_source
 use Rattle.rn_assemble.specs.declared.refusal.Refusal as code
 use Rattle.rn_assemble.specs.Checked.{AreExpanded, IsGrammarOf}
 use Rattle.rn_assemble.specs.Components.{Component, Key, Source, components, has_key, roots, set_components, start_key}
 use Rattle.rn_assemble.specs.Contained.{AreFlat}
 use Rattle.rn_assemble.specs.Expanded.{IsListed, name_at}
-use Rattle.rn_assemble.specs.GrammarView.{grammar_view}
+use Rattle.rn_assemble.specs.JoinedView.{joined_view}
 use Rattle.rn_assemble.specs.Included.{AreIncluded}
-use Rattle.rn_assemble.specs.Joining.{IsJoinedGrammar, IsMisnamed}
+use Rattle.rn_assemble.specs.Joining.{HasStart, IsJoinedGrammar, IsMisnamed}
 use Rattle.rn_assemble.specs.Keyed.{AreNames, key_at}
 use Rattle.rn_assemble.specs.Lacking.{IsLeastLack, LacksFrom}
 use Rattle.rn_assemble.specs.Least.{IsLeast, key_cmp}
@@ -86,12 +86,16 @@ module _ (modules : List Source) (names : List Text) (x : Components) (h : AreEx
       pub passed_methods : NoneBelow modules 9
       passed_methods = none_combined modules passed_overrides can
 
+      -- one component is of the start
+      pub has_start : HasStart names x
+      has_start = (h.listed.0, h.listed.1, h.in_order, ap (has_key start_key) h.listed.2 ∙ can.start)
+
       module _ (sound : HasSoundReferences (set_components modules)) where
         passed_references : NoneBelow modules 11
         passed_references = none_sound modules passed_methods sound
 
-        pub joined_or_first : (r : Result code_grammar.Grammar code.Refusal)
+        pub joined_or_first : (r : Result Joined code.Refusal)
             → ((live : List Live) → Lists names x live → IsStrictlySortedBy text_cmp names → has_key start_key (components_in live) ≡ true → MatchResult r (IsJoinedGrammar (components_in live)) (IsMisnamed (components_in live)))
-            → MatchResult r (λ g. IsGrammarOf modules (grammar_view g)) (IsFirstOfModules modules)
+            → MatchResult r (λ g. IsGrammarOf modules (joined_view g)) (IsFirstOfModules modules)
         joined_or_first r f =
             MatchResult-weaker r (at_set (λ cs. has_key start_key cs ≡ true → MatchResult r (IsJoinedGrammar cs) (IsMisnamed cs)) f can.start) (joined_grammar_of modules passed_references) (misnamed_first modules passed_references)

@@ -4,13 +4,13 @@ use Rattle.std.specs.Prelude.{true}
 use Rattle.std.proofs.lemmas.Bool.{false≢true}
 use Rattle.rn_pattern.specs.Tree.{Text}
 use Rattle.rn_pattern.specs.References.{IsUndefined, IsRecursive}
-use Rattle.rn_assemble.specs.declared.grammar.Grammar as code_grammar
+use Rattle.rn_assemble.specs.declared.definitions.Joined.{Joined}
 use Rattle.rn_assemble.specs.declared.refusal.Refusal as code
 use Rattle.rn_assemble.specs.declared.refusal.Refusal.TheVariants as r
 use Rattle.rn_assemble.specs.Checked.{IsGrammarOf, IsLacking}
 use Rattle.rn_assemble.specs.Combine.{IsMixed, IsPlainTwice}
 use Rattle.rn_assemble.specs.Components.{Key, Source, has_key, set_components, start_key}
-use Rattle.rn_assemble.specs.GrammarView.{grammar_view}
+use Rattle.rn_assemble.specs.JoinedView.{joined_view}
 use Rattle.rn_assemble.specs.Included.{AreIncluded}
 use Rattle.rn_assemble.specs.Joining.{IsJoinedGrammar, IsMisnamed}
 use Rattle.rn_assemble.specs.Methods.{CanCombine, IsUncombined}
@@ -88,9 +88,9 @@ module _ (modules : List Source) where
   misnamed_first n r.Memory h = refl
   misnamed_first n q h = absurd h
 
-  unrefused : NoneBelow 11 → (g : code_grammar.Grammar) → IsJoinedGrammar (set_components modules) g → (q : Refusal) → StandsFor modules q → ⊥
+  unrefused : NoneBelow 11 → (g : Joined) → IsJoinedGrammar (set_components modules) g → (q : Refusal) → StandsFor modules q → ⊥
   unrefused n g j (name_class k) h = j.keeps k h.holds
   unrefused n g j q h = n q (omega arith) h
 
-  pub joined_grammar_of : NoneBelow 11 → (g : code_grammar.Grammar) → IsJoinedGrammar (set_components modules) g → IsGrammarOf modules (grammar_view g)
+  pub joined_grammar_of : NoneBelow 11 → (g : Joined) → IsJoinedGrammar (set_components modules) g → IsGrammarOf modules (joined_view g)
   joined_grammar_of n g j = (unrefused n g j, j.is)

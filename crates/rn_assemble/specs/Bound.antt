@@ -1,6 +1,8 @@
 -- What the bindings of a module stand for (compact syntax, section 2: namespace and datatypes declarations).
-use Rattle.std.specs.Prelude.{◌≡◌, List, [], ◌∷◌, Option, Some, None, option_map, bytes_eq}
-use Rattle.std.specs.HashMap.{get_by}
+use Rattle.std.specs.Prelude.{◌≡◌, List, [], ◌∷◌, Option, Some, None, option_map}
+use Rattle.std.specs.BTreeMap.{get_by}
+use Rattle.std.specs.Cmp.Lexicographic.{slice_cmp}
+use Rattle.std.specs.Ordering.{nat_cmp}
 use Rattle.rn_pattern.specs.Tree.{Text}
 use Rattle.rn_syntax.specs.Tree as t
 use Rattle.rn_syntax.specs.Tree.{Uri, Declaration}
@@ -25,10 +27,10 @@ abbrev pub bound_default : Bindings → Option Uri
 bound_default b = option_map bound_uri b.default
 
 abbrev pub bound_namespace : Bindings → Text → Option Uri
-bound_namespace b p = option_map bound_uri (get_by (λ k. bytes_eq p k.now) b.namespaces)
+bound_namespace b p = option_map bound_uri (get_by (λ k. slice_cmp nat_cmp p k.now) b.namespaces)
 
 abbrev pub bound_library : Bindings → Text → Option Text
-bound_library b p = option_map (λ s. s.now) (get_by (λ k. bytes_eq p k.now) b.libraries)
+bound_library b p = option_map (λ s. s.now) (get_by (λ k. slice_cmp nat_cmp p k.now) b.libraries)
 
 -- the default namespace, each prefix and each datatype prefix are bound as the declarations bind them
 pub record BindsAs (b : Bindings) (ds : List Declaration) : Type 0 where

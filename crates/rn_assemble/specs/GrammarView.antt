@@ -1,14 +1,8 @@
 -- The grammar that a `Grammar` stands for: the trees of its patterns, by their names.
-use Rattle.std.specs.Prelude.{List, map, String, string_bytes}
-use Rattle.std.specs.declared.alloc.Global.{Global}
-use Rattle.rn_pattern.specs.Tree.{Text, Tree}
 use Rattle.rn_pattern.specs.Matching.{Grammar}
-use Rattle.rn_pattern.specs.View.{pattern_view}
-use Rattle.rn_pattern.specs.declared.tree.Pattern.{Pattern}
 use Rattle.rn_assemble.specs.declared.grammar.Grammar as code
-
-abbrev pub definitions_view : List (String Global × Pattern) → List (Text × Tree)
-definitions_view ds = map (λ d. (string_bytes d.0, pattern_view d.1)) ds
+use Rattle.rn_assemble.specs.JoinedView.{joined_view}
+pub use Rattle.rn_assemble.specs.JoinedView.{definitions_view}
 
 abbrev pub grammar_view : code.Grammar → Grammar
-grammar_view g = record { start = pattern_view g.start; definitions = definitions_view g.defs.entries }
+grammar_view g = joined_view g.joined

@@ -1,18 +1,27 @@
 -- The grammar that components are joined to, and what stands against it (RELAX NG 4.16, 4.17).
-use Rattle.std.specs.Prelude.{◌≡◌, List, ⊤}
-use Rattle.rn_assemble.specs.declared.grammar.Grammar as code
+use Rattle.std.specs.Prelude.{◌≡◌, true, List, ⊤}
+use Rattle.std.specs.List.Sorted.{IsStrictlySortedBy}
+use Rattle.rn_pattern.specs.Order.{text_cmp}
+use Rattle.rn_pattern.specs.Tree.{Text}
+use Rattle.rn_assemble.specs.declared.components.Components.{Components}
+use Rattle.rn_assemble.specs.declared.definitions.Joined.{Joined}
 use Rattle.rn_assemble.specs.declared.refusal.Refusal.{Refusal}
 use Rattle.rn_assemble.specs.declared.refusal.Refusal.TheVariants as r
-use Rattle.rn_assemble.specs.Components.{Key, Component}
+use Rattle.rn_assemble.specs.Components.{Key, Component, has_key, start_key}
 use Rattle.rn_assemble.specs.Combine.{joined_grammar}
-use Rattle.rn_assemble.specs.GrammarView.{grammar_view}
+use Rattle.rn_assemble.specs.JoinedView.{joined_view}
 use Rattle.rn_assemble.specs.Least.{IsLeast, key_cmp}
+use Rattle.rn_assemble.specs.Listed.{Live, Lists, components_in}
 use Rattle.rn_assemble.specs.Refusal.{BreaksNameRules}
 use Rattle.rn_assemble.specs.Views.{key_view}
 
+-- the components are listed by the numbers of these names, and one of them is of the start
+abbrev pub HasStart : List Text → Components → Type 0
+HasStart names x = (live : List Live) × Lists names x live × IsStrictlySortedBy text_cmp names × (has_key start_key (components_in live) ≡ true)
+
 -- the components' grammar, in which no key breaks the restrictions on name classes
-pub record IsJoinedGrammar (cs : List Component) (g : code.Grammar) : Type 0 where
-  pub is : grammar_view g ≡ joined_grammar cs
+pub record IsJoinedGrammar (cs : List Component) (g : Joined) : Type 0 where
+  pub is : joined_view g ≡ joined_grammar cs
   pub keeps : (k : Key) → ¬ BreaksNameRules cs k
 
 -- the least key that breaks the restrictions on name classes, or want of memory

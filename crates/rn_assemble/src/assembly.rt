@@ -8,6 +8,7 @@ ghost use Rattle.rn_assemble.specs.Checked.{AreExpanded, IsGrammarOf, IsLacking}
 ghost use Rattle.rn_assemble.specs.Components as specs;
 ghost use Rattle.rn_assemble.specs.Contained.{AreFlat};
 ghost use Rattle.rn_assemble.specs.GrammarView.{grammar_view};
+ghost use Rattle.rn_assemble.specs.JoinedView.{joined_view};
 ghost use Rattle.rn_assemble.specs.Lacking.{IsLeastLack};
 ghost use Rattle.rn_assemble.specs.Listed.{Lists, Live, components_in};
 ghost use Rattle.rn_assemble.specs.Methods.{CanCombine, IsUncombined};
@@ -18,7 +19,7 @@ ghost use Rattle.rn_assemble.specs.Views.{module_names, names_of, sources_view};
 
 use crate::components::{Components, Lack, components_of};
 use crate::contents::contents_of;
-use crate::definitions::grammar;
+use crate::definitions::{Joined, grammar};
 use crate::grammar::Grammar;
 use crate::inclusion::included_roots;
 use crate::keys::{Keys, START};
@@ -36,14 +37,15 @@ pub fn assemble(alloc: Global, set: &ModuleSet) -> Result<Grammar, Refusal>
     ensures { MatchResult result (λ g. IsAssembled set.now (grammar_view g)) (IsFirstRefusal set.now) }
 {
     let sources = sources(alloc, set)?;
-    assembled(alloc, sources.as_slice())
+    let joined = assembled(alloc, sources.as_slice())?;
+    Ok(Grammar { joined })
 }
 
 /// The grammar of the modules, or the first refusal that stands for them.
-fn assembled<'s>(alloc: Global, sources: &[Source<'s>]) -> Result<Grammar, Refusal>
+fn assembled<'s>(alloc: Global, sources: &[Source<'s>]) -> Result<Joined, Refusal>
     requires in_order { IsStrictlySortedBy text_cmp (module_names sources.now) }
     requires flat { AllByRecursion (λ (m : specs.Source). AreFlat m.tree.items) (sources_view sources.now) }
-    ensures { MatchResult result (λ g. IsGrammarOf (sources_view sources.now) (grammar_view g)) (IsFirstOfModules (sources_view sources.now)) }
+    ensures { MatchResult result (λ g. IsGrammarOf (sources_view sources.now) (joined_view g)) (IsFirstOfModules (sources_view sources.now)) }
 {
     let roots = included_roots(alloc, sources)?;
     let keys = Keys::new(alloc, sources)?;
@@ -58,9 +60,9 @@ fn joined<'s>(
     sources: &[Source<'_>],
     keys: &Keys<'s>,
     components: &Components<'_, '_, 's>,
-) -> Result<Grammar, Refusal>
+) -> Result<Joined, Refusal>
     requires { AreExpanded (sources_view sources.now) (names_of keys.now) components.now }
-    ensures { MatchResult result (λ g. IsGrammarOf (sources_view sources.now) (grammar_view g)) (IsFirstOfModules (sources_view sources.now)) }
+    ensures { MatchResult result (λ g. IsGrammarOf (sources_view sources.now) (joined_view g)) (IsFirstOfModules (sources_view sources.now)) }
 {
     check_overrides(alloc, sources, keys, components.lack)?;
     check_methods(alloc, keys, components)?;

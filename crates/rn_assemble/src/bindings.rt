@@ -13,7 +13,7 @@ ghost use Rattle.rn_assemble.specs.Resolve.{default_of, namespace_of, uri_text};
 
 use rn_syntax::{Declaration, Prefix, Uri};
 use std::alloc::{AllocError, Global};
-use std::collections::HashMap;
+use std::collections::BTreeMap;
 
 /// The namespace that `xml` is bound to without declaration.
 const XML_URI: &str = "http://www.w3.org/XML/1998/namespace";
@@ -31,8 +31,8 @@ enum Namespace<'t> {
 #[derive(Drop)]
 pub(crate) struct Bindings<'t> {
     default: Option<Namespace<'t>>,
-    namespaces: HashMap<&'t str, Namespace<'t>>,
-    libraries: HashMap<&'t str, &'t str>,
+    namespaces: BTreeMap<&'t str, Namespace<'t>>,
+    libraries: BTreeMap<&'t str, &'t str>,
 }
 
 impl<'t> Bindings<'t> {
@@ -45,8 +45,8 @@ impl<'t> Bindings<'t> {
     {
         let mut bindings = Bindings {
             default: None,
-            namespaces: HashMap::new(alloc),
-            libraries: HashMap::new(alloc),
+            namespaces: BTreeMap::new(alloc),
+            libraries: BTreeMap::new(alloc),
         };
         for declaration in declarations {
             bindings.declare(declaration)?;

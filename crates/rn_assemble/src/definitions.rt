@@ -6,36 +6,41 @@ ghost use Rattle.rn_pattern.specs.Order.{text_cmp};
 ghost use Rattle.rn_pattern.specs.Tree.{Text, Tree};
 ghost use Rattle.rn_assemble.specs.Combine.{joined_grammar};
 ghost use Rattle.rn_assemble.specs.Components.{has_key, start_key};
-ghost use Rattle.rn_assemble.specs.GrammarView.{definitions_view};
-ghost use Rattle.rn_assemble.specs.Joining.{IsJoinedGrammar, IsMisnamed};
+ghost use Rattle.rn_assemble.specs.JoinedView.{definitions_view};
+ghost use Rattle.rn_assemble.specs.Joining.{HasStart, IsJoinedGrammar, IsMisnamed};
 ghost use Rattle.rn_assemble.specs.Listed.{Lists, Live, components_in};
 ghost use Rattle.rn_assemble.specs.Patterns.{HavePatterns, IsFirstAt, boxed_view};
 ghost use Rattle.rn_assemble.specs.Views.{names_of};
 
 use crate::combining::combined;
 use crate::components::Components;
-use crate::grammar::Grammar;
 use crate::keys::{Keys, START};
 use crate::refusal::Refusal;
 use indexmap::IndexMap;
 use rn_pattern::Pattern;
 use std::alloc::{AllocError, Global};
 
+/// The grammar to which components are joined.
+#[derive(Drop)]
+pub(crate) struct Joined {
+    pub start: Pattern,
+    pub defs: IndexMap<String, Pattern>,
+}
+
 /// The combined patterns, those of names in the order of each one's first component.
 pub(crate) fn grammar(
     alloc: Global,
     keys: &Keys<'_>,
     components: &Components<'_, '_, '_>,
-) -> Result<Grammar, Refusal>
+) -> Result<Joined, Refusal>
+    requires { HasStart (names_of keys.now) components.now }
     ensures { (live : List Live) → Lists (names_of keys.now) components.now live → IsStrictlySortedBy text_cmp (names_of keys.now) → has_key start_key (components_in live) ≡ true
         → MatchResult result (IsJoinedGrammar (components_in live)) (IsMisnamed (components_in live)) }
 {
     let mut patterns = combined(alloc, keys, components)?;
-    let Some(start) = take(&mut patterns, START) else {
-        return Err(Refusal::NoStart);
-    };
+    let start = take(&mut patterns, START).unwrap();
     let defs = definitions(alloc, keys, components, &mut patterns)?;
-    Ok(Grammar {
+    Ok(Joined {
         start: Box::into_inner(start),
         defs,
     })

@@ -1,10 +1,15 @@
 use Rattle.std.proofs.Common.{List, subst, sym}
-use Rattle.std.proofs.lemmas.Result.{MatchResult-weaker}
 use Rattle.rn_assemble.specs.declared.modules.Source.{Source}
+use Rattle.rn_assemble.specs.JoinedView.{joined_view}
 use Rattle.rn_assemble.specs.GrammarView.{grammar_view}
-use Rattle.rn_assemble.specs.Refusal.{AreModules}
+use Rattle.rn_assemble.specs.Refusal.{AreModules, IsAssembled}
+use Rattle.rn_assemble.specs.Refused.{IsFirstRefusal}
 use Rattle.rn_assemble.specs.Views.{sources_view}
+use Rattle.rn_assemble.specs.WellFormed.{IsWellFormed, HasWritableTexts}
 use Rattle.rn_assemble.proofs.FlatModules.{modules_flat}
+use Rattle.rn_assemble.proofs.GoodComponents.{set_grammar_writable}
+use Rattle.rn_assemble.proofs.NoRefusal.{assembled_well_formed}
+use Rattle.rn_assemble.proofs.Refusing.{refused_at}
 use Rattle.rn_assemble.proofs.SetRefusal.{assembled_of_modules, first_of_modules}
 use Rattle.rn_assemble.proofs.assembly.assemble.Goals as goal
 
@@ -13,9 +18,28 @@ assembled-requires-clause-flat c =
     let s = c.args.set.now in
     modules_flat s (sources_view c.as_slice.result.now) (subst (λ (ms : List Source). AreModules s (sources_view ms)) (sym c.as_slice.ensures.value) c.in_ok-sources.ensures.ok)
 
+pub returns-in_err-joined : goal.returns-in_err-joined
+returns-in_err-joined c =
+    let s = c.args.set.now in
+    let modules = sources_view c.as_slice.result.now in
+    let a = subst (λ (ms : List Source). AreModules s (sources_view ms)) (sym c.as_slice.ensures.value) c.in_ok-sources.ensures.ok in
+    let q = c.in_err-joined.field-0.0 in
+    refused_at (λ g. IsAssembled s (grammar_view g)) (IsFirstRefusal s) c.from_residual-in_err-joined.result q c.from_residual-in_err-joined.ensures.1 (first_of_modules s modules a q c.in_err-joined.ensures)
+
+pub invariant_of-result : goal.invariant_of-result
+invariant_of-result c =
+    let s = c.args.set.now in
+    let modules = sources_view c.as_slice.result.now in
+    let a = subst (λ (ms : List Source). AreModules s (sources_view ms)) (sym c.as_slice.ensures.value) c.in_ok-sources.ensures.ok in
+    let (none, (ms, b, e)) = assembled_of_modules s modules a (joined_view c.in_ok-joined.joined) c.in_ok-joined.ensures in
+    record {
+      well_formed = subst IsWellFormed (sym e) (assembled_well_formed s ms b none);
+      writable = ∣ subst HasWritableTexts (sym e) (set_grammar_writable s ms b) ∣₁;
+    }
+
 pub returns : goal.returns
 returns c =
     let s = c.args.set.now in
     let modules = sources_view c.as_slice.result.now in
     let a = subst (λ (ms : List Source). AreModules s (sources_view ms)) (sym c.as_slice.ensures.value) c.in_ok-sources.ensures.ok in
-    MatchResult-weaker c.assembled.result c.assembled.ensures (λ g h. assembled_of_modules s modules a (grammar_view g) h) (first_of_modules s modules a)
+    assembled_of_modules s modules a (joined_view c.in_ok-joined.joined) c.in_ok-joined.ensures

@@ -3,7 +3,7 @@ use Rattle.rn_assemble.specs.Methods.{CanCombine, IsUncombined}
 use Rattle.rn_assemble.specs.Sound.{HasSoundReferences, IsUnsound}
 use Rattle.rn_assemble.specs.Views.{names_of, sources_view}
 use Rattle.rn_assemble.proofs.FirstRefusal.{uncombined_first, unsound_first}
-use Rattle.rn_assemble.proofs.Checks.{at_set, joined_or_first, passed_methods, passed_overrides}
+use Rattle.rn_assemble.proofs.Checks.{at_set, joined_or_first, passed_methods, passed_overrides, has_start}
 use Rattle.rn_assemble.proofs.assembly.joined.Goals as goal
 
 pub returns-in_err-check_methods : goal.returns-in_err-check_methods
@@ -25,6 +25,13 @@ returns-in_err-check_references c =
     let p = err_from_is_err_and c.from_residual-in_err-check_references.result c.from_residual-in_err-check_references.ensures.1 in
     let passed = passed_methods modules names x c.requires c.in_ok-check_overrides.ensures (at_set modules names x c.requires CanCombine c.in_ok-check_methods.ensures) in
     rw (p.1, p.2) (unsound_first modules passed q (at_set modules names x c.requires (λ cs. IsUnsound cs q) c.in_err-check_references.ensures))
+
+pub grammar-requires : goal.grammar-requires
+grammar-requires c =
+    let modules = sources_view c.args.sources.now in
+    let names = names_of c.args.keys.now in
+    let x = c.args.components.now in
+    has_start modules names x c.requires c.in_ok-check_overrides.ensures (at_set modules names x c.requires CanCombine c.in_ok-check_methods.ensures)
 
 pub returns : goal.returns
 returns c =

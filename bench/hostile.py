@@ -1,0 +1,113 @@
+#!/usr/bin/env python3
+"""Prints a bundle that is meant to cost much more than others of its size, or its harmless twin.
+
+bench/hostile.py SHAPE [twin] > BUNDLE: SHAPE is one of the functions named at the end, each of which says what it aims at. A twin has the same
+kind and size, and nothing in it is aimed. `rnc-merge print` of both is to take about the same time and memory.
+"""
+import random
+import sys
+
+from run import bundle
+
+WORD = (1 << 64) - 1
+# The numbers of a hasher that multiplies 16 bytes at a time, and begins in a state that all can read.
+MULTIPLIER = 0x9E3779B97F4A7C15
+BEGIN = 0x243F6A8885A308D3
+LETTERS = b"abcdefghijklmnopqrstuvwxyzABCDEFGHIJKLMNOPQRSTUVWXYZ"
+NAME_BYTES = set(LETTERS + b"0123456789_-.")
+
+
+def folded(a, b):
+    """The two halves of a product of 128 bits, joined by xor."""
+    product = a * b
+    return (product & WORD) ^ (product >> 64)
+
+
+def word(text, at):
+    """Eight bytes as a number, the lowest first."""
+    return int.from_bytes(text[at:at + 8], "little")
+
+
+def written(state, text):
+    """The hasher's state behind at most three bytes."""
+    short = text[0] | text[len(text) // 2] << 8 | text[-1] << 16 if text else 0
+    if len(text) > 3:
+        short = int.from_bytes(text[:4], "little") | int.from_bytes(text[-4:], "little") << 32
+    return folded(state ^ short, MULTIPLIER ^ 2 * len(text))
+
+
+def colliding(n, twin, state=BEGIN):
+    """n names of 48 bytes. Behind the first 16 the state is itself eight bytes of a name: where these follow, the product is 0 whatever comes next,
+    and stays so to the common end. So all have one hash. In a twin other bytes follow."""
+    rng = random.Random(1)
+    while True:
+        front = bytes(rng.choice(LETTERS) for _ in range(16))
+        begun = (state + 48) & WORD
+        zero = folded(word(front, 0) ^ begun, word(front, 8) ^ MULTIPLIER).to_bytes(8, "little")
+        if NAME_BYTES.issuperset(zero):
+            break
+    if twin:
+        zero = zero[::-1]
+    return [(front + zero + b"%08d" % i + b"abcdefghijklmnop").decode() for i in range(n)]
+
+
+def definitions(twin):
+    """74,000 definitions whose names have one hash."""
+    return {"a": "start = text\n" + "\n".join(f"{name} = text" for name in colliding(74000, twin))}
+
+
+def prefixes(twin):
+    """60,000 prefixes of namespaces that have one hash."""
+    return {"a": "\n".join(f'namespace {name} = ""' for name in colliding(60000, twin)) + "\nstart = text"}
+
+
+def namespaces(twin):
+    """30,000 namespaces that have one hash, each of them used."""
+    uris = colliding(30000, twin)
+    lines = [f'namespace n{i} = "{uri}"' for i, uri in enumerate(uris)]
+    return {"a": "\n".join(lines) + "\nstart = " + "|".join(f"element n{i}:a {{text}}" for i in range(len(uris)))}
+
+
+def literals(twin):
+    """60,000 literals whose patterns have one hash: a number for the kind, the library, the type, and then the text."""
+    state = written(BEGIN, b"\4")
+    for part in (b"", b"token"):
+        state = written(written(state, part), b"\xff")
+    texts = colliding(60000, twin, state)
+    return {"a": "start = element a {" + "|".join(f'"{text}"' for text in texts) + "}"}
+
+
+def parentheses(twin):
+    """A choice of 100,000 elements within 240 pairs of parentheses, with an element beside each pair."""
+    many = "|".join(f"element e{i}{{text}}" for i in range(100000))
+    around = "".join(f"|element a{i}{{text}}" + ("" if twin else ")") for i in range(240))
+    return {"a": "start = " + ("" if twin else "(" * 240) + many + around}
+
+
+def includes(twin):
+    """A body of 1.4 MB that 511 includes bring in; of the twin's includes one does, and the others an empty body."""
+    body = "x |= element a {" + ",".join(f"element e{i}{{text}}" for i in range(60000)) + "}"
+    modules = {"a": body, "b": "x |= empty"}
+    modules["driver"] = "start = x\n" + "\n".join('include "' + ("b" if twin and i else "a") + '"' for i in range(511))
+    return modules
+
+
+def uri(twin):
+    """60,000 names in a namespace whose URI has 1.2 MB; in the twin a literal has that length."""
+    long = "u" * 1200000
+    head = f'default namespace = "{"u" if twin else long}"\nstart = element r {{ "{long if twin else "u"}" }}'
+    return {"a": head + "".join(f"|element e{i}{{text}}" for i in range(60000))}
+
+
+SHAPES = {shape.__name__: shape for shape in (definitions, prefixes, namespaces, literals, parentheses, includes, uri)}
+
+
+def main():
+    words = sys.argv[1:]
+    if not words or words[0] not in SHAPES or words[1:] not in ([], ["twin"]):
+        sys.exit("usage: hostile.py " + "|".join(SHAPES) + " [twin]")
+    sys.stdout.buffer.write(bundle(SHAPES[words[0]](len(words) == 2)))
+
+
+if __name__ == "__main__":
+    main()
