@@ -1,6 +1,8 @@
 #!/usr/bin/env bash
 # Runs the program rnc-merge as its users do: words, files, standard input, statuses and standard error.
 # Usage: tests/cli.sh [PROGRAM]   (without PROGRAM: crates/rnc_merge/out/rnc_merge)
+# With CHECKED=1 in the environment, PROGRAM is one that was compiled with checks: it is slow, so the longest text is shorter, and it
+# takes much memory, so the rows that leave it little are left out, which the last line says.
 set -u
 
 here=$(cd "$(dirname "${BASH_SOURCE[0]}")" && pwd)
@@ -17,6 +19,8 @@ cd "$work" || exit 2
 
 passed=0
 failed=0
+left_out=0
+checked=${CHECKED:-0}
 input=/dev/null
 
 # row NAME STATUS STDOUT STDERR WORD..: runs the program on the words, with standard input from $input. The texts are
@@ -223,16 +227,21 @@ fi
 # ---- memory
 printf '#!/usr/bin/env bash\nulimit -v 32768 && exec %q "$@"\n' "$program" >starved
 chmod +x starved
-{ printf 'start = text' && yes '| text' | head -n 590000; } >choice.rnc
+members=590000
+[ "$checked" -eq 0 ] || members=5900
+{ printf 'start = text' && yes '| text' | head -n $members; } >choice.rnc
 made choice.set pack a 1 choice.rnc
-row 'a choice of 590,001 members' 0 "${head_line}start = text\n" '' print choice.set
+row 'a choice of many members' 0 "${head_line}start = text\n" '' print choice.set
 whole=$program
 program=./starved
-row 'two bundles in 32 MiB' 0 "$schema" '' print a.set b.set
-row 'too little memory for a schema' 3 '' 'Memory\n' print choice.set
-row 'a damaged bundle before memory runs out' 1 '' 'bundle 0 Digest 0\n' print digest.set choice.set
-row 'too little memory to check a text' 3 '' 'Memory\n' check choice.rnc
-row 'too little memory to read a file' 3 '' 'Memory\n' print large
+starved_row() {
+    if [ "$checked" -eq 0 ]; then row "$@"; else left_out=$((left_out + 1)); fi
+}
+starved_row 'two bundles in 32 MiB' 0 "$schema" '' print a.set b.set
+starved_row 'too little memory for a schema' 3 '' 'Memory\n' print choice.set
+starved_row 'a damaged bundle before memory runs out' 1 '' 'bundle 0 Digest 0\n' print digest.set choice.set
+starved_row 'too little memory to check a text' 3 '' 'Memory\n' check choice.rnc
+starved_row 'too little memory to read a file' 3 '' 'Memory\n' print large
 program=$whole
 
 # ---- usage
@@ -289,5 +298,6 @@ row 'a second -- is a word' 3 '' 'read 1\n' print a.set -- --
 row 'two words -- behind --' 3 '' 'read 0\n' print -- -- --help
 row 'a name behind --' 0 'rncset 2\nwithdrawn -a 3\nend 1\n' '' withdraw -- -a 3
 
+[ "$left_out" -eq 0 ] || echo "left out: $left_out rows with too little memory, which a program compiled with checks can't have"
 echo "$passed passed, $failed failed"
 [ "$failed" -eq 0 ]
