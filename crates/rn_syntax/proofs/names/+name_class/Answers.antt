@@ -22,7 +22,7 @@ pub class_core-returns-in-Keyword-clause-inside : goal.class_core-returns-in-Key
 class_core-returns-in-Keyword-clause-inside t c = made_advanced boxed_class_view _ _ _ _ c.one-in-Keyword.result c.one-in-Keyword.ensures (one_on c.in-Keyword.ensures.inside)
 
 pub class_core-returns-in-Keyword-clause-reads : goal.class_core-returns-in-Keyword-clause-reads
-class_core-returns-in-Keyword-clause-reads t c = made_reads boxed_class_view c.args.tokens.now c.args.at (c.args.at + 1) c.one-in-Keyword.result c.one-in-Keyword.ensures (λ s. word_core (word_at_keyword c.keyword_text.ensures) c.in-Keyword.ensures.next.1)
+class_core-returns-in-Keyword-clause-reads t c = made_reads boxed_class_view c.args.tokens.now c.args.at (c.args.at + 1) c.one-in-Keyword.result c.one-in-Keyword.ensures (λ s. word_core (word_at_keyword c.keyword_text-name.ensures) c.in-Keyword.ensures.next.1)
 
 pub class_core-returns-in-Prefixed-clause-inside : goal.class_core-returns-in-Prefixed-clause-inside
 class_core-returns-in-Prefixed-clause-inside t c = made_advanced boxed_class_view _ _ _ _ c.one-in-Prefixed.result c.one-in-Prefixed.ensures (one_on c.in-Prefixed.ensures.inside)
