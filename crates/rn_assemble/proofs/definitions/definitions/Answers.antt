@@ -10,7 +10,7 @@ use Rattle.rn_assemble.proofs.definitions.definitions.Goals.{in-Some+in-Some-tak
 pub loop-place-init : goal.loop-place-init
 loop-place-init c = λ live h o p.
     let names = names_of c.args.keys.now in
-    subst (λ es. Defining names live h.rises c.args.patterns.now.items es 0) (sym c.new-defs.ensures.empty) (defining_begins names live h.rises c.args.patterns.now.items p)
+    subst (λ es. Defining names live h.rises c.args.patterns.now.items es 0) (sym c.with_hasher-defs.ensures.empty) (defining_begins names live h.rises c.args.patterns.now.items p)
 
 pub loop-place-preserved : goal.loop-place-preserved
 loop-place-preserved c = λ live h o p.

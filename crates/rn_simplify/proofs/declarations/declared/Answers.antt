@@ -8,7 +8,7 @@ use Rattle.rn_simplify.proofs.declarations.declared.Goals.{else-not-is_empty-via
 
 pub loop-text-init : goal.loop-text-init
 loop-text-init c =
-    let none = c.new-rest.ensures.empty in
+    let none = c.with_hasher-rest.ensures.empty in
     let all = c.into_iter-text-iterator.ensures.into_iter_gives in
     let apart = keys_apart c.args.texts.keys all.4 in
     record {

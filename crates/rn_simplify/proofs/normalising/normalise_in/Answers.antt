@@ -17,6 +17,11 @@ invariant_of-result g c =
     let k : IsCanonicalOf G N = subst (λ (p : Pattern). IsCanonicalOf G (parts_view p ds)) (sym c.into_inner.ensures) c.in_ok-start.ensures.canonical in
     record { well_formed = normal_well_formed G N k w; source = has_source G N k w c.args.grammar.now.writable }
 
+pub returns-clause-canonical : goal.returns-clause-canonical
+returns-clause-canonical g c =
+    let G = grammar_view c.args.grammar.now in
+    subst (λ (p : Pattern). IsCanonicalOf G (parts_view p c.in_ok-start.defs.items)) (sym c.into_inner.ensures) c.in_ok-start.ensures.canonical
+
 pub returns-clause-documents : goal.returns-clause-documents
 returns-clause-documents g c = λ T doc.
     let G = grammar_view c.args.grammar.now in
