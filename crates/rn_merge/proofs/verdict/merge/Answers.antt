@@ -14,6 +14,9 @@ returns-in_err-grammar-clause-first c =
     let s = c.args.set.now in
     answered_refusal s c.from_residual.result (answered_first s c.from_residual.result c.in_err-grammar.field-0.0 c.from_residual.ensures.1 c.in_err-grammar.ensures)
 
+pub returns-in_err-normal-clause-first : goal.returns-in_err-normal-clause-first
+returns-in_err-normal-clause-first c = lacking c.args.set.now c.from_residual-in_err-normal.result c.from_residual-in_err-normal.ensures.1
+
 pub returns-clause-verdict : goal.returns-clause-verdict
 returns-clause-verdict c =
     answered c.args.set.now (normal_view c.in_ok-normal.normal) c.print-text.result (grammar_view c.in_ok-grammar.grammar, c.in_ok-grammar.ensures, c.in_ok-normal.ensures.canonical) c.print-text.ensures.ok c.print-text.ensures.err
