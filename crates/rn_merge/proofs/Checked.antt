@@ -13,7 +13,7 @@ use Rattle.rn_merge.specs.Texts.{AreTokensOf, HasPlace, syntax_place}
 pub tokens_of : (text : List ℕ) (tokens : List Token) → IsUtf8 text × HasTokens (chars text) (map lexeme_of tokens) → AreTokensOf text tokens
 tokens_of text tokens h = record { utf8 = h.0; are = h.1; spelled = tokens_are_spelled (chars text) tokens h.1 }
 
-placed : (text : List ℕ) (tokens : List Token) (fault : SyntaxFault) → AreTokensOf text tokens → IsFault tokens fault → HasPlace text (syntax_place fault)
+pub placed : (text : List ℕ) (tokens : List Token) (fault : SyntaxFault) → AreTokensOf text tokens → IsFault tokens fault → HasPlace text (syntax_place fault)
 placed text tokens (parsing.Deep at) t h = (tokens, t, h)
 placed text tokens (parsing.Syntax at) t h = (tokens, t, h)
 placed text tokens (parsing.Prefix at) t h = (tokens, t, h)

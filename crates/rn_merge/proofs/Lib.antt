@@ -9,3 +9,4 @@ mod Runs
 mod Alone
 mod Schemas
 mod Calls
+mod Places

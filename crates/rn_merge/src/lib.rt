@@ -5,6 +5,7 @@ pub mod laws;
 pub mod lines;
 pub mod run;
 pub mod streams;
+pub mod text_laws;
 pub mod texts;
 pub mod verdict;
 pub mod words;
