@@ -31,7 +31,7 @@ use Rattle.rn_merge.proofs.Checked.{tokens_of, placed}
 
 -- ---- tokens of a text, as those of a source
 
-token_of : Lexeme → Token
+abbrev token_of : Lexeme → Token
 token_of l = record { kind = l.kind; text = record { ref_ptr = (0, 0); now = l.text }; start = l.start; end = l.end }
 
 source_tokens : (ls : List Lexeme) → (xs : List Token) × (map lexeme_of xs ≡ ls)
