@@ -16,7 +16,8 @@ ghost use Rattle.rn_merge.specs.declared.run.Status.{Status};
 /// text, byte for byte, or the same refusal with all its fields, want of memory aside. In particular `merge` has one answer
 /// for a set.
 pub fn one_answer()
-    ensures set { (calls others : List Call) (s t : List Member) → IsLeftBy calls s → IsLeftBy others t → BringAlike calls others → s ≡ t }
+    ensures set { (calls others : List Call) (s t : List Member)
+        → IsLeftBy calls s → IsLeftBy others t → BringAlike calls others → s ≡ t }
     ensures answer { (calls others : List Call) (s t : List Member) → IsLeftBy calls s → IsLeftBy others t
         → BringAlike calls others → (a b : Answer) → IsAnswer s a → IsAnswer t b
         → a ≢ Err refusing.Memory → b ≢ Err refusing.Memory → answer_view a ≡ answer_view b }
