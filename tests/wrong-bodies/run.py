@@ -28,7 +28,7 @@ IN_CYCLE = re.compile(r"#\[cycle\((\w+)\)\](?:\s*#\[[^\]]*\])*\s*(?:pub(?:\(\w+\
 # What is said at a proof file that names what the wrong body took away, or that is for another form of body: that speaks of no contract.
 NAME_LOST = re.compile(r"has no field|is not in scope|has no `|was not admitted|rattle does not read")
 # The name of a goal of the contract: of what the function ensures, or of an invariant of a loop.
-OF_CONTRACT = re.compile(r"`(?:[\w:+]*-)?(?:returns|loop-)")
+OF_CONTRACT = re.compile(r"`(?:[\w:+]*-)?(?:returns|loop-)|`[\w:+-]*-(?:preserved|init)\b")
 # What is said of a function that calls one which isn't proved.
 WAITS = re.compile(r"it calls `|a call of `[^`]*`, which has no proof")
 

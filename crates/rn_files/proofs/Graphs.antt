@@ -1,0 +1,81 @@
+-- Graphs of files.
+use Rattle.std.proofs.Common.{◌≡◌, ℕ, suc, zero, ◌<◌, ◌+◌, ◌==◌, ◌∙◌, true, List, [], ◌∷◌, ◌++◌, length, take, get_or, ap, subst, sym, arith}
+use Rattle.std.specs.Prelude.{Vec, nat_lt, All, string_bytes}
+use Rattle.std.specs.List.{list_all}
+use Rattle.std.specs.declared.alloc.Global.{Global}
+use Rattle.std.proofs.lemmas.Bool.Decides.{nat_tests}
+use Rattle.std.proofs.lemmas.List.{length-map, map-append, take_more}
+use Rattle.std.proofs.lemmas.List.Elements.{All-contains, All-weaker, All-head, All-tail}
+use Rattle.std.proofs.lemmas.List.Sums.{AllPass-from_list_all}
+use Rattle.rn_files.specs.declared.sources.Source.{Source}
+use Rattle.rn_files.specs.declared.sources.Sources.{Sources}
+use Rattle.rn_files.specs.Sources.{count_links, targets_of, IsSound}
+use Rattle.rn_modset.specs.Contributions.{is_module_name}
+use Rattle.rn_pattern.specs.Ranks.{HasNoLoop}
+use Rattle.rn_pattern.specs.Graph.{AllBelow, row, IsGraph, rows_of}
+
+less_if : (n x : ℕ) → nat_lt x n ≡ true → x < n
+less_if n x h = grind (arith, nat_tests)
+
+-- numbers that were tested are less
+pub all_less : (n : ℕ) (xs : List ℕ) → list_all (λ x. nat_lt x n) xs ≡ true → All (λ x. x < n) xs
+all_less n xs h = All-weaker (λ x. nat_lt x n ≡ true) (λ x. x < n) (less_if n) xs (AllPass-from_list_all (λ x. nat_lt x n) xs h)
+
+abbrev IsTested : ℕ → Vec ℕ Global → Type 0
+IsTested n v = list_all (λ x. nat_lt x n) v.items ≡ true
+
+rows_below : (n : ℕ) (edges : List (Vec ℕ Global)) → All (IsTested n) edges → (x : ℕ) → AllBelow n (row (rows_of edges) x)
+rows_below n [] h x y c = let bad : c.0 < 0 = c.1 in omega arith
+rows_below n (v ∷ vs) h zero y c = All-contains (λ x. x < n) v.items y (all_less n v.items (All-head (IsTested n) v vs h)) c
+rows_below n (v ∷ vs) h (suc x) y c = rows_below n vs (All-tail (IsTested n) v vs h) x y c
+
+-- edges that were tested are a graph
+pub graph_if : (edges : List (Vec ℕ Global)) → list_all (λ (v : Vec ℕ Global). list_all (λ x. nat_lt x (length edges)) v.items) edges ≡ true → IsGraph (rows_of edges)
+graph_if edges h =
+    let each : All (IsTested (length edges)) edges = AllPass-from_list_all (λ (v : Vec ℕ Global). list_all (λ x. nat_lt x (length edges)) v.items) edges h in
+    let P : ℕ → Type 0 = λ n. (x : ℕ) → AllBelow n (row (rows_of edges) x) in
+    subst P (sym (length-map edges (λ (v : Vec ℕ Global). v.items))) (rows_below (length edges) edges each)
+
+-- a file's row behind those of the files before it
+pub one_row_more : (edges : List (Vec ℕ Global)) (v : Vec ℕ Global) (files : List Source) (i : ℕ) (file : Source) → i < length files
+    → file ≡ get_or files i file → v.items ≡ file.targets.items → rows_of edges ≡ targets_of (take i files)
+    → rows_of (edges ++ v ∷ []) ≡ targets_of (take (i + 1) files)
+one_row_more edges v files i file within is same before =
+    map-append (λ (x : Vec ℕ Global). x.items) edges (v ∷ [])
+    ∙ ap (λ z. z ++ (v.items ∷ [])) before
+    ∙ ap (λ z. targets_of (take i files) ++ (z ∷ [])) (same ∙ ap (λ (f : Source). f.targets.items) is)
+    ∙ sym (ap targets_of (take_more files i file within) ∙ map-append (λ (f : Source). f.targets.items) (take i files) (get_or files i file ∷ []))
+
+abbrev HasTargets : Source → Type 0
+HasTargets f = length f.targets.items ≡ count_links f
+
+same_number : (a b : ℕ) → (a == b) ≡ true → a ≡ b
+same_number a b h = grind (arith, nat_tests)
+
+same_if : (f : Source) → (length f.targets.items == count_links f) ≡ true → HasTargets f
+same_if f h = same_number (length f.targets.items) (count_links f) h
+
+-- what was tested of sources holds of them
+pub tested_sources : (s : Sources) (rows : List (Vec ℕ Global)) (files : List Source) (roots : List ℕ) (count : ℕ)
+    → files ≡ s.files.items → roots ≡ s.roots.items → count ≡ length files → rows_of rows ≡ targets_of files
+    → list_all (λ (v : Vec ℕ Global). list_all (λ x. nat_lt x (length rows)) v.items) rows ≡ true → list_all (λ x. nat_lt x count) roots ≡ true
+    → list_all (λ (f : Source). is_module_name (string_bytes f.name)) files ≡ true
+    → list_all (λ (f : Source). length f.targets.items == count_links f) files ≡ true → HasNoLoop (rows_of rows) → IsSound s
+tested_sources s rows files roots count same same_roots counted are graph below named linked no_loop =
+    let G : List (List ℕ) → Type 0 = λ z. IsGraph z in
+    let H : List (List ℕ) → Type 0 = λ z. HasNoLoop z in
+    let T : List Source → Type 0 = λ z. IsGraph (targets_of z) in
+    let U : List Source → Type 0 = λ z. HasNoLoop (targets_of z) in
+    let N : List Source → Type 0 = λ z. All (λ (f : Source). is_module_name (string_bytes f.name) ≡ true) z in
+    let L : List Source → Type 0 = λ z. All HasTargets z in
+    let R : List ℕ → Type 0 = λ z. All (λ r. r < length s.files.items) z in
+    let C : ℕ → Type 0 = λ n. All (λ r. r < n) roots in
+    record {
+      targets = subst T same (subst G are (graph_if rows graph));
+      links = subst L same
+          (All-weaker (λ (f : Source). (length f.targets.items == count_links f) ≡ true) HasTargets same_if files
+          (AllPass-from_list_all (λ (f : Source). length f.targets.items == count_links f) files linked));
+      no_loop = subst U same (subst H are no_loop);
+      roots = subst R same_roots (subst C (counted ∙ ap (λ z. length z) same) (all_less count roots below));
+      names = subst N same (AllPass-from_list_all (λ (f : Source). is_module_name (string_bytes f.name)) files named);
+    }

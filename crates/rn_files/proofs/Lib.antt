@@ -1,0 +1,3 @@
+mod LineCuts
+mod NameFacts
+mod Graphs

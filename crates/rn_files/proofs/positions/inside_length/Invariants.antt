@@ -1,0 +1,6 @@
+use Rattle.std.proofs.Common.{◌≡◌, ℕ, ◌<◌, true, get_or}
+use Rattle.rn_files.specs.Lines.{is_inside}
+use Rattle.rn_files.proofs.positions.inside_length.Given as goal
+
+abbrev pub invariant-loop-i : goal.invariant-loop-i
+invariant-loop-i l = (k : ℕ) → k < l.i → is_inside (get_or l.bytes k 0) ≡ true

@@ -1,0 +1,43 @@
+-- Lines of a text, and where its bytes stand in them. A line ends with LF, CR LF or CR.
+use Rattle.std.specs.Prelude.{◌≡◌, ℕ, ◌+◌, ◌-◌, ◌<◌, ◌≤◌, ◌==◌, ◌&&◌, ◌||◌, ◌⊎◌, nat_le, nat_lt, not, Bool, List, [], ◌∷◌, ◌++◌, length, slice_index, if◌then◌else◌}
+use Rattle.std.specs.List.{concat}
+
+-- a line ends behind the byte b that the rest follows: behind LF, and behind a CR that no LF follows
+abbrev pub closes : ℕ → List ℕ → Bool
+closes b rest = b == 10 || (b == 13 && not (slice_index rest 0 == 10))
+
+-- these bytes in front of the first line
+abbrev pub onto : List ℕ → List (List ℕ) → List (List ℕ)
+onto bytes [] = bytes ∷ []
+onto bytes (line ∷ others) = (bytes ++ line) ∷ others
+
+-- the text cut behind each end of a line; the last line has no end
+abbrev pub lines : List ℕ → List (List ℕ)
+lines [] = [] ∷ []
+lines (b ∷ rest) = if closes b rest then (b ∷ []) ∷ lines rest else onto (b ∷ []) (lines rest)
+
+-- the first line has n bytes, with the end that closes it
+pub record ClosesAt (text : List ℕ) (n : ℕ) (front rest : List ℕ) : Type 0 where
+  pub some : 0 < n
+  pub within : n ≤ length text
+  pub cut : lines text ≡ front ∷ lines rest
+  pub ascii : slice_index text (n - 1) < 128
+
+-- the byte stands in the line of this number, from 1, which begins at the byte start; behind the last byte, in the last line
+pub record StandsIn (text : List ℕ) (at number start : ℕ) : Type 0 where
+  pub before : List (List ℕ)
+  pub line : List ℕ
+  pub after : List (List ℕ)
+  pub cut : lines text ≡ before ++ (line ∷ after)
+  pub number_is : number ≡ length before + 1
+  pub start_is : start ≡ length (concat before)
+  pub begun : start ≤ at
+  pub ahead : (at < start + length line) ⊎ (after ≡ [])
+
+-- a character of a text begins with the byte: it is none of the bytes 80 to BF behind a first one (UTF-8)
+abbrev pub begins_character : ℕ → Bool
+begins_character b = nat_lt b 128 || nat_le 192 b
+
+-- the byte belongs to no end of a line
+abbrev pub is_inside : ℕ → Bool
+is_inside b = not (b == 10) && not (b == 13)

@@ -1,0 +1,32 @@
+-- Sources: files that were read, with what they refer to.
+use Rattle.std.specs.Prelude.{◌≡◌, ℕ, ◌<◌, Bool, true, false, List, map, All, length, count_by, string_bytes}
+use Rattle.rn_lift.specs.declared.parts.PartKind.{PartKind}
+use Rattle.rn_lift.specs.declared.parts.PartKind.TheVariants.{External, Include}
+use Rattle.rn_modset.specs.Contributions.{is_module_name}
+use Rattle.rn_pattern.specs.Graph.{IsGraph}
+use Rattle.rn_pattern.specs.Ranks.{HasNoLoop}
+use Rattle.rn_files.specs.declared.sources.Source.{Source}
+use Rattle.rn_files.specs.declared.sources.Sources.{Sources}
+
+-- for each file, the numbers of those that its includes and externals mean
+abbrev pub targets_of : List Source → List (List ℕ)
+targets_of files = map (λ (f : Source). f.targets.items) files
+
+-- a part of this kind refers to another file
+abbrev pub is_link : PartKind → Bool
+is_link (External literal at inherit) = true
+is_link (Include literal at inherit) = true
+is_link _ = false
+
+-- how many includes and externals a file has
+abbrev pub count_links : Source → ℕ
+count_links f = count_by (λ p. is_link p.kind) f.outline.parts.items
+
+-- targets and roots are numbers of files, and each include and external has a target; no file comes back to itself; and
+-- names are those of modules
+pub record IsSound (s : Sources) : Type 0 where
+  pub targets : IsGraph (targets_of s.files.items)
+  pub links : All (λ f. length f.targets.items ≡ count_links f) s.files.items
+  pub no_loop : HasNoLoop (targets_of s.files.items)
+  pub roots : All (λ r. r < length s.files.items) s.roots.items
+  pub names : All (λ f. is_module_name (string_bytes f.name) ≡ true) s.files.items

@@ -1,0 +1,86 @@
+// What is wrong with files, and where.
+use crate::files::FileFault;
+use crate::references::ReferenceFault;
+use std::alloc::{AllocError, Global};
+
+/// The most faults that are told; further ones are counted.
+pub const MAX_FAULTS: usize = 20;
+
+/// What a fault is about.
+#[derive(Clone, Copy, Debug, PartialEq, Eq)]
+pub enum FaultPlace {
+    /// The file with this number among those that are asked for.
+    Word(usize),
+    /// The root folder.
+    Root,
+    /// The current folder.
+    Current,
+    /// This byte of the file with this number among those that were read.
+    Text { file: usize, at: usize },
+}
+
+/// What is wrong.
+#[derive(Debug, Drop, PartialEq, Eq)]
+pub enum FaultKind {
+    /// The file that is named there can't be read.
+    File(FileFault),
+    /// The reference names no file.
+    Reference(ReferenceFault),
+    /// Here is no UTF-8.
+    Encoding,
+    /// Here is no token.
+    Lexical,
+    /// Here the text is no pattern and no grammar any more.
+    Syntax,
+    /// Here brackets are too deep.
+    Deep,
+    /// There are more files than a set has modules.
+    Count,
+    /// The file that is named there doesn't lie below the root folder.
+    Outside,
+    /// The name of the module is longer than 200 bytes.
+    Name,
+    /// Another file has the name of the module.
+    Twice,
+    /// The reference closes a loop through these files, in order, of which the first is the one that is referred to here.
+    Loop(Vec<usize>),
+}
+
+/// A fault and its place.
+#[derive(Debug, Drop, PartialEq, Eq)]
+pub struct SourceFault {
+    pub place: FaultPlace,
+    pub kind: FaultKind,
+}
+
+/// Faults in the order in which they were found.
+#[derive(Debug, Drop)]
+pub struct Faults {
+    pub list: Vec<SourceFault>,
+    pub further: usize,
+}
+
+impl Faults {
+    /// No fault.
+    pub fn new(alloc: Global) -> Faults {
+        Faults {
+            list: Vec::new(alloc),
+            further: 0,
+        }
+    }
+
+    /// Whether there is none.
+    pub fn is_empty(&self) -> bool {
+        self.list.is_empty()
+    }
+
+    /// Keeps a fault, or counts it where as many as are told are there.
+    pub fn note(&mut self, place: FaultPlace, kind: FaultKind) -> Result<(), AllocError> {
+        if self.list.len() < MAX_FAULTS {
+            self.list.push(SourceFault { place, kind })?;
+        } else {
+            self.further = self.further.saturating_add(1);
+        }
+        Ok(())
+    }
+}

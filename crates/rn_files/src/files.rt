@@ -1,0 +1,44 @@
+// What files are read from.
+ghost use Rattle.std.specs.Prelude.{ℕ, List, IfOk, string_bytes};
+
+use std::alloc::Global;
+use thiserror::Error;
+
+/// Why a file can't be read.
+#[derive(Clone, Copy, Debug, PartialEq, Eq, Error)]
+pub enum FileFault {
+    /// There is no such file.
+    #[error("no such file")]
+    Missing,
+    /// The path leads to a folder.
+    #[error("this is a folder")]
+    Folder,
+    /// The file has more bytes than a text may have.
+    #[error("the file is larger than 4,194,304 bytes")]
+    Large,
+    /// The system refused to read it.
+    #[error("the file can't be read")]
+    Refused,
+    /// A request for memory was refused.
+    #[error("out of memory")]
+    Memory,
+}
+
+/// What files are read from, by paths whose segments are parted by `/`. A path that doesn't begin with `/` is one below
+/// the current folder, which is the path `.`; the path `-` is standard input.
+pub trait Files {
+    // What the path may lead to; a type that says nothing allows all.
+    ghost leads: { Self → List ℕ → List ℕ → Type 0 } = { λ _ _ _. Unit {0} };
+
+    // What may be read at the path.
+    ghost gives: { Self → List ℕ → List ℕ → Type 0 } = { λ _ _ _. Unit {0} };
+
+    /// The one path of the file or the folder that the path leads to: it begins with `/`, and has no segment that is empty,
+    /// `.`, `..` or a link.
+    fn real_path(&self, alloc: Global, path: &str) -> Result<String, FileFault>
+        ensures { IfOk result (λ found. leads self.now path.now (string_bytes found)) };
+
+    /// The bytes of the file at the path, or of standard input at `-`. `Large` where they are more than `MAX_TEXT`.
+    fn read(&self, alloc: Global, path: &str) -> Result<Vec<u8>, FileFault>
+        ensures { IfOk result (λ bytes. gives self.now path.now bytes.items) };
+}

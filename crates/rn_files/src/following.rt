@@ -1,0 +1,251 @@
+// Reading files, and what they refer to.
+ghost use Rattle.std.specs.Prelude.{◌≡◌, ◌<◌, ◌≤◌, IfOk, is_some, vec_len};
+ghost use Rattle.rn_files.specs.Sources.{is_link};
+
+use crate::faults::FaultPlace;
+use crate::files::{FileFault, Files};
+use crate::maps::{Map, place_of};
+use crate::references::{remove_dot_segments, resolve};
+use crate::texts::{MAX_TEXT, text_of};
+use crate::uris::file_uri;
+use crate::walk::{Found, MAX_SOURCES, Origin, Walk};
+use rn_lift::{Outline, Part, PartKind};
+use std::alloc::{AllocError, Global};
+
+/// The word for standard input.
+const STANDARD_INPUT: &str = "-";
+
+/// Where files are looked for: what maps say, and the current folder.
+#[derive(Clone, Copy)]
+pub struct Ways<'a> {
+    pub maps: &'a [Map],
+    pub current: &'a str,
+}
+
+/// The literal of a part that names another file, and the byte where it begins.
+pub fn link_of(part: &Part) -> Option<(&str, usize)>
+    ensures { is_some result ≡ is_link part.now.kind }
+{
+    match &part.kind {
+        PartKind::External {
+            literal,
+            literal_at,
+            ..
+        } => Some((literal.as_str(), literal_at.from)),
+        PartKind::Include {
+            literal,
+            literal_at,
+            ..
+        } => Some((literal.as_str(), literal_at.from)),
+        _ => None,
+    }
+}
+
+/// How a path is told to people: from the current folder, where it lies below.
+fn shown_path<'p>(current: &str, path: &'p str) -> &'p str {
+    match path.strip_prefix(current) {
+        Some(rest) => rest.strip_prefix('/').unwrap_or(path),
+        None => path,
+    }
+}
+
+/// The URI of a file as it was asked for.
+fn word_uri(alloc: Global, current: &str, word: &str) -> Result<String, AllocError> {
+    let mut path = String::new(alloc);
+    if !word.starts_with('/') {
+        path.push_str(current)?;
+        path.push_str("/")?;
+    }
+    path.push_str(word)?;
+    let path = remove_dot_segments(alloc, path.as_str())?;
+    file_uri(alloc, path.as_str())
+}
+
+/// Enters the file that is asked for by a word.
+fn enter_word<F: Files>(
+    alloc: Global,
+    files: &F,
+    ways: &Ways<'_>,
+    walk: &mut Walk,
+    number: usize,
+    word: &str,
+) -> Result<Option<usize>, AllocError> {
+    let place = FaultPlace::Word(number);
+    let is_input = word == STANDARD_INPUT;
+    let real = if is_input {
+        Ok(String::from_str(alloc, word)?)
+    } else {
+        files.real_path(alloc, word)
+    };
+    let Some(path) = walk.noted(place, real)? else {
+        return Ok(None);
+    };
+    let found = Found {
+        path,
+        shown: String::from_str(alloc, word)?,
+        uri: word_uri(alloc, ways.current, word)?,
+        origin: if is_input {
+            Origin::Input
+        } else {
+            Origin::Path
+        },
+    };
+    walk.enter(alloc, found, place)
+}
+
+/// Enters the files that are asked for, and answers their numbers, each once.
+pub fn enter_words<F: Files>(
+    alloc: Global,
+    files: &F,
+    ways: &Ways<'_>,
+    walk: &mut Walk,
+    words: &[String],
+) -> Result<Vec<usize>, AllocError> {
+    let mut roots: Vec<usize> = Vec::new(alloc);
+    for (number, word) in words.iter().enumerate() {
+        if let Some(root) = enter_word(alloc, files, ways, walk, number, word.as_str())? {
+            if !roots.contains(&root) {
+                roots.push(root)?;
+            }
+        }
+    }
+    Ok(roots)
+}
+
+/// Enters the file that a reference in a file with the URI `base` means.
+fn follow_link<F: Files>(
+    alloc: Global,
+    files: &F,
+    ways: &Ways<'_>,
+    walk: &mut Walk,
+    base: &str,
+    literal: &str,
+    place: FaultPlace,
+) -> Result<Option<usize>, AllocError>
+    ensures { vec_len walk.old.entries ≤ vec_len walk.new.entries }
+{
+    let Some(uri) = walk.noted_reference(place, resolve(alloc, base, literal))? else {
+        return Ok(None);
+    };
+    let Some(leads) = walk.noted_reference(place, place_of(alloc, ways.maps, uri.as_str()))? else {
+        return Ok(None);
+    };
+    let Some(path) = walk.noted(place, files.real_path(alloc, leads.path.as_str()))? else {
+        return Ok(None);
+    };
+    let shown = String::from_str(alloc, shown_path(ways.current, path.as_str()))?;
+    let origin = if leads.is_mapped {
+        Origin::Map
+    } else {
+        Origin::Path
+    };
+    walk.enter(
+        alloc,
+        Found {
+            path,
+            shown,
+            uri,
+            origin,
+        },
+        place,
+    )
+}
+
+/// Enters the files that the links of a file mean, and answers their numbers: of a link that is at fault, the file's own.
+fn follow_links<F: Files>(
+    alloc: Global,
+    files: &F,
+    ways: &Ways<'_>,
+    walk: &mut Walk,
+    file: usize,
+    base: &str,
+    outline: &Outline,
+) -> Result<Vec<usize>, AllocError>
+    ensures { vec_len walk.old.entries ≤ vec_len walk.new.entries }
+{
+    let mut targets = Vec::new(alloc);
+    for part in &outline.parts {
+        if let Some((literal, at)) = link_of(part) {
+            let place = FaultPlace::Text { file, at };
+            let target = follow_link(alloc, files, ways, walk, base, literal, place)?;
+            targets.push(target.unwrap_or(file))?;
+        }
+    }
+    Ok(targets)
+}
+
+/// Takes in the text of a file, and enters the files that it refers to.
+fn follow_text<F: Files>(
+    alloc: Global,
+    files: &F,
+    ways: &Ways<'_>,
+    walk: &mut Walk,
+    file: usize,
+    bytes: &[u8],
+) -> Result<Vec<usize>, AllocError>
+    requires { file < vec_len walk.old.entries }
+{
+    let read = text_of(alloc, bytes)?;
+    walk.entries[file].text = read.text;
+    match read.outline {
+        Ok(outline) => {
+            let base = walk.entries[file].found.uri.clone()?;
+            let targets = follow_links(alloc, files, ways, walk, file, base.as_str(), &outline)?;
+            walk.entries[file].outline = outline;
+            Ok(targets)
+        }
+        Err(wrong) => {
+            walk.faults
+                .note(FaultPlace::Text { file, at: wrong.at }, wrong.kind)?;
+            Ok(Vec::new(alloc))
+        }
+    }
+}
+
+/// The bytes of the file at a path, which are no more than those of a text.
+fn read_file<F: Files>(alloc: Global, files: &F, path: &str) -> Result<Vec<u8>, FileFault>
+    ensures few { IfOk result (λ bytes. vec_len bytes ≤ 4194304) }
+    ensures given { IfOk result (λ bytes. F.gives files.now path.now bytes.items) }
+{
+    let bytes = files.read(alloc, path)?;
+    if bytes.len() > MAX_TEXT {
+        return Err(FileFault::Large);
+    }
+    Ok(bytes)
+}
+
+/// Reads a file, and enters the files that it refers to.
+fn follow<F: Files>(
+    alloc: Global,
+    files: &F,
+    ways: &Ways<'_>,
+    walk: &mut Walk,
+    file: usize,
+) -> Result<(), AllocError>
+    requires { file < vec_len walk.old.entries }
+{
+    let path = walk.entries[file].found.path.clone()?;
+    let place = walk.entries[file].place;
+    let targets = match walk.noted(place, read_file(alloc, files, path.as_str()))? {
+        Some(bytes) => follow_text(alloc, files, ways, walk, file, bytes.as_slice())?,
+        None => Vec::new(alloc),
+    };
+    walk.targets.push(targets)?;
+    Ok(())
+}
+
+/// Reads all files that were entered, and those that are entered on the way.
+pub fn follow_all<F: Files>(
+    alloc: Global,
+    files: &F,
+    ways: &Ways<'_>,
+    walk: &mut Walk,
+) -> Result<(), AllocError> {
+    for file in 0..MAX_SOURCES {
+        if file >= walk.entries.len() {
+            break;
+        }
+        follow(alloc, files, ways, walk, file)?;
+    }
+    Ok(())
+}

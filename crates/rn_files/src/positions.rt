@@ -1,0 +1,81 @@
+// Where the bytes of a text stand.
+ghost use Rattle.std.specs.Prelude.{◌≡◌, ℕ, ◌+◌, ◌<◌, ◌≤◌, length, min, count_by, slice_index, slice_range, drop, take_while};
+ghost use Rattle.std.specs.List.{prefix_len};
+ghost use Rattle.std.specs.Str.{IsCharBoundary};
+ghost use Rattle.rn_files.specs.Lines.{StandsIn, begins_character, is_inside};
+
+use crate::lines::{Position, line_at};
+
+/// Whether a character of a text begins with the byte.
+fn begins_character(byte: u8) -> bool
+    ensures { result ≡ begins_character byte }
+{
+    byte < 0x80 || byte >= 0xC0
+}
+
+/// How many characters begin in the bytes.
+fn count_characters(bytes: &[u8]) -> usize
+    ensures { result ≡ count_by begins_character bytes.now }
+{
+    bytes.iter().filter(|byte| begins_character(**byte)).count()
+}
+
+/// Where the byte at `at` stands; behind the last byte where the text has no more. Lines end by LF, CR LF or CR, and an
+/// end stands in the line that it closes. The column counts the characters before the byte. One walk over the text.
+pub fn position(text: &str, at: usize) -> Position
+    ensures { (start : ℕ) × StandsIn text.now at result.line start
+        × (result.column ≡ count_by begins_character (slice_range text.now start (min at (length text.now))) + 1) }
+{
+    let bytes = text.as_bytes();
+    let (line, start) = line_at(bytes, at);
+    let before = &bytes[start..at.min(bytes.len())];
+    Position {
+        line,
+        column: count_characters(before) + 1,
+    }
+}
+
+/// Whether the byte belongs to no end of a line.
+fn is_inside(byte: u8) -> bool
+    ensures { result ≡ is_inside byte }
+{
+    byte != b'\n' && byte != b'\r'
+}
+
+/// How many bytes stand before the first LF or CR.
+fn inside_length(bytes: &[u8]) -> usize
+    ensures within { result ≤ length bytes.now }
+    ensures is { result ≡ prefix_len is_inside bytes.now }
+    ensures stops { result < length bytes.now → slice_index bytes.now result < 128 }
+{
+    for (i, byte) in bytes.iter().enumerate() {
+        if !is_inside(*byte) {
+            return i;
+        }
+    }
+    bytes.len()
+}
+
+/// The front of a text up to the first LF or CR.
+fn without_end(text: &str) -> &str
+    ensures { result.now ≡ take_while is_inside text.now }
+{
+    let inside = inside_length(text.as_bytes());
+    &text[..inside]
+}
+
+/// What stands from a byte on.
+fn rest_from(text: &str, start: usize) -> &str
+    requires { IsCharBoundary text.now start }
+    ensures { result.now ≡ drop start text.now }
+{
+    &text[start..]
+}
+
+/// The line in which the byte at `at` stands, without its end; the last line where the text has no more.
+pub fn line_of(text: &str, at: usize) -> &str
+    ensures { (number : ℕ) × (start : ℕ) × StandsIn text.now at number start × (result.now ≡ take_while is_inside (drop start text.now)) }
+{
+    let (_, start) = line_at(text.as_bytes(), at);
+    without_end(rest_from(text, start))
+}

@@ -1,0 +1,265 @@
+// From the files that are asked for to sources.
+ghost use Rattle.std.specs.Prelude.{IfOk};
+ghost use Rattle.rn_files.specs.Sources.{IsSound};
+
+use crate::faults::{FaultKind, FaultPlace, Faults, SourceFault};
+use crate::files::Files;
+use crate::following::{Ways, enter_words, follow_all};
+use crate::names::module_name;
+use crate::roots::common_folder;
+use crate::soundness::fault_of;
+use crate::sources::{Asked, Attempt, Source, Sources};
+use crate::walk::{Entry, Origin, Walk};
+use rn_modset::is_module_name;
+use std::alloc::{AllocError, Global};
+use std::collections::BTreeSet;
+
+/// What was read and what is wrong, where there are no sources.
+#[derive(Debug, Drop)]
+pub struct Reading {
+    /// The files, by the numbers that places of faults have.
+    pub files: Vec<Attempt>,
+    /// The first faults, in the order of the files and of their texts; at least one.
+    pub faults: Vec<SourceFault>,
+    /// How many faults there are more.
+    pub further: usize,
+}
+
+/// Why there are no sources.
+#[derive(Debug, Drop)]
+pub enum ReadFault {
+    /// Files or what they refer to are at fault.
+    Faults(Reading),
+    /// A request for memory was refused.
+    Memory,
+}
+
+impl From<AllocError> for ReadFault {
+    fn from(_: AllocError) -> Self {
+        ReadFault::Memory
+    }
+}
+
+/// What a module's name is made from: the path below the root folder, or the URI where a map found the file. None where the
+/// file doesn't lie below the root folder.
+fn unescaped_name<'e>(entry: &'e Entry, root: &str) -> Option<&'e str> {
+    match entry.found.origin {
+        Origin::Input => Some(entry.found.path.as_str()),
+        Origin::Map => Some(entry.found.uri.as_str()),
+        Origin::Path => entry.found.path.strip_prefix(root),
+    }
+}
+
+/// The name of a file's module; what is wrong with it is kept.
+fn name_of(
+    alloc: Global,
+    entry: &Entry,
+    root: &str,
+    used: &mut BTreeSet<String>,
+    faults: &mut Faults,
+) -> Result<String, AllocError> {
+    let Some(unescaped) = unescaped_name(entry, root) else {
+        faults.note(entry.place, FaultKind::Outside)?;
+        return Ok(String::new(alloc));
+    };
+    let name = module_name(alloc, unescaped)?;
+    if !is_module_name(name.as_str()) {
+        faults.note(entry.place, FaultKind::Name)?;
+    }
+    if !used.insert(name.clone()?)? {
+        faults.note(entry.place, FaultKind::Twice)?;
+    }
+    Ok(name)
+}
+
+/// The names of all modules; what is wrong with them is kept.
+fn names_of(
+    alloc: Global,
+    entries: &[Entry],
+    root: &str,
+    faults: &mut Faults,
+) -> Result<Vec<String>, AllocError> {
+    let mut used = BTreeSet::new(alloc);
+    let mut names = Vec::new(alloc);
+    for entry in entries {
+        names.push(name_of(alloc, entry, root, &mut used, faults)?)?;
+    }
+    Ok(names)
+}
+
+/// The root folder where none is given: the deepest one that holds all files which no map found.
+fn deepest_folder(alloc: Global, entries: &[Entry]) -> Result<String, AllocError> {
+    let mut paths = Vec::new(alloc);
+    for entry in entries {
+        if entry.found.origin == Origin::Path {
+            paths.push(entry.found.path.as_str())?;
+        }
+    }
+    String::from_str(alloc, common_folder(paths.as_slice()))
+}
+
+/// The root folder, with a slash at its end; where it isn't there, that is kept.
+fn root_folder<F: Files>(
+    alloc: Global,
+    files: &F,
+    root: Option<&str>,
+    walk: &mut Walk,
+) -> Result<String, AllocError> {
+    let Some(root) = root else {
+        return deepest_folder(alloc, walk.entries.as_slice());
+    };
+    let Some(mut folder) = walk.noted(FaultPlace::Root, files.real_path(alloc, root))? else {
+        return Ok(String::new(alloc));
+    };
+    if !folder.ends_with('/') {
+        folder.push_str("/")?;
+    }
+    Ok(folder)
+}
+
+/// What was read and what is wrong.
+fn refusal(alloc: Global, walk: Walk) -> Result<Reading, AllocError> {
+    let Walk {
+        entries,
+        faults,
+        ..
+    } = walk;
+    let mut files = Vec::new(alloc);
+    for entry in entries {
+        let Entry { found, text, .. } = entry;
+        files.push(Attempt {
+            shown: found.shown,
+            text,
+        })?;
+    }
+    Ok(Reading {
+        files,
+        faults: faults.list,
+        further: faults.further,
+    })
+}
+
+/// The sources of files without fault.
+fn sources(
+    alloc: Global,
+    walk: Walk,
+    names: Vec<String>,
+    roots: Vec<usize>,
+) -> Result<Sources, AllocError> {
+    let Walk {
+        entries,
+        targets,
+        ..
+    } = walk;
+    let mut files = Vec::new(alloc);
+    for ((entry, name), targets) in entries.into_iter().zip(names).zip(targets) {
+        let Entry {
+            found,
+            text,
+            outline,
+            ..
+        } = entry;
+        let source = Source {
+            name,
+            shown: found.shown,
+            path: found.path,
+            uri: found.uri,
+            text,
+            outline,
+            targets,
+        };
+        files.push(source)?;
+    }
+    Ok(Sources { files, roots })
+}
+
+/// A fault of files that were all read.
+fn refused(alloc: Global, sources: Sources, fault: SourceFault) -> Result<Reading, AllocError> {
+    let Sources { files, .. } = sources;
+    let mut attempts = Vec::new(alloc);
+    for source in files {
+        let Source { shown, text, .. } = source;
+        attempts.push(Attempt { shown, text })?;
+    }
+    let faults = vec![in alloc; fault]?;
+    Ok(Reading {
+        files: attempts,
+        faults,
+        further: 0,
+    })
+}
+
+/// Sources without loops along references.
+fn checked(alloc: Global, sources: Sources) -> Result<Sources, ReadFault>
+    ensures { IfOk result (λ s. IsSound s) }
+{
+    match fault_of(alloc, &sources)? {
+        Some(fault) => Err(ReadFault::Faults(refused(alloc, sources, fault)?)),
+        None => Ok(sources),
+    }
+}
+
+/// Finds all files, and answers the numbers of those that are asked for.
+fn find_files<F: Files>(
+    alloc: Global,
+    files: &F,
+    asked: &Asked<'_>,
+    walk: &mut Walk,
+) -> Result<Vec<usize>, AllocError> {
+    let Some(current) = walk.noted(FaultPlace::Current, files.real_path(alloc, "."))? else {
+        return Ok(Vec::new(alloc));
+    };
+    let ways = Ways {
+        maps: asked.maps,
+        current: current.as_str(),
+    };
+    let roots = enter_words(alloc, files, &ways, walk, asked.files)?;
+    follow_all(alloc, files, &ways, walk)?;
+    Ok(roots)
+}
+
+/// Names all files.
+fn name_files<F: Files>(
+    alloc: Global,
+    files: &F,
+    asked: &Asked<'_>,
+    walk: &mut Walk,
+) -> Result<Vec<String>, AllocError> {
+    if !walk.faults.is_empty() {
+        return Ok(Vec::new(alloc));
+    }
+    let root = root_folder(alloc, files, asked.root, walk)?;
+    let names = names_of(
+        alloc,
+        walk.entries.as_slice(),
+        root.as_str(),
+        &mut walk.faults,
+    )?;
+    Ok(names)
+}
+
+/// The files that are asked for and all that they refer to, each one read once.
+///
+/// A literal of an include or an external is resolved against the URI of its file (RFC 3986, section 5.2; RELAX NG 4.5), and
+/// leads to a file below the folder of the longest map, or at the path of a `file` URI. One file is one source, however it
+/// is spelled; its URI is the first one that leads to it.
+///
+/// Refused are files that can't be read, texts that are no files of the language or have more than 4,194,304 bytes,
+/// references that name no file, more than 1,024 files, names of more than 200 bytes or of two files, files that don't lie
+/// below the root folder, and loops along references. Faults of all files are told, at most 20, and the others counted.
+pub fn read_sources<F: Files>(
+    alloc: Global,
+    files: &F,
+    asked: &Asked<'_>,
+) -> Result<Sources, ReadFault>
+    ensures { IfOk result (λ s. IsSound s) }
+{
+    let mut walk = Walk::new(alloc);
+    let roots = find_files(alloc, files, asked, &mut walk)?;
+    let names = name_files(alloc, files, asked, &mut walk)?;
+    if !walk.faults.is_empty() {
+        return Err(ReadFault::Faults(refusal(alloc, walk)?));
+    }
+    let sources = sources(alloc, walk, names, roots)?;
+    checked(alloc, sources)
+}

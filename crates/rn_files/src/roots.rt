@@ -1,0 +1,38 @@
+// Folders, and the deepest one that holds all files.
+
+/// A path up to its last slash, and with it; nothing where it has no slash.
+pub fn folder_of(path: &str) -> &str {
+    match path.rfind('/') {
+        Some(at) => &path[..at + 1],
+        None => "",
+    }
+}
+
+/// The folder that a folder lies in, where both end in a slash.
+fn outer(folder: &str) -> &str {
+    folder_of(folder.strip_suffix('/').unwrap_or(folder))
+}
+
+/// The deepest folder that has both the path and all of the folder in it.
+fn shared<'p>(folder: &'p str, path: &str) -> &'p str {
+    let mut shared = folder;
+    for _ in 0..folder.len() {
+        if path.starts_with(shared) {
+            break;
+        }
+        shared = outer(shared);
+    }
+    shared
+}
+
+/// The deepest folder that holds all files, with its last slash; nothing where there are none.
+pub fn common_folder<'p>(paths: &[&'p str]) -> &'p str {
+    let [first, others @ ..] = paths else {
+        return "";
+    };
+    let mut folder = folder_of(first);
+    for path in others {
+        folder = shared(folder, path);
+    }
+    folder
+}

@@ -1,0 +1,121 @@
+// What holds of all sources.
+ghost use Rattle.std.specs.Prelude.{◌≡◌, ◌==◌, true, IfNone, IfOk, length, string_bytes};
+ghost use Rattle.std.specs.List.{list_all};
+ghost use Rattle.rn_modset.specs.Contributions.{is_module_name};
+ghost use Rattle.rn_pattern.specs.Graph.{rows_of};
+ghost use Rattle.rn_files.specs.Sources.{IsSound, count_links, targets_of};
+
+use crate::cycles::{are_below, first_loop, is_graph};
+use crate::faults::{FaultKind, FaultPlace, SourceFault};
+use crate::following::link_of;
+use crate::sources::{Source, Sources};
+use rn_modset::is_module_name;
+use std::alloc::{AllocError, Global};
+
+/// The numbers of the files that a file's includes and externals mean.
+fn copied_targets(alloc: Global, source: &Source) -> Result<Vec<usize>, AllocError>
+    ensures { IfOk result (λ v. v.items ≡ source.now.targets.items) }
+{
+    Vec::from_slice(alloc, source.targets.as_slice())
+}
+
+/// For each file, the numbers of those that its includes and externals mean.
+fn edges_of(alloc: Global, files: &[Source]) -> Result<Vec<Vec<usize>>, AllocError>
+    ensures { IfOk result (λ edges. rows_of edges.items ≡ targets_of files.now) }
+{
+    let mut edges = Vec::new(alloc);
+    for source in files {
+        edges.push(copied_targets(alloc, source)?)?;
+    }
+    Ok(edges)
+}
+
+/// Whether the names of all files are those of modules.
+fn have_names(files: &[Source]) -> bool
+    ensures { result ≡ list_all (λ f. is_module_name (string_bytes f.name)) files.now }
+{
+    files
+        .iter()
+        .all(|source| is_module_name(source.name.as_str()))
+}
+
+/// How many includes and externals a file has.
+fn count_links(source: &Source) -> usize
+    ensures { result ≡ count_links source.now }
+{
+    source
+        .outline
+        .parts
+        .iter()
+        .filter(|part| link_of(part).is_some())
+        .count()
+}
+
+/// Whether each include and external of all files has a target.
+fn have_targets(files: &[Source]) -> bool
+    ensures { result ≡ list_all (λ f. length f.targets.items == count_links f) files.now }
+{
+    files
+        .iter()
+        .all(|source| source.targets.len() == count_links(source))
+}
+
+/// The byte where the link with this number begins.
+fn link_place(source: &Source, number: usize) -> usize {
+    match source.outline.parts.iter().filter_map(link_of).nth(number) {
+        Some((_, at)) => at,
+        None => 0,
+    }
+}
+
+/// Where a loop closes: the link of its last file that means its first one.
+fn closing_place(sources: &[Source], files: &[usize]) -> Option<FaultPlace> {
+    let first = files.first()?;
+    let file = *files.last()?;
+    let source = sources.get(file)?;
+    let number = source.targets.iter().position(|target| target == first)?;
+    let at = link_place(source, number);
+    Some(FaultPlace::Text { file, at })
+}
+
+/// That a file is meant or asked for which is none of the sources.
+fn stray() -> SourceFault {
+    SourceFault {
+        place: FaultPlace::Current,
+        kind: FaultKind::Count,
+    }
+}
+
+/// A loop along references, as a fault at the reference that closes it.
+fn closed_loop(sources: &[Source], looped: Vec<usize>) -> SourceFault {
+    let place = closing_place(sources, looped.as_slice()).unwrap_or(FaultPlace::Current);
+    SourceFault {
+        place,
+        kind: FaultKind::Loop(looped),
+    }
+}
+
+/// A loop along references; or that a file is meant or asked for that is none of the sources.
+pub fn fault_of(alloc: Global, sources: &Sources) -> Result<Option<SourceFault>, AllocError>
+    ensures { IfOk result (λ fault. IfNone fault (IsSound sources.now)) }
+{
+    let files = sources.files.as_slice();
+    let edges = edges_of(alloc, files)?;
+    let rows = edges.as_slice();
+    if !is_graph(rows) {
+        return Ok(Some(stray()));
+    }
+    if !are_below(sources.roots.as_slice(), files.len()) {
+        return Ok(Some(stray()));
+    }
+    if !have_names(files) {
+        return Ok(Some(stray()));
+    }
+    if !have_targets(files) {
+        return Ok(Some(stray()));
+    }
+    match first_loop(alloc, rows)? {
+        Some(looped) => Ok(Some(closed_loop(files, looped))),
+        None => Ok(None),
+    }
+}

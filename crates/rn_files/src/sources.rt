@@ -1,0 +1,44 @@
+// What is asked for, and what is answered.
+use crate::maps::Map;
+use rn_lift::Outline;
+
+/// The files that are asked for, `-` for standard input; the root folder, from which the names of modules are counted; and
+/// where URIs lie.
+#[derive(Clone, Copy)]
+pub struct Asked<'a> {
+    pub files: &'a [String],
+    pub root: Option<&'a str>,
+    pub maps: &'a [Map],
+}
+
+/// A file that was read.
+#[derive(Debug, Drop, PartialEq, Eq)]
+pub struct Source {
+    /// The name of its module.
+    pub name: String,
+    /// The file as it is told to people: as it was asked for, or its path from the current folder.
+    pub shown: String,
+    /// Its real path, or `-`.
+    pub path: String,
+    /// What its references are resolved against.
+    pub uri: String,
+    pub text: String,
+    pub outline: Outline,
+    /// For each external and include of the outline, in order, the number of the file that is meant.
+    pub targets: Vec<usize>,
+}
+
+/// The files that are asked for and all that they reach: first those asked for, and then as they are first referred to.
+#[derive(Debug, Drop, PartialEq, Eq)]
+pub struct Sources {
+    pub files: Vec<Source>,
+    /// The numbers of the files that are asked for, each once, in order.
+    pub roots: Vec<usize>,
+}
+
+/// A file as far as it was read: as much of its text as is UTF-8, none where it couldn't be read.
+#[derive(Debug, Drop, PartialEq, Eq)]
+pub struct Attempt {
+    pub shown: String,
+    pub text: String,
+}

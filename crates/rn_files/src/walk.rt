@@ -1,0 +1,138 @@
+// Files as they are found, each once.
+ghost use Rattle.std.specs.Prelude.{◌≤◌, vec_len};
+
+use crate::faults::{FaultKind, FaultPlace, Faults};
+use crate::files::FileFault;
+use crate::references::ReferenceFault;
+use crate::texts::empty_outline;
+use rn_lift::Outline;
+use std::alloc::{AllocError, Global};
+use std::collections::BTreeMap;
+
+/// The most files: as many as a set has modules.
+pub const MAX_SOURCES: usize = 1_024;
+
+/// How a file was found.
+#[derive(Clone, Copy, Debug, PartialEq, Eq)]
+pub enum Origin {
+    Input,
+    Path,
+    Map,
+}
+
+/// A file that was found: its real path, or `-`, how it is told to people, and what its references are resolved against.
+#[derive(Drop)]
+pub struct Found {
+    pub path: String,
+    pub shown: String,
+    pub uri: String,
+    pub origin: Origin,
+}
+
+/// A file that was found and where it was named first, and what was read of it.
+#[derive(Drop)]
+pub struct Entry {
+    pub found: Found,
+    pub place: FaultPlace,
+    pub text: String,
+    pub outline: Outline,
+}
+
+/// The files in the order in which they were found; of those that were followed, the numbers of the files that their links
+/// mean; the number of each path; and what is wrong.
+#[derive(Drop)]
+pub struct Walk {
+    pub entries: Vec<Entry>,
+    pub targets: Vec<Vec<usize>>,
+    pub numbers: BTreeMap<String, usize>,
+    pub faults: Faults,
+}
+
+impl Walk {
+    /// No files.
+    pub fn new(alloc: Global) -> Walk {
+        Walk {
+            entries: Vec::new(alloc),
+            targets: Vec::new(alloc),
+            numbers: BTreeMap::new(alloc),
+            faults: Faults::new(alloc),
+        }
+    }
+
+    /// What a file answered; a fault is kept, and is then none.
+    pub fn noted<T: Drop>(
+        &mut self,
+        place: FaultPlace,
+        answer: Result<T, FileFault>,
+    ) -> Result<Option<T>, AllocError>
+        ensures { vec_len self.old.entries ≤ vec_len self.new.entries }
+    {
+        match answer {
+            Ok(value) => Ok(Some(value)),
+            Err(FileFault::Memory) => Err(AllocError),
+            Err(fault) => {
+                self.faults.note(place, FaultKind::File(fault))?;
+                Ok(None)
+            }
+        }
+    }
+
+    /// What a reference stands for; a fault is kept, and is then none.
+    pub fn noted_reference<T: Drop>(
+        &mut self,
+        place: FaultPlace,
+        answer: Result<T, ReferenceFault>,
+    ) -> Result<Option<T>, AllocError>
+        ensures { vec_len self.old.entries ≤ vec_len self.new.entries }
+    {
+        match answer {
+            Ok(value) => Ok(Some(value)),
+            Err(ReferenceFault::Memory) => Err(AllocError),
+            Err(fault) => {
+                self.faults.note(place, FaultKind::Reference(fault))?;
+                Ok(None)
+            }
+        }
+    }
+
+    /// The number of a file that was found at a place; none where it would be one too many, which is a fault.
+    pub fn enter(
+        &mut self,
+        alloc: Global,
+        found: Found,
+        place: FaultPlace,
+    ) -> Result<Option<usize>, AllocError>
+        ensures { vec_len self.old.entries ≤ vec_len self.new.entries }
+    {
+        if let Some(number) = self.numbers.get(found.path.as_str()) {
+            return Ok(Some(*number));
+        }
+        if self.entries.len() >= MAX_SOURCES {
+            self.faults.note(place, FaultKind::Count)?;
+            return Ok(None);
+        }
+        self.add(alloc, found, place)
+    }
+
+    /// Puts a file behind the others.
+    fn add(
+        &mut self,
+        alloc: Global,
+        found: Found,
+        place: FaultPlace,
+    ) -> Result<Option<usize>, AllocError>
+        ensures { vec_len self.old.entries ≤ vec_len self.new.entries }
+    {
+        let number = self.entries.len();
+        let path = found.path.clone()?;
+        let entry = Entry {
+            found,
+            place,
+            text: String::new(alloc),
+            outline: empty_outline(alloc),
+        };
+        self.entries.push(entry)?;
+        self.numbers.insert(path, number)?;
+        Ok(Some(number))
+    }
+}

@@ -1,0 +1,34 @@
+-- What comes of a job.
+use Rattle.std.specs.Prelude.{ℕ, List, Option, Some, None, Result, Ok, Err, string_bytes}
+use Rattle.std.specs.Io.KnownBytes.{Appends}
+use Rattle.rn_simplify.specs.Verdict.{prints, IsVerdict}
+use Rattle.rn_lift.specs.declared.lifted.LiftedModule.{LiftedModule}
+use Rattle.rn_flat.specs.declared.fault.FlatFault.{FlatFault}
+use Rattle.rn_flat.specs.declared.words.Product.{Product}
+use Rattle.rn_flat.specs.declared.words.Product.TheVariants.{Schema, Bundle, List as Listing, Graph}
+use Rattle.rn_flat.specs.declared.words.Task.{Task}
+use Rattle.rn_flat.specs.declared.words.Task.TheVariants.{Write, Check}
+use Rattle.rn_flat.specs.Modules.{set_of_modules}
+
+-- the text is the schema of the set of these modules, each in revision 1
+abbrev pub IsSchemaOf : List LiftedModule → List ℕ → Type 0
+IsSchemaOf modules text = IsVerdict (set_of_modules modules) (prints text)
+
+-- the text is the schema of a set of modules
+pub record IsSchema (text : List ℕ) : Type 0 where
+  pub modules : List LiftedModule
+  pub is_schema : IsSchemaOf modules text
+
+-- a product that is the schema is the text of one
+abbrev pub IsProduct : Product → List ℕ → Type 0
+IsProduct Schema text = IsSchema text
+IsProduct Bundle text = Unit {0}
+IsProduct Listing text = Unit {0}
+IsProduct Graph text = Unit {0}
+
+-- what a job that is done did: standard output, or the file, has the product; or the file that is checked is a schema
+abbrev pub Delivers : {T : Type 0} → Task → Option (List ℕ) → Option (List ℕ) → (List ℕ → List ℕ → Type 0) → (List ℕ → List ℕ → Type 0) → Result T FlatFault → Type 0
+Delivers (Write product None) old new holds gives (Ok x) = (text : List ℕ) × IsProduct product text × Appends old new text
+Delivers (Write product (Some path)) old new holds gives (Ok x) = (text : List ℕ) × IsProduct product text × holds (string_bytes path) text
+Delivers (Check file) old new holds gives (Ok x) = (text : List ℕ) × IsSchema text × gives (string_bytes file) text
+Delivers task old new holds gives (Err fault) = Unit {0}

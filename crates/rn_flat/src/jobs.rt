@@ -1,0 +1,213 @@
+// What the program does.
+ghost use Rattle.std.specs.Prelude.{◌≡◌, false, IfOk};
+ghost use Rattle.rn_simplify.specs.Verdict.{prints, IsVerdict};
+ghost use Rattle.rn_flat.specs.Faults.{LeavesOutput};
+ghost use Rattle.rn_flat.specs.Modules.{IsSetOf};
+ghost use Rattle.rn_flat.specs.Runs.{Delivers, IsProduct, IsSchema, IsSchemaOf};
+
+use crate::compare::check_file;
+use crate::fault::{FlatFault, refused};
+use crate::modules::set_of;
+use crate::outputs::{Outputs, write_file, write_standard};
+use crate::products::{graph_text, list_text};
+use crate::readings::reading_fault;
+use crate::words::{Job, Product, Task};
+use rn_assemble::Refusal;
+use rn_files::{Asked, Files, MAX_FAULTS, Source, Sources, read_sources};
+use rn_lift::{LiftFaultKind, Lifted, LiftedModule, Lifting, lift};
+use rn_merge::{Place, Sink, check, merge};
+use rn_modset::{AddFault, ModuleSet, write_bundle};
+use rn_tell::{
+    Colours, Grade, Message, Spot, check_sentence, lift_message, refusal_message, set_message,
+};
+use std::alloc::{AllocError, Global};
+
+/// Reads the files of a job with all that they reach, makes what is asked for, and writes or compares it. Nothing is written
+/// where there is a fault. `Refused` where the files are no schema, or the file that is checked is not the schema; `Unread`
+/// where a file can't be read; `Unwritten` where the output failed: a file is then as it was, standard output took a front.
+pub fn perform<F: Files, S: Outputs, W: Sink>(
+    alloc: Global,
+    files: &F,
+    job: &Job,
+    colours: Colours,
+    outputs: &mut S,
+    out: &mut W,
+) -> Result<(), FlatFault>
+    requires { W.has_failed out.old ≡ false }
+    ensures delivers { Delivers job.now.task (W.contents out.old) (W.contents out.new)
+        (S.holds outputs.new) (F.gives files.now) result }
+    ensures sink { LeavesOutput result (out.new ≡ out.old) }
+    ensures outputs { LeavesOutput result (outputs.new ≡ outputs.old) }
+{
+    let asked = Asked {
+        files: job.files.as_slice(),
+        root: job.root.as_ref().map(|root| root.as_str()),
+        maps: job.maps.as_slice(),
+    };
+    let sources = match read_sources(alloc, files, &asked) {
+        Ok(sources) => sources,
+        Err(reading) => return Err(reading_fault(alloc, &asked, &reading, colours)),
+    };
+    match &job.task {
+        Task::Write { product, output } => {
+            let text = product_text(alloc, &sources, *product, colours)?;
+            match output {
+                Some(path) => write_file(alloc, outputs, path.as_str(), text.as_slice()),
+                None => write_standard(alloc, out, text.as_slice()),
+            }
+        }
+        Task::Check { file } => {
+            let text = product_text(alloc, &sources, Product::Schema, colours)?;
+            check_file(alloc, files, file.as_str(), text.as_slice(), colours)
+        }
+    }
+}
+
+/// What is asked for, made of the files.
+fn product_text(
+    alloc: Global,
+    sources: &Sources,
+    product: Product,
+    colours: Colours,
+) -> Result<Vec<u8>, FlatFault>
+    ensures { IfOk result (λ text. IsProduct product text.items) }
+{
+    let files = sources.files.as_slice();
+    match product {
+        Product::Schema => schema_text(alloc, sources, colours),
+        Product::Bundle => bundle(alloc, sources, colours),
+        Product::List => {
+            let lifted = lifted(alloc, sources, colours)?;
+            Ok(list_text(alloc, &lifted, files)?.into_bytes())
+        }
+        Product::Graph => Ok(graph_text(alloc, files)?.into_bytes()),
+    }
+}
+
+/// The schema, made of the files.
+fn schema_text(alloc: Global, sources: &Sources, colours: Colours) -> Result<Vec<u8>, FlatFault>
+    ensures { IfOk result (λ text. IsSchema text.items) }
+{
+    let lifted = lifted(alloc, sources, colours)?;
+    schema(alloc, &lifted, sources.files.as_slice(), colours)
+}
+
+/// The bundle of the modules, made of the files.
+fn bundle(alloc: Global, sources: &Sources, colours: Colours) -> Result<Vec<u8>, FlatFault> {
+    let lifted = lifted(alloc, sources, colours)?;
+    let set = module_set(alloc, &lifted, sources.files.as_slice(), colours)?;
+    Ok(write_bundle(alloc, &set)?)
+}
+
+/// The modules that the files become.
+fn lifted(alloc: Global, sources: &Sources, colours: Colours) -> Result<Lifted, FlatFault> {
+    let mut files = Vec::new(alloc);
+    for file in sources.files.as_slice() {
+        files.push(Lifting {
+            name: file.name.as_str(),
+            text: file.text.as_str(),
+            outline: &file.outline,
+            targets: file.targets.as_slice(),
+        })?;
+    }
+    match lift(alloc, files.as_slice(), sources.roots.as_slice()) {
+        Ok(lifted) => Ok(lifted),
+        Err(fault) if fault.kind == LiftFaultKind::Memory => Err(FlatFault::Memory),
+        Err(fault) => {
+            let message = lift_message(alloc, &fault)?;
+            Err(refused(alloc, sources.files.as_slice(), &[message], colours)?)
+        }
+    }
+}
+
+/// The set of the modules.
+fn module_set(
+    alloc: Global,
+    lifted: &Lifted,
+    files: &[Source],
+    colours: Colours,
+) -> Result<ModuleSet, FlatFault>
+    ensures { IfOk result (IsSetOf lifted.now.modules.items) }
+{
+    match set_of(alloc, lifted.modules.as_slice()) {
+        Ok(set) => Ok(set),
+        Err(fault) if fault.fault == AddFault::Memory => Err(FlatFault::Memory),
+        Err(fault) => {
+            let message = set_message(alloc, lifted, fault.module, &fault.fault)?;
+            Err(refused(alloc, files, &[message], colours)?)
+        }
+    }
+}
+
+/// The schema of the modules.
+fn schema(
+    alloc: Global,
+    lifted: &Lifted,
+    files: &[Source],
+    colours: Colours,
+) -> Result<Vec<u8>, FlatFault>
+    ensures { IfOk result (λ text. IsSchemaOf lifted.now.modules.items text.items) }
+{
+    let set = module_set(alloc, lifted, files, colours)?;
+    match merged(alloc, &set) {
+        Ok(text) => Ok(text),
+        Err(Refusal::Memory) => Err(FlatFault::Memory),
+        Err(refusal) => {
+            let messages = refusal_messages(alloc, lifted, files, &refusal)?;
+            Err(refused(alloc, files, messages.as_slice(), colours)?)
+        }
+    }
+}
+
+/// The bytes of the schema of a set.
+fn merged(alloc: Global, set: &ModuleSet) -> Result<Vec<u8>, Refusal>
+    ensures { IfOk result (λ text. IsVerdict set.now (prints text.items)) }
+{
+    match merge(alloc, set) {
+        Ok(text) => Ok(text.into_bytes()),
+        Err(refusal) => Err(refusal),
+    }
+}
+
+/// The messages of a refusal: of each faulty text, up to 20, the refused one first, or the one of the set.
+fn refusal_messages(
+    alloc: Global,
+    lifted: &Lifted,
+    files: &[Source],
+    refusal: &Refusal,
+) -> Result<Vec<Message>, AllocError> {
+    let mut messages = Vec::new(alloc);
+    for module in lifted.modules.as_slice() {
+        if let Err(place) = check(alloc, module.text.as_bytes()) {
+            let message = text_message(alloc, module, &place)?;
+            let is_new = messages
+                .iter()
+                .all(|told: &Message| told.spot != message.spot);
+            if is_new && messages.len() < MAX_FAULTS {
+                messages.push(message)?;
+            }
+        }
+    }
+    if messages.is_empty() {
+        messages.push(refusal_message(alloc, files, lifted, refusal)?)?;
+    }
+    Ok(messages)
+}
+
+/// The message of the fault of a module's text, at its place in the file.
+fn text_message(
+    alloc: Global,
+    module: &LiftedModule,
+    place: &Place,
+) -> Result<Message, AllocError> {
+    let (at, sentence) = check_sentence(alloc, module.text.as_str(), place)?;
+    let spot = module.origin(at).map(|origin| Spot {
+        file: origin.0,
+        at: origin.1,
+    });
+    Ok(Message {
+        grade: Grade::Error,
+        spot,
+        sentence,
+    })
+}

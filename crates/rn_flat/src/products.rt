@@ -1,0 +1,61 @@
+// What is made of the modules and the files besides the schema.
+use rn_files::Source;
+use rn_lift::{Lifted, LiftedModule, PartKind};
+use std::alloc::{AllocError, Global};
+
+/// A line for each module: its name and the file that it comes from.
+pub fn list_text(alloc: Global, lifted: &Lifted, files: &[Source]) -> Result<String, AllocError> {
+    let mut lines = String::new(alloc);
+    for module in lifted.modules.as_slice() {
+        lines.push_str(module.name.as_str())?;
+        lines.push_str(" ")?;
+        lines.push_str(file_of(module, files))?;
+        lines.push_str("\n")?;
+    }
+    Ok(lines)
+}
+
+/// The file that a module comes from.
+fn file_of<'a>(module: &LiftedModule, files: &'a [Source]) -> &'a str {
+    module
+        .origin(0)
+        .and_then(|origin| files.get(origin.0))
+        .map_or("-", |file| file.shown.as_str())
+}
+
+/// The files and what each includes, as a directed graph of Graphviz; what it refers to by `external` is dashed.
+pub fn graph_text(alloc: Global, files: &[Source]) -> Result<String, AllocError> {
+    let mut text = String::from_str(alloc, "digraph schema {\n")?;
+    for file in files {
+        let name = file.name.as_str();
+        text.push_str(format!(in alloc; "    \"{name}\";\n")?.as_str())?;
+    }
+    for file in files {
+        push_edges(alloc, &mut text, files, file)?;
+    }
+    text.push_str("}\n")?;
+    Ok(text)
+}
+
+/// The edges from one file.
+fn push_edges(
+    alloc: Global,
+    text: &mut String,
+    files: &[Source],
+    file: &Source,
+) -> Result<(), AllocError> {
+    let name = file.name.as_str();
+    let links = file.outline.links(alloc)?;
+    for (link, target) in links.iter().zip(file.targets.as_slice()) {
+        let Some(other) = files.get(*target) else {
+            continue;
+        };
+        let other = other.name.as_str();
+        let style = match file.outline.parts.get(*link).map(|part| &part.kind) {
+            Some(PartKind::External { .. }) => " [style=dashed]",
+            _ => "",
+        };
+        text.push_str(format!(in alloc; "    \"{name}\" -> \"{other}\"{style};\n")?.as_str())?;
+    }
+    Ok(())
+}

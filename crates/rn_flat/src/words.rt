@@ -1,0 +1,304 @@
+// What the words of a call ask for.
+
+use clap::error::ErrorKind;
+use clap::{Arg, ArgAction, ArgMatches, Command};
+use rn_files::Map;
+use std::alloc::{AllocError, Global};
+use std::error::Error;
+use std::fmt;
+
+/// The word for standard input and standard output.
+pub const STANDARD: &str = "-";
+
+/// What is said above the options.
+const ABOUT: &str =
+    "Reads RELAX NG schemas in the compact syntax, with all files that they include or refer to, and prints one flat schema in one canonical spelling.";
+
+/// What is said below the options.
+const AFTER: &str =
+    "A FILE of - is standard input. Status: 0 done; 1 the schema is refused, or differs from the file of --check; 2 these words can't be understood; 3 a file, the output or memory.";
+
+/// What is made of the files.
+#[derive(Clone, Copy, Debug, PartialEq, Eq)]
+pub enum Product {
+    /// The flat schema.
+    Schema,
+    /// The bundle of the modules, which rnc-merge reads.
+    Bundle,
+    /// A line for each module, with its file.
+    List,
+    /// The modules and what they include, as a Graphviz text.
+    Graph,
+}
+
+/// What is done with it.
+#[derive(Debug, Drop, PartialEq, Eq)]
+pub enum Task {
+    /// A product is written to standard output, or to a file: whole, or not at all.
+    Write {
+        product: Product,
+        output: Option<String>,
+    },
+    /// The schema is compared with a file, and nothing is written.
+    Check {
+        file: String,
+    },
+}
+
+/// What the program is to do. A file is a path, or `-` for standard input, which is read once at most.
+#[derive(Debug, Drop)]
+pub struct Job {
+    pub files: Vec<String>,
+    pub root: Option<String>,
+    pub maps: Vec<Map>,
+    pub task: Task,
+}
+
+/// What the words are.
+#[derive(Debug, Drop)]
+pub enum Words {
+    Job(Job),
+    /// A text is asked for: the help, or the version.
+    Shown(String),
+}
+
+/// Why the words ask for nothing.
+#[derive(Debug, Drop, PartialEq, Eq)]
+pub enum WordsFault {
+    /// They can't be understood, and this says why.
+    Usage(String),
+    /// A request for memory was refused.
+    Memory,
+}
+
+impl fmt::Display for WordsFault {
+    fn fmt<W: fmt::Write>(&self, f: &mut fmt::Formatter<W>) -> fmt::Result {
+        match self {
+            WordsFault::Usage(text) => f.write_str(text.as_str()),
+            WordsFault::Memory => f.write_str("out of memory"),
+        }
+    }
+}
+
+impl Error for WordsFault {}
+
+impl From<AllocError> for WordsFault {
+    ghost use Rattle.std.specs.Prelude.{◌≡◌};
+    ghost use Rattle.rn_flat.specs.declared.words.WordsFault.TheVariants.{Memory};
+
+    ghost from_gives = { λ _ fault. fault ≡ Memory };
+
+    fn from(_: AllocError) -> Self {
+        WordsFault::Memory
+    }
+}
+
+/// What the words behind the program's name ask for. No file is read. `Usage` where an option is unknown, lacks its value,
+/// is given twice or contradicts another, where no file is named, where a map is not `PREFIX=FOLDER`, or where standard
+/// input would be read twice.
+pub fn plan(alloc: Global, words: &[String]) -> Result<Words, WordsFault> {
+    match program(alloc)?.try_get_matches_from(words) {
+        Ok(matches) => asked_for(alloc, &matches),
+        Err(error) => match error.kind() {
+            ErrorKind::OutOfMemory => Err(WordsFault::Memory),
+            ErrorKind::DisplayHelp | ErrorKind::DisplayVersion => Ok(Words::Shown(format!(in alloc;
+                "{error}"
+            )?)),
+            _ => Err(WordsFault::Usage(format!(in alloc; "{error}")?)),
+        },
+    }
+}
+
+/// The options and their words.
+fn program<'a>(alloc: Global) -> Result<Command<'a>, AllocError> {
+    let program = Command::new(alloc, "rnc-flat")
+        .no_binary_name(true)
+        .version("1.0")
+        .about(ABOUT)
+        .after_help(AFTER)
+        .arg(files(alloc))?
+        .arg(valued(
+            alloc,
+            "output",
+            "FILE",
+            "Write to FILE, whole or not at all",
+        )
+        .short('o'))?
+        .arg(valued(
+            alloc,
+            "check",
+            "FILE",
+            "Write nothing, and say whether FILE is the schema",
+        ))?
+        .arg(flag(
+            alloc,
+            "bundle",
+            "Write the modules as a bundle for rnc-merge",
+        ))?
+        .arg(flag(alloc, "list", "Write each module with its file"))?;
+    let program = program
+        .arg(flag(
+            alloc,
+            "graph",
+            "Write what includes what, as a Graphviz text",
+        ))?
+        .arg(map_option(alloc))?
+        .arg(valued(
+            alloc,
+            "root",
+            "FOLDER",
+            "Name the modules by their paths below FOLDER",
+        ))?;
+    Ok(program)
+}
+
+/// The files, one or more.
+fn files<'a>(alloc: Global) -> Arg<'a> {
+    Arg::new(alloc, "FILE")
+        .required(true)
+        .num_args(1..)
+        .action(ArgAction::Append)
+        .help("The schemas, whose definitions are combined")
+}
+
+/// An option with a value, given once at most.
+fn valued<'a>(alloc: Global, name: &'a str, value: &'a str, help: &'a str) -> Arg<'a> {
+    Arg::new(alloc, name)
+        .long(name)
+        .value_name(value)
+        .action(ArgAction::Set)
+        .help(help)
+}
+
+/// An option without a value.
+fn flag<'a>(alloc: Global, name: &'a str, help: &'a str) -> Arg<'a> {
+    Arg::new(alloc, name)
+        .long(name)
+        .action(ArgAction::SetTrue)
+        .help(help)
+}
+
+/// The option that says where the files of a URI are.
+fn map_option<'a>(alloc: Global) -> Arg<'a> {
+    Arg::new(alloc, "map")
+        .long("map")
+        .value_name("PREFIX=FOLDER")
+        .action(ArgAction::Append)
+        .help("Look in FOLDER for what a URI that begins with PREFIX refers to")
+}
+
+/// What the words ask for, which are understood one by one.
+fn asked_for(alloc: Global, words: &ArgMatches<'_>) -> Result<Words, WordsFault> {
+    let files = copies(alloc, words.get_strs("FILE").unwrap_or(&[]))?;
+    let maps = maps(alloc, words.get_strs("map").unwrap_or(&[]))?;
+    let task = asked_task(alloc, words)?;
+    let root = copy(alloc, words.get_str("root"))?;
+    if is_named_twice(files.as_slice(), &task) {
+        return usage(alloc, "standard input can't be read twice");
+    }
+    Ok(Words::Job(Job {
+        files,
+        root,
+        maps,
+        task,
+    }))
+}
+
+/// Whether standard input is to be read more than once.
+fn is_named_twice(files: &[String], task: &Task) -> bool {
+    let named = files
+        .iter()
+        .filter(|file| file.as_str() == STANDARD)
+        .count();
+    match task {
+        Task::Check { file } if file.as_str() == STANDARD => named > 0,
+        _ => named > 1,
+    }
+}
+
+/// What is done. Of the products one at most may be asked for, and none with `--check`.
+fn asked_task(alloc: Global, words: &ArgMatches<'_>) -> Result<Task, WordsFault> {
+    let product = asked_product(alloc, words)?;
+    let output = copy(alloc, words.get_str("output"))?;
+    let Some(file) = copy(alloc, words.get_str("check"))? else {
+        return Ok(Task::Write {
+            product,
+            output: output.filter(|file| file.as_str() != STANDARD),
+        });
+    };
+    if output.is_some() {
+        return contradiction(alloc, "check", "output");
+    }
+    match product {
+        Product::Schema => Ok(Task::Check { file }),
+        Product::Bundle => contradiction(alloc, "check", "bundle"),
+        Product::List => contradiction(alloc, "check", "list"),
+        Product::Graph => contradiction(alloc, "check", "graph"),
+    }
+}
+
+/// The one product that is asked for.
+fn asked_product(alloc: Global, words: &ArgMatches<'_>) -> Result<Product, WordsFault> {
+    let bundle = words.get_flag("bundle");
+    let list = words.get_flag("list");
+    let graph = words.get_flag("graph");
+    match (bundle, list, graph) {
+        (false, false, false) => Ok(Product::Schema),
+        (true, false, false) => Ok(Product::Bundle),
+        (false, true, false) => Ok(Product::List),
+        (false, false, true) => Ok(Product::Graph),
+        (true, true, _) => contradiction(alloc, "bundle", "list"),
+        (true, _, true) => contradiction(alloc, "bundle", "graph"),
+        (_, true, true) => contradiction(alloc, "list", "graph"),
+    }
+}
+
+/// The maps of these words. A word ends its prefix at the first `=`.
+fn maps(alloc: Global, words: &[&str]) -> Result<Vec<Map>, WordsFault> {
+    let mut maps = Vec::new(alloc);
+    for word in words {
+        match word.split_once('=') {
+            Some((prefix, folder)) if !prefix.is_empty() && !folder.is_empty() => {
+                let map = Map {
+                    prefix: String::from_str(alloc, prefix)?,
+                    folder: String::from_str(alloc, folder)?,
+                };
+                maps.push(map).map_err(|_| WordsFault::Memory)?;
+            }
+            _ => return usage(alloc, "the value of --map must be PREFIX=FOLDER"),
+        }
+    }
+    Ok(maps)
+}
+
+/// A copy of a word that is given.
+fn copy(alloc: Global, word: Option<&str>) -> Result<Option<String>, AllocError> {
+    match word {
+        Some(word) => Ok(Some(String::from_str(alloc, word)?)),
+        None => Ok(None),
+    }
+}
+
+/// Copies of the words.
+fn copies(alloc: Global, words: &[&str]) -> Result<Vec<String>, AllocError> {
+    let mut copies = Vec::new(alloc);
+    for word in words {
+        copies.push(String::from_str(alloc, word)?)?;
+    }
+    Ok(copies)
+}
+
+/// Two options can't be given together.
+fn contradiction<T>(alloc: Global, one: &str, other: &str) -> Result<T, WordsFault> {
+    usage(
+        alloc,
+        format!(in alloc; "--{one} can't be given with --{other}")?.as_str(),
+    )
+}
+
+/// What is wrong with the words, and where to look.
+fn usage<T>(alloc: Global, wrong: &str) -> Result<T, WordsFault> {
+    Err(WordsFault::Usage(format!(in alloc;
+        "error: {wrong}\n\nFor more information, try '--help'.\n"
+    )?))
+}

@@ -1,0 +1,4 @@
+pub mod Cursor
+pub mod Names
+pub mod Origins
+pub mod Spans

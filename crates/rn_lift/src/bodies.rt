@@ -1,0 +1,210 @@
+// The bodies of definitions that an except may hold, cut into what is copied and what is replaced.
+ghost use Rattle.std.specs.Prelude.{◌<◌, length, IfOk, IfSome};
+ghost use Rattle.rn_lift.specs.Cursor.{Advanced};
+
+use crate::parts::{Part, PartKind, Span};
+use crate::signs::{Sign, sign_at};
+use crate::skips::{annotation, follow};
+use crate::units::Units;
+use rn_text::{Kind, Token, tokens};
+use std::alloc::{AllocError, Global};
+use std::collections::BTreeMap;
+
+/// A piece of a body.
+#[derive(Drop)]
+pub(crate) enum Chunk {
+    /// Tokens, with spaces between.
+    Text(String),
+    /// A datatype with a prefix.
+    Datatype { prefix: String, local: String },
+    /// The part of this number, which stands for something else.
+    Link(usize),
+}
+
+#[derive(Drop)]
+pub(crate) struct Bodies {
+    bodies: Vec<Vec<Chunk>>,
+    /// By file and part.
+    numbers: BTreeMap<(usize, usize), usize>,
+}
+
+impl Bodies {
+    pub(crate) fn new(alloc: Global) -> Self {
+        Bodies {
+            bodies: Vec::new(alloc),
+            numbers: BTreeMap::new(alloc),
+        }
+    }
+
+    /// A chunk of a body.
+    pub(crate) fn chunk(&self, body: usize, chunk: usize) -> Option<&Chunk> {
+        self.bodies.get(body)?.get(chunk)
+    }
+
+    /// The number of the body of a definition.
+    pub(crate) fn number(
+        &mut self,
+        alloc: Global,
+        units: &Units<'_>,
+        file: usize,
+        part: usize,
+    ) -> Result<usize, AllocError> {
+        if let Some(number) = self.numbers.get(&(file, part)) {
+            return Ok(*number);
+        }
+        let number = self.bodies.len();
+        self.bodies.push(chunks(alloc, units, file, part)?)?;
+        self.numbers.insert((file, part), number)?;
+        Ok(number)
+    }
+}
+
+/// The chunks of the body of a definition.
+fn chunks(
+    alloc: Global,
+    units: &Units<'_>,
+    file: usize,
+    part: usize,
+) -> Result<Vec<Chunk>, AllocError> {
+    let Some(given) = units.files.get(file) else {
+        return Ok(Vec::new(alloc));
+    };
+    let outline = given.file.outline;
+    let parts = outline.parts.as_slice();
+    let body = match parts.get(part) {
+        Some(part) => body_of(part),
+        None => Span { from: 0, to: 0 },
+    };
+    let text = given.file.text.get(body.from..body.to).unwrap_or("");
+    let Ok(tokens) = tokens(alloc, text.as_bytes()) else {
+        return Err(AllocError);
+    };
+    let mut cutter = Cutter {
+        chunks: Vec::new(alloc),
+        from: body.from,
+        next: part.saturating_add(1),
+    };
+    cutter.cut(alloc, parts, tokens.as_slice())?;
+    Ok(cutter.chunks)
+}
+
+fn body_of(part: &Part) -> Span {
+    match &part.kind {
+        PartKind::Define { body, .. } | PartKind::Start { body, .. } => *body,
+        _ => part.at,
+    }
+}
+
+/// Cuts the tokens of a body.
+#[derive(Drop)]
+struct Cutter {
+    chunks: Vec<Chunk>,
+    /// Where the body begins in its file.
+    from: usize,
+    /// The number of the next part.
+    next: usize,
+}
+
+impl Cutter {
+    fn cut(
+        &mut self,
+        alloc: Global,
+        parts: &[Part],
+        tokens: &[Token<'_>],
+    ) -> Result<(), AllocError> {
+        let mut at = 0;
+        'tokens: while at < tokens.len() {
+            at = self.step(alloc, parts, tokens, at)?;
+        }
+        Ok(())
+    }
+
+    /// Cuts off what begins with a token: what stands behind that.
+    fn step(
+        &mut self,
+        alloc: Global,
+        parts: &[Part],
+        tokens: &[Token<'_>],
+        at: usize,
+    ) -> Result<usize, AllocError>
+        requires { at < length tokens.now }
+        ensures { IfOk result (λ r. Advanced at r (length tokens.now)) }
+    {
+        if let Some(end) = note_end(tokens, at) {
+            return Ok(end);
+        }
+        let token = &tokens[at];
+        let begin = self.from.saturating_add(token.start);
+        if let Some(part) = self.part_at(parts, begin) {
+            self.chunks.push(Chunk::Link(self.next))?;
+            self.next = self.next.saturating_add(1);
+            return Ok(behind(tokens, at, part.at.to.saturating_sub(self.from)));
+        }
+        self.push(alloc, token)?;
+        Ok(at + 1)
+    }
+
+    /// The part that begins at a byte.
+    fn part_at<'p>(&mut self, parts: &'p [Part], begin: usize) -> Option<&'p Part> {
+        for part in parts.get(self.next..)? {
+            if part.at.from >= begin {
+                return if part.at.from == begin {
+                    Some(part)
+                } else {
+                    None
+                };
+            }
+            self.next = self.next.saturating_add(1);
+        }
+        None
+    }
+
+    fn push(&mut self, alloc: Global, token: &Token<'_>) -> Result<(), AllocError> {
+        if token.kind == Kind::Prefixed {
+            if let Some((prefix, local)) = token.text.split_once(':') {
+                self.push_text(alloc, " ")?;
+                self.chunks.push(Chunk::Datatype {
+                    prefix: String::from_str(alloc, prefix)?,
+                    local: String::from_str(alloc, local)?,
+                })?;
+                return Ok(());
+            }
+        }
+        self.push_text(alloc, " ")?;
+        self.push_text(alloc, token.text)
+    }
+
+    /// Adds to the text at the end.
+    fn push_text(&mut self, alloc: Global, text: &str) -> Result<(), AllocError> {
+        if let Some(Chunk::Text(last)) = self.chunks.last_mut() {
+            return last.push_str(text);
+        }
+        self.chunks
+            .push(Chunk::Text(String::from_str(alloc, text)?))?;
+        Ok(())
+    }
+}
+
+/// What stands behind the annotation or the following annotation that begins with a token.
+fn note_end(tokens: &[Token<'_>], at: usize) -> Option<usize>
+    ensures { IfSome result (λ r. Advanced at r (length tokens.now)) }
+{
+    match sign_at(tokens, at) {
+        Sign::LeftBracket => annotation(tokens, at).ok(),
+        Sign::Follow => follow(tokens, at + 1).ok(),
+        _ => None,
+    }
+}
+
+/// The first token behind one that does not begin before a byte.
+fn behind(tokens: &[Token<'_>], at: usize, byte: usize) -> usize
+    requires { at < length tokens.now }
+    ensures { Advanced at result (length tokens.now) }
+{
+    for number in at + 1..tokens.len() {
+        if tokens[number].start >= byte {
+            return number;
+        }
+    }
+    tokens.len()
+}

@@ -1,0 +1,316 @@
+// What references in excepts stand for (RELAX NG 2001, 7.1.4).
+
+use crate::bodies::{Bodies, Chunk};
+use crate::definitions::{Definition, Definitions, Key};
+use crate::lifted::{LiftFault, LiftFaultKind};
+use crate::parts::{Method, Part, PartKind};
+use crate::prefixes::Prefixes;
+use crate::scopes::Plan;
+use crate::units::{Unit, Units};
+use std::alloc::{AllocError, Global};
+use std::collections::BTreeSet;
+
+/// How many bytes all texts in excepts may have together, which is what a printed text may have.
+const LIMIT: usize = 4_194_304;
+
+/// What stands in the place of the references in excepts of a place, and the declarations that it needs.
+#[derive(Drop)]
+pub(crate) struct Spliced {
+    pub(crate) declarations: String,
+    /// By the numbers of the parts, which rise.
+    texts: Vec<(usize, String)>,
+}
+
+impl Spliced {
+    /// What stands in the place of a part.
+    pub(crate) fn text(&self, part: usize) -> Option<&String> {
+        let number = self.texts.binary_search_by(|text| text.0.cmp(&part)).ok()?;
+        Some(&self.texts.get(number)?.1)
+    }
+}
+
+#[derive(Drop)]
+pub(crate) struct Excepts {
+    definitions: Definitions,
+    bodies: Bodies,
+    /// How many bytes are left of the limit.
+    left: usize,
+}
+
+/// What is still to be written, last first.
+#[derive(Drop)]
+enum Task {
+    Text(&'static str),
+    /// A body of a definition at a place, from a chunk on.
+    Body {
+        place: usize,
+        body: usize,
+        next: usize,
+    },
+    /// The end of what a key stands for.
+    Leave(Key),
+}
+
+/// A reference in an except that is followed: where it is, and what was written for it so far.
+#[derive(Drop)]
+struct Trail {
+    file: usize,
+    at: usize,
+    text: String,
+    tasks: Vec<Task>,
+    /// What is being followed.
+    open: BTreeSet<Key>,
+}
+
+impl Trail {
+    fn fault(&self, kind: LiftFaultKind) -> LiftFault {
+        LiftFault {
+            file: self.file,
+            at: self.at,
+            kind,
+        }
+    }
+}
+
+impl Excepts {
+    pub(crate) fn new(alloc: Global, units: &Units<'_>, plan: &Plan) -> Result<Self, AllocError> {
+        Ok(Excepts {
+            definitions: Definitions::of(alloc, units, plan)?,
+            bodies: Bodies::new(alloc),
+            left: LIMIT,
+        })
+    }
+
+    /// What stands in the place of the references in excepts of a place.
+    pub(crate) fn splice(
+        &mut self,
+        alloc: Global,
+        units: &Units<'_>,
+        plan: &Plan,
+        place: usize,
+        unit: &Unit,
+    ) -> Result<Spliced, LiftFault> {
+        let mut texts = Vec::new(alloc);
+        let mut prefixes = Prefixes::new(alloc, unit.file);
+        for piece in &unit.parts {
+            if let Some(part) = units.part(unit, *piece) {
+                if part.in_except {
+                    let trail = new_trail(alloc, unit.file, part.at.from);
+                    let text = self.followed(
+                        alloc,
+                        units,
+                        plan,
+                        &mut prefixes,
+                        trail,
+                        place,
+                        piece.part,
+                    )?;
+                    texts.push((piece.part, text))?;
+                }
+            }
+        }
+        Ok(Spliced {
+            declarations: prefixes.into_declarations(),
+            texts,
+        })
+    }
+
+    /// What a part in an except stands for.
+    fn followed(
+        &mut self,
+        alloc: Global,
+        units: &Units<'_>,
+        plan: &Plan,
+        prefixes: &mut Prefixes,
+        mut trail: Trail,
+        place: usize,
+        part: usize,
+    ) -> Result<String, LiftFault> {
+        self.open(alloc, units, plan, &mut trail, place, part)?;
+        for _ in 0..LIMIT {
+            let Some(task) = trail.tasks.pop() else {
+                self.left = self.left.saturating_sub(trail.text.len());
+                return Ok(trail.text);
+            };
+            self.step(alloc, units, plan, prefixes, &mut trail, task)?;
+            if trail.text.len() > self.left {
+                break;
+            }
+        }
+        Err(trail.fault(LiftFaultKind::Long))
+    }
+
+    fn step(
+        &mut self,
+        alloc: Global,
+        units: &Units<'_>,
+        plan: &Plan,
+        prefixes: &mut Prefixes,
+        trail: &mut Trail,
+        task: Task,
+    ) -> Result<(), LiftFault> {
+        match task {
+            Task::Text(text) => Ok(trail.text.push_str(text)?),
+            Task::Leave(key) => {
+                trail.open.remove(&key);
+                Ok(())
+            }
+            Task::Body { place, body, next } => {
+                self.step_body(alloc, units, plan, prefixes, trail, place, body, next)
+            }
+        }
+    }
+
+    /// Writes a chunk of a body.
+    fn step_body(
+        &mut self,
+        alloc: Global,
+        units: &Units<'_>,
+        plan: &Plan,
+        prefixes: &mut Prefixes,
+        trail: &mut Trail,
+        place: usize,
+        body: usize,
+        next: usize,
+    ) -> Result<(), LiftFault> {
+        let Some(chunk) = self.bodies.chunk(body, next) else {
+            return Ok(());
+        };
+        trail.tasks.push(Task::Body {
+            place,
+            body,
+            next: next.saturating_add(1),
+        })?;
+        match chunk {
+            Chunk::Text(text) => Ok(trail.text.push_str(text.as_str())?),
+            Chunk::Datatype { prefix, local } => {
+                let from = file_of(units, plan, place);
+                prefixes.push_prefix(alloc, units, from, prefix.as_str(), &mut trail.text)?;
+                trail.text.push(':')?;
+                Ok(trail.text.push_str(local.as_str())?)
+            }
+            Chunk::Link(part) => {
+                let part = *part;
+                self.open(alloc, units, plan, trail, place, part)
+            }
+        }
+    }
+
+    /// Begins what a part at a place stands for.
+    fn open(
+        &mut self,
+        alloc: Global,
+        units: &Units<'_>,
+        plan: &Plan,
+        trail: &mut Trail,
+        place: usize,
+        part: usize,
+    ) -> Result<(), LiftFault> {
+        let Some(key) = key_of(alloc, units, plan, place, part)? else {
+            return Err(trail.fault(LiftFaultKind::ExceptReference));
+        };
+        let standing = self.definitions.standing(alloc, units, plan, &key)?;
+        if standing.is_empty() {
+            return Err(trail.fault(LiftFaultKind::Undefined));
+        }
+        if trail.open.contains(&key) || !are_data(units, plan, standing.as_slice()) {
+            return Err(trail.fault(LiftFaultKind::ExceptReference));
+        }
+        trail.text.push('(')?;
+        trail.open.insert(key.copy(alloc)?)?;
+        trail.tasks.push(Task::Leave(key))?;
+        trail.tasks.push(Task::Text(")"))?;
+        self.push_bodies(alloc, units, plan, trail, standing.as_slice())
+    }
+
+    /// Adds the bodies of definitions, with `|` between each two.
+    fn push_bodies(
+        &mut self,
+        alloc: Global,
+        units: &Units<'_>,
+        plan: &Plan,
+        trail: &mut Trail,
+        standing: &[Definition],
+    ) -> Result<(), LiftFault> {
+        for (number, definition) in standing.iter().rev().enumerate() {
+            if number > 0 {
+                trail.tasks.push(Task::Text(" | "))?;
+            }
+            let file = file_of(units, plan, definition.place);
+            let body = self.bodies.number(alloc, units, file, definition.part)?;
+            trail.tasks.push(Task::Body {
+                place: definition.place,
+                body,
+                next: 0,
+            })?;
+        }
+        Ok(())
+    }
+}
+
+fn new_trail(alloc: Global, file: usize, at: usize) -> Trail {
+    Trail {
+        file,
+        at,
+        text: String::new(alloc),
+        tasks: Vec::new(alloc),
+        open: BTreeSet::new(alloc),
+    }
+}
+
+/// The file of a place.
+fn file_of(units: &Units<'_>, plan: &Plan, place: usize) -> usize {
+    let unit = plan.places.get(place).map(|place| place.unit);
+    match unit.and_then(|unit| units.units.get(unit)) {
+        Some(unit) => unit.file,
+        None => 0,
+    }
+}
+
+fn part_at<'a>(units: &Units<'a>, plan: &Plan, place: usize, part: usize) -> Option<&'a Part> {
+    units.files.get(file_of(units, plan, place))?.part(part)
+}
+
+/// What a part at a place stands for.
+fn key_of(
+    alloc: Global,
+    units: &Units<'_>,
+    plan: &Plan,
+    place: usize,
+    part: usize,
+) -> Result<Option<Key>, AllocError> {
+    let Some(found) = part_at(units, plan, place, part) else {
+        return Ok(None);
+    };
+    let Some(scope) = plan.scope_meant(place, part, &found.kind) else {
+        return Ok(None);
+    };
+    let name = units.name_meant(file_of(units, plan, place), &found.kind);
+    Ok(Some(Key::new(alloc, scope, name)?))
+}
+
+/// Whether an except may hold the combination of definitions.
+fn are_data(units: &Units<'_>, plan: &Plan, standing: &[Definition]) -> bool {
+    standing.iter().all(|definition| {
+        match part_at(units, plan, definition.place, definition.part) {
+            Some(part) => is_data(&part.kind, standing.len() > 1),
+            None => false,
+        }
+    })
+}
+
+fn is_data(kind: &PartKind, is_combined: bool) -> bool {
+    match kind {
+        PartKind::Define {
+            method,
+            only_data,
+            ..
+        }
+        | PartKind::Start {
+            method,
+            only_data,
+            ..
+        } => *only_data && !(is_combined && *method == Method::Interleave),
+        _ => false,
+    }
+}

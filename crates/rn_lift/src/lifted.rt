@@ -1,0 +1,170 @@
+// What files are lifted to: modules, each byte with its origin.
+ghost use Rattle.std.specs.Prelude.{◌≡◌, ◌<◌, ◌≤◌, ◌^◌, ◌⊎◌, MatchOption, IfSome, IfNone};
+ghost use Rattle.std.specs.String.{string_len};
+ghost use Rattle.rn_lift.specs.Origins.{HasNoOrigin, IsOrigin, byte_of, piece_at};
+
+use crate::parts::Outline;
+use std::alloc::{AllocError, AllocFailed};
+use std::collections::BTreeSet;
+use thiserror::Error;
+
+/// A file that is to be lifted.
+#[derive(Clone, Copy)]
+pub struct Lifting<'a> {
+    /// The name of its module.
+    pub name: &'a str,
+    pub text: &'a str,
+    pub outline: &'a Outline,
+    /// For each external and include of the outline, in its order, the number of the file that is meant.
+    pub targets: &'a [usize],
+}
+
+/// Where bytes of a module's text come from: those from `from` on, up to the next piece. They are the bytes of a file from `at`
+/// on, or they were made for what stands at `at`.
+#[derive(Clone, Copy, Debug, PartialEq, Eq)]
+pub struct Piece {
+    pub from: usize,
+    pub file: usize,
+    pub at: usize,
+    pub is_source: bool,
+}
+
+/// A module of the compact syntax without `external`, `parent`, nested `grammar` and bare patterns.
+#[derive(Debug, Drop, PartialEq, Eq)]
+pub struct LiftedModule {
+    pub name: String,
+    pub text: String,
+    /// In the order of their `from`, each with its own.
+    pub pieces: Vec<Piece>,
+}
+
+/// What files were lifted to.
+#[derive(Debug, Drop)]
+pub struct Lifted {
+    /// In the order of their names, which are distinct.
+    pub modules: Vec<LiftedModule>,
+    /// What stands before the first dot of the names of their own.
+    pub(crate) stems: BTreeSet<String>,
+    /// What stands behind that dot for a start.
+    pub(crate) start: String,
+}
+
+/// Why files can't be lifted: the file, and the byte of its text.
+#[derive(Debug, Drop, PartialEq, Eq)]
+pub struct LiftFault {
+    pub file: usize,
+    pub at: usize,
+    pub kind: LiftFaultKind,
+}
+
+#[derive(Clone, Copy, Debug, PartialEq, Eq, Error)]
+pub enum LiftFaultKind {
+    /// An include names a file that is a pattern and no grammar (RELAX NG 2001, 4.7).
+    #[error("a file that is a pattern can't be included")]
+    IncludedPattern,
+    /// `parent` outside a grammar that is in another one (4.18).
+    #[error("no grammar is around this one")]
+    NoParent,
+    /// A reference in an except stands for more than data, values and choices of them (7.1.4), or comes back to itself there.
+    #[error("what this stands for can't be excepted")]
+    ExceptReference,
+    /// `inherit =` of an external names a prefix that no declaration of the file binds (compact syntax, 4.1).
+    #[error("a prefix without a declaration")]
+    Prefix,
+    /// An external or an include to which no file is given.
+    #[error("no file is given for this")]
+    NoFile,
+    /// A reference in an except to a name without a definition (4.18).
+    #[error("nothing defines this")]
+    Undefined,
+    /// The texts that references in excepts stand for would have more than 4,194,304 bytes.
+    #[error("too long definitions are excepted")]
+    Long,
+    /// The files would make more than 65,536 modules.
+    #[error("more than 65,536 modules")]
+    Many,
+    /// A request for memory was refused. The place means nothing.
+    #[error("out of memory")]
+    Memory,
+}
+
+impl From<AllocError> for LiftFault {
+    fn from(_: AllocError) -> Self {
+        LiftFault {
+            file: 0,
+            at: 0,
+            kind: LiftFaultKind::Memory,
+        }
+    }
+}
+
+impl<T: Drop> From<AllocFailed<T>> for LiftFault {
+    fn from(_: AllocFailed<T>) -> Self {
+        LiftFault {
+            file: 0,
+            at: 0,
+            kind: LiftFaultKind::Memory,
+        }
+    }
+}
+
+/// The last piece that begins at a byte or before it.
+fn piece_at(pieces: &[Piece], at: usize) -> Option<Piece>
+    ensures last { result ≡ piece_at pieces.now at }
+    ensures before { IfSome result (λ p. p.from ≤ at) }
+{
+    let mut found = None;
+    let mut rest = pieces;
+    'pieces: while let Some((piece, behind)) = rest.split_first() {
+        if piece.from <= at {
+            found = Some(*piece);
+        }
+        rest = behind;
+    }
+    found
+}
+
+/// The byte of a piece's file.
+fn byte_in(piece: Piece, at: usize) -> Option<usize>
+    requires { piece.from ≤ at }
+    ensures { MatchOption result (2 ^ 64 ≤ byte_of piece at) (λ byte. byte ≡ byte_of piece at) }
+{
+    if piece.is_source {
+        piece.at.checked_add(at - piece.from)
+    } else {
+        Some(piece.at)
+    }
+}
+
+impl LiftedModule {
+    /// Where a byte of the text comes from: the number of a file, and a byte of it. For what was made this is the place that it
+    /// was made for. The end of the text has an origin too.
+    pub fn origin(&self, at: usize) -> Option<(usize, usize)>
+        ensures some { IfSome result (IsOrigin self.now.pieces.items at) }
+        ensures none { IfNone result ((string_len self.now.text < at) ⊎ HasNoOrigin self.now.pieces.items at) }
+    {
+        if at > self.text.len() {
+            return None;
+        }
+        let piece = piece_at(self.pieces.as_slice(), at)?;
+        Some((piece.file, byte_in(piece, at)?))
+    }
+}
+
+impl Lifted {
+    /// What the files call what has this name in the modules: without what stands before its first dot and the dot, if it is a
+    /// name of its own; `start` for the start of a grammar of its own. Any other name as it is.
+    pub fn written<'a>(&self, name: &'a str) -> &'a str {
+        let Some((stem, rest)) = name.split_once('.') else {
+            return name;
+        };
+        if !self.stems.contains(stem) {
+            return name;
+        }
+        if rest == self.start.as_str() {
+            "start"
+        } else {
+            rest
+        }
+    }
+}

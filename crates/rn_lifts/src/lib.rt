@@ -1,0 +1,7 @@
+//! Tests of outlines and of lifting.
+#![tactic(auto)]
+
+#[cfg(test)]
+mod lifts;
+#[cfg(test)]
+mod outlines;

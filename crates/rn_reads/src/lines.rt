@@ -1,0 +1,34 @@
+// Places in texts.
+use crate::rows::{holds, same_for};
+use rn_files::{Position, line_of, position};
+
+/// A text, a byte of it, and the line, the column and the line's text where it stands.
+static PLACES: [(&str, usize, usize, usize, &str); 15] = [
+    ("", 0, 1, 1, ""),
+    ("", 7, 1, 1, ""),
+    ("ab", 0, 1, 1, "ab"),
+    ("ab", 1, 1, 2, "ab"),
+    ("ab", 9, 1, 3, "ab"),
+    ("a\nb", 1, 1, 2, "a"),
+    ("a\nb", 2, 2, 1, "b"),
+    ("a\n", 2, 2, 1, ""),
+    ("a\r\nb", 1, 1, 2, "a"),
+    ("a\r\nb", 2, 1, 3, "a"),
+    ("a\r\nb", 3, 2, 1, "b"),
+    ("a\rb", 2, 2, 1, "b"),
+    ("\n\r\r\nx", 4, 4, 1, "x"),
+    ("é€𝄞x", 9, 1, 4, "é€𝄞x"),
+    ("\u{2028}\u{85}x", 5, 1, 3, "\u{2028}\u{85}x"),
+];
+
+#[test]
+fn places(rt: HostRuntime) {
+    for (text, at, line, column, whole) in &PLACES {
+        let wanted = Position {
+            line: *line,
+            column: *column,
+        };
+        holds(&rt, position(text, *at) == wanted, text);
+        same_for(&rt, text, line_of(text, *at), whole);
+    }
+}

@@ -1,0 +1,166 @@
+// The faults of reading, lifting and gathering, as messages.
+use crate::checks::unexpected;
+use crate::report::{Grade, Message, Page, Spot};
+use rn_files::{FaultKind, FaultPlace, FileFault, SourceFault};
+use rn_lift::{LiftFault, LiftFaultKind, Lifted};
+use rn_modset::AddFault;
+use std::alloc::{AllocError, Global};
+
+/// The message of a fault of reading.
+pub fn reading_message<P: Page>(
+    alloc: Global,
+    words: &[String],
+    pages: &[P],
+    fault: &SourceFault,
+) -> Result<Message, AllocError> {
+    let sentence = reading_sentence(alloc, pages, fault)?;
+    let (spot, sentence) = match fault.place {
+        FaultPlace::Text { file, at } => (Some(Spot { file, at }), sentence),
+        FaultPlace::Word(number) => (
+            None,
+            about(
+                alloc,
+                words.get(number).map_or("-", |word| word.as_str()),
+                sentence.as_str(),
+            )?,
+        ),
+        FaultPlace::Root => (
+            None,
+            about(alloc, "the folder of --root", sentence.as_str())?,
+        ),
+        FaultPlace::Current => (None, about(alloc, "the current folder", sentence.as_str())?),
+    };
+    Ok(Message {
+        grade: Grade::Error,
+        spot,
+        sentence,
+    })
+}
+
+/// A sentence about something that is named before it.
+fn about(alloc: Global, what: &str, sentence: &str) -> Result<String, AllocError> {
+    format!(in alloc; "{what}: {sentence}")
+}
+
+fn reading_sentence<P: Page>(
+    alloc: Global,
+    pages: &[P],
+    fault: &SourceFault,
+) -> Result<String, AllocError> {
+    let sentence = match &fault.kind {
+        FaultKind::File(fault) => return format!(in alloc; "{fault}"),
+        FaultKind::Reference(fault) => return format!(in alloc; "{fault}"),
+        FaultKind::Syntax => return unexpected_at(alloc, pages, fault.place),
+        FaultKind::Loop(files) => return loop_sentence(alloc, pages, files.as_slice()),
+        FaultKind::Encoding => "the file is not UTF-8 from here on",
+        FaultKind::Lexical => "nothing that the compact syntax has begins like this",
+        FaultKind::Deep => "more than 256 brackets are open here",
+        FaultKind::Count => "there are more than 1,024 files",
+        FaultKind::Outside => "the file is not below the root folder",
+        FaultKind::Name => "the name of the file, below the root folder, is longer than 200 bytes",
+        FaultKind::Twice => "another file has the same name",
+    };
+    String::from_str(alloc, sentence)
+}
+
+/// What can't stand at a place of a file.
+fn unexpected_at<P: Page>(
+    alloc: Global,
+    pages: &[P],
+    place: FaultPlace,
+) -> Result<String, AllocError> {
+    match place {
+        FaultPlace::Text { file, at } => {
+            let text = match pages.get(file) {
+                Some(page) => page.text(),
+                None => "",
+            };
+            unexpected(alloc, text, at)
+        }
+        _ => String::from_str(alloc, "this is no schema"),
+    }
+}
+
+/// The files of a loop of references, in order, which comes back to the first.
+fn loop_sentence<P: Page>(
+    alloc: Global,
+    pages: &[P],
+    files: &[usize],
+) -> Result<String, AllocError> {
+    let mut sentence = String::from_str(alloc, "the file refers to itself: ")?;
+    for file in files {
+        push_path(&mut sentence, pages, *file)?;
+        sentence.push_str(", ")?;
+    }
+    match files.first() {
+        Some(first) => push_path(&mut sentence, pages, *first)?,
+        None => {}
+    }
+    Ok(sentence)
+}
+
+/// Appends the path of a file.
+fn push_path<P: Page>(sentence: &mut String, pages: &[P], file: usize) -> Result<(), AllocError> {
+    match pages.get(file) {
+        Some(page) => sentence.push_str(page.path()),
+        None => sentence.push_str("-"),
+    }
+}
+
+/// Whether the fault is of a file that can't be read, and not of what is in the files.
+pub fn is_unread(fault: &SourceFault) -> bool {
+    matches!(&fault.kind, FaultKind::File(_))
+}
+
+/// The message of a fault of lifting.
+pub fn lift_message(alloc: Global, fault: &LiftFault) -> Result<Message, AllocError> {
+    let sentence = match fault.kind {
+        LiftFaultKind::IncludedPattern => {
+            "the file is a pattern, and only a grammar can be included; external takes a pattern"
+        }
+        LiftFaultKind::NoParent => "there is no grammar around this one that parent could mean",
+        LiftFaultKind::ExceptReference => {
+            "this stands for more than data, values and choices of them, which alone can be excepted"
+        }
+        LiftFaultKind::Prefix => "this prefix is not declared",
+        LiftFaultKind::NoFile => "no file is known that this means",
+        LiftFaultKind::Undefined => "this is not defined",
+        LiftFaultKind::Long => "what is excepted by names becomes longer than 4,194,304 bytes",
+        LiftFaultKind::Many => "the files become more than 65,536 modules",
+        LiftFaultKind::Memory => "out of memory",
+    };
+    Ok(Message {
+        grade: Grade::Error,
+        spot: Some(Spot {
+            file: fault.file,
+            at: fault.at,
+        }),
+        sentence: String::from_str(alloc, sentence)?,
+    })
+}
+
+/// The message of a module, by its number, that can't be added to the set.
+pub fn set_message(
+    alloc: Global,
+    lifted: &Lifted,
+    module: usize,
+    fault: &AddFault,
+) -> Result<Message, AllocError> {
+    let sentence = match fault {
+        AddFault::BadName => "the name of a module is longer than 200 bytes",
+        AddFault::TooLong => "the text of a module is longer than 4,194,304 bytes",
+        AddFault::Full => "there are more than 1,024 modules",
+        AddFault::Memory => "out of memory",
+    };
+    Ok(Message {
+        grade: Grade::Error,
+        spot: start_of(lifted, module),
+        sentence: String::from_str(alloc, sentence)?,
+    })
+}
+
+/// Where a module begins in the files.
+fn start_of(lifted: &Lifted, module: usize) -> Option<Spot> {
+    let (file, at) = lifted.modules.get(module)?.origin(0)?;
+    Some(Spot { file, at })
+}

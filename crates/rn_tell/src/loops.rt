@@ -1,0 +1,278 @@
+// Loops: of definitions that refer to each other outside elements, and of modules that include each other.
+use crate::brought::{Instance, is_hidden};
+use crate::sites::{Site, View, key_of, use_of};
+use rn_lift::Part;
+use std::alloc::{AllocError, Global};
+
+/// A definition that takes part in the schema: its key, by which definitions are sorted, its module and its part.
+type Defined<'a> = (&'a str, usize, usize);
+
+/// The definitions that take part in the schema, in the order of their keys.
+fn taking_part<'v>(
+    alloc: Global,
+    view: &'v View<'_>,
+    instances: &[Instance],
+) -> Result<Vec<Defined<'v>>, AllocError> {
+    let mut defined = Vec::new(alloc);
+    for number in 0..instances.len() {
+        push_taking_part(view, instances, number, &mut defined)?;
+    }
+    defined.sort()?;
+    defined.dedup();
+    Ok(defined)
+}
+
+/// Adds the definitions of an instance that take part.
+fn push_taking_part<'v>(
+    view: &'v View<'_>,
+    instances: &[Instance],
+    number: usize,
+    defined: &mut Vec<Defined<'v>>,
+) -> Result<(), AllocError> {
+    let Some(instance) = instances.get(number) else {
+        return Ok(());
+    };
+    let room = instance.room;
+    let text = view.text(room);
+    for (part, one) in view.parts(room).iter().enumerate() {
+        if let Some(key) = key_of(text, one) {
+            if !is_hidden(view, instances, number, key) {
+                defined.push((key, room, part))?;
+            }
+        }
+    }
+    Ok(())
+}
+
+/// The numbers of the definitions of the key among those that are sorted.
+fn range_of(defined: &[Defined<'_>], key: &str) -> (usize, usize) {
+    let from = defined.partition_point(|one| one.0 < key);
+    let to = defined.partition_point(|one| one.0 <= key);
+    (from, to)
+}
+
+/// The names outside elements that a definition is made of: those behind it, up to the next definition.
+fn uses<'v>(alloc: Global, view: &'v View<'_>, site: Site) -> Result<Vec<&'v str>, AllocError> {
+    let mut uses = Vec::new(alloc);
+    let text = view.text(site.room);
+    for part in view.parts(site.room).iter().skip(site.part).skip(1) {
+        if key_of(text, part).is_some() {
+            break;
+        }
+        if let Some((name, at)) = use_of(text, part) {
+            if view.is_outside(site.room, at) {
+                uses.push(name)?;
+            }
+        }
+    }
+    Ok(uses)
+}
+
+/// The definitions of a loop that comes back to the key, in order, the first one of the key. Nothing where there is none.
+pub fn loop_of(
+    alloc: Global,
+    view: &View<'_>,
+    instances: &[Instance],
+    key: &str,
+) -> Result<Vec<Site>, AllocError> {
+    let defined = taking_part(alloc, view, instances)?;
+    let mut walk = Walk::new(alloc, defined.len())?;
+    walk.visit(range_of(defined.as_slice(), key), None)?;
+    for turn in 0..defined.len() {
+        let Some(number) = walk.queue.get(turn).copied() else {
+            break;
+        };
+        let site = site_at(defined.as_slice(), number);
+        let uses = uses(alloc, view, site)?;
+        if uses.iter().any(|name| *name == key) {
+            return walk.way(alloc, defined.as_slice(), number);
+        }
+        for name in uses.as_slice() {
+            walk.visit(range_of(defined.as_slice(), name), Some(number))?;
+        }
+    }
+    Ok(Vec::new(alloc))
+}
+
+/// The site of the definition with this number.
+fn site_at(defined: &[Defined<'_>], number: usize) -> Site {
+    match defined.get(number) {
+        Some(one) => Site {
+            room: one.1,
+            part: one.2,
+        },
+        None => Site { room: 0, part: 0 },
+    }
+}
+
+/// A walk over definitions, nearest first: which were seen, from which one each was reached, and in which order.
+#[derive(Drop)]
+struct Walk {
+    seen: Vec<bool>,
+    before: Vec<Option<usize>>,
+    queue: Vec<usize>,
+}
+
+impl Walk {
+    fn new(alloc: Global, len: usize) -> Result<Walk, AllocError> {
+        Ok(Walk {
+            seen: vec![in alloc; false; len]?,
+            before: vec![in alloc; None; len]?,
+            queue: Vec::new(alloc),
+        })
+    }
+
+    /// Takes the definitions of a key into the walk, which are all seen or none of them is.
+    fn visit(&mut self, range: (usize, usize), before: Option<usize>) -> Result<(), AllocError> {
+        if self.seen.get(range.0) == Some(&true) {
+            return Ok(());
+        }
+        for number in range.0..range.1 {
+            self.note(number, before)?;
+        }
+        Ok(())
+    }
+
+    /// Takes one definition into the walk.
+    fn note(&mut self, number: usize, before: Option<usize>) -> Result<(), AllocError> {
+        if let Some(mark) = self.seen.get_mut(number) {
+            *mark = true;
+        }
+        if let Some(place) = self.before.get_mut(number) {
+            *place = before;
+        }
+        self.queue.push(number)?;
+        Ok(())
+    }
+
+    /// The definitions from the first one of the walk to this one.
+    fn way(
+        &self,
+        alloc: Global,
+        defined: &[Defined<'_>],
+        last: usize,
+    ) -> Result<Vec<Site>, AllocError> {
+        let mut way = Vec::new(alloc);
+        let mut next = Some(last);
+        for _ in 0..defined.len() {
+            let Some(number) = next else {
+                break;
+            };
+            way.push(site_at(defined, number))?;
+            next = self.before.get(number).copied().flatten();
+        }
+        way.reverse();
+        Ok(way)
+    }
+}
+
+/// The includes of a loop that comes back to the module, in order. Nothing where there is none.
+pub fn loop_of_includes(
+    alloc: Global,
+    view: &View<'_>,
+    module: usize,
+) -> Result<Vec<Site>, AllocError> {
+    let mut before: Vec<Option<Site>> = vec![in alloc; None; view.rooms.len()]?;
+    let mut queue = vec![in alloc; module]?;
+    for turn in 0..view.rooms.len() {
+        let Some(room) = queue.get(turn).copied() else {
+            break;
+        };
+        if let Some(last) = go_on(view, room, module, &mut before, &mut queue)? {
+            return way_of_includes(alloc, before.as_slice(), last, module);
+        }
+    }
+    Ok(Vec::new(alloc))
+}
+
+/// Takes what a module includes into the walk, and answers the include of the module that is looked for.
+fn go_on(
+    view: &View<'_>,
+    room: usize,
+    module: usize,
+    before: &mut Vec<Option<Site>>,
+    queue: &mut Vec<usize>,
+) -> Result<Option<Site>, AllocError> {
+    for part in 0..view.parts(room).len() {
+        let site = Site { room, part };
+        let Some(target) = view.included(site) else {
+            continue;
+        };
+        if target == module {
+            return Ok(Some(site));
+        }
+        if let Some(place) = before.get_mut(target) {
+            if place.is_none() {
+                *place = Some(site);
+                queue.push(target)?;
+            }
+        }
+    }
+    Ok(None)
+}
+
+/// The includes from the module to this one.
+fn way_of_includes(
+    alloc: Global,
+    before: &[Option<Site>],
+    last: Site,
+    module: usize,
+) -> Result<Vec<Site>, AllocError> {
+    let mut way = vec![in alloc; last]?;
+    let mut room = last.room;
+    for _ in 0..before.len() {
+        if room == module {
+            break;
+        }
+        let Some(site) = before.get(room).copied().flatten() else {
+            break;
+        };
+        way.push(site)?;
+        room = site.room;
+    }
+    way.reverse();
+    Ok(way)
+}
+
+/// The first use of a name in a definition that takes part.
+pub fn first_use(
+    alloc: Global,
+    view: &View<'_>,
+    instances: &[Instance],
+    name: &str,
+) -> Result<Option<Site>, AllocError> {
+    let defined = taking_part(alloc, view, instances)?;
+    let mut sites = Vec::new(alloc);
+    for one in defined.as_slice() {
+        sites.push((one.1, one.2))?;
+    }
+    sites.sort()?;
+    for (room, part) in sites.as_slice() {
+        if let Some(part) = use_in(view, *room, *part, name) {
+            return Ok(Some(Site { room: *room, part }));
+        }
+    }
+    Ok(None)
+}
+
+/// The first use of the name in a definition.
+fn use_in(view: &View<'_>, room: usize, definition: usize, name: &str) -> Option<usize> {
+    let text = view.text(room);
+    for (number, part) in view.parts(room).iter().enumerate().skip(definition).skip(1) {
+        if key_of(text, part).is_some() {
+            return None;
+        }
+        if is_use(text, part, name) {
+            return Some(number);
+        }
+    }
+    None
+}
+
+/// Whether the part refers to the name.
+fn is_use(text: &str, part: &Part, name: &str) -> bool {
+    match use_of(text, part) {
+        Some((used, _)) => used == name,
+        None => false,
+    }
+}

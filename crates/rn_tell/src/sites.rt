@@ -1,0 +1,276 @@
+// What the modules define, refer to and include, and where.
+use crate::report::Spot;
+use rn_assemble::Key;
+use rn_lift::{Lifted, Method, Part, PartKind, name_in, read_outline};
+use rn_text::{Kind, Token, tokens};
+use std::alloc::{AllocError, Global};
+
+/// What a module is made of.
+#[derive(Debug, Drop)]
+pub struct Room {
+    /// Its definitions, references and includes, in the order of its text.
+    pub parts: Vec<Part>,
+    /// What its includes override, in order: the number of the part that is the include, and the key.
+    pub overrides: Vec<(usize, String)>,
+    /// Where names begin that are outside elements, in order.
+    pub outside: Vec<usize>,
+}
+
+/// The modules, and what each is made of.
+#[derive(Debug, Drop)]
+pub struct View<'a> {
+    pub lifted: &'a Lifted,
+    pub rooms: Vec<Room>,
+}
+
+/// A definition: the number of its module and the number of its part.
+#[derive(Clone, Copy, Debug, PartialEq, Eq)]
+pub struct Site {
+    pub room: usize,
+    pub part: usize,
+}
+
+/// A key as a text: a name, or nothing for the start.
+pub fn key_text(key: &Key) -> &str {
+    match key {
+        Key::Start => "",
+        Key::Define(name) => name.as_str(),
+    }
+}
+
+/// The key that a part defines, where it is a definition.
+pub fn key_of<'a>(text: &'a str, part: &Part) -> Option<&'a str> {
+    match &part.kind {
+        PartKind::Define { name, .. } => Some(name_in(text, *name)),
+        PartKind::Start { .. } => Some(""),
+        _ => None,
+    }
+}
+
+/// How a definition is combined.
+pub fn method_of(part: &Part) -> Option<Method> {
+    match &part.kind {
+        PartKind::Define { method, .. } | PartKind::Start { method, .. } => Some(*method),
+        _ => None,
+    }
+}
+
+/// The number of the part that is the include of a definition that overrides.
+pub fn within(part: &Part) -> Option<usize> {
+    match &part.kind {
+        PartKind::Define { within, .. } | PartKind::Start { within, .. } => *within,
+        _ => None,
+    }
+}
+
+/// The name that a part refers to, and where it begins.
+pub fn use_of<'a>(text: &'a str, part: &Part) -> Option<(&'a str, usize)> {
+    match &part.kind {
+        PartKind::Reference { name } => Some((name_in(text, *name), name.from)),
+        _ => None,
+    }
+}
+
+/// The module that a part includes, and where its literal begins.
+pub fn include_of(part: &Part) -> Option<(&str, usize)> {
+    match &part.kind {
+        PartKind::Include {
+            literal,
+            literal_at,
+            ..
+        } => Some((literal.as_str(), literal_at.from)),
+        _ => None,
+    }
+}
+
+/// The modules with what they are made of. A text that is none of the language is made of nothing.
+pub fn viewed(alloc: Global, lifted: &Lifted) -> Result<View<'_>, AllocError> {
+    let mut rooms = Vec::new(alloc);
+    for module in lifted.modules.as_slice() {
+        rooms.push(made_room(alloc, module.text.as_str())?)?;
+    }
+    Ok(View { lifted, rooms })
+}
+
+fn made_room(alloc: Global, text: &str) -> Result<Room, AllocError> {
+    let mut room = Room {
+        parts: Vec::new(alloc),
+        overrides: Vec::new(alloc),
+        outside: Vec::new(alloc),
+    };
+    let Ok(tokens) = tokens(alloc, text.as_bytes()) else {
+        return Ok(room);
+    };
+    if let Ok(outline) = read_outline(alloc, text, tokens.as_slice()) {
+        room.overrides = overrides(alloc, text, outline.parts.as_slice())?;
+        room.outside = outside(alloc, tokens.as_slice())?;
+        room.parts = outline.parts;
+    }
+    Ok(room)
+}
+
+/// What the includes override, in order.
+fn overrides(
+    alloc: Global,
+    text: &str,
+    parts: &[Part],
+) -> Result<Vec<(usize, String)>, AllocError> {
+    let mut overrides = Vec::new(alloc);
+    for part in parts {
+        if let (Some(include), Some(key)) = (within(part), key_of(text, part)) {
+            overrides.push((include, String::from_str(alloc, key)?))?;
+        }
+    }
+    overrides.sort()?;
+    Ok(overrides)
+}
+
+/// Where names begin that are outside elements and annotations.
+fn outside(alloc: Global, tokens: &[Token<'_>]) -> Result<Vec<usize>, AllocError> {
+    let mut nesting = Nesting::new(alloc);
+    let mut outside = Vec::new(alloc);
+    for token in tokens {
+        let is_name = matches!(token.kind, Kind::Name | Kind::Quoted);
+        if is_name && nesting.is_outside() {
+            outside.push(token.start)?;
+        }
+        nesting.pass(token)?;
+    }
+    Ok(outside)
+}
+
+/// What is open before a token.
+#[derive(Drop)]
+struct Nesting {
+    annotations: usize,
+    braces: usize,
+    is_element: bool,
+    is_annotation_next: bool,
+    elements: Vec<usize>,
+}
+
+impl Nesting {
+    fn new(alloc: Global) -> Nesting {
+        Nesting {
+            annotations: 0,
+            braces: 0,
+            is_element: false,
+            is_annotation_next: false,
+            elements: Vec::new(alloc),
+        }
+    }
+
+    fn is_outside(&self) -> bool {
+        self.annotations == 0 && self.elements.is_empty()
+    }
+
+    fn pass(&mut self, token: &Token<'_>) -> Result<(), AllocError> {
+        match token.text {
+            "[" => self.annotations = self.annotations.saturating_add(1),
+            "]" => self.annotations = self.annotations.saturating_sub(1),
+            _ if self.annotations > 0 => {}
+            "{" => self.open()?,
+            "}" => self.close(),
+            "element" if token.kind == Kind::Keyword && !self.is_annotation_next =>
+                self.is_element = true,
+            _ => {}
+        }
+        self.is_annotation_next = token.text == ">>";
+        Ok(())
+    }
+
+    fn open(&mut self) -> Result<(), AllocError> {
+        self.braces = self.braces.saturating_add(1);
+        if self.is_element {
+            self.is_element = false;
+            self.elements.push(self.braces)?;
+        }
+        Ok(())
+    }
+
+    fn close(&mut self) {
+        if self.elements.last() == Some(&self.braces) {
+            let _ = self.elements.pop();
+        }
+        self.braces = self.braces.saturating_sub(1);
+    }
+}
+
+impl View<'_> {
+    /// The number of the module of this name. The modules are in the order of their names.
+    pub fn room_of(&self, name: &str) -> Option<usize> {
+        self.lifted
+            .modules
+            .binary_search_by(|module| module.name.as_str().cmp(&name))
+            .ok()
+    }
+
+    /// The text of a module.
+    pub fn text(&self, room: usize) -> &str {
+        match self.lifted.modules.get(room) {
+            Some(module) => module.text.as_str(),
+            None => "",
+        }
+    }
+
+    /// The parts of a module.
+    pub fn parts(&self, room: usize) -> &[Part] {
+        match self.rooms.get(room) {
+            Some(held) => held.parts.as_slice(),
+            None => &[],
+        }
+    }
+
+    /// The part at a site.
+    pub fn part(&self, site: Site) -> Option<&Part> {
+        self.parts(site.room).get(site.part)
+    }
+
+    /// The key that is defined at a site.
+    pub fn key(&self, site: Site) -> Option<&str> {
+        let part = self.part(site)?;
+        key_of(self.text(site.room), part)
+    }
+
+    /// Whether a name that begins at the byte is outside elements.
+    pub fn is_outside(&self, room: usize, at: usize) -> bool {
+        match self.rooms.get(room) {
+            Some(held) => held.outside.binary_search(&at).is_ok(),
+            None => false,
+        }
+    }
+
+    /// Whether the include overrides the key.
+    pub fn overrides(&self, room: usize, include: usize, key: &str) -> bool {
+        match self.rooms.get(room) {
+            Some(held) => held
+                .overrides
+                .binary_search_by(|one| one.0.cmp(&include).then(one.1.as_str().cmp(&key)))
+                .is_ok(),
+            None => false,
+        }
+    }
+
+    /// The module that a site includes.
+    pub fn included(&self, site: Site) -> Option<usize> {
+        let part = self.part(site)?;
+        let (name, _) = include_of(part)?;
+        self.room_of(name)
+    }
+
+    /// Where a definition, a reference or an include is in the files: its name or its literal.
+    pub fn spot(&self, site: Site) -> Option<Spot> {
+        let at = place_of(self.part(site)?);
+        let (file, at) = self.lifted.modules.get(site.room)?.origin(at)?;
+        Some(Spot { file, at })
+    }
+}
+
+/// The byte where the name or the literal of a part begins.
+fn place_of(part: &Part) -> usize {
+    match &part.kind {
+        PartKind::Define { name, .. } | PartKind::Reference { name } => name.from,
+        PartKind::Include { literal_at, .. } => literal_at.from,
+        _ => part.at.from,
+    }
+}

@@ -1,0 +1,403 @@
+#!/usr/bin/env bash
+# Runs the program rnc-flat as its users do: words, folders of files, faults with their places, statuses and what is written.
+# Usage: tests/flat.sh [PROGRAM]   (without PROGRAM: crates/rnc_flat/out/rnc_flat)
+set -u
+
+here=$(cd "$(dirname "${BASH_SOURCE[0]}")" && pwd)
+program=${1:-$here/../crates/rnc_flat/out/rnc_flat}
+if [ ! -f "$program" ] || [ ! -x "$program" ]; then
+    echo "no program at $program" >&2
+    exit 2
+fi
+program=$(cd "$(dirname "$program")" && pwd)/$(basename "$program")
+
+work=$(mktemp -d)
+trap 'rm -rf "$work"' EXIT
+cd "$work" || exit 2
+
+passed=0
+failed=0
+input=/dev/null
+
+pass() {
+    passed=$((passed + 1))
+}
+
+fail() {
+    failed=$((failed + 1))
+    echo "FAILED $*"
+}
+
+# row NAME STATUS STDOUT STDERR WORD..: runs the program on the words, with standard input from $input. The texts are
+# given with printf's escapes.
+row() {
+    local name=$1 status=$2 got
+    printf '%b' "$3" >"$work/wanted.out"
+    printf '%b' "$4" >"$work/wanted.err"
+    shift 4
+    "$program" "$@" <"$input" >"$work/got.out" 2>"$work/got.err"
+    got=$?
+    if [ "$got" -eq "$status" ] && cmp -s "$work/got.out" "$work/wanted.out" && cmp -s "$work/got.err" "$work/wanted.err"; then
+        pass
+    else
+        fail "$name: status $got for $status"
+        diff "$work/wanted.out" "$work/got.out" | head -8
+        diff "$work/wanted.err" "$work/got.err" | head -8
+    fi
+}
+
+# begins NAME STATUS STDERR WORD..: the same where nothing is written, and of standard error only the first line is given.
+begins() {
+    local name=$1 status=$2 wanted=$3 got
+    shift 3
+    "$program" "$@" <"$input" >"$work/got.out" 2>"$work/got.err"
+    got=$?
+    if [ "$got" -eq "$status" ] && [ ! -s "$work/got.out" ] && [ "$(head -1 "$work/got.err")" = "$wanted" ]; then
+        pass
+    else
+        fail "$name: status $got for $status: $(head -2 "$work/got.err")"
+    fi
+}
+
+# holds NAME FILE TEXT: the file has these bytes, given with printf's escapes.
+holds() {
+    printf '%b' "$3" >"$work/wanted.out"
+    if cmp -s "$2" "$work/wanted.out"; then
+        pass
+    else
+        fail "$1: $2 has other bytes"
+    fi
+}
+
+# alone NAME FILE..: the folder has these files and no other.
+alone() {
+    local name=$1
+    shift
+    if [ "$(ls -A | sort | tr '\n' ' ')" = "$(printf '%s\n' "$@" | sort | tr '\n' ' ')" ]; then
+        pass
+    else
+        fail "$name: $(ls -A | tr '\n' ' ')"
+    fi
+}
+
+# room NAME: a new folder, which the rows after it run in.
+room() {
+    mkdir -p "$work/rooms/$1"
+    cd "$work/rooms/$1" || exit 2
+}
+
+# ---- words
+room words
+printf 'start = element a { empty }\n' >a.rnc
+schema='default namespace = ""\nstart = element a { empty }\n'
+hint="\n\nFor more information, try '--help'.\n"
+row version 0 'rnc-flat 1.0\n' '' --version
+row version_short 0 'rnc-flat 1.0\n' '' -V
+if [ "$("$program" --help | grep -c -e '--check <FILE>' -e '--map <PREFIX=FOLDER>' -e '-o, --output <FILE>' -e '--root <FOLDER>' -e '--bundle' -e '--list' -e '--graph')" -ge 7 ]; then pass; else fail help; fi
+begins no_words 2 'error: the following required arguments were not provided:'
+begins unknown_option 2 "error: unexpected argument '--flat' found" --flat a.rnc
+begins no_value 2 "error: a value is required for '--output <FILE>' but none was supplied" a.rnc -o
+begins output_twice 2 "error: the argument '--output <FILE>' cannot be used multiple times" -o x -o y a.rnc
+row check_and_bundle 2 '' "error: --check can't be given with --bundle$hint" --check x --bundle a.rnc
+row check_and_list 2 '' "error: --check can't be given with --list$hint" --check x --list a.rnc
+row check_and_graph 2 '' "error: --check can't be given with --graph$hint" --check x --graph a.rnc
+row check_and_output 2 '' "error: --check can't be given with --output$hint" --check x -o y a.rnc
+row bundle_and_list 2 '' "error: --bundle can't be given with --list$hint" --bundle --list a.rnc
+row bundle_and_graph 2 '' "error: --bundle can't be given with --graph$hint" --bundle --graph a.rnc
+row list_and_graph 2 '' "error: --list can't be given with --graph$hint" --list --graph a.rnc
+row map_without_folder 2 '' "error: the value of --map must be PREFIX=FOLDER$hint" --map http://x/ a.rnc
+row map_without_prefix 2 '' "error: the value of --map must be PREFIX=FOLDER$hint" --map =x a.rnc
+row map_to_nothing 2 '' "error: the value of --map must be PREFIX=FOLDER$hint" --map http://x/= a.rnc
+row input_twice 2 '' "error: standard input can't be read twice$hint" - -
+row input_checked 2 '' "error: standard input can't be read twice$hint" --check - -
+alone words_write_nothing a.rnc
+
+# ---- the schema
+row one_file 0 "$schema" '' a.rnc
+row output_is_standard 0 "$schema" '' -o - a.rnc
+row named_twice 0 "$schema" '' a.rnc ./a.rnc
+printf 'start = element b { empty }\n' >-
+row dashed_name 0 'default namespace = ""\nstart = element b { empty }\n' '' ./-
+input=a.rnc
+row standard_input 0 "$schema" '' -
+input=/dev/null
+
+room folder
+mkdir lib extensions
+printf 'include "lib/name.rnc"\nstart = element doc { name }\n' >main.rnc
+printf 'name = element name { text }\n' >lib/name.rnc
+printf 'include "../lib/name.rnc"\nextra = name\nstart |= element audit { extra }\n' >extensions/audit.rnc
+flat='default namespace = ""\nstart = element doc { name }\nname = element name { text }\n'
+row includes 0 "$flat" '' main.rnc
+row from_elsewhere 0 "$flat" '' ../folder/main.rnc
+row absolute 0 "$flat" '' "$PWD/main.rnc"
+row list 0 'lib/name.rnc lib/name.rnc\nmain.rnc main.rnc\n' '' --list main.rnc
+row graph 0 'digraph schema {\n    "main.rnc";\n    "lib/name.rnc";\n    "main.rnc" -> "lib/name.rnc";\n}\n' '' --graph main.rnc
+digest() {
+    printf '%b' "$1" | sha256sum | cut -d ' ' -f 1
+}
+main_text='include "lib/name.rnc"\nstart = element doc { name }\n'
+name_text='name = element name { text }\n'
+row bundle 0 "rncset 1\nmodule lib/name.rnc 1 29 $(digest "$name_text")\n$name_text\nmodule main.rnc 1 52 $(digest "$main_text")\n$main_text\nend 2\n" '' --bundle main.rnc
+row root 0 'folder/lib/name.rnc lib/name.rnc\nfolder/main.rnc main.rnc\n' '' --root .. --list main.rnc
+input=main.rnc
+row input_includes 0 "$flat" '' -
+input=/dev/null
+
+# ---- what is written
+room output
+printf 'start = element a { empty }\n' >a.rnc
+printf 'start = nothing\n' >bad.rnc
+row output 0 '' '' -o flat.rnc a.rnc
+holds output_bytes flat.rnc "$schema"
+alone output_alone a.rnc bad.rnc flat.rnc
+printf 'old\n' >flat.rnc
+chmod 640 flat.rnc
+begins output_refused 1 'bad.rnc:1:9: error: `nothing` is not defined' -o flat.rnc bad.rnc
+holds output_untouched flat.rnc 'old\n'
+row output_over 0 '' '' --output flat.rnc a.rnc
+holds output_over_bytes flat.rnc "$schema"
+if [ "$(stat -c %a flat.rnc)" = 640 ]; then pass; else fail "output_mode: $(stat -c %a flat.rnc)"; fi
+mkdir target
+printf 'old\n' >target/real.rnc
+ln -s target/real.rnc link.rnc
+row output_link 0 '' '' -o link.rnc a.rnc
+holds output_link_bytes target/real.rnc "$schema"
+if [ -L link.rnc ]; then pass; else fail 'output_link: the link is gone'; fi
+row output_nowhere 3 '' "rnc-flat: error: none/flat.rnc can't be written\n" -o none/flat.rnc a.rnc
+row output_folder 3 '' "rnc-flat: error: target can't be written\n" -o target a.rnc
+row output_device 0 '' '' -o /dev/null a.rnc
+if [ -c /dev/null ]; then pass; else fail 'output_device: it is gone'; fi
+alone output_leaves_nothing a.rnc bad.rnc flat.rnc link.rnc target
+row output_list 0 '' '' --list -o list a.rnc
+holds output_list_bytes list 'a.rnc a.rnc\n'
+"$program" a.rnc >/dev/full 2>got.err
+if [ $? -eq 3 ] && [ "$(cat got.err)" = "rnc-flat: error: standard output can't be written" ]; then pass; else fail "output_full: $(cat got.err)"; fi
+
+# ---- --check
+room check
+printf 'start = element a { empty }\n' >a.rnc
+printf '%b' "$schema" >flat.rnc
+row check_same 0 '' '' --check flat.rnc a.rnc
+input=flat.rnc
+row check_input 0 '' '' --check - a.rnc
+input=/dev/null
+printf 'default namespace = ""\nstart = element b { empty }\n' >other.rnc
+row check_other 1 '' 'other.rnc:2:1: error: this is not the schema, which has here: start = element a { empty }\n    start = element b { empty }\n    ^\n' --check other.rnc a.rnc
+printf 'default namespace = ""\n' >short.rnc
+row check_short 1 '' 'short.rnc:2:1: error: this is not the schema, which has here: start = element a { empty }\n' --check short.rnc a.rnc
+printf '%bmore\n' "$schema" >long.rnc
+row check_long 1 '' 'long.rnc:3:1: error: this is not the schema, which ends before this line\n    more\n    ^\n' --check long.rnc a.rnc
+: >empty.rnc
+row check_empty 1 '' 'empty.rnc:1:1: error: this is not the schema, which has here: default namespace = ""\n' --check empty.rnc a.rnc
+printf 'default namespace = ""\r\nstart = element a { empty }\r\n' >dos.rnc
+begins check_line_ends 1 'dos.rnc:1:1: error: this is not the schema, which has here: default namespace = ""' --check dos.rnc a.rnc
+row check_missing 3 '' 'rnc-flat: error: none.rnc: no such file\n' --check none.rnc a.rnc
+alone check_writes_nothing a.rnc flat.rnc other.rnc short.rnc long.rnc empty.rnc dos.rnc
+
+# ---- maps
+room maps
+mkdir -p local/deep other
+printf 'include "http://example.org/schema/name.rnc"\nstart = name\n' >main.rnc
+printf 'include "deep/text.rnc"\nname = element name { t }\n' >local/name.rnc
+printf 't = text\n' >local/deep/text.rnc
+printf 't = empty\n' >other/text.rnc
+mapped='default namespace = ""\nstart = name\nname = element name { t }\nt = text\n'
+row map 0 "$mapped" '' --map http://example.org/schema/=local main.rnc
+row map_without_slash 0 "$mapped" '' --map http://example.org/schema=local main.rnc
+row map_longest 0 'default namespace = ""\nstart = name\nname = element name { empty }\n' '' \
+    --map http://example.org/schema/=local --map http://example.org/schema/deep/=other main.rnc
+row map_names 0 'http://example.org/schema/deep/text.rnc local/deep/text.rnc\nhttp://example.org/schema/name.rnc local/name.rnc\nmain.rnc main.rnc\n' '' \
+    --list --map http://example.org/schema/=local main.rnc
+row no_map 1 '' 'main.rnc:1:9: error: no map says where the URI lies\n    include "http://example.org/schema/name.rnc"\n            ^\n' main.rnc
+
+# ---- the whole language
+room language
+printf 'start = element doc { external "address.rnc" }\n' >external.rnc
+printf 'start = element address { street }\nstreet = element street { text }\n' >address.rnc
+printf 'element note { text }\n' >note.rnc
+printf 'start = element doc { external "note.rnc" }\n' >pattern.rnc
+printf 'start = element doc { grammar { start = element in { parent out } } }\nout = text\n' >nested.rnc
+# The printed schemas are compared with jing's simplified form in tests/real-schemas; here only that they print.
+for file in external.rnc note.rnc pattern.rnc nested.rnc; do
+    if "$program" "$file" >got.out 2>got.err && grep -q '^start = ' got.out; then pass; else fail "language $file: $(head -1 got.err)"; fi
+done
+row pattern_root 0 'default namespace = ""\nstart = element note { text }\n' '' note.rnc
+row graph_external 0 'digraph schema {\n    "pattern.rnc";\n    "note.rnc";\n    "pattern.rnc" -> "note.rnc" [style=dashed];\n}\n' '' --graph pattern.rnc
+
+printf 'start = element doc { external "faulty.rnc" }\n' >own.rnc
+printf 'start = element a { missing }\n' >faulty.rnc
+row own_undefined 1 '' 'faulty.rnc:1:21: error: `missing` is not defined\n    start = element a { missing }\n                        ^\n' own.rnc
+printf 'start = element a {\n  grammar { start = element b { c } c = text c = empty }\n}\nc = text\n' >own-twice.rnc
+row own_twice 1 '' 'own-twice.rnc:2:37: error: `c` is defined here and in own-twice.rnc:2:46, neither with |= nor &=\n      grammar { start = element b { c } c = text c = empty }\n                                        ^\n' own-twice.rnc
+printf 'start = element doc { external "circle.rnc" }\n' >own-loop.rnc
+printf 'start = one?\none = two\ntwo = one+\n' >circle.rnc
+row own_recursive 1 '' 'circle.rnc:2:1: error: `one` refers to itself outside elements: by `two` in circle.rnc:3:1\n    one = two\n    ^\n' own-loop.rnc
+
+# ---- a refusal of each kind, with its places
+room sentences
+mkdir extensions
+printf 'start = element doc { name }\n\n        name = text\n' >main.rnc
+printf '# audit\n\nname = empty\n' >extensions/audit.rnc
+row plain_twice 1 '' 'extensions/audit.rnc:3:1: error: `name` is defined here and in main.rnc:3:9, neither with |= nor &=\n    name = empty\n    ^\n' main.rnc extensions/audit.rnc
+printf 'start = element doc { name }\nname = empty\nname = text\n' >twice.rnc
+row plain_twice_one_file 1 '' 'twice.rnc:2:1: error: `name` is defined here and in twice.rnc:3:1, neither with |= nor &=\n    name = empty\n    ^\n' twice.rnc
+printf 'include "b.rnc"\ninclude "c.rnc"\nstart = element doc { name }\n' >a.rnc
+printf 'include "common.rnc"\n' >b.rnc
+printf '\n  include "common.rnc"\n' >c.rnc
+printf 'name = text\n' >common.rnc
+row comes_twice 1 '' 'common.rnc:1:1: error: `name` is defined here with =, and comes twice: by the includes in b.rnc:1:9 and in c.rnc:2:11\n    name = text\n    ^\n' a.rnc
+printf 'start = element doc { name }\nstart = element other { text }\nname = text\n' >starts.rnc
+row start_twice 1 '' 'starts.rnc:1:1: error: `start` is defined here and in starts.rnc:2:1, neither with |= nor &=\n    start = element doc { name }\n    ^\n' starts.rnc
+printf 'start = element doc { name }\nname |= text\nname &= empty\n' >mixed.rnc
+row mixed_methods 1 '' 'mixed.rnc:2:1: error: `name` is combined by |= here, and by &= in mixed.rnc:3:1\n    name |= text\n    ^\n' mixed.rnc
+printf 'include "common.rnc" {\n  other = empty\n}\nstart = element doc { name }\n' >override.rnc
+row override 1 '' 'override.rnc:2:3: error: `other` replaces nothing: common.rnc, which is included in override.rnc:1:9, does not define it\n      other = empty\n      ^\n' override.rnc
+printf 'start = element doc { name? }\n' >undefined.rnc
+row undefined 1 '' 'undefined.rnc:1:23: error: `name` is not defined\n    start = element doc { name? }\n                          ^\n' undefined.rnc
+printf 'include "uses.rnc"\nstart = element doc { text }\n' >reach.rnc
+printf 'unused = \\list\n' >uses.rnc
+row undefined_out_of_reach 1 '' 'uses.rnc:1:10: error: `list` is not defined\n    unused = \\list\n             ^\n' reach.rnc
+printf 'start = one\none = attribute a { text }, two?\ntwo = element b { one } | three\nthree = one\n' >loop.rnc
+row recursive 1 '' 'loop.rnc:2:1: error: `one` refers to itself outside elements: by `two` in loop.rnc:3:1, then `three` in loop.rnc:4:1\n    one = attribute a { text }, two?\n    ^\n' loop.rnc
+printf 'name = text\n' >nostart.rnc
+row no_start 1 '' 'rnc-flat: error: none of the files defines start\n' nostart.rnc
+printf 'start = bad\nbad = element * - * { text }\n' >class.rnc
+begins name_class 1 'class.rnc:2:1: error: `bad` has a name class that is not allowed: * excepts *, p:* excepts * or p:*, or an attribute may be named xmlns (RELAX NG, section 4.16)' class.rnc
+{
+    for _ in $(seq 10000); do echo 'include "empty.rnc"'; done
+    echo 'start = text'
+} >many.rnc
+printf 'x |= empty\n' >empty.rnc
+row many_includes 1 '' 'rnc-flat: error: the files are included more than 512 times in all, each inclusion of a file counted with those in it\n' many.rnc
+{
+    printf 'start = '
+    for n in $(seq 150000); do printf 'element name-of-an-element-number-%d { text } |\n' "$n"; done
+    echo 'empty'
+} >large.rnc
+begins too_large 3 "rnc-flat: error: large.rnc: the file is larger than 4,194,304 bytes" large.rnc
+{
+    printf 'start = element a { '
+    for n in $(seq 255); do printf 'element b { '; done
+    printf 'deep'
+    for n in $(seq 255); do printf ' }'; done
+    printf ' }\ndeep = (text, (empty | element c { (text & element d { text }) }))\n'
+} >deep.rnc
+"$program" deep.rnc >got.out 2>got.err
+if [ $? -le 1 ]; then pass; else fail "deep: $(head -1 got.err)"; fi
+
+# ---- faults of texts, of all files
+room texts
+printf 'start = element a { text\n' >syntax.rnc
+row syntax_end 1 '' 'syntax.rnc:1:25: error: the schema ends too early\n    start = element a { text\n                            ^\n' syntax.rnc
+printf 'start = element a { , }\n' >comma.rnc
+row syntax 1 '' 'comma.rnc:1:21: error: `,` can'"'"'t stand here\n    start = element a { , }\n                        ^\n' comma.rnc
+printf '\tstart = element a { ; }\n' >lexical.rnc
+row lexical 1 '' 'lexical.rnc:1:22: error: nothing that the compact syntax has begins like this\n    \tstart = element a { ; }\n    \t                    ^\n' lexical.rnc
+printf 'start = element p:a { text }\n' >prefix.rnc
+begins prefix 1 'prefix.rnc:1:17: error: this prefix is not declared, or is declared twice or against its meaning' prefix.rnc
+printf 'datatypes d = ""\nstart = element a { d:integer }\n' >builtin.rnc
+begins builtin 1 'builtin.rnc:2:21: error: without a datatype library there are only `string` and `token`, without parameters' builtin.rnc
+printf 'start = element a { xsd:QName "a" }\n' >context.rnc
+begins context_value 1 'context.rnc:1:21: error: a value of the type QName or NOTATION depends on where it is written, and can'"'"'t be merged' context.rnc
+printf 'start = element a { xsd:string - text }\n' >except.rnc
+begins except 1 'except.rnc:1:32: error: only data, values and choices of them can be excepted from data' except.rnc
+printf 'start = element a { text }\n# \377\n' >bytes.rnc
+begins encoding 1 'bytes.rnc:2:3: error: the file is not UTF-8 from here on' bytes.rnc
+{
+    printf 'start = '
+    for _ in $(seq 257); do printf '('; done
+    printf 'text\n'
+} >brackets.rnc
+begins brackets 1 'brackets.rnc:1:265: error: more than 256 brackets are open here' brackets.rnc
+printf 'start = "\344\270\226\347\225\214", ;\n' >wide.rnc
+row columns_count_characters 1 '' 'wide.rnc:1:15: error: nothing that the compact syntax has begins like this\n    start = "\344\270\226\347\225\214", ;\n                  ^\n' wide.rnc
+printf 'start = element a { text }\n\nx = \033[31m\n' >escape.rnc
+row terminal 1 '' 'escape.rnc:3:5: error: nothing that the compact syntax has begins like this\n    x = ?[31m\n        ^\n' escape.rnc
+printf 'include "comma.rnc"\ninclude "lexical.rnc"\ninclude "none.rnc"\nstart = text\n' >several.rnc
+"$program" several.rnc >got.out 2>got.err
+if [ $? -eq 3 ] && [ ! -s got.out ] && [ "$(grep -c ': error: ' got.err)" = 3 ] \
+    && grep -q '^comma.rnc:1:21: error: ' got.err && grep -q '^lexical.rnc:1:22: error: ' got.err \
+    && grep -q '^several.rnc:3:9: error: no such file$' got.err; then pass; else fail "several: $(cat got.err)"; fi
+printf 'include "prefix.rnc"\ninclude "except.rnc"\ninclude "builtin.rnc"\n' >checked.rnc
+"$program" checked.rnc >got.out 2>got.err
+if [ $? -eq 1 ] && [ ! -s got.out ] \
+    && [ "$(grep -o '^[a-z]*.rnc:[0-9]*:[0-9]*: error' got.err | tr '\n' ' ')" = 'builtin.rnc:2:21: error except.rnc:1:32: error prefix.rnc:1:17: error ' ]; then pass; else fail "checked: $(cat got.err)"; fi
+printf 'include "comma.rnc"\ninclude "prefix.rnc"\n' >both.rnc
+"$program" both.rnc >got.out 2>got.err
+if [ $? -eq 1 ] && [ ! -s got.out ] \
+    && [ "$(grep -o '^[a-z]*.rnc:[0-9]*:[0-9]*: error' got.err | tr '\n' ' ')" = 'comma.rnc:1:21: error prefix.rnc:1:17: error ' ]; then pass; else fail "both: $(cat got.err)"; fi
+{
+    for n in $(seq 30); do echo "include \"none$n.rnc\""; done
+    echo 'start = text'
+} >thirty.rnc
+"$program" thirty.rnc >got.out 2>got.err
+if [ $? -eq 3 ] && [ "$(grep -c ': error: ' got.err)" = 20 ] && [ "$(tail -1 got.err)" = 'rnc-flat: note: there are more faults, which are not told: 10' ]; then pass; else fail "thirty: $(tail -2 got.err)"; fi
+
+# ---- files that are no input
+room files
+mkdir folder
+printf 'start = text\n' >a.rnc
+row missing 3 '' 'rnc-flat: error: none.rnc: no such file\n' none.rnc
+row missing_among 3 '' 'rnc-flat: error: none.rnc: no such file\n' a.rnc none.rnc
+row folder 3 '' 'rnc-flat: error: folder: this is a folder\n' folder
+truncate -s 300M huge.rnc
+row huge 3 '' 'rnc-flat: error: huge.rnc: the file is larger than 4,194,304 bytes\n' huge.rnc
+ln -s self.rnc self.rnc
+row link_to_itself 3 '' "rnc-flat: error: self.rnc: the file can't be read\n" self.rnc
+begins name_not_utf8 2 'error: a word is not UTF-8' "$(printf 'a\377.rnc')"
+printf 'include "folder"\nstart = text\n' >includes-folder.rnc
+begins include_folder 3 'includes-folder.rnc:1:9: error: this is a folder' includes-folder.rnc
+printf 'include "missing.rnc"\nstart = text\n' >includes-missing.rnc
+row include_missing 3 '' 'includes-missing.rnc:1:9: error: no such file\n    include "missing.rnc"\n            ^\n' includes-missing.rnc
+printf 'include "other.rnc"\nstart = text\n' >cycle.rnc
+printf 'include "cycle.rnc"\n' >other.rnc
+begins cycle 1 'other.rnc:1:9: error: the file refers to itself: cycle.rnc, other.rnc, cycle.rnc' cycle.rnc
+printf 'include "own.rnc"\nstart = text\n' >own.rnc
+begins includes_itself 1 'own.rnc:1:9: error: the file refers to itself: own.rnc, own.rnc' own.rnc
+printf 'element note { text }\n' >note.rnc
+printf 'include "note.rnc"\nstart = text\n' >includes-pattern.rnc
+begins include_pattern 1 'includes-pattern.rnc:1:9: error: the file is a pattern, and only a grammar can be included; external takes a pattern' includes-pattern.rnc
+printf 'start = element a { external "bad.rnc" }\n' >external.rnc
+printf 'start = element a { | }\n' >bad.rnc
+begins external_faulty 1 'bad.rnc:1:21: error: `|` can'"'"'t stand here' external.rnc
+printf 'start = parent x\n' >parent.rnc
+begins no_parent 1 'parent.rnc:1:9: error: there is no grammar around this one that parent could mean' parent.rnc
+
+# reference NAME STATUS SENTENCE LITERAL: an include of the literal is told at it.
+reference() {
+    printf 'start = text\ninclude "%s"\n' "$4" >reference.rnc
+    begins "$1" "$2" "reference.rnc:2:9: error: $3" reference.rnc
+}
+reference host 1 'the reference names a host' 'file://host/x.rnc'
+reference scheme 1 'no map says where the URI lies' 'http://example.org/x.rnc'
+reference above 3 'no such file' '../../../../../../../../../../../../../../../../../../../../x.rnc'
+reference nul 1 'an escape stands for a byte that no file name holds' 'x%00.rnc'
+reference slash 1 'an escape stands for a byte that no file name holds' 'x%2Fy.rnc'
+reference escape 1 'a % is not followed by two hexadecimal digits' 'x%2'
+reference not_utf8 1 'the escapes are not UTF-8' 'x%FF.rnc'
+reference query 1 'the reference has a query' 'x.rnc?y'
+reference fragment 1 'the reference has a fragment' 'x.rnc#y'
+reference empty 1 'the reference is empty' ''
+printf 'x |= text\n' >'a b.rnc'
+printf 'include "a%%20b.rnc"\nstart = x\n' >spaced.rnc
+row escaped 0 'default namespace = ""\nstart = x\nx = text\n' '' spaced.rnc
+row escaped_names 0 'a%20b.rnc a b.rnc\nspaced.rnc spaced.rnc\n' '' --list spaced.rnc
+long=$(printf 'n%.0s' $(seq 201))
+printf 'start = text\n' >"$long"
+begins long_name 1 "rnc-flat: error: $long: the name of the file, below the root folder, is longer than 200 bytes" "$long"
+begins root_missing 3 'rnc-flat: error: the folder of --root: no such file' --root nowhere a.rnc
+begins outside_root 1 'rnc-flat: error: a.rnc: the file is not below the root folder' --root folder a.rnc
+
+# ---- colours
+room colours
+printf 'start = x\n' >a.rnc
+if command -v script >/dev/null; then
+    script -qec "NO_COLOR= $program a.rnc" /dev/null >got.err 2>/dev/null </dev/null
+    if grep -q "$(printf '\033')\[31merror: " got.err; then pass; else fail 'colours on a terminal'; fi
+    script -qec "NO_COLOR=1 $program a.rnc" /dev/null >got.err 2>/dev/null </dev/null
+    if grep -q 'error: `x` is not defined' got.err && ! grep -q "$(printf '\033')" got.err; then pass; else fail 'NO_COLOR'; fi
+fi
+
+echo "$passed passed, $failed failed"
+[ "$failed" -eq 0 ]
