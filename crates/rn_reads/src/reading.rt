@@ -298,7 +298,7 @@ fn answer_to_many(alloc: Global, count: usize) -> Result<String, AllocError> {
             maps: &[],
         },
     ) {
-        Ok(sources) if sources.files.len() == count + 1 => Ok(String::new(alloc)),
+        Ok(sources) if sources.files.len().checked_sub(1) == Some(count) => Ok(String::new(alloc)),
         Err(ReadFault::Faults(reading)) => shown_faults(alloc, &reading),
         _ => String::from_str(alloc, "another count"),
     }
