@@ -6,6 +6,8 @@ prover tells of each function by itself whether it is proved. Each must be refus
 call one that isn't. A function that calls one which isn't proved says nothing of its own body: that one is tried in a further check, over what is
 kept of the earlier ones. The crates stand on the libraries in crates/*/out, as `rt ci` leaves them in a clean checkout.
 tests/wrong-bodies/run.py --stand: only looks whether each text that they change stands once in its file.
+tests/wrong-bodies/run.py --beside LOG [CRATE..]: the same as with no word, while `rt ci` still runs and writes LOG: a crate is tried once LOG says that the
+libraries which it uses are proved.
 
 A wrong body is a file with a line `file:` and a line `function:`, where it is and which function must not be proved, and one or more pairs of
 lines `old:` and `new:`, each of which changes what the earlier ones made; `⏎` in them is a line end. It is refused by the function's contract, not
@@ -19,6 +21,7 @@ import shutil
 import subprocess
 import sys
 import tempfile
+import time
 
 HERE = os.path.dirname(os.path.abspath(__file__))
 TOP = os.path.dirname(os.path.dirname(HERE))
@@ -218,9 +221,23 @@ def try_some(bodies, kept, words):
     return found
 
 
-def try_all(bodies, words):
+def wait_for(names, log):
+    """Returns once a log of `rt ci` says that these crates are proved."""
+    while log and {*names} - proved_by(log):
+        time.sleep(1)
+
+
+def proved_by(log):
+    """The crates that a log of `rt ci` says are proved."""
+    with open(log, encoding="utf-8", errors="replace") as file:
+        return {*re.findall(r"^rt: (\w+) (?:proved|is kept)", file.read(), re.M)}
+
+
+def try_all(crate, bodies, jobs, log):
     """Tries the wrong bodies of a crate, and returns how many were refused and how many were not."""
-    refused, left = 0, bodies
+    used = libraries()
+    wait_for([name for name in used[crate] if name in used], log)
+    words, refused, left = [*command(crate), *jobs], 0, bodies
     with tempfile.TemporaryDirectory() as kept:
         while left:
             found = try_some(one_each(left), kept, words)
@@ -233,8 +250,10 @@ def try_all(bodies, words):
 
 def main(words):
     """Looks at the wrong bodies, tries them, and returns the status."""
-    only_look, names = "--stand" in words, [word for word in words if word != "--stand"]
-    crates = names or sorted(name for name in os.listdir(HERE) if os.path.isdir(f"{HERE}/{name}"))
+    only_look, log = words[:1] == ["--stand"], words[1] if words[:1] == ["--beside"] else None
+    names = words[2 if log else 1 if only_look else 0 :]
+    # (in the order of crates.txt, so that what others stand on comes first)
+    crates = names or [name for name in libraries() if os.path.isdir(f"{HERE}/{name}")]
     found = {crate: bodies_of(crate) for crate in crates}
     good, bad = sum(len(bodies) for bodies, _ in found.values()), sum(lost for _, lost in found.values())
     print(f"wrong bodies: {good} can be tried, {bad} cannot")
@@ -243,7 +262,7 @@ def main(words):
     lanes = len(os.sched_getaffinity(0))
     jobs = ["--jobs", str(-(-lanes // len(crates)))]
     with concurrent.futures.ThreadPoolExecutor(lanes) as pool:
-        results = [*pool.map(lambda crate: try_all(found[crate][0], [*command(crate), *jobs]), crates)]
+        results = [*pool.map(lambda crate: try_all(crate, found[crate][0], jobs, log), crates)]
     failed = sum(it for _, it in results)
     print(f"{sum(it for it, _ in results)} passed, {failed} failed")
     return 1 if failed else 0
