@@ -1,25 +1,23 @@
 -- Every set has a verdict: that it has none is impossible.
-use Rattle.std.proofs.Common.{◌≡◌, ◌↔◌, ◌⊎◌, inl, inr, ⊎_elim, ℕ, ◌<◌, ◌≤◌, Bool, true, false, List, [], ◌∷◌, map, length, Option, Some, refl, sym, ap, ◌∙◌, subst, arith, Contains}
+use Rattle.std.proofs.Common.{◌≡◌, inl, inr, ℕ, ◌≤◌, Bool, true, false, List, [], ◌∷◌, map, length, Option, Some, refl, sym, ◌∙◌, subst, arith, Contains}
 use Rattle.std.specs.Prelude.{bytes_eq}
 use Rattle.std.specs.List.{AllZip}
 use Rattle.std.specs.Cmp.Lexicographic.{bytes_decides}
-use Rattle.std.proofs.lemmas.Bool.{cases_order, cases_Bool}
+use Rattle.std.proofs.lemmas.Bool.{cases_order}
 use Rattle.std.proofs.lemmas.Map.Views.{Contains-from_lookup}
 use Rattle.rn_text.specs.Tokens.{lexeme_of}
 use Rattle.rn_pattern.specs.Tree.{Text, Tree}
-use Rattle.rn_pattern.specs.Order.{text_cmp}
 use Rattle.rn_pattern.specs.Matching.{Grammar, definition_of}
 use Rattle.rn_pattern.specs.Reached.{IsReached, IsPruned, IsCanonicalOf, all_canonical}
 use Rattle.rn_modset.specs.Contributions.{Member}
-use Rattle.rn_modset.specs.Modules.{Module, Holds, IsHighest, IsEffective, IsConflict, AreEffective}
+use Rattle.rn_modset.specs.Modules.{Module, Holds, IsEffective, IsConflict, AreEffective}
 use Rattle.rn_modset.proofs.Membership.{In, in_from_contains, contains_from_in, in_from_has}
 use Rattle.rn_assemble.specs.Components.{Source}
-use Rattle.rn_assemble.specs.Refusal.{TextFault, fault_rank, HasFault, IsFirstFault, IsFaulty, Refusal, conflict, faulty, rank, IsModuleOf, AreModules, Stands, IsFirst, IsAssembled, grammar_of}
+use Rattle.rn_assemble.specs.Refusal.{TextFault, fault_rank, HasFault, IsFaulty, Refusal, conflict, faulty, rank, IsModuleOf, AreModules, Stands, IsFirst, IsAssembled, grammar_of}
 use Rattle.rn_assemble.proofs.NoLeast.{no_text}
 use Rattle.rn_simplify.specs.Spelling.{spelling}
 use Rattle.rn_simplify.specs.ReadBack.{is_too_deep}
 use Rattle.rn_simplify.specs.Verdict.{Verdict, prints, refused, too_large, too_deep, IsCanonicalOfSet, IsVerdict}
-use Rattle.rn_merge.specs.Texts.{IsGood}
 use Rattle.rn_merge.proofs.Places.{faultless_good}
 use Rattle.rn_merge.proofs.Entries.{no_first, in_map, names_sorted, never_no_entries}
 

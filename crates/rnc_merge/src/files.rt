@@ -1,9 +1,7 @@
 // Reading the files that the words name.
 ghost use Rattle.std.specs.Prelude.{◌≡◌, false};
 
-use rn_merge::{
-    Input, MAX_INPUT, ProgramFault, ReadFault, STANDARD_INPUT, Source, read_input,
-};
+use rn_merge::{Input, MAX_INPUT, ProgramFault, ReadFault, STANDARD_INPUT, Source, read_input};
 use std::alloc::Global;
 use std::fs::File;
 
