@@ -138,6 +138,31 @@ no_fault bundles others s Full h inside k = absurd (not_too_many bundles others 
 no_fault bundles others s Memory h inside k = refl
 no_fault bundles others s Write h inside k = absurd k
 
+sets_of : (bundles : List (List ℕ)) → ((b : List ℕ) → In b bundles → (t : List Member) × IsBundle b t) → (sets : List (List Member)) × AreBundles bundles sets
+sets_of [] h = ([], tt)
+sets_of (b ∷ bundles) h =
+    let (t, is) = h b (inl refl) in
+    let rest = sets_of bundles (λ c i. h c (inr i)) in
+    (t ∷ rest.0, (is, rest.1))
+
+-- bundles that have a union have it in any other order
+pub same_union : (bundles others : List (List ℕ)) (s : List Member) → IsUnion bundles s → AreSame bundles others → IsUnion others s
+same_union bundles others s h same =
+    let made = sets_of others (λ b i.
+    let (t, j, is) = set_of_bundle bundles h.sets h.are b (in_from_contains bundles b ((same b).1 (contains_from_in others b i))) in
+    (t, is)) in
+    let t : List Member = unions [] made.0 in
+    let rises : Rises t = rises_unions [] made.0 none_kept.rises in
+    let within : (q : Member) → In q t → In q s = λ q i.
+    ⊎_elim (λ a. absurd a)
+    (λ (u, j, k).
+    let (b, l, is) = bundle_of_set others made.0 made.1 u j in
+    in_from_contains s q (held bundles s h q (b, u, (same b).1 (contains_from_in others b l), is, contains_from_in u q k)))
+    (in_unions [] made.0 q i) in
+    let few = no_longer t s rises (union_rises bundles s h) within in
+    let made_union : IsUnion others t = record { sets = made.0; are = made.1; is = refl; few = omega (arith, few, h.few) } in
+    subst (λ (u : List Member). IsUnion others u) (sym (one_union bundles others s t h made_union (same_brought bundles others same))) made_union
+
 -- where the one have a union, others that bring the same are not too many
 pub never_full : (bundles others : List (List ℕ)) (s : List Member) (fault : RunFault) → IsUnion bundles s → BringSame bundles others → HasNoUnion others fault → fault ≢ Full
 never_full bundles others s (Bundle i f) h same k = λ e. cc

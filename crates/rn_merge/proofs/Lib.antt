@@ -10,3 +10,5 @@ mod Alone
 mod Schemas
 mod Calls
 mod Places
+mod Entries
+mod EverySet

@@ -2,6 +2,7 @@
 use Rattle.std.specs.Prelude.{◌≡◌, ◌≢◌, ℕ, ◌<◌, ◌≤◌, Bool, true, false, List, [], ◌∷◌, length, map, take, IsSomeAnd, Option, Result, Ok, Err, slice_get, Some, Vec}
 use Rattle.std.specs.declared.alloc.Global.{Global}
 use Rattle.std.specs.Io.KnownBytes.{Appends}
+use Rattle.rn_modset.specs.declared.contribution.TheConstants.{MAX_CONTRIBUTIONS}
 use Rattle.rn_modset.specs.Contributions.{Member}
 use Rattle.rn_modset.specs.Sets.{union}
 use Rattle.rn_modset.specs.Grammar.{IsBundle}
@@ -37,12 +38,12 @@ AreBundles [] (s ∷ sets) = ⊥
 AreBundles (b ∷ bundles) [] = ⊥
 AreBundles (b ∷ bundles) (s ∷ sets) = IsBundle b s × AreBundles bundles sets
 
--- these are the bundles of sets, and s, which has at most 1,024 contributions, is the union of them all
+-- these are the bundles of sets, and s, which has no more contributions than a set may have, is the union of them all
 pub record IsUnion (bundles : List (List ℕ)) (s : List Member) : Type 0 where
   pub sets : List (List Member)
   pub are : AreBundles bundles sets
   pub is : s ≡ unions [] sets
-  pub few : length s ≤ 1024
+  pub few : length s ≤ MAX_CONTRIBUTIONS
 
 -- the bundles before the index have a union
 abbrev pub IsUnionBefore : List (List ℕ) → ℕ → List Member → Type 0
@@ -57,7 +58,7 @@ pub record IsTooMany (bundles : List (List ℕ)) : Type 0 where
   pub union_before : IsUnionBefore bundles index before
   pub at : slice_get bundles index ≡ Some bytes
   pub is_bundle : IsBundle bytes next
-  pub many : 1024 < length (union before next)
+  pub many : MAX_CONTRIBUTIONS < length (union before next)
 
 -- the bytes at the index, which come behind bundles that have a union, are no set's bundle: they have this fault
 pub record ComesToFault (bundles : List (List ℕ)) (index : ℕ) (fault : BundleFault) : Type 0 where

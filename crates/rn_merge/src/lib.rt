@@ -12,7 +12,9 @@ pub mod words;
 
 pub use lines::{fault_line, list_line, refusal_line, status};
 pub use run::{RunFault, Status, read_bundles, run_print};
-pub use streams::{Failed, Input, Output, ReadFault, Sink, Source, read_input, write_output};
+pub use streams::{
+    Failed, Input, MAX_INPUT, Output, ReadFault, Sink, Source, read_input, write_output,
+};
 pub use texts::{Place, check};
 pub use verdict::merge;
-pub use words::{Job, ProgramFault, plan};
+pub use words::{Job, ProgramFault, STANDARD_INPUT, plan};

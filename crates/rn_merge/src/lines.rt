@@ -11,9 +11,9 @@ use rn_text::{is_keyword, write_literal};
 use sha2::{Digest, Sha256};
 use std::alloc::{AllocError, Global};
 
-/// The line of a refusal, without its line feed: its name and its fields, each after one space. A key is `start` or a
-/// definition's name, with a backslash if it is a keyword; the name that an include wants is a literal, and holds XML
-/// characters alone.
+/// The line of a refusal, without its line feed: its name and its fields, each after one space. A
+/// key is `start` or a definition's name, with a backslash if it is a keyword; the name that an
+/// include wants is a literal, and holds XML characters alone.
 pub fn refusal_line(alloc: Global, refusal: &Refusal) -> Result<String, AllocError>
     ensures { IfOk result (λ line. string_bytes line ≡ refusal_line refusal.now) }
 {
@@ -54,7 +54,8 @@ fn refusal_name(refusal: &Refusal) -> &'static str
 
 /// Appends the fields of a refusal, each after one space.
 fn push_fields(line: &mut String, refusal: &Refusal) -> Result<(), AllocError>
-    ensures { OnOk result (string_bytes line.new ≡ string_bytes line.old ++ behind (refusal_fields refusal.now)) }
+    ensures { OnOk result
+        (string_bytes line.new ≡ string_bytes line.old ++ behind (refusal_fields refusal.now)) }
 {
     match refusal {
         Refusal::Conflict { module, revision } => {
@@ -111,7 +112,8 @@ fn push_key(line: &mut String, key: &Key) -> Result<(), AllocError>
 
 /// A definition's name (RELAX NG Compact Syntax, appendix A, identifier).
 fn push_identifier(line: &mut String, name: &str) -> Result<(), AllocError>
-    ensures { OnOk result (string_bytes line.new ≡ string_bytes line.old ++ 32 ∷ identifier name.now) }
+    ensures { OnOk result
+        (string_bytes line.new ≡ string_bytes line.old ++ 32 ∷ identifier name.now) }
 {
     if is_keyword(name) {
         line.push_str(" \\")?;
@@ -121,8 +123,8 @@ fn push_identifier(line: &mut String, name: &str) -> Result<(), AllocError>
     }
 }
 
-/// The line of `list` for a contribution, without its line feed: name, revision, and the text's length in bytes with its
-/// digest, or that it is withdrawn.
+/// The line of `list` for a contribution, without its line feed: name, revision, and the text's
+/// length in bytes with its digest, or that it is withdrawn.
 pub fn list_line(alloc: Global, contribution: &Contribution) -> Result<String, AllocError>
     ensures { IfOk result (λ line. string_bytes line ≡ list_line (member contribution.now)) }
 {
@@ -138,7 +140,8 @@ pub fn list_line(alloc: Global, contribution: &Contribution) -> Result<String, A
     }
 }
 
-/// The line of a fault on standard error, without its line feed. Want of memory inside any fault is the line `Memory`.
+/// The line of a fault on standard error, without its line feed. Want of memory inside any fault is
+/// the line `Memory`.
 pub fn fault_line(alloc: Global, fault: &ProgramFault) -> Result<String, AllocError>
     ensures { IfOk result (λ line. string_bytes line ≡ fault_line fault.now) }
 {
@@ -198,8 +201,8 @@ fn place_line(alloc: Global, place: &Place) -> Result<String, AllocError>
     }
 }
 
-/// The status with which the program ends after a fault: 1 where the input is refused, 2 for its words, 3 for files
-/// and want of memory.
+/// The status with which the program ends after a fault: 1 where the input is refused, 2 for its
+/// words, 3 for files and want of memory.
 pub fn status(fault: &ProgramFault) -> u8
     ensures { result ≡ status fault.now }
 {

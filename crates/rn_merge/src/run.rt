@@ -9,7 +9,8 @@ use rn_modset::{AddFault, BundleFault, ModuleSet, read_bundle};
 use std::alloc::Global;
 use thiserror::Error;
 
-/// What came of a run: all of the text was written, or nothing was, for there is a refusal, which is never `Memory`.
+/// What came of a run: all of the text was written, or nothing was, for there is a refusal, which
+/// is never `Memory`.
 #[derive(Debug, Drop, PartialEq, Eq)]
 pub enum Status {
     Done,
@@ -46,8 +47,9 @@ impl From<AddFault> for RunFault {
     }
 }
 
-/// The union of the sets of which these are the bundles. `Bundle` where the first that is no bundle comes before the
-/// union has more than 1,024 contributions, else `Full` where it has.
+/// The union of the sets of which these are the bundles. `Bundle` where the first that is no bundle
+/// comes before the union has more than 1,024 contributions, else `Full` where it has; `Memory`
+/// where a request for memory was refused before.
 pub fn read_bundles(alloc: Global, bundles: &[Vec<u8>]) -> Result<ModuleSet, RunFault>
     ensures ok { IfOk result (IsUnion (bundles_view bundles.now)) }
     ensures err { IfErr result (HasNoUnion (bundles_view bundles.now)) }
@@ -64,9 +66,12 @@ pub fn read_bundles(alloc: Global, bundles: &[Vec<u8>]) -> Result<ModuleSet, Run
     Ok(union)
 }
 
-/// Writes the schema of the union of the bundles to a sink that has not failed, or answers the refusal that is the verdict
-/// of the union, of modules the first that stands. What is written has all that `merge` promises of a text. Nothing is
-/// written where there is no schema; `Write` where the sink has failed, which then took a front of the text.
+/// Writes the schema of the union of the bundles to a sink that has not failed, or answers the
+/// refusal that is the verdict of the union, of modules the first that stands. What is written has
+/// all that `merge` promises of a text. `Bundle` and `Full` where the bundles have no union, as
+/// [`read_bundles`] says them; `Memory` where a request for memory was refused; `Write` where the
+/// sink has failed, which then took a front of the text. In all other cases but `Done` nothing is
+/// written, and the sink is what it was.
 pub fn run_print<W: Sink>(
     alloc: Global,
     bundles: &[Vec<u8>],
@@ -88,7 +93,8 @@ pub fn run_print<W: Sink>(
     }
 }
 
-/// What a run comes to where `merge` refuses the union: want of memory is no refusal of the modules.
+/// What a run comes to where `merge` refuses the union: want of memory is no refusal of the
+/// modules.
 fn refused(refusal: Refusal) -> Result<Status, RunFault>
     ensures { result ≡ refused_as refusal }
 {

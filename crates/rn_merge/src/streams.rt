@@ -2,12 +2,16 @@
 ghost use Rattle.std.specs.Prelude.{◌≡◌, ◌≤◌, ◌<◌, ◌||◌, ℕ, Bool, true, false, List, length, Option, None, IfOk, IfErr, OnOk, OnErr, is_err, vec_len};
 ghost use Rattle.std.specs.Io.KnownBytes.{WriteAppends, ReadConsumes, Consumes, Appends, IsAtEnd};
 ghost use Rattle.rn_merge.specs.Streams.{AppendsFront, IsReadFault, ends_input, refuses_piece};
+ghost use Rattle.rn_merge.specs.declared.streams.TheConstants.{MAX_INPUT};
 
 use std::alloc::{AllocError, Global};
 use std::io::{Read, Write};
 
 /// How many bytes are asked for at once.
 const PIECE: usize = 65_536;
+
+/// The most bytes of one input.
+pub const MAX_INPUT: usize = 268_435_456;
 
 /// A source or a sink did not do what it was asked for.
 #[derive(Clone, Copy, Debug, PartialEq, Eq)]
@@ -33,8 +37,8 @@ pub trait Source {
 
     ghost has_ended: { Self → Bool };
 
-    /// Puts the next bytes at the front of `into`, and answers how many. None into a place that is not empty says that
-    /// the source has ended; one that fails gives none.
+    /// Puts the next bytes at the front of `into`, and answers how many. None into a place that is
+    /// not empty says that the source has ended; one that fails gives none.
     fn pull(&mut self, into: &mut [u8]) -> Result<usize, Failed>
         ensures within { IfOk result (λ n. n ≤ length into.new) }
         ensures bytes { ReadConsumes (remaining self.old) (remaining self.new) result into.new }
@@ -57,12 +61,13 @@ pub trait Sink {
 
     ghost has_failed: { Self → Bool };
 
-    /// Takes bytes from the front of `piece`, and answers how many. A sink that fails takes none; one that takes none of
-    /// a piece that is not empty has failed.
+    /// Takes bytes from the front of `piece`, and answers how many. A sink that fails takes none;
+    /// one that takes none of a piece that is not empty has failed.
     fn push(&mut self, piece: &[u8]) -> Result<usize, Failed>
         ensures within { IfOk result (λ n. n ≤ length piece.now) }
         ensures bytes { WriteAppends (contents self.old) (contents self.new) result piece.now }
-        ensures failed { has_failed self.new ≡ (has_failed self.old || refuses_piece result piece.now) };
+        ensures failed { has_failed self.new
+            ≡ (has_failed self.old || refuses_piece result piece.now) };
 
     /// Whether a push has failed.
     fn failed(&self) -> bool
@@ -168,23 +173,26 @@ impl<W: Write + Drop> Sink for Output<W> {
     }
 }
 
-/// All bytes that a source gives until it ends, at most `limit` of them, which is at most 268,435,456. The source has
-/// neither failed nor ended before. `Read` where the source has failed, `Large` where it gave more than `limit` bytes;
-/// after a refusal the bytes that it gave are lost, and it stands where it then is.
+/// All bytes that a source gives until it ends, at most `limit` of them, which is at most
+/// [`MAX_INPUT`]. The source has neither failed nor ended before. `Read` where the source has
+/// failed, `Large` where it gave more than `limit` bytes; after a refusal the bytes that it gave
+/// are lost, and it stands where it then is.
 pub fn read_input<S: Source>(
     alloc: Global,
     source: &mut S,
     limit: usize,
 ) -> Result<Vec<u8>, ReadFault>
-    requires limit { limit ≤ 268435456 }
+    requires limit { limit ≤ MAX_INPUT }
     requires fresh { S.has_failed source.old ≡ false }
     requires unended { S.has_ended source.old ≡ false }
-    ensures bytes { IfOk result (λ v. Consumes (S.remaining source.old) (S.remaining source.new) v.items) }
+    ensures bytes { IfOk result
+        (λ v. Consumes (S.remaining source.old) (S.remaining source.new) v.items) }
     ensures few { IfOk result (λ v. length v.items ≤ limit) }
     ensures whole { OnOk result (IsAtEnd (S.remaining source.new)) }
     ensures ended { OnOk result (S.has_ended source.new ≡ true) }
     ensures sound { OnOk result (S.has_failed source.new ≡ false) }
-    ensures err { IfErr result (IsReadFault (S.remaining source.old) (S.remaining source.new) (S.has_failed source.new) limit) }
+    ensures err { IfErr result (IsReadFault (S.remaining source.old) (S.remaining source.new)
+        (S.has_failed source.new) limit) }
 {
     let Ok(mut piece) = room(alloc) else {
         return Err(ReadFault::Memory);
@@ -214,7 +222,8 @@ fn room(alloc: Global) -> Result<Vec<u8>, AllocError>
     vec![in alloc; 0u8; PIECE]
 }
 
-/// Writes all bytes to a sink that has not failed. `Failed` where the sink has then failed; it took a front of the bytes.
+/// Writes all bytes to a sink that has not failed. `Failed` where the sink has then failed; it took
+/// a front of the bytes.
 pub fn write_output<W: Sink>(out: &mut W, bytes: &[u8]) -> Result<(), Failed>
     requires { W.has_failed out.old ≡ false }
     ensures ok { OnOk result (Appends (W.contents out.old) (W.contents out.new) bytes.now) }

@@ -6,23 +6,26 @@ ghost use Rattle.rn_merge.specs.Texts.{HasPlace, IsGood};
 
 use crate::texts::Place;
 
-/// A module text has at most one fault with one place, want of memory aside, and none where it is good. That it is not good
-/// and has no fault either is impossible.
+/// A module text has at most one fault with one place, want of memory aside, and none where it is
+/// good. That it is not good and has no fault either is impossible.
 pub fn texts_are_good_or_have_one_place()
     ensures never_neither { (text : List ℕ)
         → ¬ ((¬ IsGood text) × ((place : Place) → HasPlace text place → place ≡ Place.Memory)) }
     ensures not_both { (text : List ℕ) (place : Place)
         → IsGood text → HasPlace text place → place ≡ Place.Memory }
-    ensures one { (text : List ℕ) (place other : Place) → HasPlace text place → HasPlace text other
+    ensures one { (text : List ℕ) (place other : Place)
+        → HasPlace text place → HasPlace text other
         → place ≢ Place.Memory → other ≢ Place.Memory → place ≡ other }
 {}
 
-/// What `check` accepts or names is what `merge` accepts or names. A good text has none of the faults that refuse a module,
-/// and the place of any other text has the kind of its first one. That a text has no such fault and is not good, or that no
-/// place has the kind of its first fault, is impossible.
+/// What `check` accepts or names is what `merge` accepts or names. A good text has none of the
+/// faults that refuse a module, and the place of any other text has the kind of its first one. That
+/// a text has no such fault and is not good, or that no place has the kind of its first fault, is
+/// impossible.
 pub fn checked_texts_are_merged()
     ensures good { (text : List ℕ) → IsGood text → (fault : TextFault) → ¬ HasFault text fault }
-    ensures faultless { (text : List ℕ) → ((fault : TextFault) → ¬ HasFault text fault) → ¬ (¬ IsGood text) }
+    ensures faultless { (text : List ℕ) → ((fault : TextFault) → ¬ HasFault text fault)
+        → ¬ (¬ IsGood text) }
     ensures first { (text : List ℕ) (place : Place)
         → HasPlace text place → IfSome (kind_of place) (IsFirstFault text) }
     ensures placed { (text : List ℕ) (fault : TextFault) → IsFirstFault text fault

@@ -7,33 +7,37 @@ use rn_text::{TextFault, tokens};
 use std::alloc::Global;
 use thiserror::Error;
 
-/// What is wrong with a module text. The first kind in this order that stands is answered, at its first place: `at` counts
-/// bytes from the start of the text.
+/// What is wrong with a module text. The first kind in this order that stands is answered, at its
+/// first place: `at` counts bytes from the start of the text.
 #[derive(Debug, Drop, PartialEq, Eq, Error)]
 pub enum Place {
     /// The length of the longest front that is UTF-8.
     #[error("Encoding {at}")]
     Encoding { at: usize },
-    /// The first character that XML does not allow; else where no token, white space or comment can be read.
+    /// The first character that XML does not allow; else where no token, white space or comment can
+    /// be read.
     #[error("Lexical {at}")]
     Lexical { at: usize },
     /// The first of `{`, `(` and `[` that makes 257 open at once.
     #[error("Deep {at}")]
     Deep { at: usize },
-    /// The first token with which the tokens so far begin no module; where all of them begin one and are none, the end of
-    /// the last token.
+    /// The first token with which the tokens so far begin no module; where all of them begin one
+    /// and are none, the end of the last token.
     #[error("Syntax {at}")]
     Syntax { at: usize },
-    /// A prefix that is used without a declaration, or declared twice or against its meaning; or a second default namespace.
+    /// A prefix that is used without a declaration, or declared twice or against its meaning; or a
+    /// second default namespace.
     #[error("Prefix {at}")]
     Prefix { at: usize },
-    /// A datatype of the empty library other than `string` and `token`, or one of these with a parameter.
+    /// A datatype of the empty library other than `string` and `token`, or one of these with a
+    /// parameter.
     #[error("Builtin {at}")]
     Builtin { at: usize },
     /// A value of `QName` or `NOTATION` of the XML Schema library.
     #[error("ContextValue {at}")]
     ContextValue { at: usize },
-    /// The `-` behind which something else than values, data, choices of them and `notAllowed` stands (RELAX NG 2001, 7.1.4).
+    /// The `-` behind which something else than values, data, choices of them and `notAllowed`
+    /// stands (RELAX NG 2001, 7.1.4).
     #[error("Except {at}")]
     Except { at: usize },
     /// A request for memory was refused.
@@ -75,8 +79,9 @@ impl From<SyntaxFault> for Place {
     }
 }
 
-/// The first fault of a module text of any length (RELAX NG Compact Syntax, 2 and 3): of its bytes, its tokens, and then
-/// its grammar.
+/// The first fault of a module text of any length (RELAX NG Compact Syntax, 2 and 3): of its bytes,
+/// its tokens, and then its grammar. `Memory` where a request for memory was refused before a fault
+/// was found.
 pub fn check(alloc: Global, text: &[u8]) -> Result<(), Place>
     ensures ok { OnOk result (IsGood text.now) }
     ensures err { IfErr result (HasPlace text.now) }

@@ -9,12 +9,14 @@ use rn_modset::ModuleSet;
 use rn_simplify::{normalise, print};
 use std::alloc::Global;
 
-/// The verdict of the set: its flat schema in the canonical text, or the first refusal that stands, or `OutputTooLarge` or
-/// `OutputTooDeep` where the text would be more than may be printed. `Memory` stands for want of memory alone.
+/// The verdict of the set: its flat schema in the canonical text, or the first refusal that stands,
+/// or `OutputTooLarge` or `OutputTooDeep` where the text would be more than may be printed.
+/// `Memory` stands for want of memory alone.
 ///
-/// A text is read back as a module that is valid for exactly the documents of the set's definitions, combined in any pairs
-/// and any order (RELAX NG Specification, section 4.17). No refusal stands for its set, so no name is defined plainly twice
-/// there, or combined by both methods. Merged as the one effective module of a set, or as a contribution alone, under any
+/// A text is read back as a module that is valid for exactly the documents of the set's
+/// definitions, combined in any pairs and any order (RELAX NG Specification, section 4.17). No
+/// refusal stands for its set, so no name is defined plainly twice there, or combined by both
+/// methods. Merged as the one effective module of a set, or as a contribution alone, under any
 /// name, it is answered again.
 pub fn merge(alloc: Global, set: &ModuleSet) -> Result<String, Refusal>
     ensures verdict { IsAnswer set.now result }

@@ -12,7 +12,7 @@ use std::alloc::{AllocError, Global};
 use thiserror::Error;
 
 /// The word for standard input.
-const STANDARD_INPUT: &str = "-";
+pub const STANDARD_INPUT: &str = "-";
 
 /// One file or more, the last word of a command.
 const FILES: &str = "FILE..";
@@ -74,7 +74,7 @@ pub enum ProgramFault {
     /// The file of this number can't be read.
     #[error("read {0}")]
     Read(usize),
-    /// The file of this number has more than 268,435,456 bytes.
+    /// The file of this number has more bytes than an input may have (`MAX_INPUT`).
     #[error("large {0}")]
     Large(usize),
     /// The output can't be written.
@@ -139,9 +139,10 @@ impl From<RunFault> for ProgramFault {
     }
 }
 
-/// What the words behind the program's name ask for; no words ask for the schema of standard input. No file is read.
-/// `Usage` where the words have the form of no command, then `Rev` where a revision is not a decimal number of 64 bits
-/// without sign and leading zeros, then `Dash` where standard input is named twice.
+/// What the words behind the program's name ask for; no words ask for the schema of standard input.
+/// No file is read. `Usage` where the words have the form of no command, then `Rev` where a
+/// revision is not a decimal number of 64 bits without sign and leading zeros, then `Dash` where
+/// standard input is named twice.
 pub fn plan(alloc: Global, words: &[String]) -> Result<Job, ProgramFault>
     ensures { IfOk result NamesFiles }
 {
@@ -258,7 +259,8 @@ fn files(alloc: Global, words: &ArgMatches<'_>) -> Result<Vec<String>, ProgramFa
 }
 
 fn copies(alloc: Global, words: &[&str]) -> Result<Vec<String>, AllocError>
-    ensures { IfOk result (λ copies. map string_bytes copies.items ≡ map (λ word. word.now) words.now) }
+    ensures { IfOk result
+        (λ copies. map string_bytes copies.items ≡ map (λ word. word.now) words.now) }
 {
     let mut copies = Vec::new(alloc);
     for word in words {

@@ -1,17 +1,12 @@
 // Reading the files that the words name.
 ghost use Rattle.std.specs.Prelude.{◌≡◌, false};
 
-use rn_merge::{Input, ProgramFault, ReadFault, Source, read_input};
+use rn_merge::{Input, MAX_INPUT, ProgramFault, ReadFault, STANDARD_INPUT, Source, read_input};
 use std::alloc::Global;
 use std::fs::File;
 
-/// The most bytes of one file.
-const MAX_INPUT: usize = 268_435_456;
-
-/// The word for standard input.
-const STANDARD_INPUT: &str = "-";
-
-/// The bytes of all files, in order.
+/// The bytes of all files, in order; or the fault of the first that can't be read, as [`read_file`]
+/// says it, or `Memory`.
 pub fn read_files(rt: &HostRuntime, files: &[String]) -> Result<Vec<Vec<u8>>, ProgramFault> {
     let mut inputs = Vec::with_capacity(rt.alloc(), files.len())?;
     for (n, file) in files.iter().enumerate() {
@@ -22,7 +17,8 @@ pub fn read_files(rt: &HostRuntime, files: &[String]) -> Result<Vec<Vec<u8>>, Pr
     Ok(inputs)
 }
 
-/// The bytes of the file with this number among the words.
+/// The bytes of the file with this number among the words. `Read` where it can't be opened or read,
+/// `Large` where it has more than [`MAX_INPUT`] bytes, each with the number; else `Memory`.
 pub fn read_file(rt: &HostRuntime, n: usize, file: &str) -> Result<Vec<u8>, ProgramFault> {
     if file == STANDARD_INPUT {
         return read_all(rt.alloc(), n, &mut Input::new(rt.stdin()));

@@ -1,4 +1,5 @@
-//! `rnc-merge`: modules of the RELAX NG compact syntax in, one flat schema or one named refusal out.
+//! `rnc-merge`: modules of the RELAX NG compact syntax in, one flat schema or one named refusal
+//! out.
 #![tactic(auto)]
 
 mod files;
@@ -38,7 +39,8 @@ fn words(rt: &HostRuntime) -> Result<Vec<String>, ProgramFault> {
     }
 }
 
-/// Writes the line of a fault, and answers its status. Where the line can't be built it is `Memory`.
+/// Writes the line of a fault, and answers its status. Where the line can't be built it is
+/// `Memory`.
 fn report(rt: &HostRuntime, fault: &ProgramFault) -> ExitCode {
     let mut errors = Output::new(rt.stderr());
     match line(rt.alloc(), fault) {
