@@ -4,7 +4,7 @@ ghost use Rattle.std.specs.List.{list_all};
 ghost use Rattle.rn_modset.specs.Contributions.{is_module_name};
 ghost use Rattle.rn_modset.specs.Bundles.{header_line};
 ghost use Rattle.rn_modset.specs.Grammar.{IsDigest, is_lower_hex};
-ghost use Rattle.rn_modset.specs.Headers.{header_view, MayStand, IsNoHeader, AreNoTextFields, IsNoWithdrawalField};
+ghost use Rattle.rn_modset.specs.inside.Headers.{header_view, MayStand, IsNoHeader, AreNoTextFields, IsNoWithdrawalField};
 
 use crate::contribution::MAX_TEXT;
 use crate::fields::{number, split_at_byte};

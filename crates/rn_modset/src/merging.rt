@@ -2,7 +2,7 @@
 ghost use Rattle.std.specs.Prelude.{◌≡◌, ◌≢◌, ◌+◌, ◌<◌, ◌≤◌, [], ℕ, length, true, false, IfOk, MatchOption, MatchBool, vec_len, vec_capacity};
 ghost use Rattle.rn_modset.specs.Contributions.{Member, member, members_of, member_cmp};
 ghost use Rattle.rn_modset.specs.Sets.{Rises, has, missing, union};
-ghost use Rattle.rn_modset.specs.Merges.{IsNotBelow, KeepsFrom, AreApart, EndsAbove, TakesGreatest};
+ghost use Rattle.rn_modset.specs.inside.Merges.{IsNotBelow, KeepsFrom, AreApart, EndsAbove, TakesGreatest};
 
 use crate::contribution::Contribution;
 use std::alloc::{AllocError, Global};
