@@ -7,8 +7,8 @@ use Rattle.rn_modset.specs.Contributions.{is_module_name}
 use Rattle.rn_modset.specs.Bundles.{header_line, end_line}
 use Rattle.rn_modset.specs.Grammar.{Head, text_header, withdrawal_header}
 use Rattle.rn_modset.specs.Grammar.{IsDigest}
-use Rattle.rn_modset.specs.Headers.{MayStand, IsNoHeader, AreNoTextFields, IsNoWithdrawalField}
-use Rattle.rn_modset.specs.Headers.{header_view}
+use Rattle.rn_modset.specs.inside.Headers.{MayStand, IsNoHeader, AreNoTextFields, IsNoWithdrawalField}
+use Rattle.rn_modset.specs.inside.Headers.{header_view}
 use Rattle.rn_modset.proofs.Splits.{Lacks, lacks_by, lacks_from_all, unsplit, one_cut, name_lacks, number_lacks}
 
 abbrev pub kind_of : Head → List ℕ

@@ -11,7 +11,7 @@ use Rattle.std.proofs.lemmas.List.{append-nil, same_from_push}
 use Rattle.rn_modset.specs.declared.contribution.Contribution.{Contribution}
 use Rattle.rn_modset.specs.Contributions.{Member, member, members_of, member_cmp}
 use Rattle.rn_modset.specs.Sets.{Rises, has, union, missing}
-use Rattle.rn_modset.specs.Merges.{KeepsFrom, AreApart, AreBelow, EndsAbove, TakesGreatest}
+use Rattle.rn_modset.specs.inside.Merges.{KeepsFrom, AreApart, AreBelow, EndsAbove, TakesGreatest}
 use Rattle.rn_modset.proofs.Members.{members_total, members_same}
 use Rattle.rn_modset.proofs.Membership.{In, in_left, in_right, in_append, all_in, all_by_in, below_in, above_in, in_from_has, has_from_in}
 use Rattle.rn_modset.proofs.Truths.{else_false, not_both}

@@ -6,7 +6,7 @@ use Rattle.rn_modset.specs.Contributions.{Member, has_withdrawal, IsGood}
 use Rattle.rn_modset.specs.Sets.{Rises, IsSet}
 use Rattle.rn_modset.specs.Grammar.{Head, text_header, withdrawal_header, IsDigestOf, IsHeader, IsEntryOf, IsEntry, AreEntries, IsFirstLine, IsEndLine, IsBundle}
 use Rattle.rn_modset.specs.Bundles.{header_line, digest, entry, entries, first_line, end_line, bundle}
-use Rattle.rn_modset.specs.Headers.{MayStand, IsNoHeader, IsLastLine}
+use Rattle.rn_modset.specs.inside.Headers.{MayStand, IsNoHeader, IsLastLine}
 use Rattle.rn_modset.specs.Faults.{IsFront, Ends}
 use Rattle.rn_modset.proofs.Digits.{number_is, number_by, hex_is, hex_written}
 use Rattle.rn_modset.proofs.Digests.{digest_is, sha256_bytes}

@@ -16,7 +16,7 @@ use Rattle.rn_modset.specs.Contributions.{Member, member_cmp, is_module_name, is
 use Rattle.rn_modset.specs.Sets.{Rises}
 use Rattle.rn_modset.specs.Grammar.{Head, text_header, withdrawal_header, is_lower_hex, IsDigest, IsHeader, IsFirstLine, IsBundle}
 use Rattle.rn_modset.specs.Bundles.{header_line, header_of, body_of, digest, entry, first_line, end_line}
-use Rattle.rn_modset.specs.Headers.{MayStand, IsNoHeader, AreNoTextFields}
+use Rattle.rn_modset.specs.inside.Headers.{MayStand, IsNoHeader, AreNoTextFields}
 use Rattle.rn_modset.specs.Faults.{HasLine, Ends, IsTextFault, cut_short, no_line_feed, other_digest, IsEntryFault, no_header, bad_text, IsFaultBehind, no_line, more_bytes, bad_entry, out_of_order, HasFault, no_first_line, behind}
 use Rattle.rn_modset.proofs.Truths.{differs}
 use Rattle.rn_modset.proofs.HeaderLines.{IsCut, no_kind, no_name, bad_name, no_such_kind, text_by, withdrawal_by, AreCut, no_revision, no_length, bad_revision, bad_length, bad_limits}

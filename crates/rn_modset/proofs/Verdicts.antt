@@ -9,7 +9,7 @@ use Rattle.rn_modset.specs.Contributions.{Member, is_name_byte, is_withdrawal, I
 use Rattle.rn_modset.specs.Sets.{Rises}
 use Rattle.rn_modset.specs.Grammar.{Head, text_header, withdrawal_header, is_lower_hex, IsDigestOf, IsHeader, IsEndLine}
 use Rattle.rn_modset.specs.Bundles.{header_line, header_of, body_of, digest, entry}
-use Rattle.rn_modset.specs.Headers.{MayStand}
+use Rattle.rn_modset.specs.inside.Headers.{MayStand}
 use Rattle.rn_modset.specs.Faults.{not_line_feed, HasLine, Ends, Heads, IsTextFault, cut_short, no_line_feed, other_digest, text_memory, IsEntryFault, no_header, bad_text, entry_memory, IsFaultBehind, no_line, more_bytes, bad_entry, out_of_order}
 use Rattle.rn_modset.proofs.Truths.{first_of_both, second_of_both, else_false}
 use Rattle.rn_modset.proofs.Splits.{Lacks, one_split, one_front, lacks_by, lacks_from_all, unsplit, one_cut, name_lacks, number_lacks}

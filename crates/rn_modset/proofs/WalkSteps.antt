@@ -7,7 +7,7 @@ use Rattle.rn_modset.specs.declared.contribution.Contribution.{Contribution}
 use Rattle.rn_modset.specs.Contributions.{Member, member, members_of, member_cmp}
 use Rattle.rn_modset.specs.Sets.{Rises}
 use Rattle.rn_modset.specs.Modules.{Module, AreEffective, IsFirstConflict}
-use Rattle.rn_modset.specs.Places.{IsFollowed, IsContradicted}
+use Rattle.rn_modset.specs.inside.Places.{IsFollowed, IsContradicted}
 use Rattle.rn_modset.proofs.Fronts.{IsHeldAt, front_more, back_more, split_at}
 use Rattle.rn_modset.proofs.Placed.{rise_at}
 use Rattle.rn_modset.proofs.Membership.{In, in_append, below_in}

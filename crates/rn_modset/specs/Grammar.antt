@@ -2,6 +2,7 @@
 use Rattle.std.specs.Prelude.{◌≡◌, ℕ, ◌+◌, ◌*◌, ◌<◌, ◌≤◌, ◌^◌, ◌⊎◌, ◌&&◌, ◌||◌, nat_le, Bool, true, false, List, [], ◌∷◌, ◌++◌, length, codes, Option, Some, None}
 use Rattle.std.specs.List.{list_all}
 use Rattle.sha2.specs.Sha256.{sha256}
+use Rattle.rn_modset.specs.Limits.{max_contributions, max_text}
 use Rattle.rn_modset.specs.Contributions.{Member, is_module_name, has_withdrawal}
 use Rattle.rn_modset.specs.Sets.{Rises}
 
@@ -53,7 +54,7 @@ pub record IsTextHeader (line name : List ℕ) (revision len : ℕ) (digits : Li
   pub is_revision : IsNumber revision_digits revision
   pub is_small : revision < 2 ^ 64
   pub is_len : IsNumber len_digits len
-  pub is_short : len ≤ 4194304
+  pub is_short : len ≤ max_text
   pub is_digest : IsDigest digits
 
 -- `withdrawn NAME REV`, within the limits, without the line feed
@@ -106,5 +107,5 @@ pub record IsBundle (bytes : List ℕ) (s : List Member) : Type 0 where
   pub is_first : IsFirstLine (has_withdrawal s) first
   pub are_entries : AreEntries middle s
   pub rises : Rises s
-  pub few : length s ≤ 1024
+  pub few : length s ≤ max_contributions
   pub is_last : IsEndLine last (length s)

@@ -4,7 +4,7 @@ ghost use Rattle.std.specs.List.{list_all};
 ghost use Rattle.rn_modset.specs.Contributions.{is_module_name};
 ghost use Rattle.rn_modset.specs.Bundles.{header_line};
 ghost use Rattle.rn_modset.specs.Grammar.{IsDigest, is_lower_hex};
-ghost use Rattle.rn_modset.specs.Headers.{header_view, MayStand, IsNoHeader, AreNoTextFields, IsNoWithdrawalField};
+ghost use Rattle.rn_modset.specs.inside.Headers.{header_view, MayStand, IsNoHeader, AreNoTextFields, IsNoWithdrawalField};
 
 use crate::contribution::MAX_TEXT;
 use crate::fields::{number, split_at_byte};
@@ -43,7 +43,8 @@ pub fn header(line: &[u8], withdrawals: bool) -> Option<HeaderLine<'_>>
 }
 
 fn module_name(bytes: &[u8]) -> Option<&str>
-    ensures { MatchOption result (is_module_name bytes.now ≡ false) (λ name. (name.now ≡ bytes.now) × (is_module_name name.now ≡ true)) }
+    ensures { MatchOption result (is_module_name bytes.now ≡ false)
+        (λ name. (name.now ≡ bytes.now) × (is_module_name name.now ≡ true)) }
 {
     match std::str::from_utf8(bytes) {
         Ok(name) => is_module_name(name).then_some(name),
@@ -55,7 +56,8 @@ fn module_name(bytes: &[u8]) -> Option<&str>
 fn text_header<'a>(name: &'a str, fields: &'a [u8]) -> Option<HeaderLine<'a>>
     requires { is_module_name name.now ≡ true }
     ensures { MatchOption result (AreNoTextFields fields.now)
-        (λ h. (codes "module" ++ 32 ∷ (name.now ++ 32 ∷ fields.now) ≡ header_line (header_view h)) × ((withdrawals : Bool) → MayStand withdrawals (header_view h))) }
+        (λ h. (codes "module" ++ 32 ∷ (name.now ++ 32 ∷ fields.now) ≡ header_line (header_view h))
+        × ((withdrawals : Bool) → MayStand withdrawals (header_view h))) }
 {
     let (revision, fields) = split_at_byte(fields, b' ')?;
     let (len, digest) = split_at_byte(fields, b' ')?;
@@ -76,7 +78,8 @@ fn text_header<'a>(name: &'a str, fields: &'a [u8]) -> Option<HeaderLine<'a>>
 fn withdrawal_header<'a>(name: &'a str, field: &'a [u8]) -> Option<HeaderLine<'a>>
     requires { is_module_name name.now ≡ true }
     ensures { MatchOption result (IsNoWithdrawalField field.now)
-        (λ h. (codes "withdrawn" ++ 32 ∷ (name.now ++ 32 ∷ field.now) ≡ header_line (header_view h)) × MayStand true (header_view h)) }
+        (λ h. (codes "withdrawn" ++ 32 ∷ (name.now ++ 32 ∷ field.now) ≡ header_line (header_view h))
+        × MayStand true (header_view h)) }
 {
     let revision = number(field)?;
     Some(HeaderLine::Withdrawal { name, revision })

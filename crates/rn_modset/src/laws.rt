@@ -14,8 +14,10 @@ ghost use Rattle.rn_modset.specs.Laws.{AreUnionLaws, AreCallLaws};
 /// Members stay in their order, each once.
 pub fn unions_hold_the_members_of_both()
     ensures members { (s : List Member) (m : Member) → (has s m ≡ true) ↔ Contains s m }
-    ensures with_one { (s : List Member) (m q : Member) → Contains (with_member s m) q ↔ ((q ≡ m) ⊎ Contains s q) }
-    ensures of_both { (s t : List Member) (q : Member) → Contains (union s t) q ↔ (Contains s q ⊎ Contains t q) }
+    ensures with_one { (s : List Member) (m q : Member) → Contains (with_member s m) q
+        ↔ ((q ≡ m) ⊎ Contains s q) }
+    ensures of_both { (s t : List Member) (q : Member) → Contains (union s t) q
+        ↔ (Contains s q ⊎ Contains t q) }
     ensures tests { (s t : List Member) (q : Member) → has (union s t) q ≡ (has s q || has t q) }
     ensures one_rises { (s : List Member) (m : Member) → Rises s → Rises (with_member s m) }
     ensures both_rise { (s t : List Member) → Rises s → Rises (union s t) }
@@ -35,7 +37,8 @@ pub fn calls_bring_their_union()
 
 /// The grammar of bundles allows of each set one text, the spelled one, and of nothing else any.
 pub fn grammar_is_the_spelling()
-    ensures { (bytes : List ℕ) (s : List Member) → IsBundle bytes s ↔ (IsSet s × (bytes ≡ bundle s)) }
+    ensures { (bytes : List ℕ) (s : List Member) → IsBundle bytes s
+        ↔ (IsSet s × (bytes ≡ bundle s)) }
 {}
 
 /// Distinct sets have distinct bundles: no bytes are the bundles of two.
@@ -51,22 +54,27 @@ pub fn sets_have_one_bundle()
 
 /// Bytes are the bundle of a set, or they have a fault, want of memory aside.
 pub fn bytes_are_a_bundle_or_have_a_fault()
-    ensures { (bytes : List ℕ) → ((s : List Member) × IsBundle bytes s) ⊎ ((fault : BundleFault) × HasFault bytes fault × (fault ≢ Memory)) }
+    ensures { (bytes : List ℕ) → ((s : List Member) × IsBundle bytes s)
+        ⊎ ((fault : BundleFault) × HasFault bytes fault × (fault ≢ Memory)) }
 {}
 
 /// Bytes have at most one fault, want of memory aside.
 pub fn bytes_have_one_fault()
-    ensures { (bytes : List ℕ) (fault other : BundleFault) → HasFault bytes fault → HasFault bytes other → fault ≢ Memory → other ≢ Memory → fault ≡ other }
+    ensures { (bytes : List ℕ) (fault other : BundleFault) → HasFault bytes fault
+        → HasFault bytes other → fault ≢ Memory → other ≢ Memory → fault ≡ other }
 {}
 
 /// A fault stands behind the longest front of good entries: those of any front are the first of these.
 pub fn faults_stand_behind_the_longest_front()
-    ensures { (bytes : List ℕ) (first second : Bool) (ms ns : List Member) (left rest : List ℕ) (fault : BundleFault)
-        → IsFront bytes first ms left → IsFaultBehind first ms left fault → fault ≢ Memory → IsFront bytes second ns rest
+    ensures { (bytes : List ℕ) (first second : Bool) (ms ns : List Member) (left rest : List ℕ)
+        (fault : BundleFault)
+        → IsFront bytes first ms left → IsFaultBehind first ms left fault → fault ≢ Memory
+        → IsFront bytes second ns rest
         → (more : List Member) × (ms ≡ ns ++ more) }
 {}
 
 /// A set's bundle has no fault but want of memory.
 pub fn bundles_have_no_fault()
-    ensures { (bytes : List ℕ) (s : List Member) (fault : BundleFault) → IsBundle bytes s → HasFault bytes fault → fault ≡ Memory }
+    ensures { (bytes : List ℕ) (s : List Member) (fault : BundleFault) → IsBundle bytes s
+        → HasFault bytes fault → fault ≡ Memory }
 {}

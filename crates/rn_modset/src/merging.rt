@@ -2,7 +2,7 @@
 ghost use Rattle.std.specs.Prelude.{◌≡◌, ◌≢◌, ◌+◌, ◌<◌, ◌≤◌, [], ℕ, length, true, false, IfOk, MatchOption, MatchBool, vec_len, vec_capacity};
 ghost use Rattle.rn_modset.specs.Contributions.{Member, member, members_of, member_cmp};
 ghost use Rattle.rn_modset.specs.Sets.{Rises, has, missing, union};
-ghost use Rattle.rn_modset.specs.Merges.{IsNotBelow, KeepsFrom, AreApart, EndsAbove, TakesGreatest};
+ghost use Rattle.rn_modset.specs.inside.Merges.{IsNotBelow, KeepsFrom, AreApart, EndsAbove, TakesGreatest};
 
 use crate::contribution::Contribution;
 use std::alloc::{AllocError, Global};
@@ -34,7 +34,8 @@ pub fn copy_missing(
 ) -> Result<Vec<Contribution>, AllocError>
     requires held { Rises (members_of held.now) }
     requires others { Rises (members_of others.now) }
-    ensures { IfOk result (λ copies. members_of copies.items ≡ missing (members_of held.now) (members_of others.now)) }
+    ensures { IfOk result (λ copies. members_of copies.items ≡ missing (members_of held.now)
+        (members_of others.now)) }
 {
     let mut copies = Vec::with_capacity(alloc, count)?;
     let mut rest = held;
@@ -51,7 +52,8 @@ pub fn copy_missing(
 fn skip_below<'a>(held: &'a [Contribution], contribution: &Contribution) -> &'a [Contribution]
     requires { Rises (members_of held.now) }
     ensures rises { Rises (members_of result.now) }
-    ensures kept { KeepsFrom (members_of held.now) (members_of result.now) (member contribution.now) }
+    ensures kept { KeepsFrom (members_of held.now) (members_of result.now)
+        (member contribution.now) }
     ensures from { IsNotBelow (members_of result.now) (member contribution.now) }
 {
     let mut rest = held;
@@ -87,7 +89,8 @@ pub fn merge(
     requires apart { AreApart (members_of held.old.items) (members_of added.old.items) }
     requires empty { merged.old.items ≡ [] }
     requires room { vec_len held.old + vec_len added.old ≤ vec_capacity merged.old }
-    ensures { members_of merged.new.items ≡ union (members_of held.old.items) (members_of added.old.items) }
+    ensures { members_of merged.new.items ≡ union (members_of held.old.items)
+        (members_of added.old.items) }
 {
     while let Some(greatest) = pop_greatest(held, added) {
         if merged.push(greatest).is_err() {
@@ -103,7 +106,8 @@ fn pop_greatest(held: &mut Vec<Contribution>, added: &mut Vec<Contribution>) -> 
     requires added { Rises (members_of added.old.items) }
     requires apart { AreApart (members_of held.old.items) (members_of added.old.items) }
     ensures greatest { MatchOption result ((held.old.items ≡ []) × (added.old.items ≡ []))
-        (λ c. TakesGreatest (members_of held.old.items) (members_of added.old.items) (members_of held.new.items) (members_of added.new.items) (member c)) }
+        (λ c. TakesGreatest (members_of held.old.items) (members_of added.old.items)
+        (members_of held.new.items) (members_of added.new.items) (member c)) }
     ensures fewer { MatchOption result (vec_len held.old + vec_len added.old ≡ 0)
         (λ c. vec_len held.new + vec_len added.new + 1 ≡ vec_len held.old + vec_len added.old) }
 {
@@ -118,7 +122,8 @@ fn ends_above(first: &[Contribution], second: &[Contribution]) -> bool
     requires first { Rises (members_of first.now) }
     requires second { Rises (members_of second.now) }
     requires apart { AreApart (members_of second.now) (members_of first.now) }
-    ensures { MatchBool result (EndsAbove (members_of first.now) (members_of second.now)) (EndsAbove (members_of second.now) (members_of first.now)) }
+    ensures { MatchBool result (EndsAbove (members_of first.now) (members_of second.now))
+        (EndsAbove (members_of second.now) (members_of first.now)) }
 {
     let Some((last, _)) = first.split_last() else {
         return false;

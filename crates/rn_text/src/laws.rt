@@ -12,41 +12,56 @@ use crate::source::TextFault;
 
 /// A source has tokens, or it has a fault, want of memory aside. It never has both, nor two faults.
 pub fn sources_have_tokens_or_one_fault()
-    ensures some { (src : List ℕ) → ((tokens : List Lexeme) × IsUtf8 src × HasTokens (chars src) tokens) ⊎ ((fault : TextFault) × HasFault src fault × (fault ≢ TextFault.Memory)) }
-    ensures not_both { (src : List ℕ) (tokens : List Lexeme) (fault : TextFault) → IsUtf8 src → HasTokens (chars src) tokens → HasFault src fault → fault ≡ TextFault.Memory }
-    ensures one { (src : List ℕ) (fault other : TextFault) → HasFault src fault → HasFault src other → fault ≢ TextFault.Memory → other ≢ TextFault.Memory → fault ≡ other }
+    ensures some { (src : List ℕ) → ((tokens : List Lexeme) × IsUtf8 src
+        × HasTokens (chars src) tokens) ⊎
+        ((fault : TextFault) × HasFault src fault × (fault ≢ TextFault.Memory)) }
+    ensures not_both { (src : List ℕ) (tokens : List Lexeme) (fault : TextFault) → IsUtf8 src
+        → HasTokens (chars src) tokens → HasFault src fault → fault ≡ TextFault.Memory }
+    ensures one { (src : List ℕ) (fault other : TextFault) → HasFault src fault → HasFault src other
+        → fault ≢ TextFault.Memory → other ≢ TextFault.Memory → fault ≡ other }
 {}
 
 /// The text of a source has one token list, or it is faulty at one place, and never both. A source that is not UTF-8 stops
 /// being so at one place.
 pub fn one_token_list()
-    ensures some { (cs : List ℕ) → ((tokens : List Lexeme) × HasTokens cs tokens) ⊎ ((place : ℕ) × IsLexicalPlace cs place) }
-    ensures some_front { (src : List ℕ) → IsUtf8 src ⊎ ((¬ IsUtf8 src) × ((place : ℕ) × IsValidUpTo src place)) }
-    ensures one { (cs : List ℕ) (first second : List Lexeme) → HasTokens cs first → HasTokens cs second → first ≡ second }
-    ensures or_place { (cs : List ℕ) (tokens : List Lexeme) (place : ℕ) → HasTokens cs tokens → ¬ (IsLexicalPlace cs place) }
-    ensures one_place { (cs : List ℕ) (first second : ℕ) → IsLexicalPlace cs first → IsLexicalPlace cs second → first ≡ second }
-    ensures one_front { (src : List ℕ) (first second : ℕ) → IsValidUpTo src first → IsValidUpTo src second → first ≡ second }
+    ensures some { (cs : List ℕ) → ((tokens : List Lexeme) × HasTokens cs tokens)
+        ⊎ ((place : ℕ) × IsLexicalPlace cs place) }
+    ensures some_front { (src : List ℕ) → IsUtf8 src
+        ⊎ ((¬ IsUtf8 src) × ((place : ℕ) × IsValidUpTo src place)) }
+    ensures one { (cs : List ℕ) (first second : List Lexeme) → HasTokens cs first
+        → HasTokens cs second → first ≡ second }
+    ensures or_place { (cs : List ℕ) (tokens : List Lexeme) (place : ℕ) → HasTokens cs tokens
+        → ¬ (IsLexicalPlace cs place) }
+    ensures one_place { (cs : List ℕ) (first second : ℕ) → IsLexicalPlace cs first
+        → IsLexicalPlace cs second → first ≡ second }
+    ensures one_front { (src : List ℕ) (first second : ℕ) → IsValidUpTo src first
+        → IsValidUpTo src second → first ≡ second }
 {}
 
 /// The tokens stand in the source in order, and the text of each is the source between its places.
 pub fn tokens_stand_in_order()
-    ensures { (src : List ℕ) (tokens : List Lexeme) → IsUtf8 src → HasTokens (chars src) tokens → StandInOrder src 0 tokens }
+    ensures { (src : List ℕ) (tokens : List Lexeme) → IsUtf8 src → HasTokens (chars src) tokens
+        → StandInOrder src 0 tokens }
 {}
 
 /// The text of each token spells its kind.
 pub fn tokens_are_spelled()
-    ensures { (cs : List ℕ) (tokens : List Lexeme) → HasTokens cs tokens → AllByRecursion (λ t. IsSpelled t.kind (chars t.text)) tokens }
+    ensures { (cs : List ℕ) (tokens : List Lexeme) → HasTokens cs tokens → AllByRecursion
+        (λ t. IsSpelled t.kind (chars t.text)) tokens }
 {}
 
 /// What spells a token is that token, where the text ends behind it or goes on with white space, one
 /// of `(` `)` `[` `]` `}`, a comma or a sign of repetition.
 pub fn tokens_end_at_breaks()
-    ensures { (kind : Kind) (front after : List ℕ) → spells (Part.Token kind) front ≡ true → ends_token after ≡ true → IsFirstPart (front ++ after) (Part.Token kind) front after }
+    ensures { (kind : Kind) (front after : List ℕ) → spells (Part.Token kind) front ≡ true
+        → ends_token after ≡ true → IsFirstPart (front ++ after) (Part.Token kind) front after }
 {}
 
 /// The literal of a text reads back to the text.
 pub fn literals_read_back()
-    ensures characters { (cs : List ℕ) → list_all is_xml_char cs ≡ true → (tokens : List Lexeme) × HasTokens (literal_of cs) tokens × SegmentsHaveText tokens cs }
+    ensures characters { (cs : List ℕ) → list_all is_xml_char cs ≡ true → (tokens : List Lexeme)
+        × HasTokens (literal_of cs) tokens × SegmentsHaveText tokens cs }
     ensures bytes { (text : List ℕ) → list_all is_xml_char (chars text) ≡ true
-        → IsUtf8 (literal_bytes text) × ((tokens : List Lexeme) × HasTokens (chars (literal_bytes text)) tokens × SegmentsHaveText tokens (chars text)) }
+        → IsUtf8 (literal_bytes text) × ((tokens : List Lexeme)
+        × HasTokens (chars (literal_bytes text)) tokens × SegmentsHaveText tokens (chars text)) }
 {}

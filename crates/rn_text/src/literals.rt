@@ -15,7 +15,8 @@ use std::alloc::{AllocError, Global};
 /// What comes before the character, where it is the last.
 fn before_char(text: &str, c: char) -> Option<&str>
     requires { c < 128 }
-    ensures cases { MatchOption result ((front : List ℕ) → chars text.now ≢ front ++ c ∷ []) (λ r. chars text.now ≡ chars r.now ++ c ∷ []) }
+    ensures cases { MatchOption result ((front : List ℕ) → chars text.now ≢ front ++ c ∷ [])
+        (λ r. chars text.now ≡ chars r.now ++ c ∷ []) }
     ensures utf8 { IfSome result (λ r. IsUtf8 r.now) }
 {
     text.strip_suffix(c)
@@ -24,7 +25,8 @@ fn before_char(text: &str, c: char) -> Option<&str>
 /// What comes before the last three characters, where they are these.
 fn before_three(text: &str, c: char) -> Option<&str>
     requires { c < 128 }
-    ensures cases { MatchOption result ((front : List ℕ) → chars text.now ≢ front ++ c ∷ c ∷ c ∷ []) (λ r. chars text.now ≡ chars r.now ++ c ∷ c ∷ c ∷ []) }
+    ensures cases { MatchOption result ((front : List ℕ) → chars text.now ≢ front ++ c ∷ c ∷ c ∷ [])
+        (λ r. chars text.now ≡ chars r.now ++ c ∷ c ∷ c ∷ []) }
     ensures utf8 { IfSome result (λ r. IsUtf8 r.now) }
 {
     before_char(before_char(before_char(text, c)?, c)?, c)
@@ -32,7 +34,8 @@ fn before_three(text: &str, c: char) -> Option<&str>
 
 /// What stands between the delimiters of a segment.
 pub fn between_delimiters(segment: &str) -> Option<&str>
-    ensures cases { MatchOption result (is_delimited (chars segment.now) ≡ false) (λ r. chars r.now ≡ between_delimiters (chars segment.now)) }
+    ensures cases { MatchOption result (is_delimited (chars segment.now) ≡ false)
+        (λ r. chars r.now ≡ between_delimiters (chars segment.now)) }
     ensures utf8 { IfSome result (λ r. IsUtf8 r.now) }
 {
     let (delimiter, opened) = split_first(segment)?;
@@ -47,7 +50,8 @@ pub fn between_delimiters(segment: &str) -> Option<&str>
 
 /// The first character of a text, by what it is written as between delimiters, and what follows.
 fn split_text(rest: &str) -> Option<(char, &str)>
-    ensures cases { MatchOption result (chars rest.now ≡ []) (λ p. StandsFor (chars rest.now) p.0 (chars p.1.now)) }
+    ensures cases { MatchOption result (chars rest.now ≡ [])
+        (λ p. StandsFor (chars rest.now) p.0 (chars p.1.now)) }
     ensures utf8 { IfSome result (λ p. IsUtf8 p.1.now) }
 {
     let (first, after) = split_first(rest)?;
@@ -67,7 +71,8 @@ fn split_text(rest: &str) -> Option<(char, &str)>
 /// each line end as one line feed (RELAX NG Compact Syntax, 2.1 and 2.2). What is answered of a token
 /// that is no segment means nothing. Refused where memory is.
 pub fn literal(alloc: Global, segment: &Token<'_>) -> Result<String, AllocError>
-    ensures { IfOk result (λ out. is_segment (chars segment.now.text.now) ≡ true → string_bytes out ≡ encode_utf8_all (segment_text (chars segment.now.text.now))) }
+    ensures { IfOk result (λ out. is_segment (chars segment.now.text.now) ≡ true
+        → string_bytes out ≡ encode_utf8_all (segment_text (chars segment.now.text.now))) }
 {
     let mut out = String::new(alloc);
     let Some(mut rest) = between_delimiters(segment.text) else {
@@ -82,7 +87,8 @@ pub fn literal(alloc: Global, segment: &Token<'_>) -> Result<String, AllocError>
 
 /// Appends a character of a literal.
 fn push_written(out: &mut String, c: char) -> Result<(), AllocError>
-    ensures ok { OnOk result (string_bytes out.new ≡ string_bytes out.old ++ encode_utf8_all (written c)) }
+    ensures ok { OnOk result (string_bytes out.new ≡ string_bytes out.old ++ encode_utf8_all
+        (written c)) }
     ensures err { OnErr result (string_bytes out.new ≡ string_bytes out.old) }
 {
     match c {
@@ -107,7 +113,8 @@ fn are_parted(c: char, d: char) -> bool
 
 /// Appends what stands between two characters of a literal, or a front of it.
 fn push_between(out: &mut String, c: char, d: char) -> Result<(), AllocError>
-    ensures ok { OnOk result (string_bytes out.new ≡ string_bytes out.old ++ encode_utf8_all (between c d)) }
+    ensures ok { OnOk result (string_bytes out.new ≡ string_bytes out.old ++ encode_utf8_all
+        (between c d)) }
     ensures longer { (more : List ℕ) × (string_bytes out.new ≡ string_bytes out.old ++ more) }
 {
     if !are_parted(c, d) {
@@ -120,7 +127,8 @@ fn push_between(out: &mut String, c: char, d: char) -> Result<(), AllocError>
 
 /// Appends the literal of the text, or a front of it.
 fn append_literal(out: &mut String, text: &str) -> Result<(), AllocError>
-    ensures ok { OnOk result (string_bytes out.new ≡ string_bytes out.old ++ literal_bytes text.now) }
+    ensures ok { OnOk result (string_bytes out.new
+        ≡ string_bytes out.old ++ literal_bytes text.now) }
     ensures longer { (more : List ℕ) × (string_bytes out.new ≡ string_bytes out.old ++ more) }
 {
     let Some((first, after)) = split_first(text) else {
@@ -144,7 +152,8 @@ fn append_literal(out: &mut String, text: &str) -> Result<(), AllocError>
 /// has a backslash before an `x` of the text. It is read back where XML has all characters of the text.
 /// Refused where memory is; `out` is then what it was.
 pub fn write_literal(out: &mut String, text: &str) -> Result<(), AllocError>
-    ensures ok { OnOk result (string_bytes out.new ≡ string_bytes out.old ++ literal_bytes text.now) }
+    ensures ok { OnOk result (string_bytes out.new
+        ≡ string_bytes out.old ++ literal_bytes text.now) }
     ensures err { OnErr result (string_bytes out.new ≡ string_bytes out.old) }
 {
     let before = out.as_str();

@@ -6,7 +6,7 @@ ghost use Rattle.std.specs.List.{list_all};
 ghost use Rattle.std.specs.Str.Parse.{digits_value};
 ghost use Rattle.rn_text.specs.Characters.{is_xml_char};
 ghost use Rattle.rn_text.specs.Parts.{IsDelimitedFront, IsNeverDelimited};
-ghost use Rattle.rn_text.specs.Segments.{is_empty, is_delimiter, after_run, is_x, escape_front, after_brace, escaped_char, after_escape, is_whole_escape, escapes_hold, three_of, ends_at_one, ends_at_three, is_line_end};
+ghost use Rattle.rn_text.specs.Segments.{is_empty, is_delimiter, after_run, is_x, escape_front, after_brace, escaped_char, after_escape, is_whole_escape, is_verbatim, escapes_hold, three_of, ends_at_one, ends_at_three, is_line_end};
 
 use crate::characters::{after_char, is_xml_char, split_first};
 
@@ -26,7 +26,9 @@ fn after_hex_digits(text: &str) -> &str
 
 /// What follows `\`, one or more `x` and `{` at the front.
 pub(crate) fn after_escape_front(text: &str) -> Option<&str>
-    ensures cases { MatchOption result (escape_front (chars text.now) ≡ false) (λ r. (escape_front (chars text.now) ≡ true) × (chars r.now ≡ after_brace (chars text.now))) }
+    ensures cases { MatchOption result (escape_front (chars text.now) ≡ false)
+        (λ r. (escape_front (chars text.now) ≡ true)
+        × (chars r.now ≡ after_brace (chars text.now))) }
     ensures utf8 { IfSome result (λ r. IsUtf8 r.now) }
 {
     let rest = after_char(after_char(text, '\\')?, 'x')?;
@@ -36,8 +38,10 @@ pub(crate) fn after_escape_front(text: &str) -> Option<&str>
 /// The character of a text that hexadecimal digits number.
 fn xml_char_of(digits: &str) -> Option<char>
     requires { list_all is_ascii_hexdigit (chars digits.now) ≡ true }
-    ensures { MatchOption result (is_empty (chars digits.now) ≡ false → is_xml_char (digits_value 16 (chars digits.now)) ≡ false)
-        (λ c. (is_empty (chars digits.now) ≡ false) × (is_xml_char c ≡ true) × (c ≡ digits_value 16 (chars digits.now))) }
+    ensures { MatchOption result (is_empty (chars digits.now) ≡ false
+        → is_xml_char (digits_value 16 (chars digits.now)) ≡ false)
+        (λ c. (is_empty (chars digits.now) ≡ false) × (is_xml_char c ≡ true)
+        × (c ≡ digits_value 16 (chars digits.now))) }
 {
     let number = u32::from_str_radix(digits, 16).ok()?;
     let c = char::from_u32(number)?;
@@ -46,8 +50,10 @@ fn xml_char_of(digits: &str) -> Option<char>
 
 /// The character of a whole escape at the front, and what follows it.
 pub(crate) fn split_escape(text: &str) -> Option<(char, &str)>
-    ensures cases { MatchOption result (escape_front (chars text.now) ≡ true → is_whole_escape (chars text.now) ≡ false)
-        (λ p. (escape_front (chars text.now) ≡ true) × (is_whole_escape (chars text.now) ≡ true) × (p.0 ≡ escaped_char (chars text.now)) × (chars p.1.now ≡ after_escape (chars text.now))) }
+    ensures cases { MatchOption result (escape_front (chars text.now) ≡ true
+        → is_whole_escape (chars text.now) ≡ false)
+        (λ p. (escape_front (chars text.now) ≡ true) × (is_whole_escape (chars text.now) ≡ true)
+        × (p.0 ≡ escaped_char (chars text.now)) × (chars p.1.now ≡ after_escape (chars text.now))) }
     ensures utf8 { IfSome result (λ p. IsUtf8 p.1.now) }
 {
     let digits = after_escape_front(text)?;
@@ -73,6 +79,21 @@ pub(crate) fn escapes_hold(text: &str, delimiter: char) -> bool
     true
 }
 
+/// Whether the text stands for itself between delimiters: it has no escape and no carriage return. It takes time linear in
+/// the text's bytes.
+pub fn is_verbatim(text: &str) -> bool
+    ensures { result ≡ is_verbatim (chars text.now) }
+{
+    let mut rest = text;
+    while let Some((first, after)) = split_first(rest) {
+        if first == '\r' || after_escape_front(rest).is_some() {
+            return false;
+        }
+        rest = after;
+    }
+    true
+}
+
 /// Whether the character opens a segment.
 pub(crate) fn is_delimiter(c: char) -> bool
     ensures { result ≡ is_delimiter c }
@@ -83,7 +104,8 @@ pub(crate) fn is_delimiter(c: char) -> bool
 /// What follows three of the delimiter at the front.
 pub(crate) fn after_three(text: &str, delimiter: char) -> Option<&str>
     requires { delimiter < 128 }
-    ensures cases { MatchOption result (three_of delimiter (chars text.now) ≡ false) (λ r. chars text.now ≡ delimiter ∷ delimiter ∷ delimiter ∷ chars r.now) }
+    ensures cases { MatchOption result (three_of delimiter (chars text.now) ≡ false)
+        (λ r. chars text.now ≡ delimiter ∷ delimiter ∷ delimiter ∷ chars r.now) }
     ensures utf8 { IfSome result (λ r. IsUtf8 r.now) }
 {
     after_char(
@@ -101,8 +123,10 @@ fn is_line_end(c: char) -> bool
 
 /// What follows the next delimiter in the line.
 fn after_next_one(text: &str, delimiter: char) -> Option<&str>
-    ensures cases { MatchOption result ((front after : List ℕ) → front ++ after ≡ chars text.now → ends_at_one delimiter front ≡ true → ⊥)
-        (λ r. (front : List ℕ) × (front ++ chars r.now ≡ chars text.now) × (ends_at_one delimiter front ≡ true)) }
+    ensures cases { MatchOption result ((front after : List ℕ) → front ++ after ≡ chars text.now
+        → ends_at_one delimiter front ≡ true → ⊥)
+        (λ r. (front : List ℕ) × (front ++ chars r.now ≡ chars text.now)
+        × (ends_at_one delimiter front ≡ true)) }
     ensures utf8 { IfSome result (λ r. IsUtf8 r.now) }
 {
     let mut rest = text;
@@ -121,8 +145,10 @@ fn after_next_one(text: &str, delimiter: char) -> Option<&str>
 /// What follows the next three delimiters in a row.
 fn after_next_three(text: &str, delimiter: char) -> Option<&str>
     requires { delimiter < 128 }
-    ensures cases { MatchOption result ((front after : List ℕ) → front ++ after ≡ chars text.now → ends_at_three delimiter front ≡ true → ⊥)
-        (λ r. (front : List ℕ) × (front ++ chars r.now ≡ chars text.now) × (ends_at_three delimiter front ≡ true)) }
+    ensures cases { MatchOption result ((front after : List ℕ) → front ++ after ≡ chars text.now
+        → ends_at_three delimiter front ≡ true → ⊥)
+        (λ r. (front : List ℕ) × (front ++ chars r.now ≡ chars text.now)
+        × (ends_at_three delimiter front ≡ true)) }
     ensures utf8 { IfSome result (λ r. IsUtf8 r.now) }
 {
     let mut rest = text;
@@ -137,8 +163,10 @@ fn after_next_three(text: &str, delimiter: char) -> Option<&str>
 
 /// What follows the delimiters that close the segment at the front.
 pub(crate) fn after_delimiters(text: &str, delimiter: char) -> Option<&str>
-    requires { (is_delimiter delimiter ≡ true) × ((cs : List ℕ) × (chars text.now ≡ delimiter ∷ cs)) }
-    ensures cases { MatchOption result (IsNeverDelimited (chars text.now)) (λ r. (front : List ℕ) × IsDelimitedFront (chars text.now) front (chars r.now)) }
+    requires { (is_delimiter delimiter ≡ true)
+        × ((cs : List ℕ) × (chars text.now ≡ delimiter ∷ cs)) }
+    ensures cases { MatchOption result (IsNeverDelimited (chars text.now))
+        (λ r. (front : List ℕ) × IsDelimitedFront (chars text.now) front (chars r.now)) }
     ensures utf8 { IfSome result (λ r. IsUtf8 r.now) }
 {
     if let Some(opened) = after_three(text, delimiter) {

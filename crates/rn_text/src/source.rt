@@ -56,7 +56,8 @@ fn without_mark(text: &str) -> &str
 /// The source is refused where it is not UTF-8, then at its first character that XML does not have,
 /// then at the first place where no token can be read, and wherever memory is.
 pub fn tokens<'a>(alloc: Global, src: &'a [u8]) -> Result<Vec<Token<'a>>, TextFault>
-    ensures { MatchResult result (λ found. IsUtf8 src.now × HasTokens (chars src.now) (map lexeme_of found.items)) (HasFault src.now) }
+    ensures { MatchResult result (λ found. IsUtf8 src.now
+        × HasTokens (chars src.now) (map lexeme_of found.items)) (HasFault src.now) }
 {
     let text = match simdutf8::compat::from_utf8(src) {
         Ok(text) => text,

@@ -3,7 +3,7 @@ use Rattle.std.proofs.Common.{◌≡◌, ◌≢◌, ◌∷◌, sym, ap, subst, �
 use Rattle.std.specs.declared.cmp.Ordering.TheVariants.{Less}
 use Rattle.rn_modset.specs.Contributions.{member, members_of, member_cmp}
 use Rattle.rn_modset.specs.Sets.{Rises}
-use Rattle.rn_modset.specs.Merges.{IsNotBelow, KeepsFrom}
+use Rattle.rn_modset.specs.inside.Merges.{IsNotBelow, KeepsFrom}
 use Rattle.rn_modset.proofs.EntryByEntry.{less_from_test, not_less_from_test}
 use Rattle.rn_modset.proofs.Merges.{skip_one, rises_tail}
 use Rattle.rn_modset.proofs.merging.skip_below.Goals as goal

@@ -1,7 +1,7 @@
 use Rattle.std.proofs.Common.{length}
 use Rattle.rn_modset.specs.Contributions.{member, members_of}
 use Rattle.rn_modset.specs.Sets.{Rises}
-use Rattle.rn_modset.specs.Merges.{KeepsFrom}
+use Rattle.rn_modset.specs.inside.Merges.{KeepsFrom}
 use Rattle.rn_modset.proofs.merging.skip_below.Given as goal
 
 -- only what is below the contribution was left out

@@ -4,7 +4,7 @@ use Rattle.rn_modset.specs.declared.faults.BundleFault.TheVariants.{Memory}
 use Rattle.rn_modset.specs.declared.headers.HeaderLine.TheVariants.{Text}
 use Rattle.rn_modset.specs.Bundles.{header_line}
 use Rattle.rn_modset.specs.Faults.{IsEntryFault, no_header, bad_text, entry_memory}
-use Rattle.rn_modset.specs.Headers.{header_view, MayStand}
+use Rattle.rn_modset.specs.inside.Headers.{header_view, MayStand}
 use Rattle.rn_modset.proofs.Refusals.{refused_by}
 use Rattle.rn_modset.proofs.Spelled.{header_at, no_header_at}
 use Rattle.rn_modset.proofs.reading.read_entry.Goals as goal

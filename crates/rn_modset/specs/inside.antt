@@ -1,0 +1,4 @@
+-- What contracts of private functions speak of. No public contract cites it.
+pub mod Merges
+pub mod Places
+pub mod Headers
