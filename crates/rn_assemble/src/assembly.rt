@@ -22,7 +22,7 @@ use crate::contents::contents_of;
 use crate::definitions::grammar;
 use crate::grammar::Grammar;
 use crate::inclusion::included_roots;
-use crate::joined::Joined;
+use crate::joined_grammar::Joined;
 use crate::keys::{Keys, START};
 use crate::modules::{Source, sources};
 use crate::references::{least_recursive, references_of};

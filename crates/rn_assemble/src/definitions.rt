@@ -17,7 +17,7 @@ ghost use Rattle.rn_assemble.specs.Views.{names_of};
 use crate::combining::combined;
 use crate::components::Components;
 use crate::firsts::Met;
-use crate::joined::{Definitions, Joined};
+use crate::joined_grammar::{Definitions, Joined};
 use crate::keys::{Keys, START};
 use crate::refusal::Refusal;
 use indexmap::IndexMap;
@@ -57,10 +57,11 @@ fn definitions(
     patterns: &mut Vec<Option<Box<Pattern>>>,
     met: &mut Met,
 ) -> Result<(Definitions, Vec<Vec<usize>>), AllocError>
-    ensures { (live : List Live) → Lists (names_of keys.now) components.now live → IsStrictlySortedBy text_cmp (names_of keys.now)
+    ensures { (live : List Live)
+        → Lists (names_of keys.now) components.now live → IsStrictlySortedBy text_cmp (names_of keys.now)
         → HavePatterns (names_of keys.now) (components_in live) [] patterns.old.items
-        → IfOk result (λ made. (definitions_view made.0.entries ≡ (joined_grammar (components_in live)).definitions)
-        × HaveTied (rows_of made.1.items) (definitions_view made.0.entries)) }
+        → IfOk result (λ made. HaveTied (rows_of made.1.items) (definitions_view made.0.entries)
+        × (definitions_view made.0.entries ≡ (joined_grammar (components_in live)).definitions)) }
 {
     let mut defs = IndexMap::with_hasher(alloc, *seed);
     let mut firsts = Vec::new(alloc);

@@ -23,9 +23,10 @@ impl Components<'_, '_, '_> {
         key: usize,
         met: &mut Met,
     ) -> Result<Vec<usize>, AllocError>
-        ensures { (names : List Text) (live : List Live) → Lists names self.now live → IsStrictlySortedBy text_cmp names
-            → key < length names + 1
-            → IfOk result (λ firsts. AreTied firsts.items (joined_members (joined (components_in live) (key_at names key)))) }
+        ensures { (names : List Text) (live : List Live)
+            → Lists names self.now live → IsStrictlySortedBy text_cmp names → key < length names + 1
+            → IfOk result (λ firsts. AreTied firsts.items
+            (joined_members (joined (components_in live) (key_at names key)))) }
     {
         let places = self.of_key(key);
         if places.len() < 2 {
@@ -41,13 +42,14 @@ impl Components<'_, '_, '_> {
         places: &[usize],
         met: &mut Met,
     ) -> Result<Vec<usize>, AllocError>
-        ensures { IfOk result (λ firsts. (i j : ℕ) → slice_get firsts.items i ≡ Some j → IsFirst self.now.list.items places.now i j) }
+        ensures { IfOk result (λ firsts. (i j : ℕ) → slice_get firsts.items i ≡ Some j
+            → IsFirst self.now.list.items places.now i j) }
     {
         let mut firsts = Vec::with_capacity(alloc, places.len())?;
         let mut is_repeated = false;
         for index in 0..places.len() {
             let first = self.first_index(places, index, met);
-            is_repeated = is_repeated || first < index;
+            is_repeated |= first < index;
             firsts.push(first)?;
         }
         if is_repeated {

@@ -3,7 +3,7 @@ ghost use Rattle.rn_assemble.specs.JoinedView.{joined_view};
 ghost use Rattle.rn_assemble.specs.OneProof.{IsWellFormed-prop};
 ghost use Rattle.rn_assemble.specs.WellFormed.{IsWellFormed, HasWritableTexts};
 
-use crate::joined::{Definitions, Joined};
+use crate::joined_grammar::{Definitions, Joined};
 use rn_pattern::Pattern;
 
 /// The combined definitions of a set, for which none of the refusals of a set stands. So every reference is defined, no
@@ -49,7 +49,8 @@ impl Grammar {
     /// The same for the members of the definition of that number, in the order of `defs`. It is empty for other numbers.
     pub fn firsts(&self, number: usize) -> &[usize]
         ensures { (d : Text × Tree) → number < length (grammar_view self.now).definitions
-            → AreFirsts result.now (joined_members (slice_index_or (grammar_view self.now).definitions number d).1) }
+            → AreFirsts result.now
+            (joined_members (slice_index_or (grammar_view self.now).definitions number d).1) }
     {
         match self.joined.firsts.get(number) {
             Some(firsts) => firsts.as_slice(),

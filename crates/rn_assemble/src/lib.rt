@@ -11,7 +11,7 @@ mod firsts;
 pub mod grammar;
 mod inclusion;
 mod instances;
-mod joined;
+mod joined_grammar;
 mod keys;
 mod modules;
 mod nodes;
@@ -22,7 +22,7 @@ mod seeds;
 
 pub use assembly::assemble;
 pub use grammar::Grammar;
-pub use joined::Definitions;
+pub use joined_grammar::Definitions;
 pub use refusal::{Key, Refusal};
 
 pub mod laws;
