@@ -4,7 +4,7 @@ use Rattle.std.specs.Prelude.{true}
 use Rattle.std.proofs.lemmas.Bool.{false≢true}
 use Rattle.rn_pattern.specs.Tree.{Text}
 use Rattle.rn_pattern.specs.References.{IsUndefined, IsRecursive}
-use Rattle.rn_assemble.specs.declared.definitions.Joined.{Joined}
+use Rattle.rn_assemble.specs.declared.joined_grammar.Joined.{Joined}
 use Rattle.rn_assemble.specs.declared.refusal.Refusal as code
 use Rattle.rn_assemble.specs.declared.refusal.Refusal.TheVariants as r
 use Rattle.rn_assemble.specs.Checked.{IsGrammarOf, IsLacking}

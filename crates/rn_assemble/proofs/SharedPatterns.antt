@@ -13,7 +13,7 @@ use Rattle.rn_assemble.specs.Components.{Component}
 use Rattle.rn_assemble.specs.Listed.{IsBody}
 use Rattle.rn_assemble.specs.Patterns.{AreShared, IsSound}
 
-within : {X : Type 0} (xs : List X) (n : ℕ) (x : X) → slice_get xs n ≡ Some x → n < length xs
+pub within : {X : Type 0} (xs : List X) (n : ℕ) (x : X) → slice_get xs n ≡ Some x → n < length xs
 within {X} [] n x e = let wrong : None ≡ Some x = e in cc
 within (y ∷ xs) zero x e = omega arith
 within (y ∷ xs) (suc n) x e = let l = within xs n x e in omega (arith, l)

@@ -4,7 +4,7 @@ use Rattle.std.specs.List.Sorted.{IsStrictlySortedBy}
 use Rattle.rn_pattern.specs.Order.{text_cmp}
 use Rattle.rn_pattern.specs.Tree.{Text}
 use Rattle.rn_assemble.specs.declared.components.Components.{Components}
-use Rattle.rn_assemble.specs.declared.definitions.Joined.{Joined}
+use Rattle.rn_assemble.specs.declared.joined_grammar.Joined.{Joined}
 use Rattle.rn_assemble.specs.declared.refusal.Refusal.{Refusal}
 use Rattle.rn_assemble.specs.declared.refusal.Refusal.TheVariants as r
 use Rattle.rn_assemble.specs.Components.{Key, Component, has_key, start_key}

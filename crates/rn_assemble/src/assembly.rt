@@ -19,9 +19,10 @@ ghost use Rattle.rn_assemble.specs.Views.{module_names, names_of, sources_view};
 
 use crate::components::{Components, Lack, components_of};
 use crate::contents::contents_of;
-use crate::definitions::{Joined, grammar};
+use crate::definitions::grammar;
 use crate::grammar::Grammar;
 use crate::inclusion::included_roots;
+use crate::joined_grammar::Joined;
 use crate::keys::{Keys, START};
 use crate::modules::{Source, sources};
 use crate::references::{least_recursive, references_of};

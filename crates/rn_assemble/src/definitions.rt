@@ -3,10 +3,12 @@ ghost use Rattle.std.specs.Prelude.{◌≡◌, ◌∷◌, ◌++◌, List, [], No
 ghost use Rattle.std.specs.List.{list_any};
 ghost use Rattle.std.specs.List.Sorted.{IsStrictlySortedBy};
 ghost use Rattle.rn_pattern.specs.Order.{text_cmp};
+ghost use Rattle.rn_pattern.specs.Graph.{rows_of};
 ghost use Rattle.rn_pattern.specs.Tree.{Text, Tree};
 ghost use Rattle.rn_assemble.specs.Combine.{joined_grammar};
 ghost use Rattle.rn_assemble.specs.Components.{has_key, start_key};
-ghost use Rattle.rn_assemble.specs.JoinedView.{definitions_view};
+ghost use Rattle.rn_assemble.specs.DefinitionsView.{definitions_view};
+ghost use Rattle.rn_assemble.specs.Firsts.{HaveTied};
 ghost use Rattle.rn_assemble.specs.Joining.{HasStart, IsJoinedGrammar, IsMisnamed};
 ghost use Rattle.rn_assemble.specs.Listed.{Lists, Live, components_in};
 ghost use Rattle.rn_assemble.specs.Patterns.{HavePatterns, IsFirstAt, boxed_view};
@@ -14,21 +16,13 @@ ghost use Rattle.rn_assemble.specs.Views.{names_of};
 
 use crate::combining::combined;
 use crate::components::Components;
+use crate::firsts::Met;
+use crate::joined_grammar::{Definitions, Joined};
 use crate::keys::{Keys, START};
 use crate::refusal::Refusal;
 use indexmap::IndexMap;
 use rn_pattern::{Pattern, Seed};
 use std::alloc::{AllocError, Global};
-
-/// Definitions by their names. The names are hashed by a seed that whoever writes them can't choose.
-pub type Definitions = IndexMap<String, Pattern, Seed>;
-
-/// The grammar to which components are joined.
-#[derive(Drop)]
-pub(crate) struct Joined {
-    pub start: Pattern,
-    pub defs: Definitions,
-}
 
 /// The combined patterns, those of names in the order of each one's first component, in a map that hashes by the seed.
 pub(crate) fn grammar(
@@ -43,34 +37,43 @@ pub(crate) fn grammar(
 {
     let mut patterns = combined(alloc, keys, components)?;
     let start = take(&mut patterns, START).unwrap();
-    let defs = definitions(alloc, keys, components, seed, &mut patterns)?;
+    let mut met = vec![in alloc; 0; components.count_bodies()]?;
+    let start_firsts = components.firsts(alloc, START, &mut met)?;
+    let (defs, firsts) = definitions(alloc, keys, components, seed, &mut patterns, &mut met)?;
     Ok(Joined {
         start: Box::into_inner(start),
         defs,
+        start_firsts,
+        firsts,
     })
 }
 
-/// The definitions of all names that have components, which take their patterns.
+/// The definitions of all names that have components, which take their patterns, and the first places of their members.
 fn definitions(
     alloc: Global,
     keys: &Keys<'_>,
     components: &Components<'_, '_, '_>,
     seed: &Seed,
     patterns: &mut Vec<Option<Box<Pattern>>>,
-) -> Result<Definitions, AllocError>
-    ensures { (live : List Live) → Lists (names_of keys.now) components.now live → IsStrictlySortedBy text_cmp (names_of keys.now)
+    met: &mut Met,
+) -> Result<(Definitions, Vec<Vec<usize>>), AllocError>
+    ensures { (live : List Live)
+        → Lists (names_of keys.now) components.now live → IsStrictlySortedBy text_cmp (names_of keys.now)
         → HavePatterns (names_of keys.now) (components_in live) [] patterns.old.items
-        → IfOk result (λ defs. definitions_view defs.entries ≡ (joined_grammar (components_in live)).definitions) }
+        → IfOk result (λ made. HaveTied (rows_of made.1.items) (definitions_view made.0.entries)
+        × (definitions_view made.0.entries ≡ (joined_grammar (components_in live)).definitions)) }
 {
     let mut defs = IndexMap::with_hasher(alloc, *seed);
+    let mut firsts = Vec::new(alloc);
     for place in 0..components.count() {
         if let Some(key) = components.first_at(place) {
             if let Some(pattern) = take(patterns, key) {
                 define(alloc, &mut defs, keys.name(key), pattern)?;
+                firsts.push(components.firsts(alloc, key, met)?)?;
             }
         }
     }
-    Ok(defs)
+    Ok((defs, firsts))
 }
 
 /// Adds the definition of a name, behind those of others.

@@ -3,7 +3,7 @@ ghost use Rattle.rn_assemble.specs.JoinedView.{joined_view};
 ghost use Rattle.rn_assemble.specs.OneProof.{IsWellFormed-prop};
 ghost use Rattle.rn_assemble.specs.WellFormed.{IsWellFormed, HasWritableTexts};
 
-use crate::definitions::{Definitions, Joined};
+use crate::joined_grammar::{Definitions, Joined};
 use rn_pattern::Pattern;
 
 /// The combined definitions of a set, for which none of the refusals of a set stands. So every reference is defined, no
@@ -17,8 +17,10 @@ pub struct Grammar {
 }
 
 impl Grammar {
-    ghost use Rattle.std.specs.Prelude.{◌≡◌};
+    ghost use Rattle.std.specs.Prelude.{◌≡◌, ◌<◌, length, slice_index_or};
+    ghost use Rattle.rn_pattern.specs.Tree.{Text, Tree};
     ghost use Rattle.rn_pattern.specs.View.{pattern_view};
+    ghost use Rattle.rn_assemble.specs.Firsts.{AreFirsts, joined_members};
     ghost use Rattle.rn_assemble.specs.GrammarView.{definitions_view, grammar_view};
 
     /// The start pattern.
@@ -33,5 +35,26 @@ impl Grammar {
         ensures { definitions_view result.now.entries ≡ (grammar_view self.now).definitions }
     {
         &self.joined.defs
+    }
+
+    /// For each member of the start, where several components are joined to a list, the index of the first member that is
+    /// the same body. It is empty where no body stands twice, and for a start of one component. Whoever looks at members
+    /// one by one need not look at a body again, however many includes bring it in.
+    pub fn start_firsts(&self) -> &[usize]
+        ensures { AreFirsts result.now (joined_members (grammar_view self.now).start) }
+    {
+        self.joined.start_firsts.as_slice()
+    }
+
+    /// The same for the members of the definition of that number, in the order of `defs`. It is empty for other numbers.
+    pub fn firsts(&self, number: usize) -> &[usize]
+        ensures { (d : Text × Tree) → number < length (grammar_view self.now).definitions
+            → AreFirsts result.now
+            (joined_members (slice_index_or (grammar_view self.now).definitions number d).1) }
+    {
+        match self.joined.firsts.get(number) {
+            Some(firsts) => firsts.as_slice(),
+            None => &[],
+        }
     }
 }

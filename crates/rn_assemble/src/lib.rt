@@ -7,9 +7,11 @@ mod combining;
 mod components;
 mod contents;
 mod definitions;
+mod firsts;
 pub mod grammar;
 mod inclusion;
 mod instances;
+mod joined_grammar;
 mod keys;
 mod modules;
 mod nodes;
@@ -19,8 +21,8 @@ mod resolution;
 mod seeds;
 
 pub use assembly::assemble;
-pub use definitions::Definitions;
 pub use grammar::Grammar;
+pub use joined_grammar::Definitions;
 pub use refusal::{Key, Refusal};
 
 pub mod laws;

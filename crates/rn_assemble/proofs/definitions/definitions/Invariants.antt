@@ -1,6 +1,7 @@
--- The names of the components before the place are defined.
+-- The names of the components before the place are defined, with the first places of their members.
 use Rattle.std.proofs.Common.{List, []}
 use Rattle.std.specs.List.Sorted.{IsStrictlySortedBy}
+use Rattle.rn_pattern.specs.Graph.{rows_of}
 use Rattle.rn_pattern.specs.Order.{text_cmp}
 use Rattle.rn_assemble.specs.Listed.{Lists, Live, components_in}
 use Rattle.rn_assemble.specs.Patterns.{HavePatterns}
@@ -10,4 +11,4 @@ use Rattle.rn_assemble.proofs.definitions.definitions.Given as goal
 
 abbrev pub invariant-loop-place : goal.invariant-loop-place
 invariant-loop-place l = (live : List Live) → (h : Lists (names_of l.keys) l.components live) → IsStrictlySortedBy text_cmp (names_of l.keys) → HavePatterns (names_of l.keys) (components_in live) [] l.fn.patterns.items
-    → Defining (names_of l.keys) live h.rises l.patterns.items l.defs.entries l.place
+    → Defining (names_of l.keys) live h.rises l.patterns.items l.defs.entries (rows_of l.firsts.items) l.place

@@ -1,0 +1,19 @@
+use Rattle.std.proofs.Common.{◌≡◌, ◌+◌, length, Some, sym, ap, ◌∙◌, subst}
+use Rattle.std.specs.Prelude.{slice_get}
+use Rattle.std.proofs.lemmas.List.{length_push}
+use Rattle.rn_assemble.specs.Firsts.{IsFirst}
+use Rattle.rn_assemble.proofs.FirstMembers.{firsts_more}
+use Rattle.rn_assemble.proofs.components.Components.first_indices.Goals as goal
+
+pub loop-index-preserved : goal.loop-index-preserved
+loop-index-preserved c = record {
+  size = ap length c.in_ok-push.ensures.items ∙ length_push c.loop-index.firsts.items c.first_index-first.result ∙ ap (λ n. n + 1) c.loop-index.invariant.size;
+  are = λ i j at.
+      let list = c.args.self.now.list.items in
+      let places = c.args.places.now in
+      let here = subst (λ n. IsFirst list places n c.first_index-first.result) (sym c.loop-index.invariant.size) c.first_index-first.ensures in
+      firsts_more list places c.loop-index.firsts.items c.first_index-first.result c.loop-index.invariant.are here i j (subst (λ fs. slice_get fs i ≡ Some j) c.in_ok-push.ensures.items at);
+}
+
+pub returns-then-is_repeated-2 : goal.returns-then-is_repeated-2
+returns-then-is_repeated-2 c = c.loop-index.invariant.are

@@ -1,0 +1,9 @@
+-- The trees of definitions, by their names.
+use Rattle.std.specs.Prelude.{List, map, String, string_bytes}
+use Rattle.std.specs.declared.alloc.Global.{Global}
+use Rattle.rn_pattern.specs.Tree.{Text, Tree}
+use Rattle.rn_pattern.specs.View.{pattern_view}
+use Rattle.rn_pattern.specs.declared.tree.Pattern.{Pattern}
+
+abbrev pub definitions_view : List (String Global × Pattern) → List (Text × Tree)
+definitions_view ds = map (λ d. (string_bytes d.0, pattern_view d.1)) ds

@@ -1,0 +1,30 @@
+// The grammar to which components are joined.
+ghost use Rattle.rn_pattern.specs.Graph.{rows_of};
+ghost use Rattle.rn_pattern.specs.View.{pattern_view};
+ghost use Rattle.rn_assemble.specs.DefinitionsView.{definitions_view};
+ghost use Rattle.rn_assemble.specs.Firsts.{AreTied, HaveTied, joined_members};
+ghost use Rattle.rn_assemble.specs.OneProof.{AreTied-prop, HaveTied-prop};
+
+use indexmap::IndexMap;
+use rn_pattern::{Pattern, Seed};
+
+/// Definitions by their names. The names are hashed by a seed that whoever writes them can't choose.
+pub type Definitions = IndexMap<String, Pattern, Seed>;
+
+/// The grammar to which components are joined. Where a body stands several times in the list of a key, the first places
+/// tell which members are the same.
+#[derive(Drop)]
+pub(crate) struct Joined {
+    pub start: Pattern,
+    pub defs: Definitions,
+    /// For each member of the start, the first one with its body.
+    pub start_firsts: Vec<usize>,
+    /// The same for each definition.
+    pub firsts: Vec<Vec<usize>>,
+    ghost start_tied: { AreTied start_firsts.items (joined_members (pattern_view start)) } by {
+        AreTied-prop start_firsts.items (joined_members (pattern_view start))
+    },
+    ghost tied: { HaveTied (rows_of firsts.items) (definitions_view defs.entries) } by {
+        HaveTied-prop (rows_of firsts.items) (definitions_view defs.entries)
+    },
+}
