@@ -4,8 +4,7 @@ use Rattle.std.proofs.lemmas.List.{take_more, append-nil, map-append}
 use Rattle.std.proofs.lemmas.List.Concat.{flat_map-append}
 use Rattle.std.proofs.lemmas.List.Elements.{All-append, All-same, All-weaker, All-nil, All-cons, All-get_or}
 use Rattle.std.specs.Prelude.{IfSome, MatchOption}
-use Rattle.rn_pattern.specs.Tree.{Tree, NameTree, name_trees_of}
-use Rattle.rn_pattern.specs.Canonical.{canonical_name, canonical_names}
+use Rattle.rn_pattern.specs.Tree.{Tree}
 use Rattle.rn_pattern.specs.Lists.{members_by}
 use Rattle.rn_pattern.specs.Nodes.{knows, tree_at}
 use Rattle.rn_pattern.specs.Store.{node_view}
@@ -23,10 +22,6 @@ flat_map-more f xs i d inside zs e added g =
 pub flat_map-through : {X Y Z : Type 0} (f : X → List Z) (at : Y → X) (ys : List Y) → flat_map (λ y. f (at y)) ys ≡ flat_map f (map at ys)
 flat_map-through f at [] = refl
 flat_map-through f at (y ∷ ys) = ap (λ t. f (at y) ++ t) (flat_map-through f at ys)
-
-pub canonical_names-list : (cs : List NameTree) → canonical_names (name_trees_of cs) ≡ map canonical_name cs
-canonical_names-list [] = refl
-canonical_names-list (c ∷ cs) = ap (λ t. canonical_name c ∷ t) (canonical_names-list cs)
 
 -- earlier ids than a known one are known
 pub earlier_known : (ts : List Tree) (i : NodeId) (is : List NodeId) → IsTrue (knows ts i) → All (λ (j : NodeId). j.0 < i.0) is → All (λ (j : NodeId). IsTrue (knows ts j)) is

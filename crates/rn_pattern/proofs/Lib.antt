@@ -35,7 +35,7 @@ pub mod SortedBy
 pub mod SortedMembers
 pub mod BuiltCanonical
 pub mod Gathering
-pub mod Single
+pub mod NamesTogether
 pub mod Copied
 pub mod Hashing
 pub mod Equal

@@ -1,6 +1,7 @@
 // The canonical form of a name class: choices within choices replaced by their members, in order, without repeats.
-ghost use Rattle.std.specs.Prelude.{◌≡◌, ◌++◌, IfOk, OnOk, flat_map, map};
-ghost use Rattle.rn_pattern.specs.Canonical.{canonical_name, canonical_names, name_class_of, names_within, sorted_once};
+ghost use Rattle.std.specs.Prelude.{◌≡◌, ◌++◌, IfOk, OnOk, map};
+ghost use Rattle.rn_pattern.specs.Canonical.{canonical_name, name_class_of, sorted_once};
+ghost use Rattle.rn_pattern.specs.NameParts.{name_parts};
 ghost use Rattle.rn_pattern.specs.Order.{name_cmp};
 ghost use Rattle.rn_pattern.specs.Tree.{name_trees_of};
 ghost use Rattle.rn_pattern.specs.View.{name_class_view};
@@ -31,32 +32,31 @@ impl NameClass {
                 }
             },
             NameClass::Name(uri, local) => Ok(NameClass::Name(uri.clone()?, local.clone()?)),
-            NameClass::Choice(members) => choice_of(canonical_members(alloc, members)?),
+            NameClass::Choice(members) => {
+                let mut parts = Vec::new(alloc);
+                push_parts(alloc, members, &mut parts)?;
+                choice_of(parts)
+            }
         }
     }
 }
 
-/// The canonical forms of the members, with the members of the choices among them.
+/// Adds the canonical forms of the members, and in the place of a choice among them those of its members. So all that is
+/// in a choice is put in order at once, however deep choices are within one another.
 #[cycle(canonical_name)]
-fn canonical_members(alloc: Global, classes: &[NameClass]) -> Result<Vec<NameClass>, AllocError>
-    ensures { IfOk result (λ v. map name_class_view v.items
-        ≡ flat_map names_within (canonical_names (name_trees_of (map name_class_view classes.now)))) }
+fn push_parts(
+    alloc: Global,
+    members: &[NameClass],
+    parts: &mut Vec<NameClass>,
+) -> Result<(), AllocError>
+    ensures { OnOk result (map name_class_view parts.new.items
+        ≡ map name_class_view parts.old.items ++ name_parts (name_trees_of (map name_class_view members.now))) }
 {
-    let mut members = Vec::new(alloc);
-    for class in classes {
-        push_members(&mut members, class.canonical(alloc)?)?;
-    }
-    Ok(members)
-}
-
-/// A choice goes in as its members, any other name class as itself.
-fn push_members(members: &mut Vec<NameClass>, class: NameClass) -> Result<(), AllocError>
-    ensures { OnOk result (map name_class_view members.new.items
-        ≡ map name_class_view members.old.items ++ names_within (name_class_view class)) }
-{
-    match class {
-        NameClass::Choice(mut within) => members.append(&mut within)?,
-        member => members.push(member)?,
+    for member in members {
+        match member {
+            NameClass::Choice(within) => push_parts(alloc, within, parts)?,
+            _ => parts.push(member.canonical(alloc)?)?,
+        }
     }
     Ok(())
 }

@@ -1,23 +1,22 @@
 -- A name class rebuilt from the canonical forms of its parts.
-use Rattle.std.proofs.Common.{sym, ap, ◌∙◌}
+use Rattle.std.proofs.Common.{◌≡◌, IfOk, [], ◌∷◌, ◌++◌, map, sym, ap, subst, ◌∙◌, arith}
+use Rattle.std.proofs.lemmas.List.{append-nil, map-append, take_all}
 use Rattle.rn_pattern.specs.Tree as tree
-use Rattle.rn_pattern.specs.Canonical.{canonical_name}
+use Rattle.rn_pattern.specs.Canonical.{canonical_name, name_class_of, sorted_once}
+use Rattle.rn_pattern.specs.NameParts.{name_parts, name_parts_of}
+use Rattle.rn_pattern.specs.Order.{name_cmp}
+use Rattle.rn_pattern.specs.Tree.{name_trees_of}
 use Rattle.rn_pattern.specs.View.{name_class_view}
 use Rattle.rn_pattern.specs.declared.tree.NameClass.TheViews as class
-use Rattle.rn_pattern.specs.Canonical.{names_within}
-use Rattle.std.proofs.Common.{map, flat_map, arith}
-use Rattle.std.proofs.lemmas.List.{take_all}
-use Rattle.rn_pattern.proofs.Gathering.{flat_map-more, flat_map-through, canonical_names-list}
-use Rattle.rn_pattern.proofs.Seen.{any_name_but_seen, ns_name_but_seen}
+use Rattle.rn_pattern.proofs.NamesTogether.{lone_part, parts_more, parts_together}
+use Rattle.rn_pattern.proofs.Seen.{any_name_but_seen, choice_seen, ns_name_but_seen}
 use Rattle.rn_pattern.proofs.+canonical_name.Goals as goal
+use Rattle.rn_pattern.proofs.+canonical_name.Goals.{name_class::push_parts-in-Choice+in_ok-push_parts-in-Choice, name_class::push_parts-in_default+in_ok-canonical-in_default+in_ok-push-in_default}
 
-pub name_class::canonical_members-returns : goal.name_class::canonical_members-returns
-name_class::canonical_members-returns t c =
-    c.loop-class.invariant
-    ∙ ap (flat_map (λ n. names_within (canonical_name (name_class_view n)))) (take_all c.loop-class.class-index c.args.classes.now (omega arith))
-    ∙ flat_map-through (λ n. names_within (canonical_name n)) name_class_view c.args.classes.now
-    ∙ flat_map-through names_within canonical_name (map name_class_view c.args.classes.now)
-    ∙ ap (flat_map names_within) (sym (canonical_names-list (map name_class_view c.args.classes.now)))
+pub name_class::push_parts-returns : goal.name_class::push_parts-returns
+name_class::push_parts-returns t c =
+    c.loop-member.invariant
+    ∙ ap (λ cs. map name_class_view c.args.parts.now.items ++ name_parts (name_trees_of (map name_class_view cs))) (take_all c.loop-member.member-index c.args.members.now (omega arith))
 
 pub tree::NameClass::canonical-returns-in_ok-new-in-Some : goal.tree::NameClass::canonical-returns-in_ok-new-in-Some
 tree::NameClass::canonical-returns-in_ok-new-in-Some t c =
@@ -32,8 +31,34 @@ tree::NameClass::canonical-returns-in_ok-new-in-Some-except t c =
     ∙ (λ i. tree.ns_name_but (c.in_ok-clone-in-Some-except.ensures.cases i) (inner i))
     ∙ sym (ap (λ n. canonical_name (name_class_view n)) (c.in-NsName.is ∙ ap (class.NsName c.in-NsName.uri) c.in-Some-except.is) ∙ ap canonical_name (ns_name_but_seen c.in-NsName.uri c.in-Some-except.except))
 
-pub name_class::canonical_members-loop-class-preserved : goal.name_class::canonical_members-loop-class-preserved
-name_class::canonical_members-loop-class-preserved t c =
-    let seen = c.in_ok-canonical.ensures ∙ ap (λ n. canonical_name (name_class_view n)) c.class-item.is in
-    c.in_ok-push_members.ensures
-    ∙ flat_map-more (λ n. names_within (canonical_name (name_class_view n))) c.args.classes.now c.loop-class.class-index c.class-item.result c.loop-class-test.true (map name_class_view c.loop-class.members.items) c.loop-class.invariant (names_within (name_class_view c.in_ok-canonical.field-0)) (ap names_within seen)
+pub name_class::push_parts-loop-member-preserved : goal.name_class::push_parts-loop-member-preserved
+name_class::push_parts-loop-member-preserved t c =
+    let r = c.member-item.result in
+    let now = map name_class_view c.loop-member.parts.items in
+    let after : map name_class_view c.match-member.parts.items ≡ now ++ name_parts_of (name_class_view r) =
+    elim c.match-member.branch [
+      | name_class::push_parts-in-Choice+in_ok-push_parts-in-Choice w ↦
+          ap (λ p. map name_class_view p.items) w.parts-is ∙ w.in_ok-push_parts-in-Choice.ensures
+          ∙ ap (λ xs. now ++ xs) (ap (λ cs. name_parts (name_trees_of (map name_class_view cs))) w.deref.ensures.value
+          ∙ sym (ap (λ k. name_parts_of (name_class_view k)) w.in-Choice.is ∙ ap name_parts_of (choice_seen w.in-Choice.within)))
+      | name_class::push_parts-in_default+in_ok-canonical-in_default+in_ok-push-in_default w ↦
+          ap (λ p. map name_class_view p.items) w.parts-is ∙ ap (map name_class_view) w.in_ok-push-in_default.ensures.items
+          ∙ map-append name_class_view c.loop-member.parts.items (w.in_ok-canonical-in_default.field-0 ∷ [])
+          ∙ ap (λ xs. now ++ xs) (ap (λ n. n ∷ []) w.in_ok-canonical-in_default.ensures ∙ sym (lone_part r w.in_default.not-Choice))
+    ] in
+    parts_more c.args.members.now c.loop-member.member-index r (map name_class_view c.args.parts.now.items) now (map name_class_view c.match-member.parts.items)
+    c.loop-member-test.true c.member-item.is c.loop-member.invariant after
+
+pub name_class::push_parts-loop-member-init : goal.name_class::push_parts-loop-member-init
+name_class::push_parts-loop-member-init t c = sym (append-nil (map name_class_view c.args.parts.now.items))
+
+pub tree::NameClass::canonical-returns-in_ok-push_parts-in-Choice : goal.tree::NameClass::canonical-returns-in_ok-push_parts-in-Choice
+tree::NameClass::canonical-returns-in_ok-push_parts-in-Choice t c =
+    let members = c.in-Choice.members in
+    let pushed : map name_class_view c.push_parts.new.parts.items ≡ name_parts (name_trees_of (map name_class_view members.items)) =
+    c.in_ok-push_parts-in-Choice.ensures ∙ (λ i. map name_class_view (c.new-parts.ensures.items i) ++ name_parts (name_trees_of (map name_class_view (c.deref-in-Choice.ensures.value i)))) in
+    let seen : canonical_name (name_class_view c.args.self.now) ≡ canonical_name (tree.name_choice (name_trees_of (map name_class_view members.items))) =
+    ap (λ k. canonical_name (name_class_view k)) c.in-Choice.is ∙ ap canonical_name (choice_seen members) in
+    subst (λ n. IfOk c.choice_of.result (λ k. name_class_view k ≡ n))
+    (ap (λ xs. name_class_of (sorted_once name_cmp xs)) pushed ∙ ap name_class_of (parts_together (name_trees_of (map name_class_view members.items))) ∙ sym seen)
+    c.choice_of.ensures

@@ -8,7 +8,7 @@ use Rattle.rn_pattern.proofs.Orders.{name_same}
 use Rattle.rn_pattern.proofs.TotalOrder.{name_cmp_total}
 use Rattle.rn_pattern.proofs.SortedBy.{ids_deduped, ids_sorted, ids_sorted_once}
 use Rattle.rn_pattern.proofs.Seen.{choice_seen}
-use Rattle.rn_pattern.proofs.Single.{several_names, one_name}
+use Rattle.rn_pattern.proofs.NamesTogether.{several_names, one_name}
 use Rattle.rn_pattern.proofs.name_class.choice_of.Goals as goal
 use Rattle.rn_pattern.proofs.name_class.choice_of.Goals.{in-1, in_default}
 
