@@ -1,5 +1,6 @@
 // Reading files, and what they refer to.
 ghost use Rattle.std.specs.Prelude.{◌≡◌, ◌<◌, ◌≤◌, IfOk, is_some, vec_len};
+ghost use Rattle.rn_files.specs.Limits.{max_text};
 ghost use Rattle.rn_files.specs.Sources.{is_link};
 
 use crate::faults::{FaultKind, FaultPlace};
@@ -250,7 +251,7 @@ fn follow_text<F: Files>(
 
 /// The bytes of the file at a path, which are no more than those of a text.
 fn read_file<F: Files>(alloc: Global, files: &F, path: &str) -> Result<Vec<u8>, FileFault>
-    ensures few { IfOk result (λ bytes. vec_len bytes ≤ 4194304) }
+    ensures few { IfOk result (λ bytes. vec_len bytes ≤ max_text) }
     ensures given { IfOk result (λ bytes. F.gives files.now path.now bytes.items) }
 {
     let bytes = files.read(alloc, path)?;

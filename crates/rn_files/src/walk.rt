@@ -10,7 +10,7 @@ use std::alloc::{AllocError, Global};
 use std::collections::BTreeMap;
 
 /// The most files: as many as a set has modules.
-pub const MAX_SOURCES: usize = 1_024;
+pub const MAX_SOURCES: usize = rn_modset::MAX_CONTRIBUTIONS;
 
 /// How a file was found.
 #[derive(Clone, Copy, Debug, PartialEq, Eq)]

@@ -13,6 +13,7 @@ use std::alloc::{AllocError, Global};
 
 /// What sentences are made from: the files, the modules and what these are made of, how they come to a schema, and the
 /// definitions that take part in it.
+#[derive(Clone, Copy)]
 struct Telling<'a> {
     alloc: Global,
     pages: &'a [Page<'a>],
