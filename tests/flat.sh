@@ -59,6 +59,25 @@ begins() {
     fi
 }
 
+# bad NAME STATUS STDERR WORD..: the same as row where nothing is written; and with -o before the words the answer is the same, the file that
+# -o names stays as it was, and no other file is beside it.
+bad() {
+    local name=$1 status=$2 wanted=$3 got
+    shift 3
+    row "$name" "$status" '' "$wanted" "$@"
+    rm -rf "$work/kept"
+    mkdir "$work/kept"
+    echo old >"$work/kept/flat.rnc"
+    "$program" -o "$work/kept/flat.rnc" "$@" <"$input" >"$work/got.out" 2>"$work/got.err"
+    got=$?
+    if [ "$got" -eq "$status" ] && [ ! -s "$work/got.out" ] && cmp -s "$work/got.err" "$work/wanted.err" \
+        && [ "$(ls -A "$work/kept")" = flat.rnc ] && [ "$(cat "$work/kept/flat.rnc")" = old ]; then
+        pass
+    else
+        fail "$name, with -o: status $got for $status, $(ls -A "$work/kept")"
+    fi
+}
+
 # holds NAME FILE TEXT: the file has these bytes, given with printf's escapes.
 holds() {
     printf '%b' "$3" >"$work/wanted.out"
@@ -260,6 +279,14 @@ printf 'unused = \\list\n' >uses.rnc
 row undefined_out_of_reach 1 '' 'uses.rnc:1:10: error: `list` is not defined\n    unused = \\list\n             ^\n' reach.rnc
 printf 'start = one\none = attribute a { text }, two?\ntwo = element b { one } | three\nthree = one\n' >loop.rnc
 row recursive 1 '' 'loop.rnc:2:1: error: `one` refers to itself outside elements: by `two` in loop.rnc:3:1, then `three` in loop.rnc:4:1\n    one = attribute a { text }, two?\n    ^\n' loop.rnc
+{
+    printf 'start = n01\n'
+    for n in $(seq 1 24); do printf 'n%02d = n%02d\n' "$n" $((n + 1)); done
+    printf 'n25 = n01\n'
+} >chain.rnc
+chain='chain.rnc:2:1: error: `n01` refers to itself outside elements: by `n02` in chain.rnc:3:1'
+for n in $(seq 3 20); do chain="$chain, then \`n$(printf %02d "$n")\` in chain.rnc:$((n + 1)):1"; done
+row recursive_long 1 '' "$chain, then 5 more\n    n01 = n02\n    ^\n" chain.rnc
 printf 'name = text\n' >nostart.rnc
 row no_start 1 '' 'rnc-flat: error: none of the files defines start\n' nostart.rnc
 printf 'start = bad\nbad = element * - * { text }\n' >class.rnc
@@ -314,80 +341,135 @@ printf 'start = "\344\270\226\347\225\214", ;\n' >wide.rnc
 row columns_count_characters 1 '' 'wide.rnc:1:15: error: nothing that the compact syntax has begins like this\n    start = "\344\270\226\347\225\214", ;\n                  ^\n' wide.rnc
 printf 'start = element a { text }\n\nx = \033[31m\n' >escape.rnc
 row terminal 1 '' 'escape.rnc:3:5: error: nothing that the compact syntax has begins like this\n    x = ?[31m\n        ^\n' escape.rnc
-printf 'include "comma.rnc"\ninclude "lexical.rnc"\ninclude "none.rnc"\nstart = text\n' >several.rnc
-"$program" several.rnc >got.out 2>got.err
-if [ $? -eq 3 ] && [ ! -s got.out ] && [ "$(grep -c ': error: ' got.err)" = 3 ] \
-    && grep -q '^comma.rnc:1:21: error: ' got.err && grep -q '^lexical.rnc:1:22: error: ' got.err \
-    && grep -q '^several.rnc:3:9: error: no such file$' got.err; then pass; else fail "several: $(cat got.err)"; fi
+
+# ---- all faults are told, in the order of the names of files and of their texts
+comma_lines='comma.rnc:1:21: error: `,` can'"'"'t stand here\n    start = element a { , }\n                        ^\n'
+lexical_lines='lexical.rnc:1:22: error: nothing that the compact syntax has begins like this\n    \tstart = element a { ; }\n    \t                    ^\n'
+prefix_lines='prefix.rnc:1:17: error: this prefix is not declared, or is declared twice or against its meaning\n    start = element p:a { text }\n                    ^\n'
+builtin_lines='builtin.rnc:2:21: error: without a datatype library there are only `string` and `token`, without parameters\n    start = element a { d:integer }\n                        ^\n'
+except_lines='except.rnc:1:32: error: only data, values and choices of them can be excepted from data\n    start = element a { xsd:string - text }\n                                   ^\n'
+printf 'include "none.rnc"\ninclude "lexical.rnc"\ninclude "comma.rnc"\nstart = text\n' >several.rnc
+bad several 3 "$comma_lines$lexical_lines"'several.rnc:1:9: error: no such file\n    include "none.rnc"\n            ^\n' several.rnc
 printf 'include "prefix.rnc"\ninclude "except.rnc"\ninclude "builtin.rnc"\n' >checked.rnc
-"$program" checked.rnc >got.out 2>got.err
-if [ $? -eq 1 ] && [ ! -s got.out ] \
-    && [ "$(grep -o '^[a-z]*.rnc:[0-9]*:[0-9]*: error' got.err | tr '\n' ' ')" = 'builtin.rnc:2:21: error except.rnc:1:32: error prefix.rnc:1:17: error ' ]; then pass; else fail "checked: $(cat got.err)"; fi
-printf 'include "comma.rnc"\ninclude "prefix.rnc"\n' >both.rnc
-"$program" both.rnc >got.out 2>got.err
-if [ $? -eq 1 ] && [ ! -s got.out ] \
-    && [ "$(grep -o '^[a-z]*.rnc:[0-9]*:[0-9]*: error' got.err | tr '\n' ' ')" = 'comma.rnc:1:21: error prefix.rnc:1:17: error ' ]; then pass; else fail "both: $(cat got.err)"; fi
+bad checked 1 "$builtin_lines$except_lines$prefix_lines" checked.rnc
+printf 'include "prefix.rnc"\ninclude "comma.rnc"\n' >both.rnc
+bad both 1 "$comma_lines$prefix_lines" both.rnc
+printf 'include "http://x/y"\ninclude "none.rnc"\ninclude "prefix.rnc"\nstart = element p:a { text }\ninclude "%%"\n' >links.rnc
+bad links 3 'rnc-flat: error: nowhere.rnc: no such file\nlinks.rnc:1:9: error: no map says where the URI lies\n    include "http://x/y"\n            ^\nlinks.rnc:2:9: error: no such file\n    include "none.rnc"\n            ^\nlinks.rnc:4:17: error: this prefix is not declared, or is declared twice or against its meaning\n    start = element p:a { text }\n                    ^\nlinks.rnc:5:9: error: a % is not followed by two hexadecimal digits\n    include "%"\n            ^\n'"$prefix_lines" links.rnc nowhere.rnc
+printf 'start = parent x\n' >lifted.rnc
+bad lifted 1 'lifted.rnc:1:9: error: there is no grammar around this one that parent could mean\n    start = parent x\n            ^\n'"$prefix_lines" prefix.rnc lifted.rnc
 {
     for n in $(seq 30); do echo "include \"none$n.rnc\""; done
     echo 'start = text'
 } >thirty.rnc
-"$program" thirty.rnc >got.out 2>got.err
-if [ $? -eq 3 ] && [ "$(grep -c ': error: ' got.err)" = 20 ] && [ "$(tail -1 got.err)" = 'rnc-flat: note: there are more faults, which are not told: 10' ]; then pass; else fail "thirty: $(tail -2 got.err)"; fi
+thirty=
+for n in $(seq 20); do thirty="${thirty}thirty.rnc:$n:9: error: no such file\n    include \"none$n.rnc\"\n            ^\n"; done
+bad thirty 3 "${thirty}rnc-flat: note: there are more faults, which are not told: 10\n" thirty.rnc
+{
+    printf 'include "prefix.rnc"\n'
+    for n in $(seq 20); do echo "include \"none$n.rnc\""; done
+    echo 'start = text'
+} >twenty.rnc
+twenty=
+for n in $(seq 20); do twenty="${twenty}twenty.rnc:$((n + 1)):9: error: no such file\n    include \"none$n.rnc\"\n            ^\n"; done
+bad twenty_one 3 "$prefix_lines$(printf '%s' "$twenty" | sed 's/twenty.rnc:21:9.*//')rnc-flat: note: there are more faults, which are not told: 1\n" twenty.rnc
+
+# ---- all refusals of a kind that can be found, in the order in which they are tested; the first is what rnc-merge answers
+room refusals
+printf 'start = a, b, c, d\na = text\na = empty\nb |= text\nb &= empty\nc = e\n' >faults.rnc
+bad refusals 1 'faults.rnc:2:1: error: `a` is defined here and in faults.rnc:3:1, neither with |= nor &=\n    a = text\n    ^\nfaults.rnc:4:1: error: `b` is combined by |= here, and by &= in faults.rnc:5:1\n    b |= text\n    ^\nfaults.rnc:1:18: error: `d` is not defined\n    start = a, b, c, d\n                     ^\nfaults.rnc:6:5: error: `e` is not defined\n    c = e\n        ^\n' faults.rnc
+printf 'b = text\nb &= text\nc = f\nb |= text\nd = f\n' >starts.rnc
+bad refusals_no_start 1 'starts.rnc:4:1: error: `b` is combined by |= here, and by &= in starts.rnc:2:1\n    b |= text\n    ^\nrnc-flat: error: none of the files defines start\nstarts.rnc:3:5: error: `f` is not defined\n    c = f\n        ^\n' starts.rnc
+printf 'include "b.rnc" {\n  y = empty\n  n = empty\n  x = empty\n}\nstart = n, m\n' >a.rnc
+printf 'n = text\ninclude "c.rnc" { z = text }\n' >b.rnc
+printf 'm = m?\nm = m?\n' >c.rnc
+bad refusals_of_includes 1 'a.rnc:4:3: error: `x` replaces nothing: b.rnc, which is included in a.rnc:1:9, does not define it\n      x = empty\n      ^\na.rnc:2:3: error: `y` replaces nothing: b.rnc, which is included in a.rnc:1:9, does not define it\n      y = empty\n      ^\nb.rnc:2:19: error: `z` replaces nothing: c.rnc, which is included in b.rnc:2:9, does not define it\n    include "c.rnc" { z = text }\n                      ^\nc.rnc:1:1: error: `m` is defined here and in c.rnc:2:1, neither with |= nor &=\n    m = m?\n    ^\n' a.rnc
+{
+    echo 'start = text'
+    for n in $(seq 10 34); do echo "d = u$n"; done
+} >many.rnc
+many='many.rnc:2:1: error: `d` is defined here and in many.rnc:3:1, neither with |= nor &=\n    d = u10\n    ^\n'
+for n in $(seq 10 28); do many="${many}many.rnc:$((n - 8)):5: error: \`u$n\` is not defined\n    d = u$n\n        ^\n"; done
+bad refusals_many 1 "${many}rnc-flat: note: there are more faults, which are not told: 6\n" many.rnc
+printf 'include "twice.rnc"\ninclude "twice.rnc" { o = empty }\nstart = p, o\n' >twofold.rnc
+printf 'p = text\no = q\n' >twice.rnc
+bad refusals_twofold 1 'twice.rnc:1:1: error: `p` is defined here with =, and comes twice: by the includes in twofold.rnc:1:9 and in twofold.rnc:2:9\n    p = text\n    ^\ntwice.rnc:2:5: error: `q` is not defined\n    o = q\n        ^\n' twofold.rnc
 
 # ---- files that are no input
 room files
 mkdir folder
 printf 'start = text\n' >a.rnc
-row missing 3 '' 'rnc-flat: error: none.rnc: no such file\n' none.rnc
-row missing_among 3 '' 'rnc-flat: error: none.rnc: no such file\n' a.rnc none.rnc
-row folder 3 '' 'rnc-flat: error: folder: this is a folder\n' folder
+bad missing 3 'rnc-flat: error: none.rnc: no such file\n' none.rnc
+bad missing_among 3 'rnc-flat: error: none.rnc: no such file\n' a.rnc none.rnc
+bad folder 3 'rnc-flat: error: folder: this is a folder\n' folder
 truncate -s 300M huge.rnc
-row huge 3 '' 'rnc-flat: error: huge.rnc: the file is larger than 4,194,304 bytes\n' huge.rnc
+bad huge 3 'rnc-flat: error: huge.rnc: the file is larger than 4,194,304 bytes\n' huge.rnc
 ln -s self.rnc self.rnc
-row link_to_itself 3 '' "rnc-flat: error: self.rnc: the file can't be read\n" self.rnc
-begins name_not_utf8 2 'error: a word is not UTF-8' "$(printf 'a\377.rnc')"
-printf 'include "folder"\nstart = text\n' >includes-folder.rnc
-begins include_folder 3 'includes-folder.rnc:1:9: error: this is a folder' includes-folder.rnc
-printf 'include "missing.rnc"\nstart = text\n' >includes-missing.rnc
-row include_missing 3 '' 'includes-missing.rnc:1:9: error: no such file\n    include "missing.rnc"\n            ^\n' includes-missing.rnc
+bad link_to_itself 3 "rnc-flat: error: self.rnc: the file can't be read\n" self.rnc
+bad name_not_utf8 2 "error: a word is not UTF-8$hint" "$(printf 'a\377.rnc')"
+
+# include NAME STATUS SENTENCE LITERAL: an include of the literal is told at it.
+include() {
+    printf 'start = text\ninclude "%s"\n' "$4" >include.rnc
+    bad "$1" "$2" "include.rnc:2:9: error: $3\n    include \"$4\"\n            ^\n" include.rnc
+}
+include include_missing 3 'no such file' 'missing.rnc'
+include include_folder 3 'this is a folder' 'folder'
+include include_huge 3 'the file is larger than 4,194,304 bytes' 'huge.rnc'
+include include_link_to_itself 3 "the file can't be read" 'self.rnc'
+include includes_itself 1 'the file refers to itself: include.rnc, include.rnc' 'include.rnc'
+printf 'element note { text }\n' >note.rnc
+include include_pattern 1 'the file is a pattern, and only a grammar can be included; external takes a pattern' 'note.rnc'
+include host 1 'the reference names a host' 'file://host/x.rnc'
+include scheme 1 'no map says where the URI lies' 'http://example.org/x.rnc'
+include above 1 '`..` leads above the topmost folder' '../../../../../../../../../../../../../../../../../../../../x.rnc'
+include above_at_once 1 '`..` leads above the topmost folder' 'file:///../x.rnc'
+include nul 1 'an escape stands for a byte that no file name holds' 'x%00.rnc'
+include slash 1 'an escape stands for a byte that no file name holds' 'x%2Fy.rnc'
+include escape 1 'a % is not followed by two hexadecimal digits' 'x%2'
+include not_utf8 1 'the escapes are not UTF-8' 'x%FF.rnc'
+include query 1 'the reference has a query' 'x.rnc?y'
+include fragment 1 'the reference has a fragment' 'x.rnc#y'
+include empty 1 'the reference is empty' ''
+include relative 1 'the path of a file URI begins with /' 'file:x.rnc'
+
 printf 'include "other.rnc"\nstart = text\n' >cycle.rnc
 printf 'include "cycle.rnc"\n' >other.rnc
-begins cycle 1 'other.rnc:1:9: error: the file refers to itself: cycle.rnc, other.rnc, cycle.rnc' cycle.rnc
-printf 'include "own.rnc"\nstart = text\n' >own.rnc
-begins includes_itself 1 'own.rnc:1:9: error: the file refers to itself: own.rnc, own.rnc' own.rnc
-printf 'element note { text }\n' >note.rnc
-printf 'include "note.rnc"\nstart = text\n' >includes-pattern.rnc
-begins include_pattern 1 'includes-pattern.rnc:1:9: error: the file is a pattern, and only a grammar can be included; external takes a pattern' includes-pattern.rnc
+bad cycle 1 'other.rnc:1:9: error: the file refers to itself: cycle.rnc, other.rnc, cycle.rnc\n    include "cycle.rnc"\n            ^\n' cycle.rnc
 printf 'start = element a { external "bad.rnc" }\n' >external.rnc
 printf 'start = element a { | }\n' >bad.rnc
-begins external_faulty 1 'bad.rnc:1:21: error: `|` can'"'"'t stand here' external.rnc
+bad external_faulty 1 'bad.rnc:1:21: error: `|` can'"'"'t stand here\n    start = element a { | }\n                        ^\n' external.rnc
+printf 'start = element a { external "own.rnc" }\n' >back.rnc
+printf 'element b { external "back.rnc" }\n' >own.rnc
+bad external_cycle 1 'own.rnc:1:22: error: the file refers to itself: back.rnc, own.rnc, back.rnc\n    element b { external "back.rnc" }\n                         ^\n' back.rnc
 printf 'start = parent x\n' >parent.rnc
-begins no_parent 1 'parent.rnc:1:9: error: there is no grammar around this one that parent could mean' parent.rnc
-
-# reference NAME STATUS SENTENCE LITERAL: an include of the literal is told at it.
-reference() {
-    printf 'start = text\ninclude "%s"\n' "$4" >reference.rnc
-    begins "$1" "$2" "reference.rnc:2:9: error: $3" reference.rnc
-}
-reference host 1 'the reference names a host' 'file://host/x.rnc'
-reference scheme 1 'no map says where the URI lies' 'http://example.org/x.rnc'
-reference above 3 'no such file' '../../../../../../../../../../../../../../../../../../../../x.rnc'
-reference nul 1 'an escape stands for a byte that no file name holds' 'x%00.rnc'
-reference slash 1 'an escape stands for a byte that no file name holds' 'x%2Fy.rnc'
-reference escape 1 'a % is not followed by two hexadecimal digits' 'x%2'
-reference not_utf8 1 'the escapes are not UTF-8' 'x%FF.rnc'
-reference query 1 'the reference has a query' 'x.rnc?y'
-reference fragment 1 'the reference has a fragment' 'x.rnc#y'
-reference empty 1 'the reference is empty' ''
+bad no_parent 1 'parent.rnc:1:9: error: there is no grammar around this one that parent could mean\n    start = parent x\n            ^\n' parent.rnc
+mkdir many
+{
+    for n in $(seq 1024); do
+        echo "include \"many/$n.rnc\""
+        : >"many/$n.rnc"
+    done
+    echo 'start = text'
+} >many.rnc
+bad files_many 1 'many.rnc:1024:9: error: there are more than 1,024 files\n    include "many/1024.rnc"\n            ^\n' many.rnc
 printf 'x |= text\n' >'a b.rnc'
 printf 'include "a%%20b.rnc"\nstart = x\n' >spaced.rnc
 row escaped 0 'default namespace = ""\nstart = x\nx = text\n' '' spaced.rnc
 row escaped_names 0 'a%20b.rnc a b.rnc\nspaced.rnc spaced.rnc\n' '' --list spaced.rnc
 long=$(printf 'n%.0s' $(seq 201))
 printf 'start = text\n' >"$long"
-begins long_name 1 "rnc-flat: error: $long: the name of the file, below the root folder, is longer than 200 bytes" "$long"
-begins root_missing 3 'rnc-flat: error: the folder of --root: no such file' --root nowhere a.rnc
-begins outside_root 1 'rnc-flat: error: a.rnc: the file is not below the root folder' --root folder a.rnc
+bad long_name 1 "rnc-flat: error: $long: the name of the file, below the root folder, is longer than 200 bytes\n" "$long"
+bad root_missing 3 'rnc-flat: error: the folder of --root: no such file\n' --root nowhere a.rnc
+
+# Nothing is read outside of the root folder: what is there may be at fault.
+printf 'start = element a { , }\n' >outside.rnc
+ln -s ../outside.rnc folder/link.rnc
+bad outside_root 1 'rnc-flat: error: outside.rnc: the file is not below the root folder\n' --root folder outside.rnc
+printf 'include "../outside.rnc"\ninclude "../none.rnc"\ninclude "link.rnc"\ninclude "inside.rnc"\nstart = text\n' >folder/above.rnc
+bad above_root 3 'folder/above.rnc:1:9: error: the file is not below the root folder\n    include "../outside.rnc"\n            ^\nfolder/above.rnc:2:9: error: the file is not below the root folder\n    include "../none.rnc"\n            ^\nfolder/above.rnc:3:9: error: the file is not below the root folder\n    include "link.rnc"\n            ^\nfolder/above.rnc:4:9: error: no such file\n    include "inside.rnc"\n            ^\n' --root folder folder/above.rnc
+printf 'include "http://x/a.rnc"\n' >folder/mapped.rnc
+row mapped_outside_root 0 'default namespace = ""\nstart = text\n' '' --root folder --map http://x/=. folder/mapped.rnc
 
 # ---- colours
 room colours

@@ -1,15 +1,18 @@
 -- Graphs of files.
-use Rattle.std.proofs.Common.{◌≡◌, ℕ, suc, zero, ◌<◌, ◌+◌, ◌==◌, ◌∙◌, true, List, [], ◌∷◌, ◌++◌, length, take, get_or, ap, subst, sym, arith}
+use Rattle.std.proofs.Common.{◌≡◌, ◌≢◌, Bool, ◌&&◌, refl, false, not, ℕ, suc, zero, ◌<◌, ◌+◌, ◌==◌, ◌∙◌, true, List, [], ◌∷◌, ◌++◌, length, take, get_or, ap, subst, sym, arith}
 use Rattle.std.specs.Prelude.{Vec, nat_lt, All, string_bytes}
 use Rattle.std.specs.List.{list_all}
 use Rattle.std.specs.declared.alloc.Global.{Global}
+use Rattle.std.specs.Str.{bytes_eq}
+use Rattle.std.proofs.lemmas.Bool.{false≢true}
 use Rattle.std.proofs.lemmas.Bool.Decides.{nat_tests}
+use Rattle.std.proofs.lemmas.Slice.Eq.{bytes_eq-Decides}
 use Rattle.std.proofs.lemmas.List.{length-map, map-append, take_more}
 use Rattle.std.proofs.lemmas.List.Elements.{All-contains, All-weaker, All-head, All-tail}
 use Rattle.std.proofs.lemmas.List.Sums.{AllPass-from_list_all}
 use Rattle.rn_files.specs.declared.sources.Source.{Source}
 use Rattle.rn_files.specs.declared.sources.Sources.{Sources}
-use Rattle.rn_files.specs.Sources.{count_links, targets_of, IsSound}
+use Rattle.rn_files.specs.Sources.{HaveOwnNames, count_links, differ_in_name, have_own_names, targets_of, IsSound}
 use Rattle.rn_modset.specs.Contributions.{is_module_name}
 use Rattle.rn_pattern.specs.Ranks.{HasNoLoop}
 use Rattle.rn_pattern.specs.Graph.{AllBelow, row, IsGraph, rows_of}
@@ -55,19 +58,40 @@ same_number a b h = grind (arith, nat_tests)
 same_if : (f : Source) → (length f.targets.items == count_links f) ≡ true → HasTargets f
 same_if f h = same_number (length f.targets.items) (count_links f) h
 
+and_both : (x y : Bool) → (x && y) ≡ true → (x ≡ true) × (y ≡ true)
+and_both true y h = (refl, h)
+and_both false y h = absurd (false≢true h)
+
+name_differs : (f g : Source) → differ_in_name f g ≡ true → string_bytes f.name ≢ string_bytes g.name
+name_differs f g h e =
+    let same : bytes_eq (string_bytes f.name) (string_bytes g.name) ≡ true = (bytes_eq-Decides (string_bytes f.name) (string_bytes g.name)).1 e in
+    false≢true (sym (ap not same) ∙ h)
+
+-- names that were tested are apart
+own_names : (fs : List Source) → have_own_names fs ≡ true → HaveOwnNames fs
+own_names [] h = tt
+own_names (f ∷ fs) h =
+    let each = and_both (list_all (differ_in_name f) fs) (have_own_names fs) h in (
+      All-weaker (λ g. differ_in_name f g ≡ true) (λ g. string_bytes f.name ≢ string_bytes g.name) (name_differs f) fs
+      (AllPass-from_list_all (differ_in_name f) fs each.0),
+      own_names fs each.1,
+    )
+
 -- what was tested of sources holds of them
 pub tested_sources : (s : Sources) (rows : List (Vec ℕ Global)) (files : List Source) (roots : List ℕ) (count : ℕ)
     → files ≡ s.files.items → roots ≡ s.roots.items → count ≡ length files → rows_of rows ≡ targets_of files
     → list_all (λ (v : Vec ℕ Global). list_all (λ x. nat_lt x (length rows)) v.items) rows ≡ true → list_all (λ x. nat_lt x count) roots ≡ true
     → list_all (λ (f : Source). is_module_name (string_bytes f.name)) files ≡ true
-    → list_all (λ (f : Source). length f.targets.items == count_links f) files ≡ true → HasNoLoop (rows_of rows) → IsSound s
-tested_sources s rows files roots count same same_roots counted are graph below named linked no_loop =
+    → list_all (λ (f : Source). length f.targets.items == count_links f) files ≡ true → have_own_names files ≡ true
+    → HasNoLoop (rows_of rows) → IsSound s
+tested_sources s rows files roots count same same_roots counted are graph below named linked own no_loop =
     let G : List (List ℕ) → Type 0 = λ z. IsGraph z in
     let H : List (List ℕ) → Type 0 = λ z. HasNoLoop z in
     let T : List Source → Type 0 = λ z. IsGraph (targets_of z) in
     let U : List Source → Type 0 = λ z. HasNoLoop (targets_of z) in
     let N : List Source → Type 0 = λ z. All (λ (f : Source). is_module_name (string_bytes f.name) ≡ true) z in
     let L : List Source → Type 0 = λ z. All HasTargets z in
+    let O : List Source → Type 0 = λ z. HaveOwnNames z in
     let R : List ℕ → Type 0 = λ z. All (λ r. r < length s.files.items) z in
     let C : ℕ → Type 0 = λ n. All (λ r. r < n) roots in
     record {
@@ -77,5 +101,6 @@ tested_sources s rows files roots count same same_roots counted are graph below 
           (AllPass-from_list_all (λ (f : Source). length f.targets.items == count_links f) files linked));
       no_loop = subst U same (subst H are no_loop);
       roots = subst R same_roots (subst C (counted ∙ ap (λ z. length z) same) (all_less count roots below));
+      own_names = subst O same (own_names files own);
       names = subst N same (AllPass-from_list_all (λ (f : Source). is_module_name (string_bytes f.name)) files named);
     }

@@ -1,5 +1,5 @@
 -- Facts on names of modules.
-use Rattle.std.proofs.Common.{◌≡◌, ℕ, ◌<◌, ◌≤◌, inl, inr, length, true, List, [], ◌∷◌, ◌++◌, ap, sym, ◌∙◌, arith}
+use Rattle.std.proofs.Common.{◌≡◌, ℕ, ◌≤◌, inl, inr, length, true, List, [], ◌∷◌, ◌++◌, ap, sym, ◌∙◌, arith}
 use Rattle.std.specs.List.{list_all}
 use Rattle.std.proofs.lemmas.List.Sums.{list_all-from_AllPass}
 use Rattle.std.proofs.lemmas.Bool.Decides.{nat_tests}
@@ -9,10 +9,8 @@ use Rattle.std.proofs.lemmas.List.Elements.{All-head, All-tail, All-nil, All-con
 use Rattle.percent_encoding.specs.Percent.{percent_decode, percent_encode_byte}
 use Rattle.percent_encoding.proofs.PercentLemmas.{IsEscapeByte, All-percent_encode_byte, percent_decode-nil, percent_decode_not_percent, percent_decode-percent_encode_byte}
 use Rattle.rn_modset.specs.Contributions.{is_name_byte, is_module_name}
-use Rattle.rn_files.specs.Names.{is_plain, escaped, name_of}
-
-abbrev pub IsByte : ℕ → Type 0
-IsByte b = b < 256
+use Rattle.rn_files.specs.Limits.{max_name}
+use Rattle.rn_files.specs.Names.{IsByte, is_plain, escaped, name_of}
 
 plain_is_no_percent : (b : ℕ) → is_plain b ≡ true → b ≡ 37 → is_plain 37 ≡ true
 plain_is_no_percent b h e = ap is_plain (sym e) ∙ h
@@ -51,7 +49,7 @@ all_named (b ∷ bs) =
     (λ other. All-weaker IsEscapeByte IsNamed escape_is_named (percent_encode_byte b) (All-percent_encode_byte b)))
     (all_named bs)
 
-pub name_is_named : (path : List ℕ) → 1 ≤ length (name_of path) → length (name_of path) ≤ 200 → is_module_name (name_of path) ≡ true
+pub name_is_named : (path : List ℕ) → 1 ≤ length (name_of path) → length (name_of path) ≤ max_name → is_module_name (name_of path) ≡ true
 name_is_named path some few =
     let each : list_all is_name_byte (name_of path) ≡ true = list_all-from_AllPass is_name_byte (name_of path) (all_named path) in
     grind (arith, nat_tests, each)

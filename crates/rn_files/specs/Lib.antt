@@ -1,3 +1,4 @@
+pub mod Limits
 pub mod Lines
 pub mod Names
 pub mod Sources

@@ -1,5 +1,5 @@
 -- Lines of a text, and where its bytes stand in them. A line ends with LF, CR LF or CR.
-use Rattle.std.specs.Prelude.{◌≡◌, ℕ, ◌+◌, ◌-◌, ◌<◌, ◌≤◌, ◌==◌, ◌&&◌, ◌||◌, ◌⊎◌, nat_le, nat_lt, not, Bool, List, [], ◌∷◌, ◌++◌, length, slice_index, if◌then◌else◌}
+use Rattle.std.specs.Prelude.{◌≡◌, ℕ, ◌+◌, ◌-◌, ◌<◌, ◌≤◌, ◌==◌, ◌&&◌, ◌||◌, ◌⊎◌, nat_le, nat_lt, not, Bool, List, [], ◌∷◌, ◌++◌, length, min, count_by, slice_index, slice_range, drop, take_while, if◌then◌else◌}
 use Rattle.std.specs.List.{concat}
 
 -- a line ends behind the byte b that the rest follows: behind LF, and behind a CR that no LF follows
@@ -41,3 +41,12 @@ begins_character b = nat_lt b 128 || nat_le 192 b
 -- the byte belongs to no end of a line
 abbrev pub is_inside : ℕ → Bool
 is_inside b = not (b == 10) && not (b == 13)
+
+-- the line of the byte, and the number of its character there: those before it in the line, and one
+abbrev pub IsPosition : List ℕ → ℕ → ℕ → ℕ → Type 0
+IsPosition text at line column = (start : ℕ) × StandsIn text at line start
+    × (column ≡ count_by begins_character (slice_range text start (min at (length text))) + 1)
+
+-- the line in which the byte stands, without its end
+abbrev pub IsLineOf : List ℕ → ℕ → List ℕ → Type 0
+IsLineOf text at line = (number start : ℕ) × StandsIn text at number start × (line ≡ take_while is_inside (drop start text))

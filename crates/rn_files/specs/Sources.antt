@@ -1,5 +1,7 @@
 -- Sources: files that were read, with what they refer to.
-use Rattle.std.specs.Prelude.{◌≡◌, ℕ, ◌<◌, Bool, true, false, List, map, All, length, count_by, string_bytes}
+use Rattle.std.specs.Prelude.{◌≡◌, ℕ, ◌<◌, ◌≢◌, ◌&&◌, Bool, true, false, not, List, [], ◌∷◌, map, All, length, count_by, nat_lt, string_bytes, ⊤}
+use Rattle.std.specs.List.{list_all}
+use Rattle.std.specs.Str.{bytes_eq}
 use Rattle.rn_lift.specs.declared.parts.PartKind.{PartKind}
 use Rattle.rn_lift.specs.declared.parts.PartKind.TheVariants.{External, Include}
 use Rattle.rn_modset.specs.Contributions.{is_module_name}
@@ -7,6 +9,10 @@ use Rattle.rn_pattern.specs.Graph.{IsGraph}
 use Rattle.rn_pattern.specs.Ranks.{HasNoLoop}
 use Rattle.rn_files.specs.declared.sources.Source.{Source}
 use Rattle.rn_files.specs.declared.sources.Sources.{Sources}
+
+-- each number is less than the count
+abbrev pub are_below : ℕ → List ℕ → Bool
+are_below count numbers = list_all (λ x. nat_lt x count) numbers
 
 -- for each file, the numbers of those that its includes and externals mean
 abbrev pub targets_of : List Source → List (List ℕ)
@@ -22,11 +28,25 @@ is_link _ = false
 abbrev pub count_links : Source → ℕ
 count_links f = count_by (λ p. is_link p.kind) f.outline.parts.items
 
+-- no file has the name of one after it
+abbrev pub HaveOwnNames : List Source → Type 0
+HaveOwnNames [] = ⊤
+HaveOwnNames (f ∷ fs) = All (λ g. string_bytes f.name ≢ string_bytes g.name) fs × HaveOwnNames fs
+
+-- the test of it
+abbrev pub differ_in_name : Source → Source → Bool
+differ_in_name f g = not (bytes_eq (string_bytes f.name) (string_bytes g.name))
+
+abbrev pub have_own_names : List Source → Bool
+have_own_names [] = true
+have_own_names (f ∷ fs) = list_all (differ_in_name f) fs && have_own_names fs
+
 -- targets and roots are numbers of files, and each include and external has a target; no file comes back to itself; and
--- names are those of modules
+-- names are those of modules, each of one file
 pub record IsSound (s : Sources) : Type 0 where
   pub targets : IsGraph (targets_of s.files.items)
   pub links : All (λ f. length f.targets.items ≡ count_links f) s.files.items
   pub no_loop : HasNoLoop (targets_of s.files.items)
   pub roots : All (λ r. r < length s.files.items) s.roots.items
   pub names : All (λ f. is_module_name (string_bytes f.name) ≡ true) s.files.items
+  pub own_names : HaveOwnNames s.files.items

@@ -1,8 +1,9 @@
 // Files that come back to themselves.
-ghost use Rattle.std.specs.Prelude.{◌≡◌, ℕ, true, length, nat_lt, IfNone, IfOk};
+ghost use Rattle.std.specs.Prelude.{◌≡◌, length, IfNone, IfOk};
 ghost use Rattle.std.specs.List.{list_all};
 ghost use Rattle.rn_pattern.specs.Graph.{IsGraph, rows_of};
 ghost use Rattle.rn_pattern.specs.Ranks.{HasNoLoop};
+ghost use Rattle.rn_files.specs.Sources.{are_below};
 
 use rn_pattern::ranks::least_looped;
 use std::alloc::{AllocError, Global};
@@ -72,14 +73,14 @@ fn loop_through(
 
 /// Whether all numbers are less than the count.
 pub fn are_below(numbers: &[usize], count: usize) -> bool
-    ensures { result ≡ list_all (λ x. nat_lt x count) numbers.now }
+    ensures { result ≡ are_below count numbers.now }
 {
     numbers.iter().all(|number| *number < count)
 }
 
 /// Whether each edge leads to one of the nodes.
 pub fn is_graph(edges: &[Vec<usize>]) -> bool
-    ensures { result ≡ list_all (λ v. list_all (λ x. nat_lt x (length edges.now)) v.items) edges.now }
+    ensures { result ≡ list_all (λ v. are_below (length edges.now) v.items) edges.now }
 {
     let count = edges.len();
     edges.iter().all(|row| are_below(row.as_slice(), count))

@@ -1,11 +1,6 @@
 // What is wrong with files, and where.
 use crate::files::FileFault;
 use crate::references::ReferenceFault;
-use std::alloc::{AllocError, Global};
-
-/// The most faults that are told; further ones are counted.
-pub const MAX_FAULTS: usize = 20;
-
 /// What a fault is about.
 #[derive(Clone, Copy, Debug, PartialEq, Eq)]
 pub enum FaultPlace {
@@ -51,36 +46,4 @@ pub enum FaultKind {
 pub struct SourceFault {
     pub place: FaultPlace,
     pub kind: FaultKind,
-}
-
-/// Faults in the order in which they were found.
-#[derive(Debug, Drop)]
-pub struct Faults {
-    pub list: Vec<SourceFault>,
-    pub further: usize,
-}
-
-impl Faults {
-    /// No fault.
-    pub fn new(alloc: Global) -> Faults {
-        Faults {
-            list: Vec::new(alloc),
-            further: 0,
-        }
-    }
-
-    /// Whether there is none.
-    pub fn is_empty(&self) -> bool {
-        self.list.is_empty()
-    }
-
-    /// Keeps a fault, or counts it where as many as are told are there.
-    pub fn note(&mut self, place: FaultPlace, kind: FaultKind) -> Result<(), AllocError> {
-        if self.list.len() < MAX_FAULTS {
-            self.list.push(SourceFault { place, kind })?;
-        } else {
-            self.further = self.further.saturating_add(1);
-        }
-        Ok(())
-    }
 }

@@ -1,11 +1,13 @@
 // Reading files, and what they refer to.
 ghost use Rattle.std.specs.Prelude.{◌≡◌, ◌<◌, ◌≤◌, IfOk, is_some, vec_len};
+ghost use Rattle.rn_files.specs.Limits.{max_text};
 ghost use Rattle.rn_files.specs.Sources.{is_link};
 
-use crate::faults::FaultPlace;
+use crate::faults::{FaultKind, FaultPlace};
 use crate::files::{FileFault, Files};
-use crate::maps::{Map, place_of};
-use crate::references::{remove_dot_segments, resolve};
+use crate::maps::{Map, Place, place_of};
+use crate::references::{remove_dot_segments, resolve_below};
+use crate::roots::RootFolder;
 use crate::texts::{MAX_TEXT, text_of};
 use crate::uris::file_uri;
 use crate::walk::{Found, MAX_SOURCES, Origin, Walk};
@@ -15,11 +17,12 @@ use std::alloc::{AllocError, Global};
 /// The word for standard input.
 const STANDARD_INPUT: &str = "-";
 
-/// Where files are looked for: what maps say, and the current folder.
+/// Where files are looked for: what maps say, the current folder, and the root folder, if one is given.
 #[derive(Clone, Copy)]
 pub struct Ways<'a> {
     pub maps: &'a [Map],
     pub current: &'a str,
+    pub root: Option<&'a RootFolder>,
 }
 
 /// The literal of a part that names another file, and the byte where it begins.
@@ -49,16 +52,42 @@ fn shown_path<'p>(current: &str, path: &'p str) -> &'p str {
     }
 }
 
-/// The URI of a file as it was asked for.
-fn word_uri(alloc: Global, current: &str, word: &str) -> Result<String, AllocError> {
+/// The path of a file or a folder as it was asked for, from the current folder.
+pub fn word_path(alloc: Global, current: &str, word: &str) -> Result<String, AllocError> {
     let mut path = String::new(alloc);
     if !word.starts_with('/') {
         path.push_str(current)?;
         path.push_str("/")?;
     }
     path.push_str(word)?;
-    let path = remove_dot_segments(alloc, path.as_str())?;
+    remove_dot_segments(alloc, path.as_str())
+}
+
+/// The URI of a file as it was asked for.
+fn word_uri(alloc: Global, current: &str, word: &str) -> Result<String, AllocError> {
+    let path = word_path(alloc, current, word)?;
     file_uri(alloc, path.as_str())
+}
+
+/// Enters a file that was found at a place; none where it doesn't lie below the root folder, which is a fault. Where a map
+/// found it, or it is standard input, it may lie anywhere.
+fn enter_found(
+    alloc: Global,
+    ways: &Ways<'_>,
+    walk: &mut Walk,
+    found: Found,
+    place: FaultPlace,
+) -> Result<Option<usize>, AllocError>
+    ensures { vec_len walk.old.entries ≤ vec_len walk.new.entries }
+{
+    let is_outside = ways
+        .root
+        .is_some_and(|root| !root.holds(found.path.as_str()));
+    if found.origin == Origin::Path && is_outside {
+        walk.note(place, FaultKind::Outside)?;
+        return Ok(None);
+    }
+    walk.enter(alloc, found, place)
 }
 
 /// Enters the file that is asked for by a word.
@@ -90,7 +119,7 @@ fn enter_word<F: Files>(
             Origin::Path
         },
     };
-    walk.enter(alloc, found, place)
+    enter_found(alloc, ways, walk, found, place)
 }
 
 /// Enters the files that are asked for, and answers their numbers, each once.
@@ -112,6 +141,28 @@ pub fn enter_words<F: Files>(
     Ok(roots)
 }
 
+/// The real path of the file that a reference leads to. Where there is no such file, and it would not lie below the root
+/// folder, that is the fault.
+fn real_path<F: Files>(
+    alloc: Global,
+    files: &F,
+    ways: &Ways<'_>,
+    walk: &mut Walk,
+    leads: &Place,
+    place: FaultPlace,
+) -> Result<Option<String>, AllocError>
+    ensures { vec_len walk.old.entries ≤ vec_len walk.new.entries }
+{
+    let answer = files.real_path(alloc, leads.path.as_str());
+    let is_outside = ways.root.is_some_and(|root| !leads.is_mapped
+        && !root.spells(leads.path.as_str()));
+    if is_outside && matches!(&answer, Err(FileFault::Missing)) {
+        walk.note(place, FaultKind::Outside)?;
+        return Ok(None);
+    }
+    walk.noted(place, answer)
+}
+
 /// Enters the file that a reference in a file with the URI `base` means.
 fn follow_link<F: Files>(
     alloc: Global,
@@ -124,13 +175,13 @@ fn follow_link<F: Files>(
 ) -> Result<Option<usize>, AllocError>
     ensures { vec_len walk.old.entries ≤ vec_len walk.new.entries }
 {
-    let Some(uri) = walk.noted_reference(place, resolve(alloc, base, literal))? else {
+    let Some(uri) = walk.noted_reference(place, resolve_below(alloc, base, literal))? else {
         return Ok(None);
     };
     let Some(leads) = walk.noted_reference(place, place_of(alloc, ways.maps, uri.as_str()))? else {
         return Ok(None);
     };
-    let Some(path) = walk.noted(place, files.real_path(alloc, leads.path.as_str()))? else {
+    let Some(path) = real_path(alloc, files, ways, walk, &leads, place)? else {
         return Ok(None);
     };
     let shown = String::from_str(alloc, shown_path(ways.current, path.as_str()))?;
@@ -139,16 +190,13 @@ fn follow_link<F: Files>(
     } else {
         Origin::Path
     };
-    walk.enter(
-        alloc,
-        Found {
-            path,
-            shown,
-            uri,
-            origin,
-        },
-        place,
-    )
+    let found = Found {
+        path,
+        shown,
+        uri,
+        origin,
+    };
+    enter_found(alloc, ways, walk, found, place)
 }
 
 /// Enters the files that the links of a file mean, and answers their numbers: of a link that is at fault, the file's own.
@@ -195,8 +243,7 @@ fn follow_text<F: Files>(
             Ok(targets)
         }
         Err(wrong) => {
-            walk.faults
-                .note(FaultPlace::Text { file, at: wrong.at }, wrong.kind)?;
+            walk.note(FaultPlace::Text { file, at: wrong.at }, wrong.kind)?;
             Ok(Vec::new(alloc))
         }
     }
@@ -204,7 +251,7 @@ fn follow_text<F: Files>(
 
 /// The bytes of the file at a path, which are no more than those of a text.
 fn read_file<F: Files>(alloc: Global, files: &F, path: &str) -> Result<Vec<u8>, FileFault>
-    ensures few { IfOk result (λ bytes. vec_len bytes ≤ 4194304) }
+    ensures few { IfOk result (λ bytes. vec_len bytes ≤ max_text) }
     ensures given { IfOk result (λ bytes. F.gives files.now path.now bytes.items) }
 {
     let bytes = files.read(alloc, path)?;

@@ -26,7 +26,7 @@ mod texts;
 mod uris;
 mod walk;
 
-pub use faults::{FaultKind, FaultPlace, MAX_FAULTS, SourceFault};
+pub use faults::{FaultKind, FaultPlace, SourceFault};
 pub use files::{FileFault, Files};
 pub use lines::Position;
 pub use maps::Map;

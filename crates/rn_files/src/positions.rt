@@ -1,8 +1,8 @@
 // Where the bytes of a text stand.
-ghost use Rattle.std.specs.Prelude.{◌≡◌, ℕ, ◌+◌, ◌<◌, ◌≤◌, length, min, count_by, slice_index, slice_range, drop, take_while};
+ghost use Rattle.std.specs.Prelude.{◌≡◌, ◌<◌, ◌≤◌, length, count_by, slice_index, drop, take_while};
 ghost use Rattle.std.specs.List.{prefix_len};
 ghost use Rattle.std.specs.Str.{IsCharBoundary};
-ghost use Rattle.rn_files.specs.Lines.{StandsIn, begins_character, is_inside};
+ghost use Rattle.rn_files.specs.Lines.{IsLineOf, IsPosition, begins_character, is_inside};
 
 use crate::lines::{Position, line_at};
 
@@ -23,8 +23,7 @@ fn count_characters(bytes: &[u8]) -> usize
 /// Where the byte at `at` stands; behind the last byte where the text has no more. Lines end by LF, CR LF or CR, and an
 /// end stands in the line that it closes. The column counts the characters before the byte. One walk over the text.
 pub fn position(text: &str, at: usize) -> Position
-    ensures { (start : ℕ) × StandsIn text.now at result.line start
-        × (result.column ≡ count_by begins_character (slice_range text.now start (min at (length text.now))) + 1) }
+    ensures { IsPosition text.now at result.line result.column }
 {
     let bytes = text.as_bytes();
     let (line, start) = line_at(bytes, at);
@@ -74,7 +73,7 @@ fn rest_from(text: &str, start: usize) -> &str
 
 /// The line in which the byte at `at` stands, without its end; the last line where the text has no more.
 pub fn line_of(text: &str, at: usize) -> &str
-    ensures { (number : ℕ) × (start : ℕ) × StandsIn text.now at number start × (result.now ≡ take_while is_inside (drop start text.now)) }
+    ensures { IsLineOf text.now at result.now }
 {
     let (_, start) = line_at(text.as_bytes(), at);
     without_end(rest_from(text, start))

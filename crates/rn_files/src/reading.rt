@@ -2,11 +2,11 @@
 ghost use Rattle.std.specs.Prelude.{IfOk};
 ghost use Rattle.rn_files.specs.Sources.{IsSound};
 
-use crate::faults::{FaultKind, FaultPlace, Faults, SourceFault};
+use crate::faults::{FaultKind, FaultPlace, SourceFault};
 use crate::files::Files;
-use crate::following::{Ways, enter_words, follow_all};
+use crate::following::{Ways, enter_words, follow_all, word_path};
 use crate::names::module_name;
-use crate::roots::common_folder;
+use crate::roots::{RootFolder, common_folder};
 use crate::soundness::fault_of;
 use crate::sources::{Asked, Attempt, Source, Sources};
 use crate::walk::{Entry, Origin, Walk};
@@ -19,10 +19,8 @@ use std::collections::BTreeSet;
 pub struct Reading {
     /// The files, by the numbers that places of faults have.
     pub files: Vec<Attempt>,
-    /// The first faults, in the order of the files and of their texts; at least one.
+    /// The faults, as they were found; at least one.
     pub faults: Vec<SourceFault>,
-    /// How many faults there are more.
-    pub further: usize,
 }
 
 /// Why there are no sources.
@@ -40,13 +38,13 @@ impl From<AllocError> for ReadFault {
     }
 }
 
-/// What a module's name is made from: the path below the root folder, or the URI where a map found the file. None where the
-/// file doesn't lie below the root folder.
-fn unescaped_name<'e>(entry: &'e Entry, root: &str) -> Option<&'e str> {
+/// What a module's name is made from: the path below the root folder, or the URI where a map found the file.
+fn unescaped_name<'e>(entry: &'e Entry, root: &str) -> &'e str {
+    let path = entry.found.path.as_str();
     match entry.found.origin {
-        Origin::Input => Some(entry.found.path.as_str()),
-        Origin::Map => Some(entry.found.uri.as_str()),
-        Origin::Path => entry.found.path.strip_prefix(root),
+        Origin::Input => path,
+        Origin::Map => entry.found.uri.as_str(),
+        Origin::Path => path.strip_prefix(root).unwrap_or(path),
     }
 }
 
@@ -56,18 +54,17 @@ fn name_of(
     entry: &Entry,
     root: &str,
     used: &mut BTreeSet<String>,
-    faults: &mut Faults,
+    faults: &mut Vec<SourceFault>,
 ) -> Result<String, AllocError> {
-    let Some(unescaped) = unescaped_name(entry, root) else {
-        faults.note(entry.place, FaultKind::Outside)?;
-        return Ok(String::new(alloc));
-    };
-    let name = module_name(alloc, unescaped)?;
+    let place = entry.place;
+    let name = module_name(alloc, unescaped_name(entry, root))?;
     if !is_module_name(name.as_str()) {
-        faults.note(entry.place, FaultKind::Name)?;
+        let kind = FaultKind::Name;
+        faults.push(SourceFault { place, kind })?;
     }
     if !used.insert(name.clone()?)? {
-        faults.note(entry.place, FaultKind::Twice)?;
+        let kind = FaultKind::Twice;
+        faults.push(SourceFault { place, kind })?;
     }
     Ok(name)
 }
@@ -77,7 +74,7 @@ fn names_of(
     alloc: Global,
     entries: &[Entry],
     root: &str,
-    faults: &mut Faults,
+    faults: &mut Vec<SourceFault>,
 ) -> Result<Vec<String>, AllocError> {
     let mut used = BTreeSet::new(alloc);
     let mut names = Vec::new(alloc);
@@ -98,45 +95,53 @@ fn deepest_folder(alloc: Global, entries: &[Entry]) -> Result<String, AllocError
     String::from_str(alloc, common_folder(paths.as_slice()))
 }
 
-/// The root folder, with a slash at its end; where it isn't there, that is kept.
-fn root_folder<F: Files>(
+/// A path of a folder with a slash at its end.
+fn with_slash(path: String) -> Result<String, AllocError> {
+    let mut path = path;
+    if !path.ends_with('/') {
+        path.push_str("/")?;
+    }
+    Ok(path)
+}
+
+/// The root folder, if one is asked for; where it isn't there, that is kept.
+fn given_root<F: Files>(
     alloc: Global,
     files: &F,
+    current: &str,
     root: Option<&str>,
     walk: &mut Walk,
-) -> Result<String, AllocError> {
+) -> Result<Option<RootFolder>, AllocError> {
     let Some(root) = root else {
-        return deepest_folder(alloc, walk.entries.as_slice());
+        return Ok(None);
     };
-    let Some(mut folder) = walk.noted(FaultPlace::Root, files.real_path(alloc, root))? else {
-        return Ok(String::new(alloc));
+    let Some(real) = walk.noted(FaultPlace::Root, files.real_path(alloc, root))? else {
+        return Ok(None);
     };
-    if !folder.ends_with('/') {
-        folder.push_str("/")?;
-    }
-    Ok(folder)
+    let spelled = word_path(alloc, current, root)?;
+    Ok(Some(RootFolder {
+        real: with_slash(real)?,
+        spelled: with_slash(spelled)?,
+    }))
 }
 
 /// What was read and what is wrong.
-fn refusal(alloc: Global, walk: Walk) -> Result<Reading, AllocError> {
+fn refusal(alloc: Global, walk: Walk, names: Vec<String>) -> Result<Reading, AllocError> {
     let Walk {
         entries,
         faults,
         ..
     } = walk;
     let mut files = Vec::new(alloc);
-    for entry in entries {
+    for (entry, name) in entries.into_iter().zip(names) {
         let Entry { found, text, .. } = entry;
         files.push(Attempt {
+            name,
             shown: found.shown,
             text,
         })?;
     }
-    Ok(Reading {
-        files,
-        faults: faults.list,
-        further: faults.further,
-    })
+    Ok(Reading { files, faults })
 }
 
 /// The sources of files without fault.
@@ -178,14 +183,18 @@ fn refused(alloc: Global, sources: Sources, fault: SourceFault) -> Result<Readin
     let Sources { files, .. } = sources;
     let mut attempts = Vec::new(alloc);
     for source in files {
-        let Source { shown, text, .. } = source;
-        attempts.push(Attempt { shown, text })?;
+        let Source {
+            name,
+            shown,
+            text,
+            ..
+        } = source;
+        attempts.push(Attempt { name, shown, text })?;
     }
     let faults = vec![in alloc; fault]?;
     Ok(Reading {
         files: attempts,
         faults,
-        further: 0,
     })
 }
 
@@ -199,43 +208,53 @@ fn checked(alloc: Global, sources: Sources) -> Result<Sources, ReadFault>
     }
 }
 
-/// Finds all files, and answers the numbers of those that are asked for.
+/// What is asked for, once it was found: the numbers of the files, each once, and the root folder, if one is given.
+#[derive(Drop)]
+struct FoundFiles {
+    roots: Vec<usize>,
+    folder: Option<RootFolder>,
+}
+
+/// Finds all files.
 fn find_files<F: Files>(
     alloc: Global,
     files: &F,
     asked: &Asked<'_>,
     walk: &mut Walk,
-) -> Result<Vec<usize>, AllocError> {
+) -> Result<FoundFiles, AllocError> {
     let Some(current) = walk.noted(FaultPlace::Current, files.real_path(alloc, "."))? else {
-        return Ok(Vec::new(alloc));
+        return Ok(FoundFiles {
+            roots: Vec::new(alloc),
+            folder: None,
+        });
     };
+    let folder = given_root(alloc, files, current.as_str(), asked.root, walk)?;
     let ways = Ways {
         maps: asked.maps,
         current: current.as_str(),
+        root: folder.as_ref(),
     };
     let roots = enter_words(alloc, files, &ways, walk, asked.files)?;
     follow_all(alloc, files, &ways, walk)?;
-    Ok(roots)
+    Ok(FoundFiles { roots, folder })
 }
 
-/// Names all files.
-fn name_files<F: Files>(
+/// Names all files, by their paths below the root folder.
+fn name_files(
     alloc: Global,
-    files: &F,
-    asked: &Asked<'_>,
+    folder: Option<RootFolder>,
     walk: &mut Walk,
 ) -> Result<Vec<String>, AllocError> {
-    if !walk.faults.is_empty() {
-        return Ok(Vec::new(alloc));
-    }
-    let root = root_folder(alloc, files, asked.root, walk)?;
-    let names = names_of(
+    let root = match folder {
+        Some(folder) => folder.real,
+        None => deepest_folder(alloc, walk.entries.as_slice())?,
+    };
+    names_of(
         alloc,
         walk.entries.as_slice(),
         root.as_str(),
         &mut walk.faults,
-    )?;
-    Ok(names)
+    )
 }
 
 /// The files that are asked for and all that they refer to, each one read once.
@@ -246,7 +265,8 @@ fn name_files<F: Files>(
 ///
 /// Refused are files that can't be read, texts that are no files of the language or have more than 4,194,304 bytes,
 /// references that name no file, more than 1,024 files, names of more than 200 bytes or of two files, files that don't lie
-/// below the root folder, and loops along references. Faults of all files are told, at most 20, and the others counted.
+/// below the root folder, and loops along references. Faults of all files are answered, but of loops one. A file that doesn't
+/// lie below the root folder that is asked for is not read.
 pub fn read_sources<F: Files>(
     alloc: Global,
     files: &F,
@@ -255,10 +275,10 @@ pub fn read_sources<F: Files>(
     ensures { IfOk result (λ s. IsSound s) }
 {
     let mut walk = Walk::new(alloc);
-    let roots = find_files(alloc, files, asked, &mut walk)?;
-    let names = name_files(alloc, files, asked, &mut walk)?;
+    let FoundFiles { roots, folder } = find_files(alloc, files, asked, &mut walk)?;
+    let names = name_files(alloc, folder, &mut walk)?;
     if !walk.faults.is_empty() {
-        return Err(ReadFault::Faults(refusal(alloc, walk)?));
+        return Err(ReadFault::Faults(refusal(alloc, walk, names)?));
     }
     let sources = sources(alloc, walk, names, roots)?;
     checked(alloc, sources)

@@ -36,6 +36,9 @@ pub enum ReferenceFault {
     /// It has the scheme `file` and no path from `/` on.
     #[error("the path of a file URI begins with /")]
     Relative,
+    /// A `..` of it leads above the root of the path.
+    #[error("`..` leads above the topmost folder")]
+    Above,
     /// A request for memory was refused.
     #[error("out of memory")]
     Memory,
@@ -126,6 +129,34 @@ pub fn remove_dot_segments(alloc: Global, path: &str) -> Result<String, AllocErr
     Ok(out)
 }
 
+/// Whether the first segment is `..`.
+fn is_up(input: &str) -> bool {
+    let segment = input.strip_prefix('/').unwrap_or(input);
+    segment == ".." || segment.starts_with("../")
+}
+
+/// Whether a `..` of the path finds no segment before it that it takes away. RFC 3986 lets such a `..` fall (section 5.2.4,
+/// 2A and 2C); of a file it is a fault.
+fn leads_above(path: &str) -> bool {
+    let mut depth: usize = 0;
+    let mut input = path;
+    while !input.is_empty() {
+        let Some((rest, _)) = without_dots(input) else {
+            depth = depth.saturating_add(1);
+            input = split_segment(input).1;
+            continue;
+        };
+        if is_up(input) {
+            match depth.checked_sub(1) {
+                Some(less) => depth = less,
+                None => return true,
+            }
+        }
+        input = rest;
+    }
+    false
+}
+
 /// The base's path up to its last slash, and then the reference's path (RFC 3986, section 5.2.3).
 fn merged(alloc: Global, base: &Parts<'_>, path: &str) -> Result<String, AllocError> {
     let mut out = String::new(alloc);
@@ -137,17 +168,26 @@ fn merged(alloc: Global, base: &Parts<'_>, path: &str) -> Result<String, AllocEr
     Ok(out)
 }
 
-/// The target of a reference that is not empty (RFC 3986, section 5.2.2).
-fn target(alloc: Global, base: &Parts<'_>, reference: &Parts<'_>) -> Result<String, AllocError> {
+/// The path of the target of a reference, with its dot segments.
+fn dotted_path(
+    alloc: Global,
+    base: &Parts<'_>,
+    reference: &Parts<'_>,
+) -> Result<String, AllocError> {
     let whole = reference.scheme.is_some()
         || reference.authority.is_some()
         || reference.path.starts_with('/');
-    let path = if whole {
-        remove_dot_segments(alloc, reference.path)?
+    if whole {
+        String::from_str(alloc, reference.path)
     } else {
-        let merged = merged(alloc, base, reference.path)?;
-        remove_dot_segments(alloc, merged.as_str())?
-    };
+        merged(alloc, base, reference.path)
+    }
+}
+
+/// The target of a reference that is not empty (RFC 3986, section 5.2.2).
+fn target(alloc: Global, base: &Parts<'_>, reference: &Parts<'_>) -> Result<String, AllocError> {
+    let dotted = dotted_path(alloc, base, reference)?;
+    let path = remove_dot_segments(alloc, dotted.as_str())?;
     let has_own = reference.scheme.is_some() || reference.authority.is_some();
     join(
         alloc,
@@ -193,4 +233,14 @@ pub fn resolve(alloc: Global, base: &str, reference: &str) -> Result<String, Ref
     }
     let text = escaped(alloc, reference).map_err(no_memory)?;
     target(alloc, &split(base), &split(text.as_str())).map_err(no_memory)
+}
+
+/// The URI that a reference in a file stands for, as `resolve` says. `Above` where a `..` leads above the root of its path.
+pub fn resolve_below(alloc: Global, base: &str, reference: &str) -> Result<String, ReferenceFault> {
+    let uri = resolve(alloc, base, reference)?;
+    let dotted = dotted_path(alloc, &split(base), &split(reference)).map_err(no_memory)?;
+    if leads_above(dotted.as_str()) {
+        return Err(ReferenceFault::Above);
+    }
+    Ok(uri)
 }

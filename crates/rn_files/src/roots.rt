@@ -1,4 +1,24 @@
-// Folders, and the deepest one that holds all files.
+// Folders: the root folder that is asked for, and the deepest one that holds all files.
+
+/// The folder below which files must lie, with a slash at its end: its real path, and as it was asked for, from the current
+/// folder.
+#[derive(Debug, Drop)]
+pub struct RootFolder {
+    pub real: String,
+    pub spelled: String,
+}
+
+impl RootFolder {
+    /// Whether the real path of a file lies below it.
+    pub fn holds(&self, path: &str) -> bool {
+        path.starts_with(self.real.as_str())
+    }
+
+    /// Whether a path lies below it, as it is spelled.
+    pub fn spells(&self, path: &str) -> bool {
+        self.holds(path) || path.starts_with(self.spelled.as_str())
+    }
+}
 
 /// A path up to its last slash, and with it; nothing where it has no slash.
 pub fn folder_of(path: &str) -> &str {

@@ -3,7 +3,7 @@ ghost use Rattle.std.specs.Prelude.{◌≡◌, ◌==◌, true, IfNone, IfOk, len
 ghost use Rattle.std.specs.List.{list_all};
 ghost use Rattle.rn_modset.specs.Contributions.{is_module_name};
 ghost use Rattle.rn_pattern.specs.Graph.{rows_of};
-ghost use Rattle.rn_files.specs.Sources.{IsSound, count_links, targets_of};
+ghost use Rattle.rn_files.specs.Sources.{IsSound, count_links, differ_in_name, have_own_names, targets_of};
 
 use crate::cycles::{are_below, first_loop, is_graph};
 use crate::faults::{FaultKind, FaultPlace, SourceFault};
@@ -37,6 +37,30 @@ fn have_names(files: &[Source]) -> bool
     files
         .iter()
         .all(|source| is_module_name(source.name.as_str()))
+}
+
+/// Whether none of the others has the name of the file.
+fn differs_from(source: &Source, others: &[Source]) -> bool
+    ensures { result ≡ list_all (differ_in_name source.now) others.now }
+{
+    others
+        .iter()
+        .all(|other| source.name.as_str() != other.name.as_str())
+}
+
+/// Whether no two files have one name. Each is compared with those after it, of which there are not many: a set has 1,024
+/// modules at most.
+fn have_own_names(files: &[Source]) -> bool
+    ensures { result ≡ have_own_names files.now }
+{
+    let mut rest = files;
+    while let [first, others @ ..] = rest {
+        if !differs_from(first, others) {
+            return false;
+        }
+        rest = others;
+    }
+    true
 }
 
 /// How many includes and externals a file has.
@@ -112,6 +136,9 @@ pub fn fault_of(alloc: Global, sources: &Sources) -> Result<Option<SourceFault>,
         return Ok(Some(stray()));
     }
     if !have_targets(files) {
+        return Ok(Some(stray()));
+    }
+    if !have_own_names(files) {
         return Ok(Some(stray()));
     }
     match first_loop(alloc, rows)? {

@@ -39,6 +39,9 @@ pub struct Sources {
 /// A file as far as it was read: as much of its text as is UTF-8, none where it couldn't be read.
 #[derive(Debug, Drop, PartialEq, Eq)]
 pub struct Attempt {
+    /// The name that its module has, or would have.
+    pub name: String,
+    /// The file as it is told to people.
     pub shown: String,
     pub text: String,
 }

@@ -5,7 +5,7 @@ use rn_text::{TextFault, tokens};
 use std::alloc::{AllocError, Global};
 
 /// The most bytes of the text of a file.
-pub const MAX_TEXT: usize = 4_194_304;
+pub const MAX_TEXT: usize = rn_modset::MAX_TEXT;
 
 /// What was read of a file: its text, or as much of it as is UTF-8, and its outline, or what is wrong at a byte.
 #[derive(Drop)]

@@ -1,7 +1,7 @@
 // Files as they are found, each once.
 ghost use Rattle.std.specs.Prelude.{◌≤◌, vec_len};
 
-use crate::faults::{FaultKind, FaultPlace, Faults};
+use crate::faults::{FaultKind, FaultPlace, SourceFault};
 use crate::files::FileFault;
 use crate::references::ReferenceFault;
 use crate::texts::empty_outline;
@@ -10,7 +10,7 @@ use std::alloc::{AllocError, Global};
 use std::collections::BTreeMap;
 
 /// The most files: as many as a set has modules.
-pub const MAX_SOURCES: usize = 1_024;
+pub const MAX_SOURCES: usize = rn_modset::MAX_CONTRIBUTIONS;
 
 /// How a file was found.
 #[derive(Clone, Copy, Debug, PartialEq, Eq)]
@@ -39,13 +39,13 @@ pub struct Entry {
 }
 
 /// The files in the order in which they were found; of those that were followed, the numbers of the files that their links
-/// mean; the number of each path; and what is wrong.
+/// mean; the number of each path; and what is wrong, as it was found.
 #[derive(Drop)]
 pub struct Walk {
     pub entries: Vec<Entry>,
     pub targets: Vec<Vec<usize>>,
     pub numbers: BTreeMap<String, usize>,
-    pub faults: Faults,
+    pub faults: Vec<SourceFault>,
 }
 
 impl Walk {
@@ -55,8 +55,16 @@ impl Walk {
             entries: Vec::new(alloc),
             targets: Vec::new(alloc),
             numbers: BTreeMap::new(alloc),
-            faults: Faults::new(alloc),
+            faults: Vec::new(alloc),
         }
+    }
+
+    /// Keeps a fault.
+    pub fn note(&mut self, place: FaultPlace, kind: FaultKind) -> Result<(), AllocError>
+        ensures { vec_len self.old.entries ≤ vec_len self.new.entries }
+    {
+        self.faults.push(SourceFault { place, kind })?;
+        Ok(())
     }
 
     /// What a file answered; a fault is kept, and is then none.
@@ -71,7 +79,7 @@ impl Walk {
             Ok(value) => Ok(Some(value)),
             Err(FileFault::Memory) => Err(AllocError),
             Err(fault) => {
-                self.faults.note(place, FaultKind::File(fault))?;
+                self.note(place, FaultKind::File(fault))?;
                 Ok(None)
             }
         }
@@ -89,7 +97,7 @@ impl Walk {
             Ok(value) => Ok(Some(value)),
             Err(ReferenceFault::Memory) => Err(AllocError),
             Err(fault) => {
-                self.faults.note(place, FaultKind::Reference(fault))?;
+                self.note(place, FaultKind::Reference(fault))?;
                 Ok(None)
             }
         }
@@ -108,7 +116,7 @@ impl Walk {
             return Ok(Some(*number));
         }
         if self.entries.len() >= MAX_SOURCES {
-            self.faults.note(place, FaultKind::Count)?;
+            self.note(place, FaultKind::Count)?;
             return Ok(None);
         }
         self.add(alloc, found, place)

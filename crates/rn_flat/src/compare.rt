@@ -3,8 +3,8 @@ ghost use Rattle.std.specs.Prelude.{◌≡◌, MatchOption, OnOk};
 ghost use Rattle.rn_flat.specs.Comparisons.{DifferFirst};
 
 use crate::fault::{FlatFault, refused};
-use rn_files::{Attempt, FileFault, Files, line_of};
-use rn_tell::{Colours, Grade, Message, SHOWN, Spot, push_printable};
+use rn_files::{FileFault, Files, line_of};
+use rn_tell::{Colours, Message, Page, SHOWN, Spot, Told, push_printable};
 use std::alloc::{AllocError, Global};
 
 /// The first byte at which two texts differ, if they do: the end of the shorter one, where it is the front of the other.
@@ -66,15 +66,15 @@ fn differs(
     let found = String::from_utf8_lossy(alloc, found)?;
     let schema = String::from_utf8_lossy(alloc, schema)?;
     let message = Message {
-        grade: Grade::Error,
         spot: Some(Spot { file: 0, at: start }),
         sentence: difference(alloc, schema.as_str(), start)?,
     };
-    let page = Attempt {
-        shown: String::from_str(alloc, path)?,
-        text: found,
+    let page = Page {
+        name: path,
+        path,
+        text: found.as_str(),
     };
-    refused(alloc, &[page], &[message], colours)
+    refused(alloc, &[page], &Told::one(alloc, message)?, colours)
 }
 
 /// Where the line begins in which a byte is.

@@ -2,7 +2,7 @@
 ghost use Rattle.std.specs.Prelude.{◌≡◌};
 ghost use Rattle.rn_flat.specs.Faults.{status};
 
-use rn_tell::{Colours, Message, Page, shown};
+use rn_tell::{Colours, Page, Told, shown};
 use std::alloc::{AllocError, AllocFailed, Global};
 
 /// Why the program does not do its work, with the lines that say so.
@@ -65,13 +65,13 @@ pub fn status(fault: &FlatFault) -> u8
     }
 }
 
-/// The files are refused, which the messages say.
-pub fn refused<P: Page>(
+/// The files are refused, with what is told of them.
+pub fn refused(
     alloc: Global,
-    pages: &[P],
-    messages: &[Message],
+    pages: &[Page<'_>],
+    told: &Told,
     colours: Colours,
 ) -> Result<FlatFault, AllocError> {
-    let lines = shown(alloc, pages, messages, colours)?;
+    let lines = shown(alloc, pages, told, colours)?;
     Ok(FlatFault::Refused(lines))
 }

@@ -13,13 +13,11 @@ use crate::products::{graph_text, list_text};
 use crate::readings::reading_fault;
 use crate::words::{Job, Product, Task};
 use rn_assemble::Refusal;
-use rn_files::{Asked, Files, MAX_FAULTS, Source, Sources, read_sources};
-use rn_lift::{LiftFaultKind, Lifted, LiftedModule, Lifting, lift};
-use rn_merge::{Place, Sink, check, merge};
+use rn_files::{Asked, Files, Source, Sources, read_sources};
+use rn_lift::{LiftFaultKind, Lifted, Lifting, lift};
+use rn_merge::{Sink, merge};
 use rn_modset::{AddFault, ModuleSet, write_bundle};
-use rn_tell::{
-    Colours, Grade, Message, Spot, check_sentence, lift_message, refusal_message, set_message,
-};
+use rn_tell::{Colours, Told, lift_told, refusal_told, set_message, source_pages};
 use std::alloc::{AllocError, Global};
 
 /// Reads the files of a job with all that they reach, makes what is asked for, and writes or compares it. Nothing is written
@@ -114,10 +112,22 @@ fn lifted(alloc: Global, sources: &Sources, colours: Colours) -> Result<Lifted, 
         Ok(lifted) => Ok(lifted),
         Err(fault) if fault.kind == LiftFaultKind::Memory => Err(FlatFault::Memory),
         Err(fault) => {
-            let message = lift_message(alloc, &fault)?;
-            Err(refused(alloc, sources.files.as_slice(), &[message], colours)?)
+            let files = sources.files.as_slice();
+            let told = lift_told(alloc, files, &fault)?;
+            Err(told_of(alloc, files, &told, colours)?)
         }
     }
+}
+
+/// The files are refused, with what is told of them.
+fn told_of(
+    alloc: Global,
+    files: &[Source],
+    told: &Told,
+    colours: Colours,
+) -> Result<FlatFault, AllocError> {
+    let pages = source_pages(alloc, files)?;
+    refused(alloc, pages.as_slice(), told, colours)
 }
 
 /// The set of the modules.
@@ -134,7 +144,7 @@ fn module_set(
         Err(fault) if fault.fault == AddFault::Memory => Err(FlatFault::Memory),
         Err(fault) => {
             let message = set_message(alloc, lifted, fault.module, &fault.fault)?;
-            Err(refused(alloc, files, &[message], colours)?)
+            Err(told_of(alloc, files, &Told::one(alloc, message)?, colours)?)
         }
     }
 }
@@ -153,8 +163,8 @@ fn schema(
         Ok(text) => Ok(text),
         Err(Refusal::Memory) => Err(FlatFault::Memory),
         Err(refusal) => {
-            let messages = refusal_messages(alloc, lifted, files, &refusal)?;
-            Err(refused(alloc, files, messages.as_slice(), colours)?)
+            let told = refusal_told(alloc, files, lifted, &refusal)?;
+            Err(told_of(alloc, files, &told, colours)?)
         }
     }
 }
@@ -167,47 +177,4 @@ fn merged(alloc: Global, set: &ModuleSet) -> Result<Vec<u8>, Refusal>
         Ok(text) => Ok(text.into_bytes()),
         Err(refusal) => Err(refusal),
     }
-}
-
-/// The messages of a refusal: of each faulty text, up to 20, the refused one first, or the one of the set.
-fn refusal_messages(
-    alloc: Global,
-    lifted: &Lifted,
-    files: &[Source],
-    refusal: &Refusal,
-) -> Result<Vec<Message>, AllocError> {
-    let mut messages = Vec::new(alloc);
-    for module in lifted.modules.as_slice() {
-        if let Err(place) = check(alloc, module.text.as_bytes()) {
-            let message = text_message(alloc, module, &place)?;
-            let is_new = messages
-                .iter()
-                .all(|told: &Message| told.spot != message.spot);
-            if is_new && messages.len() < MAX_FAULTS {
-                messages.push(message)?;
-            }
-        }
-    }
-    if messages.is_empty() {
-        messages.push(refusal_message(alloc, files, lifted, refusal)?)?;
-    }
-    Ok(messages)
-}
-
-/// The message of the fault of a module's text, at its place in the file.
-fn text_message(
-    alloc: Global,
-    module: &LiftedModule,
-    place: &Place,
-) -> Result<Message, AllocError> {
-    let (at, sentence) = check_sentence(alloc, module.text.as_str(), place)?;
-    let spot = module.origin(at).map(|origin| Spot {
-        file: origin.0,
-        at: origin.1,
-    });
-    Ok(Message {
-        grade: Grade::Error,
-        spot,
-        sentence,
-    })
 }

@@ -37,7 +37,8 @@ pub fn write_file<S: Outputs>(
 /// Writes these bytes to standard output. The one fault is `Unwritten`, after which it has a front of them.
 pub fn write_standard<W: Sink>(alloc: Global, out: &mut W, bytes: &[u8]) -> Result<(), FlatFault>
     requires { W.has_failed out.old ≡ false }
-    ensures { IsWritten (W.contents out.old) (W.contents out.new) (W.has_failed out.new) bytes.now result }
+    ensures { IsWritten (W.contents out.old) (W.contents out.new) (W.has_failed out.new)
+        bytes.now result }
 {
     match write_output(out, bytes) {
         Ok(()) => Ok(()),

@@ -5,7 +5,7 @@ use std::alloc::{AllocError, Global};
 
 /// What is given, a line each (a file with its text, a link, a word, a root folder, a map), and the modules with their targets, and the
 /// roots, or the faults.
-static ROWS: [(&str, &str); 24] = [
+static ROWS: [(&str, &str); 31] = [
     // Names are counted from the deepest folder that holds all files.
     (
         "file\t/w/a.rnc\tinclude 'b/c.rnc'\nfile\t/w/b/c.rnc\tstart = text\nword\ta.rnc",
@@ -71,8 +71,37 @@ static ROWS: [(&str, &str); 24] = [
         "Text { file: 0, at: 29 } Outside;",
     ),
     (
+        "file\t/w/r/a.rnc\tinclude '../none.rnc' include 'none.rnc' include '../r/none.rnc'\nword\tr/a.rnc\nroot\t./r",
+        "Text { file: 0, at: 8 } Outside;Text { file: 0, at: 30 } File(Missing);Text { file: 0, at: 49 } File(Missing);",
+    ),
+    (
+        "file\t/w/r/a.rnc\tinclude 'l.rnc'\nlink\t/w/r/l.rnc\t/w/b.rnc\nfile\t/w/b.rnc\t\nword\tr/a.rnc\nroot\tr",
+        "Text { file: 0, at: 8 } Outside;",
+    ),
+    (
+        "file\t/w/l/a.rnc\t\nfile\t/w/r/a.rnc\tinclude 'b.rnc'\nlink\t/w/l\t/w/r\nfile\t/w/r/b.rnc\t\nword\tl/a.rnc\nroot\tr",
+        "a.rnc [1] b.rnc [] roots [0]",
+    ),
+    (
+        "file\t/w/r/a.rnc\tinclude 'http://h/b.rnc'\nfile\t/w/b.rnc\t\nword\tr/a.rnc\nroot\tr\nmap\thttp://h\t/w",
+        "a.rnc [1] http://h/b.rnc [] roots [0]",
+    ),
+    (
+        "file\t/w/a.rnc\tstart = ^\nfile\t/w/r/b.rnc\t\nword\ta.rnc\nword\tr/b.rnc\nroot\tr",
+        "Word(0) Outside;",
+    ),
+    (
         "file\t/w/a.rnc\t\nword\ta.rnc\nroot\tno",
         "Root File(Missing);",
+    ),
+    // Above the topmost folder.
+    (
+        "file\t/w/a.rnc\tinclude '../b.rnc' include '../../b.rnc' include 'file:///../b.rnc' include 'x/../../../b.rnc'\nfile\t/b.rnc\t\nword\ta.rnc",
+        "Text { file: 0, at: 27 } Reference(Above);Text { file: 0, at: 49 } Reference(Above);Text { file: 0, at: 76 } Reference(Above);",
+    ),
+    (
+        "file\t/w/a.rnc\tinclude '/../b.rnc' include '/w/../b.rnc' include './/../b.rnc'\nfile\t/b.rnc\t\nfile\t/w/b.rnc\t\nword\ta.rnc",
+        "Text { file: 0, at: 8 } Reference(Above);",
     ),
     // Words at fault.
     (
@@ -196,10 +225,6 @@ fn shown_faults(alloc: Global, reading: &Reading) -> Result<String, AllocError> 
         let (place, kind) = (fault.place, &fault.kind);
         write!(out, "{place:?} {kind:?};")?;
     }
-    if reading.further > 0 {
-        let further = reading.further;
-        write!(out, "{further} more")?;
-    }
     Ok(out)
 }
 
@@ -246,8 +271,8 @@ fn missing(alloc: Global, count: usize) -> Result<MemoryFiles, AllocError> {
     Ok(files)
 }
 
-/// How many faults are told of so many includes of files that are not there, and how many are counted further.
-fn counted(alloc: Global, count: usize) -> Result<(usize, usize), AllocError> {
+/// How many faults so many includes are of files that are not there.
+fn counted(alloc: Global, count: usize) -> Result<usize, AllocError> {
     let files = missing(alloc, count)?;
     let words = words_of(alloc, &["a.rnc"])?;
     match read_sources(
@@ -259,17 +284,15 @@ fn counted(alloc: Global, count: usize) -> Result<(usize, usize), AllocError> {
             maps: &[],
         },
     ) {
-        Err(ReadFault::Faults(reading)) => Ok((reading.faults.len(), reading.further)),
-        _ => Ok((0, 0)),
+        Err(ReadFault::Faults(reading)) => Ok(reading.faults.len()),
+        _ => Ok(0),
     }
 }
 
 #[test]
 fn faults_are_counted(rt: HostRuntime) {
     let found = counted(rt.alloc(), 10_000).expect(&rt, "no memory");
-    assert_eq!(rt; found, (20, 9_980));
-    let found = counted(rt.alloc(), 20).expect(&rt, "no memory");
-    assert_eq!(rt; found, (20, 0));
+    assert_eq!(rt; found, 10_000);
 }
 
 /// A file that includes so many others.

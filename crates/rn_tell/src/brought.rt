@@ -93,6 +93,24 @@ fn bring(
     Ok(())
 }
 
+/// For each module the numbers of its instances.
+pub fn instances_of(
+    alloc: Global,
+    view: &View<'_>,
+    instances: &[Instance],
+) -> Result<Vec<Vec<usize>>, AllocError> {
+    let mut own = Vec::new(alloc);
+    for _ in 0..view.rooms.len() {
+        own.push(Vec::new(alloc))?;
+    }
+    for (number, instance) in instances.iter().enumerate() {
+        if let Some(numbers) = own.get_mut(instance.room) {
+            numbers.push(number)?;
+        }
+    }
+    Ok(own)
+}
+
 /// Whether an include above the instance overrides the key, so that its definitions of it take no part (RELAX NG 2001,
 /// 4.7).
 pub fn is_hidden(view: &View<'_>, instances: &[Instance], number: usize, key: &str) -> bool {
@@ -153,27 +171,34 @@ fn push_own(
     Ok(())
 }
 
-/// Whether the module, with what it includes, defines the key.
-pub fn provides(
+/// The keys that the module, with what it includes, defines, in order.
+pub fn provided<'v>(
     alloc: Global,
-    view: &View<'_>,
+    view: &'v View<'_>,
     room: usize,
-    key: &str,
-) -> Result<bool, AllocError> {
+) -> Result<Vec<&'v str>, AllocError> {
     let root = vec![in alloc; Instance { room, by: None }]?;
-    let instances = instances_from(alloc, view, root)?;
-    Ok(
-        instances
-            .iter()
-            .any(|instance| defines(view, instance.room, key)),
-    )
+    let mut keys = Vec::new(alloc);
+    for instance in &instances_from(alloc, view, root)? {
+        push_keys(view, instance.room, &mut keys)?;
+    }
+    keys.sort()?;
+    Ok(keys)
 }
 
-fn defines(view: &View<'_>, room: usize, key: &str) -> bool {
+/// Adds the keys that a module defines itself.
+fn push_keys<'v>(
+    view: &'v View<'_>,
+    room: usize,
+    keys: &mut Vec<&'v str>,
+) -> Result<(), AllocError> {
     let text = view.text(room);
-    view.parts(room)
-        .iter()
-        .any(|part| key_of(text, part) == Some(key))
+    for part in view.parts(room) {
+        if let Some(key) = key_of(text, part) {
+            keys.push(key)?;
+        }
+    }
+    Ok(())
 }
 
 /// The two includes at which the ways to two instances of one module part, looked at from the module upwards.

@@ -1,38 +1,38 @@
 // The faults of reading, lifting and gathering, as messages.
-use crate::checks::unexpected;
-use crate::report::{Grade, Message, Page, Spot};
-use rn_files::{FaultKind, FaultPlace, FileFault, SourceFault};
+use crate::checks::{DEEP, ENCODING, LEXICAL, MEMORY, unexpected};
+use crate::report::{Message, Page, Spot};
+use rn_files::{FaultKind, FaultPlace, SourceFault};
 use rn_lift::{LiftFault, LiftFaultKind, Lifted};
 use rn_modset::AddFault;
 use std::alloc::{AllocError, Global};
 
-/// The message of a fault of reading.
-pub fn reading_message<P: Page>(
+/// Where a fault of reading is told; nowhere where it is about a word or a folder.
+pub fn reading_spot(place: FaultPlace) -> Option<Spot> {
+    match place {
+        FaultPlace::Text { file, at } => Some(Spot { file, at }),
+        FaultPlace::Word(_) | FaultPlace::Root | FaultPlace::Current => None,
+    }
+}
+
+/// The message of a fault of reading. The words are those that ask for files.
+pub fn reading_message(
     alloc: Global,
     words: &[String],
-    pages: &[P],
+    pages: &[Page<'_>],
     fault: &SourceFault,
 ) -> Result<Message, AllocError> {
     let sentence = reading_sentence(alloc, pages, fault)?;
-    let (spot, sentence) = match fault.place {
-        FaultPlace::Text { file, at } => (Some(Spot { file, at }), sentence),
-        FaultPlace::Word(number) => (
-            None,
-            about(
-                alloc,
-                words.get(number).map_or("-", |word| word.as_str()),
-                sentence.as_str(),
-            )?,
-        ),
-        FaultPlace::Root => (
-            None,
-            about(alloc, "the folder of --root", sentence.as_str())?,
-        ),
-        FaultPlace::Current => (None, about(alloc, "the current folder", sentence.as_str())?),
+    let sentence = match fault.place {
+        FaultPlace::Text { .. } => sentence,
+        FaultPlace::Word(number) => {
+            let word = words.get(number).map_or("-", |word| word.as_str());
+            about(alloc, word, sentence.as_str())?
+        }
+        FaultPlace::Root => about(alloc, "the folder of --root", sentence.as_str())?,
+        FaultPlace::Current => about(alloc, "the current folder", sentence.as_str())?,
     };
     Ok(Message {
-        grade: Grade::Error,
-        spot,
+        spot: reading_spot(fault.place),
         sentence,
     })
 }
@@ -42,9 +42,9 @@ fn about(alloc: Global, what: &str, sentence: &str) -> Result<String, AllocError
     format!(in alloc; "{what}: {sentence}")
 }
 
-fn reading_sentence<P: Page>(
+fn reading_sentence(
     alloc: Global,
-    pages: &[P],
+    pages: &[Page<'_>],
     fault: &SourceFault,
 ) -> Result<String, AllocError> {
     let sentence = match &fault.kind {
@@ -52,9 +52,9 @@ fn reading_sentence<P: Page>(
         FaultKind::Reference(fault) => return format!(in alloc; "{fault}"),
         FaultKind::Syntax => return unexpected_at(alloc, pages, fault.place),
         FaultKind::Loop(files) => return loop_sentence(alloc, pages, files.as_slice()),
-        FaultKind::Encoding => "the file is not UTF-8 from here on",
-        FaultKind::Lexical => "nothing that the compact syntax has begins like this",
-        FaultKind::Deep => "more than 256 brackets are open here",
+        FaultKind::Encoding => ENCODING,
+        FaultKind::Lexical => LEXICAL,
+        FaultKind::Deep => DEEP,
         FaultKind::Count => "there are more than 1,024 files",
         FaultKind::Outside => "the file is not below the root folder",
         FaultKind::Name => "the name of the file, below the root folder, is longer than 200 bytes",
@@ -64,17 +64,14 @@ fn reading_sentence<P: Page>(
 }
 
 /// What can't stand at a place of a file.
-fn unexpected_at<P: Page>(
+fn unexpected_at(
     alloc: Global,
-    pages: &[P],
+    pages: &[Page<'_>],
     place: FaultPlace,
 ) -> Result<String, AllocError> {
     match place {
         FaultPlace::Text { file, at } => {
-            let text = match pages.get(file) {
-                Some(page) => page.text(),
-                None => "",
-            };
+            let text = pages.get(file).map_or("", |page| page.text);
             unexpected(alloc, text, at)
         }
         _ => String::from_str(alloc, "this is no schema"),
@@ -82,11 +79,7 @@ fn unexpected_at<P: Page>(
 }
 
 /// The files of a loop of references, in order, which comes back to the first.
-fn loop_sentence<P: Page>(
-    alloc: Global,
-    pages: &[P],
-    files: &[usize],
-) -> Result<String, AllocError> {
+fn loop_sentence(alloc: Global, pages: &[Page<'_>], files: &[usize]) -> Result<String, AllocError> {
     let mut sentence = String::from_str(alloc, "the file refers to itself: ")?;
     for file in files {
         push_path(&mut sentence, pages, *file)?;
@@ -100,16 +93,24 @@ fn loop_sentence<P: Page>(
 }
 
 /// Appends the path of a file.
-fn push_path<P: Page>(sentence: &mut String, pages: &[P], file: usize) -> Result<(), AllocError> {
-    match pages.get(file) {
-        Some(page) => sentence.push_str(page.path()),
-        None => sentence.push_str("-"),
-    }
+fn push_path(sentence: &mut String, pages: &[Page<'_>], file: usize) -> Result<(), AllocError> {
+    sentence.push_str(pages.get(file).map_or("-", |page| page.path))
 }
 
 /// Whether the fault is of a file that can't be read, and not of what is in the files.
 pub fn is_unread(fault: &SourceFault) -> bool {
     matches!(&fault.kind, FaultKind::File(_))
+}
+
+/// Where a fault of lifting is told; nowhere where it is about all files.
+pub fn lift_spot(fault: &LiftFault) -> Option<Spot> {
+    match fault.kind {
+        LiftFaultKind::Many | LiftFaultKind::Memory => None,
+        _ => Some(Spot {
+            file: fault.file,
+            at: fault.at,
+        }),
+    }
 }
 
 /// The message of a fault of lifting.
@@ -127,14 +128,10 @@ pub fn lift_message(alloc: Global, fault: &LiftFault) -> Result<Message, AllocEr
         LiftFaultKind::Undefined => "this is not defined",
         LiftFaultKind::Long => "what is excepted by names becomes longer than 4,194,304 bytes",
         LiftFaultKind::Many => "the files become more than 65,536 modules",
-        LiftFaultKind::Memory => "out of memory",
+        LiftFaultKind::Memory => MEMORY,
     };
     Ok(Message {
-        grade: Grade::Error,
-        spot: Some(Spot {
-            file: fault.file,
-            at: fault.at,
-        }),
+        spot: lift_spot(fault),
         sentence: String::from_str(alloc, sentence)?,
     })
 }
@@ -150,10 +147,9 @@ pub fn set_message(
         AddFault::BadName => "the name of a module is longer than 200 bytes",
         AddFault::TooLong => "the text of a module is longer than 4,194,304 bytes",
         AddFault::Full => "there are more than 1,024 modules",
-        AddFault::Memory => "out of memory",
+        AddFault::Memory => MEMORY,
     };
     Ok(Message {
-        grade: Grade::Error,
         spot: start_of(lifted, module),
         sentence: String::from_str(alloc, sentence)?,
     })

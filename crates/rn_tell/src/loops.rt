@@ -1,94 +1,42 @@
 // Loops: of definitions that refer to each other outside elements, and of modules that include each other.
-use crate::brought::{Instance, is_hidden};
-use crate::sites::{Site, View, key_of, use_of};
-use rn_lift::Part;
+use crate::defined::{Defined, range_of, uses};
+use crate::sites::{Site, View, is_use, key_of};
 use std::alloc::{AllocError, Global};
 
-/// A definition that takes part in the schema: its key, by which definitions are sorted, its module and its part.
-type Defined<'a> = (&'a str, usize, usize);
-
-/// The definitions that take part in the schema, in the order of their keys.
-fn taking_part<'v>(
+/// The names outside elements that a definition refers to.
+fn outside_uses<'v>(
     alloc: Global,
     view: &'v View<'_>,
-    instances: &[Instance],
-) -> Result<Vec<Defined<'v>>, AllocError> {
-    let mut defined = Vec::new(alloc);
-    for number in 0..instances.len() {
-        push_taking_part(view, instances, number, &mut defined)?;
-    }
-    defined.sort()?;
-    defined.dedup();
-    Ok(defined)
-}
-
-/// Adds the definitions of an instance that take part.
-fn push_taking_part<'v>(
-    view: &'v View<'_>,
-    instances: &[Instance],
-    number: usize,
-    defined: &mut Vec<Defined<'v>>,
-) -> Result<(), AllocError> {
-    let Some(instance) = instances.get(number) else {
-        return Ok(());
-    };
-    let room = instance.room;
-    let text = view.text(room);
-    for (part, one) in view.parts(room).iter().enumerate() {
-        if let Some(key) = key_of(text, one) {
-            if !is_hidden(view, instances, number, key) {
-                defined.push((key, room, part))?;
-            }
+    site: Site,
+) -> Result<Vec<&'v str>, AllocError> {
+    let mut outside = Vec::new(alloc);
+    for (name, at) in uses(alloc, view, site)? {
+        if view.is_outside(site.room, at) {
+            outside.push(name)?;
         }
     }
-    Ok(())
-}
-
-/// The numbers of the definitions of the key among those that are sorted.
-fn range_of(defined: &[Defined<'_>], key: &str) -> (usize, usize) {
-    let from = defined.partition_point(|one| one.0 < key);
-    let to = defined.partition_point(|one| one.0 <= key);
-    (from, to)
-}
-
-/// The names outside elements that a definition is made of: those behind it, up to the next definition.
-fn uses<'v>(alloc: Global, view: &'v View<'_>, site: Site) -> Result<Vec<&'v str>, AllocError> {
-    let mut uses = Vec::new(alloc);
-    let text = view.text(site.room);
-    for part in view.parts(site.room).iter().skip(site.part).skip(1) {
-        if key_of(text, part).is_some() {
-            break;
-        }
-        if let Some((name, at)) = use_of(text, part) {
-            if view.is_outside(site.room, at) {
-                uses.push(name)?;
-            }
-        }
-    }
-    Ok(uses)
+    Ok(outside)
 }
 
 /// The definitions of a loop that comes back to the key, in order, the first one of the key. Nothing where there is none.
 pub fn loop_of(
     alloc: Global,
     view: &View<'_>,
-    instances: &[Instance],
+    defined: &[Defined<'_>],
     key: &str,
 ) -> Result<Vec<Site>, AllocError> {
-    let defined = taking_part(alloc, view, instances)?;
     let mut walk = Walk::new(alloc, defined.len())?;
-    walk.visit(range_of(defined.as_slice(), key), None)?;
+    walk.visit(range_of(defined, key), None)?;
     for turn in 0..defined.len() {
         let Some(number) = walk.queue.get(turn).copied() else {
             break;
         };
-        let site = site_at(defined.as_slice(), number);
-        let uses = uses(alloc, view, site)?;
+        let uses = outside_uses(alloc, view, site_at(defined, number))?;
         if uses.iter().any(|name| *name == key) {
-            return walk.way(alloc, defined.as_slice(), number);
+            return walk.way(alloc, defined, number);
         }
         for name in uses.as_slice() {
-            walk.visit(range_of(defined.as_slice(), name), Some(number))?;
+            walk.visit(range_of(defined, name), Some(number))?;
         }
     }
     Ok(Vec::new(alloc))
@@ -97,10 +45,7 @@ pub fn loop_of(
 /// The site of the definition with this number.
 fn site_at(defined: &[Defined<'_>], number: usize) -> Site {
     match defined.get(number) {
-        Some(one) => Site {
-            room: one.1,
-            part: one.2,
-        },
+        Some(one) => one.site,
         None => Site { room: 0, part: 0 },
     }
 }
@@ -238,27 +183,25 @@ fn way_of_includes(
 pub fn first_use(
     alloc: Global,
     view: &View<'_>,
-    instances: &[Instance],
+    defined: &[Defined<'_>],
     name: &str,
 ) -> Result<Option<Site>, AllocError> {
-    let defined = taking_part(alloc, view, instances)?;
-    let mut sites = Vec::new(alloc);
-    for one in defined.as_slice() {
-        sites.push((one.1, one.2))?;
-    }
+    let mut sites: Vec<Site> = defined.iter().map(|one| one.site).collect(alloc)?;
     sites.sort()?;
-    for (room, part) in sites.as_slice() {
-        if let Some(part) = use_in(view, *room, *part, name) {
-            return Ok(Some(Site { room: *room, part }));
+    for site in &sites {
+        if let Some(part) = use_in(view, *site, name) {
+            let room = site.room;
+            return Ok(Some(Site { room, part }));
         }
     }
     Ok(None)
 }
 
 /// The first use of the name in a definition.
-fn use_in(view: &View<'_>, room: usize, definition: usize, name: &str) -> Option<usize> {
+fn use_in(view: &View<'_>, definition: Site, name: &str) -> Option<usize> {
+    let Site { room, part } = definition;
     let text = view.text(room);
-    for (number, part) in view.parts(room).iter().enumerate().skip(definition).skip(1) {
+    for (number, part) in view.parts(room).iter().enumerate().skip(part).skip(1) {
         if key_of(text, part).is_some() {
             return None;
         }
@@ -267,12 +210,4 @@ fn use_in(view: &View<'_>, room: usize, definition: usize, name: &str) -> Option
         }
     }
     None
-}
-
-/// Whether the part refers to the name.
-fn is_use(text: &str, part: &Part, name: &str) -> bool {
-    match use_of(text, part) {
-        Some((used, _)) => used == name,
-        None => false,
-    }
 }

@@ -1,9 +1,15 @@
 // Messages with their places, and how they are shown.
-use rn_files::{Attempt, Source, line_of, position};
+use rn_files::{Attempt, Position, Source, line_of, position};
 use std::alloc::{AllocError, Global};
+
+/// The most messages that are told together; faults beyond them are counted.
+pub const MAX_TOLD: usize = 20;
 
 /// The most characters of a line that are shown.
 pub const SHOWN: usize = 160;
+
+/// What messages without a place begin with.
+const PROGRAM: &str = "rnc-flat";
 
 /// How many characters before a place are shown of a longer line.
 const BEFORE: usize = 80;
@@ -13,7 +19,7 @@ const BEFORE: usize = 80;
 pub enum Grade {
     /// Why there is no schema.
     Error,
-    /// More about the error before.
+    /// What else is to be known.
     Note,
 }
 
@@ -27,38 +33,59 @@ pub struct Spot {
 /// A sentence about a place, or about all files.
 #[derive(Debug, Drop)]
 pub struct Message {
-    pub grade: Grade,
     pub spot: Option<Spot>,
     pub sentence: String,
 }
 
-/// A file as messages show it.
-pub trait Page {
-    /// The path of the file.
-    fn path(&self) -> &str;
-
-    /// The text of the file, or a front of it.
-    fn text(&self) -> &str;
+/// What is told: messages, at most `MAX_TOLD`, and how many faults there are more.
+#[derive(Debug, Drop)]
+pub struct Told {
+    pub messages: Vec<Message>,
+    pub further: usize,
 }
 
-impl Page for Source {
-    fn path(&self) -> &str {
-        self.shown.as_str()
-    }
-
-    fn text(&self) -> &str {
-        self.text.as_str()
+impl Told {
+    /// One message.
+    pub fn one(alloc: Global, message: Message) -> Result<Told, AllocError> {
+        Ok(Told {
+            messages: vec![in alloc; message]?,
+            further: 0,
+        })
     }
 }
 
-impl Page for Attempt {
-    fn path(&self) -> &str {
-        self.shown.as_str()
-    }
+/// A file as messages show it: the name of its module, its path, and its text or a front of it.
+#[derive(Clone, Copy, Debug)]
+pub struct Page<'a> {
+    pub name: &'a str,
+    pub path: &'a str,
+    pub text: &'a str,
+}
 
-    fn text(&self) -> &str {
-        self.text.as_str()
+/// The sources as messages show them.
+pub fn source_pages(alloc: Global, files: &[Source]) -> Result<Vec<Page<'_>>, AllocError> {
+    let mut pages = Vec::new(alloc);
+    for file in files {
+        pages.push(Page {
+            name: file.name.as_str(),
+            path: file.shown.as_str(),
+            text: file.text.as_str(),
+        })?;
     }
+    Ok(pages)
+}
+
+/// Files as far as they were read, as messages show them.
+pub fn attempt_pages(alloc: Global, files: &[Attempt]) -> Result<Vec<Page<'_>>, AllocError> {
+    let mut pages = Vec::new(alloc);
+    for file in files {
+        pages.push(Page {
+            name: file.name.as_str(),
+            path: file.shown.as_str(),
+            text: file.text.as_str(),
+        })?;
+    }
+    Ok(pages)
 }
 
 /// Whether messages are shown in colours.
@@ -68,56 +95,79 @@ pub enum Colours {
     Terminal,
 }
 
-/// The messages as lines: `FILE:LINE:COLUMN: error: SENTENCE`, the line of the file, and a caret below the place. A
-/// character that would control a terminal is shown as `?`. Of a line of more than 160 characters a part is shown.
-pub fn shown<P: Page>(
+/// What is told, as lines: for each message `FILE:LINE:COLUMN: error: SENTENCE`, the line of the file, and a caret below the
+/// place; then a note that says how many faults are not told. A character that would control a terminal is shown as `?`. Of
+/// a line of more than 160 characters a part is shown.
+pub fn shown(
     alloc: Global,
-    pages: &[P],
-    messages: &[Message],
+    pages: &[Page<'_>],
+    told: &Told,
     colours: Colours,
 ) -> Result<String, AllocError> {
     let mut lines = String::new(alloc);
-    for message in messages {
+    for message in &told.messages {
         push_message(alloc, &mut lines, pages, message, colours)?;
+    }
+    if told.further > 0 {
+        push_further(alloc, &mut lines, told.further, colours)?;
     }
     Ok(lines)
 }
 
-fn push_message<P: Page>(
+fn push_message(
     alloc: Global,
     lines: &mut String,
-    pages: &[P],
+    pages: &[Page<'_>],
     message: &Message,
     colours: Colours,
 ) -> Result<(), AllocError> {
     let place = place_text(alloc, pages, message.spot)?;
-    push_head(lines, place.as_str(), message.grade, colours)?;
+    push_head(lines, place.as_str(), Grade::Error, colours)?;
     push_printable(lines, message.sentence.as_str())?;
     lines.push_str("\n")?;
     if let Some(spot) = message.spot {
         if let Some(page) = pages.get(spot.file) {
-            push_source(lines, page.text(), spot.at, colours)?;
+            push_source(lines, page.text, spot.at, colours)?;
         }
     }
     Ok(())
 }
 
-/// The place as `FILE:LINE:COLUMN`; the program's name where there is no place.
-pub fn place_text<P: Page>(
+/// Appends how many faults are not told.
+fn push_further(
     alloc: Global,
-    pages: &[P],
+    lines: &mut String,
+    count: usize,
+    colours: Colours,
+) -> Result<(), AllocError> {
+    push_head(lines, PROGRAM, Grade::Note, colours)?;
+    let sentence = format!(in alloc; "there are more faults, which are not told: {count}\n")?;
+    lines.push_str(sentence.as_str())
+}
+
+/// The place as `FILE:LINE:COLUMN`; the program's name where there is no place.
+pub fn place_text(
+    alloc: Global,
+    pages: &[Page<'_>],
     spot: Option<Spot>,
 ) -> Result<String, AllocError> {
-    let Some(spot) = spot else {
-        return String::from_str(alloc, "rnc-flat");
-    };
-    let Some(page) = pages.get(spot.file) else {
-        return String::from_str(alloc, "rnc-flat");
-    };
-    let place = position(page.text(), spot.at);
-    let line = place.line;
-    let column = place.column;
-    let path = page.path();
+    match spot_page(pages, spot) {
+        Some((page, at)) => page_place(alloc, page, at),
+        None => String::from_str(alloc, PROGRAM),
+    }
+}
+
+/// The file of a place, and the byte.
+fn spot_page<'p>(pages: &[Page<'p>], spot: Option<Spot>) -> Option<(Page<'p>, usize)> {
+    let spot = spot?;
+    let page = pages.get(spot.file).copied()?;
+    Some((page, spot.at))
+}
+
+/// The place of a byte of a file as `FILE:LINE:COLUMN`.
+fn page_place(alloc: Global, page: Page<'_>, at: usize) -> Result<String, AllocError> {
+    let path = page.path;
+    let Position { line, column } = position(page.text, at);
     format!(in alloc; "{path}:{line}:{column}")
 }
 

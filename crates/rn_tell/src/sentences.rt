@@ -1,48 +1,82 @@
 // Each refusal of a set as a sentence, with the places that it speaks of.
-use crate::brought::{Component, Instance, components, instances, parting, provides};
+use crate::brought::{Component, Instance, components, instances, parting, provided};
+use crate::defined::{Defined, taking_part};
+use crate::gathered::texts_told;
 use crate::loops::{first_use, loop_of, loop_of_includes};
-use crate::report::{Grade, Message, Page, Spot, place_text};
-use crate::sites::{Site, View, include_of, key_of, key_text, method_of, viewed, within};
+use crate::refusals::{Found, Kind, has_method, refusals_behind};
+use crate::report::{MAX_TOLD, Message, Page, Spot, Told, place_text, source_pages};
+use crate::sites::{Site, View, include_of, key_of, key_text, viewed, within};
 use rn_assemble::Refusal;
+use rn_files::Source;
 use rn_lift::{Lifted, Method, Part};
 use std::alloc::{AllocError, Global};
 
-/// What sentences are made from: the files, the modules and what these are made of, and how they come to a schema.
-#[derive(Drop)]
-struct Telling<'a, P> {
+/// What sentences are made from: the files, the modules and what these are made of, how they come to a schema, and the
+/// definitions that take part in it.
+#[derive(Clone, Copy)]
+struct Telling<'a> {
     alloc: Global,
-    pages: &'a [P],
-    view: View<'a>,
-    instances: Vec<Instance>,
+    pages: &'a [Page<'a>],
+    view: &'a View<'a>,
+    instances: &'a [Instance],
+    defined: &'a [Defined<'a>],
 }
 
 /// A sentence, and the place that it is told at.
-type Told = (Option<Spot>, String);
+type Placed = (Option<Spot>, String);
 
-/// The message of a refusal of the modules: its sentence at the first place that it speaks of, the others within it.
-pub fn refusal_message<'a, P: Page>(
+/// What is told of modules that are refused. Where texts are at fault, it is the fault of each text; else the refusal, at the
+/// first place that it speaks of, and then those that would be answered once it is mended, of the kinds of which all can be
+/// found.
+pub fn refusal_told(
     alloc: Global,
-    pages: &'a [P],
-    lifted: &'a Lifted,
+    files: &[Source],
+    lifted: &Lifted,
     refusal: &Refusal,
-) -> Result<Message, AllocError> {
+) -> Result<Told, AllocError> {
+    let told = texts_told(alloc, lifted.modules.as_slice())?;
+    if !told.messages.is_empty() {
+        return Ok(told);
+    }
+    let pages = source_pages(alloc, files)?;
     let view = viewed(alloc, lifted)?;
     let instances = instances(alloc, &view)?;
+    let defined = taking_part(alloc, &view, instances.as_slice())?;
+    let others = refusals_behind(alloc, &view, defined.as_slice(), refusal)?;
     let telling = Telling {
         alloc,
-        pages,
-        view,
-        instances,
+        pages: pages.as_slice(),
+        view: &view,
+        instances: instances.as_slice(),
+        defined: defined.as_slice(),
     };
-    let (spot, sentence) = told(&telling, refusal)?;
-    Ok(Message {
-        grade: Grade::Error,
-        spot,
-        sentence,
-    })
+    tell(&telling, refusal, others.as_slice())
 }
 
-fn told<P: Page>(telling: &Telling<'_, P>, refusal: &Refusal) -> Result<Told, AllocError> {
+/// The messages of a refusal and of those behind it.
+fn tell(
+    telling: &Telling<'_>,
+    refusal: &Refusal,
+    others: &[Found<'_>],
+) -> Result<Told, AllocError> {
+    let mut told = Told::one(telling.alloc, message_of(placed(telling, refusal)?))?;
+    for found in others.iter().take(MAX_TOLD - 1) {
+        told.messages
+            .push(message_of(placed_found(telling, *found)?))?;
+    }
+    told.further = others
+        .len()
+        .saturating_add(1)
+        .saturating_sub(told.messages.len());
+    Ok(told)
+}
+
+fn message_of(placed: Placed) -> Message {
+    let (spot, sentence) = placed;
+    Message { spot, sentence }
+}
+
+fn placed(telling: &Telling<'_>, refusal: &Refusal) -> Result<Placed, AllocError> {
     match refusal {
         Refusal::PlainTwice { key } => plain_twice(telling, key_text(key)),
         Refusal::MixedMethods { key } => mixed_methods(telling, key_text(key)),
@@ -56,13 +90,23 @@ fn told<P: Page>(telling: &Telling<'_, P>, refusal: &Refusal) -> Result<Told, Al
     }
 }
 
+fn placed_found(telling: &Telling<'_>, found: Found<'_>) -> Result<Placed, AllocError> {
+    match found.kind {
+        Kind::Override => unfounded(telling, found.module, found.key),
+        Kind::PlainTwice => plain_twice(telling, found.key),
+        Kind::MixedMethods => mixed_methods(telling, found.key),
+        Kind::NoStart => general(telling.alloc, &Refusal::NoStart),
+        Kind::Undefined => undefined(telling, found.key),
+    }
+}
+
 /// Where a site is, as `FILE:LINE:COLUMN`.
-fn place<P: Page>(telling: &Telling<'_, P>, site: Site) -> Result<String, AllocError> {
+fn place(telling: &Telling<'_>, site: Site) -> Result<String, AllocError> {
     place_text(telling.alloc, telling.pages, telling.view.spot(site))
 }
 
 /// A key as the file writes it.
-fn spelled<'k, P: Page>(telling: &Telling<'_, P>, key: &'k str) -> &'k str {
+fn spelled<'k>(telling: &Telling<'_>, key: &'k str) -> &'k str {
     if key.is_empty() {
         "start"
     } else {
@@ -70,17 +114,17 @@ fn spelled<'k, P: Page>(telling: &Telling<'_, P>, key: &'k str) -> &'k str {
     }
 }
 
+/// The definitions of a key, as they come to the schema.
+fn components_of(telling: &Telling<'_>, key: &str) -> Result<Vec<Component>, AllocError> {
+    components(telling.alloc, telling.view, telling.instances, key)
+}
+
 /// Two definitions by `=`.
-fn plain_twice<P: Page>(telling: &Telling<'_, P>, key: &str) -> Result<Told, AllocError> {
-    let found = components(
-        telling.alloc,
-        &telling.view,
-        telling.instances.as_slice(),
-        key,
-    )?;
+fn plain_twice(telling: &Telling<'_>, key: &str) -> Result<Placed, AllocError> {
+    let found = components_of(telling, key)?;
     let mut plain = found
         .iter()
-        .filter(|one| has_method(&telling.view, one.site, Method::Plain));
+        .filter(|one| has_method(telling.view, one.site, Method::Plain));
     match (plain.next(), plain.next()) {
         (Some(first), Some(second)) if first.site == second.site => included_twice(
             telling, key, *first, *second,
@@ -102,18 +146,14 @@ fn plain_twice<P: Page>(telling: &Telling<'_, P>, key: &str) -> Result<Told, All
 }
 
 /// One definition that two includes bring.
-fn included_twice<P: Page>(
-    telling: &Telling<'_, P>,
+fn included_twice(
+    telling: &Telling<'_>,
     key: &str,
     first: Component,
     second: Component,
-) -> Result<Told, AllocError> {
+) -> Result<Placed, AllocError> {
     let name = spelled(telling, key);
-    let sentence = match parting(
-        telling.instances.as_slice(),
-        first.instance,
-        second.instance,
-    ) {
+    let sentence = match parting(telling.instances, first.instance, second.instance) {
         Some((one, other)) => {
             let one = place(telling, one)?;
             let other = place(telling, other)?;
@@ -126,33 +166,17 @@ fn included_twice<P: Page>(
     Ok((telling.view.spot(first.site), sentence))
 }
 
-fn has_method(view: &View<'_>, site: Site, method: Method) -> bool {
-    match view.part(site) {
-        Some(part) => method_of(part) == Some(method),
-        None => false,
-    }
-}
-
 /// The first definition of those by the method.
-fn first_by<P: Page>(
-    telling: &Telling<'_, P>,
-    found: &[Component],
-    method: Method,
-) -> Option<Site> {
+fn first_by(telling: &Telling<'_>, found: &[Component], method: Method) -> Option<Site> {
     let one = found
         .iter()
-        .find(|one| has_method(&telling.view, one.site, method))?;
+        .find(|one| has_method(telling.view, one.site, method))?;
     Some(one.site)
 }
 
 /// Definitions by `|=` and by `&=`.
-fn mixed_methods<P: Page>(telling: &Telling<'_, P>, key: &str) -> Result<Told, AllocError> {
-    let found = components(
-        telling.alloc,
-        &telling.view,
-        telling.instances.as_slice(),
-        key,
-    )?;
+fn mixed_methods(telling: &Telling<'_>, key: &str) -> Result<Placed, AllocError> {
+    let found = components_of(telling, key)?;
     let choice = first_by(telling, found.as_slice(), Method::Choice);
     let interleave = first_by(telling, found.as_slice(), Method::Interleave);
     let (Some(choice), Some(interleave)) = (choice, interleave) else {
@@ -167,11 +191,7 @@ fn mixed_methods<P: Page>(telling: &Telling<'_, P>, key: &str) -> Result<Told, A
 }
 
 /// An include that overrides what the included file lacks.
-fn unfounded<P: Page>(
-    telling: &Telling<'_, P>,
-    module: &str,
-    key: &str,
-) -> Result<Told, AllocError> {
+fn unfounded(telling: &Telling<'_>, module: &str, key: &str) -> Result<Placed, AllocError> {
     let name = spelled(telling, key);
     let Some((site, include)) = first_unfounded(telling, module, key)? else {
         return nowhere(
@@ -181,7 +201,7 @@ fn unfounded<P: Page>(
         );
     };
     let place = place(telling, include)?;
-    let file = included_name(&telling.view, include);
+    let file = included_name(telling.view, include);
     let sentence = format!(in telling.alloc;
         "`{name}` replaces nothing: {file}, which is included in {place}, does not define it"
     )?;
@@ -189,8 +209,8 @@ fn unfounded<P: Page>(
 }
 
 /// The first definition of the key in an include whose module lacks it, and the include.
-fn first_unfounded<P: Page>(
-    telling: &Telling<'_, P>,
+fn first_unfounded(
+    telling: &Telling<'_>,
     module: &str,
     key: &str,
 ) -> Result<Option<(Site, Site)>, AllocError> {
@@ -210,8 +230,8 @@ fn first_unfounded<P: Page>(
 }
 
 /// The include of a definition that overrides what the included module, with what it includes, lacks.
-fn lacking<P: Page>(
-    telling: &Telling<'_, P>,
+fn lacking(
+    telling: &Telling<'_>,
     room: usize,
     part: &Part,
     key: &str,
@@ -226,11 +246,11 @@ fn lacking<P: Page>(
     let Some(target) = telling.view.included(site) else {
         return Ok(None);
     };
-    if provides(telling.alloc, &telling.view, target, key)? {
-        Ok(None)
-    } else {
-        Ok(Some(site))
-    }
+    let provided = provided(telling.alloc, telling.view, target)?;
+    Ok(match provided.binary_search(&key) {
+        Ok(_) => None,
+        Err(_) => Some(site),
+    })
 }
 
 /// The name of the module that is included there.
@@ -242,11 +262,7 @@ fn included_name<'v>(view: &'v View<'_>, include: Site) -> &'v str {
 }
 
 /// An include of what no file has as its name.
-fn missing<P: Page>(
-    telling: &Telling<'_, P>,
-    module: &str,
-    wanted: &str,
-) -> Result<Told, AllocError> {
+fn missing(telling: &Telling<'_>, module: &str, wanted: &str) -> Result<Placed, AllocError> {
     let sentence = format!(in telling.alloc; "there is no `{wanted}` to include")?;
     let Some(room) = telling.view.room_of(module) else {
         return Ok((None, sentence));
@@ -271,19 +287,19 @@ fn is_include(part: &Part, wanted: &str) -> bool {
 }
 
 /// A module that comes back to itself by includes.
-fn cycle<P: Page>(telling: &Telling<'_, P>, module: &str) -> Result<Told, AllocError> {
+fn cycle(telling: &Telling<'_>, module: &str) -> Result<Placed, AllocError> {
     let mut sentence = format!(in telling.alloc; "{module} includes itself")?;
     let Some(room) = telling.view.room_of(module) else {
         return Ok((None, sentence));
     };
-    let way = loop_of_includes(telling.alloc, &telling.view, room)?;
+    let way = loop_of_includes(telling.alloc, telling.view, room)?;
     for (number, include) in way.iter().copied().enumerate() {
         sentence.push_str(if number == 0 {
             ": it includes "
         } else {
             ", which includes "
         })?;
-        sentence.push_str(included_name(&telling.view, include))?;
+        sentence.push_str(included_name(telling.view, include))?;
         if number > 0 {
             sentence.push_str(" in ")?;
             sentence.push_str(place(telling, include)?.as_str())?;
@@ -294,29 +310,19 @@ fn cycle<P: Page>(telling: &Telling<'_, P>, module: &str) -> Result<Told, AllocE
 }
 
 /// A name that nothing defines.
-fn undefined<P: Page>(telling: &Telling<'_, P>, name: &str) -> Result<Told, AllocError> {
+fn undefined(telling: &Telling<'_>, name: &str) -> Result<Placed, AllocError> {
     let written = spelled(telling, name);
     let sentence = format!(in telling.alloc; "`{written}` is not defined")?;
-    let site = first_use(
-        telling.alloc,
-        &telling.view,
-        telling.instances.as_slice(),
-        name,
-    )?;
+    let site = first_use(telling.alloc, telling.view, telling.defined, name)?;
     Ok((site.and_then(|site| telling.view.spot(site)), sentence))
 }
 
 /// A name that comes back to itself outside elements.
-fn recursive<P: Page>(telling: &Telling<'_, P>, name: &str) -> Result<Told, AllocError> {
+fn recursive(telling: &Telling<'_>, name: &str) -> Result<Placed, AllocError> {
     let written = spelled(telling, name);
     let mut sentence = format!(in telling.alloc; "`{written}` refers to itself outside elements")?;
-    let way = loop_of(
-        telling.alloc,
-        &telling.view,
-        telling.instances.as_slice(),
-        name,
-    )?;
-    for (number, site) in way.iter().copied().enumerate() {
+    let way = loop_of(telling.alloc, telling.view, telling.defined, name)?;
+    for (number, site) in way.iter().copied().enumerate().take(MAX_TOLD) {
         if number > 0 {
             sentence.push_str(if number == 1 { ": by `" } else { ", then `" })?;
             sentence.push_str(name_at(telling, site))?;
@@ -324,12 +330,22 @@ fn recursive<P: Page>(telling: &Telling<'_, P>, name: &str) -> Result<Told, Allo
             sentence.push_str(place(telling, site)?.as_str())?;
         }
     }
+    push_others(telling.alloc, &mut sentence, way.len())?;
     let first = way.first().copied();
     Ok((first.and_then(|site| telling.view.spot(site)), sentence))
 }
 
+/// Appends how many members of a loop are not told.
+fn push_others(alloc: Global, sentence: &mut String, count: usize) -> Result<(), AllocError> {
+    if count > MAX_TOLD {
+        let others = count.saturating_sub(MAX_TOLD);
+        sentence.push_str(format!(in alloc; ", then {others} more")?.as_str())?;
+    }
+    Ok(())
+}
+
 /// The key that is defined there, as the file writes it.
-fn name_at<'t, P: Page>(telling: &'t Telling<'_, P>, site: Site) -> &'t str {
+fn name_at<'t>(telling: &Telling<'t>, site: Site) -> &'t str {
     match telling.view.key(site) {
         Some(key) => spelled(telling, key),
         None => "start",
@@ -337,29 +353,24 @@ fn name_at<'t, P: Page>(telling: &'t Telling<'_, P>, site: Site) -> &'t str {
 }
 
 /// A definition with a name class that is not allowed.
-fn name_class<P: Page>(telling: &Telling<'_, P>, key: &str) -> Result<Told, AllocError> {
+fn name_class(telling: &Telling<'_>, key: &str) -> Result<Placed, AllocError> {
     let name = spelled(telling, key);
     let sentence = format!(in telling.alloc;
         "`{name}` has a name class that is not allowed: * excepts *, p:* excepts * or p:*, or an attribute may be named xmlns (RELAX NG, section 4.16)"
     )?;
-    let found = components(
-        telling.alloc,
-        &telling.view,
-        telling.instances.as_slice(),
-        key,
-    )?;
+    let found = components_of(telling, key)?;
     let site = found.first().map(|one| one.site);
     Ok((site.and_then(|site| telling.view.spot(site)), sentence))
 }
 
 /// The sentence on a key whose places are not found.
-fn nowhere<P: Page>(telling: &Telling<'_, P>, key: &str, what: &str) -> Result<Told, AllocError> {
+fn nowhere(telling: &Telling<'_>, key: &str, what: &str) -> Result<Placed, AllocError> {
     let name = spelled(telling, key);
     Ok((None, format!(in telling.alloc; "`{name}` {what}")?))
 }
 
 /// The sentences on all files together.
-fn general(alloc: Global, refusal: &Refusal) -> Result<Told, AllocError> {
+fn general(alloc: Global, refusal: &Refusal) -> Result<Placed, AllocError> {
     let sentence = match refusal {
         Refusal::NoStart => "none of the files defines start",
         Refusal::Instances =>

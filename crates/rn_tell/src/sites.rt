@@ -24,7 +24,7 @@ pub struct View<'a> {
 }
 
 /// A definition: the number of its module and the number of its part.
-#[derive(Clone, Copy, Debug, PartialEq, Eq)]
+#[derive(Clone, Copy, Debug, PartialEq, Eq, PartialOrd, Ord)]
 pub struct Site {
     pub room: usize,
     pub part: usize,
@@ -68,6 +68,14 @@ pub fn use_of<'a>(text: &'a str, part: &Part) -> Option<(&'a str, usize)> {
     match &part.kind {
         PartKind::Reference { name } => Some((name_in(text, *name), name.from)),
         _ => None,
+    }
+}
+
+/// Whether the part refers to the name.
+pub fn is_use(text: &str, part: &Part, name: &str) -> bool {
+    match use_of(text, part) {
+        Some((used, _)) => used == name,
+        None => false,
     }
 }
 
@@ -205,6 +213,14 @@ impl View<'_> {
             .ok()
     }
 
+    /// The name of a module.
+    pub fn name(&self, room: usize) -> &str {
+        match self.lifted.modules.get(room) {
+            Some(module) => module.name.as_str(),
+            None => "",
+        }
+    }
+
     /// The text of a module.
     pub fn text(&self, room: usize) -> &str {
         match self.lifted.modules.get(room) {
@@ -248,6 +264,19 @@ impl View<'_> {
                 .binary_search_by(|one| one.0.cmp(&include).then(one.1.as_str().cmp(&key)))
                 .is_ok(),
             None => false,
+        }
+    }
+
+    /// What the include overrides: with its number, each key.
+    pub fn overridden(&self, include: Site) -> &[(usize, String)] {
+        match self.rooms.get(include.room) {
+            Some(held) => {
+                let all = held.overrides.as_slice();
+                let from = all.partition_point(|one| one.0 < include.part);
+                let to = all.partition_point(|one| one.0 <= include.part);
+                all.get(from..to).unwrap_or(&[])
+            }
+            None => &[],
         }
     }
 

@@ -1,16 +1,13 @@
 // The files of the system.
 ghost use Rattle.std.specs.Prelude.{◌≡◌, false};
 
-use rn_files::{FileFault, Files};
+use rn_files::{FileFault, Files, MAX_TEXT};
 use rn_flat::Outputs;
 use rn_merge::{Failed, Input, ReadFault, Source, read_input};
 use std::alloc::Global;
 use std::fs::{File, Metadata, OpenOptions};
 use std::io::{ErrorKind, Write};
 use std::{fs, io, process};
-
-/// The most bytes of one file.
-const MAX_TEXT: usize = 4_194_304;
 
 /// The word for standard input.
 const STANDARD: &str = "-";

@@ -16,4 +16,5 @@ returns c =
     c.as_slice-files.ensures.value c.as_slice.ensures.value refl (ap rows_of c.as_slice-rows.ensures.value ∙ c.in_ok-edges.ensures)
     (sym c.is_graph.ensures ∙ c.if-not-is_graph.false) (sym c.are_below.ensures ∙ c.if-not-are_below.false)
     (sym c.have_names.ensures ∙ c.if-not-have_names.false) (sym c.have_targets.ensures ∙ c.if-not-have_targets.false)
+    (sym c.have_own_names.ensures ∙ c.if-not-have_own_names.false)
     (subst P c.in-None.is c.in_ok-looped.ensures)

@@ -1,0 +1,86 @@
+// The definitions that take part in a schema, by their keys.
+use crate::brought::{Instance, instances_of, is_hidden};
+use crate::sites::{Site, View, key_of, use_of};
+use std::alloc::{AllocError, Global};
+
+/// A definition that takes part in the schema: its key, by which definitions are sorted, its module and its part; and whether
+/// it does so more than once, as its module is included more than once.
+#[derive(Clone, Copy, Debug, PartialEq, Eq, PartialOrd, Ord)]
+pub struct Defined<'v> {
+    pub key: &'v str,
+    pub site: Site,
+    pub is_repeated: bool,
+}
+
+/// The definitions that take part in the schema, in the order of their keys.
+pub fn taking_part<'v>(
+    alloc: Global,
+    view: &'v View<'_>,
+    instances: &[Instance],
+) -> Result<Vec<Defined<'v>>, AllocError> {
+    let own = instances_of(alloc, view, instances)?;
+    let mut defined = Vec::new(alloc);
+    for (room, own) in own.iter().enumerate() {
+        push_taking_part(view, instances, room, own.as_slice(), &mut defined)?;
+    }
+    defined.sort()?;
+    Ok(defined)
+}
+
+/// Adds the definitions of a module that take part, where it has these instances.
+fn push_taking_part<'v>(
+    view: &'v View<'_>,
+    instances: &[Instance],
+    room: usize,
+    own: &[usize],
+    defined: &mut Vec<Defined<'v>>,
+) -> Result<(), AllocError> {
+    let text = view.text(room);
+    for (part, one) in view.parts(room).iter().enumerate() {
+        if let Some(key) = key_of(text, one) {
+            let mut seen = own
+                .iter()
+                .filter(|number| !is_hidden(view, instances, **number, key));
+            if seen.next().is_some() {
+                defined.push(Defined {
+                    key,
+                    site: Site { room, part },
+                    is_repeated: seen.next().is_some(),
+                })?;
+            }
+        }
+    }
+    Ok(())
+}
+
+/// The numbers of the definitions of the key among those that are sorted.
+pub fn range_of(defined: &[Defined<'_>], key: &str) -> (usize, usize) {
+    let from = defined.partition_point(|one| one.key < key);
+    let to = defined.partition_point(|one| one.key <= key);
+    (from, to)
+}
+
+/// The definitions of the key among those that are sorted.
+pub fn group_of<'d, 'v>(defined: &'d [Defined<'v>], key: &str) -> &'d [Defined<'v>] {
+    let (from, to) = range_of(defined, key);
+    defined.get(from..to).unwrap_or(&[])
+}
+
+/// The names that a definition refers to, and where each begins: those behind it, up to the next definition.
+pub fn uses<'v>(
+    alloc: Global,
+    view: &'v View<'_>,
+    site: Site,
+) -> Result<Vec<(&'v str, usize)>, AllocError> {
+    let mut uses = Vec::new(alloc);
+    let text = view.text(site.room);
+    for part in view.parts(site.room).iter().skip(site.part).skip(1) {
+        if key_of(text, part).is_some() {
+            break;
+        }
+        if let Some(found) = use_of(text, part) {
+            uses.push(found)?;
+        }
+    }
+    Ok(uses)
+}

@@ -1,0 +1,197 @@
+// The faults of files, all of them, in the order in which they are told: those without a place, and then in the order of the names
+// of files and of their texts.
+use crate::checks::{check_sentence, place_at};
+use crate::faults::{lift_message, lift_spot, reading_message, reading_spot};
+use crate::report::{MAX_TOLD, Message, Page, Spot, Told, attempt_pages, source_pages};
+use rn_files::{Reading, Source, SourceFault};
+use rn_lift::{LiftFault, LiftedModule};
+use rn_merge::{Place, check};
+use std::alloc::{AllocError, Global};
+use std::collections::BTreeSet;
+
+/// A fault before it is a sentence.
+#[derive(Drop)]
+enum Fault<'f> {
+    Reading(&'f SourceFault),
+    Lift(&'f LiftFault),
+    /// Of what the text of a file means: of its prefixes, datatypes and values.
+    Meaning { file: usize, place: Place },
+}
+
+/// Where a fault is told.
+fn spot_of(fault: &Fault<'_>) -> Option<Spot> {
+    match fault {
+        Fault::Reading(fault) => reading_spot(fault.place),
+        Fault::Lift(fault) => lift_spot(fault),
+        Fault::Meaning { file, place } => Some(Spot {
+            file: *file,
+            at: place_at(place),
+        }),
+    }
+}
+
+/// What is told of reading that failed: its faults, and those of what the texts mean.
+pub fn reading_told(
+    alloc: Global,
+    words: &[String],
+    reading: &Reading,
+) -> Result<Told, AllocError> {
+    let pages = attempt_pages(alloc, reading.files.as_slice())?;
+    let mut faults = Vec::new(alloc);
+    for fault in &reading.faults {
+        faults.push(Fault::Reading(fault))?;
+    }
+    gather_meanings(alloc, pages.as_slice(), &mut faults)?;
+    told_in_order(alloc, words, pages.as_slice(), faults.as_slice())
+}
+
+/// What is told of lifting that failed: its fault, and those of what the texts mean.
+pub fn lift_told(alloc: Global, files: &[Source], fault: &LiftFault) -> Result<Told, AllocError> {
+    let pages = source_pages(alloc, files)?;
+    let mut faults = vec![in alloc; Fault::Lift(fault)]?;
+    gather_meanings(alloc, pages.as_slice(), &mut faults)?;
+    told_in_order(alloc, &[], pages.as_slice(), faults.as_slice())
+}
+
+/// Adds the faults of what the texts mean.
+fn gather_meanings(
+    alloc: Global,
+    pages: &[Page<'_>],
+    faults: &mut Vec<Fault<'_>>,
+) -> Result<(), AllocError> {
+    for (file, page) in pages.iter().enumerate() {
+        if let Some(place) = fault_of(alloc, page.text)? {
+            if is_of_meaning(&place) {
+                faults.push(Fault::Meaning { file, place })?;
+            }
+        }
+    }
+    Ok(())
+}
+
+/// The fault of a text.
+fn fault_of(alloc: Global, text: &str) -> Result<Option<Place>, AllocError> {
+    match check(alloc, text.as_bytes()) {
+        Ok(()) => Ok(None),
+        Err(Place::Memory) => Err(AllocError),
+        Err(place) => Ok(Some(place)),
+    }
+}
+
+/// Whether the fault is one of prefixes, datatypes and values. The others are found when a file is read, or are none in the
+/// whole language.
+fn is_of_meaning(place: &Place) -> bool {
+    matches!(
+        place,
+        Place::Prefix { .. } | Place::Builtin { .. } | Place::ContextValue { .. }
+    )
+}
+
+/// Messages of the first faults in order.
+fn told_in_order(
+    alloc: Global,
+    words: &[String],
+    pages: &[Page<'_>],
+    faults: &[Fault<'_>],
+) -> Result<Told, AllocError> {
+    let mut messages = Vec::new(alloc);
+    for number in in_order(alloc, pages, faults)?.iter().take(MAX_TOLD) {
+        if let Some(fault) = faults.get(*number) {
+            messages.push(message(alloc, words, pages, fault)?)?;
+        }
+    }
+    let further = faults.len().saturating_sub(messages.len());
+    Ok(Told { messages, further })
+}
+
+/// The numbers of the faults, in the order in which they are told.
+fn in_order(
+    alloc: Global,
+    pages: &[Page<'_>],
+    faults: &[Fault<'_>],
+) -> Result<Vec<usize>, AllocError> {
+    let ranks = ranks(alloc, pages)?;
+    let mut places = Vec::new(alloc);
+    for (number, fault) in faults.iter().enumerate() {
+        let (rank, at) = match spot_of(fault) {
+            Some(spot) => (ranks.get(spot.file).copied(), spot.at),
+            None => (None, 0),
+        };
+        places.push((rank, at, number))?;
+    }
+    places.sort()?;
+    places.iter().map(|place| place.2).collect(alloc)
+}
+
+/// For each file, its place in the order of the names.
+fn ranks(alloc: Global, pages: &[Page<'_>]) -> Result<Vec<usize>, AllocError> {
+    let mut named = Vec::new(alloc);
+    for (file, page) in pages.iter().enumerate() {
+        named.push((page.name, file))?;
+    }
+    named.sort()?;
+    let mut ranks = vec![in alloc; 0; pages.len()]?;
+    for (rank, (_, file)) in named.iter().enumerate() {
+        if let Some(place) = ranks.get_mut(*file) {
+            *place = rank;
+        }
+    }
+    Ok(ranks)
+}
+
+/// The message of a fault.
+fn message(
+    alloc: Global,
+    words: &[String],
+    pages: &[Page<'_>],
+    fault: &Fault<'_>,
+) -> Result<Message, AllocError> {
+    match fault {
+        Fault::Reading(fault) => reading_message(alloc, words, pages, fault),
+        Fault::Lift(fault) => lift_message(alloc, fault),
+        Fault::Meaning { file, place } => {
+            let text = pages.get(*file).map_or("", |page| page.text);
+            Ok(Message {
+                spot: spot_of(fault),
+                sentence: check_sentence(alloc, text, place)?,
+            })
+        }
+    }
+}
+
+/// What is told of modules whose texts are at fault, in the order of their names: the first one is the one that is refused.
+/// What comes from one place of a file is told once. Nothing where no text is at fault.
+pub fn texts_told(alloc: Global, modules: &[LiftedModule]) -> Result<Told, AllocError> {
+    let mut seen = BTreeSet::new(alloc);
+    let mut told = Told {
+        messages: Vec::new(alloc),
+        further: 0,
+    };
+    for module in modules {
+        if let Some(place) = fault_of(alloc, module.text.as_str())? {
+            let origin = module.origin(place_at(&place));
+            if seen.insert(origin)? {
+                tell_text(alloc, &mut told, module, origin, &place)?;
+            }
+        }
+    }
+    Ok(told)
+}
+
+/// Adds the message of the fault of a module's text, or counts it.
+fn tell_text(
+    alloc: Global,
+    told: &mut Told,
+    module: &LiftedModule,
+    origin: Option<(usize, usize)>,
+    place: &Place,
+) -> Result<(), AllocError> {
+    if told.messages.len() >= MAX_TOLD {
+        told.further = told.further.saturating_add(1);
+        return Ok(());
+    }
+    let spot = origin.map(|(file, at)| Spot { file, at });
+    let sentence = check_sentence(alloc, module.text.as_str(), place)?;
+    told.messages.push(Message { spot, sentence })?;
+    Ok(())
+}
