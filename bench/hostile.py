@@ -1,13 +1,20 @@
 #!/usr/bin/env python3
-"""Prints a bundle that is meant to cost much more than others of its size, or its harmless twin.
+"""Bundles that are meant to cost much more than others of their size, beside their harmless twins.
 
 bench/hostile.py SHAPE [twin] > BUNDLE: SHAPE is one of the functions named at the end, each of which says what it aims at. A twin has the same
 kind and size, and nothing in it is aimed. `rnc-merge print` of both is to take about the same time and memory.
+bench/hostile.py --run PROGRAM [--old PROGRAM] [--rounds N]: a table of all shapes beside their twins, and of two that have none, with medians of the
+rounds (5). Where a run takes more than 20 s, one is enough. Each run may have 8 GB.
 """
+import argparse
+import os
 import random
 import sys
+import tempfile
 
-from run import bundle
+import measuring
+from measuring import ended, megabytes, row, seconds, table
+from shapes import bundle, made
 
 WORD = (1 << 64) - 1
 # The numbers of a hasher that multiplies 16 bytes at a time, and begins in a state that all can read.
@@ -99,13 +106,59 @@ def uri(twin):
     return {"a": head + "".join(f"|element e{i}{{text}}" for i in range(60000))}
 
 
-SHAPES = {shape.__name__: shape for shape in (definitions, prefixes, namespaces, literals, parentheses, includes, uri)}
+def components(twin):
+    """200,000 definitions of one name, which 511 includes bring in: 102 million members."""
+    modules = {"a": "\n".join("x |= text" for _ in range(200000)), "driver": "start = x\n" + "\n".join('include "a"' for _ in range(1 if twin else 511))}
+    return modules
+
+
+def interleaved(twin):
+    """20,000 definitions of one name, interleaved, which 511 includes bring in."""
+    modules = {"a": "\n".join("x &= text" for _ in range(20000)), "driver": "start = x\n" + "\n".join('include "a"' for _ in range(1 if twin else 511))}
+    return modules
+
+
+TWINNED = (definitions, prefixes, namespaces, literals, parentheses, includes, uri)
+SHAPES = {shape.__name__: shape for shape in (*TWINNED, components, interleaved)}
+MEMORY = 8 << 30
+
+
+def measured(found, room, count):
+    """The size of each shape's bundle, and how all programs did on it and on its twin."""
+    for shape in SHAPES.values():
+        paths = {kind: f"{room}/{kind}" for kind in ("hostile", "twin")}
+        size = made(paths["hostile"], lambda: bundle(shape(False)))
+        made(paths["twin"], lambda: bundle(shape(True)))
+        commands = {(name, kind): ([program], path, MEMORY) for name, program in found.items() for kind, path in paths.items()}
+        yield shape, size, measuring.rounds(commands, count)
+
+
+def show(found, count):
+    table("shape:", "MB", "old, s", "new, s", "twin, s", "new / twin", "peak, MB", "peak / input", "twin's peak / input", "status:")
+    with tempfile.TemporaryDirectory() as room:
+        for shape, size, got in measured(found, room, count):
+            new, twin, old = got["new", "hostile"], got["new", "twin"], got.get(("old", "hostile"))
+            has_twin = shape in TWINNED
+            row(shape.__name__, f"{size / 1e6:.1f}", seconds(old) + ended(old) if old else "", seconds(new), seconds(twin) if has_twin else "",
+                f"{new.seconds / twin.seconds:.2f}" if has_twin else "", megabytes(new), f"{new.peak / size:.1f}",
+                f"{twin.peak / size:.1f}" if has_twin else "", ended(new))
 
 
 def main():
-    words = sys.argv[1:]
+    if "--run" not in sys.argv:
+        return write(sys.argv[1:])
+    parser = argparse.ArgumentParser()
+    parser.add_argument("--run", required=True)
+    parser.add_argument("--old")
+    parser.add_argument("--rounds", type=int, default=measuring.ROUNDS)
+    words = parser.parse_args()
+    found = {"new": os.path.abspath(words.run)} | ({"old": os.path.abspath(words.old)} if words.old else {})
+    show(found, words.rounds)
+
+
+def write(words):
     if not words or words[0] not in SHAPES or words[1:] not in ([], ["twin"]):
-        sys.exit("usage: hostile.py " + "|".join(SHAPES) + " [twin]")
+        sys.exit("usage: hostile.py " + "|".join(SHAPES) + " [twin], or hostile.py --run PROGRAM [--old PROGRAM] [--rounds N]")
     sys.stdout.buffer.write(bundle(SHAPES[words[0]](len(words) == 2)))
 
 

@@ -1,137 +1,91 @@
 #!/usr/bin/env python3
-"""Times rnc-merge on module sets of growing size.
+"""Times rnc-merge on module sets of growing size, beside an older program and sha256sum.
 
-bench/run.py PROGRAM [LARGEST]: for each shape and n = 1,000, 2,000, .. up to LARGEST (128,000), makes a bundle, prints its schema and shows
-seconds (best of three), peak memory, the ratio to sha256sum of the same bundle in the same run, memory by the bundle's size, and the growth
-from n to 2n. The program's start-up is shown first and is part of each time.
+bench/run.py PROGRAM [--old PROGRAM] [--largest N] [--rounds N]: three tables. Growth: for each shape and n = 8,000, 16,000, .. up to N (128,000), a
+bundle of that size, and `print` of both programs and `sha256sum` of the bundle, in the same rounds. The largest: the same figures of the last row of
+each shape as ratios. Reading: module texts of n = 32,000, with `check` of both programs and `print` of a bundle of the text. Seconds are those of the
+clock, medians of the rounds (5), and hold start-up, which is shown first.
 """
-import hashlib
+import argparse
 import os
-import subprocess
-import sys
 import tempfile
-import time
+
+import measuring
+import shapes
+from measuring import ended, megabytes, row, seconds, table
+
+SMALLEST = 8000
+READING = 32000
 
 
-def bundle(modules):
-    """The bundle of module texts by name."""
-    out = [b"rncset 1\n"]
-    for name in sorted(modules):
-        text = modules[name].encode()
-        digest = hashlib.sha256(text).hexdigest()
-        out.append(b"module %s 1 %d %s\n%s\n" % (name.encode(), len(text), digest.encode(), text))
-    out.append(b"end %d\n" % len(modules))
-    return b"".join(out)
+def programs(words):
+    """The programs by their names."""
+    found = {"new": os.path.abspath(words.program)}
+    return found | ({"old": os.path.abspath(words.old)} if words.old else {})
 
 
-def references(n):
-    """n elements, each of which refers to two others, in four modules."""
-    lines = [f"d{i} = element e{i} {{ attribute a {{ text }}?, (d{(i + 1) % n} | d{(7 * i) % n})* }}" for i in range(n)]
-    modules = {f"m{j}": "\n".join(lines[j::4]) for j in range(4)}
-    modules["driver"] = "start = d0"
-    return modules
+def show_start_up(found, room, count):
+    path = f"{room}/bundle"
+    shapes.made(path, lambda: shapes.bundle({"a": "start = text"}))
+    commands = {name: ([program], path) for name, program in found.items()} | {"sha256sum": (["sha256sum"], path)}
+    for name, it in measuring.rounds(commands, count).items():
+        print(f"start-up of {name}: {it.seconds * 1000:.1f} ms, {it.peak / 1e6:.1f} MB")
 
 
-def choice(n):
-    """One name, combined from n definitions."""
-    return {"a": "start = x\n" + "\n".join(f"x |= element e{i} {{ empty }}" for i in range(n))}
+def show_growth(found, room, words):
+    """The table of growth. Answers the size and the figures of the largest of each shape."""
+    table("shape:", "n", "bundle, KB", "old, s", "new, s", "old / new", "growth", "peak, MB", "peak / bundle", "times sha256sum", "status:")
+    largest, path = {}, f"{room}/bundle"
+    for shape in shapes.SHAPES:
+        n, before = SMALLEST, None
+        while n <= words.largest:
+            size = shapes.made(path, lambda: shapes.bundle(shape(n)))
+            commands = {name: ([program], path) for name, program in found.items()} | {"sha256sum": (["sha256sum"], path)}
+            got = measuring.rounds(commands, words.rounds)
+            new, old, digest = got["new"], got.get("old"), got["sha256sum"]
+            row(shape.__name__, f"{n:,}", size // 1024, seconds(old) if old else "", seconds(new), f"{old.seconds / new.seconds:.1f}" if old else "",
+                f"{new.seconds / before:.2f}" if before else "", megabytes(new), f"{new.peak / size:.1f}", f"{new.seconds / digest.seconds:.1f}", ended(new))
+            largest[shape.__name__], before, n = (size, got), new.seconds, 2 * n
+    return largest
 
 
-def chain(n):
-    """n definitions, each a reference to the next."""
-    lines = [f"d{i:06} = d{i + 1:06}" for i in range(n - 1)]
-    return {"a": "start = d000000\n" + "\n".join(lines) + f"\nd{n - 1:06} = text"}
+def show_largest(largest):
+    """Time as times that of sha256sum, and memory as times the input."""
+    table("shape, at the largest:", "old, times sha256sum", "new, times sha256sum", "old, times the input", "new, times the input")
+    for name, (size, got) in largest.items():
+        cells = []
+        for figure in (lambda it: it.seconds / got["sha256sum"].seconds, lambda it: it.peak / size):
+            cells += [f"{figure(got[it]):.1f}" if it in got else "" for it in ("old", "new")]
+        row(name, *cells)
 
 
-def groups(n):
-    """A group of n members."""
-    body = ", ".join(f"d{i}" for i in range(n))
-    return {"a": f"start = element r {{ {body} }}\n" + "\n".join(f"d{i} = text" for i in range(n))}
-
-
-def interleaves(n):
-    """An interleave of n members."""
-    body = " & ".join(f"d{i}" for i in range(n))
-    return {"a": f"start = element r {{ {body} }}\n" + "\n".join(f"d{i} = text" for i in range(n))}
-
-
-def overrides(n):
-    """200 modules of n / 200 definitions, all but one included by a driver that overrides one definition of each."""
-    count = max(n // 200, 1)
-    modules = {}
-    driver = ["start = element r { " + ", ".join(f"m{j}.d0" for j in range(200)) + " }"]
-    for j in range(200):
-        lines = [f"m{j}.d{i} = element e{i} {{ m{j}.d{(i + 1) % count}? }}" for i in range(count)]
-        modules[f"m{j}"] = "\n".join(lines)
-        driver.append(f'include "m{j}" {{ m{j}.d0 = element o{j} {{ m{j}.d{count - 1}? }} }}')
-    modules["driver"] = "\n".join(driver)
-    return modules
-
-
-def literals(n):
-    """One element of ten literals whose texts have 4 n bytes together."""
-    body = " | ".join('"' + (chr(97 + i) * (4 * n // 10)) + '"' for i in range(10))
-    return {"a": f"start = element r {{ {body} }}"}
-
-
-SHAPES = [references, choice, chain, groups, interleaves, overrides, literals]
-
-
-def made(path, shape, n):
-    """Writes the bundle in a process of its own, so that this one stays small, and answers its length."""
-    child = os.fork()
-    if child == 0:
-        status = 1
-        try:
-            with open(path, "wb") as out:
-                out.write(bundle(shape(n)))
-            status = 0
-        finally:
-            os._exit(status)
-    if os.waitstatus_to_exitcode(os.waitpid(child, 0)[1]) != 0:
-        sys.exit(f"no bundle of {shape.__name__} at {n:,}")
-    return os.path.getsize(path)
-
-
-def measured(words, path):
-    """Seconds and peak kilobytes of a command that reads the file. A small peak is this process's own, of about 15 MB."""
-    with open(path, "rb") as given, open(os.devnull, "wb") as nowhere:
-        begin = time.perf_counter()
-        child = subprocess.Popen(words, stdin=given, stdout=nowhere, stderr=subprocess.PIPE)
-        said = child.stderr.read()
-        _, status, usage = os.wait4(child.pid, 0)
-        seconds = time.perf_counter() - begin
-    return seconds, usage.ru_maxrss, os.waitstatus_to_exitcode(status), said
-
-
-def best(words, path):
-    """The quickest of three."""
-    runs = [measured(words, path) for _ in range(3)]
-    return min(run[0] for run in runs), max(run[1] for run in runs), runs[0][2], runs[0][3]
+def show_reading(found, room, count):
+    """What `check` takes on module texts, and `print` on the same."""
+    table("text:", "KB", "old check, s", "new check, s", "old / new", "new print, s", "print / check", "status:")
+    text, path = f"{room}/text", f"{room}/bundle"
+    for shape in [it for it in shapes.SHAPES if it is not shapes.overrides] + [shapes.annotations]:
+        size = shapes.made(text, lambda: shapes.module(shape(READING)).encode())
+        shapes.made(path, lambda: shapes.bundle({"a": shapes.module(shape(READING))}))
+        commands = {name: ([program, "check", text],) for name, program in found.items()} | {"print": ([found["new"]], path)}
+        got = measuring.rounds(commands, count)
+        new, old, printed = got["new"], got.get("old"), got["print"]
+        row(shape.__name__, size // 1024, seconds(old) if old else "", seconds(new), f"{old.seconds / new.seconds:.1f}" if old else "",
+            seconds(printed), f"{printed.seconds / new.seconds:.2f}", ended(new) + ended(printed))
 
 
 def main():
-    program = os.path.abspath(sys.argv[1])
-    largest = int(sys.argv[2]) if len(sys.argv) > 2 else 128000
+    parser = argparse.ArgumentParser()
+    parser.add_argument("program")
+    parser.add_argument("--old")
+    parser.add_argument("--largest", type=int, default=128000)
+    parser.add_argument("--rounds", type=int, default=measuring.ROUNDS)
+    words = parser.parse_args()
+    found = programs(words)
     with tempfile.TemporaryDirectory() as room:
-        path = f"{room}/bundle"
-        with open(path, "wb") as out:
-            out.write(bundle({"a": "start = text"}))
-        start_up = best([program], path)[0]
-        print(f"start-up: {start_up * 1000:.1f} ms\n")
-        print("| shape | n | bundle, KB | seconds | growth | peak, MB | peak / bundle | sha256sum, s | ratio | status |")
-        print("|---|---:|---:|---:|---:|---:|---:|---:|---:|---:|")
-        for shape in SHAPES:
-            n, before = 1000, None
-            while n <= largest:
-                size = made(path, shape, n)
-                seconds, peak, status, said = best([program], path)
-                digest = best(["sha256sum"], path)[0]
-                growth = f"{seconds / before:.2f}" if before else ""
-                mark = str(status) + (" " + said.decode().strip() if status else "")
-                print(f"| {shape.__name__} | {n:,} | {size / 1024:.0f} | {seconds:.3f} | {growth} | {peak / 1024:.0f} | {peak * 1024 / size:.1f} "
-                      f"| {digest:.4f} | {seconds / digest:.1f} | {mark} |", flush=True)
-                before, n = seconds, 2 * n
+        show_start_up(found, room, words.rounds)
+        largest = show_growth(found, room, words)
+        show_largest(largest)
+        show_reading(found, room, words.rounds)
 
 
 if __name__ == "__main__":

@@ -1,10 +1,13 @@
 import com.thaiopensource.util.PropertyMapBuilder;
 import com.thaiopensource.validate.ValidateProperty;
 import com.thaiopensource.validate.ValidationDriver;
+import com.thaiopensource.validate.prop.rng.RngProperty;
 import com.thaiopensource.validate.rng.CompactSchemaReader;
 import java.io.BufferedReader;
 import java.io.File;
 import java.io.InputStreamReader;
+import java.nio.file.Files;
+import java.nio.file.Paths;
 import java.util.ArrayList;
 import java.util.Arrays;
 import java.util.List;
@@ -13,7 +16,8 @@ import org.xml.sax.SAXParseException;
 
 /**
  * Reads paths of schemas in the compact syntax, one a line. Writes a line for each: "good" and, for each document *.xml beside the schema in the
- * order of names, 1 if it is valid and 0 if it isn't; or "bad" and the errors, each with its line and column.
+ * order of names, 1 if it is valid and 0 if it isn't; or "bad" and the errors, each with its line and column. Where a path is followed by a tab and
+ * a folder, the documents are in that one, and the simplified form of a good schema is written beside it, to its path and ".simplified".
  */
 public class Jing {
   private static class Errors implements ErrorHandler {
@@ -30,7 +34,8 @@ public class Jing {
     }
   }
 
-  private static String verdict(File schema) throws Exception {
+  private static String verdict(String path, String folder) throws Exception {
+    File schema = new File(path);
     Errors errors = new Errors();
     PropertyMapBuilder properties = new PropertyMapBuilder();
     properties.put(ValidateProperty.ERROR_HANDLER, errors);
@@ -38,7 +43,12 @@ public class Jing {
     if (!driver.loadSchema(ValidationDriver.fileInputSource(schema))) {
       return "bad\t" + String.join("\t", errors.texts);
     }
-    File[] documents = schema.getParentFile().listFiles((folder, name) -> name.endsWith(".xml"));
+    if (folder != null) {
+      String simplified = driver.getSchemaProperties().get(RngProperty.SIMPLIFIED_SCHEMA);
+      Files.write(Paths.get(path + ".simplified"), simplified.getBytes("UTF-8"));
+    }
+    File place = folder == null ? schema.getParentFile() : new File(folder);
+    File[] documents = place.listFiles((whole, name) -> name.endsWith(".xml"));
     Arrays.sort(documents);
     StringBuilder valid = new StringBuilder("good\t");
     for (File document : documents) {
@@ -52,7 +62,8 @@ public class Jing {
     for (String path = in.readLine(); path != null; path = in.readLine()) {
       String answer;
       try {
-        answer = verdict(new File(path));
+        int tab = path.indexOf('\t');
+        answer = tab < 0 ? verdict(path, null) : verdict(path.substring(0, tab), path.substring(tab + 1));
       } catch (Exception | StackOverflowError fault) {
         answer = "bad\t0:0 " + fault;
       }

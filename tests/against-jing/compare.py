@@ -1,5 +1,5 @@
 #!/usr/bin/env python3
-"""Compares rnc-merge with jing, another reader of the compact syntax, on schemas drawn at random.
+"""Compares rnc-merge and rnc-flat with jing, another reader of the compact syntax, on schemas drawn at random.
 
 compare.py PROGRAM sets COUNT [SEED]: module sets of one to four modules that include, override and combine. Where jing takes the set (a schema that
 includes its roots and its loops), the program must print it, jing must take what is printed, both must be valid for the same documents, drawn from
@@ -7,6 +7,10 @@ the set and changed in one place, and what is printed must be printed again. Whe
 must refuse it.
 compare.py PROGRAM texts COUNT [SEED]: module texts of which a token or more is changed, dropped or put in. `check` must find a fault where jing
 finds a syntax error, and none where jing takes the text.
+compare.py PROGRAM files COUNT [SEED]: trees of two to seven files in folders, with PROGRAM rnc-flat: includes, overrides, externals with and without
+inherit, nested grammars and parents. Where jing takes the main file, the program must print it, jing must take what is printed, the simplified forms
+that jing makes of both must be the same up to names (simplified.py), both must be valid for the same documents, and what is printed must be printed
+again. Where jing refuses the tree by another rule than section 7, the program must refuse it. The tree of a seed is the same whatever COUNT is.
 
 Needs Debian's jing and a Java compiler. Prints how often each pair of answers came, and then a line for each difference.
 Differences that are known, and left out or told apart: the program takes whatever annotations hold, characters of names that XML's Fifth Edition
@@ -26,6 +30,8 @@ import tempfile
 import drawing
 import meaning
 import schema
+import simplified
+import trees
 import writing
 
 HERE = os.path.dirname(os.path.abspath(__file__))
@@ -57,8 +63,9 @@ def write(path, text):
     return path
 
 
-def documents(rng, found):
-    sampler, drawn = meaning.Sampler(rng, found), []
+def documents(rng, sampler):
+    """Documents of a sampler, and each of them twice with one thing changed."""
+    drawn = []
     for _ in range(60):
         try:
             drawn.append(sampler.document())
@@ -82,9 +89,13 @@ def make_set(program, folder, seed):
         return damage, refusal, True
     path = write_bytes(f"{folder}/printed.rnc", printed)
     found = [] if damage else [it for root in meaning.roots(by_name) for it in meaning.components(by_name, root, "")]
-    for at, document in enumerate(documents(rng, found)):
-        write(f"{folder}/{at:02}.xml", meaning.xml(document))
+    write_documents(folder, documents(rng, meaning.Sampler(rng, found)))
     return damage, "", program.run(given=program.bundle(path))[0] == printed
+
+
+def write_documents(folder, drawn):
+    for at, document in enumerate(drawn):
+        write(f"{folder}/{at:02}.xml", meaning.xml(document))
 
 
 def write_bytes(path, content):
@@ -94,7 +105,7 @@ def write_bytes(path, content):
 
 
 def jing(paths, room):
-    """What jing says of each schema: whether it takes it, and its documents or its errors."""
+    """What jing says of each schema: whether it takes it, and its documents or its errors. A path may have a tab and its documents' folder behind it."""
     subprocess.run(["javac", "-cp", JARS, "-d", room, f"{HERE}/Jing.java"], check=True)
     ran = subprocess.run(["java", "-cp", f"{room}:{JARS}", "Jing"], input="".join(path + "\n" for path in paths), stdout=subprocess.PIPE, text=True, check=True)
     answers = [line.split("\t", 1) for line in ran.stdout.removesuffix("\n").split("\n")]
@@ -143,6 +154,69 @@ def compare_sets(program, seeds, room):
     return tally, differences
 
 
+class Told:
+    """What was drawn and said of a tree of files: what is damaged in it, the main file, the refusal, and whether what is printed stays."""
+
+    def __init__(self, program, folder, seed):
+        rng, tree, self.damage = trees.drawn(seed)
+        for path, text in trees.written(rng, tree).items():
+            os.makedirs(os.path.dirname(f"{folder}/files/{path}"), exist_ok=True)
+            write(f"{folder}/files/{path}", text)
+        self.folder, self.main, self.printed = folder, f"{folder}/files/{tree.paths[0]}", f"{folder}/printed.rnc"
+        printed, self.refusal = program.run(self.main)
+        self.stays = True
+        if not self.refusal:
+            write_bytes(self.printed, printed)
+            self.stays = program.run(self.printed)[0] == printed
+            if not self.damage:
+                write_documents(folder, documents(rng, trees.TreeSampler(rng, tree)))
+
+    def paths(self):
+        return [f"{path}\t{self.folder}" for path in ([self.main] if self.refusal else [self.main, self.printed])]
+
+    def kind(self):
+        """The first line of the refusal without its place and names, or `printed`."""
+        return re.sub(r"`[^`]*`|\S+:\d+:\d+", "..", self.refusal.split("\n")[0].split("error: ")[-1]) or "printed"
+
+    def difference(self, answers):
+        """What differs between the program and jing, or nothing."""
+        is_good, rest = answers[self.paths()[0]]
+        if self.refusal:
+            return f"{self.refusal.splitlines()[0]}; jing takes it" if is_good else ""
+        if not self.stays:
+            return "what is printed is printed otherwise again"
+        if not is_good:
+            return "" if all(SECTION_7.search(error) for error in rest.split("\t")) else f"printed; jing: {rest[:120]}"
+        takes, again = answers[self.paths()[1]]
+        if not takes or rest != again:
+            return f"printed; jing: {rest[:80]}; of the printed text: {again[:120]}"
+        forms = [read(f"{path}.simplified") for path in (self.main, self.printed)]
+        return "" if simplified.meaning(forms[0]) == simplified.meaning(forms[1]) else "the simplified forms differ"
+
+
+def read(path):
+    with open(path, encoding="utf-8") as file:
+        return file.read()
+
+
+def compare_files(program, seeds, room):
+    told = [Told(program, f"{room}/{seed}", seed) for seed in seeds]
+    answers = jing([path for it in told for path in it.paths()], room)
+    tally, differences = collections.Counter(), []
+    for it in told:
+        is_good, rest = answers[it.paths()[0]]
+        difference = it.difference(answers)
+        if difference:
+            differences.append(f"{it.folder}: {difference}")
+        if is_good:
+            tally[f"{it.kind()}; taken by jing"] += 1
+            tally["documents that are valid"] += rest.count("1")
+            tally["documents that are not valid"] += rest.count("0")
+        else:
+            tally[f"{it.damage or 'no damage'}: {it.kind()}; jing: {first_error(rest)}"] += 1
+    return tally, differences
+
+
 def changed(rng, text):
     parts = PARTS.findall(text)
     for _ in range(drawing.weighted(rng, [(6, 1), (2, 2), (1, 3)])):
@@ -173,7 +247,7 @@ def compare_texts(program, seeds, room):
 
 def main(path, what, count, seed="1"):
     room = tempfile.mkdtemp(prefix="against-jing-")
-    compare = {"sets": compare_sets, "texts": compare_texts}[what]
+    compare = {"sets": compare_sets, "texts": compare_texts, "files": compare_files}[what]
     tally, differences = compare(Program(os.path.abspath(path)), range(int(seed), int(seed) + int(count)), room)
     for answers, often in sorted(tally.items()):
         print(f"{often:6} {answers}")

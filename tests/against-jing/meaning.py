@@ -8,12 +8,17 @@ class NoDocument(Exception):
     """No document was found on this way."""
 
 
+def spaces_of(module, inherited):
+    """The namespaces of a module's prefixes, and of names without one."""
+    default = inherited if module.default in (None, INHERIT) else module.default
+    spaces = {prefix: inherited if space is INHERIT else space for prefix, space in module.spaces.items()}
+    return spaces | {"xml": XML, None: default} | ({module.default_prefix: default} if module.default_prefix else {})
+
+
 def components(modules, name, inherited):
     """The definitions that a module brings under a namespace, each with the namespaces that it is read in."""
     module = modules[name]
-    default = inherited if module.default in (None, INHERIT) else module.default
-    spaces = {prefix: inherited if space is INHERIT else space for prefix, space in module.spaces.items()}
-    spaces |= {"xml": XML, None: default} | ({module.default_prefix: default} if module.default_prefix else {})
+    spaces = spaces_of(module, inherited)
 
     def of(items):
         found = []

@@ -87,7 +87,23 @@ class Data:
     but: Optional["Pattern"] = None
 
 
-Pattern = Union[Element, Attribute, Chain, Repeated, Braced, Ref, Word, Value, Data]
+@dataclass(frozen=True)
+class Parent:
+    name: str
+
+
+@dataclass(frozen=True)
+class External:
+    file: str
+    inherit: Optional[str]
+
+
+@dataclass(frozen=True)
+class Nested:
+    items: tuple  # of a grammar within a pattern
+
+
+Pattern = Union[Element, Attribute, Chain, Repeated, Braced, Ref, Word, Value, Data, Parent, External, Nested]
 
 
 @dataclass(frozen=True)
@@ -104,7 +120,7 @@ class Div:
 
 @dataclass(frozen=True)
 class Include:
-    module: str
+    module: str  # the name of a module, or the path of a file
     inherit: Optional[str]
     items: tuple = ()
 
@@ -116,6 +132,7 @@ class Module:
     default_prefix: Optional[str] = None
     spaces: dict = field(default_factory=dict)  # prefixes, each with its namespace or INHERIT
     items: list = field(default_factory=list)
+    pattern: Optional[Pattern] = None  # of a file that is a pattern, which has no items
 
     def prefixes(self):
         return [*self.spaces, *([self.default_prefix] if self.default_prefix else [])]

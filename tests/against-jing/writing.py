@@ -1,7 +1,7 @@
 """Modules written in the compact syntax, with space, comments, parentheses, annotations and literals laid out at random."""
 from drawing import weighted
 from schema import INHERIT, KEYWORDS, XSD, Define, Div
-from schema import AnyName, AnyOf, Attribute, Braced, Chain, Data, Element, Name, NameChoice, Ref, Repeated, Value, Word
+from schema import AnyName, AnyOf, Attribute, Braced, Chain, Data, Element, External, Name, NameChoice, Nested, Parent, Ref, Repeated, Value, Word
 
 NOTES = ['[ n:x = "1" ]', '[ n:y [ "t" ~ "u" n:z [ ] ] ]', "[ ]"]
 ITEM_NOTES = ["## doc\n", '[ n:a = "v" ] ', 'n:note [ "x" ]\n']
@@ -86,6 +86,12 @@ class Writer:
                 return self.pattern(inner, True) + sign
             case Ref(name):
                 return self.identifier(name)
+            case Parent(name):
+                return "parent" + self.gap() + self.identifier(name)
+            case External(file, inherit):
+                return "external" + self.gap() + self.literal(self.link(file)) + self.inherit(inherit)
+            case Nested(items):
+                return f"grammar{self.maybe_gap()}{{{self.items(items)}}}"
             case Value(type_, text):
                 return (self.type_name(type_) + " " if type_ else "") + self.literal(text)
             case Data():
@@ -103,6 +109,13 @@ class Writer:
             out = f"({self.rng.choice(NOTES)} {out})"
         return out
 
+    def link(self, target):
+        """What an include or an external says for its target."""
+        return target
+
+    def inherit(self, prefix):
+        return f"{self.gap()}inherit{self.maybe_gap()}={self.maybe_gap()}{prefix}" if prefix else ""
+
     def item(self, item):
         match item:
             case Define(key, method, pattern):
@@ -110,9 +123,7 @@ class Writer:
                 return name + self.maybe_gap() + method + self.maybe_gap() + self.pattern(pattern)
             case Div(items):
                 return f"div{self.maybe_gap()}{{{self.items(items)}}}"
-        out = "include" + self.gap() + self.literal(item.module)
-        if item.inherit:
-            out += self.gap() + "inherit" + self.maybe_gap() + "=" + self.maybe_gap() + item.inherit
+        out = "include" + self.gap() + self.literal(self.link(item.module)) + self.inherit(item.inherit)
         if item.items or self.rng.random() < 0.1:
             out += f"{self.maybe_gap()}{{{self.items(item.items)}}}"
         return out
@@ -137,7 +148,7 @@ class Writer:
         for prefix, space in module.spaces.items():
             declarations.append(f"namespace {prefix} = {self.namespace(space)}")
         rng.shuffle(declarations)
-        items = self.items(module.items)
-        if not self.is_plain and rng.random() < 0.1:
+        items = self.maybe_gap() + self.pattern(module.pattern) if module.pattern else self.items(module.items)
+        if not self.is_plain and not module.pattern and rng.random() < 0.1:
             items = f"grammar {{{items}}}"
         return "".join(it + self.gap() for it in declarations) + items

@@ -1,24 +1,28 @@
 #!/usr/bin/env python3
 """Puts the schemas of Debian packages through rnc-flat, and compares what is printed with them by jing.
 
-compare.py PROGRAM FOLDER [WORD]: fetches the packages into FOLDER where they aren't there yet (apt-get download, dpkg -x), puts each schema in the
-XML syntax that jing takes into the compact one (trang), and runs rnc-flat on each file in the compact syntax that is a schema by itself for jing.
-With WORD only files whose path holds it.
+compare.py PROGRAM FOLDER [--only WORD] [--all]: fetches the packages into FOLDER where they aren't there yet (apt-get download, dpkg -x), and runs
+rnc-flat on each driver: a file that includes or refers to others, and that no other file leads to. Schemas in the XML syntax are put into the compact
+one first (trang), where trang takes them. With --all every file is run; with --only those whose path holds WORD.
 
-The simplified forms that jing makes (-i -c -s) of the file and of what is printed are compared up to the names of definitions, the order of choices
-and interleaves, and members of choices that repeat: each element's definition is told by what it is made of, round after round, until no two that
-differ are told as one. Prints a line for each file that is not printed or not equal, and the counts.
+Where jing takes the driver, the simplified forms that it makes (-i -c -s) of the driver and of what is printed are compared up to names
+(tests/against-jing/simplified.py), and what is printed must be printed again. Prints a line for each driver, with what came of it and why, and counts.
 
-Needs Debian's jing and trang. This is no part of the gate: it takes the better part of an hour.
+Needs Debian's jing and trang, and a Java compiler. This is no part of the gate.
 """
-import hashlib
+import argparse
+import collections
 import os
 import pathlib
-import shutil
+import re
 import subprocess
 import sys
-import xml.etree.ElementTree as ElementTree
+import tempfile
 import zipfile
+
+HERE = pathlib.Path(__file__).resolve().parent
+sys.path.insert(0, str(HERE.parent / "against-jing"))
+from simplified import meaning  # noqa: E402
 
 PACKAGES = [
     "crmsh",
@@ -35,18 +39,12 @@ PACKAGES = [
     "xhtml-relaxng",
     "xmlcopyeditor",
 ]
-RNG = "{http://relaxng.org/ns/structure/1.0}"
+JARS = ":".join(f"/usr/share/java/{name}.jar" for name in ("jing", "trang", "xercesImpl", "xml-apis", "xml-resolver"))
 SECONDS = 180
-
-
-def run(*words, folder=None):
-    """What a program writes, or None where its status isn't 0; and its messages."""
-    try:
-        done = subprocess.run(words, capture_output=True, timeout=SECONDS, cwd=folder)
-    except subprocess.TimeoutExpired:
-        return None, f"more than {SECONDS} seconds"
-    messages = (done.stdout + done.stderr).decode("utf-8", "replace")
-    return (done.stdout if done.returncode == 0 else None), messages
+LINKS = {
+    ".rnc": re.compile(r"""^[^#"'\n]*?\b(?:include|external)\s+["']([^"'\n]+)""", re.M),
+    ".rng": re.compile(r"""<(?:\w+:)?(?:include|externalRef)\b[^>]*?\bhref\s*=\s*["']([^"']+)"""),
+}
 
 
 def fetch(folder):
@@ -56,9 +54,9 @@ def fetch(folder):
         if place.exists():
             continue
         place.parent.mkdir(parents=True, exist_ok=True)
-        run("apt-get", "download", package, folder=place.parent)
+        subprocess.run(["apt-get", "download", package], cwd=place.parent, capture_output=True)
         for archive in place.parent.glob(f"{package}_*.deb"):
-            run("dpkg", "-x", archive, place)
+            subprocess.run(["dpkg", "-x", archive, place], check=True)
             archive.unlink()
         if not place.exists():
             print(f"no package {package}")
@@ -76,168 +74,121 @@ def open_archives(folder):
                     opened.extract(name, place)
 
 
-def translated(path, folder, root):
-    """The file in the compact syntax that trang makes of a schema in the XML syntax, or None where it makes none."""
-    place = folder / "translated" / path.relative_to(root)
-    made = place / (path.stem + ".rnc")
-    if not made.exists() and not (place / "none").exists():
+def links(path):
+    """The files that a schema includes or refers to."""
+    text = path.read_text("utf-8", "replace")
+    if path.suffix == ".rng":
+        text = re.sub(r"<!--.*?-->", "", text, flags=re.S)
+    return [os.path.normpath(path.parent / link) for link in LINKS[path.suffix].findall(text)]
+
+
+def chosen(folder, words):
+    """The schemas to be run, by their syntax."""
+    found = {}
+    for suffix in LINKS:
+        paths = sorted(path for path in (folder / "packages").rglob(f"*{suffix}") if path.is_file())
+        leads = {path: links(path) for path in paths}
+        reached = {target for targets in leads.values() for target in targets}
+        drivers = paths if words.all else [path for path in paths if leads[path] and os.path.normpath(path) not in reached]
+        found[suffix] = [path for path in drivers if words.only in str(path)]
+    return found
+
+
+def java(room, source, lines):
+    """What a program of Java's writes, line by line, where it is given lines."""
+    subprocess.run(["javac", "-cp", JARS, "-d", room, source], check=True)
+    configuration = "-Dorg.apache.xerces.xni.parser.XMLParserConfiguration=org.apache.xerces.parsers.XIncludeParserConfiguration"
+    words = ["java", "-Xss256m", configuration, "-cp", f"{room}:{JARS}", source.stem]
+    ran = subprocess.run(words, input="".join(f"{line}\n" for line in lines), stdout=subprocess.PIPE, stderr=subprocess.DEVNULL, text=True, check=True)
+    return ran.stdout.removesuffix("\n").split("\n") if lines else []
+
+
+def translated(room, folder, paths):
+    """The files in the compact syntax that trang makes of schemas in the XML syntax, by those; None where it makes none."""
+    made = {}
+    for path in paths:
+        place = folder / "translated" / path.relative_to(folder / "packages")
         place.mkdir(parents=True, exist_ok=True)
-        if run("trang", path, made)[0] is None:
-            shutil.rmtree(place)
-            place.mkdir(parents=True)
-            (place / "none").touch()
-    return made if made.exists() else None
+        made[path] = place / (path.stem + ".rnc")
+    missing = [path for path in paths if not made[path].exists()]
+    answers = [line for line in java(room, HERE / "Trang.java", [f"{path}\t{made[path]}" for path in missing]) if line.startswith("status ")]
+    for path, answer in zip(missing, answers, strict=True):
+        if answer != "status 0":
+            made[path].unlink(missing_ok=True)
+    return {path: to if to.exists() else None for path, to in made.items()}
 
 
-def drivers(folder, word):
-    """The files in the compact syntax to be looked at."""
-    root = folder / "packages"
-    found = sorted(path for path in root.rglob("*.rnc") if path.is_file())
-    for path in sorted(root.rglob("*.rng")):
-        if path.is_file() and word in str(path):
-            made = translated(path, folder, root)
-            if made:
-                found.append(made)
-    return [path for path in found if word in str(path)]
+def jing(room, paths):
+    """What jing says of schemas in the compact syntax, by their paths: the simplified form and nothing, or nothing and the errors."""
+    answers = java(room, HERE.parent / "against-jing" / "Jing.java", [f"{path}\t{room}" for path in paths])
+    found = {}
+    for path, answer in zip(paths, answers, strict=True):
+        word, rest = answer.split("\t", 1)
+        form = pathlib.Path(f"{path}.simplified")
+        found[path] = (form.read_text("utf-8"), "") if word == "good" else (None, rest)
+        form.unlink(missing_ok=True)
+    return found
 
 
-def members(node, kind):
-    """The members of a chain of choices, interleaves or groups."""
-    for child in node:
-        if child.tag == RNG + kind:
-            yield from members(child, kind)
+def flat(program, path, to):
+    """Prints the schema of a file to another, and answers the first line of the refusal, or nothing."""
+    try:
+        done = subprocess.run([program, path.name], capture_output=True, timeout=SECONDS, cwd=path.parent)
+    except subprocess.TimeoutExpired:
+        return f"more than {SECONDS} seconds"
+    if done.returncode == 0:
+        to.write_bytes(done.stdout)
+        return ""
+    return (done.stderr.decode("utf-8", "replace").splitlines() or [f"status {done.returncode}"])[0]
+
+
+def compare(program, room, paths):
+    """What comes of each file in the compact syntax, and why."""
+    originals = jing(room, paths)
+    printed = {path: pathlib.Path(room) / f"{at}.rnc" for at, path in enumerate(paths)}
+    refused = {path: flat(program, path, printed[path]) for path in paths}
+    again = jing(room, [printed[path] for path in paths if not refused[path]])
+    for path in paths:
+        form, errors = originals[path]
+        if form is None:
+            yield path, "not taken by jing", f"{errors[:160]}; rnc-flat: {refused[path] or 'printed'}"
+        elif refused[path]:
+            yield path, "not printed", refused[path]
         else:
-            yield child
+            yield path, *compared(program, room, form, printed[path], *again[printed[path]])
 
 
-def is_nullable(node):
-    """Whether a pattern is valid for nothing at all."""
-    kind = node.tag.removeprefix(RNG)
-    if kind in ("empty", "text", "optional", "zeroOrMore"):
-        return True
-    if kind in ("group", "interleave", "mixed", "oneOrMore"):
-        return all(is_nullable(child) for child in node)
-    return kind == "choice" and any(is_nullable(child) for child in node)
-
-
-def told(node, colours):
-    """What a pattern or a name class is, as a text; references are told by colours."""
-    kind = node.tag.removeprefix(RNG)
-    if kind == "ref":
-        return f"ref({colours.get(node.get('name'), '')})"
-    if kind in ("choice", "optional", "zeroOrMore"):
-        return told_choice(list(alternatives(node, colours)))
-    if kind == "mixed":
-        return told_sorted("interleave", ["text()", told_chain("group", node, colours)])
-    if kind == "interleave":
-        return told_sorted("interleave", [told(child, colours) for child in members(node, "interleave")])
-    if kind == "group":
-        return told_chain("group", node, colours)
-    if kind in ("oneOrMore", "list"):
-        return f"{kind}({told_chain('group', node, colours)})"
-    if kind in ("element", "attribute") and node.get("name") is not None:
-        name = f"name({node.get('ns', '')}|{node.get('name')})"
-        rest = told_chain("group", node, colours) if len(node) else ("text()" if kind == "attribute" else "empty()")
-        return f"{kind}({name},{rest})"
-    attributes = ",".join(f"{key}={value}" for key, value in sorted(node.attrib.items()))
-    text = (node.text or "").strip() if kind != "value" else (node.text or "")
-    inner = ",".join(told(child, colours) for child in node)
-    return f"{kind}({attributes};{text};{inner})"
-
-
-def alternatives(node, colours):
-    """What a pattern chooses from: texts, and whether each is nullable."""
-    kind = node.tag.removeprefix(RNG)
-    if kind == "choice":
-        for child in node:
-            yield from alternatives(child, colours)
-    elif kind == "optional":
-        yield "empty()", True
-        if len(node) == 1:
-            yield from alternatives(node[0], colours)
-        else:
-            yield told_chain("group", node, colours), all(is_nullable(child) for child in node)
-    elif kind == "zeroOrMore":
-        yield "empty()", True
-        yield f"oneOrMore({told_chain('group', node, colours)})", all(is_nullable(child) for child in node)
-    elif kind == "empty":
-        yield "empty()", True
-    else:
-        yield told(node, colours), is_nullable(node)
-
-
-def told_choice(chosen):
-    """A choice, whose members have no order and don't repeat. jing drops an empty one beside a nullable one."""
-    texts = {text for text, _ in chosen}
-    if any(nullable for text, nullable in chosen if text != "empty()"):
-        texts.discard("empty()")
-    texts = sorted(texts)
-    return texts[0] if len(texts) == 1 else f"choice({','.join(texts)})"
-
-
-def told_sorted(kind, texts):
-    texts = sorted(text for text in texts if text != "empty()")
-    return texts[0] if len(texts) == 1 else f"{kind}({','.join(texts)})"
-
-
-def told_chain(kind, node, colours):
-    """The members of a node one after the other."""
-    texts = [told(child, colours) for child in members(node, kind)]
-    texts = [text for text in texts if text != "empty()"] or ["empty()"]
-    return texts[0] if len(texts) == 1 else f"{kind}({','.join(texts)})"
-
-
-def meaning(text):
-    """A schema as one text that doesn't depend on the names of its definitions."""
-    grammar = ElementTree.fromstring(text)
-    if grammar.tag != RNG + "grammar":
-        return told(grammar, {})
-    definitions = {node.get("name"): node for node in grammar.findall(RNG + "define")}
-    colours = {name: "" for name in definitions}
-    count = 1
-    while True:
-        fresh = {}
-        for name, node in definitions.items():
-            whole = colours[name] + told_chain("group", node, colours)
-            fresh[name] = hashlib.sha256(whole.encode()).hexdigest()[:24]
-        colours = fresh
-        if len(set(colours.values())) == count:
-            break
-        count = len(set(colours.values()))
-    return told_chain("group", grammar.find(RNG + "start"), colours)
-
-
-def compare(program, path, folder):
-    """What comes of a file: no driver, not printed, differs, or equal; and a line that says more."""
-    original, _ = run("jing", "-i", "-c", "-s", path)
-    if original is None:
-        return "no schema for jing", ""
-    printed, messages = run(program, path.name, folder=path.parent)
-    if printed is None:
-        return "not printed", messages.splitlines()[0] if messages else ""
-    flat = folder / f"flat-{os.getpid()}.rnc"
-    flat.write_bytes(printed)
-    again, messages = run("jing", "-i", "-c", "-s", flat)
-    if again is None:
-        return "refused by jing", messages.splitlines()[0] if messages else ""
-    if meaning(original) != meaning(again):
-        return "differs", ""
-    checked, messages = run(program, flat)
-    return ("equal", "") if checked == printed else ("printed otherwise again", messages)
+def compared(program, room, form, printed, form_again, errors):
+    if form_again is None:
+        return "printed, and not taken by jing", errors[:160]
+    if meaning(form) != meaning(form_again):
+        return "printed, and differs", ""
+    to = pathlib.Path(room) / "again.rnc"
+    refusal = flat(program, printed, to)
+    if refusal or to.read_bytes() != printed.read_bytes():
+        return "equal, and printed otherwise again", refusal
+    return "equal", ""
 
 
 def main():
-    program = pathlib.Path(sys.argv[1]).resolve()
-    folder = pathlib.Path(sys.argv[2]).resolve()
-    word = sys.argv[3] if len(sys.argv) > 3 else ""
+    parser = argparse.ArgumentParser()
+    parser.add_argument("program", type=pathlib.Path)
+    parser.add_argument("folder", type=pathlib.Path)
+    parser.add_argument("--only", default="")
+    parser.add_argument("--all", action="store_true")
+    words = parser.parse_args()
+    folder = words.folder.resolve()
     fetch(folder)
     open_archives(folder)
-    counts = {}
-    for path in drivers(folder, word):
-        answer, more = compare(program, path, folder)
-        counts[answer] = counts.get(answer, 0) + 1
-        if answer not in ("equal", "no schema for jing"):
-            print(f"{path.relative_to(folder)}: {answer}: {more}", flush=True)
+    with tempfile.TemporaryDirectory() as room:
+        found = chosen(folder, words)
+        made = translated(room, folder, found[".rng"])
+        paths = found[".rnc"] + [to for to in made.values() if to]
+        print(f"{len(found['.rnc'])} shipped in the compact syntax, {len(found['.rng'])} in the XML syntax, of which trang takes {len(paths) - len(found['.rnc'])}")
+        counts = collections.Counter()
+        for path, answer, why in compare(words.program.resolve(), room, paths):
+            counts[answer] += 1
+            print(answer, path.relative_to(folder), why, sep="\t", flush=True)
     for answer, count in sorted(counts.items()):
         print(f"{count} {answer}")
 
