@@ -2,7 +2,7 @@
 use Rattle.std.specs.Prelude.{◌≡◌, ◌≢◌, ℕ, ◌<◌, ◌≤◌, Bool, true, false, List, [], ◌∷◌, length, map, take, IsSomeAnd, Option, Result, Ok, Err, slice_get, Some, Vec}
 use Rattle.std.specs.declared.alloc.Global.{Global}
 use Rattle.std.specs.Io.KnownBytes.{Appends}
-use Rattle.rn_modset.specs.declared.contribution.TheConstants.{MAX_CONTRIBUTIONS}
+use Rattle.rn_modset.specs.Limits.{max_contributions}
 use Rattle.rn_modset.specs.Contributions.{Member}
 use Rattle.rn_modset.specs.Sets.{union}
 use Rattle.rn_modset.specs.Grammar.{IsBundle}
@@ -43,7 +43,7 @@ pub record IsUnion (bundles : List (List ℕ)) (s : List Member) : Type 0 where
   pub sets : List (List Member)
   pub are : AreBundles bundles sets
   pub is : s ≡ unions [] sets
-  pub few : length s ≤ MAX_CONTRIBUTIONS
+  pub few : length s ≤ max_contributions
 
 -- the bundles before the index have a union
 abbrev pub IsUnionBefore : List (List ℕ) → ℕ → List Member → Type 0
@@ -58,7 +58,7 @@ pub record IsTooMany (bundles : List (List ℕ)) : Type 0 where
   pub union_before : IsUnionBefore bundles index before
   pub at : slice_get bundles index ≡ Some bytes
   pub is_bundle : IsBundle bytes next
-  pub many : MAX_CONTRIBUTIONS < length (union before next)
+  pub many : max_contributions < length (union before next)
 
 -- the bytes at the index, which come behind bundles that have a union, are no set's bundle: they have this fault
 pub record ComesToFault (bundles : List (List ℕ)) (index : ℕ) (fault : BundleFault) : Type 0 where
