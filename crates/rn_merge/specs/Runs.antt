@@ -5,7 +5,8 @@ use Rattle.std.specs.Io.KnownBytes.{Appends}
 use Rattle.rn_modset.specs.Contributions.{Member}
 use Rattle.rn_modset.specs.Sets.{union}
 use Rattle.rn_modset.specs.Grammar.{IsBundle}
-use Rattle.rn_modset.specs.Faults.{HasFault}
+use Rattle.rn_modset.specs.Faults.{HasBundleFault}
+use Rattle.rn_modset.specs.Limits.{max_contributions}
 use Rattle.rn_modset.specs.declared.faults.AddFault.{AddFault}
 use Rattle.rn_modset.specs.declared.faults.AddFault.TheVariants as adding
 use Rattle.rn_modset.specs.declared.faults.BundleFault.{BundleFault}
@@ -42,7 +43,7 @@ pub record IsUnion (bundles : List (List ℕ)) (s : List Member) : Type 0 where
   pub sets : List (List Member)
   pub are : AreBundles bundles sets
   pub is : s ≡ unions [] sets
-  pub few : length s ≤ 1024
+  pub few : length s ≤ max_contributions
 
 -- the bundles before the index have a union
 abbrev pub IsUnionBefore : List (List ℕ) → ℕ → List Member → Type 0
@@ -57,7 +58,7 @@ pub record IsTooMany (bundles : List (List ℕ)) : Type 0 where
   pub union_before : IsUnionBefore bundles index before
   pub at : slice_get bundles index ≡ Some bytes
   pub is_bundle : IsBundle bytes next
-  pub many : 1024 < length (union before next)
+  pub many : max_contributions < length (union before next)
 
 -- the bytes at the index, which come behind bundles that have a union, are no set's bundle: they have this fault
 pub record ComesToFault (bundles : List (List ℕ)) (index : ℕ) (fault : BundleFault) : Type 0 where
@@ -65,7 +66,7 @@ pub record ComesToFault (bundles : List (List ℕ)) (index : ℕ) (fault : Bundl
   pub bytes : List ℕ
   pub union_before : IsUnionBefore bundles index before
   pub at : slice_get bundles index ≡ Some bytes
-  pub has : HasFault bytes fault
+  pub has : HasBundleFault bytes fault
   pub is_damage : fault ≢ reading.Memory
 
 -- why the bundles have no union
