@@ -18,7 +18,7 @@ use Rattle.rn_syntax.specs.Tokens.{terminals}
 use Rattle.rn_syntax.specs.Fault.{HasTree, Stops}
 use Rattle.rn_syntax.specs.Faults.{HasNoFault, IsFault, IsFaultOfTree}
 use Rattle.rn_syntax.specs.Places.{deep}
-use Rattle.rn_syntax.specs.Reading.{AreSpelled, IsPlace, last_end}
+use Rattle.rn_syntax.specs.Spelled.{AreSpelled, IsPlace, last_end}
 use Rattle.rn_syntax.proofs.OneFault as parsed
 use Rattle.rn_assemble.specs.Refusal.{TextFault, fault_rank, HasFault, IsFirstFault}
 use Rattle.rn_assemble.proofs.OneSet.{one_fault}

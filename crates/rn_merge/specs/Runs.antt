@@ -6,7 +6,8 @@ use Rattle.rn_modset.specs.Limits.{max_contributions}
 use Rattle.rn_modset.specs.Contributions.{Member}
 use Rattle.rn_modset.specs.Sets.{union}
 use Rattle.rn_modset.specs.Grammar.{IsBundle}
-use Rattle.rn_modset.specs.Faults.{HasFault}
+use Rattle.rn_modset.specs.Faults.{HasBundleFault}
+use Rattle.rn_modset.specs.Limits.{max_contributions}
 use Rattle.rn_modset.specs.declared.faults.AddFault.{AddFault}
 use Rattle.rn_modset.specs.declared.faults.AddFault.TheVariants as adding
 use Rattle.rn_modset.specs.declared.faults.BundleFault.{BundleFault}
@@ -66,7 +67,7 @@ pub record ComesToFault (bundles : List (List ℕ)) (index : ℕ) (fault : Bundl
   pub bytes : List ℕ
   pub union_before : IsUnionBefore bundles index before
   pub at : slice_get bundles index ≡ Some bytes
-  pub has : HasFault bytes fault
+  pub has : HasBundleFault bytes fault
   pub is_damage : fault ≢ reading.Memory
 
 -- why the bundles have no union

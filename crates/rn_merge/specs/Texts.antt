@@ -10,7 +10,7 @@ use Rattle.rn_syntax.specs.declared.fault.SyntaxFault.TheVariants as parsing
 use Rattle.rn_syntax.specs.Fault.{HasTree}
 use Rattle.rn_syntax.specs.Faults.{HasNoFault, IsFault}
 use Rattle.rn_syntax.specs.Places.{deep}
-use Rattle.rn_syntax.specs.Reading.{AreSpelled}
+use Rattle.rn_syntax.specs.Spelled.{AreSpelled}
 use Rattle.rn_syntax.specs.Tokens.{terminals}
 use Rattle.rn_syntax.specs.Tree.{Module}
 use Rattle.rn_merge.specs.declared.texts.Place.{Place}

@@ -4,11 +4,11 @@ use Rattle.std.specs.List.{All, list_all}
 use Rattle.std.proofs.lemmas.List.{append-nil, length-append}
 use Rattle.rn_modset.specs.declared.faults.BundleFault.{BundleFault}
 use Rattle.rn_modset.specs.declared.faults.BundleFault.TheVariants.{Magic, Header, Order, Digest, Truncated, Trailing, Memory}
-use Rattle.rn_modset.specs.Contributions.{Member, is_withdrawal, has_withdrawal, IsGood}
+use Rattle.rn_modset.specs.Contributions.{Member, is_withdrawal, has_withdrawal, IsWithinLimits}
 use Rattle.rn_modset.specs.Sets.{Rises, IsSet}
 use Rattle.rn_modset.specs.Grammar.{IsBundle}
 use Rattle.rn_modset.specs.Bundles.{entry, entries, first_line, end_line, bundle}
-use Rattle.rn_modset.specs.Faults.{not_line_feed, IsFront, IsFaultBehind, HasFault, no_first_line, behind, no_memory}
+use Rattle.rn_modset.specs.Faults.{not_line_feed, IsFront, IsFaultBehind, HasBundleFault, no_first_line, behind, no_memory}
 use Rattle.rn_modset.proofs.Splits.{one_front, number_lacks}
 use Rattle.rn_modset.proofs.Readable.{one_entry, ends_here, length_first}
 use Rattle.rn_modset.proofs.Merges.{rises_left}
@@ -21,7 +21,7 @@ pub record GoesOn (ms ns : List Member) (x y : List ℕ) : Type 0 where
   pub whole : ns ≡ ms ++ rest
   pub left : x ≡ entries rest ++ y
 
-one_way : (ms ns : List Member) (x y : List ℕ) → All IsGood ms → All IsGood ns → entries ms ++ x ≡ entries ns ++ y → GoesOn ms ns x y ⊎ GoesOn ns ms y x
+one_way : (ms ns : List Member) (x y : List ℕ) → All IsWithinLimits ms → All IsWithinLimits ns → entries ms ++ x ≡ entries ns ++ y → GoesOn ms ns x y ⊎ GoesOn ns ms y x
 one_way [] ns x y g h e = inl (record { rest = ns; whole = refl; left = e })
 one_way (m ∷ ms) [] x y g h e = inr (record { rest = m ∷ ms; whole = refl; left = sym e })
 one_way (m ∷ ms) (n ∷ ns) x y g h e =
@@ -44,7 +44,7 @@ version_in (m ∷ ms) n ns e = or_right (is_withdrawal m) (has_withdrawal (ms ++
     or_right true b e = refl
     or_right false b e = e
 
-good_in : (ms : List Member) (n : Member) (ns : List Member) → All IsGood (ms ++ n ∷ ns) → IsGood n
+good_in : (ms : List Member) (n : Member) (ns : List Member) → All IsWithinLimits (ms ++ n ∷ ns) → IsWithinLimits n
 good_in [] n ns g = g 0 n (omega arith)
 good_in (m ∷ ms) n ns g = good_in ms n ns (λ k d lt. g (suc k) d (omega arith))
 
@@ -111,7 +111,7 @@ longest bytes v w ms ns x y f front a p other =
     (beyond.more, beyond.is)
 
 -- bytes have one fault, want of memory aside
-pub one_fault : (bytes : List ℕ) {f g : BundleFault} → HasFault bytes f → HasFault bytes g → f ≢ Memory → g ≢ Memory → f ≡ g
+pub one_fault : (bytes : List ℕ) {f g : BundleFault} → HasBundleFault bytes f → HasBundleFault bytes g → f ≢ Memory → g ≢ Memory → f ≡ g
 one_fault bytes no_memory y p q = absurd (p refl)
 one_fault bytes (no_first_line n) (no_first_line m) p q = refl
 one_fault bytes (no_first_line n) (behind w ms left fault front b) p q = absurd (n w front.first (front.middle ++ left) front.is_first front.is)
@@ -153,7 +153,7 @@ past_end s ns [] y w f h whole left v a p =
 past_end s ns (n ∷ rest) y w f h whole left v a p = ends_here (length s) n (10 ∷ []) (entries rest ++ y) (left ∙ append_assoc (entry n) (entries rest) y)
 
 -- a bundle has no fault but want of memory
-pub bundle_sound : (s : List Member) {f : BundleFault} → IsSet s → HasFault (bundle s) f → f ≢ Memory → ⊥
+pub bundle_sound : (s : List Member) {f : BundleFault} → IsSet s → HasBundleFault (bundle s) f → f ≢ Memory → ⊥
 bundle_sound s h no_memory p = p refl
 bundle_sound s h (no_first_line n) p = n (has_withdrawal s) (first_line (has_withdrawal s)) (entries s ++ (end_line (length s) ++ 10 ∷ [])) (first_by (has_withdrawal s)) (set_front s h).is
 bundle_sound s h (behind w ms left fault read b) p =
@@ -173,15 +173,15 @@ memory_by Truncated h = absurd (h (λ e. cc))
 memory_by Trailing h = absurd (h (λ e. cc))
 memory_by Memory h = refl
 
-pub bundle_fault : (bytes : List ℕ) (s : List Member) (f : BundleFault) → IsBundle bytes s → HasFault bytes f → f ≡ Memory
+pub bundle_fault : (bytes : List ℕ) (s : List Member) (f : BundleFault) → IsBundle bytes s → HasBundleFault bytes f → f ≡ Memory
 bundle_fault bytes s f b x =
     let spelled = bundle_spelled bytes s b in
-    memory_by f (λ p. bundle_sound s spelled.0 (subst (λ (z : List ℕ). HasFault z f) spelled.1 x) p)
+    memory_by f (λ p. bundle_sound s spelled.0 (subst (λ (z : List ℕ). HasBundleFault z f) spelled.1 x) p)
 
 -- bytes that are a set's bundle have no fault but want of memory
-pub whole_fault : (bytes : List ℕ) (f : BundleFault) → HasFault bytes f → (s : List Member) → IsBundle bytes s → f ≡ Memory
+pub whole_fault : (bytes : List ℕ) (f : BundleFault) → HasBundleFault bytes f → (s : List Member) → IsBundle bytes s → f ≡ Memory
 whole_fault bytes f x s b = bundle_fault bytes s f b x
 
-pub whole_refused : (bytes : List ℕ) (r : Result (List Member) BundleFault) → IsErr r → IfErr r (λ fault. HasFault bytes fault) → (s : List Member) → IsBundle bytes s → MatchResult r (λ set. set ≡ s) (λ fault. fault ≡ Memory)
+pub whole_refused : (bytes : List ℕ) (r : Result (List Member) BundleFault) → IsErr r → IfErr r (λ fault. HasBundleFault bytes fault) → (s : List Member) → IsBundle bytes s → MatchResult r (λ set. set ≡ s) (λ fault. fault ≡ Memory)
 whole_refused bytes (Ok set) i f s b = let k : false ≡ true = i in cc
 whole_refused bytes (Err fault) i f s b = whole_fault bytes fault f s b

@@ -2,7 +2,7 @@
 use Rattle.std.proofs.Common.{◌≡◌, ℕ, zero, suc, ◌≤◌, Bool, true, false, List, [], ◌∷◌, ◌++◌, length, codes, decimal, Option, Some, None, refl, sym, ap, subst, ◌∙◌, arith, append_assoc}
 use Rattle.std.specs.List.{All}
 use Rattle.sha2.specs.Sha256.{sha256}
-use Rattle.rn_modset.specs.Contributions.{Member, has_withdrawal, IsGood}
+use Rattle.rn_modset.specs.Contributions.{Member, has_withdrawal, IsWithinLimits}
 use Rattle.rn_modset.specs.Sets.{Rises, IsSet}
 use Rattle.rn_modset.specs.Grammar.{Head, text_header, withdrawal_header, IsDigestOf, IsHeader, IsEntryOf, IsEntry, AreEntries, IsFirstLine, IsEndLine, IsBundle}
 use Rattle.rn_modset.specs.Bundles.{header_line, digest, entry, entries, first_line, end_line, bundle}
@@ -59,7 +59,7 @@ pub no_header_at : (w : Bool) (line : List ℕ) → IsNoHeader w line → (h : H
 no_header_at w line n h i = let s = header_spelled w line h i in n h s.1 s.0
 
 entry_of_spelled : (bytes name : List ℕ) (revision : ℕ) (text : Option (List ℕ)) → IsEntryOf bytes name revision text
-    → (bytes ≡ entry (record { name = name; revision = revision; text = text })) × IsGood (record { name = name; revision = revision; text = text })
+    → (bytes ≡ entry (record { name = name; revision = revision; text = text })) × IsWithinLimits (record { name = name; revision = revision; text = text })
 entry_of_spelled bytes name revision (Some t) h =
     let s = header_spelled true h.0 (text_header name revision (length t) h.1) h.3 in
     let digits = digest_spelled h.1 t h.4 in (
@@ -71,10 +71,10 @@ entry_of_spelled bytes name revision None h =
     (h.1 ∙ ap (λ l. l ++ 10 ∷ []) s.0, record { name = s.1.0; revision = s.1.1; text = tt })
 
 -- an entry of the grammar is spelled so, and is good
-pub entry_spelled : (bytes : List ℕ) (m : Member) → IsEntry bytes m → (bytes ≡ entry m) × IsGood m
+pub entry_spelled : (bytes : List ℕ) (m : Member) → IsEntry bytes m → (bytes ≡ entry m) × IsWithinLimits m
 entry_spelled bytes m h = entry_of_spelled bytes m.name m.revision m.text h
 
-entry_of_by : (name : List ℕ) (revision : ℕ) (text : Option (List ℕ)) → IsGood (record { name = name; revision = revision; text = text })
+entry_of_by : (name : List ℕ) (revision : ℕ) (text : Option (List ℕ)) → IsWithinLimits (record { name = name; revision = revision; text = text })
     → IsEntryOf (entry (record { name = name; revision = revision; text = text })) name revision text
 entry_of_by name revision (Some t) g =
     let h = header_by true (text_header name revision (length t) (digest t)) (g.name, g.revision, g.text, digest_is t) in
@@ -83,21 +83,21 @@ entry_of_by name revision None g =
     let h = header_by true (withdrawal_header name revision) (g.name, g.revision, refl) in
     (header_line (withdrawal_header name revision), refl, h.0)
 
-pub entry_by : (m : Member) → IsGood m → IsEntry (entry m) m
+pub entry_by : (m : Member) → IsWithinLimits m → IsEntry (entry m) m
 entry_by m g = entry_of_by m.name m.revision m.text g
 
-pub entries_spelled : (bytes : List ℕ) (ms : List Member) → AreEntries bytes ms → (bytes ≡ entries ms) × All IsGood ms
+pub entries_spelled : (bytes : List ℕ) (ms : List Member) → AreEntries bytes ms → (bytes ≡ entries ms) × All IsWithinLimits ms
 entries_spelled bytes [] h = (h, λ k d lt. absurd (omega arith))
 entries_spelled bytes (m ∷ ms) h =
     let first = entry_spelled h.0 m h.3 in
     let rest = entries_spelled h.1 ms h.4 in
     (h.2 ∙ (λ i. first.0 i ++ rest.0 i), all_cons m ms first.1 rest.1)
   where
-    all_cons : (m : Member) (ms : List Member) → IsGood m → All IsGood ms → All IsGood (m ∷ ms)
+    all_cons : (m : Member) (ms : List Member) → IsWithinLimits m → All IsWithinLimits ms → All IsWithinLimits (m ∷ ms)
     all_cons m ms g a zero d lt = g
     all_cons m ms g a (suc k) d lt = a k d (omega arith)
 
-pub entries_by : (ms : List Member) → All IsGood ms → AreEntries (entries ms) ms
+pub entries_by : (ms : List Member) → All IsWithinLimits ms → AreEntries (entries ms) ms
 entries_by [] g = refl
 entries_by (m ∷ ms) g = (entry m, entries ms, refl, entry_by m (g 0 m (omega arith)), entries_by ms (λ k d lt. g (suc k) d (omega arith)))
 
@@ -124,7 +124,7 @@ last_spelled w ms line le h = (h.0, end_spelled line (length ms) h.1 le)
 -- a front as it is spelled
 pub record IsSpelledFront (bytes : List ℕ) (w : Bool) (ms : List Member) (left : List ℕ) : Type 0 where
   pub is : bytes ≡ first_line w ++ (entries ms ++ left)
-  pub good : All IsGood ms
+  pub good : All IsWithinLimits ms
   pub rises : Rises ms
   pub few : length ms ≤ 1024
   pub version : has_withdrawal ms ≡ true → w ≡ true

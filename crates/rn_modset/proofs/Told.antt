@@ -12,12 +12,12 @@ use Rattle.std.proofs.lemmas.List.{length-append}
 use Rattle.std.proofs.lemmas.Slice.Eq.{bytes_eq-Decides}
 use Rattle.rn_modset.specs.declared.faults.BundleFault.{BundleFault}
 use Rattle.rn_modset.specs.declared.faults.BundleFault.TheVariants.{Magic, Header, Order, Digest, Truncated, Trailing, Memory}
-use Rattle.rn_modset.specs.Contributions.{Member, member_cmp, is_module_name, is_withdrawal, has_withdrawal, IsGood}
+use Rattle.rn_modset.specs.Contributions.{Member, member_cmp, is_module_name, is_withdrawal, has_withdrawal, IsWithinLimits}
 use Rattle.rn_modset.specs.Sets.{Rises}
 use Rattle.rn_modset.specs.Grammar.{Head, text_header, withdrawal_header, is_lower_hex, IsDigest, IsHeader, IsFirstLine, IsBundle}
 use Rattle.rn_modset.specs.Bundles.{header_line, header_of, body_of, digest, entry, first_line, end_line}
 use Rattle.rn_modset.specs.inside.Headers.{MayStand, IsNoHeader, AreNoTextFields}
-use Rattle.rn_modset.specs.Faults.{HasLine, Ends, IsTextFault, cut_short, no_line_feed, other_digest, IsEntryFault, no_header, bad_text, IsFaultBehind, no_line, more_bytes, bad_entry, out_of_order, HasFault, no_first_line, behind}
+use Rattle.rn_modset.specs.Faults.{HasLine, Ends, IsTextFault, cut_short, no_line_feed, other_digest, IsEntryFault, no_header, bad_text, IsFaultBehind, no_line, more_bytes, bad_entry, out_of_order, HasBundleFault, no_first_line, behind}
 use Rattle.rn_modset.proofs.Truths.{differs}
 use Rattle.rn_modset.proofs.HeaderLines.{IsCut, no_kind, no_name, bad_name, no_such_kind, text_by, withdrawal_by, AreCut, no_revision, no_length, bad_revision, bad_length, bad_limits}
 use Rattle.rn_modset.proofs.Spelled.{IsSpelledFront, front_by, first_spelled, header_spelled, last_by, last_spelled, entry_by, header_at, no_header_at, digest_spelled, bundle_at}
@@ -231,7 +231,7 @@ record NextEntry (w : Bool) (ms : List Member) (left : List ℕ) : Type 0 where
   m : Member
   rest : List ℕ
   is : left ≡ entry m ++ rest
-  good : IsGood m
+  good : IsWithinLimits m
   few : length ms < 1024
   version : is_withdrawal m ≡ true → w ≡ true
 
@@ -291,7 +291,7 @@ module _ (w : Bool) (ms : List Member) (left line after : List ℕ) (has : HasLi
 -- ---- the bytes
 
 abbrev Verdict : List ℕ → Type 0
-Verdict bytes = ((s : List Member) × IsBundle bytes s) ⊎ ((f : BundleFault) × HasFault bytes f × (f ≢ Memory))
+Verdict bytes = ((s : List Member) × IsBundle bytes s) ⊎ ((f : BundleFault) × HasBundleFault bytes f × (f ≢ Memory))
 
 module _ (bytes : List ℕ) (w : Bool) where
   faulty_behind : (ms : List Member) (left : List ℕ) → IsSpelledFront bytes w ms left → (f : BundleFault) → IsFaultBehind w ms left f → f ≢ Memory → Verdict bytes
@@ -353,7 +353,7 @@ none_first : (bytes : List ℕ) → ((rest : List ℕ) → bytes ≢ first_line 
 none_first bytes n m true first left h e = m left (e ∙ ap (λ z. z ++ left) (first_spelled true first h))
 none_first bytes n m false first left h e = n left (e ∙ ap (λ z. z ++ left) (first_spelled false first h))
 
-pub verdict : (bytes : List ℕ) → ((s : List Member) × IsBundle bytes s) ⊎ ((f : BundleFault) × HasFault bytes f × (f ≢ Memory))
+pub verdict : (bytes : List ℕ) → ((s : List Member) × IsBundle bytes s) ⊎ ((f : BundleFault) × HasBundleFault bytes f × (f ≢ Memory))
 verdict bytes = elim (front_found (first_line false) bytes) [
   | inl a ↦ first_told bytes false a.0 a.1
   | inr n ↦ elim (front_found (first_line true) bytes) [

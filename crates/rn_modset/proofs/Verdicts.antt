@@ -5,7 +5,7 @@ use Rattle.std.proofs.lemmas.Fmt.{decimal_injective}
 use Rattle.std.proofs.lemmas.List.{append_cancel_left, length-append}
 use Rattle.rn_modset.specs.declared.faults.BundleFault.{BundleFault}
 use Rattle.rn_modset.specs.declared.faults.BundleFault.TheVariants.{Header, Order, Truncated, Trailing, Memory}
-use Rattle.rn_modset.specs.Contributions.{Member, is_name_byte, is_withdrawal, IsGood}
+use Rattle.rn_modset.specs.Contributions.{Member, is_name_byte, is_withdrawal, IsWithinLimits}
 use Rattle.rn_modset.specs.Sets.{Rises}
 use Rattle.rn_modset.specs.Grammar.{Head, text_header, withdrawal_header, is_lower_hex, IsDigestOf, IsHeader, IsEndLine}
 use Rattle.rn_modset.specs.Bundles.{header_line, header_of, body_of, digest, entry}
@@ -210,7 +210,7 @@ head_line w (text_header n r l d) m =
 head_line w (withdrawal_header n r) m =
     all_append not_line_feed n (32 ∷ decimal r) (all_but 10 n (lacks_by is_name_byte 10 refl n (second_of_both _ _ m.0))) (all_but 10 (decimal r) (number_lacks 10 r refl m.1))
 
-may_by : (w : Bool) (name : List ℕ) (revision : ℕ) (text : Option (List ℕ)) → IsGood (record { name = name; revision = revision; text = text }) → (is_withdrawal (record { name = name; revision = revision; text = text }) ≡ true → w ≡ true)
+may_by : (w : Bool) (name : List ℕ) (revision : ℕ) (text : Option (List ℕ)) → IsWithinLimits (record { name = name; revision = revision; text = text }) → (is_withdrawal (record { name = name; revision = revision; text = text }) ≡ true → w ≡ true)
     → MayStand w (header_of name revision text)
 may_by w name revision None g v = (g.name, g.revision, v refl)
 may_by w name revision (Some t) g v = (g.name, g.revision, g.text, digest_is t)
@@ -218,7 +218,7 @@ may_by w name revision (Some t) g v = (g.name, g.revision, g.text, digest_is t)
 -- a good entry that may stand here
 pub record IsNextEntry (w : Bool) (ms : List Member) (left : List ℕ) (m : Member) (more : List ℕ) : Type 0 where
   pub is : left ≡ entry m ++ more
-  pub good : IsGood m
+  pub good : IsWithinLimits m
   pub few : length ms < 1024
   pub version : is_withdrawal m ≡ true → w ≡ true
 

@@ -7,7 +7,7 @@ ghost use Rattle.rn_modset.specs.Contributions.{Member};
 ghost use Rattle.rn_modset.specs.Sets.{IsSet, Rises, has, with_member, union};
 ghost use Rattle.rn_modset.specs.Grammar.{IsBundle};
 ghost use Rattle.rn_modset.specs.Bundles.{bundle};
-ghost use Rattle.rn_modset.specs.Faults.{IsFront, IsFaultBehind, HasFault};
+ghost use Rattle.rn_modset.specs.Faults.{IsFront, IsFaultBehind, HasBundleFault};
 ghost use Rattle.rn_modset.specs.Laws.{AreUnionLaws, AreCallLaws};
 
 /// A set holds its members. With a contribution it holds that one too, and a union holds what one of both sets holds.
@@ -55,13 +55,13 @@ pub fn sets_have_one_bundle()
 /// Bytes are the bundle of a set, or they have a fault, want of memory aside.
 pub fn bytes_are_a_bundle_or_have_a_fault()
     ensures { (bytes : List ℕ) → ((s : List Member) × IsBundle bytes s)
-        ⊎ ((fault : BundleFault) × HasFault bytes fault × (fault ≢ Memory)) }
+        ⊎ ((fault : BundleFault) × HasBundleFault bytes fault × (fault ≢ Memory)) }
 {}
 
 /// Bytes have at most one fault, want of memory aside.
 pub fn bytes_have_one_fault()
-    ensures { (bytes : List ℕ) (fault other : BundleFault) → HasFault bytes fault
-        → HasFault bytes other → fault ≢ Memory → other ≢ Memory → fault ≡ other }
+    ensures { (bytes : List ℕ) (fault other : BundleFault) → HasBundleFault bytes fault
+        → HasBundleFault bytes other → fault ≢ Memory → other ≢ Memory → fault ≡ other }
 {}
 
 /// A fault stands behind the longest front of good entries: those of any front are the first of these.
@@ -76,5 +76,5 @@ pub fn faults_stand_behind_the_longest_front()
 /// A set's bundle has no fault but want of memory.
 pub fn bundles_have_no_fault()
     ensures { (bytes : List ℕ) (s : List Member) (fault : BundleFault) → IsBundle bytes s
-        → HasFault bytes fault → fault ≡ Memory }
+        → HasBundleFault bytes fault → fault ≡ Memory }
 {}

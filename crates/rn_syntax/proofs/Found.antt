@@ -7,11 +7,11 @@ use Rattle.rn_syntax.specs.declared.fault.SyntaxFault.TheVariants.{Deep, Syntax,
 use Rattle.rn_syntax.specs.Tree.{Module}
 use Rattle.rn_syntax.specs.Tokens.{terminals}
 use Rattle.rn_syntax.specs.Fault.{HasTree}
-use Rattle.rn_syntax.specs.Reading.{AreSpelled}
+use Rattle.rn_syntax.specs.Spelled.{AreSpelled}
 use Rattle.rn_syntax.specs.Places.{deep}
-use Rattle.rn_syntax.specs.Faults.{HasFault, IsFault, IsSyntax}
+use Rattle.rn_syntax.specs.Faults.{HasModuleFault, IsFault, IsSyntax}
 
-pub found_fault : (xs : List Token) (m : Module) (e : SyntaxFault) → deep 0 (terminals (map lexeme_of xs)) ≡ None → (AreSpelled xs → HasTree (terminals (map lexeme_of xs)) m) → HasFault m e → IsFault xs e
+pub found_fault : (xs : List Token) (m : Module) (e : SyntaxFault) → deep 0 (terminals (map lexeme_of xs)) ≡ None → (AreSpelled xs → HasTree (terminals (map lexeme_of xs)) m) → HasModuleFault m e → IsFault xs e
 found_fault xs m (Deep at) d t h = absurd h
 found_fault xs m (Syntax at) d t h = absurd h
 found_fault xs m (Prefix at) d t h = (d, m, t, h)

@@ -13,9 +13,9 @@ use Rattle.rn_syntax.specs.declared.token.Keyword as code
 use Rattle.rn_syntax.specs.Terminal as t
 use Rattle.rn_syntax.specs.Terminal.{Terminal, ◌#◌, spelling, keyword}
 use Rattle.rn_syntax.specs.Tokens.{placed, terminal_of, spelled_in, keyword_rows, symbol_rows}
-use Rattle.rn_syntax.specs.Reading.{rest}
-use Rattle.rn_syntax.specs.Follow.{first}
-use Rattle.rn_syntax.proofs.Next.{rest_cons}
+use Rattle.rn_syntax.specs.inside.Reading.{rest}
+use Rattle.rn_syntax.specs.inside.Follow.{first_terminal}
+use Rattle.rn_syntax.proofs.readings.Next.{rest_cons}
 use Rattle.rn_syntax.proofs.OpenBrackets.{keywords_plain}
 use Rattle.rn_syntax.proofs.Spelled.{IsPlain}
 
@@ -62,8 +62,8 @@ keyword_bytes AnyOf cs w e = cc
 keyword_bytes Segment cs w e = cc
 keyword_bytes Symbol cs w e = absurd (no_row symbol_rows cs w symbols_are_none e)
 
-pub text_is : (xs : List Token) (at : ℕ) (d : Token) (w : code.Keyword) → at < length xs → IsUtf8 (get_or xs at d).text.now → first (rest xs at) ≡ keyword w → (get_or xs at d).text.now ≡ spelling w
+pub text_is : (xs : List Token) (at : ℕ) (d : Token) (w : code.Keyword) → at < length xs → IsUtf8 (get_or xs at d).text.now → first_terminal (rest xs at) ≡ keyword w → (get_or xs at d).text.now ≡ spelling w
 text_is xs at d w inside utf8 e =
     let token = get_or xs at d in
-    let seen : terminal_of token.kind (chars token.text.now) ≡ keyword w = sym (ap first (rest_cons xs at d inside)) ∙ e in
+    let seen : terminal_of token.kind (chars token.text.now) ≡ keyword w = sym (ap first_terminal (rest_cons xs at d inside)) ∙ e in
     sym (encodes-chars token.text.now utf8) ∙ keyword_bytes token.kind (chars token.text.now) w seen

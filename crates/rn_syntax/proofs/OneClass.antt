@@ -5,7 +5,7 @@ use Rattle.rn_syntax.specs.Terminal.{Terminal, Placed, ◌#◌, ident, keyword, 
 use Rattle.rn_syntax.specs.Tree as t
 use Rattle.rn_syntax.specs.Tree.{Datatype, Params, AnyName, NameClass, Pattern, Uri, Declaration, Item, Module, patterns_of, classes_of, items_of}
 use Rattle.rn_syntax.specs.Grammar as g
-use Rattle.rn_syntax.specs.Follow.{Starts, no_bracket, no_follow, no_tilde, first, no_brace, behind_name, behind_class}
+use Rattle.rn_syntax.specs.inside.Follow.{Starts, no_bracket, no_follow, no_tilde, first_terminal, no_brace, behind_name, behind_class}
 use Rattle.rn_syntax.specs.Grammar.{Tokens, IsWord, IsLiteral, Closed, IsAnnotation, MayHaveAnnotation, AreFollows, IsDatatype, AreParams, MayHaveParams, IsAnyName, IsNameClass, AreMoreClasses, IsClassOperand, IsClassPrimary, IsClassCore, IsPattern, AreMore, IsOperand, IsPrimary, IsCore, IsUri, IsDeclaration, AreDeclarations, IsComponent, IsNote, AreInnerItems, MayInherit, MayHaveOverrides, AreItems}
 
 pub literal_one : {ts r r' : Tokens} {s u : List ℕ} → IsLiteral ts s r → IsLiteral ts u r' → Starts no_tilde r → Starts no_tilde r' → (s ≡ u) × (r ≡ r')
@@ -106,7 +106,7 @@ params_one g.close (g.param a w l ps) = absurd (false≢true (param_front a w))
 params_one (g.param a w l ps) g.close = absurd (false≢true (param_front a w))
 params_one {r' = r'} (g.param {x = x} {n = n} {s = s} {value = v} {mid = mid} {ps = ps} a w l k) (g.param {x = x'} {n = n'} {s = s'} {value = v'} {mid = mid'} {ps = ps'} a' w' l' k') =
     let e = may_one a a' (word_no_bracket w) (word_no_bracket w') in
-    let ex : x ≡ x' = ap first e in
+    let ex : x ≡ x' = ap first_terminal e in
     let ev : v ≡ v' = ap (λ l. tail (tail l)) e in
     let en : n ≡ n' = word_one w (subst (λ y. IsWord y n') (sym ex) w') in
     let el = literal_one l (subst (λ y. IsLiteral y s' mid') (sym ev) l') (params_no_tilde k) (params_no_tilde k') in

@@ -10,9 +10,9 @@ use Rattle.rn_syntax.specs.Grammar as g
 use Rattle.rn_syntax.specs.Grammar.{Tokens}
 use Rattle.rn_syntax.specs.Tokens.{terminals}
 use Rattle.rn_syntax.specs.Fault.{HasTree, Begins, IsRefused, Stops}
-use Rattle.rn_syntax.specs.Faults.{HasNoFault, HasFault, StopsAt, IsFaultOfTree, IsFault}
+use Rattle.rn_syntax.specs.Faults.{HasNoFault, HasModuleFault, StopsAt, IsFaultOfTree, IsFault}
 use Rattle.rn_syntax.specs.Places.{deep, first, prefix_places, builtin_places, context_places, except_places}
-use Rattle.rn_syntax.specs.Reading.{AreSpelled, IsPlace, last_end}
+use Rattle.rn_syntax.specs.Spelled.{AreSpelled, IsPlace, last_end}
 use Rattle.rn_syntax.proofs.OneTree.{one_tree}
 
 -- ---- where tokens stop to begin a module
@@ -79,7 +79,7 @@ one_some o x y = cc
 none_some : {i : ℕ} (o : Option ℕ) → o ≡ None → o ≡ Some i → ⊥
 none_some o x y = cc
 
-pub fault_of_tree : (m : Module) (e f : SyntaxFault) → HasFault m e → HasFault m f → e ≡ f
+pub fault_of_tree : (m : Module) (e f : SyntaxFault) → HasModuleFault m e → HasModuleFault m f → e ≡ f
 fault_of_tree m (Prefix i) (Prefix j) x y = ap Prefix (one_some _ x y)
 fault_of_tree m (Prefix i) (Builtin j) x y = absurd (none_some _ y.0 x)
 fault_of_tree m (Prefix i) (ContextValue j) x y = absurd (none_some _ y.0 x)
@@ -112,7 +112,7 @@ fault_of_tree m (Except i) (Deep j) x y = absurd y
 fault_of_tree m (Except i) (Syntax j) x y = absurd y
 fault_of_tree m (Except i) Memory x y = absurd y
 
-no_fault_of_tree : (m : Module) (e : SyntaxFault) → HasNoFault m → ¬ HasFault m e
+no_fault_of_tree : (m : Module) (e : SyntaxFault) → HasNoFault m → ¬ HasModuleFault m e
 no_fault_of_tree m (Deep i) n x = x
 no_fault_of_tree m (Syntax i) n x = x
 no_fault_of_tree m (Prefix i) n x = none_some _ n.prefix x
@@ -134,7 +134,7 @@ module _ (xs : List Token) (spelled : AreSpelled xs) where
   abbrev IsKind : SyntaxFault → Kind → Type 0
   IsKind e (too_deep at) = (deep 0 ts ≡ Some at) × (e ≡ Deep at)
   IsKind e (no_module at) = (deep 0 ts ≡ None) × StopsAt xs at × (e ≡ Syntax at)
-  IsKind e (a_module m f) = (deep 0 ts ≡ None) × HasTree ts m × HasFault m f × (e ≡ f)
+  IsKind e (a_module m f) = (deep 0 ts ≡ None) × HasTree ts m × HasModuleFault m f × (e ≡ f)
 
   tree_kind : (e : SyntaxFault) → IsFaultOfTree xs e → (k : Kind) × IsKind e k
   tree_kind e (d, m, tree, fault) = (a_module m e, (d, tree spelled, fault, refl))
@@ -157,7 +157,7 @@ module _ (xs : List Token) (spelled : AreSpelled xs) where
   same_kind e f (no_module i) (a_module n h) x y = absurd (no_tree ts x.1.0 x.1.1 n y.1)
   same_kind e f (a_module m g) (too_deep j) x y = absurd (none_some _ x.0 y.0)
   same_kind e f (a_module m g) (no_module j) x y = absurd (no_tree ts y.1.0 y.1.1 m x.1)
-  same_kind e f (a_module m g) (a_module n h) x y = x.3 ∙ fault_of_tree m g h x.2 (subst (λ z. HasFault z h) (one_tree ts n m y.1 x.1) y.2) ∙ sym y.3
+  same_kind e f (a_module m g) (a_module n h) x y = x.3 ∙ fault_of_tree m g h x.2 (subst (λ z. HasModuleFault z h) (one_tree ts n m y.1 x.1) y.2) ∙ sym y.3
 
   pub one_fault : (e f : SyntaxFault) → IsFault xs e → IsFault xs f → e ≢ Memory → f ≢ Memory → e ≡ f
   one_fault e f x y p q =
@@ -172,7 +172,7 @@ module _ (xs : List Token) (spelled : AreSpelled xs) where
   not_of_kind : (m : Module) (e : SyntaxFault) (k : Kind) → IsSound m → ¬ IsKind e k
   not_of_kind m e (too_deep i) s x = none_some _ s.0 x.0
   not_of_kind m e (no_module i) s x = no_tree ts x.1.0 x.1.1 m s.1
-  not_of_kind m e (a_module n f) s x = no_fault_of_tree m f s.2 (subst (λ z. HasFault z f) (one_tree ts n m x.1 s.1) x.2)
+  not_of_kind m e (a_module n f) s x = no_fault_of_tree m f s.2 (subst (λ z. HasModuleFault z f) (one_tree ts n m x.1 s.1) x.2)
 
   memory_by : (e : SyntaxFault) → ((e ≢ Memory) → ⊥) → e ≡ Memory
   memory_by (Deep at) h = absurd (h (λ e. cc))

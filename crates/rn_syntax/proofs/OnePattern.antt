@@ -8,7 +8,7 @@ use Rattle.rn_syntax.specs.Terminal.{Terminal, Placed, ◌#◌, ident, keyword, 
 use Rattle.rn_syntax.specs.Tree as t
 use Rattle.rn_syntax.specs.Tree.{Datatype, Params, AnyName, NameClass, Pattern, Uri, Declaration, Item, Module, patterns_of, classes_of, items_of}
 use Rattle.rn_syntax.specs.Grammar as g
-use Rattle.rn_syntax.specs.Follow.{Starts, no_bracket, no_follow, no_tilde, behind_primary, behind_operand, behind_pattern, first, no_brace, behind_core}
+use Rattle.rn_syntax.specs.inside.Follow.{Starts, no_bracket, no_follow, no_tilde, behind_primary, behind_operand, behind_pattern, first_terminal, no_brace, behind_core}
 use Rattle.rn_syntax.specs.Grammar.{Tokens, IsWord, IsLiteral, Closed, IsAnnotation, MayHaveAnnotation, AreFollows, IsDatatype, AreParams, MayHaveParams, IsAnyName, IsNameClass, AreMoreClasses, IsClassOperand, IsClassPrimary, IsClassCore, IsPattern, AreMore, IsOperand, IsPrimary, IsCore, IsUri, IsDeclaration, AreDeclarations, IsComponent, IsNote, AreInnerItems, MayInherit, MayHaveOverrides, AreItems}
 use Rattle.rn_syntax.proofs.OneClass.{literal_one, may_one, follows_one, datatype_one, starts_to, first_placed, tail, may_params_one, minus_stays, class_one}
 
@@ -73,16 +73,16 @@ tag (g.typed_value d l) = 9
 tag (g.datum d m) = 9
 tag (g.parens p) = 10
 
-pub datatype_kind : {x : Placed} {d : Datatype} (us : Tokens) → IsDatatype x d → kind_of (first (x ∷ us)) ≡ 9
+pub datatype_kind : {x : Placed} {d : Datatype} (us : Tokens) → IsDatatype x d → kind_of (first_terminal (x ∷ us)) ≡ 9
 datatype_kind us g.string = refl
 datatype_kind us g.token = refl
 datatype_kind us g.named = refl
 
-pub literal_kind : {ts r : Tokens} {s : List ℕ} → IsLiteral ts s r → kind_of (first ts) ≡ 8
+pub literal_kind : {ts r : Tokens} {s : List ℕ} → IsLiteral ts s r → kind_of (first_terminal ts) ≡ 8
 literal_kind g.one = refl
 literal_kind (g.joined l) = refl
 
-pub core_kind : {ts r : Tokens} {p : Pattern} (c : IsCore ts p r) → kind_of (first ts) ≡ tag c
+pub core_kind : {ts r : Tokens} {p : Pattern} (c : IsCore ts p r) → kind_of (first_terminal ts) ≡ tag c
 unfolding tag
 core_kind (g.element c p) = refl
 core_kind (g.attribute c p) = refl
@@ -100,7 +100,7 @@ core_kind (g.parens p) = refl
 pub other_core : {ts r r' : Tokens} {p q : Pattern} (c : IsCore ts p r) (d : IsCore ts q r') → (tag c ≡ tag d → ⊥) → ⊥
 other_core c d n = n (sym (core_kind c) ∙ core_kind d)
 
-pub kind_no_bracket : (ts : Tokens) (n : ℕ) → n < 11 → kind_of (first ts) ≡ n → Starts no_bracket ts
+pub kind_no_bracket : (ts : Tokens) (n : ℕ) → n < 11 → kind_of (first_terminal ts) ≡ n → Starts no_bracket ts
 kind_no_bracket [] n l e = tt
 kind_no_bracket (left_bracket # i ∷ ts) n l e = absurd (omega (arith, l, e))
 kind_no_bracket (x # i ∷ ts) n l e = refl
@@ -126,7 +126,7 @@ core_front {ts = ts} c = kind_no_bracket ts (tag c) (tag_small c) (core_kind c)
 pub datatype_front : {x : Placed} {d : Datatype} (us : Tokens) → IsDatatype x d → Starts no_bracket (x ∷ us)
 datatype_front us n = kind_no_bracket (_ ∷ us) 9 (omega arith) (datatype_kind us n)
 
-pub datum_core : {x : Placed} {us r : Tokens} {p : Pattern} {d : Datatype} → IsCore (x ∷ us) p r → IsDatatype x d → (kind_of (first us) ≡ 8) ⊎ ((ps : Params) × MayHaveParams us ps r)
+pub datum_core : {x : Placed} {us r : Tokens} {p : Pattern} {d : Datatype} → IsCore (x ∷ us) p r → IsDatatype x d → (kind_of (first_terminal us) ≡ 8) ⊎ ((ps : Params) × MayHaveParams us ps r)
 datum_core (g.typed_value y l) n = inl (literal_kind l)
 datum_core (g.datum {ps = ps} y m) n = inr (ps, m)
 datum_core {us = us} (g.value l) n = absurd (omega (arith, literal_kind l, datatype_kind us n))
@@ -140,7 +140,7 @@ datum_core g.text n = elim n [ ]
 datum_core g.ref n = elim n [ ]
 datum_core (g.parens p) n = elim n [ ]
 
-pub params_kind : {mid after : Tokens} {ps : Params} {i : ℕ} → MayHaveParams mid ps (minus # i ∷ after) → kind_of (first mid) ≡ 11
+pub params_kind : {mid after : Tokens} {ps : Params} {i : ℕ} → MayHaveParams mid ps (minus # i ∷ after) → kind_of (first_terminal mid) ≡ 11
 params_kind g.none = refl
 params_kind (g.braces k) = refl
 
@@ -169,7 +169,7 @@ pub more_not : {op : Operator} {ts r : Tokens} {ps : List Pattern} → AreMore o
 more_not (g.last o) e = false≢true e
 more_not (g.more o m) e = false≢true e
 
-pub more_op : {op : Operator} {ts r : Tokens} {ps : List Pattern} → AreMore op ts ps r → first ts ≡ operator op
+pub more_op : {op : Operator} {ts r : Tokens} {ps : List Pattern} → AreMore op ts ps r → first_terminal ts ≡ operator op
 more_op (g.last o) = refl
 more_op (g.more o m) = refl
 
@@ -213,7 +213,7 @@ mutual
   operand_one {r' = r'} (g.repeated p f) (g.plain q) a b = let e = primary_one p q refl (starts_to behind_operand behind_primary to_primary r' b) in absurd (false≢true (subst (Starts behind_operand) (sym e.1) b))
   operand_one {r = r} {r' = r'} (g.repeated {s = s} p f) (g.repeated {s = s'} q f') a b =
       let e = primary_one p q refl refl in
-      let es : s ≡ s' = same_postfix s s' (ap first e.1) in
+      let es : s ≡ s' = same_postfix s s' (ap first_terminal e.1) in
       let to : (x : Tokens) → Starts behind_operand x → Starts no_follow x = λ x h. starts_to behind_primary no_follow primary_to_follow x (starts_to behind_operand behind_primary to_primary x h) in
       ((λ i. t.repeated (es i) (e.0 i)), follows_one f (subst (λ y. AreFollows y r') (sym (ap tail e.1)) f') (to r a) (to r' b))
   operand_one (g.repeated p f) (g.except m n k q) a b = absurd (except_not p m n k refl)

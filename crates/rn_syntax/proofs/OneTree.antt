@@ -6,7 +6,7 @@ use Rattle.rn_syntax.specs.Terminal.{Terminal, ◌#◌, ident, keyword, prefixed
 use Rattle.rn_syntax.specs.Tree as t
 use Rattle.rn_syntax.specs.Tree.{Datatype, Params, AnyName, NameClass, Pattern, Uri, Declaration, Item, Module, patterns_of, classes_of, items_of}
 use Rattle.rn_syntax.specs.Grammar as g
-use Rattle.rn_syntax.specs.Follow.{Starts, no_bracket, no_tilde, behind_pattern, first, no_brace, begins_item, is_end, no_inherit, no_declaration}
+use Rattle.rn_syntax.specs.inside.Follow.{Starts, no_bracket, no_tilde, behind_pattern, first_terminal, no_brace, begins_item, is_end, no_inherit, no_declaration}
 use Rattle.rn_syntax.specs.Grammar.{Tokens, IsWord, IsLiteral, Closed, IsAnnotation, MayHaveAnnotation, AreFollows, IsDatatype, AreParams, MayHaveParams, IsAnyName, IsNameClass, AreMoreClasses, IsClassOperand, IsClassPrimary, IsClassCore, IsPattern, AreMore, IsOperand, IsPrimary, IsCore, IsUri, IsDeclaration, AreDeclarations, IsComponent, IsNote, AreInnerItems, MayInherit, MayHaveOverrides, AreItems}
 use Rattle.rn_syntax.specs.Fault.{HasTree}
 use Rattle.rn_syntax.proofs.OneClass.{literal_one, annotation_one, may_one, word_one, starts_to, tail, word_is}
@@ -222,11 +222,11 @@ items_one {r' = r'} (g.div m n o) (g.div {l = l'} {after = after'} {ys = zs} {xs
     let f = items_one n (subst (λ z. AreItems z zs (right_brace # l' ∷ after')) (sym (ap (λ z. tail (tail z)) e)) n') refl refl in
     let h = items_one o (subst (λ z. AreItems z ys r') (sym (ap tail f.1)) o') a b in
     ((λ i. t.div (items_of (f.0 i)) ∷ h.0 i), h.1)
-items_one (g.div m n o) (g.include m' l h o' n') a b = let e = ap (λ z. is_include (first z)) (may_one m m' refl refl) in absurd (false≢true e)
+items_one (g.div m n o) (g.include m' l h o' n') a b = let e = ap (λ z. is_include (first_terminal z)) (may_one m m' refl refl) in absurd (false≢true e)
 items_one (g.div m n o) (g.note k l) a b = absurd (keyword_note m k)
 items_one (g.include m l h o n) g.none a b = absurd (may_end m (λ e. false≢true e) b)
 items_one (g.include m l h o n) (g.component {after = after} {x = x} m' c n') a b = let e = may_one m' m (component_front c).1 refl in absurd (component_include (subst (λ z. IsComponent z x after) e c))
-items_one (g.include m l h o n) (g.div m' n' o') a b = let e = ap (λ z. is_include (first z)) (may_one m' m refl refl) in absurd (false≢true e)
+items_one (g.include m l h o n) (g.div m' n' o') a b = let e = ap (λ z. is_include (first_terminal z)) (may_one m' m refl refl) in absurd (false≢true e)
 items_one {r' = r'} (g.include {own = own} {after = after} m l h o n) (g.include {s = s'} {h = i'} {behind = behind'} {own = own'} {after = after'} {ys = zs} {xs = ys} m' l' h' o' n') a b =
     let e = ap tail (may_one m m' refl refl) in
     let f = items_front n a in
@@ -246,8 +246,8 @@ items_one {r' = r'} {ys = ys} (g.note n m) (g.note n' m') a b = items_one m (sub
 pub items_grammar : {ts us : Tokens} {i : ℕ} {xs : List Item} → AreItems ts xs [] → MayHaveAnnotation ts (keyword k.Grammar # i ∷ us) → ⊥
 items_grammar g.none (g.annotated b) = elim b [ ]
 items_grammar (g.component {after = after} {x = x} m c n) a = let e = may_one m a (component_front c).1 refl in component_grammar (subst (λ z. IsComponent z x after) e c)
-items_grammar (g.div m n o) a = let e = ap (λ z. is_grammar (first z)) (may_one m a refl refl) in false≢true e
-items_grammar (g.include m l h o n) a = let e = ap (λ z. is_grammar (first z)) (may_one m a refl refl) in false≢true e
+items_grammar (g.div m n o) a = let e = ap (λ z. is_grammar (first_terminal z)) (may_one m a refl refl) in false≢true e
+items_grammar (g.include m l h o n) a = let e = ap (λ z. is_grammar (first_terminal z)) (may_one m a refl refl) in false≢true e
 items_grammar (g.note n m) a = keyword_note a n
 
 -- tokens are one module

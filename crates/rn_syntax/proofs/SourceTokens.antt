@@ -10,7 +10,7 @@ use Rattle.rn_text.specs.Characters.{is_xml_char}
 use Rattle.rn_text.specs.Parts.{Piece, IsCut, spells}
 use Rattle.rn_text.specs.Tokens.{Lexeme, HasTokens, lexeme_of, lexeme_at, lexemes, unmarked, width}
 use Rattle.rn_text.proofs.Lexemes.{all_parts, xml_scalars, unmarked_xml}
-use Rattle.rn_syntax.specs.Reading.{IsSpelled, AreSpelled}
+use Rattle.rn_syntax.specs.Spelled.{SpellsItsKind, AreSpelled}
 
 abbrev Spelled : Lexeme → Type 0
 Spelled x = spells (part.Token x.kind) (chars x.text) ≡ true
@@ -26,7 +26,7 @@ pieces_spelled text rest (p ∷ ps) place (after, first, more) xml =
     one_more part.Comment s ts e scalars all = all
     one_more (part.Token k) s ts e scalars all = (subst (λ (l : List ℕ). spells (part.Token k) l ≡ true) (sym (chars-encodes s scalars)) e, all)
 
-each : (xs : List Token) → AllByRecursion Spelled (map lexeme_of xs) → (i : ℕ) (d : Token) → i < length xs → IsSpelled (get_or xs i d)
+each : (xs : List Token) → AllByRecursion Spelled (map lexeme_of xs) → (i : ℕ) (d : Token) → i < length xs → SpellsItsKind (get_or xs i d)
 each [] h i d l = absurd (omega arith)
 each (x ∷ xs) h zero d l = h.0
 each (x ∷ xs) h (suc i) d l = each xs h.1 i d (omega arith)

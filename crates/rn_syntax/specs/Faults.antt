@@ -9,7 +9,7 @@ use Rattle.rn_syntax.specs.Tree.{Module}
 use Rattle.rn_syntax.specs.Grammar.{Tokens}
 use Rattle.rn_syntax.specs.Tokens.{terminals}
 use Rattle.rn_syntax.specs.Fault.{HasTree, Stops}
-use Rattle.rn_syntax.specs.Reading.{AreSpelled, IsPlace}
+use Rattle.rn_syntax.specs.Spelled.{AreSpelled, IsPlace}
 use Rattle.rn_syntax.specs.Places.{deep, first, prefix_places, builtin_places, context_places, except_places}
 
 -- none stands
@@ -24,12 +24,12 @@ abbrev pub IsSound : List Token → Module → Type 0
 IsSound xs m = (deep 0 (terminals (map lexeme_of xs)) ≡ None) × HasTree (terminals (map lexeme_of xs)) m × HasNoFault m
 
 -- this one stands, and none of those that are looked for before it
-abbrev pub HasFault : Module → SyntaxFault → Type 0
-HasFault m (Prefix at) = first (prefix_places m) ≡ Some at
-HasFault m (Builtin at) = (first (prefix_places m) ≡ None) × (first (builtin_places m) ≡ Some at)
-HasFault m (ContextValue at) = (first (prefix_places m) ≡ None) × (first (builtin_places m) ≡ None) × (first (context_places m) ≡ Some at)
-HasFault m (Except at) = (first (prefix_places m) ≡ None) × (first (builtin_places m) ≡ None) × (first (context_places m) ≡ None) × (first (except_places m) ≡ Some at)
-HasFault m _ = ⊥
+abbrev pub HasModuleFault : Module → SyntaxFault → Type 0
+HasModuleFault m (Prefix at) = first (prefix_places m) ≡ Some at
+HasModuleFault m (Builtin at) = (first (prefix_places m) ≡ None) × (first (builtin_places m) ≡ Some at)
+HasModuleFault m (ContextValue at) = (first (prefix_places m) ≡ None) × (first (builtin_places m) ≡ None) × (first (context_places m) ≡ Some at)
+HasModuleFault m (Except at) = (first (prefix_places m) ≡ None) × (first (builtin_places m) ≡ None) × (first (context_places m) ≡ None) × (first (except_places m) ≡ Some at)
+HasModuleFault m _ = ⊥
 
 -- the tokens before this place begin a module, and with the one there none begins
 abbrev pub StopsAt : List Token → ℕ → Type 0
@@ -43,7 +43,7 @@ IsSyntax xs _ = ⊥
 
 -- no bracket is too many, and the tree of the tokens has the fault
 abbrev pub IsFaultOfTree : List Token → SyntaxFault → Type 0
-IsFaultOfTree xs e = (deep 0 (terminals (map lexeme_of xs)) ≡ None) × (m : Module) × (AreSpelled xs → HasTree (terminals (map lexeme_of xs)) m) × HasFault m e
+IsFaultOfTree xs e = (deep 0 (terminals (map lexeme_of xs)) ≡ None) × (m : Module) × (AreSpelled xs → HasTree (terminals (map lexeme_of xs)) m) × HasModuleFault m e
 
 -- this is the fault of the tokens, of which Deep comes first, and then Syntax
 abbrev pub IsFault : List Token → SyntaxFault → Type 0

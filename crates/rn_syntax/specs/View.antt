@@ -1,5 +1,6 @@
 -- The tree that a tree of the code stands for.
 use Rattle.std.specs.Prelude.{ℕ, Box, List, map, Option, Some, None}
+use Rattle.std.specs.Borrow.{Bor}
 use Rattle.std.specs.declared.alloc.Global.{Global}
 use Rattle.std.specs.Cow.{cow_str_bytes}
 use Rattle.rn_syntax.specs.declared.tree.Prefix as code_prefix
@@ -119,3 +120,7 @@ items_view xs = items_of (map item_view xs)
 
 abbrev pub module_view : code_module.Module → Module
 module_view m = record { declarations = map declaration_view m.decls.items; items = items_view m.items.items }
+
+-- borrowed texts
+abbrev pub texts_view : List (Bor (List ℕ)) → List (List ℕ)
+texts_view ts = map (λ t. t.now) ts

@@ -1,9 +1,9 @@
 // Annotations and notes, which leave nothing in the tree (compact syntax, section 2, annotations).
 ghost use Rattle.std.specs.Prelude.{◌≡◌, ◌≤◌, ◌<◌, length, IfOk, IfSome, IsTrue};
-ghost use Rattle.rn_syntax.specs.Follow.{Starts, Anything, no_bracket, no_follow};
+ghost use Rattle.rn_syntax.specs.inside.Follow.{Starts, Anything, no_bracket, no_follow};
 ghost use Rattle.rn_syntax.specs.Grammar.{Closed, IsAnnotation, MayHaveAnnotation, AreFollows};
-ghost use Rattle.rn_syntax.specs.Reading.{Passed, Advanced, Skips, rest};
-ghost use Rattle.rn_syntax.specs.Sequence.{IsFollow, is_note};
+ghost use Rattle.rn_syntax.specs.inside.Reading.{Passed, Advanced, Skips, rest};
+ghost use Rattle.rn_syntax.specs.inside.Sequence.{IsFollow, is_note};
 
 use crate::fault::Fault;
 use crate::terminals::{Terminal, next};

@@ -13,11 +13,11 @@ use crate::tree::{Declaration, Prefix, Uri};
 use std::alloc::{AllocError, Global};
 use std::collections::BTreeMap;
 
-/// The namespace of prefix `xml`.
-const XML: &str = "http://www.w3.org/XML/1998/namespace";
+/// The namespace of prefix `xml` (Namespaces in XML, section 3).
+pub const XML_URI: &str = "http://www.w3.org/XML/1998/namespace";
 
-/// The library of datatype prefix `xsd`.
-const XML_SCHEMA: &str = "http://www.w3.org/2001/XMLSchema-datatypes";
+/// The library of datatype prefix `xsd` (RELAX NG Compact Syntax, section 2, decl).
+pub const XSD_URI: &str = "http://www.w3.org/2001/XMLSchema-datatypes";
 
 /// What declarations bind, each prefix by the first that does.
 #[derive(Drop)]
@@ -32,6 +32,8 @@ pub(crate) struct Bindings<'m, 'a> {
 }
 
 impl<'m, 'a> Bindings<'m, 'a> {
+    ghost use Rattle.rn_syntax.specs.inside.Bound.{bound};
+
     /// What no declaration binds.
     fn new(alloc: Global) -> Self
         ensures { result.declarations.now ≡ [] }
@@ -46,24 +48,25 @@ impl<'m, 'a> Bindings<'m, 'a> {
 
     /// Whether the namespace prefix is bound.
     pub(crate) fn is_bound(&self, prefix: &str) -> bool
-        ensures { result ≡ places.is_bound (map declaration_view self.now.declarations.now) prefix.now }
+        ensures { result ≡ places.is_bound (bound self.now) prefix.now }
     {
         prefix == "xml" || self.namespaces.contains_key(prefix)
     }
 
     /// Whether the datatype prefix is bound.
     pub(crate) fn has_library(&self, prefix: &str) -> bool
-        ensures { result ≡ is_some (places.library_of (map declaration_view self.now.declarations.now) prefix.now) }
+        ensures { result ≡ is_some (places.library_of (bound self.now) prefix.now) }
     {
         prefix == "xsd" || self.libraries.contains_key(prefix)
     }
 
     /// Whether the datatype prefix is bound to this library.
     pub(crate) fn is_library(&self, prefix: &str, uri: &str) -> bool
-        ensures { result ≡ places.is_library (map declaration_view self.now.declarations.now) (places.library_of (map declaration_view self.now.declarations.now) prefix.now) uri.now }
+        ensures { result ≡ places.is_library (bound self.now)
+            (places.library_of (bound self.now) prefix.now) uri.now }
     {
         if prefix == "xsd" {
-            return XML_SCHEMA == uri;
+            return XSD_URI == uri;
         }
         match self.libraries.get(prefix) {
             Some(library) => *library == uri,
@@ -73,14 +76,17 @@ impl<'m, 'a> Bindings<'m, 'a> {
 
     /// Whether the prefix is bound to the library of XML Schema.
     pub(crate) fn is_xml_schema(&self, prefix: &str) -> bool
-        ensures { result ≡ places.is_library (map declaration_view self.now.declarations.now) (places.library_of (map declaration_view self.now.declarations.now) prefix.now) places.xsd_uri }
+        ensures { result ≡ places.is_library (bound self.now)
+            (places.library_of (bound self.now) prefix.now) places.xsd_uri }
     {
-        self.is_library(prefix, XML_SCHEMA)
+        self.is_library(prefix, XSD_URI)
     }
 
     /// The place of a namespace prefix that may not be bound so.
     fn wrong_namespace(&self, prefix: Prefix<'_>, uri: &Uri<'_>) -> Option<usize>
-        ensures { result ≡ first (places.place_if (places.is_wrong_namespace (map declaration_view self.now.declarations.now) prefix.entry.name.now (uri_view uri.now)) prefix.entry.at) }
+        ensures { result ≡ first (places.place_if
+            (places.is_wrong_namespace (bound self.now) prefix.entry.name.now (uri_view uri.now))
+            prefix.entry.at) }
     {
         let is_wrong = prefix.name == "xmlns"
             || (prefix.name == "xml" && !is_xml(uri))
@@ -90,9 +96,11 @@ impl<'m, 'a> Bindings<'m, 'a> {
 
     /// The place of a datatype prefix that may not be bound so.
     fn wrong_library(&self, prefix: Prefix<'_>, uri: &str) -> Option<usize>
-        ensures { result ≡ first (places.place_if (places.is_wrong_library (map declaration_view self.now.declarations.now) prefix.entry.name.now uri.now) prefix.entry.at) }
+        ensures { result ≡ first (places.place_if
+            (places.is_wrong_library (bound self.now) prefix.entry.name.now uri.now)
+            prefix.entry.at) }
     {
-        let is_wrong = (prefix.name == "xsd" && uri != XML_SCHEMA)
+        let is_wrong = (prefix.name == "xsd" && uri != XSD_URI)
             || self.libraries.contains_key(prefix.name);
         if is_wrong { Some(prefix.at) } else { None }
     }
@@ -126,7 +134,8 @@ impl<'m, 'a> Bindings<'m, 'a> {
     /// The place at which a declaration behind these is wrong.
     #[tactic(auto, using(crate::proofs::Firsts::none_first, crate::proofs::Firsts::some_first))]
     fn wrong_place(&self, declaration: &Declaration<'_>) -> Option<usize>
-        ensures { result ≡ first (places.declaration_places (map declaration_view self.now.declarations.now) (declaration_view declaration.now)) }
+        ensures { result ≡ first (places.declaration_places (bound self.now)
+            (declaration_view declaration.now)) }
     {
         match declaration {
             Declaration::Namespace(prefix, uri) => self.wrong_namespace(*prefix, uri),
@@ -139,7 +148,9 @@ impl<'m, 'a> Bindings<'m, 'a> {
 
     /// The first wrong place with that of a declaration behind these.
     fn first_wrong(&self, wrong: Option<usize>, declaration: &Declaration<'_>) -> Option<usize>
-        ensures { result ≡ (if is_some wrong then wrong else first (places.declaration_places (map declaration_view self.now.declarations.now) (declaration_view declaration.now))) }
+        ensures { result ≡ (if is_some wrong then wrong
+            else first (places.declaration_places (bound self.now)
+            (declaration_view declaration.now))) }
     {
         match wrong {
             Some(at) => Some(at),
@@ -163,14 +174,17 @@ fn is_xml(uri: &Uri<'_>) -> bool
     ensures { result ≡ places.is_xml_uri (uri_view uri.now) }
 {
     match uri {
-        Uri::Literal(text) => text.as_str() == XML,
+        Uri::Literal(text) => text.as_str() == XML_URI,
         Uri::Inherited => false,
     }
 }
 
 /// The namespace prefix that a declaration binds.
 fn namespace_prefix<'m>(declaration: &Declaration<'m>) -> Option<&'m str>
-    ensures { MatchOption result ((p : List ℕ) → is_some (places.declared_namespace (declaration_view declaration.now ∷ []) p) ≡ false) (λ q. (p : List ℕ) → is_some (places.declared_namespace (declaration_view declaration.now ∷ []) p) ≡ bytes_eq q.now p) }
+    ensures { MatchOption result ((p : List ℕ)
+        → is_some (places.declared_namespace (declaration_view declaration.now ∷ []) p) ≡ false)
+        (λ q. (p : List ℕ) → is_some (places.declared_namespace
+        (declaration_view declaration.now ∷ []) p) ≡ bytes_eq q.now p) }
 {
     match declaration {
         Declaration::Namespace(prefix, _) => Some(prefix.name),
@@ -184,7 +198,10 @@ fn with_namespace<'m>(
     mut namespaces: BTreeMap<&'m str, ()>,
     declaration: &Declaration<'m>,
 ) -> Result<BTreeMap<&'m str, ()>, AllocError>
-    ensures { IfOk result (λ m. (p : List ℕ) → is_some (tree.get_by (λ k. slice_cmp nat_cmp p k.now) m) ≡ (is_some (tree.get_by (λ k. slice_cmp nat_cmp p k.now) namespaces.entry) || is_some (places.declared_namespace (declaration_view declaration.now ∷ []) p))) }
+    ensures { IfOk result (λ m. (p : List ℕ)
+        → is_some (tree.get_by (λ k. slice_cmp nat_cmp p k.now) m)
+        ≡ (is_some (tree.get_by (λ k. slice_cmp nat_cmp p k.now) namespaces.entry)
+        || is_some (places.declared_namespace (declaration_view declaration.now ∷ []) p))) }
 {
     let Some(prefix) = namespace_prefix(declaration) else {
         return Ok(namespaces);
@@ -198,7 +215,11 @@ fn with_library<'m>(
     mut libraries: BTreeMap<&'m str, &'m str>,
     declaration: &'m Declaration<'_>,
 ) -> Result<BTreeMap<&'m str, &'m str>, AllocError>
-    ensures { IfOk result (λ m. (p : List ℕ) → option_map (λ v. v.now) (tree.get_by (λ k. slice_cmp nat_cmp p k.now) m) ≡ (if is_some (tree.get_by (λ k. slice_cmp nat_cmp p k.now) libraries.entry) then option_map (λ v. v.now) (tree.get_by (λ k. slice_cmp nat_cmp p k.now) libraries.entry) else places.declared_library (declaration_view declaration.now ∷ []) p)) }
+    ensures { IfOk result (λ m. (p : List ℕ)
+        → option_map (λ v. v.now) (tree.get_by (λ k. slice_cmp nat_cmp p k.now) m)
+        ≡ (if is_some (tree.get_by (λ k. slice_cmp nat_cmp p k.now) libraries.entry)
+        then option_map (λ v. v.now) (tree.get_by (λ k. slice_cmp nat_cmp p k.now) libraries.entry)
+        else places.declared_library (declaration_view declaration.now ∷ []) p)) }
 {
     let Declaration::Datatypes(prefix, uri) = declaration else {
         return Ok(libraries);
@@ -215,7 +236,8 @@ pub(crate) fn bind_all<'m, 'a>(
     alloc: Global,
     declarations: &'m [Declaration<'a>],
 ) -> Result<(Bindings<'m, 'a>, Option<usize>), AllocError>
-    ensures { IfOk result (λ r. (r.0.declarations.now ≡ declarations.now) × (r.1 ≡ first (places.declarations_places [] (map declaration_view declarations.now)))) }
+    ensures { IfOk result (λ r. (r.0.declarations.now ≡ declarations.now)
+        × (r.1 ≡ first (places.declarations_places [] (map declaration_view declarations.now)))) }
 {
     let mut bindings = Bindings::new(alloc);
     let mut wrong = None;

@@ -1,5 +1,5 @@
 // Values in their boxes.
-ghost use Rattle.rn_syntax.specs.Reading.{Makes};
+ghost use Rattle.rn_syntax.specs.inside.Reading.{Makes};
 
 use crate::fault::Fault;
 use std::alloc::Global;

@@ -2,8 +2,8 @@
 ghost use Rattle.std.specs.Prelude.{◌≡◌, ◌≤◌, ◌∷◌, ℕ, MatchOption, map};
 ghost use Rattle.rn_text.specs.Tokens.{lexeme_of};
 ghost use Rattle.rn_syntax.specs.Grammar as grammar;
-ghost use Rattle.rn_syntax.specs.Places.{deep};
-ghost use Rattle.rn_syntax.specs.Reading.{seen};
+ghost use Rattle.rn_syntax.specs.Places.{deep, max_open};
+ghost use Rattle.rn_syntax.specs.inside.Reading.{seen};
 ghost use Rattle.rn_syntax.specs.Terminal as term;
 ghost use Rattle.rn_syntax.specs.Terminal.{◌#◌};
 ghost use Rattle.rn_syntax.specs.Tokens.{placed, terminals};
@@ -12,17 +12,19 @@ use crate::terminals::{Terminal, symbol};
 use rn_text::{Kind, Token};
 
 /// How many brackets may be open at once.
-const DEEPEST: usize = 256;
+const MAX_OPEN: usize = 256;
 
 /// How many brackets are open behind a terminal, unless they are too many.
 fn open_behind(depth: usize, terminal: Terminal<'_>) -> Option<usize>
-    requires { depth ≤ 256 }
-    ensures bound { MatchOption result (depth ≡ 256) (λ n. n ≤ 256) }
-    ensures step { (x : term.Terminal) (i : ℕ) (ts : grammar.Tokens) → seen terminal.entry ≡ Some x → MatchOption result (deep depth (x # i ∷ ts) ≡ Some i) (λ n. deep depth (x # i ∷ ts) ≡ deep n ts) }
+    requires { depth ≤ max_open }
+    ensures bound { MatchOption result (depth ≡ max_open) (λ n. n ≤ max_open) }
+    ensures step { (x : term.Terminal) (i : ℕ) (ts : grammar.Tokens) → seen terminal.entry ≡ Some x
+        → MatchOption result (deep depth (x # i ∷ ts) ≡ Some i)
+        (λ n. deep depth (x # i ∷ ts) ≡ deep n ts) }
 {
     match terminal {
         Terminal::LeftBrace | Terminal::LeftParen | Terminal::LeftBracket => {
-            if depth < DEEPEST {
+            if depth < MAX_OPEN {
                 Some(depth + 1)
             } else {
                 None
@@ -37,9 +39,12 @@ fn open_behind(depth: usize, terminal: Terminal<'_>) -> Option<usize>
 
 /// The same behind a token.
 fn open_behind_token(depth: usize, token: Token<'_>) -> Option<usize>
-    requires { depth ≤ 256 }
-    ensures bound { MatchOption result (depth ≡ 256) (λ n. n ≤ 256) }
-    ensures step { (ts : grammar.Tokens) → MatchOption result (deep depth (placed (lexeme_of token.entry) ∷ ts) ≡ Some token.entry.start) (λ n. deep depth (placed (lexeme_of token.entry) ∷ ts) ≡ deep n ts) }
+    requires { depth ≤ max_open }
+    ensures bound { MatchOption result (depth ≡ max_open) (λ n. n ≤ max_open) }
+    ensures step { (ts : grammar.Tokens)
+        → MatchOption result
+        (deep depth (placed (lexeme_of token.entry) ∷ ts) ≡ Some token.entry.start)
+        (λ n. deep depth (placed (lexeme_of token.entry) ∷ ts) ≡ deep n ts) }
 {
     match token.kind {
         Kind::Symbol => open_behind(depth, symbol(token.text)),

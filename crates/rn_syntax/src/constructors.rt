@@ -1,7 +1,7 @@
 // Patterns made by their readers, each in its box with the index behind it.
 ghost use Rattle.std.specs.Prelude.{◌≡◌, ◌++◌, ◌∷◌, [], Some, None, map, OnOk};
 ghost use Rattle.std.specs.Cow.{cow_str_bytes};
-ghost use Rattle.rn_syntax.specs.Reading.{Makes};
+ghost use Rattle.rn_syntax.specs.inside.Reading.{Makes};
 ghost use Rattle.rn_syntax.specs.Tree as tree;
 ghost use Rattle.rn_syntax.specs.View.{boxed_class_view, boxed_view, datatype_view, params_view, pattern_view, patterns_view};
 
@@ -18,7 +18,8 @@ pub(crate) fn element<'a>(
     content: Box<Pat<'a>>,
     end: usize,
 ) -> Result<(Box<Pat<'a>>, usize), Fault>
-    ensures { Makes boxed_view (tree.element (boxed_class_view class.entry) (boxed_view content.entry)) end result }
+    ensures { Makes boxed_view (tree.element (boxed_class_view class.entry)
+        (boxed_view content.entry)) end result }
 {
     boxed(alloc, Pat::Element(Box::into_inner(class), content), end)
 }
@@ -29,7 +30,8 @@ pub(crate) fn attribute<'a>(
     content: Box<Pat<'a>>,
     end: usize,
 ) -> Result<(Box<Pat<'a>>, usize), Fault>
-    ensures { Makes boxed_view (tree.attribute (boxed_class_view class.entry) (boxed_view content.entry)) end result }
+    ensures { Makes boxed_view (tree.attribute (boxed_class_view class.entry)
+        (boxed_view content.entry)) end result }
 {
     boxed(alloc, Pat::Attribute(Box::into_inner(class), content), end)
 }
@@ -98,7 +100,8 @@ pub(crate) fn value<'a>(
     text: CowStr<'a>,
     end: usize,
 ) -> Result<(Box<Pat<'a>>, usize), Fault>
-    ensures { Makes boxed_view (tree.value (Some (datatype_view datatype.entry)) (cow_str_bytes text.entry)) end result }
+    ensures { Makes boxed_view (tree.value (Some (datatype_view datatype.entry))
+        (cow_str_bytes text.entry)) end result }
 {
     boxed(alloc, Pat::Value(Some(datatype), text), end)
 }
@@ -109,7 +112,8 @@ pub(crate) fn datum<'a>(
     params: Vec<Param<'a>>,
     end: usize,
 ) -> Result<(Box<Pat<'a>>, usize), Fault>
-    ensures { Makes boxed_view (tree.datum (datatype_view datatype.entry) (params_view params.entry.items)) end result }
+    ensures { Makes boxed_view (tree.datum (datatype_view datatype.entry)
+        (params_view params.entry.items)) end result }
 {
     boxed(alloc, Pat::Datum(datatype, params), end)
 }
@@ -122,7 +126,8 @@ pub(crate) fn datum_but<'a>(
     except: Box<Pat<'a>>,
     end: usize,
 ) -> Result<(Box<Pat<'a>>, usize), Fault>
-    ensures { Makes boxed_view (tree.datum_but (datatype_view datatype.entry) (params_view params.entry.items) at (boxed_view except.entry)) end result }
+    ensures { Makes boxed_view (tree.datum_but (datatype_view datatype.entry)
+        (params_view params.entry.items) at (boxed_view except.entry)) end result }
 {
     boxed(alloc, Pat::DatumBut(datatype, params, at, except), end)
 }
@@ -144,7 +149,8 @@ pub(crate) fn chain<'a>(
     members: Vec<Pat<'a>>,
     end: usize,
 ) -> Result<(Box<Pat<'a>>, usize), Fault>
-    ensures { Makes boxed_view (tree.chain operator (patterns_view members.entry.items)) end result }
+    ensures { Makes boxed_view (tree.chain operator
+        (patterns_view members.entry.items)) end result }
 {
     boxed(alloc, Pat::Chain(operator, members), end)
 }
@@ -154,7 +160,8 @@ pub(crate) fn push_member<'a>(
     members: &mut Vec<Pat<'a>>,
     member: Box<Pat<'a>>,
 ) -> Result<(), AllocError>
-    ensures { OnOk result (map pattern_view members.new.items ≡ map pattern_view members.old.items ++ boxed_view member.entry ∷ []) }
+    ensures { OnOk result (map pattern_view members.new.items
+        ≡ map pattern_view members.old.items ++ boxed_view member.entry ∷ []) }
 {
     members.push(Box::into_inner(member))?;
     Ok(())

@@ -1,9 +1,9 @@
 // Datatypes and their parameters (compact syntax, section 2, datatypeName and param).
 ghost use Rattle.std.specs.Prelude.{◌≡◌, ◌≤◌, ◌<◌, ◌+◌, length, false, IfOk, IfSome, IsTrue, MatchOption};
-ghost use Rattle.rn_syntax.specs.Follow.{Starts, begins_datatype, first, is_end, no_brace, no_tilde};
+ghost use Rattle.rn_syntax.specs.inside.Follow.{Starts, begins_datatype, first_terminal, is_end, no_brace, no_tilde};
 ghost use Rattle.rn_syntax.specs.Grammar.{IsDatatype, MayHaveParams};
-ghost use Rattle.rn_syntax.specs.Reading.{Passed, Advanced, Reads, rest};
-ghost use Rattle.rn_syntax.specs.Sequence.{IsHere, IsParam};
+ghost use Rattle.rn_syntax.specs.inside.Reading.{Passed, Advanced, Reads, rest};
+ghost use Rattle.rn_syntax.specs.inside.Sequence.{IsHere, IsParam};
 ghost use Rattle.rn_syntax.specs.View.{datatype_view, param_view, params_view};
 
 use crate::annotations::skip_annotation;
@@ -18,7 +18,9 @@ use std::alloc::Global;
 /// `dt = "string" | "token" | Prefixed`
 pub(crate) fn datatype<'a>(tokens: &[Token<'a>], at: usize) -> Option<Datatype<'a>>
     ensures inside { IfSome result (λ _. at < length tokens.now) }
-    ensures names { MatchOption result (begins_datatype (first (rest tokens.now at)) ≡ false) (λ d. IsHere IsDatatype (rest tokens.now at) (datatype_view d) (rest tokens.now (at + 1))) }
+    ensures names { MatchOption result (begins_datatype
+        (first_terminal (rest tokens.now at)) ≡ false)
+        (λ d. IsHere IsDatatype (rest tokens.now at) (datatype_view d) (rest tokens.now (at + 1))) }
 {
     match next(tokens, at) {
         Terminal::Prefixed(name, local) => {
@@ -55,7 +57,7 @@ fn param<'a>(alloc: Global, tokens: &[Token<'a>], at: usize) -> Result<(Param<'a
 /// Whether the next token is `}`.
 fn is_right_brace(tokens: &[Token<'_>], at: usize) -> bool
     ensures inside { IsTrue result → at < length tokens.now }
-    ensures is { result ≡ is_end (first (rest tokens.now at)) }
+    ensures is { result ≡ is_end (first_terminal (rest tokens.now at)) }
 {
     match next(tokens, at) {
         Terminal::RightBrace => true,
@@ -71,7 +73,8 @@ pub(crate) fn params<'a>(
 ) -> Result<(Vec<Param<'a>>, usize), Fault>
     requires { at ≤ length tokens.now }
     ensures inside { IfOk result (λ r. Passed at r.1 (length tokens.now)) }
-    ensures reads { Reads MayHaveParams (Starts no_brace) (λ v. params_view v.items) tokens.now at result }
+    ensures reads { Reads MayHaveParams (Starts no_brace)
+        (λ v. params_view v.items) tokens.now at result }
 {
     let mut params = Vec::new(alloc);
     let Terminal::LeftBrace = next(tokens, at) else {

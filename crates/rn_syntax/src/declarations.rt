@@ -1,10 +1,10 @@
 // Declarations of prefixes (compact syntax, section 2, decl).
 ghost use Rattle.std.specs.Prelude.{◌≡◌, ◌≤◌, ◌<◌, length, map, IfOk, IsTrue};
-ghost use Rattle.rn_syntax.specs.Declaring.{IsDatatypesEnd, IsDefaultEnd, IsNamespaceEnd, MayHaveDefaultPrefix};
-ghost use Rattle.rn_syntax.specs.Follow.{Starts, Anything, begins_declaration, begins_item, first, no_tilde, no_word};
+ghost use Rattle.rn_syntax.specs.inside.Declaring.{IsDatatypesEnd, IsDefaultEnd, IsNamespaceEnd, MayHaveDefaultPrefix};
+ghost use Rattle.rn_syntax.specs.inside.Follow.{Starts, Anything, begins_declaration, begins_item, first_terminal, no_tilde, no_word};
 ghost use Rattle.rn_syntax.specs.Grammar.{AreDeclarations, IsDeclaration, IsUri};
-ghost use Rattle.rn_syntax.specs.Reading.{Passed, Advanced, Reads, ReadsOne, rest};
-ghost use Rattle.rn_syntax.specs.Sequence.{IsOf, IsPrefixAt};
+ghost use Rattle.rn_syntax.specs.inside.Reading.{Passed, Advanced, Reads, ReadsOne, rest};
+ghost use Rattle.rn_syntax.specs.inside.Sequence.{IsOf, IsPrefixAt};
 ghost use Rattle.rn_syntax.specs.View.{declaration_view, place_view, prefix_view, uri_view};
 
 use crate::fault::Fault;
@@ -21,7 +21,8 @@ pub(crate) fn declarations<'a>(
     tokens: &[Token<'a>],
 ) -> Result<(Vec<Declaration<'a>>, usize), Fault>
     ensures inside { IfOk result (λ r. r.1 ≤ length tokens.now) }
-    ensures reads { Reads AreDeclarations (Starts begins_item) (λ v. map declaration_view v.items) tokens.now 0 result }
+    ensures reads { Reads AreDeclarations (Starts begins_item)
+        (λ v. map declaration_view v.items) tokens.now 0 result }
 {
     let mut declarations = Vec::new(alloc);
     let mut end = 0;
@@ -35,7 +36,7 @@ pub(crate) fn declarations<'a>(
 
 fn begins_declaration(tokens: &[Token<'_>], at: usize) -> bool
     ensures inside { IsTrue result → at < length tokens.now }
-    ensures is { result ≡ begins_declaration (first (rest tokens.now at)) }
+    ensures is { result ≡ begins_declaration (first_terminal (rest tokens.now at)) }
 {
     match next(tokens, at) {
         Terminal::Keyword(keyword) => match keyword {
@@ -104,7 +105,8 @@ fn default<'a>(
 ) -> Result<(Declaration<'a>, usize), Fault>
     requires { at ≤ length tokens.now }
     ensures inside { IfOk result (λ r. Advanced at r.1 (length tokens.now)) }
-    ensures reads { Reads (IsDefaultEnd start) (Starts no_tilde) declaration_view tokens.now at result }
+    ensures reads { Reads (IsDefaultEnd start)
+        (Starts no_tilde) declaration_view tokens.now at result }
 {
     if !is_keyword(tokens, at, Keyword::Namespace) {
         return Err(Fault::Stuck(at));

@@ -1,10 +1,10 @@
 // The items of a grammar, and those of an include (compact syntax, section 2, grammarContent and includeContent).
 ghost use Rattle.std.specs.Prelude.{◌≡◌, ◌≤◌, ◌<◌, length, map, IfOk, IsTrue};
 ghost use Rattle.std.specs.Cow.{cow_str_bytes};
-ghost use Rattle.rn_syntax.specs.Follow.{Anything, Starts, begins_item, behind_pattern, first, is_end, no_brace, no_inherit};
+ghost use Rattle.rn_syntax.specs.inside.Follow.{Anything, Starts, begins_item, behind_pattern, first_terminal, is_end, no_brace, no_inherit};
 ghost use Rattle.rn_syntax.specs.Grammar.{AreInnerItems, AreItems, IsComponent, MayInherit, MayHaveOverrides};
-ghost use Rattle.rn_syntax.specs.Including.{AreItemsBehind, IsDivEnd, IsIncludeEnd, IsInnerItem, IsInnerDivEnd, IsItem, opens_inner, opens_item};
-ghost use Rattle.rn_syntax.specs.Reading.{Passed, Advanced, Reads, rest};
+ghost use Rattle.rn_syntax.specs.inside.Including.{AreItemsBehind, IsDivEnd, IsIncludeEnd, IsInnerItem, IsInnerDivEnd, IsItem, opens_inner, opens_item};
+ghost use Rattle.rn_syntax.specs.inside.Reading.{Passed, Advanced, Reads, rest};
 ghost use Rattle.rn_syntax.specs.Tree as tree;
 ghost use Rattle.rn_syntax.specs.View.{boxed_view, item_view, items_view, prefix_view};
 
@@ -39,7 +39,8 @@ fn division(items: Vec<Item<'_>>) -> Item<'_>
 }
 
 fn inclusion<'a>(wanted: CowStr<'a>, inherit: Option<Prefix<'a>>, items: Vec<Item<'a>>) -> Item<'a>
-    ensures { item_view result ≡ tree.include (cow_str_bytes wanted.entry) (prefix_view inherit.entry) (items_view items.entry.items) }
+    ensures { item_view result ≡ tree.include (cow_str_bytes wanted.entry)
+        (prefix_view inherit.entry) (items_view items.entry.items) }
 {
     Item::Include {
         wanted,
@@ -51,7 +52,7 @@ fn inclusion<'a>(wanted: CowStr<'a>, inherit: Option<Prefix<'a>>, items: Vec<Ite
 /// Whether an item begins here, or a note.
 fn begins_item(tokens: &[Token<'_>], at: usize) -> bool
     ensures inside { IsTrue result → at < length tokens.now }
-    ensures is { result ≡ opens_item (first (rest tokens.now at)) }
+    ensures is { result ≡ opens_item (first_terminal (rest tokens.now at)) }
 {
     match next(tokens, at) {
         Terminal::LeftBracket | Terminal::Ident(_) | Terminal::Prefixed(_, _) => true,
@@ -72,7 +73,8 @@ pub(crate) fn items<'a>(
 ) -> Result<(Vec<Item<'a>>, usize), Fault>
     requires { at ≤ length tokens.now }
     ensures inside { IfOk result (λ r. Passed at r.1 (length tokens.now)) }
-    ensures reads { Reads AreItems (Starts is_end) (λ v. map item_view v.items) tokens.now at result }
+    ensures reads { Reads AreItems (Starts is_end)
+        (λ v. map item_view v.items) tokens.now at result }
 {
     items_behind(alloc, tokens, at, Vec::new(alloc))
 }
@@ -87,7 +89,8 @@ pub(crate) fn items_behind<'a>(
 ) -> Result<(Vec<Item<'a>>, usize), Fault>
     requires { at ≤ length tokens.now }
     ensures inside { IfOk result (λ r. Passed at r.1 (length tokens.now)) }
-    ensures reads { Reads (AreItemsBehind (map item_view read.entry.items)) (Starts is_end) (λ v. map item_view v.items) tokens.now at result }
+    ensures reads { Reads (AreItemsBehind (map item_view read.entry.items)) (Starts is_end)
+        (λ v. map item_view v.items) tokens.now at result }
 {
     let mut items = read;
     let mut end = at;
@@ -196,7 +199,8 @@ fn overrides<'a>(
 ) -> Result<(Vec<Item<'a>>, usize), Fault>
     requires { at ≤ length tokens.now }
     ensures inside { IfOk result (λ r. Passed at r.1 (length tokens.now)) }
-    ensures reads { Reads MayHaveOverrides (Starts no_brace) (λ v. map item_view v.items) tokens.now at result }
+    ensures reads { Reads MayHaveOverrides (Starts no_brace)
+        (λ v. map item_view v.items) tokens.now at result }
 {
     let Terminal::LeftBrace = next(tokens, at) else {
         return Ok((Vec::new(alloc), at));
@@ -209,7 +213,7 @@ fn overrides<'a>(
 /// Whether an inner item begins here, or a note.
 fn begins_inner(tokens: &[Token<'_>], at: usize) -> bool
     ensures inside { IsTrue result → at < length tokens.now }
-    ensures is { result ≡ opens_inner (first (rest tokens.now at)) }
+    ensures is { result ≡ opens_inner (first_terminal (rest tokens.now at)) }
 {
     match next(tokens, at) {
         Terminal::LeftBracket | Terminal::Ident(_) | Terminal::Prefixed(_, _) => true,
@@ -230,7 +234,8 @@ fn inner_items<'a>(
 ) -> Result<(Vec<Item<'a>>, usize), Fault>
     requires { at ≤ length tokens.now }
     ensures inside { IfOk result (λ r. Passed at r.1 (length tokens.now)) }
-    ensures reads { Reads AreInnerItems (Starts is_end) (λ v. map item_view v.items) tokens.now at result }
+    ensures reads { Reads AreInnerItems (Starts is_end)
+        (λ v. map item_view v.items) tokens.now at result }
 {
     let mut items = Vec::new(alloc);
     let mut end = at;

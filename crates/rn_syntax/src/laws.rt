@@ -5,7 +5,7 @@ ghost use Rattle.rn_text.specs.declared.source.Token as source;
 ghost use Rattle.rn_syntax.specs.Fault.{HasTree};
 ghost use Rattle.rn_syntax.specs.Faults.{IsFault, IsSound};
 ghost use Rattle.rn_syntax.specs.Grammar.{Tokens};
-ghost use Rattle.rn_syntax.specs.Reading.{AreSpelled};
+ghost use Rattle.rn_syntax.specs.Spelled.{AreSpelled};
 ghost use Rattle.rn_syntax.specs.Tree.{Module};
 
 use crate::fault::SyntaxFault;
@@ -18,13 +18,18 @@ pub fn one_module_tree()
 /// Tokens that are spelled as their kinds say have at most one fault, want of memory aside, and none where they are a module
 /// that has none. That they are no such module and have no fault either is impossible.
 pub fn tokens_are_a_module_or_have_one_fault()
-    ensures never_neither { (xs : List source.Token) → AreSpelled xs → ¬ (((m : Module) → ¬ IsSound xs m) × ((fault : SyntaxFault) → IsFault xs fault → fault ≡ SyntaxFault.Memory)) }
-    ensures not_both { (xs : List source.Token) (m : Module) (fault : SyntaxFault) → AreSpelled xs → IsSound xs m → IsFault xs fault → fault ≡ SyntaxFault.Memory }
-    ensures one { (xs : List source.Token) (fault other : SyntaxFault) → AreSpelled xs → IsFault xs fault → IsFault xs other
+    ensures never_neither { (xs : List source.Token) → AreSpelled xs
+        → ¬ (((m : Module) → ¬ IsSound xs m)
+        × ((fault : SyntaxFault) → IsFault xs fault → fault ≡ SyntaxFault.Memory)) }
+    ensures not_both { (xs : List source.Token) (m : Module) (fault : SyntaxFault) → AreSpelled xs
+        → IsSound xs m → IsFault xs fault → fault ≡ SyntaxFault.Memory }
+    ensures one { (xs : List source.Token) (fault other : SyntaxFault) → AreSpelled xs
+        → IsFault xs fault → IsFault xs other
         → fault ≢ SyntaxFault.Memory → other ≢ SyntaxFault.Memory → fault ≡ other }
 {}
 
 /// The tokens of a text are spelled as their kinds say, as the answers of `parse` want them.
 pub fn tokens_of_texts_are_spelled()
-    ensures { (cs : List ℕ) (tokens : List source.Token) → HasTokens cs (map lexeme_of tokens) → AreSpelled tokens }
+    ensures { (cs : List ℕ) (tokens : List source.Token) → HasTokens cs (map lexeme_of tokens)
+        → AreSpelled tokens }
 {}

@@ -23,6 +23,7 @@ mod terminals;
 pub mod token;
 pub mod tree;
 
+pub use bindings::{XML_URI, XSD_URI};
 pub use fault::SyntaxFault;
 pub use included::includes;
 pub use reader::parse;

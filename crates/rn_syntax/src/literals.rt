@@ -1,18 +1,21 @@
 // Literals (compact syntax, section 2, literal).
-ghost use Rattle.std.specs.Prelude.{◌≡◌, ◌≤◌, ◌<◌, length, true, IfOk};
+ghost use Rattle.std.specs.Prelude.{◌≡◌, ◌≤◌, ◌<◌, ◌+◌, length, true, IfOk};
 ghost use Rattle.std.specs.Cow.{cow_str_bytes};
 ghost use Rattle.std.specs.Str.{chars, encode_utf8_all};
 ghost use Rattle.rn_text.specs.Segments as segments;
 ghost use Rattle.rn_text.specs.Segments.{is_segment, after_run};
-ghost use Rattle.rn_syntax.specs.Follow.{Starts, Anything, no_tilde};
+ghost use Rattle.rn_syntax.specs.inside.Borrowed.{is_borrowed, is_written, BorrowsAsWritten, SegmentBorrows};
+ghost use Rattle.rn_syntax.specs.inside.Follow.{Starts, Anything, no_tilde};
 ghost use Rattle.rn_syntax.specs.Grammar.{IsLiteral};
-ghost use Rattle.rn_syntax.specs.Reading.{Advanced, Reads, is_plain};
-ghost use Rattle.rn_syntax.specs.Sequence.{IsSegment};
+ghost use Rattle.rn_syntax.specs.inside.Reading.{Advanced, Reads, is_plain};
+ghost use Rattle.rn_syntax.specs.Spelled.{AreSpelled};
+ghost use Rattle.rn_syntax.specs.inside.Sequence.{IsSegment};
 
 use crate::fault::Fault;
 use crate::terminals::{Terminal, next};
 use rn_text::Token;
 use rn_text::literals::between_delimiters;
+use rn_text::segments::is_verbatim;
 use std::alloc::{AllocError, Global};
 use std::borrow::CowStr;
 
@@ -32,18 +35,19 @@ fn behind_plain(text: &str) -> &str
 
 /// The text of a segment: a slice of it where it is written as it is.
 fn segment_text<'a>(alloc: Global, segment: Token<'a>) -> Result<CowStr<'a>, AllocError>
-    ensures { IfOk result (λ text. is_segment (chars segment.entry.text.now) ≡ true → cow_str_bytes text ≡ encode_utf8_all (segments.segment_text (chars segment.entry.text.now))) }
+    ensures text { IfOk result (λ text. is_segment (chars segment.entry.text.now) ≡ true
+        → cow_str_bytes text ≡ encode_utf8_all
+        (segments.segment_text (chars segment.entry.text.now))) }
+    ensures borrows { IfOk result (λ text. is_segment (chars segment.entry.text.now) ≡ true
+        → is_borrowed text ≡ is_written segment.entry) }
 {
     let Some(written) = between_delimiters(segment.text) else {
         return Ok(CowStr::Borrowed(segment.text));
     };
-    if behind_plain(written).is_empty() {
+    if is_verbatim(behind_plain(written)) {
         return Ok(CowStr::Borrowed(written));
     }
     let text = rn_text::literal(alloc, &segment)?;
-    if text.as_str() == written {
-        return Ok(CowStr::Borrowed(written));
-    }
     Ok(CowStr::Owned(text))
 }
 
@@ -52,6 +56,8 @@ fn segment<'a>(alloc: Global, tokens: &[Token<'a>], at: usize) -> Result<(CowStr
     requires { at ≤ length tokens.now }
     ensures inside { IfOk result (λ r. Advanced at r.1 (length tokens.now)) }
     ensures reads { Reads IsSegment Anything cow_str_bytes tokens.now at result }
+    ensures one { IfOk result (λ r. r.1 ≡ at + 1) }
+    ensures borrows { IfOk result (λ r. AreSpelled tokens.now → SegmentBorrows tokens.now at r.0) }
 {
     match next(tokens, at) {
         Terminal::Segment(token) => Ok((segment_text(alloc, token)?, at + 1)),
@@ -68,6 +74,8 @@ pub(crate) fn literal<'a>(
     requires { at ≤ length tokens.now }
     ensures inside { IfOk result (λ r. Advanced at r.1 (length tokens.now)) }
     ensures reads { Reads IsLiteral (Starts no_tilde) cow_str_bytes tokens.now at result }
+    ensures borrows { IfOk result (λ r. AreSpelled tokens.now
+        → BorrowsAsWritten tokens.now at r.0) }
 {
     let (first, mut end) = segment(alloc, tokens, at)?;
     let Terminal::Tilde = next(tokens, end) else {

@@ -2,10 +2,11 @@
 ghost use Rattle.std.specs.Prelude.{◌≡◌, ◌≤◌, ◌<◌, length, map, IfErr, IfOk};
 ghost use Rattle.rn_text.specs.Tokens.{lexeme_of};
 ghost use Rattle.rn_syntax.specs.Fault.{HasTree};
-ghost use Rattle.rn_syntax.specs.Follow.{Starts, is_end};
-ghost use Rattle.rn_syntax.specs.Itemizing.{AreAnnotatedItems};
-ghost use Rattle.rn_syntax.specs.Modular.{IsAnnotatedBody, IsBody, IsGrammarEnd, IsModuleFault};
-ghost use Rattle.rn_syntax.specs.Reading.{AreSpelled, Passed, Reads};
+ghost use Rattle.rn_syntax.specs.inside.Follow.{Starts, is_end};
+ghost use Rattle.rn_syntax.specs.inside.Itemizing.{AreAnnotatedItems};
+ghost use Rattle.rn_syntax.specs.inside.Modular.{IsAnnotatedBody, IsBody, IsGrammarEnd, IsModuleFault};
+ghost use Rattle.rn_syntax.specs.inside.Reading.{Passed, Reads};
+ghost use Rattle.rn_syntax.specs.Spelled.{AreSpelled};
 ghost use Rattle.rn_syntax.specs.Tokens.{terminals};
 ghost use Rattle.rn_syntax.specs.View.{item_view, module_view};
 
@@ -21,7 +22,8 @@ use std::alloc::Global;
 
 /// `module = decl* item* | decl* [ann] "grammar" "{" item* "}" follow*`
 pub(crate) fn module<'a>(alloc: Global, tokens: &[Token<'a>]) -> Result<Module<'a>, Fault>
-    ensures tree { IfOk result (λ m. AreSpelled tokens.now → HasTree (terminals (map lexeme_of tokens.now)) (module_view m)) }
+    ensures tree { IfOk result (λ m. AreSpelled tokens.now
+        → HasTree (terminals (map lexeme_of tokens.now)) (module_view m)) }
     ensures stuck { IfErr result (IsModuleFault tokens.now) }
 {
     let (decls, at) = declarations(alloc, tokens)?;
@@ -56,7 +58,8 @@ fn annotated_body<'a>(
 ) -> Result<(Vec<Item<'a>>, usize), Fault>
     requires { at ≤ length tokens.now }
     ensures inside { IfOk result (λ r. Passed at r.1 (length tokens.now)) }
-    ensures reads { Reads IsAnnotatedBody (Starts is_end) (λ v. map item_view v.items) tokens.now at result }
+    ensures reads { Reads IsAnnotatedBody (Starts is_end)
+        (λ v. map item_view v.items) tokens.now at result }
 {
     if is_keyword(tokens, at, Keyword::Grammar) {
         return grammar(alloc, tokens, at + 1);
@@ -72,7 +75,8 @@ fn grammar<'a>(
 ) -> Result<(Vec<Item<'a>>, usize), Fault>
     requires { at ≤ length tokens.now }
     ensures inside { IfOk result (λ r. Passed at r.1 (length tokens.now)) }
-    ensures reads { Reads IsGrammarEnd (Starts is_end) (λ v. map item_view v.items) tokens.now at result }
+    ensures reads { Reads IsGrammarEnd (Starts is_end)
+        (λ v. map item_view v.items) tokens.now at result }
 {
     let inside = left_brace(tokens, at)?;
     let (items, close) = items(alloc, tokens, inside)?;
@@ -89,7 +93,8 @@ fn annotated_items<'a>(
 ) -> Result<(Vec<Item<'a>>, usize), Fault>
     requires { at ≤ length tokens.now }
     ensures inside { IfOk result (λ r. Passed at r.1 (length tokens.now)) }
-    ensures reads { Reads AreAnnotatedItems (Starts is_end) (λ v. map item_view v.items) tokens.now at result }
+    ensures reads { Reads AreAnnotatedItems (Starts is_end)
+        (λ v. map item_view v.items) tokens.now at result }
 {
     let mut read = Vec::new(alloc);
     let (first, end) = item(alloc, tokens, at)?;

@@ -1,9 +1,9 @@
 // Name classes (compact syntax, section 2, nameClass).
 ghost use Rattle.std.specs.Prelude.{◌≡◌, ◌≤◌, ◌<◌, ◌+◌, ◌++◌, ◌∷◌, [], length, map, false, IfOk, IfSome, OnOk, MatchOption};
-ghost use Rattle.rn_syntax.specs.Follow.{Starts, Anything, begins_any, behind_class, behind_name, first};
+ghost use Rattle.rn_syntax.specs.inside.Follow.{Starts, Anything, begins_any, behind_class, behind_name, first_terminal};
 ghost use Rattle.rn_syntax.specs.Grammar.{IsAnyName, IsClassCore, IsClassOperand, IsClassPrimary, IsNameClass};
-ghost use Rattle.rn_syntax.specs.Reading.{Advanced, Passed, Makes, Reads, rest};
-ghost use Rattle.rn_syntax.specs.Sequence.{IsAnyClassEnd, IsClassEnd, IsHere};
+ghost use Rattle.rn_syntax.specs.inside.Reading.{Advanced, Passed, Makes, Reads, rest};
+ghost use Rattle.rn_syntax.specs.inside.Sequence.{IsAnyClassEnd, IsClassEnd, IsHere};
 ghost use Rattle.rn_syntax.specs.Tree as tree;
 ghost use Rattle.rn_syntax.specs.View.{any_view, boxed_class_view, class_view, classes_view, name_view};
 
@@ -34,7 +34,8 @@ fn all_but<'a>(
     except: Box<Nc<'a>>,
     end: usize,
 ) -> Result<(Box<Nc<'a>>, usize), Fault>
-    ensures { Makes boxed_class_view (tree.all_but (any_view any.entry) (boxed_class_view except.entry)) end result }
+    ensures { Makes boxed_class_view (tree.all_but (any_view any.entry)
+        (boxed_class_view except.entry)) end result }
 {
     boxed(alloc, Nc::AllBut(any, except), end)
 }
@@ -51,7 +52,8 @@ fn choice<'a>(
 
 /// Adds a member to those of a choice, which lie side by side.
 fn push_member<'a>(members: &mut Vec<Nc<'a>>, member: Box<Nc<'a>>) -> Result<(), AllocError>
-    ensures { OnOk result (map class_view members.new.items ≡ map class_view members.old.items ++ boxed_class_view member.entry ∷ []) }
+    ensures { OnOk result (map class_view members.new.items
+        ≡ map class_view members.old.items ++ boxed_class_view member.entry ∷ []) }
 {
     members.push(Box::into_inner(member))?;
     Ok(())
@@ -85,7 +87,8 @@ pub(crate) fn name_class<'a>(
 /// `"*" | AnyOf`
 fn any_name<'a>(tokens: &[Token<'a>], at: usize) -> Option<AnyName<'a>>
     ensures inside { IfSome result (λ _. at < length tokens.now) }
-    ensures names { MatchOption result (begins_any (first (rest tokens.now at)) ≡ false) (λ a. IsHere IsAnyName (rest tokens.now at) (any_view a) (rest tokens.now (at + 1))) }
+    ensures names { MatchOption result (begins_any (first_terminal (rest tokens.now at)) ≡ false)
+        (λ a. IsHere IsAnyName (rest tokens.now at) (any_view a) (rest tokens.now (at + 1))) }
 {
     match next(tokens, at) {
         Terminal::Postfix(postfix) => match postfix {
@@ -109,7 +112,8 @@ fn any_class<'a>(
 ) -> Result<(Box<Nc<'a>>, usize), Fault>
     requires { at ≤ length tokens.now }
     ensures inside { IfOk result (λ r. Passed at r.1 (length tokens.now)) }
-    ensures reads { Reads (IsAnyClassEnd (any_view any.entry)) (Starts behind_name) boxed_class_view tokens.now at result }
+    ensures reads { Reads (IsAnyClassEnd (any_view any.entry))
+        (Starts behind_name) boxed_class_view tokens.now at result }
 {
     let end = skip_follows(tokens, at)?;
     all(alloc, any, end)
@@ -124,7 +128,8 @@ fn class_operand<'a>(
 ) -> Result<(Box<Nc<'a>>, usize), Fault>
     requires { at ≤ length tokens.now }
     ensures inside { IfOk result (λ r. Advanced at r.1 (length tokens.now)) }
-    ensures reads { Reads IsClassOperand (Starts behind_name) boxed_class_view tokens.now at result }
+    ensures reads { Reads IsClassOperand
+        (Starts behind_name) boxed_class_view tokens.now at result }
 {
     let body = skip_annotation(tokens, at)?;
     let Some(any) = any_name(tokens, body) else {
@@ -146,7 +151,8 @@ fn class_primary<'a>(
 ) -> Result<(Box<Nc<'a>>, usize), Fault>
     requires { at ≤ length tokens.now }
     ensures inside { IfOk result (λ r. Advanced at r.1 (length tokens.now)) }
-    ensures reads { Reads IsClassPrimary (Starts behind_name) boxed_class_view tokens.now at result }
+    ensures reads { Reads IsClassPrimary
+        (Starts behind_name) boxed_class_view tokens.now at result }
 {
     let body = skip_annotation(tokens, at)?;
     match any_name(tokens, body) {
@@ -163,7 +169,7 @@ fn class_end<'a>(
     at: usize,
 ) -> Result<(Box<Nc<'a>>, usize), Fault>
     requires inside { at ≤ length tokens.now }
-    requires none { begins_any (first (rest tokens.now at)) ≡ false }
+    requires none { begins_any (first_terminal (rest tokens.now at)) ≡ false }
     ensures inside { IfOk result (λ r. Advanced at r.1 (length tokens.now)) }
     ensures reads { Reads IsClassEnd (Starts behind_name) boxed_class_view tokens.now at result }
 {
@@ -180,7 +186,7 @@ fn class_core<'a>(
     at: usize,
 ) -> Result<(Box<Nc<'a>>, usize), Fault>
     requires inside { at ≤ length tokens.now }
-    requires none { begins_any (first (rest tokens.now at)) ≡ false }
+    requires none { begins_any (first_terminal (rest tokens.now at)) ≡ false }
     ensures inside { IfOk result (λ r. Advanced at r.1 (length tokens.now)) }
     ensures reads { Reads IsClassCore Anything boxed_class_view tokens.now at result }
 {

@@ -1,9 +1,9 @@
 // Patterns (compact syntax, section 2, pattern).
 ghost use Rattle.std.specs.Prelude.{◌≡◌, ◌≤◌, ◌<◌, false, length, IfOk, IsTrue};
-ghost use Rattle.rn_syntax.specs.Follow.{Anything, Starts, begins_datatype, behind_core, behind_operand, behind_pattern, behind_primary, first};
+ghost use Rattle.rn_syntax.specs.inside.Follow.{Anything, Starts, begins_datatype, behind_core, behind_operand, behind_pattern, behind_primary, first_terminal};
 ghost use Rattle.rn_syntax.specs.Grammar.{IsCore, IsOperand, IsPattern, IsPrimary};
-ghost use Rattle.rn_syntax.specs.Parts.{BehindCore, BehindDatatype, BehindParams, BehindPrimary, IsDataEnd, IsTypedValue, IsBraced, IsNamed};
-ghost use Rattle.rn_syntax.specs.Reading.{Passed, Advanced, Reads, rest};
+ghost use Rattle.rn_syntax.specs.inside.Parts.{BehindCore, BehindDatatype, BehindParams, BehindPrimary, IsDataEnd, IsTypedValue, IsBraced, IsNamed};
+ghost use Rattle.rn_syntax.specs.inside.Reading.{Passed, Advanced, Reads, rest};
 ghost use Rattle.rn_syntax.specs.Terminal as terminal;
 ghost use Rattle.rn_syntax.specs.Tree as tree;
 ghost use Rattle.rn_syntax.specs.View.{boxed_class_view, boxed_view, datatype_view, params_view};
@@ -76,7 +76,8 @@ fn behind_core<'a>(
 ) -> Result<(Box<Pat<'a>>, usize), Fault>
     requires { at ≤ length tokens.now }
     ensures inside { IfOk result (λ r. Passed at r.1 (length tokens.now)) }
-    ensures reads { Reads (BehindCore (boxed_view core.entry)) (Starts behind_operand) boxed_view tokens.now at result }
+    ensures reads { Reads (BehindCore (boxed_view core.entry))
+        (Starts behind_operand) boxed_view tokens.now at result }
 {
     let behind = skip_follows(tokens, at)?;
     behind_primary(alloc, tokens, behind, core)
@@ -91,7 +92,8 @@ fn behind_primary<'a>(
 ) -> Result<(Box<Pat<'a>>, usize), Fault>
     requires { at ≤ length tokens.now }
     ensures inside { IfOk result (λ r. Passed at r.1 (length tokens.now)) }
-    ensures reads { Reads (BehindPrimary (boxed_view primary.entry)) (Starts behind_operand) boxed_view tokens.now at result }
+    ensures reads { Reads (BehindPrimary (boxed_view primary.entry))
+        (Starts behind_operand) boxed_view tokens.now at result }
 {
     let Terminal::Postfix(postfix) = next(tokens, at) else {
         return Ok((primary, at));
@@ -110,7 +112,8 @@ fn behind_datatype<'a>(
 ) -> Result<(Box<Pat<'a>>, usize), Fault>
     requires { at ≤ length tokens.now }
     ensures inside { IfOk result (λ r. Passed at r.1 (length tokens.now)) }
-    ensures reads { Reads (BehindDatatype (datatype_view datatype.entry)) (Starts behind_operand) boxed_view tokens.now at result }
+    ensures reads { Reads (BehindDatatype (datatype_view datatype.entry))
+        (Starts behind_operand) boxed_view tokens.now at result }
 {
     if let Terminal::Segment(_) = next(tokens, at) {
         let (core, end) = typed_value(alloc, tokens, at, datatype)?;
@@ -131,7 +134,8 @@ fn behind_params<'a>(
 ) -> Result<(Box<Pat<'a>>, usize), Fault>
     requires { at ≤ length tokens.now }
     ensures inside { IfOk result (λ r. Passed at r.1 (length tokens.now)) }
-    ensures reads { Reads (BehindParams (datatype_view datatype.entry) (params_view params.entry.items)) (Starts behind_operand) boxed_view tokens.now at result }
+    ensures reads { Reads (BehindParams (datatype_view datatype.entry)
+        (params_view params.entry.items)) (Starts behind_operand) boxed_view tokens.now at result }
 {
     let Terminal::Minus = next(tokens, at) else {
         let (core, end) = datum(alloc, datatype, params, at)?;
@@ -166,7 +170,8 @@ fn typed_value<'a>(
 ) -> Result<(Box<Pat<'a>>, usize), Fault>
     requires { at ≤ length tokens.now }
     ensures inside { IfOk result (λ r. Advanced at r.1 (length tokens.now)) }
-    ensures reads { Reads (IsTypedValue (datatype_view datatype.entry)) (Starts behind_core) boxed_view tokens.now at result }
+    ensures reads { Reads (IsTypedValue (datatype_view datatype.entry))
+        (Starts behind_core) boxed_view tokens.now at result }
 {
     let (text, end) = literal(alloc, tokens, at)?;
     value(alloc, datatype, text, end)
@@ -181,7 +186,8 @@ fn data<'a>(
 ) -> Result<(Box<Pat<'a>>, usize), Fault>
     requires { at ≤ length tokens.now }
     ensures inside { IfOk result (λ r. Passed at r.1 (length tokens.now)) }
-    ensures reads { Reads (IsDataEnd (datatype_view datatype.entry)) (Starts behind_core) boxed_view tokens.now at result }
+    ensures reads { Reads (IsDataEnd (datatype_view datatype.entry))
+        (Starts behind_core) boxed_view tokens.now at result }
 {
     if let Terminal::Segment(_) = next(tokens, at) {
         return typed_value(alloc, tokens, at, datatype);
@@ -211,7 +217,7 @@ fn untyped_core<'a>(
     at: usize,
 ) -> Result<(Box<Pat<'a>>, usize), Fault>
     requires inside { at ≤ length tokens.now }
-    requires untyped { begins_datatype (first (rest tokens.now at)) ≡ false }
+    requires untyped { begins_datatype (first_terminal (rest tokens.now at)) ≡ false }
     ensures inside { IfOk result (λ r. Advanced at r.1 (length tokens.now)) }
     ensures reads { Reads IsCore (Starts behind_core) boxed_view tokens.now at result }
 {
@@ -239,8 +245,8 @@ fn keyword_core<'a>(
     keyword: Keyword,
 ) -> Result<(Box<Pat<'a>>, usize), Fault>
     requires inside { at < length tokens.now }
-    requires here { first (rest tokens.now at) ≡ terminal.keyword keyword }
-    requires untyped { begins_datatype (first (rest tokens.now at)) ≡ false }
+    requires here { first_terminal (rest tokens.now at) ≡ terminal.keyword keyword }
+    requires untyped { begins_datatype (first_terminal (rest tokens.now at)) ≡ false }
     ensures inside { IfOk result (λ r. Advanced at r.1 (length tokens.now)) }
     ensures reads { Reads IsCore (Starts behind_core) boxed_view tokens.now at result }
 {
@@ -277,7 +283,8 @@ fn named<'a>(
 ) -> Result<((Box<Nc<'a>>, Box<Pat<'a>>), usize), Fault>
     requires { at ≤ length tokens.now }
     ensures inside { IfOk result (λ r. Advanced at r.1 (length tokens.now)) }
-    ensures reads { Reads IsNamed Anything (λ r. (boxed_class_view r.0, boxed_view r.1)) tokens.now at result }
+    ensures reads { Reads IsNamed Anything
+        (λ r. (boxed_class_view r.0, boxed_view r.1)) tokens.now at result }
 {
     let (class, end) = name_class(alloc, tokens, at)?;
     let (content, behind) = braced(alloc, tokens, end)?;

@@ -1,8 +1,9 @@
 // The places in the patterns of a module that break a rule.
-ghost use Rattle.std.specs.Prelude.{◌≡◌, map};
+ghost use Rattle.std.specs.Prelude.{◌≡◌};
+ghost use Rattle.rn_syntax.specs.inside.Bound.{bound};
 ghost use Rattle.rn_syntax.specs.Places.{first};
-ghost use Rattle.rn_syntax.specs.Rules as rules;
-ghost use Rattle.rn_syntax.specs.View.{declaration_view, pattern_view, patterns_view, item_view, items_view};
+ghost use Rattle.rn_syntax.specs.inside.Rules as rules;
+ghost use Rattle.rn_syntax.specs.View.{pattern_view, patterns_view, item_view, items_view};
 
 use crate::bindings::Bindings;
 use crate::rules::Rule;
@@ -12,7 +13,8 @@ use crate::tree::{Item, Module, Pat};
 #[tactic(auto, using(crate::proofs::Firsts::none_first, crate::proofs::Firsts::some_first))]
 #[cycle(pattern_place)]
 fn pattern_place(rule: Rule, bindings: &Bindings<'_, '_>, pattern: &Pat<'_>) -> Option<usize>
-    ensures { result ≡ first (rules.pattern_places (map declaration_view bindings.now.declarations.now) rule (pattern_view pattern.now)) }
+    ensures { result ≡ first (rules.pattern_places (bound bindings.now) rule
+        (pattern_view pattern.now)) }
 {
     match pattern {
         Pat::Element(class, content) | Pat::Attribute(class, content) => {
@@ -44,7 +46,8 @@ fn pattern_place(rule: Rule, bindings: &Bindings<'_, '_>, pattern: &Pat<'_>) -> 
 #[tactic(auto, using(crate::proofs::Firsts::none_first, crate::proofs::Firsts::some_first))]
 #[cycle(pattern_place)]
 fn patterns_place(rule: Rule, bindings: &Bindings<'_, '_>, patterns: &[Pat<'_>]) -> Option<usize>
-    ensures { result ≡ first (rules.patterns_places (map declaration_view bindings.now.declarations.now) rule (patterns_view patterns.now)) }
+    ensures { result ≡ first (rules.patterns_places (bound bindings.now) rule
+        (patterns_view patterns.now)) }
 {
     'patterns: for pattern in patterns {
         if let Some(wrong) = pattern_place(rule, bindings, pattern) {
@@ -58,7 +61,7 @@ fn patterns_place(rule: Rule, bindings: &Bindings<'_, '_>, patterns: &[Pat<'_>])
 #[tactic(auto, using(crate::proofs::Firsts::none_first, crate::proofs::Firsts::some_first))]
 #[cycle(items_place)]
 fn items_place(rule: Rule, bindings: &Bindings<'_, '_>, items: &[Item<'_>]) -> Option<usize>
-    ensures { result ≡ first (rules.items_places (map declaration_view bindings.now.declarations.now) rule (items_view items.now)) }
+    ensures { result ≡ first (rules.items_places (bound bindings.now) rule (items_view items.now)) }
 {
     'items: for item in items {
         if let Some(wrong) = item_place(rule, bindings, item) {
@@ -71,7 +74,7 @@ fn items_place(rule: Rule, bindings: &Bindings<'_, '_>, items: &[Item<'_>]) -> O
 #[tactic(auto, using(crate::proofs::Firsts::none_first, crate::proofs::Firsts::some_first))]
 #[cycle(items_place)]
 fn item_place(rule: Rule, bindings: &Bindings<'_, '_>, item: &Item<'_>) -> Option<usize>
-    ensures { result ≡ first (rules.item_places (map declaration_view bindings.now.declarations.now) rule (item_view item.now)) }
+    ensures { result ≡ first (rules.item_places (bound bindings.now) rule (item_view item.now)) }
 {
     match item {
         Item::Define { body, .. } | Item::Start { body, .. } => pattern_place(rule, bindings, body),
@@ -91,7 +94,8 @@ pub(crate) fn module_place(
     bindings: &Bindings<'_, '_>,
     module: &Module<'_>,
 ) -> Option<usize>
-    ensures { result ≡ first (rules.items_places (map declaration_view bindings.now.declarations.now) rule (items_view «module».now.items.items)) }
+    ensures { result ≡ first (rules.items_places (bound bindings.now) rule
+        (items_view «module».now.items.items)) }
 {
     items_place(rule, bindings, &module.items)
 }

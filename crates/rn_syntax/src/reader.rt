@@ -4,9 +4,9 @@ ghost use Rattle.rn_text.specs.Tokens.{lexeme_of};
 ghost use Rattle.rn_syntax.specs.Tokens.{terminals};
 ghost use Rattle.rn_syntax.specs.Places.{deep, first, declarations_places, prefix_places, builtin_places, context_places, except_places};
 ghost use Rattle.rn_syntax.specs.Fault.{HasTree};
-ghost use Rattle.rn_syntax.specs.Faults.{HasFault, HasNoFault, IsFault, IsSyntax};
-ghost use Rattle.rn_syntax.specs.Reading.{AreSpelled};
-ghost use Rattle.rn_syntax.specs.View.{declaration_view, module_view};
+ghost use Rattle.rn_syntax.specs.Faults.{HasModuleFault, HasNoFault, IsFault, IsSyntax};
+ghost use Rattle.rn_syntax.specs.Spelled.{AreSpelled};
+ghost use Rattle.rn_syntax.specs.View.{module_view};
 
 use crate::bindings::{Bindings, bind_all};
 use crate::brackets::too_deep;
@@ -21,7 +21,8 @@ use std::alloc::{AllocError, Global};
 
 /// The module that the tokens are, by the grammar alone.
 fn tree<'a>(alloc: Global, tokens: &[Token<'a>]) -> Result<Module<'a>, SyntaxFault>
-    ensures tree { IfOk result (λ m. AreSpelled tokens.now → HasTree (terminals (map lexeme_of tokens.now)) (module_view m)) }
+    ensures tree { IfOk result (λ m. AreSpelled tokens.now
+        → HasTree (terminals (map lexeme_of tokens.now)) (module_view m)) }
     ensures place { IfErr result (IsSyntax tokens.now) }
 {
     match module(alloc, tokens) {
@@ -36,7 +37,8 @@ fn tree<'a>(alloc: Global, tokens: &[Token<'a>]) -> Result<Module<'a>, SyntaxFau
 /// The place of the first unbound prefix in the items.
 fn prefix_place(bindings: &Bindings<'_, '_>, module: &Module<'_>) -> Option<usize>
     requires bound { bindings.now.declarations.now ≡ «module».now.decls.items }
-    requires declared { first (declarations_places [] (map declaration_view «module».now.decls.items)) ≡ None }
+    requires declared { first (declarations_places []
+        (module_view «module».now).declarations) ≡ None }
     ensures { result ≡ first (prefix_places (module_view «module».now)) }
 {
     module_place(Rule::Prefixes, bindings, module)
@@ -59,7 +61,7 @@ fn context_value_place(bindings: &Bindings<'_, '_>, module: &Module<'_>) -> Opti
 }
 
 /// The place of the first except that holds what none may.
-#[tactic(auto, unfolding(crate::specs::Rules::classes, crate::specs::Rules::datatypes, crate::specs::Rules::excepts, crate::specs::Rules::inherits))]
+#[tactic(auto, unfolding(crate::specs::inside::Rules::classes, crate::specs::inside::Rules::datatypes, crate::specs::inside::Rules::excepts, crate::specs::inside::Rules::inherits))]
 fn except_place(bindings: &Bindings<'_, '_>, module: &Module<'_>) -> Option<usize>
     ensures { result ≡ first (except_places (module_view «module».now)) }
 {
@@ -69,7 +71,8 @@ fn except_place(bindings: &Bindings<'_, '_>, module: &Module<'_>) -> Option<usiz
 /// Whether the items of a module are known to keep all rules, by one walk through them.
 fn keeps_rules(bindings: &Bindings<'_, '_>, module: &Module<'_>) -> bool
     requires bound { bindings.now.declarations.now ≡ «module».now.decls.items }
-    requires declared { first (declarations_places [] (map declaration_view «module».now.decls.items)) ≡ None }
+    requires declared { first (declarations_places []
+        (module_view «module».now).declarations) ≡ None }
     ensures { IsTrue result → HasNoFault (module_view «module».now) }
 {
     match module_place(Rule::All, bindings, module) {
@@ -81,8 +84,10 @@ fn keeps_rules(bindings: &Bindings<'_, '_>, module: &Module<'_>) -> bool
 /// The first fault in the items of a module whose declarations are bound: one walk for each kind, in their order.
 fn items_fault(bindings: &Bindings<'_, '_>, module: &Module<'_>) -> Option<SyntaxFault>
     requires bound { bindings.now.declarations.now ≡ «module».now.decls.items }
-    requires declared { first (declarations_places [] (map declaration_view «module».now.decls.items)) ≡ None }
-    ensures { MatchOption result (HasNoFault (module_view «module».now)) (HasFault (module_view «module».now)) }
+    requires declared { first (declarations_places []
+        (module_view «module».now).declarations) ≡ None }
+    ensures { MatchOption result (HasNoFault (module_view «module».now))
+        (HasModuleFault (module_view «module».now)) }
 {
     if let Some(at) = prefix_place(bindings, module) {
         return Some(SyntaxFault::Prefix { at });
@@ -107,8 +112,10 @@ fn bound_fault(
     module: &Module<'_>,
 ) -> Option<SyntaxFault>
     requires bound { bindings.now.declarations.now ≡ «module».now.decls.items }
-    requires wrong { wrong ≡ first (declarations_places [] (map declaration_view «module».now.decls.items)) }
-    ensures { MatchOption result (HasNoFault (module_view «module».now)) (HasFault (module_view «module».now)) }
+    requires wrong { wrong ≡ first (declarations_places []
+        (module_view «module».now).declarations) }
+    ensures { MatchOption result (HasNoFault (module_view «module».now))
+        (HasModuleFault (module_view «module».now)) }
 {
     if let Some(at) = wrong {
         return Some(SyntaxFault::Prefix { at });
@@ -121,7 +128,8 @@ fn bound_fault(
 
 /// The same of a module whose declarations aren't bound yet.
 fn fault(alloc: Global, module: &Module<'_>) -> Result<Option<SyntaxFault>, AllocError>
-    ensures { IfOk result (λ found. MatchOption found (HasNoFault (module_view «module».now)) (HasFault (module_view «module».now))) }
+    ensures { IfOk result (λ found. MatchOption found (HasNoFault (module_view «module».now))
+        (HasModuleFault (module_view «module».now))) }
 {
     let (bindings, wrong) = bind_all(alloc, &module.decls)?;
     Ok(bound_fault(&bindings, wrong, module))
@@ -135,7 +143,8 @@ fn fault(alloc: Global, module: &Module<'_>) -> Result<Option<SyntaxFault>, Allo
 /// none. What is said of trees is so where each token is spelled as its kind says, as those of a source are.
 pub fn parse<'a>(alloc: Global, tokens: &[Token<'a>]) -> Result<Module<'a>, SyntaxFault>
     ensures shallow { OnOk result (deep 0 (terminals (map lexeme_of tokens.now)) ≡ None) }
-    ensures tree { IfOk result (λ m. AreSpelled tokens.now → HasTree (terminals (map lexeme_of tokens.now)) (module_view m)) }
+    ensures tree { IfOk result (λ m. AreSpelled tokens.now
+        → HasTree (terminals (map lexeme_of tokens.now)) (module_view m)) }
     ensures sound { IfOk result (λ m. HasNoFault (module_view m)) }
     ensures fault { IfErr result (IsFault tokens.now) }
 {

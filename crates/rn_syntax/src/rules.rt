@@ -1,9 +1,10 @@
 // The rules on prefixes, datatypes and excepts.
-ghost use Rattle.std.specs.Prelude.{◌≡◌, [], map, not, true, false};
+ghost use Rattle.std.specs.Prelude.{◌≡◌, [], not, true, false};
+ghost use Rattle.rn_syntax.specs.inside.Bound.{bound};
 ghost use Rattle.rn_syntax.specs.Places as places;
 ghost use Rattle.rn_syntax.specs.Places.{first};
-ghost use Rattle.rn_syntax.specs.Rules as rules;
-ghost use Rattle.rn_syntax.specs.View.{class_view, classes_view, any_view, datatype_view, params_view, pattern_view, patterns_view, prefix_view, declaration_view};
+ghost use Rattle.rn_syntax.specs.inside.Rules as rules;
+ghost use Rattle.rn_syntax.specs.View.{class_view, classes_view, any_view, datatype_view, params_view, pattern_view, patterns_view, prefix_view};
 
 use crate::bindings::Bindings;
 use crate::token::Operator;
@@ -25,7 +26,8 @@ pub(crate) enum Rule {
 
 /// The place of a namespace prefix that is not bound.
 fn unbound_namespace(bindings: &Bindings<'_, '_>, prefix: Prefix<'_>) -> Option<usize>
-    ensures { result ≡ first (places.place_if (not (places.is_bound (map declaration_view bindings.now.declarations.now) prefix.entry.name.now)) prefix.entry.at) }
+    ensures { result ≡ first (places.place_if
+        (not (places.is_bound (bound bindings.now) prefix.entry.name.now)) prefix.entry.at) }
 {
     if bindings.is_bound(prefix.name) {
         None
@@ -36,7 +38,8 @@ fn unbound_namespace(bindings: &Bindings<'_, '_>, prefix: Prefix<'_>) -> Option<
 
 /// The place of a datatype whose prefix is not bound.
 fn unbound_library(bindings: &Bindings<'_, '_>, datatype: Datatype<'_>) -> Option<usize>
-    ensures { result ≡ first (places.unbound_type (map declaration_view bindings.now.declarations.now) true (datatype_view datatype.entry) []) }
+    ensures { result ≡ first (places.unbound_type (bound bindings.now) true
+        (datatype_view datatype.entry) []) }
 {
     match datatype {
         Datatype::Named(prefix, _) if !bindings.has_library(prefix.name) => Some(prefix.at),
@@ -46,7 +49,7 @@ fn unbound_library(bindings: &Bindings<'_, '_>, datatype: Datatype<'_>) -> Optio
 
 /// The place of an unbound prefix before `:*`.
 fn any_name_place(bindings: &Bindings<'_, '_>, any: AnyName<'_>) -> Option<usize>
-    ensures { result ≡ first (places.any_places (map declaration_view bindings.now.declarations.now) (any_view any.entry)) }
+    ensures { result ≡ first (places.any_places (bound bindings.now) (any_view any.entry)) }
 {
     match any {
         AnyName::Any => None,
@@ -58,7 +61,7 @@ fn any_name_place(bindings: &Bindings<'_, '_>, any: AnyName<'_>) -> Option<usize
 #[tactic(auto, using(crate::proofs::Firsts::none_first, crate::proofs::Firsts::some_first))]
 #[cycle(class_place)]
 fn class_place(bindings: &Bindings<'_, '_>, class: &Nc<'_>) -> Option<usize>
-    ensures { result ≡ first (places.class_places (map declaration_view bindings.now.declarations.now) (class_view class.now)) }
+    ensures { result ≡ first (places.class_places (bound bindings.now) (class_view class.now)) }
 {
     match class {
         Nc::Name(Name::Local(_)) => None,
@@ -76,7 +79,8 @@ fn class_place(bindings: &Bindings<'_, '_>, class: &Nc<'_>) -> Option<usize>
 #[tactic(auto, using(crate::proofs::Firsts::none_first, crate::proofs::Firsts::some_first))]
 #[cycle(class_place)]
 fn classes_place(bindings: &Bindings<'_, '_>, classes: &[Nc<'_>]) -> Option<usize>
-    ensures { result ≡ first (places.classes_places (map declaration_view bindings.now.declarations.now) (classes_view classes.now)) }
+    ensures { result ≡ first (places.classes_places (bound bindings.now)
+        (classes_view classes.now)) }
 {
     'classes: for class in classes {
         if let Some(unbound) = class_place(bindings, class) {
@@ -92,7 +96,8 @@ fn wrong_builtin(
     datatype: Datatype<'_>,
     params: &[Param<'_>],
 ) -> Option<usize>
-    ensures { result ≡ first (places.wrong_builtin (map declaration_view bindings.now.declarations.now) true (datatype_view datatype.entry) (params_view params.now)) }
+    ensures { result ≡ first (places.wrong_builtin (bound bindings.now) true
+        (datatype_view datatype.entry) (params_view params.now)) }
 {
     let (is_wrong, at) = match datatype {
         Datatype::String(at) | Datatype::Token(at) => (!params.is_empty(), at),
@@ -108,7 +113,8 @@ fn wrong_builtin(
 
 /// The place of a type of XML Schema that looks at namespace bindings.
 fn context_type(bindings: &Bindings<'_, '_>, datatype: Datatype<'_>) -> Option<usize>
-    ensures { result ≡ first (places.context_value (map declaration_view bindings.now.declarations.now) true (datatype_view datatype.entry) []) }
+    ensures { result ≡ first (places.context_value (bound bindings.now) true
+        (datatype_view datatype.entry) []) }
 {
     let Datatype::Named(prefix, name) = datatype else {
         return None;
@@ -144,9 +150,9 @@ fn are_allowed(patterns: &[Pat<'_>]) -> bool
 
 impl Rule {
     /// The first place in a name class that breaks the rule.
-    #[tactic(auto, unfolding(crate::specs::Rules::classes))]
+    #[tactic(auto, unfolding(crate::specs::inside::Rules::classes))]
     pub(crate) fn name_class(self, bindings: &Bindings<'_, '_>, class: &Nc<'_>) -> Option<usize>
-        ensures { result ≡ first (rules.classes (map declaration_view bindings.now.declarations.now) self (class_view class.now)) }
+        ensures { result ≡ first (rules.classes (bound bindings.now) self (class_view class.now)) }
     {
         match self {
             Rule::Prefixes | Rule::All => class_place(bindings, class),
@@ -155,9 +161,10 @@ impl Rule {
     }
 
     /// The same of the datatype of a value.
-    #[tactic(auto, using(crate::proofs::Firsts::first_append), unfolding(crate::specs::Rules::datatypes))]
+    #[tactic(auto, using(crate::proofs::Firsts::first_append), unfolding(crate::specs::inside::Rules::datatypes))]
     pub(crate) fn value(self, bindings: &Bindings<'_, '_>, datatype: Datatype<'_>) -> Option<usize>
-        ensures { result ≡ first (rules.datatypes (map declaration_view bindings.now.declarations.now) self true (datatype_view datatype.entry) []) }
+        ensures { result ≡ first (rules.datatypes (bound bindings.now) self true
+            (datatype_view datatype.entry) []) }
     {
         match self {
             Rule::Prefixes => unbound_library(bindings, datatype),
@@ -171,14 +178,15 @@ impl Rule {
     }
 
     /// The same of the datatype of data.
-    #[tactic(auto, using(crate::proofs::Firsts::first_append, crate::proofs::Firsts::first_behind), unfolding(crate::specs::Rules::datatypes))]
+    #[tactic(auto, using(crate::proofs::Firsts::first_append, crate::proofs::Firsts::first_behind), unfolding(crate::specs::inside::Rules::datatypes))]
     pub(crate) fn data(
         self,
         bindings: &Bindings<'_, '_>,
         datatype: Datatype<'_>,
         params: &[Param<'_>],
     ) -> Option<usize>
-        ensures { result ≡ first (rules.datatypes (map declaration_view bindings.now.declarations.now) self false (datatype_view datatype.entry) (params_view params.now)) }
+        ensures { result ≡ first (rules.datatypes (bound bindings.now) self false
+            (datatype_view datatype.entry) (params_view params.now)) }
     {
         match self {
             Rule::Prefixes => unbound_library(bindings, datatype),
@@ -191,7 +199,7 @@ impl Rule {
     }
 
     /// The same of what is excepted behind the `-` at this place.
-    #[tactic(auto, unfolding(crate::specs::Rules::excepts))]
+    #[tactic(auto, unfolding(crate::specs::inside::Rules::excepts))]
     pub(crate) fn except(self, at: usize, excepted: &Pat<'_>) -> Option<usize>
         ensures { result ≡ first (rules.excepts self at (pattern_view excepted.now)) }
     {
@@ -202,13 +210,14 @@ impl Rule {
     }
 
     /// The same of the prefix behind `inherit =`.
-    #[tactic(auto, unfolding(crate::specs::Rules::inherits))]
+    #[tactic(auto, unfolding(crate::specs::inside::Rules::inherits))]
     pub(crate) fn inherit(
         self,
         bindings: &Bindings<'_, '_>,
         prefix: Option<Prefix<'_>>,
     ) -> Option<usize>
-        ensures { result ≡ first (rules.inherits (map declaration_view bindings.now.declarations.now) self (prefix_view prefix.entry)) }
+        ensures { result ≡ first (rules.inherits (bound bindings.now) self
+            (prefix_view prefix.entry)) }
     {
         match (self, prefix) {
             (Rule::Prefixes | Rule::All, Some(prefix)) => unbound_namespace(bindings, prefix),

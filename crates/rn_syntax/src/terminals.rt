@@ -1,11 +1,13 @@
 // The terminals of the grammar: what it sees of each token.
 ghost use Rattle.std.specs.Prelude.{◌≡◌, ◌≤◌, ◌<◌, ◌+◌, drop, length, IfOk, IsTrue, MatchBool, ◌≢◌};
+ghost use Rattle.std.specs.List.{slice_get};
 ghost use Rattle.std.specs.Str.{IsUtf8, chars, encode_utf8_all};
 ghost use Rattle.rn_text.specs.Characters.{is_name_char};
 ghost use Rattle.rn_text.specs.Segments.{run_of, after_run};
-ghost use Rattle.rn_syntax.specs.Follow.{Anything, first};
-ghost use Rattle.rn_syntax.specs.Reading.{AreSpelled, IsInside, IsNext, IsPlace, IsSpelled, IsWhole, Advanced, Passes, ReadsOne, rest, seen};
-ghost use Rattle.rn_syntax.specs.Sequence.{IsOf, IsWordAt, IsAssign};
+ghost use Rattle.rn_syntax.specs.inside.Follow.{Anything, first_terminal};
+ghost use Rattle.rn_syntax.specs.inside.Reading.{IsInside, IsNext, IsSegmentOf, IsWhole, Advanced, Passes, ReadsOne, rest, seen};
+ghost use Rattle.rn_syntax.specs.Spelled.{AreSpelled, IsPlace, SpellsItsKind};
+ghost use Rattle.rn_syntax.specs.inside.Sequence.{IsOf, IsWordAt, IsAssign};
 ghost use Rattle.rn_syntax.specs.declared.token.Method.TheVariants as method;
 ghost use Rattle.rn_syntax.specs.Terminal as terminal;
 ghost use Rattle.rn_syntax.specs.Tokens as tokens;
@@ -49,6 +51,7 @@ pub(crate) enum Terminal<'a> {
 fn keyword(text: &str) -> Terminal<'_>
     ensures is { seen result ≡ Some (spelled_in keyword_rows text.now) }
     ensures whole { IsWhole result }
+    ensures bare { (token : Token) → IsSegmentOf result token }
     ensures utf8 { IsUtf8 text.now }
 {
     let keyword = match text {
@@ -80,6 +83,7 @@ fn keyword(text: &str) -> Terminal<'_>
 pub(crate) fn symbol(text: &str) -> Terminal<'_>
     ensures is { seen result ≡ Some (spelled_in symbol_rows text.now) }
     ensures whole { IsWhole result }
+    ensures bare { (token : Token) → IsSegmentOf result token }
     ensures utf8 { IsUtf8 text.now }
 {
     match text.as_bytes() {
@@ -134,6 +138,7 @@ fn behind_name(text: &str) -> &str
 fn plain_name(text: &str) -> Terminal<'_>
     ensures is { seen result ≡ Some (terminal.ident text.now) }
     ensures whole { IsWhole result }
+    ensures bare { (token : Token) → IsSegmentOf result token }
     ensures utf8 { IsUtf8 text.now }
 {
     Terminal::Ident(text)
@@ -141,8 +146,10 @@ fn plain_name(text: &str) -> Terminal<'_>
 
 /// What the grammar sees of a token.
 pub(crate) fn terminal_of<'a>(token: Token<'a>) -> Terminal<'a>
-    ensures is { seen result ≡ Some (tokens.terminal_of token.entry.kind (chars token.entry.text.now)) }
-    ensures whole { IsSpelled token.entry → IsWhole result }
+    ensures is { seen result ≡ Some (tokens.terminal_of token.entry.kind
+        (chars token.entry.text.now)) }
+    ensures whole { SpellsItsKind token.entry → IsWhole result }
+    ensures same { IsSegmentOf result token.entry }
 {
     match token.kind {
         Kind::Name => plain_name(token.text),
@@ -160,6 +167,8 @@ pub(crate) fn next<'a>(tokens: &[Token<'a>], at: usize) -> Terminal<'a>
     ensures inside { IsInside result at (length tokens.now) }
     ensures next { IsNext (rest tokens.now at) (seen result) (rest tokens.now (at + 1)) }
     ensures whole { AreSpelled tokens.now → IsWhole result }
+    ensures same { (token : Token) → slice_get tokens.now at ≡ Some token
+        → IsSegmentOf result token }
 {
     if at >= tokens.len() {
         return Terminal::End;
@@ -190,7 +199,7 @@ fn text_of<'a>(token: &Token<'a>) -> &'a str
 /// The word that spells the keyword at this index: a slice of the source.
 pub(crate) fn keyword_text<'a>(tokens: &[Token<'a>], at: usize, keyword: Keyword) -> &'a str
     requires inside { at < length tokens.now }
-    requires is { first (rest tokens.now at) ≡ terminal.keyword keyword }
+    requires is { first_terminal (rest tokens.now at) ≡ terminal.keyword keyword }
     ensures { result.now ≡ terminal.spelling keyword }
 {
     text_of(&tokens[at])
@@ -210,7 +219,8 @@ pub(crate) fn word<'a>(tokens: &[Token<'a>], at: usize) -> Result<&'a str, Fault
 
 pub(crate) fn is_keyword(tokens: &[Token<'_>], at: usize, wanted: Keyword) -> bool
     ensures inside { IsTrue result → at < length tokens.now }
-    ensures is { MatchBool result (first (rest tokens.now at) ≡ terminal.keyword wanted) (first (rest tokens.now at) ≢ terminal.keyword wanted) }
+    ensures is { MatchBool result (first_terminal (rest tokens.now at) ≡ terminal.keyword wanted)
+        (first_terminal (rest tokens.now at) ≢ terminal.keyword wanted) }
 {
     match next(tokens, at) {
         Terminal::Keyword(keyword) => keyword == wanted,
@@ -220,7 +230,8 @@ pub(crate) fn is_keyword(tokens: &[Token<'_>], at: usize, wanted: Keyword) -> bo
 
 pub(crate) fn is_operator(tokens: &[Token<'_>], at: usize, wanted: Operator) -> bool
     ensures inside { IsTrue result → at < length tokens.now }
-    ensures is { MatchBool result (first (rest tokens.now at) ≡ terminal.operator wanted) (first (rest tokens.now at) ≢ terminal.operator wanted) }
+    ensures is { MatchBool result (first_terminal (rest tokens.now at) ≡ terminal.operator wanted)
+        (first_terminal (rest tokens.now at) ≢ terminal.operator wanted) }
 {
     match next(tokens, at) {
         Terminal::Operator(operator) => operator == wanted,

@@ -1,10 +1,10 @@
 -- Of what is behind the first bracket, what is left closes one bracket more than `depth` says.
 use Rattle.std.proofs.Common.{◌≤◌, ◌-◌, length, suc}
 use Rattle.rn_syntax.specs.Grammar.{Closed}
-use Rattle.rn_syntax.specs.Follow.{Anything}
-use Rattle.rn_syntax.specs.Reading.{Bare, rest}
-use Rattle.rn_syntax.proofs.Compose.{Upto}
-use Rattle.rn_syntax.proofs.Skipping.{Closings}
+use Rattle.rn_syntax.specs.inside.Follow.{Anything}
+use Rattle.rn_syntax.specs.inside.Reading.{Bare, rest}
+use Rattle.rn_syntax.proofs.readings.Compose.{Upto}
+use Rattle.rn_syntax.proofs.readings.Skipping.{Closings}
 use Rattle.rn_syntax.proofs.annotations.skip_closed.Given as goal
 
 abbrev pub invariant-closed : goal.invariant-closed

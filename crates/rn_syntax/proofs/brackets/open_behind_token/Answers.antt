@@ -1,7 +1,7 @@
 -- A symbol is what its characters spell; another token is no bracket.
 use Rattle.std.proofs.Common.{◌≡◌, ap, sym, ◌∙◌, Some}
 use Rattle.std.specs.Str.{chars}
-use Rattle.rn_syntax.specs.Reading.{seen}
+use Rattle.rn_syntax.specs.inside.Reading.{seen}
 use Rattle.rn_syntax.specs.Tokens.{terminal_of, symbol_rows}
 use Rattle.rn_syntax.proofs.Spelled.{spelled_chars}
 use Rattle.rn_syntax.proofs.OpenBrackets.{other_deep, symbols_plain}

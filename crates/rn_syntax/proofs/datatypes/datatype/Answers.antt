@@ -4,8 +4,8 @@ use Rattle.rn_syntax.specs.Terminal.{◌#◌, keyword}
 use Rattle.rn_syntax.specs.Tree as t
 use Rattle.rn_syntax.specs.Grammar as g
 use Rattle.rn_syntax.specs.Grammar.{IsDatatype}
-use Rattle.rn_syntax.proofs.Next.{place_is}
-use Rattle.rn_syntax.proofs.Parameters.{is_here}
+use Rattle.rn_syntax.proofs.readings.Next.{place_is}
+use Rattle.rn_syntax.proofs.readings.Parameters.{is_here}
 use Rattle.rn_syntax.proofs.datatypes.datatype.Goals as goal
 
 pub returns-in-Prefixed-clause-names : goal.returns-in-Prefixed-clause-names

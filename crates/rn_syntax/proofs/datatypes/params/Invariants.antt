@@ -1,8 +1,9 @@
 -- The parameters so far, and what is left.
 use Rattle.std.proofs.Common.{◌<◌, ◌≤◌, ◌-◌, length}
-use Rattle.rn_syntax.specs.Reading.{AreSpelled, rest}
+use Rattle.rn_syntax.specs.inside.Reading.{rest}
+use Rattle.rn_syntax.specs.Spelled.{AreSpelled}
 use Rattle.rn_syntax.specs.View.{params_view}
-use Rattle.rn_syntax.proofs.Parameters.{So_far}
+use Rattle.rn_syntax.proofs.readings.Parameters.{So_far}
 use Rattle.rn_syntax.proofs.datatypes.params.Given as goal
 
 abbrev pub invariant-params : goal.invariant-params

@@ -1,8 +1,9 @@
 -- The declarations so far, and what is left.
 use Rattle.std.proofs.Common.{◌≤◌, ◌-◌, length, map}
-use Rattle.rn_syntax.specs.Reading.{AreSpelled, rest}
+use Rattle.rn_syntax.specs.inside.Reading.{rest}
+use Rattle.rn_syntax.specs.Spelled.{AreSpelled}
 use Rattle.rn_syntax.specs.View.{declaration_view}
-use Rattle.rn_syntax.proofs.Declared.{So_far}
+use Rattle.rn_syntax.proofs.readings.Declared.{So_far}
 use Rattle.rn_syntax.proofs.declarations.declarations.Given as goal
 
 abbrev pub invariant-declarations : goal.invariant-declarations

@@ -1,10 +1,11 @@
 -- The items so far, and what is left.
 use Rattle.std.proofs.Common.{◌≤◌, ◌-◌, ◌+◌, ◌*◌, length, map}
 use Rattle.rn_syntax.specs.Grammar.{AreInnerItems}
-use Rattle.rn_syntax.specs.Including.{IsInnerItem}
-use Rattle.rn_syntax.specs.Reading.{AreSpelled, rest}
+use Rattle.rn_syntax.specs.inside.Including.{IsInnerItem}
+use Rattle.rn_syntax.specs.inside.Reading.{rest}
+use Rattle.rn_syntax.specs.Spelled.{AreSpelled}
 use Rattle.rn_syntax.specs.View.{item_view}
-use Rattle.rn_syntax.proofs.Rows.{So_far}
+use Rattle.rn_syntax.proofs.readings.Rows.{So_far}
 use Rattle.rn_syntax.proofs.items.+inner_items.Given as goal
 
 abbrev pub invariant-inner_items-inner : goal.invariant-inner_items-inner

@@ -1,7 +1,10 @@
-use Rattle.std.proofs.Common.{arith, ap, sym, ◌∙◌, ◌+◌, ◌++◌, refl, string_bytes}
+use Rattle.std.proofs.Common.{ℕ, arith, ap, sym, ◌∙◌, ◌+◌, ◌++◌, refl, string_bytes}
+use Rattle.rn_syntax.specs.Grammar.{Tokens}
 use Rattle.std.proofs.lemmas.Result.{err_from_is_err_and}
-use Rattle.rn_syntax.proofs.Compose.{on_fault}
-use Rattle.rn_syntax.proofs.Segmented.{literal_first, literal_none, literal_more, literal_stuck, literal_end, joins_same}
+use Rattle.rn_syntax.specs.inside.Follow.{first_terminal, no_tilde}
+use Rattle.rn_syntax.specs.inside.Reading.{rest}
+use Rattle.rn_syntax.proofs.readings.Compose.{on_fault}
+use Rattle.rn_syntax.proofs.readings.Segmented.{literal_first, literal_none, literal_more, literal_stuck, literal_end, joins_same, borrows_alone, copied, ends_at}
 use Rattle.rn_syntax.proofs.literals.literal.Goals as goal
 
 pub segments-init : goal.segments-init
@@ -42,3 +45,12 @@ returns-in_err-first-clause-reads c =
 
 pub returns-clause-reads : goal.returns-clause-reads
 returns-clause-reads c = λ s. literal_end _ _ refl (c.segments.invariant.so_far s) c.next-in-segments.ensures.next c.in_default-next.not-Tilde
+
+pub returns-in_default-clause-borrows : goal.returns-in_default-clause-borrows
+returns-in_default-clause-borrows c = λ s x e.
+    borrows_alone _ _ _ (c.in_ok-first.ensures.borrows s x e)
+    (ap (λ (n : ℕ). no_tilde (first_terminal (rest c.args.tokens.now n))) (sym c.in_ok-first.ensures.one) ∙ ends_at _ _ c.next.result c.next.ensures.next c.in_default.not-Tilde)
+
+pub returns-clause-borrows : goal.returns-clause-borrows
+returns-clause-borrows c = λ s x e.
+    copied _ _ (ap (λ (n : ℕ). no_tilde (first_terminal (rest c.args.tokens.now n))) (sym c.in_ok-first.ensures.one) ∙ ap (λ (ts : Tokens). no_tilde (first_terminal ts)) c.in-Tilde.ensures.next.1)

@@ -1,10 +1,11 @@
 -- What is left joins the text of the segments so far.
 use Rattle.std.proofs.Common.{◌<◌, ◌≤◌, ◌-◌, length, string_bytes}
 use Rattle.rn_syntax.specs.Grammar.{IsLiteral}
-use Rattle.rn_syntax.specs.Follow.{Starts, no_tilde}
-use Rattle.rn_syntax.specs.Reading.{AreSpelled, rest}
-use Rattle.rn_syntax.proofs.Compose.{Upto}
-use Rattle.rn_syntax.proofs.Segmented.{Joins}
+use Rattle.rn_syntax.specs.inside.Follow.{Starts, no_tilde}
+use Rattle.rn_syntax.specs.inside.Reading.{rest}
+use Rattle.rn_syntax.specs.Spelled.{AreSpelled}
+use Rattle.rn_syntax.proofs.readings.Compose.{Upto}
+use Rattle.rn_syntax.proofs.readings.Segmented.{Joins}
 use Rattle.rn_syntax.proofs.literals.literal.Given as goal
 
 abbrev pub invariant-segments : goal.invariant-segments

@@ -1,6 +1,6 @@
 use Rattle.std.proofs.lemmas.Result.{err_from_is_err_and}
-use Rattle.rn_syntax.proofs.Next.{token_at, rest_past}
-use Rattle.rn_syntax.proofs.Modular.{module_fault, module_declarations, module_body, module_took, whole_tree, took_stops}
+use Rattle.rn_syntax.proofs.readings.Next.{token_at, rest_past}
+use Rattle.rn_syntax.proofs.readings.Modular.{module_fault, module_declarations, module_body, module_took, whole_tree, took_stops}
 use Rattle.rn_syntax.proofs.modules.module.Goals as goal
 
 pub returns-in_err-decls-clause-stuck : goal.returns-in_err-decls-clause-stuck

@@ -2,12 +2,12 @@ use Rattle.std.proofs.Common.{◌+◌, ◌++◌, ◌∷◌, [], ◌∙◌, sym, 
 use Rattle.std.proofs.lemmas.Result.{err_from_is_err_and}
 use Rattle.rn_syntax.specs.Grammar as g
 use Rattle.rn_syntax.specs.View.{class_view, boxed_class_view, any_view}
-use Rattle.rn_syntax.proofs.Compose.{on_fault, made_advanced, made_reads, one_on, passed_past, advanced_on, took_upto, stuck_upto, reads_upto, upto_then}
-use Rattle.rn_syntax.proofs.Chaining.{chain_read, chain_stuck, chain_end}
+use Rattle.rn_syntax.proofs.readings.Compose.{on_fault, made_advanced, made_reads, one_on, passed_past, advanced_on, took_upto, stuck_upto, reads_upto, upto_then}
+use Rattle.rn_syntax.proofs.readings.Chaining.{chain_read, chain_stuck, chain_end}
 use Rattle.rn_syntax.specs.Terminal.{operator}
 use Rattle.rn_syntax.specs.declared.token.Operator.TheVariants as o
-use Rattle.rn_syntax.proofs.Next.{terminal_at, next_two, place_is, word_at_keyword}
-use Rattle.rn_syntax.proofs.Classes.{word_core, prefixed_core, parens_inner, parens_stuck, parens_took, no_core, followed_took, followed_stuck, end_core, end_stuck, primary_body, primary_stuck, any_at, operand_body, operand_stuck, operand_plain, operand_any, except_took, except_stuck, tail_plain, classes_chain, class_first, class_stuck, class_alone, so_far_same}
+use Rattle.rn_syntax.proofs.readings.Next.{terminal_at, next_two, place_is, word_at_keyword}
+use Rattle.rn_syntax.proofs.readings.Classes.{word_core, prefixed_core, parens_inner, parens_stuck, parens_took, no_core, followed_took, followed_stuck, end_core, end_stuck, primary_body, primary_stuck, any_at, operand_body, operand_stuck, operand_plain, operand_any, except_took, except_stuck, tail_plain, classes_chain, class_first, class_stuck, class_alone, so_far_same}
 use Rattle.rn_syntax.proofs.names.+name_class.Goals as goal
 
 -- ---- cores

@@ -1,9 +1,10 @@
 -- Each call stands further on, or reads a smaller part of the production at the same token.
 use Rattle.std.proofs.Common.{◌<◌, ◌≤◌, ◌-◌, ◌+◌, ◌*◌, length, map}
-use Rattle.rn_syntax.specs.Reading.{AreSpelled, rest}
+use Rattle.rn_syntax.specs.inside.Reading.{rest}
+use Rattle.rn_syntax.specs.Spelled.{AreSpelled}
 use Rattle.rn_syntax.specs.View.{class_view}
-use Rattle.rn_syntax.proofs.Chaining.{So_far}
-use Rattle.rn_syntax.proofs.Classes.{classes_chain}
+use Rattle.rn_syntax.proofs.readings.Chaining.{So_far}
+use Rattle.rn_syntax.proofs.readings.Classes.{classes_chain}
 use Rattle.rn_syntax.proofs.names.+name_class.Given as goal
 
 abbrev pub invariant-name_class-choice : goal.invariant-name_class-choice

@@ -3,8 +3,8 @@ use Rattle.rn_syntax.specs.Terminal.{◌#◌, postfix}
 use Rattle.rn_syntax.specs.Tree as t
 use Rattle.rn_syntax.specs.Grammar as g
 use Rattle.rn_syntax.specs.Grammar.{IsAnyName}
-use Rattle.rn_syntax.proofs.Next.{place_is}
-use Rattle.rn_syntax.proofs.Parameters.{is_here}
+use Rattle.rn_syntax.proofs.readings.Next.{place_is}
+use Rattle.rn_syntax.proofs.readings.Parameters.{is_here}
 use Rattle.rn_syntax.proofs.names.any_name.Goals as goal
 
 pub returns-in-Star-clause-names : goal.returns-in-Star-clause-names

@@ -5,15 +5,15 @@ use Rattle.rn_syntax.specs.declared.token.Keyword.TheVariants as word
 use Rattle.rn_syntax.specs.Terminal.{operator}
 use Rattle.rn_syntax.specs.Tree as tree
 use Rattle.rn_syntax.specs.View.{boxed_view, datatype_view, params_view, pattern_view}
-use Rattle.rn_syntax.specs.Follow.{first}
-use Rattle.rn_syntax.proofs.Compose.{on_fault, took_same, reads_upto, made_reads, made_passed, made_advanced, later, one_on, passed_on, passed_past}
-use Rattle.rn_syntax.proofs.Next.{terminal_at, place_is}
-use Rattle.rn_syntax.proofs.Chaining.{chain_read, chain_stuck, chain_end}
-use Rattle.rn_syntax.proofs.Chains.{operands_chain, pattern_stuck, pattern_alone, pattern_first, operands_same}
-use Rattle.rn_syntax.proofs.Operands.{no_segment, text_stuck, text_read, params_stuck, params_read, datum_read, except_stuck, except_took, core_made}
-use Rattle.rn_syntax.proofs.Primaries.{type_at, operand_stuck, operand_typed, operand_core_stuck, operand_core_read, primary_stuck, primary_core_stuck, primary_follows_stuck, primary_took}
-use Rattle.rn_syntax.proofs.Cores.{open_stuck, braces_inner, braces_close, braced_took, class_stuck, content_stuck, content_took, keyword_here, element_stuck, element_took, attribute_stuck, attribute_took, list_stuck, list_took, mixed_stuck, mixed_took, empty_took, not_allowed_took, text_took, ref_took}
-use Rattle.rn_syntax.proofs.Unnamed.{literal_stuck, literal_took, inner_stuck, close_stuck, parens_took, no_core, no_keyword_core}
+use Rattle.rn_syntax.specs.inside.Follow.{first_terminal}
+use Rattle.rn_syntax.proofs.readings.Compose.{on_fault, took_same, reads_upto, made_reads, made_passed, made_advanced, later, one_on, passed_on, passed_past}
+use Rattle.rn_syntax.proofs.readings.Next.{terminal_at, place_is}
+use Rattle.rn_syntax.proofs.readings.Chaining.{chain_read, chain_stuck, chain_end}
+use Rattle.rn_syntax.proofs.readings.Chains.{operands_chain, pattern_stuck, pattern_alone, pattern_first, operands_same}
+use Rattle.rn_syntax.proofs.readings.Operands.{no_segment, text_stuck, text_read, params_stuck, params_read, datum_read, except_stuck, except_took, core_made}
+use Rattle.rn_syntax.proofs.readings.Primaries.{type_at, operand_stuck, operand_typed, operand_core_stuck, operand_core_read, primary_stuck, primary_core_stuck, primary_follows_stuck, primary_took}
+use Rattle.rn_syntax.proofs.readings.Cores.{open_stuck, braces_inner, braces_close, braced_took, class_stuck, content_stuck, content_took, keyword_here, element_stuck, element_took, attribute_stuck, attribute_took, list_stuck, list_took, mixed_stuck, mixed_took, empty_took, not_allowed_took, text_took, ref_took}
+use Rattle.rn_syntax.proofs.readings.Unnamed.{literal_stuck, literal_took, inner_stuck, close_stuck, parens_took, no_core, no_keyword_core}
 use Rattle.rn_syntax.proofs.patterns.+pattern.Goals as goal
 
 -- ---- braces
@@ -275,7 +275,7 @@ pattern-chain-init t c = record {
   further = c.in_ok-first.ensures.inside.further;
   inside = c.in_ok-first.ensures.inside.inside;
   so_far = λ s.
-      let here = ap first c.in-Operator.ensures.next.1 in
+      let here = ap first_terminal c.in-Operator.ensures.next.1 in
       operands_same c.in-Operator.operator _ _ (sym (c.in_ok-push_member.ensures ∙ ap (λ l. map pattern_view l ++ boxed_view c.in_ok-first.first ∷ []) c.new-members.ensures.items))
       (pattern_first c.in-Operator.operator here (c.in_ok-first.ensures.reads s), here);
 }

@@ -1,9 +1,10 @@
 -- Each call stands further on, or reads a smaller part of the production at the same token.
 use Rattle.std.proofs.Common.{◌<◌, ◌≤◌, ◌-◌, ◌+◌, ◌*◌, length, map}
-use Rattle.rn_syntax.specs.Reading.{AreSpelled, rest}
+use Rattle.rn_syntax.specs.inside.Reading.{rest}
+use Rattle.rn_syntax.specs.Spelled.{AreSpelled}
 use Rattle.rn_syntax.specs.View.{pattern_view}
-use Rattle.rn_syntax.proofs.Chaining.{So_far}
-use Rattle.rn_syntax.proofs.Chains.{operands_chain}
+use Rattle.rn_syntax.proofs.readings.Chaining.{So_far}
+use Rattle.rn_syntax.proofs.readings.Chains.{operands_chain}
 use Rattle.rn_syntax.proofs.patterns.+pattern.Given as goal
 
 abbrev pub invariant-pattern-chain : goal.invariant-pattern-chain

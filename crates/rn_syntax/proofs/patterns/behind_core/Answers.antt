@@ -1,8 +1,8 @@
 -- What follows the core, and then what stands behind a primary.
 use Rattle.std.proofs.lemmas.Result.{err_from_is_err_and}
 use Rattle.rn_syntax.specs.View.{boxed_view}
-use Rattle.rn_syntax.proofs.Compose.{on_fault, reads_upto}
-use Rattle.rn_syntax.proofs.Operands.{follows_read, follows_stuck}
+use Rattle.rn_syntax.proofs.readings.Compose.{on_fault, reads_upto}
+use Rattle.rn_syntax.proofs.readings.Operands.{follows_read, follows_stuck}
 use Rattle.rn_syntax.proofs.patterns.behind_core.Goals as goal
 
 pub returns-in_err-behind-clause-reads : goal.returns-in_err-behind-clause-reads

@@ -2,8 +2,8 @@
 use Rattle.std.proofs.Common.{◌+◌}
 use Rattle.std.proofs.lemmas.Result.{err_from_is_err_and}
 use Rattle.rn_syntax.specs.View.{boxed_view}
-use Rattle.rn_syntax.proofs.Compose.{on_fault, made_reads}
-use Rattle.rn_syntax.proofs.Operands.{alone_took, repeated_took, repeated_stuck}
+use Rattle.rn_syntax.proofs.readings.Compose.{on_fault, made_reads}
+use Rattle.rn_syntax.proofs.readings.Operands.{alone_took, repeated_took, repeated_stuck}
 use Rattle.rn_syntax.proofs.patterns.behind_primary.Goals as goal
 
 pub returns-in_default-clause-reads : goal.returns-in_default-clause-reads

@@ -1,7 +1,7 @@
 -- The first place in the items is the first in those that are left.
 use Rattle.std.proofs.Common.{◌≡◌, drop, map}
 use Rattle.rn_syntax.specs.Places.{first}
-use Rattle.rn_syntax.specs.Rules.{items_places}
+use Rattle.rn_syntax.specs.inside.Rules.{items_places}
 use Rattle.rn_syntax.specs.View.{declaration_view, items_view}
 use Rattle.rn_syntax.proofs.places.+items_place.Given as goal
 

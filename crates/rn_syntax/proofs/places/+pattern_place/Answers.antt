@@ -1,7 +1,7 @@
 -- Neither data nor what is excepted from it breaks the rule, so the first place is that in the excepted pattern.
 use Rattle.std.proofs.Common.{sym, ◌∙◌, ap, map, false}
 use Rattle.rn_syntax.specs.Places.{first}
-use Rattle.rn_syntax.specs.Rules.{datatypes, excepts, pattern_places}
+use Rattle.rn_syntax.specs.inside.Rules.{datatypes, excepts, pattern_places}
 use Rattle.rn_syntax.specs.View.{declaration_view, datatype_view, params_view, pattern_view}
 use Rattle.rn_syntax.proofs.Firsts.{nones_first}
 use Rattle.rn_syntax.proofs.PatternViews.{view-DatumBut}

@@ -1,7 +1,7 @@
 -- The first place in the patterns is the first in those that are left.
 use Rattle.std.proofs.Common.{◌≡◌, drop, map}
 use Rattle.rn_syntax.specs.Places.{first}
-use Rattle.rn_syntax.specs.Rules.{patterns_places}
+use Rattle.rn_syntax.specs.inside.Rules.{patterns_places}
 use Rattle.rn_syntax.specs.View.{declaration_view, patterns_view}
 use Rattle.rn_syntax.proofs.places.+pattern_place.Given as goal
 

@@ -1,7 +1,7 @@
 -- The declarations that are bound are the module's.
 use Rattle.std.proofs.Common.{ap, ◌∙◌, map, []}
 use Rattle.rn_syntax.specs.Places.{first, items_places, context_value}
-use Rattle.rn_syntax.specs.Rules.{classes, datatypes, excepts, inherits}
+use Rattle.rn_syntax.specs.inside.Rules.{classes, datatypes, excepts, inherits}
 use Rattle.rn_syntax.specs.View.{declaration_view, items_view}
 use Rattle.rn_syntax.proofs.reader.context_value_place.Goals as goal
 

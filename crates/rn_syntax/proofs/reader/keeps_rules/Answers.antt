@@ -1,7 +1,7 @@
 -- What all rules together leave alone, each of them does.
 use Rattle.std.proofs.Common.{ap, ◌∙◌, sym, map}
 use Rattle.rn_syntax.specs.Places.{first}
-use Rattle.rn_syntax.specs.Rules.{classes, datatypes, excepts, inherits}
+use Rattle.rn_syntax.specs.inside.Rules.{classes, datatypes, excepts, inherits}
 use Rattle.rn_syntax.specs.View.{declaration_view, items_view, module_view}
 use Rattle.rn_syntax.proofs.KeptRules.{all_places, no_fault}
 use Rattle.rn_syntax.proofs.reader.keeps_rules.Goals as goal

@@ -1,5 +1,5 @@
 -- The next token is the head of what is left.
-use Rattle.rn_syntax.proofs.Next.{next_at, spelled_at}
+use Rattle.rn_syntax.proofs.readings.Next.{next_at, segment_at, spelled_at}
 use Rattle.rn_syntax.proofs.terminals.next.Goals as goal
 
 pub returns-clause-next : goal.returns-clause-next
@@ -7,3 +7,6 @@ returns-clause-next c = next_at c.args.tokens.now c.args.at _ _ c.if-at-tokens.f
 
 pub returns-clause-whole : goal.returns-clause-whole
 returns-clause-whole c = λ s. c.terminal_of.ensures.whole (spelled_at c.args.tokens.now c.args.at _ c.if-at-tokens.false s)
+
+pub returns-clause-same : goal.returns-clause-same
+returns-clause-same c = segment_at c.args.tokens.now c.args.at _ _ c.if-at-tokens.false c.terminal_of.ensures.same

@@ -1,5 +1,5 @@
 -- A keyword or a symbol is what its characters spell, a plain name its own text.
-use Rattle.std.proofs.Common.{◌≡◌, ap, sym, ◌∙◌, subst, Some, true}
+use Rattle.std.proofs.Common.{◌≡◌, ap, sym, ◌∙◌, refl, subst, Some, true}
 use Rattle.std.specs.Str.{chars}
 use Rattle.std.proofs.lemmas.Str.{encodes-chars}
 use Rattle.rn_text.specs.declared.parts.Part.TheVariants as part
@@ -29,4 +29,5 @@ pub returns-in-Segment : goal.returns-in-Segment
 returns-in-Segment c = record {
   is = ap (λ k. Some (terminal_of k (chars c.args.token.text.now))) (sym c.in-Segment.is);
   whole = λ h. subst (λ k. spells (part.Token k) (chars c.args.token.text.now) ≡ true) c.in-Segment.is h;
+  same = refl;
 }

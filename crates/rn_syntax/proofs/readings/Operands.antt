@@ -10,15 +10,15 @@ use Rattle.rn_syntax.specs.Tree as tree
 use Rattle.rn_syntax.specs.Tree.{Datatype, Params, Pattern}
 use Rattle.rn_syntax.specs.Grammar as g
 use Rattle.rn_syntax.specs.Grammar.{Tokens, AreFollows, MayHaveAnnotation, IsLiteral, IsDatatype, MayHaveParams, IsOperand, IsPrimary, IsCore}
-use Rattle.rn_syntax.specs.Follow.{Starts, first, no_follow, no_tilde, no_brace, behind_core, behind_primary, behind_operand}
-use Rattle.rn_syntax.specs.Sequence.{Then, both, Gives, gives}
-use Rattle.rn_syntax.specs.Parts as part
-use Rattle.rn_syntax.specs.Parts.{BehindCore, BehindPrimary, IsTypedValue, IsDataEnd, BehindDatatype, BehindParams}
-use Rattle.rn_syntax.specs.Reading.{Took, Stuck, Bare, seen, IsNext, rest}
+use Rattle.rn_syntax.specs.inside.Follow.{Starts, first_terminal, no_follow, no_tilde, no_brace, behind_core, behind_primary, behind_operand}
+use Rattle.rn_syntax.specs.inside.Sequence.{Then, both, Gives, gives}
+use Rattle.rn_syntax.specs.inside.Parts as part
+use Rattle.rn_syntax.specs.inside.Parts.{BehindCore, BehindPrimary, IsTypedValue, IsDataEnd, BehindDatatype, BehindParams}
+use Rattle.rn_syntax.specs.inside.Reading.{Took, Stuck, Bare, seen, IsNext, rest}
 use Rattle.rn_syntax.proofs.OneClass.{starts_to, minus_stays}
 use Rattle.rn_syntax.proofs.OnePattern.{to_primary, primary_to_follow, core_to_tilde, core_to_brace, follows_core}
-use Rattle.rn_syntax.proofs.Compose.{Upto, Fits, Can, upto_at, upto_token, upto_then, took_upto, stuck_upto, reads, stuck_in, took_gives, first_alike, alike_token}
-use Rattle.rn_syntax.proofs.Next.{first_next}
+use Rattle.rn_syntax.proofs.readings.Compose.{Upto, Fits, Can, upto_at, upto_token, upto_then, took_upto, stuck_upto, reads, stuck_in, took_gives, first_alike, alike_token}
+use Rattle.rn_syntax.proofs.readings.Next.{first_next}
 
 -- ---- words
 
@@ -84,7 +84,7 @@ not_postfix : (x : code.Terminal) → ((s : Postfix) → x ≡ c.Postfix s → �
 not_postfix (c.Postfix s) h = absurd (h s refl)
 not_postfix x h = refl
 
-only_alone : {p z : Pattern} {t r : Tokens} → is_postfix (first t) ≡ false → BehindPrimary p t z r → (z ≡ p) × (r ≡ t)
+only_alone : {p z : Pattern} {t r : Tokens} → is_postfix (first_terminal t) ≡ false → BehindPrimary p t z r → (z ≡ p) × (r ≡ t)
 only_alone e part.alone = (refl, refl)
 only_alone e (part.repeated f) = absurd (false≢true (sym e))
 
@@ -136,7 +136,7 @@ abbrev pub is_segment : Terminal → Bool
 is_segment (segment s) = true
 is_segment x = false
 
-literal_begins : {t r : Tokens} {s : List ℕ} → IsLiteral t s r → is_segment (first t) ≡ true
+literal_begins : {t r : Tokens} {s : List ℕ} → IsLiteral t s r → is_segment (first_terminal t) ≡ true
 literal_begins g.one = refl
 literal_begins (g.joined l) = refl
 
@@ -144,7 +144,7 @@ not_segment : (x : code.Terminal) → ((s : _) → x ≡ c.Segment s → ⊥) �
 not_segment (c.Segment s) h = absurd (h s refl)
 not_segment x h = refl
 
-pub no_segment : (now behind : Tokens) (x : code.Terminal) → IsNext now (seen x) behind → ((s : _) → x ≡ c.Segment s → ⊥) → is_segment (first now) ≡ false
+pub no_segment : (now behind : Tokens) (x : code.Terminal) → IsNext now (seen x) behind → ((s : _) → x ≡ c.Segment s → ⊥) → is_segment (first_terminal now) ≡ false
 no_segment now behind x e h = ap is_segment (first_next now behind (seen x) e) ∙ not_segment x h
 
 -- no datum ends before a segment
@@ -171,20 +171,20 @@ module _ (d : Datatype) {now : Tokens} where
   pub value_stuck : {bad : Tokens} → Stuck IsLiteral (Starts no_tilde) now bad → Stuck (IsTypedValue d) (Starts behind_core) now bad
   value_stuck h = stuck_in (fits_given (λ s. tree.value (Some d) s) core_tilde) (can_given (λ s. tree.value (Some d) s)) h
 
-  datum_at : is_segment (first now) ≡ false → Upto (IsDataEnd d) (Datum d) (Starts behind_core) now now
+  datum_at : is_segment (first_terminal now) ≡ false → Upto (IsDataEnd d) (Datum d) (Starts behind_core) now now
   datum_at e = upto_at (λ t z r h. to h) (λ t a z r h w. from (ap is_segment (first_alike a) ∙ e) h)
     where
       to : {t r : Tokens} {z : Pattern} → Datum d t z r → IsDataEnd d t z r
       to (both m gives) = part.datum m
 
-      from : {t r : Tokens} {z : Pattern} → is_segment (first t) ≡ false → IsDataEnd d t z r → Datum d t z r
+      from : {t r : Tokens} {z : Pattern} → is_segment (first_terminal t) ≡ false → IsDataEnd d t z r → Datum d t z r
       from e (part.datum m) = both m gives
       from e (part.valued l) = absurd (false≢true (sym e ∙ literal_begins l))
 
-  pub datum_took : {ps : Params} {rest : Tokens} → is_segment (first now) ≡ false → Took MayHaveParams (Starts no_brace) now ps rest → Took (IsDataEnd d) (Starts behind_core) now (tree.datum d ps) rest
+  pub datum_took : {ps : Params} {rest : Tokens} → is_segment (first_terminal now) ≡ false → Took MayHaveParams (Starts no_brace) now ps rest → Took (IsDataEnd d) (Starts behind_core) now (tree.datum d ps) rest
   datum_took {ps = ps} {rest = rest} e h = took_upto (upto_then (datum_at e) (reads (fits_given (λ ps. tree.datum d ps) core_brace) h)) (took_gives (tree.datum d ps) rest)
 
-  pub datum_stuck : {bad : Tokens} → is_segment (first now) ≡ false → Stuck MayHaveParams (Starts no_brace) now bad → Stuck (IsDataEnd d) (Starts behind_core) now bad
+  pub datum_stuck : {bad : Tokens} → is_segment (first_terminal now) ≡ false → Stuck MayHaveParams (Starts no_brace) now bad → Stuck (IsDataEnd d) (Starts behind_core) now bad
   datum_stuck e h = stuck_upto (datum_at e) (stuck_in (fits_given (λ ps. tree.datum d ps) core_brace) (can_given (λ ps. tree.datum d ps)) h)
 
 -- ---- behind the datatype of an operand
@@ -223,10 +223,10 @@ not_minus : (x : code.Terminal) → (x ≡ c.Minus → ⊥) → is_minus (unwrap
 not_minus c.Minus h = absurd (h refl)
 not_minus x h = refl
 
-plain_at : (d : Datatype) (ps : Params) {now : Tokens} → is_minus (first now) ≡ false → Upto (BehindParams d ps) (BehindCore (tree.datum d ps)) (Starts behind_operand) now now
+plain_at : (d : Datatype) (ps : Params) {now : Tokens} → is_minus (first_terminal now) ≡ false → Upto (BehindParams d ps) (BehindCore (tree.datum d ps)) (Starts behind_operand) now now
 plain_at d ps e = upto_at (λ t z r h. part.followed h) (λ t a z r h w. from (ap is_minus (first_alike a) ∙ e) h)
   where
-    from : {t r : Tokens} {z : Pattern} → is_minus (first t) ≡ false → BehindParams d ps t z r → BehindCore (tree.datum d ps) t z r
+    from : {t r : Tokens} {z : Pattern} → is_minus (first_terminal t) ≡ false → BehindParams d ps t z r → BehindCore (tree.datum d ps) t z r
     from e (part.followed h) = h
     from e (part.excepted q) = absurd (false≢true (sym e))
 
@@ -251,14 +251,14 @@ module _ (d : Datatype) {ts : Tokens} where
       from (part.plain (part.datum m) f b) w = absurd (datum_not m (follows_core f (behind_front b w)))
       from (part.except m q) w = absurd (except_not m)
 
-  params_at : is_segment (first ts) ≡ false → Upto (BehindDatatype d) (WithParams d) (Starts behind_operand) ts ts
+  params_at : is_segment (first_terminal ts) ≡ false → Upto (BehindDatatype d) (WithParams d) (Starts behind_operand) ts ts
   params_at e = upto_at (λ t z r h. to h) (λ t a z r h w. from (ap is_segment (first_alike a) ∙ e) h)
     where
       to : {t r : Tokens} {z : Pattern} → WithParams d t z r → BehindDatatype d t z r
       to (both m (part.followed (both f b))) = part.plain (part.datum m) f b
       to (both m (part.excepted q)) = part.except m q
 
-      from : {t r : Tokens} {z : Pattern} → is_segment (first t) ≡ false → BehindDatatype d t z r → WithParams d t z r
+      from : {t r : Tokens} {z : Pattern} → is_segment (first_terminal t) ≡ false → BehindDatatype d t z r → WithParams d t z r
       from e (part.plain (part.valued l) f b) = absurd (false≢true (sym e ∙ literal_begins l))
       from e (part.plain (part.datum m) f b) = both m (part.followed (both f b))
       from e (part.except m q) = both m (part.excepted q)
@@ -271,10 +271,10 @@ module _ (d : Datatype) {ts : Tokens} where
       → Upto (BehindDatatype d) (BehindCore p) (Starts behind_operand) ts now
   text_read e h = upto_then (text_at e) (reads fits_core h)
 
-  pub params_stuck : {bad : Tokens} → is_segment (first ts) ≡ false → Stuck MayHaveParams (Starts no_brace) ts bad → Stuck (BehindDatatype d) (Starts behind_operand) ts bad
+  pub params_stuck : {bad : Tokens} → is_segment (first_terminal ts) ≡ false → Stuck MayHaveParams (Starts no_brace) ts bad → Stuck (BehindDatatype d) (Starts behind_operand) ts bad
   params_stuck e h = stuck_upto (params_at e) (stuck_in (fits_params d) (can_params d) h)
 
-  pub params_read : {ps : Params} {now : Tokens} → is_segment (first ts) ≡ false → Took MayHaveParams (Starts no_brace) ts ps now → Upto (BehindDatatype d) (BehindParams d ps) (Starts behind_operand) ts now
+  pub params_read : {ps : Params} {now : Tokens} → is_segment (first_terminal ts) ≡ false → Took MayHaveParams (Starts no_brace) ts ps now → Upto (BehindDatatype d) (BehindParams d ps) (Starts behind_operand) ts now
   params_read e h = upto_then (params_at e) (reads (fits_params d) h)
 
 module _ (d : Datatype) (ps : Params) {ts : Tokens} where

@@ -3,6 +3,7 @@ use Rattle.std.proofs.Common.{◌≡◌, ℕ, zero, suc, ◌+◌, ◌-◌, ◌<�
 use Rattle.std.specs.Str.{chars}
 use Rattle.std.specs.List.{slice_get}
 use Rattle.std.proofs.lemmas.List.Elements.{All-get_or}
+use Rattle.std.proofs.lemmas.Option.{get_or_from_slice_get}
 use Rattle.rn_text.specs.declared.source.Token.{Token}
 use Rattle.rn_text.specs.Tokens.{lexeme_of}
 use Rattle.rn_syntax.specs.declared.terminals.Terminal as code
@@ -11,14 +12,16 @@ use Rattle.rn_syntax.specs.Terminal as t
 use Rattle.rn_syntax.specs.Terminal.{Terminal, Placed, ◌#◌}
 use Rattle.rn_syntax.specs.Grammar.{Tokens, IsWord, by_name, by_keyword}
 use Rattle.rn_syntax.specs.Tokens.{placed, terminal_of}
-use Rattle.rn_syntax.specs.Reading.{seen, rest, IsInside, IsNext, IsPlace, last_end}
+use Rattle.rn_syntax.specs.inside.Reading.{seen, rest, IsInside, IsSegmentOf, IsNext}
+use Rattle.rn_syntax.specs.Spelled.{IsPlace, last_end}
 use Rattle.rn_syntax.specs.declared.token.Method.TheVariants as m
-use Rattle.rn_syntax.specs.Follow.{first, is_end, Anything}
+use Rattle.rn_syntax.specs.inside.Follow.{first_terminal, is_end, Anything}
 use Rattle.rn_syntax.specs.declared.token.Method.{Method}
-use Rattle.rn_syntax.specs.Sequence.{IsToken, IsOf, of, IsWordAt, word_at, IsAssign, by_method}
-use Rattle.rn_syntax.specs.Reading.{Stuck, AreSpelled, IsSpelled}
+use Rattle.rn_syntax.specs.inside.Sequence.{IsToken, IsOf, of, IsWordAt, word_at, IsAssign, by_method}
+use Rattle.rn_syntax.specs.inside.Reading.{Stuck}
+use Rattle.rn_syntax.specs.Spelled.{AreSpelled, SpellsItsKind}
 use Rattle.rn_syntax.proofs.OneClass.{word_one}
-use Rattle.rn_syntax.proofs.Compose.{can_token, first_alike, token_first, stuck_here}
+use Rattle.rn_syntax.proofs.readings.Compose.{can_token, first_alike, token_first, stuck_here}
 
 pub rest_cons : (xs : List Token) (at : ℕ) (d : Token) → at < length xs → rest xs at ≡ placed (lexeme_of (get_or xs at d)) ∷ rest xs (at + 1)
 rest_cons [] at d h = absurd (omega arith)
@@ -40,9 +43,9 @@ pub next_at : (xs : List Token) (at : ℕ) (d : Token) (x : Option Terminal) →
 next_at xs at d x h e = next_seen x _ (get_or xs at d).start _ _ (rest_cons xs at d h) e
 
 -- what the next token is
-pub first_next : (now behind : Tokens) (x : Option Terminal) → IsNext now x behind → first now ≡ unwrap_or x t.other
-first_next now behind None e = ap first e
-first_next now behind (Some x) e = ap first e.1
+pub first_next : (now behind : Tokens) (x : Option Terminal) → IsNext now x behind → first_terminal now ≡ unwrap_or x t.other
+first_next now behind None e = ap first_terminal e
+first_next now behind (Some x) e = ap first_terminal e.1
 
 -- where one is seen, it is inside
 pub inside_of : (x : code.Terminal) → (x ≡ c.End → ⊥) → (at len : ℕ) → IsInside x at len → at < len
@@ -118,7 +121,7 @@ abbrev is_assign : Terminal → Bool
 is_assign (t.assign w) = true
 is_assign x = false
 
-begins_assign : {t r : Tokens} {w : Method} → IsOf IsAssign t w r → is_assign (first t) ≡ true
+begins_assign : {t r : Tokens} {w : Method} → IsOf IsAssign t w r → is_assign (first_terminal t) ≡ true
 begins_assign (of by_method) = refl
 
 not_assign : (x : code.Terminal) → ((w : Method) → x ≡ c.Assign w → ⊥) → is_assign (unwrap_or (seen x) t.other) ≡ false
@@ -136,7 +139,7 @@ is_word (t.ident n) = true
 is_word (t.keyword w) = true
 is_word x = false
 
-begins_word : {t r : Tokens} {n : List ℕ} → IsOf IsWordAt t n r → is_word (first t) ≡ true
+begins_word : {t r : Tokens} {n : List ℕ} → IsOf IsWordAt t n r → is_word (first_terminal t) ≡ true
 begins_word (of (word_at by_name)) = refl
 begins_word (of (word_at by_keyword)) = refl
 
@@ -148,8 +151,12 @@ not_word x h k = refl
 pub no_word : (now behind : Tokens) (x : code.Terminal) → IsNext now (seen x) behind → ((n : _) → x ≡ c.Ident n → ⊥) → ((w : _) → x ≡ c.Keyword w → ⊥) → Stuck (IsOf IsWordAt) Anything now now
 no_word now behind x e h k = stuck_here is_word (λ t a r d. begins_word d) (ap is_word (first_next now behind (seen x) e) ∙ not_word x h k) (λ more. (t.ident [] # 0 ∷ more, [], of (word_at by_name)))
 
-pub spelled_at : (xs : List Token) (at : ℕ) (d : Token) → at < length xs → AreSpelled xs → IsSpelled (get_or xs at d)
-spelled_at xs at d h s = All-get_or IsSpelled xs at d h s
+pub spelled_at : (xs : List Token) (at : ℕ) (d : Token) → at < length xs → AreSpelled xs → SpellsItsKind (get_or xs at d)
+spelled_at xs at d h s = All-get_or SpellsItsKind xs at d h s
+
+-- a segment that is seen there is that token
+pub segment_at : (xs : List Token) (at : ℕ) (d : Token) (r : code.Terminal) → at < length xs → IsSegmentOf r (get_or xs at d) → (x : Token) → slice_get xs at ≡ Some x → IsSegmentOf r x
+segment_at xs at d r h s x e = subst (IsSegmentOf r) (get_or_from_slice_get xs at x d e) s
 
 -- a token that is there
 pub token_at : (xs : List Token) (at : ℕ) → at < length xs → (x : Terminal) × (i : ℕ) × (rest xs at ≡ x # i ∷ rest xs (at + 1))
@@ -164,20 +171,20 @@ brace_is : (x : Terminal) → is_end x ≡ true → x ≡ t.right_brace
 brace_is t.right_brace e = refl
 brace_is x e = cc
 
-pub brace_at : (xs : List Token) (at : ℕ) → at < length xs → is_end (first (rest xs at)) ≡ true → (i : ℕ) × (rest xs at ≡ t.right_brace # i ∷ rest xs (at + 1))
+pub brace_at : (xs : List Token) (at : ℕ) → at < length xs → is_end (first_terminal (rest xs at)) ≡ true → (i : ℕ) × (rest xs at ≡ t.right_brace # i ∷ rest xs (at + 1))
 brace_at xs at h e =
     let n = token_at xs at h in
-    let same : n.0 ≡ t.right_brace = brace_is n.0 (sym (ap (λ (l : Tokens). is_end (first l)) n.2) ∙ e) in
+    let same : n.0 ≡ t.right_brace = brace_is n.0 (sym (ap (λ (l : Tokens). is_end (first_terminal l)) n.2) ∙ e) in
     (n.1, n.2 ∙ ap (λ (y : Terminal). y # n.1 ∷ rest xs (at + 1)) same)
 
 pub place_is : (xs : List Token) {ts next : Tokens} {x : Terminal} {i j : ℕ} → ts ≡ x # i ∷ next → IsPlace xs ts j → j ≡ i
 place_is xs {j = j} e h = subst (λ (l : Tokens). IsPlace xs l j) e h
 
 -- this terminal, where it is the first
-pub terminal_at : (xs : List Token) (at : ℕ) (y : Terminal) → at < length xs → first (rest xs at) ≡ y → (i : ℕ) × (rest xs at ≡ y # i ∷ rest xs (at + 1))
+pub terminal_at : (xs : List Token) (at : ℕ) (y : Terminal) → at < length xs → first_terminal (rest xs at) ≡ y → (i : ℕ) × (rest xs at ≡ y # i ∷ rest xs (at + 1))
 terminal_at xs at y h e =
     let n = token_at xs at h in
-    let same : n.0 ≡ y = sym (ap first n.2) ∙ e in
+    let same : n.0 ≡ y = sym (ap first_terminal n.2) ∙ e in
     (n.1, n.2 ∙ ap (λ (x : Terminal). x # n.1 ∷ rest xs (at + 1)) same)
 
 pub word_at_keyword : {w : _} {s : List ℕ} → s ≡ t.spelling w → IsWord (t.keyword w) s

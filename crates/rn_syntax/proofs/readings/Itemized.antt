@@ -9,14 +9,14 @@ use Rattle.rn_syntax.specs.Tree as tree
 use Rattle.rn_syntax.specs.Tree.{Item}
 use Rattle.rn_syntax.specs.Grammar as g
 use Rattle.rn_syntax.specs.Grammar.{Tokens, IsAnnotation, MayHaveAnnotation, AreItems}
-use Rattle.rn_syntax.specs.Follow.{Starts, is_end, begins_item}
-use Rattle.rn_syntax.specs.Sequence.{Then, both}
-use Rattle.rn_syntax.specs.Reading.{Took, Stuck}
-use Rattle.rn_syntax.specs.Including as n
-use Rattle.rn_syntax.specs.Including.{IsItem, AreItemsBehind}
-use Rattle.rn_syntax.specs.Itemizing.{AreAnnotatedItems, first_items}
+use Rattle.rn_syntax.specs.inside.Follow.{Starts, is_end, begins_item}
+use Rattle.rn_syntax.specs.inside.Sequence.{Then, both}
+use Rattle.rn_syntax.specs.inside.Reading.{Took, Stuck}
+use Rattle.rn_syntax.specs.inside.Including as n
+use Rattle.rn_syntax.specs.inside.Including.{IsItem, AreItemsBehind}
+use Rattle.rn_syntax.specs.inside.Itemizing.{AreAnnotatedItems, first_items}
 use Rattle.rn_syntax.proofs.OneTree.{component_grammar, items_front}
-use Rattle.rn_syntax.proofs.Compose.{Upto, Fits, CanBe, upto_at, upto_then, reads, stuck_in, stuck_upto}
+use Rattle.rn_syntax.proofs.readings.Compose.{Upto, Fits, CanBe, upto_at, upto_then, reads, stuck_in, stuck_upto}
 
 pub first_items_to : {ts mid r : Tokens} {xs : List Item} → MayHaveAnnotation ts mid → AreAnnotatedItems mid xs r → AreItems ts xs r
 first_items_to a (first_items (n.component c) r) = g.component a c r

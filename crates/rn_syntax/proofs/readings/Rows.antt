@@ -8,13 +8,13 @@ use Rattle.rn_syntax.specs.Tree as t
 use Rattle.rn_syntax.specs.Tree.{Item}
 use Rattle.rn_syntax.specs.Grammar as g
 use Rattle.rn_syntax.specs.Grammar.{Tokens, IsAnnotation, MayHaveAnnotation, IsNote}
-use Rattle.rn_syntax.specs.Follow.{Starts, Anything, first, no_bracket, begins_item, is_end}
-use Rattle.rn_syntax.specs.Sequence.{Then, both, is_note}
-use Rattle.rn_syntax.specs.Reading.{Alike, ends, same, Took, Stuck, Bare}
+use Rattle.rn_syntax.specs.inside.Follow.{Starts, Anything, first_terminal, no_bracket, begins_item, is_end}
+use Rattle.rn_syntax.specs.inside.Sequence.{Then, both, is_note}
+use Rattle.rn_syntax.specs.inside.Reading.{Alike, ends, same, Took, Stuck, Bare}
 use Rattle.rn_syntax.proofs.OneClass.{starts_to}
 use Rattle.rn_syntax.proofs.OneTree.{end_to_item, note_front, note_end, note_one}
-use Rattle.rn_syntax.proofs.Compose.{Upto, Fits, Can, upto_then, took_upto, stuck_upto, reads, stuck_in, first_alike, alike_front, starts_first}
-use Rattle.rn_syntax.proofs.Repeating.{Behind, Whole, parts_took, parts_stuck, part_passed}
+use Rattle.rn_syntax.proofs.readings.Compose.{Upto, Fits, Can, upto_then, took_upto, stuck_upto, reads, stuck_in, first_alike, alike_front, starts_first}
+use Rattle.rn_syntax.proofs.readings.Repeating.{Behind, Whole, parts_took, parts_stuck, part_passed}
 
 -- an S with its annotation
 abbrev pub Row : (Tokens → Item → Tokens → Type 0) → Tokens → Item → Tokens → Type 0
@@ -27,7 +27,7 @@ pub data Rows (S : Tokens → Item → Tokens → Type 0) : Tokens → List Item
 
 -- what is known of an S, where the test tells what begins one or a note
 pub record IsRow (S : Tokens → Item → Tokens → Type 0) (test : Terminal → Bool) : Type 0 where
-  pub begins : (ts : Tokens) (x : Item) (r : Tokens) → S ts x r → test (first ts) ≡ true
+  pub begins : (ts : Tokens) (x : Item) (r : Tokens) → S ts x r → test (first_terminal ts) ≡ true
   pub unbracketed : (ts : Tokens) (x : Item) (r : Tokens) → S ts x r → Starts no_bracket ts
   pub plain : (ts : Tokens) (x : Item) (r : Tokens) → S ts x r → is_note ts ≡ false
   pub named : (n : List ℕ) (i : ℕ) (more : Tokens) → S (ident n # i ∷ assign m.Plain # 0 ∷ keyword k.Text # 0 ∷ more) (t.define n m.Plain t.text) more
@@ -40,10 +40,10 @@ pub record IsRow (S : Tokens → Item → Tokens → Type 0) (test : Terminal �
 
 -- ---- notes
 
-annotation_bracket : {ts r : Tokens} → IsAnnotation ts r → no_bracket (first ts) ≡ false
+annotation_bracket : {ts r : Tokens} → IsAnnotation ts r → no_bracket (first_terminal ts) ≡ false
 annotation_bracket (g.bracketed c) = refl
 
-ident_note : (n : List ℕ) (i : ℕ) (ts : Tokens) → is_note (ident n # i ∷ ts) ≡ not (no_bracket (first ts))
+ident_note : (n : List ℕ) (i : ℕ) (ts : Tokens) → is_note (ident n # i ∷ ts) ≡ not (no_bracket (first_terminal ts))
 ident_note n i [] = refl
 ident_note n i (left_bracket # j ∷ ts) = refl
 ident_note n i (x # j ∷ ts) = refl
@@ -52,7 +52,7 @@ pub note_is : {ts r : Tokens} → IsNote ts r → is_note ts ≡ true
 note_is (g.by_name {n = n} {i = i} {ts = ts} a) = ident_note n i ts ∙ ap not (annotation_bracket a)
 note_is (g.by_prefixed a) = refl
 
-same_second : (y : Terminal) (i : ℕ) (ts us : Tokens) → first ts ≡ first us → is_note (y # i ∷ ts) ≡ is_note (y # i ∷ us)
+same_second : (y : Terminal) (i : ℕ) (ts us : Tokens) → first_terminal ts ≡ first_terminal us → is_note (y # i ∷ ts) ≡ is_note (y # i ∷ us)
 same_second (ident n) i ts us e = ident_note n i ts ∙ ap (λ (x : Terminal). not (no_bracket x)) e ∙ sym (ident_note n i us)
 same_second y i ts us e = refl
 
@@ -72,11 +72,11 @@ named_end (prefixed n l) i ts p e = false≢true e
 named_end y i ts p e = false≢true p
 
 module _ {S : Tokens → Item → Tokens → Type 0} {test : Terminal → Bool} (s : IsRow S test) where
-  row_begins : {ts r : Tokens} {x : Item} → Row S ts x r → test (first ts) ≡ true
+  row_begins : {ts r : Tokens} {x : Item} → Row S ts x r → test (first_terminal ts) ≡ true
   row_begins (both g.bare d) = s.begins _ _ _ d
   row_begins (both (g.annotated (g.bracketed c)) d) = s.bracket
 
-  opens_not_end : (ts : Tokens) → test (first ts) ≡ true → Starts is_end ts → ⊥
+  opens_not_end : (ts : Tokens) → test (first_terminal ts) ≡ true → Starts is_end ts → ⊥
   opens_not_end [] h e = false≢true (sym s.nothing ∙ h)
   opens_not_end (y # i ∷ ts) h e = false≢true (sym (s.not_end y h) ∙ e)
 
@@ -89,7 +89,7 @@ module _ {S : Tokens → Item → Tokens → Type 0} {test : Terminal → Bool} 
   rows_front {ts = ts} (row w n) a = starts_first begins_item ts (s.opens _ (row_begins w))
   rows_front (note n d) a = note_front n
 
-  note_begins : {ts r : Tokens} → IsNote ts r → test (first ts) ≡ true
+  note_begins : {ts r : Tokens} → IsNote ts r → test (first_terminal ts) ≡ true
   note_begins (g.by_name {n = n} a) = s.by_ident n
   note_begins (g.by_prefixed {n = n} {l = l} a) = s.by_prefixed n l
 
@@ -125,7 +125,7 @@ module _ {S : Tokens → Item → Tokens → Type 0} {test : Terminal → Bool} 
     splits = λ t a z r d g. split (w.derives t) (λ y mid v f. w.only t a y mid v f) d g;
   }
 
-  refuse : {ts r : Tokens} {z : List Item} → test (first ts) ≡ true → is_note ts ≡ false → ((y : Item) (mid : Tokens) → Row S ts y mid → Starts begins_item mid → ⊥) → Rows S ts z r → Starts is_end r → ⊥
+  refuse : {ts r : Tokens} {z : List Item} → test (first_terminal ts) ≡ true → is_note ts ≡ false → ((y : Item) (mid : Tokens) → Row S ts y mid → Starts begins_item mid → ⊥) → Rows S ts z r → Starts is_end r → ⊥
   refuse {ts = ts} h p never none g = opens_not_end ts h g
   refuse h p never (note n d) g = false≢true (sym p ∙ note_is n)
   refuse h p never (row v d) g = never _ _ v (rows_front d g)
@@ -139,12 +139,12 @@ module _ {S : Tokens → Item → Tokens → Type 0} {test : Terminal → Bool} 
   stuck_plain (y # i ∷ fs) {t = t} {bad = bad} a h never = same_second y i (fs ++ t) (fs ++ bad) (first_alike (alike_front fs a)) ∙ h
 
   -- a row stopped
-  pub rows_stuck : {now bad : Tokens} → test (first now) ≡ true → is_note now ≡ false → Stuck (Row S) (Starts begins_item) now bad → Stuck (Rows S) (Starts is_end) now bad
+  pub rows_stuck : {now bad : Tokens} → test (first_terminal now) ≡ true → is_note now ≡ false → Stuck (Row S) (Starts begins_item) now bad → Stuck (Rows S) (Starts is_end) now bad
   rows_stuck h p w = record {
     front = w.front;
     cut = w.cut;
     begins = λ more. let b = w.begins more in (b.0, b.1 ∷ [], row b.2 none);
-    refuses = λ t a z r d g. refuse (ap test (first_alike (alike_front w.front a) ∙ ap first (sym w.cut)) ∙ h) (stuck_plain w.front a (ap is_note (sym w.cut) ∙ p) w.refuses) (λ y mid v f. w.refuses t a y mid v f) d g;
+    refuses = λ t a z r d g. refuse (ap test (first_alike (alike_front w.front a) ∙ ap first_terminal (sym w.cut)) ∙ h) (stuck_plain w.front a (ap is_note (sym w.cut) ∙ p) w.refuses) (λ y mid v f. w.refuses t a y mid v f) d g;
   }
 
   -- ---- a note
@@ -176,17 +176,17 @@ module _ {S : Tokens → Item → Tokens → Type 0} {test : Terminal → Bool} 
         front = y # i ∷ k.front;
         cut = e ∙ ap (λ (l : Tokens). y # i ∷ l) k.cut;
         begins = λ more. let b = k.begins more in (b.0, [], note (note_name y i next p _ _ b.2) none);
-        refuses = λ t a z r d g. note_refuse (same_second y i (k.front ++ t) next (first_alike (alike_front k.front a) ∙ ap first (sym k.cut)) ∙ p) (λ mid n. k.refuses t a tt mid n tt) d g;
+        refuses = λ t a z r d g. note_refuse (same_second y i (k.front ++ t) next (first_alike (alike_front k.front a) ∙ ap first_terminal (sym k.cut)) ∙ p) (λ mid n. k.refuses t a tt mid n tt) d g;
       }
 
   -- ---- the end
 
-  end_from : {ts r : Tokens} {z : List Item} → test (first ts) ≡ false → Rows S ts z r → (z ≡ []) × (r ≡ ts)
+  end_from : {ts r : Tokens} {z : List Item} → test (first_terminal ts) ≡ false → Rows S ts z r → (z ≡ []) × (r ≡ ts)
   end_from h none = (refl, refl)
   end_from h (row v d) = absurd (false≢true (sym h ∙ row_begins v))
   end_from h (note n d) = absurd (false≢true (sym h ∙ note_begins n))
 
-  pub rows_end : {now : Tokens} → test (first now) ≡ false → Took (Rows S) (Starts is_end) now [] now
+  pub rows_end : {now : Tokens} → test (first_terminal now) ≡ false → Took (Rows S) (Starts is_end) now [] now
   rows_end h = record { front = []; cut = refl; derives = λ more. none; only = λ t a y r d g. end_from (ap test (first_alike a) ∙ h) d }
 
 -- ---- the loop
@@ -213,13 +213,13 @@ module _ {V : Tokens → List Item → Tokens → Type 0} {S : Tokens → Item �
   pub stuck_note : {y : Terminal} {i : ℕ} {next bad : Tokens} → now ≡ y # i ∷ next → is_note now ≡ true → Stuck (Bare IsAnnotation) Anything next bad → Stuck V (Starts is_end) ts bad
   stuck_note e h k = parts_stuck (λ (l : List Item). l) xs so_far (rows_note_stuck s e h k)
 
-  pub stuck_annotation : {bad : Tokens} → test (first now) ≡ true → is_note now ≡ false → Stuck (Bare MayHaveAnnotation) (Starts no_bracket) now bad → Stuck V (Starts is_end) ts bad
+  pub stuck_annotation : {bad : Tokens} → test (first_terminal now) ≡ true → is_note now ≡ false → Stuck (Bare MayHaveAnnotation) (Starts no_bracket) now bad → Stuck V (Starts is_end) ts bad
   stuck_annotation h p k = parts_stuck (λ (l : List Item). l) xs so_far (rows_stuck s h p (row_unannotated s k))
 
-  pub stuck_row : {body bad : Tokens} → test (first now) ≡ true → is_note now ≡ false → Took (Bare MayHaveAnnotation) (Starts no_bracket) now tt body → Stuck S (Starts begins_item) body bad → Stuck V (Starts is_end) ts bad
+  pub stuck_row : {body bad : Tokens} → test (first_terminal now) ≡ true → is_note now ≡ false → Took (Bare MayHaveAnnotation) (Starts no_bracket) now tt body → Stuck S (Starts begins_item) body bad → Stuck V (Starts is_end) ts bad
   stuck_row h p a k = parts_stuck (λ (l : List Item). l) xs so_far (rows_stuck s h p (row_stuck s a k))
 
-  pub so_far_took : test (first now) ≡ false → Took V (Starts is_end) ts xs now
+  pub so_far_took : test (first_terminal now) ≡ false → Took V (Starts is_end) ts xs now
   so_far_took h = parts_took (λ (l : List Item). l) xs [] (sym (append-nil xs)) so_far (rows_end s h)
 
 pub so_far_same : {V : Tokens → List Item → Tokens → Type 0} {S : Tokens → Item → Tokens → Type 0} {xs ys : List Item} (ts now : Tokens) → xs ≡ ys → So_far V S xs ts now → So_far V S ys ts now

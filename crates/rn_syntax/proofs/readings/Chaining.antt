@@ -2,11 +2,11 @@
 use Rattle.std.proofs.Common.{◌≡◌, ℕ, List, [], ◌∷◌, ◌++◌, refl, ap, sym, ◌∙◌, subst, append-nil}
 use Rattle.rn_syntax.specs.Terminal.{Terminal, ◌#◌}
 use Rattle.rn_syntax.specs.Grammar.{Tokens}
-use Rattle.rn_syntax.specs.Follow.{first}
-use Rattle.rn_syntax.specs.Sequence.{Then, both, Gives, gives}
-use Rattle.rn_syntax.specs.Reading.{Took, Stuck}
-use Rattle.rn_syntax.proofs.Compose.{Upto, Fits, upto_at, upto_token, upto_then, stuck_upto, reads, stuck_in, first_alike}
-use Rattle.rn_syntax.proofs.Repeating.{Behind, Whole, part_read, part_stuck, parts_took}
+use Rattle.rn_syntax.specs.inside.Follow.{first_terminal}
+use Rattle.rn_syntax.specs.inside.Sequence.{Then, both, Gives, gives}
+use Rattle.rn_syntax.specs.inside.Reading.{Took, Stuck}
+use Rattle.rn_syntax.proofs.readings.Compose.{Upto, Fits, upto_at, upto_token, upto_then, stuck_upto, reads, stuck_in, first_alike}
+use Rattle.rn_syntax.proofs.readings.Repeating.{Behind, Whole, part_read, part_stuck, parts_took}
 
 -- more parts, each behind the terminal, if they come
 pub data Rest {A : Type 0} (More : Tokens → List A → Tokens → Type 0) : Tokens → List A → Tokens → Type 0 where
@@ -22,9 +22,9 @@ pub data Chained {A : Type 0} (More : Tokens → List A → Tokens → Type 0) (
 pub record IsChain {A : Type 0} (V S : Tokens → A → Tokens → Type 0) (F G : Tokens → Type 0) (More : Tokens → List A → Tokens → Type 0) (f : List A → A) (between : Terminal) : Type 0 where
   pub to : (t : Tokens) (l : List A) (r : Tokens) (i : ℕ) → Then S (λ (x : A). Whole (Rest More) (x ∷ [])) t l r → More (between # i ∷ t) l r
   pub from : (t : Tokens) (l : List A) (r : Tokens) (i : ℕ) → More (between # i ∷ t) l r → Then S (λ (x : A). Whole (Rest More) (x ∷ [])) t l r
-  pub begins : (t : Tokens) (l : List A) (r : Tokens) → More t l r → first t ≡ between
-  pub ends : (t : Tokens) → first t ≡ between → G t → ⊥
-  pub part_ends : (t : Tokens) → first t ≡ between → F t
+  pub begins : (t : Tokens) (l : List A) (r : Tokens) → More t l r → first_terminal t ≡ between
+  pub ends : (t : Tokens) → first_terminal t ≡ between → G t → ⊥
+  pub part_ends : (t : Tokens) → first_terminal t ≡ between → F t
   pub less : (t : Tokens) → G t → F t
 
 module _ {A : Type 0} {V S : Tokens → A → Tokens → Type 0} {F G : Tokens → Type 0} {More : Tokens → List A → Tokens → Type 0} {f : List A → A} {between : Terminal} (h : IsChain V S F G More f between) where
@@ -68,27 +68,27 @@ module _ {A : Type 0} {V S : Tokens → A → Tokens → Type 0} {F G : Tokens �
   two_at c e = upto_token e (λ t z r d. two_to d) (λ t z r d g. two_from d g)
 
   -- at another one
-  alone_from : {c z : A} {t r : Tokens} → (first t ≡ between → ⊥) → Chained More f c t z r → Gives c t z r
+  alone_from : {c z : A} {t r : Tokens} → (first_terminal t ≡ between → ⊥) → Chained More f c t z r → Gives c t z r
   alone_from n alone = gives
   alone_from {t = t} {r = r} n (many {l = l} m) = absurd (n (h.begins t l r m))
 
-  pub alone_at : (c : A) {now : Tokens} → (first now ≡ between → ⊥) → Upto (Chained More f c) (Gives c) G now now
+  pub alone_at : (c : A) {now : Tokens} → (first_terminal now ≡ between → ⊥) → Upto (Chained More f c) (Gives c) G now now
   alone_at c n = upto_at (λ t z r d. to d) (λ t a z r d g. alone_from (λ e. n (sym (first_alike a) ∙ e)) d)
     where
       to : {z : A} {t r : Tokens} → Gives c t z r → Chained More f c t z r
       to gives = alone
 
-  rest_none : {t r : Tokens} {l : List A} → (first t ≡ between → ⊥) → Rest More t l r → (l ≡ []) × (r ≡ t)
+  rest_none : {t r : Tokens} {l : List A} → (first_terminal t ≡ between → ⊥) → Rest More t l r → (l ≡ []) × (r ≡ t)
   rest_none n none = (refl, refl)
   rest_none {t = t} {r = r} {l = l} n (some m) = absurd (n (h.begins t l r m))
 
-  rest_end : {now : Tokens} → (first now ≡ between → ⊥) → Took (Rest More) G now [] now
+  rest_end : {now : Tokens} → (first_terminal now ≡ between → ⊥) → Took (Rest More) G now [] now
   rest_end n = record { front = []; cut = refl; derives = λ more. none; only = λ t a y r d g. rest_none (λ e. n (sym (first_alike a) ∙ e)) d }
 
   -- the parts that were read, of which the second comes where there is one alone
   abbrev pub So_far : List A → Tokens → Tokens → Type 0
   So_far [] ts now = ⊥
-  So_far (c ∷ []) ts now = Upto V (Chained More f c) G ts now × (first now ≡ between)
+  So_far (c ∷ []) ts now = Upto V (Chained More f c) G ts now × (first_terminal now ≡ between)
   So_far (c ∷ d ∷ cs) ts now = Upto V (Behind (Rest More) f (c ∷ d ∷ cs)) G ts now
 
   pub chain_read : (xs : List A) (ts now : Tokens) {next end : Tokens} {x : A} {i : ℕ} → So_far xs ts now → now ≡ between # i ∷ next → Took S F next x end → So_far (xs ++ x ∷ []) ts end
@@ -101,7 +101,7 @@ module _ {A : Type 0} {V S : Tokens → A → Tokens → Type 0} {F G : Tokens �
   chain_stuck (c ∷ []) ts now u e k = stuck_upto u.0 (stuck_upto (two_at c e) (stuck_in (fits_two c) (λ more. (more, λ x. (f (c ∷ x ∷ []), record { more = []; is = refl; behind = none }))) k))
   chain_stuck (c ∷ d ∷ cs) ts now u e k = part_stuck f (c ∷ d ∷ cs) u (rest_at e) fits_rest (λ more. (more, [], none)) k
 
-  pub chain_end : (xs : List A) (ts now : Tokens) → So_far xs ts now → (first now ≡ between → ⊥) → Took V G ts (f xs) now
+  pub chain_end : (xs : List A) (ts now : Tokens) → So_far xs ts now → (first_terminal now ≡ between → ⊥) → Took V G ts (f xs) now
   chain_end [] ts now u n = absurd u
   chain_end (c ∷ []) ts now u n = absurd (n u.1)
   chain_end (c ∷ d ∷ cs) ts now u n = parts_took f (c ∷ d ∷ cs) [] (ap f (sym (append-nil (c ∷ d ∷ cs)))) u (rest_end n)

@@ -11,14 +11,14 @@ use Rattle.rn_syntax.specs.Tree as t
 use Rattle.rn_syntax.specs.Tree.{Item, items_of}
 use Rattle.rn_syntax.specs.Grammar as g
 use Rattle.rn_syntax.specs.Grammar.{Tokens, IsLiteral, AreInnerItems, MayInherit, MayHaveOverrides}
-use Rattle.rn_syntax.specs.Follow.{Starts, Anything, first, no_tilde, no_brace, no_inherit, begins_item}
-use Rattle.rn_syntax.specs.Sequence.{Then, both, Gives, gives, IsToken, token, IsOf, of, IsPrefixAt, prefix_at}
-use Rattle.rn_syntax.specs.Including.{UpToBrace, IsIncludeEnd}
-use Rattle.rn_syntax.specs.Reading.{Took, Stuck, seen, IsNext}
+use Rattle.rn_syntax.specs.inside.Follow.{Starts, Anything, first_terminal, no_tilde, no_brace, no_inherit, begins_item}
+use Rattle.rn_syntax.specs.inside.Sequence.{Then, both, Gives, gives, IsToken, token, IsOf, of, IsPrefixAt, prefix_at}
+use Rattle.rn_syntax.specs.inside.Including.{UpToBrace, IsIncludeEnd}
+use Rattle.rn_syntax.specs.inside.Reading.{Took, Stuck, seen, IsNext}
 use Rattle.rn_syntax.proofs.OneClass.{starts_to}
 use Rattle.rn_syntax.proofs.OneTree.{item_to_brace, override_inherit, override_tilde, inherit_tilde}
-use Rattle.rn_syntax.proofs.Compose.{Upto, Fits, Can, upto_token, upto_then, took_upto, stuck_upto, reads, stuck_in, took_gives, first_alike, fits_anything, fits_gives, can_gives}
-use Rattle.rn_syntax.proofs.Next.{first_next}
+use Rattle.rn_syntax.proofs.readings.Compose.{Upto, Fits, Can, upto_token, upto_then, took_upto, stuck_upto, reads, stuck_in, took_gives, first_alike, fits_anything, fits_gives, can_gives}
+use Rattle.rn_syntax.proofs.readings.Next.{first_next}
 
 -- ---- inherit
 
@@ -31,11 +31,11 @@ InheritPrefix = Then (IsOf IsPrefixAt) (λ (p : Place). Gives (Some p))
 abbrev pub InheritEnd : Tokens → Option Place → Tokens → Type 0
 InheritEnd = Then (IsToken (assign m.Plain)) (λ (i : ℕ). InheritPrefix)
 
-inherit_from : {l r : Tokens} {h : Option Place} → (first l ≡ keyword k.Inherit → ⊥) → MayInherit l h r → (h ≡ None) × (r ≡ l)
+inherit_from : {l r : Tokens} {h : Option Place} → (first_terminal l ≡ keyword k.Inherit → ⊥) → MayInherit l h r → (h ≡ None) × (r ≡ l)
 inherit_from n g.none = (refl, refl)
 inherit_from n (g.inherit w) = absurd (n refl)
 
-pub no_inherit_here : {now : Tokens} → (first now ≡ keyword k.Inherit → ⊥) → Took MayInherit (Starts no_inherit) now None now
+pub no_inherit_here : {now : Tokens} → (first_terminal now ≡ keyword k.Inherit → ⊥) → Took MayInherit (Starts no_inherit) now None now
 no_inherit_here n = record { front = []; cut = refl; derives = λ more. g.none; only = λ l a h r d f. inherit_from (λ e. n (sym (first_alike a) ∙ e)) d }
 
 pub inherit_at : {j : ℕ} {now next : Tokens} → now ≡ keyword k.Inherit # j ∷ next → Upto MayInherit InheritEnd (Starts no_inherit) now next
@@ -82,7 +82,7 @@ not_left_brace : (y : code.Terminal) → (y ≡ c.LeftBrace → ⊥) → no_brac
 not_left_brace c.LeftBrace h = absurd (h refl)
 not_left_brace y h = refl
 
-override_from : {l r : Tokens} {z : List Item} → no_brace (first l) ≡ true → MayHaveOverrides l z r → (z ≡ []) × (r ≡ l)
+override_from : {l r : Tokens} {z : List Item} → no_brace (first_terminal l) ≡ true → MayHaveOverrides l z r → (z ≡ []) × (r ≡ l)
 override_from h g.none = (refl, refl)
 override_from h (g.braces d) = absurd (false≢true h)
 

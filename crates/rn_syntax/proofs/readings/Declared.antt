@@ -13,15 +13,16 @@ use Rattle.rn_syntax.specs.Tree as t
 use Rattle.rn_syntax.specs.Tree.{Declaration, Uri}
 use Rattle.rn_syntax.specs.Grammar as g
 use Rattle.rn_syntax.specs.Grammar.{Tokens, IsWord, IsLiteral, IsUri, IsDeclaration, AreDeclarations}
-use Rattle.rn_syntax.specs.Follow.{Starts, Anything, first, no_tilde, no_word, begins_item, begins_declaration}
-use Rattle.rn_syntax.specs.Sequence.{Then, both, Gives, gives, IsToken, token, IsOf, of, IsHere, IsWordAt, word_at, IsPrefixAt, prefix_at}
-use Rattle.rn_syntax.specs.Declaring.{IsUriEnd, IsNamespaceEnd, IsDatatypesEnd, MayHaveDefaultPrefix, no_prefix, prefix, IsDefaultEnd}
-use Rattle.rn_syntax.specs.Reading.{Took, Stuck, seen, IsNext, IsPlace, rest}
+use Rattle.rn_syntax.specs.inside.Follow.{Starts, Anything, first_terminal, no_tilde, no_word, begins_item, begins_declaration}
+use Rattle.rn_syntax.specs.inside.Sequence.{Then, both, Gives, gives, IsToken, token, IsOf, of, IsHere, IsWordAt, word_at, IsPrefixAt, prefix_at}
+use Rattle.rn_syntax.specs.inside.Declaring.{IsUriEnd, IsNamespaceEnd, IsDatatypesEnd, MayHaveDefaultPrefix, no_prefix, prefix, IsDefaultEnd}
+use Rattle.rn_syntax.specs.inside.Reading.{Took, Stuck, seen, IsNext, rest}
+use Rattle.rn_syntax.specs.Spelled.{IsPlace}
 use Rattle.rn_syntax.proofs.OneClass.{word_one, starts_to}
 use Rattle.rn_syntax.proofs.OneTree.{declarations_tilde, item_to_tilde}
-use Rattle.rn_syntax.proofs.Compose.{Upto, Fits, Can, CanBe, upto_at, upto_token, upto_then, took_upto, stuck_upto, reads, stuck_in, took_gives, first_alike, stuck_here, fits_anything, fits_token, fits_gives, can_gives, can_token, of_took}
-use Rattle.rn_syntax.proofs.Repeating.{Whole, behind_start, part_read, part_stuck, parts_took}
-use Rattle.rn_syntax.proofs.Next.{first_next, place_is}
+use Rattle.rn_syntax.proofs.readings.Compose.{Upto, Fits, Can, CanBe, upto_at, upto_token, upto_then, took_upto, stuck_upto, reads, stuck_in, took_gives, first_alike, stuck_here, fits_anything, fits_token, fits_gives, can_gives, can_token, of_took}
+use Rattle.rn_syntax.proofs.readings.Repeating.{Whole, behind_start, part_read, part_stuck, parts_took}
+use Rattle.rn_syntax.proofs.readings.Next.{first_next, place_is}
 
 -- ---- prefixes
 
@@ -71,23 +72,23 @@ inherit_took {i = i} e = record { front = keyword k.Inherit # i ∷ []; cut = e;
 abbrev Literal : Tokens → Uri → Tokens → Type 0
 Literal = Then IsLiteral (λ (s : List ℕ). Gives (t.literal s))
 
-literal_at : {now : Tokens} → (first now ≡ keyword k.Inherit → ⊥) → Upto IsUri Literal (Starts no_tilde) now now
+literal_at : {now : Tokens} → (first_terminal now ≡ keyword k.Inherit → ⊥) → Upto IsUri Literal (Starts no_tilde) now now
 literal_at n = upto_at (λ l z r d. to d) (λ l a z r d f. from (λ e. n (sym (first_alike a) ∙ e)) d)
   where
     to : {l r : Tokens} {u : Uri} → Literal l u r → IsUri l u r
     to (both d gives) = g.literal d
 
-    from : {l r : Tokens} {u : Uri} → (first l ≡ keyword k.Inherit → ⊥) → IsUri l u r → Literal l u r
+    from : {l r : Tokens} {u : Uri} → (first_terminal l ≡ keyword k.Inherit → ⊥) → IsUri l u r → Literal l u r
     from n (g.literal d) = both d gives
     from n g.inherited = absurd (n refl)
 
 fits_text : Fits (Starts no_tilde) (λ (s : List ℕ). Gives (t.literal s)) (Starts no_tilde)
 fits_text = fits_gives (λ (s : List ℕ). t.literal s) (λ r g. g)
 
-pub uri_took : {now next : Tokens} {s : List ℕ} → (first now ≡ keyword k.Inherit → ⊥) → Took IsLiteral (Starts no_tilde) now s next → Took IsUri (Starts no_tilde) now (t.literal s) next
+pub uri_took : {now next : Tokens} {s : List ℕ} → (first_terminal now ≡ keyword k.Inherit → ⊥) → Took IsLiteral (Starts no_tilde) now s next → Took IsUri (Starts no_tilde) now (t.literal s) next
 uri_took {next = next} {s = s} n k = took_upto (upto_then (literal_at n) (reads fits_text k)) (took_gives (t.literal s) next)
 
-pub uri_stuck : {now bad : Tokens} → (first now ≡ keyword k.Inherit → ⊥) → Stuck IsLiteral (Starts no_tilde) now bad → Stuck IsUri (Starts no_tilde) now bad
+pub uri_stuck : {now bad : Tokens} → (first_terminal now ≡ keyword k.Inherit → ⊥) → Stuck IsLiteral (Starts no_tilde) now bad → Stuck IsUri (Starts no_tilde) now bad
 uri_stuck n k = stuck_upto (literal_at n) (stuck_in fits_text (can_gives (λ (s : List ℕ). t.literal s)) k)
 
 -- ---- behind the first word
@@ -166,7 +167,7 @@ not_word (c.Ident n) h1 h2 = absurd (h1 n refl)
 not_word (c.Keyword w) h1 h2 = absurd (h2 w refl)
 not_word y h1 h2 = refl
 
-none_from : {l r : Tokens} {p : Option (List ℕ × ℕ)} → no_word (first l) ≡ true → MayHaveDefaultPrefix l p r → (p ≡ None) × (r ≡ l)
+none_from : {l r : Tokens} {p : Option (List ℕ × ℕ)} → no_word (first_terminal l) ≡ true → MayHaveDefaultPrefix l p r → (p ≡ None) × (r ≡ l)
 none_from h no_prefix = (refl, refl)
 none_from h (prefix g.by_name) = absurd (false≢true h)
 none_from h (prefix g.by_keyword) = absurd (false≢true h)
@@ -194,7 +195,7 @@ can_default start more = (assign m.Plain # 0 ∷ segment [] # 0 ∷ more, λ p. 
 can_prefixed : (start : ℕ) → Can (DefaultPrefix start)
 can_prefixed start more = (assign m.Plain # 0 ∷ segment [] # 0 ∷ more, λ i. (t.default start None (t.literal []), both no_prefix (both token (both (g.literal g.one) gives))))
 
-pub default_namespace : (start : ℕ) {now : Tokens} → (first now ≡ keyword k.Namespace → ⊥) → Stuck (IsDefaultEnd start) (Starts no_tilde) now now
+pub default_namespace : (start : ℕ) {now : Tokens} → (first_terminal now ≡ keyword k.Namespace → ⊥) → Stuck (IsDefaultEnd start) (Starts no_tilde) now now
 default_namespace start n = stuck_in fits_anything (can_prefixed start) (record {
   front = [];
   cut = refl;
@@ -202,7 +203,7 @@ default_namespace start n = stuck_in fits_anything (can_prefixed start) (record 
   refuses = λ l a i r d f. n (sym (first_alike a) ∙ token_is d);
 })
   where
-    token_is : {l r : Tokens} {i : ℕ} → IsToken (keyword k.Namespace) l i r → first l ≡ keyword k.Namespace
+    token_is : {l r : Tokens} {i : ℕ} → IsToken (keyword k.Namespace) l i r → first_terminal l ≡ keyword k.Namespace
     token_is token = refl
 
 pub default_upto : (start : ℕ) {i : ℕ} {ts now : Tokens} → Took (IsToken (keyword k.Namespace)) Anything ts i now → Upto (IsDefaultEnd start) (DefaultPrefix start i) (Starts no_tilde) ts now
@@ -248,7 +249,7 @@ default_at_place {i = i} e = upto_token e (λ l z r d. to d) (λ l z r d f. from
 pub default_at : {i j : ℕ} {now next : Tokens} → j ≡ i → now ≡ keyword k.Default # i ∷ next → Upto IsDeclaration (IsDefaultEnd j) (Starts no_tilde) now next
 default_at {now = now} {next = next} same e = subst (λ (l : ℕ). Upto IsDeclaration (IsDefaultEnd l) (Starts no_tilde) now next) (sym same) (default_at_place e)
 
-declaration_begins : {l r : Tokens} {d : Declaration} → IsDeclaration l d r → begins_declaration (first l) ≡ true
+declaration_begins : {l r : Tokens} {d : Declaration} → IsDeclaration l d r → begins_declaration (first_terminal l) ≡ true
 declaration_begins (g.namespace w u) = refl
 declaration_begins (g.default u) = refl
 declaration_begins (g.default_prefix w u) = refl
@@ -257,7 +258,7 @@ declaration_begins (g.datatypes w l) = refl
 can_declaration : CanBe IsDeclaration
 can_declaration more = (keyword k.Namespace # 0 ∷ ident [] # 0 ∷ assign m.Plain # 0 ∷ segment [] # 0 ∷ more, t.namespace [] 0 (t.literal []), g.namespace g.by_name (g.literal g.one))
 
-pub no_declaration_here : {now : Tokens} → begins_declaration (first now) ≡ false → Stuck IsDeclaration (Starts no_tilde) now now
+pub no_declaration_here : {now : Tokens} → begins_declaration (first_terminal now) ≡ false → Stuck IsDeclaration (Starts no_tilde) now now
 no_declaration_here h = stuck_here begins_declaration (λ l d r k. declaration_begins k) h can_declaration
 
 not_keyword : (y : code.Terminal) → ((w : _) → y ≡ c.Keyword w → ⊥) → begins_declaration (unwrap_or (seen y) x.other) ≡ false
@@ -274,31 +275,31 @@ other_keyword k.Datatypes h1 h2 h3 = absurd (h3 refl)
 other_keyword w h1 h2 h3 = refl
 
 pub no_such_keyword : {w : Keyword} {i : ℕ} {now next : Tokens} → now ≡ keyword w # i ∷ next → (w ≡ k.Namespace → ⊥) → (w ≡ k.Default → ⊥) → (w ≡ k.Datatypes → ⊥) → Stuck IsDeclaration (Starts no_tilde) now now
-no_such_keyword {w = w} e h1 h2 h3 = no_declaration_here (ap (λ (l : Tokens). begins_declaration (first l)) e ∙ other_keyword w h1 h2 h3)
+no_such_keyword {w = w} e h1 h2 h3 = no_declaration_here (ap (λ (l : Tokens). begins_declaration (first_terminal l)) e ∙ other_keyword w h1 h2 h3)
 
 -- ---- lists of them
 
 more_to : {l r : Tokens} {ds : List Declaration} → Then IsDeclaration (λ d. Whole AreDeclarations (d ∷ [])) l ds r → AreDeclarations l ds r
 more_to {l = l} {r = r} (both k d) = subst (λ (ds : List Declaration). AreDeclarations l ds r) (sym d.is) (g.more k d.behind)
 
-none_begins : (l : Tokens) → begins_declaration (first l) ≡ true → Starts begins_item l → ⊥
+none_begins : (l : Tokens) → begins_declaration (first_terminal l) ≡ true → Starts begins_item l → ⊥
 none_begins [] e f = cc
 none_begins (keyword k.Namespace # i ∷ l) e f = false≢true f
 none_begins (keyword k.Default # i ∷ l) e f = false≢true f
 none_begins (keyword k.Datatypes # i ∷ l) e f = false≢true f
 none_begins (y # i ∷ l) e f = cc
 
-more_from : {l r : Tokens} {ds : List Declaration} → begins_declaration (first l) ≡ true → AreDeclarations l ds r → Starts begins_item r → Then IsDeclaration (λ d. Whole AreDeclarations (d ∷ [])) l ds r
+more_from : {l r : Tokens} {ds : List Declaration} → begins_declaration (first_terminal l) ≡ true → AreDeclarations l ds r → Starts begins_item r → Then IsDeclaration (λ d. Whole AreDeclarations (d ∷ [])) l ds r
 more_from e (g.more {ds = ds} k d) f = both k (record { more = ds; is = refl; behind = d })
 more_from {l = l} e g.none f = absurd (none_begins l e f)
 
-pub declaration_follows : {now : Tokens} → begins_declaration (first now) ≡ true → Upto AreDeclarations (Then IsDeclaration (λ d. Whole AreDeclarations (d ∷ []))) (Starts begins_item) now now
+pub declaration_follows : {now : Tokens} → begins_declaration (first_terminal now) ≡ true → Upto AreDeclarations (Then IsDeclaration (λ d. Whole AreDeclarations (d ∷ []))) (Starts begins_item) now now
 declaration_follows h = upto_at (λ l z r d. more_to d) (λ l a z r d f. more_from (ap begins_declaration (first_alike a) ∙ h) d f)
 
 pub fits_declarations : Fits (Starts no_tilde) (λ d. Whole AreDeclarations (d ∷ [])) (Starts begins_item)
 fits_declarations = record { fits = λ d mid z r k f. declarations_tilde k.behind (starts_to begins_item no_tilde item_to_tilde r f) }
 
-end_from : {l r : Tokens} {ds : List Declaration} → begins_declaration (first l) ≡ false → AreDeclarations l ds r → (ds ≡ []) × (r ≡ l)
+end_from : {l r : Tokens} {ds : List Declaration} → begins_declaration (first_terminal l) ≡ false → AreDeclarations l ds r → (ds ≡ []) × (r ≡ l)
 end_from e g.none = (refl, refl)
 end_from e (g.more k d) = absurd (false≢true (sym e ∙ declaration_begins k))
 
@@ -311,13 +312,13 @@ so_far_same ts now e u = subst (λ (l : List Declaration). So_far l ts now) e u
 pub declared_start : (ts : Tokens) → So_far [] ts ts
 declared_start ts = behind_start
 
-pub declared_read : (ds : List Declaration) (ts now : Tokens) {next : Tokens} {d : Declaration} → So_far ds ts now → begins_declaration (first now) ≡ true → Took IsDeclaration (Starts no_tilde) now d next → So_far (ds ++ d ∷ []) ts next
+pub declared_read : (ds : List Declaration) (ts now : Tokens) {next : Tokens} {d : Declaration} → So_far ds ts now → begins_declaration (first_terminal now) ≡ true → Took IsDeclaration (Starts no_tilde) now d next → So_far (ds ++ d ∷ []) ts next
 declared_read ds ts now u e k = part_read (λ (l : List Declaration). l) ds u (declaration_follows e) fits_declarations k
 
-pub declared_stuck : (ds : List Declaration) (ts now : Tokens) {bad : Tokens} → So_far ds ts now → begins_declaration (first now) ≡ true → Stuck IsDeclaration (Starts no_tilde) now bad → Stuck AreDeclarations (Starts begins_item) ts bad
+pub declared_stuck : (ds : List Declaration) (ts now : Tokens) {bad : Tokens} → So_far ds ts now → begins_declaration (first_terminal now) ≡ true → Stuck IsDeclaration (Starts no_tilde) now bad → Stuck AreDeclarations (Starts begins_item) ts bad
 declared_stuck ds ts now u e k = part_stuck (λ (l : List Declaration). l) ds u (declaration_follows e) fits_declarations (λ more. (more, [], g.none)) k
 
-pub declared_took : (ds : List Declaration) (ts now : Tokens) → So_far ds ts now → begins_declaration (first now) ≡ false → Took AreDeclarations (Starts begins_item) ts ds now
+pub declared_took : (ds : List Declaration) (ts now : Tokens) → So_far ds ts now → begins_declaration (first_terminal now) ≡ false → Took AreDeclarations (Starts begins_item) ts ds now
 declared_took ds ts now u e = parts_took (λ (l : List Declaration). l) ds [] (sym (append-nil ds)) u (record {
   front = [];
   cut = refl;

@@ -9,15 +9,15 @@ use Rattle.rn_syntax.specs.Tree as tree
 use Rattle.rn_syntax.specs.Tree.{Pattern, patterns_of}
 use Rattle.rn_syntax.specs.Grammar as g
 use Rattle.rn_syntax.specs.Grammar.{Tokens, IsPattern, AreMore, IsOperand}
-use Rattle.rn_syntax.specs.Follow.{Starts, first, behind_operand, behind_pattern}
-use Rattle.rn_syntax.specs.Sequence.{Then, both}
-use Rattle.rn_syntax.specs.Reading.{Took, Stuck, seen, IsNext}
+use Rattle.rn_syntax.specs.inside.Follow.{Starts, first_terminal, behind_operand, behind_pattern}
+use Rattle.rn_syntax.specs.inside.Sequence.{Then, both}
+use Rattle.rn_syntax.specs.inside.Reading.{Took, Stuck, seen, IsNext}
 use Rattle.rn_syntax.proofs.OneClass.{starts_to, tail}
 use Rattle.rn_syntax.proofs.OnePattern.{to_operand, more_front, more_op, same_op}
-use Rattle.rn_syntax.proofs.Compose.{Upto, Fits, upto_at, upto_then, took_upto, stuck_upto, reads, stuck_in, first_alike}
-use Rattle.rn_syntax.proofs.Repeating.{Whole}
-use Rattle.rn_syntax.proofs.Chaining.{Rest, none, some, Chained, alone, many, IsChain, So_far}
-use Rattle.rn_syntax.proofs.Next.{first_next}
+use Rattle.rn_syntax.proofs.readings.Compose.{Upto, Fits, upto_at, upto_then, took_upto, stuck_upto, reads, stuck_in, first_alike}
+use Rattle.rn_syntax.proofs.readings.Repeating.{Whole}
+use Rattle.rn_syntax.proofs.readings.Chaining.{Rest, none, some, Chained, alone, many, IsChain, So_far}
+use Rattle.rn_syntax.proofs.readings.Next.{first_next}
 
 abbrev pub chain_of : Operator → List Pattern → Pattern
 chain_of op l = tree.chain op (patterns_of l)
@@ -36,11 +36,11 @@ more_split (g.more {ps = ps} d m) = both d (record { more = ps; is = refl; behin
 more_from : {op : Operator} {t r : Tokens} {l : List Pattern} {i : ℕ} → AreMore op (operator op # i ∷ t) l r → Then IsOperand (λ (p : Pattern). Whole (Rest (AreMore op)) (p ∷ [])) t l r
 more_from m = more_split m
 
-ends_at : (op : Operator) (t : Tokens) → first t ≡ operator op → Starts behind_pattern t → ⊥
+ends_at : (op : Operator) (t : Tokens) → first_terminal t ≡ operator op → Starts behind_pattern t → ⊥
 ends_at op [] e w = cc
 ends_at op (y # i ∷ t) e w = false≢true (sym (ap behind_pattern e) ∙ w)
 
-part_ends_at : (op : Operator) (t : Tokens) → first t ≡ operator op → Starts behind_operand t
+part_ends_at : (op : Operator) (t : Tokens) → first_terminal t ≡ operator op → Starts behind_operand t
 part_ends_at op [] e = tt
 part_ends_at op (y # i ∷ t) e = ap behind_operand e
 
@@ -87,14 +87,14 @@ first_read h = upto_then pattern_at (reads fits_behind h)
 same_more : {op op' : Operator} {t r : Tokens} {p : Pattern} {ps : List Pattern} → op' ≡ op → AreMore op' t ps r → Chained (AreMore op) (chain_of op) p t (chain_of op' (p ∷ ps)) r
 same_more {op = op} {t = t} {r = r} {p = p} {ps = ps} e m = subst (λ (o : Operator). Chained (AreMore op) (chain_of op) p t (chain_of o (p ∷ ps)) r) (sym e) (many (subst (λ (o : Operator). AreMore o t ps r) e m))
 
-pub pattern_first : (op : Operator) {ts now : Tokens} {p : Pattern} → first now ≡ operator op → Took IsOperand (Starts behind_operand) ts p now → Upto IsPattern (Chained (AreMore op) (chain_of op) p) (Starts behind_pattern) ts now
+pub pattern_first : (op : Operator) {ts now : Tokens} {p : Pattern} → first_terminal now ≡ operator op → Took IsOperand (Starts behind_operand) ts p now → Upto IsPattern (Chained (AreMore op) (chain_of op) p) (Starts behind_pattern) ts now
 pattern_first op {p = p} e h = upto_then (first_read h) (upto_at (λ t z r d. to d) (λ t a z r d w. from (first_alike a ∙ e) d))
   where
     to : {t r : Tokens} {z : Pattern} → Chained (AreMore op) (chain_of op) p t z r → Behind p t z r
     to alone = single
     to (many m) = several m
 
-    from : {t r : Tokens} {z : Pattern} → first t ≡ operator op → Behind p t z r → Chained (AreMore op) (chain_of op) p t z r
+    from : {t r : Tokens} {z : Pattern} → first_terminal t ≡ operator op → Behind p t z r → Chained (AreMore op) (chain_of op) p t z r
     from e single = alone
     from e (several {op = op'} m) = same_more (same_op op' op (sym (more_op m) ∙ e)) m
 
@@ -106,7 +106,7 @@ not_operator : (x : code.Terminal) → ((op : Operator) → x ≡ c.Operator op 
 not_operator (c.Operator op) h = absurd (h op refl)
 not_operator x h = refl
 
-only_single : {p z : Pattern} {t r : Tokens} → is_operator (first t) ≡ false → Behind p t z r → (z ≡ p) × (r ≡ t)
+only_single : {p z : Pattern} {t r : Tokens} → is_operator (first_terminal t) ≡ false → Behind p t z r → (z ≡ p) × (r ≡ t)
 only_single e single = (refl, refl)
 only_single e (several m) = absurd (false≢true (sym e ∙ ap is_operator (more_op m)))
 

@@ -8,13 +8,13 @@ use Rattle.rn_syntax.specs.Tree as tree
 use Rattle.rn_syntax.specs.Tree.{Datatype, Params, NameClass, Pattern}
 use Rattle.rn_syntax.specs.Grammar as g
 use Rattle.rn_syntax.specs.Grammar.{Tokens, IsLiteral, IsDatatype, MayHaveParams, IsNameClass, IsPattern, IsCore}
-use Rattle.rn_syntax.specs.Follow.{Starts, Anything, first, behind_core, behind_class, behind_pattern}
-use Rattle.rn_syntax.specs.Sequence.{Then, both, Gives, gives, IsToken, token}
-use Rattle.rn_syntax.specs.Parts.{IsBraced, IsNamed}
-use Rattle.rn_syntax.specs.Reading.{Took, Stuck, rest}
-use Rattle.rn_syntax.proofs.Compose.{Upto, Fits, Can, CanBe, upto_token, upto_then, took_upto, stuck_upto, reads, stuck_in, took_gives, can_then, can_token, fits_anything, fits_token}
-use Rattle.rn_syntax.proofs.Next.{terminal_at}
-use Rattle.rn_syntax.proofs.Operands.{can_given}
+use Rattle.rn_syntax.specs.inside.Follow.{Starts, Anything, first_terminal, behind_core, behind_class, behind_pattern}
+use Rattle.rn_syntax.specs.inside.Sequence.{Then, both, Gives, gives, IsToken, token}
+use Rattle.rn_syntax.specs.inside.Parts.{IsBraced, IsNamed}
+use Rattle.rn_syntax.specs.inside.Reading.{Took, Stuck, rest}
+use Rattle.rn_syntax.proofs.readings.Compose.{Upto, Fits, Can, CanBe, upto_token, upto_then, took_upto, stuck_upto, reads, stuck_in, took_gives, can_then, can_token, fits_anything, fits_token}
+use Rattle.rn_syntax.proofs.readings.Next.{terminal_at}
+use Rattle.rn_syntax.proofs.readings.Operands.{can_given}
 
 -- ---- braces
 
@@ -91,7 +91,7 @@ module _ {ts now : Tokens} {c : NameClass} (h : Took IsNameClass (Starts behind_
 
 -- ---- at a keyword
 
-pub keyword_here : (xs : List Token) (at : ℕ) {w : Keyword} (v : Keyword) → at < length xs → first (rest xs at) ≡ keyword w → w ≡ v → (i : ℕ) × (rest xs at ≡ keyword v # i ∷ rest xs (at + 1))
+pub keyword_here : (xs : List Token) (at : ℕ) {w : Keyword} (v : Keyword) → at < length xs → first_terminal (rest xs at) ≡ keyword w → w ≡ v → (i : ℕ) × (rest xs at ≡ keyword v # i ∷ rest xs (at + 1))
 keyword_here xs at v h e f = terminal_at xs at (keyword v) h (e ∙ ap (λ (w : Keyword). keyword w) f)
 
 can_content : CanBe IsNamed

@@ -1,18 +1,16 @@
 -- What readers of tokens see, how far they come, and what their answers say of the grammar.
 use Rattle.std.specs.Prelude.{◌≡◌, ℕ, List, [], ◌∷◌, ◌++◌, Option, Some, None, Result, Ok, Err, Bool, true, not, ◌&&◌, ◌==◌, map, drop, ◌+◌, ◌≤◌, ◌<◌}
-use Rattle.std.specs.List.{All}
 use Rattle.std.specs.Str.{chars, encode_utf8_all}
 use Rattle.rn_text.specs.declared.source.Token.{Token}
-use Rattle.rn_text.specs.declared.parts.Part.TheVariants as part
-use Rattle.rn_text.specs.Parts.{spells}
 use Rattle.rn_text.specs.Segments.{segment_text, is_segment}
 use Rattle.rn_text.specs.Tokens.{lexeme_of}
 use Rattle.rn_syntax.specs.Terminal as t
 use Rattle.rn_syntax.specs.Terminal.{Terminal, Placed, ◌#◌}
 use Rattle.rn_syntax.specs.Grammar.{Tokens}
+use Rattle.rn_syntax.specs.Spelled.{AreSpelled}
 use Rattle.rn_syntax.specs.Tokens.{terminals}
-use Rattle.rn_syntax.specs.Follow.{Anything}
-use Rattle.rn_syntax.specs.Sequence.{IsToken}
+use Rattle.rn_syntax.specs.inside.Follow.{Anything}
+use Rattle.rn_syntax.specs.inside.Sequence.{IsToken}
 use Rattle.rn_syntax.specs.declared.fault.Fault.{Fault}
 use Rattle.rn_syntax.specs.declared.fault.Fault.TheVariants as f
 use Rattle.rn_syntax.specs.declared.terminals.Terminal as code
@@ -33,13 +31,6 @@ pub record Advanced (at behind len : ℕ) : Type 0 where
   pub further : at < behind
   pub inside : behind ≤ len
 
--- a token is spelled as its kind says
-abbrev pub IsSpelled : Token → Type 0
-IsSpelled x = spells (part.Token x.kind) (chars x.text.now) ≡ true
-
-abbrev pub AreSpelled : List Token → Type 0
-AreSpelled xs = All IsSpelled xs
-
 -- a character that neither an escape nor a line end of two characters begins with
 abbrev pub is_plain : ℕ → Bool
 is_plain c = not (c == 92) && not (c == 13)
@@ -48,6 +39,11 @@ is_plain c = not (c == 92) && not (c == 13)
 abbrev pub IsWhole : code.Terminal → Type 0
 IsWhole (c.Segment x) = is_segment (chars x.text.now) ≡ true
 IsWhole _ = Unit {0}
+
+-- a segment that the code saw is this token
+abbrev pub IsSegmentOf : code.Terminal → Token → Type 0
+IsSegmentOf (c.Segment x) token = x ≡ token
+IsSegmentOf _ token = Unit {0}
 
 -- what the code sees of a token, as the grammar sees it: nothing at the end
 abbrev pub seen : code.Terminal → Option Terminal
@@ -79,16 +75,6 @@ rest xs at = drop at (terminals (map lexeme_of xs))
 abbrev pub IsNext : Tokens → Option Terminal → Tokens → Type 0
 IsNext ts None behind = ts ≡ []
 IsNext ts (Some x) behind = (i : ℕ) × (ts ≡ x # i ∷ behind)
-
--- the byte at which these of the tokens begin; where none is left, that at which the last one ends
-abbrev pub last_end : List Token → ℕ
-last_end [] = 0
-last_end (x ∷ []) = x.end
-last_end (x ∷ y ∷ xs) = last_end (y ∷ xs)
-
-abbrev pub IsPlace : List Token → Tokens → ℕ → Type 0
-IsPlace xs [] at = at ≡ last_end xs
-IsPlace xs (x # i ∷ ts) at = at ≡ i
 
 -- both begin with one token, or both are at the end
 pub data Alike : Tokens → Tokens → Type 0 where

@@ -14,16 +14,16 @@ use Rattle.rn_syntax.specs.Tree as t
 use Rattle.rn_syntax.specs.Tree.{Item, Pattern, items_of}
 use Rattle.rn_syntax.specs.Grammar as g
 use Rattle.rn_syntax.specs.Grammar.{Tokens, IsLiteral, IsPattern, IsComponent, AreItems, AreInnerItems, MayInherit, MayHaveOverrides}
-use Rattle.rn_syntax.specs.Follow.{Starts, Anything, first, no_bracket, begins_item, behind_pattern, is_end}
-use Rattle.rn_syntax.specs.Sequence.{Then, both, Gives, gives, IsToken, token, IsOf, of, IsAssign, by_method, is_note}
-use Rattle.rn_syntax.specs.Including as i
-use Rattle.rn_syntax.specs.Including.{opens_item, opens_inner, IsItem, IsInnerItem, UpToBrace, InBraces, IsDivEnd, IsInnerDivEnd, IsIncludeEnd, AreItemsBehind}
-use Rattle.rn_syntax.specs.Reading.{Took, Stuck, seen, IsNext, rest}
+use Rattle.rn_syntax.specs.inside.Follow.{Starts, Anything, first_terminal, no_bracket, begins_item, behind_pattern, is_end}
+use Rattle.rn_syntax.specs.inside.Sequence.{Then, both, Gives, gives, IsToken, token, IsOf, of, IsAssign, by_method, is_note}
+use Rattle.rn_syntax.specs.inside.Including as i
+use Rattle.rn_syntax.specs.inside.Including.{opens_item, opens_inner, IsItem, IsInnerItem, UpToBrace, InBraces, IsDivEnd, IsInnerDivEnd, IsIncludeEnd, AreItemsBehind}
+use Rattle.rn_syntax.specs.inside.Reading.{Took, Stuck, seen, IsNext, rest}
 use Rattle.rn_syntax.proofs.OneClass.{starts_to}
 use Rattle.rn_syntax.proofs.OneTree.{item_to_pattern}
-use Rattle.rn_syntax.proofs.Compose.{Upto, Fits, Can, CanBe, upto_at, upto_token, upto_then, took_upto, stuck_upto, reads, stuck_in, took_gives, first_alike, stuck_here, fits_anything, fits_token, fits_gives, can_gives, can_then}
-use Rattle.rn_syntax.proofs.Next.{first_next, next_index}
-use Rattle.rn_syntax.proofs.Rows.{Rows, none, row, note, IsRow, So_far}
+use Rattle.rn_syntax.proofs.readings.Compose.{Upto, Fits, Can, CanBe, upto_at, upto_token, upto_then, took_upto, stuck_upto, reads, stuck_in, took_gives, first_alike, stuck_here, fits_anything, fits_token, fits_gives, can_gives, can_then}
+use Rattle.rn_syntax.proofs.readings.Next.{first_next, next_index}
+use Rattle.rn_syntax.proofs.readings.Rows.{Rows, none, row, note, IsRow, So_far}
 
 -- ---- what begins an item
 
@@ -44,7 +44,7 @@ inner_item : (y : Terminal) → opens_inner y ≡ true → opens_item y ≡ true
 inner_item (keyword k.Include) e = absurd (false≢true e)
 inner_item y e = e
 
-component_opens : (ts : Tokens) (x : Item) (r : Tokens) → IsComponent ts x r → opens_inner (first ts) ≡ true
+component_opens : (ts : Tokens) (x : Item) (r : Tokens) → IsComponent ts x r → opens_inner (first_terminal ts) ≡ true
 component_opens ts x r (g.define p) = refl
 component_opens ts x r (g.start p) = refl
 
@@ -59,8 +59,8 @@ component_plain ts x r (g.start p) = refl
 pub text_pattern : (i : ℕ) (more : Tokens) → IsPattern (keyword k.Text # i ∷ more) t.text more
 text_pattern i more = g.one (g.plain (g.primary g.bare g.text g.none))
 
-item_begins : (ts : Tokens) (x : Item) (r : Tokens) → IsItem ts x r → opens_item (first ts) ≡ true
-item_begins ts x r (i.component d) = inner_item (first ts) (component_opens ts x r d)
+item_begins : (ts : Tokens) (x : Item) (r : Tokens) → IsItem ts x r → opens_item (first_terminal ts) ≡ true
+item_begins ts x r (i.component d) = inner_item (first_terminal ts) (component_opens ts x r d)
 item_begins ts x r (i.div d) = refl
 item_begins ts x r (i.include l h o) = refl
 
@@ -88,7 +88,7 @@ item_row = record {
   nothing = refl;
 }
 
-inner_begins : (ts : Tokens) (x : Item) (r : Tokens) → IsInnerItem ts x r → opens_inner (first ts) ≡ true
+inner_begins : (ts : Tokens) (x : Item) (r : Tokens) → IsInnerItem ts x r → opens_inner (first_terminal ts) ≡ true
 inner_begins ts x r (i.component d) = component_opens ts x r d
 inner_begins ts x r (i.div d) = refl
 
@@ -200,7 +200,7 @@ begins_component (ident n) = true
 begins_component (keyword k.Start) = true
 begins_component y = false
 
-component_begins : {ts r : Tokens} {x : Item} → IsComponent ts x r → begins_component (first ts) ≡ true
+component_begins : {ts r : Tokens} {x : Item} → IsComponent ts x r → begins_component (first_terminal ts) ≡ true
 unfolding begins_component
 component_begins (g.define p) = refl
 component_begins (g.start p) = refl
@@ -223,7 +223,7 @@ other_keyword k.Start h = absurd (h refl)
 other_keyword w h = refl
 
 pub no_start : {w : Keyword} {j : ℕ} {now next : Tokens} → now ≡ keyword w # j ∷ next → (w ≡ k.Start → ⊥) → Stuck IsComponent (Starts behind_pattern) now now
-no_start {w = w} e h = stuck_here begins_component (λ ts a r d. component_begins d) (ap (λ (l : Tokens). begins_component (first l)) e ∙ other_keyword w h) can_component
+no_start {w = w} e h = stuck_here begins_component (λ ts a r d. component_begins d) (ap (λ (l : Tokens). begins_component (first_terminal l)) e ∙ other_keyword w h) can_component
 
 -- ---- braces
 
@@ -301,10 +301,10 @@ not_group (keyword k.Div) = false
 not_group (keyword k.Include) = false
 not_group y = true
 
-pub component_item : {now : Tokens} → not_group (first now) ≡ true → Upto IsItem IsComponent (Starts begins_item) now now
+pub component_item : {now : Tokens} → not_group (first_terminal now) ≡ true → Upto IsItem IsComponent (Starts begins_item) now now
 component_item h = upto_at (λ l z r d. i.component d) (λ l a z r d g. from (ap not_group (first_alike a) ∙ h) d)
   where
-    from : {l r : Tokens} {z : Item} → not_group (first l) ≡ true → IsItem l z r → IsComponent l z r
+    from : {l r : Tokens} {z : Item} → not_group (first_terminal l) ≡ true → IsItem l z r → IsComponent l z r
     from h (i.component d) = d
     from h (i.div d) = absurd (false≢true h)
     from h (i.include d o p) = absurd (false≢true h)
@@ -313,10 +313,10 @@ abbrev pub not_div : Terminal → Bool
 not_div (keyword k.Div) = false
 not_div y = true
 
-pub component_inner : {now : Tokens} → not_div (first now) ≡ true → Upto IsInnerItem IsComponent (Starts begins_item) now now
+pub component_inner : {now : Tokens} → not_div (first_terminal now) ≡ true → Upto IsInnerItem IsComponent (Starts begins_item) now now
 component_inner h = upto_at (λ l z r d. i.component d) (λ l a z r d g. from (ap not_div (first_alike a) ∙ h) d)
   where
-    from : {l r : Tokens} {z : Item} → not_div (first l) ≡ true → IsInnerItem l z r → IsComponent l z r
+    from : {l r : Tokens} {z : Item} → not_div (first_terminal l) ≡ true → IsInnerItem l z r → IsComponent l z r
     from h (i.component d) = d
     from h (i.div d) = absurd (false≢true h)
 
@@ -338,13 +338,13 @@ other_div k.Div h = absurd (h refl)
 other_div w h = refl
 
 pub item_keyword : {w : Keyword} {j : ℕ} {now next : Tokens} → now ≡ keyword w # j ∷ next → (w ≡ k.Div → ⊥) → (w ≡ k.Include → ⊥) → Upto IsItem IsComponent (Starts begins_item) now now
-item_keyword {w = w} e h l = component_item (ap (λ (ts : Tokens). not_group (first ts)) e ∙ other_group w h l)
+item_keyword {w = w} e h l = component_item (ap (λ (ts : Tokens). not_group (first_terminal ts)) e ∙ other_group w h l)
 
 pub item_other : (now behind : Tokens) (y : code.Terminal) → IsNext now (seen y) behind → ((w : _) → y ≡ c.Keyword w → ⊥) → Upto IsItem IsComponent (Starts begins_item) now now
 item_other now behind y e h = component_item (ap not_group (first_next now behind (seen y) e) ∙ no_keyword_group y h)
 
 pub inner_keyword : {w : Keyword} {j : ℕ} {now next : Tokens} → now ≡ keyword w # j ∷ next → (w ≡ k.Div → ⊥) → Upto IsInnerItem IsComponent (Starts begins_item) now now
-inner_keyword {w = w} e h = component_inner (ap (λ (ts : Tokens). not_div (first ts)) e ∙ other_div w h)
+inner_keyword {w = w} e h = component_inner (ap (λ (ts : Tokens). not_div (first_terminal ts)) e ∙ other_div w h)
 
 pub inner_other : (now behind : Tokens) (y : code.Terminal) → IsNext now (seen y) behind → ((w : _) → y ≡ c.Keyword w → ⊥) → Upto IsInnerItem IsComponent (Starts begins_item) now now
 inner_other now behind y e h = component_inner (ap not_div (first_next now behind (seen y) e) ∙ no_keyword_div y h)

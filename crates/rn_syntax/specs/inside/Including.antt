@@ -6,7 +6,7 @@ use Rattle.rn_syntax.specs.Terminal.{Terminal, ◌#◌, ident, keyword, prefixed
 use Rattle.rn_syntax.specs.Tree as t
 use Rattle.rn_syntax.specs.Tree.{Declaration, Item, Module, Pattern, items_of}
 use Rattle.rn_syntax.specs.Grammar.{Tokens, IsLiteral, IsComponent, AreItems, AreInnerItems, MayInherit, MayHaveOverrides}
-use Rattle.rn_syntax.specs.Sequence.{Then, Gives, IsToken}
+use Rattle.rn_syntax.specs.inside.Sequence.{Then, Gives, IsToken}
 
 -- an item or a note begins
 abbrev pub opens_item : Terminal → Bool

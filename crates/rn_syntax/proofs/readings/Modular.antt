@@ -13,16 +13,17 @@ use Rattle.rn_syntax.specs.Tree.{Declaration, Item, Module, items_of}
 use Rattle.rn_syntax.specs.Grammar as g
 use Rattle.rn_syntax.specs.Grammar.{Tokens, IsAnnotation, MayHaveAnnotation, AreFollows, AreItems, AreDeclarations, IsModule}
 use Rattle.rn_syntax.specs.Fault.{HasTree, IsRefused, Stops}
-use Rattle.rn_syntax.specs.Follow.{Starts, Anything, first, no_follow, is_end, begins_item}
-use Rattle.rn_syntax.specs.Sequence.{Then, both, Gives, gives, IsToken, token}
-use Rattle.rn_syntax.specs.Itemizing.{AreAnnotatedItems}
-use Rattle.rn_syntax.specs.Modular.{IsGrammarEnd, IsBody, items_body, grammar_body, IsAnnotatedBody, items_behind, grammar_behind, IsModuleBefore, IsModuleFault}
-use Rattle.rn_syntax.specs.Reading.{Alike, ends, same, Took, Stuck, Faults, AreSpelled, Bare, seen, IsNext, rest}
+use Rattle.rn_syntax.specs.inside.Follow.{Starts, Anything, first_terminal, no_follow, is_end, begins_item}
+use Rattle.rn_syntax.specs.inside.Sequence.{Then, both, Gives, gives, IsToken, token}
+use Rattle.rn_syntax.specs.inside.Itemizing.{AreAnnotatedItems}
+use Rattle.rn_syntax.specs.inside.Modular.{IsGrammarEnd, IsBody, items_body, grammar_body, IsAnnotatedBody, items_behind, grammar_behind, IsModuleBefore, IsModuleFault}
+use Rattle.rn_syntax.specs.inside.Reading.{Alike, ends, same, Took, Stuck, Faults, Bare, seen, IsNext, rest}
+use Rattle.rn_syntax.specs.Spelled.{AreSpelled}
 use Rattle.rn_syntax.proofs.OneClass.{may_one}
 use Rattle.rn_syntax.proofs.OneTree.{component_front, component_grammar, keyword_note, is_grammar, items_front, may_item}
-use Rattle.rn_syntax.proofs.Compose.{Upto, Fits, Can, CanBe, upto_at, upto_token, upto_then, took_upto, stuck_upto, reads, stuck_in, took_gives, first_alike, fits_anything, fits_token, fits_gives, can_gives, alike_token}
-use Rattle.rn_syntax.proofs.Next.{first_next}
-use Rattle.rn_syntax.proofs.Itemized.{first_items_to, first_items_from, first_items_grammar, can_first_items}
+use Rattle.rn_syntax.proofs.readings.Compose.{Upto, Fits, Can, CanBe, upto_at, upto_token, upto_then, took_upto, stuck_upto, reads, stuck_in, took_gives, first_alike, fits_anything, fits_token, fits_gives, can_gives, alike_token}
+use Rattle.rn_syntax.proofs.readings.Next.{first_next}
+use Rattle.rn_syntax.proofs.readings.Itemized.{first_items_to, first_items_from, first_items_grammar, can_first_items}
 
 -- ---- behind `grammar`
 
@@ -89,8 +90,8 @@ items_no_grammar : {ts us r : Tokens} {i : ℕ} {xs : List Item} → AreItems ts
 items_no_grammar g.none e g.bare = false≢true e
 items_no_grammar g.none e (g.annotated (g.bracketed b)) = false≢true e
 items_no_grammar (g.component {after = after} {x = y} m d n) e a = let s = may_one m a (component_front d).1 refl in component_grammar (subst (λ z. g.IsComponent z y after) s d)
-items_no_grammar (g.div m n o) e a = let s = ap (λ z. is_grammar (first z)) (may_one m a refl refl) in false≢true s
-items_no_grammar (g.include m l h o n) e a = let s = ap (λ z. is_grammar (first z)) (may_one m a refl refl) in false≢true s
+items_no_grammar (g.div m n o) e a = let s = ap (λ z. is_grammar (first_terminal z)) (may_one m a refl refl) in false≢true s
+items_no_grammar (g.include m l h o n) e a = let s = ap (λ z. is_grammar (first_terminal z)) (may_one m a refl refl) in false≢true s
 items_no_grammar (g.note n m) e a = keyword_note a n
 
 pub body_grammar : {i : ℕ} {now next : Tokens} → now ≡ keyword k.Grammar # i ∷ next → Upto IsBody IsGrammarEnd (Starts is_end) now next
@@ -108,10 +109,10 @@ behind_grammar {i = i} e = upto_token e (λ t z r d. grammar_behind d) (λ t z r
     from (grammar_behind d) = d
     from (items_behind d) = absurd (first_items_grammar d)
 
-pub behind_items : {now : Tokens} → (first now ≡ keyword k.Grammar → ⊥) → Upto IsAnnotatedBody AreAnnotatedItems (Starts is_end) now now
+pub behind_items : {now : Tokens} → (first_terminal now ≡ keyword k.Grammar → ⊥) → Upto IsAnnotatedBody AreAnnotatedItems (Starts is_end) now now
 behind_items n = upto_at (λ t z r d. items_behind d) (λ t a z r d h. from (λ e. n (sym (first_alike a) ∙ e)) d)
   where
-    from : {t r : Tokens} {xs : List Item} → (first t ≡ keyword k.Grammar → ⊥) → IsAnnotatedBody t xs r → AreAnnotatedItems t xs r
+    from : {t r : Tokens} {xs : List Item} → (first_terminal t ≡ keyword k.Grammar → ⊥) → IsAnnotatedBody t xs r → AreAnnotatedItems t xs r
     from n (items_behind d) = d
     from n (grammar_behind d) = absurd (n refl)
 
@@ -119,11 +120,11 @@ not_bracket : (y : code.Terminal) → (y ≡ c.LeftBracket → ⊥) → unwrap_o
 not_bracket c.LeftBracket h e = h refl
 not_bracket y h e = cc
 
-pub body_items : (now behind : Tokens) (y : code.Terminal) → IsNext now (seen y) behind → (y ≡ c.LeftBracket → ⊥) → (first now ≡ keyword k.Grammar → ⊥) → Upto IsBody AreItems (Starts is_end) now now
+pub body_items : (now behind : Tokens) (y : code.Terminal) → IsNext now (seen y) behind → (y ≡ c.LeftBracket → ⊥) → (first_terminal now ≡ keyword k.Grammar → ⊥) → Upto IsBody AreItems (Starts is_end) now now
 body_items now behind y e h n =
     upto_at (λ t z r d. items_body d) (λ t a z r d s. from (λ f. not_bracket y h (sym (first_next now behind (seen y) e) ∙ sym (first_alike a) ∙ f)) (λ f. n (sym (first_alike a) ∙ f)) d)
   where
-    from : {t r : Tokens} {xs : List Item} → (first t ≡ left_bracket → ⊥) → (first t ≡ keyword k.Grammar → ⊥) → IsBody t xs r → AreItems t xs r
+    from : {t r : Tokens} {xs : List Item} → (first_terminal t ≡ left_bracket → ⊥) → (first_terminal t ≡ keyword k.Grammar → ⊥) → IsBody t xs r → AreItems t xs r
     from b n (items_body d) = d
     from b n (grammar_body g.bare d) = absurd (n refl)
     from b n (grammar_body (g.annotated (g.bracketed a)) d) = absurd (b refl)

@@ -9,13 +9,13 @@ use Rattle.rn_syntax.specs.Terminal.{Terminal, Placed, ◌#◌, ident, keyword, 
 use Rattle.rn_syntax.specs.Tree.{Params}
 use Rattle.rn_syntax.specs.Grammar as g
 use Rattle.rn_syntax.specs.Grammar.{Tokens, MayHaveAnnotation, IsLiteral, IsDatatype, AreParams, MayHaveParams}
-use Rattle.rn_syntax.specs.Follow.{Starts, Anything, first, is_end, no_bracket, no_tilde, no_brace}
-use Rattle.rn_syntax.specs.Sequence.{Then, both, Gives, gives, IsToken, token, IsOf, of, IsWordAt, word_at, IsHere, IsParam}
-use Rattle.rn_syntax.specs.Reading.{Took, Stuck, Bare, seen, IsNext}
+use Rattle.rn_syntax.specs.inside.Follow.{Starts, Anything, first_terminal, is_end, no_bracket, no_tilde, no_brace}
+use Rattle.rn_syntax.specs.inside.Sequence.{Then, both, Gives, gives, IsToken, token, IsOf, of, IsWordAt, word_at, IsHere, IsParam}
+use Rattle.rn_syntax.specs.inside.Reading.{Took, Stuck, Bare, seen, IsNext}
 use Rattle.rn_syntax.proofs.OneClass.{params_no_tilde, param_front, word_no_bracket}
-use Rattle.rn_syntax.proofs.Compose.{Upto, Fits, Can, CanBe, upto_at, upto_token, upto_then, took_upto, reads, stuck_in, took_gives, can_then, first_alike, fits_anything}
-use Rattle.rn_syntax.proofs.Repeating.{Whole, behind_start, part_read, part_stuck, parts_took}
-use Rattle.rn_syntax.proofs.Next.{first_next}
+use Rattle.rn_syntax.proofs.readings.Compose.{Upto, Fits, Can, CanBe, upto_at, upto_token, upto_then, took_upto, reads, stuck_in, took_gives, can_then, first_alike, fits_anything}
+use Rattle.rn_syntax.proofs.readings.Repeating.{Whole, behind_start, part_read, part_stuck, parts_took}
+use Rattle.rn_syntax.proofs.readings.Next.{first_next}
 
 -- a token that names a datatype, where the code knows its place
 pub is_here : {A : Type 0} (P : Placed → A → Type 0) (ts next : Tokens) (x : Terminal) (i j : ℕ) (d : ℕ → A) → ts ≡ x # i ∷ next → j ≡ i → P (x # i) (d i) → IsHere P ts (d j) next
@@ -108,11 +108,11 @@ params_at {i = i} e = upto_token e (λ t z r d. g.braces d) (λ t z r d f. from 
 param_to : {t r : Tokens} {ps : Params} → Then IsParam (λ p. Whole AreParams (p ∷ [])) t ps r → AreParams t ps r
 param_to {t = t} {r = r} (both (both a (both (of (word_at w)) (both token (both l gives)))) b) = subst (λ (l : Params). AreParams t l r) (sym b.is) (g.param a w l b.behind)
 
-param_from : {t r : Tokens} {ps : Params} → is_end (first t) ≡ false → AreParams t ps r → Then IsParam (λ p. Whole AreParams (p ∷ [])) t ps r
+param_from : {t r : Tokens} {ps : Params} → is_end (first_terminal t) ≡ false → AreParams t ps r → Then IsParam (λ p. Whole AreParams (p ∷ [])) t ps r
 param_from e g.close = absurd (false≢true (sym e))
 param_from e (g.param {ps = ps} a w l d) = both (both a (both (of (word_at w)) (both token (both l gives)))) (record { more = ps; is = refl; behind = d })
 
-pub param_follows : {now : Tokens} → is_end (first now) ≡ false → Upto AreParams (Then IsParam (λ p. Whole AreParams (p ∷ []))) (Starts no_brace) now now
+pub param_follows : {now : Tokens} → is_end (first_terminal now) ≡ false → Upto AreParams (Then IsParam (λ p. Whole AreParams (p ∷ []))) (Starts no_brace) now now
 param_follows e = upto_at (λ t z r d. param_to d) (λ t a z r d g. param_from (ap is_end (first_alike a) ∙ e) d)
 
 pub fits_params : Fits (Starts no_tilde) (λ p. Whole AreParams (p ∷ [])) (Starts no_brace)
@@ -127,7 +127,7 @@ pub params_end : {i : ℕ} {now next : Tokens} → now ≡ right_brace # i ∷ n
 params_end {i = i} e = record { front = right_brace # i ∷ []; cut = e; derives = λ more. g.close; only = λ t a y r d f. end_from d }
 
 -- no brace comes
-none_from : {t r : Tokens} {ps : Params} → no_brace (first t) ≡ true → MayHaveParams t ps r → (ps ≡ []) × (r ≡ t)
+none_from : {t r : Tokens} {ps : Params} → no_brace (first_terminal t) ≡ true → MayHaveParams t ps r → (ps ≡ []) × (r ≡ t)
 none_from e g.none = (refl, refl)
 none_from e (g.braces d) = absurd (false≢true e)
 
@@ -151,10 +151,10 @@ So_far ps ts now = Upto MayHaveParams (Whole AreParams ps) (Starts no_brace) ts 
 pub params_start : {i : ℕ} {now next : Tokens} → now ≡ left_brace # i ∷ next → So_far [] now next
 params_start e = upto_then (params_at e) behind_start
 
-pub params_read : (ps : Params) {ts now next : Tokens} {p : Text × Text} → So_far ps ts now → is_end (first now) ≡ false → Took IsParam (Starts no_tilde) now p next → So_far (ps ++ p ∷ []) ts next
+pub params_read : (ps : Params) {ts now next : Tokens} {p : Text × Text} → So_far ps ts now → is_end (first_terminal now) ≡ false → Took IsParam (Starts no_tilde) now p next → So_far (ps ++ p ∷ []) ts next
 params_read ps so_far e k = part_read (λ (l : Params). l) ps so_far (param_follows e) fits_params k
 
-pub params_stuck : (ps : Params) {ts now bad : Tokens} → So_far ps ts now → is_end (first now) ≡ false → Stuck IsParam (Starts no_tilde) now bad → Stuck MayHaveParams (Starts no_brace) ts bad
+pub params_stuck : (ps : Params) {ts now bad : Tokens} → So_far ps ts now → is_end (first_terminal now) ≡ false → Stuck IsParam (Starts no_tilde) now bad → Stuck MayHaveParams (Starts no_brace) ts bad
 params_stuck ps so_far e k = part_stuck (λ (l : Params). l) ps so_far (param_follows e) fits_params can_close k
 
 pub params_took : (ps : Params) {ts now next : Tokens} {i : ℕ} → So_far ps ts now → now ≡ right_brace # i ∷ next → Took MayHaveParams (Starts no_brace) ts ps next

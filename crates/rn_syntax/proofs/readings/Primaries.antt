@@ -6,15 +6,15 @@ use Rattle.rn_syntax.specs.Tree as tree
 use Rattle.rn_syntax.specs.Tree.{Datatype, Params, Pattern}
 use Rattle.rn_syntax.specs.Grammar as g
 use Rattle.rn_syntax.specs.Grammar.{Tokens, AreFollows, MayHaveAnnotation, IsLiteral, IsDatatype, MayHaveParams, IsOperand, IsPrimary, IsCore}
-use Rattle.rn_syntax.specs.Follow.{Starts, first, no_bracket, no_follow, behind_core, behind_primary, behind_operand, begins_datatype}
-use Rattle.rn_syntax.specs.Sequence.{Then, both, Gives, gives, IsHere}
-use Rattle.rn_syntax.specs.Parts as part
-use Rattle.rn_syntax.specs.Parts.{BehindCore, BehindPrimary, IsDataEnd, BehindDatatype}
-use Rattle.rn_syntax.specs.Reading.{Took, Stuck, Bare}
+use Rattle.rn_syntax.specs.inside.Follow.{Starts, first_terminal, no_bracket, no_follow, behind_core, behind_primary, behind_operand, begins_datatype}
+use Rattle.rn_syntax.specs.inside.Sequence.{Then, both, Gives, gives, IsHere}
+use Rattle.rn_syntax.specs.inside.Parts as part
+use Rattle.rn_syntax.specs.inside.Parts.{BehindCore, BehindPrimary, IsDataEnd, BehindDatatype}
+use Rattle.rn_syntax.specs.inside.Reading.{Took, Stuck, Bare}
 use Rattle.rn_syntax.proofs.OneClass.{datatype_one}
 use Rattle.rn_syntax.proofs.OnePattern.{core_front, datatype_front, follows_core}
-use Rattle.rn_syntax.proofs.Compose.{Upto, Fits, Can, CanBe, upto_at, upto_token, upto_then, took_upto, stuck_upto, reads, stuck_in, took_gives, first_alike, can_then}
-use Rattle.rn_syntax.proofs.Operands.{Follows, fits_given, can_given, fits_ends, can_ends, primary_follow}
+use Rattle.rn_syntax.proofs.readings.Compose.{Upto, Fits, Can, CanBe, upto_at, upto_token, upto_then, took_upto, stuck_upto, reads, stuck_in, took_gives, first_alike, can_then}
+use Rattle.rn_syntax.proofs.readings.Operands.{Follows, fits_given, can_given, fits_ends, can_ends, primary_follow}
 
 abbrev Annotates : Tokens → Unit {0} → Tokens → Type 0
 Annotates = Bare MayHaveAnnotation
@@ -24,7 +24,7 @@ can_core more = (ident [] # 0 ∷ more, tree.ref [], g.ref)
 
 -- ---- a datatype comes, or none
 
-datatype_begins : {x : Placed} {d : Datatype} (us : Tokens) → IsDatatype x d → begins_datatype (first (x ∷ us)) ≡ true
+datatype_begins : {x : Placed} {d : Datatype} (us : Tokens) → IsDatatype x d → begins_datatype (first_terminal (x ∷ us)) ≡ true
 datatype_begins us g.string = refl
 datatype_begins us g.token = refl
 datatype_begins us g.named = refl
@@ -121,23 +121,23 @@ abbrev Plain : Tokens → Pattern → Tokens → Type 0
 Plain = Then IsCore BehindCore
 
 -- at a core of an operand
-operand_core : {ts now : Tokens} → Took Annotates (Starts no_bracket) ts tt now → begins_datatype (first now) ≡ false → Upto IsOperand Plain (Starts behind_operand) ts now
+operand_core : {ts now : Tokens} → Took Annotates (Starts no_bracket) ts tt now → begins_datatype (first_terminal now) ≡ false → Upto IsOperand Plain (Starts behind_operand) ts now
 operand_core a e = upto_then (operand_body a) (upto_at (λ t z r d. to d) (λ t a z r d w. from (ap begins_datatype (first_alike a) ∙ e) d))
   where
     to : {t r : Tokens} {z : Pattern} → Plain t z r → Bared t z r
     to (both c m) = plain c m
 
-    from : {t r : Tokens} {z : Pattern} → begins_datatype (first t) ≡ false → Bared t z r → Plain t z r
+    from : {t r : Tokens} {z : Pattern} → begins_datatype (first_terminal t) ≡ false → Bared t z r → Plain t z r
     from e (plain c m) = both c m
     from e (except {mid = mid} n m q) = absurd (false≢true (sym e ∙ datatype_begins mid n))
 
 same_core : (r : Tokens) → Starts behind_core r → Starts behind_core r
 same_core r w = w
 
-pub operand_core_stuck : {ts now bad : Tokens} → Took Annotates (Starts no_bracket) ts tt now → begins_datatype (first now) ≡ false → Stuck IsCore (Starts behind_core) now bad → Stuck IsOperand (Starts behind_operand) ts bad
+pub operand_core_stuck : {ts now bad : Tokens} → Took Annotates (Starts no_bracket) ts tt now → begins_datatype (first_terminal now) ≡ false → Stuck IsCore (Starts behind_core) now bad → Stuck IsOperand (Starts behind_operand) ts bad
 operand_core_stuck a e h = stuck_upto (operand_core a e) (stuck_in (fits_ends (λ c. c) same_core) (can_ends (λ c. c)) h)
 
-pub operand_core_read : {ts now next : Tokens} {c : Pattern} → Took Annotates (Starts no_bracket) ts tt now → begins_datatype (first now) ≡ false → Took IsCore (Starts behind_core) now c next → Upto IsOperand (BehindCore c) (Starts behind_operand) ts next
+pub operand_core_read : {ts now next : Tokens} {c : Pattern} → Took Annotates (Starts no_bracket) ts tt now → begins_datatype (first_terminal now) ≡ false → Took IsCore (Starts behind_core) now c next → Upto IsOperand (BehindCore c) (Starts behind_operand) ts next
 operand_core_read a e h = upto_then (operand_core a e) (reads (fits_ends (λ c. c) same_core) h)
 
 -- ---- a primary

@@ -6,7 +6,7 @@ use Rattle.rn_syntax.specs.Terminal.{Terminal, ◌#◌, keyword, assign}
 use Rattle.rn_syntax.specs.Tree as t
 use Rattle.rn_syntax.specs.Tree.{Declaration}
 use Rattle.rn_syntax.specs.Grammar.{Tokens, IsWord, IsLiteral, IsUri}
-use Rattle.rn_syntax.specs.Sequence.{Then, Gives, IsToken, IsOf, IsPrefixAt}
+use Rattle.rn_syntax.specs.inside.Sequence.{Then, Gives, IsToken, IsOf, IsPrefixAt}
 
 -- "=" uri, which makes the declaration
 abbrev pub IsUriEnd : (t.Uri → Declaration) → Tokens → Declaration → Tokens → Type 0

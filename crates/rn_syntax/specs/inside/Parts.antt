@@ -5,8 +5,8 @@ use Rattle.rn_syntax.specs.Terminal.{◌#◌, postfix, minus, left_brace, right_
 use Rattle.rn_syntax.specs.Tree as tree
 use Rattle.rn_syntax.specs.Tree.{Datatype, Params, NameClass, Pattern}
 use Rattle.rn_syntax.specs.Grammar.{Tokens, AreFollows, IsLiteral, MayHaveParams, IsNameClass, IsPattern, IsPrimary}
-use Rattle.rn_syntax.specs.Sequence.{Then, Gives, IsToken}
-use Rattle.rn_syntax.specs.Reading.{Bare}
+use Rattle.rn_syntax.specs.inside.Sequence.{Then, Gives, IsToken}
+use Rattle.rn_syntax.specs.inside.Reading.{Bare}
 
 -- [ postfix follow* ], behind the primary of an operand
 pub data BehindPrimary (p : Pattern) : Tokens → Pattern → Tokens → Type 0 where

@@ -8,9 +8,10 @@ use Rattle.rn_syntax.specs.Terminal.{◌#◌, keyword, left_brace, right_brace}
 use Rattle.rn_syntax.specs.Tree.{Item, Module, items_of}
 use Rattle.rn_syntax.specs.Grammar.{Tokens, MayHaveAnnotation, AreFollows, AreItems, AreDeclarations}
 use Rattle.rn_syntax.specs.Fault.{Stops}
-use Rattle.rn_syntax.specs.Sequence.{Then, Gives, IsToken}
-use Rattle.rn_syntax.specs.Reading.{AreSpelled, Bare, rest}
-use Rattle.rn_syntax.specs.Itemizing.{AreAnnotatedItems}
+use Rattle.rn_syntax.specs.inside.Sequence.{Then, Gives, IsToken}
+use Rattle.rn_syntax.specs.inside.Reading.{Bare, rest}
+use Rattle.rn_syntax.specs.Spelled.{AreSpelled}
+use Rattle.rn_syntax.specs.inside.Itemizing.{AreAnnotatedItems}
 
 -- "{" item* "}" follow*
 abbrev pub IsGrammarEnd : Tokens → List Item → Tokens → Type 0

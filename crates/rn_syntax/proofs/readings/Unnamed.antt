@@ -10,13 +10,13 @@ use Rattle.rn_syntax.specs.Tree as tree
 use Rattle.rn_syntax.specs.Tree.{Datatype, Pattern}
 use Rattle.rn_syntax.specs.Grammar as g
 use Rattle.rn_syntax.specs.Grammar.{Tokens, IsLiteral, IsDatatype, IsPattern, IsCore}
-use Rattle.rn_syntax.specs.Follow.{Starts, Anything, first, no_tilde, behind_core, behind_pattern, begins_datatype}
-use Rattle.rn_syntax.specs.Sequence.{Then, both, Gives, gives, IsToken, token}
-use Rattle.rn_syntax.specs.Reading.{Took, Stuck, seen, IsNext}
-use Rattle.rn_syntax.proofs.Compose.{Upto, Fits, Can, upto_token, upto_then, took_upto, stuck_upto, reads, stuck_in, stuck_here, took_gives, fits_anything, fits_token}
-use Rattle.rn_syntax.proofs.Next.{first_next}
-use Rattle.rn_syntax.proofs.Operands.{fits_given, can_given, upto_seen, core_tilde}
-use Rattle.rn_syntax.proofs.Primaries.{can_core}
+use Rattle.rn_syntax.specs.inside.Follow.{Starts, Anything, first_terminal, no_tilde, behind_core, behind_pattern, begins_datatype}
+use Rattle.rn_syntax.specs.inside.Sequence.{Then, both, Gives, gives, IsToken, token}
+use Rattle.rn_syntax.specs.inside.Reading.{Took, Stuck, seen, IsNext}
+use Rattle.rn_syntax.proofs.readings.Compose.{Upto, Fits, Can, upto_token, upto_then, took_upto, stuck_upto, reads, stuck_in, stuck_here, took_gives, fits_anything, fits_token}
+use Rattle.rn_syntax.proofs.readings.Next.{first_next}
+use Rattle.rn_syntax.proofs.readings.Operands.{fits_given, can_given, upto_seen, core_tilde}
+use Rattle.rn_syntax.proofs.readings.Primaries.{can_core}
 
 -- ---- a literal
 
@@ -98,16 +98,16 @@ begins_core (segment s) = true
 begins_core left_paren = true
 begins_core x = false
 
-literal_begins : {t r : Tokens} {s : List ℕ} → IsLiteral t s r → begins_core (first t) ≡ true
+literal_begins : {t r : Tokens} {s : List ℕ} → IsLiteral t s r → begins_core (first_terminal t) ≡ true
 literal_begins g.one = refl
 literal_begins (g.joined l) = refl
 
-datatype_begins : {x : Placed} {d : Datatype} (us : Tokens) → IsDatatype x d → begins_core (first (x ∷ us)) ≡ true
+datatype_begins : {x : Placed} {d : Datatype} (us : Tokens) → IsDatatype x d → begins_core (first_terminal (x ∷ us)) ≡ true
 datatype_begins us g.string = refl
 datatype_begins us g.token = refl
 datatype_begins us g.named = refl
 
-core_begins : {t r : Tokens} {z : Pattern} → IsCore t z r → begins_core (first t) ≡ true
+core_begins : {t r : Tokens} {z : Pattern} → IsCore t z r → begins_core (first_terminal t) ≡ true
 core_begins (g.element c p) = refl
 core_begins (g.attribute c p) = refl
 core_begins (g.list p) = refl
@@ -130,11 +130,11 @@ not_begun c.LeftParen h1 h2 h3 h4 e = absurd (h4 refl)
 not_begun (c.Prefixed n l) h1 h2 h3 h4 e = absurd (false≢true (sym e))
 not_begun x h1 h2 h3 h4 e = refl
 
-none_here : {now : Tokens} → begins_core (first now) ≡ false → Stuck IsCore (Starts behind_core) now now
+none_here : {now : Tokens} → begins_core (first_terminal now) ≡ false → Stuck IsCore (Starts behind_core) now now
 none_here e = stuck_here begins_core (λ t z r d. core_begins d) e can_core
 
 pub no_core : (now behind : Tokens) (x : code.Terminal) → IsNext now (seen x) behind → ((w : Keyword) → x ≡ c.Keyword w → ⊥) → ((n : _) → x ≡ c.Ident n → ⊥) → ((s : _) → x ≡ c.Segment s → ⊥) → (x ≡ c.LeftParen → ⊥)
-    → begins_datatype (first now) ≡ false → Stuck IsCore (Starts behind_core) now now
+    → begins_datatype (first_terminal now) ≡ false → Stuck IsCore (Starts behind_core) now now
 no_core now behind x n h1 h2 h3 h4 e =
     let same = first_next now behind (seen x) n in
     none_here (ap begins_core same ∙ not_begun x h1 h2 h3 h4 (sym (ap begins_datatype same) ∙ e))
@@ -152,6 +152,6 @@ not_keyword k.String h1 h2 h3 h4 h5 h6 h7 e = absurd (false≢true (sym e))
 not_keyword k.Token h1 h2 h3 h4 h5 h6 h7 e = absurd (false≢true (sym e))
 not_keyword w h1 h2 h3 h4 h5 h6 h7 e = refl
 
-pub no_keyword_core : {now : Tokens} (w : Keyword) → first now ≡ keyword w → (w ≡ k.Element → ⊥) → (w ≡ k.Attribute → ⊥) → (w ≡ k.List → ⊥) → (w ≡ k.Mixed → ⊥) → (w ≡ k.Empty → ⊥) → (w ≡ k.NotAllowed → ⊥) → (w ≡ k.Text → ⊥)
-    → begins_datatype (first now) ≡ false → Stuck IsCore (Starts behind_core) now now
+pub no_keyword_core : {now : Tokens} (w : Keyword) → first_terminal now ≡ keyword w → (w ≡ k.Element → ⊥) → (w ≡ k.Attribute → ⊥) → (w ≡ k.List → ⊥) → (w ≡ k.Mixed → ⊥) → (w ≡ k.Empty → ⊥) → (w ≡ k.NotAllowed → ⊥) → (w ≡ k.Text → ⊥)
+    → begins_datatype (first_terminal now) ≡ false → Stuck IsCore (Starts behind_core) now now
 no_keyword_core w here h1 h2 h3 h4 h5 h6 h7 e = none_here (ap begins_core here ∙ not_keyword w h1 h2 h3 h4 h5 h6 h7 (sym (ap begins_datatype here) ∙ e))

@@ -8,11 +8,11 @@ use Rattle.rn_syntax.specs.Terminal as t
 use Rattle.rn_syntax.specs.Terminal.{Terminal, Placed, ◌#◌, left_bracket, right_bracket, follow, is_bracket}
 use Rattle.rn_syntax.specs.Grammar as g
 use Rattle.rn_syntax.specs.Grammar.{Tokens, Closed, IsAnnotation, MayHaveAnnotation, AreFollows, IsFollowName}
-use Rattle.rn_syntax.specs.Follow.{Starts, Anything, first, no_bracket, no_follow}
-use Rattle.rn_syntax.specs.Sequence.{Then, both, Gives, gives, IsFollow, named}
-use Rattle.rn_syntax.specs.Reading.{Alike, Took, Stuck, Bare, seen, IsNext}
-use Rattle.rn_syntax.proofs.Compose.{Upto, Can, CanBe, upto_at, upto_then, stuck_upto, reads, stuck_in, stuck_here, first_alike, alike_end, upto_token, fits_anything}
-use Rattle.rn_syntax.proofs.Next.{first_next}
+use Rattle.rn_syntax.specs.inside.Follow.{Starts, Anything, first_terminal, no_bracket, no_follow}
+use Rattle.rn_syntax.specs.inside.Sequence.{Then, both, Gives, gives, IsFollow, named}
+use Rattle.rn_syntax.specs.inside.Reading.{Alike, Took, Stuck, Bare, seen, IsNext}
+use Rattle.rn_syntax.proofs.readings.Compose.{Upto, Can, CanBe, upto_at, upto_then, stuck_upto, reads, stuck_in, stuck_here, first_alike, alike_end, upto_token, fits_anything}
+use Rattle.rn_syntax.proofs.readings.Next.{first_next}
 
 -- this many brackets close
 abbrev pub Closings : ℕ → Tokens → Unit {0} → Tokens → Type 0
@@ -83,7 +83,7 @@ plain_goes t.left_paren e = absurd (false≢true (sym e))
 plain_goes t.right_paren e = absurd (false≢true (sym e))
 plain_goes x e = refl
 
-closed_goes : {t r : Tokens} → Closed t r → goes_on (first t) ≡ true
+closed_goes : {t r : Tokens} → Closed t r → goes_on (first_terminal t) ≡ true
 closed_goes g.close = refl
 closed_goes (g.other {x = x} e c) = plain_goes x e
 closed_goes (g.nested c d) = refl
@@ -92,7 +92,7 @@ closed_nothing : {r : Tokens} → Closed [] r → ⊥
 closed_nothing d = elim d [ ]
 
 at_bracket : (n : ℕ) {y : Terminal} {i : ℕ} {now next : Tokens} → goes_on y ≡ false → now ≡ y # i ∷ next → Stuck (Closings (suc n)) Anything now now
-at_bracket n h e = closings_stuck n (λ t r a d. false≢true (sym h ∙ ap (λ l. goes_on (first l)) (sym e) ∙ ap goes_on (sym (first_alike a)) ∙ closed_goes d))
+at_bracket n h e = closings_stuck n (λ t r a d. false≢true (sym h ∙ ap (λ l. goes_on (first_terminal l)) (sym e) ∙ ap goes_on (sym (first_alike a)) ∙ closed_goes d))
 
 pub refusing : (n : ℕ) (x : code.Terminal) (now next : Tokens) → (x ≡ c.LeftBrace) ⊎ ((x ≡ c.RightBrace) ⊎ ((x ≡ c.LeftParen) ⊎ ((x ≡ c.RightParen) ⊎ (x ≡ c.End)))) → IsNext now (seen x) next
     → Stuck (Closings (suc n)) Anything now now
@@ -142,10 +142,10 @@ not_bracket c.LeftBracket h = absurd (h refl)
 not_bracket x h = refl
 
 -- no bracket stands here
-pub first_no_bracket : (now behind : Tokens) (x : code.Terminal) → IsNext now (seen x) behind → (x ≡ c.LeftBracket → ⊥) → no_bracket (first now) ≡ true
+pub first_no_bracket : (now behind : Tokens) (x : code.Terminal) → IsNext now (seen x) behind → (x ≡ c.LeftBracket → ⊥) → no_bracket (first_terminal now) ≡ true
 first_no_bracket now behind x e h = ap no_bracket (first_next now behind (seen x) e) ∙ not_bracket x h
 
-begins_bracket : {t r : Tokens} → IsAnnotation t r → no_bracket (first t) ≡ false
+begins_bracket : {t r : Tokens} → IsAnnotation t r → no_bracket (first_terminal t) ≡ false
 begins_bracket (g.bracketed d) = refl
 
 pub can_annotation : CanBe (Bare IsAnnotation)
@@ -159,7 +159,7 @@ no_annotation now behind x e h = record {
   refuses = λ t a u r d f. false≢true (sym (begins_bracket d) ∙ ap no_bracket (first_alike a) ∙ first_no_bracket now behind x e h);
 }
 
-bare_from : {t r : Tokens} → no_bracket (first t) ≡ true → MayHaveAnnotation t r → r ≡ t
+bare_from : {t r : Tokens} → no_bracket (first_terminal t) ≡ true → MayHaveAnnotation t r → r ≡ t
 bare_from h g.bare = refl
 bare_from h (g.annotated (g.bracketed d)) = absurd (false≢true h)
 
@@ -185,7 +185,7 @@ name_is (g.by_word g.by_name) = refl
 name_is (g.by_word g.by_keyword) = refl
 name_is g.by_prefixed = refl
 
-named_begins : {t r : Tokens} → IsFollow t r → is_follow_name (first t) ≡ true
+named_begins : {t r : Tokens} → IsFollow t r → is_follow_name (first_terminal t) ≡ true
 named_begins (named n d) = name_is n
 
 pub can_named : CanBe (Bare IsFollow)
@@ -234,7 +234,7 @@ not_follow : (x : code.Terminal) → (x ≡ c.Follow → ⊥) → no_follow (unw
 not_follow c.Follow h = absurd (h refl)
 not_follow x h = refl
 
-none_from : {t r : Tokens} → no_follow (first t) ≡ true → AreFollows t r → r ≡ t
+none_from : {t r : Tokens} → no_follow (first_terminal t) ≡ true → AreFollows t r → r ≡ t
 none_from h g.none = refl
 none_from h (g.more n a m) = absurd (false≢true h)
 

@@ -11,9 +11,9 @@ Starts test [] = ⊤
 Starts test (x # i ∷ ts) = test x ≡ true
 
 -- the first terminal; at the end, one that no production begins with
-abbrev pub first : Tokens → Terminal
-first [] = other
-first (x # i ∷ ts) = x
+abbrev pub first_terminal : Tokens → Terminal
+first_terminal [] = other
+first_terminal (x # i ∷ ts) = x
 
 -- anything
 abbrev pub Anything : Tokens → Type 0

@@ -1,9 +1,9 @@
 -- Lists of one production, part by part.
 use Rattle.std.proofs.Common.{◌≡◌, List, [], ◌∷◌, ◌++◌, refl, ap, sym, ◌∙◌, subst, append_assoc}
 use Rattle.rn_syntax.specs.Grammar.{Tokens}
-use Rattle.rn_syntax.specs.Sequence.{Then, both}
-use Rattle.rn_syntax.specs.Reading.{Took, Stuck}
-use Rattle.rn_syntax.proofs.Compose.{Upto, Fits, upto_at, upto_then, took_upto, stuck_upto, reads, stuck_in}
+use Rattle.rn_syntax.specs.inside.Sequence.{Then, both}
+use Rattle.rn_syntax.specs.inside.Reading.{Took, Stuck}
+use Rattle.rn_syntax.proofs.readings.Compose.{Upto, Fits, upto_at, upto_then, took_upto, stuck_upto, reads, stuck_in}
 
 -- the parts xs were read, and an N, which is more parts, follows: f makes of them what all stands for
 pub record Behind {A C : Type 0} (N : Tokens → List A → Tokens → Type 0) (f : List A → C) (xs : List A) (ts : Tokens) (z : C) (rest : Tokens) : Type 0 where

@@ -6,9 +6,10 @@ use Rattle.rn_syntax.specs.declared.fault.Fault.TheVariants as f
 use Rattle.rn_text.specs.declared.source.Token.{Token}
 use Rattle.rn_syntax.specs.Terminal.{Terminal, Placed, ◌#◌}
 use Rattle.rn_syntax.specs.Grammar.{Tokens}
-use Rattle.rn_syntax.specs.Follow.{Starts, Anything, first}
-use Rattle.rn_syntax.specs.Sequence.{Then, both, Gives, gives, IsToken, token, IsOf, of}
-use Rattle.rn_syntax.specs.Reading.{Alike, ends, same, Took, Stuck, Faults, AreSpelled, rest, Bare, Skips, Reads, Makes, Passed, Advanced}
+use Rattle.rn_syntax.specs.inside.Follow.{Starts, Anything, first_terminal}
+use Rattle.rn_syntax.specs.inside.Sequence.{Then, both, Gives, gives, IsToken, token, IsOf, of}
+use Rattle.rn_syntax.specs.inside.Reading.{Alike, ends, same, Took, Stuck, Faults, rest, Bare, Skips, Reads, Makes, Passed, Advanced}
+use Rattle.rn_syntax.specs.Spelled.{AreSpelled}
 
 -- The front of ts up to now is read: what makes a V of ts is a W of what is left.
 pub record Upto {A : Type 0} (V W : Tokens → A → Tokens → Type 0) (G : Tokens → Type 0) (ts now : Tokens) : Type 0 where
@@ -106,13 +107,13 @@ took_gives {A = A} {G = G} x ts = record { front = []; cut = refl; derives = λ 
 
 -- ---- single tokens
 
-pub first_alike : {t u : Tokens} → Alike t u → first t ≡ first u
+pub first_alike : {t u : Tokens} → Alike t u → first_terminal t ≡ first_terminal u
 first_alike ends = refl
 first_alike (same {x = x # i}) = refl
 
 -- no N begins with the first token
 pub stuck_here : {A : Type 0} {N : Tokens → A → Tokens → Type 0} {F : Tokens → Type 0} {now : Tokens} (test : Terminal → Bool)
-    → ((t : Tokens) (x : A) (r : Tokens) → N t x r → test (first t) ≡ true) → test (first now) ≡ false → CanBe N → Stuck N F now now
+    → ((t : Tokens) (x : A) (r : Tokens) → N t x r → test (first_terminal t) ≡ true) → test (first_terminal now) ≡ false → CanBe N → Stuck N F now now
 stuck_here {now = now} test begins h can = record {
   front = [];
   cut = refl;
@@ -123,7 +124,7 @@ stuck_here {now = now} test begins h can = record {
 token_is : {x : Terminal} {t r : Tokens} {i : ℕ} → IsToken x t i r → t ≡ x # i ∷ r
 token_is token = refl
 
-pub token_first : {x : Terminal} {t r : Tokens} {i : ℕ} → IsToken x t i r → first t ≡ x
+pub token_first : {x : Terminal} {t r : Tokens} {i : ℕ} → IsToken x t i r → first_terminal t ≡ x
 token_first token = refl
 
 place_of : Tokens → ℕ
@@ -167,7 +168,7 @@ can_then n m more =
     (x.0, c.0, both x.2 c.1)
 
 -- what follows, told by its first token
-pub starts_first : (test : Terminal → Bool) (ts : Tokens) → test (first ts) ≡ true → Starts test ts
+pub starts_first : (test : Terminal → Bool) (ts : Tokens) → test (first_terminal ts) ≡ true → Starts test ts
 starts_first test [] h = tt
 starts_first test (x # i ∷ ts) h = h
 

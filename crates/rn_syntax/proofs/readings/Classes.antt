@@ -13,14 +13,14 @@ use Rattle.rn_syntax.specs.Tree as t
 use Rattle.rn_syntax.specs.Tree.{AnyName, NameClass, classes_of}
 use Rattle.rn_syntax.specs.Grammar as g
 use Rattle.rn_syntax.specs.Grammar.{Tokens, IsWord, MayHaveAnnotation, AreFollows, IsAnyName, IsNameClass, AreMoreClasses, IsClassOperand, IsClassPrimary, IsClassCore}
-use Rattle.rn_syntax.specs.Follow.{Starts, Anything, first, no_bracket, no_follow, behind_name, behind_class, begins_any}
-use Rattle.rn_syntax.specs.Sequence.{Then, both, Gives, gives, IsToken, token, IsHere, IsClassEnd, IsAnyClassEnd}
-use Rattle.rn_syntax.specs.Reading.{Took, Stuck, Bare, Makes, seen, IsNext}
+use Rattle.rn_syntax.specs.inside.Follow.{Starts, Anything, first_terminal, no_bracket, no_follow, behind_name, behind_class, begins_any}
+use Rattle.rn_syntax.specs.inside.Sequence.{Then, both, Gives, gives, IsToken, token, IsHere, IsClassEnd, IsAnyClassEnd}
+use Rattle.rn_syntax.specs.inside.Reading.{Took, Stuck, Bare, Makes, seen, IsNext}
 use Rattle.rn_syntax.proofs.OneClass.{class_core_one, class_core_front, any_no_bracket, any_one, word_is, minus_stays, name_to_follow, class_to_name, starts_to}
-use Rattle.rn_syntax.proofs.Compose.{Upto, Fits, Can, CanBe, upto_at, upto_token, upto_then, took_upto, stuck_upto, reads, stuck_in, took_gives, first_alike, stuck_here, fits_anything, fits_token, fits_gives, can_gives, can_then}
-use Rattle.rn_syntax.proofs.Repeating.{Whole}
-use Rattle.rn_syntax.proofs.Chaining.{Rest, none, some, Chained, alone, many, IsChain, fits_chained, alone_at, So_far}
-use Rattle.rn_syntax.proofs.Next.{first_next}
+use Rattle.rn_syntax.proofs.readings.Compose.{Upto, Fits, Can, CanBe, upto_at, upto_token, upto_then, took_upto, stuck_upto, reads, stuck_in, took_gives, first_alike, stuck_here, fits_anything, fits_token, fits_gives, can_gives, can_then}
+use Rattle.rn_syntax.proofs.readings.Repeating.{Whole}
+use Rattle.rn_syntax.proofs.readings.Chaining.{Rest, none, some, Chained, alone, many, IsChain, fits_chained, alone_at, So_far}
+use Rattle.rn_syntax.proofs.readings.Next.{first_next}
 
 -- ---- cores
 
@@ -77,7 +77,7 @@ word_class : (y : Terminal) {n : List ℕ} → IsWord y n → is_class y ≡ tru
 word_class y g.by_name = refl
 word_class y g.by_keyword = refl
 
-core_class : {ts r : Tokens} {k : NameClass} → IsClassCore ts k r → is_class (first ts) ≡ true
+core_class : {ts r : Tokens} {k : NameClass} → IsClassCore ts k r → is_class (first_terminal ts) ≡ true
 core_class (g.word {x = y} w) = word_class y w
 core_class g.prefixed_name = refl
 core_class (g.any_name g.all) = refl
@@ -94,7 +94,7 @@ not_class y h1 h2 h3 h4 e = e
 can_core : CanBe IsClassCore
 can_core more = (ident [] # 0 ∷ more, t.name (t.local []), g.word g.by_name)
 
-pub no_core : (now behind : Tokens) (y : code.Terminal) → IsNext now (seen y) behind → ((n : _) → y ≡ c.Ident n → ⊥) → ((w : _) → y ≡ c.Keyword w → ⊥) → ((n : _) (l : _) → y ≡ c.Prefixed n l → ⊥) → (y ≡ c.LeftParen → ⊥) → begins_any (first now) ≡ false
+pub no_core : (now behind : Tokens) (y : code.Terminal) → IsNext now (seen y) behind → ((n : _) → y ≡ c.Ident n → ⊥) → ((w : _) → y ≡ c.Keyword w → ⊥) → ((n : _) (l : _) → y ≡ c.Prefixed n l → ⊥) → (y ≡ c.LeftParen → ⊥) → begins_any (first_terminal now) ≡ false
     → Stuck IsClassCore Anything now now
 no_core now behind y e h1 h2 h3 h4 h =
     let f = first_next now behind (seen y) e in
@@ -204,15 +204,15 @@ operand_body a = upto_then operand_start (reads fits_operand a)
 pub operand_stuck : {ts bad : Tokens} → Stuck (Bare MayHaveAnnotation) (Starts no_bracket) ts bad → Stuck IsClassOperand (Starts behind_name) ts bad
 operand_stuck a = stuck_upto operand_start (stuck_in fits_operand can_operand a)
 
-any_begins : {y : Placed} {a : AnyName} (us : Tokens) → IsAnyName y a → begins_any (first (y ∷ us)) ≡ true
+any_begins : {y : Placed} {a : AnyName} (us : Tokens) → IsAnyName y a → begins_any (first_terminal (y ∷ us)) ≡ true
 any_begins us g.all = refl
 any_begins us g.of = refl
 
 -- another core
-pub operand_plain : {now : Tokens} → begins_any (first now) ≡ false → Upto OperandEnd IsClassEnd (Starts behind_name) now now
+pub operand_plain : {now : Tokens} → begins_any (first_terminal now) ≡ false → Upto OperandEnd IsClassEnd (Starts behind_name) now now
 operand_plain h = upto_at (λ t z r d. plain_end d) (λ t a z r d g. from (ap begins_any (first_alike a) ∙ h) d)
   where
-    from : {t r : Tokens} {z : NameClass} → begins_any (first t) ≡ false → OperandEnd t z r → IsClassEnd t z r
+    from : {t r : Tokens} {z : NameClass} → begins_any (first_terminal t) ≡ false → OperandEnd t z r → IsClassEnd t z r
     from e (plain_end d) = d
     from e (except_end {i = i} {mid = mid} n p) = absurd (false≢true (sym e ∙ any_begins (minus # i ∷ mid) n))
 
@@ -260,7 +260,7 @@ not_minus y h e = cc
 pub tail_plain : (a : AnyName) (now behind : Tokens) (y : code.Terminal) → IsNext now (seen y) behind → (y ≡ c.Minus → ⊥) → Upto (AnyTail a) (IsAnyClassEnd a) (Starts behind_name) now now
 tail_plain a now behind y e h = upto_at (λ t z r d. plain_from d) (λ t b z r d g. from (λ f. not_minus y h (sym (first_next now behind (seen y) e) ∙ sym (first_alike b) ∙ f)) d)
   where
-    from : {t r : Tokens} {z : NameClass} → (first t ≡ minus → ⊥) → AnyTail a t z r → IsAnyClassEnd a t z r
+    from : {t r : Tokens} {z : NameClass} → (first_terminal t ≡ minus → ⊥) → AnyTail a t z r → IsAnyClassEnd a t z r
     from n (plain_tail f) = both f gives
     from n (except_tail p) = absurd (n refl)
 
@@ -269,7 +269,7 @@ tail_plain a now behind y e h = upto_at (λ t z r d. plain_from d) (λ t b z r d
 abbrev pub choice_of : List NameClass → NameClass
 choice_of l = t.choice (classes_of l)
 
-bar_first : {ts r : Tokens} {l : List NameClass} → AreMoreClasses ts l r → first ts ≡ operator o.Bar
+bar_first : {ts r : Tokens} {l : List NameClass} → AreMoreClasses ts l r → first_terminal ts ≡ operator o.Bar
 bar_first (g.last d) = refl
 bar_first (g.more d m) = refl
 
@@ -284,11 +284,11 @@ more_from : {t r : Tokens} {l : List NameClass} {i : ℕ} → AreMoreClasses (op
 more_from (g.last d) = both d (record { more = []; is = refl; behind = none })
 more_from (g.more {cs = cs} d m) = both d (record { more = cs; is = refl; behind = some m })
 
-ends_at : (t : Tokens) → first t ≡ operator o.Bar → Starts behind_class t → ⊥
+ends_at : (t : Tokens) → first_terminal t ≡ operator o.Bar → Starts behind_class t → ⊥
 ends_at [] e g = cc
 ends_at (y # i ∷ t) e g = false≢true (sym (ap behind_class e) ∙ g)
 
-part_ends_at : (t : Tokens) → first t ≡ operator o.Bar → Starts behind_name t
+part_ends_at : (t : Tokens) → first_terminal t ≡ operator o.Bar → Starts behind_name t
 part_ends_at [] e = tt
 part_ends_at (y # i ∷ t) e = ap behind_name e
 
@@ -319,7 +319,7 @@ class_first k = upto_then class_start (reads (fits_chained classes_chain) k)
 pub class_stuck : {ts bad : Tokens} → Stuck IsClassOperand (Starts behind_name) ts bad → Stuck IsNameClass (Starts behind_class) ts bad
 class_stuck k = stuck_upto class_start (stuck_in (fits_chained classes_chain) (λ more. (more, λ k. (k, alone))) k)
 
-pub class_alone : {ts now : Tokens} {k : NameClass} → Took IsClassOperand (Starts behind_name) ts k now → (first now ≡ operator o.Bar → ⊥) → Took IsNameClass (Starts behind_class) ts k now
+pub class_alone : {ts now : Tokens} {k : NameClass} → Took IsClassOperand (Starts behind_name) ts k now → (first_terminal now ≡ operator o.Bar → ⊥) → Took IsNameClass (Starts behind_class) ts k now
 class_alone {now = now} {k = k} d n = took_upto (upto_then (class_first d) (alone_at classes_chain k n)) (took_gives k now)
 
 pub so_far_same : {xs ys : List NameClass} (ts now : Tokens) → xs ≡ ys → So_far classes_chain xs ts now → So_far classes_chain ys ts now

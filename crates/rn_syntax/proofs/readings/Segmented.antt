@@ -2,43 +2,54 @@
 use Rattle.std.proofs.Common.{◌≡◌, ℕ, Bool, true, false, List, [], ◌∷◌, ◌++◌, refl, ap, sym, ◌∙◌, subst, append_assoc, append-nil, unwrap_or, cond, not}
 use Rattle.std.specs.Prelude.{◌&&◌, ◌==◌}
 use Rattle.std.proofs.lemmas.Bool.{false≢true, and_parts}
-use Rattle.rn_text.specs.Segments.{after_run, text_after, escape_front, begins_with, is_x}
+use Rattle.rn_text.specs.Segments.{after_run, between_delimiters, escape_front, begins_with, is_verbatim, is_x}
+use Rattle.rn_text.proofs.Verbatim.{not_true}
 use Rattle.rn_syntax.specs.declared.terminals.Terminal as code
 use Rattle.rn_syntax.specs.declared.terminals.Terminal.TheVariants as c
 use Rattle.rn_syntax.specs.Terminal as t
 use Rattle.rn_syntax.specs.Terminal.{Terminal, ◌#◌, segment, tilde}
 use Rattle.rn_syntax.specs.Grammar as g
 use Rattle.rn_syntax.specs.Grammar.{Tokens, IsLiteral}
-use Rattle.rn_syntax.specs.Follow.{Starts, Anything, first, no_tilde}
-use Rattle.rn_syntax.specs.Sequence.{Then, both, Gives, gives, IsSegment, segment_here}
-use Rattle.rn_syntax.specs.Reading.{Took, Stuck, seen, IsNext, is_plain}
-use Rattle.rn_syntax.proofs.Compose.{Upto, Fits, Can, CanBe, upto_at, upto_token, upto_then, took_upto, stuck_upto, reads, stuck_in, took_gives, stuck_here, first_alike, fits_anything}
-use Rattle.rn_syntax.proofs.Next.{first_next}
+use Rattle.rn_syntax.specs.inside.Follow.{Starts, Anything, first_terminal, no_tilde}
+use Rattle.rn_syntax.specs.inside.Sequence.{Then, both, Gives, gives, IsSegment, segment_here}
+use Rattle.rn_syntax.specs.inside.Reading.{Took, Stuck, seen, IsNext, is_plain}
+use Rattle.rn_syntax.proofs.readings.Compose.{Upto, Fits, Can, CanBe, upto_at, upto_token, upto_then, took_upto, stuck_upto, reads, stuck_in, took_gives, stuck_here, first_alike, fits_anything}
+use Rattle.rn_syntax.proofs.readings.Next.{first_next}
 
 -- ---- text that is written as it is
 
-plain_text_at : (b r : Bool) (c : ℕ) (cs x y : List ℕ) → b ≡ false → r ≡ false → text_after 0 cs ≡ cs → cond b x (cond r y (c ∷ text_after 0 cs)) ≡ c ∷ cs
-plain_text_at false false c cs x y p q e = ap (λ l. c ∷ l) e
-plain_text_at true r c cs x y p q e = cc
-plain_text_at false true c cs x y p q e = cc
-
-not_true : (b : Bool) → not b ≡ true → b ≡ false
-not_true true e = cc
-not_true false e = refl
+verbatim_at : (b r n : Bool) → b ≡ false → r ≡ false → (not b && (not r && n)) ≡ n
+verbatim_at false false n p q = refl
+verbatim_at true r n p q = cc
+verbatim_at false true n p q = cc
 
 no_escape : (b x y : Bool) → b ≡ false → (b && x && y) ≡ false
 no_escape false x y e = refl
 no_escape true x y e = cc
 
-plain_first : (d : ℕ) (cs : List ℕ) (b : Bool) → is_plain d ≡ b → (after_run is_plain cs ≡ [] → text_after 0 cs ≡ cs) → cond b (after_run is_plain cs) (d ∷ cs) ≡ [] → text_after 0 (d ∷ cs) ≡ d ∷ cs
-plain_first d cs false h r f = cc
-plain_first d cs true h r f =
+verbatim_first : (d : ℕ) (cs : List ℕ) (b : Bool) → is_plain d ≡ b → is_verbatim (after_run is_plain cs) ≡ is_verbatim cs → is_verbatim (cond b (after_run is_plain cs) (d ∷ cs)) ≡ is_verbatim (d ∷ cs)
+verbatim_first d cs false h e = refl
+verbatim_first d cs true h e =
     let p = and_parts (not (d == 92)) (not (d == 13)) h in
-    plain_text_at (escape_front (d ∷ cs)) (d == 13) d cs _ _ (no_escape (d == 92) (begins_with is_x cs) (begins_with (λ e. e == 123) (after_run is_x cs)) (not_true (d == 92) p.0)) (not_true (d == 13) p.1) (r f)
+    e ∙ sym (verbatim_at (escape_front (d ∷ cs)) (d == 13) (is_verbatim cs) (no_escape (d == 92) (begins_with is_x cs) (begins_with (λ e. e == 123) (after_run is_x cs)) (not_true (d == 92) p.0)) (not_true (d == 13) p.1))
 
-pub plain_text : (cs : List ℕ) → after_run is_plain cs ≡ [] → text_after 0 cs ≡ cs
-plain_text [] e = refl
-plain_text (d ∷ cs) e = plain_first d cs (is_plain d) refl (plain_text cs) e
+-- plain characters at the front change nothing
+verbatim_behind : (cs : List ℕ) → is_verbatim (after_run is_plain cs) ≡ is_verbatim cs
+verbatim_behind [] = refl
+verbatim_behind (d ∷ cs) = verbatim_first d cs (is_plain d) refl (verbatim_behind cs)
+
+-- whether a segment is written as its text, where this is between its delimiters and what is not plain begins so
+pub written_is : (quoted written behind : List ℕ) (b : Bool) → written ≡ between_delimiters quoted → behind ≡ after_run is_plain written → b ≡ is_verbatim behind → is_verbatim (between_delimiters quoted) ≡ b
+written_is quoted written behind b cut e is = ap is_verbatim (sym cut) ∙ sym (verbatim_behind written) ∙ ap is_verbatim (sym e) ∙ sym is
+
+-- one segment, or several
+pub borrows_alone : (b w n : Bool) → b ≡ w → n ≡ true → b ≡ (w && n)
+borrows_alone b true n e h = e ∙ sym h
+borrows_alone b false n e h = e
+
+pub copied : (w n : Bool) → n ≡ false → false ≡ (w && n)
+copied true n h = sym h
+copied false n h = refl
 
 -- ---- segments
 
@@ -57,7 +68,7 @@ abbrev is_segment : Terminal → Bool
 is_segment (segment s) = true
 is_segment x = false
 
-segment_begins : {t r : Tokens} {s : List ℕ} → IsSegment t s r → is_segment (first t) ≡ true
+segment_begins : {t r : Tokens} {s : List ℕ} → IsSegment t s r → is_segment (first_terminal t) ≡ true
 segment_begins segment_here = refl
 
 not_segment : (x : code.Terminal) → ((s : _) → x ≡ c.Segment s → ⊥) → is_segment (unwrap_or (seen x) t.other) ≡ false
@@ -127,6 +138,10 @@ not_tilde : (x : code.Terminal) → (x ≡ c.Tilde → ⊥) → no_tilde (unwrap
 not_tilde c.Tilde h = absurd (h refl)
 not_tilde x h = refl
 
+-- another token comes
+pub ends_at : (now behind : Tokens) (x : code.Terminal) → IsNext now (seen x) behind → (x ≡ c.Tilde → ⊥) → no_tilde (first_terminal now) ≡ true
+ends_at now behind x e h = ap no_tilde (first_next now behind (seen x) e) ∙ not_tilde x h
+
 -- at another token
 pub joins_end : (s : List ℕ) (now behind : Tokens) (x : code.Terminal) → IsNext now (seen x) behind → (x ≡ c.Tilde → ⊥) → Upto (Joins s) (Gives s) (Starts no_tilde) now now
 joins_end s now behind x e h = upto_at (λ t z r d. to d) (λ t a z r d f. from (ap no_tilde (first_alike a) ∙ ap no_tilde (first_next now behind (seen x) e) ∙ not_tilde x h) d.joined d.behind)
@@ -134,7 +149,7 @@ joins_end s now behind x e h = upto_at (λ t z r d. to d) (λ t a z r d f. from 
     to : {t r : Tokens} {z : List ℕ} → Gives s t z r → Joins s t z r
     to gives = record { text = []; joined = sym (append-nil s); behind = nothing }
 
-    from : {t r : Tokens} {z m : List ℕ} → no_tilde (first t) ≡ true → z ≡ s ++ m → More t m r → Gives s t z r
+    from : {t r : Tokens} {z m : List ℕ} → no_tilde (first_terminal t) ≡ true → z ≡ s ++ m → More t m r → Gives s t z r
     from {r = r} n e nothing = subst (λ (y : List ℕ). Gives s r y r) (sym (e ∙ append-nil s)) gives
     from n e (onward l) = absurd (false≢true n)
 

@@ -1,0 +1,20 @@
+-- What readers of productions read, and where they stop: how readings follow one another, and one file a subject.
+pub mod Compose
+pub mod Next
+pub mod Skipping
+pub mod Segmented
+pub mod Repeating
+pub mod Parameters
+pub mod Chaining
+pub mod Operands
+pub mod Primaries
+pub mod Cores
+pub mod Unnamed
+pub mod Chains
+pub mod Classes
+pub mod Declared
+pub mod Itemized
+pub mod Modular
+pub mod Rows
+pub mod Grouping
+pub mod Inclusion

@@ -1,0 +1,12 @@
+-- What contracts of private functions speak of: pieces of productions, readings, walks. No public contract cites it.
+pub mod Rules
+pub mod Follow
+pub mod Sequence
+pub mod Declaring
+pub mod Including
+pub mod Reading
+pub mod Itemizing
+pub mod Modular
+pub mod Bound
+pub mod Borrowed
+pub mod Parts
