@@ -12,3 +12,4 @@ mod Calls
 mod Places
 mod Entries
 mod EverySet
+mod Decimals
