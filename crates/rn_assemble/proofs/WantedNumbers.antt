@@ -27,6 +27,18 @@ use Rattle.rn_assemble.proofs.Inclusions.{not_missing}
 use Rattle.rn_assemble.proofs.ModuleLookups.{none_named, place_name, place_within}
 use Rattle.rn_assemble.proofs.Numbers.{not_itself}
 
+-- the literals of includes, in the words of the syntax
+mutual
+  item_literals : (x : Item) → t.item_includes x ≡ item_includes x
+  item_literals (t.define x m p) = refl
+  item_literals (t.start m p) = refl
+  item_literals (t.div xs) = literals xs
+  item_literals (t.include wanted inherit xs) = ap (λ l. wanted ∷ l) (literals xs)
+
+  pub literals : (xs : Items) → t.includes xs ≡ includes xs
+  literals t.no_items = refl
+  literals (t.item x xs) = let first = item_literals x in let rest = literals xs in λ i. first i ++ rest i
+
 -- ---- the least of some texts, one more after the other
 
 module _ (P : Text → Type 0) where
