@@ -393,7 +393,7 @@ for n in $(seq 10 28); do many="${many}many.rnc:$((n - 8)):5: error: \`u$n\` is 
 bad refusals_many 1 "${many}rnc-flat: note: there are more faults, which are not told: 6\n" many.rnc
 printf 'include "twice.rnc"\ninclude "twice.rnc" { o = empty }\nstart = p, o\n' >twofold.rnc
 printf 'p = text\no = q\n' >twice.rnc
-bad refusals_twofold 1 'twice.rnc:1:1: error: `p` is defined here with =, and comes twice: by the includes in twofold.rnc:1:9 and in twofold.rnc:2:9\n    p = text\n    ^\ntwice.rnc:2:5: error: `q` is not defined\n    o = q\n        ^\n' twofold.rnc
+bad refusals_twofold 1 'twofold.rnc:2:23: error: `o` is defined here and in twice.rnc:2:1, neither with |= nor &=\n    include "twice.rnc" { o = empty }\n                          ^\ntwice.rnc:1:1: error: `p` is defined here with =, and comes twice: by the includes in twofold.rnc:1:9 and in twofold.rnc:2:9\n    p = text\n    ^\ntwice.rnc:2:5: error: `q` is not defined\n    o = q\n        ^\n' twofold.rnc
 
 # ---- files that are no input
 room files
