@@ -47,9 +47,9 @@ LINKS = {
 }
 
 
-def fetch(folder):
+def fetch(folder, packages):
     """Unpacks the packages that aren't there yet."""
-    for package in PACKAGES:
+    for package in packages:
         place = folder / "packages" / package
         if place.exists():
             continue
@@ -178,7 +178,7 @@ def main():
     parser.add_argument("--all", action="store_true")
     words = parser.parse_args()
     folder = words.folder.resolve()
-    fetch(folder)
+    fetch(folder, PACKAGES)
     open_archives(folder)
     with tempfile.TemporaryDirectory() as room:
         found = chosen(folder, words)
