@@ -22,7 +22,7 @@ class Tree:
         self.kinds = kinds_of(rng)
         self.methods = {key: "|=" if key == "start" else rng.choice(["|=", "&="]) for key in ["start", *self.kinds, "o"]}
         self.files, self.roles = {}, {}
-        self.paths = [os.path.join(rng.choice(FOLDERS), f"f{at}.rnc") for at in range(rng.randint(2, 7))]
+        self.paths = [os.path.join(rng.choice(FOLDERS), f"f{at}.rnc") for at in range(rng.randint(2, 6))]
         for at in reversed(range(len(self.paths))):
             self.draw(at)
 
@@ -120,13 +120,13 @@ class FileDrawer(Drawer):
         return self.element(3) if self.rng.random() < 0.5 else self.particle(3)
 
     def particle(self, depth):
-        return self.placed("particle", 0.2) or super().particle(depth if self.level == 0 else min(depth, 1))
+        return self.placed("particle", 0.15) or super().particle(min(depth, 2 if self.level == 0 else 1))
 
     def data(self, depth=2):
-        return self.placed("data", 0.2) or super().data(depth)
+        return self.placed("data", 0.12) or super().data(depth)
 
     def attributes(self):
-        placed = self.placed("attributes", 0.1)
+        placed = self.placed("attributes", 0.06)
         return [placed] if placed else super().attributes()
 
     def data_excepted(self):
@@ -141,7 +141,7 @@ class FileDrawer(Drawer):
         if rng.random() > often:
             return None
         outer, externals = self.outer_names(kind), self.externals(kind)
-        way = weighted(rng, [(3 * bool(outer), "parent"), (6 * bool(externals), "external"), (2 * (self.level < 2), "nested"), (0.1, "")])
+        way = weighted(rng, [(3 * bool(outer), "parent"), (6 * bool(externals), "external"), ((2, 0.7, 0)[self.level], "nested"), (0.1, "")])
         if way == "parent":
             return Parent(rng.choice(outer))
         if way == "external":

@@ -47,9 +47,9 @@ LINKS = {
 }
 
 
-def fetch(folder):
+def fetch(folder, packages):
     """Unpacks the packages that aren't there yet."""
-    for package in PACKAGES:
+    for package in packages:
         place = folder / "packages" / package
         if place.exists():
             continue
@@ -98,7 +98,7 @@ def java(room, source, lines):
     """What a program of Java's writes, line by line, where it is given lines."""
     subprocess.run(["javac", "-cp", JARS, "-d", room, source], check=True)
     configuration = "-Dorg.apache.xerces.xni.parser.XMLParserConfiguration=org.apache.xerces.parsers.XIncludeParserConfiguration"
-    words = ["java", "-Xss256m", configuration, "-cp", f"{room}:{JARS}", source.stem]
+    words = ["java", "-Xss256m", "-XX:+UseSerialGC", configuration, "-cp", f"{room}:{JARS}", source.stem]
     ran = subprocess.run(words, input="".join(f"{line}\n" for line in lines), stdout=subprocess.PIPE, stderr=subprocess.DEVNULL, text=True, check=True)
     return ran.stdout.removesuffix("\n").split("\n") if lines else []
 
@@ -178,7 +178,7 @@ def main():
     parser.add_argument("--all", action="store_true")
     words = parser.parse_args()
     folder = words.folder.resolve()
-    fetch(folder)
+    fetch(folder, PACKAGES)
     open_archives(folder)
     with tempfile.TemporaryDirectory() as room:
         found = chosen(folder, words)
