@@ -11,12 +11,12 @@ use Rattle.rn_pattern.specs.Datatype.{Table}
 use Rattle.rn_pattern.specs.Matching.{Matches, Grammar, definition_of, MatchesWithin, IsValid, Meaning}
 use Rattle.rn_assemble.specs.Components.{Key, start_key, name_key, Component, same_key}
 use Rattle.rn_assemble.specs.Combine.{of_key, bodies, combined, PairedUp, alone, paired, Combines, IsCombination, join, joined, first_of, defined_names, joined_grammar}
-use Rattle.rn_pattern.proofs.Compositions.{Content, Matching}
-use Rattle.rn_pattern.proofs.Pairings.{paired_choice, paired_interleave, some_permuted, side_permuted}
-use Rattle.rn_pattern.proofs.Keeps.{list_of-trees_of, SomeOf, some_of_trees, trees_of_some}
-use Rattle.rn_pattern.proofs.Alike.{Alike, refers_alike, alike_then}
+use Rattle.rn_pattern.proofs.Matches.Compositions.{Content, Matching}
+use Rattle.rn_pattern.proofs.Matches.Pairings.{paired_choice, paired_interleave, some_permuted, side_permuted}
+use Rattle.rn_pattern.proofs.Matches.Keeps.{list_of-trees_of, SomeOf, some_of_trees, trees_of_some}
+use Rattle.rn_pattern.proofs.Matches.Alike.{Alike, refers_alike, alike_then}
 use Rattle.std.specs.List.{list_any}
-use Rattle.rn_pattern.proofs.OpenedKeeps.{one_or_choice, one_or_interleave, Side}
+use Rattle.rn_pattern.proofs.Matches.OpenedKeeps.{one_or_choice, one_or_interleave, Side}
 
 -- by the number of its parts
 abbrev pub some_joined : (Trees → Tree) → List Tree → Option Tree

@@ -5,7 +5,7 @@ use Rattle.std.specs.List.{AllByRecursion}
 use Rattle.std.proofs.lemmas.Bool.{false≢true}
 use Rattle.rn_pattern.specs.Tree.{Text}
 use Rattle.rn_pattern.specs.Excepts.{IsExcept, AreExcepts, HasExcepts, HaveExcepts}
-use Rattle.rn_pattern.proofs.Ascending.{each_join, each_flat}
+use Rattle.rn_pattern.proofs.Ordered.Ascending.{each_join, each_flat}
 use Rattle.rn_syntax.specs.declared.token.Operator.TheVariants as o
 use Rattle.rn_syntax.specs.declared.token.Postfix.TheVariants as r
 use Rattle.rn_syntax.specs.Tree as t

@@ -4,7 +4,7 @@ use Rattle.std.specs.Prelude.{flat_map, sum_by}
 use Rattle.std.specs.List.{AllByRecursion}
 use Rattle.std.proofs.lemmas.List.Sums.{sum_by-cons}
 use Rattle.rn_pattern.specs.Tree.{Text}
-use Rattle.rn_pattern.proofs.Ascending.{each_front, each_behind}
+use Rattle.rn_pattern.proofs.Ordered.Ascending.{each_front, each_behind}
 use Rattle.rn_syntax.specs.Tree as t
 use Rattle.rn_syntax.specs.Tree.{Declaration, Item, Items}
 use Rattle.rn_assemble.specs.Components.{Component, Source, item_components, all_components, module_components, overridden, handed_on, item_includes, includes, modules_named, components_within, instances_within}

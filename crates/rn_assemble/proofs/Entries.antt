@@ -12,7 +12,7 @@ use Rattle.std.proofs.lemmas.Slice.Eq.{bytes_eq-Decides}
 use Rattle.rn_pattern.specs.Tree.{Text}
 use Rattle.rn_pattern.specs.Order.{text_cmp}
 use Rattle.rn_pattern.specs.Graph.{AllBelow, IsGraph, row}
-use Rattle.rn_pattern.proofs.InOrder.{contains_behind, contains_front}
+use Rattle.rn_pattern.proofs.Ordered.InOrder.{contains_behind, contains_front}
 use Rattle.rn_assemble.specs.Components.{Source, includes, roots}
 use Rattle.rn_assemble.specs.Expanded.{name_at}
 use Rattle.rn_assemble.specs.Inclusions.{AreInclusions, entries}

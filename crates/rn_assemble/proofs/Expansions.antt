@@ -5,8 +5,8 @@ use Rattle.std.specs.List.{AllByRecursion, list_any}
 use Rattle.std.proofs.lemmas.List.{length-map, map-append, length-append, get_or_append_left, get_or-append-add, get_or-map, get_or-drop, take_more}
 use Rattle.std.proofs.lemmas.List.Elements.{All-from_recursion}
 use Rattle.rn_pattern.specs.Tree.{Text}
-use Rattle.rn_pattern.proofs.Ascending.{each_behind}
-use Rattle.rn_pattern.proofs.InOrder.{contained_each}
+use Rattle.rn_pattern.proofs.Ordered.Ascending.{each_behind}
+use Rattle.rn_pattern.proofs.Ordered.InOrder.{contained_each}
 use Rattle.rn_syntax.specs.Tree.{Declaration}
 use Rattle.rn_assemble.specs.declared.bindings.Scope.{Scope}
 use Rattle.rn_assemble.specs.declared.contents.Component as code

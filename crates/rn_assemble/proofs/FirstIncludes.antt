@@ -9,8 +9,8 @@ use Rattle.rn_pattern.specs.Tree.{Text}
 use Rattle.rn_pattern.specs.Order.{text_cmp}
 use Rattle.rn_pattern.specs.Graph.{AllBelow, row, rows_of}
 use Rattle.rn_pattern.specs.Ranks.{HasNoLoop, IsFirstLoop}
-use Rattle.rn_pattern.proofs.InOrder.{text_no_less}
-use Rattle.rn_pattern.proofs.Rows.{AreRows, is_graph, no_rows, row_before, row_behind, rows_pushed}
+use Rattle.rn_pattern.proofs.Ordered.InOrder.{text_no_less}
+use Rattle.rn_pattern.proofs.Graphs.Rows.{AreRows, is_graph, no_rows, row_before, row_behind, rows_pushed}
 use Rattle.rn_syntax.specs.View.{module_view}
 use Rattle.rn_assemble.specs.declared.modules.Source as code
 use Rattle.rn_assemble.specs.Components.{Includes, Source, includes, instance_limit, instances_within, roots}

@@ -10,10 +10,10 @@ use Rattle.rn_pattern.specs.Graph.{row, rows_of}
 use Rattle.rn_pattern.specs.Opened.{one_or_node}
 use Rattle.rn_pattern.specs.Order.{text_cmp, tree_cmp}
 use Rattle.rn_pattern.specs.Tree.{Text, Tree, interleave, choice, trees_of}
-use Rattle.rn_pattern.proofs.InOrder.{contained_each}
-use Rattle.rn_pattern.proofs.Keeps.{list_of-trees_of}
-use Rattle.rn_pattern.proofs.Orders.{tree_same}
-use Rattle.rn_pattern.proofs.TotalOrder.{tree_cmp_total}
+use Rattle.rn_pattern.proofs.Ordered.InOrder.{contained_each}
+use Rattle.rn_pattern.proofs.Matches.Keeps.{list_of-trees_of}
+use Rattle.rn_pattern.proofs.Ordered.Orders.{tree_same}
+use Rattle.rn_pattern.proofs.Ordered.TotalOrder.{tree_cmp_total}
 use Rattle.rn_assemble.specs.declared.components.Body.{Body}
 use Rattle.rn_assemble.specs.Combine.{bodies, combined, is_interleave, joined, of_key, uses}
 use Rattle.rn_assemble.specs.Components.{Component}

@@ -12,7 +12,7 @@ use Rattle.rn_pattern.specs.Tree.{Text, Tree, Trees}
 use Rattle.rn_pattern.specs.Order.{text_cmp}
 use Rattle.rn_pattern.specs.Matching.{definition_of}
 use Rattle.rn_pattern.specs.Graph.{row}
-use Rattle.rn_pattern.proofs.InOrder.{contains_behind, contains_front, contains_cases}
+use Rattle.rn_pattern.proofs.Ordered.InOrder.{contains_behind, contains_front, contains_cases}
 use Rattle.rn_syntax.specs.Tree.{Declaration, Pattern}
 use Rattle.rn_syntax.specs.View.{pattern_view}
 use Rattle.rn_assemble.specs.Resolve.{resolved}

@@ -3,11 +3,11 @@ use Rattle.std.proofs.Common.{◌≡◌, ℕ, ◌+◌, ◌<◌, List, ◌∷◌,
 use Rattle.std.specs.List.{AllByRecursion, AllZip}
 use Rattle.std.specs.Prelude.{flat_map}
 use Rattle.std.proofs.lemmas.List.Elements.{Contains-append_left, Contains-append_right}
-use Rattle.rn_pattern.proofs.InOrder.{contains_cases, each_contained}
+use Rattle.rn_pattern.proofs.Ordered.InOrder.{contains_cases, each_contained}
 use Rattle.rn_assemble.specs.declared.modules.Source as source
 use Rattle.std.proofs.lemmas.List.{length-map, get_or-map, take_more}
 use Rattle.rn_pattern.specs.Tree.{Text}
-use Rattle.rn_pattern.proofs.Ascending.{each_front, each_behind}
+use Rattle.rn_pattern.proofs.Ordered.Ascending.{each_front, each_behind}
 use Rattle.rn_syntax.specs.declared.tree.Item.{Item}
 use Rattle.rn_syntax.specs.Tree as t
 use Rattle.rn_syntax.specs.View.{item_view, items_view}

@@ -14,8 +14,8 @@ use Rattle.rn_pattern.specs.Matching.{Grammar, definition_of}
 use Rattle.rn_pattern.specs.Reached.{RefersTo}
 use Rattle.rn_pattern.specs.References.{RefersOutside, IsUndefined}
 use Rattle.rn_pattern.specs.Graph.{row, rows_of}
-use Rattle.rn_pattern.proofs.FirstLoop.{source_within}
-use Rattle.rn_pattern.proofs.Rows.{row_before, row_behind}
+use Rattle.rn_pattern.proofs.Graphs.FirstLoop.{source_within}
+use Rattle.rn_pattern.proofs.Graphs.Rows.{row_before, row_behind}
 use Rattle.rn_assemble.specs.Components.{name_key, Component}
 use Rattle.rn_assemble.specs.Combine.{bodies, joined, joined_grammar, defined_names}
 use Rattle.rn_assemble.specs.Keyed.{IsNumber, key_at}

@@ -4,8 +4,8 @@ use Rattle.std.specs.Prelude.{⊤, bytes_eq}
 use Rattle.std.specs.List.{AllByRecursion, AllZip}
 use Rattle.std.specs.Str.{chars}
 use Rattle.rn_pattern.specs.Tree.{Text}
-use Rattle.rn_pattern.proofs.Ascending.{each_join, each_flat}
-use Rattle.rn_pattern.proofs.InOrder.{contains_front, contains_behind}
+use Rattle.rn_pattern.proofs.Ordered.Ascending.{each_join, each_flat}
+use Rattle.rn_pattern.proofs.Ordered.InOrder.{contains_front, contains_behind}
 use Rattle.rn_modset.specs.Contributions.{Member}
 use Rattle.rn_modset.specs.Modules as effective
 use Rattle.rn_syntax.specs.Tree as t

@@ -9,7 +9,7 @@ use Rattle.std.proofs.lemmas.List.Elements.{All-contains, filter_passes}
 use Rattle.std.proofs.lemmas.List.Folds.{Any-from_list_any, list_any-append, list_any-from_Any}
 use Rattle.std.proofs.lemmas.Slice.Eq.{bytes_eq-Decides}
 use Rattle.rn_pattern.specs.Tree.{Text}
-use Rattle.rn_pattern.proofs.InOrder.{contained_each, contains_cases, contains_front}
+use Rattle.rn_pattern.proofs.Ordered.InOrder.{contained_each, contains_cases, contains_front}
 use Rattle.rn_syntax.specs.Tree as t
 use Rattle.rn_syntax.specs.Tree.{Declaration, Item, Items}
 use Rattle.rn_assemble.specs.declared.contents.Component as code

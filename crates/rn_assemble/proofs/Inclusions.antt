@@ -15,8 +15,8 @@ use Rattle.rn_pattern.specs.Order.{text_cmp}
 use Rattle.rn_pattern.specs.References.{Reaches, by_one, by_more}
 use Rattle.rn_pattern.specs.Graph.{AllBelow, row}
 use Rattle.rn_pattern.specs.Ranks.{HasNoLoop, IsFirstLoop, Leads, by_edge, and_edge}
-use Rattle.rn_pattern.proofs.InOrder.{contains_behind, contains_front, text_no_less}
-use Rattle.rn_pattern.proofs.FirstLoop.{source_within}
+use Rattle.rn_pattern.proofs.Ordered.InOrder.{contains_behind, contains_front, text_no_less}
+use Rattle.rn_pattern.proofs.Graphs.FirstLoop.{source_within}
 use Rattle.rn_assemble.specs.Components.{Includes, Source, includes, instances_within, modules_named, roots}
 use Rattle.rn_assemble.specs.Contained.{place_in}
 use Rattle.rn_assemble.specs.Expanded.{name_at}

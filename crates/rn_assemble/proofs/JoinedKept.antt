@@ -5,7 +5,7 @@ use Rattle.std.specs.List.{AllByRecursion}
 use Rattle.rn_pattern.specs.Tree.{Text, Tree, Trees, interleave, choice, trees_of}
 use Rattle.rn_pattern.specs.Matching.{definition_of}
 use Rattle.rn_pattern.specs.Excepts.{HasExcepts, HaveExcepts}
-use Rattle.rn_pattern.proofs.InOrder.{contained_each}
+use Rattle.rn_pattern.proofs.Ordered.InOrder.{contained_each}
 use Rattle.rn_assemble.specs.Components.{Key, start_key, name_key, Component, same_key}
 use Rattle.rn_assemble.specs.Combine.{of_key, bodies, combined, join, joined, first_of, defined_names, joined_grammar}
 use Rattle.rn_assemble.specs.Texts.{IsName, IsWritable, AreWritable}

@@ -6,7 +6,7 @@ use Rattle.rn_pattern.specs.Tree.{Text, Tree, Trees, interleave, choice, no_tree
 use Rattle.rn_pattern.specs.Matching.{definition_of}
 use Rattle.rn_pattern.specs.Reached.{RefersTo, SomeRefersTo}
 use Rattle.rn_pattern.specs.References.{RefersOutside, SomeRefersOutside}
-use Rattle.rn_pattern.proofs.InOrder.{contains_behind, contains_front, contains_cases}
+use Rattle.rn_pattern.proofs.Ordered.InOrder.{contains_behind, contains_front, contains_cases}
 use Rattle.rn_assemble.specs.Components.{Key, name_key, Component}
 use Rattle.rn_assemble.specs.Combine.{bodies, combined, uses, is_interleave, join, joined, joined_grammar}
 use Rattle.rn_assemble.proofs.Combinations.{some_joined, joined_definition}

@@ -14,7 +14,7 @@ use Rattle.rn_pattern.specs.Order.{text_cmp}
 use Rattle.rn_pattern.specs.Tree.{Text, Tree, Trees, no_trees, interleave, choice, trees_of}
 use Rattle.rn_pattern.specs.View.{shared_view}
 use Rattle.rn_pattern.specs.declared.tree.Pattern.{Pattern}
-use Rattle.rn_pattern.proofs.Ascending.{each_join}
+use Rattle.rn_pattern.proofs.Ordered.Ascending.{each_join}
 use Rattle.rn_assemble.specs.declared.components.Body.{Body}
 use Rattle.rn_assemble.specs.declared.refusal.Key as code
 use Rattle.rn_assemble.specs.declared.refusal.Refusal.{Refusal}

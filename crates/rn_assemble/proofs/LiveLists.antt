@@ -9,7 +9,7 @@ use Rattle.std.proofs.lemmas.Bool.{cases_lt, cases_eq}
 use Rattle.std.proofs.lemmas.Bool.Decides.{eqb_tells}
 use Rattle.rn_pattern.specs.Tree.{Text}
 use Rattle.rn_pattern.specs.Graph.{row, rows_of}
-use Rattle.rn_pattern.proofs.Ascending.{each_join, each_front, each_behind}
+use Rattle.rn_pattern.proofs.Ordered.Ascending.{each_join, each_front, each_behind}
 use Rattle.rn_assemble.specs.declared.components.Body.{Body}
 use Rattle.rn_assemble.specs.Components.{Component}
 use Rattle.rn_assemble.specs.Listed.{IsBody, IsLive, Live, ListsBy, Rises, places_of}

@@ -8,9 +8,9 @@ use Rattle.std.proofs.lemmas.Cmp.{nat_list_cmp_total}
 use Rattle.rn_pattern.specs.Tree.{Text}
 use Rattle.rn_pattern.specs.Order.{text_cmp}
 use Rattle.rn_pattern.specs.Canonical.{sorted_once}
-use Rattle.rn_pattern.proofs.Ascending.{each_unsorted_once, climbs_sorted_once}
-use Rattle.rn_pattern.proofs.InOrder.{contains_cases, each_contained, contained_each}
-use Rattle.rn_pattern.proofs.Orders.{text_same}
+use Rattle.rn_pattern.proofs.Ordered.Ascending.{each_unsorted_once, climbs_sorted_once}
+use Rattle.rn_pattern.proofs.Ordered.InOrder.{contains_cases, each_contained, contained_each}
+use Rattle.rn_pattern.proofs.Ordered.Orders.{text_same}
 use Rattle.rn_assemble.specs.Components.{Key, start_key, name_key}
 use Rattle.rn_assemble.specs.Least.{IsLeast, key_cmp}
 use Rattle.rn_assemble.proofs.OneRefusal.{key_back, key_same}

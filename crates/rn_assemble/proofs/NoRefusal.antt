@@ -11,8 +11,8 @@ use Rattle.rn_pattern.specs.Matching.{Grammar, definition_of}
 use Rattle.rn_pattern.specs.Reached.{RefersTo, SomeRefersTo}
 use Rattle.rn_pattern.specs.References.{RefersOutside, LeadsTo, by_one, by_more, IsUndefined, IsRecursive}
 use Rattle.rn_pattern.specs.NameRules.{HasNoAny, HaveNoAny, HasNamesAlone, HaveNamesAlone, HasNameExcepts, HaveNameExcepts, HasNoDeclaration, HaveNoDeclaration, KeepsNameRules, KeepNameRules}
-use Rattle.rn_pattern.proofs.Ascending.{each_front, each_behind}
-use Rattle.rn_pattern.proofs.InOrder.{each_contained, contained_each}
+use Rattle.rn_pattern.proofs.Ordered.Ascending.{each_front, each_behind}
+use Rattle.rn_pattern.proofs.Ordered.InOrder.{each_contained, contained_each}
 use Rattle.rn_modset.specs.Contributions.{Member}
 use Rattle.rn_syntax.specs.Places.{except_places}
 use Rattle.rn_assemble.specs.Components.{Key, start_key, name_key, same_key, Component, Source, has_key, set_components}

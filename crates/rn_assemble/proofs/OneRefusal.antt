@@ -5,7 +5,7 @@ use Rattle.std.specs.Ordering.{ordering_reverse}
 use Rattle.std.proofs.lemmas.Cmp.{nat_list_cmp_total}
 use Rattle.rn_pattern.specs.Tree.{Text}
 use Rattle.rn_pattern.specs.Order.{text_cmp}
-use Rattle.rn_pattern.proofs.Orders.{text_same}
+use Rattle.rn_pattern.proofs.Ordered.Orders.{text_same}
 use Rattle.rn_assemble.specs.Components.{Key, start_key, name_key, Source}
 use Rattle.rn_assemble.specs.Least.{IsLeast, key_cmp}
 use Rattle.rn_assemble.specs.Refusal.{Refusal, conflict, faulty, missing, cycle, too_many_instances, override, plain_twice, mixed_methods, no_start, undefined, recursive, name_class, rank, Wants, Lacks, StandsFor, IsFirstFor}

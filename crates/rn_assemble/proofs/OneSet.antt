@@ -9,9 +9,9 @@ use Rattle.rn_text.proofs.Unique.{one_token_list}
 use Rattle.rn_pattern.specs.Tree.{Text}
 use Rattle.rn_pattern.specs.Order.{text_cmp}
 use Rattle.rn_pattern.specs.Matching.{Grammar}
-use Rattle.rn_pattern.proofs.Ascending.{AllAbove}
-use Rattle.rn_pattern.proofs.InOrder.{by_name, one_by_name, text_no_less, contained_each, contains_cases}
-use Rattle.rn_pattern.proofs.Orders.{text_same}
+use Rattle.rn_pattern.proofs.Ordered.Ascending.{AllAbove}
+use Rattle.rn_pattern.proofs.Ordered.InOrder.{by_name, one_by_name, text_no_less, contained_each, contains_cases}
+use Rattle.rn_pattern.proofs.Ordered.Orders.{text_same}
 use Rattle.rn_modset.specs.Contributions.{Member}
 use Rattle.rn_modset.specs.Modules.{Module, IsHighest, IsFirstConflict, AreEffective}
 use Rattle.rn_syntax.specs.Grammar.{Tokens}

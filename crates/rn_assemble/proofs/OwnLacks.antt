@@ -10,8 +10,8 @@ use Rattle.std.proofs.lemmas.List.Folds.{Any-from_list_any}
 use Rattle.rn_pattern.specs.Tree.{Text}
 use Rattle.rn_pattern.specs.Order.{text_cmp}
 use Rattle.rn_pattern.specs.Graph.{row}
-use Rattle.rn_pattern.proofs.Ascending.{each_behind}
-use Rattle.rn_pattern.proofs.InOrder.{contained_each}
+use Rattle.rn_pattern.proofs.Ordered.Ascending.{each_behind}
+use Rattle.rn_pattern.proofs.Ordered.InOrder.{contained_each}
 use Rattle.rn_syntax.specs.Tree.{Declaration}
 use Rattle.rn_assemble.specs.declared.components.Body.{Body}
 use Rattle.rn_assemble.specs.declared.components.Lack.{Lack}

@@ -5,7 +5,7 @@ use Rattle.std.specs.List.Sorted.{IsStrictlySortedBy}
 use Rattle.std.proofs.lemmas.List.{get_or-map, length-map, take-map}
 use Rattle.rn_pattern.specs.Tree.{Text}
 use Rattle.rn_pattern.specs.Order.{text_cmp}
-use Rattle.rn_pattern.proofs.InOrder.{contains_cases, contained_each, text_no_less}
+use Rattle.rn_pattern.proofs.Ordered.InOrder.{contains_cases, contained_each, text_no_less}
 use Rattle.rn_modset.specs.Contributions.{Member}
 use Rattle.rn_modset.specs.Modules.{Module, AreEffective, NamesRise, module_cmp, module_of, modules_of}
 use Rattle.rn_assemble.specs.declared.modules.Source as code_source

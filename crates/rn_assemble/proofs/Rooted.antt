@@ -9,7 +9,7 @@ use Rattle.std.proofs.lemmas.Map.Views.{Contains-from_any, list_any-from_Contain
 use Rattle.std.proofs.lemmas.Slice.Eq.{bytes_eq-Decides}
 use Rattle.rn_pattern.specs.Tree.{Text}
 use Rattle.rn_pattern.specs.References.{Reaches, by_one, by_more}
-use Rattle.rn_pattern.proofs.InOrder.{contains_behind, contains_cases, contains_front}
+use Rattle.rn_pattern.proofs.Ordered.InOrder.{contains_behind, contains_cases, contains_front}
 use Rattle.rn_assemble.specs.Components.{Source, Includes, includes, modules_named, roots}
 use Rattle.rn_assemble.proofs.Depth.{wanted}
 use Rattle.rn_assemble.proofs.FoundReferences.{flat_contains, flat_contained, map_contains}

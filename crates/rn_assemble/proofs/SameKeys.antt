@@ -5,8 +5,8 @@ use Rattle.std.specs.List.{AllByRecursion}
 use Rattle.std.proofs.Math.Bool.{and-false}
 use Rattle.std.proofs.lemmas.List.Folds.{list_any-append}
 use Rattle.rn_pattern.specs.Tree.{Text}
-use Rattle.rn_pattern.proofs.Ascending.{each_front, each_behind}
-use Rattle.rn_pattern.proofs.InOrder.{each_contained}
+use Rattle.rn_pattern.proofs.Ordered.Ascending.{each_front, each_behind}
+use Rattle.rn_pattern.proofs.Ordered.InOrder.{each_contained}
 use Rattle.rn_syntax.specs.Tree as t
 use Rattle.rn_syntax.specs.Tree.{Declaration, Item, Items}
 use Rattle.rn_assemble.specs.Components.{Key, Component, Source, same_key, has_key, overridden, handed_on, item_components, all_components, module_components, item_includes, includes, modules_named, components_within, instances_within}

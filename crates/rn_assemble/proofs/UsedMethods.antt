@@ -9,7 +9,7 @@ use Rattle.std.proofs.lemmas.List.{length-map, get_or-map, take_more, take-appen
 use Rattle.rn_pattern.specs.Tree.{Text}
 use Rattle.rn_pattern.specs.Order.{text_cmp}
 use Rattle.rn_pattern.specs.Graph.{row}
-use Rattle.rn_pattern.proofs.InOrder.{contained_each, contains_cases, contains_front, contains_behind}
+use Rattle.rn_pattern.proofs.Ordered.InOrder.{contained_each, contains_cases, contains_front, contains_behind}
 use Rattle.rn_syntax.specs.contracts.token.Method.{the_type}
 use Rattle.rn_syntax.specs.declared.token.Method.{Method}
 use Rattle.rn_syntax.specs.declared.token.Method.TheVariants as m

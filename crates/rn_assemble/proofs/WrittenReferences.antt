@@ -5,7 +5,7 @@ use Rattle.std.proofs.lemmas.List.Elements.{Contains-append_left, Contains-appen
 use Rattle.rn_pattern.specs.Tree.{Text}
 use Rattle.rn_pattern.specs.Reached.{RefersTo, SomeRefersTo}
 use Rattle.rn_pattern.specs.References.{RefersOutside, SomeRefersOutside}
-use Rattle.rn_pattern.proofs.InOrder.{contains_front}
+use Rattle.rn_pattern.proofs.Ordered.InOrder.{contains_front}
 use Rattle.rn_syntax.specs.declared.token.Operator.TheVariants as o
 use Rattle.rn_syntax.specs.declared.token.Postfix.TheVariants as r
 use Rattle.rn_syntax.specs.Tree as t

@@ -193,7 +193,7 @@ fn least_undefined<'s>(
 }
 
 /// The numbers of the names.
-#[tactic(auto, using(rn_pattern::proofs::Rows::none_below, rn_pattern::proofs::Rows::below_push))]
+#[tactic(auto, using(rn_pattern::proofs::Graphs::Rows::none_below, rn_pattern::proofs::Graphs::Rows::below_push))]
 fn numbers<'s>(alloc: Global, keys: &Keys<'s>, names: &[&'s str]) -> Result<Vec<usize>, AllocError>
     ensures within { IfOk result (λ numbers. AllBelow (vec_len keys.now.names + 1) numbers.items) }
     ensures are { IsStrictlySortedBy text_cmp (names_of keys.now) → IfOk result (λ numbers. AreNumbers (names_of keys.now) (texts_of names.now) numbers.items) }

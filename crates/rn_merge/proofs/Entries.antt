@@ -6,9 +6,9 @@ use Rattle.std.proofs.lemmas.Cmp.{nat_list_cmp_total}
 use Rattle.rn_pattern.specs.Tree.{Text}
 use Rattle.rn_pattern.specs.Order.{text_cmp}
 use Rattle.rn_pattern.specs.Canonical.{sorted_once}
-use Rattle.rn_pattern.proofs.Ascending.{AllAbove, each_unsorted_once, climbs_sorted_once}
-use Rattle.rn_pattern.proofs.InOrder.{by_name}
-use Rattle.rn_pattern.proofs.Orders.{text_same}
+use Rattle.rn_pattern.proofs.Ordered.Ascending.{AllAbove, each_unsorted_once, climbs_sorted_once}
+use Rattle.rn_pattern.proofs.Ordered.InOrder.{by_name}
+use Rattle.rn_pattern.proofs.Ordered.Orders.{text_same}
 use Rattle.rn_modset.proofs.Membership.{In, all_in, all_by_in, in_from_contains, contains_from_in}
 
 -- what has no first value has none

@@ -9,7 +9,7 @@ use Rattle.rn_pattern.specs.declared.tree.NameClass.{NameClass}
 use Rattle.rn_pattern.specs.declared.tree.Pattern.{Pattern, fold-roll-Pattern}
 use Rattle.rn_pattern.specs.declared.tree.Pattern.TheOpen.{Pattern-F}
 use Rattle.rn_pattern.specs.declared.tree.Pattern.TheVariants as variant
-use Rattle.rn_pattern.proofs.PatternKinds.{group_seen, interleave_seen, choice_seen}
+use Rattle.rn_pattern.proofs.Ordered.PatternKinds.{group_seen, interleave_seen, choice_seen}
 use Rattle.rn_simplify.specs.Contents.{content_of, members_of}
 
 pub members_seen : (p : Pattern) (v : Vec (Rc Pattern Global) Global) → (p ≡ variant.Group v) ⊎ ((p ≡ variant.Interleave v) ⊎ (p ≡ variant.Choice v)) → members_of (pattern_view p) ≡ Some (trees_of (map shared_view v.items))

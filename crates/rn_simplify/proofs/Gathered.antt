@@ -21,10 +21,10 @@ use Rattle.rn_pattern.specs.declared.tree.Pattern.{Pattern}
 use Rattle.rn_pattern.specs.declared.tree.Pattern.TheOpen.{Pattern-F}
 use Rattle.rn_pattern.specs.declared.tree.Pattern.TheFolds.{fold-roll-Pattern}
 use Rattle.rn_pattern.specs.declared.tree.Pattern.TheVariants as variant
-use Rattle.rn_pattern.proofs.PatternKinds.{group_seen, interleave_seen, choice_seen}
-use Rattle.rn_pattern.proofs.Orders.{text_same}
-use Rattle.rn_pattern.proofs.Ascending.{climbs_sorted_once}
-use Rattle.rn_pattern.proofs.Sorting.{sorted_once_permutation}
+use Rattle.rn_pattern.proofs.Ordered.PatternKinds.{group_seen, interleave_seen, choice_seen}
+use Rattle.rn_pattern.proofs.Ordered.Orders.{text_same}
+use Rattle.rn_pattern.proofs.Ordered.Ascending.{climbs_sorted_once}
+use Rattle.rn_pattern.proofs.Ordered.Sorting.{sorted_once_permutation}
 use Rattle.rn_simplify.specs.declared.mentions.Mentions.{Mentions}
 use Rattle.rn_simplify.proofs.Ordered.{any_mapped}
 use Rattle.rn_simplify.specs.Spelling.{name_uris, names_uris, mentions, mentions_all}

@@ -7,7 +7,7 @@ use Rattle.rn_text.proofs.Unique.{one_token_list}
 use Rattle.rn_pattern.specs.Tree.{Text}
 use Rattle.rn_pattern.specs.Matching.{Grammar}
 use Rattle.rn_pattern.specs.Reached.{IsCanonicalOf}
-use Rattle.rn_pattern.proofs.InOrder.{contains_cases}
+use Rattle.rn_pattern.proofs.Ordered.InOrder.{contains_cases}
 use Rattle.rn_modset.specs.Contributions.{Member}
 use Rattle.rn_modset.specs.Modules.{AreEffective}
 use Rattle.rn_modset.specs.Modules as effective

@@ -8,12 +8,12 @@ use Rattle.rn_pattern.specs.Excepts.{HasExcepts}
 use Rattle.rn_pattern.specs.Reached.{RefersTo, IsReached, by_start, by_definition, all_canonical, IsCanonicalOf}
 use Rattle.rn_pattern.specs.References.{RefersOutside, IsUndefined, LeadsTo, by_one, by_more, IsRecursive}
 use Rattle.rn_pattern.specs.NameRules.{KeepsNameRules}
-use Rattle.rn_pattern.proofs.Validity.{lookup-map}
-use Rattle.rn_pattern.proofs.Pruned.{reached_definition}
+use Rattle.rn_pattern.proofs.Matches.Validity.{lookup-map}
+use Rattle.rn_pattern.proofs.Matches.Pruned.{reached_definition}
 use Rattle.rn_simplify.proofs.Forms.{found_in, none_before, some_before, form_source, form_kept, refers_back, outside_back, reached_source}
-use Rattle.rn_pattern.proofs.InOrder.{contains_front, contains_behind, contains_cases}
-use Rattle.rn_pattern.proofs.Kept.{IsKept, opened_kept}
-use Rattle.rn_pattern.proofs.KeptRules.{RefersIn, RefersOutsideIn, refers_kept, outside_kept, excepts_kept, canonical_except, opened_except, name_rules_kept}
+use Rattle.rn_pattern.proofs.Ordered.InOrder.{contains_front, contains_behind, contains_cases}
+use Rattle.rn_pattern.proofs.Forms.Kept.{IsKept, opened_kept}
+use Rattle.rn_pattern.proofs.Forms.KeptRules.{RefersIn, RefersOutsideIn, refers_kept, outside_kept, excepts_kept, canonical_except, opened_except, name_rules_kept}
 
 pub opened_entry : (ds : List (Text × Tree)) (x : Text) (o : Tree) → Contains {X = Text × Tree} (map (λ (d : Text × Tree). (d.0, opened d.1)) ds) (x, o) → (p : Tree) × Contains {X = Text × Tree} ds (x, p) × (opened p ≡ o)
 opened_entry [] x o (i, l, is) = absurd (omega (arith, l))

@@ -21,7 +21,7 @@ use Rattle.rn_pattern.specs.Matching.{Grammar, definition_of}
 use Rattle.rn_pattern.specs.Reached.{IsReached, IsPruned}
 use Rattle.rn_pattern.specs.View.{pattern_view}
 use Rattle.rn_pattern.specs.declared.tree.Pattern.{Pattern}
-use Rattle.rn_pattern.proofs.InOrder.{contains_front, contains_behind, contains_cases}
+use Rattle.rn_pattern.proofs.Ordered.InOrder.{contains_front, contains_behind, contains_cases}
 use Rattle.rn_pattern.specs.Graph.{is_marked}
 use Rattle.rn_assemble.specs.GrammarView.{definitions_view}
 use Rattle.rn_simplify.specs.Marked.{marked}

@@ -5,8 +5,8 @@ use Rattle.rn_pattern.specs.Matching.{Grammar, definition_of}
 use Rattle.rn_pattern.specs.Canonical.{canonical, settled_within}
 use Rattle.rn_pattern.specs.Reached.{RefersTo, SomeRefersTo, IsReached, by_start, by_definition, formed, all_canonical, IsPruned, IsCanonicalOf}
 use Rattle.rn_pattern.specs.References.{RefersOutside, SomeRefersOutside}
-use Rattle.rn_pattern.proofs.Ranked.{canonical_same, settled_is}
-use Rattle.rn_pattern.proofs.Validity.{lookup-map}
+use Rattle.rn_pattern.proofs.Matches.Ranked.{canonical_same, settled_is}
+use Rattle.rn_pattern.proofs.Matches.Validity.{lookup-map}
 use Rattle.rn_simplify.specs.Settling.{IsSettling}
 use Rattle.rn_simplify.proofs.Forms.{form_source, to_form, reached_source}
 

@@ -13,8 +13,8 @@ use Rattle.rn_pattern.specs.Excepts.{HasExcepts}
 use Rattle.rn_pattern.specs.References.{Reaches, by_one, by_more}
 use Rattle.rn_pattern.specs.Opened.{opened, opened_grammar}
 use Rattle.rn_pattern.specs.Reached.{IsCanonicalOf}
-use Rattle.rn_pattern.proofs.InOrder.{contains_cases}
-use Rattle.rn_pattern.proofs.OpenedKeeps.{opened_valid}
+use Rattle.rn_pattern.proofs.Ordered.InOrder.{contains_cases}
+use Rattle.rn_pattern.proofs.Matches.OpenedKeeps.{opened_valid}
 use Rattle.rn_syntax.specs.Tree as t
 use Rattle.rn_syntax.specs.Tree.{Declaration, Module}
 use Rattle.rn_syntax.proofs.EmptyLists.{nil_parts}
@@ -27,7 +27,7 @@ use Rattle.rn_assemble.proofs.Joined.{plain_once, not_mixed, sorted_distinct, ma
 use Rattle.rn_assemble.proofs.JoinedKept.{joined_excepts, joined_definition_excepts}
 use Rattle.rn_assemble.proofs.OneModule.{one_module}
 use Rattle.rn_simplify.specs.ReadBack.{IsReadBack}
-use Rattle.rn_pattern.proofs.Pruned.{canonical_grammar_valid}
+use Rattle.rn_pattern.proofs.Matches.Pruned.{canonical_grammar_valid}
 use Rattle.rn_simplify.proofs.FixedPoint.{fixed_point, one_canonical}
 use Rattle.rn_simplify.proofs.WellFormed.{normal_well_formed, opened_well_formed}
 

@@ -6,7 +6,7 @@ use Rattle.std.proofs.lemmas.List.Elements.{Contains-append_left, Contains-appen
 use Rattle.rn_pattern.specs.Tree.{Text, Tree, Trees, ref, datum_but, list, attribute, element, one_or_more, group, interleave, choice, no_trees, more_trees}
 use Rattle.rn_pattern.specs.Reached.{RefersTo, SomeRefersTo}
 use Rattle.rn_pattern.specs.References.{RefersOutside, SomeRefersOutside}
-use Rattle.rn_pattern.proofs.InOrder.{contains_behind, contains_front, contains_cases}
+use Rattle.rn_pattern.proofs.Ordered.InOrder.{contains_behind, contains_front, contains_cases}
 use Rattle.rn_simplify.specs.Referred.{references, all_references}
 use Rattle.rn_simplify.specs.declared.references.Scope.TheVariants.{Everywhere, OutsideElements}
 

@@ -10,8 +10,8 @@ use Rattle.rn_pattern.specs.Store.{KeepsTrees}
 use Rattle.rn_pattern.specs.Canonical.{canonical, ref_unless_settled}
 use Rattle.rn_pattern.specs.CanonicalShape.{IsCanonicalPattern}
 use Rattle.rn_pattern.specs.References.{RefersOutside}
-use Rattle.rn_pattern.proofs.Ranked.{stand_in_same}
-use Rattle.rn_pattern.proofs.Settled.{canonical_firm}
+use Rattle.rn_pattern.proofs.Matches.Ranked.{stand_in_same}
+use Rattle.rn_pattern.proofs.Forms.Settled.{canonical_firm}
 use Rattle.rn_simplify.specs.Numbered.{AreKnown, AreSettled, Settles, number_of, settled_by}
 use Rattle.rn_simplify.specs.Settling.{IsInOrder}
 use Rattle.rn_simplify.proofs.Known.{find_each, option_still}

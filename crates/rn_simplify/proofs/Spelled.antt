@@ -8,20 +8,20 @@ use Rattle.rn_pattern.specs.Tree.{Text, NameTree, NameTrees, any_name, any_name_
 use Rattle.rn_pattern.specs.Matching.{Grammar, definition_of}
 use Rattle.rn_pattern.specs.CanonicalShape.{IsCanonicalName, AreCanonicalNames, is_single, IsCanonical, AreCanonical, IsCanonicalPattern, AnyName, is_several, may_group, may_interleave, may_choose}
 use Rattle.rn_pattern.specs.Canonical.{canonical_within, settled_within}
-use Rattle.rn_pattern.proofs.Ascending.{each_join}
-use Rattle.rn_pattern.proofs.CanonicalForm.{canonical_is}
-use Rattle.rn_pattern.proofs.Settled.{settled_canonical}
+use Rattle.rn_pattern.proofs.Ordered.Ascending.{each_join}
+use Rattle.rn_pattern.proofs.Forms.CanonicalForm.{canonical_is}
+use Rattle.rn_pattern.proofs.Forms.Settled.{settled_canonical}
 use Rattle.rn_assemble.specs.WellFormed.{HasWritableTexts}
 use Rattle.rn_assemble.proofs.Joined.{sorted_distinct}
 use Rattle.rn_simplify.specs.Spelling.{name_uris, names_uris, mentions, mentions_all, grammar_mentions, spelling}
 use Rattle.rn_simplify.proofs.Few.{few_namespaces, few_libraries}
 use Rattle.rn_simplify.specs.Spellable.{IsDefinition, IsSpellable}
 use Rattle.rn_simplify.proofs.Forms.{form_source}
-use Rattle.rn_pattern.proofs.Pruned.{reached_definition}
+use Rattle.rn_pattern.proofs.Matches.Pruned.{reached_definition}
 use Rattle.rn_simplify.proofs.WellFormed.{of_some}
 use Rattle.rn_simplify.proofs.Writable.{normal_writable}
 use Rattle.rn_pattern.specs.Reached.{IsCanonicalOf}
-use Rattle.rn_pattern.proofs.InOrder.{each_contained}
+use Rattle.rn_pattern.proofs.Ordered.InOrder.{each_contained}
 use Rattle.rn_assemble.specs.Texts.{IsName, IsXml, Free, IsWritableName, AreWritableNames, IsWritable, AreWritable}
 use Rattle.rn_simplify.specs.Printable.{IsClass, AreClasses, every, every_but, all_of, all_of_but, local, full, either, IsPrintable, ArePrintable, is_empty, is_text, is_repetition}
 use Rattle.rn_simplify.specs.Printable as w

@@ -2,7 +2,7 @@
 use Rattle.std.proofs.Common.{◌+◌, ◌≤◌, ◌<◌, length, map, sym, ◌∙◌, arith}
 use Rattle.rn_pattern.specs.Order.{name_cmp}
 use Rattle.rn_pattern.specs.View.{name_class_view}
-use Rattle.rn_pattern.proofs.Stepwise.{names_cmp-name_trees_of, rest_longer, rest_shorter, rest_level, rest_settled, rest_tied}
+use Rattle.rn_pattern.proofs.Ordered.Stepwise.{names_cmp-name_trees_of, rest_longer, rest_shorter, rest_level, rest_settled, rest_tied}
 use Rattle.rn_pattern.proofs.+compare_names.Goals as goal
 
 pub order::compare_name_classes-returns-then-k-ds : goal.order::compare_name_classes-returns-then-k-ds

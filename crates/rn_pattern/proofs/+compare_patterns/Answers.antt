@@ -2,15 +2,15 @@
 use Rattle.std.proofs.Common.{◌+◌, ◌≤◌, ◌<◌, length, map, sym, ◌∙◌, arith}
 use Rattle.rn_pattern.specs.Order.{tree_cmp}
 use Rattle.rn_pattern.specs.View.{pattern_view, shared_view}
-use Rattle.rn_pattern.proofs.Stepwise.{trees_cmp-trees_of, rest_longer, rest_shorter, rest_level, rest_settled, rest_tied}
+use Rattle.rn_pattern.proofs.Ordered.Stepwise.{trees_cmp-trees_of, rest_longer, rest_shorter, rest_level, rest_settled, rest_tied}
 use Rattle.std.proofs.Common.{nat_cmp, ap}
 use Rattle.std.specs.Prelude.{string_bytes}
 use Rattle.std.specs.Ordering.{ordering_then}
 use Rattle.rn_pattern.specs.Tree.{trees_of}
 use Rattle.rn_pattern.specs.Order.{rank, text_cmp, parameters_cmp, trees_cmp}
 use Rattle.rn_pattern.specs.View.{parameters_view, excepted_view}
-use Rattle.rn_pattern.proofs.ShownTrees.{parameters_cmp-view}
-use Rattle.rn_pattern.proofs.PatternKinds.{ranks_apart, plain_order, group_seen, interleave_seen, choice_seen, datum_seen, datum_order, heads_tied, heads_settled, not_ref, rank_ref, not_value, rank_value, not_datum, rank_datum, not_list, rank_list, not_attribute, rank_attribute, not_element, rank_element, not_oneormore, rank_oneormore, not_group, rank_group, not_interleave, rank_interleave, not_choice, rank_choice}
+use Rattle.rn_pattern.proofs.Stores.ShownTrees.{parameters_cmp-view}
+use Rattle.rn_pattern.proofs.Ordered.PatternKinds.{ranks_apart, plain_order, group_seen, interleave_seen, choice_seen, datum_seen, datum_order, heads_tied, heads_settled, not_ref, rank_ref, not_value, rank_value, not_datum, rank_datum, not_list, rank_list, not_attribute, rank_attribute, not_element, rank_element, not_oneormore, rank_oneormore, not_group, rank_group, not_interleave, rank_interleave, not_choice, rank_choice}
 use Rattle.rn_pattern.proofs.+compare_patterns.Goals as goal
 use Rattle.rn_pattern.proofs.+compare_patterns.Goals.{tree::Pattern::cmp-in_default-via-in-Ref+in_default, tree::Pattern::cmp-in_default-via-in-Value+in_default, tree::Pattern::cmp-in_default-via-in-Datum+in_default, tree::Pattern::cmp-in_default-via-in-List+in_default, tree::Pattern::cmp-in_default-via-in-Attribute+in_default, tree::Pattern::cmp-in_default-via-in-Element+in_default, tree::Pattern::cmp-in_default-via-in-OneOrMore+in_default, tree::Pattern::cmp-in_default-via-in-Group+in_default, tree::Pattern::cmp-in_default-via-in-Interleave+in_default, tree::Pattern::cmp-in_default-via-in-Choice+in_default, tree::Pattern::cmp-in_default-via-in_default}
 

@@ -5,8 +5,8 @@ use Rattle.std.specs.List.{concat, list_any}
 use Rattle.std.specs.declared.alloc.Global.{Global}
 use Rattle.std.proofs.lemmas.List.{length-map, take_all}
 use Rattle.rn_pattern.specs.Graph.{is_marked, rows_of}
-use Rattle.rn_pattern.proofs.Marking.{not_marked}
-use Rattle.rn_pattern.proofs.Rows.{row_within}
+use Rattle.rn_pattern.proofs.Graphs.Marking.{not_marked}
+use Rattle.rn_pattern.proofs.Graphs.Rows.{row_within}
 use Rattle.rn_assemble.proofs.EntryMarks.{row_marked}
 use Rattle.rn_assemble.proofs.inclusion.included_marks.Goals as goal
 

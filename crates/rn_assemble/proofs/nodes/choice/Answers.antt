@@ -1,4 +1,4 @@
-use Rattle.rn_pattern.proofs.PatternKinds.{choice_seen}
+use Rattle.rn_pattern.proofs.Ordered.PatternKinds.{choice_seen}
 use Rattle.rn_assemble.proofs.nodes.choice.Goals as goal
 
 pub returns : goal.returns

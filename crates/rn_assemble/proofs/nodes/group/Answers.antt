@@ -1,4 +1,4 @@
-use Rattle.rn_pattern.proofs.PatternKinds.{group_seen}
+use Rattle.rn_pattern.proofs.Ordered.PatternKinds.{group_seen}
 use Rattle.rn_assemble.proofs.nodes.group.Goals as goal
 
 pub returns : goal.returns

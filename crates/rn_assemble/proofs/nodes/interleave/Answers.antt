@@ -1,4 +1,4 @@
-use Rattle.rn_pattern.proofs.PatternKinds.{interleave_seen}
+use Rattle.rn_pattern.proofs.Ordered.PatternKinds.{interleave_seen}
 use Rattle.rn_assemble.proofs.nodes.interleave.Goals as goal
 
 pub returns : goal.returns

@@ -4,7 +4,7 @@ use Rattle.rn_pattern.specs.Graph.{AllBelow, Reached, is_marked, row, rows_of}
 use Rattle.std.specs.Prelude.{Decides, MatchOption}
 use Rattle.std.proofs.lemmas.Result.{IfOk-weaker}
 use Rattle.rn_pattern.specs.Ranks.{HasNoLoop, IsFirstLoop}
-use Rattle.rn_pattern.proofs.Rows.{graph_still, row_within}
+use Rattle.rn_pattern.proofs.Graphs.Rows.{graph_still, row_within}
 use Rattle.rn_assemble.proofs.NumberedReferences.{least}
 use Rattle.rn_assemble.proofs.references.least_recursive.Goals as goal
 

@@ -1,7 +1,7 @@
 -- One name more.
 use Rattle.std.proofs.Common.{◌++◌, ◌∷◌, [], ap, ◌∙◌, sym, subst, take, get_or, ℕ, Vec}
 use Rattle.std.specs.declared.alloc.Global.{Global}
-use Rattle.rn_pattern.proofs.Rows.{below_still, below_pushed}
+use Rattle.rn_pattern.proofs.Graphs.Rows.{below_still, below_pushed}
 use Rattle.rn_assemble.specs.Referred.{AreNumbers}
 use Rattle.rn_assemble.specs.Views.{names_of, texts_of}
 use Rattle.rn_assemble.proofs.LeastUndefined.{number_more, number_none, texts_more, no_text}

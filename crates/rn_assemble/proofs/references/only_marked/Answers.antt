@@ -1,7 +1,7 @@
 use Rattle.std.proofs.Common.{arith, ◌∙◌, ap, sym, cond, [], length}
 use Rattle.std.proofs.lemmas.List.{length_push}
 use Rattle.rn_pattern.specs.Graph.{is_marked}
-use Rattle.rn_pattern.proofs.Rows.{rows_pushed, is_graph, read_within, keep_more, keep_within, row_read}
+use Rattle.rn_pattern.proofs.Graphs.Rows.{rows_pushed, is_graph, read_within, keep_more, keep_within, row_read}
 use Rattle.rn_assemble.proofs.references.only_marked.Goals as goal
 
 pub loop-node-preserved : goal.loop-node-preserved

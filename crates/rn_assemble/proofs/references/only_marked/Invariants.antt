@@ -1,6 +1,6 @@
 use Rattle.std.proofs.Common.{◌≡◌, length}
 use Rattle.rn_pattern.specs.Graph.{rows_of}
-use Rattle.rn_pattern.proofs.Rows.{AreRows, IsKept}
+use Rattle.rn_pattern.proofs.Graphs.Rows.{AreRows, IsKept}
 use Rattle.rn_assemble.proofs.references.only_marked.Given as goal
 
 -- the rows so far

@@ -4,7 +4,7 @@ use Rattle.std.proofs.lemmas.List.{length_push, length-map}
 use Rattle.rn_pattern.specs.Reached.{RefersTo}
 use Rattle.rn_pattern.specs.References.{RefersOutside}
 use Rattle.rn_pattern.specs.Graph.{row, rows_of}
-use Rattle.rn_pattern.proofs.Rows.{rows_pushed, is_graph, no_rows}
+use Rattle.rn_pattern.proofs.Graphs.Rows.{rows_pushed, is_graph, no_rows}
 use Rattle.rn_assemble.specs.Listed.{components_in}
 use Rattle.rn_assemble.specs.Referred.{AreBodiesAt, names_at, outer_references, references}
 use Rattle.rn_assemble.specs.Views.{names_of}

@@ -3,7 +3,7 @@ use Rattle.std.proofs.Common.{◌≡◌, ◌+◌, List, length, option_map, vec_
 use Rattle.std.specs.List.Sorted.{IsStrictlySortedBy}
 use Rattle.rn_pattern.specs.Order.{text_cmp}
 use Rattle.rn_pattern.specs.Graph.{rows_of}
-use Rattle.rn_pattern.proofs.Rows.{AreRows}
+use Rattle.rn_pattern.proofs.Graphs.Rows.{AreRows}
 use Rattle.rn_assemble.specs.Listed.{Lists, Live, components_in}
 use Rattle.rn_assemble.specs.Referred.{IsFresh}
 use Rattle.rn_assemble.specs.Views.{names_of}

@@ -9,8 +9,8 @@ use Rattle.rn_pattern.specs.Nodes.{NamesBelow, knows, tree_at, trees_of_nodes}
 use Rattle.rn_pattern.specs.Store.{datum_by}
 use Rattle.rn_pattern.specs.View.{parameters_view}
 use Rattle.std.specs.Option.{option_map}
-use Rattle.rn_pattern.proofs.Copied.{datum_seen, parameters_copied}
-use Rattle.rn_pattern.proofs.NodeTrees.{knows_place}
+use Rattle.rn_pattern.proofs.Stores.Copied.{datum_seen, parameters_copied}
+use Rattle.rn_pattern.proofs.Stores.NodeTrees.{knows_place}
 use Rattle.rn_pattern.proofs.canonical.datum.Goals as goal
 
 pub returns-clause-tree : goal.returns-clause-tree

@@ -9,10 +9,10 @@ use Rattle.rn_pattern.specs.Key.{number_decides}
 use Rattle.rn_pattern.specs.Nodes.{knows}
 use Rattle.rn_pattern.specs.Order.{tree_cmp}
 use Rattle.rn_pattern.specs.declared.node.NodeId.{NodeId}
-use Rattle.rn_pattern.proofs.Orders.{tree_same}
-use Rattle.rn_pattern.proofs.TotalOrder.{tree_cmp_total}
-use Rattle.rn_pattern.proofs.Sorting.{sorted_once_permutation}
-use Rattle.rn_pattern.proofs.SortedBy.{sorted_once-dedup}
+use Rattle.rn_pattern.proofs.Ordered.Orders.{tree_same}
+use Rattle.rn_pattern.proofs.Ordered.TotalOrder.{tree_cmp_total}
+use Rattle.rn_pattern.proofs.Ordered.Sorting.{sorted_once_permutation}
+use Rattle.rn_pattern.proofs.Ordered.SortedBy.{sorted_once-dedup}
 use Rattle.rn_pattern.proofs.canonical.distinct.Goals as goal
 
 abbrev same_id : NodeId → NodeId → Bool

@@ -1,6 +1,6 @@
 -- The ids of a list are those of its members.
 use Rattle.std.proofs.Common.{length}
-use Rattle.rn_pattern.proofs.Gathering.{known_below}
+use Rattle.rn_pattern.proofs.Stores.Gathering.{known_below}
 use Rattle.rn_pattern.proofs.canonical.listed.Goals as goal
 
 pub returns-then-is_empty-clause-stored : goal.returns-then-is_empty-clause-stored

@@ -4,9 +4,9 @@ use Rattle.std.proofs.lemmas.List.Sorted.{All-permutation}
 use Rattle.rn_pattern.specs.declared.node.NodeId.{NodeId}
 use Rattle.rn_pattern.specs.Nodes.{knows, tree_at, trees_of_nodes}
 use Rattle.rn_pattern.specs.Order.{tree_cmp}
-use Rattle.rn_pattern.proofs.Orders.{tree_same}
-use Rattle.rn_pattern.proofs.TotalOrder.{tree_cmp_total}
-use Rattle.rn_pattern.proofs.SortedBy.{ids_sorted}
+use Rattle.rn_pattern.proofs.Ordered.Orders.{tree_same}
+use Rattle.rn_pattern.proofs.Ordered.TotalOrder.{tree_cmp_total}
+use Rattle.rn_pattern.proofs.Ordered.SortedBy.{ids_sorted}
 use Rattle.rn_pattern.proofs.canonical.sorted.Goals as goal
 
 pub returns-clause-sorted : goal.returns-clause-sorted

@@ -1,7 +1,7 @@
 use Rattle.std.proofs.Common.{refl, [], ◌∷◌}
 use Rattle.std.specs.Prelude.{codes}
 use Rattle.rn_pattern.specs.Examples.{said, x_one, y_two, z_three, no_library, a_of, a_with, a_with_x_of, a_holding, x_and_y, x_beside_y, all_but_x, x_is_one}
-use Rattle.rn_pattern.proofs.Tried.{accepted, rejected}
+use Rattle.rn_pattern.proofs.Trials.Tried.{accepted, rejected}
 use Rattle.rn_pattern.proofs.examples.attributes_have_no_order.Goals as goal
 
 pub returns-clause-in_order : goal.returns-clause-in_order

@@ -2,7 +2,7 @@ use Rattle.std.proofs.Common.{refl, [], ◌∷◌}
 use Rattle.std.specs.Prelude.{codes}
 use Rattle.rn_pattern.specs.Tree.{empty}
 use Rattle.rn_pattern.specs.Examples.{string_is, token_is, any_string, leaf, said, x_one, blank, no_library, a_of, a_with, a_of_b, a_with_x_of, a_holding, x_and_string, x_is_one, x_is_empty}
-use Rattle.rn_pattern.proofs.Tried.{accepted, rejected}
+use Rattle.rn_pattern.proofs.Trials.Tried.{accepted, rejected}
 use Rattle.rn_pattern.proofs.examples.content_matches_weakly.Goals as goal
 
 pub returns-clause-blank_for_nothing : goal.returns-clause-blank_for_nothing

@@ -1,7 +1,7 @@
 use Rattle.std.proofs.Common.{refl}
 use Rattle.std.specs.Prelude.{codes}
 use Rattle.rn_pattern.specs.Examples.{no_library, a_of, a_holding, one, any_int, positive, numbers, spellings}
-use Rattle.rn_pattern.proofs.Tried.{accepted, rejected}
+use Rattle.rn_pattern.proofs.Trials.Tried.{accepted, rejected}
 use Rattle.rn_pattern.proofs.examples.datatype_libraries_answer.Goals as goal
 
 pub returns-clause-value_itself : goal.returns-clause-value_itself

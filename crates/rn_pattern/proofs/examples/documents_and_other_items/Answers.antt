@@ -1,6 +1,6 @@
 use Rattle.std.proofs.Common.{refl, arith, [], ◌∷◌}
 use Rattle.rn_pattern.specs.Examples.{x_one, a_with, x_in_u}
-use Rattle.rn_pattern.proofs.Tried.{document}
+use Rattle.rn_pattern.proofs.Trials.Tried.{document}
 use Rattle.rn_pattern.proofs.examples.documents_and_other_items.Goals as goal
 
 pub returns-clause-two_names : goal.returns-clause-two_names

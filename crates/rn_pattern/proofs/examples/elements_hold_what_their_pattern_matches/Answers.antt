@@ -1,7 +1,7 @@
 use Rattle.std.proofs.Common.{refl, [], ◌∷◌}
 use Rattle.std.specs.Prelude.{codes}
 use Rattle.rn_pattern.specs.Examples.{leaf, x_one, no_library, a_or_b, b_of_text, a_of, a_with, b_with_x, b_of_a, a_in_u}
-use Rattle.rn_pattern.proofs.Tried.{accepted, rejected, from_one}
+use Rattle.rn_pattern.proofs.Trials.Tried.{accepted, rejected, from_one}
 use Rattle.rn_pattern.proofs.examples.elements_hold_what_their_pattern_matches.Goals as goal
 
 pub returns-clause-a_alone : goal.returns-clause-a_alone

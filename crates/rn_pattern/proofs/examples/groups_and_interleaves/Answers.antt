@@ -1,6 +1,6 @@
 use Rattle.std.proofs.Common.{refl}
 use Rattle.rn_pattern.specs.Examples.{no_library, a_then_b, a_and_b, a_twice_and_b, doc_a_b, doc_b_a, doc_a, doc_a_b_a, doc_a_a_a_b, doc_text_a_text, doc_text_b, mixed_a}
-use Rattle.rn_pattern.proofs.Tried.{accepted, rejected}
+use Rattle.rn_pattern.proofs.Trials.Tried.{accepted, rejected}
 use Rattle.rn_pattern.proofs.examples.groups_and_interleaves.Goals as goal
 
 pub returns-clause-group_in_order : goal.returns-clause-group_in_order

@@ -2,7 +2,7 @@ use Rattle.std.proofs.Common.{refl}
 use Rattle.std.specs.Prelude.{codes}
 use Rattle.rn_pattern.specs.Tree.{empty, list}
 use Rattle.rn_pattern.specs.Examples.{leaf, padded_x_y, no_library, a_of, a_with_x_of, a_holding, x_then_y, some_x}
-use Rattle.rn_pattern.proofs.Tried.{accepted, rejected}
+use Rattle.rn_pattern.proofs.Trials.Tried.{accepted, rejected}
 use Rattle.rn_pattern.proofs.examples.lists_split_at_white_space.Goals as goal
 
 pub returns-clause-two : goal.returns-clause-two

@@ -2,7 +2,7 @@ use Rattle.std.proofs.Common.{refl}
 use Rattle.std.specs.Prelude.{codes}
 use Rattle.rn_pattern.specs.Tree.{any_name}
 use Rattle.rn_pattern.specs.Examples.{leaf, no_library, named_by, of_u, of_u_but_a, all_but_a, a_or_of_u, a_in_u, b_in_u, b_in_v}
-use Rattle.rn_pattern.proofs.Tried.{accepted, rejected}
+use Rattle.rn_pattern.proofs.Trials.Tried.{accepted, rejected}
 use Rattle.rn_pattern.proofs.examples.name_classes_hold_names.Goals as goal
 
 pub returns-clause-any_name : goal.returns-clause-any_name

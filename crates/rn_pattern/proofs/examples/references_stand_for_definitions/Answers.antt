@@ -1,7 +1,7 @@
 use Rattle.std.proofs.Common.{refl}
 use Rattle.std.specs.Prelude.{codes}
 use Rattle.rn_pattern.specs.Examples.{leaf, no_library, through_two, nested, doc_doc_a_a, doc_doc_b}
-use Rattle.rn_pattern.proofs.Tried.{accepted, rejected, from_two, from_three}
+use Rattle.rn_pattern.proofs.Trials.Tried.{accepted, rejected, from_two, from_three}
 use Rattle.rn_pattern.proofs.examples.references_stand_for_definitions.Goals as goal
 
 pub returns-clause-through_one : goal.returns-clause-through_one

@@ -1,7 +1,7 @@
 use Rattle.std.proofs.Common.{refl}
 use Rattle.std.specs.Prelude.{codes}
 use Rattle.rn_pattern.specs.Examples.{string_is, token_is, any_string, unknown_type, unknown_value, padded_x_y, padded_x, no_library, a_of, a_with_x_of, a_holding, string_but_x, token_but_x}
-use Rattle.rn_pattern.proofs.Tried.{accepted, rejected}
+use Rattle.rn_pattern.proofs.Trials.Tried.{accepted, rejected}
 use Rattle.rn_pattern.proofs.examples.values_and_excepts.Goals as goal
 
 pub returns-clause-string_itself : goal.returns-clause-string_itself

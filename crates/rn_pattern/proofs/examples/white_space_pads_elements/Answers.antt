@@ -2,7 +2,7 @@ use Rattle.std.proofs.Common.{refl, [], ◌∷◌}
 use Rattle.std.specs.Prelude.{codes}
 use Rattle.rn_pattern.specs.Document.{string}
 use Rattle.rn_pattern.specs.Examples.{blank, no_break_space, no_library, a_then_b, doc_of, doc_a_b, doc_padded_by, doc_led_by, doc_ended_by, doc_with_x}
-use Rattle.rn_pattern.proofs.Tried.{accepted, rejected}
+use Rattle.rn_pattern.proofs.Trials.Tried.{accepted, rejected}
 use Rattle.rn_pattern.proofs.examples.white_space_pads_elements.Goals as goal
 
 pub returns-clause-none : goal.returns-clause-none

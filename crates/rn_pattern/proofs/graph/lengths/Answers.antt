@@ -3,7 +3,7 @@ use Rattle.std.specs.declared.alloc.Global.{Global}
 use Rattle.std.proofs.lemmas.Iterator.{YieldsList-from_map, YieldsList-from_slice}
 use Rattle.std.proofs.lemmas.Iterator.Adapters.{items_from_extend}
 use Rattle.std.proofs.lemmas.Iterator.Consumers.{YieldsList-at}
-use Rattle.rn_pattern.proofs.Walking.{lengths_of}
+use Rattle.rn_pattern.proofs.Searches.Walking.{lengths_of}
 use Rattle.rn_pattern.proofs.graph.lengths.Goals as goal
 
 pub returns : goal.returns

@@ -1,7 +1,7 @@
 use Rattle.std.proofs.Common.{◌≡◌, ◌<◌, false, arith, length}
 use Rattle.std.proofs.lemmas.Grind.{common_steps}
 use Rattle.rn_pattern.specs.Graph.{is_marked}
-use Rattle.rn_pattern.proofs.Marking.{one_more}
+use Rattle.rn_pattern.proofs.Graphs.Marking.{one_more}
 use Rattle.rn_pattern.proofs.graph.mark.Goals as goal
 
 pub returns-in_ok-push : goal.returns-in_ok-push

@@ -1,6 +1,6 @@
 use Rattle.std.proofs.Common.{arith}
 use Rattle.std.proofs.lemmas.List.Elements.{Contains-get_or}
-use Rattle.rn_pattern.proofs.Marking.{row_more}
+use Rattle.rn_pattern.proofs.Graphs.Marking.{row_more}
 use Rattle.rn_pattern.proofs.graph.mark_all.Goals as goal
 
 pub mark-requires-clause-within : goal.mark-requires-clause-within

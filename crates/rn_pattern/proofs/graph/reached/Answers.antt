@@ -4,7 +4,7 @@ use Rattle.std.proofs.lemmas.List.{length-map}
 use Rattle.std.proofs.lemmas.List.Elements.{Contains-get_or}
 use Rattle.std.specs.List.{Contains}
 use Rattle.rn_pattern.specs.Graph.{row, Marks, rows_of}
-use Rattle.rn_pattern.proofs.Marking.{search_begins, search_goes_on, search_ends, marked_below, none_yet}
+use Rattle.rn_pattern.proofs.Graphs.Marking.{search_begins, search_goes_on, search_ends, marked_below, none_yet}
 use Rattle.rn_pattern.proofs.graph.reached.Goals as goal
 
 pub mark_all-requires-clause-within : goal.mark_all-requires-clause-within

@@ -1,6 +1,6 @@
 use Rattle.std.proofs.Common.{length, ◌-◌}
 use Rattle.rn_pattern.specs.Graph.{rows_of}
-use Rattle.rn_pattern.proofs.Marking.{Searching}
+use Rattle.rn_pattern.proofs.Graphs.Marking.{Searching}
 use Rattle.rn_pattern.proofs.graph.reached.Given as goal
 
 abbrev pub invariant-loop-next : goal.invariant-loop-next

@@ -4,7 +4,7 @@ use Rattle.std.specs.declared.alloc.Global.{Global}
 use Rattle.std.specs.Hash as fed
 use Rattle.std.proofs.lemmas.List.{take_all}
 use Rattle.rn_pattern.specs.Tree.{Text}
-use Rattle.rn_pattern.proofs.Gathering.{flat_map-through}
+use Rattle.rn_pattern.proofs.Stores.Gathering.{flat_map-through}
 use Rattle.rn_pattern.proofs.key.hash_parameters.Goals as goal
 
 pub returns : goal.returns

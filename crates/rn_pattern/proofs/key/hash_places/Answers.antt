@@ -1,8 +1,8 @@
 use Rattle.std.proofs.Common.{fold, flat_map, ap, ◌∙◌, arith}
 use Rattle.std.specs.Hash as fed
 use Rattle.std.proofs.lemmas.List.{take_all}
-use Rattle.rn_pattern.proofs.Gathering.{flat_map-through}
-use Rattle.rn_pattern.proofs.Hashing.{fed_more}
+use Rattle.rn_pattern.proofs.Stores.Gathering.{flat_map-through}
+use Rattle.rn_pattern.proofs.Stores.Hashing.{fed_more}
 use Rattle.rn_pattern.specs.declared.node.NodeId.{NodeId}
 use Rattle.rn_pattern.proofs.key.hash_places.Goals as goal
 

@@ -1,4 +1,4 @@
-use Rattle.rn_pattern.proofs.NamesKept.{names_kept}
+use Rattle.rn_pattern.proofs.Matches.NamesKept.{names_kept}
 use Rattle.rn_pattern.proofs.laws.canonical_name_classes_keep_names.Goals as goal
 
 pub returns : goal.returns

@@ -1,5 +1,5 @@
-use Rattle.rn_pattern.proofs.Pruned.{canonical_grammar_valid}
-use Rattle.rn_pattern.proofs.Validity.{canonical_valid}
+use Rattle.rn_pattern.proofs.Matches.Pruned.{canonical_grammar_valid}
+use Rattle.rn_pattern.proofs.Matches.Validity.{canonical_valid}
 use Rattle.rn_pattern.proofs.laws.canonical_patterns_keep_validity.Goals as goal
 
 pub returns-clause-patterns : goal.returns-clause-patterns

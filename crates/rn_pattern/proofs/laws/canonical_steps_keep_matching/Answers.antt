@@ -1,4 +1,4 @@
-use Rattle.rn_pattern.proofs.Constructors.{choice_means, group_means, interleave_means, attribute_means, element_means, one_or_more_means}
+use Rattle.rn_pattern.proofs.Matches.Constructors.{choice_means, group_means, interleave_means, attribute_means, element_means, one_or_more_means}
 use Rattle.rn_pattern.proofs.laws.canonical_steps_keep_matching.Goals as goal
 
 pub returns-clause-of_choice : goal.returns-clause-of_choice

@@ -1,6 +1,6 @@
 use Rattle.std.proofs.Common.{ap}
 use Rattle.rn_pattern.specs.Nodes.{tree_at, trees_of_nodes}
-use Rattle.rn_pattern.proofs.Sharing.{ids_tell}
+use Rattle.rn_pattern.proofs.Stores.Sharing.{ids_tell}
 use Rattle.rn_pattern.proofs.laws.interned_ids_are_patterns.Goals as goal
 
 pub returns : goal.returns

@@ -1,4 +1,4 @@
-use Rattle.rn_pattern.proofs.Sharing.{patterns_share}
+use Rattle.rn_pattern.proofs.Stores.Sharing.{patterns_share}
 use Rattle.rn_pattern.proofs.laws.interned_patterns_are_shared.Goals as goal
 
 pub returns : goal.returns

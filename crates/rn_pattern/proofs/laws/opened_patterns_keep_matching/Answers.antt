@@ -1,4 +1,4 @@
-use Rattle.rn_pattern.proofs.OpenedKeeps.{opened_matches, opened_valid}
+use Rattle.rn_pattern.proofs.Matches.OpenedKeeps.{opened_matches, opened_valid}
 use Rattle.rn_pattern.proofs.laws.opened_patterns_keep_matching.Goals as goal
 
 pub returns-clause-patterns : goal.returns-clause-patterns

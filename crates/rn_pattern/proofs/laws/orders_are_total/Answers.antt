@@ -1,8 +1,8 @@
 use Rattle.std.proofs.Common.{sym, ap, ◌∙◌}
 use Rattle.std.proofs.lemmas.Cmp.{tied_itself}
 use Rattle.rn_pattern.specs.Order.{name_cmp, tree_cmp}
-use Rattle.rn_pattern.proofs.Orders.{name_same, tree_same}
-use Rattle.rn_pattern.proofs.TotalOrder.{name_cmp_total, tree_cmp_total}
+use Rattle.rn_pattern.proofs.Ordered.Orders.{name_same, tree_same}
+use Rattle.rn_pattern.proofs.Ordered.TotalOrder.{name_cmp_total, tree_cmp_total}
 use Rattle.rn_pattern.proofs.laws.orders_are_total.Goals as goal
 
 pub returns-clause-patterns : goal.returns-clause-patterns

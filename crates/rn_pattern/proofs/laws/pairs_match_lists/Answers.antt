@@ -1,4 +1,4 @@
-use Rattle.rn_pattern.proofs.Pairings.{choice_paired, group_paired, interleave_paired}
+use Rattle.rn_pattern.proofs.Matches.Pairings.{choice_paired, group_paired, interleave_paired}
 use Rattle.rn_pattern.proofs.laws.pairs_match_lists.Goals as goal
 
 pub returns-clause-of_choice : goal.returns-clause-of_choice

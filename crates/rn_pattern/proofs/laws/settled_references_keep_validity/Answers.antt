@@ -1,4 +1,4 @@
-use Rattle.rn_pattern.proofs.Replacing.{replaced_valid}
+use Rattle.rn_pattern.proofs.Matches.Replacing.{replaced_valid}
 use Rattle.rn_pattern.proofs.laws.settled_references_keep_validity.Goals as goal
 
 pub returns : goal.returns

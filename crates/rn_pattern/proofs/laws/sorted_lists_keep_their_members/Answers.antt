@@ -1,9 +1,9 @@
 use Rattle.rn_pattern.specs.Order.{name_cmp, tree_cmp}
-use Rattle.rn_pattern.proofs.Ascending.{climbs_sorted_once}
-use Rattle.rn_pattern.proofs.Orders.{name_same, tree_same}
-use Rattle.rn_pattern.proofs.Sorting.{ascends_sorted}
-use Rattle.rn_pattern.proofs.SortedMembers.{sorted_permutes, sorted_once_members}
-use Rattle.rn_pattern.proofs.TotalOrder.{name_cmp_total, tree_cmp_total}
+use Rattle.rn_pattern.proofs.Ordered.Ascending.{climbs_sorted_once}
+use Rattle.rn_pattern.proofs.Ordered.Orders.{name_same, tree_same}
+use Rattle.rn_pattern.proofs.Ordered.Sorting.{ascends_sorted}
+use Rattle.rn_pattern.proofs.Ordered.SortedMembers.{sorted_permutes, sorted_once_members}
+use Rattle.rn_pattern.proofs.Ordered.TotalOrder.{name_cmp_total, tree_cmp_total}
 use Rattle.rn_pattern.proofs.laws.sorted_lists_keep_their_members.Goals as goal
 
 pub returns-clause-as_often : goal.returns-clause-as_often

@@ -3,7 +3,7 @@ use Rattle.std.specs.Prelude.{None}
 use Rattle.std.proofs.lemmas.List.{length-map}
 use Rattle.std.specs.declared.alloc.Global.{Global}
 use Rattle.rn_pattern.specs.Graph.{rows_of}
-use Rattle.rn_pattern.proofs.FirstLoop.{not_begun}
+use Rattle.rn_pattern.proofs.Graphs.FirstLoop.{not_begun}
 use Rattle.rn_pattern.proofs.loops.begin.Goals as goal
 
 pub returns-clause-grouping : goal.returns-clause-grouping

@@ -3,8 +3,8 @@ use Rattle.std.proofs.lemmas.List.{length-take-le}
 use Rattle.std.specs.Prelude.{vec_len}
 use Rattle.rn_pattern.specs.Graph.{rows_of}
 use Rattle.rn_pattern.specs.Loops.{GroupingBy}
-use Rattle.rn_pattern.proofs.Rising.{popped}
-use Rattle.rn_pattern.proofs.Closing.{begin_below, group_closed}
+use Rattle.rn_pattern.proofs.Searches.Rising.{popped}
+use Rattle.rn_pattern.proofs.Searches.Closing.{begin_below, group_closed}
 use Rattle.rn_pattern.proofs.loops.close.Goals as goal
 
 pub returns-clause-goes_on : goal.returns-clause-goes_on

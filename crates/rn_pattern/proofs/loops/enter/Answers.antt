@@ -2,7 +2,7 @@ use Rattle.std.proofs.Common.{ℕ, Vec, arith}
 use Rattle.std.proofs.lemmas.List.{length-map}
 use Rattle.std.specs.declared.alloc.Global.{Global}
 use Rattle.rn_pattern.specs.Graph.{rows_of}
-use Rattle.rn_pattern.proofs.Grouping.{entered_at, met_still}
+use Rattle.rn_pattern.proofs.Searches.Grouping.{entered_at, met_still}
 use Rattle.rn_pattern.proofs.loops.enter.Goals as goal
 
 pub returns-clause-goes_on : goal.returns-clause-goes_on

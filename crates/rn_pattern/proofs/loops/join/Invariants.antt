@@ -1,5 +1,5 @@
 use Rattle.std.proofs.Common.{length}
-use Rattle.rn_pattern.proofs.Rising.{IsJoining}
+use Rattle.rn_pattern.proofs.Searches.Rising.{IsJoining}
 use Rattle.rn_pattern.proofs.loops.join.Given as goal
 
 abbrev pub invariant-loop-bounds : goal.invariant-loop-bounds

@@ -1,6 +1,6 @@
 use Rattle.std.proofs.Common.{◌<◌, inr, length, arith, sym}
 use Rattle.rn_pattern.specs.Graph.{rows_of}
-use Rattle.rn_pattern.proofs.Grouping.{joined}
+use Rattle.rn_pattern.proofs.Searches.Grouping.{joined}
 use Rattle.rn_pattern.proofs.loops.merge.Goals as goal
 
 pub pass-requires-clause-grouping : goal.pass-requires-clause-grouping

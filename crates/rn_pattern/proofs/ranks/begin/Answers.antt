@@ -3,7 +3,7 @@ use Rattle.std.proofs.lemmas.List.{length-map}
 use Rattle.std.specs.declared.alloc.Global.{Global}
 use Rattle.rn_pattern.specs.Graph.{rows_of}
 use Rattle.rn_pattern.specs.declared.ranks.Mark.TheVariants.{New}
-use Rattle.rn_pattern.proofs.Walking.{begun}
+use Rattle.rn_pattern.proofs.Searches.Walking.{begun}
 use Rattle.rn_pattern.proofs.ranks.begin.Goals as goal
 
 pub returns-clause-walking : goal.returns-clause-walking

@@ -5,7 +5,7 @@ use Rattle.rn_pattern.specs.Graph.{rows_of}
 use Rattle.rn_pattern.specs.Ranks.{WalkingBy}
 use Rattle.rn_pattern.specs.declared.ranks.Mark.TheVariants.{Open}
 use Rattle.std.specs.declared.alloc.Global.{Global}
-use Rattle.rn_pattern.proofs.Walking.{entered, kept_by}
+use Rattle.rn_pattern.proofs.Searches.Walking.{entered, kept_by}
 use Rattle.rn_pattern.proofs.ranks.enter.Goals as goal
 
 pub returns-clause-goes_on : goal.returns-clause-goes_on

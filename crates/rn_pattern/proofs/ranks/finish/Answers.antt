@@ -1,7 +1,7 @@
 use Rattle.std.proofs.Common.{◌-◌, ℕ, arith, ap, ◌∙◌, take}
 use Rattle.rn_pattern.specs.Graph.{rows_of}
 use Rattle.rn_pattern.specs.declared.ranks.Mark.TheVariants.{Done}
-use Rattle.rn_pattern.proofs.Walking.{finished_at, less_done, open_below, last_is_open, kept_by}
+use Rattle.rn_pattern.proofs.Searches.Walking.{finished_at, less_done, open_below, last_is_open, kept_by}
 use Rattle.rn_pattern.proofs.ranks.finish.Goals as goal
 
 pub index_mut-requires : goal.index_mut-requires

@@ -1,7 +1,7 @@
 use Rattle.std.proofs.Common.{◌≡◌, ◌-◌, ◌<◌, arith, ℕ, Vec, get_or, length, ap, ◌∙◌}
 use Rattle.std.proofs.lemmas.List.{length-map, get_or_read}
 use Rattle.std.specs.declared.alloc.Global.{Global}
-use Rattle.rn_pattern.proofs.Walking.{ends_at, open_below, last_is_open}
+use Rattle.rn_pattern.proofs.Searches.Walking.{ends_at, open_below, last_is_open}
 use Rattle.rn_pattern.proofs.ranks.last_of.Goals as goal
 
 pub returns-clause-within : goal.returns-clause-within

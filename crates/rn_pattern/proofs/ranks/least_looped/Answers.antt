@@ -3,7 +3,7 @@ use Rattle.std.specs.Prelude.{IfSome}
 use Rattle.std.proofs.lemmas.List.{length-map}
 use Rattle.std.specs.declared.alloc.Global.{Global}
 use Rattle.rn_pattern.specs.Graph.{rows_of}
-use Rattle.rn_pattern.proofs.FirstLoop.{Searched, first_loop, first_within}
+use Rattle.rn_pattern.proofs.Graphs.FirstLoop.{Searched, first_loop, first_within}
 use Rattle.rn_pattern.proofs.ranks.least_looped.Goals as goal
 
 pub returns-clause-least : goal.returns-clause-least

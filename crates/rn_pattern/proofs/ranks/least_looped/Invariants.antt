@@ -1,5 +1,5 @@
 use Rattle.rn_pattern.specs.Graph.{rows_of}
-use Rattle.rn_pattern.proofs.FirstLoop.{Searched}
+use Rattle.rn_pattern.proofs.Graphs.FirstLoop.{Searched}
 use Rattle.rn_pattern.proofs.ranks.least_looped.Given as goal
 
 abbrev pub invariant-loop-root : goal.invariant-loop-root

@@ -5,7 +5,7 @@ use Rattle.std.specs.declared.alloc.Global.{Global}
 use Rattle.rn_pattern.specs.Graph.{rows_of}
 use Rattle.rn_pattern.specs.declared.ranks.Mark.TheVariants.{New}
 use Rattle.rn_pattern.specs.declared.ranks.Walk.{Walk}
-use Rattle.rn_pattern.proofs.Walking.{Visited, all_visited, goes_on_then, may_begin, visits, visited_before}
+use Rattle.rn_pattern.proofs.Searches.Walking.{Visited, all_visited, goes_on_then, may_begin, visits, visited_before}
 use Rattle.rn_pattern.proofs.ranks.ranks.Goals.{then-eq+in_ok-enter+in_ok-node+in_default, else-eq}
 use Rattle.rn_pattern.proofs.ranks.ranks.Goals as goal
 

@@ -1,5 +1,5 @@
 use Rattle.rn_pattern.specs.Graph.{rows_of}
-use Rattle.rn_pattern.proofs.Walking.{Visited}
+use Rattle.rn_pattern.proofs.Searches.Walking.{Visited}
 use Rattle.rn_pattern.proofs.ranks.ranks.Given as goal
 
 abbrev pub invariant-loop-root : goal.invariant-loop-root

@@ -2,7 +2,7 @@ use Rattle.std.proofs.Common.{◌<◌, ◌∙◌, sym, arith, length}
 use Rattle.std.proofs.lemmas.List.{get_or_read}
 use Rattle.rn_pattern.specs.Graph.{rows_of}
 use Rattle.rn_pattern.specs.declared.ranks.Mark.TheVariants.{New}
-use Rattle.rn_pattern.proofs.Walking.{may_follow, closes_at}
+use Rattle.rn_pattern.proofs.Searches.Walking.{may_follow, closes_at}
 use Rattle.rn_pattern.proofs.ranks.step.Goals as goal
 
 pub returns-in-Open : goal.returns-in-Open

@@ -1,4 +1,4 @@
-use Rattle.rn_pattern.proofs.Pruned.{pruned_valid, canonical_grammar_valid}
+use Rattle.rn_pattern.proofs.Matches.Pruned.{pruned_valid, canonical_grammar_valid}
 use Rattle.rn_simplify.proofs.laws.canonical_grammars_are_valid_alike.Goals as goal
 
 pub returns-clause-pruned : goal.returns-clause-pruned

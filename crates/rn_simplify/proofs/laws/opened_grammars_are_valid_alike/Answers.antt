@@ -1,4 +1,4 @@
-use Rattle.rn_pattern.proofs.OpenedKeeps.{opened_valid}
+use Rattle.rn_pattern.proofs.Matches.OpenedKeeps.{opened_valid}
 use Rattle.rn_simplify.proofs.laws.opened_grammars_are_valid_alike.Goals as goal
 
 pub returns : goal.returns

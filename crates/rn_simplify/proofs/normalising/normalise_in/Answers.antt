@@ -1,7 +1,7 @@
 use Rattle.std.proofs.Common.{sym, subst}
 use Rattle.rn_pattern.specs.Reached.{IsCanonicalOf}
 use Rattle.rn_pattern.specs.declared.tree.Pattern.{Pattern}
-use Rattle.rn_pattern.proofs.Pruned.{canonical_grammar_valid}
+use Rattle.rn_pattern.proofs.Matches.Pruned.{canonical_grammar_valid}
 use Rattle.rn_assemble.specs.GrammarView.{grammar_view}
 use Rattle.rn_simplify.specs.Sources.{parts_view}
 use Rattle.rn_simplify.proofs.Sources.{has_source}

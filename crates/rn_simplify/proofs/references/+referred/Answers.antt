@@ -3,7 +3,7 @@ use Rattle.std.proofs.lemmas.List.{take_all}
 use Rattle.rn_assemble.specs.GrammarView.{definitions_view}
 use Rattle.rn_pattern.specs.Tree.{Text, trees_of}
 use Rattle.rn_pattern.specs.View.{pattern_view, shared_view}
-use Rattle.rn_pattern.proofs.PatternKinds.{group_seen, interleave_seen, choice_seen}
+use Rattle.rn_pattern.proofs.Ordered.PatternKinds.{group_seen, interleave_seen, choice_seen}
 use Rattle.rn_simplify.specs.Numbered.{numbers_of}
 use Rattle.rn_simplify.specs.Referred.{all_references, references}
 use Rattle.rn_simplify.proofs.Numbers.{numbers_more}

@@ -1,7 +1,7 @@
 -- As many trees as nodes, each once.
 use Rattle.std.proofs.Common.{sym, ◌∙◌}
-use Rattle.rn_pattern.proofs.NodeTrees.{length-trees_of_nodes}
-use Rattle.rn_pattern.proofs.Sharing.{ids_tell}
+use Rattle.rn_pattern.proofs.Stores.NodeTrees.{length-trees_of_nodes}
+use Rattle.rn_pattern.proofs.Stores.Sharing.{ids_tell}
 use Rattle.rn_pattern.proofs.interned.Interned.nodes.Goals as goal
 
 pub returns-clause-count : goal.returns-clause-count

@@ -1,5 +1,5 @@
 -- The node is among the others, or behind them.
-use Rattle.rn_pattern.proofs.Interning.{inserted, inserted_earlier, inserted_keeps, inserted_grows, inserted_stands, inserted_adds}
+use Rattle.rn_pattern.proofs.Stores.Interning.{inserted, inserted_earlier, inserted_keeps, inserted_grows, inserted_stands, inserted_adds}
 use Rattle.rn_pattern.proofs.interned.InternedNodeStore.add.Goals as goal
 
 pub invariant_of-self : goal.invariant_of-self

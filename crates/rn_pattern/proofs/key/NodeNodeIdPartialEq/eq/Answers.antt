@@ -8,7 +8,7 @@ use Rattle.rn_pattern.specs.Shown.{class_view}
 use Rattle.rn_pattern.specs.View.{parameters_view}
 use Rattle.rn_pattern.specs.Key.{key}
 use Rattle.rn_pattern.specs.declared.node.NodeId.{NodeId}
-use Rattle.rn_pattern.proofs.Equal.{heads, eq_by_places, not_eq}
+use Rattle.rn_pattern.proofs.Ordered.Equal.{heads, eq_by_places, not_eq}
 use Rattle.rn_pattern.proofs.key.NodeNodeIdPartialEq.eq.Goals as goal
 
 pub returns-in-Equal : goal.returns-in-Equal

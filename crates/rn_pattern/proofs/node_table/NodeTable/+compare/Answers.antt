@@ -2,9 +2,9 @@
 use Rattle.std.proofs.Common.{◌+◌, ◌≤◌, ◌<◌, length, get_or, sym, ap, ◌∙◌, arith}
 use Rattle.rn_pattern.specs.Nodes.{tree_at, trees_of_nodes}
 use Rattle.rn_pattern.specs.declared.node.NodeId.{NodeId}
-use Rattle.rn_pattern.proofs.ShownTrees.{tree_cmp-settled, tree_cmp-by_members}
-use Rattle.rn_pattern.proofs.Stepwise.{rest_longer, rest_shorter, rest_level, rest_settled, rest_tied}
-use Rattle.rn_pattern.proofs.TotalOrder.{tree_cmp_total}
+use Rattle.rn_pattern.proofs.Stores.ShownTrees.{tree_cmp-settled, tree_cmp-by_members}
+use Rattle.rn_pattern.proofs.Ordered.Stepwise.{rest_longer, rest_shorter, rest_level, rest_settled, rest_tied}
+use Rattle.rn_pattern.proofs.Ordered.TotalOrder.{tree_cmp_total}
 use Rattle.rn_pattern.specs.Tree as tree
 use Rattle.rn_pattern.specs.Order.{tree_cmp}
 use Rattle.std.proofs.lemmas.Cmp.{tied_itself}

@@ -4,7 +4,7 @@ use Rattle.std.proofs.lemmas.List.{get_or_past}
 use Rattle.rn_pattern.specs.Canonical.{is_not_allowed}
 use Rattle.rn_pattern.specs.Tree as tree
 use Rattle.rn_pattern.specs.Nodes.{tree_at, trees_of_nodes}
-use Rattle.rn_pattern.proofs.NodeTrees.{length-trees_of_nodes, place_known}
+use Rattle.rn_pattern.proofs.Stores.NodeTrees.{length-trees_of_nodes, place_known}
 use Rattle.rn_pattern.proofs.node_table.NodeTable.is_not_allowed.Goals as goal
 
 pub get-requires : goal.get-requires

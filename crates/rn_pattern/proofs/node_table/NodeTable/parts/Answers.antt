@@ -4,8 +4,8 @@ use Rattle.std.proofs.lemmas.List.{get_or_past}
 use Rattle.rn_pattern.specs.Tree as tree
 use Rattle.rn_pattern.specs.Nodes.{tree_at, trees_of_nodes}
 use Rattle.rn_pattern.specs.declared.node.Node.{Node}
-use Rattle.rn_pattern.proofs.NodeTrees.{length-trees_of_nodes, place_known}
-use Rattle.rn_pattern.proofs.ShownTrees.{shows_parts}
+use Rattle.rn_pattern.proofs.Stores.NodeTrees.{length-trees_of_nodes, place_known}
+use Rattle.rn_pattern.proofs.Stores.ShownTrees.{shows_parts}
 use Rattle.rn_pattern.proofs.node_table.NodeTable.parts.Goals as goal
 
 pub get-requires : goal.get-requires

@@ -1,6 +1,6 @@
 -- As many trees as nodes.
 use Rattle.std.proofs.Common.{arith}
-use Rattle.rn_pattern.proofs.NodeTrees.{length-trees_of_nodes}
+use Rattle.rn_pattern.proofs.Stores.NodeTrees.{length-trees_of_nodes}
 use Rattle.rn_pattern.proofs.plain.Plain.nodes.Goals as goal
 
 pub returns : goal.returns

@@ -6,8 +6,8 @@ use Rattle.rn_pattern.specs.Canonical.{choice_step}
 use Rattle.rn_pattern.specs.Nodes.{knows, tree_at, trees_of_nodes}
 use Rattle.rn_pattern.specs.Reduced.{reduced_tree}
 use Rattle.rn_pattern.specs.declared.node.NodeId.{NodeId}
-use Rattle.rn_pattern.proofs.Constructors.{choice_means}
-use Rattle.rn_pattern.proofs.Meanings.{means_by, over_store}
+use Rattle.rn_pattern.proofs.Matches.Constructors.{choice_means}
+use Rattle.rn_pattern.proofs.Matches.Meanings.{means_by, over_store}
 use Rattle.rn_pattern.proofs.store.AnyPatterns.choice.Goals as goal
 
 pub returns-clause-means : goal.returns-clause-means

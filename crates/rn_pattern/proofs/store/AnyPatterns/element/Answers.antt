@@ -4,8 +4,8 @@ use Rattle.rn_pattern.specs.Tree as tree
 use Rattle.rn_pattern.specs.Canonical.{canonical_name}
 use Rattle.rn_pattern.specs.View.{name_class_view}
 use Rattle.rn_pattern.specs.Nodes.{knows, tree_at}
-use Rattle.rn_pattern.proofs.Constructors.{element_means}
-use Rattle.rn_pattern.proofs.Meanings.{means_by}
+use Rattle.rn_pattern.proofs.Matches.Constructors.{element_means}
+use Rattle.rn_pattern.proofs.Matches.Meanings.{means_by}
 use Rattle.rn_pattern.proofs.store.AnyPatterns.element.Goals as goal
 
 pub returns-clause-means : goal.returns-clause-means

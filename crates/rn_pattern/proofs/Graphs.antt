@@ -1,0 +1,4 @@
+-- Graphs of numbered nodes.
+pub mod Marking
+pub mod Rows
+pub mod FirstLoop
