@@ -8,8 +8,8 @@ use Rattle.rn_modset.proofs.Membership.{In, contains_from_in}
 use Rattle.rn_assemble.specs.Components.{Key, same_key, Component, Source, set_components}
 use Rattle.rn_assemble.specs.Combine.{of_key, is_plain, is_choice, is_interleave, IsPlainTwice, IsMixed}
 use Rattle.rn_assemble.specs.Refusal.{Refusal, plain_twice, mixed_methods, Stands, AreModules}
-use Rattle.rn_assemble.proofs.NoLeast.{no_key}
-use Rattle.rn_assemble.proofs.NoRefusal.{key_is}
+use Rattle.rn_assemble.proofs.Refusals.NoLeast.{no_key}
+use Rattle.rn_assemble.proofs.Refusals.NoRefusal.{key_is}
 
 abbrev keys : List Component → List Key
 keys cs = map (λ (c : Component). c.key) cs

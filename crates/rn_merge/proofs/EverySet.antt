@@ -14,7 +14,7 @@ use Rattle.rn_modset.specs.Modules.{Module, Holds, IsEffective, IsConflict, AreE
 use Rattle.rn_modset.proofs.Membership.{In, in_from_contains, contains_from_in, in_from_has}
 use Rattle.rn_assemble.specs.Components.{Source}
 use Rattle.rn_assemble.specs.Refusal.{TextFault, fault_rank, HasFault, IsFaulty, Refusal, conflict, faulty, rank, IsModuleOf, AreModules, Stands, IsFirst, IsAssembled, grammar_of}
-use Rattle.rn_assemble.proofs.NoLeast.{no_text}
+use Rattle.rn_assemble.proofs.Refusals.NoLeast.{no_text}
 use Rattle.rn_simplify.specs.Spelling.{spelling}
 use Rattle.rn_simplify.specs.ReadBack.{is_too_deep}
 use Rattle.rn_simplify.specs.Verdict.{Verdict, prints, refused, too_large, too_deep, IsCanonicalOfSet, IsVerdict}

@@ -21,8 +21,8 @@ use Rattle.rn_syntax.specs.Places.{deep}
 use Rattle.rn_syntax.specs.Spelled.{AreSpelled, IsPlace, last_end}
 use Rattle.rn_syntax.proofs.OneFault as parsed
 use Rattle.rn_assemble.specs.Refusal.{TextFault, fault_rank, HasFault, IsFirstFault}
-use Rattle.rn_assemble.proofs.OneSet.{one_fault}
-use Rattle.rn_assemble.proofs.TextFaults.{faultless, first_lexical, first_of_tokens}
+use Rattle.rn_assemble.proofs.Refusals.OneSet.{one_fault}
+use Rattle.rn_assemble.proofs.Refusals.TextFaults.{faultless, first_lexical, first_of_tokens}
 use Rattle.rn_merge.specs.declared.texts.Place.{Place}
 use Rattle.rn_merge.specs.declared.texts.Place.TheVariants.{Encoding, Lexical, Deep, Syntax, Prefix, Builtin, ContextValue, Except, Memory}
 use Rattle.rn_merge.specs.Texts.{AreTokensOf, IsGood, HasPlace, text_place, syntax_place}

@@ -8,7 +8,7 @@ use Rattle.rn_syntax.specs.Grammar.{Tokens}
 use Rattle.rn_syntax.specs.Tree as t
 use Rattle.rn_syntax.specs.Fault.{HasTree}
 use Rattle.rn_assemble.specs.Refusal.{Refusal, IsFirst}
-use Rattle.rn_assemble.proofs.OneSet.{first_of_set, one_assembled}
+use Rattle.rn_assemble.proofs.Refusals.OneSet.{first_of_set, one_assembled}
 use Rattle.rn_simplify.specs.Spelling.{spelling}
 use Rattle.rn_simplify.specs.ReadBack.{is_too_deep}
 use Rattle.rn_simplify.specs.Verdict.{Verdict, prints, refused, too_large, too_deep, IsCanonicalOfSet, IsVerdict}

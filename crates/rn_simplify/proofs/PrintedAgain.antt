@@ -20,16 +20,16 @@ use Rattle.rn_assemble.specs.Components.{Source}
 use Rattle.rn_assemble.specs.Combine.{joined_grammar, read}
 use Rattle.rn_assemble.specs.WellFormed.{IsWellFormed}
 use Rattle.rn_assemble.specs.Refusal.{TextFault, encoding, lexical, deep_brackets, syntax, prefix, builtin, context_value, except, Refusal, conflict, faulty, IsModuleOf, HasFault, StandsFor, AreModules, Stands, IsAssembled, grammar_of}
-use Rattle.rn_assemble.proofs.NoRefusal.{assembled_well_formed}
-use Rattle.rn_assemble.proofs.OneModule.{one_module}
-use Rattle.rn_assemble.proofs.OneSet.{one_effective, one_module_of, one_modules}
+use Rattle.rn_assemble.proofs.Refusals.NoRefusal.{assembled_well_formed}
+use Rattle.rn_assemble.proofs.Combined.OneModule.{one_module}
+use Rattle.rn_assemble.proofs.Refusals.OneSet.{one_effective, one_module_of, one_modules}
 use Rattle.rn_simplify.specs.ReadBack.{IsReadBack, is_too_deep}
 use Rattle.rn_simplify.specs.Spelling.{spelling}
 use Rattle.rn_simplify.specs.Verdict.{IsVerdict, prints}
 use Rattle.rn_simplify.proofs.Binding.{spelling_reads_back}
 use Rattle.rn_simplify.proofs.ReadAgain.{read_canonical, none_stands}
 use Rattle.rn_simplify.proofs.Spelled.{spellable}
-use Rattle.rn_assemble.proofs.GoodComponents.{set_grammar_writable}
+use Rattle.rn_assemble.proofs.WellFormed.GoodComponents.{set_grammar_writable}
 
 module _ (one_tree : (ts : Tokens) (m n : t.Module) → HasTree ts m → HasTree ts n → m ≡ n) where
   module _ (n : Grammar) (r : IsReadBack n) (shallow : is_too_deep n ≡ false) where

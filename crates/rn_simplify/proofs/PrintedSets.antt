@@ -6,9 +6,9 @@ use Rattle.rn_modset.specs.Contributions.{Member}
 use Rattle.rn_syntax.proofs.OneTree.{one_tree}
 use Rattle.rn_assemble.specs.Components.{set_components}
 use Rattle.rn_assemble.specs.Refusal.{HasFault, grammar_of}
-use Rattle.rn_assemble.proofs.ComponentExcepts.{set_excepts}
-use Rattle.rn_assemble.proofs.GoodComponents.{modules_faultless, set_grammar_writable}
-use Rattle.rn_assemble.proofs.NoRefusal.{no_excepts, assembled_well_formed}
+use Rattle.rn_assemble.proofs.WellFormed.ComponentExcepts.{set_excepts}
+use Rattle.rn_assemble.proofs.WellFormed.GoodComponents.{modules_faultless, set_grammar_writable}
+use Rattle.rn_assemble.proofs.Refusals.NoRefusal.{no_excepts, assembled_well_formed}
 use Rattle.rn_simplify.specs.ReadAgain.{IsReadAgain}
 use Rattle.rn_simplify.specs.Verdict.{IsVerdict, prints}
 use Rattle.rn_simplify.proofs.Binding.{spelling_reads_back}

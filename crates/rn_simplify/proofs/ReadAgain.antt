@@ -22,10 +22,10 @@ use Rattle.rn_assemble.specs.Components.{Key, start_key, name_key, same_key, Com
 use Rattle.rn_assemble.specs.Combine.{of_key, bodies, combined, IsPlainTwice, IsMixed, IsCombination, join, joined, joined_grammar, read, components_of, AreDistinct}
 use Rattle.rn_assemble.specs.WellFormed.{IsWellFormed}
 use Rattle.rn_assemble.specs.Refusal.{Refusal, conflict, faulty, missing, cycle, too_many_instances, override, plain_twice, mixed_methods, no_start, undefined, recursive, name_class, item_lacks, items_lack, Lacks, StandsFor, grammar_of}
-use Rattle.rn_assemble.proofs.Combinations.{combined_valid, some_joined, joined_definition}
-use Rattle.rn_assemble.proofs.Joined.{plain_once, not_mixed, sorted_distinct, mapped_distinct}
-use Rattle.rn_assemble.proofs.JoinedKept.{joined_excepts, joined_definition_excepts}
-use Rattle.rn_assemble.proofs.OneModule.{one_module}
+use Rattle.rn_assemble.proofs.Combined.Combinations.{combined_valid, some_joined, joined_definition}
+use Rattle.rn_assemble.proofs.Combined.Joined.{plain_once, not_mixed, sorted_distinct, mapped_distinct}
+use Rattle.rn_assemble.proofs.Combined.JoinedKept.{joined_excepts, joined_definition_excepts}
+use Rattle.rn_assemble.proofs.Combined.OneModule.{one_module}
 use Rattle.rn_simplify.specs.ReadBack.{IsReadBack}
 use Rattle.rn_pattern.proofs.Matches.Pruned.{canonical_grammar_valid}
 use Rattle.rn_simplify.proofs.FixedPoint.{fixed_point, one_canonical}

@@ -12,7 +12,7 @@ use Rattle.rn_pattern.proofs.Ordered.Ascending.{each_join}
 use Rattle.rn_pattern.proofs.Forms.CanonicalForm.{canonical_is}
 use Rattle.rn_pattern.proofs.Forms.Settled.{settled_canonical}
 use Rattle.rn_assemble.specs.WellFormed.{HasWritableTexts}
-use Rattle.rn_assemble.proofs.Joined.{sorted_distinct}
+use Rattle.rn_assemble.proofs.Combined.Joined.{sorted_distinct}
 use Rattle.rn_simplify.specs.Spelling.{name_uris, names_uris, mentions, mentions_all, grammar_mentions, spelling}
 use Rattle.rn_simplify.proofs.Few.{few_namespaces, few_libraries}
 use Rattle.rn_simplify.specs.Spellable.{IsDefinition, IsSpellable}

@@ -6,11 +6,11 @@ use Rattle.rn_assemble.specs.Refusal.{AreModules, IsAssembled}
 use Rattle.rn_assemble.specs.Refused.{IsFirstRefusal}
 use Rattle.rn_assemble.specs.Views.{sources_view}
 use Rattle.rn_assemble.specs.WellFormed.{IsWellFormed, HasWritableTexts}
-use Rattle.rn_assemble.proofs.FlatModules.{modules_flat}
-use Rattle.rn_assemble.proofs.GoodComponents.{set_grammar_writable}
-use Rattle.rn_assemble.proofs.NoRefusal.{assembled_well_formed}
-use Rattle.rn_assemble.proofs.Refusing.{refused_at}
-use Rattle.rn_assemble.proofs.SetRefusal.{assembled_of_modules, first_of_modules}
+use Rattle.rn_assemble.proofs.WellFormed.FlatModules.{modules_flat}
+use Rattle.rn_assemble.proofs.WellFormed.GoodComponents.{set_grammar_writable}
+use Rattle.rn_assemble.proofs.Refusals.NoRefusal.{assembled_well_formed}
+use Rattle.rn_assemble.proofs.Answering.Refusing.{refused_at}
+use Rattle.rn_assemble.proofs.Answering.SetRefusal.{assembled_of_modules, first_of_modules}
 use Rattle.rn_assemble.proofs.assembly.assemble.Goals as goal
 
 pub assembled-requires-clause-flat : goal.assembled-requires-clause-flat

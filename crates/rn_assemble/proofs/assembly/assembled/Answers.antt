@@ -5,8 +5,8 @@ use Rattle.rn_assemble.specs.Expanded.{CanList}
 use Rattle.rn_assemble.specs.Included.{AreIncluded}
 use Rattle.rn_assemble.specs.Listed.{AreContents}
 use Rattle.rn_assemble.specs.Views.{names_of, sources_view}
-use Rattle.rn_assemble.proofs.Checks.{expanded}
-use Rattle.rn_assemble.proofs.WantedNumbers.{names_rise}
+use Rattle.rn_assemble.proofs.Answering.Checks.{expanded}
+use Rattle.rn_assemble.proofs.Expansion.WantedNumbers.{names_rise}
 use Rattle.rn_assemble.proofs.assembly.assembled.Goals as goal
 
 pub joined-requires : goal.joined-requires

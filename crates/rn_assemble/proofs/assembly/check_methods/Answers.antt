@@ -8,7 +8,7 @@ use Rattle.rn_assemble.specs.Components.{Key}
 use Rattle.rn_assemble.specs.Least.{IsLeast, key_cmp}
 use Rattle.rn_assemble.specs.Listed.{components_in}
 use Rattle.rn_assemble.specs.Views.{names_of}
-use Rattle.rn_assemble.proofs.LeastKeys.{least_key, no_key, plain_has, mixed_has, start_there, no_start}
+use Rattle.rn_assemble.proofs.Referring.LeastKeys.{least_key, no_key, plain_has, mixed_has, start_there, no_start}
 use Rattle.rn_assemble.proofs.assembly.check_methods.Goals as goal
 
 pub returns-in-Some : goal.returns-in-Some

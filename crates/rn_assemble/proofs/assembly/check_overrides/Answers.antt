@@ -5,7 +5,7 @@ use Rattle.rn_assemble.specs.declared.components.Lack.{Lack}
 use Rattle.rn_assemble.specs.Lacking.{IsLeastLack}
 use Rattle.rn_assemble.specs.Refusal.{Lacks}
 use Rattle.rn_assemble.specs.Views.{key_view, names_of, source_view, sources_view}
-use Rattle.rn_assemble.proofs.Checks.{override_stands, source_name}
+use Rattle.rn_assemble.proofs.Answering.Checks.{override_stands, source_name}
 use Rattle.rn_assemble.proofs.assembly.check_overrides.Goals as goal
 
 pub returns-in_ok-key-in-Some : goal.returns-in_ok-key-in-Some

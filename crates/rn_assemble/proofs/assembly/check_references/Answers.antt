@@ -8,7 +8,7 @@ use Rattle.rn_assemble.specs.Least.{IsLeast}
 use Rattle.rn_assemble.specs.Listed.{components_in}
 use Rattle.rn_assemble.specs.Referred.{IsLeastRecursive}
 use Rattle.rn_assemble.specs.Views.{names_of}
-use Rattle.rn_assemble.proofs.Unsound.{name_there}
+use Rattle.rn_assemble.proofs.Answering.Unsound.{name_there}
 use Rattle.rn_assemble.proofs.assembly.check_references.Goals as goal
 
 pub returns-in-Some : goal.returns-in-Some

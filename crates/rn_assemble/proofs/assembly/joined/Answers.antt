@@ -2,8 +2,8 @@ use Rattle.std.proofs.lemmas.Result.{err_from_is_err_and}
 use Rattle.rn_assemble.specs.Methods.{CanCombine, IsUncombined}
 use Rattle.rn_assemble.specs.Sound.{HasSoundReferences, IsUnsound}
 use Rattle.rn_assemble.specs.Views.{names_of, sources_view}
-use Rattle.rn_assemble.proofs.FirstRefusal.{uncombined_first, unsound_first}
-use Rattle.rn_assemble.proofs.Checks.{at_set, joined_or_first, passed_methods, passed_overrides, has_start}
+use Rattle.rn_assemble.proofs.Answering.FirstRefusal.{uncombined_first, unsound_first}
+use Rattle.rn_assemble.proofs.Answering.Checks.{at_set, joined_or_first, passed_methods, passed_overrides, has_start}
 use Rattle.rn_assemble.proofs.assembly.joined.Goals as goal
 
 pub returns-in_err-check_methods : goal.returns-in_err-check_methods

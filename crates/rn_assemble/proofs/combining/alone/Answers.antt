@@ -4,8 +4,8 @@ use Rattle.rn_pattern.specs.NameRules.{KeepsNameRules}
 use Rattle.rn_pattern.specs.Graph.{rows_of}
 use Rattle.rn_assemble.specs.Patterns.{IsMisnamedAs, IsSound, boxed_view}
 use Rattle.rn_assemble.specs.Views.{names_of}
-use Rattle.rn_assemble.proofs.KeyPatterns.{refused_by}
-use Rattle.rn_assemble.proofs.UsedMethods.{live_body}
+use Rattle.rn_assemble.proofs.Joining.KeyPatterns.{refused_by}
+use Rattle.rn_assemble.proofs.Joining.UsedMethods.{live_body}
 use Rattle.rn_assemble.proofs.combining.alone.Goals as goal
 
 pub returns-in_err-resolved : goal.returns-in_err-resolved

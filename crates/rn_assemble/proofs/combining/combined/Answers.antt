@@ -5,7 +5,7 @@ use Rattle.rn_assemble.specs.Joining.{IsMisnamed}
 use Rattle.rn_assemble.specs.Listed.{components_in}
 use Rattle.rn_assemble.specs.Patterns.{AreCombined}
 use Rattle.rn_assemble.specs.Views.{names_of}
-use Rattle.rn_assemble.proofs.KeyPatterns.{combined_all, combined_more, misnamed_first, refused_by}
+use Rattle.rn_assemble.proofs.Joining.KeyPatterns.{combined_all, combined_more, misnamed_first, refused_by}
 use Rattle.rn_assemble.proofs.combining.combined.Goals as goal
 
 pub returns-in_err-join : goal.returns-in_err-join

@@ -6,8 +6,8 @@ use Rattle.rn_assemble.specs.Keyed.{key_at}
 use Rattle.rn_assemble.specs.Listed.{components_in}
 use Rattle.rn_assemble.specs.Refusal.{BreaksNameRules}
 use Rattle.rn_assemble.specs.Views.{names_of}
-use Rattle.rn_assemble.proofs.KeyPatterns.{breaks_at, misnamed_for, more_pattern, no_pattern, one_found, part_of_key}
-use Rattle.rn_assemble.proofs.UsedMethods.{at_row, row_size}
+use Rattle.rn_assemble.proofs.Joining.KeyPatterns.{breaks_at, misnamed_for, more_pattern, no_pattern, one_found, part_of_key}
+use Rattle.rn_assemble.proofs.Joining.UsedMethods.{at_row, row_size}
 use Rattle.rn_assemble.proofs.combining.join.Goals as goal
 
 pub returns-in-empty-clause-exact : goal.returns-in-empty-clause-exact

@@ -5,9 +5,9 @@ use Rattle.rn_pattern.specs.View.{shared_view}
 use Rattle.rn_pattern.specs.Graph.{rows_of}
 use Rattle.rn_assemble.specs.Patterns.{IsMisnamedAs, IsSound}
 use Rattle.rn_assemble.specs.Views.{names_of}
-use Rattle.rn_assemble.proofs.KeyPatterns.{refused_by}
-use Rattle.rn_assemble.proofs.SharedPatterns.{shared_held, shared_put}
-use Rattle.rn_assemble.proofs.UsedMethods.{live_body}
+use Rattle.rn_assemble.proofs.Joining.KeyPatterns.{refused_by}
+use Rattle.rn_assemble.proofs.Joining.SharedPatterns.{shared_held, shared_put}
+use Rattle.rn_assemble.proofs.Joining.UsedMethods.{live_body}
 use Rattle.rn_assemble.proofs.combining.member.Goals as goal
 
 pub returns-in_err-share-clause-kept : goal.returns-in_err-share-clause-kept

@@ -9,8 +9,8 @@ use Rattle.rn_assemble.specs.Listed.{components_in}
 use Rattle.rn_assemble.specs.Patterns.{AreSound, IsMisnamedAs, IsSound}
 use Rattle.rn_assemble.specs.Refusal.{BreaksNameRules}
 use Rattle.rn_assemble.specs.Views.{names_of}
-use Rattle.rn_assemble.proofs.KeyPatterns.{breaks_at, misnamed_for, part_of_key, refused_by, sound_all, sound_more}
-use Rattle.rn_assemble.proofs.UsedMethods.{at_row, row_size}
+use Rattle.rn_assemble.proofs.Joining.KeyPatterns.{breaks_at, misnamed_for, part_of_key, refused_by, sound_all, sound_more}
+use Rattle.rn_assemble.proofs.Joining.UsedMethods.{at_row, row_size}
 use Rattle.rn_assemble.proofs.combining.members.Goals as goal
 use Rattle.rn_assemble.proofs.combining.members.Goals.{in-Some+in_ok-push, in_default}
 

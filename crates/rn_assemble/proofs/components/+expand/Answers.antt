@@ -17,12 +17,12 @@ use Rattle.rn_assemble.specs.Listed.{IsContents, Live, Rises}
 use Rattle.rn_assemble.specs.Expanded.{CanExpand, CanInclude, Expands, IsItem, included_in, name_at}
 use Rattle.rn_assemble.specs.Noting.{AtNumbers, IncludedLacks, InclusionLacks, IsOwnLack, Notes}
 use Rattle.rn_assemble.specs.Views.{inclusion_view, written_view}
-use Rattle.rn_assemble.proofs.Expansions.{live_below}
-use Rattle.rn_assemble.proofs.Going.{Going, going_none, going_more, finishes, overrides, expands_none, lists_same, contexts_same, zip_size, if_ok_always, if_ok_to}
-use Rattle.rn_assemble.proofs.IncludedLacks.{module_noted}
-use Rattle.rn_assemble.proofs.ModuleLookups.{module_at, expanded_is}
-use Rattle.rn_assemble.proofs.NotedLacks.{SomeLacks, notes_none, some_none, some_more}
-use Rattle.rn_assemble.proofs.OwnLacks.{include_noted}
+use Rattle.rn_assemble.proofs.Expansion.Expansions.{live_below}
+use Rattle.rn_assemble.proofs.Expansion.Going.{Going, going_none, going_more, finishes, overrides, expands_none, lists_same, contexts_same, zip_size, if_ok_always, if_ok_to}
+use Rattle.rn_assemble.proofs.Expansion.IncludedLacks.{module_noted}
+use Rattle.rn_assemble.proofs.Expansion.ModuleLookups.{module_at, expanded_is}
+use Rattle.rn_assemble.proofs.Expansion.NotedLacks.{SomeLacks, notes_none, some_none, some_more}
+use Rattle.rn_assemble.proofs.Expansion.OwnLacks.{include_noted}
 use Rattle.rn_assemble.proofs.components.+expand.Goals as goal
 use Rattle.rn_assemble.proofs.components.+expand.Goals.{expand_include-in-Some+in_ok-expand, expand_include-in_default}
 

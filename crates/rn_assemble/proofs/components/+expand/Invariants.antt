@@ -7,8 +7,8 @@ use Rattle.rn_assemble.specs.Listed.{IsContents, Live}
 use Rattle.rn_assemble.specs.Expanded.{CanExpand, name_at}
 use Rattle.rn_assemble.specs.Noting.{AtNumbers, InclusionLacks, Notes}
 use Rattle.rn_assemble.specs.Views.{inclusion_view, written_view}
-use Rattle.rn_assemble.proofs.Going.{Going}
-use Rattle.rn_assemble.proofs.NotedLacks.{SomeLacks}
+use Rattle.rn_assemble.proofs.Expansion.Going.{Going}
+use Rattle.rn_assemble.proofs.Expansion.NotedLacks.{SomeLacks}
 use Rattle.rn_assemble.proofs.components.+expand.Given as goal
 
 abbrev pub invariant-expand-includes : goal.invariant-expand-includes

@@ -9,8 +9,8 @@ use Rattle.rn_assemble.specs.Lacking.{LacksFrom, LacksWithin}
 use Rattle.rn_assemble.specs.Listed.{Live}
 use Rattle.rn_assemble.specs.Expanded.{name_at}
 use Rattle.rn_assemble.specs.Noting.{AtNumbers, Notes}
-use Rattle.rn_assemble.proofs.IncludedLacks.{lack_found}
-use Rattle.rn_assemble.proofs.NotedLacks.{least_lack, some_more}
+use Rattle.rn_assemble.proofs.Expansion.IncludedLacks.{lack_found}
+use Rattle.rn_assemble.proofs.Expansion.NotedLacks.{least_lack, some_more}
 use Rattle.rn_assemble.proofs.components.components_of.Goals as goal
 
 pub loop-root-preserved : goal.loop-root-preserved

@@ -1,5 +1,5 @@
 use Rattle.std.proofs.Common.{◌≡◌, ◌-◌, ◌<◌, ◌≤◌, ℕ, List, length, get_or, take, sym, ap, subst, arith}
-use Rattle.rn_assemble.proofs.LiveLists.{stops_below, stops_empty, goes_below, popped}
+use Rattle.rn_assemble.proofs.Expansion.LiveLists.{stops_below, stops_empty, goes_below, popped}
 use Rattle.rn_assemble.proofs.components.pop_since.Goals as goal
 
 pub returns-then-place-before : goal.returns-then-place-before

@@ -3,7 +3,7 @@ use Rattle.std.proofs.lemmas.List.{length-append}
 use Rattle.rn_syntax.specs.View.{item_view, items_view}
 use Rattle.rn_assemble.specs.Contained.{item_written, written}
 use Rattle.rn_assemble.specs.Views.{names_of, sources_view}
-use Rattle.rn_assemble.proofs.Gathered.{defined_at, defined_behind, adds_more, written_to, inclusions_more}
+use Rattle.rn_assemble.proofs.Expansion.Gathered.{defined_at, defined_behind, adds_more, written_to, inclusions_more}
 use Rattle.rn_assemble.proofs.contents.+gather.Goals as goal
 
 pub gather-items-preserved : goal.gather-items-preserved

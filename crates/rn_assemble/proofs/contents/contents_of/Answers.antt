@@ -5,7 +5,7 @@ use Rattle.rn_assemble.specs.declared.modules.Source.{Source}
 use Rattle.rn_assemble.specs.declared.contents.Contents.{Contents}
 use Rattle.rn_assemble.specs.Listed.{IsContents}
 use Rattle.rn_assemble.specs.Views.{names_of, source_view, sources_view}
-use Rattle.rn_assemble.proofs.Gathered.{defined_each, zip_seen, zip_more}
+use Rattle.rn_assemble.proofs.Expansion.Gathered.{defined_each, zip_seen, zip_more}
 use Rattle.rn_assemble.proofs.contents.contents_of.Goals as goal
 
 pub contents_of_module-requires-clause-defined : goal.contents_of_module-requires-clause-defined

@@ -1,7 +1,7 @@
 -- The numbers of the literals so far.
 use Rattle.std.proofs.Common.{◌≡◌, take}
 use Rattle.rn_assemble.specs.Views.{sources_view, texts_of}
-use Rattle.rn_assemble.proofs.WantedNumbers.{numbers}
+use Rattle.rn_assemble.proofs.Expansion.WantedNumbers.{numbers}
 use Rattle.rn_assemble.proofs.inclusion.included.Given as goal
 
 abbrev pub invariant-loop-literal : goal.invariant-loop-literal

@@ -7,7 +7,7 @@ use Rattle.std.proofs.lemmas.List.{length-map, take_all}
 use Rattle.rn_pattern.specs.Graph.{is_marked, rows_of}
 use Rattle.rn_pattern.proofs.Graphs.Marking.{not_marked}
 use Rattle.rn_pattern.proofs.Graphs.Rows.{row_within}
-use Rattle.rn_assemble.proofs.EntryMarks.{row_marked}
+use Rattle.rn_assemble.proofs.Expansion.EntryMarks.{row_marked}
 use Rattle.rn_assemble.proofs.inclusion.included_marks.Goals as goal
 
 pub mark_row-requires : goal.mark_row-requires

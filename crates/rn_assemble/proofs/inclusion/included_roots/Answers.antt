@@ -14,8 +14,8 @@ use Rattle.rn_assemble.specs.Inclusions.{entries}
 use Rattle.rn_assemble.specs.Instances.{instances_of}
 use Rattle.rn_assemble.specs.Refusal.{IsFirstFor, cycle}
 use Rattle.rn_assemble.specs.Views.{source_view, sources_view}
-use Rattle.rn_assemble.proofs.Entries.{entries_below}
-use Rattle.rn_assemble.proofs.FirstIncludes.{all_included, first_loop, name_seen, rows_are, too_many}
+use Rattle.rn_assemble.proofs.Expansion.Entries.{entries_below}
+use Rattle.rn_assemble.proofs.Expansion.FirstIncludes.{all_included, first_loop, name_seen, rows_are, too_many}
 use Rattle.rn_assemble.proofs.inclusion.included_roots.Goals as goal
 
 pub least_looped-requires : goal.least_looped-requires

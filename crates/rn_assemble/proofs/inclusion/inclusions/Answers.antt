@@ -5,8 +5,8 @@ use Rattle.rn_syntax.specs.View.{module_view}
 use Rattle.rn_assemble.specs.Inclusions.{IsLeastAmong, IsMissing}
 use Rattle.rn_assemble.specs.Refusal.{IsFirstFor, missing}
 use Rattle.rn_assemble.specs.Views.{sources_view, texts_of}
-use Rattle.rn_assemble.proofs.FirstIncludes.{begins, ends, first_missing, goes_on}
-use Rattle.rn_assemble.proofs.WantedNumbers.{literals, numbers}
+use Rattle.rn_assemble.proofs.Expansion.FirstIncludes.{begins, ends, first_missing, goes_on}
+use Rattle.rn_assemble.proofs.Expansion.WantedNumbers.{literals, numbers}
 use Rattle.rn_assemble.proofs.inclusion.inclusions.Goals as goal
 
 pub loop-source-init : goal.loop-source-init

@@ -2,7 +2,7 @@ use Rattle.std.proofs.Common.{◌∙◌, rules}
 use Rattle.std.proofs.lemmas.Fn.{always_returns_same}
 use Rattle.rn_pattern.specs.Order.{text_cmp}
 use Rattle.rn_assemble.specs.declared.modules.Source.{Source}
-use Rattle.rn_assemble.proofs.ModulePlaces.{place_found}
+use Rattle.rn_assemble.proofs.Expansion.ModulePlaces.{place_found}
 use Rattle.rn_assemble.proofs.inclusion.module_named.Goals as goal
 
 pub returns-clause-place : goal.returns-clause-place

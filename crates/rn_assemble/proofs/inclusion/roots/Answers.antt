@@ -6,7 +6,7 @@ use Rattle.std.proofs.lemmas.Iterator.Adapters.{items_from_extend}
 use Rattle.std.proofs.lemmas.Iterator.Consumers.{YieldsList-at, YieldsList-from_enumerate, YieldsList-from_filter_map}
 use Rattle.std.proofs.lemmas.List.{length-map}
 use Rattle.rn_pattern.specs.Graph.{rows_of}
-use Rattle.rn_assemble.proofs.EntryMarks.{number, unmarked_entries}
+use Rattle.rn_assemble.proofs.Expansion.EntryMarks.{number, unmarked_entries}
 use Rattle.rn_assemble.proofs.inclusion.roots.Goals as goal
 
 pub returns : goal.returns

@@ -4,7 +4,7 @@ use Rattle.std.proofs.lemmas.List.{length-map}
 use Rattle.std.proofs.lemmas.List.Elements.{Contains-get_or}
 use Rattle.std.specs.declared.alloc.Global.{Global}
 use Rattle.rn_pattern.specs.Graph.{rows_of}
-use Rattle.rn_assemble.proofs.Counting.{CountsTo, counts_more, counts_all}
+use Rattle.rn_assemble.proofs.Expansion.Counting.{CountsTo, counts_more, counts_all}
 use Rattle.rn_assemble.proofs.instances.+instances_up_to.Goals as goal
 
 pub instances_up_to-count-requires : goal.instances_up_to-count-requires

@@ -1,4 +1,4 @@
-use Rattle.rn_assemble.proofs.Combinations.{combined_valid}
+use Rattle.rn_assemble.proofs.Combined.Combinations.{combined_valid}
 use Rattle.rn_assemble.proofs.laws.combinations_are_valid_alike.Goals as goal
 
 pub returns : goal.returns

@@ -1,4 +1,4 @@
-use Rattle.rn_assemble.proofs.SomeCombination.{some_combination}
+use Rattle.rn_assemble.proofs.Joining.SomeCombination.{some_combination}
 use Rattle.rn_assemble.proofs.laws.components_have_a_combination.Goals as goal
 
 pub returns : goal.returns

@@ -1,5 +1,5 @@
-use Rattle.rn_assemble.proofs.GoodComponents.{set_grammar_writable}
-use Rattle.rn_assemble.proofs.NoRefusal.{assembled_well_formed}
+use Rattle.rn_assemble.proofs.WellFormed.GoodComponents.{set_grammar_writable}
+use Rattle.rn_assemble.proofs.Refusals.NoRefusal.{assembled_well_formed}
 use Rattle.rn_assemble.proofs.laws.grammars_of_sets_are_well_formed.Goals as goal
 
 pub returns-clause-writable : goal.returns-clause-writable

@@ -1,4 +1,4 @@
-use Rattle.rn_assemble.proofs.Depth.{instances_enough, components_enough}
+use Rattle.rn_assemble.proofs.Combined.Depth.{instances_enough, components_enough}
 use Rattle.rn_assemble.proofs.laws.includes_end.Goals as goal
 
 pub returns-clause-same_instances : goal.returns-clause-same_instances

@@ -1,5 +1,5 @@
-use Rattle.rn_assemble.proofs.OneRefusal.{one_first}
-use Rattle.rn_assemble.proofs.OneSet.{first_of_set, one_assembled}
+use Rattle.rn_assemble.proofs.Refusals.OneRefusal.{one_first}
+use Rattle.rn_assemble.proofs.Refusals.OneSet.{first_of_set, one_assembled}
 use Rattle.rn_syntax.proofs.OneTree.{one_tree}
 use Rattle.rn_assemble.proofs.laws.one_first_refusal.Goals as goal
 

@@ -2,7 +2,7 @@ use Rattle.std.proofs.Common.{refl, subst}
 use Rattle.rn_syntax.specs.declared.fault.SyntaxFault.TheVariants as s
 use Rattle.rn_syntax.specs.Faults.{IsFault}
 use Rattle.rn_assemble.specs.Refusal.{deep_brackets, syntax, prefix, builtin, context_value, except}
-use Rattle.rn_assemble.proofs.TextFaults.{first_of_tokens}
+use Rattle.rn_assemble.proofs.Refusals.TextFaults.{first_of_tokens}
 use Rattle.rn_assemble.proofs.modules.no_module.Goals as goal
 
 pub returns-in-Deep : goal.returns-in-Deep

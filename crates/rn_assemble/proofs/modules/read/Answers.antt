@@ -4,7 +4,7 @@ use Rattle.rn_text.specs.Tokens.{HasTokens, lexeme_of}
 use Rattle.rn_text.specs.declared.source.Token.{Token}
 use Rattle.rn_syntax.specs.View.{module_view}
 use Rattle.rn_syntax.proofs.SourceTokens.{tokens_are_spelled}
-use Rattle.rn_assemble.proofs.TextFaults.{faultless}
+use Rattle.rn_assemble.proofs.Refusals.TextFaults.{faultless}
 use Rattle.rn_assemble.proofs.modules.read.Goals as goal
 
 pub returns-in-Ok-parse : goal.returns-in-Ok-parse

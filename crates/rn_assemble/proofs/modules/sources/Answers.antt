@@ -5,7 +5,7 @@ use Rattle.std.proofs.lemmas.Iterator.{YieldsList-from_slice}
 use Rattle.std.proofs.lemmas.Iterator.Consumers.{YieldsList-end, YieldsList-so_far, YieldsList-turn}
 use Rattle.std.proofs.lemmas.Result.{err_from_is_err_and}
 use Rattle.rn_assemble.specs.Refused.{IsFirstRefusal}
-use Rattle.rn_assemble.proofs.ReadModules.{AreReadFrom, read_more, all_met, all_in_order, met_refused}
+use Rattle.rn_assemble.proofs.Answering.ReadModules.{AreReadFrom, read_more, all_met, all_in_order, met_refused}
 use Rattle.rn_assemble.proofs.modules.sources.Goals as goal
 
 pub returns-in_err-tree-clause-err : goal.returns-in_err-tree-clause-err

@@ -1,5 +1,5 @@
 -- The modules that were read.
-use Rattle.rn_assemble.proofs.ReadModules.{AreReadFrom}
+use Rattle.rn_assemble.proofs.Answering.ReadModules.{AreReadFrom}
 use Rattle.rn_assemble.proofs.modules.sources.Given as goal
 
 abbrev pub invariant-loop-module : goal.invariant-loop-module

@@ -1,7 +1,7 @@
 use Rattle.std.proofs.Common.{refl, subst}
 use Rattle.rn_text.specs.Tokens.{HasFault}
 use Rattle.rn_assemble.specs.Refusal.{lexical}
-use Rattle.rn_assemble.proofs.TextFaults.{first_lexical}
+use Rattle.rn_assemble.proofs.Refusals.TextFaults.{first_lexical}
 use Rattle.rn_assemble.proofs.modules.unreadable.Goals as goal
 
 pub returns-in-Lexical : goal.returns-in-Lexical

@@ -1,4 +1,4 @@
-use Rattle.rn_assemble.proofs.Looking.{Looking}
+use Rattle.rn_assemble.proofs.Joining.Looking.{Looking}
 use Rattle.rn_assemble.proofs.references.bodies_of.Given as goal
 
 abbrev pub invariant-loop-place : goal.invariant-loop-place

@@ -1,4 +1,4 @@
-use Rattle.rn_assemble.proofs.FoundReferences.{number_defined, none_defined}
+use Rattle.rn_assemble.proofs.Referring.FoundReferences.{number_defined, none_defined}
 use Rattle.rn_assemble.proofs.references.is_defined.Goals as goal
 
 pub returns-in-Some : goal.returns-in-Some

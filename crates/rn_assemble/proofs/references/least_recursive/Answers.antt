@@ -5,7 +5,7 @@ use Rattle.std.specs.Prelude.{Decides, MatchOption}
 use Rattle.std.proofs.lemmas.Result.{IfOk-weaker}
 use Rattle.rn_pattern.specs.Ranks.{HasNoLoop, IsFirstLoop}
 use Rattle.rn_pattern.proofs.Graphs.Rows.{graph_still, row_within}
-use Rattle.rn_assemble.proofs.NumberedReferences.{least}
+use Rattle.rn_assemble.proofs.Referring.NumberedReferences.{least}
 use Rattle.rn_assemble.proofs.references.least_recursive.Goals as goal
 
 pub reached-requires-clause-graph : goal.reached-requires-clause-graph

@@ -7,7 +7,7 @@ use Rattle.rn_assemble.specs.Combine.{joined_grammar}
 use Rattle.rn_assemble.specs.Listed.{components_in}
 use Rattle.rn_assemble.specs.Referred.{IsLeastOf}
 use Rattle.rn_assemble.specs.Views.{texts_of}
-use Rattle.rn_assemble.proofs.LeastUndefined.{least_still, least_more, behind_more, no_text}
+use Rattle.rn_assemble.proofs.Referring.LeastUndefined.{least_still, least_more, behind_more, no_text}
 use Rattle.rn_assemble.proofs.references.least_undefined.Goals as goal
 use Rattle.rn_assemble.proofs.references.least_undefined.Goals.{then-not-is_defined, else-not-is_defined}
 

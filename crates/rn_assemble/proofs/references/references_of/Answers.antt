@@ -8,8 +8,8 @@ use Rattle.rn_pattern.proofs.Graphs.Rows.{rows_pushed, is_graph, no_rows}
 use Rattle.rn_assemble.specs.Listed.{components_in}
 use Rattle.rn_assemble.specs.Referred.{AreBodiesAt, names_at, outer_references, references}
 use Rattle.rn_assemble.specs.Views.{names_of}
-use Rattle.rn_assemble.proofs.Looking.{none_looked}
-use Rattle.rn_assemble.proofs.GatheredReferences.{Gathered, row_of, gathered_begins, gathered_more, gathered_none, gathered_some, names_anywhere, names_outside}
+use Rattle.rn_assemble.proofs.Joining.Looking.{none_looked}
+use Rattle.rn_assemble.proofs.Referring.GatheredReferences.{Gathered, row_of, gathered_begins, gathered_more, gathered_none, gathered_some, names_anywhere, names_outside}
 use Rattle.rn_assemble.proofs.references.references_of.Goals as goal
 
 pub loop-key-init : goal.loop-key-init

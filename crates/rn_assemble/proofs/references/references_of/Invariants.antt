@@ -7,7 +7,7 @@ use Rattle.rn_pattern.proofs.Graphs.Rows.{AreRows}
 use Rattle.rn_assemble.specs.Listed.{Lists, Live, components_in}
 use Rattle.rn_assemble.specs.Referred.{IsFresh}
 use Rattle.rn_assemble.specs.Views.{names_of}
-use Rattle.rn_assemble.proofs.GatheredReferences.{Gathered}
+use Rattle.rn_assemble.proofs.Referring.GatheredReferences.{Gathered}
 use Rattle.rn_assemble.proofs.references.references_of.Given as goal
 
 abbrev pub invariant-loop-key : goal.invariant-loop-key

@@ -6,7 +6,7 @@ use Rattle.rn_assemble.specs.Components.{Component}
 use Rattle.rn_assemble.specs.Expanded.{AddsLive}
 use Rattle.rn_assemble.specs.Listed.{IsBody, resolved_component}
 use Rattle.rn_assemble.specs.Views.{written_view}
-use Rattle.rn_assemble.proofs.Expansions.{adds_one, body_is, resolved_more}
+use Rattle.rn_assemble.proofs.Expansion.Expansions.{adds_one, body_is, resolved_more}
 use Rattle.rn_assemble.proofs.components.Components.add.Goals as goal
 
 pub loop-number-preserved : goal.loop-number-preserved

@@ -1,6 +1,6 @@
 use Rattle.std.proofs.Common.{◌≡◌, ◌-◌, ◌<◌, ◌≤◌, ℕ, List, length, get_or, sym, subst, arith}
 use Rattle.rn_pattern.specs.Graph.{row, rows_of}
-use Rattle.rn_assemble.proofs.OwnLacks.{since_last, since_none}
+use Rattle.rn_assemble.proofs.Expansion.OwnLacks.{since_last, since_none}
 use Rattle.rn_assemble.proofs.components.Components.has_since.Goals as goal
 
 pub returns-in-Some : goal.returns-in-Some

@@ -7,7 +7,7 @@ use Rattle.rn_syntax.specs.declared.token.Method.TheVariants.{Plain}
 use Rattle.rn_pattern.specs.Graph.{rows_of}
 use Rattle.rn_assemble.specs.Components.{Component}
 use Rattle.rn_assemble.specs.Combine.{is_plain}
-use Rattle.rn_assemble.proofs.UsedMethods.{at_row, row_size, parts, found_method}
+use Rattle.rn_assemble.proofs.Joining.UsedMethods.{at_row, row_size, parts, found_method}
 use Rattle.rn_assemble.proofs.components.Components.is_plain_twice.Goals as goal
 use Rattle.rn_assemble.proofs.components.Components.is_plain_twice.Goals.{then-eq+else-is_plain, else-eq}
 

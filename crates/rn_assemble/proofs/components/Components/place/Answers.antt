@@ -3,7 +3,7 @@ use Rattle.std.specs.declared.alloc.Global.{Global}
 use Rattle.std.proofs.lemmas.List.{length-map}
 use Rattle.rn_pattern.specs.Graph.{row, rows_of}
 use Rattle.rn_assemble.specs.Listed.{ListsBy}
-use Rattle.rn_assemble.proofs.LiveLists.{placed, row_read, row_changed, some_body}
+use Rattle.rn_assemble.proofs.Expansion.LiveLists.{placed, row_read, row_changed, some_body}
 use Rattle.rn_assemble.proofs.components.Components.place.Goals as goal
 
 pub returns-in_ok-push-2-clause-placed : goal.returns-in_ok-push-2-clause-placed

@@ -4,8 +4,8 @@ use Rattle.rn_assemble.specs.declared.contents.Component.{Component}
 use Rattle.rn_assemble.specs.declared.components.Components.{Components}
 use Rattle.rn_assemble.specs.Expanded.{left_by}
 use Rattle.rn_assemble.specs.Listed.{Lists, Live}
-use Rattle.rn_assemble.proofs.LiveLists.{rises_filtered}
-use Rattle.rn_assemble.proofs.Expansions.{range_none, left_none, left_more}
+use Rattle.rn_assemble.proofs.Expansion.LiveLists.{rises_filtered}
+use Rattle.rn_assemble.proofs.Expansion.Expansions.{range_none, left_none, left_more}
 use Rattle.rn_assemble.proofs.components.Components.take_out.Goals as goal
 use Rattle.rn_assemble.proofs.components.Components.take_out.Goals.{in-Some, in_default}
 

@@ -1,6 +1,6 @@
 use Rattle.std.specs.Borrow.{Bor}
 use Rattle.std.proofs.Common.{ℕ, List}
-use Rattle.rn_assemble.proofs.Named.{number_of_place, no_place}
+use Rattle.rn_assemble.proofs.Referring.Named.{number_of_place, no_place}
 use Rattle.rn_assemble.proofs.keys.Keys.find.Goals as goal
 
 pub returns-in-Ok-clause-found : goal.returns-in-Ok-clause-found

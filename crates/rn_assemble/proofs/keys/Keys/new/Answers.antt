@@ -9,7 +9,7 @@ use Rattle.std.proofs.lemmas.List.Filters.{dedup_is}
 use Rattle.rn_pattern.specs.Tree.{Text}
 use Rattle.rn_pattern.specs.Order.{text_cmp}
 use Rattle.rn_assemble.specs.Views.{texts_of, sources_view}
-use Rattle.rn_assemble.proofs.Named.{sorted_once, kept_names, no_other_names}
+use Rattle.rn_assemble.proofs.Referring.Named.{sorted_once, kept_names, no_other_names}
 use Rattle.rn_assemble.proofs.keys.Keys.new.Goals as goal
 
 pub returns : goal.returns

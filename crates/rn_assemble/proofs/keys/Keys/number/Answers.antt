@@ -1,6 +1,6 @@
 use Rattle.std.specs.Borrow.{Bor}
 use Rattle.std.proofs.Common.{ℕ, List}
-use Rattle.rn_assemble.proofs.Named.{number_found}
+use Rattle.rn_assemble.proofs.Referring.Named.{number_found}
 use Rattle.rn_assemble.proofs.keys.Keys.number.Goals as goal
 
 pub returns : goal.returns

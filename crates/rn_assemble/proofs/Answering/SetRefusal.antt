@@ -1,0 +1,32 @@
+-- What stands for a set is what stands for its modules.
+use Rattle.std.proofs.Common.{◌≡◌, List, subst}
+use Rattle.std.specs.Prelude.{MatchOption, Option, Some, None}
+use Rattle.rn_pattern.specs.Matching.{Grammar}
+use Rattle.rn_modset.specs.Contributions.{Member}
+use Rattle.rn_modset.specs.Modules.{Module}
+use Rattle.rn_syntax.proofs.OneTree.{one_tree}
+use Rattle.rn_assemble.specs.declared.refusal.Refusal as code
+use Rattle.rn_assemble.specs.declared.refusal.Refusal.TheVariants as r
+use Rattle.rn_assemble.specs.Checked.{IsGrammarOf}
+use Rattle.rn_assemble.specs.Components.{Source}
+use Rattle.rn_assemble.specs.Refusal.{Refusal, conflict, faulty, AreModules, IsAssembled, IsFaulty, IsFirst, IsFirstFor, Stands, StandsFor}
+use Rattle.rn_assemble.specs.Refused.{refusal_view, IsFirstOfModules, IsFirstRefusal}
+use Rattle.rn_assemble.proofs.Refusals.NoRefusal.{stands}
+use Rattle.rn_assemble.proofs.Refusals.OneSet.{one_effective, one_modules}
+
+module _ (s : List Member) (modules : List Source) (a : AreModules s modules) where
+  stands_back : (q : Refusal) → Stands s q → StandsFor modules q
+  stands_back (conflict x v) h = a.effective.agreed x v h.0
+  stands_back (faulty f x) h = absurd (a.faultless x (subst (λ (ts : List Module). IsFaulty ts x) (one_effective s h.0 a.texts h.1 a.effective) h.2.holds))
+  stands_back q h = subst (λ (l : List Source). StandsFor l q) (one_modules one_tree s h.0 modules h.1 a) h.2
+
+  first_at : (o : Option Refusal) (A : Type 0) → MatchOption o A (IsFirstFor modules) → MatchOption o A (IsFirst s)
+  first_at None A h = h
+  first_at (Some q) A h = (stands s modules a q h.0, λ p l k. h.1 p l (stands_back p k))
+
+  -- the first refusal of the modules is that of the set
+  pub first_of_modules : (q : code.Refusal) → IsFirstOfModules modules q → IsFirstRefusal s q
+  first_of_modules q h = first_at (refusal_view q) (q ≡ r.Memory) h
+
+  pub assembled_of_modules : (g : Grammar) → IsGrammarOf modules g → IsAssembled s g
+  assembled_of_modules g h = (λ q k. h.0 q (stands_back q k), (modules, a, h.1))

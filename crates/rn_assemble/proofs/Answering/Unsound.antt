@@ -1,0 +1,38 @@
+-- Refusals of references.
+use Rattle.std.proofs.Common.{◌≡◌, ℕ, suc, ◌-◌, List, [], get_or, arith}
+use Rattle.rn_pattern.specs.Tree.{Text}
+use Rattle.rn_assemble.specs.Components.{Component}
+use Rattle.rn_assemble.specs.Keyed.{IsNumber}
+use Rattle.rn_assemble.specs.Referred.{IsLeastUndefined}
+use Rattle.rn_assemble.specs.Sound.{IsUnsound}
+use Rattle.rn_assemble.specs.declared.refusal.Refusal.{Refusal}
+use Rattle.rn_assemble.specs.declared.refusal.Refusal.TheVariants as r
+use Rattle.rn_assemble.proofs.Referring.Numbers.{name_at}
+
+pub unsound : (cs : List Component) (q : Refusal) → IsLeastUndefined cs q → IsUnsound cs q
+unsound cs (r.Undefined x) h = h
+unsound cs r.Memory h = tt
+unsound cs (r.Conflict m v) h = absurd h
+unsound cs (r.Encoding m) h = absurd h
+unsound cs (r.Lexical m) h = absurd h
+unsound cs (r.Deep m) h = absurd h
+unsound cs (r.Syntax m) h = absurd h
+unsound cs (r.Prefix m) h = absurd h
+unsound cs (r.Builtin m) h = absurd h
+unsound cs (r.ContextValue m) h = absurd h
+unsound cs (r.Except m) h = absurd h
+unsound cs (r.Missing m w) h = absurd h
+unsound cs (r.Cycle m) h = absurd h
+unsound cs r.Instances h = absurd h
+unsound cs (r.Override m k) h = absurd h
+unsound cs (r.PlainTwice k) h = absurd h
+unsound cs (r.MixedMethods k) h = absurd h
+unsound cs r.NoStart h = absurd h
+unsound cs (r.Recursive n) h = absurd h
+unsound cs (r.NameClass k) h = absurd h
+unsound cs r.OutputTooLarge h = absurd h
+unsound cs r.OutputTooDeep h = absurd h
+
+-- the name of a number
+pub name_there : (names : List Text) (x : Text) (n : ℕ) → IsNumber names x n → get_or names (n - 1) [] ≡ x
+name_there names x n h = let e : n ≡ suc (n - 1) = omega (arith, h.above) in name_at names x n (n - 1) h e

@@ -1,0 +1,6 @@
+-- What components are joined to, and what expanding them comes to.
+pub mod Depth
+pub mod Combinations
+pub mod JoinedKept
+pub mod Joined
+pub mod OneModule

@@ -1,0 +1,22 @@
+-- Includes expanded: components put in, overridden, and what an include lacks.
+pub mod Counting
+pub mod ModulePlaces
+pub mod Gathered
+pub mod LiveLists
+pub mod Expansions
+pub mod Spliced
+pub mod Overriding
+pub mod ModuleLookups
+pub mod Going
+pub mod SameKeys
+pub mod Rooted
+pub mod Lacking
+pub mod NotedLacks
+pub mod IncludedLacks
+pub mod OwnLacks
+pub mod Steps
+pub mod Inclusions
+pub mod Entries
+pub mod WantedNumbers
+pub mod FirstIncludes
+pub mod EntryMarks

@@ -1,0 +1,231 @@
+-- The lacks of a module are those that its includes bring.
+use Rattle.std.proofs.Common.{◌≡◌, ◌⊎◌, inl, inr, ⊎_elim, ℕ, zero, suc, ◌+◌, ◌-◌, ◌≤◌, Bool, true, false, ◌&&◌, ◌||◌, List, [], ◌∷◌, ◌++◌, length, drop, map, Option, Some, None, refl, sym, ap, ◌∙◌, subst, arith, Contains}
+use Rattle.std.specs.Prelude.{bytes_eq, not, slice_range}
+use Rattle.std.specs.List.{Any, AllByRecursion, AllZip, list_any}
+use Rattle.std.proofs.Math.Bool.{or-false}
+use Rattle.std.proofs.lemmas.Bool.{and_parts, false≢true}
+use Rattle.std.proofs.lemmas.List.{length-append, length-map, map-append, get_or-map}
+use Rattle.std.proofs.lemmas.List.Elements.{All-contains, filter_passes}
+use Rattle.std.proofs.lemmas.List.Folds.{Any-from_list_any, list_any-append, list_any-from_Any}
+use Rattle.std.proofs.lemmas.Slice.Eq.{bytes_eq-Decides}
+use Rattle.rn_pattern.specs.Tree.{Text}
+use Rattle.rn_pattern.proofs.Ordered.InOrder.{contained_each, contains_cases, contains_front}
+use Rattle.rn_syntax.specs.Tree as t
+use Rattle.rn_syntax.specs.Tree.{Declaration, Item, Items}
+use Rattle.rn_assemble.specs.declared.contents.Component as code
+use Rattle.rn_assemble.specs.declared.components.Lack.{Lack}
+use Rattle.rn_assemble.specs.declared.contents.Contents.{Contents}
+use Rattle.rn_assemble.specs.Components.{Component, Key, Source, components_within, handed_on, has_key, includes, item_includes, modules_named, same_key}
+use Rattle.rn_assemble.specs.Contained.{AreFlat, Inclusion, IsFlat, Written, inclusions, item_inclusions, item_written, place_in, written}
+use Rattle.rn_assemble.specs.Expanded.{included_in, name_at}
+use Rattle.rn_assemble.specs.Keyed.{key_at}
+use Rattle.rn_assemble.specs.Lacking.{LacksWithin, handed, item_handed}
+use Rattle.rn_assemble.specs.Listed.{AreContents, IsContents, resolved_component}
+use Rattle.rn_assemble.specs.Noting.{AtNumbers, IncludedLacks, InclusionLacks, Notes}
+use Rattle.rn_assemble.specs.Refusal.{item_lacks, items_lack}
+use Rattle.rn_assemble.specs.Views.{IsNumbered, inclusion_view, written_view}
+use Rattle.rn_assemble.proofs.Expansion.Going.{each_drop, each_take}
+use Rattle.rn_assemble.proofs.Expansion.ModuleLookups.{included_agrees, none_named, place_name}
+use Rattle.rn_assemble.proofs.Expansion.NotedLacks.{IsKeyNumber, IsModuleName, SomeLacks, notes_to}
+use Rattle.rn_assemble.proofs.Referring.Numbers.{same_key-Decides}
+use Rattle.rn_assemble.proofs.Expansion.Spliced.{items_none, items_plain, no_includes_behind, no_includes_front, range_parts, whole_range}
+use Rattle.rn_assemble.proofs.Joining.UsedMethods.{kept_contains}
+
+-- some element of a list, and of what it is made to
+any_map : {X Y : Type 0} (f : X → Y) (P : Y → Type 0) (xs : List X) → Any (λ x. P (f x)) xs → Any P (map f xs)
+any_map f P xs (k, x, l, e, p) = (k, f x, omega (arith, l, length-map xs f), get_or-map f xs k x (f x) l ∙ ap f e, p)
+
+any_unmap : {X Y : Type 0} (f : X → Y) (P : Y → Type 0) (xs : List X) → Any P (map f xs) → Any (λ x. P (f x)) xs
+any_unmap f P [] (k, y, l, e, p) = absurd (omega (arith, l))
+any_unmap f P (x ∷ xs) (zero, y, l, e, p) = (0, x, omega arith, refl, subst P (sym e) p)
+any_unmap f P (x ∷ xs) (suc k, y, l, e, p) = let r = any_unmap f P xs (k, y, omega (arith, l), e, p) in (suc r.0, r.1, omega (arith, r.2), r.3, r.4)
+
+-- which key is lacked by an include alone
+module _ (modules : List Source) (f : Text → Text → List Component) (at : Option ℕ → Text → List Component) (agree : (w v : Text) → at (place_in modules w) v ≡ f w v) (u : Text) (ds : List Declaration) where
+  abbrev res : List Written → List Component
+  res ws = map (resolved_component u ds) ws
+
+  abbrev lacks_by : List Written → Key → Inclusion → Bool
+  lacks_by ws k i = has_key k (res (slice_range ws i.first i.end)) && not (has_key k (at i.module_at (handed_on u ds i.inherit)))
+
+  mutual
+    item_lacks_by : (ws : List Written) (k : Key) (x : Item) (n : ℕ) → IsFlat x → n + length (item_written x) ≤ length ws → slice_range ws n (n + length (item_written x)) ≡ item_written x
+        → list_any (lacks_by ws k) (item_inclusions modules n x) ≡ item_lacks f u ds x k
+    item_lacks_by ws k (t.define x m p) n fl l e = refl
+    item_lacks_by ws k (t.start m p) n fl l e = refl
+    item_lacks_by ws k (t.div xs) n fl l e = items_lack_by ws k xs n fl l e
+    item_lacks_by ws k (t.include w h xs) n fl l e =
+        let v = handed_on u ds h in
+        let i : Inclusion = record { module_at = place_in modules w; inherit = h; first = n; end = n + length (written xs) } in
+        ap (λ (is : List Inclusion). list_any (lacks_by ws k) (is ++ i ∷ [])) (items_none modules n xs fl) ∙ or-false (lacks_by ws k i)
+        ∙ (λ j. has_key k (res (e j)) && not (has_key k (agree w v j)))
+        ∙ ap (λ (cs : List Component). has_key k cs && not (has_key k (f w v))) (sym (items_plain modules f at agree u ds xs fl))
+
+    items_lack_by : (ws : List Written) (k : Key) (xs : Items) (n : ℕ) → AreFlat xs → n + length (written xs) ≤ length ws → slice_range ws n (n + length (written xs)) ≡ written xs
+        → list_any (lacks_by ws k) (inclusions modules n xs) ≡ items_lack f u ds xs k
+    items_lack_by ws k t.no_items n fl l e = refl
+    items_lack_by ws k (t.item x xs) n fl l e =
+        let m = n + length (item_written x) in
+        let size = length-append (item_written x) (written xs) in
+        let parts = range_parts ws (item_written x) (written xs) n l e in
+        let first = item_lacks_by ws k x n fl.0 (omega (arith, l, size)) parts.0 in
+        let rest = items_lack_by ws k xs m fl.1 (omega (arith, l, size)) parts.1 in
+        list_any-append (lacks_by ws k) (item_inclusions modules n x) (inclusions modules m xs) ∙ (λ j. first j || rest j)
+
+  items_lack_is : (k : Key) (xs : Items) → AreFlat xs → list_any (lacks_by (written xs) k) (inclusions modules 0 xs) ≡ items_lack f u ds xs k
+  items_lack_is k xs fl = items_lack_by (written xs) k xs 0 fl (omega arith) (whole_range (written xs))
+
+-- which modules are included, by name and by place, and the namespace that is handed on
+module _ (modules : List Source) (u : Text) (ds : List Declaration) where
+  abbrev wanted_at : Text × Text → Option ℕ × Text
+  wanted_at w = (place_in modules w.0, w.1)
+
+  abbrev included_at : Inclusion → Option ℕ × Text
+  included_at i = (i.module_at, handed_on u ds i.inherit)
+
+  mutual
+    none_handed_item : (x : Item) → item_includes x ≡ [] → item_handed u ds x ≡ []
+    none_handed_item (t.define x m p) e = refl
+    none_handed_item (t.start m p) e = refl
+    none_handed_item (t.div xs) e = none_handed xs e
+    none_handed_item (t.include w h xs) e = cc
+
+    none_handed : (xs : Items) → includes xs ≡ [] → handed u ds xs ≡ []
+    none_handed t.no_items e = refl
+    none_handed (t.item x xs) e =
+        let first = none_handed_item x (no_includes_front (item_includes x) (includes xs) e) in
+        let rest = none_handed xs (no_includes_behind (item_includes x) (includes xs) e) in
+        λ i. first i ++ rest i
+
+  mutual
+    item_handed_by : (n : ℕ) (x : Item) → IsFlat x → map wanted_at (item_handed u ds x) ≡ map included_at (item_inclusions modules n x)
+    item_handed_by n (t.define x m p) fl = refl
+    item_handed_by n (t.start m p) fl = refl
+    item_handed_by n (t.div xs) fl = handed_by n xs fl
+    item_handed_by n (t.include w h xs) fl =
+        let i : Inclusion = record { module_at = place_in modules w; inherit = h; first = n; end = n + length (written xs) } in
+        ap (λ (ws : List (Text × Text)). wanted_at (w, handed_on u ds h) ∷ map wanted_at ws) (none_handed xs fl) ∙ sym (ap (λ (is : List Inclusion). map included_at (is ++ i ∷ [])) (items_none modules n xs fl))
+
+    handed_by : (n : ℕ) (xs : Items) → AreFlat xs → map wanted_at (handed u ds xs) ≡ map included_at (inclusions modules n xs)
+    handed_by n t.no_items fl = refl
+    handed_by n (t.item x xs) fl =
+        let m = n + length (item_written x) in
+        let first = item_handed_by n x fl.0 in
+        let rest = handed_by m xs fl.1 in
+        map-append wanted_at (item_handed u ds x) (handed u ds xs) ∙ (λ j. first j ++ rest j) ∙ sym (map-append included_at (item_inclusions modules n x) (inclusions modules m xs))
+
+-- a module that is not there lacks nothing
+nothing_lacked : (depth : ℕ) (modules : List Source) (w v y : Text) (k : Key) → modules_named w modules ≡ [] → ¬ LacksWithin depth modules w v y k
+nothing_lacked zero modules w v y k e h = h
+nothing_lacked (suc depth) modules w v y k e h =
+    let c : Contains [] h.0 = subst (λ (ms : List Source). Contains ms h.0) e h.1 in
+    absurd (omega (arith, c.1))
+
+lacked_at : (depth : ℕ) (modules : List Source) (w v y : Text) (k : Key) (o : Option ℕ) → place_in modules w ≡ o → LacksWithin depth modules w v y k → IncludedLacks depth modules o v y k
+lacked_at depth modules w v y k None e h = nothing_lacked depth modules w v y k (none_named w 0 modules e) h
+lacked_at depth modules w v y k (Some i) e h = subst (λ x. LacksWithin depth modules x v y k) (sym (place_name w i modules e)) h
+
+lacked_from : (depth : ℕ) (modules : List Source) (w v y : Text) (k : Key) (o : Option ℕ) → place_in modules w ≡ o → IncludedLacks depth modules o v y k → LacksWithin depth modules w v y k
+lacked_from depth modules w v y k None e h = absurd h
+lacked_from depth modules w v y k (Some i) e h = subst (λ x. LacksWithin depth modules x v y k) (place_name w i modules e) h
+
+-- the lacks of the one module of a name
+module _ (depth : ℕ) (modules : List Source) (x u : Text) (m : Source) (named : modules_named x modules ≡ m ∷ []) (flat : AreFlat m.tree.items) (y : Text) (k : Key) where
+  abbrev is : List Inclusion
+  is = inclusions modules 0 m.tree.items
+
+  abbrev Brought : Inclusion → Type 0
+  Brought i = InclusionLacks depth modules x u m.tree.declarations (written m.tree.items) i y k
+
+  abbrev Within : Option ℕ × Text → Type 0
+  Within w = IncludedLacks depth modules w.0 w.1 y k
+
+  -- in a module, by its own includes or within
+  abbrev InModule : Source → Type 0
+  InModule n = ((x ≡ y) × (items_lack (components_within depth modules) u n.tree.declarations n.tree.items k ≡ true))
+      ⊎ ((w : Text × Text) × Contains {X = Text × Text} (handed u n.tree.declarations n.tree.items) w × LacksWithin depth modules w.0 w.1 y k)
+
+  abbrev test : Inclusion → Bool
+  test = lacks_by modules (components_within depth modules) (included_in depth modules) (included_agrees depth modules) u m.tree.declarations (written m.tree.items) k
+
+  own_is : list_any test is ≡ items_lack (components_within depth modules) u m.tree.declarations m.tree.items k
+  own_is = items_lack_is modules (components_within depth modules) (included_in depth modules) (included_agrees depth modules) u m.tree.declarations k m.tree.items flat
+
+  to_brought : InModule m → Any Brought is
+  to_brought (inl (s, e)) = let a = Any-from_list_any test is (own_is ∙ e) in (a.0, a.1, a.2, a.3, inl (s, a.4))
+  to_brought (inr (w, c, h)) =
+      let at : Any Within (map (wanted_at modules u m.tree.declarations) (handed u m.tree.declarations m.tree.items)) = any_map (wanted_at modules u m.tree.declarations) Within (handed u m.tree.declarations m.tree.items) (c.0, w, c.1, c.2, lacked_at depth modules w.0 w.1 y k (place_in modules w.0) refl h) in
+      let a = any_unmap (included_at modules u m.tree.declarations) Within is (subst (λ (ws : List (Option ℕ × Text)). Any Within ws) (handed_by modules u m.tree.declarations 0 m.tree.items flat) at) in
+      (a.0, a.1, a.2, a.3, inr a.4)
+
+  from_brought : Any Brought is → InModule m
+  from_brought (j, i, l, e, inl (s, b)) = inl (s, sym own_is ∙ list_any-from_Any test is (j, i, l, e, b))
+  from_brought (j, i, l, e, inr h) =
+      let at : Any Within (map (included_at modules u m.tree.declarations) is) = any_map (included_at modules u m.tree.declarations) Within is (j, i, l, e, h) in
+      let a = any_unmap (wanted_at modules u m.tree.declarations) Within (handed u m.tree.declarations m.tree.items) (subst (λ (ws : List (Option ℕ × Text)). Any Within ws) (sym (handed_by modules u m.tree.declarations 0 m.tree.items flat)) at) in
+      inr (a.1, (a.0, a.2, a.3), lacked_from depth modules a.1.0 a.1.1 y k (place_in modules a.1.0) refl a.4)
+
+  pub lacks_brought : LacksWithin (suc depth) modules x u y k → SomeLacks (InclusionLacks depth modules x u m.tree.declarations (written m.tree.items)) is y k
+  lacks_brought h =
+      let only : (m ≡ h.0) ⊎ Contains [] h.0 = contains_cases m h.0 [] (subst (λ (ms : List Source). Contains ms h.0) named h.1) in
+      let a = to_brought (⊎_elim (λ s. subst InModule (sym s) h.2) (λ c. absurd (omega (arith, c.1))) only) in
+      (a.1, (a.0, a.2, a.3), a.4)
+
+  pub brought_lacks : SomeLacks (InclusionLacks depth modules x u m.tree.declarations (written m.tree.items)) is y k → LacksWithin (suc depth) modules x u y k
+  brought_lacks (i, c, h) = (m, subst (λ (ms : List Source). Contains ms m) (sym named) (contains_front m []), from_brought (c.0, i, c.1, c.2, h))
+
+-- what the includes of a module's contents brought is what the module lacks
+pub module_noted : (depth : ℕ) (modules : List Source) (names : List Text) (x u : Text) (m : Source) (content : Contents) (old new : Option Lack) → modules_named x modules ≡ m ∷ [] → AreFlat m.tree.items → IsContents modules names m content
+    → Notes (AtNumbers modules names (SomeLacks (InclusionLacks depth modules x u m.tree.declarations (map (written_view names) content.components.items)) (map inclusion_view content.includes.items))) old new
+    → Notes (AtNumbers modules names (LacksWithin (suc depth) modules x u)) old new
+module_noted depth modules names x u m content old new named flat is h =
+    let By : List Written → List Inclusion → Text → Key → Type 0 = λ ws js. SomeLacks (InclusionLacks depth modules x u m.tree.declarations ws) js in
+    let ws = written m.tree.items in
+    let js = inclusions modules 0 m.tree.items in
+    let here : Notes (AtNumbers modules names (By ws js)) old new = subst (λ (ks : List Inclusion). Notes (AtNumbers modules names (By ws ks)) old new) is.includes
+    (subst (λ (vs : List Written). Notes (AtNumbers modules names (By vs (map inclusion_view content.includes.items))) old new) is.components h) in
+    notes_to (AtNumbers modules names (By ws js)) (AtNumbers modules names (LacksWithin (suc depth) modules x u)) old new
+    (λ l p. (p.0, p.1, brought_lacks depth modules x u m named flat (name_at modules l.«module») (key_at names l.key) p.2))
+    (λ l p. (p.0, p.1, lacks_brought depth modules x u m named flat (name_at modules l.«module») (key_at names l.key) p.2)) here
+
+-- a lack is of one of the modules, and of one of the keys
+paired : {X Y : Type 0} (R : X → Y → Type 0) (xs : List X) (ys : List Y) (x : X) → AllZip R xs ys → Contains xs x → (y : Y) × R x y
+paired R [] ys x z c = absurd (omega (arith, c.1))
+paired R (a ∷ xs) [] x z c = absurd z
+paired R (a ∷ xs) (b ∷ ys) x z c = ⊎_elim (λ e. (b, subst (λ v. R v b) e z.0)) (λ d. paired R xs ys x z.1 d) (contains_cases a x xs c)
+
+abbrev HasNumber : List Text → Written → Type 0
+HasNumber names w = IsKeyNumber names w.key
+
+numbered_written : (names : List Text) (cs : List code.Component) → AllByRecursion (IsNumbered names) cs → AllByRecursion (HasNumber names) (map (written_view names) cs)
+numbered_written names [] h = tt
+numbered_written names (c ∷ cs) h = ((c.key, h.0, refl), numbered_written names cs h.1)
+
+number_at : (names : List Text) (k : Key) (w : Written) (b r : Bool) → same_key k w.key ≡ b → HasNumber names w → (r ≡ true → IsKeyNumber names k) → (b || r) ≡ true → IsKeyNumber names k
+number_at names k w true r e h f t = (h.0, h.1, (same_key-Decides k w.key).0 e ∙ h.2)
+number_at names k w false r e h f t = f t
+
+number_of : (names : List Text) (u : Text) (ds : List Declaration) (k : Key) (ws : List Written) → AllByRecursion (HasNumber names) ws → has_key k (map (resolved_component u ds) ws) ≡ true → IsKeyNumber names k
+number_of names u ds k [] h e = absurd (false≢true e)
+number_of names u ds k (w ∷ ws) h e = number_at names k w (same_key k w.key) (has_key k (map (resolved_component u ds) ws)) refl h.0 (number_of names u ds k ws h.1) e
+
+module _ (modules : List Source) (names : List Text) (contents : List Contents) (are : AreContents modules names contents) (flat : AllByRecursion (λ (m : Source). AreFlat m.tree.items) modules) where
+  key_number : (depth : ℕ) (u : Text) (m : Source) (k : Key) → Contains modules m → items_lack (components_within depth modules) u m.tree.declarations m.tree.items k ≡ true → IsKeyNumber names k
+  key_number depth u m k c e =
+      let r = paired (IsContents modules names) modules contents m are c in
+      let ws = written m.tree.items in
+      let fl = contained_each (λ (n : Source). AreFlat n.tree.items) modules flat m c in
+      let a = Any-from_list_any (lacks_by modules (components_within depth modules) (included_in depth modules) (included_agrees depth modules) u m.tree.declarations ws k) (inclusions modules 0 m.tree.items) (items_lack_is modules (components_within depth modules) (included_in depth modules) (included_agrees depth modules) u m.tree.declarations k m.tree.items fl ∙ e) in
+      let i = a.1 in
+      let own = and_parts (has_key k (map (resolved_component u m.tree.declarations) (slice_range ws i.first i.end))) _ a.4 in
+      let each : AllByRecursion (HasNumber names) ws = subst (λ (vs : List Written). AllByRecursion (HasNumber names) vs) r.1.components (numbered_written names r.0.components.items r.1.numbered) in
+      number_of names u m.tree.declarations k (slice_range ws i.first i.end) (each_take (HasNumber names) (i.end - i.first) (drop i.first ws) (each_drop (HasNumber names) i.first ws each)) own.0
+
+  pub lack_found : (depth : ℕ) (x u y : Text) (k : Key) → LacksWithin depth modules x u y k → IsModuleName modules y × IsKeyNumber names k
+  lack_found zero x u y k h = absurd h
+  lack_found (suc depth) x u y k (m, c, inl (s, e)) =
+      let there = kept_contains (λ (n : Source). bytes_eq x n.name) modules m c in
+      let test = All-contains (λ (n : Source). bytes_eq x n.name ≡ true) (modules_named x modules) m (filter_passes (λ (n : Source). bytes_eq x n.name) modules) c in
+      let name : y ≡ m.name = sym s ∙ (bytes_eq-Decides x m.name).0 test in
+      ((there.0, there.1, name ∙ sym (get_or-map (λ (n : Source). n.name) modules there.0 m [] there.1 ∙ ap (λ (n : Source). n.name) there.2)), key_number depth u m k there e)
+  lack_found (suc depth) x u y k (m, c, inr (w, d, h)) = lack_found depth w.0 w.1 y k h

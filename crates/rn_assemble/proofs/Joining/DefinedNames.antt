@@ -1,0 +1,80 @@
+-- The names that components define, one component after the other.
+use Rattle.std.proofs.Common.{◌≡◌, Bool, true, false, ◌||◌, cond, List, [], ◌∷◌, ◌++◌, map, filter, not, refl, sym, ap, ◌∙◌, inl, inr, append-nil}
+use Rattle.std.specs.Prelude.{bytes_eq}
+use Rattle.std.specs.List.{list_any}
+use Rattle.std.proofs.lemmas.Bool.{false≢true, cases_Bool}
+use Rattle.std.proofs.lemmas.List.Elements.{filter-append}
+use Rattle.std.proofs.lemmas.Slice.Eq.{bytes_eq-Decides}
+use Rattle.rn_pattern.specs.Tree.{Text, Tree}
+use Rattle.rn_assemble.specs.Combine.{defined_names, first_of, of_key}
+use Rattle.rn_assemble.specs.Components.{Component, Key, has_key, name_key, same_key, start_key}
+use Rattle.rn_assemble.proofs.Combined.Combinations.{is_some, named}
+
+or_first : (a b : Bool) → (a || b) ≡ false → a ≡ false
+or_first true b e = e
+or_first false b e = refl
+
+or_second : (a b : Bool) → (a || b) ≡ false → b ≡ false
+or_second true b e = absurd (false≢true (sym e))
+or_second false b e = e
+
+or_other : (a b : Bool) → (a || b) ≡ true → b ≡ false → a ≡ true
+or_other true b e f = refl
+or_other false b e f = absurd (false≢true (sym f ∙ e))
+
+-- a text is the same either way
+same_either_at : (b : Bool) (x y : Text) → bytes_eq y x ≡ b → bytes_eq x y ≡ false → b ≡ false
+same_either_at true x y e n = absurd (false≢true (sym n ∙ (bytes_eq-Decides x y).1 (sym ((bytes_eq-Decides y x).0 e))))
+same_either_at false x y e n = refl
+
+differs : (x y : Text) → bytes_eq x y ≡ false → bytes_eq y x ≡ false
+differs x y n = same_either_at (bytes_eq y x) x y refl n
+
+-- one more name behind the others
+first_behind : (k : Key) (x : Text) (ys : List Text) → same_key (name_key x) k ≡ false → first_of k (ys ++ x ∷ []) ≡ first_of k ys ++ x ∷ []
+first_behind start_key x ys n = refl
+first_behind (name_key y) x ys n =
+    let p : Text → Bool = λ z. not (bytes_eq y z) in
+    ap (λ zs. y ∷ zs) (filter-append p ys (x ∷ []) ∙ ap (λ b. filter p ys ++ cond (not b) (x ∷ []) []) (differs x y n))
+
+first_again : (k : Key) (x : Text) (ys : List Text) → same_key (name_key x) k ≡ true → first_of k (ys ++ x ∷ []) ≡ first_of k ys
+first_again start_key x ys e = absurd (false≢true e)
+first_again (name_key y) x ys e =
+    let p : Text → Bool = λ z. not (bytes_eq y z) in
+    let same : bytes_eq y x ≡ true = (bytes_eq-Decides y x).1 (sym ((bytes_eq-Decides x y).0 e)) in
+    ap (λ zs. y ∷ zs) (filter-append p ys (x ∷ []) ∙ ap (λ b. filter p ys ++ cond (not b) (x ∷ []) []) same ∙ append-nil (filter p ys))
+
+-- one more component
+pub defined_start : (cs : List Component) (c : Component) → c.key ≡ start_key → defined_names (cs ++ c ∷ []) ≡ defined_names cs
+defined_start [] c e = ap (λ k. first_of k []) e
+defined_start (d ∷ cs) c e = ap (first_of d.key) (defined_start cs c e)
+
+pub defined_new : (cs : List Component) (c : Component) (x : Text) → c.key ≡ name_key x → has_key (name_key x) cs ≡ false → defined_names (cs ++ c ∷ []) ≡ defined_names cs ++ x ∷ []
+defined_new [] c x e n = ap (λ k. first_of k []) e
+defined_new (d ∷ cs) c x e n =
+    ap (first_of d.key) (defined_new cs c x e (or_second (same_key (name_key x) d.key) (has_key (name_key x) cs) n))
+    ∙ first_behind d.key x (defined_names cs) (or_first (same_key (name_key x) d.key) (has_key (name_key x) cs) n)
+
+pub defined_known : (cs : List Component) (c : Component) (x : Text) → c.key ≡ name_key x → has_key (name_key x) cs ≡ true → defined_names (cs ++ c ∷ []) ≡ defined_names cs
+defined_known [] c x e h = absurd (false≢true h)
+defined_known (d ∷ cs) c x e h = elim (cases_Bool (has_key (name_key x) cs)) [
+  | inl there ↦ ap (first_of d.key) (defined_known cs c x e there)
+  | inr none ↦ ap (first_of d.key) (defined_new cs c x e none) ∙ first_again d.key x (defined_names cs) (or_other (same_key (name_key x) d.key) (has_key (name_key x) cs) h none)
+]
+
+-- a name without a component is none of them
+none_at : (b : Bool) (c : Component) (rest : List Component) (r : Bool) → (b || r) ≡ false → (r ≡ false → rest ≡ []) → cond b (c ∷ rest) rest ≡ []
+none_at true c rest r e f = absurd (false≢true (sym e))
+none_at false c rest r e f = f e
+
+none_of_key : (k : Key) (cs : List Component) → has_key k cs ≡ false → of_key k cs ≡ []
+none_of_key k [] e = refl
+none_of_key k (c ∷ cs) e = none_at (same_key k c.key) c (of_key k cs) (has_key k cs) e (none_of_key k cs)
+
+pub not_among : (x : Text) (cs : List Component) → has_key (name_key x) cs ≡ false → list_any (bytes_eq x) (defined_names cs) ≡ false
+not_among x cs n = named x cs ∙ ap (λ ds. is_some (map (λ (c : Component). c.body) ds)) (none_of_key (name_key x) cs n)
+
+-- the names of definitions
+pub names_mapped : (f : Text → Tree) (xs : List Text) → map (λ (d : Text × Tree). d.0) (map (λ (x : Text). (x, f x)) xs) ≡ xs
+names_mapped f [] = refl
+names_mapped f (x ∷ xs) = ap (λ ys. x ∷ ys) (names_mapped f xs)

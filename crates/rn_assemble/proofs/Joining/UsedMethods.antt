@@ -1,0 +1,142 @@
+-- The methods of the components of a key, one after the other.
+use Rattle.std.proofs.Common.{◌≡◌, ℕ, zero, suc, ◌+◌, ◌<◌, Bool, true, false, ◌||◌, cond, List, [], ◌∷◌, ◌++◌, length, get_or, take, drop, filter, Some, None, refl, sym, ap, ◌∙◌, subst, arith, Contains, eqb, inl, inr}
+use denote.Enum.Bare.{sameb}
+use Rattle.std.specs.Prelude.{Option, slice_get}
+use Rattle.std.specs.List.{list_any}
+use Rattle.std.specs.Option.{option_eq}
+use Rattle.std.specs.List.Sorted.{IsStrictlySortedBy}
+use Rattle.std.proofs.lemmas.List.{length-map, get_or-map, take_more, take-append-drop}
+use Rattle.rn_pattern.specs.Tree.{Text}
+use Rattle.rn_pattern.specs.Order.{text_cmp}
+use Rattle.rn_pattern.specs.Graph.{row}
+use Rattle.rn_pattern.proofs.Ordered.InOrder.{contained_each, contains_cases, contains_front, contains_behind}
+use Rattle.rn_syntax.specs.contracts.token.Method.{the_type}
+use Rattle.rn_syntax.specs.declared.token.Method.{Method}
+use Rattle.rn_syntax.specs.declared.token.Method.TheVariants as m
+use Rattle.rn_assemble.specs.declared.components.Body.{Body}
+use Rattle.rn_assemble.specs.Components.{Component}
+use Rattle.rn_assemble.specs.Combine.{of_key}
+use Rattle.rn_assemble.specs.Keyed.{key_at}
+use Rattle.rn_assemble.specs.Listed.{IsBody, IsLive, Live, ListsBy, components_in}
+use Rattle.rn_assemble.specs.Methods.{is_method}
+use Rattle.rn_assemble.proofs.Referring.FoundReferences.{shown, all_keyed, row_is}
+use Rattle.rn_assemble.proofs.Joining.KeyedBodies.{of_key_at}
+
+-- the body of a live component
+pub live_body : (names : List Text) (bodies : List Body) (list : List ℕ) (rows : List (List ℕ)) (live : List Live) (e : Live) (n : ℕ) (b : Body) → ListsBy names bodies list rows live → Contains live e
+    → slice_get list e.place ≡ Some n → slice_get bodies n ≡ Some b → IsBody names b e.key e.component
+live_body names bodies list rows live e n b h c en eb =
+    let s = shown names bodies list e (contained_each (IsLive names bodies list) live h.are e c) in
+    let same : s.number ≡ n = let q : Some s.number ≡ Some n = sym s.at ∙ en in cc in
+    let body : s.body ≡ b = let q : Some s.body ≡ Some b = sym s.is ∙ ap (slice_get bodies) same ∙ eb in cc in
+    subst (λ (d : Body). IsBody names d e.key e.component) body s.made
+
+-- and its method
+pub method_of : (names : List Text) (bodies : List Body) (list : List ℕ) (rows : List (List ℕ)) (live : List Live) (e : Live) (n : ℕ) (b : Body) → ListsBy names bodies list rows live → Contains live e
+    → slice_get list e.place ≡ Some n → slice_get bodies n ≡ Some b → b.component.method ≡ e.component.method
+method_of names bodies list rows live e n b h c en eb =
+    let made = live_body names bodies list rows live e n b h c en eb in
+    sym (ap (λ (d : Component). d.method) made.shown.2)
+
+pub method_there : (names : List Text) (bodies : List Body) (list : List ℕ) (rows : List (List ℕ)) (live : List Live) (e : Live) → ListsBy names bodies list rows live → Contains live e → slice_get list e.place ≡ None → ⊥
+method_there names bodies list rows live e h c en =
+    let s = shown names bodies list e (contained_each (IsLive names bodies list) live h.are e c) in
+    let q : Some s.number ≡ None = sym s.at ∙ en in cc
+
+pub body_there : (names : List Text) (bodies : List Body) (list : List ℕ) (rows : List (List ℕ)) (live : List Live) (e : Live) (n : ℕ) → ListsBy names bodies list rows live → Contains live e → slice_get list e.place ≡ Some n → slice_get bodies n ≡ None → ⊥
+body_there names bodies list rows live e n h c en eb =
+    let s = shown names bodies list e (contained_each (IsLive names bodies list) live h.are e c) in
+    let same : s.number ≡ n = let q : Some s.number ≡ Some n = sym s.at ∙ en in cc in
+    let q : Some s.body ≡ None = sym s.is ∙ ap (slice_get bodies) same ∙ eb in cc
+
+kept_contains_at : {X : Type 0} (b : Bool) (x y : X) (xs ys : List X) → Contains (cond b (x ∷ ys) ys) y → (Contains ys y → Contains xs y) → Contains (x ∷ xs) y
+kept_contains_at true x y xs ys c f = elim (contains_cases x y ys c) [ inl e ↦ subst (λ z. Contains (x ∷ xs) z) e (contains_front x xs) | inr k ↦ contains_behind x y xs (f k) ]
+kept_contains_at false x y xs ys c f = contains_behind x y xs (f c)
+
+pub kept_contains : {X : Type 0} (p : X → Bool) (xs : List X) (y : X) → Contains (filter p xs) y → Contains xs y
+kept_contains p [] y c = c
+kept_contains p (x ∷ xs) y c = kept_contains_at (p x) x y xs (filter p xs) c (kept_contains p xs y)
+
+item : (xs : List Live) (i : ℕ) → i < length xs → (e : Live) × ((d : Live) → get_or xs i d ≡ e)
+item [] i l = absurd (omega (arith, l))
+item (x ∷ xs) zero l = (x, λ d. refl)
+item (x ∷ xs) (suc i) l = item xs i (omega (arith, l))
+
+-- the place at an index of a row is that of the live component there
+module _ (names : List Text) (bodies : List Body) (list : List ℕ) (rows : List (List ℕ)) (live : List Live) (h : ListsBy names bodies list rows live) (o : IsStrictlySortedBy text_cmp names) (key : ℕ) (k : key < suc (length names)) where
+  abbrev pub of_number : List Live
+  of_number = filter (λ (e : Live). eqb e.key key) live
+
+  abbrev pub parts : List Component
+  parts = of_key (key_at names key) (components_in live)
+
+  parts_are : parts ≡ components_in of_number
+  parts_are = of_key_at names o key k live (all_keyed names bodies list live h.are)
+
+  -- each live component of the row
+  pub at_row : (i : ℕ) → i < length (row rows key) → (e : Live) × Contains live e × (e.place ≡ get_or (row rows key) i 0) × (i < length parts) × ((d : Component) → get_or parts i d ≡ e.component)
+  at_row i l =
+      let is = row_is names bodies list rows live h o key k in
+      let below : i < length of_number = omega (arith, l, ap length is, length-map of_number (λ (e : Live). e.place)) in
+      let e = item of_number i below in (
+        e.0,
+        kept_contains (λ (d : Live). eqb d.key key) live e.0 (i, below, e.1 e.0),
+        sym (ap (λ r. get_or r i 0) is ∙ get_or-map (λ (d : Live). d.place) of_number i e.0 0 below ∙ ap (λ (d : Live). d.place) (e.1 e.0)),
+        omega (arith, below, ap length parts_are, length-map of_number (λ (d : Live). d.component)),
+        λ d. ap (λ cs. get_or cs i d) parts_are ∙ get_or-map (λ (d : Live). d.component) of_number i e.0 d below ∙ ap (λ (d : Live). d.component) (e.1 e.0),
+      )
+
+  pub row_size : length (row rows key) ≡ length parts
+  row_size = ap length (row_is names bodies list rows live h o key k) ∙ length-map of_number (λ (e : Live). e.place) ∙ sym (ap length parts_are ∙ length-map of_number (λ (d : Live). d.component))
+
+-- a test of the elements, and a count, of one element more
+any_at : (a b c : Bool) → (a || b) ≡ true → (b ≡ true → c ≡ true) → (a || c) ≡ true
+any_at true b c e f = refl
+any_at false b c e f = f e
+
+pub any_front : {X : Type 0} (p : X → Bool) (xs ys : List X) → list_any p xs ≡ true → list_any p (xs ++ ys) ≡ true
+any_front p [] ys e = cc
+any_front p (x ∷ xs) ys e = any_at (p x) (list_any p xs) (list_any p (xs ++ ys)) e (any_front p xs ys)
+
+or_false_same : (a b : Bool) → a ≡ false → b ≡ false → (a || b) ≡ false
+or_false_same true b e f = e
+or_false_same false b e f = f
+
+any_behind_at : (a b c : Bool) → (a || b) ≡ false → (b ≡ false → c ≡ false) → (a || c) ≡ false
+any_behind_at true b c e f = e
+any_behind_at false b c e f = f e
+
+pub or_true : (a b : Bool) → b ≡ true → (a || b) ≡ true
+or_true true b e = refl
+or_true false b e = e
+
+any_behind : {X : Type 0} (p : X → Bool) (xs : List X) (x : X) → list_any p xs ≡ false → p x ≡ false → list_any p (xs ++ x ∷ []) ≡ false
+any_behind p [] x e f = or_false_same (p x) false f refl
+any_behind p (y ∷ xs) x e f = any_behind_at (p y) (list_any p xs) (list_any p (xs ++ x ∷ [])) e (λ g. any_behind p xs x g f)
+
+pub any_last : {X : Type 0} (p : X → Bool) (xs : List X) (x : X) → p x ≡ true → list_any p (xs ++ x ∷ []) ≡ true
+any_last p [] x f = ap (λ b. b || false) f
+any_last p (y ∷ xs) x f = or_true (p y) (list_any p (xs ++ x ∷ [])) (any_last p xs x f)
+
+pub any_more : {X : Type 0} (p : X → Bool) (xs : List X) (i : ℕ) (x : X) → i < length xs → ((d : X) → get_or xs i d ≡ x) → list_any p (take i xs) ≡ false → p x ≡ false → list_any p (take (i + 1) xs) ≡ false
+any_more p xs i x l e h f = ap (list_any p) (take_more xs i x l ∙ ap (λ y. take i xs ++ y ∷ []) (e x)) ∙ any_behind p (take i xs) x h f
+
+pub any_found : {X : Type 0} (p : X → Bool) (xs : List X) (i : ℕ) (x : X) → i < length xs → ((d : X) → get_or xs i d ≡ x) → p x ≡ true → list_any p xs ≡ true
+any_found p xs i x l e f =
+    let front : list_any p (take (i + 1) xs) ≡ true = ap (list_any p) (take_more xs i x l ∙ ap (λ y. take i xs ++ y ∷ []) (e x)) ∙ any_last p (take i xs) x f in
+    ap (list_any p) (sym (take-append-drop (i + 1) xs)) ∙ any_front p (take (i + 1) xs) (drop (i + 1) xs) front
+
+-- a method that was found is tested by equality
+same_method : (a b : Method) → sameb the_type a b ≡ is_method b a
+same_method m.Plain m.Plain = refl
+same_method m.Plain m.Choice = refl
+same_method m.Plain m.Interleave = refl
+same_method m.Choice m.Plain = refl
+same_method m.Choice m.Choice = refl
+same_method m.Choice m.Interleave = refl
+same_method m.Interleave m.Plain = refl
+same_method m.Interleave m.Choice = refl
+same_method m.Interleave m.Interleave = refl
+
+pub found_method : (found : Option Method) (a b : Method) → found ≡ Some a → option_eq (sameb the_type) found (Some b) ≡ is_method b a
+found_method found a b e = ap (λ o. option_eq (sameb the_type) o (Some b)) e ∙ same_method a b

@@ -1,0 +1,82 @@
+-- The least of names that are not defined, and the numbers of names, found one after the other.
+use Rattle.std.proofs.Common.{◌≡◌, ⊎_elim, ℕ, List, [], ◌∷◌, ◌++◌, Option, Some, None, refl, sym, ap, ◌∙◌, subst, Contains, ◌+◌, ◌<◌, length, take, get_or, Ordering, Less, Equal, Greater}
+use Rattle.std.specs.Prelude.{IsSome, if◌then◌else◌}
+use Rattle.std.specs.Ordering.{is_lt}
+use Rattle.std.proofs.lemmas.Bool.{false≢true}
+use Rattle.std.proofs.lemmas.List.{take_more, map-append, append_assoc}
+use Rattle.std.specs.Borrow.{Bor}
+use Rattle.rn_assemble.specs.Views.{texts_of}
+use Rattle.std.proofs.lemmas.Cmp.{nat_list_cmp_total}
+use Rattle.std.proofs.lemmas.List.Elements.{Contains-append_left, Contains-push, Contains-push_cases}
+use Rattle.rn_pattern.specs.Tree.{Text}
+use Rattle.rn_pattern.specs.Order.{text_cmp}
+use Rattle.rn_pattern.specs.Matching.{Grammar, definition_of}
+use Rattle.rn_assemble.specs.Keyed.{IsNumber}
+use Rattle.rn_assemble.specs.Referred.{AreNumbers, IsLeastOf, lesser_text}
+use Rattle.rn_assemble.proofs.Referring.Numbers.{not_itself}
+
+-- what is read where there is no text
+abbrev pub no_text : Bor (List ℕ)
+no_text = record { ref_ptr = (0, 0); now = [] }
+
+-- one text more
+pub texts_more : (names : List (Bor (List ℕ))) (i : ℕ) → i < length names → texts_of (take (i + 1) names) ≡ texts_of (take i names) ++ (get_or names i no_text).now ∷ []
+texts_more names i h = ap texts_of (take_more names i no_text h) ∙ map-append (λ (s : Bor (List ℕ)). s.now) (take i names) (get_or names i no_text ∷ [])
+
+pub behind_more : (before : List Text) (names : List (Bor (List ℕ))) (i : ℕ) → i < length names → before ++ texts_of (take (i + 1) names) ≡ (before ++ texts_of (take i names)) ++ (get_or names i no_text).now ∷ []
+behind_more before names i h = ap (λ t. before ++ t) (texts_more names i h) ∙ sym (append_assoc before (texts_of (take i names)) ((get_or names i no_text).now ∷ []))
+
+is_none : {A : Type 0} (o : Option A) → ¬ IsSome o → o ≡ None
+is_none None h = refl
+is_none (Some x) h = absurd (h refl)
+
+pub not_none : {A : Type 0} (o : Option A) → IsSome o → ¬ (o ≡ None)
+not_none None h e = false≢true h
+not_none (Some x) h e = cc
+
+module _ (G : Grammar) where
+  pub least_still : (xs : List Text) (o : Option Text) (x : Text) → IsSome (definition_of G x) → IsLeastOf G xs o → IsLeastOf G (xs ++ x ∷ []) o
+  least_still xs None x d h = λ y c. ⊎_elim (λ k. h y k) (λ e. subst (λ z. IsSome (definition_of G z)) e d) (Contains-push_cases xs x y c)
+  least_still xs (Some z) x d h = (
+    Contains-append_left xs (x ∷ []) z h.0,
+    h.1,
+    λ y c n. ⊎_elim (λ k. h.2 y k n) (λ e. absurd (not_none (definition_of G y) (subst (λ w. IsSome (definition_of G w)) e d) n)) (Contains-push_cases xs x y c),
+  )
+
+  lesser_at : (xs : List Text) (z x : Text) (r : Ordering) → text_cmp x z ≡ r → definition_of G x ≡ None → IsLeastOf G xs (Some z) → IsLeastOf G (xs ++ x ∷ []) (Some (if is_lt r then x else z))
+  lesser_at xs z x Less e n h = (
+    Contains-push xs x,
+    n,
+    λ y c m. ⊎_elim (λ k l. h.2 y k m (nat_list_cmp_total.trans y x z l e)) (λ is l. not_itself x (subst (λ w. text_cmp w x ≡ Less) (sym is) l)) (Contains-push_cases xs x y c),
+  )
+  lesser_at xs z x Equal e n h = (
+    Contains-append_left xs (x ∷ []) z h.0,
+    h.1,
+    λ y c m. ⊎_elim (λ k. h.2 y k m) (λ is l. let no : Less ≡ Equal = sym (subst (λ w. text_cmp w z ≡ Less) (sym is) l) ∙ e in cc) (Contains-push_cases xs x y c),
+  )
+  lesser_at xs z x Greater e n h = (
+    Contains-append_left xs (x ∷ []) z h.0,
+    h.1,
+    λ y c m. ⊎_elim (λ k. h.2 y k m) (λ is l. let no : Less ≡ Greater = sym (subst (λ w. text_cmp w z ≡ Less) (sym is) l) ∙ e in cc) (Contains-push_cases xs x y c),
+  )
+
+  pub least_more : (xs : List Text) (o : Option Text) (x : Text) → ¬ IsSome (definition_of G x) → IsLeastOf G xs o → IsLeastOf G (xs ++ x ∷ []) (Some (lesser_text o x))
+  least_more xs None x d h = (
+    Contains-push xs x,
+    is_none (definition_of G x) d,
+    λ y c m. ⊎_elim (λ k. absurd (not_none (definition_of G y) (h y k) m)) (λ is l. not_itself x (subst (λ w. text_cmp w x ≡ Less) (sym is) l)) (Contains-push_cases xs x y c),
+  )
+  least_more xs (Some z) x d h = lesser_at xs z x (text_cmp x z) refl (is_none (definition_of G x) d) h
+
+module _ (names texts : List Text) (numbers : List ℕ) (x : Text) (a : AreNumbers names texts numbers) where
+  pub number_more : (k : ℕ) → IsNumber names x k → AreNumbers names (texts ++ x ∷ []) (numbers ++ k ∷ [])
+  number_more k i = record {
+    only = λ m c. ⊎_elim (λ h. let y = a.only m h in (y.0, Contains-append_left texts (x ∷ []) y.0 y.1, y.2)) (λ e. (x, Contains-push texts x, subst (IsNumber names x) e i)) (Contains-push_cases numbers k m c);
+    all = λ y c n. ⊎_elim (λ h. let m = a.all y h n in (m.0, m.1, Contains-append_left numbers (k ∷ []) m.0 m.2)) (λ e. (k, subst (λ z. IsNumber names z k) e i, Contains-push numbers k)) (Contains-push_cases texts x y c);
+  }
+
+  pub number_none : ¬ Contains names x → AreNumbers names (texts ++ x ∷ []) numbers
+  number_none none = record {
+    only = λ m c. let y = a.only m c in (y.0, Contains-append_left texts (x ∷ []) y.0 y.1, y.2);
+    all = λ y c n. ⊎_elim (λ h. a.all y h n) (λ e. absurd (none (subst (Contains names) (sym e) n))) (Contains-push_cases texts x y c);
+  }
