@@ -51,7 +51,7 @@ mutual
       class_canonical (sorted_once name_cmp flat) (each_sorted_once NameMember name_cmp flat (each_flat NameMember IsCanonicalName names_within members_within (canonical_names cs) (canonical_names_are cs)))
       (climbs_sorted_once name_cmp name_cmp_total name_same flat)
 
-  canonical_names_are : (cs : NameTrees) → AllByRecursion IsCanonicalName (canonical_names cs)
+  pub canonical_names_are : (cs : NameTrees) → AllByRecursion IsCanonicalName (canonical_names cs)
   canonical_names_are no_names = tt
   canonical_names_are (more_names c cs) = (canonical_name_is c, canonical_names_are cs)
 
