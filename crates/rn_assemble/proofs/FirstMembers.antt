@@ -1,11 +1,12 @@
 -- The first places of members, found by the numbers of their bodies.
-use Rattle.std.proofs.Common.{◌≡◌, ℕ, zero, suc, ◌+◌, ◌<◌, ◌≤◌, Bool, true, false, cond, List, [], ◌∷◌, ◌++◌, length, get_or, Option, Some, None, refl, sym, ap, ◌∙◌, subst, arith, below_more, Equal}
+use Rattle.std.proofs.Common.{◌≡◌, ℕ, zero, suc, ◌+◌, ◌<◌, ◌≤◌, Bool, true, false, cond, List, [], ◌∷◌, ◌++◌, length, get_or, Option, Some, None, Vec, refl, sym, ap, ◌∙◌, subst, arith, below_more, Equal}
 use Rattle.std.specs.Prelude.{slice_get, option_and_then}
 use Rattle.std.specs.List.Sorted.{IsStrictlySortedBy}
 use Rattle.std.proofs.lemmas.Cmp.{tied_itself}
 use Rattle.std.proofs.lemmas.List.{length-map, length_push, get_or-map, get_or_append_left, get_or_push}
 use Rattle.std.proofs.lemmas.Option.{get_or_from_slice_get, slice_get-get_or}
-use Rattle.rn_pattern.specs.Graph.{row}
+use Rattle.std.specs.declared.alloc.Global.{Global}
+use Rattle.rn_pattern.specs.Graph.{row, rows_of}
 use Rattle.rn_pattern.specs.Opened.{one_or_node}
 use Rattle.rn_pattern.specs.Order.{text_cmp, tree_cmp}
 use Rattle.rn_pattern.specs.Tree.{Text, Tree, interleave, choice, trees_of}
@@ -34,6 +35,10 @@ members_are : (b : Bool) (ps : List Tree) → 1 < length ps → joined_members (
 members_are b [] l = absurd (omega (arith, l))
 members_are b (p ∷ []) l = absurd (omega (arith, l))
 members_are b (p ∷ q ∷ ps) l = node_members b (p ∷ q ∷ ps)
+
+-- the row of a vector that is there
+pub row_there : (fs : List (Vec ℕ Global)) (n : ℕ) (v : Vec ℕ Global) → v ≡ get_or fs n v → n < length fs → row (rows_of fs) n ≡ v.items
+row_there fs n v e l = get_or-map (λ (w : Vec ℕ Global). w.items) fs n v [] l ∙ ap (λ (w : Vec ℕ Global). w.items) (sym e)
 
 pub none_tied : (members : List Tree) → AreTied [] members
 none_tied members i j p at is = let wrong : None ≡ Some j = at in cc

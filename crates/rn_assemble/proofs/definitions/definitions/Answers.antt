@@ -6,7 +6,7 @@ use Rattle.rn_assemble.specs.Patterns.{IsFirstAt}
 use Rattle.rn_assemble.specs.Views.{names_of}
 use Rattle.rn_assemble.proofs.Defining.{Defining, defining_begins, defining_ends, defining_more, defining_same, pattern_there, places_within}
 use Rattle.rn_assemble.proofs.definitions.definitions.Goals as goal
-use Rattle.rn_assemble.proofs.definitions.definitions.Goals.{in-Some+in-Some-take+in_ok-push, in-Some+in_default-take, in_default}
+use Rattle.rn_assemble.proofs.definitions.definitions.Goals.{in-Some+in-Some-take+in_ok-define+in_ok-firsts+in_ok-push, in-Some+in_default-take, in_default}
 
 pub loop-place-init : goal.loop-place-init
 loop-place-init c = λ live h o p.
@@ -24,7 +24,7 @@ loop-place-preserved c = λ live h o p.
     let first = c.first_at.ensures names live h o in
     let before = c.loop-place.invariant live h o p in
     elim c.match-first_at.branch [
-      | in-Some+in-Some-take+in_ok-push w ↦
+      | in-Some+in-Some-take+in_ok-define+in_ok-firsts+in_ok-push w ↦
           let f : IsFirstAt names live place (Some w.in-Some.key) = subst (IsFirstAt names live place) w.in-Some.is first in
           let size = length-map c.args.keys.now.names.items (λ (b : Bor (List ℕ)). b.now) in
           let name : w.name.result.now ≡ get_or names (w.in-Some.key - 1) [] = w.name.ensures f.0 (omega (arith, f.1, size, c.args.keys.now.names.ok.0)) in

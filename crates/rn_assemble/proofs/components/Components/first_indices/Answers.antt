@@ -15,5 +15,5 @@ loop-index-preserved c = record {
       firsts_more list places c.loop-index.firsts.items c.first_index-first.result c.loop-index.invariant.are here i j (subst (λ fs. slice_get fs i ≡ Some j) c.in_ok-push.ensures.items at);
 }
 
-pub returns-then-is_repeated-2 : goal.returns-then-is_repeated-2
-returns-then-is_repeated-2 c = c.loop-index.invariant.are
+pub returns-then-is_repeated : goal.returns-then-is_repeated
+returns-then-is_repeated c = c.loop-index.invariant.are

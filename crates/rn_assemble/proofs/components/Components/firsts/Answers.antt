@@ -9,13 +9,13 @@ use Rattle.rn_assemble.specs.Listed.{components_in}
 use Rattle.rn_assemble.proofs.FirstMembers.{bodies_tied, none_tied}
 use Rattle.rn_assemble.proofs.components.Components.firsts.Goals as goal
 
-pub returns-then-lt : goal.returns-then-lt
-returns-then-lt c = λ names live h o k. subst (λ fs. AreTied fs (joined_members (joined (components_in live) (key_at names c.args.key)))) (sym c.new.ensures.items) (none_tied _)
+pub returns-then-places-lt2 : goal.returns-then-places-lt2
+returns-then-places-lt2 c = λ names live h o k. subst (λ fs. AreTied fs (joined_members (joined (components_in live) (key_at names c.args.key)))) (sym c.new.ensures.items) (none_tied _)
 
-pub returns-else-lt : goal.returns-else-lt
-returns-else-lt c = λ names live h o k.
+pub returns : goal.returns
+returns c = λ names live h o k.
     let x = c.args.self.now in
-    let more : 1 < length c.of_key-places.result.now = omega (arith, c.if-lt.false) in
+    let more : 1 < length c.of_key-places.result.now = omega (arith, c.if-places-lt2.false) in
     IfOk-weaker c.first_indices.result _ _
     (λ v f. bodies_tied names x.bodies.items x.list.items (rows_of x.places.items) live h o c.args.key (omega (arith, k)) v.items (subst (λ (l : List ℕ). 1 < length l) c.of_key-places.ensures more)
         (subst (λ (l : List ℕ). (i j : ℕ) → slice_get v.items i ≡ Some j → IsFirst x.list.items l i j) c.of_key-places.ensures f))

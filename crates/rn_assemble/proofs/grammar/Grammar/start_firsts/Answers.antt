@@ -1,5 +1,8 @@
+use Rattle.std.proofs.Common.{sym, subst}
+use Rattle.rn_pattern.specs.View.{pattern_view}
+use Rattle.rn_assemble.specs.Firsts.{AreFirsts, joined_members}
 use Rattle.rn_assemble.proofs.FirstMembers.{tied_same}
 use Rattle.rn_assemble.proofs.grammar.Grammar.start_firsts.Goals as goal
 
 pub returns : goal.returns
-returns c = tied_same _ _ c.args.self.now.joined.start_tied
+returns c = subst (λ is. AreFirsts is (joined_members (pattern_view c.args.self.now.joined.start))) (sym c.as_slice.ensures.value) (tied_same _ _ c.args.self.now.joined.start_tied)
