@@ -4,7 +4,7 @@ use Rattle.std.specs.List.{list_any}
 use Rattle.rn_pattern.specs.Tree.{Text, Tree}
 use Rattle.rn_pattern.specs.View.{pattern_view}
 use Rattle.rn_assemble.specs.GrammarView.{definitions_view}
-use Rattle.rn_assemble.proofs.Defining.{inserted}
+use Rattle.rn_assemble.proofs.Joining.Defining.{inserted}
 use Rattle.rn_assemble.proofs.definitions.define.Goals as goal
 
 pub returns : goal.returns

@@ -6,7 +6,7 @@ use Rattle.rn_pattern.specs.Order.{text_cmp}
 use Rattle.rn_assemble.specs.Listed.{Lists, Live, components_in}
 use Rattle.rn_assemble.specs.Patterns.{HavePatterns}
 use Rattle.rn_assemble.specs.Views.{names_of}
-use Rattle.rn_assemble.proofs.Defining.{Defining}
+use Rattle.rn_assemble.proofs.Joining.Defining.{Defining}
 use Rattle.rn_assemble.proofs.definitions.definitions.Given as goal
 
 abbrev pub invariant-loop-place : goal.invariant-loop-place

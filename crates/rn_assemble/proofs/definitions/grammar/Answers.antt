@@ -7,8 +7,8 @@ use Rattle.rn_assemble.specs.Firsts.{AreTied, joined_members}
 use Rattle.rn_assemble.specs.Listed.{components_in}
 use Rattle.rn_assemble.specs.Patterns.{boxed_view}
 use Rattle.rn_assemble.specs.Views.{names_of}
-use Rattle.rn_assemble.proofs.Defining.{others_left, start_there}
-use Rattle.rn_assemble.proofs.HeldStart.{start_held}
+use Rattle.rn_assemble.proofs.Joining.Defining.{others_left, start_there}
+use Rattle.rn_assemble.proofs.Joining.HeldStart.{start_held}
 use Rattle.rn_assemble.proofs.definitions.grammar.Goals as goal
 
 pub unwrap-start-requires : goal.unwrap-start-requires

@@ -2,7 +2,7 @@ use Rattle.std.proofs.Common.{◌≡◌, ◌+◌, length, Some, sym, ap, ◌∙�
 use Rattle.std.specs.Prelude.{slice_get}
 use Rattle.std.proofs.lemmas.List.{length_push}
 use Rattle.rn_assemble.specs.Firsts.{IsFirst}
-use Rattle.rn_assemble.proofs.FirstMembers.{firsts_more}
+use Rattle.rn_assemble.proofs.Joining.FirstMembers.{firsts_more}
 use Rattle.rn_assemble.proofs.components.Components.first_indices.Goals as goal
 
 pub loop-index-preserved : goal.loop-index-preserved

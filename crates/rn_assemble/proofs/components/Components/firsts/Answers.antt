@@ -6,7 +6,7 @@ use Rattle.rn_assemble.specs.Combine.{joined}
 use Rattle.rn_assemble.specs.Firsts.{AreTied, IsFirst, joined_members}
 use Rattle.rn_assemble.specs.Keyed.{key_at}
 use Rattle.rn_assemble.specs.Listed.{components_in}
-use Rattle.rn_assemble.proofs.FirstMembers.{bodies_tied, none_tied}
+use Rattle.rn_assemble.proofs.Joining.FirstMembers.{bodies_tied, none_tied}
 use Rattle.rn_assemble.proofs.components.Components.firsts.Goals as goal
 
 pub returns-then-places-lt2 : goal.returns-then-places-lt2

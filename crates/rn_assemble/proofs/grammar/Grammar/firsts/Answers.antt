@@ -2,7 +2,7 @@ use Rattle.std.proofs.Common.{◌≡◌, ◌<◌, [], length, get_or, sym, ap, �
 use Rattle.std.proofs.lemmas.Bool.{ltb-true}
 use Rattle.rn_assemble.specs.DefinitionsView.{definitions_view}
 use Rattle.rn_assemble.specs.Firsts.{AreFirsts, joined_members}
-use Rattle.rn_assemble.proofs.FirstMembers.{none_tied, row_there, tied_same}
+use Rattle.rn_assemble.proofs.Joining.FirstMembers.{none_tied, row_there, tied_same}
 use Rattle.rn_assemble.proofs.grammar.Grammar.firsts.Goals as goal
 
 pub returns-in-Some : goal.returns-in-Some

@@ -1,7 +1,7 @@
 use Rattle.std.proofs.Common.{sym, subst}
 use Rattle.rn_pattern.specs.View.{pattern_view}
 use Rattle.rn_assemble.specs.Firsts.{AreFirsts, joined_members}
-use Rattle.rn_assemble.proofs.FirstMembers.{tied_same}
+use Rattle.rn_assemble.proofs.Joining.FirstMembers.{tied_same}
 use Rattle.rn_assemble.proofs.grammar.Grammar.start_firsts.Goals as goal
 
 pub returns : goal.returns

@@ -18,9 +18,9 @@ use Rattle.rn_assemble.specs.Firsts.{AreTied, HaveTied, joined_members}
 use Rattle.rn_assemble.specs.Keyed.{key_at}
 use Rattle.rn_assemble.specs.Listed.{IsLive, Live, ListsBy, Rises, components_in}
 use Rattle.rn_assemble.specs.Patterns.{AreCombined, HavePatterns, IsFirstAt, before, boxed_view, tree_at}
-use Rattle.rn_assemble.proofs.FirstMembers.{tied_more}
-use Rattle.rn_assemble.proofs.DefinedNames.{defined_known, defined_new, defined_start, names_mapped, not_among}
-use Rattle.rn_assemble.proofs.FirstPlaces.{all_before, before_more, before_next, key_there, none_before}
+use Rattle.rn_assemble.proofs.Joining.FirstMembers.{tied_more}
+use Rattle.rn_assemble.proofs.Joining.DefinedNames.{defined_known, defined_new, defined_start, names_mapped, not_among}
+use Rattle.rn_assemble.proofs.Joining.FirstPlaces.{all_before, before_more, before_next, key_there, none_before}
 use Rattle.rn_assemble.proofs.LiveLists.{each_to}
 use Rattle.rn_assemble.proofs.Numbers.{same_key-Decides}
 use Rattle.rn_assemble.proofs.UsedMethods.{any_front, any_last}

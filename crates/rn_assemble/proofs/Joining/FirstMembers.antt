@@ -21,7 +21,7 @@ use Rattle.rn_assemble.specs.Firsts.{AreFirsts, AreTied, HaveTied, IsFirst, body
 use Rattle.rn_assemble.specs.Keyed.{key_at}
 use Rattle.rn_assemble.specs.Listed.{IsBody, IsLive, Live, ListsBy, components_in}
 use Rattle.rn_assemble.proofs.FoundReferences.{Shown, shown}
-use Rattle.rn_assemble.proofs.SameBodies.{one_body}
+use Rattle.rn_assemble.proofs.Joining.SameBodies.{one_body}
 use Rattle.rn_assemble.proofs.SharedPatterns.{within}
 use Rattle.rn_assemble.proofs.UsedMethods.{at_row, row_size}
 
