@@ -17,12 +17,7 @@ pub(crate) type Met = Vec<usize>;
 impl Components<'_, '_, '_> {
     /// For each component of the key, the index in its list of the first with the same body. None, where no body stands
     /// twice. What was met of other keys does no harm.
-    pub fn firsts(
-        &self,
-        alloc: Global,
-        key: usize,
-        met: &mut Met,
-    ) -> Result<Vec<usize>, AllocError>
+    pub fn firsts(&self, alloc: Global, key: usize, met: &mut Met) -> Result<Vec<usize>, AllocError>
         ensures { (names : List Text) (live : List Live)
             → Lists names self.now live → IsStrictlySortedBy text_cmp names → key < length names + 1
             → IfOk result (λ firsts. AreTied firsts.items

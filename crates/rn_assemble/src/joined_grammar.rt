@@ -21,10 +21,6 @@ pub(crate) struct Joined {
     pub start_firsts: Vec<usize>,
     /// The same for each definition.
     pub firsts: Vec<Vec<usize>>,
-    ghost start_tied: { AreTied start_firsts.items (joined_members (pattern_view start)) } by {
-        AreTied-prop start_firsts.items (joined_members (pattern_view start))
-    },
-    ghost tied: { HaveTied (rows_of firsts.items) (definitions_view defs.entries) } by {
-        HaveTied-prop (rows_of firsts.items) (definitions_view defs.entries)
-    },
+    ghost start_tied: { AreTied start_firsts.items (joined_members (pattern_view start)) } by { AreTied-prop start_firsts.items (joined_members (pattern_view start)) },
+    ghost tied: { HaveTied (rows_of firsts.items) (definitions_view defs.entries) } by { HaveTied-prop (rows_of firsts.items) (definitions_view defs.entries) },
 }

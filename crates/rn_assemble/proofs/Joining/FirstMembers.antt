@@ -1,5 +1,5 @@
 -- The first places of members, found by the numbers of their bodies.
-use Rattle.std.proofs.Common.{◌≡◌, ℕ, zero, suc, ◌+◌, ◌<◌, ◌≤◌, Bool, true, false, cond, List, [], ◌∷◌, ◌++◌, length, get_or, Option, Some, None, Vec, refl, sym, ap, ◌∙◌, subst, arith, below_more, Equal}
+use Rattle.std.proofs.Common.{◌≡◌, ℕ, suc, ◌+◌, ◌<◌, Bool, true, false, cond, List, [], ◌∷◌, ◌++◌, length, get_or, Option, Some, None, Vec, refl, sym, ap, ◌∙◌, subst, arith, below_more}
 use Rattle.std.specs.Prelude.{slice_get, option_and_then}
 use Rattle.std.specs.List.Sorted.{IsStrictlySortedBy}
 use Rattle.std.proofs.lemmas.Cmp.{tied_itself}
@@ -15,7 +15,7 @@ use Rattle.rn_pattern.proofs.Matches.Keeps.{list_of-trees_of}
 use Rattle.rn_pattern.proofs.Ordered.Orders.{tree_same}
 use Rattle.rn_pattern.proofs.Ordered.TotalOrder.{tree_cmp_total}
 use Rattle.rn_assemble.specs.declared.components.Body.{Body}
-use Rattle.rn_assemble.specs.Combine.{bodies, combined, is_interleave, joined, of_key, uses}
+use Rattle.rn_assemble.specs.Combine.{bodies, is_interleave, joined, of_key, uses}
 use Rattle.rn_assemble.specs.Components.{Component}
 use Rattle.rn_assemble.specs.Firsts.{AreFirsts, AreTied, HaveTied, IsFirst, body_of, joined_members}
 use Rattle.rn_assemble.specs.Keyed.{key_at}
@@ -112,10 +112,10 @@ firsts_more list places firsts f h here i j at =
     let l = within (firsts ++ f ∷ []) i j at in
     let is : get_or (firsts ++ f ∷ []) i 0 ≡ j = get_or_from_slice_get (firsts ++ f ∷ []) i j 0 at in
     subst (IsFirst list places i) is (
-      below_more (λ n. IsFirst list places n (get_or (firsts ++ f ∷ []) n 0)) (length firsts)
-      (λ n lt. subst (IsFirst list places n) (sym (get_or_append_left firsts (f ∷ []) 0 n lt)) (h n (get_or firsts n 0) (slice_get-get_or firsts n 0 lt)))
-      (subst (IsFirst list places (length firsts)) (sym (get_or_push firsts f 0 (length firsts) refl)) here)
-      i (omega (arith, l, size))
+    below_more (λ n. IsFirst list places n (get_or (firsts ++ f ∷ []) n 0)) (length firsts)
+    (λ n lt. subst (IsFirst list places n) (sym (get_or_append_left firsts (f ∷ []) 0 n lt)) (h n (get_or firsts n 0) (slice_get-get_or firsts n 0 lt)))
+    (subst (IsFirst list places (length firsts)) (sym (get_or_push firsts f 0 (length firsts) refl)) here)
+    i (omega (arith, l, size))
     )
 
 -- those of one definition more
@@ -124,10 +124,10 @@ tied_more rows ds v d size h here n e l =
     let longer = length_push ds d in
     below_more (λ m. AreTied (row (rows ++ v ∷ []) m) (joined_members (get_or (ds ++ d ∷ []) m e).1)) (length ds)
     (λ m lt.
-        let r = get_or_append_left rows (v ∷ []) [] m (omega (arith, lt, size)) in
-        let t = get_or_append_left ds (d ∷ []) e m lt in
-        subst (λ (z : List ℕ × (Text × Tree)). AreTied z.0 (joined_members z.1.1)) (λ i. (sym r i, sym t i)) (h m e lt))
+    let r = get_or_append_left rows (v ∷ []) [] m (omega (arith, lt, size)) in
+    let t = get_or_append_left ds (d ∷ []) e m lt in
+    subst (λ (z : List ℕ × (Text × Tree)). AreTied z.0 (joined_members z.1.1)) (λ i. (sym r i, sym t i)) (h m e lt))
     (let r = get_or_push rows v [] (length ds) size in
-      let t = get_or_push ds d e (length ds) refl in
-      subst (λ (z : List ℕ × (Text × Tree)). AreTied z.0 (joined_members z.1.1)) (λ i. (sym r i, sym t i)) here)
+    let t = get_or_push ds d e (length ds) refl in
+    subst (λ (z : List ℕ × (Text × Tree)). AreTied z.0 (joined_members z.1.1)) (λ i. (sym r i, sym t i)) here)
     n (omega (arith, l, longer))

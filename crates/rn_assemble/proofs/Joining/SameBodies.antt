@@ -4,7 +4,7 @@ use Rattle.std.specs.Prelude.{if◌then◌else◌, codes, unwrap_or, bytes_eq}
 use Rattle.std.specs.Option.{option_map_or}
 use Rattle.rn_pattern.specs.Opened.{pair}
 use Rattle.rn_pattern.specs.Tree as tree
-use Rattle.rn_pattern.specs.Tree.{Text, NameTree, NameTrees, Tree, Trees}
+use Rattle.rn_pattern.specs.Tree.{Text, NameTree, Tree, Trees}
 use Rattle.rn_syntax.specs.declared.token.Operator.{Operator}
 use Rattle.rn_syntax.specs.declared.token.Operator.TheVariants as o
 use Rattle.rn_syntax.specs.declared.token.Postfix.{Postfix}

@@ -1,4 +1,4 @@
-use Rattle.std.proofs.Common.{◌≡◌, ◌<◌, ℕ, List, length, sym, ap, subst, arith}
+use Rattle.std.proofs.Common.{◌≡◌, ◌<◌, ℕ, List, length, sym, subst, arith}
 use Rattle.std.specs.Prelude.{slice_get, Some}
 use Rattle.std.proofs.lemmas.Result.{IfOk-weaker}
 use Rattle.rn_pattern.specs.Graph.{rows_of}
@@ -18,5 +18,5 @@ returns c = λ names live h o k.
     let more : 1 < length c.of_key-places.result.now = omega (arith, c.if-places-lt2.false) in
     IfOk-weaker c.first_indices.result _ _
     (λ v f. bodies_tied names x.bodies.items x.list.items (rows_of x.places.items) live h o c.args.key (omega (arith, k)) v.items (subst (λ (l : List ℕ). 1 < length l) c.of_key-places.ensures more)
-        (subst (λ (l : List ℕ). (i j : ℕ) → slice_get v.items i ≡ Some j → IsFirst x.list.items l i j) c.of_key-places.ensures f))
+    (subst (λ (l : List ℕ). (i j : ℕ) → slice_get v.items i ≡ Some j → IsFirst x.list.items l i j) c.of_key-places.ensures f))
     c.first_indices.ensures
