@@ -84,6 +84,20 @@ def parentheses(twin):
     return {"a": "start = " + ("" if twin else "(" * 240) + many + around}
 
 
+def interleaved(twin):
+    """The same as an interleave of 40,000 within 240 pairs of parentheses, with a member beside each pair."""
+    many = "&".join(f"element e{i}{{text}}" for i in range(40000))
+    around = "".join(f"&element a{i}{{text}}" + ("" if twin else ")") for i in range(240))
+    return {"a": "start = element r {" + ("" if twin else "(" * 240) + many + around + "}"}
+
+
+def names(twin):
+    """A name class of 200,000 names within 240 pairs of parentheses, with a name beside each pair."""
+    many = "|".join(f"e{i}" for i in range(200000))
+    around = "".join(f"|a{i}" + ("" if twin else ")") for i in range(240))
+    return {"a": "start = element " + ("(" if twin else "(" * 241) + many + around + ") {text}"}
+
+
 def includes(twin):
     """A body of 1.4 MB that 511 includes bring in; of the twin's includes one does, and the others an empty body."""
     body = "x |= element a {" + ",".join(f"element e{i}{{text}}" for i in range(60000)) + "}"
@@ -99,7 +113,8 @@ def uri(twin):
     return {"a": head + "".join(f"|element e{i}{{text}}" for i in range(60000))}
 
 
-SHAPES = {shape.__name__: shape for shape in (definitions, prefixes, namespaces, literals, parentheses, includes, uri)}
+SHAPES = {shape.__name__: shape for shape in (definitions, prefixes, namespaces, literals, parentheses, interleaved, names, includes,
+                                           uri)}
 
 
 def main():
