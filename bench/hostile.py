@@ -91,6 +91,20 @@ def parentheses(twin):
     return {"a": "start = " + ("" if twin else "(" * 240) + many + around}
 
 
+def interleaved(twin):
+    """The same as an interleave of 40,000 within 240 pairs of parentheses, with a member beside each pair."""
+    many = "&".join(f"element e{i}{{text}}" for i in range(40000))
+    around = "".join(f"&element a{i}{{text}}" + ("" if twin else ")") for i in range(240))
+    return {"a": "start = element r {" + ("" if twin else "(" * 240) + many + around + "}"}
+
+
+def names(twin):
+    """A name class of 200,000 names within 240 pairs of parentheses, with a name beside each pair."""
+    many = "|".join(f"e{i}" for i in range(200000))
+    around = "".join(f"|a{i}" + ("" if twin else ")") for i in range(240))
+    return {"a": "start = element " + ("(" if twin else "(" * 241) + many + around + ") {text}"}
+
+
 def includes(twin):
     """A body of 1.4 MB that 511 includes bring in; of the twin's includes one does, and the others an empty body."""
     body = "x |= element a {" + ",".join(f"element e{i}{{text}}" for i in range(60000)) + "}"
@@ -112,14 +126,14 @@ def components(twin):
     return modules
 
 
-def interleaved(twin):
+def interleaves(twin):
     """20,000 definitions of one name, interleaved, which 511 includes bring in."""
     modules = {"a": "\n".join("x &= text" for _ in range(20000)), "driver": "start = x\n" + "\n".join('include "a"' for _ in range(1 if twin else 511))}
     return modules
 
 
-TWINNED = (definitions, prefixes, namespaces, literals, parentheses, includes, uri)
-SHAPES = {shape.__name__: shape for shape in (*TWINNED, components, interleaved)}
+TWINNED = (definitions, prefixes, namespaces, literals, parentheses, interleaved, names, includes, uri)
+SHAPES = {shape.__name__: shape for shape in (*TWINNED, components, interleaves)}
 MEMORY = 8 << 30
 
 

@@ -12,7 +12,7 @@ use Rattle.rn_assemble.proofs.Refusals.OneSet.{first_of_set, one_assembled}
 use Rattle.rn_simplify.specs.Spelling.{spelling}
 use Rattle.rn_simplify.specs.ReadBack.{is_too_deep}
 use Rattle.rn_simplify.specs.Verdict.{Verdict, prints, refused, too_large, too_deep, IsCanonicalOfSet, IsVerdict}
-use Rattle.rn_simplify.proofs.FixedPoint.{one_canonical}
+use Rattle.rn_simplify.proofs.Simplified.FixedPoint.{one_canonical}
 
 module _ (one_tree : (ts : Tokens) (m n : t.Module) → HasTree ts m → HasTree ts n → m ≡ n) (s : List Member) where
   -- the set has one canonical grammar

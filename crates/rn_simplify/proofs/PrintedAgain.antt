@@ -26,9 +26,9 @@ use Rattle.rn_assemble.proofs.Refusals.OneSet.{one_effective, one_module_of, one
 use Rattle.rn_simplify.specs.ReadBack.{IsReadBack, is_too_deep}
 use Rattle.rn_simplify.specs.Spelling.{spelling}
 use Rattle.rn_simplify.specs.Verdict.{IsVerdict, prints}
-use Rattle.rn_simplify.proofs.Binding.{spelling_reads_back}
-use Rattle.rn_simplify.proofs.ReadAgain.{read_canonical, none_stands}
-use Rattle.rn_simplify.proofs.Spelled.{spellable}
+use Rattle.rn_simplify.proofs.ReadBack.Binding.{spelling_reads_back}
+use Rattle.rn_simplify.proofs.ReadBack.ReadAgain.{read_canonical, none_stands}
+use Rattle.rn_simplify.proofs.ReadBack.Spelled.{spellable}
 use Rattle.rn_assemble.proofs.WellFormed.GoodComponents.{set_grammar_writable}
 
 module _ (one_tree : (ts : Tokens) (m n : t.Module) → HasTree ts m → HasTree ts n → m ≡ n) where

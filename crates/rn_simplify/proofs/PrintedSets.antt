@@ -11,10 +11,10 @@ use Rattle.rn_assemble.proofs.WellFormed.GoodComponents.{modules_faultless, set_
 use Rattle.rn_assemble.proofs.Refusals.NoRefusal.{no_excepts, assembled_well_formed}
 use Rattle.rn_simplify.specs.ReadAgain.{IsReadAgain}
 use Rattle.rn_simplify.specs.Verdict.{IsVerdict, prints}
-use Rattle.rn_simplify.proofs.Binding.{spelling_reads_back}
+use Rattle.rn_simplify.proofs.ReadBack.Binding.{spelling_reads_back}
 use Rattle.rn_simplify.proofs.PrintedAgain.{no_fault}
-use Rattle.rn_simplify.proofs.ReadAgain.{combination_read, joined_read, read_canonical, read_only, read_well_formed, none_stands}
-use Rattle.rn_simplify.proofs.Spelled.{spellable}
+use Rattle.rn_simplify.proofs.ReadBack.ReadAgain.{combination_read, joined_read, read_canonical, read_only, read_well_formed, none_stands}
+use Rattle.rn_simplify.proofs.ReadBack.Spelled.{spellable}
 
 pub printed_read : (s : List Member) (text : Text) → IsVerdict s (prints text) → IsReadAgain s text
 printed_read s text (n, (g, (none, (modules, a, e)), c), short, shallow, is) =

@@ -1,7 +1,7 @@
 -- The patterns that stand in a pattern.
 use Rattle.std.specs.Prelude.{Bool, true, false, Option, Some, None}
 use Rattle.rn_pattern.specs.Tree as t
-use Rattle.rn_pattern.specs.Tree.{Tree, Trees}
+use Rattle.rn_pattern.specs.Tree.{Tree}
 
 -- the content of a list, an attribute, an element or a repetition
 abbrev pub content_of : Tree → Option Tree
@@ -10,13 +10,6 @@ content_of (t.attribute n p) = Some p
 content_of (t.element n p) = Some p
 content_of (t.one_or_more p) = Some p
 content_of p = None
-
--- the members of a group, an interleave or a choice
-abbrev pub members_of : Tree → Option Trees
-members_of (t.group ps) = Some ps
-members_of (t.interleave ps) = Some ps
-members_of (t.choice ps) = Some ps
-members_of p = None
 
 -- no datatype, and no pattern in it
 abbrev pub is_leaf : Tree → Bool

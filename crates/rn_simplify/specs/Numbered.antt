@@ -1,9 +1,8 @@
 -- Definitions by their numbers, and what references to them become.
-use Rattle.std.specs.Prelude.{◌≡◌, ℕ, Bool, IsTrue, All, IfSome, List, Option, Some, None, Contains, Decides, map, position, bytes_eq, slice_index_or, slice_set, option_and_then}
+use Rattle.std.specs.Prelude.{◌≡◌, ℕ, Bool, List, Option, Some, Contains, Decides, map, position, bytes_eq}
 use Rattle.std.specs.List.{filter_map}
-use Rattle.std.specs.Option.{option_map_or}
 use Rattle.std.specs.Map.{lookup}
-use Rattle.rn_pattern.specs.Tree.{Text, Tree, ref}
+use Rattle.rn_pattern.specs.Tree.{Text, Tree}
 use Rattle.rn_pattern.specs.Matching.{Grammar}
 use Rattle.rn_pattern.specs.Graph.{Reached, is_marked}
 use Rattle.rn_pattern.specs.Canonical.{canonical, ref_unless_settled}
@@ -32,20 +31,6 @@ start_of G = numbers_of G.definitions (references Everywhere G.start)
 -- each mark tells whether the start reaches the definition of its number
 abbrev pub MarksReached : Grammar → List Bool → Type 0
 MarksReached G marks = (k : ℕ) → Decides (is_marked marks k) (Reached (graph_of G) (start_of G) k)
-
--- the ids that are there are the store's
-abbrev pub AreKnown : {I : Type 0} → (I → Bool) → List (Option I) → Type 0
-AreKnown knows os = All (λ o. IfSome o (λ i. IsTrue (knows i))) os
-
--- a reference becomes the pattern of the id that its definition is worth, or stays
-abbrev pub settled_by : {I : Type 0} → (I → Tree) → List (Text × Tree) → List (Option I) → Text → Tree
-settled_by at ds worth x = option_map_or at (option_and_then (λ k. slice_index_or worth k None) (number_of ds x)) (ref x)
-
--- the definition with the number, whose pattern is p, is worth what its canonical form is
-pub record Settles {I : Type 0} (at at' : I → Tree) (ds : List (Text × Tree)) (worth worth' : List (Option I)) (number : ℕ) (p : Tree) : Type 0 where
-  pub id : Option I
-  pub set : worth' ≡ slice_set worth number id
-  pub is : (x : Text) → option_map_or at' id (ref x) ≡ ref_unless_settled x (canonical (settled_by at ds worth) p)
 
 -- each definition whose number is in the list is worth what its canonical form is
 abbrev pub AreSettled : List (Text × Tree) → List ℕ → (Text → Tree) → Type 0

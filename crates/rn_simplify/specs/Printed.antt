@@ -5,15 +5,16 @@ use Rattle.rn_pattern.specs.Matching.{Grammar}
 use Rattle.rn_assemble.specs.declared.refusal.Refusal.{Refusal}
 use Rattle.rn_assemble.specs.declared.refusal.Refusal.TheVariants as r
 use Rattle.rn_simplify.specs.Spelling.{spelling}
+use Rattle.rn_simplify.specs.Limits.{most_bytes}
 use Rattle.rn_simplify.specs.ReadBack.{is_too_deep}
 
 -- the text is the spelling, which is neither too long nor too deep
 abbrev pub IsPrinted : Grammar → Text → Type 0
-IsPrinted n t = (length (spelling n) ≤ 4194304) × (is_too_deep n ≡ false) × (t ≡ spelling n)
+IsPrinted n t = (length (spelling n) ≤ most_bytes) × (is_too_deep n ≡ false) × (t ≡ spelling n)
 
 -- the length is tested first; want of memory says nothing
 abbrev pub IsUnprinted : Grammar → Refusal → Type 0
-IsUnprinted n r.OutputTooLarge = 4194304 < length (spelling n)
-IsUnprinted n r.OutputTooDeep = (length (spelling n) ≤ 4194304) × (is_too_deep n ≡ true)
+IsUnprinted n r.OutputTooLarge = most_bytes < length (spelling n)
+IsUnprinted n r.OutputTooDeep = (length (spelling n) ≤ most_bytes) × (is_too_deep n ≡ true)
 IsUnprinted n r.Memory = Unit {0}
 IsUnprinted n e = ⊥

@@ -20,18 +20,11 @@ use Rattle.std.specs.declared.rc.Rc.{Rc}
 use Rattle.std.specs.declared.alloc.Global.{Global}
 use Rattle.rn_pattern.specs.declared.tree.Pattern.{Pattern}
 use Rattle.rn_pattern.specs.View.{pattern_view}
+pub use Rattle.rn_simplify.specs.Limits.{most_bytes, most_open}
 
 -- the pieces in bytes
 abbrev pub bytes_of : List Piece → Text
 bytes_of ps = encode_utf8_all (text_of ps)
-
--- the most bytes of a text
-abbrev pub most_bytes : ℕ
-most_bytes = 4194304
-
--- the most brackets that are open at once
-abbrev pub most_open : ℕ
-most_open = 256
 
 pub data Bracket : Type 0 where
   opening : Bracket

@@ -1,72 +1,39 @@
 // The canonical form of a pattern, built in a store (RELAX NG, 4.20 and 4.21).
-ghost use Rattle.std.specs.Prelude.{◌≡◌, All, IfOk, IfSome, IsSome, IsTrue, None, Some, length, map, option_and_then, slice_index_or};
-ghost use Rattle.std.specs.Option.{option_map, option_map_or};
+ghost use Rattle.std.specs.Prelude.{◌≡◌, ◌++◌, ◌∷◌, [], All, IfOk, IsSome, IsTrue, OnOk, Some, map};
+ghost use Rattle.std.specs.Option.{option_map};
 ghost use Rattle.rn_assemble.specs.GrammarView.{definitions_view};
 ghost use Rattle.rn_pattern.specs.Canonical as form;
-ghost use Rattle.rn_pattern.specs.Canonical.{canonical_all, ref_unless_settled};
-ghost use Rattle.rn_pattern.specs.CanonicalShape.{IsCanonicalPattern};
+ghost use Rattle.rn_pattern.specs.Canonical.{canonical_all};
 ghost use Rattle.rn_pattern.specs.Store.{KeepsTrees, StandsFor};
-ghost use Rattle.rn_pattern.specs.Tree as tree;
 ghost use Rattle.rn_pattern.specs.Tree.{Text, Tree, trees_of};
 ghost use Rattle.rn_pattern.specs.View.{pattern_view, shared_view};
-ghost use Rattle.rn_simplify.specs.Contents.{content_of, is_leaf, members_of};
-ghost use Rattle.rn_simplify.specs.Numbered.{AreKnown, number_of, settled_by};
+ghost use Rattle.rn_simplify.specs.Contents.{content_of, is_leaf};
+ghost use Rattle.rn_simplify.specs.Parts.{list_step, parts, parts_of};
+ghost use Rattle.rn_simplify.specs.Worth.{settled_by};
 
-use rn_assemble::Definitions;
-use rn_pattern::{Node, Pattern, Patterns};
+use crate::parts::ListKind;
+use crate::settled::Settled;
+use crate::worth::Worth;
+use rn_pattern::{Pattern, Patterns};
 use std::alloc::{AllocError, Global};
 use std::rc::Rc;
-
-/// What the references to the definitions of a grammar become.
-#[derive(Drop)]
-pub(crate) struct Settled<'g, Id> {
-    pub(crate) names: &'g Definitions,
-    /// By the definition's number: the id of notAllowed or empty if the definition is worth that.
-    pub(crate) worth: Vec<Option<Id>>,
-    ghost sized: { length worth.items ≡ length names.now.entries },
-}
-
-impl<Id: Copy> Settled<'_, Id> {
-    /// The id that the references to a definition become, if they do not stay.
-    fn id_of(&self, name: &str) -> Option<Id>
-        ensures { result ≡ option_and_then (λ k. slice_index_or self.now.worth.items k None)
-            (number_of (definitions_view self.now.names.now.entries) name.now) }
-    {
-        match self.names.get_index_of(name) {
-            Some(number) => self.worth[number],
-            None => None,
-        }
-    }
-}
 
 /// What a reference becomes: notAllowed or empty if its definition is worth that, else itself.
 fn reference<P: Patterns>(
     store: &mut P,
-    settled: &Settled<'_, P::Id>,
+    settled: &Settled<'_>,
     name: &str,
 ) -> Result<P::Id, AllocError>
-    requires { AreKnown (P.knows store.old) settled.now.worth.items }
     ensures made { IfOk result (StandsFor (P.knows store.new) (P.tree_of store.new)
-        (settled_by (P.tree_of store.old) (definitions_view settled.now.names.now.entries) settled.now.worth.items name.now)) }
-    ensures kept { KeepsTrees (P.knows store.old) (P.tree_of store.old) (P.knows store.new) (P.tree_of store.new) }
+        (settled_by (definitions_view settled.now.names.now.entries)
+        settled.now.worth.items name.now)) }
+    ensures kept { KeepsTrees (P.knows store.old) (P.tree_of store.old)
+        (P.knows store.new) (P.tree_of store.new) }
 {
-    match settled.id_of(name) {
-        Some(id) => Ok(id),
-        None => store.reference(name),
-    }
-}
-
-/// The id if its pattern is notAllowed or empty.
-pub(crate) fn worth<P: Patterns>(store: &P, id: P::Id) -> Option<P::Id>
-    requires { IsTrue (P.knows store.now id) }
-    ensures known { IfSome result (λ i. IsTrue (P.knows store.now i)) }
-    ensures canonical { IfSome result (λ i. IsCanonicalPattern (P.tree_of store.now i)) }
-    ensures is { (x : Text) → option_map_or (P.tree_of store.now) result (tree.ref x) ≡ ref_unless_settled x (P.tree_of store.now id) }
-{
-    match store.node(id) {
-        Node::NotAllowed => Some(id),
-        Node::Empty => Some(id),
-        _ => None,
+    match settled.worth_of(name) {
+        Worth::NotAllowed => store.not_allowed(),
+        Worth::Empty => store.empty(),
+        Worth::Other => store.reference(name),
     }
 }
 
@@ -75,13 +42,14 @@ pub(crate) fn worth<P: Patterns>(store: &P, id: P::Id) -> Option<P::Id>
 pub(crate) fn canonical<P: Patterns>(
     alloc: Global,
     store: &mut P,
-    settled: &Settled<'_, P::Id>,
+    settled: &Settled<'_>,
     pattern: &Pattern,
 ) -> Result<P::Id, AllocError>
-    requires { AreKnown (P.knows store.old) settled.now.worth.items }
-    ensures made { IfOk result (StandsFor (P.knows store.new) (P.tree_of store.new)
-        (form.canonical (settled_by (P.tree_of store.old) (definitions_view settled.now.names.now.entries) settled.now.worth.items) (pattern_view pattern.now))) }
-    ensures kept { KeepsTrees (P.knows store.old) (P.tree_of store.old) (P.knows store.new) (P.tree_of store.new) }
+    ensures made { IfOk result (StandsFor (P.knows store.new) (P.tree_of store.new) (form.canonical
+        (settled_by (definitions_view settled.now.names.now.entries) settled.now.worth.items)
+        (pattern_view pattern.now))) }
+    ensures kept { KeepsTrees (P.knows store.old) (P.tree_of store.old)
+        (P.knows store.new) (P.tree_of store.new) }
 {
     match pattern {
         Pattern::NotAllowed
@@ -103,24 +71,30 @@ pub(crate) fn canonical<P: Patterns>(
             let content = canonical(alloc, store, settled, content)?;
             over_content(store, pattern, content)
         }
-        Pattern::Group(members) | Pattern::Interleave(members) | Pattern::Choice(members) => {
-            let members = canonical_members(alloc, store, settled, members)?;
-            over_members(store, pattern, &members)
-        }
+        Pattern::Group(members) => listed(alloc, store, settled, ListKind::Group, members),
+        Pattern::Interleave(members) => listed(
+            alloc,
+            store,
+            settled,
+            ListKind::Interleave,
+            members,
+        ),
+        Pattern::Choice(members) => listed(alloc, store, settled, ListKind::Choice, members),
     }
 }
 
 /// The id of the canonical form of a pattern that has no other pattern in it and is no datatype.
 fn leaf<P: Patterns>(
     store: &mut P,
-    settled: &Settled<'_, P::Id>,
+    settled: &Settled<'_>,
     pattern: &Pattern,
 ) -> Result<P::Id, AllocError>
-    requires known { AreKnown (P.knows store.old) settled.now.worth.items }
-    requires leaf { IsTrue (is_leaf (pattern_view pattern.now)) }
-    ensures made { IfOk result (StandsFor (P.knows store.new) (P.tree_of store.new)
-        (form.canonical (settled_by (P.tree_of store.old) (definitions_view settled.now.names.now.entries) settled.now.worth.items) (pattern_view pattern.now))) }
-    ensures kept { KeepsTrees (P.knows store.old) (P.tree_of store.old) (P.knows store.new) (P.tree_of store.new) }
+    requires { IsTrue (is_leaf (pattern_view pattern.now)) }
+    ensures made { IfOk result (StandsFor (P.knows store.new) (P.tree_of store.new) (form.canonical
+        (settled_by (definitions_view settled.now.names.now.entries) settled.now.worth.items)
+        (pattern_view pattern.now))) }
+    ensures kept { KeepsTrees (P.knows store.old) (P.tree_of store.old)
+        (P.knows store.new) (P.tree_of store.new) }
 {
     match pattern {
         Pattern::NotAllowed => store.not_allowed(),
@@ -132,26 +106,110 @@ fn leaf<P: Patterns>(
     }
 }
 
-/// The ids of the members' canonical forms.
+/// The id of the canonical form of a list of the members. All parts of it are put in order at once, however deep lists of
+/// its kind are within one another.
 #[cycle(canonical)]
-fn canonical_members<P: Patterns>(
+fn listed<P: Patterns>(
     alloc: Global,
     store: &mut P,
-    settled: &Settled<'_, P::Id>,
+    settled: &Settled<'_>,
+    kind: ListKind,
     members: &[Rc<Pattern>],
-) -> Result<Vec<P::Id>, AllocError>
-    requires { AreKnown (P.knows store.old) settled.now.worth.items }
-    ensures known { IfOk result (λ v. All (λ i. IsTrue (P.knows store.new i)) v.items) }
-    ensures made { IfOk result (λ v. map (P.tree_of store.new) v.items
-        ≡ canonical_all (settled_by (P.tree_of store.old) (definitions_view settled.now.names.now.entries) settled.now.worth.items) (trees_of (map shared_view members.now))) }
-    ensures kept { KeepsTrees (P.knows store.old) (P.tree_of store.old) (P.knows store.new) (P.tree_of store.new) }
+) -> Result<P::Id, AllocError>
+    ensures made { IfOk result (StandsFor (P.knows store.new) (P.tree_of store.new)
+        (list_step kind (canonical_all
+        (settled_by (definitions_view settled.now.names.now.entries) settled.now.worth.items)
+        (trees_of (map shared_view members.now))))) }
+    ensures kept { KeepsTrees (P.knows store.old) (P.tree_of store.old)
+        (P.knows store.new) (P.tree_of store.new) }
 {
     let mut ids = Vec::new(alloc);
+    push_parts(alloc, store, settled, kind, members, &mut ids)?;
+    kind.over(store, &ids)
+}
+
+/// Adds the ids of the canonical forms of the parts of a list of the members.
+#[cycle(canonical)]
+fn push_parts<P: Patterns>(
+    alloc: Global,
+    store: &mut P,
+    settled: &Settled<'_>,
+    kind: ListKind,
+    members: &[Rc<Pattern>],
+    ids: &mut Vec<P::Id>,
+) -> Result<(), AllocError>
+    requires { All (λ i. IsTrue (P.knows store.old i)) ids.old.items }
+    ensures known { OnOk result (All (λ i. IsTrue (P.knows store.new i)) ids.new.items) }
+    ensures made { OnOk result (map (P.tree_of store.new) ids.new.items
+        ≡ map (P.tree_of store.old) ids.old.items ++ map (form.canonical
+        (settled_by (definitions_view settled.now.names.now.entries) settled.now.worth.items))
+        (parts kind (trees_of (map shared_view members.now)))) }
+    ensures kept { KeepsTrees (P.knows store.old) (P.tree_of store.old)
+        (P.knows store.new) (P.tree_of store.new) }
+{
     for member in members {
-        let id = canonical(alloc, store, settled, member)?;
-        ids.push(id)?;
+        push_part(alloc, store, settled, kind, member, ids)?;
     }
-    Ok(ids)
+    Ok(())
+}
+
+/// Adds the ids of the canonical forms of the parts that a member of a list is: those of a list of the same kind, of any
+/// other pattern itself.
+#[cycle(canonical)]
+fn push_part<P: Patterns>(
+    alloc: Global,
+    store: &mut P,
+    settled: &Settled<'_>,
+    kind: ListKind,
+    pattern: &Pattern,
+    ids: &mut Vec<P::Id>,
+) -> Result<(), AllocError>
+    requires { All (λ i. IsTrue (P.knows store.old i)) ids.old.items }
+    ensures known { OnOk result (All (λ i. IsTrue (P.knows store.new i)) ids.new.items) }
+    ensures made { OnOk result (map (P.tree_of store.new) ids.new.items
+        ≡ map (P.tree_of store.old) ids.old.items ++ map (form.canonical
+        (settled_by (definitions_view settled.now.names.now.entries) settled.now.worth.items))
+        (parts_of kind (pattern_view pattern.now))) }
+    ensures kept { KeepsTrees (P.knows store.old) (P.tree_of store.old)
+        (P.knows store.new) (P.tree_of store.new) }
+{
+    match kind {
+        ListKind::Group => match pattern {
+            Pattern::Group(members) => push_parts(alloc, store, settled, kind, members, ids),
+            _ => push_whole(alloc, store, settled, pattern, ids),
+        },
+        ListKind::Interleave => match pattern {
+            Pattern::Interleave(members) => push_parts(alloc, store, settled, kind, members, ids),
+            _ => push_whole(alloc, store, settled, pattern, ids),
+        },
+        ListKind::Choice => match pattern {
+            Pattern::Choice(members) => push_parts(alloc, store, settled, kind, members, ids),
+            _ => push_whole(alloc, store, settled, pattern, ids),
+        },
+    }
+}
+
+/// Adds the id of the canonical form of a pattern.
+#[cycle(canonical)]
+fn push_whole<P: Patterns>(
+    alloc: Global,
+    store: &mut P,
+    settled: &Settled<'_>,
+    pattern: &Pattern,
+    ids: &mut Vec<P::Id>,
+) -> Result<(), AllocError>
+    requires { All (λ i. IsTrue (P.knows store.old i)) ids.old.items }
+    ensures known { OnOk result (All (λ i. IsTrue (P.knows store.new i)) ids.new.items) }
+    ensures made { OnOk result (map (P.tree_of store.new) ids.new.items
+        ≡ map (P.tree_of store.old) ids.old.items ++ form.canonical
+        (settled_by (definitions_view settled.now.names.now.entries) settled.now.worth.items)
+        (pattern_view pattern.now) ∷ []) }
+    ensures kept { KeepsTrees (P.knows store.old) (P.tree_of store.old)
+        (P.knows store.new) (P.tree_of store.new) }
+{
+    let id = canonical(alloc, store, settled, pattern)?;
+    ids.push(id)?;
+    Ok(())
 }
 
 /// The id of the canonical form of a pattern with a content, by the id of the content's.
@@ -162,35 +220,19 @@ fn over_content<P: Patterns>(
 ) -> Result<P::Id, AllocError>
     requires known { IsTrue (P.knows store.old content) }
     requires has_content { IsSome (content_of (pattern_view pattern.now)) }
-    ensures made { (settled : Text → Tree) → option_map (form.canonical settled) (content_of (pattern_view pattern.now)) ≡ Some (P.tree_of store.old content)
-        → IfOk result (StandsFor (P.knows store.new) (P.tree_of store.new) (form.canonical settled (pattern_view pattern.now))) }
-    ensures kept { KeepsTrees (P.knows store.old) (P.tree_of store.old) (P.knows store.new) (P.tree_of store.new) }
+    ensures made { (settled : Text → Tree)
+        → option_map (form.canonical settled) (content_of (pattern_view pattern.now))
+        ≡ Some (P.tree_of store.old content)
+        → IfOk result (StandsFor (P.knows store.new) (P.tree_of store.new)
+        (form.canonical settled (pattern_view pattern.now))) }
+    ensures kept { KeepsTrees (P.knows store.old) (P.tree_of store.old)
+        (P.knows store.new) (P.tree_of store.new) }
 {
     match pattern {
         Pattern::List(_) => store.list(content),
         Pattern::Attribute(class, _) => store.attribute(class, content),
         Pattern::Element(class, _) => store.element(class, content),
         Pattern::OneOrMore(_) => store.one_or_more(content),
-        _ => unreachable!(),
-    }
-}
-
-/// The id of the canonical form of a list of members, by the ids of the members'.
-fn over_members<P: Patterns>(
-    store: &mut P,
-    pattern: &Pattern,
-    members: &[P::Id],
-) -> Result<P::Id, AllocError>
-    requires known { All (λ i. IsTrue (P.knows store.old i)) members.now }
-    requires has_members { IsSome (members_of (pattern_view pattern.now)) }
-    ensures made { (settled : Text → Tree) → option_map (canonical_all settled) (members_of (pattern_view pattern.now)) ≡ Some (map (P.tree_of store.old) members.now)
-        → IfOk result (StandsFor (P.knows store.new) (P.tree_of store.new) (form.canonical settled (pattern_view pattern.now))) }
-    ensures kept { KeepsTrees (P.knows store.old) (P.tree_of store.old) (P.knows store.new) (P.tree_of store.new) }
-{
-    match pattern {
-        Pattern::Group(_) => store.group(members),
-        Pattern::Interleave(_) => store.ileave(members),
-        Pattern::Choice(_) => store.choice(members),
         _ => unreachable!(),
     }
 }

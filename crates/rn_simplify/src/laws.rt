@@ -15,6 +15,7 @@ ghost use Rattle.rn_assemble.specs.Components.{Component, Source, set_components
 ghost use Rattle.rn_assemble.specs.Combine.{IsCombination, joined_grammar, read};
 ghost use Rattle.rn_assemble.specs.WellFormed.{IsWellFormed, HasWritableTexts};
 ghost use Rattle.rn_assemble.specs.Refusal.{Refusal, StandsFor};
+ghost use Rattle.rn_simplify.specs.Limits.{most_bytes};
 ghost use Rattle.rn_simplify.specs.ReadBack.{IsReadBack};
 ghost use Rattle.rn_simplify.specs.Settling.{IsSettling};
 ghost use Rattle.rn_simplify.specs.Spellable.{IsSpellable};
@@ -31,8 +32,8 @@ pub fn spelling_reads_back()
 /// of which the same holds; if that one's text is at most 4 MiB long, it is read back as the canonical grammar, opened.
 pub fn canonical_texts_are_read_back()
     ensures writable { (G N : Grammar) → IsCanonicalOf G N → HasWritableTexts G → HasWritableTexts N }
-    ensures spellable { (G N : Grammar) → IsCanonicalOf G N → HasWritableTexts G → length (spelling N) ≤ 4194304 → IsSpellable N }
-    ensures read_back { (G N : Grammar) → IsCanonicalOf G N → HasWritableTexts G → length (spelling N) ≤ 4194304 → IsReadBack N }
+    ensures spellable { (G N : Grammar) → IsCanonicalOf G N → HasWritableTexts G → length (spelling N) ≤ most_bytes → IsSpellable N }
+    ensures read_back { (G N : Grammar) → IsCanonicalOf G N → HasWritableTexts G → length (spelling N) ≤ most_bytes → IsReadBack N }
 {}
 
 /// The canonical grammar of a grammar is valid for exactly its documents, for every table of datatypes (RELAX NG

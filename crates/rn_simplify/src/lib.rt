@@ -12,13 +12,16 @@ mod mentions;
 mod name_class;
 pub mod normal;
 pub mod normalising;
+mod parts;
 mod pattern;
 pub mod printing;
 mod reachable;
 mod rebuilt;
 mod references;
+mod settled;
 mod settling;
 mod shapes;
+mod worth;
 mod writer;
 
 pub use normal::Normal;

@@ -1,66 +1,141 @@
-use Rattle.std.proofs.Common.{◌≡◌, Some, refl, length, map, ap, sym, subst, ◌∙◌, arith}
+use Rattle.std.proofs.Common.{◌≡◌, List, [], ◌∷◌, ◌++◌, IfOk, OnOk, map, refl, sym, ap, subst, ◌∙◌, arith, length}
 use Rattle.std.specs.Prelude.{All, IsTrue}
 use Rattle.std.specs.Option.{option_map}
+use Rattle.std.proofs.Common.{Some}
+use Rattle.std.proofs.lemmas.List.{append-nil, map-append, take_all}
 use Rattle.rn_assemble.specs.GrammarView.{definitions_view}
-use Rattle.rn_pattern.specs.Canonical.{canonical, canonical_all}
-use Rattle.rn_pattern.specs.Tree.{trees_of}
+use Rattle.rn_pattern.specs.Canonical.{canonical, canonical_all, choice_step, group_step, interleave_step}
+use Rattle.rn_pattern.specs.Store.{StandsFor}
+use Rattle.rn_pattern.specs.Tree.{Tree, trees_of}
 use Rattle.rn_pattern.specs.View.{pattern_view, shared_view}
-use Rattle.rn_simplify.specs.Numbered.{settled_by}
-use Rattle.rn_simplify.proofs.Contents.{content_seen, members_seen}
-use Rattle.rn_simplify.proofs.Known.{keeps_then, then_kept, known_still, ids_still, all_more, settled_still, trees_still, forms_more}
+use Rattle.rn_pattern.proofs.Ordered.PatternKinds.{group_seen, interleave_seen, choice_seen}
+use Rattle.rn_simplify.specs.Parts.{list_step, parts, parts_of}
+use Rattle.rn_simplify.specs.Worth.{settled_by}
+use Rattle.rn_simplify.proofs.Simplified.Contents.{content_seen}
+use Rattle.rn_simplify.proofs.Simplified.Evaluated.{settled_canonical}
+use Rattle.rn_simplify.proofs.Simplified.Known.{keeps_then, then_kept, trees_still}
+use Rattle.rn_simplify.proofs.Simplified.ListParts.{choice_parts, group_parts, interleave_parts, parts_more, parts_same}
 use Rattle.rn_simplify.proofs.canonical.+canonical.Goals as goal
 
-pub canonical_members-loop-member-init : goal.canonical_members-loop-member-init
-canonical_members-loop-member-init g t c = record {
-  kept = λ i h. (h, refl);
-  worth = c.requires;
-  made = ap (map (g.P.Patterns.tree_of c.args.store.now)) c.new-ids.ensures.items;
-  known = λ k d l. absurd (omega (arith, ap length c.new-ids.ensures.items, l));
-}
-
-pub canonical_members-loop-member-preserved : goal.canonical_members-loop-member-preserved
-canonical_members-loop-member-preserved g t c =
-    let k = g.P.Patterns.knows in
-    let r = g.P.Patterns.tree_of in
-    let inv = c.loop-member.invariant in
-    let kept = c.canonical.ensures.kept in
-    let ds = definitions_view c.args.settled.now.names.now.entries in
-    let worth = c.args.settled.now.worth.items in
-    let old = ids_still (k c.loop-member.store) (k c.canonical.new.store) (r c.loop-member.store) (r c.canonical.new.store) kept c.loop-member.ids.items inv.known in
-    let same = settled_still (k c.args.store.now) (k c.loop-member.store) (r c.args.store.now) (r c.loop-member.store) inv.kept ds worth c.requires in
-    let form : r c.canonical.new.store c.in_ok-id.id ≡ canonical (settled_by (r c.args.store.now) ds worth) (shared_view c.member-item.result) =
-    c.in_ok-id.ensures.made.1 ∙ ap (λ s. canonical s (pattern_view c.deref.result.now)) same ∙ ap (λ p. canonical (settled_by (r c.args.store.now) ds worth) (pattern_view p)) c.deref.ensures in
-    record {
-      kept = keeps_then (k c.args.store.now) (k c.loop-member.store) (k c.canonical.new.store) (r c.args.store.now) (r c.loop-member.store) (r c.canonical.new.store) inv.kept kept;
-      worth = known_still (k c.loop-member.store) (k c.canonical.new.store) (r c.loop-member.store) (r c.canonical.new.store) kept c.args.settled.now.worth.items inv.worth;
-      made = forms_more (settled_by (r c.args.store.now) ds worth) c.args.members.now c.loop-member.member-index c.member-item.result (r c.canonical.new.store) c.loop-member.ids.items c.push.new.self.items c.in_ok-id.id c.loop-member-test.true c.member-item.is
-          (trees_still (k c.loop-member.store) (k c.canonical.new.store) (r c.loop-member.store) (r c.canonical.new.store) kept c.loop-member.ids.items inv.known ∙ inv.made) form c.in_ok-push.ensures.items;
-      known = subst (λ is. All (λ i. IsTrue (k c.canonical.new.store i)) is) (sym c.in_ok-push.ensures.items) (all_more (λ i. IsTrue (k c.canonical.new.store i)) c.loop-member.ids.items c.in_ok-id.id old c.in_ok-id.ensures.made.0);
-    }
-
-pub canonical-returns-in_ok-members-in-Group-clause-made : goal.canonical-returns-in_ok-members-in-Group-clause-made
-canonical-returns-in_ok-members-in-Group-clause-made g t c =
-    let r = g.P.Patterns.tree_of in
-    let s = settled_by (r c.args.store.now) (definitions_view c.args.settled.now.names.now.entries) c.args.settled.now.worth.items in
-    c.over_members.ensures.made s
-    (ap (option_map (canonical_all s)) (members_seen c.args.pattern.now c.in-Group.members c.in-Group.is)
-    ∙ ap Some (ap (λ ps. canonical_all s (trees_of (map shared_view ps))) (sym c.deref-in-Group.ensures.value) ∙ sym c.in_ok-members-in-Group.ensures.made ∙ ap (map (r c.canonical_members.new.store)) (sym c.deref-in-Group-2.ensures.value)))
+-- ---- the patterns over patterns
 
 pub canonical-returns-in_ok-content-in-List-clause-kept : goal.canonical-returns-in_ok-content-in-List-clause-kept
-canonical-returns-in_ok-content-in-List-clause-kept g t c = then_kept g.P.Patterns.knows g.P.Patterns.tree_of c.args.store.now c.canonical-in-List.new.store c.over_content.new.store c.canonical-in-List.ensures.kept c.over_content.ensures.kept
-
-pub canonical-returns-in_ok-members-in-Group-clause-kept : goal.canonical-returns-in_ok-members-in-Group-clause-kept
-canonical-returns-in_ok-members-in-Group-clause-kept g t c = then_kept g.P.Patterns.knows g.P.Patterns.tree_of c.args.store.now c.canonical_members.new.store c.over_members.new.store c.canonical_members.ensures.kept c.over_members.ensures.kept
-
-pub canonical_members-returns-in_err-id-clause-kept : goal.canonical_members-returns-in_err-id-clause-kept
-canonical_members-returns-in_err-id-clause-kept g t c = then_kept g.P.Patterns.knows g.P.Patterns.tree_of c.args.store.now c.loop-member.store c.canonical.new.store c.loop-member.invariant.kept c.canonical.ensures.kept
-
-pub canonical_members-returns-in_err-push-clause-kept : goal.canonical_members-returns-in_err-push-clause-kept
-canonical_members-returns-in_err-push-clause-kept g t c = then_kept g.P.Patterns.knows g.P.Patterns.tree_of c.args.store.now c.loop-member.store c.canonical.new.store c.loop-member.invariant.kept c.canonical.ensures.kept
+canonical-returns-in_ok-content-in-List-clause-kept g t c =
+    then_kept g.P.Patterns.knows g.P.Patterns.tree_of c.args.store.now c.canonical-in-List.new.store c.over_content.new.store c.canonical-in-List.ensures.kept c.over_content.ensures.kept
 
 pub canonical-returns-in_ok-content-in-List-clause-made : goal.canonical-returns-in_ok-content-in-List-clause-made
 canonical-returns-in_ok-content-in-List-clause-made g t c =
-    let s = settled_by (g.P.Patterns.tree_of c.args.store.now) (definitions_view c.args.settled.now.names.now.entries) c.args.settled.now.worth.items in
+    let s = settled_by (definitions_view c.args.settled.now.names.now.entries) c.args.settled.now.worth.items in
     c.over_content.ensures.made s
     (ap (option_map (canonical s)) (content_seen c.args.pattern.now c.in-List.content c.in-List.is)
     ∙ ap Some (ap (λ p. canonical s (pattern_view p)) (sym c.deref-in-List.ensures) ∙ sym c.in_ok-content-in-List.ensures.made.1))
+
+pub canonical-returns-in-Group-clause-made : goal.canonical-returns-in-Group-clause-made
+canonical-returns-in-Group-clause-made g t c =
+    let s = settled_by (definitions_view c.args.settled.now.names.now.entries) c.args.settled.now.worth.items in
+    let new = c.listed.new.store in
+    subst (λ (u : Tree). IfOk c.listed.result (StandsFor (g.P.Patterns.knows new) (g.P.Patterns.tree_of new) u))
+    (ap (λ xs. group_step (canonical_all s (trees_of (map shared_view xs)))) c.deref-in-Group.ensures.value
+    ∙ sym (ap (λ p. canonical s (pattern_view p)) c.in-Group.is ∙ ap (canonical s) (group_seen c.in-Group.members)))
+    c.listed.ensures.made
+
+pub canonical-returns-in-Interleave-clause-made : goal.canonical-returns-in-Interleave-clause-made
+canonical-returns-in-Interleave-clause-made g t c =
+    let s = settled_by (definitions_view c.args.settled.now.names.now.entries) c.args.settled.now.worth.items in
+    let new = c.listed-in-Interleave.new.store in
+    subst (λ (u : Tree). IfOk c.listed-in-Interleave.result (StandsFor (g.P.Patterns.knows new) (g.P.Patterns.tree_of new) u))
+    (ap (λ xs. interleave_step (canonical_all s (trees_of (map shared_view xs)))) c.deref-in-Interleave.ensures.value
+    ∙ sym (ap (λ p. canonical s (pattern_view p)) c.in-Interleave.is ∙ ap (canonical s) (interleave_seen c.in-Interleave.members)))
+    c.listed-in-Interleave.ensures.made
+
+pub canonical-returns-in-Choice-clause-made : goal.canonical-returns-in-Choice-clause-made
+canonical-returns-in-Choice-clause-made g t c =
+    let s = settled_by (definitions_view c.args.settled.now.names.now.entries) c.args.settled.now.worth.items in
+    let new = c.listed-in-Choice.new.store in
+    subst (λ (u : Tree). IfOk c.listed-in-Choice.result (StandsFor (g.P.Patterns.knows new) (g.P.Patterns.tree_of new) u))
+    (ap (λ xs. choice_step (canonical_all s (trees_of (map shared_view xs)))) c.deref-in-Choice.ensures.value
+    ∙ sym (ap (λ p. canonical s (pattern_view p)) c.in-Choice.is ∙ ap (canonical s) (choice_seen c.in-Choice.members)))
+    c.listed-in-Choice.ensures.made
+
+-- ---- lists
+
+pub listed-returns-clause-made : goal.listed-returns-clause-made
+listed-returns-clause-made g t c =
+    let ds = definitions_view c.args.settled.now.names.now.entries in
+    let worth = c.args.settled.now.worth.items in
+    let s = settled_by ds worth in
+    let kind = c.args.kind in
+    let ps = trees_of (map shared_view c.args.members.now) in
+    let at = g.P.Patterns.tree_of c.push_parts.new.store in
+    let new = c.over.new.store in
+    let parts_are : map at c.deref.result.now ≡ map (canonical s) (parts kind ps) =
+    ap (map at) c.deref.ensures.value ∙ c.in_ok-push_parts.ensures.made
+    ∙ ap (λ is. map (g.P.Patterns.tree_of c.args.store.now) is ++ map (canonical s) (parts kind ps)) c.new-ids.ensures.items in
+    subst (λ (u : Tree). IfOk c.over.result (StandsFor (g.P.Patterns.knows new) (g.P.Patterns.tree_of new) u))
+    (ap (list_step kind) parts_are ∙ parts_same s (settled_canonical ds worth) kind ps)
+    c.over.ensures.made
+
+pub listed-returns-clause-kept : goal.listed-returns-clause-kept
+listed-returns-clause-kept g t c =
+    then_kept g.P.Patterns.knows g.P.Patterns.tree_of c.args.store.now c.push_parts.new.store c.over.new.store c.push_parts.ensures.kept c.over.ensures.kept
+
+pub push_parts-loop-member-init : goal.push_parts-loop-member-init
+push_parts-loop-member-init g t c = record {
+  kept = λ i h. (h, refl);
+  known = c.requires;
+  made = sym (append-nil (map (g.P.Patterns.tree_of c.args.store.now) c.args.ids.now.items));
+}
+
+pub push_parts-loop-member-preserved : goal.push_parts-loop-member-preserved
+push_parts-loop-member-preserved g t c =
+    let k = g.P.Patterns.knows in
+    let r = g.P.Patterns.tree_of in
+    let a = c.args.store.now in
+    let old = c.loop-member.store in
+    let new = c.push_part.new.store in
+    let inv = c.loop-member.invariant in
+    let f = canonical (settled_by (definitions_view c.args.settled.now.names.now.entries) c.args.settled.now.worth.items) in
+    let now = map (r old) c.loop-member.ids.items in
+    record {
+      kept = keeps_then (k a) (k old) (k new) (r a) (r old) (r new) inv.kept c.push_part.ensures.kept;
+      known = c.in_ok-push_part.ensures.known;
+      made = parts_more f c.args.kind c.args.members.now c.loop-member.member-index c.member-item.result (map (r a) c.args.ids.now.items) now (map (r new) c.push_part.new.ids.items)
+          c.loop-member-test.true c.member-item.is inv.made (c.in_ok-push_part.ensures.made ∙ ap (λ p. now ++ map f (parts_of c.args.kind (pattern_view p))) c.deref.ensures);
+    }
+
+pub push_part-returns-in-Group-pattern-clause-made : goal.push_part-returns-in-Group-pattern-clause-made
+push_part-returns-in-Group-pattern-clause-made g t c =
+    let r = g.P.Patterns.tree_of in
+    let f = canonical (settled_by (definitions_view c.args.settled.now.names.now.entries) c.args.settled.now.worth.items) in
+    let new = c.push_parts.new in
+    subst (λ (ps : List Tree). OnOk c.push_parts.result (map (r new.store) new.ids.items ≡ map (r c.args.store.now) c.args.ids.now.items ++ map f ps))
+    (group_parts c.args.kind c.args.pattern.now c.in-Group-pattern.members c.deref.result.now c.deref.ensures.value c.in-Group.is c.in-Group-pattern.is)
+    c.push_parts.ensures.made
+
+pub push_part-returns-in-Interleave-pattern-clause-made : goal.push_part-returns-in-Interleave-pattern-clause-made
+push_part-returns-in-Interleave-pattern-clause-made g t c =
+    let r = g.P.Patterns.tree_of in
+    let f = canonical (settled_by (definitions_view c.args.settled.now.names.now.entries) c.args.settled.now.worth.items) in
+    let new = c.push_parts-in-Interleave-pattern.new in
+    subst (λ (ps : List Tree). OnOk c.push_parts-in-Interleave-pattern.result (map (r new.store) new.ids.items ≡ map (r c.args.store.now) c.args.ids.now.items ++ map f ps))
+    (interleave_parts c.args.kind c.args.pattern.now c.in-Interleave-pattern.members c.deref-in-Interleave-pattern.result.now c.deref-in-Interleave-pattern.ensures.value c.in-Interleave.is c.in-Interleave-pattern.is)
+    c.push_parts-in-Interleave-pattern.ensures.made
+
+pub push_part-returns-in-Choice-pattern-clause-made : goal.push_part-returns-in-Choice-pattern-clause-made
+push_part-returns-in-Choice-pattern-clause-made g t c =
+    let r = g.P.Patterns.tree_of in
+    let f = canonical (settled_by (definitions_view c.args.settled.now.names.now.entries) c.args.settled.now.worth.items) in
+    let new = c.push_parts-in-Choice-pattern.new in
+    subst (λ (ps : List Tree). OnOk c.push_parts-in-Choice-pattern.result (map (r new.store) new.ids.items ≡ map (r c.args.store.now) c.args.ids.now.items ++ map f ps))
+    (choice_parts c.args.kind c.args.pattern.now c.in-Choice-pattern.members c.deref-in-Choice-pattern.result.now c.deref-in-Choice-pattern.ensures.value c.in-Choice.is c.in-Choice-pattern.is)
+    c.push_parts-in-Choice-pattern.ensures.made
+
+pub push_whole-returns-clause-made : goal.push_whole-returns-clause-made
+push_whole-returns-clause-made g t c =
+    let k = g.P.Patterns.knows in
+    let r = g.P.Patterns.tree_of in
+    let old = c.args.store.now in
+    let new = c.canonical.new.store in
+    let ids = c.args.ids.now.items in
+    ap (map (r new)) c.in_ok-push.ensures.items ∙ map-append (r new) ids (c.in_ok-id.id ∷ [])
+    ∙ (λ i. trees_still (k old) (k new) (r old) (r new) c.canonical.ensures.kept ids c.requires i ++ c.in_ok-id.ensures.made.1 i ∷ [])

@@ -1,6 +1,6 @@
 use Rattle.std.proofs.Common.{sym, ◌∙◌}
 use Rattle.std.specs.Prelude.{string_bytes}
-use Rattle.rn_simplify.proofs.Places.{place_found, place_missing}
+use Rattle.rn_simplify.proofs.ReadBack.Places.{place_found, place_missing}
 use Rattle.rn_simplify.proofs.declarations.place.Goals as goal
 
 pub returns-in-Some : goal.returns-in-Some

@@ -1,4 +1,4 @@
-use Rattle.rn_simplify.proofs.LineTexts.{writes_bound}
+use Rattle.rn_simplify.proofs.Texts.LineTexts.{writes_bound}
 use Rattle.rn_simplify.proofs.declarations.write_bound.Goals as goal
 
 pub returns : goal.returns

@@ -1,4 +1,4 @@
-use Rattle.rn_simplify.proofs.FixedPoint.{fixed_point, read_back_fixed}
+use Rattle.rn_simplify.proofs.Simplified.FixedPoint.{fixed_point, read_back_fixed}
 use Rattle.rn_simplify.proofs.laws.canonical_again.Goals as goal
 
 pub returns-clause-same : goal.returns-clause-same

@@ -1,7 +1,7 @@
 use Rattle.std.proofs.Common.{arith}
-use Rattle.rn_simplify.proofs.Writable.{normal_writable}
-use Rattle.rn_simplify.proofs.Spelled.{spellable}
-use Rattle.rn_simplify.proofs.Binding.{spelling_reads_back}
+use Rattle.rn_simplify.proofs.ReadBack.Writable.{normal_writable}
+use Rattle.rn_simplify.proofs.ReadBack.Spelled.{spellable}
+use Rattle.rn_simplify.proofs.ReadBack.Binding.{spelling_reads_back}
 use Rattle.rn_simplify.proofs.laws.canonical_texts_are_read_back.Goals as goal
 
 pub returns-clause-writable : goal.returns-clause-writable

@@ -1,6 +1,6 @@
 use Rattle.rn_assemble.specs.Components.{set_components}
 use Rattle.rn_assemble.proofs.WellFormed.ComponentExcepts.{set_excepts}
-use Rattle.rn_simplify.proofs.ReadAgain.{combination_read}
+use Rattle.rn_simplify.proofs.ReadBack.ReadAgain.{combination_read}
 use Rattle.rn_simplify.proofs.laws.combinations_are_read_back.Goals as goal
 
 pub returns-clause-components : goal.returns-clause-components

@@ -1,4 +1,4 @@
-use Rattle.rn_simplify.proofs.RankOrder.{normal_is}
+use Rattle.rn_simplify.proofs.Simplified.RankOrder.{normal_is}
 use Rattle.rn_simplify.proofs.laws.settling_in_order_is_canonical.Goals as goal
 
 pub returns : goal.returns

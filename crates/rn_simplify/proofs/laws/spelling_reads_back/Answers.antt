@@ -1,4 +1,4 @@
-use Rattle.rn_simplify.proofs.Binding.{spelling_reads_back}
+use Rattle.rn_simplify.proofs.ReadBack.Binding.{spelling_reads_back}
 use Rattle.rn_simplify.proofs.laws.spelling_reads_back.Goals as goal
 
 pub returns : goal.returns

@@ -1,4 +1,4 @@
-use Rattle.rn_simplify.proofs.ReadAgain.{read_canonical, read_only, none_stands}
+use Rattle.rn_simplify.proofs.ReadBack.ReadAgain.{read_canonical, read_only, none_stands}
 use Rattle.rn_simplify.proofs.laws.what_is_read_back_stays.Goals as goal
 
 pub returns-clause-same : goal.returns-clause-same

@@ -1,4 +1,4 @@
-use Rattle.std.proofs.Common.{◌≡◌, List, map, sym, ap, ◌∙◌, subst}
+use Rattle.std.proofs.Common.{◌≡◌, List, map, refl, ap, ◌∙◌, subst}
 use Rattle.rn_pattern.specs.Canonical as form
 use Rattle.rn_pattern.specs.Matching.{Grammar}
 use Rattle.rn_pattern.specs.Reached.{IsPruned, IsCanonicalOf, formed}
@@ -6,26 +6,20 @@ use Rattle.rn_pattern.specs.Tree.{Text, Tree}
 use Rattle.rn_pattern.specs.View.{pattern_view}
 use Rattle.rn_pattern.specs.declared.tree.Pattern.{Pattern}
 use Rattle.rn_assemble.specs.GrammarView.{definitions_view, grammar_view}
-use Rattle.rn_simplify.specs.Numbered.{settled_by}
-use Rattle.rn_simplify.proofs.Known.{then_kept, known_still, settled_still}
-use Rattle.rn_simplify.proofs.Normalised.{formed_is, names_formed}
-use Rattle.rn_simplify.proofs.RankOrder.{normal_is}
+use Rattle.rn_simplify.specs.Worth.{settled_by}
+use Rattle.rn_simplify.proofs.Simplified.Known.{then_kept}
+use Rattle.rn_simplify.proofs.Simplified.Normalised.{formed_is, names_formed}
+use Rattle.rn_simplify.proofs.Simplified.RankOrder.{normal_is}
 use Rattle.rn_simplify.proofs.normalising.canonical_parts.Goals as goal
 
 pub returns-clause-canonical : goal.returns-clause-canonical
 returns-clause-canonical g c =
-    let k = g.P.Patterns.knows in
-    let r = g.P.Patterns.tree_of in
     let G = grammar_view c.args.grammar.now in
     let ds = definitions_view c.in_ok-settled.settled.names.now.entries in
-    let worth = c.in_ok-settled.settled.worth.items in
-    let s = c.settled.new.store in
-    let t = settled_by (r s) ds worth in
-    let fs = λ (u : Text → Tree). map (λ (d : Text × Tree). (d.0, form.canonical u d.1)) ds in
+    let t = settled_by ds c.in_ok-settled.settled.worth.items in
     let start = pattern_view c.in_ok-start.start.value in
-    let later : settled_by (r c.form.new.store) ds worth ≡ t = settled_still (k s) (k c.form.new.store) (r s) (r c.form.new.store) c.form.ensures.kept ds worth c.in_ok-settled.ensures.known in
-    let F : Grammar = record { start = start; definitions = fs (settled_by (r c.form.new.store) ds worth) } in
-    let same : F ≡ formed t G = formed_is G t ds F.definitions (pattern_view c.start.result.now) start c.in_ok-settled.ensures.names c.start.ensures c.in_ok-start.ensures.made (ap fs later) in
+    let F : Grammar = record { start = start; definitions = map (λ (d : Text × Tree). (d.0, form.canonical t d.1)) ds } in
+    let same : F ≡ formed t G = formed_is G t ds F.definitions (pattern_view c.start.result.now) start c.in_ok-settled.ensures.names c.start.ensures c.in_ok-start.ensures.made refl in
     let N : Grammar = record { start = start; definitions = definitions_view c.in_ok-defs.defs.items } in
     let made : definitions_view c.in_ok-forms.forms.items ≡ F.definitions = c.in_ok-forms.ensures.made in
     let reached : IsPruned (record { start = start; definitions = definitions_view c.in_ok-forms.forms.items }) N =
@@ -36,19 +30,7 @@ returns-clause-canonical g c =
 pub pruned-requires-clause-named : goal.pruned-requires-clause-named
 pruned-requires-clause-named g c =
     let ds = definitions_view c.in_ok-settled.settled.names.now.entries in
-    ap (map (λ (d : Text × Tree). d.0)) c.in_ok-forms.ensures.made ∙ names_formed (settled_by (g.P.Patterns.tree_of c.form.new.store) ds c.in_ok-settled.settled.worth.items) ds
-
-pub forms-requires : goal.forms-requires
-forms-requires g c =
-    let k = g.P.Patterns.knows in
-    let r = g.P.Patterns.tree_of in
-    let s = c.settled.new.store in
-    known_still (k s) (k c.form.new.store) (r s) (r c.form.new.store) c.form.ensures.kept c.in_ok-settled.settled.worth.items c.in_ok-settled.ensures.known
+    ap (map (λ (d : Text × Tree). d.0)) c.in_ok-forms.ensures.made ∙ names_formed (settled_by ds c.in_ok-settled.settled.worth.items) ds
 
 pub returns-clause-kept : goal.returns-clause-kept
-returns-clause-kept g c =
-    let k = g.P.Patterns.knows in
-    let r = g.P.Patterns.tree_of in
-    let a = c.args.store.now in
-    let t = c.form.new.store in
-    then_kept k r a t c.forms.new.store (then_kept k r a c.settled.new.store t c.settled.ensures.kept c.form.ensures.kept) c.forms.ensures.kept
+returns-clause-kept g c = then_kept g.P.Patterns.knows g.P.Patterns.tree_of c.args.store.now c.form.new.store c.forms.new.store c.form.ensures.kept c.forms.ensures.kept

@@ -4,8 +4,8 @@ use Rattle.rn_pattern.specs.declared.tree.Pattern.{Pattern}
 use Rattle.rn_pattern.proofs.Matches.Pruned.{canonical_grammar_valid}
 use Rattle.rn_assemble.specs.GrammarView.{grammar_view}
 use Rattle.rn_simplify.specs.Sources.{parts_view}
-use Rattle.rn_simplify.proofs.Sources.{has_source}
-use Rattle.rn_simplify.proofs.WellFormed.{normal_well_formed}
+use Rattle.rn_simplify.proofs.Texts.Sources.{has_source}
+use Rattle.rn_simplify.proofs.Simplified.WellFormed.{normal_well_formed}
 use Rattle.rn_simplify.proofs.normalising.normalise_in.Goals as goal
 
 pub invariant_of-result : goal.invariant_of-result

@@ -8,11 +8,11 @@ use Rattle.rn_pattern.specs.declared.tree.Pattern.TheViews.{the_lemmas}
 use Rattle.rn_simplify.specs.Spelling.{chain, comma, datum_pieces, infix_of, operand, optional_one, primary, written_choice, written_interleave, written_tree}
 use Rattle.rn_pattern.specs.View.{name_class_view, parameters_view, pattern_step, pattern_view}
 use Rattle.rn_simplify.specs.Writes.{bytes_of, depth_after, prefixes_view, rows_of, Writes}
-use Rattle.rn_simplify.proofs.Writing.{writes_as, writes_pieces}
-use Rattle.rn_simplify.proofs.PartTexts.{writes_identifier, writes_braced, writes_parenthesized}
-use Rattle.rn_simplify.proofs.Chains.{before}
-use Rattle.rn_simplify.proofs.Members.{group_rows, interleave_rows, choice_rows}
-use Rattle.rn_simplify.proofs.NodeTexts.{writes_not_allowed, writes_empty, writes_text, writes_except, writes_datum, writes_list, writes_attribute, writes_element, writes_one_or_more, writes_repeated, writes_maybe, writes_no_other, writes_one_other, writes_others, writes_no_choice, writes_optional, writes_choice, writes_no_interleave, writes_mixed, writes_interleave, writes_one_mixed, writes_several_mixed, row_count, not_repeated, chain_begins, chain_more, chain_no_connector, chain_connector, chain_ends}
+use Rattle.rn_simplify.proofs.Texts.Writing.{writes_as, writes_pieces}
+use Rattle.rn_simplify.proofs.Texts.PartTexts.{writes_identifier, writes_braced, writes_parenthesized}
+use Rattle.rn_simplify.proofs.ReadBack.Chains.{before}
+use Rattle.rn_simplify.proofs.Texts.Members.{group_rows, interleave_rows, choice_rows}
+use Rattle.rn_simplify.proofs.Texts.NodeTexts.{writes_not_allowed, writes_empty, writes_text, writes_except, writes_datum, writes_list, writes_attribute, writes_element, writes_one_or_more, writes_repeated, writes_maybe, writes_no_other, writes_one_other, writes_others, writes_no_choice, writes_optional, writes_choice, writes_no_interleave, writes_mixed, writes_interleave, writes_one_mixed, writes_several_mixed, row_count, not_repeated, chain_begins, chain_more, chain_no_connector, chain_connector, chain_ends}
 use Rattle.rn_simplify.proofs.pattern.+pattern.Goals as goal
 use Rattle.rn_simplify.proofs.pattern.+pattern.Goals.{write_chain-then-i-first, write_chain-else-i-first}
 

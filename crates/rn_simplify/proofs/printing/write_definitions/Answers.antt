@@ -5,9 +5,9 @@ use Rattle.rn_pattern.specs.View.{pattern_view}
 use Rattle.rn_simplify.specs.NormalView.{definitions_view}
 use Rattle.rn_simplify.specs.Spelling.{definition_line, definition_lines, identifier}
 use Rattle.rn_simplify.specs.Writes.{defined_as, prefixes_view, Writes}
-use Rattle.rn_simplify.proofs.Writing.{writes_then}
-use Rattle.rn_simplify.proofs.PartTexts.{writes_identifier}
-use Rattle.rn_simplify.proofs.LineTexts.{definitions_up_to, writes_one_definition}
+use Rattle.rn_simplify.proofs.Texts.Writing.{writes_then}
+use Rattle.rn_simplify.proofs.Texts.PartTexts.{writes_identifier}
+use Rattle.rn_simplify.proofs.Texts.LineTexts.{definitions_up_to, writes_one_definition}
 use Rattle.rn_simplify.proofs.printing.write_definitions.Goals as goal
 
 pub loop-name-preserved : goal.loop-name-preserved

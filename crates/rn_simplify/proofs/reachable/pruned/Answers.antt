@@ -5,7 +5,7 @@ use Rattle.rn_pattern.specs.View.{pattern_view}
 use Rattle.rn_assemble.specs.GrammarView.{definitions_view}
 use Rattle.rn_simplify.specs.Marked.{marked}
 use Rattle.rn_simplify.specs.Numbered.{MarksReached}
-use Rattle.rn_simplify.proofs.PrunedForms.{pruned_is, kept_distinct, names_rise}
+use Rattle.rn_simplify.proofs.Simplified.PrunedForms.{pruned_is, kept_distinct, names_rise}
 use Rattle.rn_simplify.proofs.reachable.pruned.Goals as goal
 
 pub returns : goal.returns

@@ -3,7 +3,7 @@ use Rattle.std.specs.Prelude.{string_bytes}
 use Rattle.rn_pattern.proofs.Stores.Copied.{parameters_copied}
 use Rattle.rn_pattern.proofs.Ordered.PatternKinds.{datum_of, datum_seen}
 use Rattle.rn_pattern.specs.View.{excepted_view, parameters_view}
-use Rattle.rn_simplify.proofs.NodeKinds.{datum_alike}
+use Rattle.rn_simplify.proofs.Simplified.NodeKinds.{datum_alike}
 use Rattle.rn_simplify.proofs.rebuilt.datum.Goals as goal
 
 pub returns : goal.returns

@@ -6,7 +6,7 @@ use Rattle.rn_pattern.specs.View.{pattern_view, shared_view}
 use Rattle.rn_pattern.proofs.Ordered.PatternKinds.{group_seen, interleave_seen, choice_seen}
 use Rattle.rn_simplify.specs.Numbered.{numbers_of}
 use Rattle.rn_simplify.specs.Referred.{all_references, references}
-use Rattle.rn_simplify.proofs.Numbers.{numbers_more}
+use Rattle.rn_simplify.proofs.Simplified.Numbers.{numbers_more}
 use Rattle.rn_simplify.proofs.references.+referred.Goals as goal
 
 pub add-returns-in-Group : goal.add-returns-in-Group

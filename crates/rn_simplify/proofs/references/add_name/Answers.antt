@@ -1,6 +1,6 @@
 use Rattle.std.proofs.Common.{◌++◌, [], ap, sym, ◌∙◌}
 use Rattle.std.specs.List.{cons_option}
-use Rattle.rn_simplify.proofs.Numbers.{number_is, no_number}
+use Rattle.rn_simplify.proofs.Simplified.Numbers.{number_is, no_number}
 use Rattle.rn_assemble.specs.GrammarView.{definitions_view}
 use Rattle.rn_simplify.specs.Numbered.{number_of}
 use Rattle.rn_simplify.proofs.references.add_name.Goals as goal

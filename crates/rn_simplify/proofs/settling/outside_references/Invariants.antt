@@ -5,8 +5,8 @@ use Rattle.rn_assemble.specs.GrammarView.{definitions_view}
 use Rattle.rn_simplify.specs.Numbered.{numbers_of}
 use Rattle.rn_simplify.specs.Referred.{references}
 use Rattle.rn_simplify.specs.declared.references.Scope.TheVariants.{OutsideElements}
-use Rattle.rn_simplify.proofs.Marks.{AreRows}
-use Rattle.rn_simplify.proofs.ReferenceGraph.{nothing}
+use Rattle.rn_simplify.proofs.Simplified.Marks.{AreRows}
+use Rattle.rn_simplify.proofs.Simplified.ReferenceGraph.{nothing}
 use Rattle.rn_simplify.proofs.settling.outside_references.Given as goal
 
 abbrev pub invariant-loop-number : goal.invariant-loop-number

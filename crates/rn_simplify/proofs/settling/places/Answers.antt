@@ -1,5 +1,5 @@
 use Rattle.std.proofs.Common.{ap, refl, ◌∙◌, rules}
-use Rattle.rn_simplify.proofs.Marks.{no_places, more_places, same_places}
+use Rattle.rn_simplify.proofs.Simplified.Marks.{no_places, more_places, same_places}
 use Rattle.rn_simplify.proofs.settling.places.Goals as goal
 use Rattle.rn_simplify.proofs.settling.places.Goals.{then-marks-place+in_ok-push, else-marks-place}
 

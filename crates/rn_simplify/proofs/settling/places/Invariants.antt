@@ -1,4 +1,4 @@
-use Rattle.rn_simplify.proofs.Marks.{AreBelow}
+use Rattle.rn_simplify.proofs.Simplified.Marks.{AreBelow}
 use Rattle.rn_simplify.proofs.settling.places.Given as goal
 
 abbrev pub invariant-loop-place : goal.invariant-loop-place

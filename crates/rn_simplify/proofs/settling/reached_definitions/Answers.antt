@@ -8,7 +8,7 @@ use Rattle.rn_pattern.specs.View.{pattern_view}
 use Rattle.rn_simplify.specs.Numbered.{rows_by}
 use Rattle.rn_simplify.specs.Referred.{references}
 use Rattle.rn_simplify.specs.declared.references.Scope.TheVariants.{Everywhere}
-use Rattle.rn_simplify.proofs.ReferenceGraph.{rows_graph, rows_size, numbers_below}
+use Rattle.rn_simplify.proofs.Simplified.ReferenceGraph.{rows_graph, rows_size, numbers_below}
 use Rattle.rn_simplify.proofs.settling.reached_definitions.Goals as goal
 
 pub reached-requires-clause-graph : goal.reached-requires-clause-graph

@@ -3,7 +3,7 @@ use Rattle.std.specs.Prelude.{codes, string_bytes}
 use Rattle.std.specs.Str.{encode_utf8_all}
 use Rattle.rn_simplify.specs.Spelling.{bindings, library_prefix}
 use Rattle.rn_simplify.specs.Writes.{bound_to, entries, none, prefixes_view, Writes, WritesBytes}
-use Rattle.rn_simplify.proofs.LineTexts.{texts_more, writes_datatypes, writes_one_binding}
+use Rattle.rn_simplify.proofs.Texts.LineTexts.{texts_more, writes_datatypes, writes_one_binding}
 use Rattle.rn_simplify.proofs.declarations.Prefixes.write_libraries.Goals as goal
 
 pub loop-uri-preserved : goal.loop-uri-preserved

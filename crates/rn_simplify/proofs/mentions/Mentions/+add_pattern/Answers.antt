@@ -6,7 +6,7 @@ use Rattle.rn_pattern.specs.declared.tree.Pattern.TheFolds.{fold_out-Pattern, fo
 use Rattle.rn_pattern.specs.declared.tree.Pattern.TheViews.{the_lemmas}
 use Rattle.rn_pattern.specs.View.{name_class_view, pattern_view, pattern_step, shared_view}
 use Rattle.rn_simplify.specs.Gathers.{Gathers, both, by_library, by_name, by_tree, by_trees}
-use Rattle.rn_simplify.proofs.Gathered.{gathers_unless, gathers_one_tree, in_list, named}
+use Rattle.rn_simplify.proofs.Texts.Gathered.{gathers_unless, gathers_one_tree, in_list, named}
 use Rattle.rn_simplify.proofs.mentions.Mentions.+add_pattern.Goals as goal
 
 pub add_pattern-returns-in_ok-add_library-in-Datum-default-default-default-Some : goal.add_pattern-returns-in_ok-add_library-in-Datum-default-default-default-Some

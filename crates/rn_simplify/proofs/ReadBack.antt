@@ -1,0 +1,21 @@
+-- A printed text is read back as its grammar.
+pub mod Binding
+pub mod Bound
+pub mod Declared
+pub mod Rebound
+pub mod Lines
+pub mod Patterns
+pub mod PatternParts
+pub mod Types
+pub mod Classes
+pub mod Chains
+pub mod Whole
+pub mod Words
+pub mod Spelled
+pub mod Few
+pub mod Writable
+pub mod Numbered
+pub mod Ordered
+pub mod Rows
+pub mod Places
+pub mod ReadAgain

@@ -1,0 +1,21 @@
+-- References settled, and the canonical forms.
+pub mod Evaluated
+pub mod ListParts
+pub mod SettledMore
+pub mod SettlingOrder
+pub mod RankOrder
+pub mod Normalised
+pub mod ReferenceGraph
+pub mod ReferredIn
+pub mod Numbers
+pub mod Marks
+pub mod Known
+pub mod PrunedForms
+pub mod Retained
+pub mod Forms
+pub mod Contents
+pub mod NodeKinds
+pub mod NodeSizes
+pub mod FixedPoint
+pub mod Promises
+pub mod WellFormed

@@ -1,0 +1,13 @@
+-- The texts of patterns and grammars, and how they are written.
+pub mod LineTexts
+pub mod NodeTexts
+pub mod PartTexts
+pub mod PatternTexts
+pub mod SourceTexts
+pub mod Sources
+pub mod Writing
+pub mod Answered
+pub mod OpenAtOnce
+pub mod Members
+pub mod Gathered
+pub mod Views

@@ -1,0 +1,36 @@
+// The kinds of lists of patterns (RELAX NG, 4.12).
+ghost use Rattle.std.specs.Prelude.{All, IfOk, IsTrue, map};
+ghost use Rattle.rn_pattern.specs.Store.{KeepsTrees, StandsFor};
+ghost use Rattle.rn_simplify.specs.Parts.{list_step};
+
+use rn_pattern::Patterns;
+use std::alloc::AllocError;
+
+/// A kind of list.
+#[derive(Clone, Copy)]
+pub(crate) enum ListKind {
+    Group,
+    Interleave,
+    Choice,
+}
+
+impl ListKind {
+    /// The id of the canonical form of a list of this kind, by the ids of its parts'.
+    pub(crate) fn over<P: Patterns>(
+        self,
+        store: &mut P,
+        parts: &[P::Id],
+    ) -> Result<P::Id, AllocError>
+        requires { All (λ i. IsTrue (P.knows store.old i)) parts.now }
+        ensures made { IfOk result (StandsFor (P.knows store.new) (P.tree_of store.new)
+            (list_step self (map (P.tree_of store.old) parts.now))) }
+        ensures kept { KeepsTrees (P.knows store.old) (P.tree_of store.old)
+            (P.knows store.new) (P.tree_of store.new) }
+    {
+        match self {
+            ListKind::Group => store.group(parts),
+            ListKind::Interleave => store.ileave(parts),
+            ListKind::Choice => store.choice(parts),
+        }
+    }
+}

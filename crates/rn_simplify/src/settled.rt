@@ -1,0 +1,134 @@
+// What the definitions of a grammar are worth, each by its body and by those that the body refers to outside elements.
+ghost use Rattle.std.specs.Prelude.{◌≡◌, ◌<◌, ℕ, IfOk, length, map, slice_index_or, slice_set};
+ghost use Rattle.rn_assemble.specs.GrammarView.{definitions_view, grammar_view};
+ghost use Rattle.rn_pattern.specs.Canonical.{canonical};
+ghost use Rattle.rn_pattern.specs.Graph.{AllBelow};
+ghost use Rattle.rn_pattern.specs.Tree.{Text, Tree, trees_of};
+ghost use Rattle.rn_pattern.specs.View.{pattern_view, shared_view};
+ghost use Rattle.rn_simplify.specs.Numbered.{AreSettled};
+ghost use Rattle.rn_simplify.specs.Settling.{IsInOrder, IsSettling};
+ghost use Rattle.rn_simplify.specs.Worth.{evaluated, evaluated_all, evaluated_any, settled_by, worth_at, worth_of};
+
+use crate::settling::{body_of, settling_order};
+use crate::worth::Worth;
+use rn_assemble::{Definitions, Grammar};
+use rn_pattern::Pattern;
+use std::alloc::{AllocError, Global};
+use std::rc::Rc;
+
+/// What the references to the definitions of a grammar become.
+#[derive(Drop)]
+pub(crate) struct Settled<'g> {
+    pub(crate) names: &'g Definitions,
+    /// What the definition of each number is worth.
+    pub(crate) worth: Vec<Worth>,
+    ghost sized: { length worth.items ≡ length names.now.entries },
+}
+
+impl Settled<'_> {
+    /// What the definition of a name is worth. The reference to a name without one stays.
+    pub(crate) fn worth_of(&self, name: &str) -> Worth
+        ensures { result ≡ worth_at (definitions_view self.now.names.now.entries)
+            self.now.worth.items name.now }
+    {
+        match self.names.get_index_of(name) {
+            Some(number) => self.worth[number],
+            None => Worth::Other,
+        }
+    }
+}
+
+/// What the references to the definitions of a grammar become.
+pub(crate) fn settle_all(alloc: Global, grammar: &Grammar) -> Result<Settled<'_>, AllocError>
+    ensures names { IfOk result (λ s. definitions_view s.names.now.entries
+        ≡ (grammar_view grammar.now).definitions) }
+    ensures exact { IfOk result (λ s. (rank : Text → ℕ) × IsSettling (grammar_view grammar.now)
+        (settled_by (definitions_view s.names.now.entries) s.worth.items) rank) }
+{
+    let order = settling_order(alloc, grammar)?;
+    settle(alloc, grammar.defs(), &order)
+}
+
+/// What the references to the definitions become, settled in an order in which each definition comes after those that it
+/// refers to outside elements.
+fn settle<'g>(
+    alloc: Global,
+    names: &'g Definitions,
+    order: &[usize],
+) -> Result<Settled<'g>, AllocError>
+    requires { AllBelow (length names.now.entries) order.now }
+    ensures names { IfOk result (λ s. s.names.now.entries ≡ names.now.entries) }
+    ensures settled { IfOk result (λ s. IsInOrder (definitions_view names.now.entries) order.now
+        → AreSettled (definitions_view names.now.entries) order.now
+        (settled_by (definitions_view names.now.entries) s.worth.items)) }
+{
+    let worth = vec![in alloc; Worth::Other; names.len()]?;
+    let mut settled = Settled { names, worth };
+    for number in order {
+        settle_one(*number, &mut settled);
+    }
+    Ok(settled)
+}
+
+/// Settles the definition of a number by its body.
+fn settle_one(number: usize, settled: &mut Settled<'_>)
+    requires { number < length settled.old.names.now.entries }
+    ensures names { settled.new.names.now.entries ≡ settled.old.names.now.entries }
+    ensures settled { (d : Text × Tree) → settled.new.worth.items
+        ≡ slice_set settled.old.worth.items number (worth_of (canonical
+        (settled_by (definitions_view settled.old.names.now.entries) settled.old.worth.items)
+        (slice_index_or (definitions_view settled.old.names.now.entries) number d).1)) }
+{
+    let worth = evaluated(settled, body_of(settled.names, number));
+    settled.worth[number] = worth;
+}
+
+/// What the canonical form of a pattern is worth. The contents of elements aren't looked at.
+#[cycle(evaluated)]
+fn evaluated(settled: &Settled<'_>, pattern: &Pattern) -> Worth
+    ensures { result ≡ evaluated (worth_at (definitions_view settled.now.names.now.entries)
+        settled.now.worth.items) (pattern_view pattern.now) }
+{
+    match pattern {
+        Pattern::NotAllowed => Worth::NotAllowed,
+        Pattern::Empty => Worth::Empty,
+        Pattern::Ref(name) => settled.worth_of(name),
+        Pattern::List(content) => evaluated(settled, content).around(),
+        Pattern::Attribute(_, content) => evaluated(settled, content).around(),
+        Pattern::OneOrMore(content) => evaluated(settled, content),
+        Pattern::Group(members) => evaluated_all(settled, members),
+        Pattern::Interleave(members) => evaluated_all(settled, members),
+        Pattern::Choice(members) => evaluated_any(settled, members),
+        Pattern::Text
+        | Pattern::Value(_, _, _)
+        | Pattern::Datum(_, _, _, None)
+        | Pattern::Datum(_, _, _, Some(_))
+        | Pattern::Element(_, _) => Worth::Other,
+    }
+}
+
+/// What a group or an interleave of the members is worth.
+#[cycle(evaluated)]
+fn evaluated_all(settled: &Settled<'_>, members: &[Rc<Pattern>]) -> Worth
+    ensures { result ≡ evaluated_all (worth_at (definitions_view settled.now.names.now.entries)
+        settled.now.worth.items) (trees_of (map shared_view members.now)) }
+{
+    let mut worth = Worth::Empty;
+    for member in members {
+        worth = worth.both(evaluated(settled, member));
+    }
+    worth
+}
+
+/// What a choice of the members is worth.
+#[cycle(evaluated)]
+fn evaluated_any(settled: &Settled<'_>, members: &[Rc<Pattern>]) -> Worth
+    ensures { result ≡ evaluated_any (worth_at (definitions_view settled.now.names.now.entries)
+        settled.now.worth.items) (trees_of (map shared_view members.now)) }
+{
+    let mut worth = Worth::NotAllowed;
+    for member in members {
+        worth = worth.either(evaluated(settled, member));
+    }
+    worth
+}
