@@ -10,12 +10,12 @@ use Rattle.std.proofs.lemmas.List.{take_more, map-append}
 use Rattle.rn_pattern.specs.Tree as t
 use Rattle.rn_pattern.specs.Tree.{Text, Parameters, NameTree, Tree, Trees, no_trees, more_trees, list_of, trees_of}
 use Rattle.rn_pattern.specs.Order.{tree_cmp}
-use Rattle.rn_pattern.specs.Canonical.{put, put_once, sorted, sorted_once, node_of, is_not_allowed, has_not_allowed, alternatives, grouped, interleaved, choice_step, group_step, interleave_step, one_or_more_step, list_step, attribute_step, datum_but_step, canonical, canonical_all, canonical_name, ref_unless_settled}
+use Rattle.rn_pattern.specs.Canonical.{put, put_once, sorted, sorted_once, node_of, is_not_allowed, has_not_allowed, alternatives, grouped, interleaved, choice_step, one_or_more_step, list_step, attribute_step, datum_but_step, canonical, canonical_all, canonical_name, ref_unless_settled}
 use Rattle.rn_pattern.specs.CanonicalShape.{is_several, may_choose, may_group, may_interleave, IsCanonicalPattern, AnyName}
 use Rattle.rn_pattern.specs.View.{shared_view}
 use Rattle.rn_pattern.specs.declared.tree.Pattern.{Pattern}
 use Rattle.rn_pattern.proofs.Ordered.Ascending.{each_sorted, each_sorted_once, climbs_sorted_once}
-use Rattle.rn_pattern.proofs.Forms.CanonicalForm.{Member, members_list, each_allowed, flat_choice, flat_group, flat_interleave, canonical_is, canonical_all_are}
+use Rattle.rn_pattern.proofs.Forms.CanonicalForm.{Member, members_list, each_allowed, flat_choice, flat_group, flat_interleave, canonical_all_are}
 use Rattle.rn_pattern.proofs.Ordered.Orders.{tree_same}
 use Rattle.rn_pattern.proofs.Ordered.TotalOrder.{tree_cmp_total}
 use Rattle.rn_simplify.specs.Worth.{worth_of, stand_in, around, both, either, evaluated, evaluated_all, evaluated_any, worth_at, settled_by}
@@ -203,15 +203,15 @@ two_other t.empty t.empty w h k l = cc
 two_other t.empty q w h k l = refl
 two_other p q w h k l = refl
 
-several_other : (ps : List Tree) (w : Worth) → AllByRecursion (Member AnyName may_choose) ps → is_several ps ≡ true → IsStrictlySortedBy tree_cmp ps → (qs : List Tree) → any_of (ps ++ qs) ≡ Worth.Other
+several_other : (ps : List Tree) → AllByRecursion (Member AnyName may_choose) ps → is_several ps ≡ true → IsStrictlySortedBy tree_cmp ps → (qs : List Tree) → any_of (ps ++ qs) ≡ Worth.Other
 unfolding IsStrictlySortedBy
-several_other [] w h e k qs = absurd (false≢true e)
-several_other (p ∷ []) w h e k qs = absurd (false≢true e)
-several_other (p ∷ q ∷ ps) w h e k qs = two_other p q (any_of (ps ++ qs)) h.0.1 h.1.0.1 k.0.0
+several_other [] h e k qs = absurd (false≢true e)
+several_other (p ∷ []) h e k qs = absurd (false≢true e)
+several_other (p ∷ q ∷ ps) h e k qs = two_other p q (any_of (ps ++ qs)) h.0.1 h.1.0.1 k.0.0
 
 choice_front : (p : Tree) (qs : List Tree) → IsCanonicalPattern p → either (worth_of p) (any_of qs) ≡ any_of (alternatives p ++ qs)
 choice_front t.not_allowed qs h = refl
-choice_front (t.choice ps) qs h = sym (several_other (list_of ps) Worth.Other (members_list AnyName may_choose ps h.0) h.1 h.2 qs)
+choice_front (t.choice ps) qs h = sym (several_other (list_of ps) (members_list AnyName may_choose ps h.0) h.1 h.2 qs)
 choice_front p qs h = refl
 
 any_flat : (ps : List Tree) → AllByRecursion IsCanonicalPattern ps → any_of (flat_map alternatives ps) ≡ any_of ps
