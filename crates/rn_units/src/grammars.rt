@@ -235,6 +235,59 @@ fn grammars(rt: HostRuntime) {
     each_set(&rt, &Assembly, GRAMMARS);
 }
 
+/// The first places of the start's members, and then those of each definition's.
+struct FirstPlaces;
+
+impl Subject for FirstPlaces {
+    fn answers<R: Abort + AllocGlobal>(&self, rt: &R, given: &str, wanted: &str) {
+        let found = match assemble(rt.alloc(), &written_set(rt, given)) {
+            Ok(grammar) => firsts_line(rt, &grammar),
+            Err(refusal) => refusal_line(rt, refusal),
+        };
+        same_for(rt, given, found.as_str(), wanted);
+    }
+}
+
+/// First places, as rows write them.
+fn firsts_line(rt: &(impl Abort + AllocGlobal), grammar: &Grammar) -> String {
+    let start = grammar.start_firsts();
+    let mut out = made(rt, format!(in rt.alloc(); "{start:?}"));
+    for number in 0..grammar.defs().len() {
+        let firsts = grammar.firsts(number);
+        push(
+            rt,
+            &mut out,
+            made(rt, format!(in rt.alloc(); " {firsts:?}")).as_str(),
+        );
+    }
+    out
+}
+
+const FIRST_PLACES: &str = r#"@main
+include "a" include "b" include "a" start = element r { y }
+@a
+y |= text y |= empty
+@b
+y |= text
+=> [] [0, 1, 2, 0, 1]
+
+@main
+namespace n = "u" include "a" include "a" inherit = n start = element r { y }
+@a
+y |= element e { empty }
+=> [] []
+
+@main
+include "a" include "a" y = (text | text)
+@a
+start &= text
+=> [0, 0] []"#;
+
+#[test]
+fn repeated_bodies_are_told(rt: HostRuntime) {
+    each_set(&rt, &FirstPlaces, FIRST_PLACES);
+}
+
 const REFUSALS: &str = r#"@
 => NoStart
 
