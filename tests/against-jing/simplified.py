@@ -4,8 +4,10 @@ The order of choices and interleaves doesn't count, nor do members of choices th
 round after round, until no two that differ are told as one.
 """
 import hashlib
+import re
 import xml.etree.ElementTree as ElementTree
 
+NOTHING_EXCEPTED = "except(;;notAllowed(;;))"
 RNG = "{http://relaxng.org/ns/structure/1.0}"
 
 
@@ -48,9 +50,18 @@ def told(node, colours):
         rest = told_chain("group", node, colours) if len(node) else ("text()" if kind == "attribute" else "empty()")
         return f"{kind}({name},{rest})"
     attributes = ",".join(f"{key}={value}" for key, value in sorted(node.attrib.items()))
-    text = (node.text or "").strip() if kind != "value" else (node.text or "")
-    inner = ",".join(told(child, colours) for child in node)
+    text = value_text(node) if kind == "value" else (node.text or "").strip()
+    inner = ",".join(it for it in (told(child, colours) for child in node) if it != NOTHING_EXCEPTED)
     return f"{kind}({attributes};{text};{inner})"
+
+
+def value_text(node):
+    """The text of a value. jing writes the same text for all that are one value to their datatype."""
+    text = node.text or ""
+    if node.get("type") == "token":
+        return " ".join(text.split())
+    is_number = node.get("type") == "int" and re.fullmatch(r"\s*[+-]?[0-9]+\s*", text)
+    return str(int(text)) if is_number else text
 
 
 def alternatives(node, colours):

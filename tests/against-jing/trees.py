@@ -20,7 +20,8 @@ class Tree:
     def __init__(self, rng):
         self.rng = rng
         self.kinds = kinds_of(rng)
-        self.methods = {key: "|=" if key == "start" else rng.choice(["|=", "&="]) for key in ["start", *self.kinds, "o"]}
+        may_mix = {key for key, kind in self.kinds.items() if kind != "data"}
+        self.methods = {key: rng.choice(["|=", "&="]) if key in may_mix else "|=" for key in ["start", *self.kinds, "o"]}
         self.files, self.roles = {}, {}
         self.paths = [os.path.join(rng.choice(FOLDERS), f"f{at}.rnc") for at in range(rng.randint(2, 6))]
         for at in reversed(range(len(self.paths))):
@@ -130,7 +131,7 @@ class FileDrawer(Drawer):
         return [placed] if placed else super().attributes()
 
     def data_excepted(self):
-        names = self.names_of("data")
+        names = self.names_of("data") if self.within or self.behind else []
         if names and self.rng.random() < 0.4:
             return Ref(self.rng.choice(names))
         return self.placed("data", 0.3) or super().data_excepted()
@@ -209,7 +210,8 @@ class FileDrawer(Drawer):
 
     def definition(self, key, kind):
         held, self.behind = self.behind, key
-        body = self.of_kind(kind) if key == "start" else self.body(key)
+        is_main = key == "start" and self.at == 0 and self.level == 0
+        body = self.element(3) if is_main else self.of_kind(kind) if key == "start" else self.body(key)
         self.behind = held
         return body
 
@@ -224,7 +226,7 @@ class TreeWriter(writing.Writer):
     def link(self, target):
         path = os.path.relpath(target, self.folder or ".")
         front = weighted(self.rng, [(6, ""), (1, "./"), (1, "gone/../"), (0.5, "././")])
-        kept = weighted(self.rng, [(3, "/~é"), (3, "/"), (1, "/é ")])
+        kept = weighted(self.rng, [(3, "/~é"), (3, "/")])
         escaped = urllib.parse.quote(path, safe=kept).replace("%C3%A9", "é" if "é" in kept else "%C3%A9")
         return front + (escaped.replace("f", "%66") if self.rng.random() < 0.05 else escaped)
 
