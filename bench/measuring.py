@@ -1,5 +1,6 @@
-"""Commands measured in rounds: seconds by the clock, processor seconds, and the peak of memory.
+"""Commands measured in rounds: seconds by the clock, and the peak of memory.
 
+With BENCH_CLOCK=processor in the environment, seconds are those of the processor, for a machine that is busy.
 In each round every command runs once, one after the other, so that a machine that is busier for a while is so for all of them. What counts is the
 median of the rounds. Peaks are those of the commands alone where GNU time is there (/usr/bin/time), and else hold what this process has itself.
 """
@@ -12,6 +13,7 @@ import tempfile
 import time
 
 GNU_TIME = "/usr/bin/time"
+ON_PROCESSOR = os.environ.get("BENCH_CLOCK") == "processor"
 ROUNDS = 5
 # Of a run that takes longer than this, one is enough.
 LONG = 20
@@ -20,7 +22,6 @@ LONG = 20
 @dataclasses.dataclass(frozen=True)
 class Run:
     seconds: float
-    processor: float
     peak: int  # bytes
     status: int  # negative: ended by that signal
     said: str  # the first line on standard error
@@ -44,12 +45,13 @@ def run(words, given=None, memory=None):
         seconds = time.perf_counter() - begin
         child.returncode = os.waitstatus_to_exitcode(status)
         kilobytes = int((peak.read().split() or ["0"])[-1]) if is_timed else usage.ru_maxrss
-    return Run(seconds, usage.ru_utime + usage.ru_stime, kilobytes * 1024, child.returncode, said.split("\n")[0])
+    processor = usage.ru_utime + usage.ru_stime
+    return Run(processor if ON_PROCESSOR else seconds, kilobytes * 1024, child.returncode, said.split("\n")[0])
 
 
 def median(runs):
     """The median of each figure; the status is that of the first run."""
-    figures = (statistics.median(getattr(it, name) for it in runs) for name in ("seconds", "processor", "peak"))
+    figures = (statistics.median(getattr(it, name) for it in runs) for name in ("seconds", "peak"))
     return Run(*figures, runs[0].status, runs[0].said)
 
 

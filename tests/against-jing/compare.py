@@ -194,7 +194,7 @@ class Told:
         if not takes or rest != again:
             return f"printed; jing: {rest[:80]}; of the printed text: {again[:120]}"
         forms = [read(f"{path}.simplified") for path in (self.main, self.printed)]
-        return "" if simplified.meaning(forms[0]) == simplified.meaning(forms[1]) else "the simplified forms differ"
+        return "" if simplified.is_same(*forms) else "the simplified forms differ"
 
 
 def read(path):

@@ -1,13 +1,12 @@
 """Schemas in the simplified form that jing writes (-s), compared up to the names of definitions.
 
-The order of choices and interleaves doesn't count, nor do members of choices that repeat: each element's definition is told by what it is made of,
-round after round, until no two that differ are told as one.
+The order of choices and interleaves doesn't count, nor do members of choices that repeat. Each pattern has a number, the same for all that are made
+of the same parts; a definition's colour is the number of its pattern, in which references are told by colours, round after round, until no two that
+differ are told as one. What holds no reference is numbered once.
 """
-import hashlib
 import re
 import xml.etree.ElementTree as ElementTree
 
-NOTHING_EXCEPTED = "except(;;notAllowed(;;))"
 RNG = "{http://relaxng.org/ns/structure/1.0}"
 
 
@@ -30,29 +29,124 @@ def is_nullable(node):
     return kind == "choice" and any(is_nullable(child) for child in node)
 
 
-def told(node, colours):
-    """What a pattern or a name class is, as a text; references are told by colours."""
-    kind = node.tag.removeprefix(RNG)
-    if kind == "ref":
-        return f"ref({colours.get(node.get('name'), '')})"
-    if kind in ("choice", "optional", "zeroOrMore"):
-        return told_choice(list(alternatives(node, colours)))
-    if kind == "mixed":
-        return told_sorted("interleave", ["text()", told_chain("group", node, colours)])
-    if kind == "interleave":
-        return told_sorted("interleave", [told(child, colours) for child in members(node, "interleave")])
-    if kind == "group":
-        return told_chain("group", node, colours)
-    if kind in ("oneOrMore", "list"):
-        return f"{kind}({told_chain('group', node, colours)})"
-    if kind in ("element", "attribute") and node.get("name") is not None:
-        name = f"name({node.get('ns', '')}|{node.get('name')})"
-        rest = told_chain("group", node, colours) if len(node) else ("text()" if kind == "attribute" else "empty()")
-        return f"{kind}({name},{rest})"
-    attributes = ",".join(f"{key}={value}" for key, value in sorted(node.attrib.items()))
-    text = value_text(node) if kind == "value" else (node.text or "").strip()
-    inner = ",".join(it for it in (told(child, colours) for child in node) if it != NOTHING_EXCEPTED)
-    return f"{kind}({attributes};{text};{inner})"
+class Numbers:
+    """Numbers of patterns: one for each that is made of the same parts. A part is a number, or a call that answers one where it is given colours."""
+
+    def __init__(self):
+        self.numbers = {}
+        self.empty = self.of("empty")
+
+    def of(self, *key):
+        return self.numbers.setdefault(key, len(self.numbers))
+
+    def made(self, call, parts):
+        """What is made of parts by a call that takes their numbers."""
+        if all(isinstance(part, int) for part in parts):
+            return call(parts)
+        return lambda colours: call([part if isinstance(part, int) else part(colours) for part in parts])
+
+    def group(self, parts):
+        def joined(numbers):
+            numbers = [it for it in numbers if it != self.empty] or [self.empty]
+            return numbers[0] if len(numbers) == 1 else self.of("group", *numbers)
+
+        return self.made(joined, parts)
+
+    def interleave(self, parts):
+        def joined(numbers):
+            numbers = sorted(it for it in numbers if it != self.empty)
+            return numbers[0] if len(numbers) == 1 else self.of("interleave", *numbers)
+
+        return self.made(joined, parts)
+
+    def choice(self, parts, nullable):
+        """A choice, whose members have no order and don't repeat. jing drops an empty one beside one that is nullable."""
+
+        def joined(numbers):
+            members = set(numbers)
+            if any(is_nullable for it, is_nullable in zip(numbers, nullable) if it != self.empty):
+                members.discard(self.empty)
+            return members.pop() if len(members) == 1 else self.of("choice", *sorted(members))
+
+        return self.made(joined, parts)
+
+    def node(self, parts, *front):
+        return self.made(lambda numbers: self.of(*front, *numbers), parts)
+
+    def chain(self, node):
+        """The members of a node one after the other."""
+        return self.group([self.pattern(child) for child in members(node, "group")])
+
+    def pattern(self, node):
+        """A pattern or a name class."""
+        kind = node.tag.removeprefix(RNG)
+        if kind == "ref":
+            name = node.get("name")
+            return lambda colours: colours[name]
+        if kind in ("choice", "optional", "zeroOrMore"):
+            found = list(self.alternatives(node))
+            return self.choice([part for part, _ in found], [is_nullable for _, is_nullable in found])
+        if kind == "mixed":
+            return self.interleave([self.of("text"), self.chain(node)])
+        if kind == "interleave":
+            return self.interleave([self.pattern(child) for child in members(node, "interleave")])
+        if kind == "group":
+            return self.chain(node)
+        if kind in ("empty", "text"):
+            return self.of(kind)
+        if kind in ("oneOrMore", "list"):
+            return self.node([self.chain(node)], kind)
+        if kind in ("element", "attribute") and node.get("name") is not None:
+            rest = self.chain(node) if len(node) else self.of("text" if kind == "attribute" else "empty")
+            return self.node([self.of("name", node.get("ns", ""), node.get("name")), rest], kind)
+        return self.other(kind, node)
+
+    def other(self, kind, node):
+        """A node that is told by its attributes, its text and its children."""
+        text = value_text(node) if kind == "value" else (node.text or "").strip()
+        front = {"ns": node.get("ns", "")} if kind == "name" else node.attrib
+        parts = [self.pattern(child) for child in node if not is_nothing_excepted(child)]
+        return self.node(parts, kind, *sorted(front.items()), text)
+
+    def alternatives(self, node):
+        """What a pattern chooses from, and whether each is nullable."""
+        kind = node.tag.removeprefix(RNG)
+        if kind == "choice":
+            for child in node:
+                yield from self.alternatives(child)
+        elif kind == "optional":
+            yield self.empty, True
+            if len(node) == 1:
+                yield from self.alternatives(node[0])
+            else:
+                yield self.chain(node), all(is_nullable(child) for child in node)
+        elif kind == "zeroOrMore":
+            yield self.empty, True
+            yield self.node([self.chain(node)], "oneOrMore"), all(is_nullable(child) for child in node)
+        else:
+            yield self.pattern(node), is_nullable(node)
+
+    def schema(self, text):
+        """The number of a schema."""
+        grammar = ElementTree.fromstring(text)
+        if grammar.tag != RNG + "grammar":
+            return valued(self.pattern(grammar), {})
+        definitions = {node.get("name"): self.chain(node) for node in grammar.findall(RNG + "define")}
+        colours, count = dict.fromkeys(definitions, 0), 1
+        while True:
+            colours = {name: self.of("colour", colours[name], valued(part, colours)) for name, part in definitions.items()}
+            if len(set(colours.values())) == count:
+                break
+            count = len(set(colours.values()))
+        return valued(self.chain(grammar.find(RNG + "start")), colours)
+
+
+def valued(part, colours):
+    return part if isinstance(part, int) else part(colours)
+
+
+def is_nothing_excepted(node):
+    return node.tag == RNG + "except" and [child.tag for child in node] == [RNG + "notAllowed"]
 
 
 def value_text(node):
@@ -64,63 +158,7 @@ def value_text(node):
     return str(int(text)) if is_number else text
 
 
-def alternatives(node, colours):
-    """What a pattern chooses from: texts, and whether each is nullable."""
-    kind = node.tag.removeprefix(RNG)
-    if kind == "choice":
-        for child in node:
-            yield from alternatives(child, colours)
-    elif kind == "optional":
-        yield "empty()", True
-        if len(node) == 1:
-            yield from alternatives(node[0], colours)
-        else:
-            yield told_chain("group", node, colours), all(is_nullable(child) for child in node)
-    elif kind == "zeroOrMore":
-        yield "empty()", True
-        yield f"oneOrMore({told_chain('group', node, colours)})", all(is_nullable(child) for child in node)
-    elif kind == "empty":
-        yield "empty()", True
-    else:
-        yield told(node, colours), is_nullable(node)
-
-
-def told_choice(chosen):
-    """A choice, whose members have no order and don't repeat. jing drops an empty one beside a nullable one."""
-    texts = {text for text, _ in chosen}
-    if any(nullable for text, nullable in chosen if text != "empty()"):
-        texts.discard("empty()")
-    texts = sorted(texts)
-    return texts[0] if len(texts) == 1 else f"choice({','.join(texts)})"
-
-
-def told_sorted(kind, texts):
-    texts = sorted(text for text in texts if text != "empty()")
-    return texts[0] if len(texts) == 1 else f"{kind}({','.join(texts)})"
-
-
-def told_chain(kind, node, colours):
-    """The members of a node one after the other."""
-    texts = [told(child, colours) for child in members(node, kind)]
-    texts = [text for text in texts if text != "empty()"] or ["empty()"]
-    return texts[0] if len(texts) == 1 else f"{kind}({','.join(texts)})"
-
-
-def meaning(text):
-    """A schema as one text that doesn't depend on the names of its definitions."""
-    grammar = ElementTree.fromstring(text)
-    if grammar.tag != RNG + "grammar":
-        return told(grammar, {})
-    definitions = {node.get("name"): node for node in grammar.findall(RNG + "define")}
-    colours = {name: "" for name in definitions}
-    count = 1
-    while True:
-        fresh = {}
-        for name, node in definitions.items():
-            whole = colours[name] + told_chain("group", node, colours)
-            fresh[name] = hashlib.sha256(whole.encode()).hexdigest()[:24]
-        colours = fresh
-        if len(set(colours.values())) == count:
-            break
-        count = len(set(colours.values()))
-    return told_chain("group", grammar.find(RNG + "start"), colours)
+def is_same(one, other):
+    """Whether two schemas are the same up to names."""
+    numbers = Numbers()
+    return numbers.schema(one) == numbers.schema(other)

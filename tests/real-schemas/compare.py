@@ -22,7 +22,7 @@ import zipfile
 
 HERE = pathlib.Path(__file__).resolve().parent
 sys.path.insert(0, str(HERE.parent / "against-jing"))
-from simplified import meaning  # noqa: E402
+from simplified import is_same  # noqa: E402
 
 PACKAGES = [
     "crmsh",
@@ -161,7 +161,7 @@ def compare(program, room, paths):
 def compared(program, room, form, printed, form_again, errors):
     if form_again is None:
         return "printed, and not taken by jing", errors[:160]
-    if meaning(form) != meaning(form_again):
+    if not is_same(form, form_again):
         return "printed, and differs", ""
     to = pathlib.Path(room) / "again.rnc"
     refusal = flat(program, printed, to)
