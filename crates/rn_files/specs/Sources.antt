@@ -1,7 +1,7 @@
 -- Sources: files that were read, with what they refer to.
 use Rattle.std.specs.Prelude.{◌≡◌, ℕ, ◌<◌, Bool, true, false, List, map, All, length, count_by, string_bytes}
-use Rattle.rn_lift.specs.declared.parts.PartKind.{PartKind}
-use Rattle.rn_lift.specs.declared.parts.PartKind.TheVariants.{External, Include}
+use Rattle.rn_outline.specs.declared.parts.PartKind.{PartKind}
+use Rattle.rn_outline.specs.declared.parts.PartKind.TheVariants.{External, Include}
 use Rattle.rn_modset.specs.Contributions.{is_module_name}
 use Rattle.rn_pattern.specs.Graph.{IsGraph}
 use Rattle.rn_pattern.specs.Ranks.{HasNoLoop}

@@ -14,9 +14,10 @@ use crate::readings::reading_fault;
 use crate::words::{Job, Product, Task};
 use rn_assemble::Refusal;
 use rn_files::{Asked, Files, MAX_FAULTS, Source, Sources, read_sources};
-use rn_lift::{LiftFaultKind, Lifted, LiftedModule, Lifting, lift};
+use rn_lift::{Lifted, LiftedModule, lift};
 use rn_merge::{Place, Sink, check, merge};
 use rn_modset::{AddFault, ModuleSet, write_bundle};
+use rn_plan::{LiftFaultKind, Lifting};
 use rn_tell::{
     Colours, Grade, Message, Spot, check_sentence, lift_message, refusal_message, set_message,
 };

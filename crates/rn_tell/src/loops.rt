@@ -1,7 +1,7 @@
 // Loops: of definitions that refer to each other outside elements, and of modules that include each other.
 use crate::brought::{Instance, is_hidden};
 use crate::sites::{Site, View, key_of, use_of};
-use rn_lift::Part;
+use rn_outline::Part;
 use std::alloc::{AllocError, Global};
 
 /// A definition that takes part in the schema: its key, by which definitions are sorted, its module and its part.

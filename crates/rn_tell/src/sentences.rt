@@ -4,7 +4,8 @@ use crate::loops::{first_use, loop_of, loop_of_includes};
 use crate::report::{Grade, Message, Page, Spot, place_text};
 use crate::sites::{Site, View, include_of, key_of, key_text, method_of, viewed, within};
 use rn_assemble::Refusal;
-use rn_lift::{Lifted, Method, Part};
+use rn_lift::Lifted;
+use rn_outline::{Method, Part};
 use std::alloc::{AllocError, Global};
 
 /// What sentences are made from: the files, the modules and what these are made of, and how they come to a schema.
