@@ -1,6 +1,6 @@
 // The text of a file, and what it is made of.
 use crate::faults::FaultKind;
-use rn_lift::{Outline, OutlineFault, Shape, Span, read_outline};
+use rn_outline::{Outline, OutlineFault, Shape, Span, read_outline};
 use rn_text::{TextFault, tokens};
 use std::alloc::{AllocError, Global};
 

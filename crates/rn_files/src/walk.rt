@@ -5,7 +5,7 @@ use crate::faults::{FaultKind, FaultPlace, SourceFault};
 use crate::files::FileFault;
 use crate::references::ReferenceFault;
 use crate::texts::empty_outline;
-use rn_lift::Outline;
+use rn_outline::Outline;
 use std::alloc::{AllocError, Global};
 use std::collections::BTreeMap;
 
