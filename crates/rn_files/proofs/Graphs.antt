@@ -73,7 +73,7 @@ own_names [] h = tt
 own_names (f ∷ fs) h =
     let each = and_both (list_all (differ_in_name f) fs) (have_own_names fs) h in (
       All-weaker (λ g. differ_in_name f g ≡ true) (λ g. string_bytes f.name ≢ string_bytes g.name) (name_differs f) fs
-      (AllPass-from_list_all (differ_in_name f) fs each.0),
+          (AllPass-from_list_all (differ_in_name f) fs each.0),
       own_names fs each.1,
     )
 
