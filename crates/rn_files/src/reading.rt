@@ -229,10 +229,11 @@ fn find_files<F: Files>(
         });
     };
     let folder = given_root(alloc, files, current.as_str(), asked.root, walk)?;
+    let root = folder.as_ref();
     let ways = Ways {
         maps: asked.maps,
         current: current.as_str(),
-        root: folder.as_ref(),
+        root,
     };
     let roots = enter_words(alloc, files, &ways, walk, asked.files)?;
     follow_all(alloc, files, &ways, walk)?;
