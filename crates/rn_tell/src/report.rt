@@ -1,5 +1,10 @@
 // Messages with their places, and how they are shown.
-use rn_files::{Attempt, Position, Source, line_of, position};
+ghost use Rattle.std.specs.Prelude.{◌≡◌, ◌<◌, ◌++◌, IfOk, IsFalse, OnOk, slice_get, string_bytes, vec_len};
+ghost use Rattle.rn_tell.specs.Limits.{max_told};
+ghost use Rattle.rn_tell.specs.Messages.{AreLines, AreMore, IsFew, IsPlace, IsPlaceAt, IsPlaceIn, note};
+ghost use Rattle.rn_tell.specs.Printed.{colour, head, painted, printable, printed, word};
+
+use rn_files::{Attempt, Source, line_of, position};
 use std::alloc::{AllocError, Global};
 
 /// The most messages that are told together; faults beyond them are counted.
@@ -7,9 +12,6 @@ pub const MAX_TOLD: usize = 20;
 
 /// The most characters of a line that are shown.
 pub const SHOWN: usize = 160;
-
-/// What messages without a place begin with.
-const PROGRAM: &str = "rnc-flat";
 
 /// How many characters before a place are shown of a longer line.
 const BEFORE: usize = 80;
@@ -45,12 +47,30 @@ pub struct Told {
 }
 
 impl Told {
-    /// One message.
-    pub fn one(alloc: Global, message: Message) -> Result<Told, AllocError> {
-        Ok(Told {
-            messages: vec![in alloc; message]?,
+    /// Nothing.
+    pub fn new(alloc: Global) -> Told
+        ensures { IsFew result }
+    {
+        Told {
+            messages: Vec::new(alloc),
             further: 0,
-        })
+        }
+    }
+
+    /// One message.
+    pub fn one(alloc: Global, message: Message) -> Result<Told, AllocError>
+        ensures { IfOk result IsFew }
+    {
+        let mut told = Told::new(alloc);
+        told.messages.push(message)?;
+        Ok(told)
+    }
+
+    /// Whether as many messages are there as are told.
+    pub fn is_full(&self) -> bool
+        ensures { IsFalse result → vec_len self.now.messages < max_told }
+    {
+        self.messages.len() >= MAX_TOLD
     }
 }
 
@@ -103,46 +123,64 @@ pub fn shown(
     pages: &[Page<'_>],
     told: &Told,
     colours: Colours,
-) -> Result<String, AllocError> {
+) -> Result<String, AllocError>
+    ensures { IfOk result (λ lines. AreLines pages.now colours told.now (string_bytes lines)) }
+{
     let mut lines = String::new(alloc);
     for message in &told.messages {
         push_message(alloc, &mut lines, pages, message, colours)?;
     }
-    if told.further > 0 {
-        push_further(alloc, &mut lines, told.further, colours)?;
-    }
+    let note = note_text(alloc, told.further, colours)?;
+    lines.push_str(note.as_str())?;
     Ok(lines)
 }
 
+/// Appends the lines of a message.
 fn push_message(
     alloc: Global,
     lines: &mut String,
     pages: &[Page<'_>],
     message: &Message,
     colours: Colours,
-) -> Result<(), AllocError> {
+) -> Result<(), AllocError>
+    ensures { OnOk result (AreMore pages.now colours message.now
+        (string_bytes lines.old) (string_bytes lines.new)) }
+{
     let place = place_text(alloc, pages, message.spot)?;
+    let source = source_text(alloc, pages, message.spot, colours)?;
     push_head(lines, place.as_str(), Grade::Error, colours)?;
     push_printable(lines, message.sentence.as_str())?;
     lines.push_str("\n")?;
-    if let Some(spot) = message.spot {
-        if let Some(page) = pages.get(spot.file) {
-            push_source(lines, page.text, spot.at, colours)?;
-        }
-    }
-    Ok(())
+    lines.push_str(source.as_str())
 }
 
-/// Appends how many faults are not told.
-fn push_further(
+/// The line of the file in which the spot is, and a caret below it; nothing where there is no such file.
+fn source_text(
     alloc: Global,
-    lines: &mut String,
-    count: usize,
+    pages: &[Page<'_>],
+    spot: Option<Spot>,
     colours: Colours,
-) -> Result<(), AllocError> {
-    push_head(lines, PROGRAM, Grade::Note, colours)?;
-    let sentence = format!(in alloc; "there are more faults, which are not told: {count}\n")?;
-    lines.push_str(sentence.as_str())
+) -> Result<String, AllocError> {
+    let mut lines = String::new(alloc);
+    if let Some(spot) = spot {
+        if let Some(page) = pages.get(spot.file) {
+            push_source(&mut lines, page.text, spot.at, colours)?;
+        }
+    }
+    Ok(lines)
+}
+
+/// The note that says how many faults are not told; nothing where all are.
+fn note_text(alloc: Global, count: usize, colours: Colours) -> Result<String, AllocError>
+    ensures { IfOk result (λ note. string_bytes note ≡ note colours count) }
+{
+    let mut lines = String::new(alloc);
+    if count > 0 {
+        push_head(&mut lines, "rnc-flat", Grade::Note, colours)?;
+        let sentence = format!(in alloc; "there are more faults, which are not told: {count}\n")?;
+        lines.push_str(sentence.as_str())?;
+    }
+    Ok(lines)
 }
 
 /// The place as `FILE:LINE:COLUMN`; the program's name where there is no place.
@@ -150,52 +188,77 @@ pub fn place_text(
     alloc: Global,
     pages: &[Page<'_>],
     spot: Option<Spot>,
-) -> Result<String, AllocError> {
-    match spot_page(pages, spot) {
-        Some((page, at)) => page_place(alloc, page, at),
-        None => String::from_str(alloc, PROGRAM),
+) -> Result<String, AllocError>
+    ensures { IfOk result (λ place. IsPlace pages.now spot (string_bytes place)) }
+{
+    match spot {
+        Some(spot) => spot_text(alloc, pages, spot),
+        None => String::from_str(alloc, "rnc-flat"),
     }
 }
 
-/// The file of a place, and the byte.
-fn spot_page<'p>(pages: &[Page<'p>], spot: Option<Spot>) -> Option<(Page<'p>, usize)> {
-    let spot = spot?;
-    let page = pages.get(spot.file).copied()?;
-    Some((page, spot.at))
+/// The place of a byte of a file as `FILE:LINE:COLUMN`; the program's name where there is no such file.
+fn spot_text(alloc: Global, pages: &[Page<'_>], spot: Spot) -> Result<String, AllocError>
+    ensures { IfOk result (λ place. IsPlaceAt (slice_get pages.now spot.file) spot.at
+        (string_bytes place)) }
+{
+    match pages.get(spot.file) {
+        Some(page) => page_place(alloc, page.path, page.text, spot.at),
+        None => String::from_str(alloc, "rnc-flat"),
+    }
 }
 
-/// The place of a byte of a file as `FILE:LINE:COLUMN`.
-fn page_place(alloc: Global, page: Page<'_>, at: usize) -> Result<String, AllocError> {
-    let path = page.path;
-    let Position { line, column } = position(page.text, at);
+/// The place of a byte of a text in a file as `FILE:LINE:COLUMN`.
+fn page_place(alloc: Global, path: &str, text: &str, at: usize) -> Result<String, AllocError>
+    ensures { IfOk result (λ place. IsPlaceIn path.now text.now at (string_bytes place)) }
+{
+    let place = position(text, at);
+    let (line, column) = (place.line, place.column);
     format!(in alloc; "{path}:{line}:{column}")
 }
 
-/// What stands before a sentence.
+/// Appends what stands before a sentence.
 fn push_head(
     lines: &mut String,
     place: &str,
     grade: Grade,
     colours: Colours,
-) -> Result<(), AllocError> {
+) -> Result<(), AllocError>
+    ensures { OnOk result (string_bytes lines.new
+        ≡ string_bytes lines.old ++ head colours place.now grade) }
+{
     lines.push_str(painted(colours, "\u{1B}[1m"))?;
     push_printable(lines, place)?;
     lines.push_str(": ")?;
-    match grade {
-        Grade::Error => {
-            lines.push_str(painted(colours, "\u{1B}[31m"))?;
-            lines.push_str("error: ")?;
-        }
-        Grade::Note => {
-            lines.push_str(painted(colours, "\u{1B}[36m"))?;
-            lines.push_str("note: ")?;
-        }
-    }
+    lines.push_str(painted(colours, colour(grade)))?;
+    lines.push_str(word(grade))?;
     lines.push_str(painted(colours, "\u{1B}[0m"))
 }
 
+/// The word of a grade.
+fn word(grade: Grade) -> &'static str
+    ensures { result.now ≡ word grade }
+{
+    match grade {
+        Grade::Error => "error: ",
+        Grade::Note => "note: ",
+    }
+}
+
+/// What begins the colour of a grade.
+fn colour(grade: Grade) -> &'static str
+    ensures { result.now ≡ colour grade }
+{
+    match grade {
+        Grade::Error => "\u{1B}[31m",
+        Grade::Note => "\u{1B}[36m",
+    }
+}
+
 /// What changes the colour, where there are colours.
-fn painted(colours: Colours, sign: &'static str) -> &'static str {
+fn painted(colours: Colours, sign: &'static str) -> &'static str
+    ensures { result.now ≡ painted colours sign.now }
+{
     match colours {
         Colours::Plain => "",
         Colours::Terminal => sign,
@@ -252,7 +315,9 @@ fn push_indent(
 }
 
 /// Appends a text, of which no character controls a terminal.
-pub fn push_printable(lines: &mut String, text: &str) -> Result<(), AllocError> {
+pub fn push_printable(lines: &mut String, text: &str) -> Result<(), AllocError>
+    ensures { OnOk result (string_bytes lines.new ≡ string_bytes lines.old ++ printed text.now) }
+{
     for character in text.chars() {
         lines.push(printable(character))?;
     }
@@ -260,7 +325,9 @@ pub fn push_printable(lines: &mut String, text: &str) -> Result<(), AllocError> 
 }
 
 /// The character, or `?` where it would control a terminal.
-fn printable(character: char) -> char {
+fn printable(character: char) -> char
+    ensures { result ≡ printable character }
+{
     if character.is_control() && character != '\t' {
         '?'
     } else {
