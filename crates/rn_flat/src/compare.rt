@@ -74,7 +74,9 @@ fn differs(
         path,
         text: found.as_str(),
     };
-    refused(alloc, &[page], &Told::one(alloc, message)?, colours)
+    let pages = [page];
+    let told = Told::one(alloc, message)?;
+    refused(alloc, &pages, &told, colours)
 }
 
 /// Where the line begins in which a byte is.

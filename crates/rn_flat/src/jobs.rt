@@ -144,7 +144,8 @@ fn module_set(
         Err(fault) if fault.fault == AddFault::Memory => Err(FlatFault::Memory),
         Err(fault) => {
             let message = set_message(alloc, lifted, fault.module, &fault.fault)?;
-            Err(told_of(alloc, files, &Told::one(alloc, message)?, colours)?)
+            let told = Told::one(alloc, message)?;
+            Err(told_of(alloc, files, &told, colours)?)
         }
     }
 }

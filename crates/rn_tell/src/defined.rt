@@ -63,7 +63,8 @@ pub fn range_of(defined: &[Defined<'_>], key: &str) -> (usize, usize) {
 /// The definitions of the key among those that are sorted.
 pub fn group_of<'d, 'v>(defined: &'d [Defined<'v>], key: &str) -> &'d [Defined<'v>] {
     let (from, to) = range_of(defined, key);
-    defined.get(from..to).unwrap_or(&[])
+    let to = to.min(defined.len());
+    &defined[from.min(to)..to]
 }
 
 /// The names that a definition refers to, and where each begins: those behind it, up to the next definition.

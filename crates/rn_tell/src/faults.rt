@@ -71,7 +71,10 @@ fn unexpected_at(
 ) -> Result<String, AllocError> {
     match place {
         FaultPlace::Text { file, at } => {
-            let text = pages.get(file).map_or("", |page| page.text);
+            let text = match pages.get(file) {
+                Some(page) => page.text,
+                None => "",
+            };
             unexpected(alloc, text, at)
         }
         _ => String::from_str(alloc, "this is no schema"),
@@ -94,7 +97,10 @@ fn loop_sentence(alloc: Global, pages: &[Page<'_>], files: &[usize]) -> Result<S
 
 /// Appends the path of a file.
 fn push_path(sentence: &mut String, pages: &[Page<'_>], file: usize) -> Result<(), AllocError> {
-    sentence.push_str(pages.get(file).map_or("-", |page| page.path))
+    match pages.get(file) {
+        Some(page) => sentence.push_str(page.path),
+        None => sentence.push_str("-"),
+    }
 }
 
 /// Whether the fault is of a file that can't be read, and not of what is in the files.

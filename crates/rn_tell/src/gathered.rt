@@ -160,7 +160,10 @@ fn message(
         Fault::Reading(fault) => reading_message(alloc, words, pages, fault),
         Fault::Lift(fault) => lift_message(alloc, fault),
         Fault::Meaning { file, place } => {
-            let text = pages.get(*file).map_or("", |page| page.text);
+            let text = match pages.get(*file) {
+                Some(page) => page.text,
+                None => "",
+            };
             Ok(Message {
                 spot: spot_of(fault),
                 sentence: check_sentence(alloc, text, place)?,

@@ -172,7 +172,7 @@ fn source_text(
 
 /// The note that says how many faults are not told; nothing where all are.
 fn note_text(alloc: Global, count: usize, colours: Colours) -> Result<String, AllocError>
-    ensures { IfOk result (λ note. string_bytes note ≡ note colours count) }
+    ensures { IfOk result (λ text. string_bytes text ≡ note colours count) }
 {
     let mut lines = String::new(alloc);
     if count > 0 {
