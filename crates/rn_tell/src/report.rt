@@ -49,7 +49,7 @@ pub struct Told {
 impl Told {
     /// Nothing.
     pub fn new(alloc: Global) -> Told
-        ensures { IsFew result }
+        ensures { vec_len result.messages ≡ 0 }
     {
         Told {
             messages: Vec::new(alloc),
