@@ -2,8 +2,8 @@
 use Rattle.std.specs.Prelude.{◌≡◌, ℕ, ◌<◌, ◌≢◌, ◌&&◌, Bool, true, false, not, List, [], ◌∷◌, map, All, length, count_by, nat_lt, string_bytes, ⊤}
 use Rattle.std.specs.List.{list_all}
 use Rattle.std.specs.Str.{bytes_eq}
-use Rattle.rn_lift.specs.declared.parts.PartKind.{PartKind}
-use Rattle.rn_lift.specs.declared.parts.PartKind.TheVariants.{External, Include}
+use Rattle.rn_outline.specs.declared.parts.PartKind.{PartKind}
+use Rattle.rn_outline.specs.declared.parts.PartKind.TheVariants.{External, Include}
 use Rattle.rn_modset.specs.Contributions.{is_module_name}
 use Rattle.rn_pattern.specs.Graph.{IsGraph}
 use Rattle.rn_pattern.specs.Ranks.{HasNoLoop}

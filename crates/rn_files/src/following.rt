@@ -12,7 +12,7 @@ use crate::roots::RootFolder;
 use crate::texts::{MAX_TEXT, Text, text_of};
 use crate::uris::file_uri;
 use crate::walk::{Followed, Found, MAX_SOURCES, Origin, Walk};
-use rn_lift::{Outline, Part, PartKind};
+use rn_outline::{Outline, Part, PartKind};
 use std::alloc::{AllocError, Global};
 
 /// The word for standard input.

@@ -1,6 +1,6 @@
 // What is asked for, and what is answered.
 use crate::maps::Map;
-use rn_lift::Outline;
+use rn_outline::Outline;
 
 /// The files that are asked for, `-` for standard input; the root folder, from which the names of modules are counted; and
 /// where URIs lie.

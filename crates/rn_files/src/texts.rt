@@ -2,7 +2,7 @@
 ghost use Rattle.std.specs.Prelude.{◌≡◌, IfOk, IsErr, OnOk, string_bytes};
 
 use crate::faults::FaultKind;
-use rn_lift::{Outline, OutlineFault, read_outline};
+use rn_outline::{Outline, OutlineFault, read_outline};
 use rn_text::{TextFault, tokens};
 use std::alloc::{AllocError, Global};
 

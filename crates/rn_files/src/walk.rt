@@ -4,7 +4,7 @@ ghost use Rattle.std.specs.Prelude.{◌≡◌, ◌≤◌, IfOk, IfSome, Ok, vec_
 use crate::faults::{FaultKind, FaultPlace, SourceFault};
 use crate::files::FileFault;
 use crate::references::ReferenceFault;
-use rn_lift::Outline;
+use rn_outline::Outline;
 use std::alloc::{AllocError, Global};
 use std::collections::BTreeMap;
 

@@ -14,9 +14,10 @@ use crate::readings::reading_fault;
 use crate::words::{Job, Product, Task};
 use rn_assemble::Refusal;
 use rn_files::{Asked, Files, Source, Sources, read_sources};
-use rn_lift::{LiftFaultKind, Lifted, Lifting, lift};
+use rn_lift::{Lifted, lift};
 use rn_merge::{Sink, merge};
 use rn_modset::{AddFault, ModuleSet, write_bundle};
+use rn_plan::{LiftFaultKind, Lifting};
 use rn_tell::{Colours, Told, lift_told, refusal_told, set_message, source_pages};
 use std::alloc::{AllocError, Global};
 

@@ -1,6 +1,7 @@
 // What is made of the modules and the files besides the schema.
 use rn_files::Source;
-use rn_lift::{Lifted, LiftedModule, PartKind};
+use rn_lift::{Lifted, LiftedModule};
+use rn_outline::PartKind;
 use std::alloc::{AllocError, Global};
 
 /// A line for each module: its name and the file that it comes from.

@@ -1,4 +1,2 @@
-pub mod Cursor
-pub mod Names
+pub mod Lifts
 pub mod Origins
-pub mod Spans

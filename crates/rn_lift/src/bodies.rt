@@ -1,11 +1,9 @@
 // The bodies of definitions that an except may hold, cut into what is copied and what is replaced.
-ghost use Rattle.std.specs.Prelude.{◌<◌, length, IfOk, IfSome};
-ghost use Rattle.rn_lift.specs.Cursor.{Advanced};
+ghost use Rattle.std.specs.Prelude.{◌<◌, length, IfOk};
+ghost use Rattle.rn_outline.specs.Cursor.{Advanced};
 
-use crate::parts::{Part, PartKind, Span};
-use crate::signs::{Sign, sign_at};
-use crate::skips::{annotation, follow};
-use crate::units::Units;
+use rn_outline::{Part, PartKind, Span, note_end};
+use rn_plan::Units;
 use rn_text::{Kind, Token, tokens};
 use std::alloc::{AllocError, Global};
 use std::collections::BTreeMap;
@@ -182,17 +180,6 @@ impl Cutter {
         self.chunks
             .push(Chunk::Text(String::from_str(alloc, text)?))?;
         Ok(())
-    }
-}
-
-/// What stands behind the annotation or the following annotation that begins with a token.
-fn note_end(tokens: &[Token<'_>], at: usize) -> Option<usize>
-    ensures { IfSome result (λ r. Advanced at r (length tokens.now)) }
-{
-    match sign_at(tokens, at) {
-        Sign::LeftBracket => annotation(tokens, at).ok(),
-        Sign::Follow => follow(tokens, at + 1).ok(),
-        _ => None,
     }
 }
 

@@ -1,8 +1,7 @@
 // Which definitions a name has in a scope, once overrides are done (RELAX NG 2001, 4.7).
 
-use crate::parts::{PartKind, name_in};
-use crate::scopes::{Plan, ROOT};
-use crate::units::{Unit, Units};
+use rn_outline::{PartKind, name_in};
+use rn_plan::{Plan, ROOT, Unit, Units};
 use std::alloc::{AllocError, Global};
 use std::collections::{BTreeMap, BTreeSet};
 
@@ -68,8 +67,8 @@ impl Definitions {
         place: usize,
         scope: usize,
     ) -> Result<(), AllocError> {
-        for piece in &unit.parts {
-            let Some(part) = units.part(unit, *piece) else {
+        for number in &unit.parts {
+            let Some(part) = units.part(unit, *number) else {
                 continue;
             };
             let within = match &part.kind {
@@ -79,7 +78,7 @@ impl Definitions {
             let key = Key::new(alloc, scope, units.name_meant(unit.file, &part.kind))?;
             let definition = Definition {
                 place,
-                part: piece.part,
+                part: *number,
                 within,
             };
             self.add(alloc, key, definition)?;

@@ -1,12 +1,12 @@
 // What references in excepts stand for (RELAX NG 2001, 7.1.4).
+ghost use Rattle.std.specs.Prelude.{◌≡◌, false, [], IfOk, string_bytes};
+ghost use Rattle.std.specs.List.{list_any};
 
 use crate::bodies::{Bodies, Chunk};
 use crate::definitions::{Definition, Definitions, Key};
-use crate::lifted::{LiftFault, LiftFaultKind};
-use crate::parts::{Method, Part, PartKind};
 use crate::prefixes::Prefixes;
-use crate::scopes::Plan;
-use crate::units::{Unit, Units};
+use rn_outline::{Method, Outline, Part, PartKind};
+use rn_plan::{LiftFault, LiftFaultKind, Plan, Unit, Units};
 use std::alloc::{AllocError, Global};
 use std::collections::BTreeSet;
 
@@ -22,10 +22,26 @@ pub(crate) struct Spliced {
 }
 
 impl Spliced {
-    /// What stands in the place of a part.
-    pub(crate) fn text(&self, part: usize) -> Option<&String> {
+    fn nothing(alloc: Global) -> Self
+        ensures { string_bytes result.declarations ≡ [] }
+    {
+        Spliced {
+            declarations: String::new(alloc),
+            texts: Vec::new(alloc),
+        }
+    }
+
+    fn text(&self, part: usize) -> Option<&String> {
         let number = self.texts.binary_search_by(|text| text.0.cmp(&part)).ok()?;
         Some(&self.texts.get(number)?.1)
+    }
+
+    /// What stands in the place of a part.
+    pub(crate) fn copied(&self, part: usize) -> Result<Option<String>, AllocError> {
+        match self.text(part) {
+            Some(text) => Ok(Some(text.clone()?)),
+            None => Ok(None),
+        }
     }
 }
 
@@ -81,7 +97,8 @@ impl Excepts {
         })
     }
 
-    /// What stands in the place of the references in excepts of a place.
+    /// What stands in the place of the references in excepts of a place, which is that of this unit
+    /// of a file.
     pub(crate) fn splice(
         &mut self,
         alloc: Global,
@@ -89,11 +106,18 @@ impl Excepts {
         plan: &Plan,
         place: usize,
         unit: &Unit,
-    ) -> Result<Spliced, LiftFault> {
+        outline: &Outline,
+    ) -> Result<Spliced, LiftFault>
+        ensures { IfOk result (λ s. list_any (λ p. p.in_except) outline.now.parts.items ≡ false
+            → string_bytes s.declarations ≡ []) }
+    {
+        if !outline.has_excepts() {
+            return Ok(Spliced::nothing(alloc));
+        }
         let mut texts = Vec::new(alloc);
         let mut prefixes = Prefixes::new(alloc, unit.file);
-        for piece in &unit.parts {
-            if let Some(part) = units.part(unit, *piece) {
+        for number in &unit.parts {
+            if let Some(part) = units.part(unit, *number) {
                 if part.in_except {
                     let trail = new_trail(alloc, unit.file, part.at.from);
                     let text = self.followed(
@@ -103,9 +127,9 @@ impl Excepts {
                         &mut prefixes,
                         trail,
                         place,
-                        piece.part,
+                        *number,
                     )?;
-                    texts.push((piece.part, text))?;
+                    texts.push((*number, text))?;
                 }
             }
         }

@@ -3,30 +3,27 @@ ghost use Rattle.std.specs.Prelude.{◌≡◌, ◌<◌, ◌≤◌, ◌^◌, ◌�
 ghost use Rattle.std.specs.String.{string_len};
 ghost use Rattle.rn_lift.specs.Origins.{HasNoOrigin, IsOrigin, byte_of, piece_at};
 
-use crate::parts::Outline;
-use std::alloc::{AllocError, AllocFailed};
 use std::collections::BTreeSet;
-use thiserror::Error;
 
-/// A file that is to be lifted.
-#[derive(Clone, Copy)]
-pub struct Lifting<'a> {
-    /// The name of its module.
-    pub name: &'a str,
-    pub text: &'a str,
-    pub outline: &'a Outline,
-    /// For each external and include of the outline, in its order, the number of the file that is meant.
-    pub targets: &'a [usize],
-}
-
-/// Where bytes of a module's text come from: those from `from` on, up to the next piece. They are the bytes of a file from `at`
-/// on, or they were made for what stands at `at`.
+/// Where bytes of a module's text come from: those from `from` on, up to the next piece. They are the
+/// bytes of a file from `at` on, or they were made for what stands at `at`. All are counts of bytes.
 #[derive(Clone, Copy, Debug, PartialEq, Eq)]
 pub struct Piece {
     pub from: usize,
     pub file: usize,
     pub at: usize,
     pub is_source: bool,
+}
+
+/// What a module was made of.
+#[derive(Clone, Copy, Debug, PartialEq, Eq)]
+pub struct Basis {
+    /// The number of the file.
+    pub file: usize,
+    /// The number of the grammar in the file's outline; 0 is the file's own.
+    pub grammar: usize,
+    /// The number of the scope; 0 is that of the roots, whose names are as they are written.
+    pub scope: usize,
 }
 
 /// A module of the compact syntax without `external`, `parent`, nested `grammar` and bare patterns.
@@ -36,6 +33,8 @@ pub struct LiftedModule {
     pub text: String,
     /// In the order of their `from`, each with its own.
     pub pieces: Vec<Piece>,
+    /// `None` for a module that brings in a scope.
+    pub basis: Option<Basis>,
 }
 
 /// What files were lifted to.
@@ -47,65 +46,6 @@ pub struct Lifted {
     pub(crate) stems: BTreeSet<String>,
     /// What stands behind that dot for a start.
     pub(crate) start: String,
-}
-
-/// Why files can't be lifted: the file, and the byte of its text.
-#[derive(Debug, Drop, PartialEq, Eq)]
-pub struct LiftFault {
-    pub file: usize,
-    pub at: usize,
-    pub kind: LiftFaultKind,
-}
-
-#[derive(Clone, Copy, Debug, PartialEq, Eq, Error)]
-pub enum LiftFaultKind {
-    /// An include names a file that is a pattern and no grammar (RELAX NG 2001, 4.7).
-    #[error("a file that is a pattern can't be included")]
-    IncludedPattern,
-    /// `parent` outside a grammar that is in another one (4.18).
-    #[error("no grammar is around this one")]
-    NoParent,
-    /// A reference in an except stands for more than data, values and choices of them (7.1.4), or comes back to itself there.
-    #[error("what this stands for can't be excepted")]
-    ExceptReference,
-    /// `inherit =` of an external names a prefix that no declaration of the file binds (compact syntax, 4.1).
-    #[error("a prefix without a declaration")]
-    Prefix,
-    /// An external or an include to which no file is given.
-    #[error("no file is given for this")]
-    NoFile,
-    /// A reference in an except to a name without a definition (4.18).
-    #[error("nothing defines this")]
-    Undefined,
-    /// The texts that references in excepts stand for would have more than 4,194,304 bytes.
-    #[error("too long definitions are excepted")]
-    Long,
-    /// The files would make more than 65,536 modules.
-    #[error("more than 65,536 modules")]
-    Many,
-    /// A request for memory was refused. The place means nothing.
-    #[error("out of memory")]
-    Memory,
-}
-
-impl From<AllocError> for LiftFault {
-    fn from(_: AllocError) -> Self {
-        LiftFault {
-            file: 0,
-            at: 0,
-            kind: LiftFaultKind::Memory,
-        }
-    }
-}
-
-impl<T: Drop> From<AllocFailed<T>> for LiftFault {
-    fn from(_: AllocFailed<T>) -> Self {
-        LiftFault {
-            file: 0,
-            at: 0,
-            kind: LiftFaultKind::Memory,
-        }
-    }
 }
 
 /// The last piece that begins at a byte or before it.

@@ -1,33 +1,18 @@
 // From files to modules.
+ghost use Rattle.std.specs.Prelude.{◌≡◌, IfOk, IsTrue, string_bytes};
+ghost use Rattle.rn_lift.specs.Lifts.{AreRising, bringing};
+ghost use Rattle.rn_plan.specs.Free.{AreFree};
 
 use crate::excepts::Excepts;
-use crate::lifted::{LiftFault, Lifted, LiftedModule, Lifting, Piece};
-use crate::names::Names;
-use crate::plan::make_plan;
-use crate::scopes::{Plan, Scope};
-use crate::units::Units;
+use crate::lifted::{Lifted, LiftedModule, Piece};
 use crate::writing::module_at;
+use rn_plan::{LiftFault, LiftFaultKind, Lifting, Names, Plan, Scope, Units, make_plan};
 use rn_text::write_literal;
 use std::alloc::{AllocError, Global};
-use std::collections::BTreeMap;
-
-/// Modules by their names.
-type Modules = BTreeMap<String, LiftedModule>;
+use std::cmp::Ordering;
 
 /// The module that brings in a scope: it hands the namespace to the first module.
-fn entry(
-    alloc: Global,
-    plan: &Plan,
-    scope: &Scope,
-    name: String,
-) -> Result<LiftedModule, AllocError> {
-    let mut text = String::from_str(alloc, "namespace handed = ")?;
-    write_literal(&mut text, plan.namespaces.uri(scope.namespace))?;
-    text.push_str("\ninclude ")?;
-    if let Some(place) = plan.places.get(scope.entry) {
-        write_literal(&mut text, place.module.as_str())?;
-    }
-    text.push_str(" inherit = handed\n")?;
+fn bringing(alloc: Global, plan: &Plan, scope: &Scope) -> Result<LiftedModule, AllocError> {
     let mut pieces = Vec::new(alloc);
     pieces.push(Piece {
         from: 0,
@@ -35,81 +20,113 @@ fn entry(
         at: scope.at,
         is_source: false,
     })?;
-    Ok(LiftedModule { name, text, pieces })
+    let module = plan.entry_of(scope);
+    Ok(LiftedModule {
+        name: scope.module.clone()?,
+        text: bringing_text(alloc, plan.namespace_of(scope), module)?,
+        pieces,
+        basis: None,
+    })
 }
 
-fn add(alloc: Global, modules: &mut Modules, module: LiftedModule) -> Result<(), AllocError> {
-    let name = module.name.clone()?;
-    modules.insert(name, module)?;
-    Ok(())
+/// A text that includes a module, and hands a namespace to it.
+fn bringing_text(alloc: Global, namespace: &str, included: &str) -> Result<String, AllocError>
+    ensures { IfOk result (λ t. string_bytes t ≡ bringing namespace.now included.now) }
+{
+    let mut text = String::from_str(alloc, "namespace handed = ")?;
+    write_literal(&mut text, namespace)?;
+    text.push_str("\ninclude ")?;
+    write_literal(&mut text, included)?;
+    text.push_str(" inherit = handed\n")?;
+    Ok(text)
 }
 
-/// Adds the modules of all places.
-fn add_places(
+/// The modules of all places.
+fn place_modules(
     alloc: Global,
     units: &Units<'_>,
     plan: &Plan,
-    modules: &mut Modules,
-) -> Result<(), LiftFault> {
+) -> Result<Vec<LiftedModule>, LiftFault> {
+    let mut modules = Vec::new(alloc);
     let mut excepts = Excepts::new(alloc, units, plan)?;
     for number in 0..plan.places.len() {
-        if let Some(module) = module_at(alloc, units, plan, &mut excepts, number)? {
-            add(alloc, modules, module)?;
-        }
+        modules.push(module_at(alloc, units, plan, &mut excepts, number)?)?;
     }
-    Ok(())
+    Ok(modules)
+}
+
+/// The scopes that modules bring in: all but that of the roots.
+fn scopes_brought(plan: &Plan) -> &[Scope] {
+    match plan.scopes.split_first() {
+        Some((_, scopes)) => scopes,
+        None => &[],
+    }
 }
 
 /// Adds the modules that bring in scopes.
-fn add_entries(alloc: Global, plan: &mut Plan, modules: &mut Modules) -> Result<(), LiftFault> {
-    for number in 1..plan.scopes.len() {
-        add_entry(alloc, plan, modules, number)?;
-    }
-    Ok(())
-}
-
-fn add_entry(
+fn add_bringing(
     alloc: Global,
-    plan: &mut Plan,
-    modules: &mut Modules,
-    number: usize,
+    plan: &Plan,
+    modules: &mut Vec<LiftedModule>,
 ) -> Result<(), AllocError> {
-    let stem = match plan.scopes.get(number) {
-        Some(scope) => scope.stem.clone()?,
-        None => return Ok(()),
-    };
-    let name = plan.names.entry(alloc, stem.as_str())?;
-    if let Some(scope) = plan.scopes.get(number) {
-        let module = entry(alloc, plan, scope, name)?;
-        add(alloc, modules, module)?;
+    for scope in scopes_brought(plan) {
+        modules.push(bringing(alloc, plan, scope)?)?;
     }
     Ok(())
 }
 
-/// The modules that files become (RELAX NG 2001, 4.6, 4.7, 4.18, 7.1.4), of which some are roots: what nobody includes. Their
-/// schema is that of the roots.
+/// The modules that files become (RELAX NG 2001, 4.6, 4.7, 4.18, 7.1.4), of which some are roots:
+/// what nobody includes. Their schema is that of the roots.
 ///
-/// Files that no root reaches become no modules. A file of the roots' scope keeps its name, and its text, but for the literals of
-/// its includes and for what is lifted. Refused with the first fault; `Memory` stands for want of memory alone.
-pub fn lift(alloc: Global, files: &[Lifting<'_>], roots: &[usize]) -> Result<Lifted, LiftFault> {
+/// Files that no root reaches become no modules. A file of the roots' scope keeps its name, and its
+/// text, but for the literals of its includes and for what is lifted. Refused with the first fault;
+/// `Memory` stands for want of memory alone.
+pub fn lift(alloc: Global, files: &[Lifting<'_>], roots: &[usize]) -> Result<Lifted, LiftFault>
+    ensures order { IfOk result (λ l. AreRising l.modules.items) }
+    ensures free { IfOk result (λ l. AreFree files.now l.stems (string_bytes l.start)) }
+{
     let units = Units::of(alloc, files)?;
-    let mut plan = make_plan(alloc, &units, roots)?;
-    let mut modules = BTreeMap::new(alloc);
-    add_places(alloc, &units, &plan, &mut modules)?;
-    add_entries(alloc, &mut plan, &mut modules)?;
-    finished(alloc, plan, modules)
+    let plan = make_plan(alloc, &units, roots)?;
+    let mut modules = place_modules(alloc, &units, &plan)?;
+    add_bringing(alloc, &plan, &mut modules)?;
+    finished(plan, modules)
 }
 
-fn finished(alloc: Global, plan: Plan, modules: Modules) -> Result<Lifted, LiftFault> {
+/// The modules in the order of their names.
+fn finished(plan: Plan, mut modules: Vec<LiftedModule>) -> Result<Lifted, LiftFault>
+    ensures order { IfOk result (λ l. AreRising l.modules.items) }
+    ensures stems { IfOk result (λ l. l.stems ≡ plan.names.own) }
+    ensures start { IfOk result (λ l. l.start ≡ plan.names.start) }
+{
+    modules.sort_by(|a, b| a.name.cmp(&b.name))?;
+    if !are_rising(modules.as_slice()) {
+        return Err(LiftFault {
+            file: 0,
+            at: 0,
+            kind: LiftFaultKind::Unsound,
+        });
+    }
     let Plan { names, .. } = plan;
     let Names { own, start, .. } = names;
-    let mut lifted = Lifted {
-        modules: Vec::new(alloc),
+    Ok(Lifted {
+        modules,
         stems: own,
         start,
-    };
-    for module in modules.into_values() {
-        lifted.modules.push(module)?;
+    })
+}
+
+/// Whether each name comes before the next one.
+fn are_rising(modules: &[LiftedModule]) -> bool
+    ensures { IsTrue result → AreRising modules.now }
+{
+    let mut rest = modules;
+    'modules: while let Some((module, behind)) = rest.split_first() {
+        if let Some(next) = behind.first() {
+            if module.name.cmp(&next.name) != Ordering::Less {
+                return false;
+            }
+        }
+        rest = behind;
     }
-    Ok(lifted)
+    true
 }

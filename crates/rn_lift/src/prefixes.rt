@@ -1,7 +1,6 @@
 // Prefixes of datatypes that come from another file.
 
-use crate::names::Taken;
-use crate::units::{Given, Units};
+use rn_plan::{Given, Taken, Units};
 use rn_text::{Kind, Token, tokens, write_literal};
 use std::alloc::{AllocError, Global};
 use std::collections::BTreeMap;

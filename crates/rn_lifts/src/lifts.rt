@@ -1,5 +1,7 @@
 // Lifting by example. Files stand behind lines `@NAME`; the first is the root.
-use rn_lift::{Lifted, Lifting, Outline, PartKind, lift, read_outline};
+use rn_lift::{Lifted, lift};
+use rn_outline::{Outline, PartKind, read_outline};
+use rn_plan::Lifting;
 use rn_text::tokens;
 use std::alloc::{AllocError, Global};
 use std::process::Abort;

@@ -2,8 +2,9 @@
 use crate::checks::{DEEP, ENCODING, LEXICAL, MEMORY, unexpected};
 use crate::report::{Message, Page, Spot};
 use rn_files::{FaultKind, FaultPlace, SourceFault};
-use rn_lift::{LiftFault, LiftFaultKind, Lifted};
+use rn_lift::Lifted;
 use rn_modset::AddFault;
+use rn_plan::{LiftFault, LiftFaultKind};
 use std::alloc::{AllocError, Global};
 
 /// Where a fault of reading is told; nowhere where it is about a word or a folder.
@@ -111,7 +112,7 @@ pub fn is_unread(fault: &SourceFault) -> bool {
 /// Where a fault of lifting is told; nowhere where it is about all files.
 pub fn lift_spot(fault: &LiftFault) -> Option<Spot> {
     match fault.kind {
-        LiftFaultKind::Many | LiftFaultKind::Memory => None,
+        LiftFaultKind::Many | LiftFaultKind::Unsound | LiftFaultKind::Memory => None,
         _ => Some(Spot {
             file: fault.file,
             at: fault.at,
@@ -134,6 +135,8 @@ pub fn lift_message(alloc: Global, fault: &LiftFault) -> Result<Message, AllocEr
         LiftFaultKind::Undefined => "this is not defined",
         LiftFaultKind::Long => "what is excepted by names becomes longer than 4,194,304 bytes",
         LiftFaultKind::Many => "the files become more than 65,536 modules",
+        LiftFaultKind::Outline => "what was read here is not what the file holds",
+        LiftFaultKind::Unsound => "the names that were made for the files are not free",
         LiftFaultKind::Memory => MEMORY,
     };
     Ok(Message {

@@ -7,8 +7,9 @@ use crate::checks::{check_sentence, place_at};
 use crate::faults::{lift_message, lift_spot, reading_message, reading_spot};
 use crate::report::{Message, Page, Spot, Told, attempt_pages, source_pages};
 use rn_files::{Reading, Source, SourceFault};
-use rn_lift::{LiftFault, LiftedModule};
+use rn_lift::LiftedModule;
 use rn_merge::{Place, check};
+use rn_plan::LiftFault;
 use std::alloc::{AllocError, Global};
 use std::collections::BTreeSet;
 

@@ -3,7 +3,7 @@ use crate::brought::provided;
 use crate::defined::{Defined, group_of, uses};
 use crate::sites::{Site, View, key_text, method_of};
 use rn_assemble::Refusal;
-use rn_lift::Method;
+use rn_outline::Method;
 use std::alloc::{AllocError, Global};
 
 /// The kind of a refusal.

@@ -11,7 +11,8 @@ use crate::report::{MAX_TOLD, Message, Page, Spot, Told, place_text, source_page
 use crate::sites::{Site, View, include_of, key_of, key_text, viewed, within};
 use rn_assemble::Refusal;
 use rn_files::Source;
-use rn_lift::{Lifted, Method, Part};
+use rn_lift::Lifted;
+use rn_outline::{Method, Part};
 use std::alloc::{AllocError, Global};
 
 /// What sentences are made from: the files, the modules and what these are made of, how they come to a schema, and the

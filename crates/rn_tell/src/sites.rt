@@ -1,7 +1,8 @@
 // What the modules define, refer to and include, and where.
 use crate::report::Spot;
 use rn_assemble::Key;
-use rn_lift::{Lifted, Method, Part, PartKind, name_in, read_outline};
+use rn_lift::Lifted;
+use rn_outline::{Method, Part, PartKind, name_in, read_outline};
 use rn_text::{Kind, Token, tokens};
 use std::alloc::{AllocError, Global};
 

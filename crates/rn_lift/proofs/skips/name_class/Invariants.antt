@@ -1,9 +1,0 @@
--- As many parentheses are open as were read at most.
-use Rattle.std.proofs.Common.{◌≤◌, ◌<◌, ◌-◌, length}
-use Rattle.rn_lift.proofs.skips.name_class.Given as goal
-
-abbrev pub invariant-class : goal.invariant-class
-invariant-class l = record { further : l.fn.at ≤ l.at; inside : l.at ≤ length l.tokens; small : l.depth ≤ l.at }
-
-abbrev pub decreases-class : goal.decreases-class
-decreases-class l = length l.tokens - l.at

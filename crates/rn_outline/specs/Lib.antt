@@ -1,0 +1,4 @@
+pub mod Cursor
+pub mod Links
+pub mod Outlines
+pub mod Spans

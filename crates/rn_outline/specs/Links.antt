@@ -1,0 +1,29 @@
+-- Parts that name another file.
+use Rattle.std.specs.Prelude.{ℕ, Bool, true, false, if◌then◌else◌, List, [], ◌∷◌, Option, Some, None}
+use Rattle.rn_outline.specs.declared.parts.Part.{Part}
+use Rattle.rn_outline.specs.declared.parts.PartKind.{PartKind}
+use Rattle.rn_outline.specs.declared.parts.PartKind.TheVariants.{External, Include}
+
+-- an external or an include
+abbrev pub is_link_kind : PartKind → Bool
+is_link_kind (External _ _ _) = true
+is_link_kind (Include _ _ _) = true
+is_link_kind _ = false
+
+-- a part that names another file
+abbrev pub is_link : Part → Bool
+is_link p = is_link_kind p.kind
+
+-- the first of these numbers, and the others
+abbrev pub first_of : List ℕ → Option ℕ
+first_of [] = None
+first_of (t ∷ ts) = Some t
+
+abbrev pub behind_first : List ℕ → List ℕ
+behind_first [] = []
+behind_first (t ∷ ts) = ts
+
+-- for each part, the number that is given for it: those that name a file have these numbers in turn
+abbrev pub targets_of : List Part → List ℕ → List (Option ℕ)
+targets_of [] ts = []
+targets_of (p ∷ ps) ts = if is_link p then first_of ts ∷ targets_of ps (behind_first ts) else None ∷ targets_of ps ts

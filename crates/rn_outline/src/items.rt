@@ -1,0 +1,143 @@
+// Items of grammars and of includes (compact syntax, section 2, grammarContent and includeContent).
+ghost use Rattle.std.specs.Prelude.{◌<◌, ◌≤◌, ◌+◌, length, IfOk};
+ghost use Rattle.rn_outline.specs.Cursor.{Advanced};
+
+use crate::fault::Stop;
+use crate::parts::{Method, PartKind};
+use crate::reader::{Frame, Mode, Reader};
+use crate::signs::{Sign, Word, end, sign_at, span};
+use crate::skips::{annotation, inherit, left_brace, literal_at};
+use rn_text::Token;
+
+/// Reads the front of an item, or the end of the items.
+pub(crate) fn item(reader: &mut Reader, tokens: &[Token<'_>], at: usize) -> Result<usize, Stop>
+    requires { at ≤ length tokens.now }
+    ensures { IfOk result (λ r. Advanced at r (length tokens.now)) }
+{
+    match sign_at(tokens, at) {
+        Sign::LeftBracket => annotation(tokens, at),
+        Sign::Prefixed => annotation(tokens, at + 1),
+        Sign::Ident => named(reader, tokens, at),
+        Sign::Word(Word::Start) => start(reader, tokens, at),
+        Sign::Word(Word::Div) => {
+            let inside = left_brace(tokens, at + 1)?;
+            reader.open(Frame::Div, Mode::Item)?;
+            Ok(inside)
+        }
+        Sign::Word(Word::Include) => include(reader, tokens, at),
+        Sign::RightBrace => {
+            close(reader, end(tokens, at + 1)).ok_or(Stop::Stuck(at))?;
+            Ok(at + 1)
+        }
+        _ => Err(Stop::Stuck(at)),
+    }
+}
+
+/// A definition, or an annotation element.
+fn named(reader: &mut Reader, tokens: &[Token<'_>], at: usize) -> Result<usize, Stop>
+    requires { at < length tokens.now }
+    ensures { IfOk result (λ r. Advanced at r (length tokens.now)) }
+{
+    match sign_at(tokens, at + 1) {
+        Sign::LeftBracket => annotation(tokens, at + 1),
+        Sign::Assign(method) => {
+            define(reader, tokens, at, method)?;
+            Ok(at + 2)
+        }
+        _ => Err(Stop::Stuck(at + 1)),
+    }
+}
+
+fn define(reader: &mut Reader, tokens: &[Token<'_>], at: usize, method: Method) -> Result<(), Stop>
+    requires { at + 1 < length tokens.now }
+{
+    let name = span(tokens, at, at + 1);
+    let kind = PartKind::Define {
+        name,
+        method,
+        body: span(tokens, at + 2, at + 2),
+        within: reader.within,
+        only_data: true,
+    };
+    reader.note(name, kind)?;
+    reader.begin_body(Frame::Body)
+}
+
+fn start(reader: &mut Reader, tokens: &[Token<'_>], at: usize) -> Result<usize, Stop>
+    requires { at < length tokens.now }
+    ensures { IfOk result (λ r. Advanced at r (length tokens.now)) }
+{
+    let Sign::Assign(method) = sign_at(tokens, at + 1) else {
+        return Err(Stop::Stuck(at + 1));
+    };
+    let word = span(tokens, at, at + 1);
+    let kind = PartKind::Start {
+        word,
+        method,
+        body: span(tokens, at + 2, at + 2),
+        within: reader.within,
+        only_data: true,
+    };
+    reader.note(word, kind)?;
+    reader.begin_body(Frame::Body)?;
+    Ok(at + 2)
+}
+
+fn include(reader: &mut Reader, tokens: &[Token<'_>], at: usize) -> Result<usize, Stop>
+    requires { at < length tokens.now }
+    ensures { IfOk result (λ r. Advanced at r (length tokens.now)) }
+{
+    if reader.within.is_some() {
+        return Err(Stop::Stuck(at));
+    }
+    let (literal, literal_at, behind) = literal_at(reader.alloc, tokens, at + 1)?;
+    let (inherit, close) = inherit(tokens, behind)?;
+    let number = reader.parts.len();
+    let kind = PartKind::Include {
+        literal,
+        literal_at,
+        inherit,
+    };
+    reader.note(span(tokens, at, close), kind)?;
+    let Sign::LeftBrace = sign_at(tokens, close) else {
+        return Ok(close);
+    };
+    reader.open(Frame::Overrides { include: number }, Mode::Item)?;
+    reader.within = Some(number);
+    Ok(close + 1)
+}
+
+/// Closes the items that are read, at a byte; unless no items are.
+fn close(reader: &mut Reader, end: usize) -> Option<()> {
+    match reader.frames.pop()? {
+        Frame::Div => {}
+        Frame::Overrides { include } => {
+            reader.within = None;
+            reader.end_part(include, end);
+        }
+        Frame::Grammar {
+            part,
+            outer,
+            within,
+            body,
+        } => {
+            reader.end_part(part, end);
+            reader.grammar = outer;
+            reader.within = within;
+            reader.body = body;
+            reader.mode = Mode::Behind;
+        }
+        Frame::Outer => reader.mode = Mode::Closed,
+        _ => return None,
+    }
+    Some(())
+}
+
+/// Ends the definition that is read before a token, and reads on.
+pub(crate) fn next_item(reader: &mut Reader, tokens: &[Token<'_>], at: usize) -> Result<usize, Stop>
+    requires { at ≤ length tokens.now }
+    ensures { IfOk result (λ r. Advanced at r (length tokens.now)) }
+{
+    reader.end_body(end(tokens, at));
+    item(reader, tokens, at)
+}

@@ -1,0 +1,23 @@
+//! Outlines of files of the whole RELAX NG compact syntax: what a file is made of, with `external`,
+//! `parent`, nested `grammar` and bare patterns (compact syntax, section 2; RELAX NG 2001, 4.5 to
+//! 4.7, 4.18, 4.19). Nothing of an outline is borrowed, so it is kept beside its text.
+#![tactic(auto)]
+
+mod declarations;
+pub mod fault;
+mod items;
+pub mod notes;
+mod operands;
+pub mod outline;
+pub mod parts;
+mod reader;
+mod signs;
+mod skips;
+
+pub use fault::OutlineFault;
+pub use notes::note_end;
+pub use outline::read_outline;
+pub use parts::{
+    Declaration, DeclarationKind, Method, Outline, Part, PartKind, Shape, Span, Uri, is_link,
+    name_in,
+};

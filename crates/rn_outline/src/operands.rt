@@ -1,0 +1,214 @@
+// Operands of patterns, and what stands behind them (compact syntax, section 2, pattern).
+ghost use Rattle.std.specs.Prelude.{◌≡◌, ◌<◌, ◌≤◌, length, IfOk};
+ghost use Rattle.rn_outline.specs.Cursor.{Advanced, Passed};
+
+use crate::fault::Stop;
+use crate::items::next_item;
+use crate::parts::{PartKind, Span};
+use crate::reader::{Frame, Mode, Reader};
+use crate::signs::{Sign, Word, end, sign_at, span};
+use crate::skips::{
+    annotation, follow, ident, inherit, left_brace, literal_at, name_class, params, segments,
+};
+use rn_text::Token;
+
+/// Reads an operand, or its front up to the bracket behind which more patterns stand.
+pub(crate) fn operand(reader: &mut Reader, tokens: &[Token<'_>], at: usize) -> Result<usize, Stop>
+    requires { at ≤ length tokens.now }
+    ensures { IfOk result (λ r. Advanced at r (length tokens.now)) }
+{
+    match sign_at(tokens, at) {
+        Sign::LeftBracket => annotation(tokens, at),
+        Sign::LeftParen => {
+            let in_except = reader.is_in_except();
+            reader.open(Frame::Parens { in_except }, Mode::Operand)?;
+            Ok(at + 1)
+        }
+        Sign::Segment => {
+            reader.mode = Mode::Behind;
+            segments(tokens, at)
+        }
+        Sign::Ident => {
+            let name = span(tokens, at, at + 1);
+            reader.note(name, PartKind::Reference { name })?;
+            reader.mode = Mode::Behind;
+            Ok(at + 1)
+        }
+        Sign::Prefixed => datatype(reader, tokens, at + 1),
+        Sign::Word(word) => keyword(reader, tokens, at, word),
+        _ => Err(Stop::Stuck(at)),
+    }
+}
+
+/// The same, where it begins with this keyword.
+fn keyword(reader: &mut Reader, tokens: &[Token<'_>], at: usize, word: Word) -> Result<usize, Stop>
+    requires { at < length tokens.now }
+    ensures { IfOk result (λ r. Advanced at r (length tokens.now)) }
+{
+    match word {
+        Word::Datatype => datatype(reader, tokens, at + 1),
+        Word::Named => {
+            let inside = name_class(tokens, at + 1)?;
+            content(reader, inside)
+        }
+        Word::Braced => {
+            let inside = left_brace(tokens, at + 1)?;
+            content(reader, inside)
+        }
+        Word::Plain => {
+            reader.note_no_data();
+            reader.mode = Mode::Behind;
+            Ok(at + 1)
+        }
+        Word::NotAllowed => {
+            reader.mode = Mode::Behind;
+            Ok(at + 1)
+        }
+        Word::Parent => parent(reader, tokens, at),
+        Word::External => external(reader, tokens, at),
+        Word::Grammar => grammar(reader, tokens, at),
+        _ => Err(Stop::Stuck(at)),
+    }
+}
+
+/// Opens the content of an element, an attribute, `list` or `mixed`.
+fn content(reader: &mut Reader, inside: usize) -> Result<usize, Stop>
+    ensures { IfOk result (λ r. r ≡ inside) }
+{
+    reader.note_no_data();
+    reader.open(Frame::Content, Mode::Operand)?;
+    Ok(inside)
+}
+
+/// What may stand behind the name of a datatype: a literal makes it a value; parameters and an except may follow.
+fn datatype(reader: &mut Reader, tokens: &[Token<'_>], at: usize) -> Result<usize, Stop>
+    requires { at ≤ length tokens.now }
+    ensures { IfOk result (λ r. Passed at r (length tokens.now)) }
+{
+    match sign_at(tokens, at) {
+        Sign::Segment => {
+            reader.mode = Mode::Behind;
+            segments(tokens, at)
+        }
+        Sign::LeftBrace => {
+            let end = params(tokens, at + 1)?;
+            Ok(except(reader, tokens, end))
+        }
+        _ => Ok(except(reader, tokens, at)),
+    }
+}
+
+/// What stands behind the `-` of an except, if one comes.
+fn except(reader: &mut Reader, tokens: &[Token<'_>], at: usize) -> usize
+    requires { at ≤ length tokens.now }
+    ensures { Passed at result (length tokens.now) }
+{
+    match sign_at(tokens, at) {
+        Sign::Minus => {
+            reader.mode = Mode::Excepted;
+            at + 1
+        }
+        _ => {
+            reader.mode = Mode::Behind;
+            at
+        }
+    }
+}
+
+fn parent(reader: &mut Reader, tokens: &[Token<'_>], at: usize) -> Result<usize, Stop>
+    requires { at < length tokens.now }
+    ensures { IfOk result (λ r. Advanced at r (length tokens.now)) }
+{
+    let end = ident(tokens, at + 1)?;
+    let name = span(tokens, at + 1, end);
+    reader.note(span(tokens, at, end), PartKind::Parent { name })?;
+    reader.mode = Mode::Behind;
+    Ok(end)
+}
+
+fn external(reader: &mut Reader, tokens: &[Token<'_>], at: usize) -> Result<usize, Stop>
+    requires { at < length tokens.now }
+    ensures { IfOk result (λ r. Advanced at r (length tokens.now)) }
+{
+    let (literal, literal_at, behind) = literal_at(reader.alloc, tokens, at + 1)?;
+    let (inherit, end) = inherit(tokens, behind)?;
+    let kind = PartKind::External {
+        literal,
+        literal_at,
+        inherit,
+    };
+    reader.note(span(tokens, at, end), kind)?;
+    reader.mode = Mode::Behind;
+    Ok(end)
+}
+
+/// Opens a nested grammar.
+fn grammar(reader: &mut Reader, tokens: &[Token<'_>], at: usize) -> Result<usize, Stop>
+    requires { at < length tokens.now }
+    ensures { IfOk result (λ r. Advanced at r (length tokens.now)) }
+{
+    let inside = left_brace(tokens, at + 1)?;
+    let number = reader.grammars;
+    let part = reader.parts.len();
+    let behind = end(tokens, inside);
+    let kind = PartKind::Grammar {
+        number,
+        inside: Span {
+            from: behind,
+            to: behind,
+        },
+    };
+    reader.note(span(tokens, at, inside), kind)?;
+    let frame = Frame::Grammar {
+        part,
+        outer: reader.grammar,
+        within: reader.within,
+        body: reader.body,
+    };
+    reader.open(frame, Mode::Item)?;
+    reader.grammar = number;
+    reader.grammars = number.saturating_add(1);
+    reader.within = None;
+    reader.body = None;
+    Ok(inside)
+}
+
+/// Reads what stands behind an operand.
+pub(crate) fn behind(reader: &mut Reader, tokens: &[Token<'_>], at: usize) -> Result<usize, Stop>
+    requires { at ≤ length tokens.now }
+    ensures { IfOk result (λ r. Advanced at r (length tokens.now)) }
+{
+    match sign_at(tokens, at) {
+        Sign::Follow => follow(tokens, at + 1),
+        Sign::Repeat | Sign::Star => {
+            reader.note_no_data();
+            Ok(at + 1)
+        }
+        Sign::Join => {
+            reader.note_no_data();
+            reader.mode = Mode::Operand;
+            Ok(at + 1)
+        }
+        Sign::Bar => {
+            reader.mode = Mode::Operand;
+            Ok(at + 1)
+        }
+        _ => closing(reader, tokens, at),
+    }
+}
+
+/// Reads the end of a pattern.
+fn closing(reader: &mut Reader, tokens: &[Token<'_>], at: usize) -> Result<usize, Stop>
+    requires { at ≤ length tokens.now }
+    ensures { IfOk result (λ r. Advanced at r (length tokens.now)) }
+{
+    match (reader.top(), sign_at(tokens, at)) {
+        (Some(Frame::Parens { .. }), Sign::RightParen) | (Some(Frame::Content), Sign::RightBrace) =>
+            {
+                let _ = reader.frames.pop();
+                Ok(at + 1)
+            }
+        (Some(Frame::Body), _) => next_item(reader, tokens, at),
+        _ => Err(Stop::Stuck(at)),
+    }
+}

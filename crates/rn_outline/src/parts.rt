@@ -1,0 +1,200 @@
+// What a file is made of.
+ghost use Rattle.std.specs.Prelude.{◌≡◌};
+ghost use Rattle.std.specs.List.{list_any};
+ghost use Rattle.rn_outline.specs.Links.{is_link};
+ghost use Rattle.rn_outline.specs.Spans.{front_end, mark};
+
+use std::alloc::{AllocError, Global};
+
+/// What a file is (RELAX NG 2001, 3): a grammar, whose items may have `grammar { .. }` round them,
+/// or another pattern.
+#[derive(Clone, Copy, Debug, PartialEq, Eq)]
+pub enum Shape {
+    Grammar,
+    Pattern,
+}
+
+/// Bytes of a text, counted from its start: from the first one up to, and without, the second.
+#[derive(Clone, Copy, Debug, PartialEq, Eq)]
+pub struct Span {
+    pub from: usize,
+    pub to: usize,
+}
+
+/// How a definition is combined with others of its name (RELAX NG 2001, 4.17): `=`, `|=`, `&=`.
+#[derive(Clone, Copy, Debug, PartialEq, Eq)]
+pub enum Method {
+    Plain,
+    Choice,
+    Interleave,
+}
+
+/// What a declaration binds (compact syntax, section 2, decl).
+#[derive(Clone, Copy, Debug, PartialEq, Eq)]
+pub enum DeclarationKind {
+    /// `default namespace`, which may bind a prefix too.
+    Default,
+    Namespace,
+    Datatypes,
+}
+
+/// What a declaration binds its prefix to.
+#[derive(Debug, Drop, PartialEq, Eq)]
+pub enum Uri {
+    Literal(String),
+    /// `inherit`: what is handed to the file.
+    Inherited,
+}
+
+/// A declaration (compact syntax, section 2, decl). Whether its prefix is bound twice, or may be
+/// bound at all, is not looked at here.
+#[derive(Debug, Drop, PartialEq, Eq)]
+pub struct Declaration {
+    pub kind: DeclarationKind,
+    /// The token that is the prefix; `None` for a default namespace without one.
+    pub prefix: Option<Span>,
+    /// What it is bound to.
+    pub uri: Uri,
+    /// From the first keyword to the end of the literal or of `inherit`.
+    pub at: Span,
+}
+
+/// A part of a file. Parts stand in the order in which they begin; one lies in another, or apart
+/// from it.
+#[derive(Debug, Drop, PartialEq, Eq)]
+pub struct Part {
+    pub at: Span,
+    /// The grammar that it belongs to: 0 is the file's own, and each nested one has a number of its
+    /// own.
+    pub grammar: usize,
+    /// Whether it is excepted from data: it stands behind a `-`, with no more than parentheses and
+    /// operators between.
+    pub in_except: bool,
+    pub kind: PartKind,
+}
+
+/// What a part is, with the bytes of what it is made of.
+#[derive(Debug, Drop, PartialEq, Eq)]
+pub enum PartKind {
+    /// A definition (RELAX NG 2001, 4.17). `within` is the number of the part that is its include,
+    /// for an override (4.7).
+    Define {
+        name: Span,
+        method: Method,
+        body: Span,
+        within: Option<usize>,
+        /// Whether the body is made of data, values, `notAllowed`, references, externals, grammars
+        /// and choices of them alone.
+        only_data: bool,
+    },
+    /// A definition of the start. In a file that is a pattern this is the first part; its body is
+    /// the pattern, and `word` is empty.
+    Start {
+        word: Span,
+        method: Method,
+        body: Span,
+        within: Option<usize>,
+        only_data: bool,
+    },
+    /// A reference to a definition of its grammar.
+    Reference {
+        name: Span,
+    },
+    /// `parent` and a name: a reference to a definition of the grammar around (4.18).
+    Parent {
+        name: Span,
+    },
+    /// `external` (4.6), with the text of its literal, and the prefix behind `inherit =`.
+    External {
+        literal: String,
+        literal_at: Span,
+        inherit: Option<Span>,
+    },
+    /// `include` (4.7), likewise. `at` ends with its overrides.
+    Include {
+        literal: String,
+        literal_at: Span,
+        inherit: Option<Span>,
+    },
+    /// A nested `grammar { .. }` (4.18): its number, and what stands between its braces.
+    Grammar {
+        number: usize,
+        inside: Span,
+    },
+}
+
+/// What a file is made of. Nothing of it is borrowed.
+#[derive(Debug, Drop, PartialEq, Eq)]
+pub struct Outline {
+    pub shape: Shape,
+    /// In the order of the text.
+    pub declarations: Vec<Declaration>,
+    /// What stands behind the declarations.
+    pub body: Span,
+    pub parts: Vec<Part>,
+    /// How many grammars the parts belong to, the file's own among them.
+    pub grammars: usize,
+}
+
+impl Outline {
+    /// Whether a reference, an external or a nested grammar is excepted from data.
+    pub fn has_excepts(&self) -> bool
+        ensures { result ≡ list_any (λ p. p.in_except) self.now.parts.items }
+    {
+        self.parts.iter().any(|part| part.in_except)
+    }
+
+    /// The numbers of the parts that name another file, externals and includes, in the order of the
+    /// text. Refused for want of memory alone.
+    pub fn links(&self, alloc: Global) -> Result<Vec<usize>, AllocError> {
+        let mut links = Vec::new(alloc);
+        for (number, part) in self.parts.iter().enumerate() {
+            if is_link(part) {
+                links.push(number)?;
+            }
+        }
+        Ok(links)
+    }
+}
+
+impl Part {
+    /// The bytes that are replaced if something else is to stand for the part: of a definition the
+    /// name that it defines, of an include its literal; else the whole part.
+    pub fn mark(&self) -> Span
+        ensures { result ≡ mark self.now }
+    {
+        match &self.kind {
+            PartKind::Define { name, .. } => *name,
+            PartKind::Start { word, .. } => *word,
+            PartKind::Include { literal_at, .. } => *literal_at,
+            _ => self.at,
+        }
+    }
+
+    /// The byte behind the mark; of a nested grammar, the first byte between its braces.
+    pub(crate) fn front_end(&self) -> usize
+        ensures { result ≡ front_end self.now }
+    {
+        match &self.kind {
+            PartKind::Grammar { inside, .. } => inside.from,
+            _ => self.mark().to,
+        }
+    }
+}
+
+/// Whether a part names another file: an external or an include.
+pub fn is_link(part: &Part) -> bool
+    ensures { result ≡ is_link part.now }
+{
+    matches!(
+        &part.kind,
+        PartKind::External { .. } | PartKind::Include { .. }
+    )
+}
+
+/// The name that a token of the text is: without the backslash of a quoted one. Of a span that lies
+/// not in the text, nothing.
+pub fn name_in(text: &str, span: Span) -> &str {
+    let name = text.get(span.from..span.to).unwrap_or("");
+    name.strip_prefix('\\').unwrap_or(name)
+}

@@ -1,0 +1,164 @@
+// The reader of a file's parts: what is open, and what may come.
+
+use crate::fault::Stop;
+use crate::parts::{Part, PartKind, Span};
+use std::alloc::Global;
+
+/// What may come next.
+#[derive(Clone, Copy, PartialEq, Eq)]
+pub(crate) enum Mode {
+    /// An item, or the end of items.
+    Item,
+    /// An operand of a pattern.
+    Operand,
+    /// The operand behind a `-`.
+    Excepted,
+    /// An operator, or the end of a pattern.
+    Behind,
+    /// Nothing but following annotations.
+    Closed,
+}
+
+/// What is open.
+#[derive(Clone, Copy)]
+pub(crate) enum Frame {
+    /// The body of a definition.
+    Body,
+    /// The pattern that is the whole file.
+    Whole,
+    /// The content of an element, an attribute, `list` or `mixed`.
+    Content,
+    /// Parentheses, in an except or not.
+    Parens {
+        in_except: bool,
+    },
+    /// `div`
+    Div,
+    /// The overrides of the include that is the part of this number.
+    Overrides {
+        include: usize,
+    },
+    /// The nested grammar that is the part of this number, with what the reader knew before it.
+    Grammar {
+        part: usize,
+        outer: usize,
+        within: Option<usize>,
+        body: Option<usize>,
+    },
+    /// The grammar that is the whole file.
+    Outer,
+}
+
+#[derive(Drop)]
+pub(crate) struct Reader {
+    pub(crate) alloc: Global,
+    pub(crate) parts: Vec<Part>,
+    pub(crate) frames: Vec<Frame>,
+    pub(crate) mode: Mode,
+    /// The grammar that is read.
+    pub(crate) grammar: usize,
+    /// How many grammars there are so far.
+    pub(crate) grammars: usize,
+    /// The part that is the include whose overrides are read.
+    pub(crate) within: Option<usize>,
+    /// The part that is the definition whose body is read.
+    pub(crate) body: Option<usize>,
+}
+
+impl Reader {
+    pub(crate) fn new(alloc: Global) -> Self {
+        Reader {
+            alloc,
+            parts: Vec::new(alloc),
+            frames: Vec::new(alloc),
+            mode: Mode::Item,
+            grammar: 0,
+            grammars: 1,
+            within: None,
+            body: None,
+        }
+    }
+
+    pub(crate) fn top(&self) -> Option<Frame> {
+        self.frames.last().copied()
+    }
+
+    /// Whether an operand here is excepted from data.
+    pub(crate) fn is_in_except(&self) -> bool {
+        match self.top() {
+            Some(Frame::Parens { in_except: true }) => true,
+            _ => self.mode == Mode::Excepted,
+        }
+    }
+
+    /// Opens a frame.
+    pub(crate) fn open(&mut self, frame: Frame, mode: Mode) -> Result<(), Stop> {
+        self.frames.push(frame)?;
+        self.mode = mode;
+        Ok(())
+    }
+
+    /// Notes a part of the grammar that is read.
+    pub(crate) fn note(&mut self, at: Span, kind: PartKind) -> Result<(), Stop> {
+        let part = Part {
+            at,
+            grammar: self.grammar,
+            in_except: self.is_in_except(),
+            kind,
+        };
+        self.parts.push(part)?;
+        Ok(())
+    }
+
+    /// Notes that the body that is read holds what may not be excepted from data (7.1.4).
+    pub(crate) fn note_no_data(&mut self) {
+        let Some(number) = self.body else {
+            return;
+        };
+        if let Some(part) = self.parts.get_mut(number) {
+            mark_no_data(&mut part.kind);
+        }
+    }
+
+    /// Begins a body of the definition that was noted last.
+    pub(crate) fn begin_body(&mut self, frame: Frame) -> Result<(), Stop> {
+        self.body = self.parts.len().checked_sub(1);
+        self.open(frame, Mode::Operand)
+    }
+
+    /// Ends the body that is read, at a byte.
+    pub(crate) fn end_body(&mut self, end: usize) {
+        let _ = self.frames.pop();
+        self.mode = Mode::Item;
+        let number = self.body.take();
+        if let Some(number) = number {
+            self.end_part(number, end);
+        }
+    }
+
+    /// Ends a part at a byte.
+    pub(crate) fn end_part(&mut self, number: usize, end: usize) {
+        if let Some(part) = self.parts.get_mut(number) {
+            part.at.to = end;
+            end_inside(&mut part.kind, end);
+        }
+    }
+}
+
+fn mark_no_data(kind: &mut PartKind) {
+    match kind {
+        PartKind::Define { only_data, .. } | PartKind::Start { only_data, .. } => {
+            *only_data = false;
+        }
+        _ => {}
+    }
+}
+
+/// Ends what is inside a part at a byte; what is inside a grammar ends before its brace.
+fn end_inside(kind: &mut PartKind, end: usize) {
+    match kind {
+        PartKind::Define { body, .. } | PartKind::Start { body, .. } => body.to = end,
+        PartKind::Grammar { inside, .. } => inside.to = end.saturating_sub(1),
+        _ => {}
+    }
+}

@@ -1,0 +1,6 @@
+-- The files stay.
+use Rattle.std.proofs.Common.{◌≡◌}
+use Rattle.rn_plan.proofs.units.Units.add_units.Given as goal
+
+abbrev pub invariant-loop-grammar : goal.invariant-loop-grammar
+invariant-loop-grammar l = l.self.files ≡ l.fn.self.files

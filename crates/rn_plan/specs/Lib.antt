@@ -1,0 +1,4 @@
+pub mod Files
+pub mod Free
+pub mod Names
+pub mod Places

@@ -1,0 +1,75 @@
+// Why files can't be lifted.
+
+use std::alloc::{AllocError, AllocFailed};
+use thiserror::Error;
+
+/// Why files can't be lifted: the number of the file, and the byte of its text, counted from its
+/// start.
+#[derive(Debug, Drop, PartialEq, Eq)]
+pub struct LiftFault {
+    pub file: usize,
+    pub at: usize,
+    pub kind: LiftFaultKind,
+}
+
+/// Why files can't be lifted.
+#[derive(Clone, Copy, Debug, PartialEq, Eq, Error)]
+pub enum LiftFaultKind {
+    /// An include names a file that is a pattern and no grammar (RELAX NG 2001, 4.7).
+    #[error("a file that is a pattern can't be included")]
+    IncludedPattern,
+    /// `parent` outside a grammar that is in another one (4.18).
+    #[error("no grammar is around this one")]
+    NoParent,
+    /// A reference in an except stands for more than data, values and choices of them (7.1.4), or
+    /// comes back to itself there.
+    #[error("what this stands for can't be excepted")]
+    ExceptReference,
+    /// `inherit =` of an external names a prefix that no declaration of the file binds (compact
+    /// syntax, 4.1).
+    #[error("a prefix without a declaration")]
+    Prefix,
+    /// An external or an include to which no file is given.
+    #[error("no file is given for this")]
+    NoFile,
+    /// A reference in an except to a name without a definition (4.18).
+    #[error("nothing defines this")]
+    Undefined,
+    /// The texts that references in excepts stand for would have more than 4,194,304 bytes.
+    #[error("too long definitions are excepted")]
+    Long,
+    /// The files would make more than 65,536 modules.
+    #[error("more than 65,536 modules")]
+    Many,
+    /// The outline is not that of the text: a name or a literal lies not in it, or before another
+    /// one that stands before it in the outline.
+    #[error("an outline of another text")]
+    Outline,
+    /// What was made does not keep what is promised of its names and links. No files are known for
+    /// which this is so; it is looked at before an answer is given.
+    #[error("the names that were made are not free")]
+    Unsound,
+    /// A request for memory was refused. The place means nothing.
+    #[error("out of memory")]
+    Memory,
+}
+
+impl From<AllocError> for LiftFault {
+    fn from(_: AllocError) -> Self {
+        LiftFault {
+            file: 0,
+            at: 0,
+            kind: LiftFaultKind::Memory,
+        }
+    }
+}
+
+impl<T: Drop> From<AllocFailed<T>> for LiftFault {
+    fn from(_: AllocFailed<T>) -> Self {
+        LiftFault {
+            file: 0,
+            at: 0,
+            kind: LiftFaultKind::Memory,
+        }
+    }
+}

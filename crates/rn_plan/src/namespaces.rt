@@ -1,0 +1,79 @@
+// Namespaces that are handed on, by numbers.
+
+use crate::bound::Namespace;
+use crate::given::Given;
+use rn_outline::{Span, name_in};
+use std::alloc::{AllocError, Global};
+use std::collections::BTreeMap;
+
+/// Namespaces, each with its number. The empty one is 0.
+#[derive(Drop)]
+pub(crate) struct Namespaces {
+    uris: Vec<String>,
+    numbers: BTreeMap<String, usize>,
+}
+
+impl Namespaces {
+    pub(crate) fn new(alloc: Global) -> Result<Self, AllocError> {
+        let mut namespaces = Namespaces {
+            uris: Vec::new(alloc),
+            numbers: BTreeMap::new(alloc),
+        };
+        namespaces.number(alloc, "")?;
+        Ok(namespaces)
+    }
+
+    /// The number of a namespace.
+    pub(crate) fn number(&mut self, alloc: Global, uri: &str) -> Result<usize, AllocError> {
+        if let Some(number) = self.numbers.get(uri) {
+            return Ok(*number);
+        }
+        let number = self.uris.len();
+        self.uris.push(String::from_str(alloc, uri)?)?;
+        self.numbers.insert(String::from_str(alloc, uri)?, number)?;
+        Ok(number)
+    }
+
+    /// The namespace of a number.
+    pub(crate) fn uri(&self, number: usize) -> &str {
+        match self.uris.get(number) {
+            Some(uri) => uri.as_str(),
+            None => "",
+        }
+    }
+
+    /// The number of what a file's declaration says, where this is handed to the file.
+    fn resolved(
+        &mut self,
+        alloc: Global,
+        namespace: Namespace<'_>,
+        handed: usize,
+    ) -> Result<usize, AllocError> {
+        match namespace {
+            Namespace::Literal(uri) => self.number(alloc, uri),
+            Namespace::Inherited => Ok(handed),
+        }
+    }
+
+    /// The namespace that an external or an include of a file hands on (RELAX NG 2001, 4.8), where this one is handed to the
+    /// file: that of the prefix behind `inherit =`, or the default one. `None` where nothing binds the prefix.
+    pub(crate) fn handed_on(
+        &mut self,
+        alloc: Global,
+        given: &Given<'_>,
+        inherit: Option<Span>,
+        handed: usize,
+    ) -> Result<Option<usize>, AllocError> {
+        let outline = given.file.outline;
+        let namespace = match inherit {
+            None => Some(given.bound.default_namespace(outline)),
+            Some(prefix) => given
+                .bound
+                .namespace(outline, name_in(given.file.text, prefix)),
+        };
+        match namespace {
+            Some(namespace) => Ok(Some(self.resolved(alloc, namespace, handed)?)),
+            None => Ok(None),
+        }
+    }
+}

@@ -1,0 +1,141 @@
+// Scopes, and the places of units in them.
+ghost use Rattle.std.specs.Prelude.{◌≡◌};
+ghost use Rattle.rn_plan.specs.Places.{entry_of};
+
+use crate::names::Names;
+use crate::namespaces::Namespaces;
+use rn_outline::PartKind;
+use std::collections::BTreeMap;
+
+/// The scope of the roots, whose names are as they are written.
+pub const ROOT: usize = 0;
+
+/// A grammar in its surroundings, or a pattern that is a file.
+#[derive(Drop)]
+pub struct Scope {
+    /// What stands before the dot of its names; nothing, for the roots.
+    pub stem: String,
+    /// The scope that references mean: itself, for a grammar; that around it, for a pattern.
+    pub names: usize,
+    /// The scope that references behind `parent` mean.
+    pub parent: Option<usize>,
+    /// The number of the namespace that is handed to it.
+    pub(crate) namespace: usize,
+    /// The number of its first place, which brings in the others.
+    pub entry: usize,
+    /// The name of the module that brings it in; nothing, for the roots.
+    pub module: String,
+    /// The file, and the byte of it, that it was made for.
+    pub file: usize,
+    pub at: usize,
+}
+
+/// A unit in a scope, which becomes a module.
+#[derive(Drop)]
+pub struct Place {
+    pub unit: usize,
+    pub scope: usize,
+    /// The namespace that is handed to it; 0, where it does not need it.
+    pub(crate) namespace: usize,
+    /// The name of the module.
+    pub module: String,
+    /// What the parts of the unit lead to, in their order.
+    pub links: Vec<Link>,
+}
+
+/// What a part leads to: an include to a place; an external and a nested grammar to a scope.
+#[derive(Clone, Copy)]
+pub struct Link {
+    pub part: usize,
+    pub to: usize,
+}
+
+#[derive(Clone, Copy, PartialEq, Eq, PartialOrd, Ord, Drop)]
+pub(crate) struct ScopeKey {
+    pub(crate) unit: usize,
+    pub(crate) namespace: usize,
+    pub(crate) around: Option<usize>,
+}
+
+#[derive(Clone, Copy, PartialEq, Eq, PartialOrd, Ord, Drop)]
+pub(crate) struct PlaceKey {
+    pub(crate) unit: usize,
+    pub(crate) namespace: usize,
+    pub(crate) scope: usize,
+}
+
+/// Which modules files become, and what leads where.
+#[derive(Drop)]
+pub struct Plan {
+    /// The first is that of the roots.
+    pub scopes: Vec<Scope>,
+    pub places: Vec<Place>,
+    /// The places of the roots.
+    pub roots: Vec<usize>,
+    pub(crate) namespaces: Namespaces,
+    /// The names that were made for scopes and modules.
+    pub names: Names,
+    pub(crate) scope_numbers: BTreeMap<ScopeKey, usize>,
+    pub(crate) place_numbers: BTreeMap<PlaceKey, usize>,
+}
+
+impl Plan {
+    /// The scope that references behind `parent` mean in a scope.
+    pub fn parent_of(&self, scope: usize) -> Option<usize> {
+        self.scopes.get(scope)?.parent
+    }
+
+    /// The namespace that is handed to a scope.
+    pub fn namespace_of(&self, scope: &Scope) -> &str {
+        self.namespaces.uri(scope.namespace)
+    }
+
+    /// The name of the module of a scope's first place.
+    pub fn entry_of(&self, scope: &Scope) -> &str
+        ensures { result.now ≡ entry_of self.now scope.now }
+    {
+        match self.places.get(scope.entry) {
+            Some(place) => place.module.as_str(),
+            None => "",
+        }
+    }
+
+    /// The scope that references in a scope mean.
+    pub fn names_of(&self, scope: usize) -> usize
+        ensures { scope ≡ ROOT → result ≡ ROOT }
+    {
+        if scope == ROOT {
+            return ROOT;
+        }
+        match self.scopes.get(scope) {
+            Some(scope) => scope.names,
+            None => ROOT,
+        }
+    }
+
+    /// What stands before the dot of names in a scope.
+    pub fn stem_of(&self, scope: usize) -> &str {
+        match self.scopes.get(scope) {
+            Some(scope) => scope.stem.as_str(),
+            None => "",
+        }
+    }
+
+    /// The scope in which a part of a place means a name, or the start.
+    pub fn scope_meant(&self, place: usize, part: usize, kind: &PartKind) -> Option<usize> {
+        let scope = self.places.get(place)?.scope;
+        match kind {
+            PartKind::Reference { .. } => Some(self.names_of(scope)),
+            PartKind::Parent { .. } => self.parent_of(scope),
+            PartKind::External { .. } | PartKind::Grammar { .. } => self.leads_to(place, part),
+            _ => None,
+        }
+    }
+
+    /// What a part of a place leads to.
+    pub fn leads_to(&self, place: usize, part: usize) -> Option<usize> {
+        let links = self.places.get(place)?.links.as_slice();
+        let number = links.binary_search_by(|link| link.part.cmp(&part)).ok()?;
+        Some(links.get(number)?.to)
+    }
+}
