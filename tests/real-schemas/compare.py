@@ -151,7 +151,8 @@ def compare(program, room, paths):
     for path in paths:
         form, errors = originals[path]
         if form is None:
-            yield path, "not taken by jing", f"{errors[:160]}; rnc-flat: {refused[path] or 'printed'}"
+            first = errors.split("\t")[0][:160]
+            yield path, "not taken by jing", f"{first}; rnc-flat: {refused[path] or 'printed'}"
         elif refused[path]:
             yield path, "not printed", refused[path]
         else:
@@ -185,6 +186,8 @@ def main():
         made = translated(room, folder, found[".rng"])
         paths = found[".rnc"] + [to for to in made.values() if to]
         print(f"{len(found['.rnc'])} shipped in the compact syntax, {len(found['.rng'])} in the XML syntax, of which trang takes {len(paths) - len(found['.rnc'])}")
+        for path in [path for path, to in made.items() if not to]:
+            print("not taken by trang", path.relative_to(folder), sep="\t")
         counts = collections.Counter()
         for path, answer, why in compare(words.program.resolve(), room, paths):
             counts[answer] += 1

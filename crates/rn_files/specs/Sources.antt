@@ -28,6 +28,10 @@ is_link _ = false
 abbrev pub count_links : Source → ℕ
 count_links f = count_by (λ p. is_link p.kind) f.outline.parts.items
 
+-- the text of the source is what is given at its path
+abbrev pub IsTextAt : (List ℕ → List ℕ → Type 0) → Source → Type 0
+IsTextAt gives f = gives (string_bytes f.path) (string_bytes f.text)
+
 -- no file has the name of one after it
 abbrev pub HaveOwnNames : List Source → Type 0
 HaveOwnNames [] = ⊤

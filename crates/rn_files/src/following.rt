@@ -1,6 +1,7 @@
 // Reading files, and what they refer to.
-ghost use Rattle.std.specs.Prelude.{◌≡◌, ◌<◌, ◌≤◌, IfOk, is_some, vec_len};
+ghost use Rattle.std.specs.Prelude.{◌≡◌, ◌<◌, ◌≤◌, All, IfOk, IsNone, is_some, string_bytes, vec_len};
 ghost use Rattle.rn_files.specs.Limits.{max_text};
+ghost use Rattle.rn_files.specs.Following.{IsFollowed};
 ghost use Rattle.rn_files.specs.Sources.{is_link};
 
 use crate::faults::{FaultKind, FaultPlace};
@@ -8,9 +9,9 @@ use crate::files::{FileFault, Files};
 use crate::maps::{Map, Place, place_of};
 use crate::references::{remove_dot_segments, resolve_below};
 use crate::roots::RootFolder;
-use crate::texts::{MAX_TEXT, text_of};
+use crate::texts::{MAX_TEXT, Text, text_of};
 use crate::uris::file_uri;
-use crate::walk::{Found, MAX_SOURCES, Origin, Walk};
+use crate::walk::{Followed, Found, MAX_SOURCES, Origin, Walk};
 use rn_outline::{Outline, Part, PartKind};
 use std::alloc::{AllocError, Global};
 
@@ -72,7 +73,6 @@ fn word_uri(alloc: Global, current: &str, word: &str) -> Result<String, AllocErr
 /// Enters a file that was found at a place; none where it doesn't lie below the root folder, which is a fault. Where a map
 /// found it, or it is standard input, it may lie anywhere.
 fn enter_found(
-    alloc: Global,
     ways: &Ways<'_>,
     walk: &mut Walk,
     found: Found,
@@ -87,7 +87,7 @@ fn enter_found(
         walk.note(place, FaultKind::Outside)?;
         return Ok(None);
     }
-    walk.enter(alloc, found, place)
+    walk.enter(found, place)
 }
 
 /// Enters the file that is asked for by a word.
@@ -119,7 +119,7 @@ fn enter_word<F: Files>(
             Origin::Path
         },
     };
-    enter_found(alloc, ways, walk, found, place)
+    enter_found(ways, walk, found, place)
 }
 
 /// Enters the files that are asked for, and answers their numbers, each once.
@@ -196,7 +196,7 @@ fn follow_link<F: Files>(
         uri,
         origin,
     };
-    enter_found(alloc, ways, walk, found, place)
+    enter_found(ways, walk, found, place)
 }
 
 /// Enters the files that the links of a file mean, and answers their numbers: of a link that is at fault, the file's own.
@@ -222,30 +222,48 @@ fn follow_links<F: Files>(
     Ok(targets)
 }
 
-/// Takes in the text of a file, and enters the files that it refers to.
+/// What the bytes at a path are, and enters the files that they refer to.
 fn follow_text<F: Files>(
     alloc: Global,
     files: &F,
     ways: &Ways<'_>,
     walk: &mut Walk,
     file: usize,
+    path: String,
     bytes: &[u8],
-) -> Result<Vec<usize>, AllocError>
-    requires { file < vec_len walk.old.entries }
+) -> Result<Followed, AllocError>
+    requires within { file < vec_len walk.old.entries }
+    requires given { F.gives files.now (string_bytes path) bytes.now }
+    ensures { IfOk result (IsFollowed (F.gives files.now)) }
 {
-    let read = text_of(alloc, bytes)?;
-    walk.entries[file].text = read.text;
-    match read.outline {
+    let Text { text, outline } = text_of(alloc, bytes)?;
+    match outline {
         Ok(outline) => {
             let base = walk.entries[file].found.uri.clone()?;
             let targets = follow_links(alloc, files, ways, walk, file, base.as_str(), &outline)?;
-            walk.entries[file].outline = outline;
-            Ok(targets)
+            Ok(Followed {
+                path,
+                text,
+                outline: Some(outline),
+                targets,
+            })
         }
         Err(wrong) => {
             walk.note(FaultPlace::Text { file, at: wrong.at }, wrong.kind)?;
-            Ok(Vec::new(alloc))
+            Ok(faulty(alloc, path, text))
         }
+    }
+}
+
+/// A file that is at fault, with what was read of it.
+fn faulty(alloc: Global, path: String, text: String) -> Followed
+    ensures { IsNone result.outline }
+{
+    Followed {
+        path,
+        text,
+        outline: None,
+        targets: Vec::new(alloc),
     }
 }
 
@@ -268,31 +286,33 @@ fn follow<F: Files>(
     ways: &Ways<'_>,
     walk: &mut Walk,
     file: usize,
-) -> Result<(), AllocError>
+) -> Result<Followed, AllocError>
     requires { file < vec_len walk.old.entries }
+    ensures { IfOk result (IsFollowed (F.gives files.now)) }
 {
     let path = walk.entries[file].found.path.clone()?;
     let place = walk.entries[file].place;
-    let targets = match walk.noted(place, read_file(alloc, files, path.as_str()))? {
-        Some(bytes) => follow_text(alloc, files, ways, walk, file, bytes.as_slice())?,
-        None => Vec::new(alloc),
-    };
-    walk.targets.push(targets)?;
-    Ok(())
+    match walk.noted(place, read_file(alloc, files, path.as_str()))? {
+        Some(bytes) => follow_text(alloc, files, ways, walk, file, path, bytes.as_slice()),
+        None => Ok(faulty(alloc, path, String::new(alloc))),
+    }
 }
 
-/// Reads all files that were entered, and those that are entered on the way.
+/// Reads all files that were entered, and those that are entered on the way, in their order.
 pub fn follow_all<F: Files>(
     alloc: Global,
     files: &F,
     ways: &Ways<'_>,
     walk: &mut Walk,
-) -> Result<(), AllocError> {
+) -> Result<Vec<Followed>, AllocError>
+    ensures { IfOk result (λ followed. All (IsFollowed (F.gives files.now)) followed.items) }
+{
+    let mut followed = Vec::new(alloc);
     for file in 0..MAX_SOURCES {
         if file >= walk.entries.len() {
             break;
         }
-        follow(alloc, files, ways, walk, file)?;
+        followed.push(follow(alloc, files, ways, walk, file)?)?;
     }
-    Ok(())
+    Ok(followed)
 }

@@ -1,6 +1,7 @@
 // From the files that are asked for to sources.
-ghost use Rattle.std.specs.Prelude.{IfOk};
-ghost use Rattle.rn_files.specs.Sources.{IsSound};
+ghost use Rattle.std.specs.Prelude.{◌≡◌, All, IfOk, IfSome};
+ghost use Rattle.rn_files.specs.Following.{IsFollowed};
+ghost use Rattle.rn_files.specs.Sources.{IsSound, IsTextAt};
 
 use crate::faults::{FaultKind, FaultPlace, SourceFault};
 use crate::files::Files;
@@ -9,7 +10,7 @@ use crate::names::module_name;
 use crate::roots::{RootFolder, common_folder};
 use crate::soundness::fault_of;
 use crate::sources::{Asked, Attempt, Source, Sources};
-use crate::walk::{Entry, Origin, Walk};
+use crate::walk::{Entry, Followed, Found, Origin, Walk};
 use rn_modset::is_module_name;
 use std::alloc::{AllocError, Global};
 use std::collections::BTreeSet;
@@ -126,56 +127,72 @@ fn given_root<F: Files>(
 }
 
 /// What was read and what is wrong.
-fn refusal(alloc: Global, walk: Walk, names: Vec<String>) -> Result<Reading, AllocError> {
+fn refusal(
+    alloc: Global,
+    walk: Walk,
+    followed: Vec<Followed>,
+    names: Vec<String>,
+) -> Result<Reading, AllocError> {
     let Walk {
         entries,
         faults,
         ..
     } = walk;
     let mut files = Vec::new(alloc);
-    for (entry, name) in entries.into_iter().zip(names) {
-        let Entry { found, text, .. } = entry;
-        files.push(Attempt {
-            name,
-            shown: found.shown,
-            text,
-        })?;
+    for ((entry, followed), name) in entries.into_iter().zip(followed).zip(names) {
+        let Entry { found, .. } = entry;
+        let Found { shown, .. } = found;
+        let Followed { text, .. } = followed;
+        files.push(Attempt { name, shown, text })?;
     }
     Ok(Reading { files, faults })
 }
 
-/// The sources of files without fault.
-fn sources(
-    alloc: Global,
-    walk: Walk,
-    names: Vec<String>,
-    roots: Vec<usize>,
-) -> Result<Sources, AllocError> {
-    let Walk {
-        entries,
+/// The source of a file without fault.
+fn source<F: Files>(_files: &F, entry: Entry, followed: Followed, name: String) -> Option<Source>
+    requires { IsFollowed (F.gives _files.now) followed }
+    ensures { IfSome result (IsTextAt (F.gives _files.now)) }
+{
+    let Entry { found, .. } = entry;
+    let Found { shown, uri, .. } = found;
+    let Followed {
+        path,
+        text,
+        outline,
         targets,
-        ..
-    } = walk;
-    let mut files = Vec::new(alloc);
-    for ((entry, name), targets) in entries.into_iter().zip(names).zip(targets) {
-        let Entry {
-            found,
-            text,
-            outline,
-            ..
-        } = entry;
-        let source = Source {
+    } = followed;
+    match outline {
+        Some(outline) => Some(Source {
             name,
-            shown: found.shown,
-            path: found.path,
-            uri: found.uri,
+            shown,
+            path,
+            uri,
             text,
             outline,
             targets,
-        };
-        files.push(source)?;
+        }),
+        None => None,
     }
-    Ok(Sources { files, roots })
+}
+
+/// The sources of files without fault.
+fn sources<F: Files>(
+    alloc: Global,
+    _files: &F,
+    entries: Vec<Entry>,
+    followed: Vec<Followed>,
+    names: Vec<String>,
+) -> Result<Vec<Source>, AllocError>
+    requires { All (IsFollowed (F.gives _files.now)) followed.items }
+    ensures { IfOk result (λ sources. All (IsTextAt (F.gives _files.now)) sources.items) }
+{
+    let mut sources = Vec::new(alloc);
+    for ((entry, followed), name) in entries.into_iter().zip(followed).zip(names) {
+        if let Some(source) = source(_files, entry, followed, name) {
+            sources.push(source)?;
+        }
+    }
+    Ok(sources)
 }
 
 /// A fault of files that were all read.
@@ -200,7 +217,8 @@ fn refused(alloc: Global, sources: Sources, fault: SourceFault) -> Result<Readin
 
 /// Sources without loops along references.
 fn checked(alloc: Global, sources: Sources) -> Result<Sources, ReadFault>
-    ensures { IfOk result (λ s. IsSound s) }
+    ensures sound { IfOk result (λ s. IsSound s) }
+    ensures same { IfOk result (λ s. s ≡ sources) }
 {
     match fault_of(alloc, &sources)? {
         Some(fault) => Err(ReadFault::Faults(refused(alloc, sources, fault)?)),
@@ -208,11 +226,13 @@ fn checked(alloc: Global, sources: Sources) -> Result<Sources, ReadFault>
     }
 }
 
-/// What is asked for, once it was found: the numbers of the files, each once, and the root folder, if one is given.
+/// What is asked for, once it was found: the numbers of the files, each once, and the root folder, if one is given; and what
+/// was read of all files.
 #[derive(Drop)]
 struct FoundFiles {
     roots: Vec<usize>,
     folder: Option<RootFolder>,
+    followed: Vec<Followed>,
 }
 
 /// Finds all files.
@@ -221,11 +241,14 @@ fn find_files<F: Files>(
     files: &F,
     asked: &Asked<'_>,
     walk: &mut Walk,
-) -> Result<FoundFiles, AllocError> {
+) -> Result<FoundFiles, AllocError>
+    ensures { IfOk result (λ found. All (IsFollowed (F.gives files.now)) found.followed.items) }
+{
     let Some(current) = walk.noted(FaultPlace::Current, files.real_path(alloc, "."))? else {
         return Ok(FoundFiles {
             roots: Vec::new(alloc),
             folder: None,
+            followed: Vec::new(alloc),
         });
     };
     let folder = given_root(alloc, files, current.as_str(), asked.root, walk)?;
@@ -236,8 +259,12 @@ fn find_files<F: Files>(
         root,
     };
     let roots = enter_words(alloc, files, &ways, walk, asked.files)?;
-    follow_all(alloc, files, &ways, walk)?;
-    Ok(FoundFiles { roots, folder })
+    let followed = follow_all(alloc, files, &ways, walk)?;
+    Ok(FoundFiles {
+        roots,
+        folder,
+        followed,
+    })
 }
 
 /// Names all files, by their paths below the root folder.
@@ -273,14 +300,19 @@ pub fn read_sources<F: Files>(
     files: &F,
     asked: &Asked<'_>,
 ) -> Result<Sources, ReadFault>
-    ensures { IfOk result (λ s. IsSound s) }
+    ensures sound { IfOk result (λ s. IsSound s) }
+    ensures texts { IfOk result (λ s. All (IsTextAt (F.gives files.now)) s.files.items) }
 {
     let mut walk = Walk::new(alloc);
-    let FoundFiles { roots, folder } = find_files(alloc, files, asked, &mut walk)?;
+    let FoundFiles {
+        roots,
+        folder,
+        followed,
+    } = find_files(alloc, files, asked, &mut walk)?;
     let names = name_files(alloc, folder, &mut walk)?;
     if !walk.faults.is_empty() {
-        return Err(ReadFault::Faults(refusal(alloc, walk, names)?));
+        return Err(ReadFault::Faults(refusal(alloc, walk, followed, names)?));
     }
-    let sources = sources(alloc, walk, names, roots)?;
-    checked(alloc, sources)
+    let files = sources(alloc, files, walk.entries, followed, names)?;
+    checked(alloc, Sources { files, roots })
 }

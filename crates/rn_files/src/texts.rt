@@ -1,6 +1,8 @@
 // The text of a file, and what it is made of.
+ghost use Rattle.std.specs.Prelude.{◌≡◌, IfOk, IsErr, OnOk, string_bytes};
+
 use crate::faults::FaultKind;
-use rn_outline::{Outline, OutlineFault, Shape, Span, read_outline};
+use rn_outline::{Outline, OutlineFault, read_outline};
 use rn_text::{TextFault, tokens};
 use std::alloc::{AllocError, Global};
 
@@ -21,22 +23,11 @@ pub struct TextWrong {
     pub kind: FaultKind,
 }
 
-/// What is made of nothing.
-pub fn empty_outline(alloc: Global) -> Outline {
-    Outline {
-        shape: Shape::Grammar,
-        declarations: Vec::new(alloc),
-        body: Span { from: 0, to: 0 },
-        parts: Vec::new(alloc),
-        grammars: 1,
-    }
-}
-
-/// The longest front of the bytes that is UTF-8.
-fn front(bytes: &[u8]) -> &str {
-    match str::from_utf8(bytes) {
-        Ok(text) => text,
-        Err(wrong) => str::from_utf8(&bytes[..wrong.valid_up_to()]).unwrap_or(""),
+/// The front of the bytes up to the one with this number, if it is UTF-8.
+fn front(bytes: &[u8], at: usize) -> &str {
+    match bytes.get(..at) {
+        Some(front) => str::from_utf8(front).unwrap_or(""),
+        None => "",
     }
 }
 
@@ -69,19 +60,27 @@ fn outline_of(alloc: Global, text: &str) -> Result<Result<Outline, TextWrong>, A
 }
 
 /// The text that the bytes are, and its outline.
-pub fn text_of(alloc: Global, bytes: &[u8]) -> Result<Text, AllocError> {
-    let front = front(bytes);
-    let text = String::from_str(alloc, front)?;
-    if front.len() < bytes.len() {
-        let at = front.len();
-        return Ok(Text {
-            text,
-            outline: Err(TextWrong {
-                at,
-                kind: FaultKind::Encoding,
-            }),
-        });
+pub fn text_of(alloc: Global, bytes: &[u8]) -> Result<Text, AllocError>
+    ensures { IfOk result (λ read. OnOk read.outline (string_bytes read.text ≡ bytes.now)) }
+{
+    match str::from_utf8(bytes) {
+        Ok(text) => Ok(Text {
+            text: String::from_str(alloc, text)?,
+            outline: outline_of(alloc, text)?,
+        }),
+        Err(wrong) => unread_text(alloc, bytes, wrong.valid_up_to()),
     }
-    let outline = outline_of(alloc, front)?;
-    Ok(Text { text, outline })
+}
+
+/// What is read of bytes that are no UTF-8 from this one on.
+fn unread_text(alloc: Global, bytes: &[u8], at: usize) -> Result<Text, AllocError>
+    ensures { IfOk result (λ read. IsErr read.outline) }
+{
+    Ok(Text {
+        text: String::from_str(alloc, front(bytes, at))?,
+        outline: Err(TextWrong {
+            at,
+            kind: FaultKind::Encoding,
+        }),
+    })
 }

@@ -1,10 +1,9 @@
 // Files as they are found, each once.
-ghost use Rattle.std.specs.Prelude.{◌≤◌, vec_len};
+ghost use Rattle.std.specs.Prelude.{◌≡◌, ◌≤◌, IfOk, IfSome, Ok, vec_len};
 
 use crate::faults::{FaultKind, FaultPlace, SourceFault};
 use crate::files::FileFault;
 use crate::references::ReferenceFault;
-use crate::texts::empty_outline;
 use rn_outline::Outline;
 use std::alloc::{AllocError, Global};
 use std::collections::BTreeMap;
@@ -29,21 +28,27 @@ pub struct Found {
     pub origin: Origin,
 }
 
-/// A file that was found and where it was named first, and what was read of it.
+/// A file that was found, and where it was named first.
 #[derive(Drop)]
 pub struct Entry {
     pub found: Found,
     pub place: FaultPlace,
-    pub text: String,
-    pub outline: Outline,
 }
 
-/// The files in the order in which they were found; of those that were followed, the numbers of the files that their links
-/// mean; the number of each path; and what is wrong, as it was found.
+/// What was read at a path: the text, or as much of it as is UTF-8; what it is made of, if it has no fault; and the numbers
+/// of the files that its links mean.
+#[derive(Drop)]
+pub struct Followed {
+    pub path: String,
+    pub text: String,
+    pub outline: Option<Outline>,
+    pub targets: Vec<usize>,
+}
+
+/// The files in the order in which they were found; the number of each path; and what is wrong, as it was found.
 #[derive(Drop)]
 pub struct Walk {
     pub entries: Vec<Entry>,
-    pub targets: Vec<Vec<usize>>,
     pub numbers: BTreeMap<String, usize>,
     pub faults: Vec<SourceFault>,
 }
@@ -53,7 +58,6 @@ impl Walk {
     pub fn new(alloc: Global) -> Walk {
         Walk {
             entries: Vec::new(alloc),
-            targets: Vec::new(alloc),
             numbers: BTreeMap::new(alloc),
             faults: Vec::new(alloc),
         }
@@ -73,7 +77,8 @@ impl Walk {
         place: FaultPlace,
         answer: Result<T, FileFault>,
     ) -> Result<Option<T>, AllocError>
-        ensures { vec_len self.old.entries ≤ vec_len self.new.entries }
+        ensures grows { vec_len self.old.entries ≤ vec_len self.new.entries }
+        ensures answered { IfOk result (λ noted. IfSome noted (λ value. answer ≡ Ok value)) }
     {
         match answer {
             Ok(value) => Ok(Some(value)),
@@ -104,12 +109,7 @@ impl Walk {
     }
 
     /// The number of a file that was found at a place; none where it would be one too many, which is a fault.
-    pub fn enter(
-        &mut self,
-        alloc: Global,
-        found: Found,
-        place: FaultPlace,
-    ) -> Result<Option<usize>, AllocError>
+    pub fn enter(&mut self, found: Found, place: FaultPlace) -> Result<Option<usize>, AllocError>
         ensures { vec_len self.old.entries ≤ vec_len self.new.entries }
     {
         if let Some(number) = self.numbers.get(found.path.as_str()) {
@@ -119,27 +119,16 @@ impl Walk {
             self.note(place, FaultKind::Count)?;
             return Ok(None);
         }
-        self.add(alloc, found, place)
+        self.add(found, place)
     }
 
     /// Puts a file behind the others.
-    fn add(
-        &mut self,
-        alloc: Global,
-        found: Found,
-        place: FaultPlace,
-    ) -> Result<Option<usize>, AllocError>
+    fn add(&mut self, found: Found, place: FaultPlace) -> Result<Option<usize>, AllocError>
         ensures { vec_len self.old.entries ≤ vec_len self.new.entries }
     {
         let number = self.entries.len();
         let path = found.path.clone()?;
-        let entry = Entry {
-            found,
-            place,
-            text: String::new(alloc),
-            outline: empty_outline(alloc),
-        };
-        self.entries.push(entry)?;
+        self.entries.push(Entry { found, place })?;
         self.numbers.insert(path, number)?;
         Ok(Some(number))
     }

@@ -112,7 +112,7 @@ pub fn is_unread(fault: &SourceFault) -> bool {
 /// Where a fault of lifting is told; nowhere where it is about all files.
 pub fn lift_spot(fault: &LiftFault) -> Option<Spot> {
     match fault.kind {
-        LiftFaultKind::Many | LiftFaultKind::Memory => None,
+        LiftFaultKind::Many | LiftFaultKind::Unsound | LiftFaultKind::Memory => None,
         _ => Some(Spot {
             file: fault.file,
             at: fault.at,

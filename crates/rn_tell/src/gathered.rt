@@ -1,8 +1,11 @@
 // The faults of files, all of them, in the order in which they are told: those without a place, and then in the order of the names
 // of files and of their texts.
+ghost use Rattle.std.specs.Prelude.{IfOk};
+ghost use Rattle.rn_tell.specs.Messages.{IsFew};
+
 use crate::checks::{check_sentence, place_at};
 use crate::faults::{lift_message, lift_spot, reading_message, reading_spot};
-use crate::report::{MAX_TOLD, Message, Page, Spot, Told, attempt_pages, source_pages};
+use crate::report::{Message, Page, Spot, Told, attempt_pages, source_pages};
 use rn_files::{Reading, Source, SourceFault};
 use rn_lift::LiftedModule;
 use rn_merge::{Place, check};
@@ -32,11 +35,9 @@ fn spot_of(fault: &Fault<'_>) -> Option<Spot> {
 }
 
 /// What is told of reading that failed: its faults, and those of what the texts mean.
-pub fn reading_told(
-    alloc: Global,
-    words: &[String],
-    reading: &Reading,
-) -> Result<Told, AllocError> {
+pub fn reading_told(alloc: Global, words: &[String], reading: &Reading) -> Result<Told, AllocError>
+    ensures { IfOk result IsFew }
+{
     let pages = attempt_pages(alloc, reading.files.as_slice())?;
     let mut faults = Vec::new(alloc);
     for fault in &reading.faults {
@@ -47,7 +48,9 @@ pub fn reading_told(
 }
 
 /// What is told of lifting that failed: its fault, and those of what the texts mean.
-pub fn lift_told(alloc: Global, files: &[Source], fault: &LiftFault) -> Result<Told, AllocError> {
+pub fn lift_told(alloc: Global, files: &[Source], fault: &LiftFault) -> Result<Told, AllocError>
+    ensures { IfOk result IsFew }
+{
     let pages = source_pages(alloc, files)?;
     let mut faults = vec![in alloc; Fault::Lift(fault)]?;
     gather_meanings(alloc, pages.as_slice(), &mut faults)?;
@@ -94,15 +97,18 @@ fn told_in_order(
     words: &[String],
     pages: &[Page<'_>],
     faults: &[Fault<'_>],
-) -> Result<Told, AllocError> {
-    let mut messages = Vec::new(alloc);
-    for number in in_order(alloc, pages, faults)?.iter().take(MAX_TOLD) {
-        if let Some(fault) = faults.get(*number) {
-            messages.push(message(alloc, words, pages, fault)?)?;
+) -> Result<Told, AllocError>
+    ensures { IfOk result IsFew }
+{
+    let mut told = Told::new(alloc);
+    for number in in_order(alloc, pages, faults)? {
+        if told.is_full() {
+            told.further = told.further.saturating_add(1);
+        } else if let Some(fault) = faults.get(number) {
+            told.messages.push(message(alloc, words, pages, fault)?)?;
         }
     }
-    let further = faults.len().saturating_sub(messages.len());
-    Ok(Told { messages, further })
+    Ok(told)
 }
 
 /// The numbers of the faults, in the order in which they are told.
@@ -165,12 +171,11 @@ fn message(
 
 /// What is told of modules whose texts are at fault, in the order of their names: the first one is the one that is refused.
 /// What comes from one place of a file is told once. Nothing where no text is at fault.
-pub fn texts_told(alloc: Global, modules: &[LiftedModule]) -> Result<Told, AllocError> {
+pub fn texts_told(alloc: Global, modules: &[LiftedModule]) -> Result<Told, AllocError>
+    ensures { IfOk result IsFew }
+{
     let mut seen = BTreeSet::new(alloc);
-    let mut told = Told {
-        messages: Vec::new(alloc),
-        further: 0,
-    };
+    let mut told = Told::new(alloc);
     for module in modules {
         if let Some(place) = fault_of(alloc, module.text.as_str())? {
             let origin = module.origin(place_at(&place));
@@ -189,8 +194,11 @@ fn tell_text(
     module: &LiftedModule,
     origin: Option<(usize, usize)>,
     place: &Place,
-) -> Result<(), AllocError> {
-    if told.messages.len() >= MAX_TOLD {
+) -> Result<(), AllocError>
+    requires { IsFew told.old }
+    ensures { IsFew told.new }
+{
+    if told.is_full() {
         told.further = told.further.saturating_add(1);
         return Ok(());
     }

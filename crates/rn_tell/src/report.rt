@@ -1,4 +1,8 @@
 // Messages with their places, and how they are shown.
+ghost use Rattle.std.specs.Prelude.{◌≡◌, ◌<◌, ◌++◌, IfOk, IsFalse, OnOk, slice_get, string_bytes, vec_len};
+ghost use Rattle.rn_tell.specs.Limits.{max_told};
+ghost use Rattle.rn_tell.specs.Messages.{AreLines, AreMore, IsFew, IsPlace, IsPlaceAt, IsPlaceIn, note};
+ghost use Rattle.rn_tell.specs.Printed.{colour, head, painted, printable, printed, word};
 
 use rn_files::{Attempt, Source, line_of, position};
 use std::alloc::{AllocError, Global};
@@ -44,7 +48,9 @@ pub struct Told {
 
 impl Told {
     /// Nothing.
-    pub fn new(alloc: Global) -> Told {
+    pub fn new(alloc: Global) -> Told
+        ensures { vec_len result.messages ≡ 0 }
+    {
         Told {
             messages: Vec::new(alloc),
             further: 0,
@@ -52,14 +58,18 @@ impl Told {
     }
 
     /// One message.
-    pub fn one(alloc: Global, message: Message) -> Result<Told, AllocError> {
+    pub fn one(alloc: Global, message: Message) -> Result<Told, AllocError>
+        ensures { IfOk result IsFew }
+    {
         let mut told = Told::new(alloc);
         told.messages.push(message)?;
         Ok(told)
     }
 
     /// Whether as many messages are there as are told.
-    pub fn is_full(&self) -> bool {
+    pub fn is_full(&self) -> bool
+        ensures { IsFalse result → vec_len self.now.messages < max_told }
+    {
         self.messages.len() >= MAX_TOLD
     }
 }
@@ -113,7 +123,9 @@ pub fn shown(
     pages: &[Page<'_>],
     told: &Told,
     colours: Colours,
-) -> Result<String, AllocError> {
+) -> Result<String, AllocError>
+    ensures { IfOk result (λ lines. AreLines pages.now colours told.now (string_bytes lines)) }
+{
     let mut lines = String::new(alloc);
     for message in &told.messages {
         push_message(alloc, &mut lines, pages, message, colours)?;
@@ -130,7 +142,10 @@ fn push_message(
     pages: &[Page<'_>],
     message: &Message,
     colours: Colours,
-) -> Result<(), AllocError> {
+) -> Result<(), AllocError>
+    ensures { OnOk result (AreMore pages.now colours message.now
+        (string_bytes lines.old) (string_bytes lines.new)) }
+{
     let place = place_text(alloc, pages, message.spot)?;
     let source = source_text(alloc, pages, message.spot, colours)?;
     push_head(lines, place.as_str(), Grade::Error, colours)?;
@@ -156,7 +171,9 @@ fn source_text(
 }
 
 /// The note that says how many faults are not told; nothing where all are.
-fn note_text(alloc: Global, count: usize, colours: Colours) -> Result<String, AllocError> {
+fn note_text(alloc: Global, count: usize, colours: Colours) -> Result<String, AllocError>
+    ensures { IfOk result (λ text. string_bytes text ≡ note colours count) }
+{
     let mut lines = String::new(alloc);
     if count > 0 {
         push_head(&mut lines, "rnc-flat", Grade::Note, colours)?;
@@ -171,7 +188,9 @@ pub fn place_text(
     alloc: Global,
     pages: &[Page<'_>],
     spot: Option<Spot>,
-) -> Result<String, AllocError> {
+) -> Result<String, AllocError>
+    ensures { IfOk result (λ place. IsPlace pages.now spot (string_bytes place)) }
+{
     match spot {
         Some(spot) => spot_text(alloc, pages, spot),
         None => String::from_str(alloc, "rnc-flat"),
@@ -179,7 +198,10 @@ pub fn place_text(
 }
 
 /// The place of a byte of a file as `FILE:LINE:COLUMN`; the program's name where there is no such file.
-fn spot_text(alloc: Global, pages: &[Page<'_>], spot: Spot) -> Result<String, AllocError> {
+fn spot_text(alloc: Global, pages: &[Page<'_>], spot: Spot) -> Result<String, AllocError>
+    ensures { IfOk result (λ place. IsPlaceAt (slice_get pages.now spot.file) spot.at
+        (string_bytes place)) }
+{
     match pages.get(spot.file) {
         Some(page) => page_place(alloc, page.path, page.text, spot.at),
         None => String::from_str(alloc, "rnc-flat"),
@@ -187,7 +209,9 @@ fn spot_text(alloc: Global, pages: &[Page<'_>], spot: Spot) -> Result<String, Al
 }
 
 /// The place of a byte of a text in a file as `FILE:LINE:COLUMN`.
-fn page_place(alloc: Global, path: &str, text: &str, at: usize) -> Result<String, AllocError> {
+fn page_place(alloc: Global, path: &str, text: &str, at: usize) -> Result<String, AllocError>
+    ensures { IfOk result (λ place. IsPlaceIn path.now text.now at (string_bytes place)) }
+{
     let place = position(text, at);
     let (line, column) = (place.line, place.column);
     format!(in alloc; "{path}:{line}:{column}")
@@ -199,7 +223,10 @@ fn push_head(
     place: &str,
     grade: Grade,
     colours: Colours,
-) -> Result<(), AllocError> {
+) -> Result<(), AllocError>
+    ensures { OnOk result (string_bytes lines.new
+        ≡ string_bytes lines.old ++ head colours place.now grade) }
+{
     lines.push_str(painted(colours, "\u{1B}[1m"))?;
     push_printable(lines, place)?;
     lines.push_str(": ")?;
@@ -209,7 +236,9 @@ fn push_head(
 }
 
 /// The word of a grade.
-fn word(grade: Grade) -> &'static str {
+fn word(grade: Grade) -> &'static str
+    ensures { result.now ≡ word grade }
+{
     match grade {
         Grade::Error => "error: ",
         Grade::Note => "note: ",
@@ -217,7 +246,9 @@ fn word(grade: Grade) -> &'static str {
 }
 
 /// What begins the colour of a grade.
-fn colour(grade: Grade) -> &'static str {
+fn colour(grade: Grade) -> &'static str
+    ensures { result.now ≡ colour grade }
+{
     match grade {
         Grade::Error => "\u{1B}[31m",
         Grade::Note => "\u{1B}[36m",
@@ -225,7 +256,9 @@ fn colour(grade: Grade) -> &'static str {
 }
 
 /// What changes the colour, where there are colours.
-fn painted(colours: Colours, sign: &'static str) -> &'static str {
+fn painted(colours: Colours, sign: &'static str) -> &'static str
+    ensures { result.now ≡ painted colours sign.now }
+{
     match colours {
         Colours::Plain => "",
         Colours::Terminal => sign,
@@ -282,7 +315,9 @@ fn push_indent(
 }
 
 /// Appends a text, of which no character controls a terminal.
-pub fn push_printable(lines: &mut String, text: &str) -> Result<(), AllocError> {
+pub fn push_printable(lines: &mut String, text: &str) -> Result<(), AllocError>
+    ensures { OnOk result (string_bytes lines.new ≡ string_bytes lines.old ++ printed text.now) }
+{
     for character in text.chars() {
         lines.push(printable(character))?;
     }
@@ -290,7 +325,9 @@ pub fn push_printable(lines: &mut String, text: &str) -> Result<(), AllocError> 
 }
 
 /// The character, or `?` where it would control a terminal.
-fn printable(character: char) -> char {
+fn printable(character: char) -> char
+    ensures { result ≡ printable character }
+{
     if character.is_control() && character != '\t' {
         '?'
     } else {

@@ -1,4 +1,7 @@
 // Each refusal of a set as a sentence, with the places that it speaks of.
+ghost use Rattle.std.specs.Prelude.{IfOk};
+ghost use Rattle.rn_tell.specs.Messages.{IsFew};
+
 use crate::brought::{Component, Instance, components, instances, parting, provided};
 use crate::defined::{Defined, taking_part};
 use crate::gathered::texts_told;
@@ -34,7 +37,9 @@ pub fn refusal_told(
     files: &[Source],
     lifted: &Lifted,
     refusal: &Refusal,
-) -> Result<Told, AllocError> {
+) -> Result<Told, AllocError>
+    ensures { IfOk result IsFew }
+{
     let told = texts_told(alloc, lifted.modules.as_slice())?;
     if !told.messages.is_empty() {
         return Ok(told);
@@ -55,20 +60,18 @@ pub fn refusal_told(
 }
 
 /// The messages of a refusal and of those behind it.
-fn tell(
-    telling: &Telling<'_>,
-    refusal: &Refusal,
-    others: &[Found<'_>],
-) -> Result<Told, AllocError> {
+fn tell(telling: &Telling<'_>, refusal: &Refusal, others: &[Found<'_>]) -> Result<Told, AllocError>
+    ensures { IfOk result IsFew }
+{
     let mut told = Told::one(telling.alloc, message_of(placed(telling, refusal)?))?;
-    for found in others.iter().take(MAX_TOLD - 1) {
-        told.messages
-            .push(message_of(placed_found(telling, *found)?))?;
+    for found in others {
+        if told.is_full() {
+            told.further = told.further.saturating_add(1);
+        } else {
+            let placed = placed_found(telling, *found)?;
+            told.messages.push(message_of(placed))?;
+        }
     }
-    told.further = others
-        .len()
-        .saturating_add(1)
-        .saturating_sub(told.messages.len());
     Ok(told)
 }
 

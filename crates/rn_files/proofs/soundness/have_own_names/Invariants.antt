@@ -3,8 +3,8 @@ use Rattle.rn_files.specs.Sources.{have_own_names}
 use Rattle.rn_files.proofs.soundness.have_own_names.Given as goal
 
 -- what is left decides
-abbrev pub invariant-loop-first : goal.invariant-loop-first
-invariant-loop-first l = have_own_names l.files ≡ have_own_names l.rest
+abbrev pub invariant-loop-rest : goal.invariant-loop-rest
+invariant-loop-rest l = have_own_names l.files ≡ have_own_names l.rest
 
-abbrev pub decreases-loop-first : goal.decreases-loop-first
-decreases-loop-first l = length l.rest
+abbrev pub decreases-loop-rest : goal.decreases-loop-rest
+decreases-loop-rest l = length l.rest

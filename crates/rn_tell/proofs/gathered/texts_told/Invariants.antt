@@ -1,0 +1,6 @@
+use Rattle.rn_tell.specs.Messages.{IsFew}
+use Rattle.rn_tell.proofs.gathered.texts_told.Given as goal
+
+-- no more is told so far than may be
+abbrev pub invariant-loop-module : goal.invariant-loop-module
+invariant-loop-module l = IsFew l.told
