@@ -17,7 +17,8 @@ Differences that are known, and left out or told apart: the program takes whatev
 brought, a module without items, and an except in a chain without parentheses. It refuses a bare pattern as a module, a prefix that is declared twice
 and a second default namespace, and a wrong except of data also out of reach and behind a reference. jing alone tests section 7 of the standard.
 An include that overrides one name by two components isn't drawn: jing then loses what other modules add to that name (4.7 keeps it). Nor are a space
-in a reference to a file, which jing doesn't escape, and loops in excepts, which jing doesn't look for out of reach.
+in a reference to a file, which jing doesn't escape, and loops in excepts, which jing doesn't look for out of reach. A file that is a pattern with
+annotations before it jing refuses. rnc-flat refuses what includes files more than 512 times in all.
 """
 import collections
 import os
@@ -42,6 +43,7 @@ TOKENS = [*"{}()[]=,|&?*+-~:\\1", "|=", "&=", ">>", "x", "p:a", "p:*", "u:x", "x
 TOKENS += [*sorted(schema.KEYWORDS - {"external", "parent"}), '"a"', "'b'", '"""c"""', '"\\x{41}"', "#c\n", *"é·\r\x0c\x85\u00a0\u2028\u3000\u0001\ufffe"]
 
 SECTION_7 = re.compile(r"section 7|operands? of|duplicate attribute|(interleave|group|repeat) of")
+JING_ALONE = re.compile(SECTION_7.pattern + r"|top-level pattern cannot have following annotations")
 LAST_ITEM = "\nstart |= notAllowed\n"  # so that each text has an item, and no bare pattern
 
 
@@ -185,11 +187,12 @@ class Told:
         is_good, rest = answers[self.paths()[0]]
         if self.refusal:
             is_early = self.damage in ("Except", "ExceptReference") and "excepted" in self.kind()
-            return f"{self.refusal.splitlines()[0]}; jing takes it" if is_good and not is_early else ""
+            is_known = is_early or "more than 512 times" in self.kind()
+            return f"{self.refusal.splitlines()[0]}; jing takes it" if is_good and not is_known else ""
         if not self.stays:
             return "what is printed is printed otherwise again"
         if not is_good:
-            return "" if all(SECTION_7.search(error) for error in rest.split("\t")) else f"printed; jing: {rest[:120]}"
+            return "" if all(JING_ALONE.search(error) for error in rest.split("\t")) else f"printed; jing: {rest[:120]}"
         takes, again = answers[self.paths()[1]]
         if not takes or rest != again:
             return f"printed; jing: {rest[:80]}; of the printed text: {again[:120]}"

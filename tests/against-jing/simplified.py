@@ -96,17 +96,22 @@ class Numbers:
             return self.of(kind)
         if kind in ("oneOrMore", "list"):
             return self.node([self.chain(node)], kind)
-        if kind in ("element", "attribute") and node.get("name") is not None:
-            rest = self.chain(node) if len(node) else self.of("text" if kind == "attribute" else "empty")
-            return self.node([self.of("name", node.get("ns", ""), node.get("name")), rest], kind)
-        return self.other(kind, node)
-
-    def other(self, kind, node):
-        """A node that is told by its attributes, its text and its children."""
+        if kind in ("element", "attribute"):
+            return self.named(kind, node)
+        if kind == "name":
+            return self.of("name", node.get("ns", ""), (node.text or "").strip())
         text = value_text(node) if kind == "value" else (node.text or "").strip()
-        front = {"ns": node.get("ns", "")} if kind == "name" else node.attrib
         parts = [self.pattern(child) for child in node if not is_nothing_excepted(child)]
-        return self.node(parts, kind, *sorted(front.items()), text)
+        return self.node(parts, kind, *sorted(node.attrib.items()), text)
+
+    def named(self, kind, node):
+        """An element or an attribute, whose name is an attribute or a name class before its content."""
+        if node.get("name") is not None:
+            name, content = self.of("name", node.get("ns", ""), node.get("name")), list(node)
+        else:
+            name, content = self.pattern(node[0]), node[1:]
+        rest = self.chain(content) if content else self.of("text" if kind == "attribute" else "empty")
+        return self.node([name, rest], kind)
 
     def alternatives(self, node):
         """What a pattern chooses from, and whether each is nullable."""

@@ -208,6 +208,12 @@ class FileDrawer(Drawer):
             items[cut:] = [Div(tuple(items[cut:]))]
         return items
 
+    def body(self, key):
+        if self.kinds.get(key) != "data":
+            return super().body(key)
+        self.behind = key
+        return self.data()
+
     def definition(self, key, kind):
         held, self.behind = self.behind, key
         is_main = key == "start" and self.at == 0 and self.level == 0

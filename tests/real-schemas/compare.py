@@ -96,11 +96,13 @@ def chosen(folder, words):
 
 def java(room, source, lines):
     """What a program of Java's writes, line by line, where it is given lines."""
+    if not lines:
+        return []
     subprocess.run(["javac", "-cp", JARS, "-d", room, source], check=True)
     configuration = "-Dorg.apache.xerces.xni.parser.XMLParserConfiguration=org.apache.xerces.parsers.XIncludeParserConfiguration"
     words = ["java", "-Xss256m", "-XX:+UseSerialGC", configuration, "-cp", f"{room}:{JARS}", source.stem]
     ran = subprocess.run(words, input="".join(f"{line}\n" for line in lines), stdout=subprocess.PIPE, stderr=subprocess.DEVNULL, text=True, check=True)
-    return ran.stdout.removesuffix("\n").split("\n") if lines else []
+    return ran.stdout.removesuffix("\n").split("\n")
 
 
 def translated(room, folder, paths):
