@@ -1,20 +1,16 @@
 #!/usr/bin/env bash
 # Tokens, trees and their include literals borrow what they were read from. A crate that keeps one longer is refused at just the
-# lines that do so, and what is kept no longer is not refused. The compiler finds this before anything is proved.
+# lines that do so, and what is kept no longer is not refused. The compiler finds this before anything is proved. It reads the
+# libraries that `rt ci` leaves in crates/*/out.
 set -euo pipefail
 cd "$(dirname "$0")/.."
 room=$(mktemp -d)
 trap 'rm -rf "$room"' EXIT
 
-for crate in rn_text rn_syntax; do
-    mkdir -p "$room/crates/$crate"
-    cp -r "crates/$crate/src" "crates/$crate/specs" "crates/$crate/proofs" "$room/crates/$crate/"
-done
-grep -E '^(rn_text|rn_syntax):' crates.txt > "$room/crates.txt"
-echo 'borrows: rn_text rn_syntax' >> "$room/crates.txt"
-
-mkdir -p "$room/crates/borrows/src"
-source=$room/crates/borrows/src/lib.rt
+top=$PWD
+kit=$(dirname "$(rt doc)")
+mkdir "$room/src"
+source=$room/src/lib.rt
 cat > "$source" <<'RATTLE'
 //! What borrows a source, in its life and past it.
 #![tactic(auto)]
@@ -53,7 +49,12 @@ pub fn literals_past_their_tree<'a>(alloc: Global, source: &'a [u8]) -> Option<V
 }
 RATTLE
 
-if said=$(cd "$room/crates/borrows" && rt check 2>&1); then
+words=(check --crate-name borrows src/lib.rt --extern "std=$kit/rlibs/std.rlib" -L "dependency=$kit/rlibs")
+for crate in rn_text rn_syntax; do
+    words+=(--extern "$crate=$top/crates/$crate/out/rlib/$crate.rlib" -L "dependency=$top/crates/$crate/out/rlib")
+done
+words+=(--antt-project "$kit/rattle/logic/antt-project.json" --logic-built "$kit/logic_built")
+if said=$(cd "$room" && "$kit/bin/rattle" "${words[@]}" 2>&1); then
     echo "borrows: the crate was not refused"
     exit 1
 fi
