@@ -52,9 +52,10 @@ def externals(n):
 
 
 def nested(n):
-    """A grammar with n / 20 grammars within its patterns, each of 20 definitions, which refer to the outer one too."""
+    """A grammar with n / 20 grammars within its patterns, each of 20 definitions, which refer to the outer one too. Each is included twice, and of that
+    512 is the most, so they are 200 at most."""
     inner = " ".join(f"d{i} = element e{i} {{ d{(i + 1) % 20}?, parent x? }}" for i in range(20))
-    lines = [f"g{j} = grammar {{ start = d0 {inner} }}" for j in range(max(n // 20, 1))]
+    lines = [f"g{j} = grammar {{ start = d0 {inner} }}" for j in range(min(max(n // 20, 1), 200))]
     return {"driver": "x = element x { empty }\nstart = " + " | ".join(f"g{j}" for j in range(len(lines))) + "\n" + "\n".join(lines)}
 
 
