@@ -118,10 +118,11 @@ pub fn held(alloc: Global, set: &ModuleSet) -> Result<String, AllocError> {
     Ok(lines)
 }
 
-/// Requests for so many bytes, which nothing else makes, are marks: the requests behind the first mark and before the second
-/// are those that are refused.
+/// How many bytes the request that is the first mark asks for, as nothing else does: the requests after it are those that are
+/// refused.
 pub const BEGIN: usize = 7_654_321;
 
+/// How many bytes the request that is the second mark asks for: the requests after it are granted again.
 pub const END: usize = 7_654_322;
 
 /// Makes a mark.

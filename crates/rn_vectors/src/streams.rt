@@ -10,11 +10,13 @@ use rn_modset::{BundleFault, write_bundle};
 use std::alloc::Global;
 use std::process::Abort;
 
-/// Two sets, and the schema of both.
+/// A set.
 pub const A: &str = "@a\nstart = doc doc |= element b { text }";
 
+/// Another one, which adds to it.
 pub const B: &str = "@b\ndoc |= element a { empty }";
 
+/// The schema of both.
 pub const PRINTED: &str =
     "default namespace = \"\"\nstart = doc\ndoc = element a { empty } | element b { text }\n";
 
