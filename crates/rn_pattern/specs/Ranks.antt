@@ -89,16 +89,23 @@ abbrev pub IsOrdered : List (List ℕ) → Order → Type 0
 IsOrdered rows (Ranked ranks) = IsRanking rows ranks.items
 IsOrdered rows (Looped x) = Leads rows x x
 
+-- how many edges of the node are left, and the node that the next of them leads to: they are taken from the end
+abbrev pub edges_left : List ℕ → ℕ → ℕ
+edges_left left x = slice_index_or left x 0
+
+abbrev pub next_from : List (List ℕ) → List ℕ → ℕ → ℕ
+next_from rows left x = slice_index_or (row rows x) (edges_left left x - 1) 0
+
 -- the edge that is looked at next leads to the node
 pub record IsNextNode (rows : List (List ℕ)) (left : List ℕ) (x y : ℕ) : Type 0 where
-  pub some_left : 0 < slice_index_or left x 0
-  pub is : y ≡ slice_index_or (row rows x) (slice_index_or left x 0 - 1) 0
+  pub some_left : 0 < edges_left left x
+  pub is : y ≡ next_from rows left x
   pub edge : Contains (row rows x) y
   pub within : y < length rows
 
 -- the node that is looked at next from x, if an edge is left
 abbrev pub IsNext : List (List ℕ) → List ℕ → ℕ → Option ℕ → Type 0
-IsNext rows left x None = slice_index_or left x 0 ≡ 0
+IsNext rows left x None = edges_left left x ≡ 0
 IsNext rows left x (Some y) = IsNextNode rows left x y
 
 -- no node comes back to itself
