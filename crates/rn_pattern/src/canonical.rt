@@ -2,12 +2,12 @@
 ghost use Rattle.std.specs.Prelude.{◌≡◌, IfOk, IsTrue, List, IfSome, flat_map, map};
 ghost use Rattle.std.specs.Option.{option_map};
 ghost use Rattle.rn_pattern.specs.Canonical.{attribute_step, canonical_name, choice_step, group_step, has_not_allowed, interleave_step, list_step, one_or_more_step, sorted, sorted_once};
-ghost use Rattle.rn_pattern.specs.Lists.{listed, members_by};
-ghost use Rattle.rn_pattern.specs.Nodes.{knows, tree_at};
+ghost use Rattle.rn_pattern.specs.inside.Lists.{listed, members_by};
+ghost use Rattle.rn_pattern.specs.inside.Stored.{knows, tree_at};
 ghost use Rattle.rn_pattern.specs.Order.{tree_cmp};
-ghost use Rattle.rn_pattern.specs.Reduced.{IsReducedIn, reduced_tree};
+ghost use Rattle.rn_pattern.specs.inside.Reduced.{IsReducedIn, reduced_tree};
 ghost use Rattle.rn_pattern.specs.Store.{KnowsAll, datum_by, datum_step};
-ghost use Rattle.rn_pattern.specs.Table.{knows_in, tree_in, trees};
+ghost use Rattle.rn_pattern.specs.inside.Table.{knows_in, tree_in, trees};
 ghost use Rattle.rn_pattern.specs.Tree.{Parameters, Text, Tree};
 ghost use Rattle.rn_pattern.specs.View.{name_class_view, parameters_view};
 

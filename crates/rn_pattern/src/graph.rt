@@ -1,8 +1,9 @@
 // Reachability in a graph whose nodes are numbers.
 
 ghost use Rattle.std.specs.Prelude.{◌≡◌, ℕ, ◌+◌, ◌<◌, ◌≤◌, Decides, ◌∷◌, ◌++◌, [], length, map, vec_len, take, IfOk, OnOk, if◌then◌else◌, slice_index_or, slice_set};
-ghost use Rattle.rn_pattern.specs.Graph.{AllBelow, row, IsGraph, is_marked, Agrees, Marks, Reached, rows_of};
-ghost use Rattle.rn_pattern.specs.Ranks.{IsNext, edges_left};
+ghost use Rattle.rn_pattern.specs.Graph.{AllBelow, row, IsGraph, is_marked, Reached, rows_of};
+ghost use Rattle.rn_pattern.specs.inside.Marking.{Agrees, Marks};
+ghost use Rattle.rn_pattern.specs.inside.Walking.{IsNext, edges_left};
 
 use std::alloc::{AllocError, Global};
 

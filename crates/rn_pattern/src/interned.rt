@@ -1,8 +1,8 @@
 // The store Interned.
 ghost use Rattle.std.specs.Prelude.{◌≡◌, IsTrue};
 ghost use Rattle.std.specs.List.{IsDistinct, IsDistinct-prop};
-ghost use Rattle.rn_pattern.specs.Key.{node_eq};
-ghost use Rattle.rn_pattern.specs.Nodes.{NameEarlier, NameEarlier-prop, trees_of_nodes};
+ghost use Rattle.rn_pattern.specs.inside.Key.{node_eq};
+ghost use Rattle.rn_pattern.specs.inside.Stored.{NameEarlier, NameEarlier-prop, trees_of_nodes};
 
 use crate::node::{Node, NodeId};
 use crate::node_table::NodeTable;

@@ -1,9 +1,9 @@
 // Nodes as keys: when two are equal, and their hash.
 ghost use Rattle.std.specs.Prelude.{◌≡◌, flat_map, fold, map};
 ghost use Rattle.std.specs.Hash as fed;
-ghost use Rattle.rn_pattern.specs.Key.{name_writes, names_writes, node_eq, node_writes, parameters_writes};
+ghost use Rattle.rn_pattern.specs.inside.Key.{name_writes, names_writes, node_eq, node_writes, parameters_writes};
 ghost use Rattle.rn_pattern.specs.View.{name_class_view, name_classes_view, parameters_view};
-ghost use Rattle.rn_pattern.specs.Key.{node_eq_equiv, node_eq_writes};
+ghost use Rattle.rn_pattern.specs.inside.Key.{node_eq_equiv, node_eq_writes};
 ghost use Rattle.std.specs.Cmp.{partial_equiv_from_equiv};
 
 use crate::node::{Node, NodeId};

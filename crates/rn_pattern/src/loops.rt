@@ -2,8 +2,8 @@
 
 ghost use Rattle.std.specs.Prelude.{◌≡◌, ℕ, ◌-◌, ◌<◌, ◌≤◌, ◌≢◌, ◌⊎◌, [], Contains, length, vec_len, slice_index_or, take, drop, min, MatchBool, MatchOption, None, IfOk, OnOk};
 ghost use Rattle.rn_pattern.specs.Graph.{row, IsGraph, rows_of};
-ghost use Rattle.rn_pattern.specs.Ranks.{EndsWith};
-ghost use Rattle.rn_pattern.specs.Loops.{Grouping, GroupsOn, IsLeastLooped, IsClosed, IsSettled, IsStage, IsAtWork, IsJoined, AllLead, LeadsBack, Rises, left_at, next_at, node_at, place_of, work};
+ghost use Rattle.rn_pattern.specs.inside.Walking.{EndsWith};
+ghost use Rattle.rn_pattern.specs.inside.Loops.{Grouping, GroupsOn, IsLeastLooped, IsClosed, IsSettled, IsStage, IsAtWork, IsJoined, AllLead, LeadsBack, Rises, left_at, next_at, node_at, place_of, work};
 
 use crate::graph::{lengths, next_of, row_at};
 use std::alloc::{AllocError, Global};

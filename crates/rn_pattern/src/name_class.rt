@@ -1,7 +1,7 @@
 // The canonical form of a name class: choices within choices replaced by their members, in order, without repeats.
 ghost use Rattle.std.specs.Prelude.{◌≡◌, ◌++◌, IfOk, OnOk, map};
 ghost use Rattle.rn_pattern.specs.Canonical.{canonical_name, name_class_of, sorted_once};
-ghost use Rattle.rn_pattern.specs.NameParts.{name_parts};
+ghost use Rattle.rn_pattern.specs.inside.NameParts.{name_parts};
 ghost use Rattle.rn_pattern.specs.Order.{name_cmp};
 ghost use Rattle.rn_pattern.specs.View.{name_class_view, name_classes_view};
 

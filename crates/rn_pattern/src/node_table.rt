@@ -1,9 +1,9 @@
 // The nodes of a store, each of which names earlier ones by their places.
 ghost use Rattle.std.specs.Prelude.{◌≡◌, IsTrue, option_copied};
-ghost use Rattle.rn_pattern.specs.Nodes.{NamesBelow, NameEarlier, NameEarlier-prop};
+ghost use Rattle.rn_pattern.specs.inside.Stored.{NamesBelow, NameEarlier, NameEarlier-prop};
 ghost use Rattle.rn_pattern.specs.Canonical.{is_not_allowed};
 ghost use Rattle.rn_pattern.specs.Order.{tree_cmp};
-ghost use Rattle.rn_pattern.specs.Shown.{ShowsTree, part_texts};
+ghost use Rattle.rn_pattern.specs.inside.Shown.{ShowsTree, part_texts};
 ghost use Rattle.rn_pattern.specs.Store.{node_view};
 
 use crate::node::{Node, NodeId};
@@ -18,7 +18,7 @@ pub struct NodeTable<'a> {
 }
 
 impl<'a> NodeTable<'a> {
-    ghost use Rattle.rn_pattern.specs.Table.{knows_in, tree_in};
+    ghost use Rattle.rn_pattern.specs.inside.Table.{knows_in, tree_in};
 
     /// The node of an id of the table.
     pub fn get(&self, id: NodeId) -> &'a Node<NodeId>

@@ -1,8 +1,9 @@
 // What the order compares of a node, in turn.
 ghost use Rattle.std.specs.Prelude.{◌≡◌, ◌∷◌, [], option_copied};
 ghost use Rattle.rn_pattern.specs.Order.{names_cmp};
-ghost use Rattle.rn_pattern.specs.Shown.{class_view, heads_cmp, part_texts};
-ghost use Rattle.rn_pattern.specs.Nodes.{node_class, node_members, node_parameters, node_rank, node_texts};
+ghost use Rattle.rn_pattern.specs.inside.Shown.{class_view, heads_cmp, part_texts};
+ghost use Rattle.rn_pattern.specs.Nodes.{node_members};
+ghost use Rattle.rn_pattern.specs.inside.Stored.{node_class, node_parameters, node_rank, node_texts};
 
 use crate::node::{Node, NodeId};
 use crate::tree::NameClass;

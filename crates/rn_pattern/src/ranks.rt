@@ -2,7 +2,8 @@
 
 ghost use Rattle.std.specs.Prelude.{◌≡◌, ℕ, ◌+◌, ◌-◌, ◌<◌, ◌≤◌, ◌∷◌, ◌++◌, [], Contains, length, vec_len, slice_index_or, IfOk, OnOk, IfSome, MatchOption};
 ghost use Rattle.rn_pattern.specs.Graph.{row, IsGraph, rows_of};
-ghost use Rattle.rn_pattern.specs.Ranks.{Walking, IsPath, Leads, GoesOn, GoesOnOrLoops, EndsOrLoops, IsOrdered, EndsWith, edges_left, next_from, work, mark_of, IsDone, HasNoLoop, IsFirstLoop};
+ghost use Rattle.rn_pattern.specs.Ranks.{Leads, IsOrdered, HasNoLoop, IsFirstLoop};
+ghost use Rattle.rn_pattern.specs.inside.Walking.{Walking, IsPath, GoesOn, GoesOnOrLoops, EndsOrLoops, EndsWith, edges_left, next_from, work, mark_of, IsDone};
 
 use crate::graph::{lengths, next_of};
 use crate::loops;

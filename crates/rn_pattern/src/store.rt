@@ -1,12 +1,12 @@
 // The constructors of a store, written once for all ways in which nodes may lie.
 ghost use Rattle.std.specs.Prelude.{◌≡◌, ◌+◌, ◌≤◌, IfOk, IfSome, IsTrue, List, OnErr, length};
 ghost use Rattle.std.specs.Option.{option_map};
-ghost use Rattle.rn_pattern.specs.Key.{tree_at-same};
+ghost use Rattle.rn_pattern.specs.inside.Key.{tree_at-same};
 ghost use Rattle.rn_pattern.specs.Matching.{MatchAlike};
-ghost use Rattle.rn_pattern.specs.Nodes.{NamesBelow, knows, tree_at, trees_of_nodes};
-ghost use Rattle.rn_pattern.specs.Reduced.{IsReducedIn, reduced_tree};
+ghost use Rattle.rn_pattern.specs.inside.Stored.{NamesBelow, knows, tree_at, trees_of_nodes};
+ghost use Rattle.rn_pattern.specs.inside.Reduced.{IsReducedIn, reduced_tree};
 ghost use Rattle.rn_pattern.specs.Store.{AddsOnly, KeepsIds, StandsFor, datum_by, datum_step, node_view};
-ghost use Rattle.rn_pattern.specs.Count.{ids_counted};
+ghost use Rattle.rn_pattern.specs.inside.Count.{ids_counted};
 ghost use Rattle.rn_pattern.specs.Tree.{Tree};
 ghost use Rattle.rn_pattern.specs.View.{parameters_view};
 

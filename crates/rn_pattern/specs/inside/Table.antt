@@ -1,7 +1,7 @@
 -- The trees of the nodes of a table.
 use Rattle.std.specs.Prelude.{List, Bool}
 use Rattle.rn_pattern.specs.Tree.{Tree}
-use Rattle.rn_pattern.specs.Nodes.{knows, tree_at, trees_of_nodes}
+use Rattle.rn_pattern.specs.inside.Stored.{knows, tree_at, trees_of_nodes}
 use Rattle.rn_pattern.specs.declared.node.NodeId.{NodeId}
 use Rattle.rn_pattern.specs.declared.node_table.NodeTable.{NodeTable}
 

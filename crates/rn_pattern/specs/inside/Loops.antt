@@ -2,7 +2,8 @@
 -- another (strongly connected ones); each node on the stack leads to all behind it. A group is closed when no edge is left that might join it to another.
 use Rattle.std.specs.Prelude.{◌≡◌, ℕ, ◌+◌, ◌<◌, ◌≤◌, ◌⊎◌, List, length, slice_index_or, take, sum_by, sum, Contains, Option, Some, None}
 use Rattle.rn_pattern.specs.Graph.{row}
-use Rattle.rn_pattern.specs.Ranks.{Leads, EndsWith, edges_left, next_from}
+use Rattle.rn_pattern.specs.Ranks.{Leads}
+use Rattle.rn_pattern.specs.inside.Walking.{EndsWith, edges_left, next_from}
 use Rattle.rn_pattern.specs.declared.loops.Search.{Search}
 use Rattle.rn_pattern.specs.declared.loops.Stage.{Stage}
 use Rattle.rn_pattern.specs.declared.loops.Stage.TheVariants.{New, Open, Closed}
