@@ -14,7 +14,7 @@ import tempfile
 
 HERE = os.path.dirname(os.path.abspath(__file__))
 EXAMPLES = os.path.join(HERE, "..", "..", "crates", "rn_pattern", "src", "examples.rt")
-CLAUSE = re.compile(r"ensures (\w+) \{ (Accepts|Rejects) (.+) (no_library|numbers|spellings) (.+) \}$", re.M)
+CLAUSE = re.compile(r"ensures (\w+) \{ (Accepts|Rejects) (.+) (no_library|numbers|spellings)\s+(.+) \}$", re.M)
 
 # the grammars and documents of the clauses, as RELAX NG compact syntax and XML
 SCHEMAS = {
@@ -23,15 +23,15 @@ SCHEMAS = {
     'a_holding empty': 'start = element a { empty }',
     'a_holding any_string': 'start = element a { string }',
     'a_holding (string_is [])': 'start = element a { string "" }',
-    'a_holding (token_is (codes "x"))': 'start = element a { token "x" }',
+    'a_holding token_x': 'start = element a { token "x" }',
     'a_holding x_is_empty': 'start = element a { attribute x { empty } }',
     'a_holding x_is_one': 'start = element a { attribute x { token "1" } }',
     'a_holding x_and_string': 'start = element a { attribute x { text }, string }',
     'a_holding x_then_y': 'start = element a { list { token "x", token "y" } }',
     'a_holding some_x': 'start = element a { list { token "x"+ } }',
     'a_holding (list empty)': 'start = element a { list { empty } }',
-    'a_holding (string_is (codes "x y"))': 'start = element a { string "x y" }',
-    'a_holding (token_is (codes "x y"))': 'start = element a { token "x y" }',
+    'a_holding string_x_y': 'start = element a { string "x y" }',
+    'a_holding token_x_y': 'start = element a { token "x y" }',
     'a_holding string_but_x': 'start = element a { string - string "x" }',
     'a_holding token_but_x': 'start = element a { token - token "x" }',
     'a_and_b': 'start = element doc { element a { empty } & element b { empty } }',
@@ -51,12 +51,12 @@ SCHEMAS = {
     'nested': 'start = tree\ntree = element doc { (tree | leaf)* }\nleaf = element a { empty }',
 }
 DOCUMENTS = {
-    'leaf (codes "a")': '<a/>',
+    'bare_a': '<a/>',
     'b_of_text': '<b>text</b>',
-    'leaf (codes "b")': '<b/>',
+    'bare_b': '<b/>',
     'leaf (codes "c")': '<c/>',
     'a_of (codes "x")': '<a>x</a>',
-    'a_with (x_one ∷ [])': '<a x="1"/>',
+    'a_with_x': '<a x="1"/>',
     'b_of_a': '<b><a/></b>',
     'a_in_u': '<u:a xmlns:u="urn:u"/>',
     'b_with_x': '<b x="1"/>',
@@ -91,9 +91,9 @@ DOCUMENTS = {
     'doc_text_a_text': '<doc>one<a/>two</doc>',
     'doc_text_b': '<doc>one<b/></doc>',
     'doc_a_a': '<doc><a/><a/></doc>',
-    'leaf (codes "doc")': '<doc/>',
+    'bare_doc': '<doc/>',
     'a_with (x_one ∷ y_two ∷ [])': '<a x="1" y="2"/>',
-    'a_with (y_two ∷ x_one ∷ [])': '<a y="2" x="1"/>',
+    'a_with_y_x': '<a y="2" x="1"/>',
     'a_with (x_one ∷ y_two ∷ z_three ∷ [])': '<a x="1" y="2" z="3"/>',
     'a_with (y_two ∷ z_three ∷ [])': '<a y="2" z="3"/>',
     'a_with (said (codes "x") (codes "2") ∷ [])': '<a x="2"/>',

@@ -1,10 +1,10 @@
 -- What the constructors of a store make, and stores whose patterns are all canonical.
-use Rattle.std.specs.Prelude.{◌≡◌, ℕ, All, List, map, Bool, IsTrue, Option, IfSome}
+use Rattle.std.specs.Prelude.{◌≡◌, ℕ, List, map, Bool, IsTrue, Option, IfSome}
 use Rattle.std.specs.Option.{option_map}
 use Rattle.rn_pattern.specs.Tree.{Text, Parameters, NameTree, Tree, not_allowed, empty, text, ref, value, element}
 use Rattle.rn_pattern.specs.Canonical.{canonical_name, choice_step, group_step, interleave_step, one_or_more_step, list_step, attribute_step}
 use Rattle.rn_pattern.specs.CanonicalShape.{IsCanonicalPattern}
-use Rattle.rn_pattern.specs.Store.{AddsOnly, KeepsTrees, StandsFor, datum_step}
+use Rattle.rn_pattern.specs.Store.{AddsOnly, KeepsIds, KnowsAll, StandsFor, datum_step}
 
 -- a constructor makes the tree of ids that the store knows
 pub data IsMade {I : Type 0} (knows : I → Bool) (tree_of : I → Tree) : Tree → Type 0 where
@@ -17,9 +17,9 @@ pub data IsMade {I : Type 0} (knows : I → Bool) (tree_of : I → Tree) : Tree 
   is_list : (content : I) → IsTrue (knows content) → IsMade knows tree_of (list_step (tree_of content))
   is_attribute : (c : NameTree) (content : I) → IsTrue (knows content) → IsMade knows tree_of (attribute_step (canonical_name c) (tree_of content))
   is_element : (c : NameTree) (content : I) → IsTrue (knows content) → IsMade knows tree_of (element (canonical_name c) (tree_of content))
-  is_choice : (members : List I) → All (λ i. IsTrue (knows i)) members → IsMade knows tree_of (choice_step (map tree_of members))
-  is_group : (members : List I) → All (λ i. IsTrue (knows i)) members → IsMade knows tree_of (group_step (map tree_of members))
-  is_interleave : (members : List I) → All (λ i. IsTrue (knows i)) members → IsMade knows tree_of (interleave_step (map tree_of members))
+  is_choice : (members : List I) → KnowsAll knows members → IsMade knows tree_of (choice_step (map tree_of members))
+  is_group : (members : List I) → KnowsAll knows members → IsMade knows tree_of (group_step (map tree_of members))
+  is_interleave : (members : List I) → KnowsAll knows members → IsMade knows tree_of (interleave_step (map tree_of members))
   is_one_or_more : (content : I) → IsTrue (knows content) → IsMade knows tree_of (one_or_more_step (tree_of content))
 
 -- each id stands for a canonical pattern
@@ -30,5 +30,5 @@ HoldsCanonical {I} knows tree_of = (i : I) → IsTrue (knows i) → IsCanonicalP
 pub record StaysCanonical {S I : Type 0} (knows : S → I → Bool) (tree_of : S → I → Tree) (size : S → ℕ) : Type 0 where
   pub at_first : (s : S) → size s ≡ 0 → HoldsCanonical (knows s) (tree_of s)
   pub answered : (old new : S) (t : Tree) (answer : I) → HoldsCanonical (knows old) (tree_of old) → IsMade (knows old) (tree_of old) t
-      → KeepsTrees (knows old) (tree_of old) (knows new) (tree_of new) → AddsOnly (knows old) (knows new) answer → StandsFor (knows new) (tree_of new) t answer → HoldsCanonical (knows new) (tree_of new)
-  pub refused : (old new : S) → HoldsCanonical (knows old) (tree_of old) → KeepsTrees (knows old) (tree_of old) (knows new) (tree_of new) → size new ≡ size old → HoldsCanonical (knows new) (tree_of new)
+      → KeepsIds knows tree_of old new → AddsOnly (knows old) (knows new) answer → StandsFor (knows new) (tree_of new) t answer → HoldsCanonical (knows new) (tree_of new)
+  pub refused : (old new : S) → HoldsCanonical (knows old) (tree_of old) → KeepsIds knows tree_of old new → size new ≡ size old → HoldsCanonical (knows new) (tree_of new)

@@ -1,5 +1,5 @@
 -- The shape of canonical patterns and name classes: lists of two members or more, in order, no list in a list of its kind, and notAllowed and empty only where they say something (RELAX NG 2001, 4.20 and 4.21).
-use Rattle.std.specs.Prelude.{◌≡◌, Bool, true, false, List, [], ◌∷◌, ⊤}
+use Rattle.std.specs.Prelude.{◌≡◌, All, Bool, true, false, List, [], ◌∷◌, ⊤}
 use Rattle.std.specs.List.Sorted.{IsStrictlySortedBy}
 use Rattle.std.specs.declared.cmp.Ordering.{Ordering}
 use Rattle.std.specs.Ordering.{is_lt}
@@ -94,3 +94,10 @@ AnyName x = ⊤
 
 abbrev pub IsCanonicalPattern : Tree → Type 0
 IsCanonicalPattern = IsCanonical AnyName
+
+-- what the step makes of a canonical pattern, or of a list of them, is canonical
+abbrev pub KeepsCanonical : (Tree → Tree) → Type 0
+KeepsCanonical step = (p : Tree) → IsCanonicalPattern p → IsCanonicalPattern (step p)
+
+abbrev pub JoinsCanonical : (List Tree → Tree) → Type 0
+JoinsCanonical step = (ps : List Tree) → All IsCanonicalPattern ps → IsCanonicalPattern (step ps)

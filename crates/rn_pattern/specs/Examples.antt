@@ -44,6 +44,16 @@ token_is s = value [] (codes "token") s
 abbrev pub any_string : Tree
 any_string = datum [] (codes "string") []
 
+-- the values x, and x y
+abbrev pub token_x : Tree
+token_x = token_is (codes "x")
+
+abbrev pub token_x_y : Tree
+token_x_y = token_is (codes "x y")
+
+abbrev pub string_x_y : Tree
+string_x_y = string_is (codes "x y")
+
 -- a type that the built-in library does not have
 abbrev pub unknown_type : Tree
 unknown_type = datum [] (codes "int") []
@@ -70,6 +80,16 @@ leaf_in u x = node u x [] no_items
 
 abbrev pub said : Text → Text → Attribute
 said x s = record { uri = []; local = x; content = s }
+
+-- <a/>, <b/> and <doc/>
+abbrev pub bare_a : Item
+bare_a = leaf (codes "a")
+
+abbrev pub bare_b : Item
+bare_b = leaf (codes "b")
+
+abbrev pub bare_doc : Item
+bare_doc = leaf (codes "doc")
 
 -- x="1", y="2" and z="3"
 abbrev pub x_one : Attribute
@@ -116,16 +136,23 @@ a_of s = tag (codes "a") (string s ∷ [])
 abbrev pub a_with : List Attribute → Item
 a_with a = tag_with (codes "a") a []
 
+-- <a x="1"/>, and with y="2" before it
+abbrev pub a_with_x : Item
+a_with_x = a_with (x_one ∷ [])
+
+abbrev pub a_with_y_x : Item
+a_with_y_x = a_with (y_two ∷ x_one ∷ [])
+
 -- <b x="1"/>
 abbrev pub b_with_x : Item
 b_with_x = tag_with (codes "b") (x_one ∷ []) []
 
 -- <b><a/></b>, and <a><b/></a>
 abbrev pub b_of_a : Item
-b_of_a = tag (codes "b") (leaf (codes "a") ∷ [])
+b_of_a = tag (codes "b") (bare_a ∷ [])
 
 abbrev pub a_of_b : Item
-a_of_b = tag (codes "a") (leaf (codes "b") ∷ [])
+a_of_b = tag (codes "a") (bare_b ∷ [])
 
 -- start = element doc { element a { empty }, element b { empty } }
 abbrev pub a_then_b : Grammar
@@ -145,50 +172,50 @@ doc_of m = tag (codes "doc") m
 
 -- <doc><a/><b/></doc>
 abbrev pub doc_a_b : Item
-doc_a_b = doc_of (leaf (codes "a") ∷ leaf (codes "b") ∷ [])
+doc_a_b = doc_of (bare_a ∷ bare_b ∷ [])
 
 -- <doc><b/><a/></doc>
 abbrev pub doc_b_a : Item
-doc_b_a = doc_of (leaf (codes "b") ∷ leaf (codes "a") ∷ [])
+doc_b_a = doc_of (bare_b ∷ bare_a ∷ [])
 
 -- <doc><a/></doc>
 abbrev pub doc_a : Item
-doc_a = doc_of (leaf (codes "a") ∷ [])
+doc_a = doc_of (bare_a ∷ [])
 
 -- <doc><a/><a/></doc>
 abbrev pub doc_a_a : Item
-doc_a_a = doc_of (leaf (codes "a") ∷ leaf (codes "a") ∷ [])
+doc_a_a = doc_of (bare_a ∷ bare_a ∷ [])
 
 -- <doc><a/><b/><a/></doc>
 abbrev pub doc_a_b_a : Item
-doc_a_b_a = doc_of (leaf (codes "a") ∷ leaf (codes "b") ∷ leaf (codes "a") ∷ [])
+doc_a_b_a = doc_of (bare_a ∷ bare_b ∷ bare_a ∷ [])
 
 -- <doc><a/><a/><a/><b/></doc>
 abbrev pub doc_a_a_a_b : Item
-doc_a_a_a_b = doc_of (leaf (codes "a") ∷ leaf (codes "a") ∷ leaf (codes "a") ∷ leaf (codes "b") ∷ [])
+doc_a_a_a_b = doc_of (bare_a ∷ bare_a ∷ bare_a ∷ bare_b ∷ [])
 
 -- <doc> and the text, <a/>, the text, <b/>, the text
 abbrev pub doc_padded_by : Text → Item
-doc_padded_by s = doc_of (string s ∷ leaf (codes "a") ∷ string s ∷ leaf (codes "b") ∷ string s ∷ [])
+doc_padded_by s = doc_of (string s ∷ bare_a ∷ string s ∷ bare_b ∷ string s ∷ [])
 
 -- <doc>one<a/>two</doc>
 abbrev pub doc_text_a_text : Item
-doc_text_a_text = doc_of (string (codes "one") ∷ leaf (codes "a") ∷ string (codes "two") ∷ [])
+doc_text_a_text = doc_of (string (codes "one") ∷ bare_a ∷ string (codes "two") ∷ [])
 
 -- <doc>one<b/></doc>
 abbrev pub doc_text_b : Item
-doc_text_b = doc_of (string (codes "one") ∷ leaf (codes "b") ∷ [])
+doc_text_b = doc_of (string (codes "one") ∷ bare_b ∷ [])
 
 -- <doc>, the text, <a/><b/></doc>, and <doc><a/><b/>, the text, </doc>
 abbrev pub doc_led_by : Text → Item
-doc_led_by s = doc_of (string s ∷ leaf (codes "a") ∷ leaf (codes "b") ∷ [])
+doc_led_by s = doc_of (string s ∷ bare_a ∷ bare_b ∷ [])
 
 abbrev pub doc_ended_by : Text → Item
-doc_ended_by s = doc_of (leaf (codes "a") ∷ leaf (codes "b") ∷ string s ∷ [])
+doc_ended_by s = doc_of (bare_a ∷ bare_b ∷ string s ∷ [])
 
 -- <doc x="1"><a/><b/></doc>
 abbrev pub doc_with_x : Item
-doc_with_x = tag_with (codes "doc") (x_one ∷ []) (leaf (codes "a") ∷ leaf (codes "b") ∷ [])
+doc_with_x = tag_with (codes "doc") (x_one ∷ []) (bare_a ∷ bare_b ∷ [])
 
 -- start = element doc { text & element a { empty }* }
 abbrev pub mixed_a : Grammar
@@ -212,18 +239,18 @@ a_holding p = only (holding (codes "a") p)
 
 -- list { token "x", token "y" }
 abbrev pub x_then_y : Tree
-x_then_y = list (in_turn (token_is (codes "x") ∷ token_is (codes "y") ∷ []))
+x_then_y = list (in_turn (token_x ∷ token_is (codes "y") ∷ []))
 
 -- list { token "x"+ }
 abbrev pub some_x : Tree
-some_x = list (one_or_more (token_is (codes "x")))
+some_x = list (one_or_more token_x)
 
 -- string - string "x", and token - token "x"
 abbrev pub string_but_x : Tree
 string_but_x = datum_but [] (codes "string") [] (string_is (codes "x"))
 
 abbrev pub token_but_x : Tree
-token_but_x = datum_but [] (codes "token") [] (token_is (codes "x"))
+token_but_x = datum_but [] (codes "token") [] token_x
 
 -- int "1", and int, of the library urn:numbers
 abbrev pub one : Tree
@@ -324,8 +351,8 @@ nested = record {
 
 -- <doc><doc><a/></doc><a/></doc>
 abbrev pub doc_doc_a_a : Item
-doc_doc_a_a = doc_of (doc_of (leaf (codes "a") ∷ []) ∷ leaf (codes "a") ∷ [])
+doc_doc_a_a = doc_of (doc_of (bare_a ∷ []) ∷ bare_a ∷ [])
 
 -- <doc><doc><b/></doc></doc>
 abbrev pub doc_doc_b : Item
-doc_doc_b = doc_of (doc_of (leaf (codes "b") ∷ []) ∷ [])
+doc_doc_b = doc_of (doc_of (bare_b ∷ []) ∷ [])

@@ -1,5 +1,5 @@
 -- What the ids of a store of patterns stand for.
-use Rattle.std.specs.Prelude.{◌≡◌, ◌≢◌, ◌↔◌, ◌⊎◌, AllPairs, Contains, ℕ, List, map, length, Bool, IsTrue, Option, Some, None, string_bytes}
+use Rattle.std.specs.Prelude.{◌≡◌, ◌≢◌, ◌↔◌, ◌⊎◌, All, AllPairs, Contains, ℕ, List, map, length, Bool, IsTrue, Option, Some, None, string_bytes}
 use Rattle.rn_pattern.specs.Tree as tree
 use Rattle.rn_pattern.specs.Tree.{Text, Parameters, Tree, trees_of}
 use Rattle.rn_pattern.specs.Canonical.{datum_but_step}
@@ -23,9 +23,17 @@ node_view at (Node.Group is) = tree.group (trees_of (map at is.items))
 node_view at (Node.Interleave is) = tree.interleave (trees_of (map at is.items))
 node_view at (Node.Choice is) = tree.choice (trees_of (map at is.items))
 
+-- each of these ids is one of the store's
+abbrev pub KnowsAll : {I : Type 0} → (I → Bool) → List I → Type 0
+KnowsAll knows is = All (λ i. IsTrue (knows i)) is
+
 -- each id of the old store is one of the new, and stands for the same tree
 abbrev pub KeepsTrees : {I : Type 0} → (I → Bool) → (I → Tree) → (I → Bool) → (I → Tree) → Type 0
 KeepsTrees {I} knows tree_of knows' tree_of' = (i : I) → IsTrue (knows i) → IsTrue (knows' i) × (tree_of' i ≡ tree_of i)
+
+-- a call keeps the ids of a store, and what they stand for
+abbrev pub KeepsIds : {S I : Type 0} → (S → I → Bool) → (S → I → Tree) → (old new : S) → Type 0
+KeepsIds knows tree_of old new = KeepsTrees (knows old) (tree_of old) (knows new) (tree_of new)
 
 -- an id of the new store is one of the old, or the answered one
 abbrev pub AddsOnly : {I : Type 0} → (I → Bool) → (I → Bool) → I → Type 0

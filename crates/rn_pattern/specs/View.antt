@@ -43,6 +43,16 @@ pattern_step (Pattern-F.Choice ps) = tree.choice (trees_of (map (λ (r : Rc Tree
 abbrev pub pattern_view : Pattern → Tree
 pattern_view = fold-Pattern Tree pattern_step
 
+abbrev pub shared_view : Rc Pattern Global → Tree
+shared_view p = pattern_view p.value
+
+-- the members of a list
+abbrev pub name_classes_view : List NameClass → NameTrees
+name_classes_view cs = name_trees_of (map name_class_view cs)
+
+abbrev pub patterns_view : List (Rc Pattern Global) → Trees
+patterns_view ps = trees_of (map shared_view ps)
+
 -- an except as a list of none or one
 abbrev pub except_view : Option (Box NameClass Global) → NameTrees
 except_view None = no_names
@@ -51,6 +61,3 @@ except_view (Some c) = more_names (name_class_view c.value) no_names
 abbrev pub excepted_view : Option (Box Pattern Global) → Trees
 excepted_view None = no_trees
 excepted_view (Some p) = more_trees (pattern_view p.value) no_trees
-
-abbrev pub shared_view : Rc Pattern Global → Tree
-shared_view p = pattern_view p.value

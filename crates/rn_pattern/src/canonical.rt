@@ -1,13 +1,13 @@
 // One step of the canonical form: what a constructor makes of parts that are canonical (RELAX NG 2001, 4.20 and 4.21).
-ghost use Rattle.std.specs.Prelude.{◌≡◌, All, IfOk, IsTrue, List, IfSome, flat_map, map};
+ghost use Rattle.std.specs.Prelude.{◌≡◌, IfOk, IsTrue, List, IfSome, flat_map, map};
 ghost use Rattle.std.specs.Option.{option_map};
 ghost use Rattle.rn_pattern.specs.Canonical.{attribute_step, canonical_name, choice_step, group_step, has_not_allowed, interleave_step, list_step, one_or_more_step, sorted, sorted_once};
-ghost use Rattle.rn_pattern.specs.Lists.{listed, members_by};
-ghost use Rattle.rn_pattern.specs.Nodes.{knows, tree_at};
+ghost use Rattle.rn_pattern.specs.inside.Lists.{listed, members_by};
+ghost use Rattle.rn_pattern.specs.inside.Stored.{knows, tree_at};
 ghost use Rattle.rn_pattern.specs.Order.{tree_cmp};
-ghost use Rattle.rn_pattern.specs.Reduced.{IsReducedIn, reduced_tree};
-ghost use Rattle.rn_pattern.specs.Store.{datum_by, datum_step};
-ghost use Rattle.rn_pattern.specs.Table.{trees};
+ghost use Rattle.rn_pattern.specs.inside.Reduced.{IsReducedIn, reduced_tree};
+ghost use Rattle.rn_pattern.specs.Store.{KnowsAll, datum_by, datum_step};
+ghost use Rattle.rn_pattern.specs.inside.Table.{knows_in, tree_in, trees};
 ghost use Rattle.rn_pattern.specs.Tree.{Parameters, Text, Tree};
 ghost use Rattle.rn_pattern.specs.View.{name_class_view, parameters_view};
 
@@ -35,9 +35,10 @@ pub fn datum(
     params: &[(String, String)],
     except: Option<NodeId>,
 ) -> Result<Reduced, AllocError>
-    requires { IfSome except (λ i. IsTrue (knows (trees nodes.now) i)) }
-    ensures tree { IfOk result (λ r. reduced_tree (trees nodes.now) r ≡ datum_step library.now type_name.now
-        (parameters_view params.now) (option_map (tree_at (trees nodes.now)) except)) }
+    requires { IfSome except (λ i. IsTrue (knows_in nodes.now i)) }
+    ensures tree { IfOk result (λ r. reduced_tree (trees nodes.now) r
+        ≡ datum_step library.now type_name.now (parameters_view params.now)
+        (option_map (tree_in nodes.now) except)) }
     ensures stored { IfOk result (IsReducedIn (trees nodes.now)) }
 {
     let library = String::from_str(alloc, library)?;
@@ -48,11 +49,11 @@ pub fn datum(
 
 /// The except, if it isn't `notAllowed`.
 fn excepted(nodes: &NodeTable<'_>, except: Option<NodeId>) -> Option<NodeId>
-    requires { IfSome except (λ i. IsTrue (knows (trees nodes.now) i)) }
+    requires { IfSome except (λ i. IsTrue (knows_in nodes.now i)) }
     ensures tree { (library type : Text) (params : Parameters)
-        → datum_by library type params (option_map (tree_at (trees nodes.now)) result)
-        ≡ datum_step library type params (option_map (tree_at (trees nodes.now)) except) }
-    ensures known { IfSome result (λ i. IsTrue (knows (trees nodes.now) i)) }
+        → datum_by library type params (option_map (tree_in nodes.now) result)
+        ≡ datum_step library type params (option_map (tree_in nodes.now) except) }
+    ensures known { IfSome result (λ i. IsTrue (knows_in nodes.now i)) }
 {
     match except {
         Some(id) => {
@@ -68,8 +69,8 @@ fn excepted(nodes: &NodeTable<'_>, except: Option<NodeId>) -> Option<NodeId>
 
 /// A list of the content; `notAllowed` where the content is (4.20).
 pub fn list(nodes: &NodeTable<'_>, content: NodeId) -> Reduced
-    requires { IsTrue (knows (trees nodes.now) content) }
-    ensures tree { reduced_tree (trees nodes.now) result ≡ list_step (tree_at (trees nodes.now) content) }
+    requires { IsTrue (knows_in nodes.now content) }
+    ensures tree { reduced_tree (trees nodes.now) result ≡ list_step (tree_in nodes.now content) }
     ensures stored { IsReducedIn (trees nodes.now) result }
 {
     if nodes.is_not_allowed(content) {
@@ -86,9 +87,9 @@ pub fn attribute(
     nc: &NameClass,
     content: NodeId,
 ) -> Result<Reduced, AllocError>
-    requires { IsTrue (knows (trees nodes.now) content) }
+    requires { IsTrue (knows_in nodes.now content) }
     ensures tree { IfOk result (λ r. reduced_tree (trees nodes.now) r
-        ≡ attribute_step (canonical_name (name_class_view nc.now)) (tree_at (trees nodes.now) content)) }
+        ≡ attribute_step (canonical_name (name_class_view nc.now)) (tree_in nodes.now content)) }
     ensures stored { IfOk result (IsReducedIn (trees nodes.now)) }
 {
     if nodes.is_not_allowed(content) {
@@ -100,8 +101,9 @@ pub fn attribute(
 
 /// A repetition; `notAllowed` (4.20), `empty` (4.21) and a repetition stay what they are.
 pub fn one_or_more(nodes: &NodeTable<'_>, content: NodeId) -> Reduced
-    requires { IsTrue (knows (trees nodes.now) content) }
-    ensures tree { reduced_tree (trees nodes.now) result ≡ one_or_more_step (tree_at (trees nodes.now) content) }
+    requires { IsTrue (knows_in nodes.now content) }
+    ensures tree { reduced_tree (trees nodes.now) result
+        ≡ one_or_more_step (tree_in nodes.now content) }
     ensures stored { IsReducedIn (trees nodes.now) result }
 {
     match nodes.get(content) {
@@ -119,9 +121,9 @@ pub fn choice(
     alloc: Global,
     members: &[NodeId],
 ) -> Result<Reduced, AllocError>
-    requires { All (λ i. IsTrue (knows (trees nodes.now) i)) members.now }
+    requires { KnowsAll (knows_in nodes.now) members.now }
     ensures tree { IfOk result (λ r. reduced_tree (trees nodes.now) r
-        ≡ choice_step (map (tree_at (trees nodes.now)) members.now)) }
+        ≡ choice_step (map (tree_in nodes.now) members.now)) }
     ensures stored { IfOk result (IsReducedIn (trees nodes.now)) }
 {
     let members = opened(nodes, alloc, Connector::Choice, members)?;
@@ -136,9 +138,9 @@ pub fn group(
     alloc: Global,
     members: &[NodeId],
 ) -> Result<Reduced, AllocError>
-    requires { All (λ i. IsTrue (knows (trees nodes.now) i)) members.now }
+    requires { KnowsAll (knows_in nodes.now) members.now }
     ensures tree { IfOk result (λ r. reduced_tree (trees nodes.now) r
-        ≡ group_step (map (tree_at (trees nodes.now)) members.now)) }
+        ≡ group_step (map (tree_in nodes.now) members.now)) }
     ensures stored { IfOk result (IsReducedIn (trees nodes.now)) }
 {
     if has_not_allowed(nodes, members) {
@@ -155,9 +157,9 @@ pub fn interleave(
     alloc: Global,
     members: &[NodeId],
 ) -> Result<Reduced, AllocError>
-    requires { All (λ i. IsTrue (knows (trees nodes.now) i)) members.now }
+    requires { KnowsAll (knows_in nodes.now) members.now }
     ensures tree { IfOk result (λ r. reduced_tree (trees nodes.now) r
-        ≡ interleave_step (map (tree_at (trees nodes.now)) members.now)) }
+        ≡ interleave_step (map (tree_in nodes.now) members.now)) }
     ensures stored { IfOk result (IsReducedIn (trees nodes.now)) }
 {
     if has_not_allowed(nodes, members) {
@@ -170,7 +172,7 @@ pub fn interleave(
 
 /// Whether a member is `notAllowed`.
 fn has_not_allowed(nodes: &NodeTable<'_>, members: &[NodeId]) -> bool
-    ensures { result ≡ has_not_allowed (map (tree_at (trees nodes.now)) members.now) }
+    ensures { result ≡ has_not_allowed (map (tree_in nodes.now) members.now) }
 {
     for member in members {
         if nodes.is_not_allowed(*member) {
@@ -187,10 +189,10 @@ fn opened(
     connector: Connector,
     parts: &[NodeId],
 ) -> Result<Vec<NodeId>, AllocError>
-    requires { All (λ i. IsTrue (knows (trees nodes.now) i)) parts.now }
-    ensures members { IfOk result (λ v. map (tree_at (trees nodes.now)) v.items
-        ≡ flat_map (members_by connector) (map (tree_at (trees nodes.now)) parts.now)) }
-    ensures known { IfOk result (λ v. All (λ i. IsTrue (knows (trees nodes.now) i)) v.items) }
+    requires { KnowsAll (knows_in nodes.now) parts.now }
+    ensures members { IfOk result (λ v. map (tree_in nodes.now) v.items
+        ≡ flat_map (members_by connector) (map (tree_in nodes.now) parts.now)) }
+    ensures known { IfOk result (λ v. KnowsAll (knows_in nodes.now) v.items) }
 {
     let mut members = Vec::new(alloc);
     for part in parts {
@@ -204,10 +206,10 @@ fn opened(
 
 /// The members in order, repeats kept, by as many comparisons as a merge sort makes. Equal ids are equal at once.
 fn sorted(nodes: &NodeTable<'_>, mut members: Vec<NodeId>) -> Result<Vec<NodeId>, AllocError>
-    requires { All (λ i. IsTrue (knows (trees nodes.now) i)) members.items }
-    ensures sorted { IfOk result (λ v. map (tree_at (trees nodes.now)) v.items
-        ≡ sorted tree_cmp (map (tree_at (trees nodes.now)) members.items)) }
-    ensures known { IfOk result (λ v. All (λ i. IsTrue (knows (trees nodes.now) i)) v.items) }
+    requires { KnowsAll (knows_in nodes.now) members.items }
+    ensures sorted { IfOk result (λ v. map (tree_in nodes.now) v.items
+        ≡ sorted tree_cmp (map (tree_in nodes.now) members.items)) }
+    ensures known { IfOk result (λ v. KnowsAll (knows_in nodes.now) v.items) }
 {
     members.sort_by(|a, b| nodes.compare(*a, *b))?;
     Ok(members)
@@ -217,7 +219,8 @@ fn sorted(nodes: &NodeTable<'_>, mut members: Vec<NodeId>) -> Result<Vec<NodeId>
 fn distinct(mut ids: Vec<NodeId>) -> Vec<NodeId>
     ensures sorted { (at : NodeId → Tree)
         → sorted_once tree_cmp (map at result.items) ≡ sorted_once tree_cmp (map at ids.items) }
-    ensures known { (ts : List Tree) → All (λ i. IsTrue (knows ts i)) ids.items → All (λ i. IsTrue (knows ts i)) result.items }
+    ensures known { (ts : List Tree)
+        → KnowsAll (knows ts) ids.items → KnowsAll (knows ts) result.items }
 {
     ids.sort_unstable();
     ids.dedup();
@@ -226,10 +229,10 @@ fn distinct(mut ids: Vec<NodeId>) -> Vec<NodeId>
 
 /// The members in order, without repeats. Equal ids go before any patterns are compared.
 fn sorted_once(nodes: &NodeTable<'_>, members: Vec<NodeId>) -> Result<Vec<NodeId>, AllocError>
-    requires { All (λ i. IsTrue (knows (trees nodes.now) i)) members.items }
-    ensures sorted { IfOk result (λ v. map (tree_at (trees nodes.now)) v.items
-        ≡ sorted_once tree_cmp (map (tree_at (trees nodes.now)) members.items)) }
-    ensures known { IfOk result (λ v. All (λ i. IsTrue (knows (trees nodes.now) i)) v.items) }
+    requires { KnowsAll (knows_in nodes.now) members.items }
+    ensures sorted { IfOk result (λ v. map (tree_in nodes.now) v.items
+        ≡ sorted_once tree_cmp (map (tree_in nodes.now) members.items)) }
+    ensures known { IfOk result (λ v. KnowsAll (knows_in nodes.now) v.items) }
 {
     let mut members = distinct(members);
     members.sort_by(|a, b| nodes.compare(*a, *b))?;
@@ -239,8 +242,9 @@ fn sorted_once(nodes: &NodeTable<'_>, members: Vec<NodeId>) -> Result<Vec<NodeId
 
 /// A list of the members; the member itself if there is one, and what an empty list stands for if there is none.
 fn listed(connector: Connector, members: Vec<NodeId>) -> Reduced
-    ensures tree { (ts : List Tree) → reduced_tree ts result ≡ listed connector (map (tree_at ts) members.items) }
-    ensures stored { (ts : List Tree) → All (λ i. IsTrue (knows ts i)) members.items → IsReducedIn ts result }
+    ensures tree { (ts : List Tree)
+        → reduced_tree ts result ≡ listed connector (map (tree_at ts) members.items) }
+    ensures stored { (ts : List Tree) → KnowsAll (knows ts) members.items → IsReducedIn ts result }
 {
     if members.is_empty() {
         return Reduced::New(connector.neutral());

@@ -1,8 +1,8 @@
 // The three kinds of lists of patterns.
 ghost use Rattle.std.specs.Prelude.{◌≡◌, ◌∷◌, [], ℕ, ◌<◌, All, IfSome, List, MatchOption, map};
 ghost use Rattle.rn_pattern.specs.Canonical.{node_of};
-ghost use Rattle.rn_pattern.specs.Lists.{members_by, neutral, over};
-ghost use Rattle.rn_pattern.specs.Nodes.{NamesBelow};
+ghost use Rattle.rn_pattern.specs.inside.Lists.{members_by, neutral, over};
+ghost use Rattle.rn_pattern.specs.inside.Stored.{NamesBelow};
 ghost use Rattle.rn_pattern.specs.Store.{node_view};
 ghost use Rattle.rn_pattern.specs.Tree.{Tree, trees_of};
 ghost use Rattle.rn_pattern.specs.declared.node.NodeId.{NodeId};
@@ -27,7 +27,8 @@ impl Connector {
         ensures tree { (at : NodeId → Tree) → MatchOption result
             (members_by self (node_view at node.now) ≡ node_view at node.now ∷ [])
             (λ s. members_by self (node_view at node.now) ≡ map at s.now) }
-        ensures below { (k : ℕ) → NamesBelow k node.now → IfSome result (λ s. All (λ i. i.0 < k) s.now) }
+        ensures below { (k : ℕ) → NamesBelow k node.now
+            → IfSome result (λ s. All (λ i. i.0 < k) s.now) }
     {
         match self {
             Connector::Choice => match node {
@@ -62,7 +63,8 @@ impl Connector {
 
     /// The list of the members, which are taken as they are.
     pub fn node(self, members: Vec<NodeId>) -> Node<NodeId>
-        ensures tree { (at : NodeId → Tree) → node_view at result ≡ over self (trees_of (map at members.items)) }
+        ensures tree { (at : NodeId → Tree)
+            → node_view at result ≡ over self (trees_of (map at members.items)) }
         ensures below { (k : ℕ) → All (λ i. i.0 < k) members.items → NamesBelow k result }
     {
         match self {

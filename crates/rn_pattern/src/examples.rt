@@ -5,23 +5,23 @@ ghost use Rattle.std.specs.Prelude.{[], ◌∷◌, codes};
 ghost use Rattle.rn_pattern.specs.Tree.{any_name, any_name_but, ns_name, ns_name_but, name, attribute, element, empty, list, text};
 ghost use Rattle.rn_pattern.specs.Document.{string, IsDocument};
 ghost use Rattle.rn_pattern.specs.NameRules.{KeepsNameRules, declarations};
-ghost use Rattle.rn_pattern.specs.Examples.{Accepts, Rejects, plain, string_is, token_is, any_string, unknown_type, unknown_value, tag, leaf, said, x_one, y_two, z_three, blank, no_break_space, padded_x_y, padded_x, no_library, a_or_b, b_of_text, a_of, a_with, b_with_x, b_of_a, a_of_b, a_then_b, a_and_b, a_twice_and_b, doc_of, doc_a_b, doc_b_a, doc_a, doc_a_a, doc_a_b_a, doc_a_a_a_b, doc_padded_by, doc_text_a_text, doc_text_b, doc_led_by, doc_ended_by, doc_with_x, mixed_a, some_a, any_a, a_with_x_of, a_holding, x_then_y, some_x, string_but_x, token_but_x, one, any_int, positive, numbers, spellings, x_and_y, x_beside_y, x_and_string, all_but_x, x_is_one, x_is_empty, x_in_u, named_by, of_u, of_u_but_a, all_but_a, all_but_u, a_or_of_u, a_in_u, b_in_u, b_in_v, through_two, nested, doc_doc_a_a, doc_doc_b};
+ghost use Rattle.rn_pattern.specs.Examples.{Accepts, Rejects, plain, string_is, token_x, token_x_y, string_x_y, any_string, unknown_type, unknown_value, tag, leaf, bare_a, bare_b, bare_doc, said, x_one, y_two, z_three, blank, no_break_space, padded_x_y, padded_x, no_library, a_or_b, b_of_text, a_of, a_with, a_with_x, a_with_y_x, b_with_x, b_of_a, a_of_b, a_then_b, a_and_b, a_twice_and_b, doc_of, doc_a_b, doc_b_a, doc_a, doc_a_a, doc_a_b_a, doc_a_a_a_b, doc_padded_by, doc_text_a_text, doc_text_b, doc_led_by, doc_ended_by, doc_with_x, mixed_a, some_a, any_a, a_with_x_of, a_holding, x_then_y, some_x, string_but_x, token_but_x, one, any_int, positive, numbers, spellings, x_and_y, x_beside_y, x_and_string, all_but_x, x_is_one, x_is_empty, x_in_u, named_by, of_u, of_u_but_a, all_but_a, all_but_u, a_or_of_u, a_in_u, b_in_u, b_in_v, through_two, nested, doc_doc_a_a, doc_doc_b};
 
 /// An element with the content and attributes that its pattern matches: nothing for `empty`, strings for `text`
 /// (sections 6.2.3 and 6.2.4); it stands in a choice (6.2.1), behind one reference.
 pub fn elements_hold_what_their_pattern_matches()
     // 6.2.3: `empty` matches no attribute and no content
-    ensures a_alone { Accepts a_or_b no_library (leaf (codes "a")) }
+    ensures a_alone { Accepts a_or_b no_library bare_a }
     // 6.2.4: `text` matches a string
     ensures b_of_text { Accepts a_or_b no_library b_of_text }
     // 6.2.4: and no content
-    ensures b_alone { Accepts a_or_b no_library (leaf (codes "b")) }
+    ensures b_alone { Accepts a_or_b no_library bare_b }
     // 6.1: neither name class holds the name
     ensures c_alone { Rejects a_or_b no_library (leaf (codes "c")) }
     // 6.2.3: a string that is not white space is not nothing
     ensures a_of_x { Rejects a_or_b no_library (a_of (codes "x")) }
     // 6.2.3: nor is an attribute
-    ensures a_with_x { Rejects a_or_b no_library (a_with (x_one ∷ [])) }
+    ensures a_with_x { Rejects a_or_b no_library a_with_x }
     // 6.2.4: an element is no string
     ensures b_of_a { Rejects a_or_b no_library b_of_a }
     // 6.1: the local name alone is not the name
@@ -62,23 +62,24 @@ pub fn content_matches_weakly()
     // a letter is no white space
     ensures letter_for_nothing { Rejects (a_holding empty) no_library (a_of (codes "x")) }
     // no content for the empty string, which is a string
-    ensures nothing_for_string { Accepts (a_holding any_string) no_library (leaf (codes "a")) }
+    ensures nothing_for_string { Accepts (a_holding any_string) no_library bare_a }
     // no content for the empty string, which is the value
-    ensures nothing_for_empty_value { Accepts (a_holding (string_is [])) no_library (leaf (codes "a")) }
+    ensures nothing_for_empty_value { Accepts (a_holding (string_is [])) no_library bare_a }
     // the empty string is another value
-    ensures nothing_for_value { Rejects (a_holding (token_is (codes "x"))) no_library (leaf (codes "a")) }
+    ensures nothing_for_value { Rejects (a_holding token_x) no_library bare_a }
     // white space is taken for no content, and not twice for the empty string
     ensures blank_for_empty_value { Rejects (a_holding (string_is [])) no_library (a_of blank) }
     // 6.2.8: data is one string
     ensures element_for_string { Rejects (a_holding any_string) no_library a_of_b }
     // white space for no content, in an attribute
-    ensures blank_attribute { Accepts (a_holding x_is_empty) no_library (a_with (said (codes "x") blank ∷ [])) }
+    ensures blank_attribute { Accepts (a_holding x_is_empty) no_library
+        (a_with (said (codes "x") blank ∷ [])) }
     // other text is not
-    ensures some_attribute { Rejects (a_holding x_is_empty) no_library (a_with (x_one ∷ [])) }
+    ensures some_attribute { Rejects (a_holding x_is_empty) no_library a_with_x }
     // white space for no content, beside an attribute
     ensures blank_beside_attribute { Accepts (a_holding x_is_one) no_library (a_with_x_of blank) }
     // no content for the empty string, beside an attribute
-    ensures nothing_beside_attribute { Accepts (a_holding x_and_string) no_library (a_with (x_one ∷ [])) }
+    ensures nothing_beside_attribute { Accepts (a_holding x_and_string) no_library a_with_x }
 {}
 
 /// A list matches a string by its words between white space (section 6.2.10).
@@ -98,9 +99,9 @@ pub fn lists_split_at_white_space()
     // 6.2.5: one of which is not
     ensures other_of_some { Rejects (a_holding some_x) no_library (a_of (codes "x y x")) }
     // 6.2.5: no word
-    ensures none_of_some { Rejects (a_holding some_x) no_library (leaf (codes "a")) }
+    ensures none_of_some { Rejects (a_holding some_x) no_library bare_a }
     // 6.2.7 and 6.2.3: the empty string has no words
-    ensures none_of_none { Accepts (a_holding (list empty)) no_library (leaf (codes "a")) }
+    ensures none_of_none { Accepts (a_holding (list empty)) no_library bare_a }
     // a list matches no attribute
     ensures attribute { Rejects (a_holding some_x) no_library (a_with_x_of (codes "x")) }
 {}
@@ -108,13 +109,13 @@ pub fn lists_split_at_white_space()
 /// Values of the built-in types, and data with an except (sections 6.2.8 and 6.2.9).
 pub fn values_and_excepts()
     // a string equals itself
-    ensures string_itself { Accepts (a_holding (string_is (codes "x y"))) no_library (a_of (codes "x y")) }
+    ensures string_itself { Accepts (a_holding string_x_y) no_library (a_of (codes "x y")) }
     // white space counts in a string
-    ensures string_padded { Rejects (a_holding (string_is (codes "x y"))) no_library (a_of padded_x_y) }
+    ensures string_padded { Rejects (a_holding string_x_y) no_library (a_of padded_x_y) }
     // white space is normalised in a token
-    ensures token_padded { Accepts (a_holding (token_is (codes "x y"))) no_library (a_of padded_x_y) }
+    ensures token_padded { Accepts (a_holding token_x_y) no_library (a_of padded_x_y) }
     // but its words stay two
-    ensures token_joined { Rejects (a_holding (token_is (codes "x y"))) no_library (a_of (codes "xy")) }
+    ensures token_joined { Rejects (a_holding token_x_y) no_library (a_of (codes "xy")) }
     // a string that the except does not match
     ensures string_other { Accepts (a_holding string_but_x) no_library (a_of (codes "y")) }
     // and the one that it matches
@@ -126,11 +127,14 @@ pub fn values_and_excepts()
     // a token that the except does not match
     ensures token_other { Accepts (a_holding token_but_x) no_library (a_of (codes "y")) }
     // a value matches no attribute
-    ensures value_with_attribute { Rejects (a_holding (token_is (codes "x"))) no_library (a_with_x_of (codes "x")) }
+    ensures value_with_attribute { Rejects (a_holding token_x) no_library
+        (a_with_x_of (codes "x")) }
     // nor does data
-    ensures data_with_attribute { Rejects (a_holding any_string) no_library (a_with_x_of (codes "x")) }
+    ensures data_with_attribute { Rejects (a_holding any_string) no_library
+        (a_with_x_of (codes "x")) }
     // nor data with an except
-    ensures except_with_attribute { Rejects (a_holding string_but_x) no_library (a_with_x_of (codes "y")) }
+    ensures except_with_attribute { Rejects (a_holding string_but_x) no_library
+        (a_with_x_of (codes "y")) }
     // 6.2.9: the built-in types are string and token
     ensures unknown_type { Rejects (a_holding unknown_type) no_library (a_of (codes "1")) }
     // 6.2.9: no other has a value
@@ -197,9 +201,9 @@ pub fn repetitions()
     // twice
     ensures some_twice { Accepts some_a no_library doc_a_a }
     // not at all
-    ensures some_never { Rejects some_a no_library (leaf (codes "doc")) }
+    ensures some_never { Rejects some_a no_library bare_doc }
     // 6.2.1 and 6.2.3: the other member of the choice
-    ensures any_never { Accepts any_a no_library (leaf (codes "doc")) }
+    ensures any_never { Accepts any_a no_library bare_doc }
     // twice
     ensures any_twice { Accepts any_a no_library doc_a_a }
     // a part that does not match
@@ -211,29 +215,32 @@ pub fn attributes_have_no_order()
     // 6.2.2: a bag of attributes is split
     ensures in_order { Accepts (a_holding x_and_y) no_library (a_with (x_one ∷ y_two ∷ [])) }
     // 6.2.2: and has no order
-    ensures turned { Accepts (a_holding x_and_y) no_library (a_with (y_two ∷ x_one ∷ [])) }
+    ensures turned { Accepts (a_holding x_and_y) no_library a_with_y_x }
     // 6.2.7: y is not there
-    ensures short { Rejects (a_holding x_and_y) no_library (a_with (x_one ∷ [])) }
+    ensures short { Rejects (a_holding x_and_y) no_library a_with_x }
     // 6.2.2: z is left
     ensures long { Rejects (a_holding x_and_y) no_library (a_with (x_one ∷ y_two ∷ z_three ∷ [])) }
     // 6.1 and 6.2.5: each is of another name
-    ensures except_others { Accepts (a_holding all_but_x) no_library (a_with (y_two ∷ z_three ∷ [])) }
+    ensures except_others { Accepts (a_holding all_but_x) no_library
+        (a_with (y_two ∷ z_three ∷ [])) }
     // 6.1: the excepted name
-    ensures except_x { Rejects (a_holding all_but_x) no_library (a_with (x_one ∷ [])) }
+    ensures except_x { Rejects (a_holding all_but_x) no_library a_with_x }
     // 6.1: the excepted name beside another
-    ensures except_x_with_other { Rejects (a_holding all_but_x) no_library (a_with (y_two ∷ x_one ∷ [])) }
+    ensures except_x_with_other { Rejects (a_holding all_but_x) no_library a_with_y_x }
     // 6.2.7 and 6.2.8: its text is the value
-    ensures value_itself { Accepts (a_holding x_is_one) no_library (a_with (x_one ∷ [])) }
+    ensures value_itself { Accepts (a_holding x_is_one) no_library a_with_x }
     // 6.2.8: its text is another
-    ensures value_other { Rejects (a_holding x_is_one) no_library (a_with (said (codes "x") (codes "2") ∷ [])) }
+    ensures value_other { Rejects (a_holding x_is_one) no_library
+        (a_with (said (codes "x") (codes "2") ∷ [])) }
     // 6.2.7: content is no attribute
     ensures value_in_content { Rejects (a_holding x_is_one) no_library (a_of (codes "1")) }
     // 6.2.6: an interleave splits them as a group does
-    ensures interleaved { Accepts (a_holding x_beside_y) no_library (a_with (y_two ∷ x_one ∷ [])) }
+    ensures interleaved { Accepts (a_holding x_beside_y) no_library a_with_y_x }
     // 6.2.7: x is not there
     ensures interleaved_short { Rejects (a_holding x_beside_y) no_library (a_with (y_two ∷ [])) }
     // 6.2.7: content is left
-    ensures value_beside_content { Rejects (a_holding x_is_one) no_library (a_with_x_of (codes "y")) }
+    ensures value_beside_content { Rejects (a_holding x_is_one) no_library
+        (a_with_x_of (codes "y")) }
 {}
 
 /// Names that a name class holds (section 6.1).
@@ -241,15 +248,15 @@ pub fn name_classes_hold_names()
     // any name, in any namespace
     ensures any_name { Accepts (named_by any_name) no_library b_in_u }
     // a name that the except does not hold
-    ensures but_a_other { Accepts (named_by all_but_a) no_library (leaf (codes "b")) }
+    ensures but_a_other { Accepts (named_by all_but_a) no_library bare_b }
     // the same local name in another namespace
     ensures but_a_elsewhere { Accepts (named_by all_but_a) no_library a_in_u }
     // the excepted name
-    ensures but_a_itself { Rejects (named_by all_but_a) no_library (leaf (codes "a")) }
+    ensures but_a_itself { Rejects (named_by all_but_a) no_library bare_a }
     // a name of the namespace
     ensures of_u { Accepts (named_by of_u) no_library b_in_u }
     // a name in no namespace
-    ensures of_u_in_none { Rejects (named_by of_u) no_library (leaf (codes "b")) }
+    ensures of_u_in_none { Rejects (named_by of_u) no_library bare_b }
     // a name of another namespace
     ensures of_u_in_other { Rejects (named_by of_u) no_library b_in_v }
     // a name of the namespace that the except does not hold
@@ -259,23 +266,23 @@ pub fn name_classes_hold_names()
     // a name of another namespace
     ensures of_u_but_a_elsewhere { Rejects (named_by of_u_but_a) no_library b_in_v }
     // the first member holds it
-    ensures choice_first { Accepts (named_by a_or_of_u) no_library (leaf (codes "a")) }
+    ensures choice_first { Accepts (named_by a_or_of_u) no_library bare_a }
     // the second member holds it
     ensures choice_second { Accepts (named_by a_or_of_u) no_library b_in_u }
     // neither member holds it
-    ensures choice_none { Rejects (named_by a_or_of_u) no_library (leaf (codes "b")) }
+    ensures choice_none { Rejects (named_by a_or_of_u) no_library bare_b }
 {}
 
 /// A reference matches what its definition matches, through other references too (sections 4.19 and 6.3).
 pub fn references_stand_for_definitions()
     // in the definition of first
-    ensures through_one { Accepts through_two no_library (leaf (codes "b")) }
+    ensures through_one { Accepts through_two no_library bare_b }
     // in that of second, to which it refers
-    ensures through_two { Accepts through_two no_library (leaf (codes "a")) }
+    ensures through_two { Accepts through_two no_library bare_a }
     // in neither
     ensures through_none { Rejects through_two no_library (leaf (codes "c")) }
     // a definition that refers to itself inside an element
-    ensures nested_empty { Accepts nested no_library (leaf (codes "doc")) }
+    ensures nested_empty { Accepts nested no_library bare_doc }
     // and matches at two levels
     ensures nested { Accepts nested no_library doc_doc_a_a }
     // but not at the second
@@ -291,7 +298,8 @@ pub fn documents_and_other_items()
     // the same in an element inside
     ensures one_name_twice_inside { ¬ IsDocument (doc_of (a_with (x_one ∷ x_one ∷ []) ∷ [])) }
     // two strings side by side
-    ensures two_strings { ¬ IsDocument (tag (codes "a") (string (codes "x") ∷ string (codes "y") ∷ [])) }
+    ensures two_strings { ¬ IsDocument
+        (tag (codes "a") (string (codes "x") ∷ string (codes "y") ∷ [])) }
     // a string that is empty
     ensures empty_string { ¬ IsDocument (a_of []) }
     // no element
@@ -305,11 +313,13 @@ pub fn name_classes_keep_restrictions()
     // but no anyName
     ensures any_but_any { ¬ KeepsNameRules (element (any_name_but any_name) empty) }
     // at any depth
-    ensures any_but_any_inside { ¬ KeepsNameRules (element (any_name_but (ns_name_but (codes "urn:u") any_name)) empty) }
+    ensures any_but_any_inside { ¬ KeepsNameRules
+        (element (any_name_but (ns_name_but (codes "urn:u") any_name)) empty) }
     // an except of nsName may hold a name
     ensures namespace_but_name { KeepsNameRules (element of_u_but_a empty) }
     // but no nsName
-    ensures namespace_but_namespace { ¬ KeepsNameRules (element (ns_name_but (codes "urn:u") of_u) empty) }
+    ensures namespace_but_namespace { ¬ KeepsNameRules
+        (element (ns_name_but (codes "urn:u") of_u) empty) }
     // an attribute in no namespace
     ensures attribute { KeepsNameRules x_is_one }
     // unless it is xmlns
@@ -317,7 +327,8 @@ pub fn name_classes_keep_restrictions()
     // which an element may be
     ensures element_xmlns { KeepsNameRules (element (plain (codes "xmlns")) empty) }
     // an attribute in the namespace of declarations
-    ensures attribute_declaration { ¬ KeepsNameRules (attribute (name declarations (codes "x")) text) }
+    ensures attribute_declaration { ¬ KeepsNameRules
+        (attribute (name declarations (codes "x")) text) }
     // any attribute of that namespace
     ensures attributes_of_declarations { ¬ KeepsNameRules (attribute (ns_name declarations) text) }
 {}

@@ -1,8 +1,9 @@
 // Reachability in a graph whose nodes are numbers.
 
 ghost use Rattle.std.specs.Prelude.{◌≡◌, ℕ, ◌+◌, ◌<◌, ◌≤◌, Decides, ◌∷◌, ◌++◌, [], length, map, vec_len, take, IfOk, OnOk, if◌then◌else◌, slice_index_or, slice_set};
-ghost use Rattle.rn_pattern.specs.Graph.{AllBelow, row, IsGraph, is_marked, Agrees, Marks, Reached, rows_of};
-ghost use Rattle.rn_pattern.specs.Ranks.{IsNext};
+ghost use Rattle.rn_pattern.specs.Graph.{AllBelow, row, IsGraph, is_marked, Reached, rows_of};
+ghost use Rattle.rn_pattern.specs.inside.Marking.{Agrees, Marks};
+ghost use Rattle.rn_pattern.specs.inside.Walking.{IsNext, edges_left};
 
 use std::alloc::{AllocError, Global};
 
@@ -10,7 +11,8 @@ use std::alloc::{AllocError, Global};
 fn mark(seen: &mut Vec<bool>, order: &mut Vec<usize>, node: usize) -> Result<(), AllocError>
     requires within { node < vec_len seen.old }
     requires agrees { Agrees seen.old.items order.old.items }
-    ensures { OnOk result (Marks (node ∷ []) seen.old.items order.old.items seen.new.items order.new.items) }
+    ensures { OnOk result (Marks (node ∷ []) seen.old.items order.old.items
+        seen.new.items order.new.items) }
 {
     if !seen[node] {
         seen[node] = true;
@@ -23,7 +25,8 @@ fn mark(seen: &mut Vec<bool>, order: &mut Vec<usize>, node: usize) -> Result<(),
 fn mark_all(seen: &mut Vec<bool>, order: &mut Vec<usize>, row: &[usize]) -> Result<(), AllocError>
     requires within { AllBelow (vec_len seen.old) row.now }
     requires agrees { Agrees seen.old.items order.old.items }
-    ensures { OnOk result (Marks row.now seen.old.items order.old.items seen.new.items order.new.items) }
+    ensures { OnOk result (Marks row.now seen.old.items order.old.items
+        seen.new.items order.new.items) }
 {
     for node in row {
         mark(seen, order, *node)?;
@@ -54,7 +57,7 @@ pub(crate) fn next_of(left: &[usize], edges: &[Vec<usize>], node: usize) -> Opti
     requires graph { IsGraph (rows_of edges.now) }
     requires within { node < length edges.now }
     requires counted { node < length left.now }
-    requires at_most { slice_index_or left.now node 0 ≤ length (row (rows_of edges.now) node) }
+    requires at_most { edges_left left.now node ≤ length (row (rows_of edges.now) node) }
     ensures { IsNext (rows_of edges.now) left.now node result }
 {
     let left = left[node];
@@ -74,7 +77,8 @@ pub fn reached(
     requires graph { IsGraph (rows_of edges.now) }
     requires first_within { AllBelow (length edges.now) first.now }
     ensures size { IfOk result (λ seen. length seen.items ≡ length edges.now) }
-    ensures exact { IfOk result (λ seen. (x : ℕ) → Decides (is_marked seen.items x) (Reached (rows_of edges.now) first.now x)) }
+    ensures exact { IfOk result (λ seen. (x : ℕ)
+        → Decides (is_marked seen.items x) (Reached (rows_of edges.now) first.now x)) }
 {
     let mut seen = vec![in alloc; false; edges.len()]?;
     let mut order = Vec::new(alloc);

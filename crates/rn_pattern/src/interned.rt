@@ -1,8 +1,8 @@
 // The store Interned.
 ghost use Rattle.std.specs.Prelude.{◌≡◌, IsTrue};
 ghost use Rattle.std.specs.List.{IsDistinct, IsDistinct-prop};
-ghost use Rattle.rn_pattern.specs.Key.{node_eq};
-ghost use Rattle.rn_pattern.specs.Nodes.{NameEarlier, NameEarlier-prop, trees_of_nodes};
+ghost use Rattle.rn_pattern.specs.inside.Key.{node_eq};
+ghost use Rattle.rn_pattern.specs.inside.Stored.{NameEarlier, NameEarlier-prop, trees_of_nodes};
 
 use crate::node::{Node, NodeId};
 use crate::node_table::NodeTable;
@@ -42,7 +42,8 @@ impl Interned {
     /// How many ids the store has. Two ids that stand for equal patterns are equal.
     pub fn nodes(&self) -> usize
         ensures count { result ≡ ⟦<Interned as Patterns>⟧.size self.now }
-        ensures distinct { (i j : NodeId) → let ids = ⟦<Interned as Patterns>⟧ in IsTrue (ids.knows self.now i) → IsTrue (ids.knows self.now j)
+        ensures distinct { (i j : NodeId) → let ids = ⟦<Interned as Patterns>⟧ in
+            IsTrue (ids.knows self.now i) → IsTrue (ids.knows self.now j)
             → ids.tree_of self.now i ≡ ids.tree_of self.now j → i ≡ j }
     {
         self.nodes.len()

@@ -1,10 +1,9 @@
 // Nodes as keys: when two are equal, and their hash.
 ghost use Rattle.std.specs.Prelude.{◌≡◌, flat_map, fold, map};
 ghost use Rattle.std.specs.Hash as fed;
-ghost use Rattle.rn_pattern.specs.Key.{name_writes, names_writes, node_eq, node_writes, parameters_writes};
-ghost use Rattle.rn_pattern.specs.Tree.{name_trees_of};
-ghost use Rattle.rn_pattern.specs.View.{name_class_view, parameters_view};
-ghost use Rattle.rn_pattern.specs.Key.{node_eq_equiv, node_eq_writes};
+ghost use Rattle.rn_pattern.specs.inside.Key.{name_writes, names_writes, node_eq, node_writes, parameters_writes};
+ghost use Rattle.rn_pattern.specs.View.{name_class_view, name_classes_view, parameters_view};
+ghost use Rattle.rn_pattern.specs.inside.Key.{node_eq_equiv, node_eq_writes};
 ghost use Rattle.std.specs.Cmp.{partial_equiv_from_equiv};
 
 use crate::node::{Node, NodeId};
@@ -53,7 +52,8 @@ impl Hash for Node<NodeId> {
 
 /// The names and the texts of the parameters, in turn.
 fn hash_parameters<H: Hasher>(parameters: &[(String, String)], state: &mut H)
-    ensures { state.new ≡ fold H.write state.old (parameters_writes (parameters_view parameters.now)) }
+    ensures { state.new
+        ≡ fold H.write state.old (parameters_writes (parameters_view parameters.now)) }
 {
     for (name, value) in parameters {
         name.hash(state);
@@ -105,7 +105,7 @@ fn hash_name_class<H: Hasher>(class: &NameClass, state: &mut H)
 /// The members, in turn.
 #[cycle(hash_names)]
 fn hash_name_classes<H: Hasher>(classes: &[NameClass], state: &mut H)
-    ensures { state.new ≡ fold H.write state.old (names_writes (name_trees_of (map name_class_view classes.now))) }
+    ensures { state.new ≡ fold H.write state.old (names_writes (name_classes_view classes.now)) }
 {
     for class in classes {
         hash_name_class(class, state);

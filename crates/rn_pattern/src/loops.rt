@@ -2,8 +2,8 @@
 
 ghost use Rattle.std.specs.Prelude.{◌≡◌, ℕ, ◌-◌, ◌<◌, ◌≤◌, ◌≢◌, ◌⊎◌, [], Contains, length, vec_len, slice_index_or, take, drop, min, MatchBool, MatchOption, None, IfOk, OnOk};
 ghost use Rattle.rn_pattern.specs.Graph.{row, IsGraph, rows_of};
-ghost use Rattle.rn_pattern.specs.Ranks.{EndsWith};
-ghost use Rattle.rn_pattern.specs.Loops.{Grouping, GroupsOn, IsLeastLooped, IsClosed, IsSettled, IsStage, IsAtWork, IsJoined, AllLead, Rises, node_at, place_of, work};
+ghost use Rattle.rn_pattern.specs.inside.Walking.{EndsWith};
+ghost use Rattle.rn_pattern.specs.inside.Loops.{Grouping, GroupsOn, IsLeastLooped, IsClosed, IsSettled, IsStage, IsAtWork, IsJoined, AllLead, LeadsBack, Rises, left_at, next_at, node_at, place_of, work};
 
 use crate::graph::{lengths, next_of, row_at};
 use std::alloc::{AllocError, Global};
@@ -74,9 +74,9 @@ fn enter(search: &mut Search, edges: &[Vec<usize>], node: usize) -> Result<(), A
 fn pass(search: &mut Search, edges: &[Vec<usize>], place: usize)
     requires grouping { Grouping (rows_of edges.now) search.old }
     requires within { place < vec_len search.old.stack }
-    requires some_left { 0 < slice_index_or search.old.left.items (node_at search.old.stack.items place) 0 }
-    requires settled { IsSettled search.old.places.items search.old.stack.items search.old.bounds.items place
-        (slice_index_or (row (rows_of edges.now) (node_at search.old.stack.items place)) (slice_index_or search.old.left.items (node_at search.old.stack.items place) 0 - 1) 0) }
+    requires some_left { 0 < left_at search.old place }
+    requires settled { IsSettled search.old.places.items search.old.stack.items
+        search.old.bounds.items place (next_at (rows_of edges.now) search.old place) }
     ensures goes_on { GroupsOn (rows_of edges.now) search.old search.new }
     ensures less { work search.new < work search.old }
 {
@@ -99,9 +99,11 @@ fn merge(search: &mut Search, edges: &[Vec<usize>], place: usize, other: usize)
     requires grouping { Grouping (rows_of edges.now) search.old }
     requires within { place < vec_len search.old.stack }
     requires other_within { other < vec_len search.old.stack }
-    requires some_left { 0 < slice_index_or search.old.left.items (node_at search.old.stack.items place) 0 }
-    requires next { slice_index_or (row (rows_of edges.now) (node_at search.old.stack.items place)) (slice_index_or search.old.left.items (node_at search.old.stack.items place) 0 - 1) 0 ≡ node_at search.old.stack.items other }
-    requires all_lead { AllLead (rows_of edges.now) search.old.stack.items (node_at search.old.stack.items other) }
+    requires some_left { 0 < left_at search.old place }
+    requires next { next_at (rows_of edges.now) search.old place
+        ≡ node_at search.old.stack.items other }
+    requires all_lead { AllLead (rows_of edges.now) search.old.stack.items
+        (node_at search.old.stack.items other) }
     ensures goes_on { GroupsOn (rows_of edges.now) search.old search.new }
     ensures less { work search.new < work search.old }
 {
@@ -113,7 +115,7 @@ fn merge(search: &mut Search, edges: &[Vec<usize>], place: usize, other: usize)
 fn leave(search: &mut Search, edges: &[Vec<usize>], place: usize)
     requires grouping { Grouping (rows_of edges.now) search.old }
     requires last { EndsWith search.old.path.items place }
-    requires all_looked { slice_index_or search.old.left.items (node_at search.old.stack.items place) 0 ≡ 0 }
+    requires all_looked { left_at search.old place ≡ 0 }
     ensures goes_on { GroupsOn (rows_of edges.now) search.old search.new }
     ensures less { work search.new < work search.old }
 {
@@ -138,8 +140,8 @@ fn is_looped(edges: &[Vec<usize>], group: &[usize]) -> bool
     requires some { 0 < length group.now }
     requires within { node_at group.now 0 < length edges.now }
     ensures { MatchBool result
-        ((1 < length group.now) ⊎ Contains (row (rows_of edges.now) (node_at group.now 0)) (node_at group.now 0))
-        ((length group.now ≡ 1) × (Contains (row (rows_of edges.now) (node_at group.now 0)) (node_at group.now 0) → ⊥)) }
+        ((1 < length group.now) ⊎ LeadsBack (rows_of edges.now) (node_at group.now 0))
+        ((length group.now ≡ 1) × (LeadsBack (rows_of edges.now) (node_at group.now 0) → ⊥)) }
 {
     group.len() > 1 || row_at(edges, group[0]).contains(&group[0])
 }
@@ -170,7 +172,8 @@ fn least_with(search: &Search, edges: &[Vec<usize>], begin: usize) -> Option<usi
     requires grouping { Grouping (rows_of edges.now) search.now }
     requires last { EndsWith search.now.bounds.items begin }
     requires all_looked { (p : ℕ) → Contains search.now.path.items p → p < begin }
-    ensures { IsLeastLooped (rows_of edges.now) (IsClosed search.now.places.items (take begin search.now.stack.items)) result }
+    ensures { IsLeastLooped (rows_of edges.now)
+        (IsClosed search.now.places.items (take begin search.now.stack.items)) result }
 {
     let group = last_group(search, edges, begin);
     if is_looped(edges, group) {

@@ -1,10 +1,9 @@
 // The canonical form of a name class: choices within choices replaced by their members, in order, without repeats.
 ghost use Rattle.std.specs.Prelude.{◌≡◌, ◌++◌, IfOk, OnOk, map};
 ghost use Rattle.rn_pattern.specs.Canonical.{canonical_name, name_class_of, sorted_once};
-ghost use Rattle.rn_pattern.specs.NameParts.{name_parts};
+ghost use Rattle.rn_pattern.specs.inside.NameParts.{name_parts};
 ghost use Rattle.rn_pattern.specs.Order.{name_cmp};
-ghost use Rattle.rn_pattern.specs.Tree.{name_trees_of};
-ghost use Rattle.rn_pattern.specs.View.{name_class_view};
+ghost use Rattle.rn_pattern.specs.View.{name_class_view, name_classes_view};
 
 use crate::tree::NameClass;
 use std::alloc::{AllocError, Global};
@@ -50,7 +49,7 @@ fn push_parts(
     parts: &mut Vec<NameClass>,
 ) -> Result<(), AllocError>
     ensures { OnOk result (map name_class_view parts.new.items
-        ≡ map name_class_view parts.old.items ++ name_parts (name_trees_of (map name_class_view members.now))) }
+        ≡ map name_class_view parts.old.items ++ name_parts (name_classes_view members.now)) }
 {
     for member in members {
         match member {

@@ -1,8 +1,7 @@
 // The restrictions on name classes (RELAX NG 2001, 4.16).
-ghost use Rattle.std.specs.Prelude.{◌≡◌, ◌≢◌, Decides, map, string_bytes, codes, []};
-ghost use Rattle.rn_pattern.specs.NameRules.{HasNoAny, HaveNoAny, HasNamesAlone, HaveNamesAlone, HasNameExcepts, HaveNameExcepts, HasNoDeclaration, HaveNoDeclaration, KeepsNameRules, KeepNameRules, declarations};
-ghost use Rattle.rn_pattern.specs.Tree.{name_trees_of, trees_of};
-ghost use Rattle.rn_pattern.specs.View.{name_class_view, pattern_view, shared_view};
+ghost use Rattle.std.specs.Prelude.{◌≢◌, Decides, string_bytes, codes, []};
+ghost use Rattle.rn_pattern.specs.NameRules.{HasNoAny, HaveNoAny, HasNamesAlone, HaveNamesAlone, HasNameExcepts, HaveNameExcepts, HasNoDeclaration, HaveNoDeclaration, IsNoDeclaration, KeepsNameRules, KeepNameRules, declarations};
+ghost use Rattle.rn_pattern.specs.View.{name_class_view, name_classes_view, pattern_view, patterns_view};
 
 use crate::tree::{NameClass, Pattern};
 use std::rc::Rc;
@@ -25,7 +24,7 @@ fn has_no_any(class: &NameClass) -> bool
 
 #[cycle(no_any)]
 fn have_no_any(classes: &[NameClass]) -> bool
-    ensures { Decides result (HaveNoAny (name_trees_of (map name_class_view classes.now))) }
+    ensures { Decides result (HaveNoAny (name_classes_view classes.now)) }
 {
     for class in classes {
         if !has_no_any(class) {
@@ -49,7 +48,7 @@ fn has_names_alone(class: &NameClass) -> bool
 
 #[cycle(names_alone)]
 fn have_names_alone(classes: &[NameClass]) -> bool
-    ensures { Decides result (HaveNamesAlone (name_trees_of (map name_class_view classes.now))) }
+    ensures { Decides result (HaveNamesAlone (name_classes_view classes.now)) }
 {
     for class in classes {
         if !has_names_alone(class) {
@@ -74,7 +73,7 @@ fn has_name_excepts(class: &NameClass) -> bool
 
 #[cycle(name_excepts)]
 fn have_name_excepts(classes: &[NameClass]) -> bool
-    ensures { Decides result (HaveNameExcepts (name_trees_of (map name_class_view classes.now))) }
+    ensures { Decides result (HaveNameExcepts (name_classes_view classes.now)) }
 {
     for class in classes {
         if !has_name_excepts(class) {
@@ -93,7 +92,7 @@ fn is_other_namespace(uri: &str) -> bool
 
 /// Whether the name is no `xmlns` without a namespace, and not of the namespace of declarations.
 fn is_no_declaration(uri: &str, local: &str) -> bool
-    ensures { Decides result (¬ ((uri.now ≡ []) × (local.now ≡ codes "xmlns")) × (uri.now ≢ declarations)) }
+    ensures { Decides result (IsNoDeclaration uri.now local.now) }
 {
     !(uri == "" && local == "xmlns") && is_other_namespace(uri)
 }
@@ -117,7 +116,7 @@ fn has_no_declaration(class: &NameClass) -> bool
 
 #[cycle(no_declaration)]
 fn have_no_declaration(classes: &[NameClass]) -> bool
-    ensures { Decides result (HaveNoDeclaration (name_trees_of (map name_class_view classes.now))) }
+    ensures { Decides result (HaveNoDeclaration (name_classes_view classes.now)) }
 {
     for class in classes {
         if !has_no_declaration(class) {
@@ -154,7 +153,7 @@ pub fn keeps_name_rules(pattern: &Pattern) -> bool
 
 #[cycle(name_rules)]
 fn keep_name_rules(members: &[Rc<Pattern>]) -> bool
-    ensures { Decides result (KeepNameRules (trees_of (map shared_view members.now))) }
+    ensures { Decides result (KeepNameRules (patterns_view members.now)) }
 {
     for member in members {
         if !keeps_name_rules(member) {

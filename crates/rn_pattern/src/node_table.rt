@@ -1,9 +1,9 @@
 // The nodes of a store, each of which names earlier ones by their places.
-ghost use Rattle.std.specs.Prelude.{◌≡◌, ◌∷◌, [], IsTrue, option_copied};
-ghost use Rattle.rn_pattern.specs.Nodes.{NamesBelow, NameEarlier, NameEarlier-prop, knows, tree_at};
+ghost use Rattle.std.specs.Prelude.{◌≡◌, IsTrue, option_copied};
+ghost use Rattle.rn_pattern.specs.inside.Stored.{NamesBelow, NameEarlier, NameEarlier-prop};
 ghost use Rattle.rn_pattern.specs.Canonical.{is_not_allowed};
 ghost use Rattle.rn_pattern.specs.Order.{tree_cmp};
-ghost use Rattle.rn_pattern.specs.Shown.{ShowsTree};
+ghost use Rattle.rn_pattern.specs.inside.Shown.{ShowsTree, part_texts};
 ghost use Rattle.rn_pattern.specs.Store.{node_view};
 
 use crate::node::{Node, NodeId};
@@ -18,12 +18,12 @@ pub struct NodeTable<'a> {
 }
 
 impl<'a> NodeTable<'a> {
-    ghost use Rattle.rn_pattern.specs.Table.{trees};
+    ghost use Rattle.rn_pattern.specs.inside.Table.{knows_in, tree_in};
 
     /// The node of an id of the table.
     pub fn get(&self, id: NodeId) -> &'a Node<NodeId>
-        requires { IsTrue (knows (trees self.now) id) }
-        ensures tree { node_view (tree_at (trees self.now)) result.now ≡ tree_at (trees self.now) id }
+        requires { IsTrue (knows_in self.now id) }
+        ensures tree { node_view (tree_in self.now) result.now ≡ tree_in self.now id }
         ensures below { NamesBelow id.0 result.now }
     {
         prove!(id.0 < self.nodes.len());
@@ -32,8 +32,8 @@ impl<'a> NodeTable<'a> {
 
     /// The parts of the pattern at a place, of `notAllowed` where there is none.
     fn parts(&self, id: NodeId) -> Parts<'a>
-        ensures { ShowsTree (tree_at (trees self.now)) (tree_at (trees self.now) id) id.0 result.kind
-            (result.first.now ∷ result.second.now ∷ result.third.now ∷ []) result.parameters.now
+        ensures { ShowsTree (tree_in self.now) (tree_in self.now id) id.0 result.kind
+            (part_texts result) result.parameters.now
             (option_copied result.class) result.members.now }
     {
         if id.0 < self.nodes.len() {
@@ -45,7 +45,7 @@ impl<'a> NodeTable<'a> {
 
     /// Whether `notAllowed` stands at the place, or nothing.
     pub fn is_not_allowed(&self, id: NodeId) -> bool
-        ensures { result ≡ is_not_allowed (tree_at (trees self.now) id) }
+        ensures { result ≡ is_not_allowed (tree_in self.now id) }
     {
         if id.0 < self.nodes.len() {
             matches!(self.get(id), Node::NotAllowed)
@@ -57,7 +57,7 @@ impl<'a> NodeTable<'a> {
     /// The order of the patterns at two places, equal at once where the places are. A place that isn't the table's counts
     /// as `notAllowed`.
     pub fn compare(&self, a: NodeId, b: NodeId) -> Ordering
-        ensures { result ≡ tree_cmp (tree_at (trees self.now) a) (tree_at (trees self.now) b) }
+        ensures { result ≡ tree_cmp (tree_in self.now a) (tree_in self.now b) }
     {
         if a.0 == b.0 {
             return Ordering::Equal;

@@ -1,8 +1,7 @@
 // The order of name classes and of patterns: by kind, then by the parts from left to right.
-ghost use Rattle.std.specs.Prelude.{◌≡◌, map};
+ghost use Rattle.std.specs.Prelude.{◌≡◌};
 ghost use Rattle.rn_pattern.specs.Order.{name_cmp, name_rank, names_cmp, rank, tree_cmp, trees_cmp};
-ghost use Rattle.rn_pattern.specs.Tree.{name_trees_of, trees_of};
-ghost use Rattle.rn_pattern.specs.View.{except_view, excepted_view, name_class_view, pattern_view, shared_view};
+ghost use Rattle.rn_pattern.specs.View.{except_view, excepted_view, name_class_view, name_classes_view, pattern_view, patterns_view};
 
 use crate::tree::{NameClass, Pattern};
 use std::cmp::Ordering;
@@ -56,7 +55,7 @@ fn compare_excepts(c: &Option<Box<NameClass>>, d: &Option<Box<NameClass>>) -> Or
 /// By the first members that differ; a list stands before each longer one that it begins.
 #[cycle(compare_names)]
 fn compare_name_classes(cs: &[NameClass], ds: &[NameClass]) -> Ordering
-    ensures { result ≡ names_cmp (name_trees_of (map name_class_view cs.now)) (name_trees_of (map name_class_view ds.now)) }
+    ensures { result ≡ names_cmp (name_classes_view cs.now) (name_classes_view ds.now) }
 {
     for (k, c) in cs.iter().enumerate() {
         if k >= ds.len() {
@@ -149,7 +148,7 @@ fn compare_excepted(p: &Option<Box<Pattern>>, q: &Option<Box<Pattern>>) -> Order
 /// By the first members that differ; a list stands before each longer one that it begins.
 #[cycle(compare_patterns)]
 fn compare_patterns(ps: &[Rc<Pattern>], qs: &[Rc<Pattern>]) -> Ordering
-    ensures { result ≡ trees_cmp (trees_of (map shared_view ps.now)) (trees_of (map shared_view qs.now)) }
+    ensures { result ≡ trees_cmp (patterns_view ps.now) (patterns_view qs.now) }
 {
     for (k, p) in ps.iter().enumerate() {
         if k >= qs.len() {

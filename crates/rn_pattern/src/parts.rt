@@ -1,11 +1,9 @@
 // What the order compares of a node, in turn.
 ghost use Rattle.std.specs.Prelude.{◌≡◌, ◌∷◌, [], option_copied};
-ghost use Rattle.std.specs.Ordering.{nat_cmp, ordering_then};
-ghost use Rattle.std.specs.Cmp.Lexicographic.{slice_cmp};
-ghost use Rattle.rn_pattern.specs.Order.{names_cmp, parameters_cmp, text_cmp};
-ghost use Rattle.rn_pattern.specs.Shown.{class_view};
-ghost use Rattle.rn_pattern.specs.View.{parameters_view};
-ghost use Rattle.rn_pattern.specs.Nodes.{node_class, node_members, node_parameters, node_rank, node_texts};
+ghost use Rattle.rn_pattern.specs.Order.{names_cmp};
+ghost use Rattle.rn_pattern.specs.inside.Shown.{class_view, heads_cmp, part_texts};
+ghost use Rattle.rn_pattern.specs.Nodes.{node_members};
+ghost use Rattle.rn_pattern.specs.inside.Stored.{node_class, node_parameters, node_rank, node_texts};
 
 use crate::node::{Node, NodeId};
 use crate::tree::NameClass;
@@ -28,7 +26,7 @@ pub struct Parts<'a> {
 /// The parts of `notAllowed`.
 pub fn parts_of_none<'a>() -> Parts<'a>
     ensures kind { result.kind ≡ 0 }
-    ensures texts { result.first.now ∷ result.second.now ∷ result.third.now ∷ [] ≡ [] ∷ [] ∷ [] ∷ [] }
+    ensures texts { part_texts result ≡ [] ∷ [] ∷ [] ∷ [] }
     ensures parameters { result.parameters.now ≡ [] }
     ensures class { result.class ≡ None }
     ensures members { result.members.now ≡ [] }
@@ -47,7 +45,7 @@ pub fn parts_of_none<'a>() -> Parts<'a>
 /// The parts of the node, borrowed from it.
 pub fn parts_of(node: &Node<NodeId>) -> Parts<'_>
     ensures kind { result.kind ≡ node_rank node.now }
-    ensures texts { result.first.now ∷ result.second.now ∷ result.third.now ∷ [] ≡ node_texts node.now }
+    ensures texts { part_texts result ≡ node_texts node.now }
     ensures parameters { result.parameters.now ≡ node_parameters node.now }
     ensures class { option_copied result.class ≡ node_class node.now }
     ensures members { result.members.now ≡ node_members node.now }
@@ -134,7 +132,8 @@ fn members(node: &Node<NodeId>) -> &[NodeId]
 
 /// The order of two name classes, where none stands before one.
 fn compare_classes(x: Option<&NameClass>, y: Option<&NameClass>) -> Ordering
-    ensures { result ≡ names_cmp (class_view (option_copied x.entry)) (class_view (option_copied y.entry)) }
+    ensures { result ≡ names_cmp (class_view (option_copied x.entry))
+        (class_view (option_copied y.entry)) }
 {
     match (x, y) {
         (None, None) => Ordering::Equal,
@@ -146,11 +145,7 @@ fn compare_classes(x: Option<&NameClass>, y: Option<&NameClass>) -> Ordering
 
 /// The order by all parts but the members. Most nodes that are compared differ in their kind or first text.
 pub fn compare_heads(x: Parts, y: Parts) -> Ordering
-    ensures { result ≡ ordering_then (nat_cmp x.entry.kind y.entry.kind)
-        (ordering_then (slice_cmp text_cmp (x.entry.first.now ∷ x.entry.second.now ∷ x.entry.third.now ∷ [])
-        (y.entry.first.now ∷ y.entry.second.now ∷ y.entry.third.now ∷ []))
-        (ordering_then (parameters_cmp (parameters_view x.entry.parameters.now) (parameters_view y.entry.parameters.now))
-        (names_cmp (class_view (option_copied x.entry.class)) (class_view (option_copied y.entry.class))))) }
+    ensures { result ≡ heads_cmp x.entry y.entry }
 {
     match x.kind.cmp(&y.kind).then(x.first.cmp(y.first)) {
         Ordering::Equal => {}

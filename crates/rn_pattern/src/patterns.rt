@@ -1,10 +1,10 @@
 // What a store of patterns does.
-ghost use Rattle.std.specs.Prelude.{◌≡◌, ℕ, ◌+◌, ◌≤◌, All, Bool, IfOk, IfSome, IsTrue, OnErr, map};
+ghost use Rattle.std.specs.Prelude.{◌≡◌, ℕ, ◌+◌, ◌≤◌, Bool, IfOk, IfSome, IsTrue, OnErr, map};
 ghost use Rattle.std.specs.Option.{option_map};
 ghost use Rattle.rn_pattern.specs.Canonical.{attribute_step, canonical_name, choice_step, group_step, interleave_step, list_step, one_or_more_step};
 ghost use Rattle.rn_pattern.specs.Matching.{MatchAlike};
 ghost use Rattle.rn_pattern.specs.Nodes.{node_members};
-ghost use Rattle.rn_pattern.specs.Store.{AddsOnly, HasCount, KeepsTrees, StandsFor, datum_by, datum_step, node_view};
+ghost use Rattle.rn_pattern.specs.Store.{AddsOnly, HasCount, KeepsIds, KnowsAll, StandsFor, datum_by, datum_step, node_view};
 ghost use Rattle.rn_pattern.specs.Tree as tree;
 ghost use Rattle.rn_pattern.specs.Tree.{Tree, trees_of};
 ghost use Rattle.rn_pattern.specs.View.{name_class_view, parameters_view};
@@ -33,12 +33,13 @@ pub trait Patterns {
     fn node(&self, id: Self::Id) -> &Node<Self::Id>
         requires { IsTrue (knows self.now id) }
         ensures root { node_view (tree_of self.now) result.now ≡ tree_of self.now id }
-        ensures within { All (λ i. IsTrue (knows self.now i)) (node_members result.now) };
+        ensures within { KnowsAll (knows self.now) (node_members result.now) };
 
     /// `notAllowed`.
     fn not_allowed(&mut self) -> Result<Self::Id, AllocError>
-        ensures made { IfOk result (StandsFor (knows self.new) (tree_of self.new) tree.not_allowed) }
-        ensures kept { KeepsTrees (knows self.old) (tree_of self.old) (knows self.new) (tree_of self.new) }
+        ensures made { IfOk result (StandsFor (knows self.new) (tree_of self.new)
+            tree.not_allowed) }
+        ensures kept { KeepsIds knows tree_of self.old self.new }
         ensures adds { IfOk result (AddsOnly (knows self.old) (knows self.new)) }
         ensures grows { size self.new ≤ size self.old + 1 }
         ensures refused { OnErr result (size self.new ≡ size self.old) };
@@ -46,7 +47,7 @@ pub trait Patterns {
     /// `empty`.
     fn empty(&mut self) -> Result<Self::Id, AllocError>
         ensures made { IfOk result (StandsFor (knows self.new) (tree_of self.new) tree.empty) }
-        ensures kept { KeepsTrees (knows self.old) (tree_of self.old) (knows self.new) (tree_of self.new) }
+        ensures kept { KeepsIds knows tree_of self.old self.new }
         ensures adds { IfOk result (AddsOnly (knows self.old) (knows self.new)) }
         ensures grows { size self.new ≤ size self.old + 1 }
         ensures refused { OnErr result (size self.new ≡ size self.old) };
@@ -54,23 +55,25 @@ pub trait Patterns {
     /// `text`.
     fn text(&mut self) -> Result<Self::Id, AllocError>
         ensures made { IfOk result (StandsFor (knows self.new) (tree_of self.new) tree.text) }
-        ensures kept { KeepsTrees (knows self.old) (tree_of self.old) (knows self.new) (tree_of self.new) }
+        ensures kept { KeepsIds knows tree_of self.old self.new }
         ensures adds { IfOk result (AddsOnly (knows self.old) (knows self.new)) }
         ensures grows { size self.new ≤ size self.old + 1 }
         ensures refused { OnErr result (size self.new ≡ size self.old) };
 
     /// A reference to a definition. What the definition is worth is not looked at.
     fn reference(&mut self, name: &str) -> Result<Self::Id, AllocError>
-        ensures made { IfOk result (StandsFor (knows self.new) (tree_of self.new) (tree.ref name.now)) }
-        ensures kept { KeepsTrees (knows self.old) (tree_of self.old) (knows self.new) (tree_of self.new) }
+        ensures made { IfOk result (StandsFor (knows self.new) (tree_of self.new)
+            (tree.ref name.now)) }
+        ensures kept { KeepsIds knows tree_of self.old self.new }
         ensures adds { IfOk result (AddsOnly (knows self.old) (knows self.new)) }
         ensures grows { size self.new ≤ size self.old + 1 }
         ensures refused { OnErr result (size self.new ≡ size self.old) };
 
     /// A value of a datatype: its library, its type and the text.
     fn value(&mut self, library: &str, type_name: &str, text: &str) -> Result<Self::Id, AllocError>
-        ensures made { IfOk result (StandsFor (knows self.new) (tree_of self.new) (tree.value library.now type_name.now text.now)) }
-        ensures kept { KeepsTrees (knows self.old) (tree_of self.old) (knows self.new) (tree_of self.new) }
+        ensures made { IfOk result (StandsFor (knows self.new) (tree_of self.new)
+            (tree.value library.now type_name.now text.now)) }
+        ensures kept { KeepsIds knows tree_of self.old self.new }
         ensures adds { IfOk result (AddsOnly (knows self.old) (knows self.new)) }
         ensures grows { size self.new ≤ size self.old + 1 }
         ensures refused { OnErr result (size self.new ≡ size self.old) };
@@ -84,9 +87,13 @@ pub trait Patterns {
         except: Option<Self::Id>,
     ) -> Result<Self::Id, AllocError>
         requires { IfSome except (λ i. IsTrue (knows self.old i)) }
-        ensures made { IfOk result (StandsFor (knows self.new) (tree_of self.new) (datum_step library.now type_name.now (parameters_view params.now) (option_map (tree_of self.old) except))) }
-        ensures means { IfOk result (λ i. MatchAlike (datum_by library.now type_name.now (parameters_view params.now) (option_map (tree_of self.old) except)) (tree_of self.new i)) }
-        ensures kept { KeepsTrees (knows self.old) (tree_of self.old) (knows self.new) (tree_of self.new) }
+        ensures made { IfOk result (StandsFor (knows self.new) (tree_of self.new)
+            (datum_step library.now type_name.now (parameters_view params.now)
+            (option_map (tree_of self.old) except))) }
+        ensures means { IfOk result (λ i. MatchAlike
+            (datum_by library.now type_name.now (parameters_view params.now)
+            (option_map (tree_of self.old) except)) (tree_of self.new i)) }
+        ensures kept { KeepsIds knows tree_of self.old self.new }
         ensures adds { IfOk result (AddsOnly (knows self.old) (knows self.new)) }
         ensures grows { size self.new ≤ size self.old + 1 }
         ensures refused { OnErr result (size self.new ≡ size self.old) };
@@ -94,9 +101,11 @@ pub trait Patterns {
     /// A list of that content; `notAllowed` where the content is (4.20).
     fn list(&mut self, content: Self::Id) -> Result<Self::Id, AllocError>
         requires { IsTrue (knows self.old content) }
-        ensures made { IfOk result (StandsFor (knows self.new) (tree_of self.new) (list_step (tree_of self.old content))) }
-        ensures means { IfOk result (λ i. MatchAlike (tree.list (tree_of self.old content)) (tree_of self.new i)) }
-        ensures kept { KeepsTrees (knows self.old) (tree_of self.old) (knows self.new) (tree_of self.new) }
+        ensures made { IfOk result (StandsFor (knows self.new) (tree_of self.new)
+            (list_step (tree_of self.old content))) }
+        ensures means { IfOk result (λ i. MatchAlike
+            (tree.list (tree_of self.old content)) (tree_of self.new i)) }
+        ensures kept { KeepsIds knows tree_of self.old self.new }
         ensures adds { IfOk result (AddsOnly (knows self.old) (knows self.new)) }
         ensures grows { size self.new ≤ size self.old + 1 }
         ensures refused { OnErr result (size self.new ≡ size self.old) };
@@ -104,9 +113,12 @@ pub trait Patterns {
     /// An attribute, its name class in canonical form; `notAllowed` where the content is (4.20).
     fn attribute(&mut self, nc: &NameClass, content: Self::Id) -> Result<Self::Id, AllocError>
         requires { IsTrue (knows self.old content) }
-        ensures made { IfOk result (StandsFor (knows self.new) (tree_of self.new) (attribute_step (canonical_name (name_class_view nc.now)) (tree_of self.old content))) }
-        ensures means { IfOk result (λ i. MatchAlike (tree.attribute (name_class_view nc.now) (tree_of self.old content)) (tree_of self.new i)) }
-        ensures kept { KeepsTrees (knows self.old) (tree_of self.old) (knows self.new) (tree_of self.new) }
+        ensures made { IfOk result (StandsFor (knows self.new) (tree_of self.new)
+            (attribute_step (canonical_name (name_class_view nc.now)) (tree_of self.old content))) }
+        ensures means { IfOk result (λ i. MatchAlike
+            (tree.attribute (name_class_view nc.now) (tree_of self.old content))
+            (tree_of self.new i)) }
+        ensures kept { KeepsIds knows tree_of self.old self.new }
         ensures adds { IfOk result (AddsOnly (knows self.old) (knows self.new)) }
         ensures grows { size self.new ≤ size self.old + 1 }
         ensures refused { OnErr result (size self.new ≡ size self.old) };
@@ -114,9 +126,12 @@ pub trait Patterns {
     /// An element, its name class in canonical form. Its content stays, `notAllowed` too.
     fn element(&mut self, nc: &NameClass, content: Self::Id) -> Result<Self::Id, AllocError>
         requires { IsTrue (knows self.old content) }
-        ensures made { IfOk result (StandsFor (knows self.new) (tree_of self.new) (tree.element (canonical_name (name_class_view nc.now)) (tree_of self.old content))) }
-        ensures means { IfOk result (λ i. MatchAlike (tree.element (name_class_view nc.now) (tree_of self.old content)) (tree_of self.new i)) }
-        ensures kept { KeepsTrees (knows self.old) (tree_of self.old) (knows self.new) (tree_of self.new) }
+        ensures made { IfOk result (StandsFor (knows self.new) (tree_of self.new)
+            (tree.element (canonical_name (name_class_view nc.now)) (tree_of self.old content))) }
+        ensures means { IfOk result (λ i. MatchAlike
+            (tree.element (name_class_view nc.now) (tree_of self.old content))
+            (tree_of self.new i)) }
+        ensures kept { KeepsIds knows tree_of self.old self.new }
         ensures adds { IfOk result (AddsOnly (knows self.old) (knows self.new)) }
         ensures grows { size self.new ≤ size self.old + 1 }
         ensures refused { OnErr result (size self.new ≡ size self.old) };
@@ -124,10 +139,12 @@ pub trait Patterns {
     /// A choice: the members of choices among the members in their place, without `notAllowed`, in order, each pattern
     /// once. No member left is `notAllowed`, one is itself.
     fn choice(&mut self, members: &[Self::Id]) -> Result<Self::Id, AllocError>
-        requires { All (λ i. IsTrue (knows self.old i)) members.now }
-        ensures made { IfOk result (StandsFor (knows self.new) (tree_of self.new) (choice_step (map (tree_of self.old) members.now))) }
-        ensures means { IfOk result (λ i. MatchAlike (tree.choice (trees_of (map (tree_of self.old) members.now))) (tree_of self.new i)) }
-        ensures kept { KeepsTrees (knows self.old) (tree_of self.old) (knows self.new) (tree_of self.new) }
+        requires { KnowsAll (knows self.old) members.now }
+        ensures made { IfOk result (StandsFor (knows self.new) (tree_of self.new)
+            (choice_step (map (tree_of self.old) members.now))) }
+        ensures means { IfOk result (λ i. MatchAlike
+            (tree.choice (trees_of (map (tree_of self.old) members.now))) (tree_of self.new i)) }
+        ensures kept { KeepsIds knows tree_of self.old self.new }
         ensures adds { IfOk result (AddsOnly (knows self.old) (knows self.new)) }
         ensures grows { size self.new ≤ size self.old + 1 }
         ensures refused { OnErr result (size self.new ≡ size self.old) };
@@ -135,20 +152,25 @@ pub trait Patterns {
     /// A group: the members of groups among the members in their place, without `empty`, the order kept; `notAllowed`
     /// where a member is (4.20, 4.21). No member left is `empty`, one is itself.
     fn group(&mut self, members: &[Self::Id]) -> Result<Self::Id, AllocError>
-        requires { All (λ i. IsTrue (knows self.old i)) members.now }
-        ensures made { IfOk result (StandsFor (knows self.new) (tree_of self.new) (group_step (map (tree_of self.old) members.now))) }
-        ensures means { IfOk result (λ i. MatchAlike (tree.group (trees_of (map (tree_of self.old) members.now))) (tree_of self.new i)) }
-        ensures kept { KeepsTrees (knows self.old) (tree_of self.old) (knows self.new) (tree_of self.new) }
+        requires { KnowsAll (knows self.old) members.now }
+        ensures made { IfOk result (StandsFor (knows self.new) (tree_of self.new)
+            (group_step (map (tree_of self.old) members.now))) }
+        ensures means { IfOk result (λ i. MatchAlike
+            (tree.group (trees_of (map (tree_of self.old) members.now))) (tree_of self.new i)) }
+        ensures kept { KeepsIds knows tree_of self.old self.new }
         ensures adds { IfOk result (AddsOnly (knows self.old) (knows self.new)) }
         ensures grows { size self.new ≤ size self.old + 1 }
         ensures refused { OnErr result (size self.new ≡ size self.old) };
 
     /// An interleave: as a group, and in order, repeats kept.
     fn ileave(&mut self, members: &[Self::Id]) -> Result<Self::Id, AllocError>
-        requires { All (λ i. IsTrue (knows self.old i)) members.now }
-        ensures made { IfOk result (StandsFor (knows self.new) (tree_of self.new) (interleave_step (map (tree_of self.old) members.now))) }
-        ensures means { IfOk result (λ i. MatchAlike (tree.interleave (trees_of (map (tree_of self.old) members.now))) (tree_of self.new i)) }
-        ensures kept { KeepsTrees (knows self.old) (tree_of self.old) (knows self.new) (tree_of self.new) }
+        requires { KnowsAll (knows self.old) members.now }
+        ensures made { IfOk result (StandsFor (knows self.new) (tree_of self.new)
+            (interleave_step (map (tree_of self.old) members.now))) }
+        ensures means { IfOk result (λ i. MatchAlike
+            (tree.interleave (trees_of (map (tree_of self.old) members.now)))
+            (tree_of self.new i)) }
+        ensures kept { KeepsIds knows tree_of self.old self.new }
         ensures adds { IfOk result (AddsOnly (knows self.old) (knows self.new)) }
         ensures grows { size self.new ≤ size self.old + 1 }
         ensures refused { OnErr result (size self.new ≡ size self.old) };
@@ -156,9 +178,11 @@ pub trait Patterns {
     /// A repetition; `notAllowed`, `empty` and a repetition stay what they are.
     fn one_or_more(&mut self, content: Self::Id) -> Result<Self::Id, AllocError>
         requires { IsTrue (knows self.old content) }
-        ensures made { IfOk result (StandsFor (knows self.new) (tree_of self.new) (one_or_more_step (tree_of self.old content))) }
-        ensures means { IfOk result (λ i. MatchAlike (tree.one_or_more (tree_of self.old content)) (tree_of self.new i)) }
-        ensures kept { KeepsTrees (knows self.old) (tree_of self.old) (knows self.new) (tree_of self.new) }
+        ensures made { IfOk result (StandsFor (knows self.new) (tree_of self.new)
+            (one_or_more_step (tree_of self.old content))) }
+        ensures means { IfOk result (λ i. MatchAlike
+            (tree.one_or_more (tree_of self.old content)) (tree_of self.new i)) }
+        ensures kept { KeepsIds knows tree_of self.old self.new }
         ensures adds { IfOk result (AddsOnly (knows self.old) (knows self.new)) }
         ensures grows { size self.new ≤ size self.old + 1 }
         ensures refused { OnErr result (size self.new ≡ size self.old) };

@@ -1,6 +1,6 @@
 // The store Plain.
 ghost use Rattle.std.specs.Prelude.{◌≡◌};
-ghost use Rattle.rn_pattern.specs.Nodes.{NameEarlier, NameEarlier-prop, trees_of_nodes};
+ghost use Rattle.rn_pattern.specs.inside.Stored.{NameEarlier, NameEarlier-prop, trees_of_nodes};
 
 use crate::node::{Node, NodeId};
 use crate::node_table::NodeTable;

@@ -2,7 +2,8 @@
 
 ghost use Rattle.std.specs.Prelude.{◌≡◌, ℕ, ◌+◌, ◌-◌, ◌<◌, ◌≤◌, ◌∷◌, ◌++◌, [], Contains, length, vec_len, slice_index_or, IfOk, OnOk, IfSome, MatchOption};
 ghost use Rattle.rn_pattern.specs.Graph.{row, IsGraph, rows_of};
-ghost use Rattle.rn_pattern.specs.Ranks.{Walking, IsPath, Leads, GoesOn, GoesOnOrLoops, EndsOrLoops, IsOrdered, EndsWith, work, mark_of, IsDone, HasNoLoop, IsFirstLoop};
+ghost use Rattle.rn_pattern.specs.Ranks.{Leads, IsOrdered, HasNoLoop, IsFirstLoop};
+ghost use Rattle.rn_pattern.specs.inside.Walking.{Walking, IsPath, GoesOn, GoesOnOrLoops, EndsOrLoops, EndsWith, edges_left, next_from, work, mark_of, IsDone};
 
 use crate::graph::{lengths, next_of};
 use crate::loops;
@@ -41,7 +42,7 @@ struct Walk {
 fn finish(walk: &mut Walk, edges: &[Vec<usize>], node: usize) -> Result<(), AllocError>
     requires walking { Walking (rows_of edges.now) walk.old }
     requires last { EndsWith walk.old.path.items node }
-    requires all_looked { slice_index_or walk.old.left.items node 0 ≡ 0 }
+    requires all_looked { edges_left walk.old.left.items node ≡ 0 }
     ensures goes_on { OnOk result (GoesOn (rows_of edges.now) walk.old walk.new) }
     ensures less { OnOk result (work walk.new < work walk.old) }
 {
@@ -57,8 +58,9 @@ fn finish(walk: &mut Walk, edges: &[Vec<usize>], node: usize) -> Result<(), Allo
 fn pass(walk: &mut Walk, edges: &[Vec<usize>], node: usize)
     requires walking { Walking (rows_of edges.now) walk.old }
     requires within { node < length edges.now }
-    requires some_left { 0 < slice_index_or walk.old.left.items node 0 }
-    requires done { IsDone walk.old.marks.items (slice_index_or (row (rows_of edges.now) node) (slice_index_or walk.old.left.items node 0 - 1) 0) }
+    requires some_left { 0 < edges_left walk.old.left.items node }
+    requires done { IsDone walk.old.marks.items
+        (next_from (rows_of edges.now) walk.old.left.items node) }
     ensures goes_on { GoesOn (rows_of edges.now) walk.old walk.new }
     ensures less { work walk.new < work walk.old }
 {
@@ -161,7 +163,8 @@ pub fn ranks(alloc: Global, edges: &[Vec<usize>]) -> Result<Order, AllocError>
 pub fn least_looped(alloc: Global, edges: &[Vec<usize>]) -> Result<Option<usize>, AllocError>
     requires { IsGraph (rows_of edges.now) }
     ensures within { IfOk result (λ node. IfSome node (λ x. x < length edges.now)) }
-    ensures least { IfOk result (λ node. MatchOption node (HasNoLoop (rows_of edges.now)) (IsFirstLoop (rows_of edges.now))) }
+    ensures least { IfOk result (λ node. MatchOption node (HasNoLoop (rows_of edges.now))
+        (IsFirstLoop (rows_of edges.now))) }
 {
     let mut search = loops::begin(alloc, edges)?;
     for root in 0..edges.len() {

@@ -1,12 +1,12 @@
 // The constructors of a store, written once for all ways in which nodes may lie.
 ghost use Rattle.std.specs.Prelude.{◌≡◌, ◌+◌, ◌≤◌, IfOk, IfSome, IsTrue, List, OnErr, length};
 ghost use Rattle.std.specs.Option.{option_map};
-ghost use Rattle.rn_pattern.specs.Key.{tree_at-same};
+ghost use Rattle.rn_pattern.specs.inside.Key.{tree_at-same};
 ghost use Rattle.rn_pattern.specs.Matching.{MatchAlike};
-ghost use Rattle.rn_pattern.specs.Nodes.{NamesBelow, knows, tree_at, trees_of_nodes};
-ghost use Rattle.rn_pattern.specs.Reduced.{IsReducedIn, reduced_tree};
-ghost use Rattle.rn_pattern.specs.Store.{AddsOnly, KeepsTrees, StandsFor, datum_by, datum_step, node_view};
-ghost use Rattle.rn_pattern.specs.Count.{ids_counted};
+ghost use Rattle.rn_pattern.specs.inside.Stored.{NamesBelow, knows, tree_at, trees_of_nodes};
+ghost use Rattle.rn_pattern.specs.inside.Reduced.{IsReducedIn, reduced_tree};
+ghost use Rattle.rn_pattern.specs.Store.{AddsOnly, KeepsIds, StandsFor, datum_by, datum_step, node_view};
+ghost use Rattle.rn_pattern.specs.inside.Count.{ids_counted};
 ghost use Rattle.rn_pattern.specs.Tree.{Tree};
 ghost use Rattle.rn_pattern.specs.View.{parameters_view};
 
@@ -32,8 +32,7 @@ pub trait NodeStore {
         requires { NamesBelow (length (trees self.old)) node }
         ensures made { IfOk result (StandsFor (knows (trees self.new)) (tree_at (trees self.new))
             (node_view (tree_at (trees self.old)) node)) }
-        ensures kept { KeepsTrees (knows (trees self.old)) (tree_at (trees self.old))
-            (knows (trees self.new)) (tree_at (trees self.new)) }
+        ensures kept { KeepsIds knows tree_at (trees self.old) (trees self.new) }
         ensures adds { IfOk result (AddsOnly (knows (trees self.old)) (knows (trees self.new))) }
         ensures grows { length (trees self.new) ≤ length (trees self.old) + 1 }
         ensures refused { OnErr result (trees self.new ≡ trees self.old) };
@@ -44,8 +43,7 @@ fn keep<S: NodeStore>(store: &mut S, pattern: Reduced) -> Result<NodeId, AllocEr
     requires { IsReducedIn (S.trees store.old) pattern }
     ensures made { IfOk result (StandsFor (knows (S.trees store.new)) (tree_at (S.trees store.new))
         (reduced_tree (S.trees store.old) pattern)) }
-    ensures kept { KeepsTrees (knows (S.trees store.old)) (tree_at (S.trees store.old))
-        (knows (S.trees store.new)) (tree_at (S.trees store.new)) }
+    ensures kept { KeepsIds knows tree_at (S.trees store.old) (S.trees store.new) }
     ensures adds { IfOk result (AddsOnly (knows (S.trees store.old)) (knows (S.trees store.new))) }
     ensures grows { length (S.trees store.new) ≤ length (S.trees store.old) + 1 }
     ensures refused { OnErr result (S.trees store.new ≡ S.trees store.old) }
@@ -101,13 +99,17 @@ impl<S: NodeStore> Patterns for S {
         except: Option<NodeId>,
     ) -> Result<NodeId, AllocError>
         requires { IfSome except (λ i. IsTrue (knows (S.trees self.old) i)) }
-        ensures made { IfOk result (StandsFor (knows (S.trees self.new)) (tree_at (S.trees self.new))
-            (datum_step library.now type_name.now (parameters_view params.now) (option_map (tree_at (S.trees self.old)) except))) }
+        ensures made { IfOk result (StandsFor
+            (knows (S.trees self.new)) (tree_at (S.trees self.new))
+            (datum_step library.now type_name.now (parameters_view params.now)
+            (option_map (tree_at (S.trees self.old)) except))) }
         ensures means { IfOk result (λ i. MatchAlike
-            (datum_by library.now type_name.now (parameters_view params.now) (option_map (tree_at (S.trees self.old)) except))
+            (datum_by library.now type_name.now (parameters_view params.now)
+            (option_map (tree_at (S.trees self.old)) except))
             (tree_at (S.trees self.new) i)) }
-        ensures kept { KeepsTrees (knows (S.trees self.old)) (tree_at (S.trees self.old)) (knows (S.trees self.new)) (tree_at (S.trees self.new)) }
-        ensures adds { IfOk result (AddsOnly (knows (S.trees self.old)) (knows (S.trees self.new))) }
+        ensures kept { KeepsIds knows tree_at (S.trees self.old) (S.trees self.new) }
+        ensures adds { IfOk result (AddsOnly
+            (knows (S.trees self.old)) (knows (S.trees self.new))) }
         ensures grows { length (S.trees self.new) ≤ length (S.trees self.old) + 1 }
         ensures refused { OnErr result (length (S.trees self.new) ≡ length (S.trees self.old)) }
     {

@@ -3,7 +3,7 @@ use Rattle.std.proofs.Common.{◌≡◌, IfOk, [], ◌∷◌, ◌++◌, map, sym
 use Rattle.std.proofs.lemmas.List.{append-nil, map-append, take_all}
 use Rattle.rn_pattern.specs.Tree as tree
 use Rattle.rn_pattern.specs.Canonical.{canonical_name, name_class_of, sorted_once}
-use Rattle.rn_pattern.specs.NameParts.{name_parts, name_parts_of}
+use Rattle.rn_pattern.specs.inside.NameParts.{name_parts, name_parts_of}
 use Rattle.rn_pattern.specs.Order.{name_cmp}
 use Rattle.rn_pattern.specs.Tree.{name_trees_of}
 use Rattle.rn_pattern.specs.View.{name_class_view}

@@ -1,5 +1,5 @@
 use Rattle.std.proofs.Common.{◌≡◌, ◌++◌, map, take}
-use Rattle.rn_pattern.specs.NameParts.{name_parts}
+use Rattle.rn_pattern.specs.inside.NameParts.{name_parts}
 use Rattle.rn_pattern.specs.Tree.{name_trees_of}
 use Rattle.rn_pattern.specs.View.{name_class_view}
 use Rattle.rn_pattern.proofs.+canonical_name.Given as goal

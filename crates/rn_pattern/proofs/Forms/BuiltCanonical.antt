@@ -7,7 +7,7 @@ use Rattle.std.proofs.lemmas.List.Elements.{recursion_from_All}
 use Rattle.rn_pattern.specs.Tree.{Text, Parameters, Tree}
 use Rattle.rn_pattern.specs.Canonical.{choice_step, group_step, interleave_step}
 use Rattle.rn_pattern.specs.CanonicalShape.{AnyName, IsCanonicalPattern}
-use Rattle.rn_pattern.specs.Nodes.{knows, tree_at}
+use Rattle.rn_pattern.specs.inside.Stored.{knows, tree_at}
 use Rattle.rn_pattern.specs.Store.{AddsOnly, KeepsTrees, StandsFor, datum_step}
 use Rattle.rn_pattern.specs.Built.{IsMade, is_not_allowed, is_empty, is_text, is_reference, is_value, is_datum, is_list, is_attribute, is_element, is_choice, is_group, is_interleave, is_one_or_more, HoldsCanonical, StaysCanonical}
 use Rattle.rn_pattern.specs.declared.node.NodeId.{NodeId}

@@ -9,7 +9,7 @@ use Rattle.rn_pattern.specs.Tree.{NameTree, NameTrees, name_choice, no_names, mo
 use Rattle.rn_pattern.specs.Order.{name_cmp}
 use Rattle.rn_pattern.specs.Canonical.{canonical_name, canonical_names, name_class_of, names_within, sorted_once}
 use Rattle.rn_pattern.specs.CanonicalShape.{is_no_choice, IsCanonicalName}
-use Rattle.rn_pattern.specs.NameParts.{name_parts, name_parts_of}
+use Rattle.rn_pattern.specs.inside.NameParts.{name_parts, name_parts_of}
 use Rattle.rn_pattern.specs.View.{name_class_step, name_class_view}
 use Rattle.rn_pattern.specs.declared.tree.NameClass.{NameClass, fold-roll-NameClass, map-NameClass}
 use Rattle.rn_pattern.specs.declared.tree.NameClass.TheVariants.{rolls-Choice}

@@ -5,7 +5,7 @@ use Rattle.std.proofs.lemmas.List.{length-map, length-replicate, get_or-replicat
 use Rattle.std.proofs.lemmas.Bool.{cases_lt}
 use Rattle.rn_pattern.specs.Graph.{row}
 use Rattle.rn_pattern.specs.Ranks.{Leads, by_edge, and_edge, HasNoLoop, IsFirstLoop}
-use Rattle.rn_pattern.specs.Loops.{GroupingBy, Grouping, GroupsOn, IsClosed, IsLeastLooped, place_of}
+use Rattle.rn_pattern.specs.inside.Loops.{GroupingBy, Grouping, GroupsOn, IsClosed, IsLeastLooped, place_of}
 use Rattle.rn_pattern.specs.declared.loops.Search.{Search}
 
 module _ (rows : List (List ℕ)) where

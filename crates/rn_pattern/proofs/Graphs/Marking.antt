@@ -5,7 +5,8 @@ use Rattle.std.proofs.lemmas.List.{take_more, length_push, length-set, get_or-re
 use Rattle.std.proofs.lemmas.List.Elements.{Contains-append_left, Contains-append_right, Contains-append_cases, Contains-push, Contains-push_cases, Contains-get_or}
 use Rattle.std.proofs.lemmas.List.Sums.{sum_by-set, count_by-le-length}
 use Rattle.std.proofs.lemmas.Bool.{cases_eq, cases_lt, false≢true}
-use Rattle.rn_pattern.specs.Graph.{Agrees, Marks, is_marked, row, Reached, at_first, along}
+use Rattle.rn_pattern.specs.Graph.{is_marked, row, Reached, at_first, along}
+use Rattle.rn_pattern.specs.inside.Marking.{Agrees, Marks}
 
 -- a mark that is set, or was there
 set_marked : (seen : List Bool) (x y : ℕ) → x < length seen → (x ≡ y) ⊎ (is_marked seen y ≡ true) → is_marked (set seen x true) y ≡ true

@@ -4,8 +4,8 @@ use Rattle.std.specs.Prelude.{IfOk}
 use Rattle.rn_pattern.specs.Tree.{Text, Parameters, Tree}
 use Rattle.rn_pattern.specs.Matching.{MatchAlike}
 use Rattle.rn_pattern.specs.Store.{StandsFor, datum_by, datum_step}
-use Rattle.rn_pattern.specs.Nodes.{tree_at}
-use Rattle.rn_pattern.specs.Reduced.{reduced_tree}
+use Rattle.rn_pattern.specs.inside.Stored.{tree_at}
+use Rattle.rn_pattern.specs.inside.Reduced.{reduced_tree}
 use Rattle.rn_pattern.specs.declared.canonical.Reduced.{Reduced}
 use Rattle.rn_pattern.specs.declared.node.NodeId.{NodeId}
 use Rattle.rn_pattern.proofs.Matches.Constructors.{datum_but_means}

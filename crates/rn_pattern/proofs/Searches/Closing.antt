@@ -6,7 +6,7 @@ use Rattle.std.proofs.lemmas.List.Elements.{Contains-append_left, Contains-push_
 use Rattle.std.proofs.lemmas.Bool.{cases_eq, cases_lt}
 use Rattle.rn_pattern.specs.Graph.{row}
 use Rattle.rn_pattern.specs.Ranks.{Leads, by_edge, and_edge}
-use Rattle.rn_pattern.specs.Loops.{GroupingBy, IsLeastLooped, IsClosed, IsSettled, IsNear, Comes, Rises, node_at, place_of}
+use Rattle.rn_pattern.specs.inside.Loops.{GroupingBy, IsLeastLooped, IsClosed, IsSettled, IsNear, Comes, Rises, node_at, place_of}
 use Rattle.rn_pattern.proofs.Searches.Rising.{stands, contains_take, rises_left, rises_last, first_left, greatest_last, has_last}
 use Rattle.rn_pattern.proofs.Searches.Grouping.{same_place, leads_on, leads_then, comes_then, least_of_fewer}
 

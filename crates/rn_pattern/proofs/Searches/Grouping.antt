@@ -5,8 +5,9 @@ use Rattle.std.proofs.lemmas.List.{length_push, length-set, get_or_push, get_or-
 use Rattle.std.proofs.lemmas.List.Elements.{Contains-append_left, Contains-push, Contains-push_cases, Contains-get_or}
 use Rattle.std.proofs.lemmas.Bool.{cases_eq, cases_lt}
 use Rattle.rn_pattern.specs.Graph.{row}
-use Rattle.rn_pattern.specs.Ranks.{Leads, by_edge, and_edge, EndsWith}
-use Rattle.rn_pattern.specs.Loops.{GroupingBy, IsLeastLooped, IsClosed, IsSettled, IsJoined, AllLead, Comes, Rises, node_at, place_of}
+use Rattle.rn_pattern.specs.Ranks.{Leads, by_edge, and_edge}
+use Rattle.rn_pattern.specs.inside.Walking.{EndsWith}
+use Rattle.rn_pattern.specs.inside.Loops.{GroupingBy, IsLeastLooped, IsClosed, IsSettled, IsJoined, AllLead, Comes, Rises, node_at, place_of}
 use Rattle.rn_pattern.proofs.Searches.Rising.{contains_take, rises_left, rises_take, rises_push, first_take, greatest_last, has_last}
 
 pub met_below : (places : List (Option ℕ)) (x p : ℕ) → place_of places x ≡ Some p → x < length places

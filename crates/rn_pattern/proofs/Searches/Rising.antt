@@ -4,8 +4,8 @@ use Rattle.std.specs.Prelude.{Contains}
 use Rattle.std.proofs.lemmas.List.{length_push, length-append, get_or_push, get_or_past, get_or_default, get_or_append_left, take_at, take_all, take-take, take-append-drop, length-take}
 use Rattle.std.proofs.lemmas.List.Elements.{Contains-append_left, Contains-push, Contains-push_cases, Contains-get_or}
 use Rattle.std.proofs.lemmas.Bool.{cases_lt}
-use Rattle.rn_pattern.specs.Ranks.{EndsWith}
-use Rattle.rn_pattern.specs.Loops.{Rises, IsJoined}
+use Rattle.rn_pattern.specs.inside.Walking.{EndsWith}
+use Rattle.rn_pattern.specs.inside.Loops.{Rises, IsJoined}
 use Rattle.rn_pattern.proofs.Searches.Walking.{ends_at}
 
 -- where an element stands

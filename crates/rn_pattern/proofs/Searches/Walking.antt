@@ -7,7 +7,8 @@ use Rattle.std.proofs.lemmas.List.Sums.{sum_by-set, count_by-le-length}
 use Rattle.std.proofs.lemmas.Bool.{cases_eq, cases_lt}
 use Rattle.std.specs.declared.alloc.Global.{Global}
 use Rattle.rn_pattern.specs.Graph.{row, rows_of, IsGraph}
-use Rattle.rn_pattern.specs.Ranks.{Leads, by_edge, and_edge, EndsWith, IsPath, WalkingBy, Walking, GoesOn, IsRanking, IsNextNode, mark_of, rank_of, is_done, IsDone, IsNotNew, weight}
+use Rattle.rn_pattern.specs.Ranks.{Leads, by_edge, and_edge, IsRanking, rank_of}
+use Rattle.rn_pattern.specs.inside.Walking.{EndsWith, IsPath, WalkingBy, Walking, GoesOn, IsNextNode, mark_of, is_done, IsDone, IsNotNew, weight}
 use Rattle.rn_pattern.specs.declared.ranks.Mark.{Mark}
 use Rattle.rn_pattern.specs.declared.ranks.Walk.{Walk}
 use Rattle.rn_pattern.specs.declared.ranks.Mark.TheVariants.{New, Open, Done}

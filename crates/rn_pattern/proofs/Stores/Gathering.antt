@@ -5,8 +5,8 @@ use Rattle.std.proofs.lemmas.List.Concat.{flat_map-append}
 use Rattle.std.proofs.lemmas.List.Elements.{All-append, All-same, All-weaker, All-nil, All-cons, All-get_or}
 use Rattle.std.specs.Prelude.{IfSome, MatchOption}
 use Rattle.rn_pattern.specs.Tree.{Tree}
-use Rattle.rn_pattern.specs.Lists.{members_by}
-use Rattle.rn_pattern.specs.Nodes.{knows, tree_at}
+use Rattle.rn_pattern.specs.inside.Lists.{members_by}
+use Rattle.rn_pattern.specs.inside.Stored.{knows, tree_at}
 use Rattle.rn_pattern.specs.Store.{node_view}
 use Rattle.rn_pattern.specs.declared.connector.Connector.{Connector}
 use Rattle.rn_pattern.specs.declared.node.Node.{Node}

@@ -10,7 +10,7 @@ use Rattle.rn_pattern.specs.View.{name_class_view, parameters_view}
 use Rattle.std.specs.Prelude.{◌⊎◌, string_bytes}
 use Rattle.std.proofs.Math.Nat.{eq-or-lt_of_le}
 use Rattle.rn_pattern.specs.Store.{AddsOnly, KeepsTrees, StandsFor, node_view}
-use Rattle.rn_pattern.specs.Nodes.{tree_at, trees_from, trees_of_nodes, NamesBelow, NameEarlier, knows}
+use Rattle.rn_pattern.specs.inside.Stored.{tree_at, trees_from, trees_of_nodes, NamesBelow, NameEarlier, knows}
 use Rattle.rn_pattern.specs.declared.node.Node.{Node}
 use Rattle.rn_pattern.specs.declared.node.NodeId.{NodeId}
 

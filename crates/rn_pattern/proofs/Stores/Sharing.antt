@@ -8,10 +8,11 @@ use Rattle.std.proofs.lemmas.List.Elements.{All-head, All-tail}
 use Rattle.rn_pattern.specs.Tree as tree
 use Rattle.rn_pattern.specs.Tree.{Tree, Trees, list_of, trees_of}
 use Rattle.rn_pattern.specs.Order.{rank}
-use Rattle.rn_pattern.specs.Shown.{texts_in, parameters_in, names_in, members_in}
+use Rattle.rn_pattern.specs.inside.Shown.{texts_in, parameters_in, names_in, members_in}
 use Rattle.rn_pattern.specs.Store.{AddsOnly, KeepsTrees, StandsFor, node_view}
-use Rattle.rn_pattern.specs.Nodes.{NamesBelow, NameEarlier, node_members, knows, tree_at, trees_of_nodes}
-use Rattle.rn_pattern.specs.Key.{key, key_decides, node_eq}
+use Rattle.rn_pattern.specs.Nodes.{node_members}
+use Rattle.rn_pattern.specs.inside.Stored.{NamesBelow, NameEarlier, knows, tree_at, trees_of_nodes}
+use Rattle.rn_pattern.specs.inside.Key.{key, key_decides, node_eq}
 use Rattle.rn_pattern.specs.declared.interned.Interned.{Interned}
 use Rattle.rn_pattern.specs.declared.node.Node.{Node}
 use Rattle.rn_pattern.specs.declared.node.NodeId.{NodeId}

@@ -10,8 +10,9 @@ use Rattle.std.specs.Cmp.Lexicographic.{slice_cmp}
 use Rattle.rn_pattern.specs.Tree.{Tree, trees_of, not_allowed, empty, text, ref, value, datum, datum_but, list, attribute, element, one_or_more, group, interleave, choice}
 use Rattle.rn_pattern.specs.Order.{rank, text_cmp, parameters_cmp, names_cmp, tree_cmp, trees_cmp}
 use Rattle.rn_pattern.specs.Store.{node_view}
-use Rattle.rn_pattern.specs.Nodes.{NamesBelow, node_rank, node_texts, node_parameters, node_class, node_members}
-use Rattle.rn_pattern.specs.Shown.{texts_in, parameters_in, names_in, members_in, class_view, ShowsTree}
+use Rattle.rn_pattern.specs.Nodes.{node_members}
+use Rattle.rn_pattern.specs.inside.Stored.{NamesBelow, node_rank, node_texts, node_parameters, node_class}
+use Rattle.rn_pattern.specs.inside.Shown.{texts_in, parameters_in, names_in, members_in, class_view, ShowsTree}
 use Rattle.rn_pattern.specs.declared.node.Node.{Node}
 use Rattle.rn_pattern.specs.declared.node.NodeId.{NodeId}
 use Rattle.rn_pattern.proofs.Ordered.TotalOrder.{then-Equal, then_assoc}

@@ -1,6 +1,6 @@
 use Rattle.std.proofs.Common.{ap, ◌∙◌}
 use Rattle.rn_pattern.specs.Canonical.{node_of, sorted_once}
-use Rattle.rn_pattern.specs.Nodes.{trees_of_nodes}
+use Rattle.rn_pattern.specs.inside.Stored.{trees_of_nodes}
 use Rattle.rn_pattern.specs.Order.{tree_cmp}
 use Rattle.rn_pattern.specs.Tree.{choice, not_allowed}
 use Rattle.rn_pattern.proofs.canonical.choice.Goals as goal

@@ -5,8 +5,8 @@ use Rattle.std.proofs.lemmas.List.Filters.{All-dedup, dedup_is}
 use Rattle.std.proofs.lemmas.List.Elements.{All-same}
 use Rattle.std.specs.List.{dedup}
 use Rattle.rn_pattern.specs.Canonical.{sorted_once}
-use Rattle.rn_pattern.specs.Key.{number_decides}
-use Rattle.rn_pattern.specs.Nodes.{knows}
+use Rattle.rn_pattern.specs.inside.Key.{number_decides}
+use Rattle.rn_pattern.specs.inside.Stored.{knows}
 use Rattle.rn_pattern.specs.Order.{tree_cmp}
 use Rattle.rn_pattern.specs.declared.node.NodeId.{NodeId}
 use Rattle.rn_pattern.proofs.Ordered.Orders.{tree_same}

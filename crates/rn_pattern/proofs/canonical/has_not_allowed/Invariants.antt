@@ -1,7 +1,7 @@
 use Rattle.std.proofs.Common.{◌≡◌, map, drop}
 use Rattle.rn_pattern.specs.Canonical.{has_not_allowed}
-use Rattle.rn_pattern.specs.Nodes.{tree_at}
-use Rattle.rn_pattern.specs.Table.{trees}
+use Rattle.rn_pattern.specs.inside.Stored.{tree_at}
+use Rattle.rn_pattern.specs.inside.Table.{trees}
 use Rattle.rn_pattern.proofs.canonical.has_not_allowed.Given as goal
 
 abbrev pub invariant-loop-member : goal.invariant-loop-member

@@ -1,6 +1,6 @@
 use Rattle.std.proofs.Common.{flat_map, map, cond, sym, ap, ◌∙◌}
 use Rattle.rn_pattern.specs.Canonical.{interleaved, node_of, sorted}
-use Rattle.rn_pattern.specs.Nodes.{tree_at, trees_of_nodes}
+use Rattle.rn_pattern.specs.inside.Stored.{tree_at, trees_of_nodes}
 use Rattle.rn_pattern.specs.Order.{tree_cmp}
 use Rattle.rn_pattern.specs.Tree.{empty, interleave, not_allowed}
 use Rattle.rn_pattern.proofs.canonical.interleave.Goals as goal

@@ -1,8 +1,8 @@
 -- One more part in the members.
 use Rattle.std.proofs.Common.{flat_map, ap, ◌∙◌, arith}
 use Rattle.std.proofs.lemmas.List.{take_all}
-use Rattle.rn_pattern.specs.Lists.{members_by}
-use Rattle.rn_pattern.specs.Nodes.{tree_at, trees_of_nodes}
+use Rattle.rn_pattern.specs.inside.Lists.{members_by}
+use Rattle.rn_pattern.specs.inside.Stored.{tree_at, trees_of_nodes}
 use Rattle.rn_pattern.proofs.Stores.Gathering.{flat_map-through, gathered_list, gathered_itself}
 use Rattle.rn_pattern.proofs.canonical.opened.Goals as goal
 use Rattle.rn_pattern.proofs.canonical.opened.Goals.{in-Some+in_ok-extend_from_slice-in-Some, in-None+in_ok-push-in-None}

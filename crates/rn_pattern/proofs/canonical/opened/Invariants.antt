@@ -1,7 +1,7 @@
 use Rattle.std.proofs.Common.{◌≡◌, All, IsTrue, map, flat_map, take}
-use Rattle.rn_pattern.specs.Lists.{members_by}
-use Rattle.rn_pattern.specs.Nodes.{knows, tree_at}
-use Rattle.rn_pattern.specs.Table.{trees}
+use Rattle.rn_pattern.specs.inside.Lists.{members_by}
+use Rattle.rn_pattern.specs.inside.Stored.{knows, tree_at}
+use Rattle.rn_pattern.specs.inside.Table.{trees}
 use Rattle.rn_pattern.proofs.canonical.opened.Given as goal
 
 abbrev pub invariant-loop-part : goal.invariant-loop-part

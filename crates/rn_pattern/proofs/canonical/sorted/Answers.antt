@@ -2,7 +2,7 @@
 use Rattle.std.proofs.Common.{IsTrue, rules}
 use Rattle.std.proofs.lemmas.List.Sorted.{All-permutation}
 use Rattle.rn_pattern.specs.declared.node.NodeId.{NodeId}
-use Rattle.rn_pattern.specs.Nodes.{knows, tree_at, trees_of_nodes}
+use Rattle.rn_pattern.specs.inside.Stored.{knows, tree_at, trees_of_nodes}
 use Rattle.rn_pattern.specs.Order.{tree_cmp}
 use Rattle.rn_pattern.proofs.Ordered.Orders.{tree_same}
 use Rattle.rn_pattern.proofs.Ordered.TotalOrder.{tree_cmp_total}

@@ -5,7 +5,7 @@ use Rattle.std.proofs.lemmas.List.Filters.{All-dedup}
 use Rattle.std.proofs.lemmas.List.Elements.{All-same}
 use Rattle.std.specs.List.{dedup}
 use Rattle.rn_pattern.specs.declared.node.NodeId.{NodeId}
-use Rattle.rn_pattern.specs.Nodes.{knows, tree_at, trees_of_nodes}
+use Rattle.rn_pattern.specs.inside.Stored.{knows, tree_at, trees_of_nodes}
 use Rattle.rn_pattern.proofs.Ordered.SortedBy.{same_at, ids_deduped, ids_sorted, ids_sorted_once}
 use Rattle.rn_pattern.specs.Order.{tree_cmp}
 use Rattle.rn_pattern.proofs.Ordered.Orders.{tree_same}

@@ -1,5 +1,5 @@
 use Rattle.std.proofs.Common.{take}
-use Rattle.rn_pattern.specs.Graph.{Marks}
+use Rattle.rn_pattern.specs.inside.Marking.{Marks}
 use Rattle.rn_pattern.proofs.graph.mark_all.Given as goal
 
 abbrev pub invariant-loop-node : goal.invariant-loop-node

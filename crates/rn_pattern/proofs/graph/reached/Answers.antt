@@ -3,7 +3,8 @@ use Rattle.std.proofs.lemmas.Grind.{common_steps}
 use Rattle.std.proofs.lemmas.List.{length-map}
 use Rattle.std.proofs.lemmas.List.Elements.{Contains-get_or}
 use Rattle.std.specs.List.{Contains}
-use Rattle.rn_pattern.specs.Graph.{row, Marks, rows_of}
+use Rattle.rn_pattern.specs.Graph.{row, rows_of}
+use Rattle.rn_pattern.specs.inside.Marking.{Marks}
 use Rattle.rn_pattern.proofs.Graphs.Marking.{search_begins, search_goes_on, search_ends, marked_below, none_yet}
 use Rattle.rn_pattern.proofs.graph.reached.Goals as goal
 

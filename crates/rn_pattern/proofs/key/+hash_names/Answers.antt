@@ -1,6 +1,6 @@
 use Rattle.std.proofs.Common.{fold, flat_map, map, sym, ap, ◌∙◌, arith}
 use Rattle.std.proofs.lemmas.List.{take_all}
-use Rattle.rn_pattern.specs.Key.{name_writes}
+use Rattle.rn_pattern.specs.inside.Key.{name_writes}
 use Rattle.rn_pattern.specs.View.{name_class_view}
 use Rattle.rn_pattern.proofs.Stores.Gathering.{flat_map-through}
 use Rattle.rn_pattern.proofs.Stores.Hashing.{fed_more, names_writes-list}

@@ -1,5 +1,5 @@
 use Rattle.std.proofs.Common.{◌≡◌, flat_map, fold, take}
-use Rattle.rn_pattern.specs.Key.{name_writes}
+use Rattle.rn_pattern.specs.inside.Key.{name_writes}
 use Rattle.rn_pattern.specs.View.{name_class_view}
 use Rattle.rn_pattern.proofs.key.+hash_names.Given as goal
 

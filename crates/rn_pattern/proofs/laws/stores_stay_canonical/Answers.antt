@@ -1,4 +1,4 @@
-use Rattle.rn_pattern.specs.Nodes.{trees_of_nodes}
+use Rattle.rn_pattern.specs.inside.Stored.{trees_of_nodes}
 use Rattle.rn_pattern.specs.declared.interned.Interned.{Interned}
 use Rattle.rn_pattern.specs.declared.plain.Plain.{Plain}
 use Rattle.rn_pattern.proofs.Forms.BuiltCanonical.{stays_canonical}

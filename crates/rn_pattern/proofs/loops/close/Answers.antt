@@ -2,7 +2,7 @@ use Rattle.std.proofs.Common.{ℕ, List, arith, sym, subst, ap, length, ◌∙�
 use Rattle.std.proofs.lemmas.List.{length-take-le}
 use Rattle.std.specs.Prelude.{vec_len}
 use Rattle.rn_pattern.specs.Graph.{rows_of}
-use Rattle.rn_pattern.specs.Loops.{GroupingBy}
+use Rattle.rn_pattern.specs.inside.Loops.{GroupingBy}
 use Rattle.rn_pattern.proofs.Searches.Rising.{popped}
 use Rattle.rn_pattern.proofs.Searches.Closing.{begin_below, group_closed}
 use Rattle.rn_pattern.proofs.loops.close.Goals as goal

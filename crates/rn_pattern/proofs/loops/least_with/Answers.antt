@@ -1,7 +1,7 @@
 use Rattle.std.proofs.Common.{◌≡◌, ◌<◌, ◌≤◌, ◌⊎◌, ℕ, List, length, arith, subst}
 use Rattle.std.specs.Prelude.{Contains}
 use Rattle.rn_pattern.specs.Graph.{row, rows_of}
-use Rattle.rn_pattern.specs.Loops.{node_at}
+use Rattle.rn_pattern.specs.inside.Loops.{node_at}
 use Rattle.rn_pattern.proofs.Searches.Closing.{begin_below, least_looped, least_bare}
 use Rattle.rn_pattern.proofs.loops.least_with.Goals as goal
 

@@ -1,7 +1,7 @@
 use Rattle.std.proofs.Common.{ℕ, List, arith, sym, subst, ◌∙◌}
 use Rattle.std.specs.Prelude.{vec_len}
 use Rattle.rn_pattern.specs.Graph.{rows_of}
-use Rattle.rn_pattern.specs.Loops.{GroupingBy}
+use Rattle.rn_pattern.specs.inside.Loops.{GroupingBy}
 use Rattle.rn_pattern.proofs.Searches.Rising.{popped}
 use Rattle.rn_pattern.proofs.Searches.Grouping.{left_path}
 use Rattle.rn_pattern.proofs.loops.leave.Goals as goal

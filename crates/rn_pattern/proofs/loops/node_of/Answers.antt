@@ -2,7 +2,7 @@ use Rattle.std.proofs.Common.{◌≡◌, ◌<◌, ℕ, Vec, arith, length}
 use Rattle.std.proofs.lemmas.List.{length-map, get_or_read}
 use Rattle.std.specs.declared.alloc.Global.{Global}
 use Rattle.rn_pattern.specs.Graph.{rows_of}
-use Rattle.rn_pattern.specs.Loops.{node_at}
+use Rattle.rn_pattern.specs.inside.Loops.{node_at}
 use Rattle.rn_pattern.proofs.Searches.Grouping.{node_below}
 use Rattle.rn_pattern.proofs.loops.node_of.Goals as goal
 

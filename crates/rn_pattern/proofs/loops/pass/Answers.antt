@@ -1,7 +1,7 @@
 use Rattle.std.proofs.Common.{◌≡◌, ◌<◌, arith, length}
 use Rattle.std.proofs.lemmas.List.{get_or_read}
 use Rattle.rn_pattern.specs.Graph.{rows_of}
-use Rattle.rn_pattern.specs.Loops.{node_at}
+use Rattle.rn_pattern.specs.inside.Loops.{node_at}
 use Rattle.rn_pattern.proofs.Searches.Grouping.{node_below, passed_at}
 use Rattle.rn_pattern.proofs.loops.pass.Goals as goal
 

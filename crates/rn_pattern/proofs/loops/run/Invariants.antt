@@ -1,5 +1,5 @@
 use Rattle.rn_pattern.specs.Graph.{rows_of}
-use Rattle.rn_pattern.specs.Loops.{GroupsOn, work}
+use Rattle.rn_pattern.specs.inside.Loops.{GroupsOn, work}
 use Rattle.rn_pattern.proofs.loops.run.Given as goal
 
 abbrev pub invariant-loop-search : goal.invariant-loop-search

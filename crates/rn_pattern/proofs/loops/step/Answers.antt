@@ -1,7 +1,7 @@
 use Rattle.std.proofs.Common.{◌-◌, ℕ, List, inl, arith, get_or, sym, ap, ◌∙◌, subst}
 use Rattle.std.specs.Prelude.{Contains}
 use Rattle.rn_pattern.specs.Graph.{row, rows_of}
-use Rattle.rn_pattern.specs.Loops.{AllLead, IsClosed}
+use Rattle.rn_pattern.specs.inside.Loops.{AllLead, IsClosed}
 use Rattle.rn_pattern.proofs.Searches.Grouping.{place_below, leads_next}
 use Rattle.rn_pattern.proofs.loops.step.Goals as goal
 

@@ -2,7 +2,7 @@ use Rattle.std.proofs.Common.{ℕ, List, arith, sym, subst, set}
 use Rattle.std.proofs.lemmas.List.{length-map}
 use Rattle.std.specs.Prelude.{Vec}
 use Rattle.rn_pattern.specs.Graph.{rows_of}
-use Rattle.rn_pattern.specs.Ranks.{WalkingBy}
+use Rattle.rn_pattern.specs.inside.Walking.{WalkingBy}
 use Rattle.rn_pattern.specs.declared.ranks.Mark.TheVariants.{Open}
 use Rattle.std.specs.declared.alloc.Global.{Global}
 use Rattle.rn_pattern.proofs.Searches.Walking.{entered, kept_by}

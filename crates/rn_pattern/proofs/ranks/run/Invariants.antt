@@ -1,5 +1,5 @@
 use Rattle.rn_pattern.specs.Graph.{rows_of}
-use Rattle.rn_pattern.specs.Ranks.{GoesOn, work}
+use Rattle.rn_pattern.specs.inside.Walking.{GoesOn, work}
 use Rattle.rn_pattern.proofs.ranks.run.Given as goal
 
 abbrev pub invariant-loop-walk : goal.invariant-loop-walk

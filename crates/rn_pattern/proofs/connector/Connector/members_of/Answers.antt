@@ -1,6 +1,6 @@
 -- The members of a list are those of its tree.
 use Rattle.std.proofs.Common.{map, sym, ap, ◌∙◌}
-use Rattle.rn_pattern.specs.Lists.{members_by}
+use Rattle.rn_pattern.specs.inside.Lists.{members_by}
 use Rattle.rn_pattern.specs.Store.{node_view}
 use Rattle.rn_pattern.proofs.Matches.Keeps.{list_of-trees_of}
 use Rattle.rn_pattern.proofs.connector.Connector.members_of.Goals as goal

@@ -4,9 +4,9 @@ use Rattle.std.specs.Ordering.{ordering_then}
 use Rattle.std.specs.Cmp.Lexicographic.{slice_cmp, pointwise}
 use Rattle.std.specs.Cmp.Derive.Mapped.{pointwise-map}
 use Rattle.rn_pattern.specs.Order.{text_cmp, parameters_cmp, names_cmp}
-use Rattle.rn_pattern.specs.Shown.{class_view}
+use Rattle.rn_pattern.specs.inside.Shown.{class_view}
 use Rattle.rn_pattern.specs.View.{parameters_view}
-use Rattle.rn_pattern.specs.Key.{key}
+use Rattle.rn_pattern.specs.inside.Key.{key}
 use Rattle.rn_pattern.specs.declared.node.NodeId.{NodeId}
 use Rattle.rn_pattern.proofs.Ordered.Equal.{heads, eq_by_places, not_eq}
 use Rattle.rn_pattern.proofs.key.NodeNodeIdPartialEq.eq.Goals as goal

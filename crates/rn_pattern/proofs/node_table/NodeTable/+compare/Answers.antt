@@ -1,6 +1,6 @@
 -- The heads, then the members one by one.
 use Rattle.std.proofs.Common.{◌+◌, ◌≤◌, ◌<◌, length, get_or, sym, ap, ◌∙◌, arith}
-use Rattle.rn_pattern.specs.Nodes.{tree_at, trees_of_nodes}
+use Rattle.rn_pattern.specs.inside.Stored.{tree_at, trees_of_nodes}
 use Rattle.rn_pattern.specs.declared.node.NodeId.{NodeId}
 use Rattle.rn_pattern.proofs.Stores.ShownTrees.{tree_cmp-settled, tree_cmp-by_members}
 use Rattle.rn_pattern.proofs.Ordered.Stepwise.{rest_longer, rest_shorter, rest_level, rest_settled, rest_tied}

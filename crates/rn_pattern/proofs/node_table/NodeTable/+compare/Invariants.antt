@@ -1,8 +1,8 @@
 use Rattle.std.proofs.Common.{◌≡◌, ◌≤◌, length, map, drop}
 use Rattle.std.specs.Cmp.Lexicographic.{slice_cmp}
-use Rattle.rn_pattern.specs.Nodes.{tree_at}
+use Rattle.rn_pattern.specs.inside.Stored.{tree_at}
 use Rattle.rn_pattern.specs.Order.{tree_cmp}
-use Rattle.rn_pattern.specs.Table.{trees}
+use Rattle.rn_pattern.specs.inside.Table.{trees}
 use Rattle.rn_pattern.proofs.node_table.NodeTable.+compare.Given as goal
 
 abbrev pub decreases-compare : goal.decreases-compare

@@ -1,7 +1,7 @@
 -- What stands at a known place.
 use Rattle.std.proofs.Common.{◌<◌, length, sym, arith}
 use Rattle.rn_pattern.specs.Tree as tree
-use Rattle.rn_pattern.specs.Nodes.{trees_of_nodes}
+use Rattle.rn_pattern.specs.inside.Stored.{trees_of_nodes}
 use Rattle.rn_pattern.proofs.Stores.NodeTrees.{length-trees_of_nodes, trees_of_nodes-at, names_below_at, knows_place}
 use Rattle.rn_pattern.proofs.node_table.NodeTable.get.Goals as goal
 

@@ -3,7 +3,7 @@ use Rattle.std.proofs.Common.{◌≡◌, sym, ap, arith}
 use Rattle.std.proofs.lemmas.List.{get_or_past}
 use Rattle.rn_pattern.specs.Canonical.{is_not_allowed}
 use Rattle.rn_pattern.specs.Tree as tree
-use Rattle.rn_pattern.specs.Nodes.{tree_at, trees_of_nodes}
+use Rattle.rn_pattern.specs.inside.Stored.{tree_at, trees_of_nodes}
 use Rattle.rn_pattern.proofs.Stores.NodeTrees.{length-trees_of_nodes, place_known}
 use Rattle.rn_pattern.proofs.node_table.NodeTable.is_not_allowed.Goals as goal
 

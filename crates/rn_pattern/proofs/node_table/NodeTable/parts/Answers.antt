@@ -2,7 +2,7 @@
 use Rattle.std.proofs.Common.{◌≡◌, sym, ap, arith, option_copied}
 use Rattle.std.proofs.lemmas.List.{get_or_past}
 use Rattle.rn_pattern.specs.Tree as tree
-use Rattle.rn_pattern.specs.Nodes.{tree_at, trees_of_nodes}
+use Rattle.rn_pattern.specs.inside.Stored.{tree_at, trees_of_nodes}
 use Rattle.rn_pattern.specs.declared.node.Node.{Node}
 use Rattle.rn_pattern.proofs.Stores.NodeTrees.{length-trees_of_nodes, place_known}
 use Rattle.rn_pattern.proofs.Stores.ShownTrees.{shows_parts}

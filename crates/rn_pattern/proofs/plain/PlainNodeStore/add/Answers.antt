@@ -1,6 +1,6 @@
 -- One more node behind the others.
 use Rattle.std.proofs.Common.{ap, ◌∙◌, arith, is_ok}
-use Rattle.rn_pattern.specs.Nodes.{trees_of_nodes}
+use Rattle.rn_pattern.specs.inside.Stored.{trees_of_nodes}
 use Rattle.rn_pattern.proofs.Stores.NodeTrees.{length-trees_of_nodes, trees_of_nodes-push, NameEarlier-pushed, stands_at_end, adds_at_end, keeps_pushed, grows_pushed}
 use Rattle.rn_pattern.proofs.plain.PlainNodeStore.add.Goals as goal
 

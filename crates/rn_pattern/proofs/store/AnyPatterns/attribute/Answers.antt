@@ -3,8 +3,8 @@ use Rattle.rn_pattern.specs.Tree as tree
 use Rattle.rn_pattern.specs.Tree.{Tree, trees_of}
 use Rattle.rn_pattern.specs.Canonical.{attribute_step, canonical_name}
 use Rattle.rn_pattern.specs.View.{name_class_view}
-use Rattle.rn_pattern.specs.Nodes.{knows, tree_at, trees_of_nodes}
-use Rattle.rn_pattern.specs.Reduced.{reduced_tree}
+use Rattle.rn_pattern.specs.inside.Stored.{knows, tree_at, trees_of_nodes}
+use Rattle.rn_pattern.specs.inside.Reduced.{reduced_tree}
 use Rattle.rn_pattern.specs.declared.node.NodeId.{NodeId}
 use Rattle.rn_pattern.proofs.Matches.Constructors.{attribute_means}
 use Rattle.rn_pattern.proofs.Matches.Meanings.{means_by, over_store}

@@ -3,8 +3,8 @@ use Rattle.std.specs.Option.{option_map}
 use Rattle.rn_pattern.specs.Tree.{Tree}
 use Rattle.rn_pattern.specs.Store.{datum_by, datum_step}
 use Rattle.rn_pattern.specs.View.{parameters_view}
-use Rattle.rn_pattern.specs.Nodes.{knows, tree_at, trees_of_nodes}
-use Rattle.rn_pattern.specs.Reduced.{reduced_tree}
+use Rattle.rn_pattern.specs.inside.Stored.{knows, tree_at, trees_of_nodes}
+use Rattle.rn_pattern.specs.inside.Reduced.{reduced_tree}
 use Rattle.rn_pattern.specs.declared.node.NodeId.{NodeId}
 use Rattle.rn_pattern.proofs.Matches.Meanings.{means_by, over_store, datum_means}
 use Rattle.rn_pattern.proofs.store.AnyPatterns.datum.Goals as goal

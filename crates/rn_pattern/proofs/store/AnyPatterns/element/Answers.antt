@@ -3,7 +3,7 @@ use Rattle.std.proofs.Common.{ap}
 use Rattle.rn_pattern.specs.Tree as tree
 use Rattle.rn_pattern.specs.Canonical.{canonical_name}
 use Rattle.rn_pattern.specs.View.{name_class_view}
-use Rattle.rn_pattern.specs.Nodes.{knows, tree_at}
+use Rattle.rn_pattern.specs.inside.Stored.{knows, tree_at}
 use Rattle.rn_pattern.proofs.Matches.Constructors.{element_means}
 use Rattle.rn_pattern.proofs.Matches.Meanings.{means_by}
 use Rattle.rn_pattern.proofs.store.AnyPatterns.element.Goals as goal

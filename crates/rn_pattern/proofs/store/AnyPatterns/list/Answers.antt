@@ -2,8 +2,8 @@
 use Rattle.rn_pattern.specs.Tree as tree
 use Rattle.rn_pattern.specs.Tree.{Tree, trees_of}
 use Rattle.rn_pattern.specs.Canonical.{list_step}
-use Rattle.rn_pattern.specs.Nodes.{knows, tree_at, trees_of_nodes}
-use Rattle.rn_pattern.specs.Reduced.{reduced_tree}
+use Rattle.rn_pattern.specs.inside.Stored.{knows, tree_at, trees_of_nodes}
+use Rattle.rn_pattern.specs.inside.Reduced.{reduced_tree}
 use Rattle.rn_pattern.specs.declared.node.NodeId.{NodeId}
 use Rattle.rn_pattern.proofs.Matches.Constructors.{list_means}
 use Rattle.rn_pattern.proofs.Matches.Meanings.{means_by, over_store}

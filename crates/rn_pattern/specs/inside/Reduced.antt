@@ -1,7 +1,7 @@
 -- What a canonical step leaves, by the trees of the store.
 use Rattle.std.specs.Prelude.{List, IsTrue, length}
 use Rattle.rn_pattern.specs.Tree.{Tree}
-use Rattle.rn_pattern.specs.Nodes.{NamesBelow, knows, tree_at}
+use Rattle.rn_pattern.specs.inside.Stored.{NamesBelow, knows, tree_at}
 use Rattle.rn_pattern.specs.Store.{node_view}
 use Rattle.rn_pattern.specs.declared.canonical.Reduced.{Reduced}
 

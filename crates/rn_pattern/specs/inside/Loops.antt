@@ -2,7 +2,8 @@
 -- another (strongly connected ones); each node on the stack leads to all behind it. A group is closed when no edge is left that might join it to another.
 use Rattle.std.specs.Prelude.{◌≡◌, ℕ, ◌+◌, ◌<◌, ◌≤◌, ◌⊎◌, List, length, slice_index_or, take, sum_by, sum, Contains, Option, Some, None}
 use Rattle.rn_pattern.specs.Graph.{row}
-use Rattle.rn_pattern.specs.Ranks.{Leads, EndsWith}
+use Rattle.rn_pattern.specs.Ranks.{Leads}
+use Rattle.rn_pattern.specs.inside.Walking.{EndsWith, edges_left, next_from}
 use Rattle.rn_pattern.specs.declared.loops.Search.{Search}
 use Rattle.rn_pattern.specs.declared.loops.Stage.{Stage}
 use Rattle.rn_pattern.specs.declared.loops.Stage.TheVariants.{New, Open, Closed}
@@ -57,6 +58,17 @@ pub record GroupingBy (rows : List (List ℕ)) (places : List (Option ℕ)) (lef
 
 abbrev pub Grouping : List (List ℕ) → Search → Type 0
 Grouping rows s = GroupingBy rows s.places.items s.left.items s.stack.items s.path.items s.bounds.items s.least
+
+-- of the node at the place on the stack: how many edges are left, and the node that the next of them leads to
+abbrev pub left_at : Search → ℕ → ℕ
+left_at s place = edges_left s.left.items (node_at s.stack.items place)
+
+abbrev pub next_at : List (List ℕ) → Search → ℕ → ℕ
+next_at rows s place = next_from rows s.left.items (node_at s.stack.items place)
+
+-- an edge leads from the node back to it
+abbrev pub LeadsBack : List (List ℕ) → ℕ → Type 0
+LeadsBack rows x = Contains (row rows x) x
 
 -- what is still to do: a step for each edge, for each node on the stack and on the path, three for a new node
 abbrev pub weight : Option ℕ → ℕ

@@ -9,8 +9,9 @@ use mathlib.Core.Path.{refl, ap, subst}
 use Rattle.rn_pattern.specs.Tree as tree
 use Rattle.rn_pattern.specs.Tree.{Text, Parameters, Tree, NameTree, NameTrees, any_name, any_name_but, ns_name, ns_name_but, name, name_choice, no_names, more_names}
 use Rattle.rn_pattern.specs.View.{parameters_view}
-use Rattle.rn_pattern.specs.Nodes.{node_rank, node_texts, node_parameters, node_class, node_members, tree_at}
-use Rattle.rn_pattern.specs.Shown.{class_view}
+use Rattle.rn_pattern.specs.Nodes.{node_members}
+use Rattle.rn_pattern.specs.inside.Stored.{node_rank, node_texts, node_parameters, node_class, tree_at}
+use Rattle.rn_pattern.specs.inside.Shown.{class_view}
 use Rattle.rn_pattern.specs.declared.node.Node.{Node}
 use Rattle.rn_pattern.specs.declared.node.NodeId.{NodeId}
 

@@ -1,11 +1,15 @@
 -- The parts of a pattern that the order compares in turn.
-use Rattle.std.specs.Prelude.{◌≡◌, ◌<◌, ℕ, List, [], ◌∷◌, map, All, Option, Some, None, String}
+use Rattle.std.specs.Prelude.{◌≡◌, ◌<◌, ℕ, List, [], ◌∷◌, map, All, Option, Some, None, String, option_copied}
 use Rattle.std.specs.declared.alloc.Global.{Global}
+use Rattle.std.specs.declared.cmp.Ordering.{Ordering}
+use Rattle.std.specs.Ordering.{nat_cmp, ordering_then}
+use Rattle.std.specs.Cmp.Lexicographic.{slice_cmp}
 use Rattle.rn_pattern.specs.Tree.{Text, Parameters, NameTrees, no_names, more_names, Tree, Trees, ref, value, datum, datum_but, list, attribute, element, one_or_more, group, interleave, choice, no_trees, more_trees, trees_of}
-use Rattle.rn_pattern.specs.Order.{rank}
+use Rattle.rn_pattern.specs.Order.{names_cmp, parameters_cmp, rank, text_cmp}
 use Rattle.rn_pattern.specs.View.{name_class_view, parameters_view}
 use Rattle.rn_pattern.specs.declared.tree.NameClass.{NameClass}
 use Rattle.rn_pattern.specs.declared.node.NodeId.{NodeId}
+use Rattle.rn_pattern.specs.declared.parts.Parts.{Parts}
 
 -- three texts, empty where there are fewer
 abbrev pub texts_in : Tree → List Text
@@ -39,6 +43,22 @@ members_in p = no_trees
 abbrev pub class_view : Option NameClass → NameTrees
 class_view None = no_names
 class_view (Some c) = more_names (name_class_view c) no_names
+
+-- the three texts, the parameters and the name class of the parts
+abbrev pub part_texts : Parts → List Text
+part_texts x = x.first.now ∷ x.second.now ∷ x.third.now ∷ []
+
+abbrev pub part_parameters : Parts → Parameters
+part_parameters x = parameters_view x.parameters.now
+
+abbrev pub part_class : Parts → NameTrees
+part_class x = class_view (option_copied x.class)
+
+-- the order by all parts but the members: the kind, the texts, the parameters, the name class
+abbrev pub heads_cmp : Parts → Parts → Ordering
+heads_cmp x y = ordering_then (nat_cmp x.kind y.kind)
+    (ordering_then (slice_cmp text_cmp (part_texts x) (part_texts y))
+    (ordering_then (parameters_cmp (part_parameters x) (part_parameters y)) (names_cmp (part_class x) (part_class y))))
 
 -- these are the parts of t, whose members stand below the place
 pub record ShowsTree (at : NodeId → Tree) (t : Tree) (place kind : ℕ) (texts : List Text) (parameters : List (String Global × String Global)) (class : Option NameClass) (members : List NodeId) : Type 0 where

@@ -7,7 +7,7 @@ use Rattle.std.proofs.lemmas.Bool.{lt-ltb, ltb-true}
 use Rattle.std.proofs.lemmas.List.FromFn.{length-map-range_with_len, get_or-map-range_with_len}
 use Rattle.rn_pattern.specs.Tree.{Tree}
 use Rattle.rn_pattern.specs.Store.{HasCount}
-use Rattle.rn_pattern.specs.Nodes.{knows}
+use Rattle.rn_pattern.specs.inside.Stored.{knows}
 use Rattle.rn_pattern.specs.declared.node.NodeId.{NodeId}
 
 abbrev numbered : ℕ → NodeId
