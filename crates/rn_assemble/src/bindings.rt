@@ -7,7 +7,7 @@ ghost use Rattle.rn_pattern.specs.Tree.{Text};
 ghost use Rattle.rn_syntax.specs.Tree as tree;
 ghost use Rattle.rn_syntax.specs.Places as places;
 ghost use Rattle.rn_syntax.specs.View.{declaration_view, prefix_view, uri_view};
-ghost use Rattle.rn_assemble.specs.Bound.{BindsAs, InScope, bound_default, bound_library, bound_namespace, bound_uri};
+ghost use Rattle.rn_assemble.specs.inside.Bound.{BindsAs, InScope, bound_default, bound_library, bound_namespace, bound_uri};
 ghost use Rattle.rn_assemble.specs.Components as components;
 ghost use Rattle.rn_assemble.specs.Resolve.{default_of, namespace_of, uri_text};
 

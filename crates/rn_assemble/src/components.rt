@@ -8,12 +8,12 @@ ghost use Rattle.rn_pattern.specs.Graph.{AllBelow, row, rows_of};
 ghost use Rattle.rn_syntax.specs.Tree.{Declaration};
 ghost use Rattle.rn_syntax.specs.View.{prefix_view};
 ghost use Rattle.rn_assemble.specs.Components as specs;
-ghost use Rattle.rn_assemble.specs.Expanded.{AddsLive, CanAdd, CanExpand, CanInclude, CanList, ContextsHold, Enters, Expands, IsItem, KeepsBodies, KeepsLists, included_in, IsListed, left_by, name_at};
-ghost use Rattle.rn_assemble.specs.Keyed.{key_at};
-ghost use Rattle.rn_assemble.specs.Lacking.{IsLeastLack, LacksFrom, LacksWithin};
-ghost use Rattle.rn_assemble.specs.Listed.{IsBody, Lists, Live, Rises, components_in, resolved_component};
-ghost use Rattle.rn_assemble.specs.Noting.{AtNumbers, InclusionLacks, IsOwnLack, Notes};
-ghost use Rattle.rn_assemble.specs.Views.{IsNumbered, inclusion_view, written_view};
+ghost use Rattle.rn_assemble.specs.inside.Expanded.{AddsLive, CanAdd, CanExpand, CanInclude, CanList, ContextsHold, Enters, Expands, IsItem, KeepsBodies, KeepsLists, included_in, IsListed, left_by, name_at};
+ghost use Rattle.rn_assemble.specs.inside.Keyed.{key_at};
+ghost use Rattle.rn_assemble.specs.inside.Lacking.{IsLeastLack, LacksFrom, LacksWithin};
+ghost use Rattle.rn_assemble.specs.inside.Listed.{IsBody, Lists, Live, Rises, components_in, resolved_component};
+ghost use Rattle.rn_assemble.specs.inside.Noting.{AtNumbers, InclusionLacks, IsOwnLack, Notes};
+ghost use Rattle.rn_assemble.specs.inside.Views.{IsNumbered, inclusion_view, written_view};
 
 use crate::bindings::Scope;
 use crate::contents::{Component, Contents, Include};

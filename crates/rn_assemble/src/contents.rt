@@ -4,10 +4,10 @@ ghost use Rattle.std.specs.List.{AllByRecursion};
 ghost use Rattle.std.specs.List.Sorted.{IsStrictlySortedBy};
 ghost use Rattle.rn_pattern.specs.Order.{text_cmp};
 ghost use Rattle.rn_syntax.specs.View.{item_view, items_view, pattern_view, prefix_view};
-ghost use Rattle.rn_assemble.specs.Contained.{Inclusion, Written, item_inclusions, inclusions, item_written, written};
-ghost use Rattle.rn_assemble.specs.Keyed.{AreNames, item_defines, defines, key_at};
-ghost use Rattle.rn_assemble.specs.Listed.{AreContents, IsContents};
-ghost use Rattle.rn_assemble.specs.Views.{Adds, inclusion_view, module_names, names_of, source_view, sources_view, written_view};
+ghost use Rattle.rn_assemble.specs.inside.Contained.{Inclusion, Written, item_inclusions, inclusions, item_written, written};
+ghost use Rattle.rn_assemble.specs.inside.Keyed.{AreNames, item_defines, defines, key_at};
+ghost use Rattle.rn_assemble.specs.inside.Listed.{AreContents, IsContents};
+ghost use Rattle.rn_assemble.specs.inside.Views.{Adds, inclusion_view, module_names, names_of, source_view, sources_view, written_view};
 
 use crate::bindings::Bindings;
 use crate::inclusion::module_named;

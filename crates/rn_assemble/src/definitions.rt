@@ -8,11 +8,11 @@ ghost use Rattle.rn_pattern.specs.Tree.{Text, Tree};
 ghost use Rattle.rn_assemble.specs.Combine.{joined_grammar};
 ghost use Rattle.rn_assemble.specs.Components.{has_key, start_key};
 ghost use Rattle.rn_assemble.specs.DefinitionsView.{definitions_view};
-ghost use Rattle.rn_assemble.specs.Firsts.{HaveTied};
-ghost use Rattle.rn_assemble.specs.Joining.{HasStart, IsJoinedGrammar, IsMisnamed};
-ghost use Rattle.rn_assemble.specs.Listed.{Lists, Live, components_in};
-ghost use Rattle.rn_assemble.specs.Patterns.{HavePatterns, IsFirstAt, boxed_view};
-ghost use Rattle.rn_assemble.specs.Views.{names_of};
+ghost use Rattle.rn_assemble.specs.inside.Tied.{HaveTied};
+ghost use Rattle.rn_assemble.specs.inside.Joining.{HasStart, IsJoinedGrammar, IsMisnamed};
+ghost use Rattle.rn_assemble.specs.inside.Listed.{Lists, Live, components_in};
+ghost use Rattle.rn_assemble.specs.inside.Patterns.{HavePatterns, IsFirstAt, boxed_view};
+ghost use Rattle.rn_assemble.specs.inside.Views.{names_of};
 
 use crate::combining::combined;
 use crate::components::Components;

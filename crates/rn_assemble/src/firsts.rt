@@ -4,9 +4,10 @@ ghost use Rattle.std.specs.List.Sorted.{IsStrictlySortedBy};
 ghost use Rattle.rn_pattern.specs.Order.{text_cmp};
 ghost use Rattle.rn_pattern.specs.Tree.{Text};
 ghost use Rattle.rn_assemble.specs.Combine.{joined};
-ghost use Rattle.rn_assemble.specs.Firsts.{AreTied, IsFirst, body_of, joined_members};
-ghost use Rattle.rn_assemble.specs.Keyed.{key_at};
-ghost use Rattle.rn_assemble.specs.Listed.{Lists, Live, components_in};
+ghost use Rattle.rn_assemble.specs.Firsts.{joined_members};
+ghost use Rattle.rn_assemble.specs.inside.Tied.{AreTied, IsFirst, body_of};
+ghost use Rattle.rn_assemble.specs.inside.Keyed.{key_at};
+ghost use Rattle.rn_assemble.specs.inside.Listed.{Lists, Live, components_in};
 
 use crate::components::Components;
 use std::alloc::{AllocError, Global};

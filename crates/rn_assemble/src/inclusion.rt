@@ -4,12 +4,12 @@ ghost use Rattle.std.specs.List.{concat, filter_map, list_any};
 ghost use Rattle.std.specs.List.Sorted.{IsStrictlySortedBy};
 ghost use Rattle.rn_pattern.specs.Order.{text_cmp};
 ghost use Rattle.rn_pattern.specs.Graph.{AllBelow, IsGraph, is_marked, rows_of};
-ghost use Rattle.rn_assemble.specs.Contained.{place_in};
-ghost use Rattle.rn_assemble.specs.Included.{AreIncluded};
-ghost use Rattle.rn_assemble.specs.Inclusions.{AreInclusions, IsLeastAmong, IsMissing, entries};
-ghost use Rattle.rn_assemble.specs.Instances.{instances_of};
+ghost use Rattle.rn_assemble.specs.inside.Contained.{place_in};
+ghost use Rattle.rn_assemble.specs.inside.Included.{AreIncluded};
+ghost use Rattle.rn_assemble.specs.inside.Inclusions.{AreInclusions, IsLeastAmong, IsMissing, entries};
+ghost use Rattle.rn_assemble.specs.inside.Instances.{instances_of};
 ghost use Rattle.rn_assemble.specs.Refused.{IsFirstOfModules};
-ghost use Rattle.rn_assemble.specs.Views.{module_names, sources_view, texts_of};
+ghost use Rattle.rn_assemble.specs.inside.Views.{module_names, sources_view, texts_of};
 
 use crate::instances::instances_up_to;
 use crate::modules::Source;

@@ -2,7 +2,7 @@
 
 ghost use Rattle.std.specs.Prelude.{◌≡◌, ℕ, ◌+◌, ◌<◌, ◌≤◌, length, min};
 ghost use Rattle.rn_pattern.specs.Graph.{IsGraph, rows_of};
-ghost use Rattle.rn_assemble.specs.Instances.{instances_of};
+ghost use Rattle.rn_assemble.specs.inside.Instances.{instances_of};
 
 use rn_pattern::graph::row_at;
 

@@ -3,8 +3,9 @@ ghost use Rattle.std.specs.Prelude.{◌≡◌, ◌+◌, ◌-◌, ◌<◌, ◌≤
 ghost use Rattle.std.specs.List.Sorted.{IsStrictlySortedBy};
 ghost use Rattle.rn_pattern.specs.Order.{text_cmp};
 ghost use Rattle.rn_syntax.specs.View.{item_view, items_view};
-ghost use Rattle.rn_assemble.specs.Keyed.{item_defines, defines, AreNames, IsFound, IsNumber, key_at};
-ghost use Rattle.rn_assemble.specs.Views.{key_view, names_of, sources_view, texts_of};
+ghost use Rattle.rn_assemble.specs.inside.Keyed.{item_defines, defines, AreNames, IsFound, IsNumber, key_at};
+ghost use Rattle.rn_assemble.specs.inside.Views.{names_of, sources_view, texts_of};
+ghost use Rattle.rn_assemble.specs.Refused.{key_view};
 
 use crate::modules::Source;
 use crate::refusal::Key;

@@ -9,10 +9,10 @@ ghost use Rattle.rn_pattern.specs.Order.{text_cmp};
 ghost use Rattle.rn_pattern.specs.Tree.{Text};
 ghost use Rattle.rn_syntax.specs.Faults.{IsFault};
 ghost use Rattle.rn_syntax.specs.View.{module_view};
-ghost use Rattle.rn_assemble.specs.Reading.{IsFaultOf, IsRead};
+ghost use Rattle.rn_assemble.specs.inside.Reading.{IsFaultOf, IsRead};
 ghost use Rattle.rn_assemble.specs.Refusal.{AreModules};
 ghost use Rattle.rn_assemble.specs.Refused.{IsFirstRefusal};
-ghost use Rattle.rn_assemble.specs.Views.{module_names, sources_view};
+ghost use Rattle.rn_assemble.specs.inside.Views.{module_names, sources_view};
 
 use crate::refusal::Refusal;
 use rn_modset::ModuleSet;

@@ -4,7 +4,7 @@ ghost use Rattle.rn_pattern.specs.Opened.{pair};
 ghost use Rattle.rn_pattern.specs.Tree as tree;
 ghost use Rattle.rn_pattern.specs.Tree.{trees_of};
 ghost use Rattle.rn_pattern.specs.View.{parameters_view, pattern_view, shared_view};
-ghost use Rattle.rn_assemble.specs.Patterns.{boxed_view};
+ghost use Rattle.rn_assemble.specs.inside.Patterns.{boxed_view};
 
 use rn_pattern::Pattern;
 use std::alloc::{AllocError, Global};

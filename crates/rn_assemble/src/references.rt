@@ -8,9 +8,9 @@ ghost use Rattle.rn_assemble.specs.Components.{Component};
 ghost use Rattle.rn_syntax.specs.View.{pattern_view, patterns_view};
 ghost use Rattle.rn_assemble.specs.Combine.{joined_grammar};
 ghost use Rattle.rn_assemble.specs.Least.{IsLeast};
-ghost use Rattle.rn_assemble.specs.Listed.{Lists, Live, components_in};
-ghost use Rattle.rn_assemble.specs.Referred.{AreAllReferences, AreNumbers, AreBodiesAt, IsFresh, IsLeastOf, IsLeastRecursive, IsLeastUndefined, IsLooked, lesser_text, names_at, references, all_references, outer_references, all_outer_references};
-ghost use Rattle.rn_assemble.specs.Views.{names_of, texts_of};
+ghost use Rattle.rn_assemble.specs.inside.Listed.{Lists, Live, components_in};
+ghost use Rattle.rn_assemble.specs.inside.Referred.{AreAllReferences, AreNumbers, AreBodiesAt, IsFresh, IsLeastOf, IsLeastRecursive, IsLeastUndefined, IsLooked, lesser_text, names_at, references, all_references, outer_references, all_outer_references};
+ghost use Rattle.rn_assemble.specs.inside.Views.{names_of, texts_of};
 ghost use Rattle.rn_pattern.specs.Matching.{definition_of};
 ghost use Rattle.rn_pattern.specs.Graph.{AllBelow, IsGraph, is_marked, row, rows_of};
 

@@ -5,8 +5,8 @@ ghost use Rattle.rn_pattern.specs.Tree.{Text, name_trees_of, trees_of};
 ghost use Rattle.rn_pattern.specs.View.{name_class_view, parameters_view, shared_view};
 ghost use Rattle.rn_syntax.specs.Tree as source;
 ghost use Rattle.rn_syntax.specs.View as seen;
-ghost use Rattle.rn_assemble.specs.Bound.{InScope};
-ghost use Rattle.rn_assemble.specs.Patterns.{boxed_view};
+ghost use Rattle.rn_assemble.specs.inside.Bound.{InScope};
+ghost use Rattle.rn_assemble.specs.inside.Patterns.{boxed_view};
 ghost use Rattle.rn_assemble.specs.Resolve as resolve;
 
 use crate::bindings::Scope;

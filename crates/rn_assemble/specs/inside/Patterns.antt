@@ -12,10 +12,10 @@ use Rattle.rn_assemble.specs.declared.refusal.Refusal.{Refusal}
 use Rattle.rn_assemble.specs.declared.refusal.Refusal.TheVariants as r
 use Rattle.rn_assemble.specs.Components.{Component, Key, has_key, start_key}
 use Rattle.rn_assemble.specs.Combine.{joined}
-use Rattle.rn_assemble.specs.Keyed.{key_at}
-use Rattle.rn_assemble.specs.Listed.{IsBody, Live, components_in}
+use Rattle.rn_assemble.specs.inside.Keyed.{key_at}
+use Rattle.rn_assemble.specs.inside.Listed.{IsBody, Live, components_in}
 use Rattle.rn_assemble.specs.Refusal.{BreaksNameRules}
-use Rattle.rn_assemble.specs.Views.{key_view}
+use Rattle.rn_assemble.specs.Refused.{key_view}
 
 abbrev pub boxed_view : Box Pattern Global → Tree
 boxed_view p = pattern_view p.value

@@ -11,11 +11,11 @@ use Rattle.rn_assemble.specs.declared.components.Body.{Body}
 use Rattle.rn_assemble.specs.declared.components.Components.{Components}
 use Rattle.rn_syntax.specs.Tree.{Declaration}
 use Rattle.rn_assemble.specs.declared.components.Context.{Context}
-use Rattle.rn_assemble.specs.Bound.{BindsAs}
-use Rattle.rn_assemble.specs.Views.{IsNumbered}
+use Rattle.rn_assemble.specs.inside.Bound.{BindsAs}
+use Rattle.rn_assemble.specs.inside.Views.{IsNumbered}
 use Rattle.rn_assemble.specs.Components.{Component, Source, components_within}
-use Rattle.rn_assemble.specs.Contained.{AreFlat}
-use Rattle.rn_assemble.specs.Listed.{AreContents, Live, Lists, Rises, components_in}
+use Rattle.rn_assemble.specs.inside.Contained.{AreFlat}
+use Rattle.rn_assemble.specs.inside.Listed.{AreContents, Live, Lists, Rises, components_in}
 
 -- only bodies and contexts may change
 pub record KeepsLists (old new : Components) : Type 0 where

@@ -15,7 +15,7 @@ use Rattle.rn_syntax.specs.Tree.{Pattern, Patterns}
 use Rattle.rn_pattern.specs.Graph.{row}
 use Rattle.rn_assemble.specs.Components.{Component}
 use Rattle.rn_assemble.specs.Combine.{joined, joined_grammar}
-use Rattle.rn_assemble.specs.Keyed.{IsNumber, key_at}
+use Rattle.rn_assemble.specs.inside.Keyed.{IsNumber, key_at}
 use Rattle.rn_assemble.specs.Least.{IsLeast}
 use Rattle.rn_assemble.specs.declared.components.Body.{Body}
 use Rattle.rn_assemble.specs.declared.refusal.Refusal.{Refusal}

@@ -8,10 +8,10 @@ use Rattle.rn_assemble.specs.declared.contents.Contents.{Contents}
 use Rattle.rn_assemble.specs.declared.components.Body.{Body}
 use Rattle.rn_assemble.specs.declared.components.Components.{Components}
 use Rattle.rn_assemble.specs.Resolve.{resolved}
-use Rattle.rn_assemble.specs.Bound.{BindsAs}
+use Rattle.rn_assemble.specs.inside.Bound.{BindsAs}
 use Rattle.rn_assemble.specs.Components.{Component, Source}
-use Rattle.rn_assemble.specs.Contained.{Written, written, inclusions}
-use Rattle.rn_assemble.specs.Views.{IsNumbered, inclusion_view, written_view}
+use Rattle.rn_assemble.specs.inside.Contained.{Written, written, inclusions}
+use Rattle.rn_assemble.specs.inside.Views.{IsNumbered, inclusion_view, written_view}
 
 -- the contents are those of the module
 pub record IsContents (modules : List Source) (names : List Text) (m : Source) (c : Contents) : Type 0 where
