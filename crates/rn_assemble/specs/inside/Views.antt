@@ -7,6 +7,7 @@ use Rattle.rn_syntax.specs.View.{module_view, pattern_view, prefix_view}
 use Rattle.rn_assemble.specs.declared.modules.Source as code_source
 use Rattle.rn_assemble.specs.declared.keys.Keys.{Keys}
 use Rattle.rn_assemble.specs.declared.contents.Component as code_component
+use Rattle.rn_assemble.specs.declared.contents.Contents.{Contents}
 use Rattle.rn_assemble.specs.declared.contents.Include.{Include}
 use Rattle.rn_assemble.specs.Components.{Source}
 use Rattle.rn_assemble.specs.inside.Keyed.{key_at}
@@ -42,3 +43,10 @@ pub record Adds (names : List Text) (old new : List code_component.Component) (a
 
 abbrev pub inclusion_view : Include → Inclusion
 inclusion_view i = record { module_at = i.module; inherit = prefix_view i.inherit; first = i.from; end = i.to }
+
+-- contents have got these components, and these includes
+abbrev pub AddsComponents : Keys → (old new : Contents) → List Written → Type 0
+AddsComponents keys old new added = Adds (names_of keys) old.components.items new.components.items added
+
+abbrev pub AddsIncludes : (old new : Contents) → List Inclusion → Type 0
+AddsIncludes old new added = map inclusion_view new.includes.items ≡ map inclusion_view old.includes.items ++ added
