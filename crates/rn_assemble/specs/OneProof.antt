@@ -1,13 +1,11 @@
 -- What a grammar without a refusal keeps has one proof at most, so that a `Grammar` can hold it.
-use Rattle.std.specs.Prelude.{ℕ, List, Option, Some, None, IfSome}
-use Rattle.std.specs.Coded.{×_prop, Π_prop, Unit-prop, le_prop}
-use Rattle.std.specs.Ordering.{Ordering-set}
+use Rattle.std.specs.Prelude.{Option, Some, None, IfSome}
+use Rattle.std.specs.Coded.{×_prop, Π_prop, Unit-prop}
 use Rattle.rn_pattern.specs.Tree as t
-use Rattle.rn_pattern.specs.Tree.{Text, NameTree, NameTrees, any_name, any_name_but, ns_name, ns_name_but, name, name_choice, no_names, more_names, Tree, Trees, no_trees, more_trees}
+use Rattle.rn_pattern.specs.Tree.{NameTree, NameTrees, any_name, any_name_but, ns_name, ns_name_but, name, name_choice, no_names, more_names, Tree, Trees, no_trees, more_trees}
 use Rattle.rn_pattern.specs.Matching.{Grammar, definition_of}
 use Rattle.rn_pattern.specs.Excepts.{IsExcept, AreExcepts, HasExcepts, HaveExcepts}
 use Rattle.rn_pattern.specs.NameRules.{HasNoAny, HaveNoAny, HasNamesAlone, HaveNamesAlone, HasNameExcepts, HaveNameExcepts, HasNoDeclaration, HaveNoDeclaration, KeepsNameRules, KeepNameRules}
-use Rattle.rn_assemble.specs.Firsts.{AreTied, HaveTied}
 use Rattle.rn_assemble.specs.WellFormed.{IsWellFormed}
 
 nothing_prop : IsProp ⊥
@@ -127,11 +125,3 @@ IsWellFormed-prop G v w = λ i. record {
   start_names = rules_prop G.start v.start_names w.start_names i;
   names = Π_prop (λ x. if_some_prop KeepsNameRules rules_prop (definition_of G x)) v.names w.names i;
 }
-
--- ---- first places
-
-pub AreTied-prop : (firsts : List ℕ) (members : List Tree) → IsProp (AreTied firsts members)
-AreTied-prop firsts members = Π_prop (λ i. Π_prop (λ j. Π_prop (λ p. Π_prop (λ at. Π_prop (λ is. ×_prop le_prop (Ordering-set _ _))))))
-
-pub HaveTied-prop : (rows : List (List ℕ)) (ds : List (Text × Tree)) → IsProp (HaveTied rows ds)
-HaveTied-prop rows ds = Π_prop (λ n. Π_prop (λ d. Π_prop (λ l. AreTied-prop _ _)))

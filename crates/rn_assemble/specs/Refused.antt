@@ -2,11 +2,16 @@
 use Rattle.std.specs.Prelude.{◌≡◌, List, MatchOption, Option, Some, None}
 use Rattle.std.specs.String.{string_bytes}
 use Rattle.rn_modset.specs.Contributions.{Member}
+use Rattle.rn_assemble.specs.declared.refusal.Key as code_key
+use Rattle.rn_assemble.specs.declared.refusal.Key.TheVariants as k
 use Rattle.rn_assemble.specs.declared.refusal.Refusal as code
 use Rattle.rn_assemble.specs.declared.refusal.Refusal.TheVariants as r
-use Rattle.rn_assemble.specs.Components.{Source}
+use Rattle.rn_assemble.specs.Components.{Key, start_key, name_key, Source}
 use Rattle.rn_assemble.specs.Refusal.{Refusal, encoding, lexical, deep_brackets, syntax, prefix, builtin, context_value, except, conflict, faulty, missing, cycle, too_many_instances, override, plain_twice, mixed_methods, no_start, undefined, recursive, name_class, IsFirst, IsFirstFor}
-use Rattle.rn_assemble.specs.Views.{key_view}
+
+abbrev pub key_view : code_key.Key → Key
+key_view k.Start = start_key
+key_view (k.Define x) = name_key (string_bytes x)
 
 -- the refusal as a set has it; want of memory and refusals of printed text are no set's
 abbrev pub refusal_view : code.Refusal → Option Refusal

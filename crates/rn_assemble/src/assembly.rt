@@ -1,21 +1,21 @@
 // From a set to its grammar.
-ghost use Rattle.std.specs.Prelude.{List, MatchResult};
+ghost use Rattle.std.specs.Prelude.{MatchResult};
 ghost use Rattle.std.specs.List.{AllByRecursion};
 ghost use Rattle.std.specs.List.Sorted.{IsStrictlySortedBy};
 ghost use Rattle.rn_pattern.specs.Order.{text_cmp};
 ghost use Rattle.rn_pattern.specs.Tree.{Text};
-ghost use Rattle.rn_assemble.specs.Checked.{AreExpanded, IsGrammarOf, IsLacking};
+ghost use Rattle.rn_assemble.specs.inside.Checked.{AreExpanded, IsGrammarOf, IsLacking};
 ghost use Rattle.rn_assemble.specs.Components as specs;
-ghost use Rattle.rn_assemble.specs.Contained.{AreFlat};
+ghost use Rattle.rn_assemble.specs.inside.Contained.{AreFlat};
 ghost use Rattle.rn_assemble.specs.GrammarView.{grammar_view};
 ghost use Rattle.rn_assemble.specs.JoinedView.{joined_view};
-ghost use Rattle.rn_assemble.specs.Lacking.{IsLeastLack};
-ghost use Rattle.rn_assemble.specs.Listed.{Lists, Live, components_in};
-ghost use Rattle.rn_assemble.specs.Methods.{CanCombine, IsUncombined};
+ghost use Rattle.rn_assemble.specs.inside.Lacking.{IsLeastLack};
+ghost use Rattle.rn_assemble.specs.inside.Methods.{CanCombine, IsUncombined};
 ghost use Rattle.rn_assemble.specs.Refusal.{IsAssembled, Lacks};
 ghost use Rattle.rn_assemble.specs.Refused.{IsFirstOfModules, IsFirstRefusal};
-ghost use Rattle.rn_assemble.specs.Sound.{HasSoundReferences, IsUnsound};
-ghost use Rattle.rn_assemble.specs.Views.{module_names, names_of, sources_view};
+ghost use Rattle.rn_assemble.specs.inside.Sound.{HasSoundReferences, IsUnsound};
+ghost use Rattle.rn_assemble.specs.inside.Views.{module_names, names_of, sources_view};
+ghost use Rattle.rn_assemble.specs.inside.Listed.{OfKeys};
 
 use crate::components::{Components, Lack, components_of};
 use crate::contents::contents_of;
@@ -37,7 +37,8 @@ use std::alloc::Global;
 /// from `Conflict` to `NameClass` in the order of `Refusal`; `Memory` stands for want of memory alone. The set is left as
 /// it is.
 pub fn assemble(alloc: Global, set: &ModuleSet) -> Result<Grammar, Refusal>
-    ensures { MatchResult result (λ g. IsAssembled set.now (grammar_view g)) (IsFirstRefusal set.now) }
+    ensures { MatchResult result (λ g. IsAssembled set.now (grammar_view g))
+        (IsFirstRefusal set.now) }
 {
     let sources = sources(alloc, set)?;
     let joined = assembled(alloc, sources.as_slice(), &seed_of(set))?;
@@ -47,8 +48,10 @@ pub fn assemble(alloc: Global, set: &ModuleSet) -> Result<Grammar, Refusal>
 /// The grammar of the modules, or the first refusal that stands for them.
 fn assembled<'s>(alloc: Global, sources: &[Source<'s>], seed: &Seed) -> Result<Joined, Refusal>
     requires in_order { IsStrictlySortedBy text_cmp (module_names sources.now) }
-    requires flat { AllByRecursion (λ (m : specs.Source). AreFlat m.tree.items) (sources_view sources.now) }
-    ensures { MatchResult result (λ g. IsGrammarOf (sources_view sources.now) (joined_view g)) (IsFirstOfModules (sources_view sources.now)) }
+    requires flat { AllByRecursion (λ (m : specs.Source). AreFlat m.tree.items)
+        (sources_view sources.now) }
+    ensures { MatchResult result (λ g. IsGrammarOf (sources_view sources.now) (joined_view g))
+        (IsFirstOfModules (sources_view sources.now)) }
 {
     let roots = included_roots(alloc, sources)?;
     let keys = Keys::new(alloc, sources)?;
@@ -66,7 +69,8 @@ fn joined<'s>(
     seed: &Seed,
 ) -> Result<Joined, Refusal>
     requires { AreExpanded (sources_view sources.now) (names_of keys.now) components.now }
-    ensures { MatchResult result (λ g. IsGrammarOf (sources_view sources.now) (joined_view g)) (IsFirstOfModules (sources_view sources.now)) }
+    ensures { MatchResult result (λ g. IsGrammarOf (sources_view sources.now) (joined_view g))
+        (IsFirstOfModules (sources_view sources.now)) }
 {
     check_overrides(alloc, sources, keys, components.lack)?;
     check_methods(alloc, keys, components)?;
@@ -81,8 +85,10 @@ fn check_overrides(
     keys: &Keys<'_>,
     lack: Option<Lack>,
 ) -> Result<(), Refusal>
-    requires { IsLeastLack (sources_view sources.now) (names_of keys.now) (Lacks (sources_view sources.now)) lack }
-    ensures { MatchResult result (λ _. (y : Text) (k : specs.Key) → ¬ Lacks (sources_view sources.now) y k) (IsLacking (sources_view sources.now)) }
+    requires { IsLeastLack (sources_view sources.now) (names_of keys.now)
+        (Lacks (sources_view sources.now)) lack }
+    ensures { MatchResult result (λ _. (y : Text) (k : specs.Key)
+        → ¬ Lacks (sources_view sources.now) y k) (IsLacking (sources_view sources.now)) }
 {
     match lack {
         None => Ok(()),
@@ -99,8 +105,8 @@ fn check_methods(
     keys: &Keys<'_>,
     components: &Components<'_, '_, '_>,
 ) -> Result<(), Refusal>
-    ensures { (live : List Live) → Lists (names_of keys.now) components.now live → IsStrictlySortedBy text_cmp (names_of keys.now)
-        → MatchResult result (λ _. CanCombine (components_in live)) (IsUncombined (components_in live)) }
+    ensures { OfKeys keys.now components.now
+        (λ names cs. MatchResult result (λ _. CanCombine cs) (IsUncombined cs)) }
 {
     if let Some(key) = components.least_plain_twice(keys.len()) {
         return Err(Refusal::PlainTwice {
@@ -124,8 +130,8 @@ fn check_references<'s>(
     keys: &Keys<'s>,
     components: &Components<'_, '_, 's>,
 ) -> Result<(), Refusal>
-    ensures { (live : List Live) → Lists (names_of keys.now) components.now live → IsStrictlySortedBy text_cmp (names_of keys.now)
-        → MatchResult result (λ _. HasSoundReferences (components_in live)) (IsUnsound (components_in live)) }
+    ensures { OfKeys keys.now components.now
+        (λ names cs. MatchResult result (λ _. HasSoundReferences cs) (IsUnsound cs)) }
 {
     let references = references_of(alloc, keys, components)?;
     if let Some(key) = least_recursive(alloc, &references)? {

@@ -2,12 +2,11 @@
 ghost use Rattle.std.specs.Prelude.{◌≡◌, ◌++◌, ◌∷◌, [], List, Some, None, map, IfOk, OnOk, if◌then◌else◌, unwrap_or};
 ghost use Rattle.std.specs.Option.{option_or};
 ghost use Rattle.std.specs.Str.{bytes_eq};
-ghost use Rattle.std.specs.Cow.{cow_str_bytes};
 ghost use Rattle.rn_pattern.specs.Tree.{Text};
 ghost use Rattle.rn_syntax.specs.Tree as tree;
 ghost use Rattle.rn_syntax.specs.Places as places;
 ghost use Rattle.rn_syntax.specs.View.{declaration_view, prefix_view, uri_view};
-ghost use Rattle.rn_assemble.specs.Bound.{BindsAs, InScope, bound_default, bound_library, bound_namespace, bound_uri};
+ghost use Rattle.rn_assemble.specs.inside.Bound.{BindsAs, InScope, bound_default, bound_library, bound_namespace, bound_uri};
 ghost use Rattle.rn_assemble.specs.Components as components;
 ghost use Rattle.rn_assemble.specs.Resolve.{default_of, namespace_of, uri_text};
 
@@ -56,7 +55,8 @@ impl<'t> Bindings<'t> {
 
     /// Adds what a declaration binds that was not bound.
     fn declare(&mut self, declaration: &'t Declaration<'_>) -> Result<(), AllocError>
-        ensures { OnOk result ((ds : List tree.Declaration) → BindsAs self.old ds → BindsAs self.new (ds ++ declaration_view declaration.now ∷ [])) }
+        ensures { OnOk result ((ds : List tree.Declaration) → BindsAs self.old ds
+            → BindsAs self.new (ds ++ declaration_view declaration.now ∷ [])) }
     {
         match declaration {
             Declaration::Namespace(prefix, uri) => self.bind(prefix.name, declared_namespace(uri)),
@@ -73,7 +73,8 @@ impl<'t> Bindings<'t> {
 
     /// Binds the default namespace, if it was not bound.
     fn bind_default(&mut self, namespace: Namespace<'t>)
-        ensures default { bound_default self.new ≡ option_or (bound_default self.old) (Some (bound_uri namespace.entry)) }
+        ensures default { bound_default self.new
+            ≡ option_or (bound_default self.old) (Some (bound_uri namespace.entry)) }
         ensures namespaces { self.new.namespaces ≡ self.old.namespaces }
         ensures libraries { self.new.libraries ≡ self.old.libraries }
     {
@@ -85,8 +86,9 @@ impl<'t> Bindings<'t> {
     /// Binds a prefix, if it was not bound.
     fn bind(&mut self, prefix: &'t str, namespace: Namespace<'t>) -> Result<(), AllocError>
         ensures default { self.new.default ≡ self.old.default }
-        ensures namespaces { OnOk result ((p : Text) → bound_namespace self.new p
-            ≡ option_or (bound_namespace self.old p) (if bytes_eq prefix.now p then Some (bound_uri namespace.entry) else None)) }
+        ensures namespaces { OnOk result ((p : Text)
+            → bound_namespace self.new p ≡ option_or (bound_namespace self.old p)
+            (if bytes_eq prefix.now p then Some (bound_uri namespace.entry) else None)) }
         ensures libraries { self.new.libraries ≡ self.old.libraries }
     {
         if !self.namespaces.contains_key(prefix) {
@@ -99,8 +101,9 @@ impl<'t> Bindings<'t> {
     fn bind_library(&mut self, prefix: &'t str, uri: &'t str) -> Result<(), AllocError>
         ensures default { self.new.default ≡ self.old.default }
         ensures namespaces { self.new.namespaces ≡ self.old.namespaces }
-        ensures libraries { OnOk result ((p : Text) → bound_library self.new p
-            ≡ option_or (bound_library self.old p) (if bytes_eq prefix.now p then Some uri.now else None)) }
+        ensures libraries { OnOk result ((p : Text)
+            → bound_library self.new p ≡ option_or (bound_library self.old p)
+            (if bytes_eq prefix.now p then Some uri.now else None)) }
     {
         if !self.libraries.contains_key(prefix) {
             self.libraries.insert(prefix, uri)?;
@@ -147,7 +150,8 @@ impl<'c, 't> Scope<'c, 't> {
 
     /// The namespace of a prefix.
     pub fn namespace(self, prefix: &'t str) -> &'t str
-        ensures { InScope self.entry (λ inherited ds. result.now ≡ namespace_of inherited ds prefix.now) }
+        ensures { InScope self.entry (λ inherited ds. result.now
+            ≡ namespace_of inherited ds prefix.now) }
     {
         if prefix == "xml" {
             return XML_URI;
@@ -160,7 +164,8 @@ impl<'c, 't> Scope<'c, 't> {
 
     /// The datatype library of a prefix.
     pub fn library(self, prefix: &'t str) -> &'t str
-        ensures { InScope self.entry (λ inherited ds. result.now ≡ unwrap_or (places.library_of ds prefix.now) []) }
+        ensures { InScope self.entry (λ inherited ds. result.now
+            ≡ unwrap_or (places.library_of ds prefix.now) []) }
     {
         if prefix == "xsd" {
             return XSD_URI;
@@ -173,7 +178,8 @@ impl<'c, 't> Scope<'c, 't> {
 
     /// The namespace that an include hands on: that of its prefix, else the default one.
     pub fn handed_on(self, inherit: Option<Prefix<'t>>) -> &'t str
-        ensures { InScope self.entry (λ inherited ds. result.now ≡ components.handed_on inherited ds (prefix_view inherit.entry)) }
+        ensures { InScope self.entry (λ inherited ds. result.now
+            ≡ components.handed_on inherited ds (prefix_view inherit.entry)) }
     {
         match inherit {
             Some(prefix) => self.namespace(prefix.name),

@@ -1,19 +1,15 @@
 // Definitions of one key combined (RELAX NG 2001, 4.17).
-ghost use Rattle.std.specs.Prelude.{◌≡◌, ◌+◌, ◌<◌, ℕ, List, Contains, Decides, None, length, map, option_map, IfOk, IfSome, IsSomeAnd, MatchResult};
-ghost use Rattle.std.specs.List.Sorted.{IsStrictlySortedBy};
-ghost use Rattle.rn_pattern.specs.Order.{text_cmp};
-ghost use Rattle.rn_pattern.specs.NameRules.{KeepsNameRules};
+ghost use Rattle.std.specs.Prelude.{◌≡◌, ◌+◌, ◌<◌, List, Decides, length, map, option_map, IfOk, IsSomeAnd, MatchResult};
 ghost use Rattle.rn_pattern.specs.Tree.{Text, trees_of};
 ghost use Rattle.rn_pattern.specs.View.{shared_view};
 ghost use Rattle.rn_assemble.specs.Combine as spec;
-ghost use Rattle.rn_assemble.specs.Components.{Component};
-ghost use Rattle.rn_assemble.specs.Joining.{IsMisnamed};
-ghost use Rattle.rn_assemble.specs.Keyed.{key_at};
-ghost use Rattle.rn_assemble.specs.Listed.{IsBody, Lists, Live, components_in};
-ghost use Rattle.rn_assemble.specs.Patterns.{AreCombined, AreShared, AreSound, IsMisnamedAs, IsSound, boxed_view, pattern_of};
+ghost use Rattle.rn_assemble.specs.inside.Joining.{IsMisnamed};
+ghost use Rattle.rn_assemble.specs.inside.Keyed.{key_at};
+ghost use Rattle.rn_assemble.specs.inside.Patterns.{AreCombined, AreSharedBy, AreSound, IsMisnamedAt, IsMisnamedBy, IsSound, MayHold, boxed_view, pattern_of};
 ghost use Rattle.rn_assemble.specs.Refusal.{BreaksNameRules};
-ghost use Rattle.rn_assemble.specs.Views.{names_of};
-ghost use Rattle.rn_assemble.specs.Methods.{IsLeastNumber, is_method};
+ghost use Rattle.rn_assemble.specs.inside.Views.{names_of};
+ghost use Rattle.rn_assemble.specs.inside.Methods.{IsLeastNumber, is_method};
+ghost use Rattle.rn_assemble.specs.inside.Listed.{AtKey, AtPlace, ByNames, OfBody, OfKeys};
 
 use crate::components::{Body, Components};
 use crate::keys::Keys;
@@ -29,7 +25,7 @@ use std::rc::Rc;
 impl<'c, 't, 's> Components<'c, 't, 's> {
     /// The method of the component at that place.
     fn method(&self, place: usize) -> Option<Method>
-        ensures { (names : List Text) (live : List Live) (e : Live) → Lists names self.now live → Contains live e → e.place ≡ place → result ≡ Some e.component.method }
+        ensures { (names : List Text) → AtPlace names self.now place (λ c. result ≡ Some c.method) }
     {
         let body = self.body(self.body_at(place)?)?;
         Some(body.component.method)
@@ -37,8 +33,7 @@ impl<'c, 't, 's> Components<'c, 't, 's> {
 
     /// Whether some component of the key uses the method.
     fn uses(&self, key: usize, method: Method) -> bool
-        ensures { (names : List Text) (live : List Live) → Lists names self.now live → IsStrictlySortedBy text_cmp names → key < length names + 1
-            → result ≡ spec.uses (is_method method) (key_at names key) (components_in live) }
+        ensures { AtKey self.now key (λ k cs. result ≡ spec.uses (is_method method) k cs) }
     {
         for place in self.of_key(key) {
             if self.method(*place) == Some(method) {
@@ -50,8 +45,7 @@ impl<'c, 't, 's> Components<'c, 't, 's> {
 
     /// Whether two components of the key are plain.
     fn is_plain_twice(&self, key: usize) -> bool
-        ensures { (names : List Text) (live : List Live) → Lists names self.now live → IsStrictlySortedBy text_cmp names → key < length names + 1
-            → Decides result (spec.IsPlainTwice (key_at names key) (components_in live)) }
+        ensures { AtKey self.now key (λ k cs. Decides result (spec.IsPlainTwice k cs)) }
     {
         let mut is_plain = false;
         for place in self.of_key(key) {
@@ -67,8 +61,8 @@ impl<'c, 't, 's> Components<'c, 't, 's> {
 
     /// The least of that many keys with two plain components.
     pub fn least_plain_twice(&self, keys: usize) -> Option<usize>
-        ensures { (names : List Text) (live : List Live) → Lists names self.now live → IsStrictlySortedBy text_cmp names → keys ≡ length names + 1
-            → IsLeastNumber names (λ k. spec.IsPlainTwice k (components_in live)) result }
+        ensures { ByNames self.now (λ names cs. keys ≡ length names + 1
+            → IsLeastNumber names (λ k. spec.IsPlainTwice k cs) result) }
     {
         for key in 0..keys {
             if self.is_plain_twice(key) {
@@ -80,8 +74,8 @@ impl<'c, 't, 's> Components<'c, 't, 's> {
 
     /// The least of that many keys whose components use both methods.
     pub fn least_mixed(&self, keys: usize) -> Option<usize>
-        ensures { (names : List Text) (live : List Live) → Lists names self.now live → IsStrictlySortedBy text_cmp names → keys ≡ length names + 1
-            → IsLeastNumber names (λ k. spec.IsMixed k (components_in live)) result }
+        ensures { ByNames self.now (λ names cs. keys ≡ length names + 1
+            → IsLeastNumber names (λ k. spec.IsMixed k cs) result) }
     {
         for key in 0..keys {
             if self.uses(key, Method::Choice) && self.uses(key, Method::Interleave) {
@@ -102,8 +96,8 @@ pub(crate) fn combined(
     keys: &Keys<'_>,
     components: &Components<'_, '_, '_>,
 ) -> Result<Vec<Option<Box<Pattern>>>, Refusal>
-    ensures { (live : List Live) → Lists (names_of keys.now) components.now live → IsStrictlySortedBy text_cmp (names_of keys.now)
-        → MatchResult result (λ patterns. AreCombined (names_of keys.now) (components_in live) patterns.items) (IsMisnamed (components_in live)) }
+    ensures { OfKeys keys.now components.now (λ names cs. MatchResult result
+        (λ patterns. AreCombined names cs patterns.items) (IsMisnamed cs)) }
 {
     let mut shared: Shared = vec![in alloc; None; components.count_bodies()]?;
     let mut patterns = Vec::with_capacity(alloc, keys.len())?;
@@ -123,11 +117,12 @@ fn join(
 ) -> Result<Option<Box<Pattern>>, Refusal>
     requires { length shared.old.items ≡ length components.now.bodies.items }
     ensures size { length shared.new.items ≡ length shared.old.items }
-    ensures kept { AreShared (names_of keys.now) components.now.bodies.items shared.old.items → AreShared (names_of keys.now) components.now.bodies.items shared.new.items }
-    ensures exact { (live : List Live) → Lists (names_of keys.now) components.now live → IsStrictlySortedBy text_cmp (names_of keys.now) → key < length (names_of keys.now) + 1
-        → AreShared (names_of keys.now) components.now.bodies.items shared.old.items
-        → MatchResult result (λ p. (option_map boxed_view p ≡ pattern_of (components_in live) (key_at (names_of keys.now) key)) × ¬ BreaksNameRules (components_in live) (key_at (names_of keys.now) key))
-        (IsMisnamedAs (key_at (names_of keys.now) key) (BreaksNameRules (components_in live) (key_at (names_of keys.now) key))) }
+    ensures kept { AreSharedBy keys.now components.now shared.old.items
+        → AreSharedBy keys.now components.now shared.new.items }
+    ensures exact { OfKeys keys.now components.now
+        (λ names cs. key < length names + 1 → AreSharedBy keys.now components.now shared.old.items
+        → MatchResult result (λ p. (option_map boxed_view p ≡ pattern_of cs (key_at names key))
+        × ¬ BreaksNameRules cs (key_at names key)) (IsMisnamedAt cs (key_at names key))) }
 {
     match components.of_key(key) {
         [] => Ok(None),
@@ -146,8 +141,8 @@ fn node(
     key: usize,
     members: Vec<Rc<Pattern>>,
 ) -> Result<Box<Pattern>, AllocError>
-    ensures { (names : List Text) (live : List Live) → Lists names components.now live → IsStrictlySortedBy text_cmp names → key < length names + 1
-        → IfOk result (λ p. boxed_view p ≡ spec.combined (key_at names key) (components_in live) (trees_of (map shared_view members.items))) }
+    ensures { AtKey components.now key (λ k cs. IfOk result (λ p. boxed_view p
+        ≡ spec.combined k cs (trees_of (map shared_view members.items)))) }
 {
     if components.uses(key, Method::Interleave) {
         boxed(alloc, interleave(members))
@@ -163,8 +158,9 @@ fn alone(
     components: &Components<'_, '_, '_>,
     place: usize,
 ) -> Result<Option<Box<Pattern>>, Refusal>
-    ensures { (live : List Live) (e : Live) → Lists (names_of keys.now) components.now live → Contains live e → e.place ≡ place
-        → MatchResult result (λ p. IsSomeAnd p (λ q. IsSound e.component (boxed_view q))) (IsMisnamedAs e.component.key (¬ KeepsNameRules e.component.body)) }
+    ensures { AtPlace (names_of keys.now) components.now place
+        (λ c. MatchResult result (λ p. IsSomeAnd p (λ q. IsSound c (boxed_view q)))
+        (IsMisnamedBy c)) }
 {
     let Some(number) = components.body_at(place) else {
         return Ok(None);
@@ -185,11 +181,12 @@ fn members(
 ) -> Result<Vec<Rc<Pattern>>, Refusal>
     requires { length shared.old.items ≡ length components.now.bodies.items }
     ensures size { length shared.new.items ≡ length shared.old.items }
-    ensures kept { AreShared (names_of keys.now) components.now.bodies.items shared.old.items → AreShared (names_of keys.now) components.now.bodies.items shared.new.items }
-    ensures exact { (live : List Live) → Lists (names_of keys.now) components.now live → IsStrictlySortedBy text_cmp (names_of keys.now) → key < length (names_of keys.now) + 1
-        → AreShared (names_of keys.now) components.now.bodies.items shared.old.items
-        → MatchResult result (λ members. AreSound (spec.of_key (key_at (names_of keys.now) key) (components_in live)) (map shared_view members.items))
-        (IsMisnamedAs (key_at (names_of keys.now) key) (BreaksNameRules (components_in live) (key_at (names_of keys.now) key))) }
+    ensures kept { AreSharedBy keys.now components.now shared.old.items
+        → AreSharedBy keys.now components.now shared.new.items }
+    ensures exact { OfKeys keys.now components.now
+        (λ names cs. key < length names + 1 → AreSharedBy keys.now components.now shared.old.items
+        → MatchResult result (λ members. AreSound (spec.of_key (key_at names key) cs)
+        (map shared_view members.items)) (IsMisnamedAt cs (key_at names key))) }
 {
     let places = components.of_key(key);
     let mut members = Vec::with_capacity(alloc, places.len())?;
@@ -211,10 +208,11 @@ fn member(
 ) -> Result<Option<Rc<Pattern>>, Refusal>
     requires { length shared.old.items ≡ length components.now.bodies.items }
     ensures size { length shared.new.items ≡ length shared.old.items }
-    ensures kept { AreShared (names_of keys.now) components.now.bodies.items shared.old.items → AreShared (names_of keys.now) components.now.bodies.items shared.new.items }
-    ensures exact { (live : List Live) (e : Live) → Lists (names_of keys.now) components.now live → Contains live e → e.place ≡ place
-        → AreShared (names_of keys.now) components.now.bodies.items shared.old.items
-        → MatchResult result (λ p. IsSomeAnd p (λ q. IsSound e.component (shared_view q))) (IsMisnamedAs e.component.key (¬ KeepsNameRules e.component.body)) }
+    ensures kept { AreSharedBy keys.now components.now shared.old.items
+        → AreSharedBy keys.now components.now shared.new.items }
+    ensures exact { AtPlace (names_of keys.now) components.now place
+        (λ c. AreSharedBy keys.now components.now shared.old.items
+        → MatchResult result (λ p. IsSomeAnd p (λ q. IsSound c (shared_view q))) (IsMisnamedBy c)) }
 {
     let Some(number) = components.body_at(place) else {
         return Ok(None);
@@ -232,9 +230,11 @@ fn share(
     body: &Body<'_, '_, '_>,
     held: &mut Option<Rc<Pattern>>,
 ) -> Result<Rc<Pattern>, Refusal>
-    ensures kept { (key : ℕ) (c : Component) → IsBody (names_of keys.now) body.now key c → IfSome held.old (λ p. IsSound c (shared_view p)) → IfSome held.new (λ p. IsSound c (shared_view p)) }
-    ensures exact { (key : ℕ) (c : Component) → IsBody (names_of keys.now) body.now key c → IfSome held.old (λ p. IsSound c (shared_view p))
-        → MatchResult result (λ p. IsSound c (shared_view p)) (IsMisnamedAs c.key (¬ KeepsNameRules c.body)) }
+    ensures kept { OfBody (names_of keys.now) body.now
+        (λ c. MayHold c held.old → MayHold c held.new) }
+    ensures exact { OfBody (names_of keys.now) body.now
+        (λ c. MayHold c held.old
+        → MatchResult result (λ p. IsSound c (shared_view p)) (IsMisnamedBy c)) }
 {
     if let Some(pattern) = &*held {
         return Ok(pattern.clone()?);
@@ -250,8 +250,8 @@ fn resolved(
     keys: &Keys<'_>,
     body: &Body<'_, '_, '_>,
 ) -> Result<Box<Pattern>, Refusal>
-    ensures { (key : ℕ) (c : Component) → IsBody (names_of keys.now) body.now key c
-        → MatchResult result (λ p. IsSound c (boxed_view p)) (IsMisnamedAs c.key (¬ KeepsNameRules c.body)) }
+    ensures { OfBody (names_of keys.now) body.now
+        (λ c. MatchResult result (λ p. IsSound c (boxed_view p)) (IsMisnamedBy c)) }
 {
     let pattern = pattern(alloc, body.scope, body.component.body)?;
     if !keeps_name_rules(&pattern) {

@@ -1,19 +1,18 @@
 // The components of a set: includes replaced by what they include, without what they override.
-ghost use Rattle.std.specs.Prelude.{◌≡◌, ℕ, suc, ◌+◌, ◌<◌, ◌≤◌, ◌==◌, not, List, [], ◌∷◌, ◌++◌, map, flat_map, filter, length, vec_len, slice_get, slice_index_or, slice_range, Contains, IfOk, IfSome, option_copied};
+ghost use Rattle.std.specs.Prelude.{◌≡◌, ℕ, suc, ◌+◌, ◌<◌, ◌≤◌, ◌==◌, not, List, [], ◌∷◌, ◌++◌, map, flat_map, filter, length, vec_len, slice_get, slice_index_or, Contains, IfOk, IfSome, option_copied};
 ghost use Rattle.std.specs.List.{AllByRecursion};
 ghost use Rattle.std.specs.List.Sorted.{IsStrictlySortedBy};
 ghost use Rattle.rn_pattern.specs.Order.{text_cmp};
 ghost use Rattle.rn_pattern.specs.Tree.{Text};
-ghost use Rattle.rn_pattern.specs.Graph.{AllBelow, row, rows_of};
+ghost use Rattle.rn_pattern.specs.Graph.{row, rows_of};
 ghost use Rattle.rn_syntax.specs.Tree.{Declaration};
-ghost use Rattle.rn_syntax.specs.View.{prefix_view};
 ghost use Rattle.rn_assemble.specs.Components as specs;
-ghost use Rattle.rn_assemble.specs.Expanded.{AddsLive, CanAdd, CanExpand, CanInclude, CanList, ContextsHold, Enters, Expands, IsItem, KeepsBodies, KeepsLists, included_in, IsListed, left_by, name_at};
-ghost use Rattle.rn_assemble.specs.Keyed.{key_at};
-ghost use Rattle.rn_assemble.specs.Lacking.{IsLeastLack, LacksFrom, LacksWithin};
-ghost use Rattle.rn_assemble.specs.Listed.{IsBody, Lists, Live, Rises, components_in, resolved_component};
-ghost use Rattle.rn_assemble.specs.Noting.{AtNumbers, InclusionLacks, IsOwnLack, Notes};
-ghost use Rattle.rn_assemble.specs.Views.{IsNumbered, inclusion_view, written_view};
+ghost use Rattle.rn_assemble.specs.inside.Expanded.{AddsLive, CanAdd, ContextsHold, Enters, Expands, IsItem, IsListed, KeepsBodies, KeepsLists, OfExpanding, OfIncluding, OfRoots, brought_in, left_by, name_at, own_components};
+ghost use Rattle.rn_assemble.specs.inside.Keyed.{key_at};
+ghost use Rattle.rn_assemble.specs.inside.Lacking.{IsLeastLack, LacksFrom, LacksWithin};
+ghost use Rattle.rn_assemble.specs.inside.Listed.{AreBefore, IsBody, Lists, Live, Rises, components_in, resolved_between};
+ghost use Rattle.rn_assemble.specs.inside.Noting.{AtNumbers, InclusionLacks, IsOwnLack, Notes};
+ghost use Rattle.rn_assemble.specs.inside.Views.{IsNumbered, inclusion_view, written_view};
 
 use crate::bindings::Scope;
 use crate::contents::{Component, Contents, Include};
@@ -63,10 +62,12 @@ pub(crate) fn components_of<'c, 't, 's>(
     roots: &[usize],
     keys: usize,
 ) -> Result<Components<'c, 't, 's>, AllocError>
-    ensures listed { (modules : List specs.Source) (names : List Text) → CanList modules names contents.now → keys ≡ length names + 1 → AllBelow (length modules) roots.now
-        → IfOk result (λ components. IsListed names components (flat_map (λ r. specs.components modules (name_at modules r) []) roots.now)) }
-    ensures lacks { (modules : List specs.Source) (names : List Text) → CanList modules names contents.now → keys ≡ length names + 1 → AllBelow (length modules) roots.now
-        → IfOk result (λ components. IsLeastLack modules names (LacksFrom modules roots.now) components.lack) }
+    ensures listed { OfRoots contents.now keys roots.now
+        (λ modules names. IfOk result (λ components. IsListed names components
+        (flat_map (λ r. specs.components modules (name_at modules r) []) roots.now))) }
+    ensures lacks { OfRoots contents.now keys roots.now
+        (λ modules names. IfOk result (λ components. IsLeastLack modules names
+        (LacksFrom modules roots.now) components.lack)) }
 {
     let mut components = Components::new(alloc, keys)?;
     for root in roots {
@@ -84,10 +85,15 @@ fn expand<'c, 't, 's>(
     inherited: &'t str,
     depth: usize,
 ) -> Result<(), AllocError>
-    ensures expands { (modules : List specs.Source) (names : List Text) (live : List Live) → CanExpand modules names contents.now components.old live → «module» < length modules
-        → IfOk result (λ _. Expands names contents.now components.old components.new live (specs.components_within depth modules (name_at modules «module») inherited.now)) }
-    ensures lacks { (modules : List specs.Source) (names : List Text) (live : List Live) → CanExpand modules names contents.now components.old live → «module» < length modules
-        → IfOk result (λ _. Notes (AtNumbers modules names (LacksWithin depth modules (name_at modules «module») inherited.now)) components.old.lack components.new.lack) }
+    ensures expands { OfExpanding contents.now components.old
+        (λ modules names live. «module» < length modules
+        → IfOk result (λ _. Expands names contents.now components.old components.new live
+        (specs.components_within depth modules (name_at modules «module») inherited.now))) }
+    ensures lacks { OfExpanding contents.now components.old
+        (λ modules names live. «module» < length modules
+        → IfOk result (λ _. Notes (AtNumbers modules names
+        (LacksWithin depth modules (name_at modules «module») inherited.now))
+        components.old.lack components.new.lack)) }
 {
     if depth == 0 {
         return Ok(());
@@ -128,15 +134,18 @@ fn expand_include<'c, 't, 's>(
     include: &Include<'t>,
     depth: usize,
 ) -> Result<(), AllocError>
-    ensures expands { (modules : List specs.Source) (names : List Text) (live : List Live) (ds : List Declaration) → CanExpand modules names contents.now components.old live → CanInclude modules names content.now include.now ds
-        → scope.entry.bindings.now ≡ content.now.bindings
-        → IfOk result (λ _. Expands names contents.now components.old components.new live (specs.overridden
-        (included_in depth modules include.now.«module» (specs.handed_on scope.entry.inherited.now ds (prefix_view include.now.inherit)))
-        (map (resolved_component scope.entry.inherited.now ds) (slice_range (map (written_view names) content.now.components.items) include.now.from include.now.to)))) }
-    ensures lacks { (modules : List specs.Source) (names : List Text) (live : List Live) (ds : List Declaration) → CanExpand modules names contents.now components.old live → CanInclude modules names content.now include.now ds
-        → scope.entry.bindings.now ≡ content.now.bindings → «module» < length modules
-        → IfOk result (λ _. Notes (AtNumbers modules names (InclusionLacks depth modules (name_at modules «module») scope.entry.inherited.now ds (map (written_view names) content.now.components.items) (inclusion_view include.now)))
-        components.old.lack components.new.lack) }
+    ensures expands { OfIncluding contents.now components.old content.now include.now
+        (λ modules names live ds. scope.entry.bindings.now ≡ content.now.bindings
+        → IfOk result (λ _. Expands names contents.now components.old components.new live
+        (specs.overridden (brought_in depth modules scope.entry.inherited.now ds include.now)
+        (resolved_between names content.now scope.entry.inherited.now ds
+        include.now.from include.now.to)))) }
+    ensures lacks { OfIncluding contents.now components.old content.now include.now
+        (λ modules names live ds. scope.entry.bindings.now ≡ content.now.bindings
+        → «module» < length modules → IfOk result (λ _. Notes (AtNumbers modules names
+        (InclusionLacks depth modules (name_at modules «module») scope.entry.inherited.now ds
+        (map (written_view names) content.now.components.items) (inclusion_view include.now)))
+        components.old.lack components.new.lack)) }
 {
     let before = components.list.len();
     if let Some(included) = include.module {
@@ -152,7 +161,8 @@ impl<'c, 't, 's> Components<'c, 't, 's> {
     /// No components, of that many keys.
     fn new(alloc: Global, keys: usize) -> Result<Components<'c, 't, 's>, AllocError>
         ensures contexts { IfOk result (λ components. components.contexts.items ≡ []) }
-        ensures lists { (names : List Text) → keys ≡ length names + 1 → IfOk result (λ components. Lists names components []) }
+        ensures lists { (names : List Text) → keys ≡ length names + 1
+            → IfOk result (λ components. Lists names components []) }
         ensures lack { IfOk result (λ components. components.lack ≡ None) }
     {
         let mut places = Vec::new(alloc);
@@ -176,8 +186,10 @@ impl<'c, 't, 's> Components<'c, 't, 's> {
         scope: Scope<'c, 't>,
     ) -> Result<usize, AllocError>
         ensures kept { KeepsLists self.old self.new }
-        ensures entered { (contents : List Contents) → ContextsHold contents self.old → IsItem contents «module» content.now → scope.entry.bindings.now ≡ content.now.bindings
-            → IfOk result (λ first. Enters contents self.old self.new first content.now scope.entry.inherited.now) }
+        ensures entered { (contents : List Contents) → ContextsHold contents self.old
+            → IsItem contents «module» content.now → scope.entry.bindings.now ≡ content.now.bindings
+            → IfOk result (λ first. Enters contents self.old self.new first content.now
+            scope.entry.inherited.now) }
     {
         if let Some(first) = self.first_body(module, scope.inherited) {
             return Ok(first);
@@ -194,7 +206,8 @@ impl<'c, 't, 's> Components<'c, 't, 's> {
 
     /// The number of the first body of a context that was met.
     fn first_body(&self, module: usize, inherited: &str) -> Option<usize>
-        ensures { IfSome result (λ first. (q : Context) × Contains self.now.contexts.items q × (q.«module» ≡ «module») × (q.inherited.now ≡ inherited.now) × (q.first ≡ first)) }
+        ensures { IfSome result (λ first. (q : Context) × Contains self.now.contexts.items q
+            × (q.«module» ≡ «module») × (q.inherited.now ≡ inherited.now) × (q.first ≡ first)) }
     {
         for context in &self.contexts {
             if context.module == module && context.inherited == inherited {
@@ -212,7 +225,9 @@ impl<'c, 't, 's> Components<'c, 't, 's> {
     ) -> Result<(), AllocError>
         ensures kept { KeepsLists self.old self.new }
         ensures contexts { self.new.contexts ≡ self.old.contexts }
-        ensures made { IfOk result (λ _. self.new.bodies.items ≡ self.old.bodies.items ++ map (λ c. record { component = c; scope = scope.entry }) content.now.components.items) }
+        ensures made { IfOk result (λ _. self.new.bodies.items ≡ self.old.bodies.items
+            ++ map (λ c. record { component = c; scope = scope.entry })
+            content.now.components.items) }
     {
         for component in &content.components {
             self.bodies.push(Body {
@@ -233,8 +248,11 @@ impl<'c, 't, 's> Components<'c, 't, 's> {
     ) -> Result<(), AllocError>
         ensures kept { KeepsBodies self.old self.new }
         ensures lack { self.new.lack ≡ self.old.lack }
-        ensures added { (names : List Text) (live : List Live) (inherited : Text) (ds : List Declaration) → CanAdd names self.old live content.now first inherited ds from to
-            → IfOk result (λ _. AddsLive names self.old self.new live (map (resolved_component inherited ds) (slice_range (map (written_view names) content.now.components.items) from to))) }
+        ensures added { (names : List Text) (live : List Live) (inherited : Text)
+            (ds : List Declaration)
+            → CanAdd names self.old live content.now first inherited ds from to
+            → IfOk result (λ _. AddsLive names self.old self.new live
+            (resolved_between names content.now inherited ds from to)) }
     {
         for number in from..to {
             let Some(component) = content.components.get(number) else {
@@ -252,10 +270,17 @@ impl<'c, 't, 's> Components<'c, 't, 's> {
     fn place(&mut self, key: usize, body: usize) -> Result<(), AllocError>
         ensures kept { KeepsBodies self.old self.new }
         ensures lack { self.new.lack ≡ self.old.lack }
-        ensures placed { (names : List Text) (live : List Live) (c : specs.Component) → Lists names self.old live → body < length self.old.bodies.items
+        ensures placed { (names : List Text) (live : List Live) (c : specs.Component)
+            → Lists names self.old live → body < length self.old.bodies.items
             → ((d : Body) → IsBody names (slice_index_or self.old.bodies.items body d) key c)
-            → IfOk result (λ _. Lists names self.new (live ++ record { place = length self.old.list.items; key = key; component = c } ∷ [])) }
-        ensures longer { IfOk result (λ _. length self.new.list.items ≡ length self.old.list.items + 1) }
+            → IfOk result (λ _. Lists names self.new
+            (live ++ record {
+              place = length self.old.list.items;
+              key = key;
+              component = c;
+            } ∷ [])) }
+        ensures longer { IfOk result (λ _. length self.new.list.items
+            ≡ length self.old.list.items + 1) }
     {
         let place = self.list.len();
         self.list.push(body)?;
@@ -276,9 +301,14 @@ impl<'c, 't, 's> Components<'c, 't, 's> {
         ensures kept { KeepsBodies self.old self.new }
         ensures list { self.new.list ≡ self.old.list }
         ensures places { self.new.places ≡ self.old.places }
-        ensures noted { (names : List Text) (live added : List Live) → Lists names self.old (live ++ added) → IsStrictlySortedBy text_cmp names → AllByRecursion (λ (e : Live). e.place < before) live → Rises before added
-            → AllByRecursion (IsNumbered names) content.now.components.items → include.now.from ≤ include.now.to → include.now.to ≤ length content.now.components.items
-            → Notes (IsOwnLack names «module» (slice_range content.now.components.items include.now.from include.now.to) (components_in added)) self.old.lack self.new.lack }
+        ensures noted { (names : List Text) (live added : List Live)
+            → Lists names self.old (live ++ added) → IsStrictlySortedBy text_cmp names
+            → AreBefore before live → Rises before added
+            → AllByRecursion (IsNumbered names) content.now.components.items
+            → include.now.from ≤ include.now.to
+            → include.now.to ≤ length content.now.components.items
+            → Notes (IsOwnLack names «module» (own_components content.now include.now)
+            (components_in added)) self.old.lack self.new.lack }
     {
         for number in include.from..include.to {
             if let Some(component) = content.components.get(number) {
@@ -295,9 +325,12 @@ impl<'c, 't, 's> Components<'c, 't, 's> {
         ensures kept { KeepsBodies self.old self.new }
         ensures list { self.new.list ≡ self.old.list }
         ensures lack { self.new.lack ≡ self.old.lack }
-        ensures taken { (names : List Text) (live added : List Live) → Lists names self.old (live ++ added) → AllByRecursion (λ (e : Live). e.place < before) live → Rises before added
-            → include.now.from ≤ include.now.to → include.now.to ≤ length content.now.components.items
-            → Lists names self.new (live ++ left_by (slice_range content.now.components.items include.now.from include.now.to) added) }
+        ensures taken { (names : List Text) (live added : List Live)
+            → Lists names self.old (live ++ added) → AreBefore before live → Rises before added
+            → include.now.from ≤ include.now.to
+            → include.now.to ≤ length content.now.components.items
+            → Lists names self.new
+            (live ++ left_by (own_components content.now include.now) added) }
     {
         for number in include.from..include.to {
             if let Some(component) = content.components.get(number) {
@@ -318,8 +351,10 @@ impl<'c, 't, 's> Components<'c, 't, 's> {
 
     /// Whether a component of the key was added since a place.
     fn has_since(&self, before: usize, key: usize) -> bool
-        ensures { (names : List Text) (live added : List Live) → Lists names self.now (live ++ added) → IsStrictlySortedBy text_cmp names → AllByRecursion (λ (e : Live). e.place < before) live → Rises before added
-            → key < suc (length names) → result ≡ specs.has_key (key_at names key) (components_in added) }
+        ensures { (names : List Text) (live added : List Live)
+            → Lists names self.now (live ++ added) → IsStrictlySortedBy text_cmp names
+            → AreBefore before live → Rises before added → key < suc (length names)
+            → result ≡ specs.has_key (key_at names key) (components_in added) }
     {
         match self.of_key(key).last() {
             Some(place) => before <= *place,
@@ -332,7 +367,8 @@ impl<'c, 't, 's> Components<'c, 't, 's> {
         ensures kept { KeepsBodies self.old self.new }
         ensures list { self.new.list ≡ self.old.list }
         ensures lack { self.new.lack ≡ self.old.lack }
-        ensures taken { (names : List Text) (live added : List Live) → Lists names self.old (live ++ added) → AllByRecursion (λ (e : Live). e.place < before) live → Rises before added
+        ensures taken { (names : List Text) (live added : List Live)
+            → Lists names self.old (live ++ added) → AreBefore before live → Rises before added
             → Lists names self.new (live ++ filter (λ (e : Live). not (e.key == key)) added) }
     {
         if key < self.places.len() {
@@ -384,7 +420,8 @@ impl<'c, 't, 's> Components<'c, 't, 's> {
 
 /// Takes out the places from a place on, at the end of a list that rises.
 fn pop_since(places: &mut Vec<usize>, before: usize)
-    ensures { (xs ys : List ℕ) → places.old.items ≡ xs ++ ys → AllByRecursion (λ x. x < before) xs → AllByRecursion (λ y. before ≤ y) ys → places.new.items ≡ xs }
+    ensures { (xs ys : List ℕ) → places.old.items ≡ xs ++ ys → AllByRecursion (λ x. x < before) xs
+        → AllByRecursion (λ y. before ≤ y) ys → places.new.items ≡ xs }
 {
     while let Some(place) = places.last() {
         if *place < before {

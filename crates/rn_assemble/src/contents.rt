@@ -1,13 +1,12 @@
 // What a module consists of, with each div replaced by its children.
-ghost use Rattle.std.specs.Prelude.{◌≡◌, ◌+◌, ◌<◌, ◌++◌, ◌∷◌, [], map, length, vec_len, Contains, IfOk};
-ghost use Rattle.std.specs.List.{AllByRecursion};
+ghost use Rattle.std.specs.Prelude.{◌≡◌, ◌+◌, ◌<◌, ◌∷◌, [], length, IfOk};
 ghost use Rattle.std.specs.List.Sorted.{IsStrictlySortedBy};
 ghost use Rattle.rn_pattern.specs.Order.{text_cmp};
 ghost use Rattle.rn_syntax.specs.View.{item_view, items_view, pattern_view, prefix_view};
-ghost use Rattle.rn_assemble.specs.Contained.{Inclusion, Written, item_inclusions, inclusions, item_written, written};
-ghost use Rattle.rn_assemble.specs.Keyed.{AreNames, item_defines, defines, key_at};
-ghost use Rattle.rn_assemble.specs.Listed.{AreContents, IsContents};
-ghost use Rattle.rn_assemble.specs.Views.{Adds, inclusion_view, module_names, names_of, source_view, sources_view, written_view};
+ghost use Rattle.rn_assemble.specs.inside.Contained.{item_inclusions, inclusions, item_written, written};
+ghost use Rattle.rn_assemble.specs.inside.Keyed.{AreAmong, AreNames, defines, item_defines, key_at};
+ghost use Rattle.rn_assemble.specs.inside.Listed.{AreContents, IsContents};
+ghost use Rattle.rn_assemble.specs.inside.Views.{AddsComponents, AddsIncludes, module_names, names_of, source_view, sources_view};
 
 use crate::bindings::Bindings;
 use crate::inclusion::module_named;
@@ -50,7 +49,8 @@ pub(crate) fn contents_of<'t, 's>(
 ) -> Result<Vec<Contents<'t, 's>>, AllocError>
     requires modules_in_order { IsStrictlySortedBy text_cmp (module_names sources.now) }
     requires names { AreNames (sources_view sources.now) (names_of keys.now) }
-    ensures { IfOk result (λ all. AreContents (sources_view sources.now) (names_of keys.now) all.items) }
+    ensures { IfOk result (λ all. AreContents (sources_view sources.now)
+        (names_of keys.now) all.items) }
 {
     let mut all = Vec::new(alloc);
     for source in sources {
@@ -67,9 +67,11 @@ fn contents_of_module<'t, 's>(
     source: &'t Source<'s>,
 ) -> Result<Contents<'t, 's>, AllocError>
     requires keys_in_order { IsStrictlySortedBy text_cmp (names_of keys.now) }
-    requires defined { AllByRecursion (Contains (names_of keys.now)) (defines (items_view source.now.tree.items.items)) }
+    requires defined { AreAmong (names_of keys.now)
+        (defines (items_view source.now.tree.items.items)) }
     requires modules_in_order { IsStrictlySortedBy text_cmp (module_names sources.now) }
-    ensures { IfOk result (λ c. IsContents (sources_view sources.now) (names_of keys.now) (source_view source.now) c) }
+    ensures { IfOk result (λ c. IsContents (sources_view sources.now) (names_of keys.now)
+        (source_view source.now) c) }
 {
     let mut contents = Contents {
         bindings: Bindings::new(alloc, source.tree.decls.as_slice())?,
@@ -91,9 +93,14 @@ fn gather<'t, 's>(
     requires keys_in_order { IsStrictlySortedBy text_cmp (names_of keys.now) }
     requires modules_in_order { IsStrictlySortedBy text_cmp (module_names sources.now) }
     ensures bindings { contents.new.bindings ≡ contents.old.bindings }
-    ensures components { AllByRecursion (Contains (names_of keys.now)) (defines (items_view items.now)) → IfOk result (λ _. Adds (names_of keys.now) contents.old.components.items contents.new.components.items (written (items_view items.now))) }
-    ensures more { IfOk result (λ _. length contents.new.components.items ≡ length contents.old.components.items + length (written (items_view items.now))) }
-    ensures includes { IfOk result (λ _. map inclusion_view contents.new.includes.items ≡ map inclusion_view contents.old.includes.items ++ inclusions (sources_view sources.now) (length contents.old.components.items) (items_view items.now)) }
+    ensures components { AreAmong (names_of keys.now) (defines (items_view items.now))
+        → IfOk result (λ _. AddsComponents keys.now contents.old contents.new
+        (written (items_view items.now))) }
+    ensures more { IfOk result (λ _. length contents.new.components.items
+        ≡ length contents.old.components.items + length (written (items_view items.now))) }
+    ensures includes { IfOk result (λ _. AddsIncludes contents.old contents.new
+        (inclusions (sources_view sources.now) (length contents.old.components.items)
+        (items_view items.now))) }
 {
     'items: for item in items {
         gather_item(contents, sources, keys, item)?;
@@ -112,9 +119,14 @@ fn gather_item<'t, 's>(
     requires keys_in_order { IsStrictlySortedBy text_cmp (names_of keys.now) }
     requires modules_in_order { IsStrictlySortedBy text_cmp (module_names sources.now) }
     ensures bindings { contents.new.bindings ≡ contents.old.bindings }
-    ensures components { AllByRecursion (Contains (names_of keys.now)) (item_defines (item_view item.now)) → IfOk result (λ _. Adds (names_of keys.now) contents.old.components.items contents.new.components.items (item_written (item_view item.now))) }
-    ensures more { IfOk result (λ _. length contents.new.components.items ≡ length contents.old.components.items + length (item_written (item_view item.now))) }
-    ensures includes { IfOk result (λ _. map inclusion_view contents.new.includes.items ≡ map inclusion_view contents.old.includes.items ++ item_inclusions (sources_view sources.now) (length contents.old.components.items) (item_view item.now)) }
+    ensures components { AreAmong (names_of keys.now) (item_defines (item_view item.now))
+        → IfOk result (λ _. AddsComponents keys.now contents.old contents.new
+        (item_written (item_view item.now))) }
+    ensures more { IfOk result (λ _. length contents.new.components.items
+        ≡ length contents.old.components.items + length (item_written (item_view item.now))) }
+    ensures includes { IfOk result (λ _. AddsIncludes contents.old contents.new
+        (item_inclusions (sources_view sources.now) (length contents.old.components.items)
+        (item_view item.now))) }
 {
     match item {
         Item::Define { name, method, body } => {
@@ -145,8 +157,15 @@ fn push_component<'t, 's>(
     body: &'t Pat<'s>,
 ) -> Result<(), AllocError>
     ensures bindings { contents.new.bindings ≡ contents.old.bindings }
-    ensures components { key < length (names_of keys.now) + 1 → IfOk result (λ _. Adds (names_of keys.now) contents.old.components.items contents.new.components.items (record { key = key_at (names_of keys.now) key; method = method; pattern = pattern_view body.now } ∷ [])) }
-    ensures more { IfOk result (λ _. length contents.new.components.items ≡ length contents.old.components.items + 1) }
+    ensures components { key < length (names_of keys.now) + 1
+        → IfOk result (λ _. AddsComponents keys.now contents.old contents.new
+        (record {
+          key = key_at (names_of keys.now) key;
+          method = method;
+          pattern = pattern_view body.now;
+        } ∷ [])) }
+    ensures more { IfOk result (λ _. length contents.new.components.items
+        ≡ length contents.old.components.items + 1) }
     ensures includes { contents.new.includes.items ≡ contents.old.includes.items }
 {
     contents.components.push(Component { key, method, body })?;
@@ -162,7 +181,13 @@ fn push_include<'t, 's>(
 ) -> Result<(), AllocError>
     ensures bindings { contents.new.bindings ≡ contents.old.bindings }
     ensures components { contents.new.components.items ≡ contents.old.components.items }
-    ensures includes { IfOk result (λ _. map inclusion_view contents.new.includes.items ≡ map inclusion_view contents.old.includes.items ++ record { module_at = «module»; inherit = prefix_view inherit.entry; first = from; end = length contents.old.components.items } ∷ []) }
+    ensures includes { IfOk result (λ _. AddsIncludes contents.old contents.new
+        (record {
+          module_at = «module»;
+          inherit = prefix_view inherit.entry;
+          first = from;
+          end = length contents.old.components.items;
+        } ∷ [])) }
 {
     let to = contents.components.len();
     contents.includes.push(Include {

@@ -8,11 +8,11 @@ ghost use Rattle.rn_pattern.specs.Tree.{Text, Tree};
 ghost use Rattle.rn_assemble.specs.Combine.{joined_grammar};
 ghost use Rattle.rn_assemble.specs.Components.{has_key, start_key};
 ghost use Rattle.rn_assemble.specs.DefinitionsView.{definitions_view};
-ghost use Rattle.rn_assemble.specs.Firsts.{HaveTied};
-ghost use Rattle.rn_assemble.specs.Joining.{HasStart, IsJoinedGrammar, IsMisnamed};
-ghost use Rattle.rn_assemble.specs.Listed.{Lists, Live, components_in};
-ghost use Rattle.rn_assemble.specs.Patterns.{HavePatterns, IsFirstAt, boxed_view};
-ghost use Rattle.rn_assemble.specs.Views.{names_of};
+ghost use Rattle.rn_assemble.specs.inside.Tied.{HaveTied};
+ghost use Rattle.rn_assemble.specs.inside.Joining.{HasStart, IsJoinedGrammar, IsMisnamed};
+ghost use Rattle.rn_assemble.specs.inside.Listed.{Lists, Live, OfKeys};
+ghost use Rattle.rn_assemble.specs.inside.Patterns.{HavePatterns, IsFirstAt, boxed_view};
+ghost use Rattle.rn_assemble.specs.inside.Views.{names_of};
 
 use crate::combining::combined;
 use crate::components::Components;
@@ -32,8 +32,9 @@ pub(crate) fn grammar(
     seed: &Seed,
 ) -> Result<Joined, Refusal>
     requires { HasStart (names_of keys.now) components.now }
-    ensures { (live : List Live) → Lists (names_of keys.now) components.now live → IsStrictlySortedBy text_cmp (names_of keys.now) → has_key start_key (components_in live) ≡ true
-        → MatchResult result (IsJoinedGrammar (components_in live)) (IsMisnamed (components_in live)) }
+    ensures { OfKeys keys.now components.now
+        (λ names cs. has_key start_key cs ≡ true
+        → MatchResult result (IsJoinedGrammar cs) (IsMisnamed cs)) }
 {
     let mut patterns = combined(alloc, keys, components)?;
     let start = take(&mut patterns, START).unwrap();
@@ -57,11 +58,10 @@ fn definitions(
     patterns: &mut Vec<Option<Box<Pattern>>>,
     met: &mut Met,
 ) -> Result<(Definitions, Vec<Vec<usize>>), AllocError>
-    ensures { (live : List Live)
-        → Lists (names_of keys.now) components.now live → IsStrictlySortedBy text_cmp (names_of keys.now)
-        → HavePatterns (names_of keys.now) (components_in live) [] patterns.old.items
+    ensures { OfKeys keys.now components.now
+        (λ names cs. HavePatterns names cs [] patterns.old.items
         → IfOk result (λ made. HaveTied (rows_of made.1.items) (definitions_view made.0.entries)
-        × (definitions_view made.0.entries ≡ (joined_grammar (components_in live)).definitions)) }
+        × (definitions_view made.0.entries ≡ (joined_grammar cs).definitions))) }
 {
     let mut defs = IndexMap::with_hasher(alloc, *seed);
     let mut firsts = Vec::new(alloc);
@@ -83,8 +83,10 @@ fn define(
     name: &str,
     pattern: Box<Pattern>,
 ) -> Result<(), AllocError>
-    ensures { OnOk result (list_any (bytes_eq name.now) (map (λ (d : Text × Tree). d.0) (definitions_view defs.old.entries)) ≡ false
-        → definitions_view defs.new.entries ≡ definitions_view defs.old.entries ++ (name.now, boxed_view pattern) ∷ []) }
+    ensures { OnOk result (list_any (bytes_eq name.now)
+        (map (λ (d : Text × Tree). d.0) (definitions_view defs.old.entries)) ≡ false
+        → definitions_view defs.new.entries
+        ≡ definitions_view defs.old.entries ++ (name.now, boxed_view pattern) ∷ []) }
 {
     let name = String::from_str(alloc, name)?;
     defs.insert(name, Box::into_inner(pattern))?;
@@ -106,7 +108,8 @@ fn take(patterns: &mut Vec<Option<Box<Pattern>>>, key: usize) -> Option<Box<Patt
 impl<'c, 't, 's> Components<'c, 't, 's> {
     /// The number of the name whose first component is at that place.
     fn first_at(&self, place: usize) -> Option<usize>
-        ensures { (names : List Text) (live : List Live) → Lists names self.now live → IsStrictlySortedBy text_cmp names → IsFirstAt names live place result }
+        ensures { (names : List Text) (live : List Live) → Lists names self.now live
+            → IsStrictlySortedBy text_cmp names → IsFirstAt names live place result }
     {
         let key = self.body(self.body_at(place)?)?.component.key;
         let first = *self.of_key(key).first()?;

@@ -1,12 +1,9 @@
 // Components of a key whose bodies stand in its list before.
-ghost use Rattle.std.specs.Prelude.{◌≡◌, ◌+◌, ◌<◌, ℕ, List, length, slice_get, IfOk, Some};
-ghost use Rattle.std.specs.List.Sorted.{IsStrictlySortedBy};
-ghost use Rattle.rn_pattern.specs.Order.{text_cmp};
-ghost use Rattle.rn_pattern.specs.Tree.{Text};
+ghost use Rattle.std.specs.Prelude.{◌≡◌, ℕ, slice_get, IfOk, Some};
 ghost use Rattle.rn_assemble.specs.Combine.{joined};
-ghost use Rattle.rn_assemble.specs.Firsts.{AreTied, IsFirst, body_of, joined_members};
-ghost use Rattle.rn_assemble.specs.Keyed.{key_at};
-ghost use Rattle.rn_assemble.specs.Listed.{Lists, Live, components_in};
+ghost use Rattle.rn_assemble.specs.Firsts.{joined_members};
+ghost use Rattle.rn_assemble.specs.inside.Tied.{AreTied, IsFirst, body_of};
+ghost use Rattle.rn_assemble.specs.inside.Listed.{AtKey};
 
 use crate::components::Components;
 use std::alloc::{AllocError, Global};
@@ -18,10 +15,8 @@ impl Components<'_, '_, '_> {
     /// For each component of the key, the index in its list of the first with the same body. None, where no body stands
     /// twice. What was met of other keys does no harm.
     pub fn firsts(&self, alloc: Global, key: usize, met: &mut Met) -> Result<Vec<usize>, AllocError>
-        ensures { (names : List Text) (live : List Live)
-            → Lists names self.now live → IsStrictlySortedBy text_cmp names → key < length names + 1
-            → IfOk result (λ firsts. AreTied firsts.items
-            (joined_members (joined (components_in live) (key_at names key)))) }
+        ensures { AtKey self.now key (λ k cs.
+            IfOk result (λ firsts. AreTied firsts.items (joined_members (joined cs k)))) }
     {
         let places = self.of_key(key);
         if places.len() < 2 {

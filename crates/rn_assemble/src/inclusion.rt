@@ -4,12 +4,12 @@ ghost use Rattle.std.specs.List.{concat, filter_map, list_any};
 ghost use Rattle.std.specs.List.Sorted.{IsStrictlySortedBy};
 ghost use Rattle.rn_pattern.specs.Order.{text_cmp};
 ghost use Rattle.rn_pattern.specs.Graph.{AllBelow, IsGraph, is_marked, rows_of};
-ghost use Rattle.rn_assemble.specs.Contained.{place_in};
-ghost use Rattle.rn_assemble.specs.Included.{AreIncluded};
-ghost use Rattle.rn_assemble.specs.Inclusions.{AreInclusions, IsLeastAmong, IsMissing, entries};
-ghost use Rattle.rn_assemble.specs.Instances.{instances_of};
+ghost use Rattle.rn_assemble.specs.inside.Contained.{place_in};
+ghost use Rattle.rn_assemble.specs.inside.Included.{AreIncluded};
+ghost use Rattle.rn_assemble.specs.inside.Inclusions.{AreInclusions, IsLeastAmong, IsMissing, entries};
+ghost use Rattle.rn_assemble.specs.inside.Instances.{instances_of};
 ghost use Rattle.rn_assemble.specs.Refused.{IsFirstOfModules};
-ghost use Rattle.rn_assemble.specs.Views.{module_names, sources_view, texts_of};
+ghost use Rattle.rn_assemble.specs.inside.Views.{module_names, sources_view, texts_of};
 
 use crate::instances::instances_up_to;
 use crate::modules::Source;
@@ -28,7 +28,8 @@ pub(crate) const INSTANCE_LIMIT: usize = 512;
 /// stands for want of memory alone.
 pub(crate) fn included_roots(alloc: Global, sources: &[Source<'_>]) -> Result<Vec<usize>, Refusal>
     requires { IsStrictlySortedBy text_cmp (module_names sources.now) }
-    ensures { MatchResult result (λ roots. AreIncluded (sources_view sources.now) roots.items) (IsFirstOfModules (sources_view sources.now)) }
+    ensures { MatchResult result (λ roots. AreIncluded (sources_view sources.now) roots.items)
+        (IsFirstOfModules (sources_view sources.now)) }
 {
     let inclusions = inclusions(alloc, sources)?;
     let rows = inclusions.as_slice();
@@ -47,7 +48,8 @@ pub(crate) fn included_roots(alloc: Global, sources: &[Source<'_>]) -> Result<Ve
 /// The number of the module of that name.
 pub(crate) fn module_named(sources: &[Source<'_>], name: &str) -> Option<usize>
     ensures within { IfSome result (λ m. m < length sources.now) }
-    ensures place { IsStrictlySortedBy text_cmp (module_names sources.now) → result ≡ place_in (sources_view sources.now) name.now }
+    ensures place { IsStrictlySortedBy text_cmp (module_names sources.now)
+        → result ≡ place_in (sources_view sources.now) name.now }
 {
     let compare = |source: &Source<'_>| -> Ordering
         ensures { result ≡ text_cmp source.now.name.now name.entry.now }
@@ -59,7 +61,9 @@ pub(crate) fn module_named(sources: &[Source<'_>], name: &str) -> Option<usize>
 /// the least literal of such an include.
 fn inclusions(alloc: Global, sources: &[Source<'_>]) -> Result<Vec<Vec<usize>>, Refusal>
     requires { IsStrictlySortedBy text_cmp (module_names sources.now) }
-    ensures { MatchResult result (λ rows. AreInclusions (sources_view sources.now) (rows_of rows.items)) (IsFirstOfModules (sources_view sources.now)) }
+    ensures { MatchResult result
+        (λ rows. AreInclusions (sources_view sources.now) (rows_of rows.items))
+        (IsFirstOfModules (sources_view sources.now)) }
 {
     let mut rows = Vec::new(alloc);
     for source in sources {
@@ -78,7 +82,8 @@ fn inclusions(alloc: Global, sources: &[Source<'_>]) -> Result<Vec<Vec<usize>>, 
 /// The least of the literals that names no module.
 fn least_missing<'m>(sources: &[Source<'_>], wanted: &[&'m str]) -> Option<&'m str>
     requires { IsStrictlySortedBy text_cmp (module_names sources.now) }
-    ensures { IsLeastAmong (IsMissing (sources_view sources.now)) (texts_of wanted.now) (option_map (λ s. s.now) result) }
+    ensures { IsLeastAmong (IsMissing (sources_view sources.now)) (texts_of wanted.now)
+        (option_map (λ s. s.now) result) }
 {
     let mut least = None;
     for literal in wanted {
@@ -96,7 +101,8 @@ fn included(
     wanted: &[&str],
 ) -> Result<Vec<usize>, AllocError>
     requires { IsStrictlySortedBy text_cmp (module_names sources.now) }
-    ensures { IfOk result (λ row. row.items ≡ filter_map (place_in (sources_view sources.now)) (texts_of wanted.now)) }
+    ensures { IfOk result (λ row. row.items
+        ≡ filter_map (place_in (sources_view sources.now)) (texts_of wanted.now)) }
 {
     let mut row = Vec::new(alloc);
     for literal in wanted {
@@ -127,7 +133,8 @@ fn roots(alloc: Global, rows: &[Vec<usize>]) -> Result<Vec<usize>, AllocError>
 fn included_marks(alloc: Global, rows: &[Vec<usize>]) -> Result<Vec<bool>, AllocError>
     requires { IsGraph (rows_of rows.now) }
     ensures size { IfOk result (λ marks. vec_len marks ≡ length rows.now) }
-    ensures exact { IfOk result (λ marks. (x : ℕ) → is_marked marks.items x ≡ list_any (λ y. x == y) (concat (rows_of rows.now))) }
+    ensures exact { IfOk result (λ marks. (x : ℕ)
+        → is_marked marks.items x ≡ list_any (λ y. x == y) (concat (rows_of rows.now))) }
 {
     let mut marks = vec![in alloc; false; rows.len()]?;
     for includer in 0..rows.len() {
@@ -140,7 +147,8 @@ fn included_marks(alloc: Global, rows: &[Vec<usize>]) -> Result<Vec<bool>, Alloc
 fn mark_row(included: &mut Vec<bool>, row: &[usize])
     requires { AllBelow (vec_len included.old) row.now }
     ensures size { vec_len included.new ≡ vec_len included.old }
-    ensures marks { (x : ℕ) → is_marked included.new.items x ≡ (is_marked included.old.items x || list_any (λ y. x == y) row.now) }
+    ensures marks { (x : ℕ) → is_marked included.new.items x
+        ≡ (is_marked included.old.items x || list_any (λ y. x == y) row.now) }
 {
     for node in row {
         included[*node] = true;
@@ -151,7 +159,9 @@ fn mark_row(included: &mut Vec<bool>, row: &[usize])
 fn has_too_many_instances(rows: &[Vec<usize>], roots: &[usize]) -> bool
     requires graph { IsGraph (rows_of rows.now) }
     requires within { AllBelow (length rows.now) roots.now }
-    ensures { (depth : ℕ) → INSTANCE_LIMIT < depth → (IsTrue result ↔ (INSTANCE_LIMIT < sum_by (instances_of depth (rows_of rows.now)) roots.now)) }
+    ensures { (depth : ℕ) → INSTANCE_LIMIT < depth
+        → (IsTrue result
+        ↔ (INSTANCE_LIMIT < sum_by (instances_of depth (rows_of rows.now)) roots.now)) }
 {
     let mut count = 0;
     for root in roots {

@@ -1,8 +1,8 @@
 // The number of instances of a module, counted no further than a limit.
 
-ghost use Rattle.std.specs.Prelude.{◌≡◌, ℕ, ◌+◌, ◌<◌, ◌≤◌, length, min};
+ghost use Rattle.std.specs.Prelude.{◌≡◌, ℕ, ◌<◌, ◌≤◌, length, min};
 ghost use Rattle.rn_pattern.specs.Graph.{IsGraph, rows_of};
-ghost use Rattle.rn_assemble.specs.Instances.{instances_of};
+ghost use Rattle.rn_assemble.specs.inside.Instances.{instances_of};
 
 use rn_pattern::graph::row_at;
 
@@ -11,7 +11,8 @@ pub fn instances_up_to(edges: &[Vec<usize>], node: usize, most: usize) -> usize
     requires graph { IsGraph (rows_of edges.now) }
     requires within { node < length edges.now }
     ensures up_to { result ≤ most }
-    ensures counted { (depth : ℕ) → most ≤ depth → result ≡ min most (instances_of depth (rows_of edges.now) node) }
+    ensures counted { (depth : ℕ) → most ≤ depth
+        → result ≡ min most (instances_of depth (rows_of edges.now) node) }
 {
     if most == 0 {
         return 0;

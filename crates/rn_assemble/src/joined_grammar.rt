@@ -2,8 +2,8 @@
 ghost use Rattle.rn_pattern.specs.Graph.{rows_of};
 ghost use Rattle.rn_pattern.specs.View.{pattern_view};
 ghost use Rattle.rn_assemble.specs.DefinitionsView.{definitions_view};
-ghost use Rattle.rn_assemble.specs.Firsts.{AreTied, HaveTied, joined_members};
-ghost use Rattle.rn_assemble.specs.OneProof.{AreTied-prop, HaveTied-prop};
+ghost use Rattle.rn_assemble.specs.Firsts.{joined_members};
+ghost use Rattle.rn_assemble.specs.inside.Tied.{AreTied, HaveTied, AreTied-prop, HaveTied-prop};
 
 use indexmap::IndexMap;
 use rn_pattern::{Pattern, Seed};

@@ -8,7 +8,6 @@ ghost use Rattle.rn_pattern.specs.Excepts.{HasExcepts};
 ghost use Rattle.rn_pattern.specs.Matching.{Grammar, definition_of, IsValid};
 ghost use Rattle.rn_modset.specs.Contributions.{Member};
 ghost use Rattle.rn_syntax.specs.Places.{except_places};
-ghost use Rattle.rn_syntax.specs.Tree.{Module};
 ghost use Rattle.rn_assemble.specs.Components.{Key, Component, Source, components_within, has_key, instances_within, set_components, start_key};
 ghost use Rattle.rn_assemble.specs.Combine.{IsCombination, IsPlainTwice, IsMixed, joined_grammar, components_of, AreDistinct};
 ghost use Rattle.rn_assemble.specs.WellFormed.{IsWellFormed, HasWritableTexts};
@@ -18,42 +17,59 @@ ghost use Rattle.rn_assemble.specs.Refusal.{Refusal, Stands, IsFirst, IsFirstFor
 /// grammar in which each name's components are joined in one list, for every table of datatypes (RELAX NG Specification,
 /// sections 4.17 and 6).
 pub fn combinations_are_valid_alike()
-    ensures { (cs : List Component) (C : Grammar) → IsCombination cs C → (T : Table) (doc : Item) → IsValid C T doc ↔ IsValid (joined_grammar cs) T doc }
+    ensures { (cs : List Component) (C : Grammar) → IsCombination cs C → (T : Table) (doc : Item)
+        → IsValid C T doc ↔ IsValid (joined_grammar cs) T doc }
 {}
 
 /// Components with a start have a combination.
 pub fn components_have_a_combination()
-    ensures { (cs : List Component) → has_key start_key cs ≡ true → (C : Grammar) × IsCombination cs C }
+    ensures { (cs : List Component) → has_key start_key cs ≡ true
+        → (C : Grammar) × IsCombination cs C }
 {}
 
 /// The components of modules in which no except is at fault have excepts of data, values and choices of them alone, and
 /// so has each definition of the joined grammar (section 7.1.4).
 pub fn components_keep_excepts()
-    ensures components { (modules : List Source) → AllByRecursion (λ (m : Source). except_places m.tree ≡ []) modules → AllByRecursion (λ (c : Component). HasExcepts c.body) (set_components modules) }
-    ensures start { (cs : List Component) → AllByRecursion (λ (c : Component). HasExcepts c.body) cs → HasExcepts (joined_grammar cs).start }
-    ensures definitions { (cs : List Component) → AllByRecursion (λ (c : Component). HasExcepts c.body) cs → (x : Text) → IfSome (definition_of (joined_grammar cs) x) HasExcepts }
+    ensures components { (modules : List Source)
+        → AllByRecursion (λ (m : Source). except_places m.tree ≡ []) modules
+        → AllByRecursion (λ (c : Component). HasExcepts c.body) (set_components modules) }
+    ensures start { (cs : List Component) → AllByRecursion (λ (c : Component). HasExcepts c.body) cs
+        → HasExcepts (joined_grammar cs).start }
+    ensures definitions { (cs : List Component)
+        → AllByRecursion (λ (c : Component). HasExcepts c.body) cs → (x : Text)
+        → IfSome (definition_of (joined_grammar cs) x) HasExcepts }
 {}
 
 /// A grammar of distinct names, as one plain component for each key, is joined to itself; no key of these components has
 /// two plain ones, or both methods (section 4.17).
 pub fn plain_components_are_joined()
-    ensures joined { (G : Grammar) → AreDistinct G.definitions → joined_grammar (components_of G) ≡ G }
-    ensures plain_once { (G : Grammar) → AreDistinct G.definitions → (k : Key) → ¬ IsPlainTwice k (components_of G) }
-    ensures one_method { (G : Grammar) → AreDistinct G.definitions → (k : Key) → ¬ IsMixed k (components_of G) }
+    ensures joined { (G : Grammar) → AreDistinct G.definitions
+        → joined_grammar (components_of G) ≡ G }
+    ensures plain_once { (G : Grammar) → AreDistinct G.definitions → (k : Key)
+        → ¬ IsPlainTwice k (components_of G) }
+    ensures one_method { (G : Grammar) → AreDistinct G.definitions → (k : Key)
+        → ¬ IsMixed k (components_of G) }
 {}
 
 /// Includes followed as deep as a module has instances, or deeper, give the same instances and the same components
 /// (section 4.7).
 pub fn includes_end()
-    ensures same_instances { (modules : List Source) (more depth : ℕ) (x : Text) → instances_within depth modules x ≤ depth → instances_within (depth + more) modules x ≡ instances_within depth modules x }
-    ensures same_components { (modules : List Source) (more depth : ℕ) (x inherited : Text) → instances_within depth modules x ≤ depth → components_within (depth + more) modules x inherited ≡ components_within depth modules x inherited }
+    ensures same_instances { (modules : List Source) (more depth : ℕ) (x : Text)
+        → instances_within depth modules x ≤ depth
+        → instances_within (depth + more) modules x ≡ instances_within depth modules x }
+    ensures same_components { (modules : List Source) (more depth : ℕ) (x inherited : Text)
+        → instances_within depth modules x ≤ depth
+        → components_within (depth + more) modules x inherited
+        ≡ components_within depth modules x inherited }
 {}
 
 /// A set has one first refusal at most, with all its fields, and one grammar at most; so have its modules.
 pub fn one_first_refusal()
-    ensures of_modules { (modules : List Source) (q r : Refusal) → IsFirstFor modules q → IsFirstFor modules r → q ≡ r }
+    ensures of_modules { (modules : List Source) (q r : Refusal) → IsFirstFor modules q
+        → IsFirstFor modules r → q ≡ r }
     ensures of_sets { (s : List Member) (q r : Refusal) → IsFirst s q → IsFirst s r → q ≡ r }
-    ensures one_grammar { (s : List Member) (g h : Grammar) → IsAssembled s g → IsAssembled s h → g ≡ h }
+    ensures one_grammar { (s : List Member) (g h : Grammar) → IsAssembled s g → IsAssembled s h
+        → g ≡ h }
 {}
 
 /// The grammar of a set keeps what the refusals exclude. Its names and texts can be written again: the modules' texts are
@@ -61,6 +77,8 @@ pub fn one_first_refusal()
 /// section 2.2). Where no refusal stands, every reference is defined, no loop is reached, and name classes keep their
 /// restrictions (sections 4.16, 4.18 and 4.19).
 pub fn grammars_of_sets_are_well_formed()
-    ensures writable { (s : List Member) (modules : List Source) → AreModules s modules → HasWritableTexts (grammar_of modules) }
-    ensures well_formed { (s : List Member) (modules : List Source) → AreModules s modules → ((r : Refusal) → ¬ Stands s r) → IsWellFormed (grammar_of modules) }
+    ensures writable { (s : List Member) (modules : List Source) → AreModules s modules
+        → HasWritableTexts (grammar_of modules) }
+    ensures well_formed { (s : List Member) (modules : List Source) → AreModules s modules
+        → ((r : Refusal) → ¬ Stands s r) → IsWellFormed (grammar_of modules) }
 {}

@@ -9,10 +9,10 @@ ghost use Rattle.rn_pattern.specs.Order.{text_cmp};
 ghost use Rattle.rn_pattern.specs.Tree.{Text};
 ghost use Rattle.rn_syntax.specs.Faults.{IsFault};
 ghost use Rattle.rn_syntax.specs.View.{module_view};
-ghost use Rattle.rn_assemble.specs.Reading.{IsFaultOf, IsRead};
+ghost use Rattle.rn_assemble.specs.inside.Reading.{IsFaultOf, IsRead};
 ghost use Rattle.rn_assemble.specs.Refusal.{AreModules};
 ghost use Rattle.rn_assemble.specs.Refused.{IsFirstRefusal};
-ghost use Rattle.rn_assemble.specs.Views.{module_names, sources_view};
+ghost use Rattle.rn_assemble.specs.inside.Views.{module_names, sources_view};
 
 use crate::refusal::Refusal;
 use rn_modset::ModuleSet;
@@ -31,7 +31,8 @@ pub(crate) struct Source<'a> {
 /// first fault of a text: the fault of the least name whose module has one.
 pub(crate) fn sources<'a>(alloc: Global, set: &'a ModuleSet) -> Result<Vec<Source<'a>>, Refusal>
     ensures ok { IfOk result (λ sources. AreModules set.now (sources_view sources.items)) }
-    ensures in_order { IfOk result (λ sources. IsStrictlySortedBy text_cmp (module_names sources.items)) }
+    ensures in_order { IfOk result (λ sources.
+        IsStrictlySortedBy text_cmp (module_names sources.items)) }
     ensures err { IfErr result (IsFirstRefusal set.now) }
 {
     let effective = set.effective(alloc)?;
@@ -46,7 +47,8 @@ pub(crate) fn sources<'a>(alloc: Global, set: &'a ModuleSet) -> Result<Vec<Sourc
 
 /// The tree of a module's text, or the refusal of its first fault. Its tokens are given up here.
 fn read<'a>(alloc: Global, name: &str, text: &'a [u8]) -> Result<Module<'a>, Refusal>
-    ensures { MatchResult result (λ tree. IsRead text.now (module_view tree)) (IsFaultOf name.now text.now) }
+    ensures { MatchResult result (λ tree. IsRead text.now (module_view tree))
+        (IsFaultOf name.now text.now) }
 {
     let tokens = match tokens(alloc, text) {
         Ok(tokens) => tokens,
@@ -71,7 +73,8 @@ fn unreadable(module: String, fault: TextFault) -> Refusal
 
 /// The refusal of a module whose tokens are none, or which has a fault.
 fn no_module(module: String, fault: SyntaxFault) -> Refusal
-    ensures { (text : Text) (tokens : List source.Token) → IsUtf8 text → HasTokens (chars text) (map lexeme_of tokens) → IsFault tokens fault
+    ensures { (text : Text) (tokens : List source.Token) → IsUtf8 text
+        → HasTokens (chars text) (map lexeme_of tokens) → IsFault tokens fault
         → IsFaultOf (string_bytes «module») text result }
 {
     match fault {

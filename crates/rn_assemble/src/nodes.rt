@@ -4,7 +4,7 @@ ghost use Rattle.rn_pattern.specs.Opened.{pair};
 ghost use Rattle.rn_pattern.specs.Tree as tree;
 ghost use Rattle.rn_pattern.specs.Tree.{trees_of};
 ghost use Rattle.rn_pattern.specs.View.{parameters_view, pattern_view, shared_view};
-ghost use Rattle.rn_assemble.specs.Patterns.{boxed_view};
+ghost use Rattle.rn_assemble.specs.inside.Patterns.{boxed_view};
 
 use rn_pattern::Pattern;
 use std::alloc::{AllocError, Global};
@@ -52,8 +52,10 @@ pub(crate) fn typed_datum(
     params: Vec<(String, String)>,
     except: Option<Box<Pattern>>,
 ) -> Result<Box<Pattern>, AllocError>
-    ensures { IfOk result (λ p. MatchOption except (boxed_view p ≡ tree.datum library.now type_name.now (parameters_view params.items))
-        (λ e. boxed_view p ≡ tree.datum_but library.now type_name.now (parameters_view params.items) (boxed_view e))) }
+    ensures { IfOk result (λ p. MatchOption except
+        (boxed_view p ≡ tree.datum library.now type_name.now (parameters_view params.items))
+        (λ e. boxed_view p ≡ tree.datum_but library.now type_name.now (parameters_view params.items)
+        (boxed_view e))) }
 {
     let library = owned(alloc, library)?;
     let type_name = owned(alloc, type_name)?;
@@ -84,7 +86,8 @@ fn two(
     first: Rc<Pattern>,
     second: Rc<Pattern>,
 ) -> Result<Vec<Rc<Pattern>>, AllocError>
-    ensures { IfOk result (λ v. trees_of (map shared_view v.items) ≡ pair (shared_view first) (shared_view second)) }
+    ensures { IfOk result (λ v. trees_of (map shared_view v.items)
+        ≡ pair (shared_view first) (shared_view second)) }
 {
     let mut members = Vec::with_capacity(alloc, 2)?;
     members.push(first)?;
@@ -121,7 +124,8 @@ pub(crate) fn optional(alloc: Global, content: Box<Pattern>) -> Result<Box<Patte
 
 /// The interleave of the pattern and text.
 pub(crate) fn mixed(alloc: Global, content: Box<Pattern>) -> Result<Box<Pattern>, AllocError>
-    ensures { IfOk result (λ p. boxed_view p ≡ tree.interleave (pair (boxed_view content) tree.text)) }
+    ensures { IfOk result (λ p. boxed_view p
+        ≡ tree.interleave (pair (boxed_view content) tree.text)) }
 {
     let text = Rc::new(alloc, Pattern::Text)?;
     let members = two(alloc, shared(alloc, content)?, text)?;

@@ -1,5 +1,5 @@
 // References, what is reached by them, and loops.
-ghost use Rattle.std.specs.Prelude.{◌≡◌, ℕ, ◌+◌, ◌<◌, List, [], length, if◌then◌else◌, ◌++◌, vec_len, map, flat_map, option_map, Decides, IsSome, MatchOption, MatchResult, IfSome, IfOk, OnOk};
+ghost use Rattle.std.specs.Prelude.{◌≡◌, ℕ, ◌+◌, ◌<◌, List, [], length, if◌then◌else◌, ◌++◌, vec_len, option_map, Decides, IsSome, MatchResult, IfOk, OnOk};
 ghost use Rattle.std.specs.List.Sorted.{IsStrictlySortedBy};
 ghost use Rattle.rn_pattern.specs.Order.{text_cmp};
 ghost use Rattle.rn_pattern.specs.Tree.{Text};
@@ -8,11 +8,11 @@ ghost use Rattle.rn_assemble.specs.Components.{Component};
 ghost use Rattle.rn_syntax.specs.View.{pattern_view, patterns_view};
 ghost use Rattle.rn_assemble.specs.Combine.{joined_grammar};
 ghost use Rattle.rn_assemble.specs.Least.{IsLeast};
-ghost use Rattle.rn_assemble.specs.Listed.{Lists, Live, components_in};
-ghost use Rattle.rn_assemble.specs.Referred.{AreAllReferences, AreNumbers, AreBodiesAt, IsFresh, IsLeastOf, IsLeastRecursive, IsLeastUndefined, IsLooked, lesser_text, names_at, references, all_references, outer_references, all_outer_references};
-ghost use Rattle.rn_assemble.specs.Views.{names_of, texts_of};
+ghost use Rattle.rn_assemble.specs.inside.Referred.{AreAllReferences, AreBodiesAt, AreNumbers, IsFresh, IsLeastRecursive, IsLeastUndefined, IsLooked, KeepsLeast, all_outer_references, all_references, lesser_text, names_in, outer_references, references};
+ghost use Rattle.rn_assemble.specs.inside.Views.{names_of, texts_of};
 ghost use Rattle.rn_pattern.specs.Matching.{definition_of};
 ghost use Rattle.rn_pattern.specs.Graph.{AllBelow, IsGraph, is_marked, row, rows_of};
+ghost use Rattle.rn_assemble.specs.inside.Listed.{OfKeys};
 
 use crate::components::Components;
 use crate::keys::{Keys, START};
@@ -39,8 +39,10 @@ pub(crate) fn references_of<'s>(
     ensures all_size { IfOk result (λ r. vec_len r.all ≡ vec_len keys.now.names + 1) }
     ensures outer { IfOk result (λ r. IsGraph (rows_of r.outer.items)) }
     ensures outer_size { IfOk result (λ r. vec_len r.outer ≡ vec_len keys.now.names + 1) }
-    ensures found { (live : List Live) → Lists (names_of keys.now) components.now live → IsStrictlySortedBy text_cmp (names_of keys.now)
-        → MatchResult result (λ r. AreAllReferences (names_of keys.now) (components_in live) (rows_of r.all.items) (rows_of r.outer.items)) (IsLeastUndefined (components_in live)) }
+    ensures found { OfKeys keys.now components.now
+        (λ names cs. MatchResult result
+        (λ r. AreAllReferences names cs (rows_of r.all.items) (rows_of r.outer.items))
+        (IsLeastUndefined cs)) }
 {
     let mut looked: Vec<Option<usize>> = vec![in alloc; None; components.count_bodies()]?;
     let mut undefined = None;
@@ -61,7 +63,8 @@ pub(crate) fn references_of<'s>(
 
 /// The refusal of a set for an undefined name.
 fn undefined_name(alloc: Global, name: &str) -> Refusal
-    ensures { (cs : List Component) → IsLeast text_cmp (IsUndefined (joined_grammar cs)) name.now → IsLeastUndefined cs result }
+    ensures { (cs : List Component) → IsLeast text_cmp (IsUndefined (joined_grammar cs)) name.now
+        → IsLeastUndefined cs result }
 {
     match String::from_str(alloc, name) {
         Ok(name) => Refusal::Undefined { name },
@@ -79,10 +82,11 @@ fn references_in<'s>(
     undefined: &mut Option<&'s str>,
 ) -> Result<Vec<usize>, AllocError>
     ensures within { IfOk result (λ numbers. AllBelow (vec_len keys.now.names + 1) numbers.items) }
-    ensures are { IsStrictlySortedBy text_cmp (names_of keys.now) → IfOk result (λ numbers. AreNumbers (names_of keys.now) (flat_map (names_at references components.now.bodies.items) bodies.now) numbers.items) }
-    ensures least { OnOk result ((live : List Live) (before : List Text) → Lists (names_of keys.now) components.now live → IsStrictlySortedBy text_cmp (names_of keys.now)
-        → IsLeastOf (joined_grammar (components_in live)) before (option_map (λ s. s.now) undefined.old)
-        → IsLeastOf (joined_grammar (components_in live)) (before ++ flat_map (names_at references components.now.bodies.items) bodies.now) (option_map (λ s. s.now) undefined.new)) }
+    ensures are { IsStrictlySortedBy text_cmp (names_of keys.now)
+        → IfOk result (λ numbers. AreNumbers (names_of keys.now)
+        (names_in references components.now bodies.now) numbers.items) }
+    ensures least { OnOk result (KeepsLeast keys.now components.now
+        (names_in references components.now bodies.now) undefined.old undefined.new) }
 {
     let mut names = Vec::new(alloc);
     for number in bodies {
@@ -102,7 +106,9 @@ fn references_outside<'s>(
     bodies: &[usize],
 ) -> Result<Vec<usize>, AllocError>
     ensures within { IfOk result (λ numbers. AllBelow (vec_len keys.now.names + 1) numbers.items) }
-    ensures are { IsStrictlySortedBy text_cmp (names_of keys.now) → IfOk result (λ numbers. AreNumbers (names_of keys.now) (flat_map (names_at outer_references components.now.bodies.items) bodies.now) numbers.items) }
+    ensures are { IsStrictlySortedBy text_cmp (names_of keys.now)
+        → IfOk result (λ numbers. AreNumbers (names_of keys.now)
+        (names_in outer_references components.now bodies.now) numbers.items) }
 {
     let mut names = Vec::new(alloc);
     for number in bodies {
@@ -123,7 +129,8 @@ fn bodies_of(
     requires { IsFresh key looked.old.items }
     ensures size { vec_len looked.new ≡ vec_len looked.old }
     ensures fresh { OnOk result (IsFresh (key + 1) looked.new.items) }
-    ensures found { IfOk result (λ bodies. AreBodiesAt (length looked.old.items) components.now.list.items (row (rows_of components.now.places.items) key) bodies.items) }
+    ensures found { IfOk result (λ bodies. AreBodiesAt (length looked.old.items)
+        components.now.list.items (row (rows_of components.now.places.items) key) bodies.items) }
 {
     let mut bodies = Vec::new(alloc);
     for place in components.of_key(key) {
@@ -142,7 +149,8 @@ fn look(
     looked: &mut Vec<Option<usize>>,
 ) -> Option<usize>
     ensures size { vec_len looked.new ≡ vec_len looked.old }
-    ensures looked { IsLooked components.now.list.items place key looked.old.items looked.new.items result }
+    ensures looked { IsLooked components.now.list.items place key looked.old.items looked.new.items
+        result }
 {
     let number = components.body_at(place)?;
     if number >= looked.len() || looked[number] == Some(key) {
@@ -154,8 +162,8 @@ fn look(
 
 /// Whether the name has a component.
 fn is_defined<'s>(keys: &Keys<'s>, components: &Components<'_, '_, 's>, name: &'s str) -> bool
-    ensures { (live : List Live) → Lists (names_of keys.now) components.now live → IsStrictlySortedBy text_cmp (names_of keys.now)
-        → Decides result (IsSome (definition_of (joined_grammar (components_in live)) name.now)) }
+    ensures { OfKeys keys.now components.now
+        (λ names cs. Decides result (IsSome (definition_of (joined_grammar cs) name.now))) }
 {
     match keys.find(name) {
         Some(key) => !components.of_key(key).is_empty(),
@@ -180,9 +188,7 @@ fn least_undefined<'s>(
     names: &[&'s str],
     mut least: Option<&'s str>,
 ) -> Option<&'s str>
-    ensures { (live : List Live) (before : List Text) → Lists (names_of keys.now) components.now live → IsStrictlySortedBy text_cmp (names_of keys.now)
-        → IsLeastOf (joined_grammar (components_in live)) before (option_map (λ s. s.now) least.entry)
-        → IsLeastOf (joined_grammar (components_in live)) (before ++ texts_of names.now) (option_map (λ s. s.now) result) }
+    ensures { KeepsLeast keys.now components.now (texts_of names.now) least.entry result }
 {
     for name in names {
         if !is_defined(keys, components, name) {
@@ -196,7 +202,9 @@ fn least_undefined<'s>(
 #[tactic(auto, using(rn_pattern::proofs::Graphs::Rows::none_below, rn_pattern::proofs::Graphs::Rows::below_push))]
 fn numbers<'s>(alloc: Global, keys: &Keys<'s>, names: &[&'s str]) -> Result<Vec<usize>, AllocError>
     ensures within { IfOk result (λ numbers. AllBelow (vec_len keys.now.names + 1) numbers.items) }
-    ensures are { IsStrictlySortedBy text_cmp (names_of keys.now) → IfOk result (λ numbers. AreNumbers (names_of keys.now) (texts_of names.now) numbers.items) }
+    ensures are { IsStrictlySortedBy text_cmp (names_of keys.now)
+        → IfOk result (λ numbers. AreNumbers (names_of keys.now)
+        (texts_of names.now) numbers.items) }
 {
     let mut numbers = Vec::new(alloc);
     for name in names {
@@ -210,7 +218,8 @@ fn numbers<'s>(alloc: Global, keys: &Keys<'s>, names: &[&'s str]) -> Result<Vec<
 /// Adds the names that the pattern refers to.
 #[cycle(refer)]
 fn refer<'s>(pattern: &Pat<'s>, names: &mut Vec<&'s str>) -> Result<(), AllocError>
-    ensures { OnOk result (texts_of names.new.items ≡ texts_of names.old.items ++ references (pattern_view pattern.now)) }
+    ensures { OnOk result (texts_of names.new.items
+        ≡ texts_of names.old.items ++ references (pattern_view pattern.now)) }
 {
     match pattern {
         Pat::Ref(name) => {
@@ -230,7 +239,8 @@ fn refer<'s>(pattern: &Pat<'s>, names: &mut Vec<&'s str>) -> Result<(), AllocErr
 
 #[cycle(refer)]
 fn refer_all<'s>(patterns: &[Pat<'s>], names: &mut Vec<&'s str>) -> Result<(), AllocError>
-    ensures { OnOk result (texts_of names.new.items ≡ texts_of names.old.items ++ all_references (patterns_view patterns.now)) }
+    ensures { OnOk result (texts_of names.new.items
+        ≡ texts_of names.old.items ++ all_references (patterns_view patterns.now)) }
 {
     'patterns: for pattern in patterns {
         refer(pattern, names)?;
@@ -241,7 +251,8 @@ fn refer_all<'s>(patterns: &[Pat<'s>], names: &mut Vec<&'s str>) -> Result<(), A
 /// Adds the names that the pattern refers to outside elements.
 #[cycle(refer_outside)]
 fn refer_outside<'s>(pattern: &Pat<'s>, names: &mut Vec<&'s str>) -> Result<(), AllocError>
-    ensures { OnOk result (texts_of names.new.items ≡ texts_of names.old.items ++ outer_references (pattern_view pattern.now)) }
+    ensures { OnOk result (texts_of names.new.items
+        ≡ texts_of names.old.items ++ outer_references (pattern_view pattern.now)) }
 {
     match pattern {
         Pat::Ref(name) => {
@@ -265,7 +276,8 @@ fn refer_outside<'s>(pattern: &Pat<'s>, names: &mut Vec<&'s str>) -> Result<(), 
 
 #[cycle(refer_outside)]
 fn refer_all_outside<'s>(patterns: &[Pat<'s>], names: &mut Vec<&'s str>) -> Result<(), AllocError>
-    ensures { OnOk result (texts_of names.new.items ≡ texts_of names.old.items ++ all_outer_references (patterns_view patterns.now)) }
+    ensures { OnOk result (texts_of names.new.items
+        ≡ texts_of names.old.items ++ all_outer_references (patterns_view patterns.now)) }
 {
     'patterns: for pattern in patterns {
         refer_outside(pattern, names)?;
@@ -283,7 +295,8 @@ pub(crate) fn least_recursive(
     requires outer { IsGraph (rows_of references.now.outer.items) }
     requires size { vec_len references.now.outer ≡ vec_len references.now.all }
     ensures { (names : List Text) (cs : List Component) → IsStrictlySortedBy text_cmp names
-        → AreAllReferences names cs (rows_of references.now.all.items) (rows_of references.now.outer.items) → IfOk result (IsLeastRecursive names cs) }
+        → AreAllReferences names cs (rows_of references.now.all.items)
+        (rows_of references.now.outer.items) → IfOk result (IsLeastRecursive names cs) }
 {
     let first = row_at(references.all.as_slice(), START);
     let reached = reached(alloc, references.all.as_slice(), first)?;
@@ -300,7 +313,8 @@ fn only_marked(
     requires graph { IsGraph (rows_of edges.now) }
     requires size { length marks.now ≡ length edges.now }
     ensures graph { IfOk result (λ rows. IsGraph (rows_of rows.items)) }
-    ensures kept { IfOk result (λ rows. (node : ℕ) → row (rows_of rows.items) node ≡ (if is_marked marks.now node then row (rows_of edges.now) node else [])) }
+    ensures kept { IfOk result (λ rows. (node : ℕ) → row (rows_of rows.items) node
+        ≡ (if is_marked marks.now node then row (rows_of edges.now) node else [])) }
 {
     let mut rows = Vec::with_capacity(alloc, edges.len())?;
     for node in 0..edges.len() {

@@ -5,8 +5,8 @@ ghost use Rattle.rn_pattern.specs.Tree.{Text, name_trees_of, trees_of};
 ghost use Rattle.rn_pattern.specs.View.{name_class_view, parameters_view, shared_view};
 ghost use Rattle.rn_syntax.specs.Tree as source;
 ghost use Rattle.rn_syntax.specs.View as seen;
-ghost use Rattle.rn_assemble.specs.Bound.{InScope};
-ghost use Rattle.rn_assemble.specs.Patterns.{boxed_view};
+ghost use Rattle.rn_assemble.specs.inside.Bound.{InScope};
+ghost use Rattle.rn_assemble.specs.inside.Patterns.{boxed_view};
 ghost use Rattle.rn_assemble.specs.Resolve as resolve;
 
 use crate::bindings::Scope;
@@ -25,7 +25,8 @@ fn name<'t>(
     own: &str,
     name: &'t Name<'_>,
 ) -> Result<NameClass, AllocError>
-    ensures { InScope scope.entry (λ inherited ds. IfOk result (λ c. name_class_view c ≡ resolve.named inherited ds own.now (seen.name_view name.now))) }
+    ensures { InScope scope.entry (λ inherited ds. IfOk result (λ c. name_class_view c
+        ≡ resolve.named inherited ds own.now (seen.name_view name.now))) }
 {
     match name {
         Name::Local(local) => Ok(NameClass::Name(owned(alloc, own)?, owned(alloc, local)?)),
@@ -42,7 +43,8 @@ fn every<'t>(
     scope: Scope<'_, 't>,
     any: &'t AnyName<'_>,
 ) -> Result<NameClass, AllocError>
-    ensures { InScope scope.entry (λ inherited ds. IfOk result (λ c. name_class_view c ≡ resolve.every inherited ds (seen.any_view any.now))) }
+    ensures { InScope scope.entry (λ inherited ds. IfOk result (λ c. name_class_view c
+        ≡ resolve.every inherited ds (seen.any_view any.now))) }
 {
     match any {
         AnyName::Any => Ok(NameClass::AnyName(None)),
@@ -60,7 +62,8 @@ fn every_but<'t>(
     any: &'t AnyName<'_>,
     except: NameClass,
 ) -> Result<NameClass, AllocError>
-    ensures { InScope scope.entry (λ inherited ds. IfOk result (λ c. name_class_view c ≡ resolve.every_but inherited ds (seen.any_view any.now) (name_class_view except))) }
+    ensures { InScope scope.entry (λ inherited ds. IfOk result (λ c. name_class_view c
+        ≡ resolve.every_but inherited ds (seen.any_view any.now) (name_class_view except))) }
 {
     let except = Box::new(alloc, except)?;
     match any {
@@ -73,7 +76,8 @@ fn every_but<'t>(
 }
 
 fn class_choice(members: Vec<NameClass>) -> NameClass
-    ensures { name_class_view result ≡ tree.name_choice (name_trees_of (map name_class_view members.items)) }
+    ensures { name_class_view result ≡ tree.name_choice
+        (name_trees_of (map name_class_view members.items)) }
 {
     NameClass::Choice(members)
 }
@@ -86,7 +90,8 @@ pub(crate) fn name_class<'t>(
     own: &str,
     class: &'t Nc<'_>,
 ) -> Result<NameClass, AllocError>
-    ensures { InScope scope.entry (λ inherited ds. IfOk result (λ c. name_class_view c ≡ resolve.resolved_class inherited ds own.now (seen.class_view class.now))) }
+    ensures { InScope scope.entry (λ inherited ds. IfOk result (λ c. name_class_view c
+        ≡ resolve.resolved_class inherited ds own.now (seen.class_view class.now))) }
 {
     match class {
         Nc::Name(given) => name(alloc, scope, own, given),
@@ -106,7 +111,9 @@ fn name_classes<'t>(
     own: &str,
     classes: &'t [Nc<'_>],
 ) -> Result<Vec<NameClass>, AllocError>
-    ensures { InScope scope.entry (λ inherited ds. IfOk result (λ v. name_trees_of (map name_class_view v.items) ≡ resolve.resolved_classes inherited ds own.now (seen.classes_view classes.now))) }
+    ensures { InScope scope.entry (λ inherited ds. IfOk result
+        (λ v. name_trees_of (map name_class_view v.items)
+        ≡ resolve.resolved_classes inherited ds own.now (seen.classes_view classes.now))) }
 {
     let mut members = Vec::new(alloc);
     for class in classes {
@@ -116,7 +123,8 @@ fn name_classes<'t>(
 }
 
 fn library<'t>(scope: Scope<'_, 't>, datatype: &'t Datatype<'_>) -> &'t str
-    ensures { InScope scope.entry (λ inherited ds. result.now ≡ resolve.type_library inherited ds (seen.datatype_view datatype.now)) }
+    ensures { InScope scope.entry (λ inherited ds. result.now
+        ≡ resolve.type_library inherited ds (seen.datatype_view datatype.now)) }
 {
     match datatype {
         Datatype::String(_) | Datatype::Token(_) => "",
@@ -125,7 +133,8 @@ fn library<'t>(scope: Scope<'_, 't>, datatype: &'t Datatype<'_>) -> &'t str
 }
 
 fn type_name<'t>(datatype: &'t Datatype<'_>) -> &'t str
-    ensures { (inherited : Text) (ds : List source.Declaration) → result.now ≡ resolve.type_name inherited ds (seen.datatype_view datatype.now) }
+    ensures { (inherited : Text) (ds : List source.Declaration)
+        → result.now ≡ resolve.type_name inherited ds (seen.datatype_view datatype.now) }
 {
     match datatype {
         Datatype::String(_) => "string",
@@ -141,7 +150,8 @@ fn value<'t>(
     datatype: &'t Option<Datatype<'_>>,
     text: &str,
 ) -> Result<Box<Pattern>, AllocError>
-    ensures { InScope scope.entry (λ inherited ds. IfOk result (λ p. boxed_view p ≡ resolve.typed_value inherited ds (seen.type_view datatype.now) text.now)) }
+    ensures { InScope scope.entry (λ inherited ds. IfOk result (λ p. boxed_view p
+        ≡ resolve.typed_value inherited ds (seen.type_view datatype.now) text.now)) }
 {
     match datatype {
         Some(datatype) => typed_value(alloc, library(scope, datatype), type_name(datatype), text),
@@ -169,7 +179,9 @@ fn datum<'t>(
     given: &[Param<'_>],
 ) -> Result<Box<Pattern>, AllocError>
     ensures { InScope scope.entry (λ inherited ds. IfOk result (λ p. boxed_view p
-        ≡ tree.datum (resolve.type_library inherited ds (seen.datatype_view datatype.now)) (resolve.type_name inherited ds (seen.datatype_view datatype.now)) (seen.params_view given.now))) }
+        ≡ tree.datum (resolve.type_library inherited ds (seen.datatype_view datatype.now))
+        (resolve.type_name inherited ds (seen.datatype_view datatype.now))
+        (seen.params_view given.now))) }
 {
     let params = params(alloc, given)?;
     typed_datum(
@@ -190,7 +202,9 @@ fn datum_but<'t>(
     except: Box<Pattern>,
 ) -> Result<Box<Pattern>, AllocError>
     ensures { InScope scope.entry (λ inherited ds. IfOk result (λ p. boxed_view p
-        ≡ tree.datum_but (resolve.type_library inherited ds (seen.datatype_view datatype.now)) (resolve.type_name inherited ds (seen.datatype_view datatype.now)) (seen.params_view given.now) (boxed_view except))) }
+        ≡ tree.datum_but (resolve.type_library inherited ds (seen.datatype_view datatype.now))
+        (resolve.type_name inherited ds (seen.datatype_view datatype.now))
+        (seen.params_view given.now) (boxed_view except))) }
 {
     let params = params(alloc, given)?;
     typed_datum(
@@ -210,7 +224,8 @@ fn element<'t>(
     content: Box<Pattern>,
 ) -> Result<Box<Pattern>, AllocError>
     ensures { InScope scope.entry (λ inherited ds. IfOk result (λ p. boxed_view p
-        ≡ tree.element (resolve.resolved_class inherited ds (resolve.default_of inherited ds) (seen.class_view class.now)) (boxed_view content))) }
+        ≡ tree.element (resolve.resolved_class inherited ds (resolve.default_of inherited ds)
+        (seen.class_view class.now)) (boxed_view content))) }
 {
     let class = name_class(alloc, scope, scope.default_namespace(), class)?;
     boxed(alloc, Pattern::Element(class, content))
@@ -224,7 +239,8 @@ fn attribute<'t>(
     content: Box<Pattern>,
 ) -> Result<Box<Pattern>, AllocError>
     ensures { InScope scope.entry (λ inherited ds. IfOk result (λ p. boxed_view p
-        ≡ tree.attribute (resolve.resolved_class inherited ds [] (seen.class_view class.now)) (boxed_view content))) }
+        ≡ tree.attribute (resolve.resolved_class inherited ds [] (seen.class_view class.now))
+        (boxed_view content))) }
 {
     let class = name_class(alloc, scope, "", class)?;
     boxed(alloc, Pattern::Attribute(class, content))
@@ -235,7 +251,9 @@ fn chain(
     operator: Operator,
     members: Vec<Rc<Pattern>>,
 ) -> Result<Box<Pattern>, AllocError>
-    ensures { (inherited : Text) (ds : List source.Declaration) → IfOk result (λ p. boxed_view p ≡ resolve.chained inherited ds operator (trees_of (map shared_view members.items))) }
+    ensures { (inherited : Text) (ds : List source.Declaration)
+        → IfOk result (λ p. boxed_view p
+        ≡ resolve.chained inherited ds operator (trees_of (map shared_view members.items))) }
 {
     match operator {
         Operator::Comma => boxed(alloc, group(members)),
@@ -249,7 +267,9 @@ fn repeated(
     postfix: Postfix,
     content: Box<Pattern>,
 ) -> Result<Box<Pattern>, AllocError>
-    ensures { (inherited : Text) (ds : List source.Declaration) → IfOk result (λ p. boxed_view p ≡ resolve.repetition inherited ds postfix (boxed_view content)) }
+    ensures { (inherited : Text) (ds : List source.Declaration)
+        → IfOk result (λ p. boxed_view p
+        ≡ resolve.repetition inherited ds postfix (boxed_view content)) }
 {
     match postfix {
         Postfix::Question => optional(alloc, content),
@@ -265,7 +285,8 @@ pub(crate) fn pattern<'t>(
     scope: Scope<'_, 't>,
     written: &'t Pat<'_>,
 ) -> Result<Box<Pattern>, AllocError>
-    ensures { InScope scope.entry (λ inherited ds. IfOk result (λ p. boxed_view p ≡ resolve.resolved inherited ds (seen.pattern_view written.now))) }
+    ensures { InScope scope.entry (λ inherited ds. IfOk result (λ p. boxed_view p
+        ≡ resolve.resolved inherited ds (seen.pattern_view written.now))) }
 {
     match written {
         Pat::Element(class, content) => {
@@ -305,7 +326,9 @@ fn patterns<'t>(
     scope: Scope<'_, 't>,
     written: &'t [Pat<'_>],
 ) -> Result<Vec<Rc<Pattern>>, AllocError>
-    ensures { InScope scope.entry (λ inherited ds. IfOk result (λ v. trees_of (map shared_view v.items) ≡ resolve.resolved_all inherited ds (seen.patterns_view written.now))) }
+    ensures { InScope scope.entry (λ inherited ds. IfOk result
+        (λ v. trees_of (map shared_view v.items)
+        ≡ resolve.resolved_all inherited ds (seen.patterns_view written.now))) }
 {
     let mut members = Vec::new(alloc);
     for member in written {

@@ -13,22 +13,22 @@ use Rattle.rn_assemble.specs.declared.components.Lack.{Lack}
 use Rattle.rn_assemble.specs.declared.joined_grammar.Joined.{Joined}
 use Rattle.rn_assemble.specs.declared.modules.Source as code_source
 use Rattle.rn_assemble.specs.declared.refusal.Refusal as code
-use Rattle.rn_assemble.specs.Checked.{AreExpanded, IsGrammarOf}
+use Rattle.rn_assemble.specs.inside.Checked.{AreExpanded, IsGrammarOf}
 use Rattle.rn_assemble.specs.Components.{Component, Key, Source, components, has_key, roots, set_components, start_key}
-use Rattle.rn_assemble.specs.Contained.{AreFlat}
-use Rattle.rn_assemble.specs.Expanded.{IsListed, name_at}
+use Rattle.rn_assemble.specs.inside.Contained.{AreFlat}
+use Rattle.rn_assemble.specs.inside.Expanded.{IsListed, name_at}
 use Rattle.rn_assemble.specs.JoinedView.{joined_view}
-use Rattle.rn_assemble.specs.Included.{AreIncluded}
-use Rattle.rn_assemble.specs.Joining.{HasStart, IsJoinedGrammar, IsMisnamed}
-use Rattle.rn_assemble.specs.Keyed.{AreNames, key_at}
-use Rattle.rn_assemble.specs.Lacking.{IsLeastLack, LacksFrom}
+use Rattle.rn_assemble.specs.inside.Included.{AreIncluded}
+use Rattle.rn_assemble.specs.inside.Joining.{HasStart, IsJoinedGrammar, IsMisnamed}
+use Rattle.rn_assemble.specs.inside.Keyed.{AreNames, key_at}
+use Rattle.rn_assemble.specs.inside.Lacking.{IsLeastLack, LacksFrom}
 use Rattle.rn_assemble.specs.Least.{IsLeast, key_cmp}
-use Rattle.rn_assemble.specs.Listed.{Live, Lists, components_in}
-use Rattle.rn_assemble.specs.Methods.{CanCombine}
+use Rattle.rn_assemble.specs.inside.Listed.{Live, Lists, components_in}
+use Rattle.rn_assemble.specs.inside.Methods.{CanCombine}
 use Rattle.rn_assemble.specs.Refusal.{Lacks, StandsFor, override}
 use Rattle.rn_assemble.specs.Refused.{IsFirstOfModules}
-use Rattle.rn_assemble.specs.Sound.{HasSoundReferences}
-use Rattle.rn_assemble.specs.Views.{source_view, sources_view}
+use Rattle.rn_assemble.specs.inside.Sound.{HasSoundReferences}
+use Rattle.rn_assemble.specs.inside.Views.{source_view, sources_view}
 use Rattle.rn_assemble.proofs.Answering.FirstRefusal.{NoneBelow, none_included, none_lacking, none_combined, none_sound, misnamed_first, joined_grammar_of}
 use Rattle.rn_assemble.proofs.Expansion.Lacking.{lacks_alike}
 

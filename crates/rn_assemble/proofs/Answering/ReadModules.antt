@@ -12,10 +12,10 @@ use Rattle.rn_assemble.specs.declared.modules.Source as code_source
 use Rattle.rn_assemble.specs.declared.refusal.Refusal as code
 use Rattle.rn_assemble.specs.Components.{Source}
 use Rattle.rn_assemble.specs.Least.{IsLeast}
-use Rattle.rn_assemble.specs.Reading.{IsRead, IsFaultOf}
+use Rattle.rn_assemble.specs.inside.Reading.{IsRead, IsFaultOf}
 use Rattle.rn_assemble.specs.Refusal.{TextFault, Refusal, conflict, faulty, rank, HasFault, IsFirstFault, IsFaulty, IsModuleOf, AreModules, Stands, IsFirst}
 use Rattle.rn_assemble.specs.Refused.{IsFirstRefusal, refusal_view}
-use Rattle.rn_assemble.specs.Views.{module_names, source_view, sources_view}
+use Rattle.rn_assemble.specs.inside.Views.{module_names, source_view, sources_view}
 use Rattle.rn_assemble.proofs.Referring.Named.{in_order_mapped}
 
 -- the text has no fault

@@ -7,7 +7,7 @@ use Rattle.rn_modset.specs.Modules.{Module}
 use Rattle.rn_syntax.proofs.OneTree.{one_tree}
 use Rattle.rn_assemble.specs.declared.refusal.Refusal as code
 use Rattle.rn_assemble.specs.declared.refusal.Refusal.TheVariants as r
-use Rattle.rn_assemble.specs.Checked.{IsGrammarOf}
+use Rattle.rn_assemble.specs.inside.Checked.{IsGrammarOf}
 use Rattle.rn_assemble.specs.Components.{Source}
 use Rattle.rn_assemble.specs.Refusal.{Refusal, conflict, faulty, AreModules, IsAssembled, IsFaulty, IsFirst, IsFirstFor, Stands, StandsFor}
 use Rattle.rn_assemble.specs.Refused.{refusal_view, IsFirstOfModules, IsFirstRefusal}

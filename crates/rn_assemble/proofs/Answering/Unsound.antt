@@ -2,9 +2,9 @@
 use Rattle.std.proofs.Common.{◌≡◌, ℕ, suc, ◌-◌, List, [], get_or, arith}
 use Rattle.rn_pattern.specs.Tree.{Text}
 use Rattle.rn_assemble.specs.Components.{Component}
-use Rattle.rn_assemble.specs.Keyed.{IsNumber}
-use Rattle.rn_assemble.specs.Referred.{IsLeastUndefined}
-use Rattle.rn_assemble.specs.Sound.{IsUnsound}
+use Rattle.rn_assemble.specs.inside.Keyed.{IsNumber}
+use Rattle.rn_assemble.specs.inside.Referred.{IsLeastUndefined}
+use Rattle.rn_assemble.specs.inside.Sound.{IsUnsound}
 use Rattle.rn_assemble.specs.declared.refusal.Refusal.{Refusal}
 use Rattle.rn_assemble.specs.declared.refusal.Refusal.TheVariants as r
 use Rattle.rn_assemble.proofs.Referring.Numbers.{name_at}

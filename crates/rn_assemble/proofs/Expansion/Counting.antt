@@ -4,7 +4,7 @@ use Rattle.std.specs.Prelude.{sum_by}
 use Rattle.std.proofs.lemmas.List.{take_all}
 use Rattle.std.proofs.lemmas.List.Sums.{sum_by_more}
 use Rattle.rn_pattern.specs.Graph.{row}
-use Rattle.rn_assemble.specs.Instances.{instances_of}
+use Rattle.rn_assemble.specs.inside.Instances.{instances_of}
 
 -- the count after the first i includes
 pub record CountsTo (rows : List (List ℕ)) (most count i : ℕ) (xs : List ℕ) : Type 0 where

@@ -14,8 +14,8 @@ use Rattle.rn_pattern.specs.Order.{text_cmp}
 use Rattle.rn_pattern.specs.Graph.{AllBelow, IsGraph, row}
 use Rattle.rn_pattern.proofs.Ordered.InOrder.{contains_behind, contains_front}
 use Rattle.rn_assemble.specs.Components.{Source, includes, roots}
-use Rattle.rn_assemble.specs.Expanded.{name_at}
-use Rattle.rn_assemble.specs.Inclusions.{AreInclusions, entries}
+use Rattle.rn_assemble.specs.inside.Expanded.{name_at}
+use Rattle.rn_assemble.specs.inside.Inclusions.{AreInclusions, entries}
 use Rattle.rn_assemble.proofs.Expansion.Inclusions.{included_at, same_place}
 
 -- tests that agree at the elements keep the same ones

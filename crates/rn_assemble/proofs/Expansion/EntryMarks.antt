@@ -7,7 +7,7 @@ use Rattle.std.proofs.lemmas.Grind.{get_or-set_at}
 use Rattle.std.proofs.lemmas.List.{get_or-set_other, take_more}
 use Rattle.std.proofs.lemmas.List.Folds.{concat-append, list_any-append, list_any_more}
 use Rattle.rn_pattern.specs.Graph.{is_marked, row}
-use Rattle.rn_assemble.specs.Inclusions.{entries}
+use Rattle.rn_assemble.specs.inside.Inclusions.{entries}
 
 or_last : (a b : Bool) → true ≡ (a || (b || true))
 or_last true b = refl

@@ -14,11 +14,11 @@ use Rattle.rn_assemble.specs.declared.contents.Contents.{Contents}
 use Rattle.rn_assemble.specs.declared.components.Body.{Body}
 use Rattle.rn_assemble.specs.declared.components.Context.{Context}
 use Rattle.rn_assemble.specs.declared.components.Components.{Components}
-use Rattle.rn_assemble.specs.Bound.{BindsAs}
+use Rattle.rn_assemble.specs.inside.Bound.{BindsAs}
 use Rattle.rn_assemble.specs.Components.{Component}
-use Rattle.rn_assemble.specs.Views.{IsNumbered, written_view}
-use Rattle.rn_assemble.specs.Listed.{IsBody, IsLive, Live, Lists, resolved_component}
-use Rattle.rn_assemble.specs.Expanded.{AddsLive, ContextHolds, IsItem, StartsAt, left_by}
+use Rattle.rn_assemble.specs.inside.Views.{IsNumbered, written_view}
+use Rattle.rn_assemble.specs.inside.Listed.{IsBody, IsLive, Live, Lists, resolved_component}
+use Rattle.rn_assemble.specs.inside.Expanded.{AddsLive, ContextHolds, IsItem, StartsAt, left_by}
 use Rattle.rn_assemble.proofs.Expansion.LiveLists.{each_to, rises_join}
 
 -- bodies of a context

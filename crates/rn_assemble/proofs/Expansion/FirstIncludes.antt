@@ -14,12 +14,12 @@ use Rattle.rn_pattern.proofs.Graphs.Rows.{AreRows, is_graph, no_rows, row_before
 use Rattle.rn_syntax.specs.View.{module_view}
 use Rattle.rn_assemble.specs.declared.modules.Source as code
 use Rattle.rn_assemble.specs.Components.{Includes, Source, includes, instance_limit, instances_within, roots}
-use Rattle.rn_assemble.specs.Expanded.{name_at}
-use Rattle.rn_assemble.specs.Included.{AreIncluded}
-use Rattle.rn_assemble.specs.Inclusions.{AreInclusions, IsLeastAmong, IsMissing, entries, included_by}
-use Rattle.rn_assemble.specs.Instances.{instances_of}
+use Rattle.rn_assemble.specs.inside.Expanded.{name_at}
+use Rattle.rn_assemble.specs.inside.Included.{AreIncluded}
+use Rattle.rn_assemble.specs.inside.Inclusions.{AreInclusions, IsLeastAmong, IsMissing, entries, included_by}
+use Rattle.rn_assemble.specs.inside.Instances.{instances_of}
 use Rattle.rn_assemble.specs.Refusal.{IsFirstFor, Refusal, StandsFor, Wants, conflict, cycle, faulty, missing, rank, too_many_instances}
-use Rattle.rn_assemble.specs.Views.{module_names, source_view, sources_view}
+use Rattle.rn_assemble.specs.inside.Views.{module_names, source_view, sources_view}
 use Rattle.rn_assemble.proofs.Expansion.Entries.{entries_below, entries_named}
 use Rattle.rn_assemble.proofs.Expansion.Inclusions.{first_cycle, include_stands, included_at, includer, no_cycle, none_missing, not_missing, rise, stands_include, total}
 use Rattle.rn_assemble.proofs.Referring.Named.{unmapped}

@@ -12,10 +12,10 @@ use Rattle.rn_syntax.specs.declared.tree.Item.{Item}
 use Rattle.rn_syntax.specs.Tree as t
 use Rattle.rn_syntax.specs.View.{item_view, items_view}
 use Rattle.rn_assemble.specs.Components.{Source}
-use Rattle.rn_assemble.specs.Contained.{Written, Inclusion, inclusions, item_inclusions, written, item_written}
+use Rattle.rn_assemble.specs.inside.Contained.{Written, Inclusion, inclusions, item_inclusions, written, item_written}
 use Rattle.rn_assemble.specs.declared.contents.Component.{Component}
-use Rattle.rn_assemble.specs.Views.{Adds, written_view, source_view, sources_view}
-use Rattle.rn_assemble.specs.Keyed.{AreNames, defines, item_defines}
+use Rattle.rn_assemble.specs.inside.Views.{Adds, written_view, source_view, sources_view}
+use Rattle.rn_assemble.specs.inside.Keyed.{AreNames, defines, item_defines}
 
 -- the item at a place, and those behind it
 pub items_at : (xs : List Item) (i : ℕ) (x : Item) → i < length xs → x ≡ get_or xs i x → items_view (drop i xs) ≡ t.item (item_view x) (items_view (drop (i + 1) xs))

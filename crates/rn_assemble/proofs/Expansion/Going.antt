@@ -15,10 +15,10 @@ use Rattle.rn_assemble.specs.declared.contents.Include.{Include}
 use Rattle.rn_assemble.specs.declared.components.Body.{Body}
 use Rattle.rn_assemble.specs.declared.components.Components.{Components}
 use Rattle.rn_assemble.specs.Components.{Component, Source, components_within, handed_on, module_components, overridden}
-use Rattle.rn_assemble.specs.Contained.{AreFlat, Inclusion, inclusions, item_inclusions, Written, written}
-use Rattle.rn_assemble.specs.Listed.{IsContents, IsLive, Live, Lists, ListsBy, resolved_component}
-use Rattle.rn_assemble.specs.Views.{IsNumbered, inclusion_view, written_view}
-use Rattle.rn_assemble.specs.Expanded.{AddsLive, ContextHolds, ContextsHold, Enters, Expands, KeepsBodies, KeepsLists, StartsAt, included_in, left_by}
+use Rattle.rn_assemble.specs.inside.Contained.{AreFlat, Inclusion, inclusions, item_inclusions, Written, written}
+use Rattle.rn_assemble.specs.inside.Listed.{IsContents, IsLive, Live, Lists, ListsBy, resolved_component}
+use Rattle.rn_assemble.specs.inside.Views.{IsNumbered, inclusion_view, written_view}
+use Rattle.rn_assemble.specs.inside.Expanded.{AddsLive, ContextHolds, ContextsHold, Enters, Expands, KeepsBodies, KeepsLists, StartsAt, included_in, left_by}
 use Rattle.rn_assemble.proofs.Expansion.LiveLists.{lists_more_bodies, rises_filtered}
 use Rattle.rn_assemble.proofs.Expansion.Expansions.{adds_none, adds_both, starts_grown}
 use Rattle.rn_assemble.proofs.Expansion.Overriding.{left_is, range_map}

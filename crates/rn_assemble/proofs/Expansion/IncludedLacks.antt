@@ -16,14 +16,14 @@ use Rattle.rn_assemble.specs.declared.contents.Component as code
 use Rattle.rn_assemble.specs.declared.components.Lack.{Lack}
 use Rattle.rn_assemble.specs.declared.contents.Contents.{Contents}
 use Rattle.rn_assemble.specs.Components.{Component, Key, Source, components_within, handed_on, has_key, includes, item_includes, modules_named, same_key}
-use Rattle.rn_assemble.specs.Contained.{AreFlat, Inclusion, IsFlat, Written, inclusions, item_inclusions, item_written, place_in, written}
-use Rattle.rn_assemble.specs.Expanded.{included_in, name_at}
-use Rattle.rn_assemble.specs.Keyed.{key_at}
-use Rattle.rn_assemble.specs.Lacking.{LacksWithin, handed, item_handed}
-use Rattle.rn_assemble.specs.Listed.{AreContents, IsContents, resolved_component}
-use Rattle.rn_assemble.specs.Noting.{AtNumbers, IncludedLacks, InclusionLacks, Notes}
+use Rattle.rn_assemble.specs.inside.Contained.{AreFlat, Inclusion, IsFlat, Written, inclusions, item_inclusions, item_written, place_in, written}
+use Rattle.rn_assemble.specs.inside.Expanded.{included_in, name_at}
+use Rattle.rn_assemble.specs.inside.Keyed.{key_at}
+use Rattle.rn_assemble.specs.inside.Lacking.{LacksWithin, handed, item_handed}
+use Rattle.rn_assemble.specs.inside.Listed.{AreContents, IsContents, resolved_component}
+use Rattle.rn_assemble.specs.inside.Noting.{AtNumbers, IncludedLacks, InclusionLacks, Notes}
 use Rattle.rn_assemble.specs.Refusal.{item_lacks, items_lack}
-use Rattle.rn_assemble.specs.Views.{IsNumbered, inclusion_view, written_view}
+use Rattle.rn_assemble.specs.inside.Views.{IsNumbered, inclusion_view, written_view}
 use Rattle.rn_assemble.proofs.Expansion.Going.{each_drop, each_take}
 use Rattle.rn_assemble.proofs.Expansion.ModuleLookups.{included_agrees, none_named, place_name}
 use Rattle.rn_assemble.proofs.Expansion.NotedLacks.{IsKeyNumber, IsModuleName, SomeLacks, notes_to}

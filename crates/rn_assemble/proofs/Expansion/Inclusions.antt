@@ -18,10 +18,10 @@ use Rattle.rn_pattern.specs.Ranks.{HasNoLoop, IsFirstLoop, Leads, by_edge, and_e
 use Rattle.rn_pattern.proofs.Ordered.InOrder.{contains_behind, contains_front, text_no_less}
 use Rattle.rn_pattern.proofs.Graphs.FirstLoop.{source_within}
 use Rattle.rn_assemble.specs.Components.{Includes, Source, includes, instances_within, modules_named, roots}
-use Rattle.rn_assemble.specs.Contained.{place_in}
-use Rattle.rn_assemble.specs.Expanded.{name_at}
-use Rattle.rn_assemble.specs.Inclusions.{AreInclusions, IsMissing, included_by}
-use Rattle.rn_assemble.specs.Instances.{instances_of}
+use Rattle.rn_assemble.specs.inside.Contained.{place_in}
+use Rattle.rn_assemble.specs.inside.Expanded.{name_at}
+use Rattle.rn_assemble.specs.inside.Inclusions.{AreInclusions, IsMissing, included_by}
+use Rattle.rn_assemble.specs.inside.Instances.{instances_of}
 use Rattle.rn_assemble.specs.Least.{IsLeast}
 use Rattle.rn_assemble.specs.Refusal.{Wants}
 use Rattle.rn_assemble.proofs.Expansion.ModuleLookups.{none_named, one_named, place_name, place_within}

@@ -14,10 +14,10 @@ use Rattle.rn_pattern.proofs.Ordered.InOrder.{contained_each, each_contained}
 use Rattle.rn_syntax.specs.Tree as t
 use Rattle.rn_syntax.specs.Tree.{Declaration, Item, Items}
 use Rattle.rn_assemble.specs.Components.{Key, Source, Includes, components_within, item_includes, includes, instance_limit, instances_within, modules_named, roots}
-use Rattle.rn_assemble.specs.Contained.{AreFlat}
-use Rattle.rn_assemble.specs.Expanded.{name_at}
-use Rattle.rn_assemble.specs.Included.{AreIncluded}
-use Rattle.rn_assemble.specs.Lacking.{LacksFrom, LacksWithin, handed, item_handed}
+use Rattle.rn_assemble.specs.inside.Contained.{AreFlat}
+use Rattle.rn_assemble.specs.inside.Expanded.{name_at}
+use Rattle.rn_assemble.specs.inside.Included.{AreIncluded}
+use Rattle.rn_assemble.specs.inside.Lacking.{LacksFrom, LacksWithin, handed, item_handed}
 use Rattle.rn_assemble.specs.Refusal.{Lacks, items_lack}
 use Rattle.rn_assemble.proofs.Combined.Depth.{few, wanted}
 use Rattle.rn_assemble.proofs.Referring.FoundReferences.{flat_contains, map_contained, map_contains}

@@ -12,7 +12,7 @@ use Rattle.rn_pattern.specs.Graph.{row, rows_of}
 use Rattle.rn_pattern.proofs.Ordered.Ascending.{each_join, each_front, each_behind}
 use Rattle.rn_assemble.specs.declared.components.Body.{Body}
 use Rattle.rn_assemble.specs.Components.{Component}
-use Rattle.rn_assemble.specs.Listed.{IsBody, IsLive, Live, ListsBy, Rises, places_of}
+use Rattle.rn_assemble.specs.inside.Listed.{IsBody, IsLive, Live, ListsBy, Rises, places_of}
 
 pub each_to : {X : Type 0} (P Q : X → Type 0) → ((x : X) → P x → Q x) → (xs : List X) → AllByRecursion P xs → AllByRecursion Q xs
 each_to P Q f [] h = tt

@@ -9,8 +9,8 @@ use Rattle.std.proofs.lemmas.Slice.Eq.{bytes_eq-Decides}
 use Rattle.rn_pattern.specs.Tree.{Text}
 use Rattle.rn_pattern.specs.Order.{text_cmp}
 use Rattle.rn_assemble.specs.Components.{Source, components_within, module_components, modules_named}
-use Rattle.rn_assemble.specs.Contained.{AreFlat, place_in}
-use Rattle.rn_assemble.specs.Expanded.{included_in, name_at}
+use Rattle.rn_assemble.specs.inside.Contained.{AreFlat, place_in}
+use Rattle.rn_assemble.specs.inside.Expanded.{included_in, name_at}
 use Rattle.rn_assemble.proofs.Expansion.ModulePlaces.{differs}
 
 -- a place that is found, or none

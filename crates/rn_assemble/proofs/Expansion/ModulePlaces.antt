@@ -11,8 +11,8 @@ use Rattle.rn_pattern.specs.Tree.{Text}
 use Rattle.rn_pattern.specs.Order.{text_cmp}
 use Rattle.rn_assemble.specs.declared.modules.Source.{Source}
 use Rattle.rn_assemble.specs.Components as s
-use Rattle.rn_assemble.specs.Contained.{place_in}
-use Rattle.rn_assemble.specs.Views.{module_names, sources_view}
+use Rattle.rn_assemble.specs.inside.Contained.{place_in}
+use Rattle.rn_assemble.specs.inside.Views.{module_names, sources_view}
 use Rattle.rn_assemble.proofs.Referring.Named.{place_of, mapped, rise_at}
 
 none_from : (p : Source → Bool) (n : ℕ) (ys : List Source) → ((k : ℕ) (d : Source) → k < length ys → p (get_or ys k d) ≡ false) → position_from p n ys ≡ None

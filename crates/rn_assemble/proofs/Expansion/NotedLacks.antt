@@ -7,11 +7,11 @@ use Rattle.rn_pattern.specs.Tree.{Text}
 use Rattle.rn_pattern.specs.Order.{text_cmp}
 use Rattle.rn_assemble.specs.declared.components.Lack.{Lack}
 use Rattle.rn_assemble.specs.Components.{Key, Source}
-use Rattle.rn_assemble.specs.Expanded.{name_at}
-use Rattle.rn_assemble.specs.Keyed.{key_at}
-use Rattle.rn_assemble.specs.Lacking.{IsLeastLack}
+use Rattle.rn_assemble.specs.inside.Expanded.{name_at}
+use Rattle.rn_assemble.specs.inside.Keyed.{key_at}
+use Rattle.rn_assemble.specs.inside.Lacking.{IsLeastLack}
 use Rattle.rn_assemble.specs.Least.{IsLeast, key_cmp}
-use Rattle.rn_assemble.specs.Noting.{AtNumbers, HoldsUpTo, IsUpTo, Notes}
+use Rattle.rn_assemble.specs.inside.Noting.{AtNumbers, HoldsUpTo, IsUpTo, Notes}
 use Rattle.rn_assemble.proofs.Referring.LeastKeys.{less_number}
 
 up_to_same : (l : Lack) → IsUpTo l l

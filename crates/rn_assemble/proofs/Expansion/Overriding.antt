@@ -15,10 +15,10 @@ use Rattle.rn_syntax.specs.Tree.{Declaration}
 use Rattle.rn_assemble.specs.declared.contents.Component as code
 use Rattle.rn_assemble.specs.declared.components.Body.{Body}
 use Rattle.rn_assemble.specs.Components.{Component, same_key, has_key, overridden}
-use Rattle.rn_assemble.specs.Keyed.{key_at}
-use Rattle.rn_assemble.specs.Views.{IsNumbered, written_view}
-use Rattle.rn_assemble.specs.Listed.{IsBody, IsLive, Live, components_in, resolved_component}
-use Rattle.rn_assemble.specs.Expanded.{left_by}
+use Rattle.rn_assemble.specs.inside.Keyed.{key_at}
+use Rattle.rn_assemble.specs.inside.Views.{IsNumbered, written_view}
+use Rattle.rn_assemble.specs.inside.Listed.{IsBody, IsLive, Live, components_in, resolved_component}
+use Rattle.rn_assemble.specs.inside.Expanded.{left_by}
 use Rattle.rn_assemble.proofs.Expansion.ModulePlaces.{differs}
 use Rattle.rn_assemble.proofs.Expansion.LiveLists.{numbered_live}
 

@@ -18,12 +18,12 @@ use Rattle.rn_assemble.specs.declared.components.Lack.{Lack}
 use Rattle.rn_assemble.specs.declared.contents.Component as code
 use Rattle.rn_assemble.specs.Components.{Component, Source, handed_on, has_key}
 use Rattle.rn_assemble.specs.Combine.{of_key}
-use Rattle.rn_assemble.specs.Contained.{Inclusion}
-use Rattle.rn_assemble.specs.Expanded.{included_in, name_at}
-use Rattle.rn_assemble.specs.Keyed.{key_at}
-use Rattle.rn_assemble.specs.Listed.{IsLive, Live, ListsBy, Rises, components_in, places_of, resolved_component}
-use Rattle.rn_assemble.specs.Noting.{AtNumbers, IncludedLacks, InclusionLacks, IsOwnLack, Notes, own_lacks}
-use Rattle.rn_assemble.specs.Views.{IsNumbered, written_view}
+use Rattle.rn_assemble.specs.inside.Contained.{Inclusion}
+use Rattle.rn_assemble.specs.inside.Expanded.{included_in, name_at}
+use Rattle.rn_assemble.specs.inside.Keyed.{key_at}
+use Rattle.rn_assemble.specs.inside.Listed.{IsLive, Live, ListsBy, Rises, components_in, places_of, resolved_component}
+use Rattle.rn_assemble.specs.inside.Noting.{AtNumbers, IncludedLacks, InclusionLacks, IsOwnLack, Notes, own_lacks}
+use Rattle.rn_assemble.specs.inside.Views.{IsNumbered, written_view}
 use Rattle.rn_assemble.proofs.Expansion.Expansions.{any_push}
 use Rattle.rn_assemble.proofs.Referring.FoundReferences.{all_keyed}
 use Rattle.rn_assemble.proofs.Expansion.Going.{each_drop, each_take}

@@ -6,8 +6,8 @@ use Rattle.rn_pattern.specs.Tree.{Text}
 use Rattle.rn_syntax.specs.Tree as t
 use Rattle.rn_syntax.specs.Tree.{Declaration, Item, Items}
 use Rattle.rn_assemble.specs.Components.{Component, Source, all_components, item_components, item_includes, includes, overridden, handed_on}
-use Rattle.rn_assemble.specs.Contained.{AreFlat, IsFlat, Inclusion, Written, inclusions, item_inclusions, item_written, place_in, written}
-use Rattle.rn_assemble.specs.Listed.{resolved_component}
+use Rattle.rn_assemble.specs.inside.Contained.{AreFlat, IsFlat, Inclusion, Written, inclusions, item_inclusions, item_written, place_in, written}
+use Rattle.rn_assemble.specs.inside.Listed.{resolved_component}
 
 -- no include before a place, and each include's own components behind it
 abbrev pub Ordered : ℕ → ℕ → List Inclusion → Type 0

@@ -16,11 +16,11 @@ use Rattle.rn_pattern.proofs.Graphs.Rows.{none_below}
 use Rattle.rn_syntax.specs.Tree as t
 use Rattle.rn_syntax.specs.Tree.{Item, Items}
 use Rattle.rn_assemble.specs.Components.{Source, includes, item_includes}
-use Rattle.rn_assemble.specs.Contained.{place_in}
-use Rattle.rn_assemble.specs.Expanded.{name_at}
-use Rattle.rn_assemble.specs.Inclusions.{IsLeastAmong, IsMissing}
-use Rattle.rn_assemble.specs.Referred.{lesser_text}
-use Rattle.rn_assemble.specs.Views.{module_names, sources_view, texts_of}
+use Rattle.rn_assemble.specs.inside.Contained.{place_in}
+use Rattle.rn_assemble.specs.inside.Expanded.{name_at}
+use Rattle.rn_assemble.specs.inside.Inclusions.{IsLeastAmong, IsMissing}
+use Rattle.rn_assemble.specs.inside.Referred.{lesser_text}
+use Rattle.rn_assemble.specs.inside.Views.{module_names, sources_view, texts_of}
 use Rattle.rn_assemble.specs.declared.modules.Source as code
 use Rattle.rn_assemble.proofs.Referring.LeastUndefined.{no_text, texts_more}
 use Rattle.rn_assemble.proofs.Expansion.Inclusions.{not_missing}

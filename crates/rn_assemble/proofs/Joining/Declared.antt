@@ -8,7 +8,7 @@ use Rattle.rn_syntax.specs.Tree as t
 use Rattle.rn_syntax.specs.Tree.{Uri, Declaration}
 use Rattle.rn_syntax.specs.Places.{declared_namespace, declared_library}
 use Rattle.rn_assemble.specs.Resolve.{uri_text, default_of}
-use Rattle.rn_assemble.specs.Bound.{BindsAs, declared_default, bound_default, bound_namespace, bound_library}
+use Rattle.rn_assemble.specs.inside.Bound.{BindsAs, declared_default, bound_default, bound_namespace, bound_library}
 use Rattle.rn_assemble.specs.declared.bindings.Bindings.{Bindings}
 
 pub or_none : {A : Type 0} (o : Option A) → option_or o None ≡ o

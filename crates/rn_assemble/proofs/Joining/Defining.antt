@@ -14,10 +14,11 @@ use Rattle.rn_assemble.specs.declared.components.Body.{Body}
 use Rattle.rn_assemble.specs.Combine.{defined_names, joined, joined_grammar}
 use Rattle.rn_assemble.specs.Components.{Component, Key, has_key, name_key, same_key, start_key}
 use Rattle.rn_assemble.specs.DefinitionsView.{definitions_view}
-use Rattle.rn_assemble.specs.Firsts.{AreTied, HaveTied, joined_members}
-use Rattle.rn_assemble.specs.Keyed.{key_at}
-use Rattle.rn_assemble.specs.Listed.{IsLive, Live, ListsBy, Rises, components_in}
-use Rattle.rn_assemble.specs.Patterns.{AreCombined, HavePatterns, IsFirstAt, before, boxed_view, tree_at}
+use Rattle.rn_assemble.specs.Firsts.{joined_members}
+use Rattle.rn_assemble.specs.inside.Tied.{AreTied, HaveTied}
+use Rattle.rn_assemble.specs.inside.Keyed.{key_at}
+use Rattle.rn_assemble.specs.inside.Listed.{IsLive, Live, ListsBy, Rises, components_in}
+use Rattle.rn_assemble.specs.inside.Patterns.{AreCombined, HavePatterns, IsFirstAt, before, boxed_view, tree_at}
 use Rattle.rn_assemble.proofs.Joining.FirstMembers.{tied_more}
 use Rattle.rn_assemble.proofs.Joining.DefinedNames.{defined_known, defined_new, defined_start, names_mapped, not_among}
 use Rattle.rn_assemble.proofs.Joining.FirstPlaces.{all_before, before_more, before_next, key_there, none_before}

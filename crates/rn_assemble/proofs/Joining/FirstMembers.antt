@@ -17,9 +17,10 @@ use Rattle.rn_pattern.proofs.Ordered.TotalOrder.{tree_cmp_total}
 use Rattle.rn_assemble.specs.declared.components.Body.{Body}
 use Rattle.rn_assemble.specs.Combine.{bodies, is_interleave, joined, of_key, uses}
 use Rattle.rn_assemble.specs.Components.{Component}
-use Rattle.rn_assemble.specs.Firsts.{AreFirsts, AreTied, HaveTied, IsFirst, body_of, joined_members}
-use Rattle.rn_assemble.specs.Keyed.{key_at}
-use Rattle.rn_assemble.specs.Listed.{IsBody, IsLive, Live, ListsBy, components_in}
+use Rattle.rn_assemble.specs.Firsts.{AreFirsts, joined_members}
+use Rattle.rn_assemble.specs.inside.Tied.{AreTied, HaveTied, IsFirst, body_of}
+use Rattle.rn_assemble.specs.inside.Keyed.{key_at}
+use Rattle.rn_assemble.specs.inside.Listed.{IsBody, IsLive, Live, ListsBy, components_in}
 use Rattle.rn_assemble.proofs.Referring.FoundReferences.{Shown, shown}
 use Rattle.rn_assemble.proofs.Joining.SameBodies.{one_body}
 use Rattle.rn_assemble.proofs.Joining.SharedPatterns.{within}

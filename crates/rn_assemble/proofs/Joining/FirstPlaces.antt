@@ -12,9 +12,9 @@ use Rattle.rn_pattern.proofs.Ordered.InOrder.{contained_each, contains_behind, c
 use Rattle.rn_assemble.specs.declared.components.Body.{Body}
 use Rattle.rn_assemble.specs.Components.{Key, has_key, same_key}
 use Rattle.rn_assemble.specs.Combine.{of_key}
-use Rattle.rn_assemble.specs.Keyed.{key_at}
-use Rattle.rn_assemble.specs.Listed.{IsLive, Live, ListsBy, Rises, components_in}
-use Rattle.rn_assemble.specs.Patterns.{IsFirstAt, before}
+use Rattle.rn_assemble.specs.inside.Keyed.{key_at}
+use Rattle.rn_assemble.specs.inside.Listed.{IsLive, Live, ListsBy, Rises, components_in}
+use Rattle.rn_assemble.specs.inside.Patterns.{IsFirstAt, before}
 use Rattle.rn_assemble.proofs.Referring.FoundReferences.{all_keyed, keyed, row_is}
 use Rattle.rn_assemble.proofs.Joining.KeyedBodies.{IsKeyed, of_key_at}
 use Rattle.rn_assemble.proofs.Referring.LeastKeys.{has_none}

@@ -6,7 +6,7 @@ use Rattle.rn_pattern.specs.Tree.{Text, Tree}
 use Rattle.rn_pattern.specs.declared.tree.Pattern.{Pattern}
 use Rattle.rn_assemble.specs.Combine.{joined}
 use Rattle.rn_assemble.specs.Components.{Component, has_key, start_key}
-use Rattle.rn_assemble.specs.Patterns.{AreCombined, boxed_view}
+use Rattle.rn_assemble.specs.inside.Patterns.{AreCombined, boxed_view}
 use Rattle.rn_assemble.proofs.Joining.Defining.{start_there}
 
 some_viewed : (o : Option (Box Pattern Global)) (p : Tree) → option_map boxed_view o ≡ Some p → IsSome o

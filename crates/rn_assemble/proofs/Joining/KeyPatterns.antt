@@ -21,13 +21,13 @@ use Rattle.rn_assemble.specs.declared.refusal.Refusal.{Refusal}
 use Rattle.rn_assemble.specs.declared.refusal.Refusal.TheVariants as r
 use Rattle.rn_assemble.specs.Components.{Component, Key, has_key, same_key}
 use Rattle.rn_assemble.specs.Combine.{bodies, combined, is_interleave, join, joined, of_key, uses}
-use Rattle.rn_assemble.specs.Joining.{IsMisnamed}
-use Rattle.rn_assemble.specs.Keyed.{key_at}
+use Rattle.rn_assemble.specs.inside.Joining.{IsMisnamed}
+use Rattle.rn_assemble.specs.inside.Keyed.{key_at}
 use Rattle.rn_assemble.specs.Least.{IsLeast, key_cmp}
-use Rattle.rn_assemble.specs.Listed.{Live, ListsBy, components_in}
-use Rattle.rn_assemble.specs.Patterns.{AreCombined, AreSound, IsMisnamedAs, IsSound, boxed_view, pattern_of, tree_at}
+use Rattle.rn_assemble.specs.inside.Listed.{Live, ListsBy, components_in}
+use Rattle.rn_assemble.specs.inside.Patterns.{AreCombined, AreSound, IsMisnamedAs, IsSound, boxed_view, pattern_of, tree_at}
 use Rattle.rn_assemble.specs.Refusal.{BreaksNameRules}
-use Rattle.rn_assemble.specs.Views.{key_view}
+use Rattle.rn_assemble.specs.Refused.{key_view}
 use Rattle.rn_assemble.proofs.Referring.FoundReferences.{all_keyed}
 use Rattle.rn_assemble.proofs.Referring.LeastKeys.{has_none, has_some, least_key, no_key, numbered}
 use Rattle.rn_assemble.proofs.Referring.Numbers.{same_key-Decides}

@@ -6,8 +6,8 @@ use Rattle.rn_pattern.specs.Tree.{Text}
 use Rattle.rn_pattern.specs.Order.{text_cmp}
 use Rattle.rn_assemble.specs.Components.{same_key}
 use Rattle.rn_assemble.specs.Combine.{of_key}
-use Rattle.rn_assemble.specs.Keyed.{key_at}
-use Rattle.rn_assemble.specs.Listed.{Live, components_in}
+use Rattle.rn_assemble.specs.inside.Keyed.{key_at}
+use Rattle.rn_assemble.specs.inside.Listed.{Live, components_in}
 use Rattle.rn_assemble.proofs.Referring.Numbers.{same_key_at}
 
 -- the key of the component has the number

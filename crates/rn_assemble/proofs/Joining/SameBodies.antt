@@ -13,9 +13,9 @@ use Rattle.rn_syntax.specs.Tree as t
 use Rattle.rn_syntax.specs.Tree.{Name, AnyName, NameClass, NameClasses, Datatype, Pattern, Patterns, Uri, Declaration}
 use Rattle.rn_syntax.specs.Places.{xml_uri, xsd_uri}
 use Rattle.rn_syntax.specs.View.{pattern_view}
-use Rattle.rn_assemble.specs.Bound.{BindsAs, declared_default}
+use Rattle.rn_assemble.specs.inside.Bound.{BindsAs, declared_default}
 use Rattle.rn_assemble.specs.Components.{Component}
-use Rattle.rn_assemble.specs.Listed.{IsBody}
+use Rattle.rn_assemble.specs.inside.Listed.{IsBody}
 use Rattle.rn_assemble.specs.Resolve.{chained, declared_text, default_of, every, every_but, named, namespace_of, repetition, resolved, resolved_all, resolved_class, resolved_classes, type_library, type_name, typed_value, uri_text}
 use Rattle.rn_assemble.specs.declared.bindings.Bindings.{Bindings}
 use Rattle.rn_assemble.specs.declared.components.Body.{Body}

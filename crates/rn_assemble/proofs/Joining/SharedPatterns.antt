@@ -10,8 +10,8 @@ use Rattle.rn_pattern.specs.View.{shared_view}
 use Rattle.rn_pattern.specs.declared.tree.Pattern.{Pattern}
 use Rattle.rn_assemble.specs.declared.components.Body.{Body}
 use Rattle.rn_assemble.specs.Components.{Component}
-use Rattle.rn_assemble.specs.Listed.{IsBody}
-use Rattle.rn_assemble.specs.Patterns.{AreShared, IsSound}
+use Rattle.rn_assemble.specs.inside.Listed.{IsBody}
+use Rattle.rn_assemble.specs.inside.Patterns.{AreShared, IsSound}
 
 pub within : {X : Type 0} (xs : List X) (n : ℕ) (x : X) → slice_get xs n ≡ Some x → n < length xs
 within {X} [] n x e = let wrong : None ≡ Some x = e in cc

@@ -16,9 +16,9 @@ use Rattle.rn_syntax.specs.declared.token.Method.TheVariants as m
 use Rattle.rn_assemble.specs.declared.components.Body.{Body}
 use Rattle.rn_assemble.specs.Components.{Component}
 use Rattle.rn_assemble.specs.Combine.{of_key}
-use Rattle.rn_assemble.specs.Keyed.{key_at}
-use Rattle.rn_assemble.specs.Listed.{IsBody, IsLive, Live, ListsBy, components_in}
-use Rattle.rn_assemble.specs.Methods.{is_method}
+use Rattle.rn_assemble.specs.inside.Keyed.{key_at}
+use Rattle.rn_assemble.specs.inside.Listed.{IsBody, IsLive, Live, ListsBy, components_in}
+use Rattle.rn_assemble.specs.inside.Methods.{is_method}
 use Rattle.rn_assemble.proofs.Referring.FoundReferences.{shown, all_keyed, row_is}
 use Rattle.rn_assemble.proofs.Joining.KeyedBodies.{of_key_at}
 

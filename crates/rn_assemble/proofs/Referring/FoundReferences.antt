@@ -18,9 +18,9 @@ use Rattle.rn_syntax.specs.View.{pattern_view}
 use Rattle.rn_assemble.specs.Resolve.{resolved}
 use Rattle.rn_assemble.specs.Components.{Key, name_key, same_key, Component}
 use Rattle.rn_assemble.specs.Combine.{bodies, of_key, combined, joined, joined_grammar}
-use Rattle.rn_assemble.specs.Keyed.{IsNumber, key_at}
-use Rattle.rn_assemble.specs.Listed.{Live, IsBody, IsLive, ListsBy, components_in}
-use Rattle.rn_assemble.specs.Referred.{AreBodiesAt, names_at}
+use Rattle.rn_assemble.specs.inside.Keyed.{IsNumber, key_at}
+use Rattle.rn_assemble.specs.inside.Listed.{Live, IsBody, IsLive, ListsBy, components_in}
+use Rattle.rn_assemble.specs.inside.Referred.{AreBodiesAt, names_at}
 use Rattle.rn_assemble.specs.declared.components.Body.{Body}
 use Rattle.rn_assemble.proofs.Combined.Combinations.{some_joined, joined_definition}
 use Rattle.rn_assemble.proofs.Referring.Numbers.{key_text, same_key-Decides}

@@ -18,10 +18,10 @@ use Rattle.rn_pattern.proofs.Graphs.FirstLoop.{source_within}
 use Rattle.rn_pattern.proofs.Graphs.Rows.{row_before, row_behind}
 use Rattle.rn_assemble.specs.Components.{name_key, Component}
 use Rattle.rn_assemble.specs.Combine.{bodies, joined, joined_grammar, defined_names}
-use Rattle.rn_assemble.specs.Keyed.{IsNumber, key_at}
+use Rattle.rn_assemble.specs.inside.Keyed.{IsNumber, key_at}
 use Rattle.rn_assemble.specs.Least.{IsLeast}
-use Rattle.rn_assemble.specs.Listed.{Live, ListsBy, components_in}
-use Rattle.rn_assemble.specs.Referred.{AreAllReferences, AreBodiesAt, AreNumbers, IsLeastOf, names_at, references, outer_references}
+use Rattle.rn_assemble.specs.inside.Listed.{Live, ListsBy, components_in}
+use Rattle.rn_assemble.specs.inside.Referred.{AreAllReferences, AreBodiesAt, AreNumbers, IsLeastOf, names_at, references, outer_references}
 use Rattle.rn_assemble.specs.declared.components.Body.{Body}
 use Rattle.rn_assemble.proofs.Referring.JoinedReferences.{refers_of_joined, refers_to_joined, refers_in_definition, outside_of_joined, outside_to_joined, outside_anywhere}
 use Rattle.rn_assemble.proofs.Referring.WrittenReferences.{referred, referred_outside}

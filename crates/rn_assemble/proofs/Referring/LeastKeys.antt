@@ -13,10 +13,10 @@ use Rattle.rn_pattern.proofs.Ordered.InOrder.{text_no_less}
 use Rattle.rn_assemble.specs.declared.components.Body.{Body}
 use Rattle.rn_assemble.specs.Components.{Component, Key, has_key, same_key, start_key}
 use Rattle.rn_assemble.specs.Combine.{IsMixed, IsPlainTwice, is_choice, is_interleave, is_plain, of_key}
-use Rattle.rn_assemble.specs.Keyed.{key_at}
+use Rattle.rn_assemble.specs.inside.Keyed.{key_at}
 use Rattle.rn_assemble.specs.Least.{IsLeast, key_cmp}
-use Rattle.rn_assemble.specs.Listed.{Live, ListsBy, components_in}
-use Rattle.rn_assemble.specs.Methods.{IsLeastNumber}
+use Rattle.rn_assemble.specs.inside.Listed.{Live, ListsBy, components_in}
+use Rattle.rn_assemble.specs.inside.Methods.{IsLeastNumber}
 use Rattle.rn_assemble.proofs.Referring.FoundReferences.{all_keyed}
 use Rattle.rn_assemble.proofs.Joining.KeyedBodies.{IsKeyed}
 use Rattle.rn_assemble.proofs.Referring.Numbers.{same_key-Decides}

@@ -5,14 +5,14 @@ use Rattle.std.specs.Ordering.{is_lt}
 use Rattle.std.proofs.lemmas.Bool.{false≢true}
 use Rattle.std.proofs.lemmas.List.{take_more, map-append, append_assoc}
 use Rattle.std.specs.Borrow.{Bor}
-use Rattle.rn_assemble.specs.Views.{texts_of}
+use Rattle.rn_assemble.specs.inside.Views.{texts_of}
 use Rattle.std.proofs.lemmas.Cmp.{nat_list_cmp_total}
 use Rattle.std.proofs.lemmas.List.Elements.{Contains-append_left, Contains-push, Contains-push_cases}
 use Rattle.rn_pattern.specs.Tree.{Text}
 use Rattle.rn_pattern.specs.Order.{text_cmp}
 use Rattle.rn_pattern.specs.Matching.{Grammar, definition_of}
-use Rattle.rn_assemble.specs.Keyed.{IsNumber}
-use Rattle.rn_assemble.specs.Referred.{AreNumbers, IsLeastOf, lesser_text}
+use Rattle.rn_assemble.specs.inside.Keyed.{IsNumber}
+use Rattle.rn_assemble.specs.inside.Referred.{AreNumbers, IsLeastOf, lesser_text}
 use Rattle.rn_assemble.proofs.Referring.Numbers.{not_itself}
 
 -- what is read where there is no text

@@ -16,7 +16,7 @@ use Rattle.rn_pattern.specs.Tree.{Text}
 use Rattle.rn_pattern.specs.Order.{text_cmp}
 use Rattle.rn_pattern.proofs.Ordered.Orders.{text_same}
 use Rattle.rn_assemble.specs.Components.{name_key}
-use Rattle.rn_assemble.specs.Keyed.{IsNumber}
+use Rattle.rn_assemble.specs.inside.Keyed.{IsNumber}
 use Rattle.rn_pattern.proofs.Ordered.InOrder.{contains_front, contains_behind, contains_cases}
 
 not_less : (r : Ordering) → r ≡ Greater → is_lt r ≡ false

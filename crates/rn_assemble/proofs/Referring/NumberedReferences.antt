@@ -14,8 +14,8 @@ use Rattle.rn_pattern.specs.Ranks.{Leads, by_edge, and_edge, HasNoLoop, IsFirstL
 use Rattle.rn_pattern.proofs.Graphs.FirstLoop.{source_within}
 use Rattle.rn_assemble.specs.Components.{name_key, Component}
 use Rattle.rn_assemble.specs.Combine.{joined, joined_grammar}
-use Rattle.rn_assemble.specs.Keyed.{IsNumber, key_at}
-use Rattle.rn_assemble.specs.Referred.{AreAllReferences, IsLeastRecursive}
+use Rattle.rn_assemble.specs.inside.Keyed.{IsNumber, key_at}
+use Rattle.rn_assemble.specs.inside.Referred.{AreAllReferences, IsLeastRecursive}
 use Rattle.rn_assemble.proofs.Referring.Numbers.{same_name, names_rise, not_itself, same_number}
 use Rattle.rn_assemble.proofs.Expansion.Steps.{lead_first, reach_last}
 use Rattle.rn_assemble.proofs.Referring.JoinedReferences.{refers_in_definition, definition_refers_to, outside_in_definition, definition_refers_outside, outside_anywhere}

@@ -10,7 +10,7 @@ use Rattle.std.proofs.lemmas.Slice.Eq.{bytes_eq-Decides}
 use Rattle.rn_pattern.specs.Tree.{Text}
 use Rattle.rn_pattern.specs.Order.{text_cmp}
 use Rattle.rn_assemble.specs.Components.{Key, start_key, name_key, same_key}
-use Rattle.rn_assemble.specs.Keyed.{IsNumber, key_at}
+use Rattle.rn_assemble.specs.inside.Keyed.{IsNumber, key_at}
 
 pub key_text : (x y : Text) → name_key x ≡ name_key y → x ≡ y
 key_text x y e = cc

@@ -11,7 +11,7 @@ use Rattle.rn_syntax.specs.declared.token.Postfix.TheVariants as r
 use Rattle.rn_syntax.specs.Tree as t
 use Rattle.rn_syntax.specs.Tree.{Declaration, Pattern, Patterns}
 use Rattle.rn_assemble.specs.Resolve.{resolved, resolved_all}
-use Rattle.rn_assemble.specs.Referred.{references, all_references, outer_references, all_outer_references}
+use Rattle.rn_assemble.specs.inside.Referred.{references, all_references, outer_references, all_outer_references}
 
 none : (y : Text) → Contains [] y ↔ ⊥
 none y = ((λ c. absurd (omega (arith, c.1))), λ h. absurd h)

@@ -18,7 +18,7 @@ use Rattle.rn_syntax.specs.Places.{deep, first, prefix_places, builtin_places, c
 use Rattle.rn_syntax.proofs.OneTree.{one_tree}
 use Rattle.rn_syntax.proofs.SourceTokens.{tokens_are_spelled}
 use Rattle.rn_assemble.specs.Refusal.{TextFault, encoding, lexical, deep_brackets, syntax, prefix, builtin, context_value, except, fault_rank, HasFault, IsFirstFault, IsModuleOf, TokensAre}
-use Rattle.rn_assemble.specs.Reading.{IsRead}
+use Rattle.rn_assemble.specs.inside.Reading.{IsRead}
 use Rattle.rn_assemble.proofs.Refusals.OneSet.{one_fault, one_module_of}
 
 none_there : (is : List ℕ) → first is ≡ None → is ≡ []

@@ -7,7 +7,7 @@ use Rattle.rn_syntax.specs.Tree.{Item, Module, items_of}
 use Rattle.rn_syntax.specs.Grammar as g
 use Rattle.rn_syntax.specs.Grammar.{Tokens, IsComponent, AreInnerItems, MayHaveOverrides, AreItems, IsModule}
 use Rattle.rn_assemble.specs.Components.{Source, item_includes, includes}
-use Rattle.rn_assemble.specs.Contained.{IsFlat, AreFlat}
+use Rattle.rn_assemble.specs.inside.Contained.{IsFlat, AreFlat}
 use Rattle.rn_assemble.specs.Refusal.{IsModuleOf, AreModules}
 
 component_bare : {ts rest : Tokens} {x : Item} → IsComponent ts x rest → item_includes x ≡ []

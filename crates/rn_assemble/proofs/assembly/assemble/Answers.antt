@@ -4,7 +4,7 @@ use Rattle.rn_assemble.specs.JoinedView.{joined_view}
 use Rattle.rn_assemble.specs.GrammarView.{grammar_view}
 use Rattle.rn_assemble.specs.Refusal.{AreModules, IsAssembled}
 use Rattle.rn_assemble.specs.Refused.{IsFirstRefusal}
-use Rattle.rn_assemble.specs.Views.{sources_view}
+use Rattle.rn_assemble.specs.inside.Views.{sources_view}
 use Rattle.rn_assemble.specs.WellFormed.{IsWellFormed, HasWritableTexts}
 use Rattle.rn_assemble.proofs.WellFormed.FlatModules.{modules_flat}
 use Rattle.rn_assemble.proofs.WellFormed.GoodComponents.{set_grammar_writable}

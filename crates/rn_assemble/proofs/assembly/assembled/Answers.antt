@@ -1,10 +1,10 @@
 use Rattle.std.proofs.Common.{◌≡◌, ℕ, ◌+◌, List, length, sym, subst, arith, Bor}
 use Rattle.std.proofs.lemmas.List.{length-map}
 use Rattle.rn_assemble.specs.declared.contents.Contents.{Contents}
-use Rattle.rn_assemble.specs.Expanded.{CanList}
-use Rattle.rn_assemble.specs.Included.{AreIncluded}
-use Rattle.rn_assemble.specs.Listed.{AreContents}
-use Rattle.rn_assemble.specs.Views.{names_of, sources_view}
+use Rattle.rn_assemble.specs.inside.Expanded.{CanList}
+use Rattle.rn_assemble.specs.inside.Included.{AreIncluded}
+use Rattle.rn_assemble.specs.inside.Listed.{AreContents}
+use Rattle.rn_assemble.specs.inside.Views.{names_of, sources_view}
 use Rattle.rn_assemble.proofs.Answering.Checks.{expanded}
 use Rattle.rn_assemble.proofs.Expansion.WantedNumbers.{names_rise}
 use Rattle.rn_assemble.proofs.assembly.assembled.Goals as goal

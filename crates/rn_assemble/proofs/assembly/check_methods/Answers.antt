@@ -6,8 +6,8 @@ use Rattle.rn_pattern.specs.Graph.{rows_of}
 use Rattle.rn_assemble.specs.Combine.{IsPlainTwice, IsMixed}
 use Rattle.rn_assemble.specs.Components.{Key}
 use Rattle.rn_assemble.specs.Least.{IsLeast, key_cmp}
-use Rattle.rn_assemble.specs.Listed.{components_in}
-use Rattle.rn_assemble.specs.Views.{names_of}
+use Rattle.rn_assemble.specs.inside.Listed.{components_in}
+use Rattle.rn_assemble.specs.inside.Views.{names_of}
 use Rattle.rn_assemble.proofs.Referring.LeastKeys.{least_key, no_key, plain_has, mixed_has, start_there, no_start}
 use Rattle.rn_assemble.proofs.assembly.check_methods.Goals as goal
 

@@ -2,9 +2,10 @@ use Rattle.std.proofs.Common.{ℕ, ◌<◌, List, length, Option, ◌∙◌, sub
 use Rattle.std.specs.String.{string_bytes}
 use Rattle.std.proofs.lemmas.List.{length-map}
 use Rattle.rn_assemble.specs.declared.components.Lack.{Lack}
-use Rattle.rn_assemble.specs.Lacking.{IsLeastLack}
+use Rattle.rn_assemble.specs.inside.Lacking.{IsLeastLack}
 use Rattle.rn_assemble.specs.Refusal.{Lacks}
-use Rattle.rn_assemble.specs.Views.{key_view, names_of, source_view, sources_view}
+use Rattle.rn_assemble.specs.inside.Views.{names_of, source_view, sources_view}
+use Rattle.rn_assemble.specs.Refused.{key_view}
 use Rattle.rn_assemble.proofs.Answering.Checks.{override_stands, source_name}
 use Rattle.rn_assemble.proofs.assembly.check_overrides.Goals as goal
 

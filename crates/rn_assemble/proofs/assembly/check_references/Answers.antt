@@ -5,9 +5,9 @@ use Rattle.rn_pattern.specs.Order.{text_cmp}
 use Rattle.rn_pattern.specs.References.{IsRecursive}
 use Rattle.rn_assemble.specs.Combine.{joined_grammar}
 use Rattle.rn_assemble.specs.Least.{IsLeast}
-use Rattle.rn_assemble.specs.Listed.{components_in}
-use Rattle.rn_assemble.specs.Referred.{IsLeastRecursive}
-use Rattle.rn_assemble.specs.Views.{names_of}
+use Rattle.rn_assemble.specs.inside.Listed.{components_in}
+use Rattle.rn_assemble.specs.inside.Referred.{IsLeastRecursive}
+use Rattle.rn_assemble.specs.inside.Views.{names_of}
 use Rattle.rn_assemble.proofs.Answering.Unsound.{name_there}
 use Rattle.rn_assemble.proofs.assembly.check_references.Goals as goal
 

@@ -1,7 +1,7 @@
 use Rattle.std.proofs.lemmas.Result.{err_from_is_err_and}
-use Rattle.rn_assemble.specs.Methods.{CanCombine, IsUncombined}
-use Rattle.rn_assemble.specs.Sound.{HasSoundReferences, IsUnsound}
-use Rattle.rn_assemble.specs.Views.{names_of, sources_view}
+use Rattle.rn_assemble.specs.inside.Methods.{CanCombine, IsUncombined}
+use Rattle.rn_assemble.specs.inside.Sound.{HasSoundReferences, IsUnsound}
+use Rattle.rn_assemble.specs.inside.Views.{names_of, sources_view}
 use Rattle.rn_assemble.proofs.Answering.FirstRefusal.{uncombined_first, unsound_first}
 use Rattle.rn_assemble.proofs.Answering.Checks.{at_set, joined_or_first, passed_methods, passed_overrides, has_start}
 use Rattle.rn_assemble.proofs.assembly.joined.Goals as goal

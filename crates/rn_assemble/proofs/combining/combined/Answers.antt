@@ -1,10 +1,10 @@
 use Rattle.std.proofs.Common.{◌+◌, ◌<◌, ◌≤◌, suc, List, length, ap, ◌∙◌, arith, Bor, ℕ}
 use Rattle.std.proofs.lemmas.List.{length-map, length_push}
 use Rattle.rn_pattern.specs.Graph.{rows_of}
-use Rattle.rn_assemble.specs.Joining.{IsMisnamed}
-use Rattle.rn_assemble.specs.Listed.{components_in}
-use Rattle.rn_assemble.specs.Patterns.{AreCombined}
-use Rattle.rn_assemble.specs.Views.{names_of}
+use Rattle.rn_assemble.specs.inside.Joining.{IsMisnamed}
+use Rattle.rn_assemble.specs.inside.Listed.{components_in}
+use Rattle.rn_assemble.specs.inside.Patterns.{AreCombined}
+use Rattle.rn_assemble.specs.inside.Views.{names_of}
 use Rattle.rn_assemble.proofs.Joining.KeyPatterns.{combined_all, combined_more, misnamed_first, refused_by}
 use Rattle.rn_assemble.proofs.combining.combined.Goals as goal
 

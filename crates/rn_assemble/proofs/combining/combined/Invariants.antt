@@ -2,11 +2,11 @@
 use Rattle.std.proofs.Common.{◌≡◌, ◌<◌, ℕ, List, length}
 use Rattle.std.specs.List.Sorted.{IsStrictlySortedBy}
 use Rattle.rn_pattern.specs.Order.{text_cmp}
-use Rattle.rn_assemble.specs.Keyed.{key_at}
-use Rattle.rn_assemble.specs.Listed.{Lists, Live, components_in}
-use Rattle.rn_assemble.specs.Patterns.{AreShared, pattern_of, tree_at}
+use Rattle.rn_assemble.specs.inside.Keyed.{key_at}
+use Rattle.rn_assemble.specs.inside.Listed.{Lists, Live, components_in}
+use Rattle.rn_assemble.specs.inside.Patterns.{AreShared, pattern_of, tree_at}
 use Rattle.rn_assemble.specs.Refusal.{BreaksNameRules}
-use Rattle.rn_assemble.specs.Views.{names_of}
+use Rattle.rn_assemble.specs.inside.Views.{names_of}
 use Rattle.rn_assemble.proofs.combining.combined.Given as goal
 
 abbrev pub invariant-loop-key : goal.invariant-loop-key

@@ -2,10 +2,10 @@ use Rattle.std.proofs.Common.{◌<◌, ℕ, List, get_or, length, sym, ap, ◌�
 use Rattle.std.proofs.lemmas.Result.{MatchResult-weaker}
 use Rattle.rn_pattern.specs.NameRules.{KeepsNameRules}
 use Rattle.rn_pattern.specs.Graph.{rows_of}
-use Rattle.rn_assemble.specs.Keyed.{key_at}
-use Rattle.rn_assemble.specs.Listed.{components_in}
+use Rattle.rn_assemble.specs.inside.Keyed.{key_at}
+use Rattle.rn_assemble.specs.inside.Listed.{components_in}
 use Rattle.rn_assemble.specs.Refusal.{BreaksNameRules}
-use Rattle.rn_assemble.specs.Views.{names_of}
+use Rattle.rn_assemble.specs.inside.Views.{names_of}
 use Rattle.rn_assemble.proofs.Joining.KeyPatterns.{breaks_at, misnamed_for, more_pattern, no_pattern, one_found, part_of_key}
 use Rattle.rn_assemble.proofs.Joining.UsedMethods.{at_row, row_size}
 use Rattle.rn_assemble.proofs.combining.join.Goals as goal

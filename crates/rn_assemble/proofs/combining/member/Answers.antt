@@ -3,8 +3,8 @@ use Rattle.std.specs.Prelude.{IsSomeAnd, slice_get}
 use Rattle.rn_pattern.specs.NameRules.{KeepsNameRules}
 use Rattle.rn_pattern.specs.View.{shared_view}
 use Rattle.rn_pattern.specs.Graph.{rows_of}
-use Rattle.rn_assemble.specs.Patterns.{IsMisnamedAs, IsSound}
-use Rattle.rn_assemble.specs.Views.{names_of}
+use Rattle.rn_assemble.specs.inside.Patterns.{IsMisnamedAs, IsSound}
+use Rattle.rn_assemble.specs.inside.Views.{names_of}
 use Rattle.rn_assemble.proofs.Joining.KeyPatterns.{refused_by}
 use Rattle.rn_assemble.proofs.Joining.SharedPatterns.{shared_held, shared_put}
 use Rattle.rn_assemble.proofs.Joining.UsedMethods.{live_body}

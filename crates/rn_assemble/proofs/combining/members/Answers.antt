@@ -4,11 +4,11 @@ use Rattle.rn_pattern.specs.NameRules.{KeepsNameRules}
 use Rattle.rn_pattern.specs.View.{shared_view}
 use Rattle.rn_pattern.specs.Graph.{rows_of}
 use Rattle.rn_assemble.specs.Combine.{of_key}
-use Rattle.rn_assemble.specs.Keyed.{key_at}
-use Rattle.rn_assemble.specs.Listed.{components_in}
-use Rattle.rn_assemble.specs.Patterns.{AreSound, IsMisnamedAs, IsSound}
+use Rattle.rn_assemble.specs.inside.Keyed.{key_at}
+use Rattle.rn_assemble.specs.inside.Listed.{components_in}
+use Rattle.rn_assemble.specs.inside.Patterns.{AreSound, IsMisnamedAs, IsSound}
 use Rattle.rn_assemble.specs.Refusal.{BreaksNameRules}
-use Rattle.rn_assemble.specs.Views.{names_of}
+use Rattle.rn_assemble.specs.inside.Views.{names_of}
 use Rattle.rn_assemble.proofs.Joining.KeyPatterns.{breaks_at, misnamed_for, part_of_key, refused_by, sound_all, sound_more}
 use Rattle.rn_assemble.proofs.Joining.UsedMethods.{at_row, row_size}
 use Rattle.rn_assemble.proofs.combining.members.Goals as goal

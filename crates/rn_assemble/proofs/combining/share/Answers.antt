@@ -1,7 +1,7 @@
 use Rattle.std.proofs.Common.{ap, ◌∙◌}
 use Rattle.rn_pattern.specs.NameRules.{KeepsNameRules}
 use Rattle.rn_pattern.specs.View.{pattern_view, shared_view}
-use Rattle.rn_assemble.specs.Patterns.{IsMisnamedAs, IsSound}
+use Rattle.rn_assemble.specs.inside.Patterns.{IsMisnamedAs, IsSound}
 use Rattle.rn_assemble.proofs.Joining.KeyPatterns.{refused_by}
 use Rattle.rn_assemble.proofs.combining.share.Goals as goal
 

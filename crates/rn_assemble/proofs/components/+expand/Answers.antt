@@ -9,14 +9,14 @@ use Rattle.rn_assemble.specs.declared.contents.Contents.{Contents}
 use Rattle.rn_assemble.specs.declared.contents.Include.{Include}
 use Rattle.rn_assemble.specs.declared.components.Components.{Components}
 use Rattle.rn_assemble.specs.declared.components.Lack.{Lack}
-use Rattle.rn_assemble.specs.Bound.{BindsAs}
+use Rattle.rn_assemble.specs.inside.Bound.{BindsAs}
 use Rattle.rn_assemble.specs.Components as specs
-use Rattle.rn_assemble.specs.Contained.{Inclusion}
-use Rattle.rn_assemble.specs.Lacking.{LacksWithin}
-use Rattle.rn_assemble.specs.Listed.{IsContents, Live, Rises}
-use Rattle.rn_assemble.specs.Expanded.{CanExpand, CanInclude, Expands, IsItem, included_in, name_at}
-use Rattle.rn_assemble.specs.Noting.{AtNumbers, IncludedLacks, InclusionLacks, IsOwnLack, Notes}
-use Rattle.rn_assemble.specs.Views.{inclusion_view, written_view}
+use Rattle.rn_assemble.specs.inside.Contained.{Inclusion}
+use Rattle.rn_assemble.specs.inside.Lacking.{LacksWithin}
+use Rattle.rn_assemble.specs.inside.Listed.{IsContents, Live, Rises}
+use Rattle.rn_assemble.specs.inside.Expanded.{CanExpand, CanInclude, Expands, IsItem, included_in, name_at}
+use Rattle.rn_assemble.specs.inside.Noting.{AtNumbers, IncludedLacks, InclusionLacks, IsOwnLack, Notes}
+use Rattle.rn_assemble.specs.inside.Views.{inclusion_view, written_view}
 use Rattle.rn_assemble.proofs.Expansion.Expansions.{live_below}
 use Rattle.rn_assemble.proofs.Expansion.Going.{Going, going_none, going_more, finishes, overrides, expands_none, lists_same, contexts_same, zip_size, if_ok_always, if_ok_to}
 use Rattle.rn_assemble.proofs.Expansion.IncludedLacks.{module_noted}

@@ -2,11 +2,11 @@
 use Rattle.std.proofs.Common.{◌+◌, ◌-◌, ◌*◌, ◌<◌, List, length, take, drop, map}
 use Rattle.rn_pattern.specs.Tree.{Text}
 use Rattle.rn_assemble.specs.Components.{Source}
-use Rattle.rn_assemble.specs.Contained.{AreFlat}
-use Rattle.rn_assemble.specs.Listed.{IsContents, Live}
-use Rattle.rn_assemble.specs.Expanded.{CanExpand, name_at}
-use Rattle.rn_assemble.specs.Noting.{AtNumbers, InclusionLacks, Notes}
-use Rattle.rn_assemble.specs.Views.{inclusion_view, written_view}
+use Rattle.rn_assemble.specs.inside.Contained.{AreFlat}
+use Rattle.rn_assemble.specs.inside.Listed.{IsContents, Live}
+use Rattle.rn_assemble.specs.inside.Expanded.{CanExpand, name_at}
+use Rattle.rn_assemble.specs.inside.Noting.{AtNumbers, InclusionLacks, Notes}
+use Rattle.rn_assemble.specs.inside.Views.{inclusion_view, written_view}
 use Rattle.rn_assemble.proofs.Expansion.Going.{Going}
 use Rattle.rn_assemble.proofs.Expansion.NotedLacks.{SomeLacks}
 use Rattle.rn_assemble.proofs.components.+expand.Given as goal

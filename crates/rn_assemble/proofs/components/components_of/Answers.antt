@@ -5,10 +5,10 @@ use Rattle.std.proofs.lemmas.List.Concat.{flat_map-append}
 use Rattle.std.proofs.lemmas.List.Elements.{Contains-get_or}
 use Rattle.rn_pattern.specs.Tree.{Text}
 use Rattle.rn_assemble.specs.Components.{Component, Key, components, instance_limit}
-use Rattle.rn_assemble.specs.Lacking.{LacksFrom, LacksWithin}
-use Rattle.rn_assemble.specs.Listed.{Live}
-use Rattle.rn_assemble.specs.Expanded.{name_at}
-use Rattle.rn_assemble.specs.Noting.{AtNumbers, Notes}
+use Rattle.rn_assemble.specs.inside.Lacking.{LacksFrom, LacksWithin}
+use Rattle.rn_assemble.specs.inside.Listed.{Live}
+use Rattle.rn_assemble.specs.inside.Expanded.{name_at}
+use Rattle.rn_assemble.specs.inside.Noting.{AtNumbers, Notes}
 use Rattle.rn_assemble.proofs.Expansion.IncludedLacks.{lack_found}
 use Rattle.rn_assemble.proofs.Expansion.NotedLacks.{least_lack, some_more}
 use Rattle.rn_assemble.proofs.components.components_of.Goals as goal

@@ -3,10 +3,10 @@ use Rattle.std.specs.Prelude.{flat_map}
 use Rattle.rn_pattern.specs.Tree.{Text}
 use Rattle.rn_pattern.specs.Graph.{AllBelow}
 use Rattle.rn_assemble.specs.Components.{Source, components}
-use Rattle.rn_assemble.specs.Expanded.{CanList, ContextsHold, name_at}
-use Rattle.rn_assemble.specs.Lacking.{LacksFrom}
-use Rattle.rn_assemble.specs.Listed.{Live, Lists, components_in}
-use Rattle.rn_assemble.specs.Noting.{AtNumbers, Notes}
+use Rattle.rn_assemble.specs.inside.Expanded.{CanList, ContextsHold, name_at}
+use Rattle.rn_assemble.specs.inside.Lacking.{LacksFrom}
+use Rattle.rn_assemble.specs.inside.Listed.{Live, Lists, components_in}
+use Rattle.rn_assemble.specs.inside.Noting.{AtNumbers, Notes}
 use Rattle.rn_assemble.proofs.components.components_of.Given as goal
 
 abbrev pub invariant-loop-root : goal.invariant-loop-root

@@ -1,8 +1,8 @@
 use Rattle.std.proofs.Common.{◌∙◌, ◌++◌, ◌+◌, append_assoc, drop, arith, sym, ap, length}
 use Rattle.std.proofs.lemmas.List.{length-append}
 use Rattle.rn_syntax.specs.View.{item_view, items_view}
-use Rattle.rn_assemble.specs.Contained.{item_written, written}
-use Rattle.rn_assemble.specs.Views.{names_of, sources_view}
+use Rattle.rn_assemble.specs.inside.Contained.{item_written, written}
+use Rattle.rn_assemble.specs.inside.Views.{names_of, sources_view}
 use Rattle.rn_assemble.proofs.Expansion.Gathered.{defined_at, defined_behind, adds_more, written_to, inclusions_more}
 use Rattle.rn_assemble.proofs.contents.+gather.Goals as goal
 

@@ -2,9 +2,9 @@
 use Rattle.std.proofs.Common.{◌≡◌, ◌+◌, ◌++◌, List, drop, length, map, Contains}
 use Rattle.std.specs.List.{AllByRecursion}
 use Rattle.rn_syntax.specs.View.{items_view}
-use Rattle.rn_assemble.specs.Contained.{Written, inclusions, written}
-use Rattle.rn_assemble.specs.Keyed.{defines}
-use Rattle.rn_assemble.specs.Views.{Adds, inclusion_view, names_of, sources_view}
+use Rattle.rn_assemble.specs.inside.Contained.{Written, inclusions, written}
+use Rattle.rn_assemble.specs.inside.Keyed.{defines}
+use Rattle.rn_assemble.specs.inside.Views.{Adds, inclusion_view, names_of, sources_view}
 use Rattle.rn_assemble.proofs.contents.+gather.Given as goal
 
 abbrev pub invariant-gather-items : goal.invariant-gather-items

@@ -2,8 +2,8 @@ use Rattle.std.proofs.Common.{◌≡◌, ◌+◌, ◌-◌, ◌≤◌, ℕ, List,
 use Rattle.std.proofs.lemmas.List.{length-map, map-append}
 use Rattle.std.specs.declared.alloc.Global.{Global}
 use Rattle.rn_pattern.specs.Graph.{rows_of}
-use Rattle.rn_assemble.specs.Patterns.{IsFirstAt}
-use Rattle.rn_assemble.specs.Views.{names_of}
+use Rattle.rn_assemble.specs.inside.Patterns.{IsFirstAt}
+use Rattle.rn_assemble.specs.inside.Views.{names_of}
 use Rattle.rn_assemble.proofs.Joining.Defining.{Defining, defining_begins, defining_ends, defining_more, defining_same, pattern_there, places_within}
 use Rattle.rn_assemble.proofs.definitions.definitions.Goals as goal
 use Rattle.rn_assemble.proofs.definitions.definitions.Goals.{in-Some+in-Some-take+in_ok-define+in_ok-firsts+in_ok-push, in-Some+in_default-take, in_default}

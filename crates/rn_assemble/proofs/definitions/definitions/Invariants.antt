@@ -3,9 +3,9 @@ use Rattle.std.proofs.Common.{List, []}
 use Rattle.std.specs.List.Sorted.{IsStrictlySortedBy}
 use Rattle.rn_pattern.specs.Graph.{rows_of}
 use Rattle.rn_pattern.specs.Order.{text_cmp}
-use Rattle.rn_assemble.specs.Listed.{Lists, Live, components_in}
-use Rattle.rn_assemble.specs.Patterns.{HavePatterns}
-use Rattle.rn_assemble.specs.Views.{names_of}
+use Rattle.rn_assemble.specs.inside.Listed.{Lists, Live, components_in}
+use Rattle.rn_assemble.specs.inside.Patterns.{HavePatterns}
+use Rattle.rn_assemble.specs.inside.Views.{names_of}
 use Rattle.rn_assemble.proofs.Joining.Defining.{Defining}
 use Rattle.rn_assemble.proofs.definitions.definitions.Given as goal
 

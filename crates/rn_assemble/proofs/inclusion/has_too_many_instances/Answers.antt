@@ -6,7 +6,7 @@ use Rattle.std.proofs.lemmas.List.{take_all}
 use Rattle.std.proofs.lemmas.List.Elements.{Contains-get_or}
 use Rattle.std.proofs.lemmas.List.Sums.{sum_by_more}
 use Rattle.rn_pattern.specs.Graph.{rows_of}
-use Rattle.rn_assemble.specs.Instances.{instances_of}
+use Rattle.rn_assemble.specs.inside.Instances.{instances_of}
 use Rattle.rn_assemble.proofs.inclusion.has_too_many_instances.Goals as goal
 
 pub instances_up_to-count-requires-clause-within : goal.instances_up_to-count-requires-clause-within

@@ -2,7 +2,7 @@
 use Rattle.std.proofs.Common.{ap, ◌∙◌, Vec, ℕ}
 use Rattle.std.specs.declared.alloc.Global.{Global}
 use Rattle.std.proofs.lemmas.List.{take_all}
-use Rattle.rn_assemble.specs.Views.{sources_view, texts_of}
+use Rattle.rn_assemble.specs.inside.Views.{sources_view, texts_of}
 use Rattle.rn_assemble.proofs.Expansion.WantedNumbers.{numbers, numbers_more, numbers_still}
 use Rattle.rn_assemble.proofs.inclusion.included.Goals as goal
 use Rattle.rn_assemble.proofs.inclusion.included.Goals.{in-Some+in_ok-push, in_default}

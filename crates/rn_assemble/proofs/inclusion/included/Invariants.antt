@@ -1,6 +1,6 @@
 -- The numbers of the literals so far.
 use Rattle.std.proofs.Common.{◌≡◌, take}
-use Rattle.rn_assemble.specs.Views.{sources_view, texts_of}
+use Rattle.rn_assemble.specs.inside.Views.{sources_view, texts_of}
 use Rattle.rn_assemble.proofs.Expansion.WantedNumbers.{numbers}
 use Rattle.rn_assemble.proofs.inclusion.included.Given as goal
 

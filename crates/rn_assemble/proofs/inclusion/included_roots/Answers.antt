@@ -9,11 +9,11 @@ use Rattle.rn_pattern.specs.Ranks.{HasNoLoop, IsFirstLoop}
 use Rattle.rn_pattern.proofs.Graphs.Rows.{below_still}
 use Rattle.rn_assemble.specs.declared.modules.Source.{Source}
 use Rattle.rn_assemble.specs.Components.{instance_limit}
-use Rattle.rn_assemble.specs.Included.{AreIncluded}
-use Rattle.rn_assemble.specs.Inclusions.{entries}
-use Rattle.rn_assemble.specs.Instances.{instances_of}
+use Rattle.rn_assemble.specs.inside.Included.{AreIncluded}
+use Rattle.rn_assemble.specs.inside.Inclusions.{entries}
+use Rattle.rn_assemble.specs.inside.Instances.{instances_of}
 use Rattle.rn_assemble.specs.Refusal.{IsFirstFor, cycle}
-use Rattle.rn_assemble.specs.Views.{source_view, sources_view}
+use Rattle.rn_assemble.specs.inside.Views.{source_view, sources_view}
 use Rattle.rn_assemble.proofs.Expansion.Entries.{entries_below}
 use Rattle.rn_assemble.proofs.Expansion.FirstIncludes.{all_included, first_loop, name_seen, rows_are, too_many}
 use Rattle.rn_assemble.proofs.inclusion.included_roots.Goals as goal

@@ -2,9 +2,9 @@
 use Rattle.std.proofs.Common.{ap, sym, ◌∙◌, subst, arith, None, Some}
 use Rattle.std.specs.String.{string_bytes}
 use Rattle.rn_syntax.specs.View.{module_view}
-use Rattle.rn_assemble.specs.Inclusions.{IsLeastAmong, IsMissing}
+use Rattle.rn_assemble.specs.inside.Inclusions.{IsLeastAmong, IsMissing}
 use Rattle.rn_assemble.specs.Refusal.{IsFirstFor, missing}
-use Rattle.rn_assemble.specs.Views.{sources_view, texts_of}
+use Rattle.rn_assemble.specs.inside.Views.{sources_view, texts_of}
 use Rattle.rn_assemble.proofs.Expansion.FirstIncludes.{begins, ends, first_missing, goes_on}
 use Rattle.rn_assemble.proofs.Expansion.WantedNumbers.{literals, numbers}
 use Rattle.rn_assemble.proofs.inclusion.inclusions.Goals as goal

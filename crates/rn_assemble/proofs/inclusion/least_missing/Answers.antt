@@ -3,8 +3,8 @@ use Rattle.std.proofs.Common.{◌++◌, ◌∷◌, [], ap, ◌∙◌, sym, subst
 use Rattle.std.specs.Prelude.{not}
 use Rattle.std.proofs.lemmas.List.{take_all}
 use Rattle.rn_pattern.specs.Tree.{Text}
-use Rattle.rn_assemble.specs.Inclusions.{IsLeastAmong, IsMissing}
-use Rattle.rn_assemble.specs.Views.{sources_view, texts_of}
+use Rattle.rn_assemble.specs.inside.Inclusions.{IsLeastAmong, IsMissing}
+use Rattle.rn_assemble.specs.inside.Views.{sources_view, texts_of}
 use Rattle.rn_assemble.proofs.Referring.LeastUndefined.{no_text, texts_more}
 use Rattle.rn_assemble.proofs.Expansion.WantedNumbers.{among_more, among_none, among_still, missing_where, names_rise, there_where}
 use Rattle.rn_assemble.proofs.inclusion.least_missing.Goals as goal

@@ -1,7 +1,7 @@
 -- The least so far.
 use Rattle.std.proofs.Common.{take, option_map}
-use Rattle.rn_assemble.specs.Inclusions.{IsLeastAmong, IsMissing}
-use Rattle.rn_assemble.specs.Views.{sources_view, texts_of}
+use Rattle.rn_assemble.specs.inside.Inclusions.{IsLeastAmong, IsMissing}
+use Rattle.rn_assemble.specs.inside.Views.{sources_view, texts_of}
 use Rattle.rn_assemble.proofs.inclusion.least_missing.Given as goal
 
 abbrev pub invariant-loop-literal : goal.invariant-loop-literal

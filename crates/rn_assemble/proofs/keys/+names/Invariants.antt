@@ -1,8 +1,8 @@
 -- What was listed, and what is left to list, are what was there and what the items define.
 use Rattle.std.proofs.Common.{◌≡◌, ◌++◌, drop}
 use Rattle.rn_syntax.specs.View.{items_view}
-use Rattle.rn_assemble.specs.Keyed.{defines}
-use Rattle.rn_assemble.specs.Views.{texts_of}
+use Rattle.rn_assemble.specs.inside.Keyed.{defines}
+use Rattle.rn_assemble.specs.inside.Views.{texts_of}
 use Rattle.rn_assemble.proofs.keys.+names.Given as goal
 
 abbrev pub invariant-push_names-items : goal.invariant-push_names-items

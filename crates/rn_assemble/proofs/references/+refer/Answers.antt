@@ -1,8 +1,8 @@
 use Rattle.std.proofs.Common.{◌+◌, ◌++◌, drop, sym, ap, ◌∙◌, append_assoc}
 use Rattle.std.proofs.lemmas.List.{at_drop_more}
 use Rattle.rn_syntax.specs.View.{pattern_view, patterns_view}
-use Rattle.rn_assemble.specs.Referred.{references, all_references}
-use Rattle.rn_assemble.specs.Views.{texts_of}
+use Rattle.rn_assemble.specs.inside.Referred.{references, all_references}
+use Rattle.rn_assemble.specs.inside.Views.{texts_of}
 use Rattle.rn_assemble.proofs.references.+refer.Goals as goal
 
 pub refer_all-patterns-preserved : goal.refer_all-patterns-preserved

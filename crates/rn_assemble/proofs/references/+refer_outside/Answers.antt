@@ -1,8 +1,8 @@
 use Rattle.std.proofs.Common.{◌+◌, ◌++◌, drop, sym, ap, ◌∙◌, append_assoc}
 use Rattle.std.proofs.lemmas.List.{at_drop_more}
 use Rattle.rn_syntax.specs.View.{pattern_view, patterns_view}
-use Rattle.rn_assemble.specs.Referred.{outer_references, all_outer_references}
-use Rattle.rn_assemble.specs.Views.{texts_of}
+use Rattle.rn_assemble.specs.inside.Referred.{outer_references, all_outer_references}
+use Rattle.rn_assemble.specs.inside.Views.{texts_of}
 use Rattle.rn_assemble.proofs.references.+refer_outside.Goals as goal
 
 pub refer_all_outside-patterns-preserved : goal.refer_all_outside-patterns-preserved

@@ -1,8 +1,8 @@
 -- The names of the patterns so far, with those of the patterns left, are the names of all.
 use Rattle.std.proofs.Common.{◌≡◌, ◌++◌, drop}
 use Rattle.rn_syntax.specs.View.{patterns_view}
-use Rattle.rn_assemble.specs.Referred.{all_outer_references}
-use Rattle.rn_assemble.specs.Views.{texts_of}
+use Rattle.rn_assemble.specs.inside.Referred.{all_outer_references}
+use Rattle.rn_assemble.specs.inside.Views.{texts_of}
 use Rattle.rn_assemble.proofs.references.+refer_outside.Given as goal
 
 abbrev pub invariant-refer_all_outside-patterns : goal.invariant-refer_all_outside-patterns

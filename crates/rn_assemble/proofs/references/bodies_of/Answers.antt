@@ -1,7 +1,7 @@
 -- The places of the key are looked at one after the other.
 use Rattle.std.proofs.Common.{length, ℕ, Vec, ap, sym, ◌∙◌, subst, arith, refl}
 use Rattle.std.specs.declared.alloc.Global.{Global}
-use Rattle.rn_assemble.specs.Referred.{AreBodiesAt, IsLooked}
+use Rattle.rn_assemble.specs.inside.Referred.{AreBodiesAt, IsLooked}
 use Rattle.rn_assemble.proofs.Joining.Looking.{Looking, looking_begins, looking_on, looking_at, looking_ends, looked_fresh, no_value}
 use Rattle.rn_assemble.proofs.references.bodies_of.Goals as goal
 use Rattle.rn_assemble.proofs.references.bodies_of.Goals.{in-Some+in_ok-push, in_default}

@@ -4,9 +4,9 @@ use Rattle.std.proofs.lemmas.List.{take_all}
 use Rattle.std.proofs.lemmas.Bool.Decides.{not_from_Decides}
 use Rattle.rn_pattern.specs.Tree.{Text}
 use Rattle.rn_assemble.specs.Combine.{joined_grammar}
-use Rattle.rn_assemble.specs.Listed.{components_in}
-use Rattle.rn_assemble.specs.Referred.{IsLeastOf}
-use Rattle.rn_assemble.specs.Views.{texts_of}
+use Rattle.rn_assemble.specs.inside.Listed.{components_in}
+use Rattle.rn_assemble.specs.inside.Referred.{IsLeastOf}
+use Rattle.rn_assemble.specs.inside.Views.{texts_of}
 use Rattle.rn_assemble.proofs.Referring.LeastUndefined.{least_still, least_more, behind_more, no_text}
 use Rattle.rn_assemble.proofs.references.least_undefined.Goals as goal
 use Rattle.rn_assemble.proofs.references.least_undefined.Goals.{then-not-is_defined, else-not-is_defined}

@@ -4,9 +4,9 @@ use Rattle.std.specs.List.Sorted.{IsStrictlySortedBy}
 use Rattle.rn_pattern.specs.Order.{text_cmp}
 use Rattle.rn_pattern.specs.Tree.{Text}
 use Rattle.rn_assemble.specs.Combine.{joined_grammar}
-use Rattle.rn_assemble.specs.Listed.{Lists, Live, components_in}
-use Rattle.rn_assemble.specs.Referred.{IsLeastOf}
-use Rattle.rn_assemble.specs.Views.{names_of, texts_of}
+use Rattle.rn_assemble.specs.inside.Listed.{Lists, Live, components_in}
+use Rattle.rn_assemble.specs.inside.Referred.{IsLeastOf}
+use Rattle.rn_assemble.specs.inside.Views.{names_of, texts_of}
 use Rattle.rn_assemble.proofs.references.least_undefined.Given as goal
 
 abbrev pub invariant-loop-name : goal.invariant-loop-name

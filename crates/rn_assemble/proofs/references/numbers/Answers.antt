@@ -2,8 +2,8 @@
 use Rattle.std.proofs.Common.{◌++◌, ◌∷◌, [], ap, ◌∙◌, sym, subst, take, get_or, ℕ, Vec}
 use Rattle.std.specs.declared.alloc.Global.{Global}
 use Rattle.rn_pattern.proofs.Graphs.Rows.{below_still, below_pushed}
-use Rattle.rn_assemble.specs.Referred.{AreNumbers}
-use Rattle.rn_assemble.specs.Views.{names_of, texts_of}
+use Rattle.rn_assemble.specs.inside.Referred.{AreNumbers}
+use Rattle.rn_assemble.specs.inside.Views.{names_of, texts_of}
 use Rattle.rn_assemble.proofs.Referring.LeastUndefined.{number_more, number_none, texts_more, no_text}
 use Rattle.rn_assemble.proofs.references.numbers.Goals as goal
 use Rattle.rn_assemble.proofs.references.numbers.Goals.{in-Some+in_ok-push, in_default}

@@ -2,8 +2,8 @@ use Rattle.std.proofs.Common.{◌+◌, vec_len, take}
 use Rattle.std.specs.List.Sorted.{IsStrictlySortedBy}
 use Rattle.rn_pattern.specs.Order.{text_cmp}
 use Rattle.rn_pattern.specs.Graph.{AllBelow}
-use Rattle.rn_assemble.specs.Referred.{AreNumbers}
-use Rattle.rn_assemble.specs.Views.{names_of, texts_of}
+use Rattle.rn_assemble.specs.inside.Referred.{AreNumbers}
+use Rattle.rn_assemble.specs.inside.Views.{names_of, texts_of}
 use Rattle.rn_assemble.proofs.references.numbers.Given as goal
 
 abbrev pub invariant-loop-name : goal.invariant-loop-name

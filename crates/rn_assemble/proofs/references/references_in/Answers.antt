@@ -3,9 +3,9 @@ use Rattle.std.proofs.lemmas.List.{take_all}
 use Rattle.std.proofs.lemmas.Result.{IfOk-weaker}
 use Rattle.rn_pattern.specs.Graph.{AllBelow}
 use Rattle.rn_assemble.specs.Combine.{joined_grammar}
-use Rattle.rn_assemble.specs.Listed.{components_in}
-use Rattle.rn_assemble.specs.Referred.{AreNumbers, IsLeastOf, names_at, references}
-use Rattle.rn_assemble.specs.Views.{names_of, texts_of}
+use Rattle.rn_assemble.specs.inside.Listed.{components_in}
+use Rattle.rn_assemble.specs.inside.Referred.{AreNumbers, IsLeastOf, names_at, references}
+use Rattle.rn_assemble.specs.inside.Views.{names_of, texts_of}
 use Rattle.rn_assemble.proofs.references.references_in.Goals as goal
 
 pub returns-clause-are : goal.returns-clause-are

@@ -5,9 +5,9 @@ use Rattle.rn_pattern.specs.Reached.{RefersTo}
 use Rattle.rn_pattern.specs.References.{RefersOutside}
 use Rattle.rn_pattern.specs.Graph.{row, rows_of}
 use Rattle.rn_pattern.proofs.Graphs.Rows.{rows_pushed, is_graph, no_rows}
-use Rattle.rn_assemble.specs.Listed.{components_in}
-use Rattle.rn_assemble.specs.Referred.{AreBodiesAt, names_at, outer_references, references}
-use Rattle.rn_assemble.specs.Views.{names_of}
+use Rattle.rn_assemble.specs.inside.Listed.{components_in}
+use Rattle.rn_assemble.specs.inside.Referred.{AreBodiesAt, names_at, outer_references, references}
+use Rattle.rn_assemble.specs.inside.Views.{names_of}
 use Rattle.rn_assemble.proofs.Joining.Looking.{none_looked}
 use Rattle.rn_assemble.proofs.Referring.GatheredReferences.{Gathered, row_of, gathered_begins, gathered_more, gathered_none, gathered_some, names_anywhere, names_outside}
 use Rattle.rn_assemble.proofs.references.references_of.Goals as goal

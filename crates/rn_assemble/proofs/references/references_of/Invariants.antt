@@ -4,9 +4,9 @@ use Rattle.std.specs.List.Sorted.{IsStrictlySortedBy}
 use Rattle.rn_pattern.specs.Order.{text_cmp}
 use Rattle.rn_pattern.specs.Graph.{rows_of}
 use Rattle.rn_pattern.proofs.Graphs.Rows.{AreRows}
-use Rattle.rn_assemble.specs.Listed.{Lists, Live, components_in}
-use Rattle.rn_assemble.specs.Referred.{IsFresh}
-use Rattle.rn_assemble.specs.Views.{names_of}
+use Rattle.rn_assemble.specs.inside.Listed.{Lists, Live, components_in}
+use Rattle.rn_assemble.specs.inside.Referred.{IsFresh}
+use Rattle.rn_assemble.specs.inside.Views.{names_of}
 use Rattle.rn_assemble.proofs.Referring.GatheredReferences.{Gathered}
 use Rattle.rn_assemble.proofs.references.references_of.Given as goal
 

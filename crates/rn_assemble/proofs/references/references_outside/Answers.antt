@@ -1,7 +1,7 @@
 use Rattle.std.proofs.Common.{flat_map, ap, ◌∙◌, subst, arith, IfOk}
 use Rattle.std.proofs.lemmas.List.{take_all}
-use Rattle.rn_assemble.specs.Referred.{AreNumbers, names_at, outer_references}
-use Rattle.rn_assemble.specs.Views.{names_of, texts_of}
+use Rattle.rn_assemble.specs.inside.Referred.{AreNumbers, names_at, outer_references}
+use Rattle.rn_assemble.specs.inside.Views.{names_of, texts_of}
 use Rattle.rn_assemble.proofs.references.references_outside.Goals as goal
 
 pub returns-clause-are : goal.returns-clause-are

@@ -1,7 +1,7 @@
 -- The names of the bodies so far.
 use Rattle.std.proofs.Common.{◌≡◌, flat_map, take}
-use Rattle.rn_assemble.specs.Referred.{outer_references, names_at}
-use Rattle.rn_assemble.specs.Views.{texts_of}
+use Rattle.rn_assemble.specs.inside.Referred.{outer_references, names_at}
+use Rattle.rn_assemble.specs.inside.Views.{texts_of}
 use Rattle.rn_assemble.proofs.references.references_outside.Given as goal
 
 abbrev pub invariant-loop-number : goal.invariant-loop-number

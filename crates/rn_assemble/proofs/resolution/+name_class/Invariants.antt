@@ -2,7 +2,7 @@
 use Rattle.std.proofs.Common.{◌≡◌, map, take}
 use Rattle.rn_pattern.specs.View.{name_class_view}
 use Rattle.rn_syntax.specs.View.{class_view}
-use Rattle.rn_assemble.specs.Bound.{InScope}
+use Rattle.rn_assemble.specs.inside.Bound.{InScope}
 use Rattle.rn_assemble.specs.Resolve.{resolved_class}
 use Rattle.rn_assemble.proofs.resolution.+name_class.Given as goal
 

@@ -5,7 +5,7 @@ use Rattle.rn_pattern.specs.Tree.{trees_of}
 use Rattle.rn_pattern.specs.View.{shared_view}
 use Rattle.rn_syntax.specs.declared.tree.Pat.{Pat}
 use Rattle.rn_syntax.specs.View.{pattern_view, patterns_view}
-use Rattle.rn_assemble.specs.Patterns.{boxed_view}
+use Rattle.rn_assemble.specs.inside.Patterns.{boxed_view}
 use Rattle.rn_assemble.specs.Resolve.{resolved, resolved_all, repetition, chained}
 use Rattle.rn_assemble.proofs.Joining.Resolved.{patterns_resolved, repeated_seen, chain_seen}
 use Rattle.rn_assemble.proofs.resolution.+pattern.Goals as goal

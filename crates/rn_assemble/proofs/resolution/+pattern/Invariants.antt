@@ -2,7 +2,7 @@
 use Rattle.std.proofs.Common.{◌≡◌, map, take}
 use Rattle.rn_pattern.specs.View.{shared_view}
 use Rattle.rn_syntax.specs.View.{pattern_view}
-use Rattle.rn_assemble.specs.Bound.{InScope}
+use Rattle.rn_assemble.specs.inside.Bound.{InScope}
 use Rattle.rn_assemble.specs.Resolve.{resolved}
 use Rattle.rn_assemble.proofs.resolution.+pattern.Given as goal
 

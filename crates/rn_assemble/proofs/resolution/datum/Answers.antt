@@ -2,7 +2,7 @@ use Rattle.std.proofs.Common.{◌≡◌, ◌∙◌}
 use Rattle.std.proofs.lemmas.Result.{IfOk-weaker}
 use Rattle.rn_pattern.specs.Tree as tree
 use Rattle.rn_pattern.specs.View.{parameters_view}
-use Rattle.rn_assemble.specs.Patterns.{boxed_view}
+use Rattle.rn_assemble.specs.inside.Patterns.{boxed_view}
 use Rattle.rn_assemble.proofs.resolution.datum.Goals as goal
 
 pub returns : goal.returns

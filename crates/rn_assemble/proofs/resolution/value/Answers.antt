@@ -2,7 +2,7 @@ use Rattle.std.proofs.Common.{◌≡◌, ap, sym, ◌∙◌}
 use Rattle.std.proofs.lemmas.Result.{IfOk-weaker}
 use Rattle.rn_pattern.specs.Tree as tree
 use Rattle.rn_syntax.specs.View.{type_view}
-use Rattle.rn_assemble.specs.Patterns.{boxed_view}
+use Rattle.rn_assemble.specs.inside.Patterns.{boxed_view}
 use Rattle.rn_assemble.specs.Resolve as resolve
 use Rattle.rn_assemble.proofs.resolution.value.Goals as goal
 

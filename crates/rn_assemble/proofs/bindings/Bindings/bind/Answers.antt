@@ -6,7 +6,7 @@ use Rattle.std.specs.Ordering.{nat_cmp}
 use Rattle.std.specs.Str.{bytes_eq}
 use Rattle.std.proofs.lemmas.Map.Text.{btree_map_updates_str}
 use Rattle.std.proofs.lemmas.Slice.Eq.{bytes_eq-Decides}
-use Rattle.rn_assemble.specs.Bound.{bound_uri}
+use Rattle.rn_assemble.specs.inside.Bound.{bound_uri}
 use Rattle.rn_assemble.proofs.Joining.Declared.{put_absent}
 use Rattle.rn_assemble.proofs.bindings.Bindings.bind.Goals as goal
 

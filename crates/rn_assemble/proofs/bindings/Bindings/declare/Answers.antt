@@ -11,7 +11,7 @@ use Rattle.rn_pattern.specs.Tree.{Text}
 use Rattle.rn_syntax.specs.Tree as t
 use Rattle.rn_syntax.specs.Tree.{Declaration}
 use Rattle.rn_syntax.specs.View.{declaration_view, prefix_view, uri_view}
-use Rattle.rn_assemble.specs.Bound.{BindsAs, bound_namespace, bound_library, bound_default, bound_uri}
+use Rattle.rn_assemble.specs.inside.Bound.{BindsAs, bound_namespace, bound_library, bound_default, bound_uri}
 use Rattle.rn_assemble.proofs.Joining.Declared.{binds_more, or_none}
 use Rattle.rn_assemble.proofs.bindings.Bindings.declare.Goals as goal
 

@@ -1,6 +1,6 @@
 use Rattle.std.proofs.Common.{map, take}
 use Rattle.rn_syntax.specs.View.{declaration_view}
-use Rattle.rn_assemble.specs.Bound.{BindsAs}
+use Rattle.rn_assemble.specs.inside.Bound.{BindsAs}
 use Rattle.rn_assemble.proofs.bindings.Bindings.new.Given as goal
 
 -- the declarations so far are bound

@@ -1,6 +1,6 @@
 use Rattle.std.proofs.Common.{ap, sym, ◌∙◌}
 use Rattle.std.specs.Prelude.{option_map}
-use Rattle.rn_assemble.specs.Bound.{bound_uri}
+use Rattle.rn_assemble.specs.inside.Bound.{bound_uri}
 use Rattle.rn_assemble.proofs.Joining.Declared.{default_some, default_none}
 use Rattle.rn_assemble.proofs.bindings.Scope.default_namespace.Goals as goal
 

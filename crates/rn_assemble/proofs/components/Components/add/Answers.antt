@@ -3,9 +3,9 @@ use Rattle.std.specs.Prelude.{slice_range}
 use Rattle.rn_assemble.specs.declared.contents.Component as code
 use Rattle.rn_assemble.specs.declared.components.Body.{Body}
 use Rattle.rn_assemble.specs.Components.{Component}
-use Rattle.rn_assemble.specs.Expanded.{AddsLive}
-use Rattle.rn_assemble.specs.Listed.{IsBody, resolved_component}
-use Rattle.rn_assemble.specs.Views.{written_view}
+use Rattle.rn_assemble.specs.inside.Expanded.{AddsLive}
+use Rattle.rn_assemble.specs.inside.Listed.{IsBody, resolved_component}
+use Rattle.rn_assemble.specs.inside.Views.{written_view}
 use Rattle.rn_assemble.proofs.Expansion.Expansions.{adds_one, body_is, resolved_more}
 use Rattle.rn_assemble.proofs.components.Components.add.Goals as goal
 

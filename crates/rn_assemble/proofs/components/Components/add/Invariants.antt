@@ -2,9 +2,9 @@ use Rattle.std.proofs.Common.{◌≡◌, List, map}
 use Rattle.std.specs.Prelude.{slice_range}
 use Rattle.rn_pattern.specs.Tree.{Text}
 use Rattle.rn_syntax.specs.Tree.{Declaration}
-use Rattle.rn_assemble.specs.Expanded.{AddsLive, CanAdd, KeepsBodies}
-use Rattle.rn_assemble.specs.Listed.{Live, resolved_component}
-use Rattle.rn_assemble.specs.Views.{written_view}
+use Rattle.rn_assemble.specs.inside.Expanded.{AddsLive, CanAdd, KeepsBodies}
+use Rattle.rn_assemble.specs.inside.Listed.{Live, resolved_component}
+use Rattle.rn_assemble.specs.inside.Views.{written_view}
 use Rattle.rn_assemble.proofs.components.Components.add.Given as goal
 
 abbrev pub invariant-loop-number : goal.invariant-loop-number

@@ -4,7 +4,7 @@ use Rattle.rn_pattern.proofs.Ordered.Ascending.{each_join}
 use Rattle.rn_assemble.specs.declared.contents.Component as code
 use Rattle.rn_assemble.specs.declared.components.Body.{Body}
 use Rattle.rn_assemble.specs.declared.components.Context.{Context}
-use Rattle.rn_assemble.specs.Expanded.{ContextHolds, StartsAt}
+use Rattle.rn_assemble.specs.inside.Expanded.{ContextHolds, StartsAt}
 use Rattle.rn_assemble.proofs.Expansion.Expansions.{starts_made, contexts_grown, context_made}
 use Rattle.rn_assemble.proofs.components.Components.enter.Goals as goal
 

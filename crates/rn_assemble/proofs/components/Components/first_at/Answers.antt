@@ -2,9 +2,9 @@ use Rattle.std.proofs.Common.{◌≡◌, ◌<◌, Some, inl, inr, sym, ap, ◌�
 use Rattle.std.specs.Prelude.{slice_get, true}
 use Rattle.rn_pattern.specs.Graph.{row, rows_of}
 use Rattle.rn_assemble.specs.Components.{has_key}
-use Rattle.rn_assemble.specs.Keyed.{key_at}
-use Rattle.rn_assemble.specs.Listed.{components_in}
-use Rattle.rn_assemble.specs.Patterns.{IsFirstAt, before}
+use Rattle.rn_assemble.specs.inside.Keyed.{key_at}
+use Rattle.rn_assemble.specs.inside.Listed.{components_in}
+use Rattle.rn_assemble.specs.inside.Patterns.{IsFirstAt, before}
 use Rattle.rn_assemble.proofs.Joining.FirstPlaces.{first_elsewhere, first_there, live_keyed, row_there}
 use Rattle.rn_assemble.proofs.Joining.UsedMethods.{live_body}
 use Rattle.rn_assemble.proofs.components.Components.first_at.Goals as goal

@@ -1,7 +1,7 @@
 use Rattle.std.proofs.Common.{◌≡◌, ◌+◌, length, Some, sym, ap, ◌∙◌, subst}
 use Rattle.std.specs.Prelude.{slice_get}
 use Rattle.std.proofs.lemmas.List.{length_push}
-use Rattle.rn_assemble.specs.Firsts.{IsFirst}
+use Rattle.rn_assemble.specs.inside.Tied.{IsFirst}
 use Rattle.rn_assemble.proofs.Joining.FirstMembers.{firsts_more}
 use Rattle.rn_assemble.proofs.components.Components.first_indices.Goals as goal
 

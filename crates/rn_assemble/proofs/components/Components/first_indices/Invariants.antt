@@ -1,6 +1,6 @@
 -- The places before have their first indices.
 use Rattle.std.proofs.Common.{◌≡◌, ℕ, length, slice_get, Some}
-use Rattle.rn_assemble.specs.Firsts.{IsFirst}
+use Rattle.rn_assemble.specs.inside.Tied.{IsFirst}
 use Rattle.rn_assemble.proofs.components.Components.first_indices.Given as goal
 
 abbrev pub invariant-loop-index : goal.invariant-loop-index

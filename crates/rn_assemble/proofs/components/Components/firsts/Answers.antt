@@ -3,9 +3,10 @@ use Rattle.std.specs.Prelude.{slice_get, Some}
 use Rattle.std.proofs.lemmas.Result.{IfOk-weaker}
 use Rattle.rn_pattern.specs.Graph.{rows_of}
 use Rattle.rn_assemble.specs.Combine.{joined}
-use Rattle.rn_assemble.specs.Firsts.{AreTied, IsFirst, joined_members}
-use Rattle.rn_assemble.specs.Keyed.{key_at}
-use Rattle.rn_assemble.specs.Listed.{components_in}
+use Rattle.rn_assemble.specs.Firsts.{joined_members}
+use Rattle.rn_assemble.specs.inside.Tied.{AreTied, IsFirst}
+use Rattle.rn_assemble.specs.inside.Keyed.{key_at}
+use Rattle.rn_assemble.specs.inside.Listed.{components_in}
 use Rattle.rn_assemble.proofs.Joining.FirstMembers.{bodies_tied, none_tied}
 use Rattle.rn_assemble.proofs.components.Components.firsts.Goals as goal
 

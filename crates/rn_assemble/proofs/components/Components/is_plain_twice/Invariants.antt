@@ -5,8 +5,8 @@ use Rattle.rn_pattern.specs.Order.{text_cmp}
 use Rattle.rn_pattern.specs.Tree.{Text}
 use Rattle.rn_assemble.specs.Components.{Component}
 use Rattle.rn_assemble.specs.Combine.{is_plain, of_key}
-use Rattle.rn_assemble.specs.Keyed.{key_at}
-use Rattle.rn_assemble.specs.Listed.{Lists, Live, components_in}
+use Rattle.rn_assemble.specs.inside.Keyed.{key_at}
+use Rattle.rn_assemble.specs.inside.Listed.{Lists, Live, components_in}
 use Rattle.rn_assemble.proofs.components.Components.is_plain_twice.Given as goal
 
 abbrev pub invariant-loop-place : goal.invariant-loop-place

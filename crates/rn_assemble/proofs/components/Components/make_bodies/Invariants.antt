@@ -1,6 +1,6 @@
 use Rattle.std.proofs.Common.{◌≡◌, ◌++◌, map, take}
 use Rattle.rn_assemble.specs.declared.contents.Component.{Component}
-use Rattle.rn_assemble.specs.Expanded.{KeepsLists}
+use Rattle.rn_assemble.specs.inside.Expanded.{KeepsLists}
 use Rattle.rn_assemble.proofs.components.Components.make_bodies.Given as goal
 
 abbrev pub invariant-loop-component : goal.invariant-loop-component

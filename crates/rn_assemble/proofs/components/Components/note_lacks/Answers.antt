@@ -3,9 +3,9 @@ use Rattle.std.specs.Prelude.{slice_range}
 use Rattle.std.proofs.lemmas.List.Elements.{All-from_recursion}
 use Rattle.rn_assemble.specs.declared.contents.Component as code
 use Rattle.rn_assemble.specs.declared.components.Components.{Components}
-use Rattle.rn_assemble.specs.Listed.{components_in}
-use Rattle.rn_assemble.specs.Noting.{IsOwnLack, Notes}
-use Rattle.rn_assemble.specs.Views.{IsNumbered}
+use Rattle.rn_assemble.specs.inside.Listed.{components_in}
+use Rattle.rn_assemble.specs.inside.Noting.{IsOwnLack, Notes}
+use Rattle.rn_assemble.specs.inside.Views.{IsNumbered}
 use Rattle.rn_assemble.proofs.Expansion.Expansions.{range_none, range_more}
 use Rattle.rn_assemble.proofs.Expansion.Going.{lists_same}
 use Rattle.rn_assemble.proofs.Expansion.OwnLacks.{own_none, own_met, own_passed}

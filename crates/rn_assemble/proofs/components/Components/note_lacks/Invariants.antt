@@ -4,10 +4,10 @@ use Rattle.std.specs.List.{AllByRecursion}
 use Rattle.std.specs.List.Sorted.{IsStrictlySortedBy}
 use Rattle.rn_pattern.specs.Order.{text_cmp}
 use Rattle.rn_pattern.specs.Tree.{Text}
-use Rattle.rn_assemble.specs.Expanded.{KeepsBodies}
-use Rattle.rn_assemble.specs.Listed.{Lists, Live, Rises, components_in}
-use Rattle.rn_assemble.specs.Noting.{IsOwnLack, Notes}
-use Rattle.rn_assemble.specs.Views.{IsNumbered}
+use Rattle.rn_assemble.specs.inside.Expanded.{KeepsBodies}
+use Rattle.rn_assemble.specs.inside.Listed.{Lists, Live, Rises, components_in}
+use Rattle.rn_assemble.specs.inside.Noting.{IsOwnLack, Notes}
+use Rattle.rn_assemble.specs.inside.Views.{IsNumbered}
 use Rattle.rn_assemble.proofs.components.Components.note_lacks.Given as goal
 
 abbrev pub invariant-loop-number : goal.invariant-loop-number

@@ -2,7 +2,7 @@ use Rattle.std.proofs.Common.{◌≡◌, ◌<◌, ◌++◌, ◌∷◌, [], ℕ, 
 use Rattle.std.specs.declared.alloc.Global.{Global}
 use Rattle.std.proofs.lemmas.List.{length-map}
 use Rattle.rn_pattern.specs.Graph.{row, rows_of}
-use Rattle.rn_assemble.specs.Listed.{ListsBy}
+use Rattle.rn_assemble.specs.inside.Listed.{ListsBy}
 use Rattle.rn_assemble.proofs.Expansion.LiveLists.{placed, row_read, row_changed, some_body}
 use Rattle.rn_assemble.proofs.components.Components.place.Goals as goal
 

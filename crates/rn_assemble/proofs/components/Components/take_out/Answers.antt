@@ -2,8 +2,8 @@ use Rattle.std.proofs.Common.{◌≡◌, ◌+◌, ◌≤◌, ◌++◌, List, len
 use Rattle.std.specs.Prelude.{slice_range}
 use Rattle.rn_assemble.specs.declared.contents.Component.{Component}
 use Rattle.rn_assemble.specs.declared.components.Components.{Components}
-use Rattle.rn_assemble.specs.Expanded.{left_by}
-use Rattle.rn_assemble.specs.Listed.{Lists, Live}
+use Rattle.rn_assemble.specs.inside.Expanded.{left_by}
+use Rattle.rn_assemble.specs.inside.Listed.{Lists, Live}
 use Rattle.rn_assemble.proofs.Expansion.LiveLists.{rises_filtered}
 use Rattle.rn_assemble.proofs.Expansion.Expansions.{range_none, left_none, left_more}
 use Rattle.rn_assemble.proofs.components.Components.take_out.Goals as goal

@@ -2,8 +2,8 @@ use Rattle.std.proofs.Common.{◌≡◌, ◌<◌, ◌≤◌, ◌++◌, List, len
 use Rattle.std.specs.Prelude.{slice_range}
 use Rattle.std.specs.List.{AllByRecursion}
 use Rattle.rn_pattern.specs.Tree.{Text}
-use Rattle.rn_assemble.specs.Expanded.{KeepsBodies, left_by}
-use Rattle.rn_assemble.specs.Listed.{Lists, Live, Rises}
+use Rattle.rn_assemble.specs.inside.Expanded.{KeepsBodies, left_by}
+use Rattle.rn_assemble.specs.inside.Listed.{Lists, Live, Rises}
 use Rattle.rn_assemble.proofs.components.Components.take_out.Given as goal
 
 abbrev pub invariant-loop-number : goal.invariant-loop-number

@@ -2,7 +2,7 @@ use Rattle.std.proofs.Common.{◌<◌, ◌≤◌, ℕ, length, ◌∙◌, arith,
 use Rattle.std.specs.declared.alloc.Global.{Global}
 use Rattle.std.proofs.lemmas.List.{length-map}
 use Rattle.rn_pattern.specs.Graph.{rows_of}
-use Rattle.rn_assemble.specs.Listed.{places_of}
+use Rattle.rn_assemble.specs.inside.Listed.{places_of}
 use Rattle.rn_assemble.proofs.Expansion.LiveLists.{taken, taken_none, row_read, row_changed, places_join, places_each, above}
 use Rattle.rn_assemble.proofs.components.Components.take_out_since.Goals as goal
 

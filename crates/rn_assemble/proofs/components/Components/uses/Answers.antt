@@ -3,7 +3,7 @@ use Rattle.std.specs.List.{list_any}
 use Rattle.std.proofs.lemmas.List.{take_all}
 use Rattle.rn_pattern.specs.Graph.{rows_of}
 use Rattle.rn_assemble.specs.Components.{Component}
-use Rattle.rn_assemble.specs.Methods.{is_method}
+use Rattle.rn_assemble.specs.inside.Methods.{is_method}
 use Rattle.rn_assemble.proofs.Joining.UsedMethods.{at_row, row_size, parts, any_found, any_more, found_method}
 use Rattle.rn_assemble.proofs.components.Components.uses.Goals as goal
 

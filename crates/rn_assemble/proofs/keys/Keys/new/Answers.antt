@@ -2,13 +2,13 @@ use Rattle.std.proofs.Common.{◌≡◌, ℕ, List, sym, subst, Contains, arith}
 use Rattle.std.specs.Borrow.{Bor}
 use Rattle.std.specs.Prelude.{flat_map}
 use Rattle.rn_assemble.specs.Components.{Source}
-use Rattle.rn_assemble.specs.Keyed.{defines}
+use Rattle.rn_assemble.specs.inside.Keyed.{defines}
 use Rattle.std.proofs.lemmas.Grind.{common_steps}
 use Rattle.std.specs.List.Sorted.{IsStrictlySortedBy}
 use Rattle.std.proofs.lemmas.List.Filters.{dedup_is}
 use Rattle.rn_pattern.specs.Tree.{Text}
 use Rattle.rn_pattern.specs.Order.{text_cmp}
-use Rattle.rn_assemble.specs.Views.{texts_of, sources_view}
+use Rattle.rn_assemble.specs.inside.Views.{texts_of, sources_view}
 use Rattle.rn_assemble.proofs.Referring.Named.{sorted_once, kept_names, no_other_names}
 use Rattle.rn_assemble.proofs.keys.Keys.new.Goals as goal
 

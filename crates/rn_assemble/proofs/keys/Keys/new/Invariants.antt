@@ -2,8 +2,8 @@
 use Rattle.std.proofs.Common.{◌≡◌, ◌++◌, drop}
 use Rattle.std.specs.Prelude.{flat_map}
 use Rattle.rn_assemble.specs.Components.{Source}
-use Rattle.rn_assemble.specs.Keyed.{defines}
-use Rattle.rn_assemble.specs.Views.{texts_of, sources_view}
+use Rattle.rn_assemble.specs.inside.Keyed.{defines}
+use Rattle.rn_assemble.specs.inside.Views.{texts_of, sources_view}
 use Rattle.rn_assemble.proofs.keys.Keys.new.Given as goal
 
 abbrev pub invariant-loop-source : goal.invariant-loop-source

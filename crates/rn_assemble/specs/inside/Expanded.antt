@@ -1,5 +1,5 @@
 -- What expanding an include does to the components of the code.
-use Rattle.std.specs.Prelude.{ℕ, ◌+◌, ◌<◌, ◌≤◌, ◌≡◌, ◌==◌, not, List, [], ◌++◌, length, map, filter, slice_index_or, Option, Some, None}
+use Rattle.std.specs.Prelude.{ℕ, ◌+◌, ◌<◌, ◌≤◌, ◌≡◌, ◌==◌, not, List, [], ◌++◌, length, map, filter, slice_index_or, slice_range, Option, Some, None}
 use Rattle.std.specs.List.{AllByRecursion, list_any}
 use Rattle.std.specs.List.Sorted.{IsStrictlySortedBy}
 use Rattle.rn_pattern.specs.Tree.{Text}
@@ -9,13 +9,15 @@ use Rattle.rn_assemble.specs.declared.contents.Contents.{Contents}
 use Rattle.rn_assemble.specs.declared.contents.Include.{Include}
 use Rattle.rn_assemble.specs.declared.components.Body.{Body}
 use Rattle.rn_assemble.specs.declared.components.Components.{Components}
+use Rattle.rn_pattern.specs.Graph.{AllBelow}
 use Rattle.rn_syntax.specs.Tree.{Declaration}
+use Rattle.rn_syntax.specs.View.{prefix_view}
 use Rattle.rn_assemble.specs.declared.components.Context.{Context}
-use Rattle.rn_assemble.specs.Bound.{BindsAs}
-use Rattle.rn_assemble.specs.Views.{IsNumbered}
-use Rattle.rn_assemble.specs.Components.{Component, Source, components_within}
-use Rattle.rn_assemble.specs.Contained.{AreFlat}
-use Rattle.rn_assemble.specs.Listed.{AreContents, Live, Lists, Rises, components_in}
+use Rattle.rn_assemble.specs.inside.Bound.{BindsAs}
+use Rattle.rn_assemble.specs.inside.Views.{IsNumbered}
+use Rattle.rn_assemble.specs.Components.{Component, Source, components_within, handed_on}
+use Rattle.rn_assemble.specs.inside.Contained.{AreFlat}
+use Rattle.rn_assemble.specs.inside.Listed.{AreContents, Live, Lists, Rises, components_in}
 
 -- only bodies and contexts may change
 pub record KeepsLists (old new : Components) : Type 0 where
@@ -70,6 +72,10 @@ pub record Enters (contents : List Contents) (old new : Components) (first : ℕ
   pub contexts : ContextsHold contents new
   pub grows : (more : List Body) × (new.bodies.items ≡ old.bodies.items ++ more)
 
+-- the include's own components
+abbrev pub own_components : Contents → Include → List code.Component
+own_components content include = slice_range content.components.items include.from include.to
+
 -- without the components of the keys of these
 abbrev pub left_by : List code.Component → List Live → List Live
 left_by own es = filter (λ (e : Live). not (list_any (λ (c : code.Component). e.key == c.key) own)) es
@@ -82,6 +88,11 @@ name_at modules i = slice_index_or (map (λ (m : Source). m.name) modules) i []
 abbrev pub included_in : ℕ → List Source → Option ℕ → Text → List Component
 included_in depth modules None inherited = []
 included_in depth modules (Some i) inherited = components_within depth modules (name_at modules i) inherited
+
+-- what the include brings in, before its own components override it
+abbrev pub brought_in : ℕ → List Source → Text → List Declaration → Include → List Component
+brought_in depth modules inherited ds include =
+    included_in depth modules include.«module» (handed_on inherited ds (prefix_view include.inherit))
 
 -- modules and names in their order, the contents of the modules, and the live components so far
 pub record CanExpand (modules : List Source) (names : List Text) (contents : List Contents) (x : Components) (live : List Live) : Type 0 where
@@ -116,3 +127,21 @@ pub record CanList (modules : List Source) (names : List Text) (contents : List 
 -- the live components are these, in this order
 abbrev pub IsListed : List Text → Components → List Component → Type 0
 IsListed names x cs = (live : List Live) × Lists names x live × (components_in live ≡ cs)
+
+-- ---- of which modules a contract speaks
+
+-- P holds of the modules that have these contents, with so many keys, where the roots are numbers of modules
+abbrev pub OfRoots : List Contents → ℕ → List ℕ → (List Source → List Text → Type 0) → Type 0
+OfRoots contents keys roots P = (modules : List Source) (names : List Text) → CanList modules names contents
+    → keys ≡ length names + 1 → AllBelow (length modules) roots → P modules names
+
+-- P holds of the modules that have these contents, and of the live components so far
+abbrev pub OfExpanding : List Contents → Components → (List Source → List Text → List Live → Type 0) → Type 0
+OfExpanding contents x P = (modules : List Source) (names : List Text) (live : List Live)
+    → CanExpand modules names contents x live → P modules names live
+
+-- the same with the declarations of the module, of which the include is
+abbrev pub OfIncluding : List Contents → Components → Contents → Include
+    → (List Source → List Text → List Live → List Declaration → Type 0) → Type 0
+OfIncluding contents x content include P = (modules : List Source) (names : List Text) (live : List Live) (ds : List Declaration)
+    → CanExpand modules names contents x live → CanInclude modules names content include ds → P modules names live ds

@@ -5,7 +5,7 @@ use Rattle.rn_pattern.specs.Tree.{Text}
 use Rattle.rn_pattern.specs.Order.{text_cmp}
 use Rattle.rn_pattern.specs.Graph.{IsGraph, row}
 use Rattle.rn_assemble.specs.Components.{Source, includes, modules_named}
-use Rattle.rn_assemble.specs.Expanded.{name_at}
+use Rattle.rn_assemble.specs.inside.Expanded.{name_at}
 use Rattle.rn_assemble.specs.Least.{IsLeast}
 
 -- what the modules of this name include, in the order of the text

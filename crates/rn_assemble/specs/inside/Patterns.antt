@@ -8,14 +8,17 @@ use Rattle.rn_pattern.specs.Tree.{Text, Tree}
 use Rattle.rn_pattern.specs.View.{pattern_view, shared_view}
 use Rattle.rn_pattern.specs.declared.tree.Pattern.{Pattern}
 use Rattle.rn_assemble.specs.declared.components.Body.{Body}
+use Rattle.rn_assemble.specs.declared.components.Components.{Components}
+use Rattle.rn_assemble.specs.declared.keys.Keys.{Keys}
 use Rattle.rn_assemble.specs.declared.refusal.Refusal.{Refusal}
 use Rattle.rn_assemble.specs.declared.refusal.Refusal.TheVariants as r
 use Rattle.rn_assemble.specs.Components.{Component, Key, has_key, start_key}
 use Rattle.rn_assemble.specs.Combine.{joined}
-use Rattle.rn_assemble.specs.Keyed.{key_at}
-use Rattle.rn_assemble.specs.Listed.{IsBody, Live, components_in}
+use Rattle.rn_assemble.specs.inside.Keyed.{key_at}
+use Rattle.rn_assemble.specs.inside.Listed.{IsBody, Live, components_in}
 use Rattle.rn_assemble.specs.Refusal.{BreaksNameRules}
-use Rattle.rn_assemble.specs.Views.{key_view}
+use Rattle.rn_assemble.specs.Refused.{key_view}
+use Rattle.rn_assemble.specs.inside.Views.{names_of}
 
 abbrev pub boxed_view : Box Pattern Global → Tree
 boxed_view p = pattern_view p.value
@@ -34,10 +37,26 @@ IsMisnamedAs k Why (r.NameClass j) = (key_view j ≡ k) × Why
 IsMisnamedAs k Why r.Memory = ⊤
 IsMisnamedAs k Why _ = ⊥
 
+-- the refusal of the component's key, since its body breaks the restrictions
+abbrev pub IsMisnamedBy : Component → Refusal → Type 0
+IsMisnamedBy c = IsMisnamedAs c.key (¬ KeepsNameRules c.body)
+
+-- the refusal of the key, since one of its components breaks them
+abbrev pub IsMisnamedAt : List Component → Key → Refusal → Type 0
+IsMisnamedAt cs k = IsMisnamedAs k (BreaksNameRules cs k)
+
+-- what is held, if anything is, stands for the component's body
+abbrev pub MayHold : Component → Option (Rc Pattern Global) → Type 0
+MayHold c held = IfSome held (λ p. IsSound c (shared_view p))
+
 -- the body of a number, resolved, stands for each component that it is the body of
 pub record AreShared (names : List Text) (bodies : List Body) (shared : List (Option (Rc Pattern Global))) : Type 0 where
   pub size : length shared ≡ length bodies
   pub are : (n key : ℕ) (b : Body) (c : Component) → slice_get bodies n ≡ Some b → IsBody names b key c → IfSome (slice_index_or shared n None) (λ p. IsSound c (shared_view p))
+
+-- the same of the bodies of these components
+abbrev pub AreSharedBy : Keys → Components → List (Option (Rc Pattern Global)) → Type 0
+AreSharedBy keys x shared = AreShared (names_of keys) x.bodies.items shared
 
 -- the pattern of a key's components, where it has some
 abbrev pub pattern_of : List Component → Key → Option Tree

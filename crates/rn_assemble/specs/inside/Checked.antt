@@ -9,11 +9,11 @@ use Rattle.rn_assemble.specs.declared.components.Components.{Components}
 use Rattle.rn_assemble.specs.declared.refusal.Refusal as code
 use Rattle.rn_assemble.specs.declared.refusal.Refusal.TheVariants as r
 use Rattle.rn_assemble.specs.Components.{Source, set_components}
-use Rattle.rn_assemble.specs.Expanded.{IsListed}
-use Rattle.rn_assemble.specs.Included.{AreIncluded}
-use Rattle.rn_assemble.specs.Lacking.{IsLeastLack}
+use Rattle.rn_assemble.specs.inside.Expanded.{IsListed}
+use Rattle.rn_assemble.specs.inside.Included.{AreIncluded}
+use Rattle.rn_assemble.specs.inside.Lacking.{IsLeastLack}
 use Rattle.rn_assemble.specs.Refusal.{Refusal, override, Lacks, StandsFor, grammar_of}
-use Rattle.rn_assemble.specs.Views.{key_view}
+use Rattle.rn_assemble.specs.Refused.{key_view}
 
 -- no include refuses the modules, and these are their components, by the numbers of these names, and their least override of what isn't there
 pub record AreExpanded (modules : List Source) (names : List Text) (x : Components) : Type 0 where

@@ -2,18 +2,16 @@
 use Rattle.std.specs.Prelude.{ℕ, suc, ◌<◌, ◌≡◌, List, ◌++◌, length, map}
 use Rattle.std.specs.List.{AllByRecursion}
 use Rattle.std.specs.Borrow.{Bor}
-use Rattle.std.specs.String.{string_bytes}
 use Rattle.rn_pattern.specs.Tree.{Text}
 use Rattle.rn_syntax.specs.View.{module_view, pattern_view, prefix_view}
 use Rattle.rn_assemble.specs.declared.modules.Source as code_source
 use Rattle.rn_assemble.specs.declared.keys.Keys.{Keys}
 use Rattle.rn_assemble.specs.declared.contents.Component as code_component
+use Rattle.rn_assemble.specs.declared.contents.Contents.{Contents}
 use Rattle.rn_assemble.specs.declared.contents.Include.{Include}
-use Rattle.rn_assemble.specs.declared.refusal.Key as code_key
-use Rattle.rn_assemble.specs.declared.refusal.Key.TheVariants as k
-use Rattle.rn_assemble.specs.Components.{Key, start_key, name_key, Source}
-use Rattle.rn_assemble.specs.Keyed.{key_at}
-use Rattle.rn_assemble.specs.Contained.{Written, Inclusion}
+use Rattle.rn_assemble.specs.Components.{Source}
+use Rattle.rn_assemble.specs.inside.Keyed.{key_at}
+use Rattle.rn_assemble.specs.inside.Contained.{Written, Inclusion}
 
 abbrev pub texts_of : List (Bor (List ℕ)) → List Text
 texts_of xs = map (λ (s : Bor (List ℕ)). s.now) xs
@@ -21,10 +19,6 @@ texts_of xs = map (λ (s : Bor (List ℕ)). s.now) xs
 -- the names of the keys, in the order of their numbers
 abbrev pub names_of : Keys → List Text
 names_of keys = texts_of keys.names.items
-
-abbrev pub key_view : code_key.Key → Key
-key_view k.Start = start_key
-key_view (k.Define x) = name_key (string_bytes x)
 
 abbrev pub source_view : code_source.Source → Source
 source_view m = record { name = m.name.now; tree = module_view m.tree }
@@ -49,3 +43,10 @@ pub record Adds (names : List Text) (old new : List code_component.Component) (a
 
 abbrev pub inclusion_view : Include → Inclusion
 inclusion_view i = record { module_at = i.module; inherit = prefix_view i.inherit; first = i.from; end = i.to }
+
+-- contents have got these components, and these includes
+abbrev pub AddsComponents : Keys → (old new : Contents) → List Written → Type 0
+AddsComponents keys old new added = Adds (names_of keys) old.components.items new.components.items added
+
+abbrev pub AddsIncludes : (old new : Contents) → List Inclusion → Type 0
+AddsIncludes old new added = map inclusion_view new.includes.items ≡ map inclusion_view old.includes.items ++ added

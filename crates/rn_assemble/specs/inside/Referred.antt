@@ -1,5 +1,7 @@
 -- What components refer to, by the numbers of keys (RELAX NG 2001, 4.18 and 4.19).
-use Rattle.std.specs.Prelude.{ℕ, suc, ◌≡◌, ◌≢◌, ◌<◌, ◌≤◌, List, [], ◌∷◌, ◌++◌, length, slice_get, slice_index_or, slice_set, Contains, Option, Some, None, IsSome, if◌then◌else◌, ⊤}
+use Rattle.std.specs.Prelude.{ℕ, suc, ◌≡◌, ◌≢◌, ◌<◌, ◌≤◌, List, [], ◌∷◌, ◌++◌, length, slice_get, slice_index_or, slice_set, flat_map, option_map, Contains, Option, Some, None, IsSome, if◌then◌else◌, ⊤}
+use Rattle.std.specs.Borrow.{Bor}
+use Rattle.std.specs.List.Sorted.{IsStrictlySortedBy}
 use Rattle.std.specs.Option.{option_map_or}
 use Rattle.std.specs.Ordering.{is_lt}
 use Rattle.std.specs.declared.cmp.Ordering.TheVariants.{Less}
@@ -15,9 +17,13 @@ use Rattle.rn_syntax.specs.Tree.{Pattern, Patterns}
 use Rattle.rn_pattern.specs.Graph.{row}
 use Rattle.rn_assemble.specs.Components.{Component}
 use Rattle.rn_assemble.specs.Combine.{joined, joined_grammar}
-use Rattle.rn_assemble.specs.Keyed.{IsNumber, key_at}
+use Rattle.rn_assemble.specs.inside.Keyed.{IsNumber, key_at}
 use Rattle.rn_assemble.specs.Least.{IsLeast}
+use Rattle.rn_assemble.specs.inside.Listed.{Live, Lists, components_in}
+use Rattle.rn_assemble.specs.inside.Views.{names_of}
 use Rattle.rn_assemble.specs.declared.components.Body.{Body}
+use Rattle.rn_assemble.specs.declared.components.Components.{Components}
+use Rattle.rn_assemble.specs.declared.keys.Keys.{Keys}
 use Rattle.rn_assemble.specs.declared.refusal.Refusal.{Refusal}
 use Rattle.rn_assemble.specs.declared.refusal.Refusal.TheVariants as r
 
@@ -87,6 +93,10 @@ IsLeastUndefined cs _ = ⊥
 abbrev pub names_at : (Pattern → List Text) → List Body → ℕ → List Text
 names_at names bodies n = option_map_or (λ (b : Body). names (pattern_view b.component.body.now)) (slice_get bodies n) []
 
+-- those that the bodies of these numbers refer to
+abbrev pub names_in : (Pattern → List Text) → Components → List ℕ → List Text
+names_in names x numbers = flat_map (names_at names x.bodies.items) numbers
+
 -- the numbers of the bodies at these places, in any order
 pub record AreBodiesAt (size : ℕ) (list places : List ℕ) (bodies : List ℕ) : Type 0 where
   pub only : (n : ℕ) → Contains bodies n → (place : ℕ) × Contains places place × (slice_get list place ≡ Some n)
@@ -118,6 +128,13 @@ pub record AreNumbers (names texts : List Text) (numbers : List ℕ) : Type 0 wh
 abbrev pub IsLeastOf : Grammar → List Text → Option Text → Type 0
 IsLeastOf G xs None = (x : Text) → Contains xs x → IsSome (definition_of G x)
 IsLeastOf G xs (Some y) = Contains xs y × (definition_of G y ≡ None) × ((x : Text) → Contains xs x → definition_of G x ≡ None → text_cmp x y ≢ Less)
+
+-- where the old one is the least undefined name of some, the new one is that of these and of more
+abbrev pub KeepsLeast : Keys → Components → (more : List Text) → (old new : Option (Bor (List ℕ))) → Type 0
+KeepsLeast keys x more old new = (live : List Live) (before : List Text) → Lists (names_of keys) x live
+    → IsStrictlySortedBy text_cmp (names_of keys)
+    → IsLeastOf (joined_grammar (components_in live)) before (option_map (λ (s : Bor (List ℕ)). s.now) old)
+    → IsLeastOf (joined_grammar (components_in live)) (before ++ more) (option_map (λ (s : Bor (List ℕ)). s.now) new)
 
 -- ---- what is found
 

@@ -8,8 +8,8 @@ use Rattle.rn_assemble.specs.Combine.{is_plain, is_choice, is_interleave, IsPlai
 use Rattle.rn_assemble.specs.declared.refusal.Refusal.{Refusal}
 use Rattle.rn_assemble.specs.declared.refusal.Refusal.TheVariants as r
 use Rattle.rn_assemble.specs.Least.{IsLeast, key_cmp}
-use Rattle.rn_assemble.specs.Views.{key_view}
-use Rattle.rn_assemble.specs.Keyed.{key_at}
+use Rattle.rn_assemble.specs.Refused.{key_view}
+use Rattle.rn_assemble.specs.inside.Keyed.{key_at}
 
 -- whether a method is the first one
 abbrev pub is_method : Method → Method → Bool

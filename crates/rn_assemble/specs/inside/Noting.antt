@@ -6,11 +6,11 @@ use Rattle.rn_syntax.specs.Tree.{Declaration}
 use Rattle.rn_assemble.specs.declared.components.Lack.{Lack}
 use Rattle.rn_assemble.specs.declared.contents.Component as code
 use Rattle.rn_assemble.specs.Components.{Key, Component, Source, handed_on, has_key}
-use Rattle.rn_assemble.specs.Contained.{Inclusion, Written}
-use Rattle.rn_assemble.specs.Expanded.{included_in, name_at}
-use Rattle.rn_assemble.specs.Keyed.{key_at}
-use Rattle.rn_assemble.specs.Lacking.{LacksWithin}
-use Rattle.rn_assemble.specs.Listed.{resolved_component}
+use Rattle.rn_assemble.specs.inside.Contained.{Inclusion, Written}
+use Rattle.rn_assemble.specs.inside.Expanded.{included_in, name_at}
+use Rattle.rn_assemble.specs.inside.Keyed.{key_at}
+use Rattle.rn_assemble.specs.inside.Lacking.{LacksWithin}
+use Rattle.rn_assemble.specs.inside.Listed.{resolved_component}
 
 -- in an earlier module, or in the same one at no later key
 abbrev pub IsUpTo : Lack → Lack → Type 0

@@ -11,9 +11,9 @@ use Rattle.rn_assemble.specs.Components.{Key, Component, has_key, start_key}
 use Rattle.rn_assemble.specs.Combine.{joined_grammar}
 use Rattle.rn_assemble.specs.JoinedView.{joined_view}
 use Rattle.rn_assemble.specs.Least.{IsLeast, key_cmp}
-use Rattle.rn_assemble.specs.Listed.{Live, Lists, components_in}
+use Rattle.rn_assemble.specs.inside.Listed.{Live, Lists, components_in}
 use Rattle.rn_assemble.specs.Refusal.{BreaksNameRules}
-use Rattle.rn_assemble.specs.Views.{key_view}
+use Rattle.rn_assemble.specs.Refused.{key_view}
 
 -- the components are listed by the numbers of these names, and one of them is of the start
 abbrev pub HasStart : List Text → Components → Type 0

@@ -1,5 +1,6 @@
 -- The names that modules define, and the numbers of keys: the start is 0, and the names follow in their order.
 use Rattle.std.specs.Prelude.{ℕ, zero, suc, ◌<◌, ◌≡◌, ◌↔◌, List, [], ◌∷◌, ◌++◌, length, flat_map, slice_index_or, Contains, Option, Some, None}
+use Rattle.std.specs.List.{AllByRecursion}
 use Rattle.std.specs.List.Sorted.{IsStrictlySortedBy}
 use Rattle.rn_pattern.specs.Tree.{Text}
 use Rattle.rn_pattern.specs.Order.{text_cmp}
@@ -23,6 +24,10 @@ abbrev mutual
 pub record AreNames (modules : List Source) (names : List Text) : Type 0 where
   pub in_order : IsStrictlySortedBy text_cmp names
   pub defined : (x : Text) → Contains names x ↔ Contains (flat_map (λ (m : Source). defines m.tree.items) modules) x
+
+-- each of these is one of the names
+abbrev pub AreAmong : List Text → List Text → Type 0
+AreAmong names xs = AllByRecursion (Contains names) xs
 
 -- the key of that number
 abbrev pub key_at : List Text → ℕ → Key

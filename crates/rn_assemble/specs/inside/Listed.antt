@@ -1,17 +1,21 @@
 -- How the modules' contents and the components of a set lie in the code.
-use Rattle.std.specs.Prelude.{ℕ, suc, ◌<◌, ◌≤◌, ◌≡◌, ◌==◌, List, [], ◌∷◌, length, map, filter, slice_index_or, ⊤}
+use Rattle.std.specs.Prelude.{ℕ, suc, ◌+◌, ◌<◌, ◌≤◌, ◌≡◌, ◌==◌, List, [], ◌∷◌, length, map, filter, slice_index_or, slice_range, Contains, ⊤}
 use Rattle.std.specs.List.{AllByRecursion, AllZip}
+use Rattle.std.specs.List.Sorted.{IsStrictlySortedBy}
 use Rattle.rn_pattern.specs.Tree.{Text}
+use Rattle.rn_pattern.specs.Order.{text_cmp}
 use Rattle.rn_pattern.specs.Graph.{row, rows_of}
 use Rattle.rn_syntax.specs.Tree.{Declaration}
 use Rattle.rn_assemble.specs.declared.contents.Contents.{Contents}
 use Rattle.rn_assemble.specs.declared.components.Body.{Body}
 use Rattle.rn_assemble.specs.declared.components.Components.{Components}
+use Rattle.rn_assemble.specs.declared.keys.Keys.{Keys}
 use Rattle.rn_assemble.specs.Resolve.{resolved}
-use Rattle.rn_assemble.specs.Bound.{BindsAs}
-use Rattle.rn_assemble.specs.Components.{Component, Source}
-use Rattle.rn_assemble.specs.Contained.{Written, written, inclusions}
-use Rattle.rn_assemble.specs.Views.{IsNumbered, inclusion_view, written_view}
+use Rattle.rn_assemble.specs.inside.Bound.{BindsAs}
+use Rattle.rn_assemble.specs.Components.{Component, Key, Source}
+use Rattle.rn_assemble.specs.inside.Contained.{Written, written, inclusions}
+use Rattle.rn_assemble.specs.inside.Keyed.{key_at}
+use Rattle.rn_assemble.specs.inside.Views.{IsNumbered, inclusion_view, names_of, written_view}
 
 -- the contents are those of the module
 pub record IsContents (modules : List Source) (names : List Text) (m : Source) (c : Contents) : Type 0 where
@@ -26,6 +30,11 @@ AreContents modules names contents = AllZip (IsContents modules names) modules c
 -- a written component with its names resolved
 abbrev pub resolved_component : Text → List Declaration → Written → Component
 resolved_component inherited ds w = record { key = w.key; method = w.method; body = resolved inherited ds w.pattern }
+
+-- the components of the numbers from one to another, with their names resolved
+abbrev pub resolved_between : List Text → Contents → Text → List Declaration → (from to : ℕ) → List Component
+resolved_between names content inherited ds from to =
+    map (resolved_component inherited ds) (slice_range (map (written_view names) content.components.items) from to)
 
 -- the body is that of the component, whose key has the number
 pub record IsBody (names : List Text) (b : Body) (key : ℕ) (c : Component) : Type 0 where
@@ -51,6 +60,10 @@ abbrev pub Rises : ℕ → List Live → Type 0
 Rises n [] = ⊤
 Rises n (e ∷ es) = (n ≤ e.place) × Rises (suc e.place) es
 
+-- all their places are below this one
+abbrev pub AreBefore : ℕ → List Live → Type 0
+AreBefore place live = AllByRecursion (λ (e : Live). e.place < place) live
+
 -- the places of the components of a key
 abbrev pub places_of : ℕ → List Live → List ℕ
 places_of key live = map (λ (e : Live). e.place) (filter (λ (e : Live). e.key == key) live)
@@ -67,3 +80,28 @@ Lists names x live = ListsBy names x.bodies.items x.list.items (rows_of x.places
 
 abbrev pub components_in : List Live → List Component
 components_in live = map (λ (e : Live). e.component) live
+
+-- ---- of which components a contract speaks
+
+-- P holds of each component that has the body
+abbrev pub OfBody : List Text → Body → (Component → Type 0) → Type 0
+OfBody names b P = (key : ℕ) (c : Component) → IsBody names b key c → P c
+
+-- P holds of the live component at the place
+abbrev pub AtPlace : List Text → Components → ℕ → (Component → Type 0) → Type 0
+AtPlace names x place P = (live : List Live) (e : Live) → Lists names x live → Contains live e → e.place ≡ place → P e.component
+
+-- P holds of the names and the live components, where the components are listed by names in their order
+abbrev pub ByNames : Components → (List Text → List Component → Type 0) → Type 0
+ByNames x P = (names : List Text) (live : List Live) → Lists names x live → IsStrictlySortedBy text_cmp names
+    → P names (components_in live)
+
+-- P holds of the key of that number and the live components
+abbrev pub AtKey : Components → ℕ → (Key → List Component → Type 0) → Type 0
+AtKey x key P = (names : List Text) (live : List Live) → Lists names x live → IsStrictlySortedBy text_cmp names
+    → key < length names + 1 → P (key_at names key) (components_in live)
+
+-- P holds of the keys' names and the live components, where the components are listed by these names in their order
+abbrev pub OfKeys : Keys → Components → (List Text → List Component → Type 0) → Type 0
+OfKeys keys x P = (live : List Live) → Lists (names_of keys) x live → IsStrictlySortedBy text_cmp (names_of keys)
+    → P (names_of keys) (components_in live)
