@@ -1,3 +1,5 @@
 mod LineCuts
 mod NameFacts
 mod Graphs
+mod PathFacts
+mod UriFacts

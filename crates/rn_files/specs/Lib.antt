@@ -4,3 +4,7 @@ pub mod Names
 pub mod Sources
 pub mod Following
 pub mod Memory
+pub mod Paths
+pub mod Escapes
+pub mod Uris
+pub mod References

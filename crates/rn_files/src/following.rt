@@ -4,13 +4,14 @@ ghost use Rattle.rn_files.specs.Limits.{max_text};
 ghost use Rattle.rn_files.specs.Following.{IsFollowed};
 ghost use Rattle.rn_files.specs.Sources.{is_link};
 
+use crate::escapes::file_uri;
 use crate::faults::{FaultKind, FaultPlace};
 use crate::files::{FileFault, Files};
 use crate::maps::{Map, Place, place_of};
-use crate::references::{remove_dot_segments, resolve_below};
+use crate::paths::remove_dot_segments;
+use crate::references::resolve_below;
 use crate::roots::RootFolder;
 use crate::texts::{MAX_TEXT, Text, text_of};
-use crate::uris::file_uri;
 use crate::walk::{Followed, Found, MAX_SOURCES, Origin, Walk};
 use rn_outline::{Outline, Part, PartKind};
 use std::alloc::{AllocError, Global};

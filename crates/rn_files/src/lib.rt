@@ -8,6 +8,7 @@
 #![tactic(auto)]
 
 mod cycles;
+mod escapes;
 mod faults;
 mod files;
 mod following;
@@ -16,6 +17,7 @@ mod lines;
 mod maps;
 mod memory;
 mod names;
+mod paths;
 mod positions;
 mod reading;
 mod references;
@@ -32,9 +34,10 @@ pub use lines::Position;
 pub use maps::Map;
 pub use memory::MemoryFiles;
 pub use names::module_name;
+pub use paths::remove_dot_segments;
 pub use positions::{line_of, position};
 pub use reading::{ReadFault, Reading, read_sources};
-pub use references::{ReferenceFault, remove_dot_segments, resolve};
+pub use references::{ReferenceFault, resolve};
 pub use sources::{Asked, Attempt, Source, Sources};
 pub use texts::MAX_TEXT;
 pub use walk::MAX_SOURCES;

@@ -1,9 +1,11 @@
 // Files in memory.
+ghost use Rattle.std.specs.Prelude.{◌≡◌, string_bytes};
 ghost use Rattle.std.specs.BTreeMap.{get_by_text};
+ghost use Rattle.std.specs.List.{before_last};
+ghost use Rattle.rn_files.specs.Paths.{is_slash};
 ghost use Rattle.rn_files.specs.Memory.{IsFileOf};
 
 use crate::files::{FileFault, Files};
-use crate::references::remove_last;
 use crate::texts::MAX_TEXT;
 use std::alloc::{AllocError, Global};
 use std::collections::BTreeMap;
@@ -26,6 +28,16 @@ pub struct MemoryFiles {
 /// Want of memory.
 fn no_memory(_: AllocError) -> FileFault {
     FileFault::Memory
+}
+
+/// Cuts the last segment off, with the slash before it.
+fn remove_last(path: &mut String)
+    ensures { string_bytes path.new ≡ before_last is_slash (string_bytes path.old) }
+{
+    match path.as_str().rfind('/') {
+        Some(at) => path.truncate(at),
+        None => path.clear(),
+    }
 }
 
 impl MemoryFiles {

@@ -1,8 +1,14 @@
 // References, resolved against the URI of their file (RFC 3986, section 5.2).
-ghost use Rattle.std.specs.Prelude.{◌<◌, length, IfSome};
+ghost use Rattle.std.specs.Prelude.{◌≡◌, ◌⊎◌, ◌++◌, [], Err, IfErr, IfNone, IfOk, IfSome, MatchBool, ◌==◌, length, map, string_bytes};
+ghost use Rattle.std.specs.List.{list_any};
+ghost use Rattle.rn_files.specs.Escapes.{escaped};
+ghost use Rattle.rn_files.specs.Paths.{LeadAbove, path_of, without_dots};
+ghost use Rattle.rn_files.specs.References.{dotted, fault_of, resolved};
+ghost use Rattle.rn_files.specs.Uris as uris;
 
-use crate::roots::folder_of;
-use crate::uris::{Parts, escaped, join, split};
+use crate::escapes::{escaped, has_escapes};
+use crate::paths::{joined, lead_above, segments, without_dots};
+use crate::uris::{Parts, join, split};
 use std::alloc::{AllocError, Global};
 use thiserror::Error;
 
@@ -45,202 +51,167 @@ pub enum ReferenceFault {
 }
 
 /// Want of memory.
-fn no_memory(_: AllocError) -> ReferenceFault {
+fn no_memory(_: AllocError) -> ReferenceFault
+    ensures { result ≡ ReferenceFault.Memory }
+{
     ReferenceFault::Memory
 }
 
-/// Cuts the last segment off, with the slash before it (RFC 3986, section 5.2.4, 2C).
-pub fn remove_last(out: &mut String) {
-    while let Some(last) = out.pop() {
-        if last == '/' {
-            return;
-        }
-    }
-}
-
-/// How many bytes the first segment has, with the slash that it may begin with.
-fn segment_length(bytes: &[u8]) -> usize
-    ensures { 0 < length bytes.now → 0 < result }
+/// The folder of the base's path: all segments but the last. Of a base with an authority and an empty path it is the root.
+fn folder_of<'p>(alloc: Global, base: &Parts<'p>) -> Result<Vec<&'p str>, AllocError>
+    ensures { IfOk result (λ v. map (λ s. s.now) v.items ≡ uris.folder_of (uris.seen base.now)) }
 {
-    for i in 1..bytes.len() {
-        if bytes[i] == b'/' {
-            return i;
-        }
+    if base.authority.is_some() && base.path.is_empty() {
+        return Ok(vec![in alloc; ""]?);
     }
-    bytes.len()
-}
-
-/// The first segment, with the slash that it may begin with, and what comes behind it.
-fn split_segment(input: &str) -> (&str, &str)
-    requires { 0 < length input.now }
-    ensures { length result.1.now < length input.now }
-{
-    match input.split_at_checked(segment_length(input.as_bytes())) {
-        Some(parts) => parts,
-        None => (input, ""),
-    }
-}
-
-/// What comes behind so many bytes.
-fn behind(input: &str, count: usize) -> &str
-    requires some { 0 < count }
-    requires within { 0 < length input.now }
-    ensures { length result.now < length input.now }
-{
-    match input.split_at_checked(count) {
-        Some((_, rest)) => rest,
-        None => "",
-    }
-}
-
-/// What is left of the input where its first segment is `.` or `..`, and whether it was `..` behind a slash (RFC 3986,
-/// section 5.2.4, 2A to 2D).
-fn without_dots(input: &str) -> Option<(&str, bool)>
-    ensures { IfSome result (λ x. length x.0.now < length input.now) }
-{
-    match input.as_bytes() {
-        [b'.', b'.', b'/', ..] => Some((behind(input, 3), false)),
-        [b'.', b'/', ..] => Some((behind(input, 2), false)),
-        [b'/', b'.', b'/', ..] => Some((behind(input, 2), false)),
-        [b'/', b'.', b'.', b'/', ..] => Some((behind(input, 3), true)),
-        b"/." => Some(("/", false)),
-        b"/.." => Some(("/", true)),
-        b"." | b".." => Some(("", false)),
-        _ => None,
-    }
-}
-
-/// The path without its segments `.` and `..` (RFC 3986, section 5.2.4). A `..` at the top is dropped.
-pub fn remove_dot_segments(alloc: Global, path: &str) -> Result<String, AllocError> {
-    let mut out = String::new(alloc);
-    let mut input = path;
-    while !input.is_empty() {
-        if let Some((rest, is_up)) = without_dots(input) {
-            if is_up {
-                remove_last(&mut out);
-            }
-            input = rest;
-        } else {
-            let (segment, rest) = split_segment(input);
-            out.push_str(segment)?;
-            input = rest;
-        }
-    }
-    Ok(out)
-}
-
-/// Whether the first segment is `..`.
-fn is_up(input: &str) -> bool {
-    let segment = input.strip_prefix('/').unwrap_or(input);
-    segment == ".." || segment.starts_with("../")
-}
-
-/// Whether a `..` of the path finds no segment before it that it takes away. RFC 3986 lets such a `..` fall (section 5.2.4,
-/// 2A and 2C); of a file it is a fault.
-fn leads_above(path: &str) -> bool {
-    let mut depth: usize = 0;
-    let mut input = path;
-    while !input.is_empty() {
-        let Some((rest, _)) = without_dots(input) else {
-            depth = depth.saturating_add(1);
-            input = split_segment(input).1;
-            continue;
-        };
-        if is_up(input) {
-            match depth.checked_sub(1) {
-                Some(less) => depth = less,
-                None => return true,
-            }
-        }
-        input = rest;
-    }
-    false
+    let mut folder = segments(alloc, base.path)?;
+    folder.pop();
+    Ok(folder)
 }
 
 /// The base's path up to its last slash, and then the reference's path (RFC 3986, section 5.2.3).
-fn merged(alloc: Global, base: &Parts<'_>, path: &str) -> Result<String, AllocError> {
-    let mut out = String::new(alloc);
-    if base.authority.is_some() && base.path.is_empty() {
-        out.push_str("/")?;
-    }
-    out.push_str(folder_of(base.path))?;
-    out.push_str(path)?;
-    Ok(out)
+fn merged<'p>(alloc: Global, base: &Parts<'p>, path: &'p str) -> Result<Vec<&'p str>, AllocError>
+    ensures { IfOk result (λ v. map (λ s. s.now) v.items
+        ≡ uris.merged (uris.seen base.now) path.now) }
+{
+    let mut merged = folder_of(alloc, base)?;
+    let behind = segments(alloc, path)?;
+    merged.extend_from_slice(behind.as_slice())?;
+    Ok(merged)
 }
 
-/// The path of the target of a reference, with its dot segments.
-fn dotted_path(
+/// Whether the reference has a scheme or an authority of its own.
+fn has_own(reference: &Parts<'_>) -> bool
+    ensures { result ≡ uris.has_own (uris.seen reference.now) }
+{
+    reference.scheme.is_some() || reference.authority.is_some()
+}
+
+/// The segments of the target's path, with its dot segments.
+fn dotted<'p>(
     alloc: Global,
-    base: &Parts<'_>,
-    reference: &Parts<'_>,
-) -> Result<String, AllocError> {
-    let whole = reference.scheme.is_some()
-        || reference.authority.is_some()
-        || reference.path.starts_with('/');
-    if whole {
-        String::from_str(alloc, reference.path)
+    base: &Parts<'p>,
+    reference: &Parts<'p>,
+) -> Result<Vec<&'p str>, AllocError>
+    ensures { IfOk result (λ v. map (λ s. s.now) v.items
+        ≡ uris.dotted (uris.seen base.now) (uris.seen reference.now)) }
+{
+    if has_own(reference) || reference.path.starts_with('/') {
+        segments(alloc, reference.path)
     } else {
         merged(alloc, base, reference.path)
     }
 }
 
-/// The target of a reference that is not empty (RFC 3986, section 5.2.2).
-fn target(alloc: Global, base: &Parts<'_>, reference: &Parts<'_>) -> Result<String, AllocError> {
-    let dotted = dotted_path(alloc, base, reference)?;
-    let path = remove_dot_segments(alloc, dotted.as_str())?;
-    let has_own = reference.scheme.is_some() || reference.authority.is_some();
-    join(
-        alloc,
-        &Parts {
-            scheme: reference.scheme.or(base.scheme),
-            authority: if has_own {
-                reference.authority
-            } else {
-                base.authority
-            },
-            path: path.as_str(),
-        },
-    )
+/// The path of the target, without dot segments.
+fn target_path(alloc: Global, dotted: &[&str]) -> Result<String, AllocError>
+    ensures { IfOk result (λ path. string_bytes path
+        ≡ path_of (without_dots (map (λ s. s.now) dotted.now))) }
+{
+    let left = without_dots(alloc, dotted)?;
+    joined(alloc, left.as_slice())
 }
 
-/// Whether each `%` is followed by two hexadecimal digits.
-fn has_escapes(bytes: &[u8]) -> bool {
-    let mut rest = bytes;
-    while let Some(at) = rest.iter().position(|byte| *byte == b'%') {
-        match &rest[at + 1..] {
-            [high, low, behind @ ..] if high.is_ascii_hexdigit() && low.is_ascii_hexdigit() =>
-                rest = behind,
-            _ => return false,
-        }
+/// The parts of the target, but for its path.
+fn target_parts<'p>(base: &Parts<'p>, reference: &Parts<'p>, path: &'p str) -> Parts<'p>
+    ensures { path.now ≡ (uris.target (uris.seen base.now) (uris.seen reference.now)).path
+        → uris.seen result ≡ uris.target (uris.seen base.now) (uris.seen reference.now) }
+{
+    Parts {
+        scheme: reference.scheme.or(base.scheme),
+        authority: if has_own(reference) {
+            reference.authority
+        } else {
+            base.authority
+        },
+        path,
     }
-    true
+}
+
+/// The target of a reference that is not empty (RFC 3986, section 5.2.2).
+fn target(alloc: Global, base: &Parts<'_>, reference: &Parts<'_>) -> Result<String, AllocError>
+    ensures { IfOk result (λ uri. string_bytes uri
+        ≡ uris.recomposed (uris.target (uris.seen base.now) (uris.seen reference.now))) }
+{
+    let dotted = dotted(alloc, base, reference)?;
+    let path = target_path(alloc, dotted.as_slice())?;
+    join(alloc, &target_parts(base, reference, path.as_str()))
+}
+
+/// Whether a reference has a byte.
+fn has_byte(bytes: &[u8], wanted: u8) -> bool
+    ensures { result ≡ list_any (λ b. b == wanted) bytes.now }
+{
+    bytes.iter().any(|byte| *byte == wanted)
+}
+
+/// What is wrong with a reference.
+fn fault_of(reference: &str) -> Option<ReferenceFault>
+    ensures { result ≡ fault_of reference.now }
+{
+    let bytes = reference.as_bytes();
+    if bytes.is_empty() {
+        Some(ReferenceFault::Empty)
+    } else if has_byte(bytes, b'#') {
+        Some(ReferenceFault::Fragment)
+    } else if has_byte(bytes, b'?') {
+        Some(ReferenceFault::Query)
+    } else if !has_escapes(bytes) {
+        Some(ReferenceFault::Escape)
+    } else {
+        None
+    }
+}
+
+/// The URI that a reference without fault stands for.
+fn resolved(alloc: Global, base: &str, reference: &str) -> Result<String, AllocError>
+    ensures { IfOk result (λ uri. string_bytes uri ≡ resolved base.now reference.now) }
+{
+    let text = escaped(alloc, reference)?;
+    target(alloc, &split(base), &split(text.as_str()))
+}
+
+/// Whether a `..` of a reference without fault leads above the root of its path.
+fn leads_above(alloc: Global, base: &str, reference: &str) -> Result<bool, AllocError>
+    ensures { IfOk result (λ above. MatchBool above (LeadAbove (dotted base.now reference.now))
+        (¬ (LeadAbove (dotted base.now reference.now)))) }
+{
+    let text = escaped(alloc, reference)?;
+    let dotted = dotted(alloc, &split(base), &split(text.as_str()))?;
+    lead_above(alloc, dotted.as_slice())
 }
 
 /// The URI that a reference stands for in a file that has the URI `base`. What no URI holds is escaped first (XLink,
 /// section 5.4), as RELAX NG says (4.5).
-pub fn resolve(alloc: Global, base: &str, reference: &str) -> Result<String, ReferenceFault> {
-    if reference.is_empty() {
-        return Err(ReferenceFault::Empty);
+///
+/// Refused are a reference that is empty, one with a fragment, one with a query, and one with a `%` that begins no escape, the
+/// first of these. Else the only error is `Memory`.
+pub fn resolve(alloc: Global, base: &str, reference: &str) -> Result<String, ReferenceFault>
+    ensures fault { IfSome (fault_of reference.now) (λ fault. result ≡ Err fault) }
+    ensures uri { IfOk result (λ uri. string_bytes uri ≡ resolved base.now reference.now) }
+    ensures memory { IfNone (fault_of reference.now)
+        (IfErr result (λ fault. fault ≡ ReferenceFault.Memory)) }
+{
+    match fault_of(reference) {
+        Some(fault) => Err(fault),
+        None => resolved(alloc, base, reference).map_err(no_memory),
     }
-    if reference.contains('#') {
-        return Err(ReferenceFault::Fragment);
-    }
-    if reference.contains('?') {
-        return Err(ReferenceFault::Query);
-    }
-    if !has_escapes(reference.as_bytes()) {
-        return Err(ReferenceFault::Escape);
-    }
-    let text = escaped(alloc, reference).map_err(no_memory)?;
-    target(alloc, &split(base), &split(text.as_str())).map_err(no_memory)
 }
 
 /// The URI that a reference in a file stands for, as `resolve` says. `Above` where a `..` leads above the root of its path.
-pub fn resolve_below(alloc: Global, base: &str, reference: &str) -> Result<String, ReferenceFault> {
-    let uri = resolve(alloc, base, reference)?;
-    let dotted = dotted_path(alloc, &split(base), &split(reference)).map_err(no_memory)?;
-    if leads_above(dotted.as_str()) {
+pub fn resolve_below(alloc: Global, base: &str, reference: &str) -> Result<String, ReferenceFault>
+    ensures fault { IfSome (fault_of reference.now) (λ fault. result ≡ Err fault) }
+    ensures uri { IfOk result (λ uri. (string_bytes uri ≡ resolved base.now reference.now)
+        × ¬ (LeadAbove (dotted base.now reference.now))) }
+    ensures above { IfNone (fault_of reference.now) (IfErr result (λ fault.
+        (fault ≡ ReferenceFault.Memory)
+        ⊎ ((fault ≡ ReferenceFault.Above) × LeadAbove (dotted base.now reference.now)))) }
+{
+    if let Some(fault) = fault_of(reference) {
+        return Err(fault);
+    }
+    if leads_above(alloc, base, reference).map_err(no_memory)? {
         return Err(ReferenceFault::Above);
     }
-    Ok(uri)
+    resolved(alloc, base, reference).map_err(no_memory)
 }

@@ -1,0 +1,26 @@
+-- What references in files stand for (RFC 3986, 5.2; XLink 1.0, 5.4; RELAX NG 4.5).
+use Rattle.std.specs.Prelude.{ℕ, ◌==◌, not, List, length, Option, Some, None, if◌then◌else◌}
+use Rattle.std.specs.List.{list_any}
+use Rattle.rn_files.specs.Escapes.{escaped, has_escapes}
+use Rattle.rn_files.specs.Paths.{Segment}
+use Rattle.rn_files.specs.Uris as uris
+use Rattle.rn_files.specs.Uris.{parts_of, recomposed, target}
+use Rattle.rn_files.specs.declared.references.ReferenceFault.{ReferenceFault}
+use Rattle.rn_files.specs.declared.references.ReferenceFault.TheVariants.{Empty, Fragment, Query, Escape}
+
+-- what is wrong with a reference, the first of these: it is empty, has a fragment, has a query, or has a `%` that begins no escape
+abbrev pub fault_of : List ℕ → Option ReferenceFault
+fault_of reference =
+    if length reference == 0 then Some Empty
+    else if list_any (λ b. b == 35) reference then Some Fragment
+    else if list_any (λ b. b == 63) reference then Some Query
+    else if not (has_escapes reference) then Some Escape
+    else None
+
+-- the URI that a reference without fault stands for in a file with the URI `base`
+abbrev pub resolved : List ℕ → List ℕ → List ℕ
+resolved base reference = recomposed (target (parts_of base) (parts_of (escaped reference)))
+
+-- the segments of its path, before the dot segments are removed
+abbrev pub dotted : List ℕ → List ℕ → List Segment
+dotted base reference = uris.dotted (parts_of base) (parts_of (escaped reference))

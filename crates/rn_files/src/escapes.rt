@@ -1,0 +1,101 @@
+// Escapes in references and paths (RFC 3986, section 2.1).
+ghost use Rattle.std.specs.Prelude.{◌≡◌, ◌++◌, ◌∷◌, [], true, IfOk, OnOk, string_bytes, if◌then◌else◌};
+ghost use Rattle.std.specs.List.{flat_map};
+ghost use Rattle.percent_encoding.specs.Percent.{percent_encode_byte};
+ghost use Rattle.rn_files.specs.Escapes.{begins_with_digits, escaped, file_uri, has_escapes, is_allowed, is_path_byte, kept_or_escaped};
+
+use percent_encoding::percent_encode_byte;
+use std::alloc::{AllocError, Global};
+
+/// Whether two hexadecimal digits come first.
+fn begins_with_digits(bytes: &[u8]) -> bool
+    ensures { result ≡ begins_with_digits bytes.now }
+{
+    match bytes {
+        [high, low, ..] => high.is_ascii_hexdigit() && low.is_ascii_hexdigit(),
+        _ => false,
+    }
+}
+
+/// Whether each `%` is followed by two hexadecimal digits.
+pub fn has_escapes(bytes: &[u8]) -> bool
+    ensures { result ≡ has_escapes bytes.now }
+{
+    let mut rest = bytes;
+    while let [first, behind @ ..] = rest {
+        if *first == b'%' && !begins_with_digits(behind) {
+            return false;
+        }
+        rest = behind;
+    }
+    true
+}
+
+/// Whether a byte may stand in a reference to a URI: it is of ASCII, no control, and none of `" < > \ ^ { | }`, space and the
+/// grave accent.
+fn is_allowed(byte: u8) -> bool
+    ensures { result ≡ is_allowed byte }
+{
+    byte.is_ascii_graphic()
+        && !matches!(
+            byte,
+            b'"' | b'<' | b'>' | b'\\' | b'^' | b'`' | b'{' | b'|' | b'}'
+        )
+}
+
+/// Whether a path of a URI holds a byte as it is (RFC 3986, section 3.3: `pchar` and `/`).
+fn is_path_byte(byte: u8) -> bool
+    ensures { result ≡ is_path_byte byte }
+{
+    byte.is_ascii_alphanumeric()
+        || matches!(
+            byte,
+            b'-' | b'.' | b'_' | b'~' | b'!' | b'$' | b'&'..=b',' | b';' | b'=' | b':' | b'@' | b'/'
+        )
+}
+
+/// Adds the byte of a reference, or its escape.
+fn push_reference_byte(out: &mut String, byte: u8) -> Result<(), AllocError>
+    ensures { OnOk result (string_bytes out.new
+        ≡ string_bytes out.old ++ kept_or_escaped is_allowed byte) }
+{
+    if is_allowed(byte) {
+        out.push(char::from(byte))
+    } else {
+        out.push_str(percent_encode_byte(byte))
+    }
+}
+
+/// Adds the byte of a path, or its escape.
+fn push_path_byte(out: &mut String, byte: u8) -> Result<(), AllocError>
+    ensures { OnOk result (string_bytes out.new
+        ≡ string_bytes out.old ++ kept_or_escaped is_path_byte byte) }
+{
+    if is_path_byte(byte) {
+        out.push(char::from(byte))
+    } else {
+        out.push_str(percent_encode_byte(byte))
+    }
+}
+
+/// The reference with each byte escaped that no URI holds (XLink, section 5.4).
+pub fn escaped(alloc: Global, reference: &str) -> Result<String, AllocError>
+    ensures { IfOk result (λ text. string_bytes text ≡ escaped reference.now) }
+{
+    let mut out = String::new(alloc);
+    for byte in reference.as_bytes() {
+        push_reference_byte(&mut out, *byte)?;
+    }
+    Ok(out)
+}
+
+/// The URI of a path that begins with `/`.
+pub fn file_uri(alloc: Global, path: &str) -> Result<String, AllocError>
+    ensures { IfOk result (λ uri. string_bytes uri ≡ file_uri path.now) }
+{
+    let mut out = String::from_str(alloc, "file://")?;
+    for byte in path.as_bytes() {
+        push_path_byte(&mut out, *byte)?;
+    }
+    Ok(out)
+}
