@@ -1,5 +1,7 @@
 // Definitions of one key combined (RELAX NG 2001, 4.17).
 ghost use Rattle.std.specs.Prelude.{◌≡◌, ◌+◌, ◌<◌, List, Decides, length, map, option_map, IfOk, IsSomeAnd, MatchResult};
+ghost use Rattle.std.specs.List.Sorted.{IsStrictlySortedBy};
+ghost use Rattle.rn_pattern.specs.Order.{text_cmp};
 ghost use Rattle.rn_pattern.specs.Tree.{Text, trees_of};
 ghost use Rattle.rn_pattern.specs.View.{shared_view};
 ghost use Rattle.rn_assemble.specs.Combine as spec;
@@ -9,7 +11,7 @@ ghost use Rattle.rn_assemble.specs.inside.Patterns.{AreCombined, AreSharedBy, Ar
 ghost use Rattle.rn_assemble.specs.Refusal.{BreaksNameRules};
 ghost use Rattle.rn_assemble.specs.inside.Views.{names_of};
 ghost use Rattle.rn_assemble.specs.inside.Methods.{IsLeastNumber, is_method};
-ghost use Rattle.rn_assemble.specs.inside.Listed.{AtKey, AtPlace, ByNames, OfBody, OfKeys};
+ghost use Rattle.rn_assemble.specs.inside.Listed.{AtKey, AtPlace, Lists, Live, OfBody, OfKeys, components_in};
 
 use crate::components::{Body, Components};
 use crate::keys::Keys;
@@ -33,7 +35,9 @@ impl<'c, 't, 's> Components<'c, 't, 's> {
 
     /// Whether some component of the key uses the method.
     fn uses(&self, key: usize, method: Method) -> bool
-        ensures { AtKey self.now key (λ k cs. result ≡ spec.uses (is_method method) k cs) }
+        ensures { (names : List Text) (live : List Live) → Lists names self.now live
+            → IsStrictlySortedBy text_cmp names → key < length names + 1
+            → result ≡ spec.uses (is_method method) (key_at names key) (components_in live) }
     {
         for place in self.of_key(key) {
             if self.method(*place) == Some(method) {
@@ -45,7 +49,9 @@ impl<'c, 't, 's> Components<'c, 't, 's> {
 
     /// Whether two components of the key are plain.
     fn is_plain_twice(&self, key: usize) -> bool
-        ensures { AtKey self.now key (λ k cs. Decides result (spec.IsPlainTwice k cs)) }
+        ensures { (names : List Text) (live : List Live) → Lists names self.now live
+            → IsStrictlySortedBy text_cmp names → key < length names + 1
+            → Decides result (spec.IsPlainTwice (key_at names key) (components_in live)) }
     {
         let mut is_plain = false;
         for place in self.of_key(key) {
@@ -61,8 +67,9 @@ impl<'c, 't, 's> Components<'c, 't, 's> {
 
     /// The least of that many keys with two plain components.
     pub fn least_plain_twice(&self, keys: usize) -> Option<usize>
-        ensures { ByNames self.now (λ names cs. keys ≡ length names + 1
-            → IsLeastNumber names (λ k. spec.IsPlainTwice k cs) result) }
+        ensures { (names : List Text) (live : List Live) → Lists names self.now live
+            → IsStrictlySortedBy text_cmp names → keys ≡ length names + 1
+            → IsLeastNumber names (λ k. spec.IsPlainTwice k (components_in live)) result }
     {
         for key in 0..keys {
             if self.is_plain_twice(key) {
@@ -74,8 +81,9 @@ impl<'c, 't, 's> Components<'c, 't, 's> {
 
     /// The least of that many keys whose components use both methods.
     pub fn least_mixed(&self, keys: usize) -> Option<usize>
-        ensures { ByNames self.now (λ names cs. keys ≡ length names + 1
-            → IsLeastNumber names (λ k. spec.IsMixed k cs) result) }
+        ensures { (names : List Text) (live : List Live) → Lists names self.now live
+            → IsStrictlySortedBy text_cmp names → keys ≡ length names + 1
+            → IsLeastNumber names (λ k. spec.IsMixed k (components_in live)) result }
     {
         for key in 0..keys {
             if self.uses(key, Method::Choice) && self.uses(key, Method::Interleave) {

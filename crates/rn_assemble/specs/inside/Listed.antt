@@ -91,11 +91,6 @@ OfBody names b P = (key : ℕ) (c : Component) → IsBody names b key c → P c
 abbrev pub AtPlace : List Text → Components → ℕ → (Component → Type 0) → Type 0
 AtPlace names x place P = (live : List Live) (e : Live) → Lists names x live → Contains live e → e.place ≡ place → P e.component
 
--- P holds of the names and the live components, where the components are listed by names in their order
-abbrev pub ByNames : Components → (List Text → List Component → Type 0) → Type 0
-ByNames x P = (names : List Text) (live : List Live) → Lists names x live → IsStrictlySortedBy text_cmp names
-    → P names (components_in live)
-
 -- P holds of the key of that number and the live components
 abbrev pub AtKey : Components → ℕ → (Key → List Component → Type 0) → Type 0
 AtKey x key P = (names : List Text) (live : List Live) → Lists names x live → IsStrictlySortedBy text_cmp names
