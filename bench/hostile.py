@@ -106,10 +106,11 @@ def names(twin):
 
 
 def includes(twin):
-    """A body of 1.4 MB that 511 includes bring in; of the twin's includes one does, and the others an empty body."""
+    """A body of 1.4 MB that 510 includes bring in; of the twin's includes one does, and the others an empty body."""
     body = "x |= element a {" + ",".join(f"element e{i}{{text}}" for i in range(60000)) + "}"
     modules = {"a": body, "b": "x |= empty"}
-    modules["driver"] = "start = x\n" + "\n".join('include "' + ("b" if twin and i else "a") + '"' for i in range(511))
+    included = ["a"] + ["b" if twin else "a"] * 509 + ["b"]
+    modules["driver"] = "start = x\n" + "\n".join(f'include "{name}"' for name in included)
     return modules
 
 

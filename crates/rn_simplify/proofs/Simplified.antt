@@ -11,6 +11,8 @@ pub mod Numbers
 pub mod Marks
 pub mod Known
 pub mod PrunedForms
+pub mod AlikeRows
+pub mod Repeats
 pub mod Retained
 pub mod Forms
 pub mod Contents

@@ -109,7 +109,7 @@ fn leaf<P: Patterns>(
 /// The id of the canonical form of a list of the members. All parts of it are put in order at once, however deep lists of
 /// its kind are within one another.
 #[cycle(canonical)]
-fn listed<P: Patterns>(
+pub(crate) fn listed<P: Patterns>(
     alloc: Global,
     store: &mut P,
     settled: &Settled<'_>,

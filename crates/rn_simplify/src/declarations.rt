@@ -27,7 +27,8 @@ fn declared(
     texts: BTreeSet<String>,
     known: &str,
 ) -> Result<IndexSet<String, Seed>, AllocError>
-    ensures { IfOk result (λ r. map (λ u. string_bytes u) r.keys ≡ filter (is_other known.now) (map (λ u. string_bytes u) texts.keys)) }
+    ensures { IfOk result (λ r. map (λ u. string_bytes u) r.keys
+        ≡ filter (is_other known.now) (map (λ u. string_bytes u) texts.keys)) }
 {
     let mut rest = IndexSet::with_hasher(alloc, seed_of(&texts));
     for text in texts {
@@ -72,7 +73,8 @@ impl Prefixes {
     /// The prefixes of what the grammar mentions.
     pub(crate) fn of(alloc: Global, normal: &Normal) -> Result<Prefixes, AllocError>
         ensures prefixes { IfOk result (λ f. prefixes_view f ≡ prefixes (normal_view normal.now)) }
-        ensures empty { IfOk result (λ f. f.empty_namespace ≡ has_wide_empty (normal_view normal.now)) }
+        ensures empty { IfOk result (λ f. f.empty_namespace
+            ≡ has_wide_empty (normal_view normal.now)) }
     {
         let mentions = Mentions::of(alloc, normal)?;
         Ok(Prefixes {
@@ -84,7 +86,8 @@ impl Prefixes {
 
     /// Writes the prefix of a namespace.
     pub(crate) fn write_namespace(&self, writer: &mut Writer, uri: &str)
-        ensures { WritesBytes (encode_utf8_all (namespace_prefix (prefixes_view self.now) uri.now)) none writer.old writer.new }
+        ensures { WritesBytes (encode_utf8_all
+            (namespace_prefix (prefixes_view self.now) uri.now)) none writer.old writer.new }
     {
         if uri.is_empty() {
             writer.put("n0");
@@ -98,7 +101,8 @@ impl Prefixes {
 
     /// Writes the prefix of a datatype library.
     pub(crate) fn write_library(&self, writer: &mut Writer, uri: &str)
-        ensures { WritesBytes (encode_utf8_all (library_prefix (prefixes_view self.now) uri.now)) none writer.old writer.new }
+        ensures { WritesBytes (encode_utf8_all
+            (library_prefix (prefixes_view self.now) uri.now)) none writer.old writer.new }
     {
         if uri == XSD {
             writer.put("xsd");
@@ -110,7 +114,8 @@ impl Prefixes {
 
     /// Writes a datatype's name, behind the prefix of its library unless that is the empty one.
     pub(crate) fn write_type(&self, writer: &mut Writer, library: &str, type_name: &str)
-        ensures { Writes (type_piece (prefixes_view self.now) library.now type_name.now ∷ []) writer.old writer.new }
+        ensures { Writes (type_piece (prefixes_view self.now) library.now type_name.now ∷ [])
+            writer.old writer.new }
     {
         if !library.is_empty() {
             self.write_library(writer, library);
@@ -121,7 +126,8 @@ impl Prefixes {
 
     /// Writes the declarations, one a line.
     pub(crate) fn write_declarations(&self, writer: &mut Writer)
-        ensures { Writes (declaration_lines (prefixes_view self.now) self.now.empty_namespace) writer.old writer.new }
+        ensures { Writes (declaration_lines
+            (prefixes_view self.now) self.now.empty_namespace) writer.old writer.new }
     {
         writer.put("default namespace = \"\"\n");
         self.write_empty_namespace(writer);
@@ -130,7 +136,8 @@ impl Prefixes {
     }
 
     fn write_empty_namespace(&self, writer: &mut Writer)
-        ensures { Writes (bindings (codes "namespace") (empty_entries self.now.empty_namespace)) writer.old writer.new }
+        ensures { Writes (bindings (codes "namespace")
+            (empty_entries self.now.empty_namespace)) writer.old writer.new }
     {
         if self.empty_namespace {
             writer.put("namespace n0 = \"\"\n");
@@ -138,7 +145,9 @@ impl Prefixes {
     }
 
     fn write_namespaces(&self, writer: &mut Writer)
-        ensures { let f = prefixes_view self.now in Writes (bindings (codes "namespace") (entries (namespace_prefix f) f.namespaces)) writer.old writer.new }
+        ensures { let f = prefixes_view self.now in
+            Writes (bindings (codes "namespace")
+            (entries (namespace_prefix f) f.namespaces)) writer.old writer.new }
     {
         for uri in self.namespaces.as_slice() {
             writer.put("namespace ");
@@ -148,7 +157,9 @@ impl Prefixes {
     }
 
     fn write_libraries(&self, writer: &mut Writer)
-        ensures { let f = prefixes_view self.now in Writes (bindings (codes "datatypes") (entries (library_prefix f) f.libraries)) writer.old writer.new }
+        ensures { let f = prefixes_view self.now in
+            Writes (bindings (codes "datatypes")
+            (entries (library_prefix f) f.libraries)) writer.old writer.new }
     {
         for uri in self.libraries.as_slice() {
             writer.put("datatypes ");

@@ -31,22 +31,29 @@ pub fn spelling_reads_back()
 /// A grammar whose names are names, whose texts are XML characters and whose datatypes may stand has a canonical grammar
 /// of which the same holds; if that one's text is at most 4 MiB long, it is read back as the canonical grammar, opened.
 pub fn canonical_texts_are_read_back()
-    ensures writable { (G N : Grammar) → IsCanonicalOf G N → HasWritableTexts G → HasWritableTexts N }
-    ensures spellable { (G N : Grammar) → IsCanonicalOf G N → HasWritableTexts G → length (spelling N) ≤ most_bytes → IsSpellable N }
-    ensures read_back { (G N : Grammar) → IsCanonicalOf G N → HasWritableTexts G → length (spelling N) ≤ most_bytes → IsReadBack N }
+    ensures writable { (G N : Grammar) → IsCanonicalOf G N → HasWritableTexts G
+        → HasWritableTexts N }
+    ensures spellable { (G N : Grammar) → IsCanonicalOf G N → HasWritableTexts G
+        → length (spelling N) ≤ most_bytes → IsSpellable N }
+    ensures read_back { (G N : Grammar) → IsCanonicalOf G N → HasWritableTexts G
+        → length (spelling N) ≤ most_bytes → IsReadBack N }
 {}
 
 /// The canonical grammar of a grammar is valid for exactly its documents, for every table of datatypes (RELAX NG
 /// Specification, sections 4.18 to 4.21 and 6). Dropping what no reference reaches needs no premise; the canonical form
 /// of the patterns needs that an except of a datatype holds data, values and choices of them alone (section 7.1.4).
 pub fn canonical_grammars_are_valid_alike()
-    ensures pruned { (G N : Grammar) → IsCanonicalOf G N → (T : Table) (doc : Item) → IsValid (all_canonical G) T doc ↔ IsValid N T doc }
-    ensures canonical { (G N : Grammar) → IsCanonicalOf G N → HasExcepts G.start → ((x : Text) → IfSome (definition_of G x) HasExcepts) → (T : Table) (doc : Item) → IsValid G T doc ↔ IsValid N T doc }
+    ensures pruned { (G N : Grammar) → IsCanonicalOf G N → (T : Table) (doc : Item)
+        → IsValid (all_canonical G) T doc ↔ IsValid N T doc }
+    ensures canonical { (G N : Grammar) → IsCanonicalOf G N → HasExcepts G.start
+        → ((x : Text) → IfSome (definition_of G x) HasExcepts) → (T : Table) (doc : Item)
+        → IsValid G T doc ↔ IsValid N T doc }
 {}
 
 /// A grammar with its optional and mixed patterns opened is valid for exactly the same documents (sections 4.13 to 4.15).
 pub fn opened_grammars_are_valid_alike()
-    ensures { (N : Grammar) (T : Table) (doc : Item) → IsValid N T doc ↔ IsValid (opened_grammar N) T doc }
+    ensures { (N : Grammar) (T : Table) (doc : Item) → IsValid N T doc
+        ↔ IsValid (opened_grammar N) T doc }
 {}
 
 /// A grammar has one canonical grammar at most.
@@ -57,13 +64,15 @@ pub fn one_canonical_grammar()
 /// A canonical grammar, opened, has itself as its canonical grammar, and no other: a second time changes nothing.
 pub fn canonical_again()
     ensures same { (G N : Grammar) → IsCanonicalOf G N → IsCanonicalOf (opened_grammar N) N }
-    ensures no_other { (G N M : Grammar) → IsCanonicalOf G N → IsCanonicalOf (opened_grammar N) M → M ≡ N }
+    ensures no_other { (G N M : Grammar) → IsCanonicalOf G N → IsCanonicalOf (opened_grammar N) M
+        → M ≡ N }
 {}
 
 /// References that are settled one after the other, each behind those that its definition refers to outside elements,
 /// give the canonical grammar.
 pub fn settling_in_order_is_canonical()
-    ensures { (G N : Grammar) (settled : Text → Tree) (rank : Text → ℕ) → IsSettling G settled rank → IsPruned (formed settled G) N → IsCanonicalOf G N }
+    ensures { (G N : Grammar) (settled : Text → Tree) (rank : Text → ℕ) → IsSettling G settled rank
+        → IsPruned (formed settled G) N → IsCanonicalOf G N }
 {}
 
 /// What a grammar keeps its canonical grammar keeps, and that grammar opened: every reference is defined, no loop is
@@ -76,16 +85,28 @@ pub fn canonical_grammars_are_well_formed()
 /// Each combination of components, in any pairs and any order, is valid for exactly the documents of what is read back
 /// of the canonical text; so is each of the components of modules in which no except is at fault.
 pub fn combinations_are_read_back()
-    ensures components { (cs : List Component) (C N : Grammar) → AllByRecursion (λ (c : Component). HasExcepts c.body) cs → IsCombination cs C → IsCanonicalOf (joined_grammar cs) N → (r : IsReadBack N) (T : Table) (doc : Item) → IsValid C T doc ↔ IsValid (read r.tree) T doc }
-    ensures modules { (modules : List Source) (C N : Grammar) → AllByRecursion (λ (m : Source). except_places m.tree ≡ []) modules → IsCombination (set_components modules) C → IsCanonicalOf (joined_grammar (set_components modules)) N → (r : IsReadBack N) (T : Table) (doc : Item) → IsValid C T doc ↔ IsValid (read r.tree) T doc }
+    ensures components { (cs : List Component) (C N : Grammar)
+        → AllByRecursion (λ (c : Component). HasExcepts c.body) cs → IsCombination cs C
+        → IsCanonicalOf (joined_grammar cs) N → (r : IsReadBack N) (T : Table) (doc : Item)
+        → IsValid C T doc ↔ IsValid (read r.tree) T doc }
+    ensures modules { (modules : List Source) (C N : Grammar)
+        → AllByRecursion (λ (m : Source). except_places m.tree ≡ []) modules
+        → IsCombination (set_components modules) C
+        → IsCanonicalOf (joined_grammar (set_components modules)) N
+        → (r : IsReadBack N) (T : Table) (doc : Item) → IsValid C T doc
+        ↔ IsValid (read r.tree) T doc }
 {}
 
 /// What is read back of a canonical text has the canonical grammar that was printed, and no other; and none of the
 /// refusals of modules stands for it, under any name of the module.
 pub fn what_is_read_back_stays()
-    ensures same { (G N : Grammar) → IsCanonicalOf G N → (r : IsReadBack N) → IsCanonicalOf (read r.tree) N }
-    ensures no_other { (G N M : Grammar) → IsCanonicalOf G N → (r : IsReadBack N) → IsCanonicalOf (read r.tree) M → M ≡ N }
-    ensures no_refusal { (G N : Grammar) → IsCanonicalOf G N → IsWellFormed G → (r : IsReadBack N) (name : Text) (q : Refusal) → ¬ StandsFor (record { name = name; tree = r.tree } ∷ []) q }
+    ensures same { (G N : Grammar) → IsCanonicalOf G N → (r : IsReadBack N)
+        → IsCanonicalOf (read r.tree) N }
+    ensures no_other { (G N M : Grammar) → IsCanonicalOf G N → (r : IsReadBack N)
+        → IsCanonicalOf (read r.tree) M → M ≡ N }
+    ensures no_refusal { (G N : Grammar) → IsCanonicalOf G N → IsWellFormed G
+        → (r : IsReadBack N) (name : Text) (q : Refusal)
+        → ¬ StandsFor (record { name = name; tree = r.tree } ∷ []) q }
 {}
 
 /// A set has one verdict at most: one refusal with all its fields, or one text, and never both.
@@ -103,5 +124,7 @@ pub fn printed_sets_are_read_back()
 /// The text that is the verdict of a set is also the verdict of each set of which it is the one effective module, under
 /// any name.
 pub fn printed_texts_are_printed_again()
-    ensures { (s : List Member) (text : Text) → IsVerdict s (prints text) → (u : List Member) (name : Text) → AreEffective u ((name, text) ∷ []) → IsVerdict u (prints text) }
+    ensures { (s : List Member) (text : Text) → IsVerdict s (prints text)
+        → (u : List Member) (name : Text) → AreEffective u ((name, text) ∷ [])
+        → IsVerdict u (prints text) }
 {}

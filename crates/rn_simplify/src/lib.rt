@@ -7,6 +7,7 @@
 
 mod canonical;
 mod declarations;
+mod joined;
 pub mod laws;
 mod mentions;
 mod name_class;
@@ -18,6 +19,7 @@ pub mod printing;
 mod reachable;
 mod rebuilt;
 mod references;
+mod repeats;
 mod settled;
 mod settling;
 mod shapes;

@@ -23,9 +23,11 @@ pub(crate) struct Mentions {
 
 impl Mentions {
     pub(crate) fn of(alloc: Global, normal: &Normal) -> Result<Mentions, AllocError>
-        ensures namespaces { IfOk result (λ m. IsGathered (by_grammar (normal_view normal.now)).namespaces m.namespaces) }
+        ensures namespaces { IfOk result
+            (λ m. IsGathered (by_grammar (normal_view normal.now)).namespaces m.namespaces) }
         ensures wide { IfOk result (λ m. m.any_of_none ≡ has_wide_empty (normal_view normal.now)) }
-        ensures libraries { IfOk result (λ m. IsGathered (by_grammar (normal_view normal.now)).libraries m.libraries) }
+        ensures libraries { IfOk result
+            (λ m. IsGathered (by_grammar (normal_view normal.now)).libraries m.libraries) }
     {
         let mut mentions = Mentions {
             namespaces: BTreeSet::new(alloc),
@@ -42,7 +44,8 @@ impl Mentions {
         alloc: Global,
         defs: &[(String, Pattern)],
     ) -> Result<(), AllocError>
-        ensures { OnOk result (Gathers (by_definitions (definitions_view defs.now)) self.old self.new) }
+        ensures { OnOk result (Gathers
+            (by_definitions (definitions_view defs.now)) self.old self.new) }
     {
         for (_, body) in defs {
             self.add_pattern(alloc, body)?;
@@ -77,7 +80,8 @@ impl Mentions {
 
     #[cycle(add_pattern)]
     fn add_patterns(&mut self, alloc: Global, members: &[Rc<Pattern>]) -> Result<(), AllocError>
-        ensures { OnOk result (Gathers (by_trees (trees_of (map shared_view members.now))) self.old self.new) }
+        ensures { OnOk result (Gathers
+            (by_trees (trees_of (map shared_view members.now))) self.old self.new) }
     {
         for member in members {
             self.add_pattern(alloc, member)?;
@@ -104,7 +108,8 @@ impl Mentions {
 
     #[cycle(add_class)]
     fn add_classes(&mut self, alloc: Global, members: &[NameClass]) -> Result<(), AllocError>
-        ensures { OnOk result (Gathers (by_names (name_trees_of (map name_class_view members.now))) self.old self.new) }
+        ensures { OnOk result (Gathers
+            (by_names (name_trees_of (map name_class_view members.now))) self.old self.new) }
     {
         for member in members {
             self.add_class(alloc, member)?;

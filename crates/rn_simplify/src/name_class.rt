@@ -13,7 +13,8 @@ use rn_pattern::NameClass;
 /// Writes a name class.
 #[cycle(name_class)]
 pub(crate) fn write_class(writer: &mut Writer, prefixes: &Prefixes, class: &NameClass)
-    ensures { Writes (written_name (prefixes_view prefixes.now) (name_class_view class.now)).pieces writer.old writer.new }
+    ensures { Writes (written_name (prefixes_view prefixes.now)
+        (name_class_view class.now)).pieces writer.old writer.new }
 {
     match class {
         NameClass::AnyName(None) => writer.put("*"),
@@ -35,7 +36,9 @@ pub(crate) fn write_class(writer: &mut Writer, prefixes: &Prefixes, class: &Name
 /// Writes the members of a choice, with `|` between them.
 #[cycle(name_class)]
 fn write_class_choice(writer: &mut Writer, prefixes: &Prefixes, members: &[NameClass])
-    ensures { Writes (chain (infix_of (codes "|")) (written_names (prefixes_view prefixes.now) (name_trees_of (map name_class_view members.now)))) writer.old writer.new }
+    ensures { Writes (chain (infix_of (codes "|"))
+        (written_names (prefixes_view prefixes.now)
+        (name_trees_of (map name_class_view members.now)))) writer.old writer.new }
 {
     for (i, member) in members.iter().enumerate() {
         if i > 0 {
@@ -48,7 +51,8 @@ fn write_class_choice(writer: &mut Writer, prefixes: &Prefixes, members: &[NameC
 /// Writes a name class as an operand: an except or a choice in parentheses.
 #[cycle(name_class)]
 fn write_class_operand(writer: &mut Writer, prefixes: &Prefixes, class: &NameClass)
-    ensures { Writes (operand (written_name (prefixes_view prefixes.now) (name_class_view class.now))) writer.old writer.new }
+    ensures { Writes (operand (written_name (prefixes_view prefixes.now)
+        (name_class_view class.now))) writer.old writer.new }
 {
     match shape_of_class(class) {
         Shape::Chained => {
@@ -62,7 +66,8 @@ fn write_class_operand(writer: &mut Writer, prefixes: &Prefixes, class: &NameCla
 
 /// Writes every name of a namespace.
 fn write_any_of(writer: &mut Writer, prefixes: &Prefixes, uri: &str)
-    ensures { Writes (any_of (namespace_prefix (prefixes_view prefixes.now) uri.now) ∷ []) writer.old writer.new }
+    ensures { Writes (any_of (namespace_prefix
+        (prefixes_view prefixes.now) uri.now) ∷ []) writer.old writer.new }
 {
     prefixes.write_namespace(writer, uri);
     writer.put(":*");
@@ -70,7 +75,8 @@ fn write_any_of(writer: &mut Writer, prefixes: &Prefixes, uri: &str)
 
 /// Writes a name: alone in the empty namespace, else behind a prefix.
 fn write_name(writer: &mut Writer, prefixes: &Prefixes, uri: &str, local: &str)
-    ensures { Writes (name_piece (prefixes_view prefixes.now) uri.now local.now ∷ []) writer.old writer.new }
+    ensures { Writes (name_piece (prefixes_view prefixes.now) uri.now local.now ∷ [])
+        writer.old writer.new }
 {
     if !uri.is_empty() {
         prefixes.write_namespace(writer, uri);

@@ -1,6 +1,7 @@
 // From a grammar to its canonical form.
 ghost use Rattle.std.specs.Prelude.{◌≡◌, IfOk, bytes_eq, map};
 ghost use Rattle.std.specs.List.{IsDistinct};
+ghost use Rattle.rn_assemble.specs.Firsts.{AreFirsts, joined_members};
 ghost use Rattle.rn_assemble.specs.GrammarView.{definitions_view, grammar_view};
 ghost use Rattle.rn_pattern.specs.Canonical as form;
 ghost use Rattle.rn_pattern.specs.Reached.{IsCanonicalOf};
@@ -11,11 +12,12 @@ ghost use Rattle.rn_simplify.specs.NormalView.{normal_view};
 ghost use Rattle.rn_simplify.specs.Sources.{AreValidAlike, parts_view};
 ghost use Rattle.rn_simplify.specs.Worth.{settled_by};
 
-use crate::canonical::canonical;
+use crate::joined::canonical_body;
 use crate::normal::Normal;
 use crate::reachable::pruned;
 use crate::rebuilt::rebuilt_box;
 use crate::settled::{Settled, settle_all};
+use crate::settling::{body_of, name_of};
 use rn_assemble::Grammar;
 use rn_pattern::{Interned, Pattern, Patterns};
 use std::alloc::{AllocError, Global};
@@ -23,8 +25,10 @@ use std::alloc::{AllocError, Global};
 /// The canonical grammar of a grammar, built in a store of its own. It is valid for exactly the same documents, for every
 /// table of datatypes (RELAX NG Specification, sections 4.18 to 4.21 and 6). The only error is want of memory.
 pub fn normalise(alloc: Global, grammar: &Grammar) -> Result<Normal, AllocError>
-    ensures canonical { IfOk result (λ n. IsCanonicalOf (grammar_view grammar.now) (normal_view n)) }
-    ensures documents { IfOk result (λ n. AreValidAlike (grammar_view grammar.now) (normal_view n)) }
+    ensures canonical { IfOk result
+        (λ n. IsCanonicalOf (grammar_view grammar.now) (normal_view n)) }
+    ensures documents { IfOk result
+        (λ n. AreValidAlike (grammar_view grammar.now) (normal_view n)) }
 {
     let mut store = Interned::with_seed(alloc, *grammar.defs().hasher());
     normalise_in(alloc, grammar, &mut store)
@@ -37,8 +41,10 @@ pub fn normalise_in<P: Patterns>(
     grammar: &Grammar,
     store: &mut P,
 ) -> Result<Normal, AllocError>
-    ensures canonical { IfOk result (λ n. IsCanonicalOf (grammar_view grammar.now) (normal_view n)) }
-    ensures documents { IfOk result (λ n. AreValidAlike (grammar_view grammar.now) (normal_view n)) }
+    ensures canonical { IfOk result
+        (λ n. IsCanonicalOf (grammar_view grammar.now) (normal_view n)) }
+    ensures documents { IfOk result
+        (λ n. AreValidAlike (grammar_view grammar.now) (normal_view n)) }
     ensures kept { KeepsTrees (P.knows store.old) (P.tree_of store.old)
         (P.knows store.new) (P.tree_of store.new) }
 {
@@ -64,26 +70,34 @@ fn canonical_parts<P: Patterns>(
         (P.knows store.new) (P.tree_of store.new) }
 {
     let settled = settle_all(alloc, grammar)?;
-    let start = form(alloc, store, &settled, grammar.start())?;
-    let forms = forms(alloc, store, &settled)?;
+    let start = form(
+        alloc,
+        store,
+        &settled,
+        grammar.start(),
+        grammar.start_firsts(),
+    )?;
+    let forms = forms(alloc, store, &settled, grammar)?;
     let defs = pruned(alloc, settled.names, &start, forms)?;
     Ok((start, defs))
 }
 
-/// The canonical form of a pattern, in its box.
+/// The canonical form of a body, in its box.
 fn form<P: Patterns>(
     alloc: Global,
     store: &mut P,
     settled: &Settled<'_>,
-    pattern: &Pattern,
+    body: &Pattern,
+    firsts: &[usize],
 ) -> Result<Box<Pattern>, AllocError>
+    requires { AreFirsts firsts.now (joined_members (pattern_view body.now)) }
     ensures made { IfOk result (λ p. pattern_view p.value ≡ form.canonical
         (settled_by (definitions_view settled.now.names.now.entries) settled.now.worth.items)
-        (pattern_view pattern.now)) }
+        (pattern_view body.now)) }
     ensures kept { KeepsTrees (P.knows store.old) (P.tree_of store.old)
         (P.knows store.new) (P.tree_of store.new) }
 {
-    let form = canonical(alloc, store, settled, pattern)?;
+    let form = canonical_body(alloc, store, settled, body, firsts)?;
     rebuilt_box(alloc, store, form)
 }
 
@@ -92,21 +106,26 @@ fn forms<P: Patterns>(
     alloc: Global,
     store: &mut P,
     settled: &Settled<'_>,
+    grammar: &Grammar,
 ) -> Result<Vec<(String, Pattern)>, AllocError>
+    requires { definitions_view settled.now.names.now.entries
+        ≡ (grammar_view grammar.now).definitions }
     ensures made { IfOk result (λ v. definitions_view v.items ≡ map (λ (d : Text × Tree). (
       d.0,
       form.canonical
           (settled_by (definitions_view settled.now.names.now.entries) settled.now.worth.items) d.1,
     ))
         (definitions_view settled.now.names.now.entries)) }
-    ensures distinct { IfOk result (λ v. IsDistinct bytes_eq (map (λ d. d.0) (definitions_view v.items))) }
+    ensures distinct { IfOk result
+        (λ v. IsDistinct bytes_eq (map (λ d. d.0) (definitions_view v.items))) }
     ensures kept { KeepsTrees (P.knows store.old) (P.tree_of store.old)
         (P.knows store.new) (P.tree_of store.new) }
 {
     let mut forms = Vec::new(alloc);
-    for (name, body) in settled.names {
-        let name = name.clone()?;
-        let form = form(alloc, store, settled, body)?;
+    for number in 0..settled.names.len() {
+        let name = name_of(settled.names, number).clone()?;
+        let body = body_of(settled.names, number);
+        let form = form(alloc, store, settled, body, grammar.firsts(number))?;
         forms.push((name, Box::into_inner(form)))?;
     }
     Ok(forms)

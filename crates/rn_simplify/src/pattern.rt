@@ -15,7 +15,8 @@ use std::rc::Rc;
 /// Writes a pattern.
 #[cycle(pattern)]
 pub(crate) fn write_pattern(writer: &mut Writer, prefixes: &Prefixes, pattern: &Pattern)
-    ensures { Writes (written_tree (prefixes_view prefixes.now) (pattern_view pattern.now)).pieces writer.old writer.new }
+    ensures { Writes (written_tree (prefixes_view prefixes.now)
+        (pattern_view pattern.now)).pieces writer.old writer.new }
 {
     if writer.stopped.is_some() {
         return;
@@ -57,7 +58,10 @@ pub(crate) fn write_pattern(writer: &mut Writer, prefixes: &Prefixes, pattern: &
 /// Writes the except of a datatype, if it has one, behind a minus sign.
 #[cycle(pattern)]
 fn write_except(writer: &mut Writer, prefixes: &Prefixes, except: &Option<Box<Pattern>>)
-    ensures { MatchOption except.now (Writes [] writer.old writer.new) (λ p. Writes (infix_of (codes "-") ++ primary (written_tree (prefixes_view prefixes.now) (pattern_view p.value))) writer.old writer.new) }
+    ensures { MatchOption except.now (Writes [] writer.old writer.new)
+        (λ p. Writes (infix_of (codes "-")
+        ++ primary (written_tree (prefixes_view prefixes.now)
+        (pattern_view p.value))) writer.old writer.new) }
 {
     if let Some(except) = except {
         writer.put(" - ");
@@ -68,7 +72,8 @@ fn write_except(writer: &mut Writer, prefixes: &Prefixes, except: &Option<Box<Pa
 /// Writes a pattern in braces.
 #[cycle(pattern)]
 fn write_braced(writer: &mut Writer, prefixes: &Prefixes, content: &Pattern)
-    ensures { Writes (braced (written_tree (prefixes_view prefixes.now) (pattern_view content.now)).pieces) writer.old writer.new }
+    ensures { Writes (braced (written_tree (prefixes_view prefixes.now)
+        (pattern_view content.now)).pieces) writer.old writer.new }
 {
     writer.open_bracket(" { ");
     write_pattern(writer, prefixes, content);
@@ -78,7 +83,8 @@ fn write_braced(writer: &mut Writer, prefixes: &Prefixes, content: &Pattern)
 /// Writes a pattern between `,`, `&` or `|`.
 #[cycle(pattern)]
 fn write_operand(writer: &mut Writer, prefixes: &Prefixes, pattern: &Pattern)
-    ensures { Writes (operand (written_tree (prefixes_view prefixes.now) (pattern_view pattern.now))) writer.old writer.new }
+    ensures { Writes (operand (written_tree (prefixes_view prefixes.now)
+        (pattern_view pattern.now))) writer.old writer.new }
 {
     match shape_of_pattern(pattern) {
         Shape::Chained => write_parenthesized(writer, prefixes, pattern),
@@ -89,7 +95,9 @@ fn write_operand(writer: &mut Writer, prefixes: &Prefixes, pattern: &Pattern)
 /// Writes a pattern in parentheses.
 #[cycle(pattern)]
 fn write_parenthesized(writer: &mut Writer, prefixes: &Prefixes, pattern: &Pattern)
-    ensures { Writes (parenthesized (written_tree (prefixes_view prefixes.now) (pattern_view pattern.now)).pieces) writer.old writer.new }
+    ensures { Writes (parenthesized
+        (written_tree (prefixes_view prefixes.now)
+        (pattern_view pattern.now)).pieces) writer.old writer.new }
 {
     writer.open_bracket("(");
     write_pattern(writer, prefixes, pattern);
@@ -99,7 +107,8 @@ fn write_parenthesized(writer: &mut Writer, prefixes: &Prefixes, pattern: &Patte
 /// Writes a pattern before a postfix or behind a minus sign.
 #[cycle(pattern)]
 fn write_primary(writer: &mut Writer, prefixes: &Prefixes, pattern: &Pattern)
-    ensures { Writes (primary (written_tree (prefixes_view prefixes.now) (pattern_view pattern.now))) writer.old writer.new }
+    ensures { Writes (primary (written_tree (prefixes_view prefixes.now)
+        (pattern_view pattern.now))) writer.old writer.new }
 {
     match shape_of_pattern(pattern) {
         Shape::Closed => write_pattern(writer, prefixes, pattern),
@@ -117,7 +126,9 @@ fn write_chain(
     connector: &str,
 )
     requires { first ≤ length members.now }
-    ensures { (s : List Piece) → bytes_of s ≡ connector.now → ((n : ℕ) → depth_after s n ≡ Some n) → Writes (chain s (rows_of (prefixes_view prefixes.now) (drop first members.now))) writer.old writer.new }
+    ensures { (s : List Piece) → bytes_of s ≡ connector.now → ((n : ℕ) → depth_after s n ≡ Some n)
+        → Writes (chain s (rows_of (prefixes_view prefixes.now)
+        (drop first members.now))) writer.old writer.new }
 {
     for i in first..members.len() {
         if i > first {
@@ -130,7 +141,8 @@ fn write_chain(
 /// Writes an interleave, which is mixed if one of its members is text.
 #[cycle(pattern)]
 fn write_interleave(writer: &mut Writer, prefixes: &Prefixes, members: &[Rc<Pattern>])
-    ensures { Writes (written_interleave (rows_of (prefixes_view prefixes.now) members.now)).pieces writer.old writer.new }
+    ensures { Writes (written_interleave
+        (rows_of (prefixes_view prefixes.now) members.now)).pieces writer.old writer.new }
 {
     if members.is_empty() {
         writer.put("empty");
@@ -148,7 +160,8 @@ fn write_interleave(writer: &mut Writer, prefixes: &Prefixes, members: &[Rc<Patt
 #[cycle(pattern)]
 fn write_mixed(writer: &mut Writer, prefixes: &Prefixes, members: &[Rc<Pattern>])
     requires { 0 < length members.now }
-    ensures { Writes (chain_or_one (infix_of (codes "&")) (rows_of (prefixes_view prefixes.now) (drop 1 members.now))) writer.old writer.new }
+    ensures { Writes (chain_or_one (infix_of (codes "&"))
+        (rows_of (prefixes_view prefixes.now) (drop 1 members.now))) writer.old writer.new }
 {
     if members.len() == 2 {
         write_pattern(writer, prefixes, &members[1]);
@@ -160,7 +173,8 @@ fn write_mixed(writer: &mut Writer, prefixes: &Prefixes, members: &[Rc<Pattern>]
 /// Writes a choice, which has a postfix if one of its members is empty.
 #[cycle(pattern)]
 fn write_choice(writer: &mut Writer, prefixes: &Prefixes, members: &[Rc<Pattern>])
-    ensures { Writes (written_choice (rows_of (prefixes_view prefixes.now) members.now)).pieces writer.old writer.new }
+    ensures { Writes (written_choice
+        (rows_of (prefixes_view prefixes.now) members.now)).pieces writer.old writer.new }
 {
     if members.is_empty() {
         writer.put("notAllowed");
@@ -175,7 +189,8 @@ fn write_choice(writer: &mut Writer, prefixes: &Prefixes, members: &[Rc<Pattern>
 #[cycle(pattern)]
 fn write_optional(writer: &mut Writer, prefixes: &Prefixes, members: &[Rc<Pattern>])
     requires { 0 < length members.now }
-    ensures { Writes (optional (rows_of (prefixes_view prefixes.now) (drop 1 members.now))) writer.old writer.new }
+    ensures { Writes (optional (rows_of (prefixes_view prefixes.now)
+        (drop 1 members.now))) writer.old writer.new }
 {
     if members.len() == 1 {
         writer.put("empty");
@@ -192,7 +207,8 @@ fn write_optional(writer: &mut Writer, prefixes: &Prefixes, members: &[Rc<Patter
 /// Writes the choice of empty and one other pattern.
 #[cycle(pattern)]
 fn write_optional_one(writer: &mut Writer, prefixes: &Prefixes, other: &Pattern)
-    ensures { let w = written_tree (prefixes_view prefixes.now) (pattern_view other.now) in Writes (optional_one w.repeated w) writer.old writer.new }
+    ensures { let w = written_tree (prefixes_view prefixes.now) (pattern_view other.now) in
+        Writes (optional_one w.repeated w) writer.old writer.new }
 {
     if let Pattern::OneOrMore(content) = other {
         write_primary(writer, prefixes, content);
@@ -205,7 +221,9 @@ fn write_optional_one(writer: &mut Writer, prefixes: &Prefixes, other: &Pattern)
 
 /// Writes the keyword and the name class of an element or an attribute.
 fn write_head(writer: &mut Writer, prefixes: &Prefixes, word: &str, class: &NameClass)
-    ensures { Writes (keyword (chars word.now) ∷ space ∷ (written_name (prefixes_view prefixes.now) (name_class_view class.now)).pieces) writer.old writer.new }
+    ensures { Writes (keyword (chars word.now) ∷ space ∷
+        (written_name (prefixes_view prefixes.now)
+        (name_class_view class.now)).pieces) writer.old writer.new }
 {
     writer.put(word);
     writer.put(" ");
@@ -221,7 +239,8 @@ fn is_token(library: &str, type_name: &str) -> bool
 
 /// Writes a value.
 fn write_value(writer: &mut Writer, prefixes: &Prefixes, library: &str, type_name: &str, text: &str)
-    ensures { Writes (value_pieces (prefixes_view prefixes.now) library.now type_name.now text.now) writer.old writer.new }
+    ensures { Writes (value_pieces
+        (prefixes_view prefixes.now) library.now type_name.now text.now) writer.old writer.new }
 {
     if is_token(library, type_name) {
         writer.literal(text);
@@ -240,7 +259,8 @@ fn write_data(
     type_name: &str,
     params: &[(String, String)],
 )
-    ensures { Writes (datum_pieces (prefixes_view prefixes.now) library.now type_name.now (parameters_view params.now)) writer.old writer.new }
+    ensures { Writes (datum_pieces (prefixes_view prefixes.now) library.now type_name.now
+        (parameters_view params.now)) writer.old writer.new }
 {
     prefixes.write_type(writer, library, type_name);
     if !params.is_empty() {

@@ -32,14 +32,16 @@ pub fn print(alloc: Global, normal: &Normal) -> Result<String, Refusal>
 }
 
 fn write_start(writer: &mut Writer, prefixes: &Prefixes, start: &Pattern)
-    ensures { Writes (definition_line (prefixes_view prefixes.now) (keyword (codes "start")) (pattern_view start.now)) writer.old writer.new }
+    ensures { Writes (definition_line (prefixes_view prefixes.now) (keyword (codes "start"))
+        (pattern_view start.now)) writer.old writer.new }
 {
     writer.put("start");
     write_body(writer, prefixes, start);
 }
 
 fn write_definitions(writer: &mut Writer, prefixes: &Prefixes, defs: &[(String, Pattern)])
-    ensures { Writes (definition_lines (prefixes_view prefixes.now) (definitions_view defs.now)) writer.old writer.new }
+    ensures { Writes (definition_lines (prefixes_view prefixes.now)
+        (definitions_view defs.now)) writer.old writer.new }
 {
     for (name, body) in defs {
         writer.identifier(name);
@@ -49,7 +51,8 @@ fn write_definitions(writer: &mut Writer, prefixes: &Prefixes, defs: &[(String, 
 
 /// Writes what a name is defined as, and the end of the line.
 fn write_body(writer: &mut Writer, prefixes: &Prefixes, body: &Pattern)
-    ensures { Writes (defined_as (prefixes_view prefixes.now) (pattern_view body.now)) writer.old writer.new }
+    ensures { Writes (defined_as (prefixes_view prefixes.now)
+        (pattern_view body.now)) writer.old writer.new }
 {
     writer.put(" = ");
     write_pattern(writer, prefixes, body);

@@ -24,9 +24,11 @@ pub(crate) fn pruned(
     start: &Pattern,
     mut forms: Vec<(String, Pattern)>,
 ) -> Result<Vec<(String, Pattern)>, AllocError>
-    requires named { map (λ d. d.0) (definitions_view forms.items) ≡ map (λ d. d.0) (definitions_view names.now.entries) }
+    requires named { map (λ d. d.0) (definitions_view forms.items)
+        ≡ map (λ d. d.0) (definitions_view names.now.entries) }
     requires distinct { IsDistinct bytes_eq (map (λ d. d.0) (definitions_view forms.items)) }
-    ensures { IfOk result (λ v. IsPruned (record { start = pattern_view start.now; definitions = definitions_view forms.items })
+    ensures { IfOk result (λ v. IsPruned
+        (record { start = pattern_view start.now; definitions = definitions_view forms.items })
         (record { start = pattern_view start.now; definitions = definitions_view v.items })) }
 {
     let is_reached = reached_forms(alloc, names, start, &forms)?;
@@ -42,9 +44,14 @@ fn reached_forms(
     start: &Pattern,
     forms: &[(String, Pattern)],
 ) -> Result<Vec<bool>, AllocError>
-    requires { map (λ d. d.0) (definitions_view forms.now) ≡ map (λ d. d.0) (definitions_view names.now.entries) }
+    requires { map (λ d. d.0) (definitions_view forms.now)
+        ≡ map (λ d. d.0) (definitions_view names.now.entries) }
     ensures size { IfOk result (λ marks. length marks.items ≡ length forms.now) }
-    ensures reached { IfOk result (λ marks. MarksReached (record { start = pattern_view start.now; definitions = definitions_view forms.now }) marks.items) }
+    ensures reached { IfOk result
+        (λ marks. MarksReached (record {
+          start = pattern_view start.now;
+          definitions = definitions_view forms.now;
+        }) marks.items) }
 {
     let rows = rows_of_forms(alloc, names, forms)?;
     let first = referred(alloc, names, start, Scope::Everywhere)?;
@@ -57,7 +64,8 @@ fn rows_of_forms(
     names: &Definitions,
     forms: &[(String, Pattern)],
 ) -> Result<Vec<Vec<usize>>, AllocError>
-    ensures { IfOk result (λ v. rows_of v.items ≡ rows_by Everywhere (definitions_view names.now.entries) (definitions_view forms.now)) }
+    ensures { IfOk result (λ v. rows_of v.items
+        ≡ rows_by Everywhere (definitions_view names.now.entries) (definitions_view forms.now)) }
 {
     let mut rows = Vec::new(alloc);
     for (_, form) in forms {

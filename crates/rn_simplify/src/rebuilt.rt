@@ -65,7 +65,9 @@ fn datum(
     params: &[(String, String)],
     except: Option<Box<Pattern>>,
 ) -> Result<Pattern, AllocError>
-    ensures { IfOk result (λ p. pattern_view p ≡ datum_over (string_bytes library.now) (string_bytes type_name.now) (parameters_view params.now) (excepted_view except)) }
+    ensures { IfOk result (λ p. pattern_view p
+        ≡ datum_over (string_bytes library.now) (string_bytes type_name.now)
+        (parameters_view params.now) (excepted_view except)) }
 {
     let params = params.to_vec(alloc)?;
     Ok(Pattern::Datum(library.clone()?, type_name.clone()?, params, except))
@@ -78,7 +80,8 @@ fn over_content<Id>(
     content: Box<Pattern>,
 ) -> Result<Pattern, AllocError>
     requires { IsSome (node_content node.now) }
-    ensures { (at : Id → Tree) → option_map at (node_content node.now) ≡ Some (pattern_view content.value)
+    ensures { (at : Id → Tree) → option_map at (node_content node.now)
+        ≡ Some (pattern_view content.value)
         → IfOk result (λ p. pattern_view p ≡ node_view at node.now) }
 {
     match node {
@@ -117,7 +120,8 @@ pub(crate) fn rebuilt_box<P: Patterns>(
     boxed(alloc, rebuilt(alloc, store, id)?)
 }
 
-fn boxed<T: Drop>(alloc: Global, value: T) -> Result<Box<T>, AllocError>
+/// The value in its box.
+pub(crate) fn boxed<T: Drop>(alloc: Global, value: T) -> Result<Box<T>, AllocError>
     ensures { IfOk result (λ b. b.value ≡ value) }
 {
     Ok(Box::new(alloc, value)?)

@@ -25,7 +25,9 @@ pub(crate) fn referred(
     pattern: &Pattern,
     scope: Scope,
 ) -> Result<Vec<usize>, AllocError>
-    ensures { IfOk result (λ v. v.items ≡ numbers_of (definitions_view names.now.entries) (references scope (pattern_view pattern.now))) }
+    ensures { IfOk result (λ v. v.items
+        ≡ numbers_of (definitions_view names.now.entries)
+        (references scope (pattern_view pattern.now))) }
 {
     let mut numbers = Vec::new(alloc);
     add(names, pattern, scope, &mut numbers)?;
@@ -40,7 +42,8 @@ fn add(
     numbers: &mut Vec<usize>,
 ) -> Result<(), AllocError>
     ensures { OnOk result (numbers.new.items ≡ numbers.old.items
-        ++ numbers_of (definitions_view names.now.entries) (references scope (pattern_view pattern.now))) }
+        ++ numbers_of (definitions_view names.now.entries)
+        (references scope (pattern_view pattern.now))) }
 {
     match pattern {
         Pattern::Ref(name) => add_name(names, name, numbers),
@@ -71,7 +74,8 @@ fn add_all(
     numbers: &mut Vec<usize>,
 ) -> Result<(), AllocError>
     ensures { OnOk result (numbers.new.items ≡ numbers.old.items
-        ++ numbers_of (definitions_view names.now.entries) (all_references scope (trees_of (map shared_view members.now)))) }
+        ++ numbers_of (definitions_view names.now.entries)
+        (all_references scope (trees_of (map shared_view members.now)))) }
 {
     for member in members {
         add(names, member, scope, numbers)?;

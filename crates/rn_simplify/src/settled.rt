@@ -1,5 +1,6 @@
 // What the definitions of a grammar are worth, each by its body and by those that the body refers to outside elements.
-ghost use Rattle.std.specs.Prelude.{◌≡◌, ◌<◌, ℕ, IfOk, length, map, slice_index_or, slice_set};
+ghost use Rattle.std.specs.Prelude.{◌≡◌, ◌<◌, ℕ, IfOk, OnOk, length, map, slice_index_or, slice_set};
+ghost use Rattle.rn_assemble.specs.Firsts.{AreFirsts, joined_members};
 ghost use Rattle.rn_assemble.specs.GrammarView.{definitions_view, grammar_view};
 ghost use Rattle.rn_pattern.specs.Canonical.{canonical};
 ghost use Rattle.rn_pattern.specs.Graph.{AllBelow};
@@ -9,6 +10,7 @@ ghost use Rattle.rn_simplify.specs.Numbered.{AreSettled};
 ghost use Rattle.rn_simplify.specs.Settling.{IsInOrder, IsSettling};
 ghost use Rattle.rn_simplify.specs.Worth.{evaluated, evaluated_all, evaluated_any, settled_by, worth_at, worth_of};
 
+use crate::repeats::without_repeats;
 use crate::settling::{body_of, settling_order};
 use crate::worth::Worth;
 use rn_assemble::{Definitions, Grammar};
@@ -46,41 +48,70 @@ pub(crate) fn settle_all(alloc: Global, grammar: &Grammar) -> Result<Settled<'_>
         (settled_by (definitions_view s.names.now.entries) s.worth.items) rank) }
 {
     let order = settling_order(alloc, grammar)?;
-    settle(alloc, grammar.defs(), &order)
+    settle(alloc, grammar, &order)
 }
 
 /// What the references to the definitions become, settled in an order in which each definition comes after those that it
 /// refers to outside elements.
 fn settle<'g>(
     alloc: Global,
-    names: &'g Definitions,
+    grammar: &'g Grammar,
     order: &[usize],
 ) -> Result<Settled<'g>, AllocError>
-    requires { AllBelow (length names.now.entries) order.now }
-    ensures names { IfOk result (λ s. s.names.now.entries ≡ names.now.entries) }
-    ensures settled { IfOk result (λ s. IsInOrder (definitions_view names.now.entries) order.now
-        → AreSettled (definitions_view names.now.entries) order.now
-        (settled_by (definitions_view names.now.entries) s.worth.items)) }
+    requires { AllBelow (length (grammar_view grammar.now).definitions) order.now }
+    ensures names { IfOk result (λ s. definitions_view s.names.now.entries
+        ≡ (grammar_view grammar.now).definitions) }
+    ensures settled { IfOk result (λ s. IsInOrder (grammar_view grammar.now).definitions order.now
+        → AreSettled (grammar_view grammar.now).definitions order.now
+        (settled_by (grammar_view grammar.now).definitions s.worth.items)) }
 {
+    let names = grammar.defs();
     let worth = vec![in alloc; Worth::Other; names.len()]?;
     let mut settled = Settled { names, worth };
     for number in order {
-        settle_one(*number, &mut settled);
+        settle_one(alloc, grammar, *number, &mut settled)?;
     }
     Ok(settled)
 }
 
 /// Settles the definition of a number by its body.
-fn settle_one(number: usize, settled: &mut Settled<'_>)
-    requires { number < length settled.old.names.now.entries }
+fn settle_one(
+    alloc: Global,
+    grammar: &Grammar,
+    number: usize,
+    settled: &mut Settled<'_>,
+) -> Result<(), AllocError>
+    requires within { number < length settled.old.names.now.entries }
+    requires of { definitions_view settled.old.names.now.entries
+        ≡ (grammar_view grammar.now).definitions }
     ensures names { settled.new.names.now.entries ≡ settled.old.names.now.entries }
-    ensures settled { (d : Text × Tree) → settled.new.worth.items
+    ensures settled { OnOk result ((d : Text × Tree) → settled.new.worth.items
         ≡ slice_set settled.old.worth.items number (worth_of (canonical
         (settled_by (definitions_view settled.old.names.now.entries) settled.old.worth.items)
-        (slice_index_or (definitions_view settled.old.names.now.entries) number d).1)) }
+        (slice_index_or (definitions_view settled.old.names.now.entries) number d).1))) }
 {
-    let worth = evaluated(settled, body_of(settled.names, number));
+    let body = body_of(settled.names, number);
+    let worth = evaluated_body(alloc, settled, body, grammar.firsts(number))?;
     settled.worth[number] = worth;
+    Ok(())
+}
+
+/// What the canonical form of a body is worth. A member that stands in its list before isn't looked at.
+fn evaluated_body(
+    alloc: Global,
+    settled: &Settled<'_>,
+    body: &Pattern,
+    firsts: &[usize],
+) -> Result<Worth, AllocError>
+    requires { AreFirsts firsts.now (joined_members (pattern_view body.now)) }
+    ensures { IfOk result (λ w. w ≡ evaluated (worth_at
+        (definitions_view settled.now.names.now.entries) settled.now.worth.items)
+        (pattern_view body.now)) }
+{
+    match without_repeats(alloc, body, firsts)? {
+        Some(distinct) => Ok(evaluated(settled, &distinct)),
+        None => Ok(evaluated(settled, body)),
+    }
 }
 
 /// What the canonical form of a pattern is worth. The contents of elements aren't looked at.

@@ -1,39 +1,97 @@
 // The definitions of a grammar in an order in which each comes after those that it refers to outside elements (RELAX NG, 4.19).
-ghost use Rattle.std.specs.Prelude.{◌≡◌, ◌<◌, [], ℕ, IfOk, length, cond, slice_index_or};
+ghost use Rattle.std.specs.Prelude.{◌≡◌, ◌<◌, [], ℕ, IfOk, length, cond, slice_index_or, string_bytes};
 ghost use Rattle.rn_pattern.specs.Graph.{AllBelow, IsGraph, is_marked, row, rows_of};
 ghost use Rattle.rn_pattern.specs.Ranks.{HasNoLoop, IsRanking};
+ghost use Rattle.rn_assemble.specs.Firsts.{AreFirsts, joined_members};
 ghost use Rattle.rn_assemble.specs.GrammarView.{definitions_view, grammar_view};
 ghost use Rattle.rn_pattern.specs.Tree.{Text, Tree};
 ghost use Rattle.rn_pattern.specs.View.{pattern_view};
 ghost use Rattle.rn_simplify.specs.Marked.{ArePlaces};
-ghost use Rattle.rn_simplify.specs.Numbered.{MarksReached, numbers_of, rows_by};
+ghost use Rattle.rn_simplify.specs.Numbered.{MarksReached, graph_of, numbers_of, start_of};
 ghost use Rattle.rn_simplify.specs.Referred.{references};
+ghost use Rattle.rn_simplify.specs.Repeats.{HoldSame};
 ghost use Rattle.rn_simplify.specs.Settling.{IsSettlingOrder};
-ghost use Rattle.rn_simplify.specs.declared.references.Scope.TheVariants.{Everywhere, OutsideElements};
+ghost use Rattle.rn_simplify.specs.declared.references.Scope.TheVariants.{OutsideElements};
 
 use crate::references::{Scope, referred};
+use crate::repeats::without_repeats;
 use rn_assemble::{Definitions, Grammar};
 use rn_pattern::Pattern;
 use rn_pattern::graph::reached;
 use rn_pattern::ranks::{Order, ranks};
 use std::alloc::{AllocError, Global};
 
+/// The name of the definition with a number.
+pub(crate) fn name_of(names: &Definitions, number: usize) -> &String
+    requires { number < length names.now.entries }
+    ensures { (d : Text × Tree) → string_bytes result.now
+        ≡ (slice_index_or (definitions_view names.now.entries) number d).0 }
+{
+    let (name, _) = names.get_index(number).unwrap();
+    name
+}
+
 /// The body of the definition with a number.
 pub(crate) fn body_of(names: &Definitions, number: usize) -> &Pattern
     requires { number < length names.now.entries }
-    ensures { (d : Text × Tree) → pattern_view result.now ≡ (slice_index_or (definitions_view names.now.entries) number d).1 }
+    ensures { (d : Text × Tree) → pattern_view result.now
+        ≡ (slice_index_or (definitions_view names.now.entries) number d).1 }
 {
     let (_, body) = names.get_index(number).unwrap();
     body
 }
 
+/// The numbers of the definitions that a body refers to. A member that stands in its list before isn't looked at.
+fn referred_by(
+    alloc: Global,
+    names: &Definitions,
+    body: &Pattern,
+    firsts: &[usize],
+    scope: Scope,
+) -> Result<Vec<usize>, AllocError>
+    requires { AreFirsts firsts.now (joined_members (pattern_view body.now)) }
+    ensures { IfOk result (λ v. HoldSame v.items (numbers_of (definitions_view names.now.entries)
+        (references scope (pattern_view body.now)))) }
+{
+    match without_repeats(alloc, body, firsts)? {
+        Some(distinct) => referred(alloc, names, &distinct, scope),
+        None => referred(alloc, names, body, scope),
+    }
+}
+
+/// The references of the definition with a number.
+fn references_of(
+    alloc: Global,
+    grammar: &Grammar,
+    number: usize,
+    scope: Scope,
+) -> Result<Vec<usize>, AllocError>
+    requires { number < length (grammar_view grammar.now).definitions }
+    ensures { IfOk result (λ v. (d : Text × Tree) → HoldSame v.items
+        (numbers_of (grammar_view grammar.now).definitions
+        (references scope (slice_index_or (grammar_view grammar.now).definitions number d).1))) }
+{
+    let names = grammar.defs();
+    referred_by(
+        alloc,
+        names,
+        body_of(names, number),
+        grammar.firsts(number),
+        scope,
+    )
+}
+
 /// The references of each definition, by its number.
-fn all_references(alloc: Global, names: &Definitions) -> Result<Vec<Vec<usize>>, AllocError>
-    ensures { IfOk result (λ v. rows_of v.items ≡ rows_by Everywhere (definitions_view names.now.entries) (definitions_view names.now.entries)) }
+fn all_references(alloc: Global, grammar: &Grammar) -> Result<Vec<Vec<usize>>, AllocError>
+    ensures size { IfOk result (λ v. length v.items
+        ≡ length (grammar_view grammar.now).definitions) }
+    ensures rows { IfOk result (λ v. (k : ℕ) → k < length (grammar_view grammar.now).definitions
+        → HoldSame (row (rows_of v.items) k) (row (graph_of (grammar_view grammar.now)) k)) }
 {
     let mut rows = Vec::new(alloc);
-    for (_, body) in names {
-        rows.push(referred(alloc, names, body, Scope::Everywhere)?)?;
+    for number in 0..grammar.defs().len() {
+        let references = references_of(alloc, grammar, number, Scope::Everywhere)?;
+        rows.push(references)?;
     }
     Ok(rows)
 }
@@ -41,16 +99,18 @@ fn all_references(alloc: Global, names: &Definitions) -> Result<Vec<Vec<usize>>,
 /// The references outside elements of the definition with a number, if it is reached; else none.
 fn outside_references_of(
     alloc: Global,
-    names: &Definitions,
+    grammar: &Grammar,
     number: usize,
     is_reached: bool,
 ) -> Result<Vec<usize>, AllocError>
-    requires { number < length names.now.entries }
-    ensures { IfOk result (λ v. (d : Text × Tree) → v.items ≡ cond is_reached (numbers_of (definitions_view names.now.entries)
-        (references OutsideElements (slice_index_or (definitions_view names.now.entries) number d).1)) []) }
+    requires { number < length (grammar_view grammar.now).definitions }
+    ensures { IfOk result (λ v. (d : Text × Tree) → HoldSame v.items
+        (cond is_reached (numbers_of (grammar_view grammar.now).definitions
+        (references OutsideElements
+        (slice_index_or (grammar_view grammar.now).definitions number d).1)) [])) }
 {
     if is_reached {
-        referred(alloc, names, body_of(names, number), Scope::OutsideElements)
+        references_of(alloc, grammar, number, Scope::OutsideElements)
     } else {
         Ok(Vec::new(alloc))
     }
@@ -59,18 +119,22 @@ fn outside_references_of(
 /// The references outside elements of each definition that is reached, by its number.
 fn outside_references(
     alloc: Global,
-    names: &Definitions,
+    grammar: &Grammar,
     is_reached: &[bool],
 ) -> Result<Vec<Vec<usize>>, AllocError>
-    requires { length is_reached.now ≡ length names.now.entries }
-    ensures size { IfOk result (λ v. length v.items ≡ length names.now.entries) }
-    ensures rows { IfOk result (λ v. (k : ℕ) (d : Text × Tree) → k < length names.now.entries → row (rows_of v.items) k
-        ≡ cond (is_marked is_reached.now k) (numbers_of (definitions_view names.now.entries)
-        (references OutsideElements (slice_index_or (definitions_view names.now.entries) k d).1)) []) }
+    requires { length is_reached.now ≡ length (grammar_view grammar.now).definitions }
+    ensures size { IfOk result (λ v. length v.items
+        ≡ length (grammar_view grammar.now).definitions) }
+    ensures rows { IfOk result (λ v. (k : ℕ) (d : Text × Tree)
+        → k < length (grammar_view grammar.now).definitions
+        → HoldSame (row (rows_of v.items) k) (cond (is_marked is_reached.now k)
+        (numbers_of (grammar_view grammar.now).definitions (references OutsideElements
+        (slice_index_or (grammar_view grammar.now).definitions k d).1)) [])) }
 {
     let mut rows = Vec::new(alloc);
     for number in 0..is_reached.len() {
-        rows.push(outside_references_of(alloc, names, number, is_reached[number])?)?;
+        let references = outside_references_of(alloc, grammar, number, is_reached[number])?;
+        rows.push(references)?;
     }
     Ok(rows)
 }
@@ -88,14 +152,28 @@ fn places(alloc: Global, marks: &[bool]) -> Result<Vec<usize>, AllocError>
     Ok(places)
 }
 
+/// The references of the start.
+fn start_references(alloc: Global, grammar: &Grammar) -> Result<Vec<usize>, AllocError>
+    ensures { IfOk result (λ v. HoldSame v.items (start_of (grammar_view grammar.now))) }
+{
+    let firsts = grammar.start_firsts();
+    referred_by(
+        alloc,
+        grammar.defs(),
+        grammar.start(),
+        firsts,
+        Scope::Everywhere,
+    )
+}
+
 /// For each definition, whether the start reaches it.
 fn reached_definitions(alloc: Global, grammar: &Grammar) -> Result<Vec<bool>, AllocError>
-    ensures size { IfOk result (λ v. length v.items ≡ length (grammar_view grammar.now).definitions) }
+    ensures size { IfOk result (λ v. length v.items
+        ≡ length (grammar_view grammar.now).definitions) }
     ensures exact { IfOk result (λ v. MarksReached (grammar_view grammar.now) v.items) }
 {
-    let names = grammar.defs();
-    let rows = all_references(alloc, names)?;
-    let start = referred(alloc, names, grammar.start(), Scope::Everywhere)?;
+    let rows = all_references(alloc, grammar)?;
+    let start = start_references(alloc, grammar)?;
     reached(alloc, &rows, &start)
 }
 
@@ -113,11 +191,12 @@ fn ranks_of(alloc: Global, rows: &[Vec<usize>]) -> Result<Vec<usize>, AllocError
 
 /// The numbers of the definitions that the start reaches, in the order in which they can be settled.
 pub(crate) fn settling_order(alloc: Global, grammar: &Grammar) -> Result<Vec<usize>, AllocError>
-    ensures within { IfOk result (λ v. AllBelow (length (grammar_view grammar.now).definitions) v.items) }
+    ensures within { IfOk result (λ v. AllBelow
+        (length (grammar_view grammar.now).definitions) v.items) }
     ensures order { IfOk result (λ v. IsSettlingOrder (grammar_view grammar.now) v.items) }
 {
     let is_reached = reached_definitions(alloc, grammar)?;
-    let outside = outside_references(alloc, grammar.defs(), &is_reached)?;
+    let outside = outside_references(alloc, grammar, &is_reached)?;
     let ranks = ranks_of(alloc, &outside)?;
     let mut order = places(alloc, &is_reached)?;
     order.sort_by_key(|number: &usize| ranks.get(*number).copied().unwrap_or(0))?;

@@ -40,7 +40,8 @@ pub(crate) fn begins_with_text(members: &[Rc<Pattern>]) -> bool
 
 /// The shape of an interleave, which is mixed if one of its members is text.
 fn shape_of_interleave(members: &[Rc<Pattern>]) -> Shape
-    ensures { (f : Prefixes) → shape_view result ≡ (written_interleave (rows_of f members.now)).shape }
+    ensures { (f : Prefixes) → shape_view result
+        ≡ (written_interleave (rows_of f members.now)).shape }
 {
     if members.is_empty() || begins_with_text(members) {
         Shape::Closed
@@ -63,7 +64,8 @@ fn shape_of_choice(members: &[Rc<Pattern>]) -> Shape
 }
 
 pub(crate) fn shape_of_pattern(pattern: &Pattern) -> Shape
-    ensures { (f : Prefixes) → shape_view result ≡ (written_tree f (pattern_view pattern.now)).shape }
+    ensures { (f : Prefixes) → shape_view result
+        ≡ (written_tree f (pattern_view pattern.now)).shape }
 {
     match pattern {
         Pattern::Datum(_, _, _, Some(_)) => Shape::Chained,
@@ -76,7 +78,8 @@ pub(crate) fn shape_of_pattern(pattern: &Pattern) -> Shape
 }
 
 pub(crate) fn shape_of_class(class: &NameClass) -> Shape
-    ensures { (f : Prefixes) → shape_view result ≡ (written_name f (name_class_view class.now)).shape }
+    ensures { (f : Prefixes) → shape_view result
+        ≡ (written_name f (name_class_view class.now)).shape }
 {
     match class {
         NameClass::AnyName(Some(_)) => Shape::Chained,

@@ -49,7 +49,8 @@ impl Writer {
 
     /// The text, or why there is none.
     pub(crate) fn finish(self) -> Result<String, Refusal>
-        ensures ok { IfOk result (λ text. (self.stopped ≡ None) × (self.too_deep ≡ false) × (text ≡ self.text)) }
+        ensures ok { IfOk result (λ text. (self.stopped ≡ None) × (self.too_deep ≡ false)
+            × (text ≡ self.text)) }
         ensures err { IfErr result (IsHindrance self) }
     {
         match self.stopped {
@@ -113,7 +114,8 @@ impl Writer {
 
     /// Appends a definition's name, behind a backslash if it is a keyword.
     pub(crate) fn identifier(&mut self, name: &str)
-        ensures { WritesBytes (cond (is_keyword (chars name.now)) (92 ∷ name.now) name.now) none self.old self.new }
+        ensures { WritesBytes (cond (is_keyword (chars name.now))
+            (92 ∷ name.now) name.now) none self.old self.new }
     {
         if is_keyword(name) {
             self.put("\\");

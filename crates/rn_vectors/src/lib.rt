@@ -6,6 +6,8 @@ mod checks;
 #[cfg(test)]
 mod combining;
 #[cfg(test)]
+mod drawing;
+#[cfg(test)]
 mod large;
 #[cfg(test)]
 mod layers;
@@ -21,6 +23,8 @@ mod merges;
 mod printing;
 #[cfg(test)]
 mod refusals;
+#[cfg(test)]
+mod repeats;
 #[cfg(test)]
 mod rows;
 #[cfg(test)]

@@ -2,27 +2,10 @@
 // worth notAllowed or empty written out as that.
 ghost use Rattle.std.specs.Prelude.{◌<◌, ◌≤◌};
 
+use crate::drawing::Draw;
 use crate::merges::merged;
 use crate::rows::{made, owned, push, same_for};
 use std::process::Abort;
-
-/// Numbers that are drawn one after the other, the same ones in each run.
-#[derive(Drop)]
-struct Draw {
-    state: u64,
-}
-
-impl Draw {
-    /// A number below the count.
-    fn below(&mut self, count: u64) -> u64
-        requires { 0 < count }
-        ensures { result < count }
-    {
-        let next = self.state.wrapping_mul(6364136223846793005);
-        self.state = next.wrapping_add(1442695040888963407);
-        (self.state >> 33) % count
-    }
-}
 
 /// Members as a text has them, and as they are written out. The last two are notAllowed.
 const MEMBERS: [(&str, &str); 7] = [
@@ -95,7 +78,7 @@ fn come_to_the_same(rt: &(impl Abort + AllocGlobal), connector: &str, kinds: u64
     requires some { 0 < kinds }
     requires known { kinds ≤ 7 }
 {
-    let mut draw = Draw { state: 1 };
+    let mut draw = Draw::new();
     for _ in 0..20 {
         let list = draw_list(rt, &mut draw, connector, kinds);
         let found = schema(rt, list.nested.as_str(), NAMED);

@@ -43,7 +43,7 @@ stand_in_is x p = refl
 
 -- ---- rules of the table
 
-around_twice : (a : Worth) → around (around a) ≡ around a
+pub around_twice : (a : Worth) → around (around a) ≡ around a
 around_twice Worth.NotAllowed = refl
 around_twice Worth.Empty = refl
 around_twice Worth.Other = refl
@@ -53,7 +53,7 @@ both_around Worth.NotAllowed b = refl
 both_around Worth.Empty b = refl
 both_around Worth.Other b = sym (around_twice b)
 
-both_assoc : (a b c : Worth) → both a (both b c) ≡ both (both a b) c
+pub both_assoc : (a b c : Worth) → both a (both b c) ≡ both (both a b) c
 both_assoc Worth.NotAllowed b c = refl
 both_assoc Worth.Empty b c = refl
 both_assoc Worth.Other b c = sym (both_around b c)
@@ -73,7 +73,7 @@ either_none Worth.NotAllowed = refl
 either_none Worth.Empty = refl
 either_none Worth.Other = refl
 
-either_assoc : (a b c : Worth) → either a (either b c) ≡ either (either a b) c
+pub either_assoc : (a b c : Worth) → either a (either b c) ≡ either (either a b) c
 either_assoc Worth.NotAllowed b c = refl
 either_assoc Worth.Other b c = refl
 either_assoc Worth.Empty Worth.NotAllowed c = refl
@@ -91,7 +91,7 @@ either_swap Worth.Other Worth.NotAllowed c = refl
 either_swap Worth.Other Worth.Empty c = refl
 either_swap Worth.Other Worth.Other c = refl
 
-either_twice : (a b : Worth) → either a (either a b) ≡ either a b
+pub either_twice : (a b : Worth) → either a (either a b) ≡ either a b
 either_twice Worth.NotAllowed b = refl
 either_twice Worth.Empty Worth.NotAllowed = refl
 either_twice Worth.Empty Worth.Empty = refl

@@ -1,14 +1,13 @@
 -- Places that have a mark, entries of a map and rows, one after the other.
-use Rattle.std.proofs.Common.{◌≡◌, ⊎_elim, ◌+◌, ◌<◌, ℕ, Bool, true, false, ◌||◌, nat_eq, List, [], ◌∷◌, ◌++◌, length, map, refl, sym, ap, ◌∙◌, subst, arith, below_more, Vec, Bor}
+use Rattle.std.proofs.Common.{◌≡◌, ⊎_elim, ◌+◌, ◌<◌, ℕ, Bool, true, false, ◌||◌, nat_eq, List, [], ◌∷◌, ◌++◌, length, map, take, get_or, refl, sym, ap, ◌∙◌, subst, arith, below_more, Vec}
 use Rattle.std.specs.Prelude.{Contains, String, string_bytes, bytes_eq}
 use Rattle.std.specs.String.{string_eq}
 use Rattle.std.specs.List.{AllByRecursion, IsDistinct, list_any}
-use Rattle.std.specs.Map.Iter.{deref_pair}
 use Rattle.std.specs.declared.alloc.Global.{Global}
 use Rattle.std.proofs.lemmas.Bool.{false≢true}
 use Rattle.std.proofs.lemmas.Cmp.{nat_eq_equiv}
 use Rattle.std.proofs.lemmas.Bool.Decides.{Decides-eqb}
-use Rattle.std.proofs.lemmas.List.{map-append}
+use Rattle.std.proofs.lemmas.List.{take_more, map-append, length-map, length_push, get_or_push, get_or_append_left}
 use Rattle.std.proofs.lemmas.List.Elements.{Contains-append_left, Contains-push, Contains-push_cases}
 use Rattle.std.proofs.lemmas.Map.Keys.{IsDistinct-push}
 use Rattle.rn_pattern.specs.Tree.{Text, Tree}
@@ -17,6 +16,8 @@ use Rattle.rn_pattern.specs.declared.tree.Pattern.{Pattern}
 use Rattle.rn_pattern.proofs.Ordered.InOrder.{contains_front, contains_behind}
 use Rattle.rn_pattern.specs.Graph.{is_marked, row, rows_of}
 use Rattle.rn_assemble.specs.GrammarView.{definitions_view}
+use Rattle.rn_simplify.specs.Repeats.{HoldSame}
+use Rattle.rn_simplify.proofs.Simplified.ReferenceGraph.{nothing}
 use Rattle.rn_simplify.proofs.Simplified.ReferredIn.{contains_none}
 
 different : (b : Bool) (x y : ℕ) → nat_eq x y ≡ b → ¬ (x ≡ y) → b ≡ false
@@ -53,18 +54,13 @@ same_places marks n places new m e a = subst (AreBelow marks (n + 1)) (sym e) (r
   once = a.once;
 })
 
--- entries of a map, one more
-pub shown_more : (xs : List (Bor (String Global) × Bor Pattern)) (x : Bor (String Global) × Bor Pattern) → definitions_view (map deref_pair (xs ++ x ∷ [])) ≡ definitions_view (map deref_pair xs) ++ (string_bytes x.0.now, pattern_view x.1.now) ∷ []
-shown_more [] x = refl
-shown_more (y ∷ xs) x = ap (λ ds. (string_bytes y.0.now, pattern_view y.1.now) ∷ ds) (shown_more xs x)
-
--- entries of a map, each seen by f, with one more
-pub seen_more : (f : Text × Tree → Text × Tree) (xs : List (Bor (String Global) × Bor Pattern)) (x : Bor (String Global) × Bor Pattern) (old new : List (String Global × Pattern)) (e : String Global × Pattern)
-    → definitions_view old ≡ map f (definitions_view (map deref_pair xs)) → new ≡ old ++ e ∷ [] → ◌≡◌ {A = Text × Tree} (string_bytes e.0, pattern_view e.1) (f (string_bytes x.0.now, pattern_view x.1.now))
-    → definitions_view new ≡ map f (definitions_view (map deref_pair (xs ++ x ∷ [])))
-seen_more f xs x old new e h is same =
+-- forms of definitions, the one with the number n more
+pub forms_more : (f : Text × Tree → Text × Tree) (ds : List (Text × Tree)) (n : ℕ) (old new : List (String Global × Pattern)) (e : String Global × Pattern) → n < length ds
+    → definitions_view old ≡ map f (take n ds) → new ≡ old ++ e ∷ [] → ◌≡◌ {A = Text × Tree} (string_bytes e.0, pattern_view e.1) (f (get_or ds n nothing))
+    → definitions_view new ≡ map f (take (n + 1) ds)
+forms_more f ds n old new e within h is same =
     ap definitions_view is ∙ map-append (λ (d : String Global × Pattern). (string_bytes d.0, pattern_view d.1)) old (e ∷ []) ∙ (λ i. h i ++ same i ∷ [])
-    ∙ sym (ap (map f) (shown_more xs x) ∙ map-append f (definitions_view (map deref_pair xs)) ((string_bytes x.0.now, pattern_view x.1.now) ∷ []))
+    ∙ sym (ap (map f) (take_more ds n nothing within) ∙ map-append f (take n ds) (get_or ds n nothing ∷ []))
 
 apart_names : (x : String Global) (es : List (String Global × Pattern)) → AllByRecursion (λ y. string_eq x y ≡ false) (map (λ (e : String Global × Pattern). e.0) es) → AllByRecursion (λ y. bytes_eq (string_bytes x) y ≡ false) (map (λ (d : Text × Tree). d.0) (definitions_view es))
 apart_names x [] h = tt
@@ -76,8 +72,22 @@ unfolding IsDistinct
 distinct_names [] h = tt
 distinct_names (e ∷ es) h = (apart_names e.0 es h.0, distinct_names es h.1)
 
--- rows, each by its place
+-- rows, each by its place: they hold the same as those that are wanted
 module _ (wanted : ℕ → List ℕ) where
   pub record AreRows (n : ℕ) (rows : List (Vec ℕ Global)) : Type 0 where
     pub size : length rows ≡ n
-    pub each : (k : ℕ) → k < n → row (rows_of rows) k ≡ wanted k
+    pub each : (k : ℕ) → k < n → HoldSame (row (rows_of rows) k) (wanted k)
+
+  pub no_rows : (rows : List (Vec ℕ Global)) → rows ≡ [] → AreRows 0 rows
+  no_rows rows e = record { size = ap length e; each = λ k l. absurd (omega (arith, l)) }
+
+  pub more_rows : (n : ℕ) (rows new : List (Vec ℕ Global)) (v : Vec ℕ Global) → new ≡ rows ++ v ∷ [] → HoldSame v.items (wanted n) → AreRows n rows → AreRows (n + 1) new
+  more_rows n rows new v e h a =
+      let whole : rows_of (rows ++ v ∷ []) ≡ rows_of rows ++ v.items ∷ [] = map-append (λ (w : Vec ℕ Global). w.items) rows (v ∷ []) in
+      let long : length (rows_of rows) ≡ n = length-map rows (λ (w : Vec ℕ Global). w.items) ∙ a.size in
+      subst (AreRows (n + 1)) (sym e) (record {
+        size = length_push rows v ∙ ap (λ m. m + 1) a.size;
+        each = below_more (λ k. HoldSame (row (rows_of (rows ++ v ∷ [])) k) (wanted k)) n
+            (λ k l. subst (λ r. HoldSame r (wanted k)) (sym (ap (λ rs. row rs k) whole ∙ get_or_append_left (rows_of rows) (v.items ∷ []) [] k (omega (arith, l, long)))) (a.each k l))
+            (subst (λ r. HoldSame r (wanted n)) (sym (ap (λ rs. row rs n) whole ∙ get_or_push (rows_of rows) v.items [] n long)) h);
+      })

@@ -1,6 +1,6 @@
 -- Definitions that are reached, sorted by ranks along references outside elements, can be settled in that order.
 use Rattle.std.proofs.Common.{◌≡◌, ◌⊎◌, inl, inr, ◌<◌, ◌≤◌, ℕ, Bool, true, false, cond, nat_eq, List, [], length, take, get_or, Option, Some, None, refl, sym, ap, ◌∙◌, subst, arith, Vec}
-use Rattle.std.specs.Prelude.{bytes_eq, Contains, IsSomeAnd, IsPermutation, String, string_bytes}
+use Rattle.std.specs.Prelude.{bytes_eq, Contains, IsSomeAnd, IsPermutation}
 use Rattle.std.specs.declared.alloc.Global.{Global}
 use Rattle.std.specs.Option.{option_map_or}
 use Rattle.std.specs.List.Sorted.{IsNonDecreasingBy}
@@ -12,18 +12,16 @@ use Rattle.std.proofs.lemmas.List.{get_or-take, get_or_default, length-map, leng
 use Rattle.std.proofs.lemmas.List.Sorted.{Contains-permutation, IsPermutation-sym}
 use Rattle.std.proofs.lemmas.Map.Keys.{apart_from_distinct, IsDistinct-IsPermutation}
 use Rattle.rn_pattern.specs.Tree.{Text, Tree}
-use Rattle.rn_pattern.specs.View.{pattern_view}
-use Rattle.rn_pattern.specs.declared.tree.Pattern.{Pattern}
 use Rattle.rn_pattern.specs.Matching.{Grammar, definition_of}
 use Rattle.rn_pattern.specs.Reached.{RefersTo, IsReached, by_start, by_definition}
 use Rattle.rn_pattern.specs.References.{RefersOutside, Reaches, by_one, by_more, LeadsTo}
 use Rattle.rn_pattern.specs.Graph.{AllBelow, IsGraph, is_marked, row, rows_of}
 use Rattle.rn_pattern.specs.Ranks.{Leads, by_edge, and_edge, rank_of, IsRanking}
-use Rattle.rn_assemble.specs.GrammarView.{definitions_view}
 use Rattle.rn_assemble.specs.WellFormed.{IsWellFormed}
 use Rattle.rn_simplify.specs.Marked.{ArePlaces}
 use Rattle.rn_simplify.specs.Numbered.{MarksReached, number_of, numbers_of}
 use Rattle.rn_simplify.specs.Referred.{references}
+use Rattle.rn_simplify.specs.Repeats.{HoldSame}
 use Rattle.rn_simplify.specs.Settling.{IsSettlingOrder}
 use Rattle.rn_simplify.specs.declared.references.Scope.TheVariants.{OutsideElements}
 use Rattle.rn_simplify.proofs.Simplified.Forms.{found_in}
@@ -68,14 +66,14 @@ module _ (G : Grammar) (marks : List Bool) (outs : List (List ℕ)) (marked : Ma
   places_below places order pl perm k c =
       let w = marked_name k (pl.only k (Contains-permutation order places k (IsPermutation-sym places order perm) c)) in (is_at ds w.0 k w.1).within
 
-  module _ (size : length outs ≡ length ds) (outs_are : (k : ℕ) → k < length ds → row outs k ≡ cond (is_marked marks k) (numbers_of ds (references OutsideElements (get_or ds k nothing).1)) []) where
+  module _ (size : length outs ≡ length ds) (outs_are : (k : ℕ) → k < length ds → HoldSame (row outs k) (cond (is_marked marks k) (numbers_of ds (references OutsideElements (get_or ds k nothing).1)) [])) where
     edge : (x y : Text) (p : Tree) (a b : ℕ) → IsReached G x → number_of ds x ≡ Some a → definition_of G x ≡ Some p → RefersOutside y p → number_of ds y ≡ Some b → Contains (row outs a) b
     edge x y p a b r e d h f =
         let here = mapped_in (number_of ds) (references OutsideElements p) y b (outside_in y p h) f in
-        let same : row outs a ≡ numbers_of ds (references OutsideElements p) =
-        outs_are a (is_at ds x a e).within ∙ ap (λ t. cond t (numbers_of ds (references OutsideElements (get_or ds a nothing).1)) []) (name_marked x a r e)
+        let same : cond (is_marked marks a) (numbers_of ds (references OutsideElements (get_or ds a nothing).1)) [] ≡ numbers_of ds (references OutsideElements p) =
+        ap (λ t. cond t (numbers_of ds (references OutsideElements (get_or ds a nothing).1)) []) (name_marked x a r e)
         ∙ ap (λ q. numbers_of ds (references OutsideElements q)) (body_is ds x a p e d) in
-        subst (λ (l : List ℕ). Contains l b) (sym same) here
+        (outs_are a (is_at ds x a e).within b).1 (subst (λ (l : List ℕ). Contains l b) (sym same) here)
 
     -- a reference outside elements from a name that is reached
     record Step (a b : ℕ) : Type 0 where
@@ -99,7 +97,7 @@ module _ (G : Grammar) (marks : List Bool) (outs : List (List ℕ)) (marked : Ma
     step_of : (a b : ℕ) → Contains (row outs a) b → Step a b
     step_of a b c =
         let l = row_within outs a b c in
-        step_at a b (is_marked marks a) refl (subst (λ (l : List ℕ). Contains l b) (outs_are a (omega (arith, l, size))) c)
+        step_at a b (is_marked marks a) refl ((outs_are a (omega (arith, l, size)) b).0 c)
 
     pub outs_graph : IsGraph outs
     outs_graph a b c = let s = step_of a b c in let l = (is_at ds s.to b s.to_is).within in omega (arith, l, size)
@@ -180,12 +178,13 @@ module _ (G : Grammar) (marks : List Bool) (outs : List (List ℕ)) (marked : Ma
         settling_order_is = record { in_order = record { once = once; behind = behind }; listed = listed; rank = rank; falls = rank_falls; below = rank_below }
 
 -- rows of the references outside elements, as a loop over the definitions leaves them
-module _ (es : List (String Global × Pattern)) (ds : List (Text × Tree)) (shown marks : List Bool) (outside outs : List (Vec ℕ Global)) (e : definitions_view es ≡ ds) (f : shown ≡ marks) (g : outs ≡ outside) where
-  pub outside_size : length outside ≡ length es → length (rows_of outs) ≡ length ds
-  outside_size h = length-map outs (λ (v : Vec ℕ Global). v.items) ∙ ap length g ∙ h ∙ sym (length-map {B = Text × Tree} es (λ d. (string_bytes d.0, pattern_view d.1))) ∙ ap length e
+module _ (ds : List (Text × Tree)) (shown marks : List Bool) (outside outs : List (Vec ℕ Global)) (f : shown ≡ marks) (g : outs ≡ outside) where
+  pub outside_size : length outside ≡ length ds → length (rows_of outs) ≡ length ds
+  outside_size h = length-map outs (λ (v : Vec ℕ Global). v.items) ∙ ap length g ∙ h
 
-  pub outside_rows : ((k : ℕ) (d : Text × Tree) → k < length es → row (rows_of outside) k ≡ cond (is_marked shown k) (numbers_of (definitions_view es) (references OutsideElements (get_or (definitions_view es) k d).1)) [])
-      → (k : ℕ) → k < length ds → row (rows_of outs) k ≡ cond (is_marked marks k) (numbers_of ds (references OutsideElements (get_or ds k nothing).1)) []
-  outside_rows h k l =
-      ap (λ r. row (rows_of r) k) g ∙ h k nothing (omega (arith, l, length-map {B = Text × Tree} es (λ d. (string_bytes d.0, pattern_view d.1)), ap length e))
-      ∙ (λ i. cond (is_marked (f i) k) (numbers_of (e i) (references OutsideElements (get_or (e i) k nothing).1)) [])
+  abbrev AreOutside : List Bool → List (Vec ℕ Global) → ℕ → Text × Tree → Type 0
+  AreOutside ms vs k d = HoldSame (row (rows_of vs) k) (cond (is_marked ms k) (numbers_of ds (references OutsideElements (get_or ds k d).1)) [])
+
+  pub outside_rows : ((k : ℕ) (d : Text × Tree) → k < length ds → HoldSame (row (rows_of outside) k) (cond (is_marked shown k) (numbers_of ds (references OutsideElements (get_or ds k d).1)) []))
+      → (k : ℕ) → k < length ds → HoldSame (row (rows_of outs) k) (cond (is_marked marks k) (numbers_of ds (references OutsideElements (get_or ds k nothing).1)) [])
+  outside_rows h k l = subst (λ ms. AreOutside ms outs k nothing) f (subst (λ vs. AreOutside shown vs k nothing) (sym g) (h k nothing l))

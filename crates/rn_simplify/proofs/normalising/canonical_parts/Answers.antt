@@ -1,10 +1,11 @@
-use Rattle.std.proofs.Common.{◌≡◌, List, map, refl, ap, ◌∙◌, subst}
+use Rattle.std.proofs.Common.{◌≡◌, List, map, refl, sym, ap, ◌∙◌, subst}
 use Rattle.rn_pattern.specs.Canonical as form
 use Rattle.rn_pattern.specs.Matching.{Grammar}
-use Rattle.rn_pattern.specs.Reached.{IsPruned, IsCanonicalOf, formed}
+use Rattle.rn_pattern.specs.Reached.{IsPruned, formed}
 use Rattle.rn_pattern.specs.Tree.{Text, Tree}
 use Rattle.rn_pattern.specs.View.{pattern_view}
 use Rattle.rn_pattern.specs.declared.tree.Pattern.{Pattern}
+use Rattle.rn_assemble.specs.Firsts.{AreFirsts, joined_members}
 use Rattle.rn_assemble.specs.GrammarView.{definitions_view, grammar_view}
 use Rattle.rn_simplify.specs.Worth.{settled_by}
 use Rattle.rn_simplify.proofs.Simplified.Known.{then_kept}
@@ -26,6 +27,9 @@ returns-clause-canonical g c =
     subst (λ (q : Pattern). IsPruned (record { start = pattern_view q; definitions = definitions_view c.in_ok-forms.forms.items }) (record { start = pattern_view q; definitions = N.definitions })) c.deref.ensures c.in_ok-defs.ensures in
     let (rank, settling) = c.in_ok-settled.ensures.exact in
     normal_is G t rank settling N (subst (λ (H : Grammar). IsPruned H N) same (subst (λ (es : List (Text × Tree)). IsPruned (record { start = start; definitions = es }) N) made reached))
+
+pub form-requires : goal.form-requires
+form-requires g c = subst (λ (p : Tree). AreFirsts c.start_firsts.result.now (joined_members p)) (sym c.start.ensures) c.start_firsts.ensures
 
 pub pruned-requires-clause-named : goal.pruned-requires-clause-named
 pruned-requires-clause-named g c =

@@ -1,4 +1,4 @@
-use Rattle.std.proofs.Common.{◌≡◌, ◌∙◌}
+use Rattle.std.proofs.Common.{◌∙◌}
 use Rattle.std.specs.Prelude.{string_bytes}
 use Rattle.rn_pattern.proofs.Stores.Copied.{parameters_copied}
 use Rattle.rn_pattern.proofs.Ordered.PatternKinds.{datum_of, datum_seen}

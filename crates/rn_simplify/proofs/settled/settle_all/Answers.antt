@@ -1,4 +1,4 @@
-use Rattle.std.proofs.Common.{ℕ, List, length, sym, ap, ◌∙◌, subst, arith}
+use Rattle.std.proofs.Common.{ℕ, List, sym, subst}
 use Rattle.std.specs.Prelude.{Contains}
 use Rattle.std.proofs.lemmas.Result.{IfOk-weaker}
 use Rattle.rn_pattern.specs.Tree.{Text, Tree}
@@ -8,21 +8,17 @@ use Rattle.rn_simplify.specs.Settling.{IsInOrder}
 use Rattle.rn_simplify.specs.Worth.{settled_by}
 use Rattle.rn_simplify.proofs.Simplified.Evaluated.{settled_canonical}
 use Rattle.rn_simplify.proofs.Simplified.Normalised.{both_hold, settling_is}
-use Rattle.rn_simplify.proofs.Simplified.Numbers.{size_of_view}
 use Rattle.rn_simplify.proofs.settled.settle_all.Goals as goal
 
 pub settle-requires : goal.settle-requires
-settle-requires c = λ y h.
-    let b = c.in_ok-order.ensures.within y (subst (λ (l : List ℕ). Contains l y) c.deref.ensures.value h) in
-    omega (arith, b, ap length c.defs.ensures, size_of_view c.defs.result.now.entries)
+settle-requires c = λ y h. c.in_ok-order.ensures.within y (subst (λ (l : List ℕ). Contains l y) c.deref.ensures.value h)
 
 pub returns-clause-names : goal.returns-clause-names
-returns-clause-names c = IfOk-weaker c.settle.result _ _ (λ s e. ap definitions_view e ∙ c.defs.ensures) c.settle.ensures.names
+returns-clause-names c = c.settle.ensures.names
 
 pub returns-clause-exact : goal.returns-clause-exact
 returns-clause-exact c =
     let G = grammar_view c.args.grammar.now in
-    let ds = definitions_view c.defs.result.now.entries in
     let order = c.in_ok-order.order.items in
     let ensures = c.settle.ensures in
     IfOk-weaker c.settle.result _ _
@@ -31,9 +27,9 @@ returns-clause-exact c =
     let o = c.in_ok-order.ensures.order in
     let es = definitions_view s.names.now.entries in
     let worth = s.worth.items in
-    let ordered : IsInOrder ds c.deref.result.now = subst (IsInOrder ds) (sym c.deref.ensures.value) (subst (λ (fs : List (Text × Tree)). IsInOrder fs order) (sym c.defs.ensures) o.in_order) in
+    let ordered : IsInOrder G.definitions c.deref.result.now = subst (IsInOrder G.definitions) (sym c.deref.ensures.value) o.in_order in
     let settled : AreSettled G.definitions order (settled_by G.definitions worth) =
-    subst (λ (fs : List (Text × Tree)). AreSettled fs order (settled_by fs worth)) c.defs.ensures (subst (λ (ns : List ℕ). AreSettled ds ns (settled_by ds worth)) c.deref.ensures.value (h.1 ordered)) in
-    let here : AreSettled G.definitions order (settled_by es worth) = subst (λ (fs : List (Text × Tree)). AreSettled G.definitions order (settled_by fs worth)) (sym (ap definitions_view h.0 ∙ c.defs.ensures)) settled in
+    subst (λ (ns : List ℕ). AreSettled G.definitions ns (settled_by G.definitions worth)) c.deref.ensures.value (h.1 ordered) in
+    let here : AreSettled G.definitions order (settled_by es worth) = subst (λ (fs : List (Text × Tree)). AreSettled G.definitions order (settled_by fs worth)) (sym h.0) settled in
     (o.rank, settling_is G (settled_by es worth) order w o (settled_canonical es worth) here))
     (both_hold c.settle.result _ _ ensures.names ensures.settled)

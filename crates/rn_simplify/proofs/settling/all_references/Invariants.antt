@@ -1,10 +1,8 @@
-use Rattle.std.proofs.Common.{◌≡◌, map}
-use Rattle.std.specs.Map.Iter.{deref_pair}
-use Rattle.rn_pattern.specs.Graph.{rows_of}
-use Rattle.rn_assemble.specs.GrammarView.{definitions_view}
-use Rattle.rn_simplify.specs.Numbered.{rows_by}
-use Rattle.rn_simplify.specs.declared.references.Scope.TheVariants.{Everywhere}
+use Rattle.rn_assemble.specs.GrammarView.{grammar_view}
+use Rattle.rn_pattern.specs.Graph.{row}
+use Rattle.rn_simplify.specs.Numbered.{graph_of}
+use Rattle.rn_simplify.proofs.Simplified.Marks.{AreRows}
 use Rattle.rn_simplify.proofs.settling.all_references.Given as goal
 
-abbrev pub invariant-loop-body : goal.invariant-loop-body
-invariant-loop-body l = rows_of l.rows.items ≡ rows_by Everywhere (definitions_view l.names.entries) (definitions_view (map deref_pair l.yielded))
+abbrev pub invariant-loop-number : goal.invariant-loop-number
+invariant-loop-number l = AreRows (row (graph_of (grammar_view l.grammar))) l.number l.rows.items

@@ -1,0 +1,16 @@
+use Rattle.std.proofs.Common.{ap, ◌∙◌, subst}
+use Rattle.std.specs.Prelude.{IfSome}
+use Rattle.rn_assemble.specs.GrammarView.{definitions_view}
+use Rattle.rn_pattern.specs.View.{pattern_view}
+use Rattle.rn_simplify.specs.Repeats.{AreSameButRepeats}
+use Rattle.rn_simplify.specs.Worth.{evaluated, worth_at}
+use Rattle.rn_simplify.proofs.Simplified.Repeats.{evaluated_same}
+use Rattle.rn_simplify.proofs.settled.evaluated_body.Goals as goal
+
+pub returns-in-Some : goal.returns-in-Some
+returns-in-Some c =
+    let w = worth_at (definitions_view c.args.settled.now.names.now.entries) c.args.settled.now.worth.items in
+    let body = pattern_view c.args.body.now in
+    let same : AreSameButRepeats (pattern_view c.in-Some.distinct.value) body =
+    subst (λ o. IfSome o (λ p. AreSameButRepeats (pattern_view p.value) body)) c.in-Some.is c.in_ok-distinct.ensures in
+    c.evaluated.ensures ∙ ap (λ p. evaluated w (pattern_view p)) c.deref.ensures ∙ evaluated_same w (pattern_view c.in-Some.distinct.value) body same
