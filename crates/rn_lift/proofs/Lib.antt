@@ -1,1 +1,6 @@
+mod Added
 mod Appended
+mod Carried
+mod Kept
+mod Made
+mod Places
