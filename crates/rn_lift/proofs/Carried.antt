@@ -64,6 +64,7 @@ carried m n s t f g start file named b text h = record {
   added = h.added;
   inside = h.inside;
   are_edits = All-weaker (IsEdit m s start b file.outline.now.parts.items named) (IsEdit n t start b file.outline.now.parts.items named) (edit m n s t f g start b file.outline.now.parts.items named) h.edits h.are_edits;
+  others_stay = h.others_stay;
   added_for = h.added_for;
   whole = h.whole;
   headed = h.headed;

@@ -1,5 +1,5 @@
 -- The modules that files become, and their texts.
-use Rattle.std.specs.Prelude.{◌≡◌, ◌≢◌, ℕ, ◌<◌, false, ⊤, List, [], ◌++◌, All, Contains, Option, Some, None, codes, length, slice_get, slice_range, string_bytes}
+use Rattle.std.specs.Prelude.{◌≡◌, ◌≢◌, ℕ, ◌<◌, ◌⊎◌, false, ⊤, List, [], ◌++◌, All, Contains, Option, Some, None, codes, length, map, slice_get, slice_range, string_bytes}
 use Rattle.std.specs.List.{AllByRecursion, list_any}
 use Rattle.rn_outline.specs.Links.{targets_of}
 use Rattle.rn_outline.specs.declared.parts.Part.{Part}
@@ -9,7 +9,7 @@ use Rattle.rn_outline.specs.declared.parts.Span.{Span}
 use Rattle.rn_plan.specs.declared.given.Lifting.{Lifting}
 use Rattle.rn_lift.specs.Edits.{AreInTurn, edited}
 use Rattle.rn_lift.specs.Lifts.{bringing}
-use Rattle.rn_lift.specs.StandIns.{IsEdit, Modules, Scopes}
+use Rattle.rn_lift.specs.StandIns.{IsEdit, Modules, Scopes, Stays}
 use Rattle.rn_lift.specs.declared.edits.Edit.{Edit}
 use Rattle.rn_lift.specs.declared.lifted.Basis.{Basis}
 use Rattle.rn_lift.specs.declared.lifted.LiftedModule.{LiftedModule}
@@ -27,14 +27,19 @@ front file added = slice_range file.text.now 0 file.outline.now.body.from ++ (co
 abbrev pub IsWhole : Basis → List ℕ → Type 0
 IsWhole b added = (b.grammar ≡ 0) × (added ≡ [])
 
+-- each part of the grammar stays as it is, or an edit is for it
+pub record OthersStay (b : Basis) (parts : List Part) (edits : List Edit) : Type 0 where
+  pub each : (n : ℕ) (p : Part) → slice_get parts n ≡ Some p → p.grammar ≡ b.grammar → Stays b.scope p ⊎ Contains (map (λ e. e.part) edits) n
+
 -- The text of a module that is made of a file or of a grammar in it: each byte is as it is in the file, but for what stands in the
 -- place of parts. That of a nested grammar is what stands between its braces, behind the declarations of the file. Declarations are
--- added only for parts that are excepted.
+-- added only for parts that are excepted. Each part of a file's own grammar stays, or something else stands in its place.
 pub record IsModuleOf (modules : Modules) (scopes : Scopes) (start : List ℕ) (file : Lifting) (named : List (Option ℕ)) (b : Basis) (text : List ℕ) : Type 0 where
   pub edits : List Edit
   pub added : List ℕ
   pub inside : Span
   pub are_edits : All (IsEdit modules scopes start b file.outline.now.parts.items named) edits
+  pub others_stay : b.grammar ≡ 0 → OthersStay b file.outline.now.parts.items edits
   pub added_for : list_any (λ p. p.in_except) file.outline.now.parts.items ≡ false → added ≡ []
   pub whole : IsWhole b added → IsWritten [] file.text.now 0 (length file.text.now) edits text
   pub headed : (IsWhole b added → ⊥) → IsWritten (front file added) file.text.now inside.from inside.to edits text

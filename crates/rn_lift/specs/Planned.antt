@@ -1,5 +1,5 @@
 -- Modules and scopes as they are planned.
-use Rattle.std.specs.Prelude.{◌≡◌, ◌≢◌, ℕ, List, Contains, Option, Some, slice_get, string_bytes}
+use Rattle.std.specs.Prelude.{◌≡◌, ◌≢◌, ℕ, ◌⊎◌, List, All, Contains, map, Option, Some, slice_get, string_bytes}
 use Rattle.rn_plan.specs.Files.{target_of}
 use Rattle.rn_plan.specs.Places.{entry_of}
 use Rattle.rn_plan.specs.declared.given.Given.{Given}
@@ -11,7 +11,7 @@ use Rattle.rn_plan.specs.declared.units.Units.{Units}
 use Rattle.rn_outline.specs.declared.parts.Part.{Part}
 use Rattle.rn_outline.specs.declared.parts.PartKind.{PartKind}
 use Rattle.rn_lift.specs.Modules.{BringsIn, IsModuleOf}
-use Rattle.rn_lift.specs.StandIns.{IsEdit, StandsFor, StandsForKind}
+use Rattle.rn_lift.specs.StandIns.{IsEdit, Stays, StandsFor, StandsForKind}
 use Rattle.rn_lift.specs.declared.edits.Edit.{Edit}
 use Rattle.rn_lift.specs.declared.lifted.Basis.{Basis}
 use Rattle.rn_lift.specs.declared.lifted.LiftedModule.{LiftedModule}
@@ -64,6 +64,20 @@ StandsForAt v number p text = StandsFor (IsPlanned v.units.now v.plan.now) (IsPl
 -- what is put in the place of a part of a module that is planned
 abbrev pub IsEditOf : View → Edit → Type 0
 IsEditOf v e = IsEdit (IsPlanned v.units.now v.plan.now) (IsPlannedScope v.plan.now) (string_bytes v.plan.now.names.start) v.basis v.given.now.file.outline.now.parts.items v.given.now.targets.items e
+
+-- nothing stands for the part of this number, if it is of the grammar
+abbrev pub StaysAt : View → ℕ → Type 0
+StaysAt v n = (p : Part) → slice_get v.given.now.file.outline.now.parts.items n ≡ Some p → p.grammar ≡ v.basis.grammar → Stays v.basis.scope p
+
+-- the part of this number stays, or an edit is for it
+abbrev pub IsCovered : View → List Edit → ℕ → Type 0
+IsCovered v es n = (p : Part) → slice_get v.given.now.file.outline.now.parts.items n ≡ Some p → p.grammar ≡ v.basis.grammar → Stays v.basis.scope p ⊎ Contains (map (λ e. e.part) es) n
+
+-- what is put in the place of the part of this number is added, if something is
+pub record AddsEdit (v : View) (number : ℕ) (old new : List Edit) : Type 0 where
+  pub are_edits : All (IsEditOf v) old → All (IsEditOf v) new
+  pub kept : (n : ℕ) → IsCovered v old n → IsCovered v new n
+  pub covered : IsCovered v new number
 
 -- the text of a module that is planned
 abbrev pub IsModuleAt : View → List ℕ → Type 0

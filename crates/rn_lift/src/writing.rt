@@ -1,14 +1,14 @@
 // The text of each module.
-ghost use Rattle.std.specs.Prelude.{◌≡◌, ◌≢◌, ◌<◌, ◌≤◌, ◌⊎◌, [], ◌∷◌, ◌++◌, All, false, length, IfOk, IfSome, IsSome, MatchOption, OnOk, None, Some, slice_get, string_bytes};
+ghost use Rattle.std.specs.Prelude.{◌≡◌, ◌≢◌, ◌<◌, ◌≤◌, ◌⊎◌, [], ◌∷◌, ◌++◌, false, length, IfOk, IfSome, IsSome, MatchOption, OnOk, None, Some, slice_get, string_bytes};
 ghost use Rattle.std.specs.List.{list_any};
 ghost use Rattle.rn_text.specs.Literals.{literal_bytes};
 ghost use Rattle.rn_plan.specs.Files.{target_of};
 ghost use Rattle.rn_lift.specs.Modules.{front};
 ghost use Rattle.rn_lift.specs.StandIns.{IsIncluded, IsLifted, KindStays, Stays};
-ghost use Rattle.rn_lift.specs.Planned.{IsEditOf, IsFound, IsMade, IsModuleAt, IsPlaceOf, IsPlanned, IsPlannedScope, IsScopeOf, StandsForAt, StandsForKindAt};
+ghost use Rattle.rn_lift.specs.Planned.{IsFound, IsMade, IsModuleAt, IsPlaceOf, IsPlanned, IsPlannedScope, IsScopeOf, StandsForAt, StandsForKindAt};
 
 use crate::draft::Draft;
-use crate::edits::Edit;
+use crate::edits::edits_of;
 use crate::excepts::{Excepts, Spliced};
 use crate::lifted::{Basis, LiftedModule};
 use rn_outline::{Part, PartKind, Span, name_in};
@@ -18,18 +18,18 @@ use std::alloc::{AllocError, Global};
 
 /// Where a place is written from.
 #[derive(Clone, Copy)]
-struct View<'u, 'a> {
+pub(crate) struct View<'u, 'a> {
     units: &'u Units<'a>,
     plan: &'u Plan,
-    given: &'u Given<'a>,
+    pub(crate) given: &'u Given<'a>,
     /// The number of the place.
     number: usize,
     /// What it is made of.
-    basis: Basis,
+    pub(crate) basis: Basis,
 }
 
 /// What was planned does not fit the files.
-fn unsound() -> LiftFault {
+pub(crate) fn unsound() -> LiftFault {
     LiftFault {
         file: 0,
         at: 0,
@@ -149,49 +149,6 @@ fn write_front(draft: &mut Draft<'_>, given: &Given<'_>, spliced: &Spliced) -> R
     Ok(draft.make(spliced.declarations.as_str(), head)?)
 }
 
-/// What is put in the place of parts of a unit, or of their names.
-fn edits_of(
-    alloc: Global,
-    view: &View<'_, '_>,
-    unit: &Unit,
-    spliced: &Spliced,
-) -> Result<Vec<Edit>, LiftFault>
-    ensures { IfOk result (λ v. All (IsEditOf view.now) v.items) }
-{
-    let mut edits = Vec::new(alloc);
-    for number in &unit.parts {
-        if let Some(edit) = edit_of(alloc, view, *number, spliced)? {
-            edits.push(edit)?;
-        }
-    }
-    Ok(edits)
-}
-
-/// What is put in the place of the part of this number, or of its name.
-fn edit_of(
-    alloc: Global,
-    view: &View<'_, '_>,
-    number: usize,
-    spliced: &Spliced,
-) -> Result<Option<Edit>, LiftFault>
-    ensures { IfOk result (λ r. IfSome r (IsEditOf view.now)) }
-{
-    let given = view.given;
-    let outline = given.file.outline;
-    let part = outline.parts.get(number).ok_or(unsound())?;
-    if part.grammar != view.basis.grammar {
-        return Err(unsound());
-    }
-    match view.text_for(alloc, number, part, spliced)? {
-        Some(text) => Ok(Some(Edit {
-            part: number,
-            span: part.mark(),
-            text,
-        })),
-        None => Ok(None),
-    }
-}
-
 /// The literal of a text.
 fn literal_of(alloc: Global, text: &str) -> Result<String, AllocError>
     ensures { IfOk result (λ t. string_bytes t ≡ literal_bytes text.now) }
@@ -212,7 +169,7 @@ fn reference_to(alloc: Global, stem: &str, start: &str) -> Result<String, AllocE
 
 impl<'u, 'a> View<'u, 'a> {
     /// What stands in the place of a part, or of its name, if it doesn't stay.
-    fn text_for(
+    pub(crate) fn text_for(
         &self,
         alloc: Global,
         number: usize,
