@@ -1,1 +1,7 @@
+mod Added
 mod Appended
+mod Carried
+mod Covered
+mod Kept
+mod Made
+mod Places

@@ -1,4 +1,6 @@
 // The text of a module while it is made, with the origin of each byte.
+ghost use Rattle.std.specs.Prelude.{◌≡◌, ◌≤◌, ◌++◌, [], length, slice_range, IfOk, OnOk, Some, string_bytes};
+ghost use Rattle.rn_lift.specs.Edits.{AreInTurn, edited};
 
 use crate::edits::Edit;
 use crate::lifted::{Basis, LiftedModule, Piece};
@@ -17,7 +19,10 @@ pub(crate) struct Draft<'a> {
 }
 
 impl<'a> Draft<'a> {
-    pub(crate) fn new(alloc: Global, file: usize, source: &'a str) -> Self {
+    pub(crate) fn new(alloc: Global, file: usize, source: &'a str) -> Self
+        ensures empty { string_bytes result.text ≡ [] }
+        ensures source { result.source.now ≡ source.now }
+    {
         Draft {
             source,
             file,
@@ -26,7 +31,11 @@ impl<'a> Draft<'a> {
         }
     }
 
-    fn push(&mut self, text: &str, at: usize, is_source: bool) -> Result<(), AllocError> {
+    fn push(&mut self, text: &str, at: usize, is_source: bool) -> Result<(), AllocError>
+        ensures text { OnOk result (string_bytes self.new.text
+            ≡ string_bytes self.old.text ++ text.now) }
+        ensures source { self.new.source ≡ self.old.source }
+    {
         if text.is_empty() {
             return Ok(());
         }
@@ -50,7 +59,12 @@ impl<'a> Draft<'a> {
     }
 
     /// Appends bytes of the file's text.
-    pub(crate) fn copy(&mut self, from: usize, to: usize) -> Result<(), LiftFault> {
+    pub(crate) fn copy(&mut self, from: usize, to: usize) -> Result<(), LiftFault>
+        ensures text { OnOk result (string_bytes self.new.text
+            ≡ string_bytes self.old.text ++ slice_range self.old.source.now from to) }
+        ensures inside { OnOk result (from ≤ to) }
+        ensures source { self.new.source ≡ self.old.source }
+    {
         match self.source.get(from..to) {
             Some(text) => Ok(self.push(text, from, true)?),
             None => Err(self.fault(from)),
@@ -58,12 +72,23 @@ impl<'a> Draft<'a> {
     }
 
     /// Appends what is made for a place of the file.
-    pub(crate) fn make(&mut self, text: &str, at: usize) -> Result<(), AllocError> {
+    pub(crate) fn make(&mut self, text: &str, at: usize) -> Result<(), AllocError>
+        ensures text { OnOk result (string_bytes self.new.text
+            ≡ string_bytes self.old.text ++ text.now) }
+        ensures source { self.new.source ≡ self.old.source }
+    {
         self.push(text, at, false)
     }
 
     /// Appends the bytes up to what is replaced, and what stands in its place.
-    fn replace(&mut self, edit: &Edit, from: usize) -> Result<(), LiftFault> {
+    fn replace(&mut self, edit: &Edit, from: usize) -> Result<(), LiftFault>
+        ensures text { OnOk result (string_bytes self.new.text ≡ string_bytes self.old.text
+            ++ (slice_range self.old.source.now from edit.now.span.from
+            ++ string_bytes edit.now.text)) }
+        ensures before { OnOk result (from ≤ edit.now.span.from) }
+        ensures inside { OnOk result (edit.now.span.from ≤ edit.now.span.to) }
+        ensures source { self.new.source ≡ self.old.source }
+    {
         let Span {
             from: begin,
             to: end,
@@ -77,21 +102,26 @@ impl<'a> Draft<'a> {
 
     /// Appends the bytes of the file's text from one up to, and without, another, with these texts in
     /// the place of what they replace.
-    pub(crate) fn apply(
-        &mut self,
-        edits: &[Edit],
-        from: usize,
-        to: usize,
-    ) -> Result<(), LiftFault> {
+    pub(crate) fn apply(&mut self, edits: &[Edit], from: usize, to: usize) -> Result<(), LiftFault>
+        ensures text { OnOk result (string_bytes self.new.text ≡ string_bytes self.old.text
+            ++ edited self.old.source.now from to edits.now) }
+        ensures in_turn { OnOk result (AreInTurn from to edits.now) }
+    {
         let mut at = from;
-        for edit in edits {
+        let mut rest = edits;
+        'edits: while let Some((edit, behind)) = rest.split_first() {
             self.replace(edit, at)?;
             at = edit.span.to;
+            rest = behind;
         }
         self.copy(at, to)
     }
 
-    pub(crate) fn finish(self, name: String, basis: Basis) -> LiftedModule {
+    pub(crate) fn finish(self, name: String, basis: Basis) -> LiftedModule
+        ensures name { result.name ≡ name }
+        ensures text { result.text ≡ self.entry.text }
+        ensures basis { result.basis ≡ Some basis }
+    {
         let Draft { text, pieces, .. } = self;
         LiftedModule {
             name,

@@ -1,7 +1,11 @@
 // From files to modules.
-ghost use Rattle.std.specs.Prelude.{◌≡◌, IfOk, IsTrue, string_bytes};
+ghost use Rattle.std.specs.Prelude.{◌≡◌, ◌<◌, ◌⊎◌, ℕ, All, Contains, IfOk, IsPermutation, IsTrue, None, OnOk, drop, string_bytes, vec_len};
 ghost use Rattle.rn_lift.specs.Lifts.{AreRising, bringing};
+ghost use Rattle.rn_lift.specs.Modules.{AreMadeOfFiles, BringsIn, KeepsText};
+ghost use Rattle.rn_lift.specs.Planned.{HasPlace, IsBrought, IsMadeOfPlace};
+ghost use Rattle.rn_lift.specs.declared.lifted.LiftedModule.{LiftedModule};
 ghost use Rattle.rn_plan.specs.Free.{AreFree};
+ghost use Rattle.rn_plan.specs.Places.{entry_of};
 
 use crate::excepts::Excepts;
 use crate::lifted::{Lifted, LiftedModule, Piece};
@@ -12,7 +16,9 @@ use std::alloc::{AllocError, Global};
 use std::cmp::Ordering;
 
 /// The module that brings in a scope: it hands the namespace to the first module.
-fn bringing(alloc: Global, plan: &Plan, scope: &Scope) -> Result<LiftedModule, AllocError> {
+fn bringing(alloc: Global, plan: &Plan, scope: &Scope) -> Result<LiftedModule, AllocError>
+    ensures { IfOk result (BringsIn (entry_of plan.now scope.now)) }
+{
     let mut pieces = Vec::new(alloc);
     pieces.push(Piece {
         from: 0,
@@ -20,10 +26,12 @@ fn bringing(alloc: Global, plan: &Plan, scope: &Scope) -> Result<LiftedModule, A
         at: scope.at,
         is_source: false,
     })?;
+    let namespace = plan.namespace_of(scope);
     let module = plan.entry_of(scope);
+    let text = bringing_text(alloc, namespace, module)?;
     Ok(LiftedModule {
         name: scope.module.clone()?,
-        text: bringing_text(alloc, plan.namespace_of(scope), module)?,
+        text,
         pieces,
         basis: None,
     })
@@ -46,17 +54,24 @@ fn place_modules(
     alloc: Global,
     units: &Units<'_>,
     plan: &Plan,
-) -> Result<Vec<LiftedModule>, LiftFault> {
+) -> Result<Vec<LiftedModule>, LiftFault>
+    ensures made { IfOk result (λ v. All (IsMadeOfPlace units.now plan.now) v.items) }
+    ensures each { IfOk result (λ v. (k : ℕ) → k < vec_len plan.now.places
+        → HasPlace units.now plan.now v.items k) }
+{
     let mut modules = Vec::new(alloc);
     let mut excepts = Excepts::new(alloc, units, plan)?;
     for number in 0..plan.places.len() {
-        modules.push(module_at(alloc, units, plan, &mut excepts, number)?)?;
+        let module = module_at(alloc, units, plan, &mut excepts, number)?;
+        modules.push(module)?;
     }
     Ok(modules)
 }
 
 /// The scopes that modules bring in: all but that of the roots.
-fn scopes_brought(plan: &Plan) -> &[Scope] {
+fn scopes_brought(plan: &Plan) -> &[Scope]
+    ensures { result.now ≡ drop 1 plan.now.scopes.items }
+{
     match plan.scopes.split_first() {
         Some((_, scopes)) => scopes,
         None => &[],
@@ -68,9 +83,17 @@ fn add_bringing(
     alloc: Global,
     plan: &Plan,
     modules: &mut Vec<LiftedModule>,
-) -> Result<(), AllocError> {
+) -> Result<(), AllocError>
+    ensures kept { OnOk result ((m : LiftedModule) → Contains modules.old.items m
+        → Contains modules.new.items m) }
+    ensures others { OnOk result (All (λ m. Contains modules.old.items m ⊎ (m.basis ≡ None))
+        modules.new.items) }
+    ensures brought { OnOk result (All (IsBrought plan.now modules.new.items)
+        (drop 1 plan.now.scopes.items)) }
+{
     for scope in scopes_brought(plan) {
-        modules.push(bringing(alloc, plan, scope)?)?;
+        let module = bringing(alloc, plan, scope)?;
+        modules.push(module)?;
     }
     Ok(())
 }
@@ -84,6 +107,9 @@ fn add_bringing(
 pub fn lift(alloc: Global, files: &[Lifting<'_>], roots: &[usize]) -> Result<Lifted, LiftFault>
     ensures order { IfOk result (λ l. AreRising l.modules.items) }
     ensures free { IfOk result (λ l. AreFree files.now l.stems (string_bytes l.start)) }
+    ensures made { IfOk result (λ l.
+        AreMadeOfFiles files.now l.modules.items (string_bytes l.start)) }
+    ensures plain { IfOk result (λ l. All (KeepsText files.now) l.modules.items) }
 {
     let units = Units::of(alloc, files)?;
     let plan = make_plan(alloc, &units, roots)?;
@@ -95,6 +121,7 @@ pub fn lift(alloc: Global, files: &[Lifting<'_>], roots: &[usize]) -> Result<Lif
 /// The modules in the order of their names.
 fn finished(plan: Plan, mut modules: Vec<LiftedModule>) -> Result<Lifted, LiftFault>
     ensures order { IfOk result (λ l. AreRising l.modules.items) }
+    ensures same { IfOk result (λ l. IsPermutation modules.items l.modules.items) }
     ensures stems { IfOk result (λ l. l.stems ≡ plan.names.own) }
     ensures start { IfOk result (λ l. l.start ≡ plan.names.start) }
 {

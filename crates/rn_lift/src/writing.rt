@@ -1,7 +1,14 @@
 // The text of each module.
+ghost use Rattle.std.specs.Prelude.{◌≡◌, ◌≢◌, ◌<◌, ◌≤◌, ◌⊎◌, [], ◌∷◌, ◌++◌, false, length, IfOk, IfSome, IsSome, MatchOption, OnOk, None, Some, slice_get, string_bytes};
+ghost use Rattle.std.specs.List.{list_any};
+ghost use Rattle.rn_text.specs.Literals.{literal_bytes};
+ghost use Rattle.rn_plan.specs.Files.{target_of};
+ghost use Rattle.rn_lift.specs.Modules.{front};
+ghost use Rattle.rn_lift.specs.StandIns.{IsIncluded, IsLifted, KindStays, Stays};
+ghost use Rattle.rn_lift.specs.Planned.{IsFound, IsMade, IsModuleAt, IsPlaceOf, IsPlanned, IsPlannedScope, IsScopeOf, StandsForAt, StandsForKindAt};
 
 use crate::draft::Draft;
-use crate::edits::Edit;
+use crate::edits::edits_of;
 use crate::excepts::{Excepts, Spliced};
 use crate::lifted::{Basis, LiftedModule};
 use rn_outline::{Part, PartKind, Span, name_in};
@@ -11,19 +18,18 @@ use std::alloc::{AllocError, Global};
 
 /// Where a place is written from.
 #[derive(Clone, Copy)]
-struct View<'u, 'a> {
+pub(crate) struct View<'u, 'a> {
     units: &'u Units<'a>,
     plan: &'u Plan,
-    given: &'u Given<'a>,
-    /// The number of the file.
-    file: usize,
-    /// The number of the place, and its scope.
+    pub(crate) given: &'u Given<'a>,
+    /// The number of the place.
     number: usize,
-    scope: usize,
+    /// What it is made of.
+    pub(crate) basis: Basis,
 }
 
 /// What was planned does not fit the files.
-fn unsound() -> LiftFault {
+pub(crate) fn unsound() -> LiftFault {
     LiftFault {
         file: 0,
         at: 0,
@@ -38,26 +44,48 @@ pub(crate) fn module_at(
     plan: &Plan,
     excepts: &mut Excepts,
     number: usize,
-) -> Result<LiftedModule, LiftFault> {
-    let place = plan.places.get(number).ok_or(unsound())?;
-    let unit = units.units.get(place.unit).ok_or(unsound())?;
-    let given = units.files.get(unit.file).ok_or(unsound())?;
-    let spliced = excepts.splice(alloc, units, plan, number, unit, given.file.outline)?;
-    let view = View {
-        units,
-        plan,
-        given,
-        file: unit.file,
-        number,
-        scope: place.scope,
+) -> Result<LiftedModule, LiftFault>
+    ensures { IfOk result (IsMade units.now plan.now number) }
+{
+    let Some(found) = found_at(units, plan, number) else {
+        return Err(unsound());
     };
-    let draft = written(alloc, &view, unit, &spliced)?;
+    let Found { place, unit, given } = found;
+    let spliced = excepts.splice(alloc, units, plan, number, unit, given.file.outline)?;
     let basis = Basis {
         file: unit.file,
         grammar: unit.grammar,
         scope: place.scope,
     };
-    Ok(draft.finish(place.module.clone()?, basis))
+    let view = View {
+        units,
+        plan,
+        given,
+        number,
+        basis,
+    };
+    let draft = written(alloc, &view, unit, &spliced)?;
+    let name = place.module.clone()?;
+    Ok(draft.finish(name, basis))
+}
+
+/// What a place is of.
+#[derive(Clone, Copy)]
+struct Found<'u, 'a> {
+    place: &'u Place,
+    unit: &'u Unit,
+    given: &'u Given<'a>,
+}
+
+/// What the place of this number is of.
+fn found_at<'u, 'a>(units: &'u Units<'a>, plan: &'u Plan, number: usize) -> Option<Found<'u, 'a>>
+    ensures { IfSome result (λ f.
+        IsFound units.now plan.now number f.place.now f.unit.now f.given.now) }
+{
+    let place = plan.places.get(number)?;
+    let unit = units.units.get(place.unit)?;
+    let given = units.files.get(unit.file)?;
+    Some(Found { place, unit, given })
 }
 
 /// The text of a place.
@@ -66,104 +94,119 @@ fn written<'a>(
     view: &View<'_, 'a>,
     unit: &Unit,
     spliced: &Spliced,
-) -> Result<Draft<'a>, LiftFault> {
+) -> Result<Draft<'a>, LiftFault>
+    requires grammar { unit.now.grammar ≡ view.now.basis.grammar }
+    requires declarations { list_any (λ p. p.in_except)
+        view.now.given.now.file.outline.now.parts.items ≡ false
+        → string_bytes spliced.now.declarations ≡ [] }
+    ensures { IfOk result (λ d. IsModuleAt view.now (string_bytes d.text)) }
+{
     let edits = edits_of(alloc, view, unit, spliced)?;
     let given = view.given;
     let source = given.file.text;
-    let mut draft = Draft::new(alloc, view.file, source);
-    let from = write_head(&mut draft, view, unit, spliced)?;
-    let to = if unit.grammar == 0 {
-        source.len()
+    let inside = inside_of(view, unit);
+    let mut draft = Draft::new(alloc, view.basis.file, source);
+    let is_whole = view.basis.grammar == 0 && spliced.declarations.is_empty();
+    let from = if is_whole {
+        0
     } else {
-        unit.inside.to
+        write_front(&mut draft, given, spliced)?;
+        inside.from
     };
-    draft.apply(edits.as_slice(), from, to)?;
+    draft.apply(edits.as_slice(), from, inside.to)?;
     Ok(draft)
 }
 
-/// Writes the declarations, where they don't go on to what the unit is: the byte of the file with
-/// which what is written goes on.
-fn write_head(
-    draft: &mut Draft<'_>,
-    view: &View<'_, '_>,
-    unit: &Unit,
-    spliced: &Spliced,
-) -> Result<usize, LiftFault> {
-    let declarations = spliced.declarations.as_str();
-    if unit.grammar == 0 && declarations.is_empty() {
-        return Ok(0);
-    }
+/// What stands in a unit: the file behind its declarations, or what is between the braces.
+fn inside_of(view: &View<'_, '_>, unit: &Unit) -> Span
+    ensures { view.now.basis.grammar ≡ 0 → result ≡ record {
+      from = view.now.given.now.file.outline.now.body.from;
+      to = length view.now.given.now.file.text.now;
+    } }
+{
     let given = view.given;
+    if view.basis.grammar > 0 {
+        return unit.inside;
+    }
+    let outline = given.file.outline;
+    Span {
+        from: outline.body.from,
+        to: given.file.text.len(),
+    }
+}
+
+/// Writes the declarations of the file, and those that texts in excepts need.
+fn write_front(draft: &mut Draft<'_>, given: &Given<'_>, spliced: &Spliced) -> Result<(), LiftFault>
+    requires { draft.old.source.now ≡ given.now.file.text.now }
+    ensures text { OnOk result (string_bytes draft.new.text ≡ string_bytes draft.old.text
+        ++ front given.now.file (string_bytes spliced.now.declarations)) }
+    ensures source { draft.new.source ≡ draft.old.source }
+{
     let outline = given.file.outline;
     let head = outline.body.from;
     draft.copy(0, head)?;
     draft.make("\n", head)?;
-    draft.make(declarations, head)?;
-    Ok(unit.inside.from)
+    Ok(draft.make(spliced.declarations.as_str(), head)?)
 }
 
-/// What is put in the place of parts of a unit, or of their names.
-fn edits_of(
-    alloc: Global,
-    view: &View<'_, '_>,
-    unit: &Unit,
-    spliced: &Spliced,
-) -> Result<Vec<Edit>, LiftFault> {
-    let mut edits = Vec::new(alloc);
-    for number in &unit.parts {
-        if let Some(edit) = edit_of(alloc, view, *number, spliced)? {
-            edits.push(edit)?;
-        }
-    }
-    Ok(edits)
+/// The literal of a text.
+fn literal_of(alloc: Global, text: &str) -> Result<String, AllocError>
+    ensures { IfOk result (λ t. string_bytes t ≡ literal_bytes text.now) }
+{
+    let mut literal = String::new(alloc);
+    write_literal(&mut literal, text)?;
+    Ok(literal)
 }
 
-/// What is put in the place of the part of this number, or of its name.
-fn edit_of(
-    alloc: Global,
-    view: &View<'_, '_>,
-    number: usize,
-    spliced: &Spliced,
-) -> Result<Option<Edit>, LiftFault> {
-    let given = view.given;
-    let outline = given.file.outline;
-    let Some(part) = outline.parts.get(number) else {
-        return Ok(None);
-    };
-    if part.in_except {
-        return match spliced.copied(number)? {
-            Some(text) => Ok(Some(Edit {
-                span: part.at,
-                text,
-            })),
-            None => Ok(None),
-        };
-    }
-    match view.stand_in(alloc, number, part)? {
-        Some(text) => Ok(Some(Edit {
-            span: part.mark(),
-            text,
-        })),
-        None => Ok(None),
-    }
+/// A reference to the start of the scope of a stem. A space parts it from what follows.
+fn reference_to(alloc: Global, stem: &str, start: &str) -> Result<String, AllocError>
+    ensures { IfOk result (λ t. string_bytes t ≡ (stem.now ++ (46 ∷ start.now)) ++ (32 ∷ [])) }
+{
+    let mut name = own_name(alloc, stem, start)?;
+    name.push_str(" ")?;
+    Ok(name)
 }
 
 impl<'u, 'a> View<'u, 'a> {
     /// What stands in the place of a part, or of its name, if it doesn't stay.
-    fn stand_in(
+    pub(crate) fn text_for(
         &self,
         alloc: Global,
         number: usize,
         part: &Part,
-    ) -> Result<Option<String>, LiftFault> {
+        spliced: &Spliced,
+    ) -> Result<Option<String>, LiftFault>
+        ensures { IfOk result (λ r. MatchOption r (Stays self.now.basis.scope part.now)
+            (λ text. StandsForAt self.now number part.now (string_bytes text))) }
+    {
+        if !part.in_except {
+            return self.stand_in(alloc, number, &part.kind);
+        }
+        match spliced.copied(number)? {
+            Some(text) => Ok(Some(text)),
+            None => Err(unsound()),
+        }
+    }
+
+    /// The same, of a part that is not excepted.
+    fn stand_in(
+        &self,
+        alloc: Global,
+        number: usize,
+        kind: &PartKind,
+    ) -> Result<Option<String>, LiftFault>
+        ensures { IfOk result (λ r. MatchOption r (KindStays self.now.basis.scope kind.now)
+            (λ text. StandsForKindAt self.now number kind.now (string_bytes text))) }
+    {
         let given = self.given;
         let text = given.file.text;
         let plan = self.plan;
-        match &part.kind {
-            PartKind::Define { name, .. } => self.name(alloc, self.scope, name_in(text, *name)),
+        let scope = self.basis.scope;
+        match kind {
+            PartKind::Define { name, .. } => self.name(alloc, scope, name_in(text, *name)),
             PartKind::Start { word, .. } => self.start(alloc, *word),
             PartKind::Reference { name } => {
-                self.name(alloc, plan.names_of(self.scope), name_in(text, *name))
+                self.name(alloc, plan.names_of(scope), name_in(text, *name))
             }
             PartKind::Parent { name } => self.parent(alloc, *name),
             PartKind::Include { .. } => Ok(Some(self.include(alloc, number)?)),
@@ -173,12 +216,14 @@ impl<'u, 'a> View<'u, 'a> {
             PartKind::Grammar {
                 number: grammar,
                 ..
-            } => { Ok(Some(self.lifted(alloc, number, Some(self.file), *grammar)?)) }
+            } => { Ok(Some(self.lifted(alloc, number, Some(self.basis.file), *grammar)?)) }
         }
     }
 
     /// A name in a scope, if it is not the name that is written.
-    fn name(&self, alloc: Global, scope: usize, name: &str) -> Result<Option<String>, LiftFault> {
+    fn name(&self, alloc: Global, scope: usize, name: &str) -> Result<Option<String>, LiftFault>
+        ensures { IfOk result (λ r. MatchOption r (scope ≡ 0) (λ _. scope ≢ 0)) }
+    {
         if scope == ROOT {
             return Ok(None);
         }
@@ -187,9 +232,13 @@ impl<'u, 'a> View<'u, 'a> {
     }
 
     /// The start of the scope, where `start` is written, or nothing in a file that is a pattern.
-    fn start(&self, alloc: Global, word: Span) -> Result<Option<String>, LiftFault> {
+    fn start(&self, alloc: Global, word: Span) -> Result<Option<String>, LiftFault>
+        ensures { IfOk result (λ r. MatchOption r
+            ((self.now.basis.scope ≡ 0) × (word.from < word.to))
+            (λ _. (self.now.basis.scope ≢ 0) ⊎ (word.to ≤ word.from))) }
+    {
         let plan = self.plan;
-        let name = self.name(alloc, self.scope, plan.names.start.as_str())?;
+        let name = self.name(alloc, self.basis.scope, plan.names.start.as_str())?;
         if word.from < word.to {
             return Ok(name);
         }
@@ -202,11 +251,13 @@ impl<'u, 'a> View<'u, 'a> {
     }
 
     /// What `parent` and a name mean.
-    fn parent(&self, alloc: Global, name: Span) -> Result<Option<String>, LiftFault> {
+    fn parent(&self, alloc: Global, name: Span) -> Result<Option<String>, LiftFault>
+        ensures { IfOk result IsSome }
+    {
         let given = self.given;
         let text = given.file.text;
         let plan = self.plan;
-        let scope = plan.parent_of(self.scope);
+        let scope = plan.parent_of(self.basis.scope);
         match self.name(alloc, scope.unwrap_or(ROOT), name_in(text, name))? {
             Some(name) => Ok(Some(name)),
             None => {
@@ -217,23 +268,32 @@ impl<'u, 'a> View<'u, 'a> {
     }
 
     /// The literal of an include: that of the module's name which it leads to.
-    fn include(&self, alloc: Global, part: usize) -> Result<String, LiftFault> {
-        let place = self.included(part).ok_or(unsound())?;
-        let mut literal = String::new(alloc);
-        write_literal(&mut literal, place.module.as_str())?;
+    fn include(&self, alloc: Global, part: usize) -> Result<String, LiftFault>
+        ensures { IfOk result (λ text. IsIncluded (IsPlanned self.now.units.now self.now.plan.now)
+            self.now.basis.scope (target_of self.now.given.now part) (string_bytes text)) }
+    {
+        let Some(place) = self.included(part) else {
+            return Err(unsound());
+        };
+        let module = place.module.as_str();
+        let literal = literal_of(alloc, module)?;
         Ok(literal)
     }
 
     /// The place that an include leads to, if it is one of the file that the include names, in the
     /// same scope.
-    fn included(&self, part: usize) -> Option<&'u Place> {
+    fn included(&self, part: usize) -> Option<&'u Place>
+        ensures { IfSome result (λ place. IsPlaceOf self.now self.now.basis.scope
+            (target_of self.now.given.now part) 0 place.now) }
+    {
         let plan = self.plan;
         let units = self.units;
         let given = self.given;
-        let place = plan.places.get(plan.leads_to(self.number, part)?)?;
+        let number = plan.leads_to(self.number, part)?;
+        let place = plan.places.get(number)?;
         let unit = units.units.get(place.unit)?;
-        let is_named = given.target(part) == Some(unit.file);
-        if is_named && unit.grammar == 0 && place.scope == self.scope {
+        let file = given.target(part)?;
+        if unit.file == file && unit.grammar == 0 && place.scope == self.basis.scope {
             Some(place)
         } else {
             None
@@ -248,24 +308,39 @@ impl<'u, 'a> View<'u, 'a> {
         part: usize,
         file: Option<usize>,
         grammar: usize,
-    ) -> Result<String, LiftFault> {
+    ) -> Result<String, LiftFault>
+        ensures { IfOk result (λ text. IsLifted (IsPlanned self.now.units.now self.now.plan.now)
+            (IsPlannedScope self.now.plan.now) (string_bytes self.now.plan.now.names.start)
+            file grammar (string_bytes text)) }
+    {
         let plan = self.plan;
-        let scope = self.brought(part, file, grammar).ok_or(unsound())?;
-        let mut name = own_name(alloc, scope.stem.as_str(), plan.names.start.as_str())?;
-        name.push_str(" ")?;
-        Ok(name)
+        let Some(scope) = self.brought(part, file, grammar) else {
+            return Err(unsound());
+        };
+        let stem = scope.stem.as_str();
+        let start = plan.names.start.as_str();
+        let reference = reference_to(alloc, stem, start)?;
+        Ok(reference)
     }
 
     /// The scope that an external or a nested grammar leads to, if its first place is one of this file
     /// and this grammar.
-    fn brought(&self, part: usize, file: Option<usize>, grammar: usize) -> Option<&'u Scope> {
+    fn brought(&self, part: usize, file: Option<usize>, grammar: usize) -> Option<&'u Scope>
+        ensures { IfSome result (λ scope. IsScopeOf self.now file grammar scope.now) }
+    {
         let plan = self.plan;
         let units = self.units;
         let number = plan.leads_to(self.number, part)?;
+        if number == ROOT {
+            return None;
+        }
         let scope = plan.scopes.get(number)?;
         let place = plan.places.get(scope.entry)?;
         let unit = units.units.get(place.unit)?;
-        if file == Some(unit.file) && unit.grammar == grammar && place.scope == number {
+        let Some(file) = file else {
+            return None;
+        };
+        if unit.file == file && unit.grammar == grammar && place.scope == number {
             Some(scope)
         } else {
             None

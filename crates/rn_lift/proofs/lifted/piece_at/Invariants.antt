@@ -1,5 +1,5 @@
 -- What is left makes of what was found the last piece of all.
-use Rattle.std.proofs.Common.{◌≡◌, ◌≤◌, ◌-◌, length, IfSome}
+use Rattle.std.proofs.Common.{◌≡◌, ◌≤◌, length, IfSome}
 use Rattle.rn_lift.specs.Origins.{last_from, piece_at}
 use Rattle.rn_lift.proofs.lifted.piece_at.Given as goal
 
