@@ -3,3 +3,4 @@ mod NameFacts
 mod Graphs
 mod PathFacts
 mod UriFacts
+mod MapFacts

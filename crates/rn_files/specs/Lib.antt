@@ -8,3 +8,4 @@ pub mod Paths
 pub mod Escapes
 pub mod Uris
 pub mod References
+pub mod Maps

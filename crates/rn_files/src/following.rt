@@ -1,7 +1,9 @@
 // Reading files, and what they refer to.
-ghost use Rattle.std.specs.Prelude.{◌≡◌, ◌<◌, ◌≤◌, All, IfOk, IsNone, is_some, string_bytes, vec_len};
+ghost use Rattle.std.specs.Prelude.{◌≡◌, ◌<◌, ◌≤◌, All, IfOk, IfSome, IsNone, is_some, string_bytes, vec_len};
 ghost use Rattle.rn_files.specs.Limits.{max_text};
-ghost use Rattle.rn_files.specs.Following.{IsFollowed};
+ghost use Rattle.rn_files.specs.Following.{IsFollowed, LeadsTo};
+ghost use Rattle.rn_files.specs.Maps.{IsPlace};
+ghost use Rattle.rn_files.specs.References.{StandsFor};
 ghost use Rattle.rn_files.specs.Sources.{is_link};
 
 use crate::escapes::file_uri;
@@ -152,7 +154,9 @@ fn real_path<F: Files>(
     leads: &Place,
     place: FaultPlace,
 ) -> Result<Option<String>, AllocError>
-    ensures { vec_len walk.old.entries ≤ vec_len walk.new.entries }
+    ensures grows { vec_len walk.old.entries ≤ vec_len walk.new.entries }
+    ensures led { IfOk result (λ found. IfSome found (λ path.
+        F.leads files.now (string_bytes leads.now.path) (string_bytes path))) }
 {
     let answer = files.real_path(alloc, leads.path.as_str());
     let is_outside = ways.root.is_some_and(|root| !leads.is_mapped
@@ -162,6 +166,79 @@ fn real_path<F: Files>(
         return Ok(None);
     }
     walk.noted(place, answer)
+}
+
+/// The URI that a reference in a file with the URI `base` stands for.
+fn target_uri(
+    alloc: Global,
+    walk: &mut Walk,
+    base: &str,
+    literal: &str,
+    place: FaultPlace,
+) -> Result<Option<String>, AllocError>
+    ensures grows { vec_len walk.old.entries ≤ vec_len walk.new.entries }
+    ensures stands { IfOk result (λ found. IfSome found (λ uri.
+        StandsFor base.now literal.now (string_bytes uri))) }
+{
+    walk.noted_reference(place, resolve_below(alloc, base, literal))
+}
+
+/// Where a URI lies that a reference stands for.
+fn target_place(
+    alloc: Global,
+    maps: &[Map],
+    walk: &mut Walk,
+    uri: &str,
+    place: FaultPlace,
+) -> Result<Option<Place>, AllocError>
+    ensures grows { vec_len walk.old.entries ≤ vec_len walk.new.entries }
+    ensures lies { IfOk result (λ found. IfSome found (λ leads.
+        IsPlace maps.now uri.now (string_bytes leads.path) leads.is_mapped)) }
+{
+    walk.noted_reference(place, place_of(alloc, maps, uri))
+}
+
+/// How a file that a reference led to was found.
+fn origin_of(leads: &Place) -> Origin {
+    if leads.is_mapped {
+        Origin::Map
+    } else {
+        Origin::Path
+    }
+}
+
+/// The file that a reference in a file with the URI `base` means.
+fn find_link<F: Files>(
+    alloc: Global,
+    files: &F,
+    ways: &Ways<'_>,
+    walk: &mut Walk,
+    base: &str,
+    literal: &str,
+    place: FaultPlace,
+) -> Result<Option<Found>, AllocError>
+    ensures grows { vec_len walk.old.entries ≤ vec_len walk.new.entries }
+    ensures led { IfOk result (λ found. IfSome found (λ file.
+        LeadsTo (F.leads files.now) ways.now.maps.now base.now literal.now
+        (string_bytes file.uri) (string_bytes file.path))) }
+{
+    let Some(uri) = target_uri(alloc, walk, base, literal, place)? else {
+        return Ok(None);
+    };
+    let Some(leads) = target_place(alloc, ways.maps, walk, uri.as_str(), place)? else {
+        return Ok(None);
+    };
+    let Some(path) = real_path(alloc, files, ways, walk, &leads, place)? else {
+        return Ok(None);
+    };
+    let shown = String::from_str(alloc, shown_path(ways.current, path.as_str()))?;
+    let origin = origin_of(&leads);
+    Ok(Some(Found {
+        path,
+        shown,
+        uri,
+        origin,
+    }))
 }
 
 /// Enters the file that a reference in a file with the URI `base` means.
@@ -176,28 +253,10 @@ fn follow_link<F: Files>(
 ) -> Result<Option<usize>, AllocError>
     ensures { vec_len walk.old.entries ≤ vec_len walk.new.entries }
 {
-    let Some(uri) = walk.noted_reference(place, resolve_below(alloc, base, literal))? else {
-        return Ok(None);
-    };
-    let Some(leads) = walk.noted_reference(place, place_of(alloc, ways.maps, uri.as_str()))? else {
-        return Ok(None);
-    };
-    let Some(path) = real_path(alloc, files, ways, walk, &leads, place)? else {
-        return Ok(None);
-    };
-    let shown = String::from_str(alloc, shown_path(ways.current, path.as_str()))?;
-    let origin = if leads.is_mapped {
-        Origin::Map
-    } else {
-        Origin::Path
-    };
-    let found = Found {
-        path,
-        shown,
-        uri,
-        origin,
-    };
-    enter_found(ways, walk, found, place)
+    match find_link(alloc, files, ways, walk, base, literal, place)? {
+        Some(found) => enter_found(ways, walk, found, place),
+        None => Ok(None),
+    }
 }
 
 /// Enters the files that the links of a file mean, and answers their numbers: of a link that is at fault, the file's own.

@@ -1,8 +1,14 @@
 // Where the files lie that URIs stand for.
-use crate::references::ReferenceFault;
+ghost use Rattle.std.specs.Prelude.{◌≡◌, ◌==◌, IfOk, MatchOption, codes, nat_eq, slice_index, string_bytes};
+ghost use Rattle.std.specs.List.{ends_with};
+ghost use Rattle.std.specs.Option.{option_copied, option_map};
+ghost use Rattle.percent_encoding.specs.Percent.{percent_decode};
+ghost use Rattle.rn_files.specs.Maps.{HasNoMap, IsFilePath, IsLongest, IsPlace, behind, behind_prefix, below, chosen, has_no_host, is_file_scheme, is_whole};
+
+use crate::references::{ReferenceFault, no_memory};
 use crate::uris::split;
 use percent_encoding::{DecodeError, percent_decode_str};
-use std::alloc::Global;
+use std::alloc::{AllocError, Global};
 
 /// URIs that begin with the prefix, by whole segments, lie in the folder.
 #[derive(Debug, Drop, PartialEq, Eq)]
@@ -18,29 +24,84 @@ pub struct Place {
     pub is_mapped: bool,
 }
 
+/// Whether a text begins with a slash.
+fn begins_with_slash(text: &str) -> bool
+    ensures { result ≡ (slice_index text.now 0 == 47) }
+{
+    text.starts_with('/')
+}
+
+/// Whether a text ends with a slash.
+fn ends_with_slash(text: &str) -> bool
+    ensures { result ≡ ends_with nat_eq text.now (codes "/") }
+{
+    text.ends_with("/")
+}
+
+/// Whether what is left behind a prefix begins where a segment ends.
+fn is_whole(prefix: &str, rest: &str) -> bool
+    ensures { result ≡ is_whole prefix.now rest.now }
+{
+    rest.is_empty() || begins_with_slash(rest) || ends_with_slash(prefix)
+}
+
+/// What comes behind the prefix of a URI.
+fn behind<'u>(uri: &'u str, prefix: &str) -> Option<&'u str>
+    ensures { option_copied result ≡ behind uri.now prefix.now }
+{
+    uri.strip_prefix(prefix)
+}
+
 /// What comes behind the prefix of a URI, by whole segments.
-fn behind_prefix<'u>(uri: &'u str, prefix: &str) -> Option<&'u str> {
-    let rest = uri.strip_prefix(prefix)?;
-    if rest.is_empty() || rest.starts_with('/') || prefix.ends_with('/') {
-        Some(rest)
-    } else {
-        None
+fn behind_prefix<'u>(uri: &'u str, prefix: &str) -> Option<&'u str>
+    ensures { option_copied result ≡ behind_prefix uri.now prefix.now }
+{
+    match behind(uri, prefix) {
+        Some(rest) => {
+            if is_whole(prefix, rest) {
+                Some(rest)
+            } else {
+                None
+            }
+        }
+        None => None,
+    }
+}
+
+/// Of two folders with what their maps leave of a URI, the one that leaves less; the first of equals.
+fn chosen<'m, 'u>(
+    best: Option<(&'m str, &'u str)>,
+    folder: &'m str,
+    rest: Option<&'u str>,
+) -> Option<(&'m str, &'u str)>
+    ensures { option_map (λ b. (b.0.now, b.1.now)) result
+        ≡ chosen (option_map (λ b. (b.0.now, b.1.now)) best.entry) folder.now
+        (option_copied rest.entry) }
+{
+    let Some(rest) = rest else {
+        return best;
+    };
+    match best {
+        Some((first, least)) => {
+            if rest.len() < least.len() {
+                Some((folder, rest))
+            } else {
+                Some((first, least))
+            }
+        }
+        None => Some((folder, rest)),
     }
 }
 
 /// The folder of the longest prefix that the URI begins with, the first of them among equals, and what comes behind it.
-fn longest<'m, 'u>(maps: &'m [Map], uri: &'u str) -> Option<(&'m str, &'u str)> {
+fn longest<'m, 'u>(maps: &'m [Map], uri: &'u str) -> Option<(&'m str, &'u str)>
+    ensures { MatchOption result (HasNoMap maps.now uri.now)
+        (λ b. IsLongest maps.now uri.now b.0.now b.1.now) }
+{
     let mut best: Option<(&'m str, &'u str)> = None;
     for map in maps {
-        if let Some(rest) = behind_prefix(uri, map.prefix.as_str()) {
-            let is_longer = match best {
-                Some((_, least)) => rest.len() < least.len(),
-                None => true,
-            };
-            if is_longer {
-                best = Some((map.folder.as_str(), rest));
-            }
-        }
+        let rest = behind_prefix(uri, map.prefix.as_str());
+        best = chosen(best, map.folder.as_str(), rest);
     }
     best
 }
@@ -51,7 +112,9 @@ fn has_unnamed(text: &str) -> bool {
 }
 
 /// The text with each escape replaced by its byte.
-fn decoded(alloc: Global, text: &str) -> Result<String, ReferenceFault> {
+fn decoded(alloc: Global, text: &str) -> Result<String, ReferenceFault>
+    ensures { IfOk result (λ found. string_bytes found ≡ percent_decode text.now) }
+{
     if has_unnamed(text) {
         return Err(ReferenceFault::Byte);
     }
@@ -62,28 +125,56 @@ fn decoded(alloc: Global, text: &str) -> Result<String, ReferenceFault> {
     }
 }
 
+/// The folder, a slash where neither side has one, and the path.
+fn put_below(alloc: Global, folder: &str, rest: &str, path: &str) -> Result<String, AllocError>
+    ensures { IfOk result (λ whole. path.now ≡ percent_decode rest.now
+        → string_bytes whole ≡ below folder.now rest.now) }
+{
+    let mut whole = String::from_str(alloc, folder)?;
+    if !is_whole(folder, rest) {
+        whole.push_str("/")?;
+    }
+    whole.push_str(path)?;
+    Ok(whole)
+}
+
 /// The folder, and below it the decoded rest of the URI.
-fn below(alloc: Global, folder: &str, rest: &str) -> Result<String, ReferenceFault> {
+fn below(alloc: Global, folder: &str, rest: &str) -> Result<String, ReferenceFault>
+    ensures { IfOk result (λ path. string_bytes path ≡ below folder.now rest.now) }
+{
     let path = decoded(alloc, rest)?;
-    let is_parted = rest.is_empty() || rest.starts_with('/') || folder.ends_with('/');
-    let slash = if is_parted { "" } else { "/" };
-    match format!(in alloc; "{folder}{slash}{path}") {
-        Ok(path) => Ok(path),
-        Err(_) => Err(ReferenceFault::Memory),
+    put_below(alloc, folder, rest, path.as_str()).map_err(no_memory)
+}
+
+/// Whether a scheme is `file`.
+fn is_file_scheme(scheme: Option<&str>) -> bool
+    ensures { result ≡ is_file_scheme (option_copied scheme.entry) }
+{
+    match scheme {
+        Some(scheme) => scheme.eq_ignore_ascii_case("file"),
+        None => false,
+    }
+}
+
+/// Whether an authority names no host.
+fn has_no_host(authority: Option<&str>) -> bool
+    ensures { result ≡ has_no_host (option_copied authority.entry) }
+{
+    match authority {
+        Some(authority) => authority.is_empty(),
+        None => true,
     }
 }
 
 /// The path of a URI that no map knows.
-fn file_path(alloc: Global, uri: &str) -> Result<String, ReferenceFault> {
+fn file_path(alloc: Global, uri: &str) -> Result<String, ReferenceFault>
+    ensures { IfOk result (λ path. IsFilePath uri.now (string_bytes path)) }
+{
     let parts = split(uri);
-    let is_file = match parts.scheme {
-        Some(scheme) => scheme.eq_ignore_ascii_case("file"),
-        None => false,
-    };
-    if !is_file {
+    if !is_file_scheme(parts.scheme) {
         return Err(ReferenceFault::Scheme);
     }
-    if !parts.authority.unwrap_or("").is_empty() {
+    if !has_no_host(parts.authority) {
         return Err(ReferenceFault::Host);
     }
     if !parts.path.starts_with('/') {
@@ -94,7 +185,10 @@ fn file_path(alloc: Global, uri: &str) -> Result<String, ReferenceFault> {
 
 /// Where the URI lies: below the folder of the longest prefix, or, where no map has one, at the path of a `file` URI
 /// without a host (RFC 8089). Escapes are decoded.
-pub fn place_of(alloc: Global, maps: &[Map], uri: &str) -> Result<Place, ReferenceFault> {
+pub fn place_of(alloc: Global, maps: &[Map], uri: &str) -> Result<Place, ReferenceFault>
+    ensures { IfOk result (λ place.
+        IsPlace maps.now uri.now (string_bytes place.path) place.is_mapped) }
+{
     match longest(maps, uri) {
         Some((folder, rest)) => {
             let path = below(alloc, folder, rest)?;

@@ -3,7 +3,7 @@ ghost use Rattle.std.specs.Prelude.{◌≡◌, ◌⊎◌, ◌++◌, [], Err, IfE
 ghost use Rattle.std.specs.List.{list_any};
 ghost use Rattle.rn_files.specs.Escapes.{escaped};
 ghost use Rattle.rn_files.specs.Paths.{LeadAbove, path_of, without_dots};
-ghost use Rattle.rn_files.specs.References.{dotted, fault_of, resolved};
+ghost use Rattle.rn_files.specs.References.{StandsFor, dotted, fault_of, resolved};
 ghost use Rattle.rn_files.specs.Uris as uris;
 
 use crate::escapes::{escaped, has_escapes};
@@ -51,7 +51,7 @@ pub enum ReferenceFault {
 }
 
 /// Want of memory.
-fn no_memory(_: AllocError) -> ReferenceFault
+pub fn no_memory(_: AllocError) -> ReferenceFault
     ensures { result ≡ ReferenceFault.Memory }
 {
     ReferenceFault::Memory
@@ -201,8 +201,7 @@ pub fn resolve(alloc: Global, base: &str, reference: &str) -> Result<String, Ref
 /// The URI that a reference in a file stands for, as `resolve` says. `Above` where a `..` leads above the root of its path.
 pub fn resolve_below(alloc: Global, base: &str, reference: &str) -> Result<String, ReferenceFault>
     ensures fault { IfSome (fault_of reference.now) (λ fault. result ≡ Err fault) }
-    ensures uri { IfOk result (λ uri. (string_bytes uri ≡ resolved base.now reference.now)
-        × ¬ (LeadAbove (dotted base.now reference.now))) }
+    ensures uri { IfOk result (λ uri. StandsFor base.now reference.now (string_bytes uri)) }
     ensures above { IfNone (fault_of reference.now) (IfErr result (λ fault.
         (fault ≡ ReferenceFault.Memory)
         ⊎ ((fault ≡ ReferenceFault.Above) × LeadAbove (dotted base.now reference.now)))) }

@@ -96,7 +96,8 @@ impl Walk {
         place: FaultPlace,
         answer: Result<T, ReferenceFault>,
     ) -> Result<Option<T>, AllocError>
-        ensures { vec_len self.old.entries ≤ vec_len self.new.entries }
+        ensures grows { vec_len self.old.entries ≤ vec_len self.new.entries }
+        ensures answered { IfOk result (λ noted. IfSome noted (λ value. answer ≡ Ok value)) }
     {
         match answer {
             Ok(value) => Ok(Some(value)),

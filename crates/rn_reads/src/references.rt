@@ -4,7 +4,7 @@ use rn_files::{remove_dot_segments, resolve};
 use std::alloc::{AllocError, Global};
 
 /// References in `http://a/b/c/d;p`, and the URIs that they stand for (RFC 3986, sections 5.4.1 and 5.4.2).
-static RESOLVED: [(&str, &str); 33] = [
+static RESOLVED: [(&str, &str); 34] = [
     ("g:h", "g:h"),
     ("g", "http://a/b/c/g"),
     ("./g", "http://a/b/c/g"),
@@ -35,6 +35,7 @@ static RESOLVED: [(&str, &str); 33] = [
     ("g/../h", "http://a/b/c/h"),
     ("g;x=1/./y", "http://a/b/c/g;x=1/y"),
     ("g;x=1/../y", "http://a/b/c/y"),
+    ("http:g", "http:g"),
     ("a b\u{e9}\\", "http://a/b/c/a%20b%C3%A9%5C"),
     ("a%20b", "http://a/b/c/a%20b"),
     ("//h/./x/../y", "http://h/y"),
@@ -94,7 +95,7 @@ fn other_bases(rt: HostRuntime) {
 }
 
 /// Paths, without their dot segments (the first two are the standard's, section 5.2.4).
-static PATHS: [(&str, &str); 9] = [
+static PATHS: [(&str, &str); 15] = [
     ("/a/b/c/./../../g", "/a/g"),
     ("mid/content=5/../6", "mid/6"),
     ("", ""),
@@ -104,6 +105,12 @@ static PATHS: [(&str, &str); 9] = [
     ("/..", "/"),
     ("/a//../b", "/a/b"),
     ("/a/..", "/"),
+    ("/a/b/.", "/a/b/"),
+    ("a//b", "a//b"),
+    ("//", "//"),
+    ("a/..", "/"),
+    ("a/../b", "/b"),
+    ("..//a", "/a"),
 ];
 
 #[test]
