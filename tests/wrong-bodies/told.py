@@ -38,13 +38,16 @@ def place_of(error):
 
 
 def errors_of(lines):
-    """The errors of a check, each with the lines below that go on with it."""
-    found = []
+    """The errors of a check, each with the lines right below that go on with it."""
+    found, goes_on = [], False
     for line in lines:
         if re.match(r"(?:\./)?(?:proofs|specs|src)/\S+ error: |error", line):
             found.append(line)
-        elif line.startswith("  ") and found:
+            goes_on = True
+        elif goes_on and line.startswith("  "):
             found[-1] += line
+        else:
+            goes_on = False
     return found
 
 
