@@ -2,9 +2,9 @@
 """Tries wrong bodies, which the prover must refuse, function by function. (Those in crates/*/must-fail are tried by `rt ci` itself.)
 
 tests/wrong-bodies/run.py [CRATE..]: tries those of these crates, or of all. A crate is checked with wrong bodies of many functions at once, since the
-prover tells of each function by itself whether it is proved, and takes what it calls by its contract. Each must be refused at a goal of its own, and
-nothing else may be refused. The next body of a function is tried in a further check, over what is kept of the earlier ones. The crates stand on the
-libraries in crates/*/out, as `rt ci` leaves them in a clean checkout.
+prover tells of each function by itself whether it is proved. Each must be refused at a goal of its own, and nothing else may be refused. All other
+functions have no body there and are taken by their contracts. The next body of a function is tried in a further check, over what is kept of the earlier
+ones. The crates stand on the libraries in crates/*/out, as `rt ci` leaves them in a clean checkout.
 tests/wrong-bodies/run.py --stand: only looks whether each text that they change stands once in its file.
 tests/wrong-bodies/run.py --beside LOG [CRATE..]: the same as with no word, while `rt ci` still runs and writes LOG: a crate is tried once LOG says that the
 libraries which it uses are proved.

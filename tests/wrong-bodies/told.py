@@ -1,7 +1,7 @@
 """What a check with holes tells of wrong bodies: for each whether it was refused, and what shows that a check says nothing of them.
 
-A function whose proof is a hole is taken by its contract, and so is one whose proof is refused: the goals of a function that calls it stay the
-same. So the goals of each function speak of its own body.
+A function whose proof is a hole is taken by its contract, so the open goals of one that calls it speak of that one's own body. Where a function that
+is called was refused in the same check, goals of its caller may go untold: then the caller is tried once more.
 """
 import collections
 import re

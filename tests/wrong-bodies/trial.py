@@ -1,5 +1,4 @@
-"""One check of a copy of a crate with wrong bodies in it. Only their functions are proved: each other function that has proof files has a proof
-with a hole instead, so that it is taken by its contract."""
+"""One check of a copy of a crate with wrong bodies in it. Only their functions are proved, and each other one is taken by its contract."""
 import collections
 import os
 import re
@@ -7,10 +6,11 @@ import shutil
 import subprocess
 import tempfile
 
+from stubs import take_bodies_out
+
 HERE = os.path.dirname(os.path.abspath(__file__))
 TOP = os.path.dirname(os.path.dirname(HERE))
 PARTS = ("src", "specs", "proofs")
-PROOF_FILES = {"Answers.antt", "Invariants.antt", "Proof.antt"}
 # A function in a cycle of calls, which has one proof.
 IN_CYCLE = re.compile(r"#\[cycle\((\w+)\)\](?:\s*#\[[^\]]*\])*\s*(?:pub(?:\(\w+\))? )?fn (\w+)")
 
@@ -57,45 +57,24 @@ def others_in_cycles(crate):
     return others
 
 
-def proof_folders(crate, functions):
-    """The folders below `proofs` where the proofs of functions are, or those of the cycles of calls that they are in."""
-    found, its = set(), cycles(crate)
-    for function in functions:
-        *above, name = function.split("::")[1:]
-        found |= {"/".join([*above, last]) for last in [name, *(f"+{cycle}" for cycle in its[name])]}
-    return found
-
-
-def leave_hole(crate, room, folder):
-    """Puts a proof with a hole into a folder below `proofs` in place of its proof files."""
-    *_, name = path = folder.split("/")
-    for file in PROOF_FILES:
-        if os.path.isfile(f"{room}/proofs/{folder}/{file}"):
-            os.remove(f"{room}/proofs/{folder}/{file}")
-    place = ".".join(["Rattle", crate, "proofs", *path, *([] if name.startswith("+") else ["Statement"])])
-    with open(f"{room}/proofs/{folder}/Proof.antt", "w", encoding="utf-8") as file:
-        file.write(f"use {place}.{{statement}}\n\npub {name}_spec : {{M : Type 1}} → statement M\n{name}_spec = ?\n")
-
-
-def copy_with_holes(crate, room, functions):
-    """Copies a crate, with a hole for each proof that has files and isn't of these functions."""
-    for part in PARTS:
-        if os.path.isdir(f"{TOP}/crates/{crate}/{part}"):
-            shutil.copytree(f"{TOP}/crates/{crate}/{part}", f"{room}/{part}")
-    proved = proof_folders(crate, functions)
-    for at, _, names in os.walk(f"{room}/proofs"):
-        folder = os.path.relpath(at, f"{room}/proofs")
-        if PROOF_FILES & {*names} and folder not in proved:
-            leave_hole(crate, room, folder)
+def kept_for(crate, functions):
+    """Says of a path whether it is that of one of these functions, or of a cycle of calls that one is in, or has the name of one in such a cycle."""
+    paths, its = [function.split("::")[1:] for function in functions], cycles(crate)
+    around = [cycle for path in paths for cycle in its[path[-1]].items()]
+    names = {f"+{cycle}" for cycle, _ in around} | {name for _, members in around for name in members}
+    return lambda path: path in paths or path[-1] in names
 
 
 def checked(crate, texts, functions, kept, words):
     """The lines of a check of these functions, in a copy of the crate with these texts in it, over what earlier checks kept."""
     only = [word for function in functions for word in ("--only", function.partition("::")[2])]
     with tempfile.TemporaryDirectory() as room:
-        copy_with_holes(crate, room, functions)
+        for part in PARTS:
+            if os.path.isdir(f"{TOP}/crates/{crate}/{part}"):
+                shutil.copytree(f"{TOP}/crates/{crate}/{part}", f"{room}/{part}")
         for path, text in texts.items():
             with open(f"{room}/{path}", "w", encoding="utf-8") as file:
                 file.write(text)
+        take_bodies_out(crate, room, kept_for(crate, functions))
         how = {"cwd": room, "stdin": subprocess.DEVNULL, "stdout": subprocess.PIPE, "stderr": subprocess.STDOUT, "text": True}
         return subprocess.run([*words, "--allow-holes", *only, "--incremental", kept], **how).stdout.split("\n")
