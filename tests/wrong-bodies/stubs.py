@@ -1,12 +1,14 @@
 """Functions whose bodies a trial needs no more: each has a loop for its body and a hole for its proof, so that it is taken by its contract."""
+import collections
 import os
 import re
 
 PROOF_FILES = {"Answers.antt", "Invariants.antt", "Proof.antt"}
 # The first line of a function, as `rt fmt` leaves it: its indent, whether constants may need its body, and its name.
 FUNCTION = re.compile(r"( *)(?:pub(?:\(\w+\))? )?(const )?fn (\w+)")
-# The first line of a block that isn't of a trait, and its type.
+# The first line of a block that isn't of a trait, and its type; and that of a type.
 OF_TYPE = re.compile(r"impl(?:<[^>]*>)? (\w+)(?:<[^>]*>)? \{")
+TYPE = re.compile(r"^(?:pub(?:\(\w+\))? )?(?:struct|enum) (\w+)", re.M)
 
 
 def body_of(lines, at):
@@ -20,23 +22,25 @@ def body_of(lines, at):
     return None if heads or end is None else (begin, end)
 
 
-def places_of(lines, module):
-    """The path of what each line is in: a module, a type with methods of its own, or None in another block."""
+def places_of(lines, module, homes):
+    """The path of what each line is in: a module, a type with methods of its own, or None in another block. The homes of a type's name are the
+    modules where there is one."""
     places, place = [], module
     for line in lines:
         if re.match(r"(?:pub )?(?:impl|trait|mod)\b.*\{$", line):
             of_type = OF_TYPE.match(line)
-            place = [*module, of_type[1]] if of_type else None
+            its = homes[of_type[1]] if of_type else []
+            place = [*its[0], of_type[1]] if len(its) == 1 else None
         places.append(place)
         place = module if line == "}" else place
     return places
 
 
-def without_bodies(text, module, is_kept):
+def without_bodies(text, module, homes, is_kept):
     """The text of a module with a loop for the body of each function that isn't kept, and the paths of those. A function of a trait's block keeps
     its body, and so does one whose body is on one line. The attributes of the others, which are for their proofs, go too."""
     lines, paths = text.split("\n"), []
-    places = places_of(lines, module)
+    places = places_of(lines, module, homes)
     found = [(at, FUNCTION.match(line)) for at, line in enumerate(lines) if FUNCTION.match(line)]
     for at, (indent, is_constant, name) in ((at, function.groups()) for at, function in reversed(found)):
         body = body_of(lines, at)
@@ -66,11 +70,21 @@ def clear(folder):
 
 
 def sources(room):
-    """The files below `src` of a crate, each with the path of its module."""
+    """The files below `src` of a crate, each with the path of its module and its text."""
     for at, _, names in os.walk(f"{room}/src"):
         for name in names:
             module = os.path.relpath(f"{at}/{name}", f"{room}/src").removesuffix(".rt").split("/")
-            yield f"{at}/{name}", [] if module in (["lib"], ["main"]) else module
+            with open(f"{at}/{name}", encoding="utf-8") as file:
+                yield f"{at}/{name}", [] if module in (["lib"], ["main"]) else module, file.read()
+
+
+def homes_in(files):
+    """The modules where there is a type of a name, by that name."""
+    homes = collections.defaultdict(list)
+    for _, module, text in files:
+        for name in TYPE.findall(text):
+            homes[name].append(module)
+    return homes
 
 
 def take_bodies_out(crate, room, is_kept):
@@ -80,9 +94,10 @@ def take_bodies_out(crate, room, is_kept):
         path = os.path.relpath(at, f"{room}/proofs").split("/")
         if PROOF_FILES & {*names} and not is_kept(path):
             clear(at) if path[-1].startswith("+") else leave_hole(crate, room, path)
-    for place, module in sources(room):
-        with open(place, encoding="utf-8") as file:
-            text, paths = without_bodies(file.read(), module, is_kept)
+    files = [*sources(room)]
+    homes = homes_in(files)
+    for place, module, text in files:
+        text, paths = without_bodies(text, module, homes, is_kept)
         with open(place, "w", encoding="utf-8") as file:
             file.write(text)
         for path in paths:
