@@ -1,0 +1,80 @@
+"""One check of a copy of a crate with wrong bodies in it. Only their functions are proved, and each other one is taken by its contract."""
+import collections
+import os
+import re
+import shutil
+import subprocess
+import tempfile
+
+from stubs import take_bodies_out
+
+HERE = os.path.dirname(os.path.abspath(__file__))
+TOP = os.path.dirname(os.path.dirname(HERE))
+PARTS = ("src", "specs", "proofs")
+# A function in a cycle of calls, which has one proof.
+IN_CYCLE = re.compile(r"#\[cycle\((\w+)\)\](?:\s*#\[[^\]]*\])*\s*(?:pub(?:\(\w+\))? )?fn (\w+)")
+
+
+def libraries():
+    """The libraries that each crate uses, by crates.txt."""
+    with open(f"{TOP}/crates.txt", encoding="utf-8") as file:
+        lines = [line.partition(":") for line in file]
+    return {name: used.split() for name, _, used in lines}
+
+
+def command(crate):
+    """The words of a check of the crate, in its folder."""
+    kit = os.path.dirname(subprocess.run(["rt", "doc"], check=True, capture_output=True, text=True).stdout.strip())
+    used = libraries()
+    built = [f"{TOP}/crates/{library}/out/rlib" for library in used]
+    root = "src/main.rt" if os.path.isfile(f"{TOP}/crates/{crate}/src/main.rt") else "src/lib.rt"
+    words = [f"{kit}/bin/rattle", "check", "--crate-name", crate, root, "--extern", f"std={kit}/rlibs/std.rlib"]
+    for library in used[crate]:
+        place = f"{TOP}/crates/{library}/out/rlib" if library in used else f"{kit}/rlibs"
+        words += ["--extern", f"{library}={place}/{library}.rlib"]
+    for place in [f"{kit}/rlibs", *built]:
+        words += ["-L", f"dependency={place}"] if os.path.isdir(place) else []
+    return [*words, "--antt-project", f"{kit}/rattle/logic/antt-project.json", "--logic-built", f"{kit}/logic_built", "--links", f"{crate}="]
+
+
+def cycles(crate):
+    """The cycles of calls that functions of a name are in, each with the names of all functions in it, by that name."""
+    found = collections.defaultdict(dict)
+    for at, _, names in os.walk(f"{TOP}/crates/{crate}/src"):
+        for name in names:
+            with open(f"{at}/{name}", encoding="utf-8") as file:
+                members = IN_CYCLE.findall(file.read())
+            for cycle, one in members:
+                found[one].setdefault(cycle, set()).update(other for of, other in members if of == cycle)
+    return found
+
+
+def others_in_cycles(crate):
+    """The names of the other functions in the cycles of calls that functions of a name are in, by that name."""
+    others = collections.defaultdict(set)
+    for one, its in cycles(crate).items():
+        others[one] = set().union(*its.values()) - {one}
+    return others
+
+
+def kept_for(crate, functions):
+    """Says of a path whether it is that of one of these functions, or of a cycle of calls that one is in, or has the name of one in such a cycle."""
+    paths, its = [function.split("::")[1:] for function in functions], cycles(crate)
+    around = [cycle for path in paths for cycle in its[path[-1]].items()]
+    names = {f"+{cycle}" for cycle, _ in around} | {name for _, members in around for name in members}
+    return lambda path: path in paths or path[-1] in names
+
+
+def checked(crate, texts, functions, kept, words):
+    """The lines of a check of these functions, in a copy of the crate with these texts in it, over what earlier checks kept."""
+    only = [word for function in functions for word in ("--only", function.partition("::")[2])]
+    with tempfile.TemporaryDirectory() as room:
+        for part in PARTS:
+            if os.path.isdir(f"{TOP}/crates/{crate}/{part}"):
+                shutil.copytree(f"{TOP}/crates/{crate}/{part}", f"{room}/{part}")
+        for path, text in texts.items():
+            with open(f"{room}/{path}", "w", encoding="utf-8") as file:
+                file.write(text)
+        take_bodies_out(crate, room, kept_for(crate, functions))
+        how = {"cwd": room, "stdin": subprocess.DEVNULL, "stdout": subprocess.PIPE, "stderr": subprocess.STDOUT, "text": True}
+        return subprocess.run([*words, "--allow-holes", *only, "--incremental", kept], **how).stdout.split("\n")
