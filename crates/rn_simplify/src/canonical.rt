@@ -7,9 +7,9 @@ ghost use Rattle.rn_pattern.specs.Canonical.{canonical_all};
 ghost use Rattle.rn_pattern.specs.Store.{KeepsTrees, StandsFor};
 ghost use Rattle.rn_pattern.specs.Tree.{Text, Tree, trees_of};
 ghost use Rattle.rn_pattern.specs.View.{pattern_view, shared_view};
-ghost use Rattle.rn_simplify.specs.Contents.{content_of, is_leaf};
-ghost use Rattle.rn_simplify.specs.Parts.{list_step, parts, parts_of};
-ghost use Rattle.rn_simplify.specs.Worth.{settled_by};
+ghost use Rattle.rn_simplify.specs.inside.Contents.{content_of, is_leaf};
+ghost use Rattle.rn_simplify.specs.inside.Parts.{list_step, parts, parts_of};
+ghost use Rattle.rn_simplify.specs.inside.Worth.{settled_by};
 
 use crate::parts::ListKind;
 use crate::settled::Settled;

@@ -2,9 +2,9 @@
 ghost use Rattle.std.specs.Prelude.{◌≡◌, ◌∷◌, [], codes, filter, map, string_bytes, IfOk};
 ghost use Rattle.std.specs.Str.{encode_utf8_all};
 ghost use Rattle.rn_simplify.specs.Spelling.{bindings, has_wide_empty, library_prefix, namespace_prefix, place, prefixes, type_piece};
-ghost use Rattle.rn_simplify.specs.Gathers.{is_other};
+ghost use Rattle.rn_simplify.specs.inside.Gathers.{is_other};
 ghost use Rattle.rn_simplify.specs.NormalView.{normal_view};
-ghost use Rattle.rn_simplify.specs.Writes.{bound_to, declaration_lines, empty_entries, entries, prefixes_view, Writes, WritesBytes, none};
+ghost use Rattle.rn_simplify.specs.inside.Writes.{bound_to, declaration_lines, empty_entries, entries, prefixes_view, Writes, WritesBytes, none};
 
 use crate::mentions::Mentions;
 use crate::normal::Normal;

@@ -7,7 +7,7 @@ ghost use Rattle.rn_pattern.specs.Canonical.{canonical_all, choice_step, interle
 ghost use Rattle.rn_pattern.specs.Store.{KeepsTrees, StandsFor};
 ghost use Rattle.rn_pattern.specs.Tree.{Tree, trees_of};
 ghost use Rattle.rn_pattern.specs.View.{pattern_view, shared_view};
-ghost use Rattle.rn_simplify.specs.Worth.{settled_by};
+ghost use Rattle.rn_simplify.specs.inside.Worth.{settled_by};
 
 use crate::canonical::{canonical, listed};
 use crate::parts::ListKind;

@@ -4,7 +4,7 @@ ghost use Rattle.rn_pattern.specs.Tree.{name_trees_of, trees_of};
 ghost use Rattle.rn_pattern.specs.View.{name_class_view, pattern_view, shared_view};
 ghost use Rattle.rn_simplify.specs.NormalView.{definitions_view, normal_view};
 ghost use Rattle.rn_simplify.specs.Spelling.{has_wide_empty};
-ghost use Rattle.rn_simplify.specs.Gathers.{GathersTexts, Gathers, IsGathered, by_any_of, by_definitions, by_grammar, by_library, by_name, by_names, by_tree, by_trees};
+ghost use Rattle.rn_simplify.specs.inside.Gathers.{GathersTexts, Gathers, IsGathered, by_any_of, by_definitions, by_grammar, by_library, by_name, by_names, by_tree, by_trees};
 
 use crate::normal::Normal;
 use rn_pattern::{NameClass, Pattern};

@@ -3,7 +3,7 @@ ghost use Rattle.std.specs.Prelude.{◌∷◌, [], codes, map};
 ghost use Rattle.rn_pattern.specs.Tree.{name_trees_of};
 ghost use Rattle.rn_simplify.specs.Spelling.{any_of, chain, infix_of, name_piece, namespace_prefix, operand, written_name, written_names};
 ghost use Rattle.rn_pattern.specs.View.{name_class_view};
-ghost use Rattle.rn_simplify.specs.Writes.{prefixes_view, Writes};
+ghost use Rattle.rn_simplify.specs.inside.Writes.{prefixes_view, Writes};
 
 use crate::declarations::Prefixes;
 use crate::shapes::{Shape, shape_of_class};

@@ -10,7 +10,7 @@ ghost use Rattle.rn_pattern.specs.Tree.{Text, Tree};
 ghost use Rattle.rn_pattern.specs.View.{pattern_view};
 ghost use Rattle.rn_simplify.specs.NormalView.{normal_view};
 ghost use Rattle.rn_simplify.specs.Sources.{AreValidAlike, parts_view};
-ghost use Rattle.rn_simplify.specs.Worth.{settled_by};
+ghost use Rattle.rn_simplify.specs.inside.Worth.{settled_by};
 
 use crate::joined::canonical_body;
 use crate::normal::Normal;

@@ -1,7 +1,7 @@
 // The kinds of lists of patterns (RELAX NG, 4.12).
 ghost use Rattle.std.specs.Prelude.{All, IfOk, IsTrue, map};
 ghost use Rattle.rn_pattern.specs.Store.{KeepsTrees, StandsFor};
-ghost use Rattle.rn_simplify.specs.Parts.{list_step};
+ghost use Rattle.rn_simplify.specs.inside.Parts.{list_step};
 
 use rn_pattern::Patterns;
 use std::alloc::AllocError;

@@ -3,7 +3,7 @@ ghost use Rattle.std.specs.Prelude.{◌≡◌, ℕ, ◌<◌, ◌≤◌, drop, le
 ghost use Rattle.rn_text.specs.Parts.{Piece};
 ghost use Rattle.rn_simplify.specs.Spelling.{braced, chain, chain_or_one, datum_pieces, infix_of, keyword, operand, optional, optional_one, params_pieces, parenthesized, primary, space, value_pieces, written_choice, written_interleave, written_name, written_tree};
 ghost use Rattle.rn_pattern.specs.View.{name_class_view, parameters_view, pattern_view};
-ghost use Rattle.rn_simplify.specs.Writes.{bytes_of, depth_after, prefixes_view, rows_of, Writes};
+ghost use Rattle.rn_simplify.specs.inside.Writes.{bytes_of, depth_after, prefixes_view, rows_of, Writes};
 
 use crate::declarations::Prefixes;
 use crate::name_class::write_class;

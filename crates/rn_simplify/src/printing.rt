@@ -5,7 +5,7 @@ ghost use Rattle.rn_simplify.specs.NormalView.{definitions_view, normal_view};
 ghost use Rattle.rn_simplify.specs.Spelling.{definition_line, definition_lines, keyword};
 ghost use Rattle.rn_simplify.specs.Printed.{IsPrinted, IsUnprinted};
 ghost use Rattle.rn_simplify.specs.ReadBack.{IsReadBack};
-ghost use Rattle.rn_simplify.specs.Writes.{defined_as, prefixes_view, Writes};
+ghost use Rattle.rn_simplify.specs.inside.Writes.{defined_as, prefixes_view, Writes};
 
 use crate::declarations::Prefixes;
 use crate::normal::Normal;

@@ -6,7 +6,7 @@ ghost use Rattle.rn_pattern.specs.Graph.{is_marked, rows_of};
 ghost use Rattle.rn_assemble.specs.GrammarView.{definitions_view};
 ghost use Rattle.rn_pattern.specs.Reached.{IsPruned};
 ghost use Rattle.rn_pattern.specs.View.{pattern_view};
-ghost use Rattle.rn_simplify.specs.Marked.{marked};
+ghost use Rattle.rn_simplify.specs.inside.Marked.{marked};
 ghost use Rattle.rn_simplify.specs.Numbered.{MarksReached, rows_by};
 ghost use Rattle.rn_simplify.specs.declared.references.Scope.TheVariants.{Everywhere};
 

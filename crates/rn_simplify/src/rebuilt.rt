@@ -5,8 +5,8 @@ ghost use Rattle.rn_pattern.specs.Nodes.{node_members};
 ghost use Rattle.rn_pattern.specs.Store.{node_view};
 ghost use Rattle.rn_pattern.specs.Tree.{Tree};
 ghost use Rattle.rn_pattern.specs.View.{excepted_view, name_class_view, parameters_view, pattern_view, shared_view};
-ghost use Rattle.rn_simplify.specs.NodeKinds.{datum_over, has_members, is_leaf, node_content};
-ghost use Rattle.rn_simplify.specs.Sizes.{except_trees};
+ghost use Rattle.rn_simplify.specs.inside.NodeKinds.{datum_over, has_members, is_leaf, node_content};
+ghost use Rattle.rn_simplify.specs.inside.Sizes.{except_trees};
 
 use rn_pattern::{NameClass, Node, Pattern, Patterns};
 use std::alloc::{AllocError, Global};

@@ -3,7 +3,7 @@ ghost use Rattle.std.specs.Prelude.{◌≡◌, ◌≤◌, ◌<◌, IfOk, IfSome,
 ghost use Rattle.rn_assemble.specs.Firsts.{AreFirsts, joined_members};
 ghost use Rattle.rn_pattern.specs.Tree.{Tree};
 ghost use Rattle.rn_pattern.specs.View.{pattern_view, shared_view};
-ghost use Rattle.rn_simplify.specs.Repeats.{AreSameButRepeats, HoldSame};
+ghost use Rattle.rn_simplify.specs.inside.Repeats.{AreSameButRepeats, HoldSame};
 
 use crate::rebuilt::boxed;
 use rn_pattern::Pattern;

@@ -8,7 +8,7 @@ ghost use Rattle.rn_pattern.specs.Tree.{Text, Tree, trees_of};
 ghost use Rattle.rn_pattern.specs.View.{pattern_view, shared_view};
 ghost use Rattle.rn_simplify.specs.Numbered.{AreSettled};
 ghost use Rattle.rn_simplify.specs.Settling.{IsInOrder, IsSettling};
-ghost use Rattle.rn_simplify.specs.Worth.{evaluated, evaluated_all, evaluated_any, settled_by, worth_at, worth_of};
+ghost use Rattle.rn_simplify.specs.inside.Worth.{evaluated, evaluated_all, evaluated_any, settled_by, worth_at, worth_of};
 
 use crate::repeats::without_repeats;
 use crate::settling::{body_of, settling_order};

@@ -6,10 +6,10 @@ ghost use Rattle.rn_assemble.specs.Firsts.{AreFirsts, joined_members};
 ghost use Rattle.rn_assemble.specs.GrammarView.{definitions_view, grammar_view};
 ghost use Rattle.rn_pattern.specs.Tree.{Text, Tree};
 ghost use Rattle.rn_pattern.specs.View.{pattern_view};
-ghost use Rattle.rn_simplify.specs.Marked.{ArePlaces};
+ghost use Rattle.rn_simplify.specs.inside.Marked.{ArePlaces};
 ghost use Rattle.rn_simplify.specs.Numbered.{MarksReached, graph_of, numbers_of, start_of};
 ghost use Rattle.rn_simplify.specs.Referred.{references};
-ghost use Rattle.rn_simplify.specs.Repeats.{HoldSame};
+ghost use Rattle.rn_simplify.specs.inside.Repeats.{HoldSame};
 ghost use Rattle.rn_simplify.specs.Settling.{IsSettlingOrder};
 ghost use Rattle.rn_simplify.specs.declared.references.Scope.TheVariants.{OutsideElements};
 

@@ -2,7 +2,7 @@
 ghost use Rattle.std.specs.Prelude.{◌≡◌};
 ghost use Rattle.rn_simplify.specs.Spelling.{Prefixes, written_choice, written_interleave, written_name, written_tree};
 ghost use Rattle.rn_pattern.specs.View.{name_class_view, pattern_view};
-ghost use Rattle.rn_simplify.specs.Writes.{begins, rows_of, shape_view};
+ghost use Rattle.rn_simplify.specs.inside.Writes.{begins, rows_of, shape_view};
 
 use rn_pattern::{NameClass, Pattern};
 use std::rc::Rc;

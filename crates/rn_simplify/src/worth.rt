@@ -1,6 +1,6 @@
 // What the canonical form of a pattern is worth to the references to it (RELAX NG, 4.20 and 4.21).
 ghost use Rattle.std.specs.Prelude.{◌≡◌};
-ghost use Rattle.rn_simplify.specs.Worth.{around, both, either};
+ghost use Rattle.rn_simplify.specs.inside.Worth.{around, both, either};
 
 /// What the canonical form of a pattern is.
 #[derive(Clone, Copy)]

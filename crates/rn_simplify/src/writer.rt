@@ -2,7 +2,7 @@
 ghost use Rattle.std.specs.Prelude.{◌≡◌, ◌∷◌, [], None, cond, chars, decimal, false, string_bytes, IfErr, IfOk};
 ghost use Rattle.rn_text.specs.Characters.{is_keyword};
 ghost use Rattle.rn_text.specs.Literals.{literal_bytes};
-ghost use Rattle.rn_simplify.specs.Writes.{IsHindrance, WritesBytes, opening, closing, none, stop_behind};
+ghost use Rattle.rn_simplify.specs.inside.Writes.{IsHindrance, WritesBytes, opening, closing, none, stop_behind};
 
 use rn_assemble::Refusal;
 use rn_text::{is_keyword, write_literal};

@@ -6,7 +6,7 @@ use Rattle.rn_pattern.specs.declared.tree.NameClass.{NameClass}
 use Rattle.rn_simplify.specs.Spelling.{Prefixes, Written, operand, chain, written_name, written_names}
 use Rattle.rn_pattern.specs.View.{name_class_view}
 use Rattle.rn_simplify.specs.declared.writer.Writer.{Writer}
-use Rattle.rn_simplify.specs.Writes.{Writes}
+use Rattle.rn_simplify.specs.inside.Writes.{Writes}
 use Rattle.rn_simplify.proofs.Texts.Writing.{writes_nil, writes_as, writes_then}
 
 -- what stands before a further operand

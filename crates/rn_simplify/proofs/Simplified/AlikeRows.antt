@@ -7,7 +7,7 @@ use Rattle.rn_pattern.specs.Matching.{Grammar}
 use Rattle.rn_pattern.specs.Graph.{AllBelow, IsGraph, Reached, at_first, along, is_marked, row, rows_of}
 use Rattle.rn_simplify.specs.Numbered.{graph_of, start_of}
 use Rattle.rn_simplify.specs.Referred.{references}
-use Rattle.rn_simplify.specs.Repeats.{HoldSame}
+use Rattle.rn_simplify.specs.inside.Repeats.{HoldSame}
 use Rattle.rn_simplify.specs.declared.references.Scope.TheVariants.{Everywhere}
 use Rattle.rn_simplify.proofs.Simplified.ReferenceGraph.{numbers_below, row_within, rows_graph, rows_size}
 

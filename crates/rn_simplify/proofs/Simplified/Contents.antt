@@ -8,7 +8,7 @@ use Rattle.rn_pattern.specs.declared.tree.NameClass.{NameClass}
 use Rattle.rn_pattern.specs.declared.tree.Pattern.{Pattern, fold-roll-Pattern}
 use Rattle.rn_pattern.specs.declared.tree.Pattern.TheOpen.{Pattern-F}
 use Rattle.rn_pattern.specs.declared.tree.Pattern.TheVariants as variant
-use Rattle.rn_simplify.specs.Contents.{content_of}
+use Rattle.rn_simplify.specs.inside.Contents.{content_of}
 
 -- a pattern over a content
 abbrev pub IsOver : Pattern → Box Pattern Global → Type 0

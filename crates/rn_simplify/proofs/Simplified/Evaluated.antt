@@ -18,7 +18,7 @@ use Rattle.rn_pattern.proofs.Ordered.Ascending.{each_sorted, each_sorted_once, c
 use Rattle.rn_pattern.proofs.Forms.CanonicalForm.{Member, members_list, each_allowed, flat_choice, flat_group, flat_interleave, canonical_all_are}
 use Rattle.rn_pattern.proofs.Ordered.Orders.{tree_same}
 use Rattle.rn_pattern.proofs.Ordered.TotalOrder.{tree_cmp_total}
-use Rattle.rn_simplify.specs.Worth.{worth_of, stand_in, around, both, either, evaluated, evaluated_all, evaluated_any, worth_at, settled_by}
+use Rattle.rn_simplify.specs.inside.Worth.{worth_of, stand_in, around, both, either, evaluated, evaluated_all, evaluated_any, worth_at, settled_by}
 use Rattle.rn_simplify.specs.declared.worth.Worth.{Worth}
 
 -- ---- what stands for a reference

@@ -14,7 +14,7 @@ use Rattle.rn_pattern.specs.declared.tree.Pattern.TheVariants as variant
 use Rattle.rn_pattern.proofs.Forms.CanonicalForm.{canonical_all_are}
 use Rattle.rn_pattern.proofs.Forms.ListsWithin.{choice_within, group_within, interleave_within}
 use Rattle.rn_pattern.proofs.Ordered.PatternKinds.{choice_seen, group_seen, interleave_seen}
-use Rattle.rn_simplify.specs.Parts.{list_step, parts, parts_of}
+use Rattle.rn_simplify.specs.inside.Parts.{list_step, parts, parts_of}
 use Rattle.rn_simplify.specs.declared.parts.ListKind.{ListKind}
 
 -- the parts of a list of the kind are those of its members

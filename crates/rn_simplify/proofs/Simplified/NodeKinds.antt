@@ -10,8 +10,8 @@ use Rattle.rn_pattern.specs.View.{excepted_view, parameters_view}
 use Rattle.rn_pattern.specs.declared.node.Node.{Node}
 use Rattle.rn_pattern.specs.declared.tree.NameClass.{NameClass}
 use Rattle.rn_pattern.specs.declared.tree.Pattern.{Pattern}
-use Rattle.rn_simplify.specs.NodeKinds.{datum_over, node_content}
-use Rattle.rn_simplify.specs.Sizes.{tree_size, ids_size, except_trees}
+use Rattle.rn_simplify.specs.inside.NodeKinds.{datum_over, node_content}
+use Rattle.rn_simplify.specs.inside.Sizes.{tree_size, ids_size, except_trees}
 use Rattle.rn_simplify.proofs.Simplified.NodeSizes.{members_size}
 
 module _ {I : Type 0} (n : Node I) (v : Vec I Global) where

@@ -1,7 +1,7 @@
 -- The sizes of the patterns in a node.
 use Rattle.std.proofs.Common.{◌≡◌, ℕ, zero, suc, ◌+◌, ◌<◌, ◌≤◌, List, [], ◌∷◌, length, map, get_or, refl, ap, arith}
 use Rattle.rn_pattern.specs.Tree.{Tree, trees_of}
-use Rattle.rn_simplify.specs.Sizes.{tree_size, trees_size, ids_size}
+use Rattle.rn_simplify.specs.inside.Sizes.{tree_size, trees_size, ids_size}
 
 pub members_size : {I : Type 0} (at : I → Tree) (is : List I) → trees_size (trees_of (map at is)) ≡ ids_size at is
 members_size at [] = refl

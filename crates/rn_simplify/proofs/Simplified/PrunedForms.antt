@@ -24,7 +24,7 @@ use Rattle.rn_pattern.specs.declared.tree.Pattern.{Pattern}
 use Rattle.rn_pattern.proofs.Ordered.InOrder.{contains_front, contains_behind, contains_cases}
 use Rattle.rn_pattern.specs.Graph.{is_marked}
 use Rattle.rn_assemble.specs.GrammarView.{definitions_view}
-use Rattle.rn_simplify.specs.Marked.{marked}
+use Rattle.rn_simplify.specs.inside.Marked.{marked}
 use Rattle.rn_simplify.specs.Numbered.{MarksReached, numbers_of, rows_by}
 use Rattle.rn_simplify.specs.Referred.{Scope, references}
 use Rattle.rn_simplify.proofs.ReadBack.Ordered.{equal_is}

@@ -23,8 +23,8 @@ use Rattle.rn_pattern.proofs.Ordered.TotalOrder.{tree_cmp_total}
 use Rattle.rn_assemble.specs.Firsts.{joined_members}
 use Rattle.rn_simplify.specs.Numbered.{number_of, numbers_of}
 use Rattle.rn_simplify.specs.Referred.{Scope, references, all_references}
-use Rattle.rn_simplify.specs.Repeats.{AreSameButRepeats, choices, interleaves, HoldSame}
-use Rattle.rn_simplify.specs.Worth.{both, either, evaluated, evaluated_all, evaluated_any}
+use Rattle.rn_simplify.specs.inside.Repeats.{AreSameButRepeats, choices, interleaves, HoldSame}
+use Rattle.rn_simplify.specs.inside.Worth.{both, either, evaluated, evaluated_all, evaluated_any}
 use Rattle.rn_simplify.specs.declared.worth.Worth.{Worth}
 use Rattle.rn_simplify.proofs.Simplified.Evaluated.{around_twice, both_assoc, either_assoc, either_twice}
 use Rattle.rn_simplify.proofs.Simplified.ReferredIn.{contains_none, mapped_in, source_of}

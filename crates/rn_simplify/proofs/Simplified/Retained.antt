@@ -3,7 +3,7 @@ use Rattle.std.proofs.Common.{◌≡◌, Bool, true, false, cond, List, [], ◌�
 use Rattle.std.specs.List.{items_where_true}
 use Rattle.std.specs.List.Retain.{ReturnsInTurn, IsFiltered}
 use Rattle.rn_pattern.specs.Graph.{is_marked}
-use Rattle.rn_simplify.specs.Marked.{marked}
+use Rattle.rn_simplify.specs.inside.Marked.{marked}
 
 -- a test that reads the marks one by one, and says `false` where none is left
 module _ {X S : Type 0} (R : S → X → Bool → S → Type 0) (marks : S → List Bool) (says : (s : S) (x : X) (b : Bool) (s' : S) → R s x b s' → (b ≡ is_marked (marks s) 0) × (marks s' ≡ drop 1 (marks s))) where

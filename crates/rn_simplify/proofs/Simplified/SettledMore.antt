@@ -13,7 +13,7 @@ use Rattle.rn_pattern.proofs.Matches.Ranked.{stand_in_same}
 use Rattle.rn_pattern.proofs.Forms.Settled.{canonical_firm}
 use Rattle.rn_simplify.specs.Numbered.{AreSettled, number_of}
 use Rattle.rn_simplify.specs.Settling.{IsInOrder}
-use Rattle.rn_simplify.specs.Worth.{settled_by, stand_in, worth_of}
+use Rattle.rn_simplify.specs.inside.Worth.{settled_by, stand_in, worth_of}
 use Rattle.rn_simplify.specs.declared.worth.Worth.{Worth}
 use Rattle.rn_simplify.proofs.Simplified.Evaluated.{settled_canonical, stand_in_is}
 use Rattle.rn_simplify.proofs.Simplified.ReferenceGraph.{nothing, is_at, body_is}

@@ -18,10 +18,10 @@ use Rattle.rn_pattern.specs.References.{RefersOutside, Reaches, by_one, by_more,
 use Rattle.rn_pattern.specs.Graph.{AllBelow, IsGraph, is_marked, row, rows_of}
 use Rattle.rn_pattern.specs.Ranks.{Leads, by_edge, and_edge, rank_of, IsRanking}
 use Rattle.rn_assemble.specs.WellFormed.{IsWellFormed}
-use Rattle.rn_simplify.specs.Marked.{ArePlaces}
+use Rattle.rn_simplify.specs.inside.Marked.{ArePlaces}
 use Rattle.rn_simplify.specs.Numbered.{MarksReached, number_of, numbers_of}
 use Rattle.rn_simplify.specs.Referred.{references}
-use Rattle.rn_simplify.specs.Repeats.{HoldSame}
+use Rattle.rn_simplify.specs.inside.Repeats.{HoldSame}
 use Rattle.rn_simplify.specs.Settling.{IsSettlingOrder}
 use Rattle.rn_simplify.specs.declared.references.Scope.TheVariants.{OutsideElements}
 use Rattle.rn_simplify.proofs.Simplified.Forms.{found_in}

@@ -8,7 +8,7 @@ use Rattle.rn_simplify.specs.declared.writer.Writer.{Writer}
 use Rattle.rn_simplify.specs.Spelling.{spelled, spelling}
 use Rattle.rn_simplify.specs.ReadBack.{is_too_deep}
 use Rattle.rn_simplify.specs.Printed.{IsPrinted, IsUnprinted}
-use Rattle.rn_simplify.specs.Writes.{bytes_of, depth_after, depth_of, IsHindrance, most_bytes, Writes}
+use Rattle.rn_simplify.specs.inside.Writes.{bytes_of, depth_after, depth_of, IsHindrance, most_bytes, Writes}
 use Rattle.rn_simplify.proofs.Texts.OpenAtOnce.{shown}
 
 pub if_ok : {A E : Type 0} (P Q : A → Type 0) → ((x : A) → P x → Q x) → (o : Result A E) → IfOk o P → IfOk o Q

@@ -28,7 +28,7 @@ use Rattle.rn_pattern.proofs.Ordered.Sorting.{sorted_once_permutation}
 use Rattle.rn_simplify.specs.declared.mentions.Mentions.{Mentions}
 use Rattle.rn_simplify.proofs.ReadBack.Ordered.{any_mapped}
 use Rattle.rn_simplify.specs.Spelling.{name_uris, names_uris, mentions, mentions_all}
-use Rattle.rn_simplify.specs.Gathers.{is_other, IsGathered, GathersTexts, Mentioned, nothing, both, by_name, by_names, by_tree, by_trees, Gathers}
+use Rattle.rn_simplify.specs.inside.Gathers.{is_other, IsGathered, GathersTexts, Mentioned, nothing, both, by_name, by_names, by_tree, by_trees, Gathers}
 
 -- ---- one more text
 

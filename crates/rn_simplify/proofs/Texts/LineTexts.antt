@@ -13,7 +13,7 @@ use Rattle.rn_pattern.specs.View.{pattern_view}
 use Rattle.rn_pattern.specs.declared.tree.Pattern.{Pattern}
 use Rattle.rn_simplify.specs.declared.writer.Writer.{Writer}
 use Rattle.rn_simplify.specs.Spelling.{Prefixes, prefixes, binding, bindings, default_line, definition_line, definition_lines, has_wide_empty, identifier, infix_of, keyword, library_entries, line_end, literal, namespace_prefix, space, spelled, word, written_tree}
-use Rattle.rn_simplify.specs.Writes.{bound_to, declaration_lines, defined_as, empty_entries, entries, none, Writes, WritesBytes}
+use Rattle.rn_simplify.specs.inside.Writes.{bound_to, declaration_lines, defined_as, empty_entries, entries, none, Writes, WritesBytes}
 use Rattle.rn_simplify.specs.NormalView.{definitions_view}
 use Rattle.rn_simplify.proofs.Texts.Writing.{writes_then, writes_pieces, writes_as}
 use Rattle.rn_simplify.proofs.Texts.PartTexts.{writes_spelled}

@@ -10,7 +10,7 @@ use Rattle.rn_pattern.specs.declared.tree.Pattern.TheFolds.{fold-roll-Pattern}
 use Rattle.rn_pattern.specs.declared.tree.Pattern.TheVariants as p
 use Rattle.rn_simplify.specs.Spelling.{Prefixes, written, chained, chain, comma, written_tree, written_trees, written_choice, written_interleave}
 use Rattle.rn_pattern.specs.View.{pattern_step, pattern_view}
-use Rattle.rn_simplify.specs.Writes.{rows_of}
+use Rattle.rn_simplify.specs.inside.Writes.{rows_of}
 
 -- each member, shared, with its tree in its place
 rows_through : (f : Prefixes) (h : Rc Pattern Global → Rc Tree Global) → ((r : Rc Pattern Global) → (h r).value ≡ pattern_view r.value) → (ps : List (Rc Pattern Global)) → written_trees f (trees_of (map (λ (r : Rc Tree Global). r.value) (map h ps))) ≡ rows_of f ps

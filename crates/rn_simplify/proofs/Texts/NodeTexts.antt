@@ -19,7 +19,7 @@ use Rattle.rn_pattern.specs.declared.tree.Pattern.TheFolds.{fold-roll-Pattern}
 use Rattle.rn_simplify.specs.declared.writer.Writer.{Writer}
 use Rattle.rn_simplify.specs.Spelling.{Prefixes, Written, symbol, keyword, space, infix_of, braced, parenthesized, primary, operand, chain, chain_or_one, datum_pieces, optional, optional_one, written_name, written_tree, written_choice, written_interleave}
 use Rattle.rn_pattern.specs.View.{parameters_view, pattern_step, pattern_view}
-use Rattle.rn_simplify.specs.Writes.{rows_of, begins, none, opening, closing, Writes, WritesBytes}
+use Rattle.rn_simplify.specs.inside.Writes.{rows_of, begins, none, opening, closing, Writes, WritesBytes}
 use Rattle.rn_simplify.proofs.Texts.Writing.{writes_nil, writes_as, writes_then, writes_pieces}
 use Rattle.rn_simplify.proofs.Texts.PartTexts.{writes_minus, writes_braced, writes_parenthesized, writes_part}
 use Rattle.rn_simplify.proofs.Texts.PatternTexts.{space_written}

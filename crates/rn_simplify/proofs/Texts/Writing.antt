@@ -8,7 +8,7 @@ use Rattle.rn_text.proofs.Pieces.{text_of-append}
 use Rattle.rn_simplify.specs.declared.writer.Writer.{Writer}
 use Rattle.rn_simplify.specs.declared.writer.Stop.{Stop}
 use Rattle.rn_simplify.specs.declared.writer.Stop.TheVariants.{TooLarge}
-use Rattle.rn_simplify.specs.Writes.{bytes_of, most_bytes, bracket_of, depth_behind, depth_after, depth_of, Bracket, Appends, Writes, WritesBytes, none}
+use Rattle.rn_simplify.specs.inside.Writes.{bytes_of, most_bytes, bracket_of, depth_behind, depth_after, depth_of, Bracket, Appends, Writes, WritesBytes, none}
 
 pub bytes_of-append : (ps qs : List Piece) → bytes_of (ps ++ qs) ≡ bytes_of ps ++ bytes_of qs
 bytes_of-append ps qs = ap encode_utf8_all (text_of-append ps qs) ∙ encodes-append (text_of ps) (text_of qs)

@@ -7,8 +7,8 @@ use Rattle.rn_pattern.specs.Store.{StandsFor}
 use Rattle.rn_pattern.specs.Tree.{Tree, trees_of}
 use Rattle.rn_pattern.specs.View.{pattern_view, shared_view}
 use Rattle.rn_pattern.proofs.Ordered.PatternKinds.{group_seen, interleave_seen, choice_seen}
-use Rattle.rn_simplify.specs.Parts.{list_step, parts, parts_of}
-use Rattle.rn_simplify.specs.Worth.{settled_by}
+use Rattle.rn_simplify.specs.inside.Parts.{list_step, parts, parts_of}
+use Rattle.rn_simplify.specs.inside.Worth.{settled_by}
 use Rattle.rn_simplify.proofs.Simplified.Contents.{content_seen}
 use Rattle.rn_simplify.proofs.Simplified.Evaluated.{settled_canonical}
 use Rattle.rn_simplify.proofs.Simplified.Known.{keeps_then, then_kept, trees_still}

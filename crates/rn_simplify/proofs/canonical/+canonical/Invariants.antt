@@ -5,8 +5,8 @@ use Rattle.rn_pattern.specs.Canonical.{canonical}
 use Rattle.rn_pattern.specs.Store.{KeepsTrees}
 use Rattle.rn_pattern.specs.Tree.{trees_of}
 use Rattle.rn_pattern.specs.View.{shared_view}
-use Rattle.rn_simplify.specs.Parts.{parts}
-use Rattle.rn_simplify.specs.Worth.{settled_by}
+use Rattle.rn_simplify.specs.inside.Parts.{parts}
+use Rattle.rn_simplify.specs.inside.Worth.{settled_by}
 use Rattle.rn_simplify.proofs.canonical.+canonical.Given as goal
 
 abbrev pub invariant-push_parts-loop-member : goal.invariant-push_parts-loop-member

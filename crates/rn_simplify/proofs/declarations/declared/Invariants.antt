@@ -1,6 +1,6 @@
 use Rattle.std.proofs.Common.{◌≡◌, ◌++◌, map}
 use Rattle.std.specs.Prelude.{string_bytes, filter}
-use Rattle.rn_simplify.specs.Gathers.{is_other}
+use Rattle.rn_simplify.specs.inside.Gathers.{is_other}
 use Rattle.rn_simplify.proofs.ReadBack.Ordered.{AreApart}
 use Rattle.rn_simplify.proofs.declarations.declared.Given as goal
 

@@ -6,7 +6,7 @@ use Rattle.rn_pattern.specs.Store.{StandsFor}
 use Rattle.rn_pattern.specs.Tree.{Tree, trees_of}
 use Rattle.rn_pattern.specs.View.{pattern_view, shared_view}
 use Rattle.rn_pattern.proofs.Ordered.PatternKinds.{choice_seen, interleave_seen}
-use Rattle.rn_simplify.specs.Worth.{settled_by}
+use Rattle.rn_simplify.specs.inside.Worth.{settled_by}
 use Rattle.rn_simplify.proofs.Simplified.Repeats.{choice_members, interleave_members}
 use Rattle.rn_simplify.proofs.joined.canonical_body.Goals as goal
 

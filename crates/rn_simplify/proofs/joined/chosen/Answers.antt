@@ -4,7 +4,7 @@ use Rattle.rn_pattern.specs.Canonical.{canonical_all, choice_step}
 use Rattle.rn_pattern.specs.Store.{StandsFor}
 use Rattle.rn_pattern.specs.Tree.{Tree, trees_of}
 use Rattle.rn_pattern.specs.View.{shared_view}
-use Rattle.rn_simplify.specs.Worth.{settled_by}
+use Rattle.rn_simplify.specs.inside.Worth.{settled_by}
 use Rattle.rn_simplify.proofs.Simplified.Repeats.{choice_same}
 use Rattle.rn_simplify.proofs.joined.chosen.Goals as goal
 

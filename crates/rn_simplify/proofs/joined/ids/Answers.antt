@@ -3,7 +3,7 @@ use Rattle.std.specs.Prelude.{All, IsTrue}
 use Rattle.rn_assemble.specs.GrammarView.{definitions_view}
 use Rattle.rn_pattern.specs.Canonical.{canonical}
 use Rattle.rn_pattern.specs.Tree.{empty}
-use Rattle.rn_simplify.specs.Worth.{settled_by}
+use Rattle.rn_simplify.specs.inside.Worth.{settled_by}
 use Rattle.rn_simplify.proofs.Simplified.Known.{all_more, ids_still, keeps_then, trees_still}
 use Rattle.rn_simplify.proofs.Simplified.Repeats.{formed_more}
 use Rattle.rn_simplify.proofs.joined.ids.Goals as goal

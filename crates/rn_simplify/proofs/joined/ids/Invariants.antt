@@ -4,7 +4,7 @@ use Rattle.rn_assemble.specs.GrammarView.{definitions_view}
 use Rattle.rn_pattern.specs.Canonical.{canonical}
 use Rattle.rn_pattern.specs.Store.{KeepsTrees}
 use Rattle.rn_pattern.specs.View.{shared_view}
-use Rattle.rn_simplify.specs.Worth.{settled_by}
+use Rattle.rn_simplify.specs.inside.Worth.{settled_by}
 use Rattle.rn_simplify.proofs.joined.ids.Given as goal
 
 abbrev pub invariant-loop-index : goal.invariant-loop-index

@@ -4,7 +4,7 @@ use Rattle.rn_pattern.specs.Canonical.{interleave_step}
 use Rattle.rn_pattern.specs.Store.{StandsFor}
 use Rattle.rn_pattern.specs.Tree.{Tree}
 use Rattle.rn_pattern.specs.View.{shared_view}
-use Rattle.rn_simplify.specs.Worth.{settled_by}
+use Rattle.rn_simplify.specs.inside.Worth.{settled_by}
 use Rattle.rn_simplify.proofs.Simplified.Known.{then_kept}
 use Rattle.rn_simplify.proofs.Simplified.Repeats.{all_canonical}
 use Rattle.rn_simplify.proofs.joined.interleaved.Goals as goal

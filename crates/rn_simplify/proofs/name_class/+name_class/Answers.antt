@@ -7,7 +7,7 @@ use Rattle.rn_pattern.specs.declared.tree.NameClass.TheViews.{the_lemmas}
 use Rattle.rn_pattern.specs.Tree.{NameTree, any_name, any_name_but, ns_name_but}
 use Rattle.rn_simplify.specs.Spelling.{Written, written_name, infix_of, chain}
 use Rattle.rn_pattern.specs.View.{name_class_view, name_class_step}
-use Rattle.rn_simplify.specs.Writes.{prefixes_view, Writes}
+use Rattle.rn_simplify.specs.inside.Writes.{prefixes_view, Writes}
 use Rattle.rn_simplify.proofs.Texts.Writing.{writes_nil, writes_as}
 use Rattle.rn_simplify.proofs.Texts.PartTexts.{writes_bar, writes_any_but, writes_ns_but, writes_parenthesized, operand_chained}
 use Rattle.rn_simplify.proofs.ReadBack.Chains.{row, before, class_rows, writes_row_more, before_none, before_some}

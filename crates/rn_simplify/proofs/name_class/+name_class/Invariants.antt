@@ -2,7 +2,7 @@ use Rattle.std.proofs.Common.{take}
 use Rattle.std.specs.Prelude.{codes}
 use Rattle.rn_simplify.specs.Spelling.{infix_of, written_name}
 use Rattle.rn_pattern.specs.View.{name_class_view}
-use Rattle.rn_simplify.specs.Writes.{prefixes_view, Writes}
+use Rattle.rn_simplify.specs.inside.Writes.{prefixes_view, Writes}
 use Rattle.rn_simplify.proofs.ReadBack.Chains.{row}
 use Rattle.rn_simplify.proofs.name_class.+name_class.Given as goal
 

@@ -1,5 +1,5 @@
 use Rattle.rn_simplify.specs.Spelling.{namespace_prefix}
-use Rattle.rn_simplify.specs.Writes.{prefixes_view}
+use Rattle.rn_simplify.specs.inside.Writes.{prefixes_view}
 use Rattle.rn_simplify.proofs.Texts.PartTexts.{writes_any_of}
 use Rattle.rn_simplify.proofs.name_class.write_any_of.Goals as goal
 

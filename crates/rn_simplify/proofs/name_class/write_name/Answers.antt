@@ -1,5 +1,5 @@
 use Rattle.std.proofs.Common.{◌≡◌, ◌∷◌, [], length, nat_eq, true, false, sym, subst, rules}
-use Rattle.rn_simplify.specs.Writes.{prefixes_view, WritesBytes, none}
+use Rattle.rn_simplify.specs.inside.Writes.{prefixes_view, WritesBytes, none}
 use Rattle.rn_simplify.proofs.Texts.PartTexts.{writes_local, writes_full}
 use Rattle.rn_simplify.proofs.name_class.write_name.Goals as goal
 use Rattle.rn_simplify.proofs.name_class.write_name.Goals.{then-not-is_empty, else-not-is_empty}

@@ -7,7 +7,7 @@ use Rattle.rn_pattern.specs.View.{pattern_view}
 use Rattle.rn_pattern.specs.declared.tree.Pattern.{Pattern}
 use Rattle.rn_assemble.specs.Firsts.{AreFirsts, joined_members}
 use Rattle.rn_assemble.specs.GrammarView.{definitions_view, grammar_view}
-use Rattle.rn_simplify.specs.Worth.{settled_by}
+use Rattle.rn_simplify.specs.inside.Worth.{settled_by}
 use Rattle.rn_simplify.proofs.Simplified.Known.{then_kept}
 use Rattle.rn_simplify.proofs.Simplified.Normalised.{formed_is, names_formed}
 use Rattle.rn_simplify.proofs.Simplified.RankOrder.{normal_is}

@@ -7,7 +7,7 @@ use Rattle.rn_assemble.specs.GrammarView.{definitions_view}
 use Rattle.rn_pattern.specs.Canonical as form
 use Rattle.rn_pattern.specs.Tree.{Text, Tree}
 use Rattle.rn_pattern.specs.View.{pattern_view}
-use Rattle.rn_simplify.specs.Worth.{settled_by}
+use Rattle.rn_simplify.specs.inside.Worth.{settled_by}
 use Rattle.rn_simplify.proofs.Simplified.Known.{keeps_then}
 use Rattle.rn_simplify.proofs.Simplified.Marks.{distinct_names, forms_more}
 use Rattle.rn_simplify.proofs.Simplified.Normalised.{names_formed}

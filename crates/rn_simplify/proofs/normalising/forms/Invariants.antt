@@ -3,7 +3,7 @@ use Rattle.rn_assemble.specs.GrammarView.{definitions_view}
 use Rattle.rn_pattern.specs.Canonical.{canonical}
 use Rattle.rn_pattern.specs.Store.{KeepsTrees}
 use Rattle.rn_pattern.specs.Tree.{Text, Tree}
-use Rattle.rn_simplify.specs.Worth.{settled_by}
+use Rattle.rn_simplify.specs.inside.Worth.{settled_by}
 use Rattle.rn_simplify.proofs.normalising.forms.Given as goal
 
 abbrev pub invariant-loop-number : goal.invariant-loop-number

@@ -7,7 +7,7 @@ use Rattle.rn_pattern.specs.declared.tree.Pattern.TheFolds.{fold_out-Pattern, fo
 use Rattle.rn_pattern.specs.declared.tree.Pattern.TheViews.{the_lemmas}
 use Rattle.rn_simplify.specs.Spelling.{chain, comma, datum_pieces, infix_of, operand, optional_one, primary, written_choice, written_interleave, written_tree}
 use Rattle.rn_pattern.specs.View.{name_class_view, parameters_view, pattern_step, pattern_view}
-use Rattle.rn_simplify.specs.Writes.{bytes_of, depth_after, prefixes_view, rows_of, Writes}
+use Rattle.rn_simplify.specs.inside.Writes.{bytes_of, depth_after, prefixes_view, rows_of, Writes}
 use Rattle.rn_simplify.proofs.Texts.Writing.{writes_as, writes_pieces}
 use Rattle.rn_simplify.proofs.Texts.PartTexts.{writes_identifier, writes_braced, writes_parenthesized}
 use Rattle.rn_simplify.proofs.ReadBack.Chains.{before}

@@ -1,7 +1,7 @@
 use Rattle.std.proofs.Common.{◌≡◌, ℕ, ◌-◌, List, take, drop, Some}
 use Rattle.rn_text.specs.Parts.{Piece}
 use Rattle.rn_simplify.specs.Spelling.{chain}
-use Rattle.rn_simplify.specs.Writes.{bytes_of, depth_after, prefixes_view, rows_of, Writes}
+use Rattle.rn_simplify.specs.inside.Writes.{bytes_of, depth_after, prefixes_view, rows_of, Writes}
 use Rattle.rn_simplify.proofs.pattern.+pattern.Given as goal
 
 abbrev pub invariant-write_chain-loop-i : goal.invariant-write_chain-loop-i

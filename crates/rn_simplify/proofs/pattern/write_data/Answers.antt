@@ -1,6 +1,6 @@
 use Rattle.std.proofs.Common.{◌≡◌, length, nat_eq, false, rules, ap, ◌∙◌}
 use Rattle.std.proofs.lemmas.List.{length-map}
-use Rattle.rn_simplify.specs.Writes.{prefixes_view}
+use Rattle.rn_simplify.specs.inside.Writes.{prefixes_view}
 use Rattle.rn_pattern.specs.View.{parameters_view}
 use Rattle.rn_simplify.proofs.Texts.PatternTexts.{writes_data}
 use Rattle.rn_simplify.proofs.pattern.write_data.Goals as goal

@@ -1,5 +1,5 @@
 use Rattle.rn_pattern.specs.View.{name_class_view}
-use Rattle.rn_simplify.specs.Writes.{prefixes_view}
+use Rattle.rn_simplify.specs.inside.Writes.{prefixes_view}
 use Rattle.rn_simplify.proofs.Texts.NodeTexts.{writes_head}
 use Rattle.rn_simplify.proofs.pattern.write_head.Goals as goal
 

@@ -2,7 +2,7 @@ use Rattle.std.proofs.Common.{◌≡◌, ◌+◌, [], ◌∷◌, ◌++◌, take,
 use Rattle.std.proofs.lemmas.List.{take_more, take_all, map-append}
 use Rattle.rn_simplify.specs.Spelling.{params_pieces}
 use Rattle.rn_pattern.specs.View.{parameters_view}
-use Rattle.rn_simplify.specs.Writes.{Writes}
+use Rattle.rn_simplify.specs.inside.Writes.{Writes}
 use Rattle.rn_simplify.proofs.Texts.Writing.{writes_nil, writes_as}
 use Rattle.rn_simplify.proofs.Texts.PatternTexts.{writes_param, writes_params_more, spaced, spaced_first, spaced_viewed}
 use Rattle.rn_simplify.proofs.pattern.write_params.Goals as goal

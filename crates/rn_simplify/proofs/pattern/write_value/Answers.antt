@@ -1,6 +1,6 @@
 use Rattle.std.proofs.Common.{◌≡◌, [], true, false, sym, ◌∙◌}
 use Rattle.std.specs.Prelude.{codes, bytes_eq, ◌&&◌}
-use Rattle.rn_simplify.specs.Writes.{prefixes_view}
+use Rattle.rn_simplify.specs.inside.Writes.{prefixes_view}
 use Rattle.rn_simplify.proofs.Texts.PatternTexts.{writes_token, writes_value}
 use Rattle.rn_simplify.proofs.pattern.write_value.Goals as goal
 

@@ -1,5 +1,5 @@
 use Rattle.rn_pattern.specs.View.{pattern_view}
-use Rattle.rn_simplify.specs.Writes.{prefixes_view}
+use Rattle.rn_simplify.specs.inside.Writes.{prefixes_view}
 use Rattle.rn_simplify.proofs.Texts.LineTexts.{writes_defined}
 use Rattle.rn_simplify.proofs.printing.write_body.Goals as goal
 

@@ -4,7 +4,7 @@ use Rattle.std.specs.Str.{chars}
 use Rattle.rn_pattern.specs.View.{pattern_view}
 use Rattle.rn_simplify.specs.NormalView.{definitions_view}
 use Rattle.rn_simplify.specs.Spelling.{definition_line, definition_lines, identifier}
-use Rattle.rn_simplify.specs.Writes.{defined_as, prefixes_view, Writes}
+use Rattle.rn_simplify.specs.inside.Writes.{defined_as, prefixes_view, Writes}
 use Rattle.rn_simplify.proofs.Texts.Writing.{writes_then}
 use Rattle.rn_simplify.proofs.Texts.PartTexts.{writes_identifier}
 use Rattle.rn_simplify.proofs.Texts.LineTexts.{definitions_up_to, writes_one_definition}

@@ -1,7 +1,7 @@
 use Rattle.std.proofs.Common.{take}
 use Rattle.rn_simplify.specs.NormalView.{definitions_view}
 use Rattle.rn_simplify.specs.Spelling.{definition_lines}
-use Rattle.rn_simplify.specs.Writes.{prefixes_view, Writes}
+use Rattle.rn_simplify.specs.inside.Writes.{prefixes_view, Writes}
 use Rattle.rn_simplify.proofs.printing.write_definitions.Given as goal
 
 abbrev pub invariant-loop-name : goal.invariant-loop-name

@@ -1,5 +1,5 @@
 use Rattle.rn_pattern.specs.View.{pattern_view}
-use Rattle.rn_simplify.specs.Writes.{prefixes_view}
+use Rattle.rn_simplify.specs.inside.Writes.{prefixes_view}
 use Rattle.rn_simplify.proofs.Texts.LineTexts.{writes_start}
 use Rattle.rn_simplify.proofs.printing.write_start.Goals as goal
 

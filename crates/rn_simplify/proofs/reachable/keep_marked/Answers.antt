@@ -1,6 +1,6 @@
 use Rattle.std.proofs.Common.{rules, ◌∙◌, ap}
 use Rattle.std.specs.Slice.Iter.{iter_rest}
-use Rattle.rn_simplify.specs.Marked.{marked}
+use Rattle.rn_simplify.specs.inside.Marked.{marked}
 use Rattle.rn_simplify.proofs.Simplified.Retained.{retained}
 use Rattle.rn_simplify.proofs.reachable.keep_marked.Goals as goal
 

@@ -3,7 +3,7 @@ use Rattle.std.specs.Prelude.{IsPermutation}
 use Rattle.rn_pattern.specs.Matching.{Grammar}
 use Rattle.rn_pattern.specs.View.{pattern_view}
 use Rattle.rn_assemble.specs.GrammarView.{definitions_view}
-use Rattle.rn_simplify.specs.Marked.{marked}
+use Rattle.rn_simplify.specs.inside.Marked.{marked}
 use Rattle.rn_simplify.specs.Numbered.{MarksReached}
 use Rattle.rn_simplify.proofs.Simplified.PrunedForms.{pruned_is, kept_distinct, names_rise}
 use Rattle.rn_simplify.proofs.reachable.pruned.Goals as goal

@@ -4,8 +4,8 @@ use Rattle.std.specs.Prelude.{All, IfOk, IsTrue, string_bytes}
 use Rattle.std.specs.Option.{option_map}
 use Rattle.rn_pattern.specs.Store.{node_view}
 use Rattle.rn_pattern.specs.View.{parameters_view, pattern_view}
-use Rattle.rn_simplify.specs.NodeKinds.{datum_over}
-use Rattle.rn_simplify.specs.Sizes.{tree_size, ids_size}
+use Rattle.rn_simplify.specs.inside.NodeKinds.{datum_over}
+use Rattle.rn_simplify.specs.inside.Sizes.{tree_size, ids_size}
 use Rattle.rn_simplify.proofs.Simplified.NodeKinds.{members_in, size_in, over_one, content_in, over_size, node_of_datum}
 use Rattle.rn_simplify.proofs.Simplified.NodeSizes.{member_size}
 use Rattle.rn_simplify.proofs.rebuilt.+rebuilt.Goals as goal

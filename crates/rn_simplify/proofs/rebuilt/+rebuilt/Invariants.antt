@@ -1,6 +1,6 @@
 use Rattle.std.proofs.Common.{◌≡◌, ◌+◌, ◌*◌, map, take}
 use Rattle.rn_pattern.specs.View.{shared_view}
-use Rattle.rn_simplify.specs.Sizes.{tree_size, ids_size, except_size}
+use Rattle.rn_simplify.specs.inside.Sizes.{tree_size, ids_size, except_size}
 use Rattle.rn_simplify.proofs.rebuilt.+rebuilt.Given as goal
 
 abbrev pub decreases-rebuilt : goal.decreases-rebuilt

@@ -1,7 +1,7 @@
 use Rattle.std.proofs.Common.{ap, map, ◌∙◌, subst, arith}
 use Rattle.std.proofs.lemmas.List.{take_all}
 use Rattle.rn_pattern.specs.View.{pattern_view, shared_view}
-use Rattle.rn_simplify.specs.Repeats.{HoldSame}
+use Rattle.rn_simplify.specs.inside.Repeats.{HoldSame}
 use Rattle.rn_simplify.proofs.Simplified.Repeats.{kept_more, left_out}
 use Rattle.rn_simplify.proofs.repeats.distinct.Goals as goal
 use Rattle.rn_simplify.proofs.repeats.distinct.Goals.{then-first_of-index+in_ok-clone+in_ok-push, else-first_of-index}

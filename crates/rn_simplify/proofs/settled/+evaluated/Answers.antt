@@ -4,7 +4,7 @@ use Rattle.rn_assemble.specs.GrammarView.{definitions_view}
 use Rattle.rn_pattern.specs.Tree.{trees_of}
 use Rattle.rn_pattern.specs.View.{pattern_view, shared_view}
 use Rattle.rn_pattern.proofs.Ordered.PatternKinds.{group_seen, interleave_seen, choice_seen}
-use Rattle.rn_simplify.specs.Worth.{evaluated, evaluated_all, evaluated_any, worth_at}
+use Rattle.rn_simplify.specs.inside.Worth.{evaluated, evaluated_all, evaluated_any, worth_at}
 use Rattle.rn_simplify.proofs.Simplified.Evaluated.{all_of_more, any_of_more}
 use Rattle.rn_simplify.proofs.settled.+evaluated.Goals as goal
 

@@ -2,7 +2,7 @@ use Rattle.std.proofs.Common.{◌≡◌, map, take}
 use Rattle.rn_assemble.specs.GrammarView.{definitions_view}
 use Rattle.rn_pattern.specs.Tree.{trees_of}
 use Rattle.rn_pattern.specs.View.{shared_view}
-use Rattle.rn_simplify.specs.Worth.{evaluated_all, evaluated_any, worth_at}
+use Rattle.rn_simplify.specs.inside.Worth.{evaluated_all, evaluated_any, worth_at}
 use Rattle.rn_simplify.proofs.settled.+evaluated.Given as goal
 
 abbrev pub invariant-evaluated_all-loop-member : goal.invariant-evaluated_all-loop-member

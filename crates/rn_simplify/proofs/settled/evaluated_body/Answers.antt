@@ -2,8 +2,8 @@ use Rattle.std.proofs.Common.{ap, ◌∙◌, subst}
 use Rattle.std.specs.Prelude.{IfSome}
 use Rattle.rn_assemble.specs.GrammarView.{definitions_view}
 use Rattle.rn_pattern.specs.View.{pattern_view}
-use Rattle.rn_simplify.specs.Repeats.{AreSameButRepeats}
-use Rattle.rn_simplify.specs.Worth.{evaluated, worth_at}
+use Rattle.rn_simplify.specs.inside.Repeats.{AreSameButRepeats}
+use Rattle.rn_simplify.specs.inside.Worth.{evaluated, worth_at}
 use Rattle.rn_simplify.proofs.Simplified.Repeats.{evaluated_same}
 use Rattle.rn_simplify.proofs.settled.evaluated_body.Goals as goal
 

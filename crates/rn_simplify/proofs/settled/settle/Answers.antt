@@ -4,7 +4,7 @@ use Rattle.std.proofs.lemmas.List.Elements.{Contains-get_or}
 use Rattle.rn_assemble.specs.GrammarView.{definitions_view, grammar_view}
 use Rattle.rn_pattern.specs.Canonical.{canonical}
 use Rattle.rn_simplify.specs.Numbered.{AreSettled}
-use Rattle.rn_simplify.specs.Worth.{settled_by, worth_of}
+use Rattle.rn_simplify.specs.inside.Worth.{settled_by, worth_of}
 use Rattle.rn_simplify.proofs.Simplified.Numbers.{size_of_view}
 use Rattle.rn_simplify.proofs.Simplified.ReferenceGraph.{nothing}
 use Rattle.rn_simplify.proofs.Simplified.SettledMore.{settled_more, settled_none}

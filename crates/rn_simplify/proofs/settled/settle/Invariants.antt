@@ -2,7 +2,7 @@ use Rattle.std.proofs.Common.{◌≡◌, take}
 use Rattle.rn_assemble.specs.GrammarView.{definitions_view, grammar_view}
 use Rattle.rn_simplify.specs.Numbered.{AreSettled}
 use Rattle.rn_simplify.specs.Settling.{IsInOrder}
-use Rattle.rn_simplify.specs.Worth.{settled_by}
+use Rattle.rn_simplify.specs.inside.Worth.{settled_by}
 use Rattle.rn_simplify.proofs.settled.settle.Given as goal
 
 abbrev pub invariant-loop-number : goal.invariant-loop-number

@@ -5,7 +5,7 @@ use Rattle.rn_pattern.specs.Tree.{Text, Tree}
 use Rattle.rn_assemble.specs.GrammarView.{definitions_view, grammar_view}
 use Rattle.rn_simplify.specs.Numbered.{AreSettled}
 use Rattle.rn_simplify.specs.Settling.{IsInOrder}
-use Rattle.rn_simplify.specs.Worth.{settled_by}
+use Rattle.rn_simplify.specs.inside.Worth.{settled_by}
 use Rattle.rn_simplify.proofs.Simplified.Evaluated.{settled_canonical}
 use Rattle.rn_simplify.proofs.Simplified.Normalised.{both_hold, settling_is}
 use Rattle.rn_simplify.proofs.settled.settle_all.Goals as goal

@@ -1,7 +1,7 @@
 use Rattle.std.proofs.Common.{length, sym, ap, ◌∙◌, subst, get_or, set, arith}
 use Rattle.rn_assemble.specs.Firsts.{AreFirsts, joined_members}
 use Rattle.rn_assemble.specs.GrammarView.{definitions_view}
-use Rattle.rn_simplify.specs.Worth.{evaluated, worth_at}
+use Rattle.rn_simplify.specs.inside.Worth.{evaluated, worth_at}
 use Rattle.rn_simplify.proofs.Simplified.Evaluated.{evaluated_is}
 use Rattle.rn_simplify.proofs.Simplified.Numbers.{size_of_view}
 use Rattle.rn_simplify.proofs.Simplified.ReferenceGraph.{nothing}

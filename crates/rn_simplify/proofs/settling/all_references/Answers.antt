@@ -2,7 +2,7 @@ use Rattle.std.proofs.Common.{length, ap, sym, subst, arith}
 use Rattle.rn_assemble.specs.GrammarView.{grammar_view}
 use Rattle.rn_pattern.specs.Graph.{row}
 use Rattle.rn_simplify.specs.Numbered.{graph_of}
-use Rattle.rn_simplify.specs.Repeats.{HoldSame}
+use Rattle.rn_simplify.specs.inside.Repeats.{HoldSame}
 use Rattle.rn_simplify.specs.declared.references.Scope.TheVariants.{Everywhere}
 use Rattle.rn_simplify.proofs.Simplified.Marks.{no_rows, more_rows}
 use Rattle.rn_simplify.proofs.Simplified.Numbers.{size_of_view}

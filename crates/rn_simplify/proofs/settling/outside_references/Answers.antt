@@ -4,7 +4,7 @@ use Rattle.rn_assemble.specs.GrammarView.{grammar_view}
 use Rattle.rn_pattern.specs.Graph.{is_marked, row, rows_of}
 use Rattle.rn_simplify.specs.Numbered.{numbers_of}
 use Rattle.rn_simplify.specs.Referred.{references}
-use Rattle.rn_simplify.specs.Repeats.{HoldSame}
+use Rattle.rn_simplify.specs.inside.Repeats.{HoldSame}
 use Rattle.rn_simplify.specs.declared.references.Scope.TheVariants.{OutsideElements}
 use Rattle.rn_simplify.proofs.Simplified.Marks.{no_rows, more_rows}
 use Rattle.rn_simplify.proofs.Simplified.ReferenceGraph.{nothing}

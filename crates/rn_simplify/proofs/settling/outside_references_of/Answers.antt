@@ -3,7 +3,7 @@ use Rattle.rn_assemble.specs.GrammarView.{grammar_view}
 use Rattle.rn_pattern.specs.Tree.{Text, Tree}
 use Rattle.rn_simplify.specs.Numbered.{numbers_of}
 use Rattle.rn_simplify.specs.Referred.{references}
-use Rattle.rn_simplify.specs.Repeats.{HoldSame}
+use Rattle.rn_simplify.specs.inside.Repeats.{HoldSame}
 use Rattle.rn_simplify.specs.declared.references.Scope.TheVariants.{OutsideElements}
 use Rattle.rn_simplify.proofs.settling.outside_references_of.Goals as goal
 

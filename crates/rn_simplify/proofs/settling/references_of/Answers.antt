@@ -4,7 +4,7 @@ use Rattle.rn_assemble.specs.Firsts.{AreFirsts, joined_members}
 use Rattle.rn_assemble.specs.GrammarView.{definitions_view}
 use Rattle.rn_simplify.specs.Numbered.{numbers_of}
 use Rattle.rn_simplify.specs.Referred.{references}
-use Rattle.rn_simplify.specs.Repeats.{HoldSame}
+use Rattle.rn_simplify.specs.inside.Repeats.{HoldSame}
 use Rattle.rn_simplify.proofs.Simplified.Numbers.{size_of_view}
 use Rattle.rn_simplify.proofs.Simplified.ReferenceGraph.{nothing}
 use Rattle.rn_simplify.proofs.settling.references_of.Goals as goal

@@ -5,7 +5,7 @@ use Rattle.rn_assemble.specs.GrammarView.{definitions_view}
 use Rattle.rn_pattern.specs.View.{pattern_view}
 use Rattle.rn_simplify.specs.Numbered.{numbers_of}
 use Rattle.rn_simplify.specs.Referred.{references}
-use Rattle.rn_simplify.specs.Repeats.{AreSameButRepeats, HoldSame}
+use Rattle.rn_simplify.specs.inside.Repeats.{AreSameButRepeats, HoldSame}
 use Rattle.rn_simplify.proofs.Simplified.Repeats.{numbers_alike, references_same, same_itself}
 use Rattle.rn_simplify.proofs.settling.referred_by.Goals as goal
 

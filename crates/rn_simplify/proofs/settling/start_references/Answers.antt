@@ -4,7 +4,7 @@ use Rattle.rn_assemble.specs.Firsts.{AreFirsts, joined_members}
 use Rattle.rn_assemble.specs.GrammarView.{definitions_view, grammar_view}
 use Rattle.rn_simplify.specs.Numbered.{numbers_of}
 use Rattle.rn_simplify.specs.Referred.{references}
-use Rattle.rn_simplify.specs.Repeats.{HoldSame}
+use Rattle.rn_simplify.specs.inside.Repeats.{HoldSame}
 use Rattle.rn_simplify.specs.declared.references.Scope.TheVariants.{Everywhere}
 use Rattle.rn_simplify.proofs.settling.start_references.Goals as goal
 

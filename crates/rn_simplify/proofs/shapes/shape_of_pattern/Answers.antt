@@ -1,7 +1,7 @@
 use Rattle.std.proofs.Common.{sym, ap, ◌∙◌}
 use Rattle.rn_simplify.specs.Spelling.{written_tree, written_interleave, written_choice}
 use Rattle.rn_pattern.specs.View.{pattern_view}
-use Rattle.rn_simplify.specs.Writes.{rows_of}
+use Rattle.rn_simplify.specs.inside.Writes.{rows_of}
 use Rattle.rn_simplify.proofs.Texts.Members.{interleave_rows, choice_rows}
 use Rattle.rn_simplify.proofs.shapes.shape_of_pattern.Goals as goal
 

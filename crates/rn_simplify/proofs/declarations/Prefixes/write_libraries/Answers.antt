@@ -2,7 +2,7 @@ use Rattle.std.proofs.Common.{◌≡◌, ◌<◌, length, get_or, map, take, sym
 use Rattle.std.specs.Prelude.{codes, string_bytes}
 use Rattle.std.specs.Str.{encode_utf8_all}
 use Rattle.rn_simplify.specs.Spelling.{bindings, library_prefix}
-use Rattle.rn_simplify.specs.Writes.{bound_to, entries, none, prefixes_view, Writes, WritesBytes}
+use Rattle.rn_simplify.specs.inside.Writes.{bound_to, entries, none, prefixes_view, Writes, WritesBytes}
 use Rattle.rn_simplify.proofs.Texts.LineTexts.{texts_more, writes_datatypes, writes_one_binding}
 use Rattle.rn_simplify.proofs.declarations.Prefixes.write_libraries.Goals as goal
 

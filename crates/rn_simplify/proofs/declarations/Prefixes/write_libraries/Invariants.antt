@@ -1,7 +1,7 @@
 use Rattle.std.proofs.Common.{map, take}
 use Rattle.std.specs.Prelude.{codes, string_bytes}
 use Rattle.rn_simplify.specs.Spelling.{bindings, library_prefix}
-use Rattle.rn_simplify.specs.Writes.{entries, prefixes_view, Writes}
+use Rattle.rn_simplify.specs.inside.Writes.{entries, prefixes_view, Writes}
 use Rattle.rn_simplify.proofs.declarations.Prefixes.write_libraries.Given as goal
 
 abbrev pub invariant-loop-uri : goal.invariant-loop-uri

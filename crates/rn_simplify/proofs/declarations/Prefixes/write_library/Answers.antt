@@ -2,7 +2,7 @@ use Rattle.std.proofs.Common.{◌≡◌, ◌++◌, ◌<◌, ap, ◌∙◌, subst
 use Rattle.std.specs.Prelude.{codes, decimal, bytes_eq, ◌^◌}
 use Rattle.rn_syntax.specs.Places.{xsd_uri}
 use Rattle.rn_simplify.specs.Spelling.{place}
-use Rattle.rn_simplify.specs.Writes.{prefixes_view, WritesBytes, none}
+use Rattle.rn_simplify.specs.inside.Writes.{prefixes_view, WritesBytes, none}
 use Rattle.rn_simplify.proofs.Texts.Writing.{bytes_then}
 use Rattle.rn_simplify.proofs.Texts.PartTexts.{xsd_library, numbered_library}
 use Rattle.rn_simplify.proofs.declarations.Prefixes.write_library.Goals as goal

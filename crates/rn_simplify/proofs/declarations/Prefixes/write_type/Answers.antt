@@ -1,5 +1,5 @@
 use Rattle.std.proofs.Common.{◌≡◌, ◌∷◌, [], length, nat_eq, true, false, sym, subst, rules}
-use Rattle.rn_simplify.specs.Writes.{prefixes_view, WritesBytes, none}
+use Rattle.rn_simplify.specs.inside.Writes.{prefixes_view, WritesBytes, none}
 use Rattle.rn_simplify.proofs.Texts.PartTexts.{writes_built_in, writes_library_type}
 use Rattle.rn_simplify.proofs.declarations.Prefixes.write_type.Goals as goal
 use Rattle.rn_simplify.proofs.declarations.Prefixes.write_type.Goals.{then-not-is_empty, else-not-is_empty}

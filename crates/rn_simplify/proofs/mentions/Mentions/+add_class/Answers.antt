@@ -5,7 +5,7 @@ use Rattle.rn_pattern.specs.Tree.{NameTree, ns_name_but, name_trees_of}
 use Rattle.rn_pattern.specs.declared.tree.NameClass.TheFolds.{fold_out-NameClass, fold-roll-NameClass}
 use Rattle.rn_pattern.specs.declared.tree.NameClass.TheViews.{the_lemmas}
 use Rattle.rn_pattern.specs.View.{name_class_view, name_class_step}
-use Rattle.rn_simplify.specs.Gathers.{Gathers, by_any_of, by_name, by_names}
+use Rattle.rn_simplify.specs.inside.Gathers.{Gathers, by_any_of, by_name, by_names}
 use Rattle.rn_simplify.proofs.Texts.Gathered.{gathers_nothing, gathers_unless, gathers_one_name}
 use Rattle.rn_simplify.proofs.mentions.Mentions.+add_class.Goals as goal
 

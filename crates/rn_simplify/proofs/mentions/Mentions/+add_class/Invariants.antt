@@ -1,7 +1,7 @@
 use Rattle.std.proofs.Common.{map, take}
 use Rattle.rn_pattern.specs.Tree.{name_trees_of}
 use Rattle.rn_pattern.specs.View.{name_class_view}
-use Rattle.rn_simplify.specs.Gathers.{Gathers, by_names}
+use Rattle.rn_simplify.specs.inside.Gathers.{Gathers, by_names}
 use Rattle.rn_simplify.proofs.mentions.Mentions.+add_class.Given as goal
 
 abbrev pub invariant-add_classes-loop-member : goal.invariant-add_classes-loop-member

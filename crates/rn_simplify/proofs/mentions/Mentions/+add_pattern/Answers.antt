@@ -5,7 +5,7 @@ use Rattle.rn_pattern.specs.Tree.{Tree, trees_of}
 use Rattle.rn_pattern.specs.declared.tree.Pattern.TheFolds.{fold_out-Pattern, fold-roll-Pattern}
 use Rattle.rn_pattern.specs.declared.tree.Pattern.TheViews.{the_lemmas}
 use Rattle.rn_pattern.specs.View.{name_class_view, pattern_view, pattern_step, shared_view}
-use Rattle.rn_simplify.specs.Gathers.{Gathers, both, by_library, by_name, by_tree, by_trees}
+use Rattle.rn_simplify.specs.inside.Gathers.{Gathers, both, by_library, by_name, by_tree, by_trees}
 use Rattle.rn_simplify.proofs.Texts.Gathered.{gathers_unless, gathers_one_tree, in_list, named}
 use Rattle.rn_simplify.proofs.mentions.Mentions.+add_pattern.Goals as goal
 

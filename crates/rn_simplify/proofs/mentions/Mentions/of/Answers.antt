@@ -2,7 +2,7 @@ use Rattle.std.proofs.Common.{[], ◌++◌, ap, subst, map}
 use Rattle.std.specs.Prelude.{string_bytes}
 use Rattle.rn_pattern.specs.View.{pattern_view}
 use Rattle.rn_simplify.specs.NormalView.{definitions_view}
-use Rattle.rn_simplify.specs.Gathers.{IsGathered, by_definitions, by_tree}
+use Rattle.rn_simplify.specs.inside.Gathers.{IsGathered, by_definitions, by_tree}
 use Rattle.rn_simplify.proofs.mentions.Mentions.of.Goals as goal
 
 pub returns-clause-namespaces : goal.returns-clause-namespaces

@@ -1,6 +1,6 @@
 use Rattle.std.proofs.Common.{◌≡◌, ◌∷◌, [], cond, chars, sym, subst, true, false, rules}
 use Rattle.rn_text.specs.Characters.{is_keyword}
-use Rattle.rn_simplify.specs.Writes.{WritesBytes, none}
+use Rattle.rn_simplify.specs.inside.Writes.{WritesBytes, none}
 use Rattle.rn_simplify.proofs.Texts.Writing.{bytes_then}
 use Rattle.rn_simplify.proofs.writer.Writer.identifier.Goals as goal
 use Rattle.rn_simplify.proofs.writer.Writer.identifier.Goals.{then-is_keyword, else-is_keyword}
