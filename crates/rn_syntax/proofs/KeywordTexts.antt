@@ -9,9 +9,10 @@ use Rattle.rn_text.specs.declared.parts.Kind.{Kind}
 use Rattle.rn_text.specs.declared.parts.Kind.TheVariants.{Name, Keyword, Quoted, Prefixed, AnyOf, Segment, Symbol}
 use Rattle.rn_text.specs.declared.source.Token.{Token}
 use Rattle.rn_text.specs.Tokens.{lexeme_of}
-use Rattle.rn_syntax.specs.declared.token.Keyword as code
+use Rattle.rn_text.specs.declared.keywords.Keyword as code
+use Rattle.rn_text.specs.Keywords.{spelling}
 use Rattle.rn_syntax.specs.Terminal as t
-use Rattle.rn_syntax.specs.Terminal.{Terminal, ◌#◌, spelling, keyword}
+use Rattle.rn_syntax.specs.Terminal.{Terminal, ◌#◌, keyword}
 use Rattle.rn_syntax.specs.Tokens.{placed, terminal_of, spelled_in, keyword_rows, symbol_rows}
 use Rattle.rn_syntax.specs.inside.Reading.{rest}
 use Rattle.rn_syntax.specs.inside.Follow.{first_terminal}

@@ -1,7 +1,7 @@
 -- Tokens are one pattern at most.
 use Rattle.std.proofs.Common.{◌≡◌, ◌<◌, ◌⊎◌, inl, inr, ⊎_elim, ℕ, arith, true, List, [], ◌∷◌, Some, None, refl, sym, ap, ◌∙◌, subst}
 use Rattle.std.proofs.lemmas.Bool.{false≢true}
-use Rattle.rn_syntax.specs.declared.token.Keyword.TheVariants as k
+use Rattle.rn_text.specs.declared.keywords.Keyword.TheVariants as k
 use Rattle.rn_syntax.specs.declared.token.Operator.{Operator}
 use Rattle.rn_syntax.specs.declared.token.Postfix.{Postfix}
 use Rattle.rn_syntax.specs.Terminal.{Terminal, Placed, ◌#◌, ident, keyword, prefixed, segment, operator, postfix, minus, tilde, follow, left_brace, right_brace, left_paren, left_bracket}

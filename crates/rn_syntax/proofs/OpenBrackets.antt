@@ -7,8 +7,8 @@ use Rattle.std.proofs.lemmas.Bool.{and_parts}
 use Rattle.std.proofs.lemmas.Str.{chars-encodes}
 use Rattle.rn_text.specs.declared.parts.Kind.{Kind}
 use Rattle.rn_text.specs.declared.parts.Kind.TheVariants.{Name, Keyword, Quoted, Prefixed, AnyOf, Segment, Symbol}
-use Rattle.rn_syntax.specs.declared.token.Keyword as code
-use Rattle.rn_syntax.specs.declared.token.Keyword.TheVariants as k
+use Rattle.rn_text.specs.declared.keywords.Keyword as code
+use Rattle.rn_text.specs.Keywords.{every_keyword}
 use Rattle.rn_syntax.specs.Terminal.{Terminal, ◌#◌}
 use Rattle.rn_syntax.specs.Grammar.{Tokens}
 use Rattle.rn_syntax.specs.Places.{deep}
@@ -28,8 +28,7 @@ keyword_deep (w ∷ ws) cs n i ts = either (λ x. deep n (x # i ∷ ts) ≡ deep
 pub other_deep : (kind : Kind) (cs : List ℕ) (n i : ℕ) (ts : Tokens) → (kind ≡ Symbol → ⊥) → deep n (terminal_of kind cs # i ∷ ts) ≡ deep n ts
 unfolding keyword_rows
 other_deep Name cs n i ts h = refl
-other_deep Keyword cs n i ts h = keyword_deep (k.Attribute ∷ k.Default ∷ k.Datatypes ∷ k.Div ∷ k.Element ∷ k.Empty ∷ k.External ∷ k.Grammar ∷ k.Include ∷ k.Inherit
-    ∷ k.List ∷ k.Mixed ∷ k.Namespace ∷ k.NotAllowed ∷ k.Parent ∷ k.Start ∷ k.String ∷ k.Text ∷ k.Token ∷ []) cs n i ts
+other_deep Keyword cs n i ts h = keyword_deep every_keyword cs n i ts
 other_deep Quoted cs n i ts h = refl
 other_deep Prefixed cs n i ts h = refl
 other_deep AnyOf cs n i ts h = refl

@@ -1,18 +1,48 @@
 -- What the tables of keywords and symbols make of bytes and of the characters that they spell.
-use Rattle.std.proofs.Common.{◌≡◌, ℕ, Bool, true, false, cond, List, [], ◌∷◌, refl, sym, ap, ◌∙◌}
+use Rattle.std.proofs.Common.{◌≡◌, ℕ, Bool, true, false, cond, List, [], ◌∷◌, refl, sym, ap, ◌∙◌, map, ◌≢◌}
 use Rattle.std.specs.List.{AllByRecursion}
 use Rattle.std.specs.Str.{bytes_eq, chars, encode_utf8_all, IsUtf8}
 use Rattle.std.proofs.lemmas.Bool.{cond-false, false_from_ne_true}
 use Rattle.std.proofs.lemmas.Str.{encodes-chars}
 use Rattle.std.proofs.lemmas.Slice.Eq.{bytes_eq-Decides}
+use Rattle.rn_text.specs.declared.keywords.Keyword.{Keyword}
+use Rattle.rn_text.specs.declared.keywords.Keyword.TheVariants as k
+use Rattle.rn_text.specs.Keywords.{spelling, every_keyword}
 use Rattle.rn_syntax.specs.Terminal as t
 use Rattle.rn_syntax.specs.Terminal.{Terminal}
-use Rattle.rn_syntax.specs.Tokens.{spelled_in}
+use Rattle.rn_syntax.specs.Tokens.{spelled_in, keyword_row, keyword_rows}
 
--- bytes that no row spells
-pub none_spelled : (rows : List (List ℕ × Terminal)) (cs : List ℕ) → AllByRecursion (λ (row : List ℕ × Terminal). cs ≡ row.0 → ⊥) rows → spelled_in rows cs ≡ t.other
-none_spelled [] cs h = refl
-none_spelled (row ∷ rows) cs h = cond-false _ _ _ (false_from_ne_true (bytes_eq row.0 cs) (λ e. h.0 (sym ((bytes_eq-Decides row.0 cs).0 e)))) ∙ none_spelled rows cs h.1
+-- what spells a keyword is seen as it
+pub keyword_seen : (w : Keyword) → spelled_in keyword_rows (spelling w) ≡ t.keyword w
+unfolding keyword_rows
+keyword_seen k.Attribute = refl
+keyword_seen k.Default = refl
+keyword_seen k.Datatypes = refl
+keyword_seen k.Div = refl
+keyword_seen k.Element = refl
+keyword_seen k.Empty = refl
+keyword_seen k.External = refl
+keyword_seen k.Grammar = refl
+keyword_seen k.Include = refl
+keyword_seen k.Inherit = refl
+keyword_seen k.List = refl
+keyword_seen k.Mixed = refl
+keyword_seen k.Namespace = refl
+keyword_seen k.NotAllowed = refl
+keyword_seen k.Parent = refl
+keyword_seen k.Start = refl
+keyword_seen k.String = refl
+keyword_seen k.Text = refl
+keyword_seen k.Token = refl
+
+-- and what spells none as none
+no_row : (ws : List Keyword) (cs : List ℕ) → ((w : Keyword) → cs ≢ spelling w) → spelled_in (map keyword_row ws) cs ≡ t.other
+no_row [] cs none = refl
+no_row (w ∷ ws) cs none = cond-false _ _ _ (false_from_ne_true (bytes_eq (spelling w) cs) (λ e. none w (sym ((bytes_eq-Decides (spelling w) cs).0 e)))) ∙ no_row ws cs none
+
+pub none_seen : (cs : List ℕ) → ((w : Keyword) → cs ≢ spelling w) → spelled_in keyword_rows cs ≡ t.other
+unfolding keyword_rows
+none_seen cs none = no_row every_keyword cs none
 
 -- a row is of characters that are their own bytes
 abbrev pub IsPlain : List ℕ × Terminal → Type 0

@@ -10,9 +10,8 @@ use crate::annotations::skip_annotation;
 use crate::fault::Fault;
 use crate::literals::literal;
 use crate::terminals::{Terminal, equals, next, place, word};
-use crate::token::Keyword;
 use crate::tree::{Datatype, Param, Prefix};
-use rn_text::Token;
+use rn_text::{Keyword, Token};
 use std::alloc::Global;
 
 /// `dt = "string" | "token" | Prefixed`

@@ -10,9 +10,8 @@ ghost use Rattle.rn_syntax.specs.View.{declaration_view, place_view, prefix_view
 use crate::fault::Fault;
 use crate::literals::literal;
 use crate::terminals::{Terminal, equals, is_keyword, keyword_text, next, place, word};
-use crate::token::Keyword;
 use crate::tree::{Declaration, Prefix, Uri};
-use rn_text::Token;
+use rn_text::{Keyword, Token};
 use std::alloc::Global;
 
 /// `decl*`

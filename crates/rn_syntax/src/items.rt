@@ -14,9 +14,9 @@ use crate::fault::Fault;
 use crate::literals::literal;
 use crate::patterns::pattern;
 use crate::terminals::{Terminal, assign, equals, is_keyword, left_brace, next, right_brace};
-use crate::token::{Keyword, Method};
+use crate::token::Method;
 use crate::tree::{Item, Pat, Prefix};
-use rn_text::Token;
+use rn_text::{Keyword, Token};
 use std::alloc::Global;
 use std::borrow::CowStr;
 

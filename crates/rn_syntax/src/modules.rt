@@ -15,9 +15,8 @@ use crate::declarations::declarations;
 use crate::fault::Fault;
 use crate::items::{item, items, items_behind};
 use crate::terminals::{Terminal, is_keyword, left_brace, next, right_brace};
-use crate::token::Keyword;
 use crate::tree::{Item, Module};
-use rn_text::Token;
+use rn_text::{Keyword, Token};
 use std::alloc::Global;
 
 /// `module = decl* item* | decl* [ann] "grammar" "{" item* "}" follow*`

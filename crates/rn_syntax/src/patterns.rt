@@ -18,9 +18,8 @@ use crate::fault::Fault;
 use crate::literals::literal;
 use crate::names::name_class;
 use crate::terminals::{Terminal, is_operator, left_brace, next, place, right_brace, right_paren};
-use crate::token::Keyword;
 use crate::tree::{Datatype, Nc, Param, Pat};
-use rn_text::Token;
+use rn_text::{Keyword, Token};
 use std::alloc::Global;
 
 /// `pattern = operand ( ("," operand)* | ("&" operand)* | ("|" operand)* )`

@@ -3,6 +3,7 @@ ghost use Rattle.std.specs.Prelude.{◌≡◌, ◌≤◌, ◌<◌, ◌+◌, drop
 ghost use Rattle.std.specs.List.{slice_get};
 ghost use Rattle.std.specs.Str.{IsUtf8, chars, encode_utf8_all};
 ghost use Rattle.rn_text.specs.Characters.{is_name_char};
+ghost use Rattle.rn_text.specs.Keywords.{spelling};
 ghost use Rattle.rn_text.specs.Segments.{run_of, after_run};
 ghost use Rattle.rn_syntax.specs.inside.Follow.{Anything, first_terminal};
 ghost use Rattle.rn_syntax.specs.inside.Reading.{IsInside, IsNext, IsSegmentOf, IsWhole, Advanced, Passes, ReadsOne, rest, seen};
@@ -14,9 +15,9 @@ ghost use Rattle.rn_syntax.specs.Tokens as tokens;
 ghost use Rattle.rn_syntax.specs.Tokens.{spelled_in, keyword_rows, symbol_rows};
 
 use crate::fault::Fault;
-use crate::token::{Keyword, Method, Operator, Postfix};
+use crate::token::{Method, Operator, Postfix};
 use rn_text::characters::{after_name_chars, split_first};
-use rn_text::{Kind, Token};
+use rn_text::{Keyword, Kind, Token, keyword_of};
 
 /// A token as the grammar sees it.
 #[derive(Clone, Copy)]
@@ -47,36 +48,15 @@ pub(crate) enum Terminal<'a> {
     End,
 }
 
-#[tactic(auto, unfolding(crate::specs::Tokens::keyword_rows))]
 fn keyword(text: &str) -> Terminal<'_>
-    ensures is { seen result ≡ Some (spelled_in keyword_rows text.now) }
+    ensures is { seen result ≡ Some (spelled_in keyword_rows (chars text.now)) }
     ensures whole { IsWhole result }
     ensures bare { (token : Token) → IsSegmentOf result token }
-    ensures utf8 { IsUtf8 text.now }
 {
-    let keyword = match text {
-        "attribute" => Keyword::Attribute,
-        "default" => Keyword::Default,
-        "datatypes" => Keyword::Datatypes,
-        "div" => Keyword::Div,
-        "element" => Keyword::Element,
-        "empty" => Keyword::Empty,
-        "external" => Keyword::External,
-        "grammar" => Keyword::Grammar,
-        "include" => Keyword::Include,
-        "inherit" => Keyword::Inherit,
-        "list" => Keyword::List,
-        "mixed" => Keyword::Mixed,
-        "namespace" => Keyword::Namespace,
-        "notAllowed" => Keyword::NotAllowed,
-        "parent" => Keyword::Parent,
-        "start" => Keyword::Start,
-        "string" => Keyword::String,
-        "text" => Keyword::Text,
-        "token" => Keyword::Token,
-        _ => return Terminal::Other,
-    };
-    Terminal::Keyword(keyword)
+    match keyword_of(text) {
+        Some(keyword) => Terminal::Keyword(keyword),
+        None => Terminal::Other,
+    }
 }
 
 #[tactic(auto, unfolding(crate::specs::Tokens::symbol_rows))]
@@ -200,7 +180,7 @@ fn text_of<'a>(token: &Token<'a>) -> &'a str
 pub(crate) fn keyword_text<'a>(tokens: &[Token<'a>], at: usize, keyword: Keyword) -> &'a str
     requires inside { at < length tokens.now }
     requires is { first_terminal (rest tokens.now at) ≡ terminal.keyword keyword }
-    ensures { result.now ≡ terminal.spelling keyword }
+    ensures { result.now ≡ spelling keyword }
 {
     text_of(&tokens[at])
 }

@@ -1,5 +1,5 @@
 -- A source has tokens or a fault: each can be looked for.
-use Rattle.std.proofs.Common.{◌≡◌, ◌≢◌, ℕ, zero, suc, ◌+◌, ◌<◌, ◌≤◌, ◌⊎◌, inl, inr, Bool, true, false, List, [], ◌∷◌, ◌++◌, length, take, drop, refl, sym, ap, ◌∙◌, subst, arith, length-append, length-take-le}
+use Rattle.std.proofs.Common.{◌≡◌, ◌≢◌, ℕ, zero, suc, ◌+◌, ◌<◌, ◌≤◌, ◌⊎◌, inl, inr, Bool, true, false, List, [], ◌∷◌, length, take, drop, refl, sym, ap, ◌∙◌, arith, length-append, length-take-le}
 use Rattle.std.specs.Prelude.{not, ◌&&◌, ◌||◌}
 use Rattle.std.specs.List.{list_all, list_any, flat_map}
 use Rattle.std.specs.Str.{IsUtf8, IsValidUpTo, is_utf8, chars, encode_utf8_all}
@@ -15,7 +15,7 @@ use Rattle.rn_text.specs.declared.source.TextFault.TheVariants.{Encoding, Lexica
 use Rattle.rn_text.specs.Characters.{is_xml_char}
 use Rattle.rn_text.specs.Segments.{opens_threefold, escape_front}
 use Rattle.rn_text.specs.Parts.{spells, BeginsWith, IsFirstPart, Piece, IsCut}
-use Rattle.rn_text.specs.Tokens.{Lexeme, HasTokens, LeavesXmlAt, StopsAt, BeginsNoPart, IsLexicalPlace, HasFault, lexemes, unmarked, unmarked_start}
+use Rattle.rn_text.specs.Tokens.{Lexeme, HasTokens, LeavesXmlAt, BeginsNoPart, IsLexicalPlace, HasFault, lexemes, unmarked, unmarked_start}
 use Rattle.rn_text.proofs.Cuts.{part_shortens}
 use Rattle.rn_text.proofs.Places.{list_or_place, one_place}
 

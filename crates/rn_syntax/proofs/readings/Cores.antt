@@ -1,7 +1,7 @@
 -- Cores, told by the token that they begin with.
 use Rattle.std.proofs.Common.{◌≡◌, ◌<◌, ◌+◌, ℕ, List, [], ◌∷◌, length, refl, ap, ◌∙◌}
-use Rattle.rn_syntax.specs.declared.token.Keyword.{Keyword}
-use Rattle.rn_syntax.specs.declared.token.Keyword.TheVariants as k
+use Rattle.rn_text.specs.declared.keywords.Keyword.{Keyword}
+use Rattle.rn_text.specs.declared.keywords.Keyword.TheVariants as k
 use Rattle.rn_text.specs.declared.source.Token.{Token}
 use Rattle.rn_syntax.specs.Terminal.{Placed, ◌#◌, ident, keyword, left_brace, right_brace}
 use Rattle.rn_syntax.specs.Tree as tree

@@ -2,8 +2,8 @@
 use Rattle.std.proofs.Common.{◌≡◌, ℕ, Bool, true, false, List, [], ◌∷◌, ◌++◌, ◌+◌, refl, ap, sym, ◌∙◌, subst, unwrap_or}
 use Rattle.std.proofs.lemmas.Bool.{false≢true}
 use Rattle.rn_text.specs.declared.source.Token.{Token}
-use Rattle.rn_syntax.specs.declared.token.Keyword.{Keyword}
-use Rattle.rn_syntax.specs.declared.token.Keyword.TheVariants as k
+use Rattle.rn_text.specs.declared.keywords.Keyword.{Keyword}
+use Rattle.rn_text.specs.declared.keywords.Keyword.TheVariants as k
 use Rattle.rn_syntax.specs.declared.token.Method.{Method}
 use Rattle.rn_syntax.specs.declared.token.Method.TheVariants as m
 use Rattle.rn_syntax.specs.declared.terminals.Terminal as code

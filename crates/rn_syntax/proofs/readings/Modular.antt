@@ -4,7 +4,7 @@ use Rattle.std.proofs.lemmas.Bool.{false≢true}
 use Rattle.rn_text.specs.declared.source.Token.{Token}
 use Rattle.rn_syntax.specs.declared.fault.Fault.{Fault}
 use Rattle.rn_syntax.specs.declared.fault.Fault.TheVariants as f
-use Rattle.rn_syntax.specs.declared.token.Keyword.TheVariants as k
+use Rattle.rn_text.specs.declared.keywords.Keyword.TheVariants as k
 use Rattle.rn_syntax.specs.declared.terminals.Terminal as code
 use Rattle.rn_syntax.specs.declared.terminals.Terminal.TheVariants as c
 use Rattle.rn_syntax.specs.Terminal as x

@@ -6,6 +6,7 @@ use Rattle.std.proofs.lemmas.List.Elements.{All-get_or}
 use Rattle.std.proofs.lemmas.Option.{get_or_from_slice_get}
 use Rattle.rn_text.specs.declared.source.Token.{Token}
 use Rattle.rn_text.specs.Tokens.{lexeme_of}
+use Rattle.rn_text.specs.Keywords.{spelling}
 use Rattle.rn_syntax.specs.declared.terminals.Terminal as code
 use Rattle.rn_syntax.specs.declared.terminals.Terminal.TheVariants as c
 use Rattle.rn_syntax.specs.Terminal as t
@@ -187,7 +188,7 @@ terminal_at xs at y h e =
     let same : n.0 ≡ y = sym (ap first_terminal n.2) ∙ e in
     (n.1, n.2 ∙ ap (λ (x : Terminal). x # n.1 ∷ rest xs (at + 1)) same)
 
-pub word_at_keyword : {w : _} {s : List ℕ} → s ≡ t.spelling w → IsWord (t.keyword w) s
+pub word_at_keyword : {w : _} {s : List ℕ} → s ≡ spelling w → IsWord (t.keyword w) s
 word_at_keyword {w = w} e = subst (λ (x : List ℕ). IsWord (t.keyword w) x) (sym e) by_keyword
 
 -- the second token after this one

@@ -3,7 +3,7 @@ use Rattle.std.proofs.Common.{◌≡◌, ℕ, zero, suc, Bool, true, false, List
 use Rattle.std.proofs.lemmas.Bool.{false≢true}
 use Rattle.rn_syntax.specs.declared.terminals.Terminal as code
 use Rattle.rn_syntax.specs.declared.terminals.Terminal.TheVariants as c
-use Rattle.rn_syntax.specs.declared.token.Keyword.{Keyword}
+use Rattle.rn_text.specs.declared.keywords.Keyword.{Keyword}
 use Rattle.rn_syntax.specs.Terminal as t
 use Rattle.rn_syntax.specs.Terminal.{Terminal, Placed, ◌#◌, left_bracket, right_bracket, follow, is_bracket}
 use Rattle.rn_syntax.specs.Grammar as g

@@ -1,7 +1,7 @@
 -- Parts of items: one item, and what is left of it behind its first token (compact syntax, section 2, grammarContent and
 -- includeContent).
 use Rattle.std.specs.Prelude.{◌≡◌, ℕ, List, ◌∷◌, ◌++◌, Option, Bool, true, false}
-use Rattle.rn_syntax.specs.declared.token.Keyword.TheVariants as k
+use Rattle.rn_text.specs.declared.keywords.Keyword.TheVariants as k
 use Rattle.rn_syntax.specs.Terminal.{Terminal, ◌#◌, ident, keyword, prefixed, left_brace, right_brace, left_bracket}
 use Rattle.rn_syntax.specs.Tree as t
 use Rattle.rn_syntax.specs.Tree.{Declaration, Item, Module, Pattern, items_of}

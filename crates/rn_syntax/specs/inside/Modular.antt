@@ -1,7 +1,7 @@
 -- Parts of modules (compact syntax, section 2, topLevel).
 use Rattle.std.specs.Prelude.{ℕ, List, ◌∷◌}
 use Rattle.rn_text.specs.declared.source.Token.{Token}
-use Rattle.rn_syntax.specs.declared.token.Keyword.TheVariants as k
+use Rattle.rn_text.specs.declared.keywords.Keyword.TheVariants as k
 use Rattle.rn_syntax.specs.declared.fault.Fault.{Fault}
 use Rattle.rn_syntax.specs.declared.fault.Fault.TheVariants as f
 use Rattle.rn_syntax.specs.Terminal.{◌#◌, keyword, left_brace, right_brace}

@@ -1,5 +1,5 @@
 use Rattle.std.proofs.Common.{◌+◌, refl, map}
-use Rattle.rn_syntax.specs.declared.token.Keyword.TheVariants as k
+use Rattle.rn_text.specs.declared.keywords.Keyword.TheVariants as k
 use Rattle.rn_syntax.specs.Terminal.{keyword}
 use Rattle.rn_syntax.specs.View.{item_view}
 use Rattle.rn_syntax.proofs.readings.Compose.{reads_upto}

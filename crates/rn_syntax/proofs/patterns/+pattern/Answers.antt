@@ -1,7 +1,7 @@
 -- Each reader of patterns, exit by exit.
 use Rattle.std.proofs.Common.{◌+◌, ◌++◌, ◌∷◌, [], ◌∙◌, sym, ap, map, arith, refl}
 use Rattle.std.proofs.lemmas.Result.{err_from_is_err_and}
-use Rattle.rn_syntax.specs.declared.token.Keyword.TheVariants as word
+use Rattle.rn_text.specs.declared.keywords.Keyword.TheVariants as word
 use Rattle.rn_syntax.specs.Terminal.{operator}
 use Rattle.rn_syntax.specs.Tree as tree
 use Rattle.rn_syntax.specs.View.{boxed_view, datatype_view, params_view, pattern_view}

@@ -1,41 +1,11 @@
--- No keyword is spelled so.
-use Rattle.std.proofs.Common.{ap, sym, Some}
-use Rattle.rn_syntax.specs.Tokens.{keyword_rows}
-use Rattle.rn_syntax.proofs.Spelled.{none_spelled}
+use Rattle.std.proofs.Common.{ap, sym, ◌∙◌, Some}
+use Rattle.std.specs.Str.{chars}
+use Rattle.rn_syntax.specs.Tokens.{spelled_in, keyword_rows}
+use Rattle.rn_syntax.proofs.Spelled.{keyword_seen, none_seen}
 use Rattle.rn_syntax.proofs.terminals.keyword.Goals as goal
 
-pub returns-in_default-clause-is : goal.returns-in_default-clause-is
-unfolding keyword_rows
-returns-in_default-clause-is c =
-    let n = c.in_default in
-    ap Some (sym (none_spelled keyword_rows c.args.text.now (
-      n.not-attribute,
-      (
-        n.not-text,
-        (
-          n.not-datatypes,
-          (
-            n.not-div,
-            (
-              n.not-element,
-              (
-                n.not-empty,
-                (
-                  n.not-external,
-                  (
-                    n.not-grammar,
-                    (
-                      n.not-include,
-                      (
-                        n.not-inherit,
-                        (n.not-list, (n.not-mixed, (n.not-namespace, (n.not-notAllowed, (n.not-parent, (n.not-start, (n.not-string, (n.not-text-2, (n.not-token, tt))))))))),
-                      ),
-                    ),
-                  ),
-                ),
-              ),
-            ),
-          ),
-        ),
-      ),
-    )))
+pub returns-in-Some-clause-is : goal.returns-in-Some-clause-is
+returns-in-Some-clause-is c = ap Some (sym (ap (spelled_in keyword_rows) c.in-Some.ensures ∙ keyword_seen c.in-Some.keyword))
+
+pub returns-in-None-clause-is : goal.returns-in-None-clause-is
+returns-in-None-clause-is c = ap Some (sym (none_seen (chars c.args.text.now) c.in-None.ensures))

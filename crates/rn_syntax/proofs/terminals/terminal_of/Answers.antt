@@ -5,9 +5,9 @@ use Rattle.std.proofs.lemmas.Str.{encodes-chars}
 use Rattle.rn_text.specs.declared.parts.Part.TheVariants as part
 use Rattle.rn_text.specs.Parts.{spells}
 use Rattle.rn_syntax.specs.Terminal as t
-use Rattle.rn_syntax.specs.Tokens.{terminal_of, keyword_rows, symbol_rows}
+use Rattle.rn_syntax.specs.Tokens.{terminal_of, symbol_rows}
 use Rattle.rn_syntax.proofs.Spelled.{spelled_chars}
-use Rattle.rn_syntax.proofs.OpenBrackets.{symbols_plain, keywords_plain}
+use Rattle.rn_syntax.proofs.OpenBrackets.{symbols_plain}
 use Rattle.rn_syntax.proofs.terminals.terminal_of.Goals as goal
 
 pub returns-in-Name-clause-is : goal.returns-in-Name-clause-is
@@ -18,7 +18,7 @@ returns-in-Name-clause-is c =
 pub returns-in-Keyword-clause-is : goal.returns-in-Keyword-clause-is
 returns-in-Keyword-clause-is c =
     let text = c.args.token.text.now in
-    c.keyword.ensures.is ∙ ap Some (sym (spelled_chars keyword_rows text c.keyword.ensures.utf8 keywords_plain)) ∙ ap (λ k. Some (terminal_of k (chars text))) (sym c.in-Keyword.is)
+    c.keyword.ensures.is ∙ ap (λ k. Some (terminal_of k (chars text))) (sym c.in-Keyword.is)
 
 pub returns-in-Symbol-clause-is : goal.returns-in-Symbol-clause-is
 returns-in-Symbol-clause-is c =
