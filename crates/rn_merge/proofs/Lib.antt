@@ -12,4 +12,3 @@ mod Calls
 mod Places
 mod Entries
 mod EverySet
-mod Decimals

@@ -20,7 +20,7 @@ use Rattle.rn_syntax.specs.Faults.{HasNoFault, IsFault, IsFaultOfTree}
 use Rattle.rn_syntax.specs.Places.{deep}
 use Rattle.rn_syntax.specs.Spelled.{AreSpelled, IsPlace, last_end}
 use Rattle.rn_syntax.proofs.OneFault as parsed
-use Rattle.rn_assemble.specs.Refusal.{TextFault, fault_rank, HasFault, IsFirstFault}
+use Rattle.rn_assemble.specs.Refusal.{TextFault, fault_rank, HasTextFault, IsFirstFault}
 use Rattle.rn_assemble.proofs.Refusals.OneSet.{one_fault}
 use Rattle.rn_assemble.proofs.Refusals.TextFaults.{faultless, first_lexical, first_of_tokens}
 use Rattle.rn_merge.specs.declared.texts.Place.{Place}
@@ -173,7 +173,7 @@ module _ (text : List ℕ) (bad : ¬ IsGood text) (none : (place : Place) → Ha
 
 -- ---- the kinds that refuse a module
 
-pub good : (text : List ℕ) → IsGood text → (fault : TextFault) → ¬ HasFault text fault
+pub good : (text : List ℕ) → IsGood text → (fault : TextFault) → ¬ HasTextFault text fault
 good text (xs, m, t, d, tree, none) fault = (faultless text t.utf8 (map lexeme_of xs) t.are d m tree none).faultless fault
 
 pub first : (text : List ℕ) (place : Place) → HasPlace text place → IfSome (kind_of place) (IsFirstFault text)
@@ -199,11 +199,11 @@ no_kind (Except at) e = cc
 no_kind Memory e = refl
 
 -- a text without such faults has no place
-lacks_place : (text : List ℕ) (place : Place) → ((fault : TextFault) → ¬ HasFault text fault) → (k : Option TextFault) → kind_of place ≡ k → IfSome k (IsFirstFault text) → place ≡ Memory
+lacks_place : (text : List ℕ) (place : Place) → ((fault : TextFault) → ¬ HasTextFault text fault) → (k : Option TextFault) → kind_of place ≡ k → IfSome k (IsFirstFault text) → place ≡ Memory
 lacks_place text place none None e h = no_kind place e
 lacks_place text place none (Some f) e h = absurd (none f h.0)
 
-pub faultless_good : (text : List ℕ) → ((fault : TextFault) → ¬ HasFault text fault) → ¬ (¬ IsGood text)
+pub faultless_good : (text : List ℕ) → ((fault : TextFault) → ¬ HasTextFault text fault) → ¬ (¬ IsGood text)
 faultless_good text none bad = never_neither text bad (λ place h. lacks_place text place none (kind_of place) refl (first text place h))
 
 -- a text has one first fault

@@ -6,9 +6,8 @@ ghost use Rattle.rn_merge.specs.Lines.{identifier, key_text, refusal_name, refus
 use crate::texts::Place;
 use crate::words::ProgramFault;
 use rn_assemble::{Key, Refusal};
-use rn_modset::{AddFault, BundleFault, Contribution};
+use rn_modset::{AddFault, BundleFault, Contribution, hex_digest};
 use rn_text::{is_keyword, write_literal};
-use sha2::{Digest, Sha256};
 use std::alloc::{AllocError, Global};
 
 /// The line of a refusal, without its line feed: its name and its fields, each after one space. A
@@ -133,7 +132,7 @@ pub fn list_line(alloc: Global, contribution: &Contribution) -> Result<String, A
     match &contribution.text {
         Some(text) => {
             let len = text.len();
-            let digest = hex::encode(alloc, Sha256::digest(text.as_slice()).as_slice())?;
+            let digest = hex_digest(alloc, text.as_slice())?;
             format!(in alloc; "{name} {revision} {len} {digest}")
         }
         None => format!(in alloc; "{name} {revision} withdrawn"),

@@ -1,6 +1,6 @@
 // Laws of module texts. The functions have no bodies: their contracts are what is proved.
 ghost use Rattle.std.specs.Prelude.{◌≡◌, ◌≢◌, ℕ, List, Some, IfSome};
-ghost use Rattle.rn_assemble.specs.Refusal.{HasFault, IsFirstFault, TextFault};
+ghost use Rattle.rn_assemble.specs.Refusal.{HasTextFault, IsFirstFault, TextFault};
 ghost use Rattle.rn_merge.specs.Kinds.{kind_of};
 ghost use Rattle.rn_merge.specs.Texts.{HasPlace, IsGood};
 
@@ -23,8 +23,8 @@ pub fn texts_are_good_or_have_one_place()
 /// a text has no such fault and is not good, or that no place has the kind of its first fault, is
 /// impossible.
 pub fn checked_texts_are_merged()
-    ensures good { (text : List ℕ) → IsGood text → (fault : TextFault) → ¬ HasFault text fault }
-    ensures faultless { (text : List ℕ) → ((fault : TextFault) → ¬ HasFault text fault)
+    ensures good { (text : List ℕ) → IsGood text → (fault : TextFault) → ¬ HasTextFault text fault }
+    ensures faultless { (text : List ℕ) → ((fault : TextFault) → ¬ HasTextFault text fault)
         → ¬ (¬ IsGood text) }
     ensures first { (text : List ℕ) (place : Place)
         → HasPlace text place → IfSome (kind_of place) (IsFirstFault text) }

@@ -1,5 +1,5 @@
 // What the words of a call ask for.
-ghost use Rattle.std.specs.Prelude.{◌≡◌, ◌≢◌, ℕ, ◌<◌, ◌^◌, List, IfOk, MatchOption, decimal, map, string_bytes};
+ghost use Rattle.std.specs.Prelude.{◌≡◌, List, IfOk, map, string_bytes};
 ghost use Rattle.rn_merge.specs.Words.{AreFiles, NamesFiles};
 
 use crate::run::RunFault;
@@ -7,7 +7,7 @@ use crate::texts::Place;
 use clap::error::ErrorKind;
 use clap::{Arg, ArgAction, ArgMatches, Command};
 use rn_assemble::Refusal;
-use rn_modset::{AddFault, BundleFault};
+use rn_modset::{AddFault, BundleFault, number};
 use std::alloc::{AllocError, Global};
 use thiserror::Error;
 
@@ -225,31 +225,12 @@ fn word(alloc: Global, words: &ArgMatches<'_>, place: &str) -> Result<String, Pr
     }
 }
 
-/// The word `REV` as a number.
+/// The word `REV` as a number: its decimal digits without sign and leading zeros, below 2^64.
 fn revision(words: &ArgMatches<'_>) -> Result<u64, ProgramFault> {
     match words.get_str("REV") {
-        Some(word) => number(word).ok_or(ProgramFault::Rev),
+        Some(word) => number(word.as_bytes()).ok_or(ProgramFault::Rev),
         None => Err(ProgramFault::Usage),
     }
-}
-
-/// The number of which the text is the decimal form: without sign and leading zeros, below 2^64.
-fn number(text: &str) -> Option<u64>
-    ensures { MatchOption result ((n : ℕ) → n < 2 ^ 64 → text.now ≢ decimal n)
-        (λ n. text.now ≡ decimal n) }
-{
-    let digits = text.as_bytes();
-    if text == "0" {
-        return Some(0);
-    }
-    if digits.is_empty() {
-        return None;
-    }
-    let first = digits[0];
-    if first < b'1' || first > b'9' {
-        return None;
-    }
-    text.parse().ok()
 }
 
 /// The words `FILE..`, of which one at most is standard input.

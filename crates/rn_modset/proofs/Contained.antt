@@ -5,7 +5,7 @@ use Rattle.std.specs.Ordering.{is_eq, eq_by_cmp}
 use Rattle.std.proofs.lemmas.Cmp.{tied_itself}
 use Rattle.rn_modset.specs.Contributions.{Member, member_cmp}
 use Rattle.rn_modset.specs.Sets.{has, with_member, union}
-use Rattle.rn_modset.proofs.Members.{members_total, members_same}
+use Rattle.rn_modset.proofs.TotalOrder.{members_total, members_same}
 use Rattle.rn_modset.proofs.Membership.{in_from_has, has_from_in, in_from_contains, contains_from_in, tied, or_cases, or_left, or_right}
 use Rattle.rn_modset.proofs.Unions.{has_with, has_union}
 

@@ -13,7 +13,7 @@ use Rattle.std.proofs.lemmas.List.Sorted.{searchable_from_sorted}
 use Rattle.std.proofs.lemmas.Map.Keys.{Less-from_sorted}
 use Rattle.rn_modset.specs.Contributions.{text_cmp}
 use Rattle.rn_modset.specs.Modules.{Module, module_cmp, module_of, modules_of, NamesRise}
-use Rattle.rn_modset.proofs.Members.{texts_same}
+use Rattle.rn_modset.proofs.TotalOrder.{texts_same}
 
 abbrev Lent : Type 0
 Lent = Bor (List ℕ) × Bor (List ℕ)

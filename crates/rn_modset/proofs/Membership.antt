@@ -8,7 +8,7 @@ use Rattle.std.specs.List.Sorted.{IsStrictlySortedBy}
 use Rattle.std.proofs.lemmas.Cmp.{tied_itself}
 use Rattle.rn_modset.specs.Contributions.{Member, member_cmp}
 use Rattle.rn_modset.specs.Sets.{has}
-use Rattle.rn_modset.proofs.Members.{members_total, members_same}
+use Rattle.rn_modset.proofs.TotalOrder.{members_total, members_same}
 
 -- q is an element
 abbrev pub In : {X : Type 0} → X → List X → Type 0

@@ -1,5 +1,5 @@
 -- Lists that rise, walked side by side and merged.
-use Rattle.std.proofs.Common.{◌≡◌, ◌≢◌, ℕ, ◌+◌, inl, inr, Bool, true, false, cond, not, ◌||◌, List, [], ◌∷◌, ◌++◌, take, drop, refl, sym, ap, subst, ◌∙◌, append_assoc}
+use Rattle.std.proofs.Common.{◌≡◌, ◌≢◌, ℕ, ◌+◌, ◌<◌, inl, inr, Bool, true, false, cond, not, ◌||◌, List, [], ◌∷◌, ◌++◌, take, drop, length, get_or, refl, sym, ap, subst, ◌∙◌, append_assoc}
 use Rattle.std.specs.declared.cmp.Ordering.{Ordering}
 use Rattle.std.specs.declared.cmp.Ordering.TheVariants.{Less, Equal, Greater}
 use Rattle.std.specs.Ordering.{is_eq, is_lt, ordering_reverse}
@@ -12,7 +12,7 @@ use Rattle.rn_modset.specs.declared.contribution.Contribution.{Contribution}
 use Rattle.rn_modset.specs.Contributions.{Member, member, members_of, member_cmp}
 use Rattle.rn_modset.specs.Sets.{Rises, has, union, missing}
 use Rattle.rn_modset.specs.inside.Merges.{KeepsFrom, AreApart, AreBelow, EndsAbove, TakesGreatest}
-use Rattle.rn_modset.proofs.Members.{members_total, members_same}
+use Rattle.rn_modset.proofs.TotalOrder.{members_total, members_same}
 use Rattle.rn_modset.proofs.Membership.{In, in_left, in_right, in_append, all_in, all_by_in, below_in, above_in, in_from_has, has_from_in}
 use Rattle.rn_modset.proofs.Truths.{else_false, not_both}
 use Rattle.rn_modset.proofs.Rising.{all_through, lacks_below, one_list}
@@ -97,9 +97,10 @@ pub record IsStep (held after others : List Contribution) (at : ℕ) (c : Contri
   pub held_is : has (members_of after) (member c) ≡ has (members_of held) (member c)
   pub front : missing (members_of held) (members_of (take (at + 1) others)) ≡ missing (members_of held) (members_of (take at others)) ++ missing (members_of held) (member c ∷ [])
 
-pub step_by : (held rest after others : List Contribution) (at : ℕ) (c : Contribution) → Rises (members_of others) → IsHeldAt others at c → IsAhead (members_of held) (members_of rest) (members_of (drop at others))
+pub step_by : (held rest after others : List Contribution) (at : ℕ) (c : Contribution) → at < length others → c ≡ get_or others at c → Rises (members_of others) → IsAhead (members_of held) (members_of rest) (members_of (drop at others))
     → KeepsFrom (members_of rest) (members_of after) (member c) → Rises (members_of after) → IsStep held after others at c
-step_by held rest after others at c s h a k r =
+step_by held rest after others at c within is s a k r =
+    let h : IsHeldAt others at c = record { within = within; is = is } in
     let here : IsAhead (members_of held) (members_of rest) (member c ∷ members_of (drop (at + 1) others)) = subst (IsAhead (members_of held) (members_of rest)) (back_more others at c h) a in
     record {
       ahead = ahead_more (members_of held) (members_of rest) (members_of after) (members_of (take at others)) (member c) (members_of (drop (at + 1) others)) (subst Rises (split_at others at c h) s) here k r;
@@ -110,13 +111,13 @@ step_by held rest after others at c s h a k r =
 one_missing : (s : List Member) (m : Member) (b : Bool) → has s m ≡ b → missing s (m ∷ []) ≡ cond (not b) (m ∷ []) []
 one_missing s m b e = ap (λ c. cond (not c) (m ∷ []) []) e
 
-pub passed : (held after others : List Contribution) (at : ℕ) (c : Contribution) → IsStep held after others at c → has (members_of after) (member c) ≡ true
+pub passed : {held after others : List Contribution} {at : ℕ} {c : Contribution} → IsStep held after others at c → has (members_of after) (member c) ≡ true
     → missing (members_of held) (members_of (take (at + 1) others)) ≡ missing (members_of held) (members_of (take at others))
-passed held after others at c s e = s.front ∙ ap (λ t. missing (members_of held) (members_of (take at others)) ++ t) (one_missing (members_of held) (member c) true (sym s.held_is ∙ e)) ∙ append-nil (missing (members_of held) (members_of (take at others)))
+passed {held} {after} {others} {at} {c} s e = s.front ∙ ap (λ t. missing (members_of held) (members_of (take at others)) ++ t) (one_missing (members_of held) (member c) true (sym s.held_is ∙ e)) ∙ append-nil (missing (members_of held) (members_of (take at others)))
 
-pub counted : (held after others : List Contribution) (at : ℕ) (c : Contribution) → IsStep held after others at c → has (members_of after) (member c) ≡ false
+pub counted : {held after others : List Contribution} {at : ℕ} {c : Contribution} → IsStep held after others at c → has (members_of after) (member c) ≡ false
     → missing (members_of held) (members_of (take (at + 1) others)) ≡ missing (members_of held) (members_of (take at others)) ++ member c ∷ []
-counted held after others at c s e = s.front ∙ ap (λ t. missing (members_of held) (members_of (take at others)) ++ t) (one_missing (members_of held) (member c) false (sym s.held_is ∙ e))
+counted {held} {after} {others} {at} {c} s e = s.front ∙ ap (λ t. missing (members_of held) (members_of (take at others)) ++ t) (one_missing (members_of held) (member c) false (sym s.held_is ∙ e))
 
 -- a list whose last is above the last of another ends above it
 pub ends_by : (s t front rest : List Member) (h o : Member) → s ≡ front ++ h ∷ [] → t ≡ rest ++ o ∷ [] → Rises t → member_cmp o h ≡ Less → EndsAbove s t

@@ -5,7 +5,7 @@ use Rattle.std.specs.List.Sorted.{IsStrictlySortedBy}
 use Rattle.rn_modset.specs.Contributions.{Member}
 use Rattle.rn_modset.specs.Sets.{Rises, has, with_member, union}
 use Rattle.rn_modset.specs.Laws.{AreUnionLaws, AreCallLaws, Call, added, joined, after, brought}
-use Rattle.rn_modset.proofs.Members.{members_total, members_same}
+use Rattle.rn_modset.proofs.TotalOrder.{members_total, members_same}
 use Rattle.rn_modset.proofs.Rising.{one_list}
 use Rattle.rn_modset.proofs.Unions.{has_union, rises_union}
 

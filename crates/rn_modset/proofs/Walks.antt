@@ -10,7 +10,7 @@ use Rattle.std.specs.Option.{option_cmp}
 use Rattle.rn_modset.specs.Contributions.{Member, member_cmp, text_cmp}
 use Rattle.rn_modset.specs.Sets.{Rises, has}
 use Rattle.rn_modset.specs.Modules.{Holds, IsHighest, IsEffective, IsConflict, IsFirstConflict, Module, module_cmp, NamesRise, AreEffective}
-use Rattle.rn_modset.proofs.Members.{members_total, texts_same}
+use Rattle.rn_modset.proofs.TotalOrder.{members_total, texts_same}
 use Rattle.rn_modset.proofs.Membership.{In, in_left, in_right, in_append, in_from_contains, contains_from_in, sorted_push, below_in, above_in, in_from_has, has_from_in}
 
 no_text_below_itself : (x : List ℕ) → text_cmp x x ≢ Less

@@ -2,3 +2,4 @@
 pub mod Merges
 pub mod Places
 pub mod Headers
+pub mod Digested

@@ -1,10 +1,12 @@
 // The union of two lists that rise, in time linear in both.
-ghost use Rattle.std.specs.Prelude.{◌≡◌, ◌≢◌, ◌+◌, ◌<◌, ◌≤◌, [], ℕ, length, true, false, IfOk, MatchOption, MatchBool, vec_len, vec_capacity};
+ghost use Rattle.std.specs.Prelude.{◌≡◌, ◌≢◌, ◌+◌, ◌<◌, ◌≤◌, [], ℕ, length, true, false, IfOk, MatchOption, MatchBool, vec_len};
 ghost use Rattle.rn_modset.specs.Contributions.{Member, member, members_of, member_cmp};
 ghost use Rattle.rn_modset.specs.Sets.{Rises, has, missing, union};
 ghost use Rattle.rn_modset.specs.inside.Merges.{IsNotBelow, KeepsFrom, AreApart, EndsAbove, TakesGreatest};
+ghost use Rattle.rn_modset.specs.inside.Digested.{IsDigested, AreDigested, HasRoom};
 
 use crate::contribution::Contribution;
+use crate::members::{Digested, Members};
 use std::alloc::{AllocError, Global};
 
 /// How many of the others are not held.
@@ -25,24 +27,30 @@ pub fn count_missing(held: &[Contribution], others: &[Contribution]) -> usize
     count
 }
 
-/// Copies of the others that are not held, of which there are that many.
+/// Copies of the others that are not held, of which there are that many, with their digests.
 pub fn copy_missing(
     alloc: Global,
     held: &[Contribution],
-    others: &[Contribution],
+    others: &Members,
     count: usize,
-) -> Result<Vec<Contribution>, AllocError>
+) -> Result<Members, AllocError>
     requires held { Rises (members_of held.now) }
-    requires others { Rises (members_of others.now) }
-    ensures { IfOk result (λ copies. members_of copies.items ≡ missing (members_of held.now)
-        (members_of others.now)) }
+    requires others { Rises (members_of others.now.contributions.items) }
+    requires digested { AreDigested others.now }
+    ensures copies { IfOk result (λ copies. members_of copies.contributions.items
+        ≡ missing (members_of held.now) (members_of others.now.contributions.items)) }
+    ensures digested { IfOk result AreDigested }
 {
-    let mut copies = Vec::with_capacity(alloc, count)?;
+    let contributions = others.contributions.as_slice();
+    let mut copies = Members::with_capacity(alloc, count)?;
     let mut rest = held;
-    for contribution in others {
+    for (at, contribution) in contributions.iter().enumerate() {
         rest = skip_below(rest, contribution);
         if !begins_with(rest, contribution) {
-            copies.push(contribution.clone()?)?;
+            copies.push(Digested {
+                contribution: contribution.clone()?,
+                digest: others.digests[at],
+            })?;
         }
     }
     Ok(copies)
@@ -79,18 +87,18 @@ fn begins_with(rest: &[Contribution], contribution: &Contribution) -> bool
 }
 
 /// Moves all of both lists, which share none, into the empty one, in order.
-pub fn merge(
-    held: &mut Vec<Contribution>,
-    added: &mut Vec<Contribution>,
-    merged: &mut Vec<Contribution>,
-)
-    requires held { Rises (members_of held.old.items) }
-    requires added { Rises (members_of added.old.items) }
-    requires apart { AreApart (members_of held.old.items) (members_of added.old.items) }
-    requires empty { merged.old.items ≡ [] }
-    requires room { vec_len held.old + vec_len added.old ≤ vec_capacity merged.old }
-    ensures { members_of merged.new.items ≡ union (members_of held.old.items)
-        (members_of added.old.items) }
+pub fn merge_members(held: &mut Members, added: &mut Members, merged: &mut Members)
+    requires held { Rises (members_of held.old.contributions.items) × AreDigested held.old }
+    requires added { Rises (members_of added.old.contributions.items) × AreDigested added.old }
+    requires apart { AreApart (members_of held.old.contributions.items)
+        (members_of added.old.contributions.items) }
+    requires empty { (merged.old.contributions.items ≡ []) × AreDigested merged.old }
+    requires room { HasRoom merged.old
+        (vec_len held.old.contributions + vec_len added.old.contributions) }
+    ensures all { members_of merged.new.contributions.items
+        ≡ union (members_of held.old.contributions.items)
+        (members_of added.old.contributions.items) }
+    ensures digested { AreDigested merged.new }
 {
     while let Some(greatest) = pop_greatest(held, added) {
         if merged.push(greatest).is_err() {
@@ -101,17 +109,28 @@ pub fn merge(
 }
 
 /// The greatest of both lists, taken from the end of its own.
-fn pop_greatest(held: &mut Vec<Contribution>, added: &mut Vec<Contribution>) -> Option<Contribution>
-    requires held { Rises (members_of held.old.items) }
-    requires added { Rises (members_of added.old.items) }
-    requires apart { AreApart (members_of held.old.items) (members_of added.old.items) }
-    ensures greatest { MatchOption result ((held.old.items ≡ []) × (added.old.items ≡ []))
-        (λ c. TakesGreatest (members_of held.old.items) (members_of added.old.items)
-        (members_of held.new.items) (members_of added.new.items) (member c)) }
-    ensures fewer { MatchOption result (vec_len held.old + vec_len added.old ≡ 0)
-        (λ c. vec_len held.new + vec_len added.new + 1 ≡ vec_len held.old + vec_len added.old) }
+fn pop_greatest(held: &mut Members, added: &mut Members) -> Option<Digested>
+    requires held { Rises (members_of held.old.contributions.items) × AreDigested held.old }
+    requires added { Rises (members_of added.old.contributions.items) × AreDigested added.old }
+    requires apart { AreApart (members_of held.old.contributions.items)
+        (members_of added.old.contributions.items) }
+    ensures greatest { MatchOption result
+        ((held.old.contributions.items ≡ []) × (added.old.contributions.items ≡ []))
+        (λ d. TakesGreatest (members_of held.old.contributions.items)
+        (members_of added.old.contributions.items) (members_of held.new.contributions.items)
+        (members_of added.new.contributions.items) (member d.contribution)) }
+    ensures fewer { MatchOption result
+        (vec_len held.old.contributions + vec_len added.old.contributions ≡ 0)
+        (λ d. vec_len held.new.contributions + vec_len added.new.contributions + 1
+        ≡ vec_len held.old.contributions + vec_len added.old.contributions) }
+    ensures digested { MatchOption result (vec_len held.old.contributions ≡ 0) IsDigested }
+    ensures held { AreDigested held.new }
+    ensures added { AreDigested added.new }
 {
-    if ends_above(added.as_slice(), held.as_slice()) {
+    if ends_above(
+        added.contributions.as_slice(),
+        held.contributions.as_slice(),
+    ) {
         return added.pop();
     }
     held.pop()

@@ -1,8 +1,11 @@
 -- What is appended is the entry.
-use Rattle.std.proofs.Common.{◌≡◌, ◌∙◌, ◌++◌, ◌∷◌, [], ℕ, List, length, ap, sym, append_assoc, decimal, codes, cond, is_ok, Result, Ok, Err, OnOk, Some, None}
+use Rattle.std.proofs.Common.{◌≡◌, ◌∙◌, string_bytes, ◌++◌, ◌∷◌, [], ℕ, List, length, ap, sym, append_assoc, decimal, codes, cond, is_ok, Result, Ok, Err, OnOk, Some, None}
 use Rattle.std.specs.Option.{option_map}
 use Rattle.rn_modset.specs.Bundles.{entry, digest}
+use Rattle.hex.specs.Hex.{encode_lower}
 use Rattle.rn_modset.specs.Contributions.{Member, member}
+use Rattle.rn_modset.specs.Digests.{text_bytes}
+use Rattle.sha2.specs.Sha256.{sha256}
 use Rattle.rn_modset.proofs.bundles.append_entry.Goals as goal
 
 ends_as : {T E : Type 0} (r : Result T E) (now more old all : List ℕ) → now ≡ cond (is_ok r) more old → more ≡ all → OnOk r (now ≡ all)
@@ -22,11 +25,13 @@ pub returns-in_ok-extend_from_slice-in-Some-2 : goal.returns-in_ok-extend_from_s
 returns-in_ok-extend_from_slice-in-Some-2 c =
     let out = c.args.out.now.items in
     let line : c.as_bytes.result.now ≡ _ = c.as_bytes.ensures.value ∙ c.in_ok-line-in-Some.ensures.ok in
-    let all = c.in_ok-extend_from_slice-in-Some-2.ensures.items ∙ ap (λ z. z ++ c.as_slice-in-Some.result.now) c.in_ok-extend_from_slice-in-Some.ensures.items
-    ∙ ap (λ z. (out ++ c.as_bytes.result.now) ++ z) c.as_slice-in-Some.ensures.value in
+    let text = ap (option_map (λ v. v.items)) c.in-Some.is in
+    let digits : string_bytes c.in_ok-digits-in-Some.digits ≡ digest c.in-Some.text.items = c.in_ok-digits-in-Some.ensures ∙ ap encode_lower (c.requires ∙ ap (λ t. sha256 (text_bytes t)) text) in
+    let all = c.in_ok-extend_from_slice-in-Some-2.ensures.items ∙ ap (λ z. z ++ c.as_slice.result.now) c.in_ok-extend_from_slice-in-Some.ensures.items
+    ∙ ap (λ z. (out ++ c.as_bytes.result.now) ++ z) c.as_slice.ensures.value in
     ends_as c.extend_from_slice-in-Some-2.result _ _ _ _ c.extend_from_slice-in-Some-2.ensures.items
     (ap (λ z. z ++ 10 ∷ []) all ∙ text_entry (member c.args.contribution.now) out c.as_bytes.result.now c.as_str-name.result.now _ c.in-Some.text.items c.len-len.result
-    (ap (option_map (λ v. v.items)) c.in-Some.is) c.as_str-name.ensures.value (c.len-len.ensures ∙ sym c.as_slice.ensures.len ∙ ap length c.as_slice.ensures.value) (c.in_ok-digest-in-Some.ensures ∙ ap digest c.as_slice.ensures.value) line)
+    text c.as_str-name.ensures.value (c.len-len.ensures ∙ sym c.as_slice.ensures.len ∙ ap length c.as_slice.ensures.value) digits line)
 
 pub returns-in_ok-line-in-None : goal.returns-in_ok-line-in-None
 returns-in_ok-line-in-None c =
