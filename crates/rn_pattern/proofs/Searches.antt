@@ -1,6 +1,7 @@
--- Walks and searches along the edges of a graph.
-pub mod Walking
+-- The search along the edges of a graph.
+pub mod EdgesLeft
 pub mod Each
 pub mod Rising
 pub mod Grouping
 pub mod Closing
+pub mod Ranking

@@ -44,11 +44,11 @@ pub fn datum(
     let library = String::from_str(alloc, library)?;
     let type_name = String::from_str(alloc, type_name)?;
     let params = params.to_vec(alloc)?;
-    Ok(Reduced::New(Node::Datum(library, type_name, params, excepted(nodes, except))))
+    Ok(Reduced::New(Node::Datum(library, type_name, params, allowed_except(nodes, except))))
 }
 
 /// The except, if it isn't `notAllowed`.
-fn excepted(nodes: &NodeTable<'_>, except: Option<NodeId>) -> Option<NodeId>
+fn allowed_except(nodes: &NodeTable<'_>, except: Option<NodeId>) -> Option<NodeId>
     requires { IfSome except (λ i. IsTrue (knows_in nodes.now i)) }
     ensures tree { (library type : Text) (params : Parameters)
         → datum_by library type params (option_map (tree_in nodes.now) result)
@@ -126,9 +126,9 @@ pub fn choice(
         ≡ choice_step (map (tree_in nodes.now) members.now)) }
     ensures stored { IfOk result (IsReducedIn (trees nodes.now)) }
 {
-    let members = opened(nodes, alloc, Connector::Choice, members)?;
-    let members = sorted_once(nodes, members)?;
-    Ok(listed(Connector::Choice, members))
+    let members = open_parts(nodes, alloc, Connector::Choice, members)?;
+    let members = sort_without_repeats(nodes, members)?;
+    Ok(list_of_members(Connector::Choice, members))
 }
 
 /// A group: `notAllowed` where a member is (4.20); else groups among the members opened, `empty` left out (4.21), the order
@@ -146,8 +146,8 @@ pub fn group(
     if has_not_allowed(nodes, members) {
         return Ok(Reduced::New(Node::NotAllowed));
     }
-    let members = opened(nodes, alloc, Connector::Group, members)?;
-    Ok(listed(Connector::Group, members))
+    let members = open_parts(nodes, alloc, Connector::Group, members)?;
+    Ok(list_of_members(Connector::Group, members))
 }
 
 /// An interleave: `notAllowed` where a member is (4.20); else interleaves among the members opened, `empty` left out (4.21),
@@ -165,9 +165,9 @@ pub fn interleave(
     if has_not_allowed(nodes, members) {
         return Ok(Reduced::New(Node::NotAllowed));
     }
-    let members = opened(nodes, alloc, Connector::Interleave, members)?;
-    let members = sorted(nodes, members)?;
-    Ok(listed(Connector::Interleave, members))
+    let members = open_parts(nodes, alloc, Connector::Interleave, members)?;
+    let members = sort_members(nodes, members)?;
+    Ok(list_of_members(Connector::Interleave, members))
 }
 
 /// Whether a member is `notAllowed`.
@@ -183,7 +183,7 @@ fn has_not_allowed(nodes: &NodeTable<'_>, members: &[NodeId]) -> bool
 }
 
 /// The members of a list of the parts, with those of the lists of its kind among them. Each id is copied once.
-fn opened(
+fn open_parts(
     nodes: &NodeTable<'_>,
     alloc: Global,
     connector: Connector,
@@ -205,7 +205,7 @@ fn opened(
 }
 
 /// The members in order, repeats kept, by as many comparisons as a merge sort makes. Equal ids are equal at once.
-fn sorted(nodes: &NodeTable<'_>, mut members: Vec<NodeId>) -> Result<Vec<NodeId>, AllocError>
+fn sort_members(nodes: &NodeTable<'_>, mut members: Vec<NodeId>) -> Result<Vec<NodeId>, AllocError>
     requires { KnowsAll (knows_in nodes.now) members.items }
     ensures sorted { IfOk result (λ v. map (tree_in nodes.now) v.items
         ≡ sorted tree_cmp (map (tree_in nodes.now) members.items)) }
@@ -216,7 +216,7 @@ fn sorted(nodes: &NodeTable<'_>, mut members: Vec<NodeId>) -> Result<Vec<NodeId>
 }
 
 /// The ids, each once, in the order of their places.
-fn distinct(mut ids: Vec<NodeId>) -> Vec<NodeId>
+fn drop_repeats(mut ids: Vec<NodeId>) -> Vec<NodeId>
     ensures sorted { (at : NodeId → Tree)
         → sorted_once tree_cmp (map at result.items) ≡ sorted_once tree_cmp (map at ids.items) }
     ensures known { (ts : List Tree)
@@ -228,20 +228,23 @@ fn distinct(mut ids: Vec<NodeId>) -> Vec<NodeId>
 }
 
 /// The members in order, without repeats. Equal ids go before any patterns are compared.
-fn sorted_once(nodes: &NodeTable<'_>, members: Vec<NodeId>) -> Result<Vec<NodeId>, AllocError>
+fn sort_without_repeats(
+    nodes: &NodeTable<'_>,
+    members: Vec<NodeId>,
+) -> Result<Vec<NodeId>, AllocError>
     requires { KnowsAll (knows_in nodes.now) members.items }
     ensures sorted { IfOk result (λ v. map (tree_in nodes.now) v.items
         ≡ sorted_once tree_cmp (map (tree_in nodes.now) members.items)) }
     ensures known { IfOk result (λ v. KnowsAll (knows_in nodes.now) v.items) }
 {
-    let mut members = distinct(members);
+    let mut members = drop_repeats(members);
     members.sort_by(|a, b| nodes.compare(*a, *b))?;
     members.dedup_by(|a, b| nodes.compare(*a, *b) == Ordering::Equal);
     Ok(members)
 }
 
 /// A list of the members; the member itself if there is one, and what an empty list stands for if there is none.
-fn listed(connector: Connector, members: Vec<NodeId>) -> Reduced
+fn list_of_members(connector: Connector, members: Vec<NodeId>) -> Reduced
     ensures tree { (ts : List Tree)
         → reduced_tree ts result ≡ listed connector (map (tree_at ts) members.items) }
     ensures stored { (ts : List Tree) → KnowsAll (knows ts) members.items → IsReducedIn ts result }

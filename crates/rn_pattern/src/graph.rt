@@ -1,9 +1,8 @@
 // Reachability in a graph whose nodes are numbers.
 
-ghost use Rattle.std.specs.Prelude.{◌≡◌, ℕ, ◌+◌, ◌<◌, ◌≤◌, Decides, ◌∷◌, ◌++◌, [], length, map, vec_len, take, IfOk, OnOk, if◌then◌else◌, slice_index_or, slice_set};
+ghost use Rattle.std.specs.Prelude.{◌≡◌, ℕ, ◌+◌, ◌<◌, ◌≤◌, Decides, ◌∷◌, ◌++◌, [], length, vec_len, take, IfOk, OnOk, if◌then◌else◌, slice_index_or, slice_set};
 ghost use Rattle.rn_pattern.specs.Graph.{AllBelow, row, IsGraph, is_marked, Reached, rows_of};
 ghost use Rattle.rn_pattern.specs.inside.Marking.{Agrees, Marks};
-ghost use Rattle.rn_pattern.specs.inside.Walking.{IsNext, edges_left};
 
 use std::alloc::{AllocError, Global};
 
@@ -40,31 +39,6 @@ pub fn row_at(edges: &[Vec<usize>], node: usize) -> &[usize]
     ensures { result.now ≡ row (rows_of edges.now) node }
 {
     &edges[node]
-}
-
-/// For each node, how many edges it has.
-pub(crate) fn lengths(alloc: Global, edges: &[Vec<usize>]) -> Result<Vec<usize>, AllocError>
-    ensures { IfOk result (λ lengths. lengths.items ≡ map (λ row. length row) (rows_of edges.now)) }
-{
-    let mut lengths = Vec::with_capacity(alloc, edges.len())?;
-    lengths.extend(edges.iter().map(|row| row.len()))?;
-    Ok(lengths)
-}
-
-/// The node that the next edge to look at leads to from a node, if there is one. Of each node so many edges are left; they are
-/// taken from the end.
-pub(crate) fn next_of(left: &[usize], edges: &[Vec<usize>], node: usize) -> Option<usize>
-    requires graph { IsGraph (rows_of edges.now) }
-    requires within { node < length edges.now }
-    requires counted { node < length left.now }
-    requires at_most { edges_left left.now node ≤ length (row (rows_of edges.now) node) }
-    ensures { IsNext (rows_of edges.now) left.now node result }
-{
-    let left = left[node];
-    if left == 0 {
-        return None;
-    }
-    Some(row_at(edges, node)[left - 1])
 }
 
 /// For each node, whether it is one of the first or is reached from them. The only error is want of memory; the edges and the

@@ -1,7 +1,7 @@
 // The store Interned.
 ghost use Rattle.std.specs.Prelude.{◌≡◌, IsTrue};
 ghost use Rattle.std.specs.List.{IsDistinct, IsDistinct-prop};
-ghost use Rattle.rn_pattern.specs.inside.Key.{node_eq};
+ghost use Rattle.rn_pattern.specs.inside.Hashing.{node_eq};
 ghost use Rattle.rn_pattern.specs.inside.Stored.{NameEarlier, NameEarlier-prop, trees_of_nodes};
 
 use crate::node::{Node, NodeId};

@@ -14,9 +14,8 @@
 mod canonical;
 mod connector;
 pub mod graph;
+mod hashing;
 pub mod interned;
-mod key;
-mod loops;
 mod name_class;
 pub mod name_classes;
 pub mod node;
@@ -26,6 +25,7 @@ mod parts;
 pub mod patterns;
 pub mod plain;
 pub mod ranks;
+mod search;
 pub mod seed;
 mod store;
 pub mod tree;

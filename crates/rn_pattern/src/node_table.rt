@@ -7,7 +7,7 @@ ghost use Rattle.rn_pattern.specs.inside.Shown.{ShowsTree, part_texts};
 ghost use Rattle.rn_pattern.specs.Store.{node_view};
 
 use crate::node::{Node, NodeId};
-use crate::parts::{Parts, compare_heads, parts_of, parts_of_none};
+use crate::parts::{Parts, bare_parts, compare_heads, parts_of};
 use std::cmp::Ordering;
 
 /// The nodes of a store in the order of their ids, borrowed.
@@ -39,7 +39,7 @@ impl<'a> NodeTable<'a> {
         if id.0 < self.nodes.len() {
             parts_of(self.get(id))
         } else {
-            parts_of_none()
+            bare_parts(0)
         }
     }
 

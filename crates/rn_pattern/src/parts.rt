@@ -23,16 +23,16 @@ pub struct Parts<'a> {
     pub members: &'a [NodeId],
 }
 
-/// The parts of `notAllowed`.
-pub fn parts_of_none<'a>() -> Parts<'a>
-    ensures kind { result.kind ≡ 0 }
+/// The parts of a kind that has none but its place in the order.
+pub fn bare_parts<'a>(kind: u8) -> Parts<'a>
+    ensures kind { result.kind ≡ kind }
     ensures texts { part_texts result ≡ [] ∷ [] ∷ [] ∷ [] }
     ensures parameters { result.parameters.now ≡ [] }
     ensures class { result.class ≡ None }
     ensures members { result.members.now ≡ [] }
 {
     Parts {
-        kind: 0,
+        kind,
         first: "",
         second: "",
         third: "",
@@ -50,20 +50,40 @@ pub fn parts_of(node: &Node<NodeId>) -> Parts<'_>
     ensures class { option_copied result.class ≡ node_class node.now }
     ensures members { result.members.now ≡ node_members node.now }
 {
-    let (first, second, third) = texts(node);
-    Parts {
-        kind: kind(node),
-        first,
-        second,
-        third,
-        parameters: parameters(node),
-        class: class(node),
-        members: members(node),
+    let bare = bare_parts(kind(node));
+    match node {
+        Node::NotAllowed | Node::Empty | Node::Text => bare,
+        Node::Ref(first) => Parts { first, ..bare },
+        Node::Value(first, second, third) => Parts {
+            first,
+            second,
+            third,
+            ..bare
+        },
+        Node::Datum(first, second, parameters, except) => Parts {
+            first,
+            second,
+            parameters,
+            members: except.as_slice(),
+            ..bare
+        },
+        Node::List(content) | Node::OneOrMore(content) => Parts {
+            members: slice::from_ref(content),
+            ..bare
+        },
+        Node::Attribute(class, content) | Node::Element(class, content) => Parts {
+            class: Some(class),
+            members: slice::from_ref(content),
+            ..bare
+        },
+        Node::Group(members) | Node::Interleave(members) | Node::Choice(members) => {
+            Parts { members, ..bare }
+        }
     }
 }
 
 /// The place of the node's kind in the order.
-fn kind(node: &Node<NodeId>) -> u8
+pub fn kind(node: &Node<NodeId>) -> u8
     ensures { result ≡ node_rank node.now }
 {
     match node {
@@ -80,53 +100,6 @@ fn kind(node: &Node<NodeId>) -> u8
         Node::Group(_) => 10,
         Node::Interleave(_) => 11,
         Node::Choice(_) => 12,
-    }
-}
-
-/// A definition's name, or the datatype library, the type and the text. What a kind lacks is empty.
-fn texts(node: &Node<NodeId>) -> (&str, &str, &str)
-    ensures { result.0.now ∷ result.1.now ∷ result.2.now ∷ [] ≡ node_texts node.now }
-{
-    match node {
-        Node::Ref(name) => (name, "", ""),
-        Node::Value(library, kind, text) => (library, kind, text),
-        Node::Datum(library, kind, _, _) => (library, kind, ""),
-        _ => ("", "", ""),
-    }
-}
-
-/// The parameters of a datatype, empty for every other kind.
-fn parameters(node: &Node<NodeId>) -> &[(String, String)]
-    ensures { result.now ≡ node_parameters node.now }
-{
-    match node {
-        Node::Datum(_, _, parameters, _) => parameters,
-        _ => &[],
-    }
-}
-
-/// The name class of an attribute or an element, none for every other kind.
-fn class(node: &Node<NodeId>) -> Option<&NameClass>
-    ensures { option_copied result ≡ node_class node.now }
-{
-    match node {
-        Node::Attribute(class, _) | Node::Element(class, _) => Some(class),
-        _ => None,
-    }
-}
-
-/// The ids in the node, in order.
-fn members(node: &Node<NodeId>) -> &[NodeId]
-    ensures { result.now ≡ node_members node.now }
-{
-    match node {
-        Node::Datum(_, _, _, except) => except.as_slice(),
-        Node::List(content)
-        | Node::Attribute(_, content)
-        | Node::Element(_, content)
-        | Node::OneOrMore(content) => slice::from_ref(content),
-        Node::Group(members) | Node::Interleave(members) | Node::Choice(members) => members,
-        _ => &[],
     }
 }
 

@@ -1,7 +1,7 @@
 // The constructors of a store, written once for all ways in which nodes may lie.
 ghost use Rattle.std.specs.Prelude.{◌≡◌, ◌+◌, ◌≤◌, IfOk, IfSome, IsTrue, List, OnErr, length};
 ghost use Rattle.std.specs.Option.{option_map};
-ghost use Rattle.rn_pattern.specs.inside.Key.{tree_at-same};
+ghost use Rattle.rn_pattern.specs.inside.Hashing.{tree_at-same};
 ghost use Rattle.rn_pattern.specs.Matching.{MatchAlike};
 ghost use Rattle.rn_pattern.specs.inside.Stored.{NamesBelow, knows, tree_at, trees_of_nodes};
 ghost use Rattle.rn_pattern.specs.inside.Reduced.{IsReducedIn, reduced_tree};

@@ -1,12 +1,15 @@
 -- A search that has not begun, and what it answers when all nodes are behind it.
 use Rattle.std.proofs.Common.{◌≡◌, ℕ, ◌+◌, ◌<◌, inl, inr, List, [], length, get_or, replicate, map, refl, sym, ap, ◌∙◌, subst, arith, below_more}
 use Rattle.std.specs.Prelude.{Contains, Option, Some, None, MatchOption, IfSome}
-use Rattle.std.proofs.lemmas.List.{length-map, length-replicate, get_or-replicate, get_or-map, get_or_past}
+use Rattle.std.proofs.lemmas.List.{length-map, length-replicate, get_or-map, get_or_past}
+use Rattle.std.proofs.lemmas.List.Sums.{count_by-le-length}
 use Rattle.std.proofs.lemmas.Bool.{cases_lt}
+use Rattle.std.specs.Option.{is_some}
 use Rattle.rn_pattern.specs.Graph.{row}
-use Rattle.rn_pattern.specs.Ranks.{Leads, by_edge, and_edge, HasNoLoop, IsFirstLoop}
-use Rattle.rn_pattern.specs.inside.Loops.{GroupingBy, Grouping, GroupsOn, IsClosed, IsLeastLooped, place_of}
-use Rattle.rn_pattern.specs.declared.loops.Search.{Search}
+use Rattle.rn_pattern.specs.Ranks.{Leads, by_edge, and_edge, HasNoLoop, IsFirstLoop, IsRanking}
+use Rattle.rn_pattern.specs.inside.Searching.{GroupingBy, Grouping, GroupsOn, IsClosed, IsLeastLooped, place_of}
+use Rattle.rn_pattern.specs.declared.search.Search.{Search}
+use Rattle.rn_pattern.proofs.Searches.Ranking.{none_met}
 
 module _ (rows : List (List ℕ)) where
   pub not_begun : (places : List (Option ℕ)) (left stack path bounds : List ℕ) → places ≡ replicate (length rows) None → left ≡ map (λ (r : List ℕ). length r) rows → stack ≡ [] → path ≡ [] → bounds ≡ [] → GroupingBy rows places left stack path bounds None
@@ -33,10 +36,7 @@ module _ (rows : List (List ℕ)) where
       none xs e i h = omega (arith, h, ap (λ (ys : List ℕ). length ys) e)
 
       new : (x : ℕ) → place_of places x ≡ None
-      new x = ap (λ (ms : List (Option ℕ)). place_of ms x) m ∙ (elim (cases_lt x (length rows)) [
-        | inl h ↦ get_or-replicate (length rows) x None None h
-        | inr h ↦ get_or_past (replicate (length rows) None) x None (omega (arith, h, length-replicate {A = Option ℕ} (length rows) None))
-      ])
+      new = none_met (length rows) places m
 
       size : (x : ℕ) → get_or left x 0 ≡ length (row rows x)
       size x = elim (cases_lt x (length rows)) [
@@ -78,11 +78,21 @@ module _ (rows : List (List ℕ)) where
         by (Some p) e = (p, e, λ c. omega (arith, c.1, ap (λ (xs : List ℕ). length xs) searched.empty))
 
     pub first_loop : (least : Option ℕ) → least ≡ s.least → MatchOption least (HasNoLoop rows) (IsFirstLoop rows)
-    first_loop least e = by least (subst (IsLeastLooped rows (IsClosed s.places.items s.stack.items)) (sym e) searched.grouping.least_is)
+    first_loop least e = by least (subst (IsLeastLooped rows (IsClosed s.places.items s.stack.items)) (sym e) searched.grouping.groups.least_is)
       where
         by : (o : Option ℕ) → IsLeastLooped rows (IsClosed s.places.items s.stack.items) o → MatchOption o (HasNoLoop rows) (IsFirstLoop rows)
         by None f = λ x l. f x (is_closed x (starts_within l)) l
         by (Some m) f = record { holds = f.0; least = λ y h l. omega (arith, h, f.1 y (is_closed y (starts_within l)) l) }
+
+    pub all_ranked : HasNoLoop rows → IsRanking rows s.ranks.items
+    all_ranked none =
+        let r = searched.grouping.ranking in
+        let size = searched.grouping.groups.places_size in
+        record {
+          sized = r.ranks_size;
+          below = λ x h. omega (arith, r.below x (is_closed x h), r.counted, count_by-le-length {X = Option ℕ} is_some s.places.items, size);
+          falls = λ x y h e. r.falls x y (is_closed x h) (none x) e;
+        }
 
   pub first_within : (least : Option ℕ) → MatchOption least (HasNoLoop rows) (IsFirstLoop rows) → IfSome least (λ x. x < length rows)
   first_within None f = tt

@@ -1,14 +1,14 @@
 -- The last group of a search is closed.
-use Rattle.std.proofs.Common.{◌≡◌, ℕ, ◌+◌, ◌-◌, ◌<◌, ◌≤◌, ◌⊎◌, inl, inr, List, [], ◌∷◌, ◌++◌, length, get_or, take, drop, min, refl, sym, ap, ◌∙◌, subst, arith}
+use Rattle.std.proofs.Common.{◌≡◌, ℕ, ◌+◌, ◌-◌, ◌<◌, ◌≤◌, ◌⊎◌, inl, inr, List, [], ◌∷◌, ◌++◌, length, get_or, set, take, drop, min, refl, sym, ap, ◌∙◌, subst, arith}
 use Rattle.std.specs.Prelude.{Contains, Option, Some, None, MatchOption}
-use Rattle.std.proofs.lemmas.List.{length-drop, length-take-le, get_or-take, get_or-drop, get_or_push}
+use Rattle.std.proofs.lemmas.List.{length-drop, length-set, length-take-le, get_or-take, get_or-drop, get_or_push, get_or-set_same, get_or-set_other}
 use Rattle.std.proofs.lemmas.List.Elements.{Contains-append_left, Contains-push_cases, Contains-get_or}
 use Rattle.std.proofs.lemmas.Bool.{cases_eq, cases_lt}
 use Rattle.rn_pattern.specs.Graph.{row}
-use Rattle.rn_pattern.specs.Ranks.{Leads, by_edge, and_edge}
-use Rattle.rn_pattern.specs.inside.Loops.{GroupingBy, IsLeastLooped, IsClosed, IsSettled, IsNear, Comes, Rises, node_at, place_of}
+use Rattle.rn_pattern.specs.Ranks.{Leads, by_edge, and_edge, rank_of}
+use Rattle.rn_pattern.specs.inside.Searching.{GroupingBy, RankingBy, IsLeastLooped, IsClosed, IsSettled, IsNear, Comes, Rises, node_at, place_of}
 use Rattle.rn_pattern.proofs.Searches.Rising.{stands, contains_take, rises_left, rises_last, first_left, greatest_last, has_last}
-use Rattle.rn_pattern.proofs.Searches.Grouping.{same_place, leads_on, leads_then, comes_then, least_of_fewer}
+use Rattle.rn_pattern.proofs.Searches.Grouping.{node_below, same_place, leads_on, leads_then, comes_then, least_of_fewer}
 
 module _ (rows : List (List ℕ)) (places : List (Option ℕ)) (left stack path bounds : List ℕ) (least : Option ℕ) (w : GroupingBy rows places left stack path bounds least)
     (front : List ℕ) (b : ℕ) (last : bounds ≡ front ++ b ∷ []) (all_looked : (p : ℕ) → Contains path p → p < b) where
@@ -198,3 +198,41 @@ module _ (rows : List (List ℕ)) (places : List (Option ℕ)) (left stack path 
         ],
         λ x c k. elim (was x c) [ inl o ↦ omega (arith, q, l.1 x o k) | inr g ↦ omega (arith, q, here x g) ],
       )
+
+  -- the group's first node is ranked behind all that were ranked before
+  pub group_ranked : (closed : ℕ) (ranks : List ℕ) (v : ℕ) → v ≡ node_at stack b → RankingBy rows places stack closed ranks → RankingBy rows places (take b stack) (closed + 1) (set ranks v closed)
+  group_ranked closed ranks v is r = record {
+    ranks_size = length-set ranks v closed ∙ r.ranks_size;
+    counted = omega (arith, r.counted, size, begin_below);
+    within = λ x. omega (arith, at_most x);
+    below = λ x c. omega (arith, at_most x);
+    falls = λ x y c free e. elim (was x c) [
+      | inl o ↦ let d = w.closed x y o e in omega (arith, r.falls x y o free e, other x (apart x o), other y (apart y d))
+      | inr g ↦ elim (onward x y g e) [
+        | inl d ↦ omega (arith, r.below y d, other y (apart y d), same, ap (rank_of (set ranks v closed)) (first x g free))
+        | inr f ↦ absurd (free (leads_then rows x y x (by_edge e) (back y x f g)))
+      ]
+    ];
+  }
+    where
+      same : rank_of (set ranks v closed) v ≡ closed
+      same = get_or-set_same ranks v closed 0 (omega (arith, is, r.ranks_size, node_below rows places left stack path bounds least w b begin_below))
+
+      other : (x : ℕ) → (x ≡ v → ⊥) → rank_of (set ranks v closed) x ≡ rank_of ranks x
+      other x ne = get_or-set_other ranks v x closed 0 ne
+
+      at_most : (x : ℕ) → rank_of (set ranks v closed) x ≤ closed
+      at_most x = elim (cases_eq x v) [ inl e ↦ omega (arith, same, ap (rank_of (set ranks v closed)) e) | inr ne ↦ omega (arith, other x ne, r.within x) ]
+
+      apart : (x : ℕ) → IsClosed places stack x → x ≡ v → ⊥
+      apart x c e = c.2 (subst (Contains stack) (sym (e ∙ is)) (Contains-get_or stack b 0 begin_below))
+
+      back : (y x : ℕ) → InGroup y → InGroup x → Comes rows y x
+      back y x f g = subst (λ (z : ℕ). Comes rows z x) f.3 (subst (Comes rows (node_at stack f.0)) g.3 (together f.0 g.0 f.1 f.2 g.1 g.2))
+
+      first : (x : ℕ) → InGroup x → (Leads rows x x → ⊥) → x ≡ v
+      first x g free = elim (cases_eq g.0 b) [
+        | inl e ↦ sym g.3 ∙ ap (node_at stack) e ∙ sym is
+        | inr ne ↦ absurd (free (subst (λ (z : ℕ). Leads rows z z) g.3
+            (leads_on rows (leads_apart g.0 b g.1 g.2 (omega arith) begin_below ne) (leads_apart b g.0 (omega arith) begin_below g.1 g.2 (λ q. ne (sym q))))))
+      ]

@@ -6,12 +6,17 @@ use Rattle.std.proofs.lemmas.List.Elements.{Contains-append_left, Contains-push,
 use Rattle.std.proofs.lemmas.Bool.{cases_eq, cases_lt}
 use Rattle.rn_pattern.specs.Graph.{row}
 use Rattle.rn_pattern.specs.Ranks.{Leads, by_edge, and_edge}
-use Rattle.rn_pattern.specs.inside.Walking.{EndsWith}
-use Rattle.rn_pattern.specs.inside.Loops.{GroupingBy, IsLeastLooped, IsClosed, IsSettled, IsJoined, AllLead, Comes, Rises, node_at, place_of}
+use Rattle.rn_pattern.specs.inside.Searching.{EndsWith, GroupingBy, IsLeastLooped, IsClosed, IsSettled, IsJoined, AllLead, Comes, Rises, node_at, place_of}
 use Rattle.rn_pattern.proofs.Searches.Rising.{contains_take, rises_left, rises_take, rises_push, first_take, greatest_last, has_last}
 
 pub met_below : (places : List (Option ℕ)) (x p : ℕ) → place_of places x ≡ Some p → x < length places
 met_below places x p e = elim (cases_lt x (length places)) [ inl h ↦ h | inr h ↦ let q = get_or_past places x None h in cc ]
+
+-- what is closed beside a new node was closed before
+pub closed_before : (places : List (Option ℕ)) (stack : List ℕ) (x p y : ℕ) → IsClosed (set places x (Some p)) (stack ++ x ∷ []) y → IsClosed places stack y
+closed_before places stack x p y c =
+    let ne : y ≡ x → ⊥ = λ q. c.2 (subst (Contains (stack ++ x ∷ [])) (sym q) (Contains-push stack x)) in
+    (c.0, sym (get_or-set_other places x y (Some p) None ne) ∙ c.1, λ k. c.2 (Contains-append_left stack (x ∷ []) y k))
 
 module _ (rows : List (List ℕ)) where
   pub leads_on : {x y z : ℕ} → Leads rows x y → Leads rows y z → Leads rows x z
@@ -227,9 +232,7 @@ module _ (rows : List (List ℕ)) where
             (c.0, other y ne ∙ c.1, λ k. elim (Contains-push_cases stack x y k) [ inl o ↦ c.2 o | inr q ↦ ne (sym q) ])
 
         was : (y : ℕ) → IsClosed places' stack' y → IsClosed places stack y
-        was y c =
-            let ne : y ≡ x → ⊥ = λ q. c.2 (subst (Contains stack') (sym q) (Contains-push stack x)) in
-            (c.0, sym (other y ne) ∙ c.1, λ k. c.2 (Contains-append_left stack (x ∷ []) y k))
+        was y c = closed_before places stack x n y c
 
         grow : (i y : ℕ) → i < n → IsSettled places stack bounds i y → IsSettled places' stack' bounds' i y
         grow i y l (inl c) = inl (still y c)

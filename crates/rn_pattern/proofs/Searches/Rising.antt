@@ -1,12 +1,10 @@
 -- Rising lists of numbers, and fronts of lists.
-use Rattle.std.proofs.Common.{◌≡◌, ℕ, ◌-◌, ◌<◌, ◌≤◌, inl, inr, List, [], ◌∷◌, ◌++◌, length, get_or, take, drop, refl, sym, ap, ◌∙◌, subst, arith}
+use Rattle.std.proofs.Common.{◌≡◌, ℕ, ◌+◌, ◌-◌, ◌<◌, ◌≤◌, inl, inr, List, [], ◌∷◌, ◌++◌, length, get_or, take, drop, refl, sym, ap, ◌∙◌, subst, arith}
 use Rattle.std.specs.Prelude.{Contains}
-use Rattle.std.proofs.lemmas.List.{length_push, length-append, get_or_push, get_or_past, get_or_default, get_or_append_left, take_at, take_all, take-take, take-append-drop, length-take}
+use Rattle.std.proofs.lemmas.List.{length_push, length-append, get_or_push, get_or_past, get_or_default, get_or_append_left, take_at, take_all, take_more, take-take, take-append-drop, length-take}
 use Rattle.std.proofs.lemmas.List.Elements.{Contains-append_left, Contains-push, Contains-push_cases, Contains-get_or}
 use Rattle.std.proofs.lemmas.Bool.{cases_lt}
-use Rattle.rn_pattern.specs.inside.Walking.{EndsWith}
-use Rattle.rn_pattern.specs.inside.Loops.{Rises, IsJoined}
-use Rattle.rn_pattern.proofs.Searches.Walking.{ends_at}
+use Rattle.rn_pattern.specs.inside.Searching.{EndsWith, Rises, IsJoined}
 
 -- where an element stands
 pub stands : (xs : List ℕ) (x : ℕ) → Contains xs x → (i : ℕ) × (i < length xs) × (get_or xs i 0 ≡ x)
@@ -60,6 +58,12 @@ first_take n xs e = first_left (take n xs) (drop n xs) (ap (λ (l : List ℕ). g
 pub popped : (xs front : List ℕ) (x n : ℕ) → xs ≡ front ++ x ∷ [] → n ≡ length xs → take (n - 1) xs ≡ front
 popped xs front x n e m =
     ap (λ (l : List ℕ). take (n - 1) l) e ∙ take_at front (x ∷ []) (n - 1) (omega (arith, m, ap length e, length_push front x))
+
+pub ends_at : (path : List ℕ) (x : ℕ) → 0 < length path → x ≡ get_or path (length path - 1) 0 → EndsWith path x
+ends_at path x h e = (
+  take (length path - 1) path,
+  sym (take_all (length path - 1 + 1) path (omega arith)) ∙ take_more path (length path - 1) 0 (omega (arith, h)) ∙ ap (λ (y : ℕ). take (length path - 1) path ++ y ∷ []) (sym e),
+)
 
 -- the bounds that are left while groups are joined
 pub record IsJoining (old now : List ℕ) (place : ℕ) : Type 0 where

@@ -7,7 +7,7 @@ use Rattle.rn_pattern.specs.Tree as tree
 use Rattle.rn_pattern.specs.Tree.{NameTree, NameTrees, any_name, no_names, more_names, Tree, trees_of}
 use Rattle.rn_pattern.specs.Store.{AddsOnly, KeepsTrees, StandsFor, node_view}
 use Rattle.rn_pattern.specs.inside.Stored.{NamesBelow, NameEarlier, knows, node_rank, tree_at, trees_of_nodes}
-use Rattle.rn_pattern.specs.inside.Key.{key, key_decides, node_eq}
+use Rattle.rn_pattern.specs.inside.Hashing.{key, key_decides, node_eq}
 use Rattle.rn_pattern.specs.declared.node.Node.{Node}
 use Rattle.rn_pattern.specs.declared.node.NodeId.{NodeId}
 use Rattle.rn_pattern.proofs.Stores.NodeTrees.{NameEarlier-push, length-trees_of_nodes, trees_of_nodes-push, trees_of_nodes-at, node_view_same, keeps_before, keeps_same, place_known, adds_at_end, adds_none}

@@ -12,7 +12,7 @@ use Rattle.rn_pattern.specs.inside.Shown.{texts_in, parameters_in, names_in, mem
 use Rattle.rn_pattern.specs.Store.{AddsOnly, KeepsTrees, StandsFor, node_view}
 use Rattle.rn_pattern.specs.Nodes.{node_members}
 use Rattle.rn_pattern.specs.inside.Stored.{NamesBelow, NameEarlier, knows, tree_at, trees_of_nodes}
-use Rattle.rn_pattern.specs.inside.Key.{key, key_decides, node_eq}
+use Rattle.rn_pattern.specs.inside.Hashing.{key, key_decides, node_eq}
 use Rattle.rn_pattern.specs.declared.interned.Interned.{Interned}
 use Rattle.rn_pattern.specs.declared.node.Node.{Node}
 use Rattle.rn_pattern.specs.declared.node.NodeId.{NodeId}

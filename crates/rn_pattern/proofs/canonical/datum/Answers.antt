@@ -17,9 +17,9 @@ pub returns-clause-tree : goal.returns-clause-tree
 returns-clause-tree c =
     let at = tree_at (trees_of_nodes c.args.nodes.now.nodes.now) in
     let params = parameters_copied c.args.params.now c.in_ok-params.params.items c.in_ok-params.ensures.ok in
-    datum_seen at c.in_ok-library.library c.in_ok-type_name.type_name c.in_ok-params.params c.excepted.result
-    ∙ (λ i. datum_by (c.in_ok-library.ensures.ok i) (c.in_ok-type_name.ensures.ok i) (params i) (option_map at c.excepted.result))
-    ∙ c.excepted.ensures.tree c.args.library.now c.args.type_name.now (parameters_view c.args.params.now)
+    datum_seen at c.in_ok-library.library c.in_ok-type_name.type_name c.in_ok-params.params c.allowed_except.result
+    ∙ (λ i. datum_by (c.in_ok-library.ensures.ok i) (c.in_ok-type_name.ensures.ok i) (params i) (option_map at c.allowed_except.result))
+    ∙ c.allowed_except.ensures.tree c.args.library.now c.args.type_name.now (parameters_view c.args.params.now)
 
 datum_below : (ts : List Tree) (l x : String Global) (ps : Vec (String Global × String Global) Global) (e : Option NodeId) → IfSome e (λ i. IsTrue (knows ts i)) → NamesBelow (length ts) (Node.Datum l x ps e)
 datum_below ts l x ps None h = tt
@@ -27,4 +27,4 @@ datum_below ts l x ps (Some i) h = knows_place ts i h
 
 pub returns-clause-stored : goal.returns-clause-stored
 returns-clause-stored c =
-    datum_below (trees_of_nodes c.args.nodes.now.nodes.now) c.in_ok-library.library c.in_ok-type_name.type_name c.in_ok-params.params c.excepted.result c.excepted.ensures.known
+    datum_below (trees_of_nodes c.args.nodes.now.nodes.now) c.in_ok-library.library c.in_ok-type_name.type_name c.in_ok-params.params c.allowed_except.result c.allowed_except.ensures.known

@@ -8,9 +8,9 @@ use Rattle.rn_pattern.proofs.canonical.interleave.Goals as goal
 pub returns-clause-tree : goal.returns-clause-tree
 returns-clause-tree c =
     let ts = trees_of_nodes c.args.nodes.now.nodes.now in
-    c.listed.ensures.tree ts
+    c.list_of_members.ensures.tree ts
     ∙ ap (node_of empty interleave) (c.in_ok-members-2.ensures.sorted ∙ ap (sorted tree_cmp) c.in_ok-members.ensures.members)
     ∙ ap (λ b. cond b not_allowed (node_of empty interleave (sorted tree_cmp (flat_map interleaved (map (tree_at ts) c.args.members.now))))) (sym c.if-has_not_allowed.false ∙ c.has_not_allowed.ensures)
 
 pub returns-clause-stored : goal.returns-clause-stored
-returns-clause-stored c = c.listed.ensures.stored (trees_of_nodes c.args.nodes.now.nodes.now) c.in_ok-members-2.ensures.known
+returns-clause-stored c = c.list_of_members.ensures.stored (trees_of_nodes c.args.nodes.now.nodes.now) c.in_ok-members-2.ensures.known

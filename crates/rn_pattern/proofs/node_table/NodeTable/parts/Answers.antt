@@ -18,4 +18,4 @@ returns-else-id-self c =
     let ns = c.args.self.now.nodes.now in
     let ts = trees_of_nodes ns in
     let past : tree.not_allowed ≡ tree_at ts c.args.id = sym (get_or_past ts c.args.id.0 tree.not_allowed (omega (arith, length-trees_of_nodes ns, c.if-id-self.false))) in
-    shows_parts (tree_at ts) (tree_at ts c.args.id) c.args.id.0 Node.NotAllowed _ _ _ _ _ tt past c.parts_of_none.ensures.kind c.parts_of_none.ensures.texts c.parts_of_none.ensures.parameters (ap option_copied c.parts_of_none.ensures.class) c.parts_of_none.ensures.members
+    shows_parts (tree_at ts) (tree_at ts c.args.id) c.args.id.0 Node.NotAllowed _ _ _ _ _ tt past c.bare_parts.ensures.kind c.bare_parts.ensures.texts c.bare_parts.ensures.parameters (ap option_copied c.bare_parts.ensures.class) c.bare_parts.ensures.members
