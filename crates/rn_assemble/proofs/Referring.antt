@@ -7,4 +7,5 @@ pub mod GatheredReferences
 pub mod Numbers
 pub mod NumberedReferences
 pub mod Named
+pub mod KeyNames
 pub mod LeastKeys

@@ -79,23 +79,23 @@ abbrev pub TokensAre : Text → (List Lexeme → Type 0) → Type 0
 TokensAre text P = IsUtf8 text × ((ts : List Lexeme) × HasTokens (chars text) ts × P ts)
 
 -- the text has the fault, whatever else it has
-abbrev pub HasFault : Text → TextFault → Type 0
-HasFault text encoding = ¬ IsUtf8 text
-HasFault text lexical = IsUtf8 text × ((ts : List Lexeme) → ¬ HasTokens (chars text) ts)
-HasFault text deep_brackets = TokensAre text (λ ts. is_some (deep 0 (terminals ts)) ≡ true)
-HasFault text syntax = TokensAre text (λ ts. (m : t.Module) → ¬ HasTree (terminals ts) m)
-HasFault text prefix = (m : t.Module) × IsModuleOf text m × (prefix_places m ≢ [])
-HasFault text builtin = (m : t.Module) × IsModuleOf text m × (builtin_places m ≢ [])
-HasFault text context_value = (m : t.Module) × IsModuleOf text m × (context_places m ≢ [])
-HasFault text except = (m : t.Module) × IsModuleOf text m × (except_places m ≢ [])
+abbrev pub HasTextFault : Text → TextFault → Type 0
+HasTextFault text encoding = ¬ IsUtf8 text
+HasTextFault text lexical = IsUtf8 text × ((ts : List Lexeme) → ¬ HasTokens (chars text) ts)
+HasTextFault text deep_brackets = TokensAre text (λ ts. is_some (deep 0 (terminals ts)) ≡ true)
+HasTextFault text syntax = TokensAre text (λ ts. (m : t.Module) → ¬ HasTree (terminals ts) m)
+HasTextFault text prefix = (m : t.Module) × IsModuleOf text m × (prefix_places m ≢ [])
+HasTextFault text builtin = (m : t.Module) × IsModuleOf text m × (builtin_places m ≢ [])
+HasTextFault text context_value = (m : t.Module) × IsModuleOf text m × (context_places m ≢ [])
+HasTextFault text except = (m : t.Module) × IsModuleOf text m × (except_places m ≢ [])
 
 -- the first fault of the text
 abbrev pub IsFirstFault : Text → TextFault → Type 0
-IsFirstFault text f = HasFault text f × ((g : TextFault) → fault_rank g < fault_rank f → ¬ HasFault text g)
+IsFirstFault text f = HasTextFault text f × ((g : TextFault) → fault_rank g < fault_rank f → ¬ HasTextFault text g)
 
 -- a module whose text has a fault
 abbrev pub IsFaulty : List Module → Text → Type 0
-IsFaulty texts x = (text : Text) × Contains texts (x, text) × ((f : TextFault) × HasFault text f)
+IsFaulty texts x = (text : Text) × Contains texts (x, text) × ((f : TextFault) × HasTextFault text f)
 
 -- the includer has an include that names no module of the set
 abbrev pub Wants : List Source → Text → Text → Type 0

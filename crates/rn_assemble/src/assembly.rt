@@ -54,7 +54,7 @@ fn assembled<'s>(alloc: Global, sources: &[Source<'s>], seed: &Seed) -> Result<J
         (IsFirstOfModules (sources_view sources.now)) }
 {
     let roots = included_roots(alloc, sources)?;
-    let keys = Keys::new(alloc, sources)?;
+    let keys = Keys::new(alloc, sources, seed)?;
     let contents = contents_of(alloc, sources, &keys)?;
     let components = components_of(alloc, contents.as_slice(), roots.as_slice(), keys.len())?;
     joined(alloc, sources, &keys, &components, seed)

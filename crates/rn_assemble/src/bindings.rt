@@ -10,14 +10,9 @@ ghost use Rattle.rn_assemble.specs.inside.Bound.{BindsAs, InScope, bound_default
 ghost use Rattle.rn_assemble.specs.Components as components;
 ghost use Rattle.rn_assemble.specs.Resolve.{default_of, namespace_of, uri_text};
 
-use rn_syntax::{Declaration, Prefix, Uri};
+use rn_syntax::{Declaration, Prefix, Uri, XML_URI, XSD_URI};
 use std::alloc::{AllocError, Global};
 use std::collections::BTreeMap;
-
-/// The namespace that `xml` is bound to without declaration.
-const XML_URI: &str = "http://www.w3.org/XML/1998/namespace";
-/// The datatype library that `xsd` is bound to without declaration.
-const XSD_URI: &str = "http://www.w3.org/2001/XMLSchema-datatypes";
 
 /// What a namespace declaration gives: a URI, or the inherited namespace.
 #[derive(Clone, Copy)]

@@ -23,6 +23,7 @@ mod seeds;
 pub use assembly::assemble;
 pub use grammar::Grammar;
 pub use joined_grammar::Definitions;
+pub use references::Reach;
 pub use refusal::{Key, Refusal};
 
 pub mod laws;

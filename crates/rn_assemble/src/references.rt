@@ -1,5 +1,5 @@
 // References, what is reached by them, and loops.
-ghost use Rattle.std.specs.Prelude.{◌≡◌, ℕ, ◌+◌, ◌<◌, List, [], length, if◌then◌else◌, ◌++◌, vec_len, option_map, Decides, IsSome, MatchResult, IfOk, OnOk};
+ghost use Rattle.std.specs.Prelude.{◌≡◌, ℕ, ◌+◌, ◌<◌, List, [], ◌∷◌, length, if◌then◌else◌, ◌++◌, vec_len, map, option_map, is_some, MatchResult, IfOk, IfSome, OnOk};
 ghost use Rattle.std.specs.List.Sorted.{IsStrictlySortedBy};
 ghost use Rattle.rn_pattern.specs.Order.{text_cmp};
 ghost use Rattle.rn_pattern.specs.Tree.{Text};
@@ -8,11 +8,13 @@ ghost use Rattle.rn_assemble.specs.Components.{Component};
 ghost use Rattle.rn_syntax.specs.View.{pattern_view, patterns_view};
 ghost use Rattle.rn_assemble.specs.Combine.{joined_grammar};
 ghost use Rattle.rn_assemble.specs.Least.{IsLeast};
-ghost use Rattle.rn_assemble.specs.inside.Referred.{AreAllReferences, AreBodiesAt, AreNumbers, IsFresh, IsLeastRecursive, IsLeastUndefined, IsLooked, KeepsLeast, all_outer_references, all_references, lesser_text, names_in, outer_references, references};
-ghost use Rattle.rn_assemble.specs.inside.Views.{names_of, texts_of};
+ghost use Rattle.rn_assemble.specs.declared.references.Reach.TheVariants.{Everywhere, OutsideElements};
+ghost use Rattle.rn_assemble.specs.inside.Keyed.{IsFound};
+ghost use Rattle.rn_assemble.specs.inside.Referred.{AreAllReferences, AreBodiesAt, AreNumbers, IsFresh, IsLeastRecursive, IsLeastUndefined, IsLooked, KeepsLeast, all_references, lesser_text, names_within, number_within, reference_view, references, references_in};
+ghost use Rattle.rn_assemble.specs.inside.Views.{names_of};
 ghost use Rattle.rn_pattern.specs.Matching.{definition_of};
 ghost use Rattle.rn_pattern.specs.Graph.{AllBelow, IsGraph, is_marked, row, rows_of};
-ghost use Rattle.rn_assemble.specs.inside.Listed.{OfKeys};
+ghost use Rattle.rn_assemble.specs.inside.Listed.{Lists, Live, OfKeys, components_in};
 
 use crate::components::Components;
 use crate::keys::{Keys, START};
@@ -22,11 +24,32 @@ use rn_pattern::ranks::least_looped;
 use rn_syntax::Pat;
 use std::alloc::{AllocError, Global};
 
+/// Which references of a pattern are meant (RELAX NG 2001, 4.18 and 4.19).
+#[derive(Clone, Copy, PartialEq, Eq)]
+pub enum Reach {
+    Everywhere,
+    OutsideElements,
+}
+
+/// A reference of a pattern: its name, and the narrowest reach that takes it in.
+#[derive(Clone, Copy)]
+struct Reference<'s> {
+    name: &'s str,
+    reach: Reach,
+}
+
 /// Of each key, the keys that its components refer to, and those that they refer to outside elements.
 #[derive(Drop)]
 pub(crate) struct References {
     all: Vec<Vec<usize>>,
     outer: Vec<Vec<usize>>,
+}
+
+/// The keys that a key's components refer to, and those that they refer to outside elements.
+#[derive(Drop)]
+struct Row {
+    all: Vec<usize>,
+    outer: Vec<usize>,
 }
 
 /// The references of all components. `Undefined` names the least name that is referred to and has no component.
@@ -36,9 +59,9 @@ pub(crate) fn references_of<'s>(
     components: &Components<'_, '_, 's>,
 ) -> Result<References, Refusal>
     ensures all { IfOk result (λ r. IsGraph (rows_of r.all.items)) }
-    ensures all_size { IfOk result (λ r. vec_len r.all ≡ vec_len keys.now.names + 1) }
+    ensures all_size { IfOk result (λ r. vec_len r.all ≡ length (names_of keys.now) + 1) }
     ensures outer { IfOk result (λ r. IsGraph (rows_of r.outer.items)) }
-    ensures outer_size { IfOk result (λ r. vec_len r.outer ≡ vec_len keys.now.names + 1) }
+    ensures outer_size { IfOk result (λ r. vec_len r.outer ≡ length (names_of keys.now) + 1) }
     ensures found { OfKeys keys.now components.now
         (λ names cs. MatchResult result
         (λ r. AreAllReferences names cs (rows_of r.all.items) (rows_of r.outer.items))
@@ -50,10 +73,16 @@ pub(crate) fn references_of<'s>(
     let mut outer = Vec::new(alloc);
     for key in 0..keys.len() {
         let bodies = bodies_of(alloc, components, key, &mut looked)?;
-        let anywhere = references_in(alloc, keys, components, bodies.as_slice(), &mut undefined)?;
-        all.push(anywhere)?;
-        let outside = references_outside(alloc, keys, components, bodies.as_slice())?;
-        outer.push(outside)?;
+        let references = references_in(alloc, components, bodies.as_slice())?;
+        let row = row_of(
+            alloc,
+            keys,
+            components,
+            references.as_slice(),
+            &mut undefined,
+        )?;
+        all.push(row.all)?;
+        outer.push(row.outer)?;
     }
     match undefined {
         Some(name) => Err(undefined_name(alloc, name)),
@@ -70,53 +99,6 @@ fn undefined_name(alloc: Global, name: &str) -> Refusal
         Ok(name) => Refusal::Undefined { name },
         Err(_) => Refusal::Memory,
     }
-}
-
-/// The numbers of the names that the bodies refer to. `undefined` gets the least of these names that has no component, and
-/// of the one held before.
-fn references_in<'s>(
-    alloc: Global,
-    keys: &Keys<'s>,
-    components: &Components<'_, '_, 's>,
-    bodies: &[usize],
-    undefined: &mut Option<&'s str>,
-) -> Result<Vec<usize>, AllocError>
-    ensures within { IfOk result (λ numbers. AllBelow (vec_len keys.now.names + 1) numbers.items) }
-    ensures are { IsStrictlySortedBy text_cmp (names_of keys.now)
-        → IfOk result (λ numbers. AreNumbers (names_of keys.now)
-        (names_in references components.now bodies.now) numbers.items) }
-    ensures least { OnOk result (KeepsLeast keys.now components.now
-        (names_in references components.now bodies.now) undefined.old undefined.new) }
-{
-    let mut names = Vec::new(alloc);
-    for number in bodies {
-        if let Some(body) = components.body(*number) {
-            refer(body.component.body, &mut names)?;
-        }
-    }
-    *undefined = least_undefined(keys, components, names.as_slice(), *undefined);
-    numbers(alloc, keys, names.as_slice())
-}
-
-/// The numbers of the names that they refer to outside elements.
-fn references_outside<'s>(
-    alloc: Global,
-    keys: &Keys<'s>,
-    components: &Components<'_, '_, 's>,
-    bodies: &[usize],
-) -> Result<Vec<usize>, AllocError>
-    ensures within { IfOk result (λ numbers. AllBelow (vec_len keys.now.names + 1) numbers.items) }
-    ensures are { IsStrictlySortedBy text_cmp (names_of keys.now)
-        → IfOk result (λ numbers. AreNumbers (names_of keys.now)
-        (names_in outer_references components.now bodies.now) numbers.items) }
-{
-    let mut names = Vec::new(alloc);
-    for number in bodies {
-        if let Some(body) = components.body(*number) {
-            refer_outside(body.component.body, &mut names)?;
-        }
-    }
-    numbers(alloc, keys, names.as_slice())
 }
 
 /// The bodies of a key's components, each once.
@@ -160,12 +142,143 @@ fn look(
     Some(number)
 }
 
-/// Whether the name has a component.
-fn is_defined<'s>(keys: &Keys<'s>, components: &Components<'_, '_, 's>, name: &'s str) -> bool
-    ensures { OfKeys keys.now components.now
-        (λ names cs. Decides result (IsSome (definition_of (joined_grammar cs) name.now))) }
+/// The references of the bodies with these numbers.
+fn references_in<'s>(
+    alloc: Global,
+    components: &Components<'_, '_, 's>,
+    bodies: &[usize],
+) -> Result<Vec<Reference<'s>>, AllocError>
+    ensures { IfOk result (λ found. map reference_view found.items
+        ≡ references_in components.now bodies.now) }
 {
-    match keys.find(name) {
+    let mut references = Vec::new(alloc);
+    for number in bodies {
+        if let Some(body) = components.body(*number) {
+            refer(body.component.body, Reach::OutsideElements, &mut references)?;
+        }
+    }
+    Ok(references)
+}
+
+/// Adds the references of a pattern that stands in that reach.
+#[cycle(refer)]
+fn refer<'s>(
+    pattern: &Pat<'s>,
+    reach: Reach,
+    found: &mut Vec<Reference<'s>>,
+) -> Result<(), AllocError>
+    ensures { OnOk result (map reference_view found.new.items
+        ≡ map reference_view found.old.items ++ references reach (pattern_view pattern.now)) }
+{
+    match pattern {
+        Pat::Ref(name) => {
+            found.push(Reference { name: *name, reach })?;
+            Ok(())
+        }
+        Pat::Element(_, content) => refer(content, Reach::Everywhere, found),
+        Pat::Attribute(_, content)
+        | Pat::List(content)
+        | Pat::Mixed(content)
+        | Pat::DatumBut(_, _, _, content)
+        | Pat::Repeated(_, content) => refer(content, reach, found),
+        Pat::Chain(_, members) => refer_all(members, reach, found),
+        Pat::Empty | Pat::NotAllowed | Pat::Text | Pat::Value(_, _) | Pat::Datum(_, _) => Ok(()),
+    }
+}
+
+#[cycle(refer)]
+fn refer_all<'s>(
+    patterns: &[Pat<'s>],
+    reach: Reach,
+    found: &mut Vec<Reference<'s>>,
+) -> Result<(), AllocError>
+    ensures { OnOk result (map reference_view found.new.items
+        ≡ map reference_view found.old.items
+        ++ all_references reach (patterns_view patterns.now)) }
+{
+    'patterns: for pattern in patterns {
+        refer(pattern, reach, found)?;
+    }
+    Ok(())
+}
+
+/// The keys that are referred to. `undefined` gets the least of the names that have no component, and of the one held
+/// before.
+fn row_of<'s>(
+    alloc: Global,
+    keys: &Keys<'s>,
+    components: &Components<'_, '_, 's>,
+    references: &[Reference<'s>],
+    undefined: &mut Option<&'s str>,
+) -> Result<Row, AllocError>
+    ensures all_within { IfOk result (λ row. AllBelow (length (names_of keys.now) + 1)
+        row.all.items) }
+    ensures all { IfOk result (λ row. AreNumbers (names_of keys.now)
+        (names_within Everywhere (map reference_view references.now)) row.all.items) }
+    ensures outer_within { IfOk result (λ row. AllBelow (length (names_of keys.now) + 1)
+        row.outer.items) }
+    ensures outer { IfOk result (λ row. AreNumbers (names_of keys.now)
+        (names_within OutsideElements (map reference_view references.now)) row.outer.items) }
+    ensures least { OnOk result (KeepsLeast (names_of keys.now) components.now
+        (names_within Everywhere (map reference_view references.now))
+        undefined.old undefined.new) }
+{
+    let mut row = Row {
+        all: Vec::new(alloc),
+        outer: Vec::new(alloc),
+    };
+    for reference in references {
+        let key = keys.find(reference.name);
+        row.add(key, reference.reach)?;
+        *undefined = least_undefined(components, reference.name, key, *undefined);
+    }
+    Ok(row)
+}
+
+impl Row {
+    /// Adds the key of a name that a reference with this narrowest reach refers to, if the name has one.
+    fn add(&mut self, key: Option<usize>, reach: Reach) -> Result<(), AllocError>
+        ensures all { OnOk result (self.new.all.items
+            ≡ self.old.all.items ++ number_within Everywhere reach key) }
+        ensures outer { OnOk result (self.new.outer.items
+            ≡ self.old.outer.items ++ number_within OutsideElements reach key) }
+    {
+        let Some(key) = key else {
+            return Ok(());
+        };
+        self.all.push(key)?;
+        if reach == Reach::OutsideElements {
+            self.outer.push(key)?;
+        }
+        Ok(())
+    }
+}
+
+/// The lesser of a name that has no component and the one held before, or the one that there is. The name's key is given,
+/// if it has one.
+fn least_undefined<'s>(
+    components: &Components<'_, '_, '_>,
+    name: &'s str,
+    key: Option<usize>,
+    held: Option<&'s str>,
+) -> Option<&'s str>
+    ensures { (names : List Text) → IsFound names name.now key
+        → KeepsLeast names components.now (name.now ∷ []) held.entry result }
+{
+    if has_components(components, key) {
+        held
+    } else {
+        Some(lesser_name(held, name))
+    }
+}
+
+/// Whether the key of a name, if the name has one, has components.
+fn has_components(components: &Components<'_, '_, '_>, key: Option<usize>) -> bool
+    ensures { (names : List Text) (live : List Live) (x : Text) → Lists names components.now live
+        → IsStrictlySortedBy text_cmp names → IsFound names x key
+        → result ≡ is_some (definition_of (joined_grammar (components_in live)) x) }
+{
+    match key {
         Some(key) => !components.of_key(key).is_empty(),
         None => false,
     }
@@ -179,110 +292,6 @@ pub(crate) fn lesser_name<'s>(held: Option<&'s str>, other: &'s str) -> &'s str
         return other;
     };
     if other < held { other } else { held }
-}
-
-/// The least of the names that has no component, and of one held before.
-fn least_undefined<'s>(
-    keys: &Keys<'s>,
-    components: &Components<'_, '_, 's>,
-    names: &[&'s str],
-    mut least: Option<&'s str>,
-) -> Option<&'s str>
-    ensures { KeepsLeast keys.now components.now (texts_of names.now) least.entry result }
-{
-    for name in names {
-        if !is_defined(keys, components, name) {
-            least = Some(lesser_name(least, name));
-        }
-    }
-    least
-}
-
-/// The numbers of the names.
-#[tactic(auto, using(rn_pattern::proofs::Graphs::Rows::none_below, rn_pattern::proofs::Graphs::Rows::below_push))]
-fn numbers<'s>(alloc: Global, keys: &Keys<'s>, names: &[&'s str]) -> Result<Vec<usize>, AllocError>
-    ensures within { IfOk result (λ numbers. AllBelow (vec_len keys.now.names + 1) numbers.items) }
-    ensures are { IsStrictlySortedBy text_cmp (names_of keys.now)
-        → IfOk result (λ numbers. AreNumbers (names_of keys.now)
-        (texts_of names.now) numbers.items) }
-{
-    let mut numbers = Vec::new(alloc);
-    for name in names {
-        if let Some(key) = keys.find(name) {
-            numbers.push(key)?;
-        }
-    }
-    Ok(numbers)
-}
-
-/// Adds the names that the pattern refers to.
-#[cycle(refer)]
-fn refer<'s>(pattern: &Pat<'s>, names: &mut Vec<&'s str>) -> Result<(), AllocError>
-    ensures { OnOk result (texts_of names.new.items
-        ≡ texts_of names.old.items ++ references (pattern_view pattern.now)) }
-{
-    match pattern {
-        Pat::Ref(name) => {
-            names.push(*name)?;
-            Ok(())
-        }
-        Pat::Element(_, content)
-        | Pat::Attribute(_, content)
-        | Pat::List(content)
-        | Pat::Mixed(content)
-        | Pat::DatumBut(_, _, _, content)
-        | Pat::Repeated(_, content) => refer(content, names),
-        Pat::Chain(_, members) => refer_all(members, names),
-        Pat::Empty | Pat::NotAllowed | Pat::Text | Pat::Value(_, _) | Pat::Datum(_, _) => Ok(()),
-    }
-}
-
-#[cycle(refer)]
-fn refer_all<'s>(patterns: &[Pat<'s>], names: &mut Vec<&'s str>) -> Result<(), AllocError>
-    ensures { OnOk result (texts_of names.new.items
-        ≡ texts_of names.old.items ++ all_references (patterns_view patterns.now)) }
-{
-    'patterns: for pattern in patterns {
-        refer(pattern, names)?;
-    }
-    Ok(())
-}
-
-/// Adds the names that the pattern refers to outside elements.
-#[cycle(refer_outside)]
-fn refer_outside<'s>(pattern: &Pat<'s>, names: &mut Vec<&'s str>) -> Result<(), AllocError>
-    ensures { OnOk result (texts_of names.new.items
-        ≡ texts_of names.old.items ++ outer_references (pattern_view pattern.now)) }
-{
-    match pattern {
-        Pat::Ref(name) => {
-            names.push(*name)?;
-            Ok(())
-        }
-        Pat::Attribute(_, content)
-        | Pat::List(content)
-        | Pat::Mixed(content)
-        | Pat::DatumBut(_, _, _, content)
-        | Pat::Repeated(_, content) => refer_outside(content, names),
-        Pat::Chain(_, members) => refer_all_outside(members, names),
-        Pat::Element(_, _)
-        | Pat::Empty
-        | Pat::NotAllowed
-        | Pat::Text
-        | Pat::Value(_, _)
-        | Pat::Datum(_, _) => Ok(()),
-    }
-}
-
-#[cycle(refer_outside)]
-fn refer_all_outside<'s>(patterns: &[Pat<'s>], names: &mut Vec<&'s str>) -> Result<(), AllocError>
-    ensures { OnOk result (texts_of names.new.items
-        ≡ texts_of names.old.items ++ all_outer_references (patterns_view patterns.now)) }
-{
-    'patterns: for pattern in patterns {
-        refer_outside(pattern, names)?;
-    }
-    Ok(())
 }
 
 /// The least key that start reaches and that comes back to itself by references outside elements.

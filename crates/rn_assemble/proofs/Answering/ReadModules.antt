@@ -13,14 +13,14 @@ use Rattle.rn_assemble.specs.declared.refusal.Refusal as code
 use Rattle.rn_assemble.specs.Components.{Source}
 use Rattle.rn_assemble.specs.Least.{IsLeast}
 use Rattle.rn_assemble.specs.inside.Reading.{IsRead, IsFaultOf}
-use Rattle.rn_assemble.specs.Refusal.{TextFault, Refusal, conflict, faulty, rank, HasFault, IsFirstFault, IsFaulty, IsModuleOf, AreModules, Stands, IsFirst}
+use Rattle.rn_assemble.specs.Refusal.{TextFault, Refusal, conflict, faulty, rank, HasTextFault, IsFirstFault, IsFaulty, IsModuleOf, AreModules, Stands, IsFirst}
 use Rattle.rn_assemble.specs.Refused.{IsFirstRefusal, refusal_view}
 use Rattle.rn_assemble.specs.inside.Views.{module_names, source_view, sources_view}
 use Rattle.rn_assemble.proofs.Referring.Named.{in_order_mapped}
 
 -- the text has no fault
 abbrev pub HasFaultlessText : Module → Type 0
-HasFaultlessText x = (f : TextFault) → ¬ HasFault x.1 f
+HasFaultlessText x = (f : TextFault) → ¬ HasTextFault x.1 f
 
 -- the module was read from this name and text
 abbrev pub IsReadFrom : Module → Source → Type 0
@@ -65,7 +65,7 @@ least_faulty (t ∷ texts) rise zero x l is before y (text, inside, wrong) less 
     (λ behind. no_less t.0 x.0 y at (contained_each (λ (p : Module). module_cmp t p ≡ Less) texts rise.0 (y, text) behind) less)
     (contains_cases t (y, text) texts inside)
 least_faulty (t ∷ texts) rise (suc n) x l is before y (text, inside, (f, has)) less = ⊎_elim
-    (λ same. before.0 f (subst (λ (p : Module). HasFault p.1 f) (sym same) has))
+    (λ same. before.0 f (subst (λ (p : Module). HasTextFault p.1 f) (sym same) has))
     (λ behind. least_faulty texts rise.1 n x (omega (arith, l)) is before.1 y (text, behind, (f, has)) less)
     (contains_cases t (y, text) texts inside)
 

@@ -1,9 +1,10 @@
 -- The references of keys, by the names that their bodies refer to.
-use Rattle.std.proofs.Common.{◌≡◌, ⊎_elim, ℕ, zero, suc, ◌<◌, Bool, true, false, cond, List, [], ◌∷◌, length, get_or, map, flat_map, filter, Option, Some, refl, sym, ap, ◌∙◌, subst, arith, Contains, eqb}
+use Rattle.std.proofs.Common.{◌≡◌, ⊎_elim, ℕ, zero, suc, ◌<◌, Bool, true, false, cond, List, [], ◌∷◌, ◌++◌, length, get_or, map, flat_map, filter, Option, Some, None, refl, sym, ap, ◌∙◌, subst, arith, Contains, eqb}
 use Rattle.std.specs.Prelude.{◌↔◌, Decides, IsSome, slice_get}
 use Rattle.std.specs.List.{AllByRecursion}
 use Rattle.std.specs.List.Sorted.{IsStrictlySortedBy}
 use Rattle.std.specs.Option.{option_map_or}
+use Rattle.std.proofs.lemmas.Grind.{flat_map-append}
 use Rattle.std.proofs.lemmas.List.Elements.{Contains-append_left, Contains-append_right, Contains-append_cases}
 use Rattle.std.specs.Prelude.{not}
 use Rattle.std.proofs.lemmas.Bool.{eqb-true, eqb-false, false≢true}
@@ -20,7 +21,9 @@ use Rattle.rn_assemble.specs.Components.{Key, name_key, same_key, Component}
 use Rattle.rn_assemble.specs.Combine.{bodies, of_key, combined, joined, joined_grammar}
 use Rattle.rn_assemble.specs.inside.Keyed.{IsNumber, key_at}
 use Rattle.rn_assemble.specs.inside.Listed.{Live, IsBody, IsLive, ListsBy, components_in}
-use Rattle.rn_assemble.specs.inside.Referred.{AreBodiesAt, names_at}
+use Rattle.rn_assemble.specs.inside.Referred.{AreBodiesAt, names_within, references, references_at, within}
+use Rattle.rn_assemble.specs.declared.references.Reach.{Reach}
+use Rattle.rn_assemble.specs.declared.references.Reach.TheVariants.{OutsideElements}
 use Rattle.rn_assemble.specs.declared.components.Body.{Body}
 use Rattle.rn_assemble.proofs.Combined.Combinations.{some_joined, joined_definition}
 use Rattle.rn_assemble.proofs.Referring.Numbers.{key_text, same_key-Decides}
@@ -63,6 +66,27 @@ got (x ∷ xs) (suc n) h d = got xs n (omega arith) d
 
 some_same : {A : Type 0} (x y : A) → Some x ≡ Some y → x ≡ y
 some_same x y e = cc
+
+-- ---- the names that bodies refer to
+
+-- those that f finds in a body, by its number
+abbrev pub names_at : (Pattern → List Text) → List Body → ℕ → List Text
+names_at f bs n = option_map_or (λ (b : Body). f (pattern_view b.component.body.now)) (slice_get bs n) []
+
+module _ (meant : Reach) where
+  -- the names of a pattern's references that the reach takes in
+  abbrev pub named_in : Pattern → List Text
+  named_in p = names_within meant (references OutsideElements p)
+
+  named_at : (o : Option Body) → names_within meant (option_map_or (λ (b : Body). references OutsideElements (pattern_view b.component.body.now)) o []) ≡ option_map_or (λ (b : Body). named_in (pattern_view b.component.body.now)) o []
+  named_at None = refl
+  named_at (Some b) = refl
+
+  pub names_of_bodies : (bs : List Body) (ns : List ℕ) → names_within meant (flat_map (references_at bs) ns) ≡ flat_map (names_at named_in bs) ns
+  names_of_bodies bs [] = refl
+  names_of_bodies bs (n ∷ ns) =
+      flat_map-append (λ (r : Text × Reach). within meant r.1 r.0) (references_at bs n) (flat_map (references_at bs) ns)
+      ∙ (λ i. named_at (slice_get bs n) i ++ names_of_bodies bs ns i)
 
 -- ---- a live component and its body
 

@@ -21,12 +21,13 @@ use Rattle.rn_assemble.specs.Combine.{bodies, joined, joined_grammar, defined_na
 use Rattle.rn_assemble.specs.inside.Keyed.{IsNumber, key_at}
 use Rattle.rn_assemble.specs.Least.{IsLeast}
 use Rattle.rn_assemble.specs.inside.Listed.{Live, ListsBy, components_in}
-use Rattle.rn_assemble.specs.inside.Referred.{AreAllReferences, AreBodiesAt, AreNumbers, IsLeastOf, names_at, references, outer_references}
+use Rattle.rn_assemble.specs.inside.Referred.{AreAllReferences, AreBodiesAt, AreNumbers, IsLeastOf, names_within, references_at}
+use Rattle.rn_assemble.specs.declared.references.Reach.TheVariants.{Everywhere, OutsideElements}
 use Rattle.rn_assemble.specs.declared.components.Body.{Body}
 use Rattle.rn_assemble.proofs.Referring.JoinedReferences.{refers_of_joined, refers_to_joined, refers_in_definition, outside_of_joined, outside_to_joined, outside_anywhere}
 use Rattle.rn_assemble.proofs.Referring.WrittenReferences.{referred, referred_outside}
 use Rattle.rn_assemble.proofs.Referring.LeastUndefined.{not_none}
-use Rattle.rn_assemble.proofs.Referring.FoundReferences.{map_contained, has_live, defined_name, names_are}
+use Rattle.rn_assemble.proofs.Referring.FoundReferences.{map_contained, has_live, defined_name, named_in, names_are, names_of_bodies}
 
 -- the row of a key has the numbers of the names among those that are referred to
 pub record RowOf (R : Text → Tree → Type 0) (names : List Text) (cs : List Component) (k : ℕ) (r : List ℕ) : Type 0 where
@@ -149,12 +150,12 @@ module _ (names : List Text) (bs : List Body) (list : List ℕ) (rows : List (Li
       }
 
   -- the names that the bodies of a key refer to
-  pub names_anywhere : (k : ℕ) (ns slice : List ℕ) (texts : List Text) → k < suc (length names) → AreBodiesAt (length bs) list (row rows k) ns → slice ≡ ns → texts ≡ flat_map (names_at references bs) slice → (y : Text) → Contains texts y ↔ RefersTo y (joined cs (key_at names k))
-  names_anywhere k ns slice texts h a e t y =
-      subst (λ ts. Contains ts y ↔ RefersTo y (joined cs (key_at names k))) (sym (t ∙ ap (flat_map (names_at references bs)) e))
-      (names_are names bs list rows live lists sorted references RefersTo referred (λ z j. refers_of_joined z cs j) (λ z j p. refers_to_joined z cs j p) k ns h a y)
+  pub names_anywhere : (k : ℕ) (ns : List ℕ) (texts : List Text) → k < suc (length names) → AreBodiesAt (length bs) list (row rows k) ns → texts ≡ names_within Everywhere (flat_map (references_at bs) ns) → (y : Text) → Contains texts y ↔ RefersTo y (joined cs (key_at names k))
+  names_anywhere k ns texts h a t y =
+      subst (λ ts. Contains ts y ↔ RefersTo y (joined cs (key_at names k))) (sym (t ∙ names_of_bodies Everywhere bs ns))
+      (names_are names bs list rows live lists sorted (named_in Everywhere) RefersTo (λ i ds z p. referred i ds z OutsideElements p) (λ z j. refers_of_joined z cs j) (λ z j p. refers_to_joined z cs j p) k ns h a y)
 
-  pub names_outside : (k : ℕ) (ns slice : List ℕ) (texts : List Text) → k < suc (length names) → AreBodiesAt (length bs) list (row rows k) ns → slice ≡ ns → texts ≡ flat_map (names_at outer_references bs) slice → (y : Text) → Contains texts y ↔ RefersOutside y (joined cs (key_at names k))
-  names_outside k ns slice texts h a e t y =
-      subst (λ ts. Contains ts y ↔ RefersOutside y (joined cs (key_at names k))) (sym (t ∙ ap (flat_map (names_at outer_references bs)) e))
-      (names_are names bs list rows live lists sorted outer_references RefersOutside referred_outside (λ z j. outside_of_joined z cs j) (λ z j p. outside_to_joined z cs j p) k ns h a y)
+  pub names_outside : (k : ℕ) (ns : List ℕ) (texts : List Text) → k < suc (length names) → AreBodiesAt (length bs) list (row rows k) ns → texts ≡ names_within OutsideElements (flat_map (references_at bs) ns) → (y : Text) → Contains texts y ↔ RefersOutside y (joined cs (key_at names k))
+  names_outside k ns texts h a t y =
+      subst (λ ts. Contains ts y ↔ RefersOutside y (joined cs (key_at names k))) (sym (t ∙ names_of_bodies OutsideElements bs ns))
+      (names_are names bs list rows live lists sorted (named_in OutsideElements) RefersOutside referred_outside (λ z j. outside_of_joined z cs j) (λ z j p. outside_to_joined z cs j p) k ns h a y)

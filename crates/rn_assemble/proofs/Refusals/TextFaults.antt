@@ -17,7 +17,7 @@ use Rattle.rn_syntax.specs.Faults.{HasNoFault, IsFault}
 use Rattle.rn_syntax.specs.Places.{deep, first, prefix_places, builtin_places, context_places, except_places}
 use Rattle.rn_syntax.proofs.OneTree.{one_tree}
 use Rattle.rn_syntax.proofs.SourceTokens.{tokens_are_spelled}
-use Rattle.rn_assemble.specs.Refusal.{TextFault, encoding, lexical, deep_brackets, syntax, prefix, builtin, context_value, except, fault_rank, HasFault, IsFirstFault, IsModuleOf, TokensAre}
+use Rattle.rn_assemble.specs.Refusal.{TextFault, encoding, lexical, deep_brackets, syntax, prefix, builtin, context_value, except, fault_rank, HasTextFault, IsFirstFault, IsModuleOf, TokensAre}
 use Rattle.rn_assemble.specs.inside.Reading.{IsRead}
 use Rattle.rn_assemble.proofs.Refusals.OneSet.{one_fault, one_module_of}
 
@@ -50,10 +50,10 @@ rank_below except = omega arith
 module _ (text : Text) where
   -- the text has none of the first n kinds of faults
   abbrev LacksFirst : ℕ → Type 0
-  LacksFirst n = (g : TextFault) → fault_rank g < n → ¬ HasFault text g
+  LacksFirst n = (g : TextFault) → fault_rank g < n → ¬ HasTextFault text g
 
-  one_more : (f : TextFault) → LacksFirst (fault_rank f) → ¬ HasFault text f → LacksFirst (fault_rank f + 1)
-  one_more f before none g l h = ⊎_elim (λ e. none (subst (HasFault text) (one_fault g f e) h)) (⊎_elim (λ less. before g less h) (λ more. absurd (omega (arith, l, more)))) (cases_order (fault_rank g) (fault_rank f))
+  one_more : (f : TextFault) → LacksFirst (fault_rank f) → ¬ HasTextFault text f → LacksFirst (fault_rank f + 1)
+  one_more f before none g l h = ⊎_elim (λ e. none (subst (HasTextFault text) (one_fault g f e) h)) (⊎_elim (λ less. before g less h) (λ more. absurd (omega (arith, l, more)))) (cases_order (fault_rank g) (fault_rank f))
 
   module _ (utf8 : IsUtf8 text) where
     encoded : LacksFirst 1
@@ -73,7 +73,7 @@ module _ (text : Text) where
       first_deep at e = ((utf8, (ts, has, ap is_some e)), cut)
 
       module _ (shallow : deep 0 (terminals ts) ≡ None) where
-        not_deep : ¬ HasFault text deep_brackets
+        not_deep : ¬ HasTextFault text deep_brackets
         not_deep h =
             let some : is_some (deep 0 (terminals ts)) ≡ true = of_tokens (λ us. is_some (deep 0 (terminals us)) ≡ true) h in
             let none : is_some (deep 0 (terminals ts)) ≡ false = ap is_some shallow in

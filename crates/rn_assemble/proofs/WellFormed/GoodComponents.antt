@@ -14,7 +14,7 @@ use Rattle.rn_syntax.specs.Places.{class_places, unbound_type, wrong_builtin, co
 use Rattle.rn_syntax.proofs.EmptyLists.{nil_parts}
 use Rattle.rn_assemble.specs.Texts.{IsXml}
 use Rattle.rn_assemble.specs.Components.{Component, Source, has_key, overridden, handed_on, item_components, all_components, module_components, modules_named, components_within, components, instance_limit, roots, set_components}
-use Rattle.rn_assemble.specs.Refusal.{TextFault, prefix, builtin, context_value as context_fault, except, IsModuleOf, HasFault, AreModules, grammar_of}
+use Rattle.rn_assemble.specs.Refusal.{TextFault, prefix, builtin, context_value as context_fault, except, IsModuleOf, HasTextFault, AreModules, grammar_of}
 use Rattle.rn_assemble.specs.WellFormed.{HasWritableTexts}
 use Rattle.rn_assemble.proofs.WellFormed.ComponentExcepts.{in_item, in_items, resolved_has, each_kept}
 use Rattle.rn_assemble.proofs.WellFormed.GoodTrees.{IsGoodItem, AreGoodItems, AreGoodDeclarations, IsGoodModule, module_good}
@@ -103,7 +103,7 @@ no_places : (xs : List ℕ) → ¬ (xs ≢ []) → xs ≡ []
 no_places [] h = refl
 no_places (x ∷ xs) h = absurd (h (λ e. cc))
 
-faultless_of : (text : Text) (m : Module) → ((f : TextFault) → ¬ HasFault text f) → IsModuleOf text m → IsFaultless m
+faultless_of : (text : Text) (m : Module) → ((f : TextFault) → ¬ HasTextFault text f) → IsModuleOf text m → IsFaultless m
 faultless_of text m none (u, (ts, has, tree)) = record {
   good = module_good tree (tokens_good (chars text) ts has);
   bound = no_places (prefix_places m) (λ h. none prefix (m, (u, (ts, has, tree)), h));
@@ -112,7 +112,7 @@ faultless_of text m none (u, (ts, has, tree)) = record {
   excepts = no_places (except_places m) (λ h. none except (m, (u, (ts, has, tree)), h));
 }
 
-each_faultless : (texts : List effective.Module) (modules : List Source) → ((x text : Text) → Contains {X = Text × Text} texts (x, text) → (f : TextFault) → ¬ HasFault text f)
+each_faultless : (texts : List effective.Module) (modules : List Source) → ((x text : Text) → Contains {X = Text × Text} texts (x, text) → (f : TextFault) → ¬ HasTextFault text f)
     → AllZip (λ (x : effective.Module) (m : Source). (m.name ≡ x.0) × IsModuleOf x.1 m.tree) texts modules → AllByRecursion (λ (m : Source). IsFaultless m.tree) modules
 each_faultless [] [] none h = tt
 each_faultless [] (m ∷ ms) none h = absurd h

@@ -4,17 +4,18 @@ use Rattle.std.specs.Prelude.{⊤, codes, true}
 use Rattle.std.specs.List.{list_all}
 use Rattle.rn_text.specs.Characters.{is_ncname, is_name_start, is_name_char}
 use Rattle.rn_pattern.specs.Tree.{Text}
-use Rattle.rn_syntax.specs.declared.token.Keyword.{Keyword}
-use Rattle.rn_syntax.specs.declared.token.Keyword.TheVariants as k
+use Rattle.rn_text.specs.declared.keywords.Keyword.{Keyword}
+use Rattle.rn_text.specs.declared.keywords.Keyword.TheVariants as k
 use Rattle.rn_syntax.specs.declared.token.Operator.{Operator}
-use Rattle.rn_syntax.specs.Terminal.{Terminal, Placed, spelling}
+use Rattle.rn_text.specs.Keywords.{spelling}
+use Rattle.rn_syntax.specs.Terminal.{Terminal, Placed}
 use Rattle.rn_syntax.specs.Tree as t
 use Rattle.rn_syntax.specs.Tree.{Name, Datatype, Params, AnyName, NameClass, NameClasses, Pattern, Patterns, Uri, Declaration, Item, Items, Module, patterns_of, classes_of, items_of}
 use Rattle.rn_syntax.specs.Grammar as g
 use Rattle.rn_syntax.specs.Grammar.{Tokens, IsWord, IsLiteral, Closed, IsAnnotation, MayHaveAnnotation, AreFollows, IsDatatype, MayHaveParams, IsAnyName, IsNameClass, AreMoreClasses, IsClassOperand, IsClassPrimary, IsClassCore, IsPattern, AreMore, IsOperand, IsPrimary, IsCore, IsUri, IsDeclaration, AreDeclarations, IsComponent, IsNote, AreInnerItems, MayInherit, MayHaveOverrides, AreItems, IsModule}
 use Rattle.rn_syntax.proofs.Terms.{ascii}
 use Rattle.rn_assemble.specs.Texts.{IsName, IsXml, AreParams}
-use Rattle.rn_assemble.proofs.WellFormed.Terminals.{IsGood, IsGoodPlaced, AreGood, name_is, xml_append}
+use Rattle.rn_assemble.proofs.WellFormed.Terminals.{IsGoodTerminal, IsGoodPlaced, AreGood, name_is, xml_append}
 
 -- ---- good trees
 
@@ -112,7 +113,7 @@ keyword_name k.String = ascii_name (codes "string") refl refl
 keyword_name k.Text = ascii_name (codes "text") refl refl
 keyword_name k.Token = ascii_name (codes "token") refl refl
 
-word_good : {x : Terminal} {n : Text} → IsWord x n → IsGood x → IsName n
+word_good : {x : Terminal} {n : Text} → IsWord x n → IsGoodTerminal x → IsName n
 word_good g.by_name h = h
 word_good (g.by_keyword {w = w}) h = keyword_name w
 

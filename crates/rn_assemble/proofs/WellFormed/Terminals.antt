@@ -17,8 +17,8 @@ use Rattle.rn_text.proofs.NamesXml.{ncname_xml}
 use Rattle.rn_text.proofs.Quoted.{all_append}
 use Rattle.rn_text.proofs.Contents.{EscapesWhole, segment_whole}
 use Rattle.rn_pattern.specs.Tree.{Text}
-use Rattle.rn_syntax.specs.declared.token.Keyword as code
-use Rattle.rn_syntax.specs.declared.token.Keyword.TheVariants as k
+use Rattle.rn_text.specs.declared.keywords.Keyword as code
+use Rattle.rn_text.specs.declared.keywords.Keyword.TheVariants as k
 use Rattle.rn_syntax.specs.Terminal as t
 use Rattle.rn_syntax.specs.Terminal.{Terminal, Placed, ◌#◌}
 use Rattle.rn_syntax.specs.Grammar.{Tokens}
@@ -99,35 +99,35 @@ segment_xml cs s h = text_xml 0 (between_delimiters cs) (segment_whole cs s) (be
 
 -- ---- terminals
 
-abbrev pub IsGood : Terminal → Type 0
-IsGood (t.ident n) = IsName n
-IsGood (t.prefixed p l) = IsName p × IsName l
-IsGood (t.segment s) = IsXml s
-IsGood x = ⊤
+abbrev pub IsGoodTerminal : Terminal → Type 0
+IsGoodTerminal (t.ident n) = IsName n
+IsGoodTerminal (t.prefixed p l) = IsName p × IsName l
+IsGoodTerminal (t.segment s) = IsXml s
+IsGoodTerminal x = ⊤
 
 abbrev pub IsGoodPlaced : Placed → Type 0
-IsGoodPlaced (x # i) = IsGood x
+IsGoodPlaced (x # i) = IsGoodTerminal x
 
 abbrev pub AreGood : Tokens → Type 0
 AreGood = AllByRecursion IsGoodPlaced
 
-in_rows_at : (b : Bool) (x y : Terminal) → IsGood x → IsGood y → IsGood (cond b x y)
+in_rows_at : (b : Bool) (x y : Terminal) → IsGoodTerminal x → IsGoodTerminal y → IsGoodTerminal (cond b x y)
 in_rows_at true x y h k = h
 in_rows_at false x y h k = k
 
-in_rows : (rows : List (List ℕ × Terminal)) (cs : List ℕ) → AllByRecursion (λ row. IsGood row.1) rows → IsGood (spelled_in rows cs)
+in_rows : (rows : List (List ℕ × Terminal)) (cs : List ℕ) → AllByRecursion (λ row. IsGoodTerminal row.1) rows → IsGoodTerminal (spelled_in rows cs)
 in_rows [] cs h = tt
 in_rows (row ∷ rows) cs h = in_rows_at (bytes_eq row.0 cs) row.1 (spelled_in rows cs) h.0 (in_rows rows cs h.1)
 
-words_good : (ws : List code.Keyword) → AllByRecursion (λ (row : List ℕ × Terminal). IsGood row.1) (map keyword_row ws)
+words_good : (ws : List code.Keyword) → AllByRecursion (λ (row : List ℕ × Terminal). IsGoodTerminal row.1) (map keyword_row ws)
 words_good [] = tt
 words_good (w ∷ ws) = (tt, words_good ws)
 
-keywords_good : AllByRecursion (λ (row : List ℕ × Terminal). IsGood row.1) keyword_rows
+keywords_good : AllByRecursion (λ (row : List ℕ × Terminal). IsGoodTerminal row.1) keyword_rows
 unfolding keyword_rows
 keywords_good = words_good (k.Attribute ∷ k.Default ∷ k.Datatypes ∷ k.Div ∷ k.Element ∷ k.Empty ∷ k.External ∷ k.Grammar ∷ k.Include ∷ k.Inherit ∷ k.List ∷ k.Mixed ∷ k.Namespace ∷ k.NotAllowed ∷ k.Parent ∷ k.Start ∷ k.String ∷ k.Text ∷ k.Token ∷ [])
 
-symbols_good : AllByRecursion (λ (row : List ℕ × Terminal). IsGood row.1) symbol_rows
+symbols_good : AllByRecursion (λ (row : List ℕ × Terminal). IsGoodTerminal row.1) symbol_rows
 unfolding symbol_rows
 symbols_good = (tt, (tt, (tt, (tt, (tt, (tt, (tt, (tt, (tt, (tt, (tt, (tt, (tt, (tt, (tt, (tt, (tt, (tt, tt))))))))))))))))))
 
@@ -135,7 +135,7 @@ quoted_name : (cs : List ℕ) → spells (Token Quoted) cs ≡ true → is_ncnam
 quoted_name [] e = cc
 quoted_name (c ∷ cs) e = (and_parts (c == 92) (is_ncname cs) e).1
 
-terminal_good : (kind : Kind) (cs : List ℕ) → spells (Token kind) cs ≡ true → list_all is_xml_char cs ≡ true → IsGood (terminal_of kind cs)
+terminal_good : (kind : Kind) (cs : List ℕ) → spells (Token kind) cs ≡ true → list_all is_xml_char cs ≡ true → IsGoodTerminal (terminal_of kind cs)
 terminal_good Name cs e h = name_is cs (and_parts (is_ncname cs) (not (is_keyword cs)) e).0
 terminal_good Keyword cs e h = in_rows keyword_rows cs keywords_good
 terminal_good Quoted cs e h = name_is (drop 1 cs) (quoted_name cs e)

@@ -4,13 +4,13 @@ use Rattle.rn_pattern.specs.Tree.{Text}
 use Rattle.rn_syntax.specs.Tree.{Module}
 use Rattle.rn_assemble.specs.declared.refusal.Refusal as code
 use Rattle.rn_assemble.specs.declared.refusal.Refusal.TheVariants as r
-use Rattle.rn_assemble.specs.Refusal.{TextFault, HasFault, IsFirstFault, IsModuleOf, faulty}
+use Rattle.rn_assemble.specs.Refusal.{TextFault, HasTextFault, IsFirstFault, IsModuleOf, faulty}
 use Rattle.rn_assemble.specs.Refused.{refusal_view}
 
 -- the text is a module of this tree, and has no fault
 pub record IsRead (text : Text) (m : Module) : Type 0 where
   pub is_module : IsModuleOf text m
-  pub faultless : (f : TextFault) → ¬ HasFault text f
+  pub faultless : (f : TextFault) → ¬ HasTextFault text f
 
 -- the first fault of the text of the module with this name, or want of memory
 abbrev pub IsFaultOf : (name text : Text) → code.Refusal → Type 0

@@ -20,54 +20,44 @@ use Rattle.rn_assemble.specs.Combine.{joined, joined_grammar}
 use Rattle.rn_assemble.specs.inside.Keyed.{IsNumber, key_at}
 use Rattle.rn_assemble.specs.Least.{IsLeast}
 use Rattle.rn_assemble.specs.inside.Listed.{Live, Lists, components_in}
-use Rattle.rn_assemble.specs.inside.Views.{names_of}
 use Rattle.rn_assemble.specs.declared.components.Body.{Body}
 use Rattle.rn_assemble.specs.declared.components.Components.{Components}
-use Rattle.rn_assemble.specs.declared.keys.Keys.{Keys}
+use Rattle.rn_assemble.specs.declared.references.Reach.{Reach}
+use Rattle.rn_assemble.specs.declared.references.Reach.TheVariants.{Everywhere, OutsideElements}
+use Rattle.rn_assemble.specs.declared.references.Reference.{Reference}
 use Rattle.rn_assemble.specs.declared.refusal.Refusal.{Refusal}
 use Rattle.rn_assemble.specs.declared.refusal.Refusal.TheVariants as r
 
--- the names that a written pattern refers to, in the order of the text
+-- the references of a written pattern that stands in a reach, in the order of the text: the name of each, and the narrowest reach that takes it in
 abbrev mutual
-  pub references : Pattern → List Text
-  references (t.element c p) = references p
-  references (t.attribute c p) = references p
-  references (t.list p) = references p
-  references (t.mixed p) = references p
-  references t.empty = []
-  references t.not_allowed = []
-  references t.text = []
-  references (t.ref x) = x ∷ []
-  references (t.value d s) = []
-  references (t.datum d ps) = []
-  references (t.datum_but d ps i p) = references p
-  references (t.repeated s p) = references p
-  references (t.chain o ps) = all_references ps
+  pub references : Reach → Pattern → List (Text × Reach)
+  references r (t.element c p) = references Everywhere p
+  references r (t.attribute c p) = references r p
+  references r (t.list p) = references r p
+  references r (t.mixed p) = references r p
+  references r t.empty = []
+  references r t.not_allowed = []
+  references r t.text = []
+  references r (t.ref x) = (x, r) ∷ []
+  references r (t.value d s) = []
+  references r (t.datum d ps) = []
+  references r (t.datum_but d ps i p) = references r p
+  references r (t.repeated s p) = references r p
+  references r (t.chain o ps) = all_references r ps
 
-  pub all_references : Patterns → List Text
-  all_references t.no_patterns = []
-  all_references (t.pattern p ps) = references p ++ all_references ps
+  pub all_references : Reach → Patterns → List (Text × Reach)
+  all_references r t.no_patterns = []
+  all_references r (t.pattern p ps) = references r p ++ all_references r ps
 
--- those outside every element in it
-abbrev mutual
-  pub outer_references : Pattern → List Text
-  outer_references (t.element c p) = []
-  outer_references (t.attribute c p) = outer_references p
-  outer_references (t.list p) = outer_references p
-  outer_references (t.mixed p) = outer_references p
-  outer_references t.empty = []
-  outer_references t.not_allowed = []
-  outer_references t.text = []
-  outer_references (t.ref x) = x ∷ []
-  outer_references (t.value d s) = []
-  outer_references (t.datum d ps) = []
-  outer_references (t.datum_but d ps i p) = outer_references p
-  outer_references (t.repeated s p) = outer_references p
-  outer_references (t.chain o ps) = all_outer_references ps
+-- what a reference with this narrowest reach brings where those of a reach are meant
+abbrev pub within : {X : Type 0} → (meant narrowest : Reach) → X → List X
+within Everywhere r x = x ∷ []
+within OutsideElements Everywhere x = []
+within OutsideElements OutsideElements x = x ∷ []
 
-  pub all_outer_references : Patterns → List Text
-  all_outer_references t.no_patterns = []
-  all_outer_references (t.pattern p ps) = outer_references p ++ all_outer_references ps
+-- the names of those references that the reach takes in
+abbrev pub names_within : Reach → List (Text × Reach) → List Text
+names_within meant rs = flat_map (λ (r : Text × Reach). within meant r.1 r.0) rs
 
 -- the row of each key has the numbers of the names to which what is joined under it refers, in the sense of R
 pub record AreReferences (R : Text → Tree → Type 0) (names : List Text) (cs : List Component) (rows : List (List ℕ)) : Type 0 where
@@ -89,13 +79,21 @@ IsLeastUndefined cs _ = ⊥
 
 -- ---- how they are found
 
--- the names that a body refers to, by its number
-abbrev pub names_at : (Pattern → List Text) → List Body → ℕ → List Text
-names_at names bodies n = option_map_or (λ (b : Body). names (pattern_view b.component.body.now)) (slice_get bodies n) []
+abbrev pub reference_view : Reference → Text × Reach
+reference_view r = (r.name.now, r.reach)
 
--- those that the bodies of these numbers refer to
-abbrev pub names_in : (Pattern → List Text) → Components → List ℕ → List Text
-names_in names x numbers = flat_map (names_at names x.bodies.items) numbers
+-- the references of a body, by its number
+abbrev pub references_at : List Body → ℕ → List (Text × Reach)
+references_at bodies n = option_map_or (λ (b : Body). references OutsideElements (pattern_view b.component.body.now)) (slice_get bodies n) []
+
+-- those of the bodies with these numbers
+abbrev pub references_in : Components → List ℕ → List (Text × Reach)
+references_in x numbers = flat_map (references_at x.bodies.items) numbers
+
+-- the number of a name that is referred to, if it has one and the reach takes the reference in
+abbrev pub number_within : (meant narrowest : Reach) → Option ℕ → List ℕ
+number_within meant r None = []
+number_within meant r (Some k) = within meant r k
 
 -- the numbers of the bodies at these places, in any order
 pub record AreBodiesAt (size : ℕ) (list places : List ℕ) (bodies : List ℕ) : Type 0 where
@@ -130,9 +128,9 @@ IsLeastOf G xs None = (x : Text) → Contains xs x → IsSome (definition_of G x
 IsLeastOf G xs (Some y) = Contains xs y × (definition_of G y ≡ None) × ((x : Text) → Contains xs x → definition_of G x ≡ None → text_cmp x y ≢ Less)
 
 -- where the old one is the least undefined name of some, the new one is that of these and of more
-abbrev pub KeepsLeast : Keys → Components → (more : List Text) → (old new : Option (Bor (List ℕ))) → Type 0
-KeepsLeast keys x more old new = (live : List Live) (before : List Text) → Lists (names_of keys) x live
-    → IsStrictlySortedBy text_cmp (names_of keys)
+abbrev pub KeepsLeast : List Text → Components → (more : List Text) → (old new : Option (Bor (List ℕ))) → Type 0
+KeepsLeast names x more old new = (live : List Live) (before : List Text) → Lists names x live
+    → IsStrictlySortedBy text_cmp names
     → IsLeastOf (joined_grammar (components_in live)) before (option_map (λ (s : Bor (List ℕ)). s.now) old)
     → IsLeastOf (joined_grammar (components_in live)) (before ++ more) (option_map (λ (s : Bor (List ℕ)). s.now) new)
 

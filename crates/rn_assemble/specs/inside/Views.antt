@@ -18,7 +18,7 @@ texts_of xs = map (λ (s : Bor (List ℕ)). s.now) xs
 
 -- the names of the keys, in the order of their numbers
 abbrev pub names_of : Keys → List Text
-names_of keys = texts_of keys.names.items
+names_of keys = texts_of keys.names.keys
 
 abbrev pub source_view : code_source.Source → Source
 source_view m = record { name = m.name.now; tree = module_view m.tree }

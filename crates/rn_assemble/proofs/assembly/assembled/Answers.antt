@@ -1,5 +1,4 @@
-use Rattle.std.proofs.Common.{◌≡◌, ℕ, ◌+◌, List, length, sym, subst, arith, Bor}
-use Rattle.std.proofs.lemmas.List.{length-map}
+use Rattle.std.proofs.Common.{◌≡◌, ℕ, ◌+◌, List, length, sym, subst, arith}
 use Rattle.rn_assemble.specs.declared.contents.Contents.{Contents}
 use Rattle.rn_assemble.specs.inside.Expanded.{CanList}
 use Rattle.rn_assemble.specs.inside.Included.{AreIncluded}
@@ -18,6 +17,6 @@ joined-requires c =
     let included = subst (λ (ns : List ℕ). AreIncluded modules ns) (sym c.as_slice-2.ensures.value) c.in_ok-roots.ensures in
     let are = subst (λ (cs : List Contents). AreContents modules names cs) (sym c.as_slice.ensures.value) c.in_ok-contents.ensures in
     let can : CanList modules names c.as_slice.result.now = record { modules_in_order = order; names_in_order = c.in_ok-keys.ensures.in_order; flat = c.requires.flat; are = are } in
-    let size : c.len.result ≡ length names + 1 = omega (arith, c.len.ensures, length-map keys.names.items (λ (b : Bor (List ℕ)). b.now), keys.names.ok.0) in
+    let size : c.len.result ≡ length names + 1 = omega (arith, c.len.ensures) in
     let found = c.in_ok-components.ensures in
     expanded modules names c.in_ok-components.components c.as_slice-2.result.now order c.requires.flat included c.in_ok-keys.ensures (found.listed modules names can size included.within) (found.lacks modules names can size included.within)

@@ -1,7 +1,6 @@
-use Rattle.std.proofs.Common.{◌≡◌, ◌<◌, ℕ, List, length, sym, ap, ◌∙◌, subst, arith, Bor, inl, inr}
+use Rattle.std.proofs.Common.{◌≡◌, ◌<◌, ℕ, List, length, sym, ap, ◌∙◌, subst, arith, inl, inr}
 use Rattle.std.proofs.lemmas.Bool.{false≢true}
 use Rattle.std.proofs.lemmas.Bool.Decides.{eqb_tells}
-use Rattle.std.proofs.lemmas.List.{length-map}
 use Rattle.rn_pattern.specs.Graph.{rows_of}
 use Rattle.rn_assemble.specs.Combine.{IsPlainTwice, IsMixed}
 use Rattle.rn_assemble.specs.Components.{Key}
@@ -16,9 +15,8 @@ returns-in-Some c = λ live h o.
     let x = c.args.components.now in
     let names = names_of c.args.keys.now in
     let P : Key → Type 0 = λ j. IsPlainTwice j (components_in live) in
-    let size = length-map c.args.keys.now.names.items (λ (b : Bor (List ℕ)). b.now) in
-    let least = c.in-Some.ensures names live h o (omega (arith, c.len.ensures, size, c.args.keys.now.names.ok.0)) in
-    let key_is = c.in_ok-key.ensures (omega (arith, least.0, size, c.args.keys.now.names.ok.0)) in
+    let least = c.in-Some.ensures names live h o (omega (arith, c.len.ensures)) in
+    let key_is = c.in_ok-key.ensures (omega (arith, least.0)) in
     subst (λ k. IsLeast key_cmp P k) (sym key_is) (least_key names o P (plain_has names x.bodies.items x.list.items (rows_of x.places.items) live h) c.in-Some.key least)
 
 pub returns-in-Some-least_mixed : goal.returns-in-Some-least_mixed
@@ -26,10 +24,9 @@ returns-in-Some-least_mixed c = λ live h o.
     let x = c.args.components.now in
     let names = names_of c.args.keys.now in
     let P : Key → Type 0 = λ j. IsMixed j (components_in live) in
-    let size = length-map c.args.keys.now.names.items (λ (b : Bor (List ℕ)). b.now) in
-    let none = c.in_default.ensures names live h o (omega (arith, c.len.ensures, size, c.args.keys.now.names.ok.0)) in
-    let least = c.in-Some-least_mixed.ensures names live h o (omega (arith, c.len-2.ensures, size, c.args.keys.now.names.ok.0)) in
-    let key_is = c.in_ok-key-2.ensures (omega (arith, least.0, size, c.args.keys.now.names.ok.0)) in (
+    let none = c.in_default.ensures names live h o (omega (arith, c.len.ensures)) in
+    let least = c.in-Some-least_mixed.ensures names live h o (omega (arith, c.len-2.ensures)) in
+    let key_is = c.in_ok-key-2.ensures (omega (arith, least.0)) in (
       subst (λ k. IsLeast key_cmp P k) (sym key_is) (least_key names o P (mixed_has names x.bodies.items x.list.items (rows_of x.places.items) live h) c.in-Some-least_mixed.key least),
       no_key names o (λ j. IsPlainTwice j (components_in live)) (plain_has names x.bodies.items x.list.items (rows_of x.places.items) live h) none,
     )
@@ -38,9 +35,8 @@ pub returns-then-is_empty : goal.returns-then-is_empty
 returns-then-is_empty c = λ live h o.
     let x = c.args.components.now in
     let names = names_of c.args.keys.now in
-    let size = length-map c.args.keys.now.names.items (λ (b : Bor (List ℕ)). b.now) in
-    let none = c.in_default.ensures names live h o (omega (arith, c.len.ensures, size, c.args.keys.now.names.ok.0)) in
-    let no_mixed = c.in_default-least_mixed.ensures names live h o (omega (arith, c.len-2.ensures, size, c.args.keys.now.names.ok.0)) in
+    let none = c.in_default.ensures names live h o (omega (arith, c.len.ensures)) in
+    let no_mixed = c.in_default-least_mixed.ensures names live h o (omega (arith, c.len-2.ensures)) in
     let empty : length c.of_key.result.now ≡ 0 = elim (eqb_tells (length c.of_key.result.now) 0) [ inl t ↦ t.1 | inr t ↦ absurd (false≢true (sym t.0 ∙ sym c.is_empty.ensures ∙ c.if-is_empty.true)) ] in (
       no_start names x.bodies.items x.list.items (rows_of x.places.items) live h o (ap (λ (l : List ℕ). length l) (sym c.of_key.ensures) ∙ empty),
       no_key names o (λ j. IsPlainTwice j (components_in live)) (plain_has names x.bodies.items x.list.items (rows_of x.places.items) live h) none,
@@ -51,9 +47,8 @@ pub returns : goal.returns
 returns c = λ live h o.
     let x = c.args.components.now in
     let names = names_of c.args.keys.now in
-    let size = length-map c.args.keys.now.names.items (λ (b : Bor (List ℕ)). b.now) in
-    let none = c.in_default.ensures names live h o (omega (arith, c.len.ensures, size, c.args.keys.now.names.ok.0)) in
-    let no_mixed = c.in_default-least_mixed.ensures names live h o (omega (arith, c.len-2.ensures, size, c.args.keys.now.names.ok.0)) in
+    let none = c.in_default.ensures names live h o (omega (arith, c.len.ensures)) in
+    let no_mixed = c.in_default-least_mixed.ensures names live h o (omega (arith, c.len-2.ensures)) in
     let some : 0 < length c.of_key.result.now = elim (eqb_tells (length c.of_key.result.now) 0) [ inl t ↦ absurd (false≢true (sym c.if-is_empty.false ∙ c.is_empty.ensures ∙ t.0)) | inr t ↦ omega (arith, t.1) ] in
     record {
       plain_once = no_key names o (λ j. IsPlainTwice j (components_in live)) (plain_has names x.bodies.items x.list.items (rows_of x.places.items) live h) none;

@@ -1,4 +1,4 @@
-use Rattle.std.proofs.Common.{ℕ, ◌<◌, List, length, Option, ◌∙◌, subst, arith, Bor}
+use Rattle.std.proofs.Common.{◌<◌, length, Option, ◌∙◌, subst, arith}
 use Rattle.std.specs.String.{string_bytes}
 use Rattle.std.proofs.lemmas.List.{length-map}
 use Rattle.rn_assemble.specs.declared.components.Lack.{Lack}
@@ -16,7 +16,6 @@ returns-in_ok-key-in-Some c =
     let l = c.in-Some.lack in
     let h = subst (λ (o : Option Lack). IsLeastLack (sources_view ms) names (Lacks (sources_view ms)) o) c.in-Some.is c.requires in
     let within : l.«module» < length ms = omega (arith, h.0, length-map ms source_view) in
-    let size = length-map c.args.keys.now.names.items (λ (b : Bor (List ℕ)). b.now) in
     override_stands (sources_view ms) names l (string_bytes c.in_ok-from_str-in-Some.field-0) (key_view c.in_ok-key-in-Some.field-0) h
     (c.in_ok-from_str-in-Some.ensures.ok ∙ source_name ms l.«module» c.index-sources-lack.result within)
-    (c.in_ok-key-in-Some.ensures (omega (arith, h.1, size, c.args.keys.now.names.ok.0)))
+    (c.in_ok-key-in-Some.ensures (omega (arith, h.1)))

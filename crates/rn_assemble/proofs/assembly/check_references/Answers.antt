@@ -1,5 +1,4 @@
-use Rattle.std.proofs.Common.{◌≡◌, ℕ, List, sym, ◌∙◌, subst, arith, Bor}
-use Rattle.std.proofs.lemmas.List.{length-map}
+use Rattle.std.proofs.Common.{◌≡◌, sym, ◌∙◌, subst, arith}
 use Rattle.rn_pattern.specs.Tree.{Text}
 use Rattle.rn_pattern.specs.Order.{text_cmp}
 use Rattle.rn_pattern.specs.References.{IsRecursive}
@@ -17,8 +16,7 @@ returns-in-Some c = λ live h o.
     let cs = components_in live in
     let found = c.in_ok-references.ensures.found live h o in
     let least = subst (λ k. IsLeastRecursive names cs k) c.in-Some.is (c.in_ok-key.ensures names cs o found) in
-    let size = length-map c.args.keys.now.names.items (λ (b : Bor (List ℕ)). b.now) in
-    let name : c.name.result.now ≡ least.0 = c.name.ensures least.1.above (omega (arith, least.1.within, size, c.args.keys.now.names.ok.0)) ∙ name_there names least.0 c.in-Some.key least.1 in
+    let name : c.name.result.now ≡ least.0 = c.name.ensures least.1.above (omega (arith, least.1.within)) ∙ name_there names least.0 c.in-Some.key least.1 in
     (subst (λ (x : Text). IsLeast text_cmp (IsRecursive (joined_grammar cs)) x) (sym (c.in_ok-from_str.ensures.ok ∙ name)) least.2, found.defined)
 
 pub returns : goal.returns

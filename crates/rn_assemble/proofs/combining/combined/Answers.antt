@@ -1,5 +1,5 @@
-use Rattle.std.proofs.Common.{◌+◌, ◌<◌, ◌≤◌, suc, List, length, ap, ◌∙◌, arith, Bor, ℕ}
-use Rattle.std.proofs.lemmas.List.{length-map, length_push}
+use Rattle.std.proofs.Common.{◌+◌, ◌<◌, ◌≤◌, suc, length, ap, ◌∙◌, arith}
+use Rattle.std.proofs.lemmas.List.{length_push}
 use Rattle.rn_pattern.specs.Graph.{rows_of}
 use Rattle.rn_assemble.specs.inside.Joining.{IsMisnamed}
 use Rattle.rn_assemble.specs.inside.Listed.{components_in}
@@ -12,8 +12,7 @@ pub returns-in_err-join : goal.returns-in_err-join
 returns-in_err-join c = λ live h o.
     let x = c.args.components.now in
     let names = names_of c.args.keys.now in
-    let size = length-map c.args.keys.now.names.items (λ (b : Bor (List ℕ)). b.now) in
-    let within : c.loop-key.key < suc (length names) = omega (arith, c.loop-key-test.true, c.len-key-end.ensures, size, c.args.keys.now.names.ok.0) in
+    let within : c.loop-key.key < suc (length names) = omega (arith, c.loop-key-test.true, c.len-key-end.ensures) in
     refused_by (λ patterns. AreCombined names (components_in live) patterns.items) (IsMisnamed (components_in live)) c.from_residual-in_err-join.result c.in_err-join.field-0.0 c.from_residual-in_err-join.ensures.1
     (misnamed_first names x.bodies.items x.list.items (rows_of x.places.items) live h o c.loop-key.key c.in_err-join.field-0.0 within (λ m l. (c.loop-key.invariant.patterns live h o m l).1)
     (c.in_err-join.ensures.exact live h o (omega (arith, within)) c.loop-key.invariant.shared))
@@ -25,8 +24,7 @@ loop-key-preserved c = record {
   patterns = λ live h o.
       let x = c.args.components.now in
       let names = names_of c.args.keys.now in
-      let size = length-map c.args.keys.now.names.items (λ (b : Bor (List ℕ)). b.now) in
-      let within : c.loop-key.key < suc (length names) = omega (arith, c.loop-key-test.true, c.len-key-end.ensures, size, c.args.keys.now.names.ok.0) in
+      let within : c.loop-key.key < suc (length names) = omega (arith, c.loop-key-test.true, c.len-key-end.ensures) in
       combined_more names x.bodies.items x.list.items (rows_of x.places.items) live h o c.loop-key.patterns.items c.push.new.self.items c.in_ok-join.field-0 c.loop-key.key c.loop-key.invariant.size c.in_ok-push.ensures.items
       (c.loop-key.invariant.patterns live h o) (c.in_ok-join.ensures.exact live h o (omega (arith, within)) c.loop-key.invariant.shared);
 }
@@ -35,6 +33,5 @@ pub returns : goal.returns
 returns c = λ live h o.
     let x = c.args.components.now in
     let names = names_of c.args.keys.now in
-    let size = length-map c.args.keys.now.names.items (λ (b : Bor (List ℕ)). b.now) in
-    let past : suc (length names) ≤ c.loop-key.key = omega (arith, c.loop-key-test.false, c.len-key-end.ensures, size, c.args.keys.now.names.ok.0) in
+    let past : suc (length names) ≤ c.loop-key.key = omega (arith, c.loop-key-test.false, c.len-key-end.ensures) in
     combined_all names x.bodies.items x.list.items (rows_of x.places.items) live h o c.loop-key.patterns.items (λ n l. c.loop-key.invariant.patterns live h o n (omega (arith, l, past)))

@@ -1,5 +1,5 @@
-use Rattle.std.proofs.Common.{◌≡◌, ◌+◌, ◌-◌, ◌≤◌, ℕ, List, [], ◌∷◌, ◌++◌, get_or, length, set, None, Some, Vec, sym, ap, ◌∙◌, subst, arith, Bor}
-use Rattle.std.proofs.lemmas.List.{length-map, map-append}
+use Rattle.std.proofs.Common.{◌≡◌, ◌+◌, ◌-◌, ◌≤◌, ℕ, [], ◌∷◌, ◌++◌, get_or, length, set, None, Some, Vec, sym, ap, ◌∙◌, subst, arith}
+use Rattle.std.proofs.lemmas.List.{map-append}
 use Rattle.std.specs.declared.alloc.Global.{Global}
 use Rattle.rn_pattern.specs.Graph.{rows_of}
 use Rattle.rn_assemble.specs.inside.Patterns.{IsFirstAt}
@@ -26,8 +26,7 @@ loop-place-preserved c = λ live h o p.
     elim c.match-first_at.branch [
       | in-Some+in-Some-take+in_ok-define+in_ok-firsts+in_ok-push w ↦
           let f : IsFirstAt names live place (Some w.in-Some.key) = subst (IsFirstAt names live place) w.in-Some.is first in
-          let size = length-map c.args.keys.now.names.items (λ (b : Bor (List ℕ)). b.now) in
-          let name : w.name.result.now ≡ get_or names (w.in-Some.key - 1) [] = w.name.ensures f.0 (omega (arith, f.1, size, c.args.keys.now.names.ok.0)) in
+          let name : w.name.result.now ≡ get_or names (w.in-Some.key - 1) [] = w.name.ensures f.0 (omega (arith, f.1)) in
           let tied = w.in_ok-firsts.ensures names live h o (omega (arith, f.1)) in
           let more = defining_more names live h.rises patterns entries w.define.new.defs.entries rows w.in_ok-firsts.field-0.items place w.in-Some.key w.name.result.now w.in-Some-take.pattern f before (sym w.take.ensures.taken ∙ w.in-Some-take.is) name w.in_ok-define.ensures tied in
           let pushed : rows_of w.push.new.self.items ≡ rows ++ w.in_ok-firsts.field-0.items ∷ [] = ap rows_of w.in_ok-push.ensures.items ∙ map-append (λ (v : Vec ℕ Global). v.items) c.loop-place.firsts.items (w.in_ok-firsts.field-0 ∷ []) in

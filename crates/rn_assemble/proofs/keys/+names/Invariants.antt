@@ -1,11 +1,13 @@
--- What was listed, and what is left to list, are what was there and what the items define.
-use Rattle.std.proofs.Common.{◌≡◌, ◌++◌, drop}
+-- With the names that are left to add, the set gets those of all items.
+use Rattle.std.proofs.Common.{◌≡◌, drop}
+use Rattle.std.specs.Prelude.{bytes_eq}
+use Rattle.indexmap.specs.IndexSet.{insert_all}
 use Rattle.rn_syntax.specs.View.{items_view}
 use Rattle.rn_assemble.specs.inside.Keyed.{defines}
 use Rattle.rn_assemble.specs.inside.Views.{texts_of}
 use Rattle.rn_assemble.proofs.keys.+names.Given as goal
 
-abbrev pub invariant-push_names-items : goal.invariant-push_names-items
-invariant-push_names-items l = record {
-  listed : texts_of l.names.items ++ defines (items_view (drop l.item-index l.items)) ≡ texts_of l.fn.names.items ++ defines (items_view l.items);
+abbrev pub invariant-insert_names-items : goal.invariant-insert_names-items
+invariant-insert_names-items l = record {
+  inserted : insert_all bytes_eq (texts_of l.names.keys) (defines (items_view (drop l.item-index l.items))) ≡ insert_all bytes_eq (texts_of l.fn.names.keys) (defines (items_view l.items));
 }

@@ -1,12 +1,13 @@
 -- Key by key.
-use Rattle.std.proofs.Common.{◌≡◌, ◌<◌, suc, flat_map, length, refl, ap, ◌∙◌, subst, arith, rules, None, Some, option_map}
-use Rattle.std.proofs.lemmas.List.{length_push, length-map}
+use Rattle.std.proofs.Common.{◌≡◌, ◌<◌, suc, flat_map, map, length, ap, ◌∙◌, subst, arith, rules, None, Some, option_map}
+use Rattle.std.proofs.lemmas.List.{length_push}
 use Rattle.rn_pattern.specs.Reached.{RefersTo}
 use Rattle.rn_pattern.specs.References.{RefersOutside}
 use Rattle.rn_pattern.specs.Graph.{row, rows_of}
 use Rattle.rn_pattern.proofs.Graphs.Rows.{rows_pushed, is_graph, no_rows}
 use Rattle.rn_assemble.specs.inside.Listed.{components_in}
-use Rattle.rn_assemble.specs.inside.Referred.{AreBodiesAt, names_at, outer_references, references}
+use Rattle.rn_assemble.specs.inside.Referred.{AreBodiesAt, names_within, reference_view, references_at}
+use Rattle.rn_assemble.specs.declared.references.Reach.TheVariants.{Everywhere, OutsideElements}
 use Rattle.rn_assemble.specs.inside.Views.{names_of}
 use Rattle.rn_assemble.proofs.Joining.Looking.{none_looked}
 use Rattle.rn_assemble.proofs.Referring.GatheredReferences.{Gathered, row_of, gathered_begins, gathered_more, gathered_none, gathered_some, names_anywhere, names_outside}
@@ -25,10 +26,10 @@ loop-key-init c = record {
 
 pub loop-key-preserved : goal.loop-key-preserved
 loop-key-preserved c = record {
-  all = rows_pushed _ _ _ c.in_ok-anywhere.anywhere c.loop-key.invariant.all c.in_ok-anywhere.ensures.within c.in_ok-push.ensures.items;
-  all_size = omega (arith, ap length c.in_ok-push.ensures.items, length_push c.loop-key.all.items c.in_ok-anywhere.anywhere, c.loop-key.invariant.all_size);
-  outer = rows_pushed _ _ _ c.in_ok-outside.outside c.loop-key.invariant.outer c.in_ok-outside.ensures.within c.in_ok-push-2.ensures.items;
-  outer_size = omega (arith, ap length c.in_ok-push-2.ensures.items, length_push c.loop-key.outer.items c.in_ok-outside.outside, c.loop-key.invariant.outer_size);
+  all = rows_pushed _ _ _ c.in_ok-row.row.all c.loop-key.invariant.all c.in_ok-row.ensures.all_within c.in_ok-push.ensures.items;
+  all_size = omega (arith, ap length c.in_ok-push.ensures.items, length_push c.loop-key.all.items c.in_ok-row.row.all, c.loop-key.invariant.all_size);
+  outer = rows_pushed _ _ _ c.in_ok-row.row.outer c.loop-key.invariant.outer c.in_ok-row.ensures.outer_within c.in_ok-push-2.ensures.items;
+  outer_size = omega (arith, ap length c.in_ok-push-2.ensures.items, length_push c.loop-key.outer.items c.in_ok-row.row.outer, c.loop-key.invariant.outer_size);
   looked = omega (arith, c.bodies_of.ensures.size, c.bodies_of.new.looked.ok, c.loop-key.looked.ok, c.loop-key.invariant.looked);
   fresh = c.in_ok-bodies.ensures.fresh;
   gathered = λ live l s.
@@ -38,19 +39,21 @@ loop-key-preserved c = record {
       let bs = c.args.components.now.bodies.items in
       let list = c.args.components.now.list.items in
       let rows = rows_of c.args.components.now.places.items in
-      let h : k < suc (length names) = omega (arith, c.loop-key-test.true, c.len-key-end.ensures, c.args.keys.now.names.ok, length-map c.args.keys.now.names.items (λ t. t.now)) in
+      let h : k < suc (length names) = omega (arith, c.loop-key-test.true, c.len-key-end.ensures) in
       let size : length c.loop-key.looked.items ≡ length bs = omega (arith, c.loop-key.invariant.looked, c.args.components.now.bodies.ok) in
       let found = subst (λ n. AreBodiesAt n list (row rows k) c.in_ok-bodies.bodies.items) size c.in_ok-bodies.ensures.found in
-      let texts = flat_map (names_at references bs) c.as_slice.result.now in
-      let outer = flat_map (names_at outer_references bs) c.as_slice-in-loop-key.result.now in
-      let anywhere = names_anywhere names bs list rows live l s k c.in_ok-bodies.bodies.items _ texts h found c.as_slice.ensures.value refl in
-      let outside = names_outside names bs list rows live l s k c.in_ok-bodies.bodies.items _ outer h found c.as_slice-in-loop-key.ensures.value refl in
-      gathered_more names cs c.loop-key.all.items c.loop-key.outer.items c.push.new.self.items c.push-in-loop-key.new.self.items c.in_ok-anywhere.anywhere c.in_ok-outside.outside k _ _ texts
+      let written : map reference_view c.as_slice-in-loop-key.result.now ≡ flat_map (references_at bs) c.in_ok-bodies.bodies.items =
+      ap (map reference_view) c.as_slice-in-loop-key.ensures.value ∙ c.in_ok-references.ensures ∙ ap (flat_map (references_at bs)) c.as_slice.ensures.value in
+      let texts = names_within Everywhere (map reference_view c.as_slice-in-loop-key.result.now) in
+      let outer = names_within OutsideElements (map reference_view c.as_slice-in-loop-key.result.now) in
+      let anywhere = names_anywhere names bs list rows live l s k c.in_ok-bodies.bodies.items texts h found (ap (names_within Everywhere) written) in
+      let outside = names_outside names bs list rows live l s k c.in_ok-bodies.bodies.items outer h found (ap (names_within OutsideElements) written) in
+      gathered_more names cs c.loop-key.all.items c.loop-key.outer.items c.push.new.self.items c.push-in-loop-key.new.self.items c.in_ok-row.row.all c.in_ok-row.row.outer k _ _ texts
       (c.loop-key.invariant.gathered live l s) c.loop-key.invariant.all_size c.loop-key.invariant.outer_size c.in_ok-push.ensures.items c.in_ok-push-2.ensures.items
-      (row_of RefersTo names texts cs k c.in_ok-anywhere.anywhere.items (c.in_ok-anywhere.ensures.are s) anywhere)
-      (row_of RefersOutside names outer cs k c.in_ok-outside.outside.items (c.in_ok-outside.ensures.are s) outside)
+      (row_of RefersTo names texts cs k c.in_ok-row.row.all.items c.in_ok-row.ensures.all anywhere)
+      (row_of RefersOutside names outer cs k c.in_ok-row.row.outer.items c.in_ok-row.ensures.outer outside)
       anywhere
-      (λ before b. c.in_ok-anywhere.ensures.least live before l s b);
+      (λ before b. c.in_ok-row.ensures.least live before l s b);
 }
 
 pub returns-clause-all : goal.returns-clause-all
@@ -62,7 +65,7 @@ returns-clause-outer c = is_graph _ _ c.loop-key.invariant.outer (omega (arith, 
 pub returns-clause-found : goal.returns-clause-found
 returns-clause-found c = λ live l s.
     let names = names_of c.args.keys.now in
-    let size : c.loop-key.key ≡ suc (length names) = omega (arith, c.loop-key-test.false, c.loop-key.auto.key-end, c.len-key-end.ensures, c.args.keys.now.names.ok, length-map c.args.keys.now.names.items (λ t. t.now)) in
+    let size : c.loop-key.key ≡ suc (length names) = omega (arith, c.loop-key-test.false, c.loop-key.auto.key-end, c.len-key-end.ensures) in
     gathered_none names _ _ _ live l s c.loop-key.all.items c.loop-key.outer.items (c.loop-key.invariant.all_size ∙ size) (c.loop-key.invariant.outer_size ∙ size)
     (subst (λ k. Gathered names (components_in live) c.loop-key.all.items c.loop-key.outer.items k None) size
     (subst (λ o. Gathered names (components_in live) c.loop-key.all.items c.loop-key.outer.items c.loop-key.key (option_map (λ t. t.now) o)) c.in-None.is (c.loop-key.invariant.gathered live l s)))
@@ -70,7 +73,7 @@ returns-clause-found c = λ live l s.
 pub returns-in-Some-clause-found : goal.returns-in-Some-clause-found
 returns-in-Some-clause-found c = λ live l s.
     let names = names_of c.args.keys.now in
-    let size : c.loop-key.key ≡ suc (length names) = omega (arith, c.loop-key-test.false, c.loop-key.auto.key-end, c.len-key-end.ensures, c.args.keys.now.names.ok, length-map c.args.keys.now.names.items (λ t. t.now)) in
+    let size : c.loop-key.key ≡ suc (length names) = omega (arith, c.loop-key-test.false, c.loop-key.auto.key-end, c.len-key-end.ensures) in
     c.undefined_name.ensures (components_in live)
     (gathered_some names _ _ _ live l s c.loop-key.all.items c.loop-key.outer.items c.in-Some.name.now
     (subst (λ k. Gathered names (components_in live) c.loop-key.all.items c.loop-key.outer.items k (Some c.in-Some.name.now)) size

@@ -12,9 +12,9 @@ use Rattle.rn_assemble.proofs.references.references_of.Given as goal
 
 abbrev pub invariant-loop-key : goal.invariant-loop-key
 invariant-loop-key l = record {
-  all : AreRows (vec_len l.keys.names + 1) (rows_of l.all.items);
+  all : AreRows (length (names_of l.keys) + 1) (rows_of l.all.items);
   all_size : length l.all.items ≡ l.key;
-  outer : AreRows (vec_len l.keys.names + 1) (rows_of l.outer.items);
+  outer : AreRows (length (names_of l.keys) + 1) (rows_of l.outer.items);
   outer_size : length l.outer.items ≡ l.key;
   looked : length l.looked.items ≡ vec_len l.components.bodies;
   fresh : IsFresh l.key l.looked.items;

@@ -1,26 +1,42 @@
-use Rattle.std.proofs.Common.{◌≡◌, ℕ, List, sym, subst, Contains, arith}
+use Rattle.std.proofs.Common.{◌≡◌, ◌+◌, ℕ, List, [], drop, get_or, ⊎_elim, sym, ap, ◌∙◌, subst, Contains, arith}
 use Rattle.std.specs.Borrow.{Bor}
-use Rattle.std.specs.Prelude.{flat_map}
-use Rattle.rn_assemble.specs.Components.{Source}
-use Rattle.rn_assemble.specs.inside.Keyed.{defines}
-use Rattle.std.proofs.lemmas.Grind.{common_steps}
-use Rattle.std.specs.List.Sorted.{IsStrictlySortedBy}
-use Rattle.std.proofs.lemmas.List.Filters.{dedup_is}
+use Rattle.std.specs.Prelude.{bytes_eq, flat_map}
+use Rattle.std.proofs.lemmas.List.{at_drop_more, at_drop_all}
+use Rattle.std.proofs.lemmas.List.Sorted.{IsPermutation-sym}
+use Rattle.std.proofs.lemmas.List.Sums.{fold-append}
+use Rattle.indexmap.specs.IndexSet.{insert_all, insert_key}
 use Rattle.rn_pattern.specs.Tree.{Text}
-use Rattle.rn_pattern.specs.Order.{text_cmp}
-use Rattle.rn_assemble.specs.inside.Views.{texts_of, sources_view}
-use Rattle.rn_assemble.proofs.Referring.Named.{sorted_once, kept_names, no_other_names}
+use Rattle.rn_syntax.specs.View.{items_view}
+use Rattle.rn_assemble.specs.Components.{Source}
+use Rattle.rn_assemble.specs.declared.modules.Source as code_source
+use Rattle.rn_assemble.specs.inside.Keyed.{defines}
+use Rattle.rn_assemble.specs.inside.Views.{texts_of, source_view, sources_view}
+use Rattle.rn_assemble.proofs.Referring.KeyNames.{from_all, in_all, reordered, sorted_once}
 use Rattle.rn_assemble.proofs.keys.Keys.new.Goals as goal
+
+pub loop-source-preserved : goal.loop-source-preserved
+loop-source-preserved c =
+    let i = c.loop-source.source-index in
+    let names = texts_of c.loop-source.names.keys in
+    let all : List code_source.Source → List Text = λ ms. flat_map (λ (m : Source). defines m.tree.items) (sources_view ms) in
+    record {
+      inserted = ap (λ ks. insert_all bytes_eq ks (all (drop (i + 1) c.args.sources.now))) (c.in_ok-insert_names.ensures ∙ ap (λ xs. insert_all bytes_eq names (defines (items_view xs))) c.deref.ensures.value ∙ ap (λ m. insert_all bytes_eq names (defines (source_view m).tree.items)) c.source-item.is)
+          ∙ sym (fold-append (insert_key bytes_eq) names (defines (source_view (get_or c.args.sources.now i c.source-item.result)).tree.items) (all (drop (i + 1) c.args.sources.now)))
+          ∙ ap (insert_all bytes_eq names) (sym (at_drop_more all c.args.sources.now i c.source-item.result c.loop-source-test.true)) ∙ c.loop-source.invariant.inserted;
+    }
 
 pub returns : goal.returns
 returns c =
     let now : Bor (List ℕ) → Text = λ b. b.now in
-    let listed : texts_of c.loop-source.names.items ≡ flat_map (λ (m : Source). defines m.tree.items) (sources_view c.args.sources.now) = grind (arith, common_steps) in
-    let is = sym (dedup_is _ _ _ c.dedup.ensures.filtered) in
+    let all : List code_source.Source → List Text = λ ms. flat_map (λ (m : Source). defines m.tree.items) (sources_view ms) in
+    let names = all c.args.sources.now in
+    let listed : texts_of c.loop-source.names.keys ≡ insert_all bytes_eq [] names =
+    ap (insert_all bytes_eq (texts_of c.loop-source.names.keys)) (sym (at_drop_all all c.args.sources.now c.loop-source.source-index (omega arith))) ∙ c.loop-source.invariant.inserted in
+    let same = c.sort.ensures.reordered.0 in
     record {
-      in_order = subst (λ (bs : List (Bor (List ℕ))). IsStrictlySortedBy text_cmp (texts_of bs)) is (sorted_once now c.sort.new.self.items c.in_ok-sort.ensures.sorted);
+      in_order = sorted_once now c.sort.new.self.keys c.in_ok-sort.ensures.sorted c.sort.ensures.unique;
       defined = λ x. (
-        λ h. subst (λ (ts : List Text). Contains ts x) listed (no_other_names now c.loop-source.names.items c.sort.new.self.items c.in_ok-sort.ensures.permutation x (subst (λ (bs : List (Bor (List ℕ))). Contains (texts_of bs) x) (sym is) h)),
-        λ h. subst (λ (bs : List (Bor (List ℕ))). Contains (texts_of bs) x) is (kept_names now c.loop-source.names.items c.sort.new.self.items c.in_ok-sort.ensures.permutation x (subst (λ (ts : List Text). Contains ts x) (sym listed) h)),
+        λ h. ⊎_elim (λ n. absurd (omega (arith, n.1))) (λ k. k) (from_all [] names x (subst (λ (ts : List Text). Contains ts x) listed (reordered now _ _ (IsPermutation-sym _ _ same) x h))),
+        λ h. reordered now _ _ same x (subst (λ (ts : List Text). Contains ts x) (sym listed) (in_all [] names x h)),
       );
     }

@@ -1,6 +1,7 @@
--- The names of the modules that were looked at, and of those that are left.
-use Rattle.std.proofs.Common.{◌≡◌, ◌++◌, drop}
-use Rattle.std.specs.Prelude.{flat_map}
+-- With the names that are left to add, the set gets those of all modules.
+use Rattle.std.proofs.Common.{◌≡◌, [], drop}
+use Rattle.std.specs.Prelude.{bytes_eq, flat_map}
+use Rattle.indexmap.specs.IndexSet.{insert_all}
 use Rattle.rn_assemble.specs.Components.{Source}
 use Rattle.rn_assemble.specs.inside.Keyed.{defines}
 use Rattle.rn_assemble.specs.inside.Views.{texts_of, sources_view}
@@ -8,5 +9,5 @@ use Rattle.rn_assemble.proofs.keys.Keys.new.Given as goal
 
 abbrev pub invariant-loop-source : goal.invariant-loop-source
 invariant-loop-source l = record {
-  listed : texts_of l.names.items ++ flat_map (λ (m : Source). defines m.tree.items) (sources_view (drop l.source-index l.sources)) ≡ flat_map (λ (m : Source). defines m.tree.items) (sources_view l.sources);
+  inserted : insert_all bytes_eq (texts_of l.names.keys) (flat_map (λ (m : Source). defines m.tree.items) (sources_view (drop l.source-index l.sources))) ≡ insert_all bytes_eq [] (flat_map (λ (m : Source). defines m.tree.items) (sources_view l.sources));
 }

@@ -1,0 +1,48 @@
+-- One reference more.
+use Rattle.std.proofs.Common.{◌+◌, [], ◌∷◌, ◌++◌, length, map, take, get_or, sym, subst, arith}
+use Rattle.std.proofs.lemmas.List.{take_all}
+use Rattle.rn_pattern.proofs.Graphs.Rows.{none_below}
+use Rattle.rn_pattern.specs.Graph.{AllBelow}
+use Rattle.rn_assemble.specs.inside.Referred.{AreNumbers, KeepsLeast, names_within, reference_view, within}
+use Rattle.rn_assemble.specs.inside.Views.{names_of}
+use Rattle.rn_assemble.specs.declared.references.Reach.{Reach}
+use Rattle.rn_assemble.specs.declared.references.Reach.TheVariants.{Everywhere, OutsideElements}
+use Rattle.rn_assemble.proofs.Referring.LeastUndefined.{below_within, keeps_both, keeps_none, names_more, no_numbers, no_reference, number_found}
+use Rattle.rn_assemble.proofs.references.row_of.Goals as goal
+
+pub loop-reference-init : goal.loop-reference-init
+loop-reference-init c = record {
+  all_within = rw c.new.ensures.items (none_below _);
+  all = rw c.new.ensures.items (no_numbers _);
+  outer_within = rw c.new-2.ensures.items (none_below _);
+  outer = rw c.new-2.ensures.items (no_numbers _);
+  least = keeps_none (names_of c.args.keys.now) c.args.components.now c.args.undefined.now;
+}
+
+pub loop-reference-preserved : goal.loop-reference-preserved
+loop-reference-preserved c =
+    let names = names_of c.args.keys.now in
+    let rs = c.args.references.now in
+    let i = c.loop-reference.reference-index in
+    let r = get_or rs i no_reference in
+    let all = c.loop-reference.row.all.items in
+    let outer = c.loop-reference.row.outer.items in
+    let o = c.find-key.result in
+    let inv = c.loop-reference.invariant in
+    let before = λ (meant : Reach). names_within meant (map reference_view (take i rs)) in
+    let more = λ (meant : Reach). sym (names_more meant rs i c.loop-reference-test.true) in
+    record {
+      all_within = subst (AllBelow (length names + 1)) (sym c.in_ok-add.ensures.all) (below_within _ all Everywhere r.reach o inv.all_within c.find-key.ensures.within);
+      all = subst (λ ts. AreNumbers names ts c.add.new.self.all.items) (more Everywhere)
+          (subst (AreNumbers names (before Everywhere ++ r.name.now ∷ [])) (sym c.in_ok-add.ensures.all) (number_found names _ all r.name.now inv.all Everywhere r.reach o c.find-key.ensures.found));
+      outer_within = subst (AllBelow (length names + 1)) (sym c.in_ok-add.ensures.outer) (below_within _ outer OutsideElements r.reach o inv.outer_within c.find-key.ensures.within);
+      outer = subst (λ ts. AreNumbers names ts c.add.new.self.outer.items) (more OutsideElements)
+          (subst (AreNumbers names (before OutsideElements ++ within OutsideElements r.reach r.name.now)) (sym c.in_ok-add.ensures.outer) (number_found names _ outer r.name.now inv.outer OutsideElements r.reach o c.find-key.ensures.found));
+      least = subst (λ ts. KeepsLeast names c.args.components.now ts c.args.undefined.now c.least_undefined.result) (more Everywhere)
+          (keeps_both names c.args.components.now (before Everywhere) (r.name.now ∷ []) _ _ _ inv.least (c.least_undefined.ensures names c.find-key.ensures.found));
+    }
+
+pub returns-clause-least : goal.returns-clause-least
+returns-clause-least c =
+    subst (λ rs. KeepsLeast (names_of c.args.keys.now) c.args.components.now (names_within Everywhere (map reference_view rs)) c.args.undefined.now c.loop-reference.undefined)
+    (take_all c.loop-reference.reference-index c.args.references.now (omega arith)) c.loop-reference.invariant.least

@@ -1,0 +1,16 @@
+-- The references so far.
+use Rattle.std.proofs.Common.{◌+◌, length, map, take}
+use Rattle.rn_pattern.specs.Graph.{AllBelow}
+use Rattle.rn_assemble.specs.inside.Referred.{AreNumbers, KeepsLeast, names_within, reference_view}
+use Rattle.rn_assemble.specs.inside.Views.{names_of}
+use Rattle.rn_assemble.specs.declared.references.Reach.TheVariants.{Everywhere, OutsideElements}
+use Rattle.rn_assemble.proofs.references.row_of.Given as goal
+
+abbrev pub invariant-loop-reference : goal.invariant-loop-reference
+invariant-loop-reference l = record {
+  all_within : AllBelow (length (names_of l.keys) + 1) l.row.all.items;
+  all : AreNumbers (names_of l.keys) (names_within Everywhere (map reference_view (take l.reference-index l.references))) l.row.all.items;
+  outer_within : AllBelow (length (names_of l.keys) + 1) l.row.outer.items;
+  outer : AreNumbers (names_of l.keys) (names_within OutsideElements (map reference_view (take l.reference-index l.references))) l.row.outer.items;
+  least : KeepsLeast (names_of l.keys) l.components (names_within Everywhere (map reference_view (take l.reference-index l.references))) l.fn.undefined l.undefined;
+}
