@@ -19,7 +19,7 @@ use Rattle.rn_syntax.specs.Places.{deep, prefix_places, builtin_places, context_
 use Rattle.rn_assemble.specs.Components.{Source}
 use Rattle.rn_assemble.specs.Combine.{joined_grammar, read}
 use Rattle.rn_assemble.specs.WellFormed.{IsWellFormed}
-use Rattle.rn_assemble.specs.Refusal.{TextFault, encoding, lexical, deep_brackets, syntax, prefix, builtin, context_value, except, Refusal, conflict, faulty, IsModuleOf, HasFault, StandsFor, AreModules, Stands, IsAssembled, grammar_of}
+use Rattle.rn_assemble.specs.Refusal.{TextFault, encoding, lexical, deep_brackets, syntax, prefix, builtin, context_value, except, Refusal, conflict, faulty, IsModuleOf, HasTextFault, StandsFor, AreModules, Stands, IsAssembled, grammar_of}
 use Rattle.rn_assemble.proofs.Refusals.NoRefusal.{assembled_well_formed}
 use Rattle.rn_assemble.proofs.Combined.OneModule.{one_module}
 use Rattle.rn_assemble.proofs.Refusals.OneSet.{one_effective, one_module_of, one_modules}
@@ -43,7 +43,7 @@ module _ (one_tree : (ts : Tokens) (m n : t.Module) → HasTree ts m → HasTree
     same_tree m h = one_module_of one_tree (spelling n) m r.tree h is_module
 
     -- the text has no fault
-    pub no_fault : (f : TextFault) → ¬ HasFault (spelling n) f
+    pub no_fault : (f : TextFault) → ¬ HasTextFault (spelling n) f
     no_fault encoding h = h r.utf8
     no_fault lexical (u, h) = h r.tokens r.has_tokens
     no_fault deep_brackets (u, (ts, has, e)) = false≢true (sym shallow ∙ r.shallow ∙ ap (λ l. is_some (deep 0 (terminals l))) (sym (same_tokens ts has)) ∙ e)
@@ -60,9 +60,9 @@ module _ (one_tree : (ts : Tokens) (m n : t.Module) → HasTree ts m → HasTree
       abbrev printed : List Source
       printed = record { name = x; tree = r.tree } ∷ []
 
-      faultless_at : (y text : Text) → Contains {X = Text × Text} texts (y, text) → (f : TextFault) → ¬ HasFault text f
+      faultless_at : (y text : Text) → Contains {X = Text × Text} texts (y, text) → (f : TextFault) → ¬ HasTextFault text f
       faultless_at y text c f h =
-          ⊎_elim (λ e. no_fault f (subst (λ s. HasFault s f) (sym (ap (λ (d : Text × Text). d.1) e)) h)) (λ (i, l, is). absurd (omega (arith, l))) (contains_cases {X = Text × Text} (x, spelling n) (y, text) [] c)
+          ⊎_elim (λ e. no_fault f (subst (λ s. HasTextFault s f) (sym (ap (λ (d : Text × Text). d.1) e)) h)) (λ (i, l, is). absurd (omega (arith, l))) (contains_cases {X = Text × Text} (x, spelling n) (y, text) [] c)
 
       module _ (s : List Member) (a : AreEffective s texts) where
         are_modules : AreModules s printed

@@ -5,7 +5,7 @@ use Rattle.rn_pattern.specs.Reached.{IsCanonicalOf}
 use Rattle.rn_modset.specs.Contributions.{Member}
 use Rattle.rn_syntax.proofs.OneTree.{one_tree}
 use Rattle.rn_assemble.specs.Components.{set_components}
-use Rattle.rn_assemble.specs.Refusal.{HasFault, grammar_of}
+use Rattle.rn_assemble.specs.Refusal.{HasTextFault, grammar_of}
 use Rattle.rn_assemble.proofs.WellFormed.ComponentExcepts.{set_excepts}
 use Rattle.rn_assemble.proofs.WellFormed.GoodComponents.{modules_faultless, set_grammar_writable}
 use Rattle.rn_assemble.proofs.Refusals.NoRefusal.{no_excepts, assembled_well_formed}
@@ -27,7 +27,7 @@ printed_read s text (n, (g, (none, (modules, a, e)), c), short, shallow, is) =
       normal = n;
       canonical = k;
       text_is = is;
-      no_fault = λ f h. no_fault one_tree n r shallow f (subst (λ t. HasFault t f) is h);
+      no_fault = λ f h. no_fault one_tree n r shallow f (subst (λ t. HasTextFault t f) is h);
       read_back = r;
       joined_documents = joined_read n r (grammar_of modules) k w;
       same_documents = λ C h. combination_read n r (set_components modules) C (set_excepts modules (no_excepts modules (modules_faultless s modules a))) h k;

@@ -19,5 +19,6 @@ pub mod Contents
 pub mod NodeKinds
 pub mod NodeSizes
 pub mod FixedPoint
+pub mod CanonicalParts
 pub mod Promises
 pub mod WellFormed

@@ -6,8 +6,8 @@ use Rattle.rn_pattern.specs.Tree.{Text, Tree}
 use Rattle.rn_pattern.specs.Matching.{Grammar}
 use Rattle.rn_pattern.specs.Graph.{Reached, is_marked}
 use Rattle.rn_pattern.specs.Canonical.{canonical, ref_unless_settled}
-use Rattle.rn_simplify.specs.Referred.{Scope, references}
-use Rattle.rn_simplify.specs.declared.references.Scope.TheVariants.{Everywhere}
+use Rattle.rn_simplify.specs.Referred.{Reach, references}
+use Rattle.rn_assemble.specs.declared.references.Reach.TheVariants.{Everywhere}
 
 -- the place of the name's definition
 abbrev pub number_of : List (Text × Tree) → Text → Option ℕ
@@ -18,8 +18,8 @@ abbrev pub numbers_of : List (Text × Tree) → List Text → List ℕ
 numbers_of ds xs = filter_map (number_of ds) xs
 
 -- of each of the definitions es, the numbers in ds of what it refers to
-abbrev pub rows_by : Scope → List (Text × Tree) → List (Text × Tree) → List (List ℕ)
-rows_by scope ds es = map (λ e. numbers_of ds (references scope e.1)) es
+abbrev pub rows_by : Reach → List (Text × Tree) → List (Text × Tree) → List (List ℕ)
+rows_by reach ds es = map (λ e. numbers_of ds (references reach e.1)) es
 
 -- the graph of the references of a grammar, and what its start refers to
 abbrev pub graph_of : Grammar → List (List ℕ)

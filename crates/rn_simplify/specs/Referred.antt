@@ -1,18 +1,18 @@
 -- The names that a pattern refers to (RELAX NG 2001, 4.18 and 4.19), in the order of the references.
 use Rattle.std.specs.Prelude.{List, [], ◌∷◌, ◌++◌}
 use Rattle.rn_pattern.specs.Tree.{Text, Tree, Trees, ref, datum_but, list, attribute, element, one_or_more, group, interleave, choice, no_trees, more_trees}
-use Rattle.rn_simplify.specs.declared.references.Scope as code
-use Rattle.rn_simplify.specs.declared.references.Scope.TheVariants.{Everywhere, OutsideElements}
+use Rattle.rn_assemble.specs.declared.references.Reach as code
+use Rattle.rn_assemble.specs.declared.references.Reach.TheVariants.{Everywhere, OutsideElements}
 
-abbrev pub Scope : Type 0
-Scope = code.Scope
+abbrev pub Reach : Type 0
+Reach = code.Reach
 
-abbrev pub inside : Scope → List Text → List Text
+abbrev pub inside : Reach → List Text → List Text
 inside Everywhere xs = xs
 inside OutsideElements xs = []
 
 abbrev mutual
-  pub references : Scope → Tree → List Text
+  pub references : Reach → Tree → List Text
   references s (ref x) = x ∷ []
   references s (datum_but l t ps p) = references s p
   references s (list p) = references s p
@@ -24,6 +24,6 @@ abbrev mutual
   references s (choice ps) = all_references s ps
   references s p = []
 
-  pub all_references : Scope → Trees → List Text
+  pub all_references : Reach → Trees → List Text
   all_references s no_trees = []
   all_references s (more_trees p ps) = references s p ++ all_references s ps

@@ -1,9 +1,7 @@
--- What a canonical grammar is made of, and which documents it keeps.
-use Rattle.std.specs.Prelude.{◌↔◌, List, String}
+-- What a canonical grammar is made of, and where it comes from.
+use Rattle.std.specs.Prelude.{List, String}
 use Rattle.std.specs.declared.alloc.Global.{Global}
-use Rattle.rn_pattern.specs.Datatype.{Table}
-use Rattle.rn_pattern.specs.Document.{Item}
-use Rattle.rn_pattern.specs.Matching.{Grammar, IsValid}
+use Rattle.rn_pattern.specs.Matching.{Grammar}
 use Rattle.rn_pattern.specs.Reached.{IsCanonicalOf}
 use Rattle.rn_pattern.specs.View.{pattern_view}
 use Rattle.rn_pattern.specs.declared.tree.Pattern.{Pattern}
@@ -13,10 +11,6 @@ use Rattle.rn_assemble.specs.WellFormed.{IsWellFormed, HasWritableTexts}
 -- the grammar of a start and of definitions in the code
 abbrev pub parts_view : Pattern → List (String Global × Pattern) → Grammar
 parts_view start defs = record { start = pattern_view start; definitions = definitions_view defs }
-
--- both grammars are valid for exactly the same documents, for every table of datatypes (section 6)
-abbrev pub AreValidAlike : Grammar → Grammar → Type 0
-AreValidAlike G N = (T : Table) (doc : Item) → IsValid G T doc ↔ IsValid N T doc
 
 -- N is the canonical grammar of a well-formed grammar whose texts can be written
 pub record HasSource (N : Grammar) : Type 0 where

@@ -4,6 +4,7 @@ pub mod Gathers
 pub mod Marked
 pub mod NodeKinds
 pub mod Parts
+pub mod References
 pub mod Repeats
 pub mod Sizes
 pub mod Worth

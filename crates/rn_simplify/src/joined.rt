@@ -1,17 +1,16 @@
 // The canonical form of a body, each of whose members is brought into its form once (RELAX NG, 4.17, 4.20 and 4.21).
 ghost use Rattle.std.specs.Prelude.{◌≡◌, ◌<◌, All, IfOk, IsTrue, length, map, slice_index_or, take};
 ghost use Rattle.rn_assemble.specs.Firsts.{AreFirsts, joined_members};
-ghost use Rattle.rn_assemble.specs.GrammarView.{definitions_view};
 ghost use Rattle.rn_pattern.specs.Canonical as form;
 ghost use Rattle.rn_pattern.specs.Canonical.{canonical_all, choice_step, interleave_step};
-ghost use Rattle.rn_pattern.specs.Store.{KeepsTrees, StandsFor};
+ghost use Rattle.rn_pattern.specs.Store.{KeepsIds, StandsFor};
 ghost use Rattle.rn_pattern.specs.Tree.{Tree, trees_of};
 ghost use Rattle.rn_pattern.specs.View.{pattern_view, shared_view};
-ghost use Rattle.rn_simplify.specs.inside.Worth.{settled_by};
+ghost use Rattle.rn_simplify.specs.inside.Worth.{becomes};
 
-use crate::canonical::{canonical, listed};
-use crate::parts::ListKind;
-use crate::repeats::{distinct, first_of};
+use crate::forms::{canonical_form, list_form};
+use crate::list_kind::ListKind;
+use crate::repeated_members::{distinct_members, first_of};
 use crate::settled::Settled;
 use rn_pattern::{Pattern, Patterns};
 use std::alloc::{AllocError, Global};
@@ -26,24 +25,22 @@ pub(crate) fn canonical_body<P: Patterns>(
     firsts: &[usize],
 ) -> Result<P::Id, AllocError>
     requires { AreFirsts firsts.now (joined_members (pattern_view body.now)) }
-    ensures made { IfOk result (StandsFor (P.knows store.new) (P.tree_of store.new) (form.canonical
-        (settled_by (definitions_view settled.now.names.now.entries) settled.now.worth.items)
-        (pattern_view body.now))) }
-    ensures kept { KeepsTrees (P.knows store.old) (P.tree_of store.old)
-        (P.knows store.new) (P.tree_of store.new) }
+    ensures made { IfOk result (StandsFor (P.knows store.new) (P.tree_of store.new)
+        (form.canonical (becomes settled.now) (pattern_view body.now))) }
+    ensures kept { KeepsIds P.knows P.tree_of store.old store.new }
 {
     if firsts.is_empty() {
-        return canonical(alloc, store, settled, body);
+        return canonical_form(alloc, store, settled, body);
     }
     match body {
-        Pattern::Choice(members) => chosen(alloc, store, settled, members, firsts),
-        Pattern::Interleave(members) => interleaved(alloc, store, settled, members, firsts),
-        _ => canonical(alloc, store, settled, body),
+        Pattern::Choice(members) => choice_form(alloc, store, settled, members, firsts),
+        Pattern::Interleave(members) => interleave_form(alloc, store, settled, members, firsts),
+        _ => canonical_form(alloc, store, settled, body),
     }
 }
 
 /// The id of the canonical form of a choice of the members. Those that stand before fall away.
-fn chosen<P: Patterns>(
+fn choice_form<P: Patterns>(
     alloc: Global,
     store: &mut P,
     settled: &Settled<'_>,
@@ -52,18 +49,16 @@ fn chosen<P: Patterns>(
 ) -> Result<P::Id, AllocError>
     requires { AreFirsts firsts.now (map shared_view members.now) }
     ensures made { IfOk result (StandsFor (P.knows store.new) (P.tree_of store.new)
-        (choice_step (canonical_all
-        (settled_by (definitions_view settled.now.names.now.entries) settled.now.worth.items)
+        (choice_step (canonical_all (becomes settled.now)
         (trees_of (map shared_view members.now))))) }
-    ensures kept { KeepsTrees (P.knows store.old) (P.tree_of store.old)
-        (P.knows store.new) (P.tree_of store.new) }
+    ensures kept { KeepsIds P.knows P.tree_of store.old store.new }
 {
-    let members = distinct(alloc, members, firsts)?;
-    listed(alloc, store, settled, ListKind::Choice, &members)
+    let members = distinct_members(alloc, members, firsts)?;
+    list_form(alloc, store, settled, ListKind::Choice, &members)
 }
 
 /// The id of the canonical form of an interleave of the members.
-fn interleaved<P: Patterns>(
+fn interleave_form<P: Patterns>(
     alloc: Global,
     store: &mut P,
     settled: &Settled<'_>,
@@ -72,18 +67,16 @@ fn interleaved<P: Patterns>(
 ) -> Result<P::Id, AllocError>
     requires { AreFirsts firsts.now (map shared_view members.now) }
     ensures made { IfOk result (StandsFor (P.knows store.new) (P.tree_of store.new)
-        (interleave_step (canonical_all
-        (settled_by (definitions_view settled.now.names.now.entries) settled.now.worth.items)
+        (interleave_step (canonical_all (becomes settled.now)
         (trees_of (map shared_view members.now))))) }
-    ensures kept { KeepsTrees (P.knows store.old) (P.tree_of store.old)
-        (P.knows store.new) (P.tree_of store.new) }
+    ensures kept { KeepsIds P.knows P.tree_of store.old store.new }
 {
-    let ids = ids(alloc, store, settled, members, firsts)?;
+    let ids = member_ids(alloc, store, settled, members, firsts)?;
     store.ileave(&ids)
 }
 
 /// The ids of the canonical forms of the members, in their order.
-fn ids<P: Patterns>(
+fn member_ids<P: Patterns>(
     alloc: Global,
     store: &mut P,
     settled: &Settled<'_>,
@@ -92,11 +85,9 @@ fn ids<P: Patterns>(
 ) -> Result<Vec<P::Id>, AllocError>
     requires { AreFirsts firsts.now (map shared_view members.now) }
     ensures known { IfOk result (λ ids. All (λ i. IsTrue (P.knows store.new i)) ids.items) }
-    ensures made { IfOk result (λ ids. map (P.tree_of store.new) ids.items ≡ map (form.canonical
-        (settled_by (definitions_view settled.now.names.now.entries) settled.now.worth.items))
-        (map shared_view members.now)) }
-    ensures kept { KeepsTrees (P.knows store.old) (P.tree_of store.old)
-        (P.knows store.new) (P.tree_of store.new) }
+    ensures made { IfOk result (λ ids. map (P.tree_of store.new) ids.items
+        ≡ map (form.canonical (becomes settled.now)) (map shared_view members.now)) }
+    ensures kept { KeepsIds P.knows P.tree_of store.old store.new }
 {
     let mut ids = Vec::with_capacity(alloc, members.len())?;
     for index in 0..members.len() {
@@ -120,20 +111,17 @@ fn id_at<P: Patterns>(
     requires firsts { AreFirsts firsts.now (map shared_view members.now) }
     requires within { index < length members.now }
     requires known { All (λ i. IsTrue (P.knows store.old i)) ids.now }
-    requires before { map (P.tree_of store.old) ids.now ≡ map (form.canonical
-        (settled_by (definitions_view settled.now.names.now.entries) settled.now.worth.items))
+    requires before { map (P.tree_of store.old) ids.now ≡ map (form.canonical (becomes settled.now))
         (map shared_view (take index members.now)) }
-    ensures made { IfOk result (λ id. (p : Tree)
-        → StandsFor (P.knows store.new) (P.tree_of store.new) (form.canonical
-        (settled_by (definitions_view settled.now.names.now.entries) settled.now.worth.items)
+    ensures made { IfOk result (λ id. (p : Tree) → StandsFor (P.knows store.new)
+        (P.tree_of store.new) (form.canonical (becomes settled.now)
         (slice_index_or (map shared_view members.now) index p)) id) }
-    ensures kept { KeepsTrees (P.knows store.old) (P.tree_of store.old)
-        (P.knows store.new) (P.tree_of store.new) }
+    ensures kept { KeepsIds P.knows P.tree_of store.old store.new }
 {
     let first = first_of(firsts, index);
     if first < index {
         Ok(ids[first])
     } else {
-        canonical(alloc, store, settled, &members[index])
+        canonical_form(alloc, store, settled, &members[index])
     }
 }

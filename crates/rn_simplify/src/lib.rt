@@ -5,21 +5,23 @@
 //! [`print`] gives the one text of a canonical grammar in the compact syntax.
 #![tactic(auto)]
 
-mod canonical;
-mod declarations;
+mod apart;
+mod class_text;
+mod declared_prefixes;
+mod evaluation;
+mod forms;
 mod joined;
 pub mod laws;
+mod list_kind;
 mod mentions;
-mod name_class;
 pub mod normal;
 pub mod normalising;
-mod parts;
-mod pattern;
+mod pattern_text;
 pub mod printing;
 mod reachable;
 mod rebuilt;
 mod references;
-mod repeats;
+mod repeated_members;
 mod settled;
 mod settling;
 mod shapes;

@@ -4,22 +4,25 @@ ghost use Rattle.std.specs.List.{IsDistinct};
 ghost use Rattle.rn_assemble.specs.Firsts.{AreFirsts, joined_members};
 ghost use Rattle.rn_assemble.specs.GrammarView.{definitions_view, grammar_view};
 ghost use Rattle.rn_pattern.specs.Canonical as form;
+ghost use Rattle.rn_pattern.specs.Matching.{ValidAlike};
 ghost use Rattle.rn_pattern.specs.Reached.{IsCanonicalOf};
-ghost use Rattle.rn_pattern.specs.Store.{KeepsTrees};
+ghost use Rattle.rn_pattern.specs.Store.{KeepsIds};
 ghost use Rattle.rn_pattern.specs.Tree.{Text, Tree};
 ghost use Rattle.rn_pattern.specs.View.{pattern_view};
 ghost use Rattle.rn_simplify.specs.NormalView.{normal_view};
-ghost use Rattle.rn_simplify.specs.Sources.{AreValidAlike, parts_view};
-ghost use Rattle.rn_simplify.specs.inside.Worth.{settled_by};
+ghost use Rattle.rn_simplify.specs.Sources.{parts_view};
+ghost use Rattle.rn_simplify.specs.inside.Worth.{becomes};
 
+use crate::apart::{body_form_apart, definition_forms_apart};
+use crate::evaluation::settle_all;
 use crate::joined::canonical_body;
 use crate::normal::Normal;
-use crate::reachable::pruned;
-use crate::rebuilt::rebuilt_box;
-use crate::settled::{Settled, settle_all};
+use crate::reachable::prune_forms;
+use crate::rebuilt::rebuild_box;
+use crate::settled::Settled;
 use crate::settling::{body_of, name_of};
 use rn_assemble::Grammar;
-use rn_pattern::{Interned, Pattern, Patterns};
+use rn_pattern::{Pattern, Patterns};
 use std::alloc::{AllocError, Global};
 
 /// The canonical grammar of a grammar, built in a store of its own. It is valid for exactly the same documents, for every
@@ -28,10 +31,10 @@ pub fn normalise(alloc: Global, grammar: &Grammar) -> Result<Normal, AllocError>
     ensures canonical { IfOk result
         (λ n. IsCanonicalOf (grammar_view grammar.now) (normal_view n)) }
     ensures documents { IfOk result
-        (λ n. AreValidAlike (grammar_view grammar.now) (normal_view n)) }
+        (λ n. ValidAlike (grammar_view grammar.now) (normal_view n)) }
 {
-    let mut store = Interned::with_seed(alloc, *grammar.defs().hasher());
-    normalise_in(alloc, grammar, &mut store)
+    let parts = parts_apart(alloc, grammar)?;
+    Ok(normal_of(grammar, parts))
 }
 
 /// The canonical grammar of a grammar, built in `store`, whose earlier ids keep their patterns. After a refusal they keep
@@ -44,19 +47,28 @@ pub fn normalise_in<P: Patterns>(
     ensures canonical { IfOk result
         (λ n. IsCanonicalOf (grammar_view grammar.now) (normal_view n)) }
     ensures documents { IfOk result
-        (λ n. AreValidAlike (grammar_view grammar.now) (normal_view n)) }
-    ensures kept { KeepsTrees (P.knows store.old) (P.tree_of store.old)
-        (P.knows store.new) (P.tree_of store.new) }
+        (λ n. ValidAlike (grammar_view grammar.now) (normal_view n)) }
+    ensures kept { KeepsIds P.knows P.tree_of store.old store.new }
 {
-    let (start, defs) = canonical_parts(alloc, grammar, store)?;
-    Ok(Normal {
-        start: Box::into_inner(start),
-        defs,
-    })
+    let parts = canonical_parts(alloc, grammar, store)?;
+    Ok(normal_of(grammar, parts))
 }
 
 /// A start, and definitions by their names.
 type Parts = (Box<Pattern>, Vec<(String, Pattern)>);
+
+/// The canonical grammar of these parts, which are those of the grammar's.
+fn normal_of(grammar: &Grammar, parts: Parts) -> Normal
+    requires { IsCanonicalOf (grammar_view grammar.now) (parts_view parts.0.value parts.1.items) }
+    ensures canonical { IsCanonicalOf (grammar_view grammar.now) (normal_view result) }
+    ensures documents { ValidAlike (grammar_view grammar.now) (normal_view result) }
+{
+    let (start, defs) = parts;
+    Normal {
+        start: Box::into_inner(start),
+        defs,
+    }
+}
 
 /// The canonical start and the canonical definitions that it reaches.
 fn canonical_parts<P: Patterns>(
@@ -66,24 +78,35 @@ fn canonical_parts<P: Patterns>(
 ) -> Result<Parts, AllocError>
     ensures canonical { IfOk result (λ parts. IsCanonicalOf (grammar_view grammar.now)
         (parts_view parts.0.value parts.1.items)) }
-    ensures kept { KeepsTrees (P.knows store.old) (P.tree_of store.old)
-        (P.knows store.new) (P.tree_of store.new) }
+    ensures kept { KeepsIds P.knows P.tree_of store.old store.new }
 {
     let settled = settle_all(alloc, grammar)?;
-    let start = form(
+    let start = body_form(
         alloc,
         store,
         &settled,
         grammar.start(),
         grammar.start_firsts(),
     )?;
-    let forms = forms(alloc, store, &settled, grammar)?;
-    let defs = pruned(alloc, settled.names, &start, forms)?;
+    let forms = definition_forms(alloc, store, &settled, grammar)?;
+    let defs = prune_forms(alloc, settled.names, &start, forms)?;
+    Ok((start, defs))
+}
+
+/// The canonical start and the canonical definitions that it reaches, each made in a store of its own.
+fn parts_apart(alloc: Global, grammar: &Grammar) -> Result<Parts, AllocError>
+    ensures { IfOk result (λ parts. IsCanonicalOf (grammar_view grammar.now)
+        (parts_view parts.0.value parts.1.items)) }
+{
+    let settled = settle_all(alloc, grammar)?;
+    let start = body_form_apart(alloc, &settled, grammar.start(), grammar.start_firsts())?;
+    let forms = definition_forms_apart(alloc, &settled, grammar)?;
+    let defs = prune_forms(alloc, settled.names, &start, forms)?;
     Ok((start, defs))
 }
 
 /// The canonical form of a body, in its box.
-fn form<P: Patterns>(
+pub(crate) fn body_form<P: Patterns>(
     alloc: Global,
     store: &mut P,
     settled: &Settled<'_>,
@@ -91,18 +114,16 @@ fn form<P: Patterns>(
     firsts: &[usize],
 ) -> Result<Box<Pattern>, AllocError>
     requires { AreFirsts firsts.now (joined_members (pattern_view body.now)) }
-    ensures made { IfOk result (λ p. pattern_view p.value ≡ form.canonical
-        (settled_by (definitions_view settled.now.names.now.entries) settled.now.worth.items)
+    ensures made { IfOk result (λ p. pattern_view p.value ≡ form.canonical (becomes settled.now)
         (pattern_view body.now)) }
-    ensures kept { KeepsTrees (P.knows store.old) (P.tree_of store.old)
-        (P.knows store.new) (P.tree_of store.new) }
+    ensures kept { KeepsIds P.knows P.tree_of store.old store.new }
 {
     let form = canonical_body(alloc, store, settled, body, firsts)?;
-    rebuilt_box(alloc, store, form)
+    rebuild_box(alloc, store, form)
 }
 
 /// The canonical forms of the definitions, in their order.
-fn forms<P: Patterns>(
+fn definition_forms<P: Patterns>(
     alloc: Global,
     store: &mut P,
     settled: &Settled<'_>,
@@ -110,22 +131,18 @@ fn forms<P: Patterns>(
 ) -> Result<Vec<(String, Pattern)>, AllocError>
     requires { definitions_view settled.now.names.now.entries
         ≡ (grammar_view grammar.now).definitions }
-    ensures made { IfOk result (λ v. definitions_view v.items ≡ map (λ (d : Text × Tree). (
-      d.0,
-      form.canonical
-          (settled_by (definitions_view settled.now.names.now.entries) settled.now.worth.items) d.1,
-    ))
+    ensures made { IfOk result (λ v. definitions_view v.items
+        ≡ map (λ (d : Text × Tree). (d.0, form.canonical (becomes settled.now) d.1))
         (definitions_view settled.now.names.now.entries)) }
     ensures distinct { IfOk result
         (λ v. IsDistinct bytes_eq (map (λ d. d.0) (definitions_view v.items))) }
-    ensures kept { KeepsTrees (P.knows store.old) (P.tree_of store.old)
-        (P.knows store.new) (P.tree_of store.new) }
+    ensures kept { KeepsIds P.knows P.tree_of store.old store.new }
 {
     let mut forms = Vec::new(alloc);
     for number in 0..settled.names.len() {
         let name = name_of(settled.names, number).clone()?;
         let body = body_of(settled.names, number);
-        let form = form(alloc, store, settled, body, grammar.firsts(number))?;
+        let form = body_form(alloc, store, settled, body, grammar.firsts(number))?;
         forms.push((name, Box::into_inner(form)))?;
     }
     Ok(forms)

@@ -7,9 +7,9 @@ ghost use Rattle.rn_simplify.specs.Printed.{IsPrinted, IsUnprinted};
 ghost use Rattle.rn_simplify.specs.ReadBack.{IsReadBack};
 ghost use Rattle.rn_simplify.specs.inside.Writes.{defined_as, prefixes_view, Writes};
 
-use crate::declarations::Prefixes;
+use crate::declared_prefixes::Prefixes;
 use crate::normal::Normal;
-use crate::pattern::write_pattern;
+use crate::pattern_text::write_pattern;
 use crate::writer::Writer;
 use rn_assemble::Refusal;
 use rn_pattern::Pattern;

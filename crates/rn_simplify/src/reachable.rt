@@ -8,9 +8,9 @@ ghost use Rattle.rn_pattern.specs.Reached.{IsPruned};
 ghost use Rattle.rn_pattern.specs.View.{pattern_view};
 ghost use Rattle.rn_simplify.specs.inside.Marked.{marked};
 ghost use Rattle.rn_simplify.specs.Numbered.{MarksReached, rows_by};
-ghost use Rattle.rn_simplify.specs.declared.references.Scope.TheVariants.{Everywhere};
+ghost use Rattle.rn_assemble.specs.declared.references.Reach.TheVariants.{Everywhere};
 
-use crate::references::{Scope, referred};
+use crate::references::referred_numbers;
 use rn_assemble::Definitions;
 use rn_pattern::Pattern;
 use rn_pattern::graph::reached;
@@ -18,7 +18,7 @@ use std::alloc::{AllocError, Global};
 
 /// The forms that the start reaches, in the order of their names. The forms have the names of the definitions, in their
 /// order.
-pub(crate) fn pruned(
+pub(crate) fn prune_forms(
     alloc: Global,
     names: &Definitions,
     start: &Pattern,
@@ -54,7 +54,7 @@ fn reached_forms(
         }) marks.items) }
 {
     let rows = rows_of_forms(alloc, names, forms)?;
-    let first = referred(alloc, names, start, Scope::Everywhere)?;
+    let first = referred_numbers(alloc, names, start)?;
     reached(alloc, &rows, &first)
 }
 
@@ -69,7 +69,7 @@ fn rows_of_forms(
 {
     let mut rows = Vec::new(alloc);
     for (_, form) in forms {
-        rows.push(referred(alloc, names, form, Scope::Everywhere)?)?;
+        rows.push(referred_numbers(alloc, names, form)?)?;
     }
     Ok(rows)
 }

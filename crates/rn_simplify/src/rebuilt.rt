@@ -13,36 +13,36 @@ use std::alloc::{AllocError, Global};
 use std::rc::Rc;
 
 /// The pattern of an id.
-#[cycle(rebuilt)]
-fn rebuilt<P: Patterns>(alloc: Global, store: &P, id: P::Id) -> Result<Pattern, AllocError>
+#[cycle(rebuild)]
+fn rebuild<P: Patterns>(alloc: Global, store: &P, id: P::Id) -> Result<Pattern, AllocError>
     requires { IsTrue (P.knows store.now id) }
     ensures { IfOk result (λ p. pattern_view p ≡ P.tree_of store.now id) }
 {
     let node = store.node(id);
     match node {
         Node::NotAllowed | Node::Empty | Node::Text | Node::Ref(_) | Node::Value(_, _, _) => {
-            leaf(node)
+            leaf_pattern(node)
         }
         Node::Datum(library, type_name, params, except) => {
-            let except = rebuilt_except(alloc, store, *except)?;
-            datum(alloc, library, type_name, params, except)
+            let except = rebuild_except(alloc, store, *except)?;
+            datum_pattern(alloc, library, type_name, params, except)
         }
         Node::List(content)
         | Node::Attribute(_, content)
         | Node::Element(_, content)
         | Node::OneOrMore(content) => {
-            let content = rebuilt_box(alloc, store, *content)?;
-            over_content(alloc, node, content)
+            let content = rebuild_box(alloc, store, *content)?;
+            pattern_over_content(alloc, node, content)
         }
         Node::Group(members) | Node::Interleave(members) | Node::Choice(members) => {
-            let members = rebuilt_members(alloc, store, members)?;
-            Ok(over_members(node, members))
+            let members = rebuild_members(alloc, store, members)?;
+            Ok(pattern_over_members(node, members))
         }
     }
 }
 
 /// The pattern of a node that names no other.
-fn leaf<Id>(node: &Node<Id>) -> Result<Pattern, AllocError>
+fn leaf_pattern<Id>(node: &Node<Id>) -> Result<Pattern, AllocError>
     requires { IsTrue (is_leaf node.now) }
     ensures { (at : Id → Tree) → IfOk result (λ p. pattern_view p ≡ node_view at node.now) }
 {
@@ -58,7 +58,7 @@ fn leaf<Id>(node: &Node<Id>) -> Result<Pattern, AllocError>
     }
 }
 
-fn datum(
+fn datum_pattern(
     alloc: Global,
     library: &String,
     type_name: &String,
@@ -74,7 +74,7 @@ fn datum(
 }
 
 /// The pattern of a node with a content, over the content's pattern.
-fn over_content<Id>(
+fn pattern_over_content<Id>(
     alloc: Global,
     node: &Node<Id>,
     content: Box<Pattern>,
@@ -86,15 +86,15 @@ fn over_content<Id>(
 {
     match node {
         Node::List(_) => Ok(Pattern::List(content)),
-        Node::Attribute(class, _) => Ok(Pattern::Attribute(cloned_class(alloc, class)?, content)),
-        Node::Element(class, _) => Ok(Pattern::Element(cloned_class(alloc, class)?, content)),
+        Node::Attribute(class, _) => Ok(Pattern::Attribute(clone_class(alloc, class)?, content)),
+        Node::Element(class, _) => Ok(Pattern::Element(clone_class(alloc, class)?, content)),
         Node::OneOrMore(_) => Ok(Pattern::OneOrMore(content)),
         _ => unreachable!(),
     }
 }
 
 /// The pattern of a node with a list of members, over the members' patterns.
-fn over_members<Id>(node: &Node<Id>, members: Vec<Rc<Pattern>>) -> Pattern
+fn pattern_over_members<Id>(node: &Node<Id>, members: Vec<Rc<Pattern>>) -> Pattern
     requires { IsTrue (has_members node.now) }
     ensures { (at : Id → Tree) → map at (node_members node.now) ≡ map shared_view members.items
         → pattern_view result ≡ node_view at node.now }
@@ -108,8 +108,8 @@ fn over_members<Id>(node: &Node<Id>, members: Vec<Rc<Pattern>>) -> Pattern
 }
 
 /// The pattern of an id, in its box.
-#[cycle(rebuilt)]
-pub(crate) fn rebuilt_box<P: Patterns>(
+#[cycle(rebuild)]
+pub(crate) fn rebuild_box<P: Patterns>(
     alloc: Global,
     store: &P,
     id: P::Id,
@@ -117,19 +117,19 @@ pub(crate) fn rebuilt_box<P: Patterns>(
     requires { IsTrue (P.knows store.now id) }
     ensures { IfOk result (λ p. pattern_view p.value ≡ P.tree_of store.now id) }
 {
-    boxed(alloc, rebuilt(alloc, store, id)?)
+    new_box(alloc, rebuild(alloc, store, id)?)
 }
 
 /// The value in its box.
-pub(crate) fn boxed<T: Drop>(alloc: Global, value: T) -> Result<Box<T>, AllocError>
+pub(crate) fn new_box<T: Drop>(alloc: Global, value: T) -> Result<Box<T>, AllocError>
     ensures { IfOk result (λ b. b.value ≡ value) }
 {
     Ok(Box::new(alloc, value)?)
 }
 
 /// The pattern of an id, to be shared.
-#[cycle(rebuilt)]
-fn rebuilt_shared<P: Patterns>(
+#[cycle(rebuild)]
+fn rebuild_shared<P: Patterns>(
     alloc: Global,
     store: &P,
     id: P::Id,
@@ -137,17 +137,17 @@ fn rebuilt_shared<P: Patterns>(
     requires { IsTrue (P.knows store.now id) }
     ensures { IfOk result (λ p. shared_view p ≡ P.tree_of store.now id) }
 {
-    shared(alloc, rebuilt(alloc, store, id)?)
+    new_shared(alloc, rebuild(alloc, store, id)?)
 }
 
-fn shared<T: Drop>(alloc: Global, value: T) -> Result<Rc<T>, AllocError>
+fn new_shared<T: Drop>(alloc: Global, value: T) -> Result<Rc<T>, AllocError>
     ensures { IfOk result (λ r. r.value ≡ value) }
 {
     Ok(Rc::new(alloc, value)?)
 }
 
-#[cycle(rebuilt)]
-fn rebuilt_except<P: Patterns>(
+#[cycle(rebuild)]
+fn rebuild_except<P: Patterns>(
     alloc: Global,
     store: &P,
     except: Option<P::Id>,
@@ -157,13 +157,13 @@ fn rebuilt_except<P: Patterns>(
 {
     match except {
         None => Ok(None),
-        Some(id) => Ok(Some(rebuilt_box(alloc, store, id)?)),
+        Some(id) => Ok(Some(rebuild_box(alloc, store, id)?)),
     }
 }
 
 /// The patterns of the ids. Neighbours with one id share one pattern.
-#[cycle(rebuilt)]
-fn rebuilt_members<P: Patterns>(
+#[cycle(rebuild)]
+fn rebuild_members<P: Patterns>(
     alloc: Global,
     store: &P,
     ids: &[P::Id],
@@ -176,43 +176,43 @@ fn rebuilt_members<P: Patterns>(
         let member = if i > 0 && *id == ids[i - 1] {
             members[i - 1].clone()?
         } else {
-            rebuilt_shared(alloc, store, *id)?
+            rebuild_shared(alloc, store, *id)?
         };
         members.push(member)?;
     }
     Ok(members)
 }
 
-#[cycle(cloned_class)]
-fn cloned_class(alloc: Global, class: &NameClass) -> Result<NameClass, AllocError>
+#[cycle(clone_class)]
+fn clone_class(alloc: Global, class: &NameClass) -> Result<NameClass, AllocError>
     ensures { IfOk result (λ c. name_class_view c ≡ name_class_view class.now) }
 {
     Ok(match class {
         NameClass::AnyName(None) => NameClass::AnyName(None),
-        NameClass::AnyName(Some(except)) => NameClass::AnyName(Some(cloned_box(alloc, except)?)),
+        NameClass::AnyName(Some(except)) => NameClass::AnyName(Some(clone_box(alloc, except)?)),
         NameClass::NsName(uri, None) => NameClass::NsName(uri.clone()?, None),
         NameClass::NsName(uri, Some(except)) => {
-            NameClass::NsName(uri.clone()?, Some(cloned_box(alloc, except)?))
+            NameClass::NsName(uri.clone()?, Some(clone_box(alloc, except)?))
         }
         NameClass::Name(uri, local) => NameClass::Name(uri.clone()?, local.clone()?),
-        NameClass::Choice(members) => NameClass::Choice(cloned_members(alloc, members)?),
+        NameClass::Choice(members) => NameClass::Choice(clone_members(alloc, members)?),
     })
 }
 
-#[cycle(cloned_class)]
-fn cloned_box(alloc: Global, class: &NameClass) -> Result<Box<NameClass>, AllocError>
+#[cycle(clone_class)]
+fn clone_box(alloc: Global, class: &NameClass) -> Result<Box<NameClass>, AllocError>
     ensures { IfOk result (λ c. name_class_view c.value ≡ name_class_view class.now) }
 {
-    boxed(alloc, cloned_class(alloc, class)?)
+    new_box(alloc, clone_class(alloc, class)?)
 }
 
-#[cycle(cloned_class)]
-fn cloned_members(alloc: Global, members: &[NameClass]) -> Result<Vec<NameClass>, AllocError>
+#[cycle(clone_class)]
+fn clone_members(alloc: Global, members: &[NameClass]) -> Result<Vec<NameClass>, AllocError>
     ensures { IfOk result (λ v. map name_class_view v.items ≡ map name_class_view members.now) }
 {
     let mut copy = Vec::new(alloc);
     for member in members {
-        copy.push(cloned_class(alloc, member)?)?;
+        copy.push(clone_class(alloc, member)?)?;
     }
     Ok(copy)
 }

@@ -5,90 +5,143 @@ ghost use Rattle.rn_pattern.specs.Tree.{trees_of};
 ghost use Rattle.rn_pattern.specs.View.{pattern_view, shared_view};
 ghost use Rattle.rn_simplify.specs.Numbered.{numbers_of};
 ghost use Rattle.rn_simplify.specs.Referred.{all_references, references};
+ghost use Rattle.rn_simplify.specs.inside.References.{AreReferences};
+ghost use Rattle.rn_assemble.specs.declared.references.Reach.TheVariants.{Everywhere, OutsideElements};
 
-use rn_assemble::Definitions;
+use rn_assemble::{Definitions, Reach};
 use rn_pattern::Pattern;
 use std::alloc::{AllocError, Global};
 use std::rc::Rc;
 
-/// Which references of a pattern are meant.
-#[derive(Clone, Copy, PartialEq, Eq)]
-pub(crate) enum Scope {
-    Everywhere,
-    OutsideElements,
+/// The definitions that a pattern refers to, by their numbers. Names that have no definition are passed over.
+#[derive(Drop)]
+pub(crate) struct References {
+    pub(crate) everywhere: Vec<usize>,
+    /// Those outside elements, which stand in `everywhere` too.
+    pub(crate) outside: Vec<usize>,
 }
 
-/// The numbers of the definitions that a pattern refers to. Names that have no definition are passed over.
-pub(crate) fn referred(
+impl References {
+    /// The references of a pattern that stands outside elements.
+    pub(crate) fn of(
+        alloc: Global,
+        names: &Definitions,
+        pattern: &Pattern,
+    ) -> Result<References, AllocError>
+        ensures { IfOk result (AreReferences (definitions_view names.now.entries)
+            (pattern_view pattern.now)) }
+    {
+        let mut found = References {
+            everywhere: Vec::new(alloc),
+            outside: Vec::new(alloc),
+        };
+        found.add(names, pattern, Reach::OutsideElements)?;
+        Ok(found)
+    }
+
+    /// Adds the references of a pattern; those outside elements are noted where `reach` is outside elements too.
+    #[cycle(add)]
+    fn add(
+        &mut self,
+        names: &Definitions,
+        pattern: &Pattern,
+        reach: Reach,
+    ) -> Result<(), AllocError>
+        ensures everywhere { OnOk result (self.new.everywhere.items ≡ self.old.everywhere.items
+            ++ numbers_of (definitions_view names.now.entries)
+            (references Everywhere (pattern_view pattern.now))) }
+        ensures outside { reach ≡ OutsideElements
+            → OnOk result (self.new.outside.items ≡ self.old.outside.items
+            ++ numbers_of (definitions_view names.now.entries)
+            (references OutsideElements (pattern_view pattern.now))) }
+        ensures inside { reach ≡ Everywhere
+            → OnOk result (self.new.outside.items ≡ self.old.outside.items) }
+    {
+        match pattern {
+            Pattern::Ref(name) => self.add_name(names, name, reach),
+            Pattern::Datum(_, _, _, Some(content)) => self.add(names, content, reach),
+            Pattern::List(content) | Pattern::Attribute(_, content) | Pattern::OneOrMore(content) =>
+                { self.add(names, content, reach) }
+            Pattern::Element(_, content) => self.add(names, content, Reach::Everywhere),
+            Pattern::Group(members) | Pattern::Interleave(members) | Pattern::Choice(members) => {
+                self.add_all(names, members, reach)
+            }
+            Pattern::NotAllowed
+            | Pattern::Empty
+            | Pattern::Text
+            | Pattern::Value(_, _, _)
+            | Pattern::Datum(_, _, _, None) => Ok(()),
+        }
+    }
+
+    #[cycle(add)]
+    fn add_all(
+        &mut self,
+        names: &Definitions,
+        members: &[Rc<Pattern>],
+        reach: Reach,
+    ) -> Result<(), AllocError>
+        ensures everywhere { OnOk result (self.new.everywhere.items ≡ self.old.everywhere.items
+            ++ numbers_of (definitions_view names.now.entries)
+            (all_references Everywhere (trees_of (map shared_view members.now)))) }
+        ensures outside { reach ≡ OutsideElements
+            → OnOk result (self.new.outside.items ≡ self.old.outside.items
+            ++ numbers_of (definitions_view names.now.entries)
+            (all_references OutsideElements (trees_of (map shared_view members.now)))) }
+        ensures inside { reach ≡ Everywhere
+            → OnOk result (self.new.outside.items ≡ self.old.outside.items) }
+    {
+        for member in members {
+            self.add(names, member, reach)?;
+        }
+        Ok(())
+    }
+
+    fn add_name(&mut self, names: &Definitions, name: &str, reach: Reach) -> Result<(), AllocError>
+        ensures everywhere { OnOk result (self.new.everywhere.items ≡ self.old.everywhere.items
+            ++ numbers_of (definitions_view names.now.entries) (name.now ∷ [])) }
+        ensures outside { reach ≡ OutsideElements
+            → OnOk result (self.new.outside.items ≡ self.old.outside.items
+            ++ numbers_of (definitions_view names.now.entries) (name.now ∷ [])) }
+        ensures inside { reach ≡ Everywhere
+            → OnOk result (self.new.outside.items ≡ self.old.outside.items) }
+    {
+        match names.get_index_of(name) {
+            Some(number) => self.add_number(number, reach),
+            None => Ok(()),
+        }
+    }
+
+    fn add_number(&mut self, number: usize, reach: Reach) -> Result<(), AllocError>
+        ensures everywhere { OnOk result (self.new.everywhere.items
+            ≡ self.old.everywhere.items ++ number ∷ []) }
+        ensures outside { reach ≡ OutsideElements
+            → OnOk result (self.new.outside.items ≡ self.old.outside.items ++ number ∷ []) }
+        ensures inside { reach ≡ Everywhere
+            → OnOk result (self.new.outside.items ≡ self.old.outside.items) }
+    {
+        self.everywhere.push(number)?;
+        match reach {
+            Reach::Everywhere => {}
+            Reach::OutsideElements => self.outside.push(number)?,
+        }
+        Ok(())
+    }
+}
+
+/// The definitions that a pattern refers to, in elements and outside.
+pub(crate) fn referred_numbers(
     alloc: Global,
     names: &Definitions,
     pattern: &Pattern,
-    scope: Scope,
 ) -> Result<Vec<usize>, AllocError>
-    ensures { IfOk result (λ v. v.items
-        ≡ numbers_of (definitions_view names.now.entries)
-        (references scope (pattern_view pattern.now))) }
+    ensures { IfOk result (λ v. v.items ≡ numbers_of (definitions_view names.now.entries)
+        (references Everywhere (pattern_view pattern.now))) }
 {
-    let mut numbers = Vec::new(alloc);
-    add(names, pattern, scope, &mut numbers)?;
-    Ok(numbers)
-}
-
-#[cycle(referred)]
-fn add(
-    names: &Definitions,
-    pattern: &Pattern,
-    scope: Scope,
-    numbers: &mut Vec<usize>,
-) -> Result<(), AllocError>
-    ensures { OnOk result (numbers.new.items ≡ numbers.old.items
-        ++ numbers_of (definitions_view names.now.entries)
-        (references scope (pattern_view pattern.now))) }
-{
-    match pattern {
-        Pattern::Ref(name) => add_name(names, name, numbers),
-        Pattern::Datum(_, _, _, Some(content)) => add(names, content, scope, numbers),
-        Pattern::List(content) => add(names, content, scope, numbers),
-        Pattern::Attribute(_, content) => add(names, content, scope, numbers),
-        Pattern::OneOrMore(content) => add(names, content, scope, numbers),
-        Pattern::Element(_, content) => match scope {
-            Scope::Everywhere => add(names, content, scope, numbers),
-            Scope::OutsideElements => Ok(()),
-        },
-        Pattern::Group(members) => add_all(names, members, scope, numbers),
-        Pattern::Interleave(members) => add_all(names, members, scope, numbers),
-        Pattern::Choice(members) => add_all(names, members, scope, numbers),
-        Pattern::NotAllowed
-        | Pattern::Empty
-        | Pattern::Text
-        | Pattern::Value(_, _, _)
-        | Pattern::Datum(_, _, _, None) => Ok(()),
-    }
-}
-
-#[cycle(referred)]
-fn add_all(
-    names: &Definitions,
-    members: &[Rc<Pattern>],
-    scope: Scope,
-    numbers: &mut Vec<usize>,
-) -> Result<(), AllocError>
-    ensures { OnOk result (numbers.new.items ≡ numbers.old.items
-        ++ numbers_of (definitions_view names.now.entries)
-        (all_references scope (trees_of (map shared_view members.now)))) }
-{
-    for member in members {
-        add(names, member, scope, numbers)?;
-    }
-    Ok(())
-}
-
-fn add_name(names: &Definitions, name: &str, numbers: &mut Vec<usize>) -> Result<(), AllocError>
-    ensures { OnOk result (numbers.new.items ≡ numbers.old.items
-        ++ numbers_of (definitions_view names.now.entries) (name.now ∷ [])) }
-{
-    if let Some(number) = names.get_index_of(name) {
-        numbers.push(number)?;
-    }
-    Ok(())
+    let mut found = References {
+        everywhere: Vec::new(alloc),
+        outside: Vec::new(alloc),
+    };
+    found.add(names, pattern, Reach::Everywhere)?;
+    Ok(found.everywhere)
 }

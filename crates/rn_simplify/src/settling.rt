@@ -1,5 +1,5 @@
 // The definitions of a grammar in an order in which each comes after those that it refers to outside elements (RELAX NG, 4.19).
-ghost use Rattle.std.specs.Prelude.{◌≡◌, ◌<◌, [], ℕ, IfOk, length, cond, slice_index_or, string_bytes};
+ghost use Rattle.std.specs.Prelude.{◌≡◌, ◌<◌, [], ℕ, IfOk, length, if◌then◌else◌, slice_index_or, string_bytes};
 ghost use Rattle.rn_pattern.specs.Graph.{AllBelow, IsGraph, is_marked, row, rows_of};
 ghost use Rattle.rn_pattern.specs.Ranks.{HasNoLoop, IsRanking};
 ghost use Rattle.rn_assemble.specs.Firsts.{AreFirsts, joined_members};
@@ -7,14 +7,14 @@ ghost use Rattle.rn_assemble.specs.GrammarView.{definitions_view, grammar_view};
 ghost use Rattle.rn_pattern.specs.Tree.{Text, Tree};
 ghost use Rattle.rn_pattern.specs.View.{pattern_view};
 ghost use Rattle.rn_simplify.specs.inside.Marked.{ArePlaces};
-ghost use Rattle.rn_simplify.specs.Numbered.{MarksReached, graph_of, numbers_of, start_of};
-ghost use Rattle.rn_simplify.specs.Referred.{references};
+ghost use Rattle.rn_simplify.specs.inside.References.{AreReferences, AreRows};
+ghost use Rattle.rn_simplify.specs.Numbered.{MarksReached, graph_of, rows_by, start_of};
 ghost use Rattle.rn_simplify.specs.inside.Repeats.{HoldSame};
 ghost use Rattle.rn_simplify.specs.Settling.{IsSettlingOrder};
-ghost use Rattle.rn_simplify.specs.declared.references.Scope.TheVariants.{OutsideElements};
+ghost use Rattle.rn_assemble.specs.declared.references.Reach.TheVariants.{OutsideElements};
 
-use crate::references::{Scope, referred};
-use crate::repeats::without_repeats;
+use crate::references::References;
+use crate::repeated_members::without_repeats;
 use rn_assemble::{Definitions, Grammar};
 use rn_pattern::Pattern;
 use rn_pattern::graph::reached;
@@ -41,106 +41,78 @@ pub(crate) fn body_of(names: &Definitions, number: usize) -> &Pattern
     body
 }
 
-/// The numbers of the definitions that a body refers to. A member that stands in its list before isn't looked at.
-fn referred_by(
+/// The references of a body. A member that stands in its list before isn't looked at.
+fn body_references(
     alloc: Global,
     names: &Definitions,
     body: &Pattern,
     firsts: &[usize],
-    scope: Scope,
-) -> Result<Vec<usize>, AllocError>
+) -> Result<References, AllocError>
     requires { AreFirsts firsts.now (joined_members (pattern_view body.now)) }
-    ensures { IfOk result (λ v. HoldSame v.items (numbers_of (definitions_view names.now.entries)
-        (references scope (pattern_view body.now)))) }
+    ensures { IfOk result (AreReferences (definitions_view names.now.entries)
+        (pattern_view body.now)) }
 {
     match without_repeats(alloc, body, firsts)? {
-        Some(distinct) => referred(alloc, names, &distinct, scope),
-        None => referred(alloc, names, body, scope),
+        Some(distinct) => References::of(alloc, names, &distinct),
+        None => References::of(alloc, names, body),
     }
 }
 
 /// The references of the definition with a number.
-fn references_of(
-    alloc: Global,
-    grammar: &Grammar,
-    number: usize,
-    scope: Scope,
-) -> Result<Vec<usize>, AllocError>
+fn references_of(alloc: Global, grammar: &Grammar, number: usize) -> Result<References, AllocError>
     requires { number < length (grammar_view grammar.now).definitions }
-    ensures { IfOk result (λ v. (d : Text × Tree) → HoldSame v.items
-        (numbers_of (grammar_view grammar.now).definitions
-        (references scope (slice_index_or (grammar_view grammar.now).definitions number d).1))) }
+    ensures { IfOk result (λ found. (d : Text × Tree)
+        → AreReferences (grammar_view grammar.now).definitions
+        (slice_index_or (grammar_view grammar.now).definitions number d).1 found) }
 {
     let names = grammar.defs();
-    referred_by(
-        alloc,
-        names,
-        body_of(names, number),
-        grammar.firsts(number),
-        scope,
-    )
+    body_references(alloc, names, body_of(names, number), grammar.firsts(number))
 }
 
-/// The references of each definition, by its number.
-fn all_references(alloc: Global, grammar: &Grammar) -> Result<Vec<Vec<usize>>, AllocError>
-    ensures size { IfOk result (λ v. length v.items
-        ≡ length (grammar_view grammar.now).definitions) }
-    ensures rows { IfOk result (λ v. (k : ℕ) → k < length (grammar_view grammar.now).definitions
-        → HoldSame (row (rows_of v.items) k) (row (graph_of (grammar_view grammar.now)) k)) }
+/// The references of all definitions, each by its number.
+#[derive(Drop)]
+struct Rows {
+    everywhere: Vec<Vec<usize>>,
+    outside: Vec<Vec<usize>>,
+}
+
+/// The references of the definitions.
+fn all_references(alloc: Global, grammar: &Grammar) -> Result<Rows, AllocError>
+    ensures everywhere { IfOk result (λ rows. AreRows (row (graph_of (grammar_view grammar.now)))
+        (length (grammar_view grammar.now).definitions) rows.everywhere.items) }
+    ensures outside { IfOk result (λ rows. AreRows (row (rows_by OutsideElements
+        (grammar_view grammar.now).definitions (grammar_view grammar.now).definitions))
+        (length (grammar_view grammar.now).definitions) rows.outside.items) }
 {
-    let mut rows = Vec::new(alloc);
+    let mut everywhere = Vec::new(alloc);
+    let mut outside = Vec::new(alloc);
     for number in 0..grammar.defs().len() {
-        let references = references_of(alloc, grammar, number, Scope::Everywhere)?;
-        rows.push(references)?;
+        let found = references_of(alloc, grammar, number)?;
+        everywhere.push(found.everywhere)?;
+        outside.push(found.outside)?;
     }
-    Ok(rows)
+    Ok(Rows {
+        everywhere,
+        outside,
+    })
 }
 
-/// The references outside elements of the definition with a number, if it is reached; else none.
-fn outside_references_of(
-    alloc: Global,
-    grammar: &Grammar,
-    number: usize,
-    is_reached: bool,
-) -> Result<Vec<usize>, AllocError>
-    requires { number < length (grammar_view grammar.now).definitions }
-    ensures { IfOk result (λ v. (d : Text × Tree) → HoldSame v.items
-        (cond is_reached (numbers_of (grammar_view grammar.now).definitions
-        (references OutsideElements
-        (slice_index_or (grammar_view grammar.now).definitions number d).1)) [])) }
+/// Empties the rows that have no mark.
+fn clear_unmarked(rows: &mut Vec<Vec<usize>>, marks: &[bool])
+    requires { length marks.now ≡ length rows.old.items }
+    ensures size { length rows.new.items ≡ length rows.old.items }
+    ensures rows { (k : ℕ) → k < length rows.old.items → row (rows_of rows.new.items) k
+        ≡ (if is_marked marks.now k then row (rows_of rows.old.items) k else []) }
 {
-    if is_reached {
-        references_of(alloc, grammar, number, Scope::OutsideElements)
-    } else {
-        Ok(Vec::new(alloc))
+    for number in 0..marks.len() {
+        if !marks[number] {
+            rows[number].clear();
+        }
     }
-}
-
-/// The references outside elements of each definition that is reached, by its number.
-fn outside_references(
-    alloc: Global,
-    grammar: &Grammar,
-    is_reached: &[bool],
-) -> Result<Vec<Vec<usize>>, AllocError>
-    requires { length is_reached.now ≡ length (grammar_view grammar.now).definitions }
-    ensures size { IfOk result (λ v. length v.items
-        ≡ length (grammar_view grammar.now).definitions) }
-    ensures rows { IfOk result (λ v. (k : ℕ) (d : Text × Tree)
-        → k < length (grammar_view grammar.now).definitions
-        → HoldSame (row (rows_of v.items) k) (cond (is_marked is_reached.now k)
-        (numbers_of (grammar_view grammar.now).definitions (references OutsideElements
-        (slice_index_or (grammar_view grammar.now).definitions k d).1)) [])) }
-{
-    let mut rows = Vec::new(alloc);
-    for number in 0..is_reached.len() {
-        let references = outside_references_of(alloc, grammar, number, is_reached[number])?;
-        rows.push(references)?;
-    }
-    Ok(rows)
 }
 
 /// The places that have a mark.
-fn places(alloc: Global, marks: &[bool]) -> Result<Vec<usize>, AllocError>
+fn marked_places(alloc: Global, marks: &[bool]) -> Result<Vec<usize>, AllocError>
     ensures { IfOk result (λ v. ArePlaces marks.now v.items) }
 {
     let mut places = Vec::new(alloc);
@@ -157,24 +129,24 @@ fn start_references(alloc: Global, grammar: &Grammar) -> Result<Vec<usize>, Allo
     ensures { IfOk result (λ v. HoldSame v.items (start_of (grammar_view grammar.now))) }
 {
     let firsts = grammar.start_firsts();
-    referred_by(
-        alloc,
-        grammar.defs(),
-        grammar.start(),
-        firsts,
-        Scope::Everywhere,
-    )
+    let found = body_references(alloc, grammar.defs(), grammar.start(), firsts)?;
+    Ok(found.everywhere)
 }
 
-/// For each definition, whether the start reaches it.
-fn reached_definitions(alloc: Global, grammar: &Grammar) -> Result<Vec<bool>, AllocError>
+/// For each definition, whether the start reaches it, by the references of the definitions.
+fn reached_definitions(
+    alloc: Global,
+    grammar: &Grammar,
+    rows: &[Vec<usize>],
+) -> Result<Vec<bool>, AllocError>
+    requires { AreRows (row (graph_of (grammar_view grammar.now)))
+        (length (grammar_view grammar.now).definitions) rows.now }
     ensures size { IfOk result (λ v. length v.items
         ≡ length (grammar_view grammar.now).definitions) }
     ensures exact { IfOk result (λ v. MarksReached (grammar_view grammar.now) v.items) }
 {
-    let rows = all_references(alloc, grammar)?;
     let start = start_references(alloc, grammar)?;
-    reached(alloc, &rows, &start)
+    reached(alloc, rows, &start)
 }
 
 /// Ranks by which each row refers to lower ones, where no row leads back to itself.
@@ -195,10 +167,11 @@ pub(crate) fn settling_order(alloc: Global, grammar: &Grammar) -> Result<Vec<usi
         (length (grammar_view grammar.now).definitions) v.items) }
     ensures order { IfOk result (λ v. IsSettlingOrder (grammar_view grammar.now) v.items) }
 {
-    let is_reached = reached_definitions(alloc, grammar)?;
-    let outside = outside_references(alloc, grammar, &is_reached)?;
-    let ranks = ranks_of(alloc, &outside)?;
-    let mut order = places(alloc, &is_reached)?;
+    let mut rows = all_references(alloc, grammar)?;
+    let is_reached = reached_definitions(alloc, grammar, &rows.everywhere)?;
+    clear_unmarked(&mut rows.outside, &is_reached);
+    let ranks = ranks_of(alloc, &rows.outside)?;
+    let mut order = marked_places(alloc, &is_reached)?;
     order.sort_by_key(|number: &usize| ranks.get(*number).copied().unwrap_or(0))?;
     Ok(order)
 }

@@ -1,23 +1,21 @@
 // A text that is written piece by piece, up to a limit.
-ghost use Rattle.std.specs.Prelude.{◌≡◌, ◌∷◌, [], None, cond, chars, decimal, false, string_bytes, IfErr, IfOk};
+ghost use Rattle.std.specs.Prelude.{◌≡◌, ◌∷◌, [], None, chars, decimal, false, if◌then◌else◌, string_bytes, IfErr, IfOk};
 ghost use Rattle.rn_text.specs.Characters.{is_keyword};
 ghost use Rattle.rn_text.specs.Literals.{literal_bytes};
 ghost use Rattle.rn_simplify.specs.inside.Writes.{IsHindrance, WritesBytes, opening, closing, none, stop_behind};
 
 use rn_assemble::Refusal;
+use rn_modset::MAX_TEXT;
 use rn_text::{is_keyword, write_literal};
 use std::alloc::Global;
 
-/// The most bytes that a printed text has.
-pub(crate) const MOST_BYTES: usize = 4_194_304;
-
-/// The most brackets that are open at once.
-pub(crate) const MOST_OPEN: usize = 256;
+/// The most brackets that are open at once, which are as many as a module may have, so that the text can be read back.
+const MAX_OPEN: usize = 256;
 
 /// Why no more is written.
 #[derive(Clone, Copy, PartialEq, Eq)]
 pub(crate) enum Stop {
-    /// The text would have more than [`MOST_BYTES`] bytes.
+    /// The text would have more than [`MAX_TEXT`] bytes, so it could not be a module.
     TooLarge,
     Memory,
 }
@@ -27,7 +25,7 @@ pub(crate) enum Stop {
 pub(crate) struct Writer {
     pub(crate) text: String,
     pub(crate) depth: usize,
-    /// More than [`MOST_OPEN`] brackets were open at once.
+    /// More than [`MAX_OPEN`] brackets were open at once.
     pub(crate) too_deep: bool,
     pub(crate) stopped: Option<Stop>,
 }
@@ -67,7 +65,7 @@ impl Writer {
     {
         if !appended {
             self.stopped = Some(Stop::Memory);
-        } else if self.text.len() > MOST_BYTES {
+        } else if self.text.len() > MAX_TEXT {
             self.stopped = Some(Stop::TooLarge);
         }
     }
@@ -87,7 +85,7 @@ impl Writer {
         ensures { WritesBytes bracket.now opening self.old self.new }
     {
         self.put(bracket);
-        if self.depth < MOST_OPEN {
+        if self.depth < MAX_OPEN {
             self.depth += 1;
         } else {
             self.too_deep = true;
@@ -114,8 +112,8 @@ impl Writer {
 
     /// Appends a definition's name, behind a backslash if it is a keyword.
     pub(crate) fn identifier(&mut self, name: &str)
-        ensures { WritesBytes (cond (is_keyword (chars name.now))
-            (92 ∷ name.now) name.now) none self.old self.new }
+        ensures { WritesBytes (if is_keyword (chars name.now) then 92 ∷ name.now else name.now) none
+            self.old self.new }
     {
         if is_keyword(name) {
             self.put("\\");

@@ -19,7 +19,7 @@ use Rattle.rn_syntax.specs.Grammar.{Tokens, IsDeclaration, AreDeclarations, IsCo
 use Rattle.rn_syntax.specs.Places.{items_places, class_places, unbound_type, wrong_builtin, context_value, inherit_places, place_if, is_allowed}
 use Rattle.rn_syntax.specs.Tokens.{symbol_rows, keyword_rows}
 use Rattle.rn_syntax.specs.declared.token.Method.TheVariants as m
-use Rattle.rn_syntax.specs.declared.token.Keyword.TheVariants as k
+use Rattle.rn_text.specs.declared.keywords.Keyword.TheVariants as k
 use Rattle.rn_syntax.proofs.Terms.{before, terms, behind, terms-append}
 use Rattle.rn_syntax.proofs.EmptyLists.{both_nil}
 use Rattle.rn_assemble.specs.Resolve.{default_of}

@@ -1,5 +1,5 @@
 -- Graphs whose rows hold the same: the same is reached in them.
-use Rattle.std.proofs.Common.{◌≡◌, ◌<◌, ℕ, Bool, List, length, refl, sym, ap, ◌∙◌, subst, arith, Vec}
+use Rattle.std.proofs.Common.{◌≡◌, ◌<◌, ℕ, Bool, List, length, refl, sym, ◌∙◌, subst, arith, Vec}
 use Rattle.std.specs.declared.alloc.Global.{Global}
 use Rattle.std.proofs.lemmas.List.{length-map}
 use Rattle.std.specs.Prelude.{Contains, Decides}
@@ -7,8 +7,9 @@ use Rattle.rn_pattern.specs.Matching.{Grammar}
 use Rattle.rn_pattern.specs.Graph.{AllBelow, IsGraph, Reached, at_first, along, is_marked, row, rows_of}
 use Rattle.rn_simplify.specs.Numbered.{graph_of, start_of}
 use Rattle.rn_simplify.specs.Referred.{references}
+use Rattle.rn_simplify.specs.inside.References.{AreRows}
 use Rattle.rn_simplify.specs.inside.Repeats.{HoldSame}
-use Rattle.rn_simplify.specs.declared.references.Scope.TheVariants.{Everywhere}
+use Rattle.rn_assemble.specs.declared.references.Reach.TheVariants.{Everywhere}
 use Rattle.rn_simplify.proofs.Simplified.ReferenceGraph.{numbers_below, row_within, rows_graph, rows_size}
 
 -- a node is reached in a graph that has all edges and first nodes of another
@@ -38,22 +39,18 @@ module _ (G : Grammar) (rows : List (List ℕ)) (first : List ℕ) (size : lengt
       (λ e. reached_too rows (graph_of G) first (start_of G) edge_there (λ y. (first_same y).0) k (d.0 e), λ r. d.1 (reached_too (graph_of G) rows (start_of G) first edge_here (λ y. (first_same y).1) k r))
 
 -- rows and first nodes as the code holds them
-module _ (G : Grammar) (rows shown : List (Vec ℕ Global)) (first held : List ℕ) (is : shown ≡ rows) (first_is : held ≡ first) (size : length rows ≡ length G.definitions)
-    (rows_same : (k : ℕ) → k < length G.definitions → HoldSame (row (rows_of rows) k) (row (graph_of G) k)) (first_same : HoldSame first (start_of G)) where
-  shown_size : length (rows_of shown) ≡ length G.definitions
-  shown_size = length-map shown (λ (v : Vec ℕ Global). v.items) ∙ ap length is ∙ size
-
-  shown_same : (k : ℕ) → k < length G.definitions → HoldSame (row (rows_of shown) k) (row (graph_of G) k)
-  shown_same k l = subst (λ vs. HoldSame (row (rows_of vs) k) (row (graph_of G) k)) (sym is) (rows_same k l)
+module _ (G : Grammar) (rows : List (Vec ℕ Global)) (first held : List ℕ) (first_is : held ≡ first) (are : AreRows (row (graph_of G)) (length G.definitions) rows) (first_same : HoldSame first (start_of G)) where
+  shown_size : length (rows_of rows) ≡ length G.definitions
+  shown_size = length-map rows (λ (v : Vec ℕ Global). v.items) ∙ are.size
 
   held_same : HoldSame held (start_of G)
   held_same = subst (λ l. HoldSame l (start_of G)) (sym first_is) first_same
 
-  pub shown_graph : IsGraph (rows_of shown)
-  shown_graph = alike_graph G (rows_of shown) held shown_size shown_same held_same
+  pub shown_graph : IsGraph (rows_of rows)
+  shown_graph = alike_graph G (rows_of rows) held shown_size are.each held_same
 
-  pub held_within : AllBelow (length shown) held
-  held_within y c = let l = alike_first G (rows_of shown) held shown_size shown_same held_same y c in omega (arith, l, length-map shown (λ (v : Vec ℕ Global). v.items))
+  pub held_within : AllBelow (length rows) held
+  held_within y c = let l = alike_first G (rows_of rows) held shown_size are.each held_same y c in omega (arith, l, length-map rows (λ (v : Vec ℕ Global). v.items))
 
-  pub shown_reached : (marks : List Bool) (k : ℕ) → Decides (is_marked marks k) (Reached (rows_of shown) held k) → Decides (is_marked marks k) (Reached (graph_of G) (start_of G) k)
-  shown_reached marks k d = alike_reached G (rows_of shown) held shown_size shown_same held_same marks k d
+  pub shown_reached : (marks : List Bool) (k : ℕ) → Decides (is_marked marks k) (Reached (rows_of rows) held k) → Decides (is_marked marks k) (Reached (graph_of G) (start_of G) k)
+  shown_reached marks k d = alike_reached G (rows_of rows) held shown_size are.each held_same marks k d

@@ -1,5 +1,5 @@
 -- Numbers of definitions, and those that a pattern refers to.
-use Rattle.std.proofs.Common.{◌≡◌, ◌+◌, ◌<◌, ℕ, suc, cond, not, nat_lt, List, [], ◌∷◌, ◌++◌, length, map, take, get_or, position, Option, Some, None, refl, sym, ap, ◌∙◌, append_assoc, append-nil}
+use Rattle.std.proofs.Common.{◌≡◌, ◌⊎◌, inl, inr, ◌+◌, ◌<◌, ℕ, suc, cond, not, nat_lt, List, [], ◌∷◌, ◌++◌, length, map, take, get_or, position, Option, Some, None, refl, sym, ap, ◌∙◌, append_assoc, append-nil, Vec}
 use Rattle.std.specs.Prelude.{bytes_eq, String, string_bytes}
 use Rattle.std.specs.List.{cons_option, prefix_len}
 use Rattle.std.specs.declared.alloc.Global.{Global}
@@ -7,11 +7,13 @@ use Rattle.std.specs.declared.rc.Rc.{Rc}
 use Rattle.std.proofs.lemmas.List.{take_more, map-append}
 use Rattle.std.proofs.lemmas.List.Elements.{filter_map-append}
 use Rattle.rn_pattern.specs.Tree.{Text, Tree, trees_of}
-use Rattle.rn_pattern.specs.View.{shared_view}
+use Rattle.rn_pattern.specs.View.{pattern_view, shared_view}
 use Rattle.rn_pattern.specs.declared.tree.Pattern.{Pattern}
+use Rattle.rn_pattern.specs.declared.tree.Pattern.TheVariants as variant
+use Rattle.rn_pattern.proofs.Ordered.PatternKinds.{group_seen, interleave_seen, choice_seen}
 use Rattle.rn_assemble.specs.GrammarView.{definitions_view}
 use Rattle.rn_simplify.specs.Numbered.{number_of, numbers_of}
-use Rattle.rn_simplify.specs.Referred.{Scope, references, all_references}
+use Rattle.rn_simplify.specs.Referred.{Reach, references, all_references}
 
 front_is : (es : List (String Global × Pattern)) (x : Text) → prefix_len (λ (k : String Global). not (bytes_eq x (string_bytes k))) (map (λ (e : String Global × Pattern). e.0) es) ≡ prefix_len (λ y. not (bytes_eq x y)) (map (λ (d : Text × Tree). d.0) (definitions_view es))
 front_is [] x = refl
@@ -29,16 +31,33 @@ size_of_view (e ∷ es) = ap suc (size_of_view es)
 pub number_is : (es : List (String Global × Pattern)) (x : Text) → position (λ (k : String Global). bytes_eq x (string_bytes k)) (map (λ (e : String Global × Pattern). e.0) es) ≡ number_of (definitions_view es) x
 number_is es x = let f = front_is es x in let l = size_is es in λ i. cond (nat_lt (f i) (l i)) (Some (f i)) None
 
-pub no_number : (o : Option ℕ) (xs : List ℕ) → ((k : ℕ) → o ≡ Some k → ⊥) → xs ≡ xs ++ cons_option o []
-no_number None xs h = sym (append-nil xs)
-no_number (Some k) xs h = absurd (h k refl)
+-- a name with a number, and one without
+module _ (es : List (String Global × Pattern)) (x : Text) where
+  abbrev places : Option ℕ
+  places = position (λ (k : String Global). bytes_eq x (string_bytes k)) (map (λ (e : String Global × Pattern). e.0) es)
 
-all_more : (s : Scope) (ps : List Tree) (p : Tree) → all_references s (trees_of (ps ++ p ∷ [])) ≡ all_references s (trees_of ps) ++ references s p
+  pub one_number : (k : ℕ) → places ≡ Some k → k ∷ [] ≡ numbers_of (definitions_view es) (x ∷ [])
+  one_number k e = ap (λ o. cons_option o []) (sym e ∙ number_is es x)
+
+  pub not_numbered : (xs : List ℕ) → places ≡ None → xs ≡ xs ++ numbers_of (definitions_view es) (x ∷ [])
+  not_numbered xs e = sym (append-nil xs) ∙ ap (λ o. xs ++ cons_option o []) (sym e ∙ number_is es x)
+
+-- the references of a pattern that has members are theirs
+by_kind : (s : Reach) (p : Pattern) (v : Vec (Rc Pattern Global) Global) → (p ≡ variant.Group v) ⊎ ((p ≡ variant.Interleave v) ⊎ (p ≡ variant.Choice v)) → references s (pattern_view p) ≡ all_references s (trees_of (map shared_view v.items))
+by_kind s p v (inl e) = ap (λ q. references s (pattern_view q)) e ∙ ap (references s) (group_seen v)
+by_kind s p v (inr (inl e)) = ap (λ q. references s (pattern_view q)) e ∙ ap (references s) (interleave_seen v)
+by_kind s p v (inr (inr e)) = ap (λ q. references s (pattern_view q)) e ∙ ap (references s) (choice_seen v)
+
+pub of_members : (s : Reach) (p : Pattern) (v : Vec (Rc Pattern Global) Global) (members : List (Rc Pattern Global)) → members ≡ v.items
+    → (p ≡ variant.Group v) ⊎ ((p ≡ variant.Interleave v) ⊎ (p ≡ variant.Choice v)) → all_references s (trees_of (map shared_view members)) ≡ references s (pattern_view p)
+of_members s p v members is kind = ap (λ ps. all_references s (trees_of (map shared_view ps))) is ∙ sym (by_kind s p v kind)
+
+all_more : (s : Reach) (ps : List Tree) (p : Tree) → all_references s (trees_of (ps ++ p ∷ [])) ≡ all_references s (trees_of ps) ++ references s p
 all_more s [] p = append-nil (references s p)
 all_more s (q ∷ ps) p = ap (λ xs. references s q ++ xs) (all_more s ps p) ∙ sym (append_assoc (references s q) (all_references s (trees_of ps)) (references s p))
 
 -- one more member
-pub numbers_more : (s : Scope) (ds : List (Text × Tree)) (members : List (Rc Pattern Global)) (i : ℕ) (r : Rc Pattern Global) (old now new : List ℕ) → i < length members → r ≡ get_or members i r
+pub numbers_more : (s : Reach) (ds : List (Text × Tree)) (members : List (Rc Pattern Global)) (i : ℕ) (r : Rc Pattern Global) (old now new : List ℕ) → i < length members → r ≡ get_or members i r
     → now ≡ old ++ numbers_of ds (all_references s (trees_of (map shared_view (take i members))))
     → new ≡ now ++ numbers_of ds (references s (shared_view r))
     → new ≡ old ++ numbers_of ds (all_references s (trees_of (map shared_view (take (i + 1) members))))

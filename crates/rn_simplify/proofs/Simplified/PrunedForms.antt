@@ -26,7 +26,7 @@ use Rattle.rn_pattern.specs.Graph.{is_marked}
 use Rattle.rn_assemble.specs.GrammarView.{definitions_view}
 use Rattle.rn_simplify.specs.inside.Marked.{marked}
 use Rattle.rn_simplify.specs.Numbered.{MarksReached, numbers_of, rows_by}
-use Rattle.rn_simplify.specs.Referred.{Scope, references}
+use Rattle.rn_simplify.specs.Referred.{Reach, references}
 use Rattle.rn_simplify.proofs.ReadBack.Ordered.{equal_is}
 use Rattle.rn_simplify.proofs.Simplified.ReferredIn.{contains_none}
 use Rattle.rn_simplify.proofs.Simplified.ReferenceGraph.{nothing, is_at, number_some, body_is, reached_number, number_reached}
@@ -128,7 +128,7 @@ names_rise {g = g} {f = f} ys distinct up h =
         rises_at (get_or (names xs) k []) (get_or (names xs) (k + 1) []) (text_cmp (get_or (names xs) k []) (get_or (names xs) (k + 1) [])) refl falls (apart_from_distinct bytes_eq (names xs) k (k + 1) [] d (omega arith) l)
 
 -- numbers by other definitions of the same names
-pub rows_same : (s : Scope) (ds es : List (Text × Tree)) → map (λ (d : Text × Tree). d.0) es ≡ map (λ (d : Text × Tree). d.0) ds → rows_by s ds es ≡ rows_by s es es
+pub rows_same : (s : Reach) (ds es : List (Text × Tree)) → map (λ (d : Text × Tree). d.0) es ≡ map (λ (d : Text × Tree). d.0) ds → rows_by s ds es ≡ rows_by s es es
 rows_same s ds es e = λ i. map (λ (d : Text × Tree). filter_map (λ x. position (bytes_eq x) (sym e i)) (references s d.1)) es
 
 pub numbers_same : (ds es : List (Text × Tree)) (xs : List Text) → map (λ (d : Text × Tree). d.0) es ≡ map (λ (d : Text × Tree). d.0) ds → numbers_of ds xs ≡ numbers_of es xs

@@ -12,8 +12,8 @@ use Rattle.rn_pattern.specs.Matching.{Grammar}
 use Rattle.rn_pattern.specs.Reached.{IsReached, by_start, by_definition}
 use Rattle.rn_pattern.specs.Graph.{AllBelow, IsGraph, Reached, at_first, along, row}
 use Rattle.rn_simplify.specs.Numbered.{graph_of, number_of, numbers_of, rows_by, start_of}
-use Rattle.rn_simplify.specs.Referred.{Scope, references}
-use Rattle.rn_simplify.specs.declared.references.Scope.TheVariants.{Everywhere}
+use Rattle.rn_simplify.specs.Referred.{Reach, references}
+use Rattle.rn_assemble.specs.declared.references.Reach.TheVariants.{Everywhere}
 use Rattle.rn_simplify.proofs.Simplified.ReferredIn.{contains_none, refers_in, in_refers, mapped_in, source_of}
 
 -- what stands for a definition that is not there
@@ -73,13 +73,13 @@ row_within rows k y c = elim (cases_lt k (length rows)) [
   | inr h ↦ absurd (contains_none y (subst (λ (l : List ℕ). Contains l y) (get_or_past rows k [] h) c))
 ]
 
-pub row_is : (s : Scope) (ds es : List (Text × Tree)) (k : ℕ) → k < length es → row (rows_by s ds es) k ≡ numbers_of ds (references s (get_or es k nothing).1)
+pub row_is : (s : Reach) (ds es : List (Text × Tree)) (k : ℕ) → k < length es → row (rows_by s ds es) k ≡ numbers_of ds (references s (get_or es k nothing).1)
 row_is s ds es k l = get_or-map (λ (e : Text × Tree). numbers_of ds (references s e.1)) es k nothing [] l
 
-pub rows_size : (s : Scope) (ds es : List (Text × Tree)) → length (rows_by s ds es) ≡ length es
+pub rows_size : (s : Reach) (ds es : List (Text × Tree)) → length (rows_by s ds es) ≡ length es
 rows_size s ds es = length-map es (λ (e : Text × Tree). numbers_of ds (references s e.1))
 
-pub rows_graph : (s : Scope) (ds es : List (Text × Tree)) → length es ≡ length ds → IsGraph (rows_by s ds es)
+pub rows_graph : (s : Reach) (ds es : List (Text × Tree)) → length es ≡ length ds → IsGraph (rows_by s ds es)
 rows_graph s ds es same k y c =
     let l = row_within (rows_by s ds es) k y c in
     let m = numbers_below ds (references s (get_or es k nothing).1) y (subst (λ (r : List ℕ). Contains r y) (row_is s ds es k (omega (arith, l, rows_size s ds es))) c) in

@@ -22,9 +22,12 @@ use Rattle.rn_pattern.proofs.Ordered.SortedMembers.{sorted_once_members}
 use Rattle.rn_pattern.proofs.Ordered.TotalOrder.{tree_cmp_total}
 use Rattle.rn_assemble.specs.Firsts.{joined_members}
 use Rattle.rn_simplify.specs.Numbered.{number_of, numbers_of}
-use Rattle.rn_simplify.specs.Referred.{Scope, references, all_references}
+use Rattle.rn_simplify.specs.Referred.{Reach, references, all_references}
+use Rattle.rn_simplify.specs.inside.References.{AreReferences}
 use Rattle.rn_simplify.specs.inside.Repeats.{AreSameButRepeats, choices, interleaves, HoldSame}
 use Rattle.rn_simplify.specs.inside.Worth.{both, either, evaluated, evaluated_all, evaluated_any}
+use Rattle.rn_assemble.specs.declared.references.Reach.TheVariants.{Everywhere, OutsideElements}
+use Rattle.rn_simplify.specs.declared.references.References.{References}
 use Rattle.rn_simplify.specs.declared.worth.Worth.{Worth}
 use Rattle.rn_simplify.proofs.Simplified.Evaluated.{around_twice, both_assoc, either_assoc, either_twice}
 use Rattle.rn_simplify.proofs.Simplified.ReferredIn.{contains_none, mapped_in, source_of}
@@ -134,15 +137,15 @@ module _ (p : Pattern) (v : Vec (Rc Pattern Global) Global) (xs : List (Rc Patte
 
 -- ---- references
 
-all_flat : (s : Scope) (ps : Trees) → all_references s ps ≡ flat_map (references s) (list_of ps)
+all_flat : (s : Reach) (ps : Trees) → all_references s ps ≡ flat_map (references s) (list_of ps)
 all_flat s no_trees = refl
 all_flat s (more_trees p ps) = ap (λ xs. references s p ++ xs) (all_flat s ps)
 
-all_same : (s : Scope) (ps qs : Trees) → HoldSame (list_of ps) (list_of qs) → HoldSame (all_references s ps) (all_references s qs)
+all_same : (s : Reach) (ps qs : Trees) → HoldSame (list_of ps) (list_of qs) → HoldSame (all_references s ps) (all_references s qs)
 all_same s ps qs h =
     subst (λ xs. HoldSame xs (all_references s qs)) (sym (all_flat s ps)) (subst (λ ys. HoldSame (flat_map (references s) (list_of ps)) ys) (sym (all_flat s qs)) (flat_same (references s) (list_of ps) (list_of qs) h))
 
-pub references_same : (s : Scope) (p q : Tree) → AreSameButRepeats p q → HoldSame (references s p) (references s q)
+pub references_same : (s : Reach) (p q : Tree) → AreSameButRepeats p q → HoldSame (references s p) (references s q)
 references_same s p q (choices {ps = ps} {qs = qs} h) = all_same s ps qs h
 references_same s p q (interleaves {ps = ps} {qs = qs} h) = all_same s ps qs h
 
@@ -151,6 +154,15 @@ numbers_within ds xs ys f k c = let w = source_of (number_of ds) xs k c in mappe
 
 pub numbers_alike : (ds : List (Text × Tree)) (xs ys : List Text) → HoldSame xs ys → HoldSame (numbers_of ds xs) (numbers_of ds ys)
 numbers_alike ds xs ys h k = (numbers_within ds xs ys (λ x. (h x).0) k, numbers_within ds ys xs (λ x. (h x).1) k)
+
+same_then : {X : Type 0} (xs ys zs : List X) → HoldSame xs ys → HoldSame ys zs → HoldSame xs zs
+same_then xs ys zs h k x = (λ c. (k x).0 ((h x).0 c), λ c. (h x).1 ((k x).1 c))
+
+-- the references of a list without repeats are those of the list
+pub references_alike : (ds : List (Text × Tree)) (p q : Tree) (found : References) → AreSameButRepeats p q → AreReferences ds p found → AreReferences ds q found
+references_alike ds p q found same are =
+    let alike = λ (s : Reach). numbers_alike ds (references s p) (references s q) (references_same s p q same) in
+    record { everywhere = same_then _ _ _ are.everywhere (alike Everywhere); outside = same_then _ _ _ are.outside (alike OutsideElements) }
 
 -- ---- what a list is worth
 

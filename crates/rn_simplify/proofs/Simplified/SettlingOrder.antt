@@ -19,15 +19,16 @@ use Rattle.rn_pattern.specs.Graph.{AllBelow, IsGraph, is_marked, row, rows_of}
 use Rattle.rn_pattern.specs.Ranks.{Leads, by_edge, and_edge, rank_of, IsRanking}
 use Rattle.rn_assemble.specs.WellFormed.{IsWellFormed}
 use Rattle.rn_simplify.specs.inside.Marked.{ArePlaces}
-use Rattle.rn_simplify.specs.Numbered.{MarksReached, number_of, numbers_of}
+use Rattle.rn_simplify.specs.Numbered.{MarksReached, number_of, numbers_of, rows_by}
 use Rattle.rn_simplify.specs.Referred.{references}
+use Rattle.rn_simplify.specs.inside.References.{AreRows}
 use Rattle.rn_simplify.specs.inside.Repeats.{HoldSame}
 use Rattle.rn_simplify.specs.Settling.{IsSettlingOrder}
-use Rattle.rn_simplify.specs.declared.references.Scope.TheVariants.{OutsideElements}
+use Rattle.rn_assemble.specs.declared.references.Reach.TheVariants.{OutsideElements}
 use Rattle.rn_simplify.proofs.Simplified.Forms.{found_in}
 use Rattle.rn_simplify.proofs.Simplified.RankOrder.{outside_refers}
 use Rattle.rn_simplify.proofs.Simplified.ReferredIn.{contains_none, outside_in, in_outside, mapped_in, source_of}
-use Rattle.rn_simplify.proofs.Simplified.ReferenceGraph.{nothing, is_at, number_some, body_is, row_within, reached_number, number_reached}
+use Rattle.rn_simplify.proofs.Simplified.ReferenceGraph.{nothing, is_at, number_some, body_is, row_is, row_within, reached_number, number_reached}
 
 reaches_more : {Step : Text → Text → Type 0} {a b c : Text} → Reaches Step a b → Step b c → Reaches Step a c
 reaches_more (by_one s) t = by_more s (by_one t)
@@ -177,14 +178,20 @@ module _ (G : Grammar) (marks : List Bool) (outs : List (List ℕ)) (marked : Ma
         pub settling_order_is : IsSettlingOrder G order
         settling_order_is = record { in_order = record { once = once; behind = behind }; listed = listed; rank = rank; falls = rank_falls; below = rank_below }
 
--- rows of the references outside elements, as a loop over the definitions leaves them
-module _ (ds : List (Text × Tree)) (shown marks : List Bool) (outside outs : List (Vec ℕ Global)) (f : shown ≡ marks) (g : outs ≡ outside) where
-  pub outside_size : length outside ≡ length ds → length (rows_of outs) ≡ length ds
-  outside_size h = length-map outs (λ (v : Vec ℕ Global). v.items) ∙ ap length g ∙ h
+by_mark : (b : Bool) (xs ys : List ℕ) → HoldSame xs ys → HoldSame (cond b xs []) (cond b ys [])
+by_mark true xs ys h x = h x
+by_mark false xs ys h x = (λ c. c, λ c. c)
 
-  abbrev AreOutside : List Bool → List (Vec ℕ Global) → ℕ → Text × Tree → Type 0
-  AreOutside ms vs k d = HoldSame (row (rows_of vs) k) (cond (is_marked ms k) (numbers_of ds (references OutsideElements (get_or ds k d).1)) [])
+-- rows of the references outside elements, emptied where there is no mark, as the code holds them
+module _ (ds : List (Text × Tree)) (shown marks : List Bool) (rows cleared outs : List (Vec ℕ Global)) (f : shown ≡ marks) (g : outs ≡ cleared) (are : AreRows (row (rows_by OutsideElements ds ds)) (length ds) rows) where
+  pub outside_size : length cleared ≡ length rows → length (rows_of outs) ≡ length ds
+  outside_size h = length-map outs (λ (v : Vec ℕ Global). v.items) ∙ ap length g ∙ h ∙ are.size
 
-  pub outside_rows : ((k : ℕ) (d : Text × Tree) → k < length ds → HoldSame (row (rows_of outside) k) (cond (is_marked shown k) (numbers_of ds (references OutsideElements (get_or ds k d).1)) []))
+  pub outside_rows : ((k : ℕ) → k < length rows → row (rows_of cleared) k ≡ cond (is_marked shown k) (row (rows_of rows) k) [])
       → (k : ℕ) → k < length ds → HoldSame (row (rows_of outs) k) (cond (is_marked marks k) (numbers_of ds (references OutsideElements (get_or ds k nothing).1)) [])
-  outside_rows h k l = subst (λ ms. AreOutside ms outs k nothing) f (subst (λ vs. AreOutside shown vs k nothing) (sym g) (h k nothing l))
+  outside_rows h k l =
+      let wanted = numbers_of ds (references OutsideElements (get_or ds k nothing).1) in
+      let here : HoldSame (row (rows_of rows) k) wanted = subst (HoldSame (row (rows_of rows) k)) (row_is OutsideElements ds ds k l) (are.each k l) in
+      subst (λ r. HoldSame r (cond (is_marked marks k) wanted []))
+      (sym (ap (λ vs. row (rows_of vs) k) g ∙ h k (omega (arith, l, are.size)) ∙ ap (λ ms. cond (is_marked ms k) (row (rows_of rows) k) []) f))
+      (by_mark (is_marked marks k) (row (rows_of rows) k) wanted here)

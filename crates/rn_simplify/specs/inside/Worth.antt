@@ -4,6 +4,8 @@ use Rattle.std.specs.Option.{option_map_or}
 use Rattle.rn_pattern.specs.Tree as t
 use Rattle.rn_pattern.specs.Tree.{Text, Tree, Trees, no_trees, more_trees}
 use Rattle.rn_simplify.specs.Numbered.{number_of}
+use Rattle.rn_assemble.specs.GrammarView.{definitions_view}
+use Rattle.rn_simplify.specs.declared.settled.Settled.{Settled}
 use Rattle.rn_simplify.specs.declared.worth.Worth.{Worth}
 
 -- what a pattern in canonical form is worth
@@ -72,3 +74,10 @@ worth_at ds worth x = option_map_or (λ k. slice_index_or worth k Worth.Other) (
 -- what the reference to a name becomes
 abbrev pub settled_by : List (Text × Tree) → List Worth → Text → Tree
 settled_by ds worth x = stand_in (worth_at ds worth x) x
+
+-- both by what the code holds
+abbrev pub worth_in : Settled → Text → Worth
+worth_in s = worth_at (definitions_view s.names.now.entries) s.worth.items
+
+abbrev pub becomes : Settled → Text → Tree
+becomes s = settled_by (definitions_view s.names.now.entries) s.worth.items

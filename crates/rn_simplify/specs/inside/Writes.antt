@@ -13,7 +13,7 @@ use Rattle.rn_simplify.specs.declared.writer.Stop.{Stop}
 use Rattle.rn_simplify.specs.declared.writer.Stop.TheVariants.{Memory, TooLarge}
 use Rattle.rn_simplify.specs.declared.shapes.Shape.{Shape}
 use Rattle.rn_simplify.specs.declared.shapes.Shape.TheVariants.{Closed, Postfixed, Chained}
-use Rattle.rn_simplify.specs.declared.declarations.Prefixes as code
+use Rattle.rn_simplify.specs.declared.declared_prefixes.Prefixes as code
 use Rattle.rn_simplify.specs.Spelling as s
 use Rattle.rn_simplify.specs.Spelling.{closed, postfixed, chained, Written, written_tree, bindings, default_line, infix_of, literal, line_end, library_prefix, namespace_prefix}
 use Rattle.std.specs.declared.rc.Rc.{Rc}

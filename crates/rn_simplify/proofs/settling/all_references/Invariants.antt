@@ -1,8 +1,12 @@
 use Rattle.rn_assemble.specs.GrammarView.{grammar_view}
 use Rattle.rn_pattern.specs.Graph.{row}
-use Rattle.rn_simplify.specs.Numbered.{graph_of}
-use Rattle.rn_simplify.proofs.Simplified.Marks.{AreRows}
+use Rattle.rn_simplify.specs.Numbered.{graph_of, rows_by}
+use Rattle.rn_simplify.specs.inside.References.{AreRows}
+use Rattle.rn_assemble.specs.declared.references.Reach.TheVariants.{OutsideElements}
 use Rattle.rn_simplify.proofs.settling.all_references.Given as goal
 
 abbrev pub invariant-loop-number : goal.invariant-loop-number
-invariant-loop-number l = AreRows (row (graph_of (grammar_view l.grammar))) l.number l.rows.items
+invariant-loop-number l = record {
+  everywhere : AreRows (row (graph_of (grammar_view l.grammar))) l.number l.everywhere.items;
+  outside : AreRows (row (rows_by OutsideElements (grammar_view l.grammar).definitions (grammar_view l.grammar).definitions)) l.number l.outside.items;
+}

@@ -5,16 +5,13 @@ use Rattle.rn_simplify.proofs.settling.reached_definitions.Goals as goal
 
 pub reached-requires-clause-graph : goal.reached-requires-clause-graph
 reached-requires-clause-graph c =
-    shown_graph (grammar_view c.args.grammar.now) c.in_ok-rows.rows.items c.deref.result.now c.in_ok-start.start.items c.deref-2.result.now c.deref.ensures.value c.deref-2.ensures.value
-    c.in_ok-rows.ensures.size c.in_ok-rows.ensures.rows c.in_ok-start.ensures
+    shown_graph (grammar_view c.args.grammar.now) c.args.rows.now c.in_ok-start.start.items c.deref.result.now c.deref.ensures.value c.requires c.in_ok-start.ensures
 
 pub reached-requires-clause-first_within : goal.reached-requires-clause-first_within
 reached-requires-clause-first_within c =
-    held_within (grammar_view c.args.grammar.now) c.in_ok-rows.rows.items c.deref.result.now c.in_ok-start.start.items c.deref-2.result.now c.deref.ensures.value c.deref-2.ensures.value
-    c.in_ok-rows.ensures.size c.in_ok-rows.ensures.rows c.in_ok-start.ensures
+    held_within (grammar_view c.args.grammar.now) c.args.rows.now c.in_ok-start.start.items c.deref.result.now c.deref.ensures.value c.requires c.in_ok-start.ensures
 
 pub returns-clause-exact : goal.returns-clause-exact
 returns-clause-exact c = IfOk-weaker c.reached.result _ _
-    (λ marks exact k. shown_reached (grammar_view c.args.grammar.now) c.in_ok-rows.rows.items c.deref.result.now c.in_ok-start.start.items c.deref-2.result.now c.deref.ensures.value c.deref-2.ensures.value
-    c.in_ok-rows.ensures.size c.in_ok-rows.ensures.rows c.in_ok-start.ensures marks.items k (exact k))
+    (λ marks exact k. shown_reached (grammar_view c.args.grammar.now) c.args.rows.now c.in_ok-start.start.items c.deref.result.now c.deref.ensures.value c.requires c.in_ok-start.ensures marks.items k (exact k))
     c.reached.ensures.exact

@@ -1,5 +1,0 @@
-use Rattle.rn_simplify.proofs.Texts.LineTexts.{writes_bound}
-use Rattle.rn_simplify.proofs.declarations.write_bound.Goals as goal
-
-pub returns : goal.returns
-returns c = writes_bound c.args.uri.now c.put.ensures c.literal.ensures c.put-2.ensures

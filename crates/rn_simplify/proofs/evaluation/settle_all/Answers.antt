@@ -1,0 +1,35 @@
+use Rattle.std.proofs.Common.{ℕ, List, sym, subst}
+use Rattle.std.specs.Prelude.{Contains}
+use Rattle.std.proofs.lemmas.Result.{IfOk-weaker}
+use Rattle.rn_pattern.specs.Tree.{Text, Tree}
+use Rattle.rn_assemble.specs.GrammarView.{definitions_view, grammar_view}
+use Rattle.rn_simplify.specs.Numbered.{AreSettled}
+use Rattle.rn_simplify.specs.Settling.{IsInOrder}
+use Rattle.rn_simplify.specs.inside.Worth.{settled_by}
+use Rattle.rn_simplify.proofs.Simplified.Evaluated.{settled_canonical}
+use Rattle.rn_simplify.proofs.Simplified.Normalised.{both_hold, settling_is}
+use Rattle.rn_simplify.proofs.evaluation.settle_all.Goals as goal
+
+pub settle-requires : goal.settle-requires
+settle-requires c = λ y h. c.in_ok-order.ensures.within y (subst (λ (l : List ℕ). Contains l y) c.deref.ensures.value h)
+
+pub returns-clause-names : goal.returns-clause-names
+returns-clause-names c = c.settle.ensures.names
+
+pub returns-clause-exact : goal.returns-clause-exact
+returns-clause-exact c =
+    let G = grammar_view c.args.grammar.now in
+    let order = c.in_ok-order.order.items in
+    let ensures = c.settle.ensures in
+    IfOk-weaker c.settle.result _ _
+    (λ s h.
+    let w = c.args.grammar.now.well_formed in
+    let o = c.in_ok-order.ensures.order in
+    let es = definitions_view s.names.now.entries in
+    let worth = s.worth.items in
+    let ordered : IsInOrder G.definitions c.deref.result.now = subst (IsInOrder G.definitions) (sym c.deref.ensures.value) o.in_order in
+    let settled : AreSettled G.definitions order (settled_by G.definitions worth) =
+    subst (λ (ns : List ℕ). AreSettled G.definitions ns (settled_by G.definitions worth)) c.deref.ensures.value (h.1 ordered) in
+    let here : AreSettled G.definitions order (settled_by es worth) = subst (λ (fs : List (Text × Tree)). AreSettled G.definitions order (settled_by fs worth)) (sym h.0) settled in
+    (o.rank, settling_is G (settled_by es worth) order w o (settled_canonical es worth) here))
+    (both_hold c.settle.result _ _ ensures.names ensures.settled)

@@ -1,0 +1,35 @@
+// The kinds of lists of patterns (RELAX NG, 4.12).
+ghost use Rattle.std.specs.Prelude.{All, IfOk, IsTrue, map};
+ghost use Rattle.rn_pattern.specs.Store.{KeepsIds, StandsFor};
+ghost use Rattle.rn_simplify.specs.inside.Parts.{list_step};
+
+use rn_pattern::Patterns;
+use std::alloc::AllocError;
+
+/// A kind of list.
+#[derive(Clone, Copy)]
+pub(crate) enum ListKind {
+    Group,
+    Interleave,
+    Choice,
+}
+
+impl ListKind {
+    /// The id of the canonical form of a list of this kind, by the ids of its parts'.
+    pub(crate) fn form_over<P: Patterns>(
+        self,
+        store: &mut P,
+        parts: &[P::Id],
+    ) -> Result<P::Id, AllocError>
+        requires { All (λ i. IsTrue (P.knows store.old i)) parts.now }
+        ensures made { IfOk result (StandsFor (P.knows store.new) (P.tree_of store.new)
+            (list_step self (map (P.tree_of store.old) parts.now))) }
+        ensures kept { KeepsIds P.knows P.tree_of store.old store.new }
+    {
+        match self {
+            ListKind::Group => store.group(parts),
+            ListKind::Interleave => store.ileave(parts),
+            ListKind::Choice => store.choice(parts),
+        }
+    }
+}

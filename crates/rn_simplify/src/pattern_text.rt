@@ -1,0 +1,285 @@
+// The text of a pattern (compact syntax, section 2, pattern).
+ghost use Rattle.std.specs.Prelude.{◌≡◌, ℕ, ◌<◌, ◌≤◌, drop, length, ◌∷◌, [], List, Some, map, string_bytes, codes, bytes_eq, chars, ◌&&◌, ◌++◌, MatchOption};
+ghost use Rattle.rn_text.specs.Parts.{Piece};
+ghost use Rattle.rn_simplify.specs.Spelling.{braced, chain, chain_or_one, datum_pieces, infix_of, keyword, operand, optional, optional_one, params_pieces, parenthesized, primary, space, value_pieces, written_choice, written_interleave, written_name, written_tree};
+ghost use Rattle.rn_pattern.specs.View.{name_class_view, parameters_view, pattern_view};
+ghost use Rattle.rn_simplify.specs.inside.Writes.{bytes_of, depth_after, prefixes_view, rows_of, Writes};
+
+use crate::class_text::write_class;
+use crate::declared_prefixes::Prefixes;
+use crate::shapes::{Shape, begins_with_empty, begins_with_text, shape_of_pattern};
+use crate::writer::Writer;
+use rn_pattern::{NameClass, Pattern};
+use std::rc::Rc;
+
+/// Writes a pattern.
+#[cycle(pattern)]
+pub(crate) fn write_pattern(writer: &mut Writer, prefixes: &Prefixes, pattern: &Pattern)
+    ensures { Writes (written_tree (prefixes_view prefixes.now)
+        (pattern_view pattern.now)).pieces writer.old writer.new }
+{
+    if writer.stopped.is_some() {
+        return;
+    }
+    match pattern {
+        Pattern::NotAllowed => writer.put("notAllowed"),
+        Pattern::Empty => writer.put("empty"),
+        Pattern::Text => writer.put("text"),
+        Pattern::Ref(name) => writer.identifier(name),
+        Pattern::Value(library, type_name, text) => {
+            write_value(writer, prefixes, library, type_name, text);
+        }
+        Pattern::Datum(library, type_name, params, except) => {
+            write_data(writer, prefixes, library, type_name, params);
+            write_except(writer, prefixes, except);
+        }
+        Pattern::List(content) => {
+            writer.put("list");
+            write_braced(writer, prefixes, content);
+        }
+        Pattern::Attribute(class, content) => {
+            write_head(writer, prefixes, "attribute", class);
+            write_braced(writer, prefixes, content);
+        }
+        Pattern::Element(class, content) => {
+            write_head(writer, prefixes, "element", class);
+            write_braced(writer, prefixes, content);
+        }
+        Pattern::OneOrMore(content) => {
+            write_primary(writer, prefixes, content);
+            writer.put("+");
+        }
+        Pattern::Group(members) => write_chain(writer, prefixes, members, 0, ", "),
+        Pattern::Interleave(members) => write_interleave(writer, prefixes, members),
+        Pattern::Choice(members) => write_choice(writer, prefixes, members),
+    }
+}
+
+/// Writes the except of a datatype, if it has one, behind a minus sign.
+#[cycle(pattern)]
+fn write_except(writer: &mut Writer, prefixes: &Prefixes, except: &Option<Box<Pattern>>)
+    ensures { MatchOption except.now (Writes [] writer.old writer.new)
+        (λ p. Writes (infix_of (codes "-")
+        ++ primary (written_tree (prefixes_view prefixes.now)
+        (pattern_view p.value))) writer.old writer.new) }
+{
+    if let Some(except) = except {
+        writer.put(" - ");
+        write_primary(writer, prefixes, except);
+    }
+}
+
+/// Writes a pattern in braces.
+#[cycle(pattern)]
+fn write_braced(writer: &mut Writer, prefixes: &Prefixes, content: &Pattern)
+    ensures { Writes (braced (written_tree (prefixes_view prefixes.now)
+        (pattern_view content.now)).pieces) writer.old writer.new }
+{
+    writer.open_bracket(" { ");
+    write_pattern(writer, prefixes, content);
+    writer.close_bracket(" }");
+}
+
+/// Writes a pattern between `,`, `&` or `|`.
+#[cycle(pattern)]
+fn write_operand(writer: &mut Writer, prefixes: &Prefixes, pattern: &Pattern)
+    ensures { Writes (operand (written_tree (prefixes_view prefixes.now)
+        (pattern_view pattern.now))) writer.old writer.new }
+{
+    match shape_of_pattern(pattern) {
+        Shape::Chained => write_parenthesized(writer, prefixes, pattern),
+        _ => write_pattern(writer, prefixes, pattern),
+    }
+}
+
+/// Writes a pattern in parentheses.
+#[cycle(pattern)]
+fn write_parenthesized(writer: &mut Writer, prefixes: &Prefixes, pattern: &Pattern)
+    ensures { Writes (parenthesized
+        (written_tree (prefixes_view prefixes.now)
+        (pattern_view pattern.now)).pieces) writer.old writer.new }
+{
+    writer.open_bracket("(");
+    write_pattern(writer, prefixes, pattern);
+    writer.close_bracket(")");
+}
+
+/// Writes a pattern before a postfix or behind a minus sign.
+#[cycle(pattern)]
+fn write_primary(writer: &mut Writer, prefixes: &Prefixes, pattern: &Pattern)
+    ensures { Writes (primary (written_tree (prefixes_view prefixes.now)
+        (pattern_view pattern.now))) writer.old writer.new }
+{
+    match shape_of_pattern(pattern) {
+        Shape::Closed => write_pattern(writer, prefixes, pattern),
+        _ => write_parenthesized(writer, prefixes, pattern),
+    }
+}
+
+/// Writes the members from one on, with the connector between them.
+#[cycle(pattern)]
+fn write_chain(
+    writer: &mut Writer,
+    prefixes: &Prefixes,
+    members: &[Rc<Pattern>],
+    first: usize,
+    connector: &str,
+)
+    requires { first ≤ length members.now }
+    ensures { (s : List Piece) → bytes_of s ≡ connector.now → ((n : ℕ) → depth_after s n ≡ Some n)
+        → Writes (chain s (rows_of (prefixes_view prefixes.now)
+        (drop first members.now))) writer.old writer.new }
+{
+    for i in first..members.len() {
+        if i > first {
+            writer.put(connector);
+        }
+        write_operand(writer, prefixes, &members[i]);
+    }
+}
+
+/// Writes an interleave, which is mixed if one of its members is text.
+#[cycle(pattern)]
+fn write_interleave(writer: &mut Writer, prefixes: &Prefixes, members: &[Rc<Pattern>])
+    ensures { Writes (written_interleave
+        (rows_of (prefixes_view prefixes.now) members.now)).pieces writer.old writer.new }
+{
+    if members.is_empty() {
+        writer.put("empty");
+    } else if begins_with_text(members) {
+        writer.put("mixed");
+        writer.open_bracket(" { ");
+        write_mixed(writer, prefixes, members);
+        writer.close_bracket(" }");
+    } else {
+        write_chain(writer, prefixes, members, 0, " & ");
+    }
+}
+
+/// Writes what is mixed with the first member: one pattern as itself, several as operands.
+#[cycle(pattern)]
+fn write_mixed(writer: &mut Writer, prefixes: &Prefixes, members: &[Rc<Pattern>])
+    requires { 0 < length members.now }
+    ensures { Writes (chain_or_one (infix_of (codes "&"))
+        (rows_of (prefixes_view prefixes.now) (drop 1 members.now))) writer.old writer.new }
+{
+    if members.len() == 2 {
+        write_pattern(writer, prefixes, &members[1]);
+    } else {
+        write_chain(writer, prefixes, members, 1, " & ");
+    }
+}
+
+/// Writes a choice, which has a postfix if one of its members is empty.
+#[cycle(pattern)]
+fn write_choice(writer: &mut Writer, prefixes: &Prefixes, members: &[Rc<Pattern>])
+    ensures { Writes (written_choice
+        (rows_of (prefixes_view prefixes.now) members.now)).pieces writer.old writer.new }
+{
+    if members.is_empty() {
+        writer.put("notAllowed");
+    } else if begins_with_empty(members) {
+        write_optional(writer, prefixes, members);
+    } else {
+        write_chain(writer, prefixes, members, 0, " | ");
+    }
+}
+
+/// Writes the choice of empty, which is the first member, and the others.
+#[cycle(pattern)]
+fn write_optional(writer: &mut Writer, prefixes: &Prefixes, members: &[Rc<Pattern>])
+    requires { 0 < length members.now }
+    ensures { Writes (optional (rows_of (prefixes_view prefixes.now)
+        (drop 1 members.now))) writer.old writer.new }
+{
+    if members.len() == 1 {
+        writer.put("empty");
+    } else if members.len() == 2 {
+        write_optional_one(writer, prefixes, &members[1]);
+    } else {
+        writer.open_bracket("(");
+        write_chain(writer, prefixes, members, 1, " | ");
+        writer.close_bracket(")");
+        writer.put("?");
+    }
+}
+
+/// Writes the choice of empty and one other pattern.
+#[cycle(pattern)]
+fn write_optional_one(writer: &mut Writer, prefixes: &Prefixes, other: &Pattern)
+    ensures { let w = written_tree (prefixes_view prefixes.now) (pattern_view other.now) in
+        Writes (optional_one w.repeated w) writer.old writer.new }
+{
+    if let Pattern::OneOrMore(content) = other {
+        write_primary(writer, prefixes, content);
+        writer.put("*");
+    } else {
+        write_primary(writer, prefixes, other);
+        writer.put("?");
+    }
+}
+
+/// Writes the keyword and the name class of an element or an attribute.
+fn write_head(writer: &mut Writer, prefixes: &Prefixes, word: &str, class: &NameClass)
+    ensures { Writes (keyword (chars word.now) ∷ space ∷
+        (written_name (prefixes_view prefixes.now)
+        (name_class_view class.now)).pieces) writer.old writer.new }
+{
+    writer.put(word);
+    writer.put(" ");
+    write_class(writer, prefixes, class);
+}
+
+/// Whether the datatype is the built-in token, whose values are written as their literals alone.
+fn is_token(library: &str, type_name: &str) -> bool
+    ensures { result ≡ (bytes_eq library.now [] && bytes_eq type_name.now (codes "token")) }
+{
+    library.is_empty() && type_name == "token"
+}
+
+/// Writes a value.
+fn write_value(writer: &mut Writer, prefixes: &Prefixes, library: &str, type_name: &str, text: &str)
+    ensures { Writes (value_pieces
+        (prefixes_view prefixes.now) library.now type_name.now text.now) writer.old writer.new }
+{
+    if is_token(library, type_name) {
+        writer.literal(text);
+    } else {
+        prefixes.write_type(writer, library, type_name);
+        writer.put(" ");
+        writer.literal(text);
+    }
+}
+
+/// Writes a datatype and its parameters.
+fn write_data(
+    writer: &mut Writer,
+    prefixes: &Prefixes,
+    library: &str,
+    type_name: &str,
+    params: &[(String, String)],
+)
+    ensures { Writes (datum_pieces (prefixes_view prefixes.now) library.now type_name.now
+        (parameters_view params.now)) writer.old writer.new }
+{
+    prefixes.write_type(writer, library, type_name);
+    if !params.is_empty() {
+        writer.open_bracket(" { ");
+        write_params(writer, params);
+        writer.close_bracket(" }");
+    }
+}
+
+/// Writes parameters with a space between them.
+fn write_params(writer: &mut Writer, params: &[(String, String)])
+    ensures { Writes (params_pieces (parameters_view params.now)) writer.old writer.new }
+{
+    for (i, (name, text)) in params.iter().enumerate() {
+        if i > 0 {
+            writer.put(" ");
+        }
+        writer.put(name);
+        writer.put(" = ");
+        writer.literal(text);
+    }
+}

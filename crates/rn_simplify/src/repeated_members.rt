@@ -1,0 +1,67 @@
+// Members of a list to which components are joined that stand in it before (RELAX NG, 4.17).
+ghost use Rattle.std.specs.Prelude.{◌≡◌, ◌≤◌, ◌<◌, IfOk, IfSome, List, Some, length, map, slice_get, slice_index_or};
+ghost use Rattle.rn_assemble.specs.Firsts.{AreFirsts, joined_members};
+ghost use Rattle.rn_pattern.specs.Tree.{Tree};
+ghost use Rattle.rn_pattern.specs.View.{pattern_view, shared_view};
+ghost use Rattle.rn_simplify.specs.inside.Repeats.{AreSameButRepeats, HoldSame};
+
+use crate::rebuilt::new_box;
+use rn_pattern::Pattern;
+use std::alloc::{AllocError, Global};
+use std::rc::Rc;
+
+/// The index of the first member that is the same as the one at the index.
+pub(crate) fn first_of(firsts: &[usize], index: usize) -> usize
+    ensures { (members : List Tree) (p : Tree) → AreFirsts firsts.now members
+        → slice_get members index ≡ Some p
+        → (result ≤ index) × (slice_index_or members result p ≡ p) }
+{
+    match firsts.get(index) {
+        Some(first) => *first,
+        None => index,
+    }
+}
+
+/// The members without those that stand before, in their order.
+pub(crate) fn distinct_members(
+    alloc: Global,
+    members: &[Rc<Pattern>],
+    firsts: &[usize],
+) -> Result<Vec<Rc<Pattern>>, AllocError>
+    requires { AreFirsts firsts.now (map shared_view members.now) }
+    ensures { IfOk result (λ v. HoldSame (map shared_view v.items) (map shared_view members.now)) }
+{
+    let mut found = Vec::new(alloc);
+    for index in 0..members.len() {
+        if first_of(firsts, index) >= index {
+            found.push(members[index].clone()?)?;
+        }
+    }
+    Ok(found)
+}
+
+/// The list without the members that stand before. None where it has no first places, or isn't one.
+pub(crate) fn without_repeats(
+    alloc: Global,
+    body: &Pattern,
+    firsts: &[usize],
+) -> Result<Option<Box<Pattern>>, AllocError>
+    requires { AreFirsts firsts.now (joined_members (pattern_view body.now)) }
+    ensures { IfOk result (λ found. IfSome found
+        (λ p. AreSameButRepeats (pattern_view p.value) (pattern_view body.now))) }
+{
+    if firsts.is_empty() {
+        return Ok(None);
+    }
+    match body {
+        Pattern::Choice(members) => {
+            let members = distinct_members(alloc, members, firsts)?;
+            Ok(Some(new_box(alloc, Pattern::Choice(members))?))
+        }
+        Pattern::Interleave(members) => {
+            let members = distinct_members(alloc, members, firsts)?;
+            Ok(Some(new_box(alloc, Pattern::Interleave(members))?))
+        }
+        _ => Ok(None),
+    }
+}
