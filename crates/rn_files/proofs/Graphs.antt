@@ -10,7 +10,7 @@ use Rattle.std.proofs.lemmas.Slice.Eq.{bytes_eq-Decides}
 use Rattle.std.proofs.lemmas.List.{length-map, map-append, take_more}
 use Rattle.std.proofs.lemmas.List.Elements.{All-contains, All-weaker, All-head, All-tail}
 use Rattle.std.proofs.lemmas.List.Sums.{AllPass-from_list_all}
-use Rattle.rn_files.specs.declared.sources.Source.{Source}
+use Rattle.rn_files.specs.declared.sources.SourceFile.{SourceFile}
 use Rattle.rn_files.specs.declared.sources.Sources.{Sources}
 use Rattle.rn_files.specs.Sources.{HaveOwnNames, count_links, differ_in_name, have_own_names, targets_of, IsSound}
 use Rattle.rn_modset.specs.Contributions.{is_module_name}
@@ -40,35 +40,35 @@ graph_if edges h =
     subst P (sym (length-map edges (λ (v : Vec ℕ Global). v.items))) (rows_below (length edges) edges each)
 
 -- a file's row behind those of the files before it
-pub one_row_more : (edges : List (Vec ℕ Global)) (v : Vec ℕ Global) (files : List Source) (i : ℕ) (file : Source) → i < length files
+pub one_row_more : (edges : List (Vec ℕ Global)) (v : Vec ℕ Global) (files : List SourceFile) (i : ℕ) (file : SourceFile) → i < length files
     → file ≡ get_or files i file → v.items ≡ file.targets.items → rows_of edges ≡ targets_of (take i files)
     → rows_of (edges ++ v ∷ []) ≡ targets_of (take (i + 1) files)
 one_row_more edges v files i file within is same before =
     map-append (λ (x : Vec ℕ Global). x.items) edges (v ∷ [])
     ∙ ap (λ z. z ++ (v.items ∷ [])) before
-    ∙ ap (λ z. targets_of (take i files) ++ (z ∷ [])) (same ∙ ap (λ (f : Source). f.targets.items) is)
-    ∙ sym (ap targets_of (take_more files i file within) ∙ map-append (λ (f : Source). f.targets.items) (take i files) (get_or files i file ∷ []))
+    ∙ ap (λ z. targets_of (take i files) ++ (z ∷ [])) (same ∙ ap (λ (f : SourceFile). f.targets.items) is)
+    ∙ sym (ap targets_of (take_more files i file within) ∙ map-append (λ (f : SourceFile). f.targets.items) (take i files) (get_or files i file ∷ []))
 
-abbrev HasTargets : Source → Type 0
+abbrev HasTargets : SourceFile → Type 0
 HasTargets f = length f.targets.items ≡ count_links f
 
 same_number : (a b : ℕ) → (a == b) ≡ true → a ≡ b
 same_number a b h = grind (arith, nat_tests)
 
-same_if : (f : Source) → (length f.targets.items == count_links f) ≡ true → HasTargets f
+same_if : (f : SourceFile) → (length f.targets.items == count_links f) ≡ true → HasTargets f
 same_if f h = same_number (length f.targets.items) (count_links f) h
 
 and_both : (x y : Bool) → (x && y) ≡ true → (x ≡ true) × (y ≡ true)
 and_both true y h = (refl, h)
 and_both false y h = absurd (false≢true h)
 
-name_differs : (f g : Source) → differ_in_name f g ≡ true → string_bytes f.name ≢ string_bytes g.name
+name_differs : (f g : SourceFile) → differ_in_name f g ≡ true → string_bytes f.name ≢ string_bytes g.name
 name_differs f g h e =
     let same : bytes_eq (string_bytes f.name) (string_bytes g.name) ≡ true = (bytes_eq-Decides (string_bytes f.name) (string_bytes g.name)).1 e in
     false≢true (sym (ap not same) ∙ h)
 
 -- names that were tested are apart
-own_names : (fs : List Source) → have_own_names fs ≡ true → HaveOwnNames fs
+own_names : (fs : List SourceFile) → have_own_names fs ≡ true → HaveOwnNames fs
 own_names [] h = tt
 own_names (f ∷ fs) h =
     let each = and_both (list_all (differ_in_name f) fs) (have_own_names fs) h in (
@@ -78,29 +78,29 @@ own_names (f ∷ fs) h =
     )
 
 -- what was tested of sources holds of them
-pub tested_sources : (s : Sources) (rows : List (Vec ℕ Global)) (files : List Source) (roots : List ℕ) (count : ℕ)
+pub tested_sources : (s : Sources) (rows : List (Vec ℕ Global)) (files : List SourceFile) (roots : List ℕ) (count : ℕ)
     → files ≡ s.files.items → roots ≡ s.roots.items → count ≡ length files → rows_of rows ≡ targets_of files
     → list_all (λ (v : Vec ℕ Global). list_all (λ x. nat_lt x (length rows)) v.items) rows ≡ true → list_all (λ x. nat_lt x count) roots ≡ true
-    → list_all (λ (f : Source). is_module_name (string_bytes f.name)) files ≡ true
-    → list_all (λ (f : Source). length f.targets.items == count_links f) files ≡ true → have_own_names files ≡ true
+    → list_all (λ (f : SourceFile). is_module_name (string_bytes f.name)) files ≡ true
+    → list_all (λ (f : SourceFile). length f.targets.items == count_links f) files ≡ true → have_own_names files ≡ true
     → HasNoLoop (rows_of rows) → IsSound s
 tested_sources s rows files roots count same same_roots counted are graph below named linked own no_loop =
     let G : List (List ℕ) → Type 0 = λ z. IsGraph z in
     let H : List (List ℕ) → Type 0 = λ z. HasNoLoop z in
-    let T : List Source → Type 0 = λ z. IsGraph (targets_of z) in
-    let U : List Source → Type 0 = λ z. HasNoLoop (targets_of z) in
-    let N : List Source → Type 0 = λ z. All (λ (f : Source). is_module_name (string_bytes f.name) ≡ true) z in
-    let L : List Source → Type 0 = λ z. All HasTargets z in
-    let O : List Source → Type 0 = λ z. HaveOwnNames z in
+    let T : List SourceFile → Type 0 = λ z. IsGraph (targets_of z) in
+    let U : List SourceFile → Type 0 = λ z. HasNoLoop (targets_of z) in
+    let N : List SourceFile → Type 0 = λ z. All (λ (f : SourceFile). is_module_name (string_bytes f.name) ≡ true) z in
+    let L : List SourceFile → Type 0 = λ z. All HasTargets z in
+    let O : List SourceFile → Type 0 = λ z. HaveOwnNames z in
     let R : List ℕ → Type 0 = λ z. All (λ r. r < length s.files.items) z in
     let C : ℕ → Type 0 = λ n. All (λ r. r < n) roots in
     record {
       targets = subst T same (subst G are (graph_if rows graph));
       links = subst L same
-          (All-weaker (λ (f : Source). (length f.targets.items == count_links f) ≡ true) HasTargets same_if files
-          (AllPass-from_list_all (λ (f : Source). length f.targets.items == count_links f) files linked));
+          (All-weaker (λ (f : SourceFile). (length f.targets.items == count_links f) ≡ true) HasTargets same_if files
+          (AllPass-from_list_all (λ (f : SourceFile). length f.targets.items == count_links f) files linked));
       no_loop = subst U same (subst H are no_loop);
       roots = subst R same_roots (subst C (counted ∙ ap (λ z. length z) same) (all_less count roots below));
       own_names = subst O same (own_names files own);
-      names = subst N same (AllPass-from_list_all (λ (f : Source). is_module_name (string_bytes f.name)) files named);
+      names = subst N same (AllPass-from_list_all (λ (f : SourceFile). is_module_name (string_bytes f.name)) files named);
     }

@@ -14,9 +14,12 @@ abbrev pub has_escapes : List ℕ → Bool
 has_escapes [] = true
 has_escapes (b ∷ rest) = (not (b == 37) || begins_with_digits rest) && has_escapes rest
 
--- the byte, or its escape: `%` and two hexadecimal digits in upper case
+-- the byte where it is kept, and else its escape: `%` and two hexadecimal digits in upper case
+abbrev pub byte_or_escape : Bool → ℕ → List ℕ
+byte_or_escape is_kept b = if is_kept then b ∷ [] else percent_encode_byte b
+
 abbrev pub kept_or_escaped : (ℕ → Bool) → ℕ → List ℕ
-kept_or_escaped is_kept b = if is_kept b then b ∷ [] else percent_encode_byte b
+kept_or_escaped is_kept b = byte_or_escape (is_kept b) b
 
 -- a URI reference may hold the byte (XLink 5.4): it is of ASCII and no control (0 to 31 and 127), and none of
 -- space, `"`, `<`, `>`, `\`, `^`, `` ` ``, `{`, `|`, `}`

@@ -1,6 +1,6 @@
 -- What was read of files, and which files references lead to.
 use Rattle.std.specs.Prelude.{ℕ, Bool, List, IfSome, string_bytes}
-use Rattle.rn_files.specs.Maps.{IsPlace}
+use Rattle.rn_files.specs.Maps.{IsLocation}
 use Rattle.rn_files.specs.References.{StandsFor}
 use Rattle.rn_files.specs.declared.maps.Map.{Map}
 use Rattle.rn_files.specs.declared.walk.Followed.{Followed}
@@ -14,4 +14,4 @@ IsFollowed gives f = IfSome f.outline (λ o. gives (string_bytes f.path) (string
 -- path this is
 abbrev pub LeadsTo : (List ℕ → List ℕ → Type 0) → List Map → List ℕ → List ℕ → List ℕ → List ℕ → Type 0
 LeadsTo leads maps base literal uri path = StandsFor base literal uri
-    × ((place : List ℕ) × (is_mapped : Bool) × IsPlace maps uri place is_mapped × leads place path)
+    × ((place : List ℕ) × (is_mapped : Bool) × IsLocation maps uri place is_mapped × leads place path)

@@ -67,7 +67,7 @@ pub record IsFilePath (uri path : List ℕ) : Type 0 where
   pub path_is : path ≡ percent_decode (parts_of uri).path
 
 -- the path that the URI stands for, and whether a map says so
-abbrev pub IsPlace : List Map → List ℕ → List ℕ → Bool → Type 0
-IsPlace maps uri path is_mapped = MatchBool is_mapped
+abbrev pub IsLocation : List Map → List ℕ → List ℕ → Bool → Type 0
+IsLocation maps uri path is_mapped = MatchBool is_mapped
     ((folder rest : List ℕ) × IsLongest maps uri folder rest × (path ≡ below folder rest))
     (HasNoMap maps uri × IsFilePath uri path)

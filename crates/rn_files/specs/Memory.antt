@@ -1,7 +1,7 @@
 -- Files in memory.
 use Rattle.std.specs.Prelude.{◌≡◌, ℕ, List, Option, Some, None}
-use Rattle.rn_files.specs.declared.memory.MemoryEntry.{MemoryEntry}
-use Rattle.rn_files.specs.declared.memory.MemoryEntry.TheVariants.{File, Link}
+use Rattle.rn_files.specs.declared.memory_files.MemoryEntry.{MemoryEntry}
+use Rattle.rn_files.specs.declared.memory_files.MemoryEntry.TheVariants.{File, Link}
 
 -- what is at a path is a file of these bytes
 abbrev pub IsFileOf : Option MemoryEntry → List ℕ → Type 0

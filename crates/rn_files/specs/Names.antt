@@ -1,8 +1,8 @@
 -- Names of modules, made from paths.
-use Rattle.std.specs.Prelude.{ℕ, ◌<◌, ◌^◌, ◌==◌, ◌&&◌, not, Bool, List, [], ◌∷◌, if◌then◌else◌}
+use Rattle.std.specs.Prelude.{ℕ, ◌<◌, ◌^◌, ◌==◌, ◌&&◌, not, Bool, List}
 use Rattle.std.specs.List.{flat_map}
-use Rattle.percent_encoding.specs.Percent.{percent_encode_byte}
 use Rattle.rn_modset.specs.Contributions.{is_name_byte}
+use Rattle.rn_files.specs.Escapes.{byte_or_escape}
 
 -- a byte
 abbrev pub IsByte : ℕ → Type 0
@@ -14,7 +14,7 @@ is_plain b = is_name_byte b && not (b == 37)
 
 -- the byte, or `%` and its two hexadecimal digits in upper case
 abbrev pub escaped : ℕ → List ℕ
-escaped b = if is_plain b then b ∷ [] else percent_encode_byte b
+escaped b = byte_or_escape (is_plain b) b
 
 abbrev pub name_of : List ℕ → List ℕ
 name_of path = flat_map escaped path

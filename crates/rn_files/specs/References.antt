@@ -5,8 +5,8 @@ use Rattle.rn_files.specs.Escapes.{escaped, has_escapes}
 use Rattle.rn_files.specs.Paths.{LeadAbove, Segment}
 use Rattle.rn_files.specs.Uris as uris
 use Rattle.rn_files.specs.Uris.{parts_of, recomposed, target}
-use Rattle.rn_files.specs.declared.references.ReferenceFault.{ReferenceFault}
-use Rattle.rn_files.specs.declared.references.ReferenceFault.TheVariants.{Empty, Fragment, Query, Escape}
+use Rattle.rn_files.specs.declared.uri_references.ReferenceFault.{ReferenceFault}
+use Rattle.rn_files.specs.declared.uri_references.ReferenceFault.TheVariants.{Empty, Fragment, Query, Escape}
 
 -- what is wrong with a reference, the first of these: it is empty, has a fragment, has a query, or has a `%` that begins no escape
 abbrev pub fault_of : List ℕ → Option ReferenceFault

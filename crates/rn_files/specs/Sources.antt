@@ -2,12 +2,12 @@
 use Rattle.std.specs.Prelude.{◌≡◌, ℕ, ◌<◌, ◌≢◌, ◌&&◌, Bool, true, false, not, List, [], ◌∷◌, map, All, length, count_by, nat_lt, string_bytes, ⊤}
 use Rattle.std.specs.List.{list_all}
 use Rattle.std.specs.Str.{bytes_eq}
-use Rattle.rn_outline.specs.declared.parts.PartKind.{PartKind}
-use Rattle.rn_outline.specs.declared.parts.PartKind.TheVariants.{External, Include}
+use Rattle.rn_outline.specs.declared.file_parts.PartKind.{PartKind}
+use Rattle.rn_outline.specs.declared.file_parts.PartKind.TheVariants.{External, Include}
 use Rattle.rn_modset.specs.Contributions.{is_module_name}
 use Rattle.rn_pattern.specs.Graph.{IsGraph}
 use Rattle.rn_pattern.specs.Ranks.{HasNoLoop}
-use Rattle.rn_files.specs.declared.sources.Source.{Source}
+use Rattle.rn_files.specs.declared.sources.SourceFile.{SourceFile}
 use Rattle.rn_files.specs.declared.sources.Sources.{Sources}
 
 -- each number is less than the count
@@ -15,8 +15,8 @@ abbrev pub are_below : ℕ → List ℕ → Bool
 are_below count numbers = list_all (λ x. nat_lt x count) numbers
 
 -- for each file, the numbers of those that its includes and externals mean
-abbrev pub targets_of : List Source → List (List ℕ)
-targets_of files = map (λ (f : Source). f.targets.items) files
+abbrev pub targets_of : List SourceFile → List (List ℕ)
+targets_of files = map (λ (f : SourceFile). f.targets.items) files
 
 -- a part of this kind refers to another file
 abbrev pub is_link : PartKind → Bool
@@ -25,23 +25,23 @@ is_link (Include literal at inherit) = true
 is_link _ = false
 
 -- how many includes and externals a file has
-abbrev pub count_links : Source → ℕ
+abbrev pub count_links : SourceFile → ℕ
 count_links f = count_by (λ p. is_link p.kind) f.outline.parts.items
 
 -- the text of the source is what is given at its path
-abbrev pub IsTextAt : (List ℕ → List ℕ → Type 0) → Source → Type 0
+abbrev pub IsTextAt : (List ℕ → List ℕ → Type 0) → SourceFile → Type 0
 IsTextAt gives f = gives (string_bytes f.path) (string_bytes f.text)
 
 -- no file has the name of one after it
-abbrev pub HaveOwnNames : List Source → Type 0
+abbrev pub HaveOwnNames : List SourceFile → Type 0
 HaveOwnNames [] = ⊤
 HaveOwnNames (f ∷ fs) = All (λ g. string_bytes f.name ≢ string_bytes g.name) fs × HaveOwnNames fs
 
 -- the test of it
-abbrev pub differ_in_name : Source → Source → Bool
+abbrev pub differ_in_name : SourceFile → SourceFile → Bool
 differ_in_name f g = not (bytes_eq (string_bytes f.name) (string_bytes g.name))
 
-abbrev pub have_own_names : List Source → Bool
+abbrev pub have_own_names : List SourceFile → Bool
 have_own_names [] = true
 have_own_names (f ∷ fs) = list_all (differ_in_name f) fs && have_own_names fs
 

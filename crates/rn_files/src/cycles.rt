@@ -9,7 +9,7 @@ use rn_pattern::ranks::least_looped;
 use std::alloc::{AllocError, Global};
 
 /// The files that lead from the first to the last, told by the file from which each was reached.
-fn traced(
+fn trace(
     alloc: Global,
     reached_from: &[Option<usize>],
     first: usize,
@@ -62,7 +62,7 @@ fn loop_through(
             break;
         };
         if row.contains(&first) {
-            return traced(alloc, reached_from.as_slice(), first, file);
+            return trace(alloc, reached_from.as_slice(), first, file);
         }
         for target in row {
             reach(&mut reached_from, &mut order, file, *target)?;

@@ -1,8 +1,8 @@
 // Escapes in references and paths (RFC 3986, section 2.1).
-ghost use Rattle.std.specs.Prelude.{◌≡◌, ◌++◌, ◌∷◌, [], true, IfOk, OnOk, string_bytes, if◌then◌else◌};
+ghost use Rattle.std.specs.Prelude.{◌≡◌, ◌++◌, ◌<◌, ◌∷◌, [], true, IfOk, IsTrue, OnOk, string_bytes, if◌then◌else◌};
 ghost use Rattle.std.specs.List.{flat_map};
 ghost use Rattle.percent_encoding.specs.Percent.{percent_encode_byte};
-ghost use Rattle.rn_files.specs.Escapes.{begins_with_digits, escaped, file_uri, has_escapes, is_allowed, is_path_byte, kept_or_escaped};
+ghost use Rattle.rn_files.specs.Escapes.{begins_with_digits, byte_or_escape, escaped, file_uri, has_escapes, is_allowed, is_path_byte};
 
 use percent_encoding::percent_encode_byte;
 use std::alloc::{AllocError, Global};
@@ -54,24 +54,13 @@ fn is_path_byte(byte: u8) -> bool
         )
 }
 
-/// Adds the byte of a reference, or its escape.
-fn push_reference_byte(out: &mut String, byte: u8) -> Result<(), AllocError>
+/// Adds a byte as it is where it is kept, and else its escape.
+pub fn push_byte(out: &mut String, byte: u8, is_kept: bool) -> Result<(), AllocError>
+    requires ascii { IsTrue is_kept → byte < 128 }
     ensures { OnOk result (string_bytes out.new
-        ≡ string_bytes out.old ++ kept_or_escaped is_allowed byte) }
+        ≡ string_bytes out.old ++ byte_or_escape is_kept byte) }
 {
-    if is_allowed(byte) {
-        out.push(char::from(byte))
-    } else {
-        out.push_str(percent_encode_byte(byte))
-    }
-}
-
-/// Adds the byte of a path, or its escape.
-fn push_path_byte(out: &mut String, byte: u8) -> Result<(), AllocError>
-    ensures { OnOk result (string_bytes out.new
-        ≡ string_bytes out.old ++ kept_or_escaped is_path_byte byte) }
-{
-    if is_path_byte(byte) {
+    if is_kept {
         out.push(char::from(byte))
     } else {
         out.push_str(percent_encode_byte(byte))
@@ -79,12 +68,12 @@ fn push_path_byte(out: &mut String, byte: u8) -> Result<(), AllocError>
 }
 
 /// The reference with each byte escaped that no URI holds (XLink, section 5.4).
-pub fn escaped(alloc: Global, reference: &str) -> Result<String, AllocError>
+pub fn escape(alloc: Global, reference: &str) -> Result<String, AllocError>
     ensures { IfOk result (λ text. string_bytes text ≡ escaped reference.now) }
 {
     let mut out = String::new(alloc);
     for byte in reference.as_bytes() {
-        push_reference_byte(&mut out, *byte)?;
+        push_byte(&mut out, *byte, is_allowed(*byte))?;
     }
     Ok(out)
 }
@@ -95,7 +84,7 @@ pub fn file_uri(alloc: Global, path: &str) -> Result<String, AllocError>
 {
     let mut out = String::from_str(alloc, "file://")?;
     for byte in path.as_bytes() {
-        push_path_byte(&mut out, *byte)?;
+        push_byte(&mut out, *byte, is_path_byte(*byte))?;
     }
     Ok(out)
 }

@@ -2,18 +2,18 @@
 ghost use Rattle.std.specs.Prelude.{◌≡◌, ◌<◌, ◌≤◌, All, IfOk, IfSome, IsNone, is_some, string_bytes, vec_len};
 ghost use Rattle.rn_files.specs.Limits.{max_text};
 ghost use Rattle.rn_files.specs.Following.{IsFollowed, LeadsTo};
-ghost use Rattle.rn_files.specs.Maps.{IsPlace};
+ghost use Rattle.rn_files.specs.Maps.{IsLocation};
 ghost use Rattle.rn_files.specs.References.{StandsFor};
 ghost use Rattle.rn_files.specs.Sources.{is_link};
 
 use crate::escapes::file_uri;
-use crate::faults::{FaultKind, FaultPlace};
 use crate::files::{FileFault, Files};
-use crate::maps::{Map, Place, place_of};
+use crate::maps::{Location, Map, locate};
 use crate::paths::remove_dot_segments;
-use crate::references::resolve_below;
-use crate::roots::RootFolder;
+use crate::root_folder::RootFolder;
+use crate::source_faults::{FaultKind, FaultPlace};
 use crate::texts::{MAX_TEXT, Text, text_of};
+use crate::uri_references::resolve_below;
 use crate::walk::{Followed, Found, MAX_SOURCES, Origin, Walk};
 use rn_outline::{Outline, Part, PartKind};
 use std::alloc::{AllocError, Global};
@@ -109,7 +109,7 @@ fn enter_word<F: Files>(
     } else {
         files.real_path(alloc, word)
     };
-    let Some(path) = walk.noted(place, real)? else {
+    let Some(path) = walk.note_answer(place, real)? else {
         return Ok(None);
     };
     let found = Found {
@@ -151,7 +151,7 @@ fn real_path<F: Files>(
     files: &F,
     ways: &Ways<'_>,
     walk: &mut Walk,
-    leads: &Place,
+    leads: &Location,
     place: FaultPlace,
 ) -> Result<Option<String>, AllocError>
     ensures grows { vec_len walk.old.entries ≤ vec_len walk.new.entries }
@@ -165,7 +165,7 @@ fn real_path<F: Files>(
         walk.note(place, FaultKind::Outside)?;
         return Ok(None);
     }
-    walk.noted(place, answer)
+    walk.note_answer(place, answer)
 }
 
 /// The URI that a reference in a file with the URI `base` stands for.
@@ -180,26 +180,26 @@ fn target_uri(
     ensures stands { IfOk result (λ found. IfSome found (λ uri.
         StandsFor base.now literal.now (string_bytes uri))) }
 {
-    walk.noted_reference(place, resolve_below(alloc, base, literal))
+    walk.note_reference(place, resolve_below(alloc, base, literal))
 }
 
 /// Where a URI lies that a reference stands for.
-fn target_place(
+fn target_location(
     alloc: Global,
     maps: &[Map],
     walk: &mut Walk,
     uri: &str,
     place: FaultPlace,
-) -> Result<Option<Place>, AllocError>
+) -> Result<Option<Location>, AllocError>
     ensures grows { vec_len walk.old.entries ≤ vec_len walk.new.entries }
     ensures lies { IfOk result (λ found. IfSome found (λ leads.
-        IsPlace maps.now uri.now (string_bytes leads.path) leads.is_mapped)) }
+        IsLocation maps.now uri.now (string_bytes leads.path) leads.is_mapped)) }
 {
-    walk.noted_reference(place, place_of(alloc, maps, uri))
+    walk.note_reference(place, locate(alloc, maps, uri))
 }
 
 /// How a file that a reference led to was found.
-fn origin_of(leads: &Place) -> Origin {
+fn origin_of(leads: &Location) -> Origin {
     if leads.is_mapped {
         Origin::Map
     } else {
@@ -225,7 +225,7 @@ fn find_link<F: Files>(
     let Some(uri) = target_uri(alloc, walk, base, literal, place)? else {
         return Ok(None);
     };
-    let Some(leads) = target_place(alloc, ways.maps, walk, uri.as_str(), place)? else {
+    let Some(leads) = target_location(alloc, ways.maps, walk, uri.as_str(), place)? else {
         return Ok(None);
     };
     let Some(path) = real_path(alloc, files, ways, walk, &leads, place)? else {
@@ -310,13 +310,13 @@ fn follow_text<F: Files>(
         }
         Err(wrong) => {
             walk.note(FaultPlace::Text { file, at: wrong.at }, wrong.kind)?;
-            Ok(faulty(alloc, path, text))
+            Ok(faulty_file(alloc, path, text))
         }
     }
 }
 
 /// A file that is at fault, with what was read of it.
-fn faulty(alloc: Global, path: String, text: String) -> Followed
+fn faulty_file(alloc: Global, path: String, text: String) -> Followed
     ensures { IsNone result.outline }
 {
     Followed {
@@ -352,9 +352,9 @@ fn follow<F: Files>(
 {
     let path = walk.entries[file].found.path.clone()?;
     let place = walk.entries[file].place;
-    match walk.noted(place, read_file(alloc, files, path.as_str()))? {
+    match walk.note_answer(place, read_file(alloc, files, path.as_str()))? {
         Some(bytes) => follow_text(alloc, files, ways, walk, file, path, bytes.as_slice()),
-        None => Ok(faulty(alloc, path, String::new(alloc))),
+        None => Ok(faulty_file(alloc, path, String::new(alloc))),
     }
 }
 

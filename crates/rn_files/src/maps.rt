@@ -3,9 +3,9 @@ ghost use Rattle.std.specs.Prelude.{◌≡◌, ◌==◌, IfOk, MatchOption, code
 ghost use Rattle.std.specs.List.{ends_with};
 ghost use Rattle.std.specs.Option.{option_copied, option_map};
 ghost use Rattle.percent_encoding.specs.Percent.{percent_decode};
-ghost use Rattle.rn_files.specs.Maps.{HasNoMap, IsFilePath, IsLongest, IsPlace, behind, behind_prefix, below, chosen, has_no_host, is_file_scheme, is_whole};
+ghost use Rattle.rn_files.specs.Maps.{HasNoMap, IsFilePath, IsLongest, IsLocation, behind, behind_prefix, below, chosen, has_no_host, is_file_scheme, is_whole};
 
-use crate::references::{ReferenceFault, no_memory};
+use crate::uri_references::{ReferenceFault, no_memory};
 use crate::uris::split;
 use percent_encoding::{DecodeError, percent_decode_str};
 use std::alloc::{AllocError, Global};
@@ -19,7 +19,7 @@ pub struct Map {
 
 /// Where a URI leads: a path, and whether a map found it.
 #[derive(Debug, Drop, PartialEq, Eq)]
-pub struct Place {
+pub struct Location {
     pub path: String,
     pub is_mapped: bool,
 }
@@ -46,7 +46,7 @@ fn is_whole(prefix: &str, rest: &str) -> bool
 }
 
 /// What comes behind the prefix of a URI.
-fn behind<'u>(uri: &'u str, prefix: &str) -> Option<&'u str>
+fn rest_behind<'u>(uri: &'u str, prefix: &str) -> Option<&'u str>
     ensures { option_copied result ≡ behind uri.now prefix.now }
 {
     uri.strip_prefix(prefix)
@@ -56,7 +56,7 @@ fn behind<'u>(uri: &'u str, prefix: &str) -> Option<&'u str>
 fn behind_prefix<'u>(uri: &'u str, prefix: &str) -> Option<&'u str>
     ensures { option_copied result ≡ behind_prefix uri.now prefix.now }
 {
-    match behind(uri, prefix) {
+    match rest_behind(uri, prefix) {
         Some(rest) => {
             if is_whole(prefix, rest) {
                 Some(rest)
@@ -69,7 +69,7 @@ fn behind_prefix<'u>(uri: &'u str, prefix: &str) -> Option<&'u str>
 }
 
 /// Of two folders with what their maps leave of a URI, the one that leaves less; the first of equals.
-fn chosen<'m, 'u>(
+fn choose<'m, 'u>(
     best: Option<(&'m str, &'u str)>,
     folder: &'m str,
     rest: Option<&'u str>,
@@ -94,14 +94,14 @@ fn chosen<'m, 'u>(
 }
 
 /// The folder of the longest prefix that the URI begins with, the first of them among equals, and what comes behind it.
-fn longest<'m, 'u>(maps: &'m [Map], uri: &'u str) -> Option<(&'m str, &'u str)>
+fn longest_prefix<'m, 'u>(maps: &'m [Map], uri: &'u str) -> Option<(&'m str, &'u str)>
     ensures { MatchOption result (HasNoMap maps.now uri.now)
         (λ b. IsLongest maps.now uri.now b.0.now b.1.now) }
 {
     let mut best: Option<(&'m str, &'u str)> = None;
     for map in maps {
         let rest = behind_prefix(uri, map.prefix.as_str());
-        best = chosen(best, map.folder.as_str(), rest);
+        best = choose(best, map.folder.as_str(), rest);
     }
     best
 }
@@ -112,7 +112,7 @@ fn has_unnamed(text: &str) -> bool {
 }
 
 /// The text with each escape replaced by its byte.
-fn decoded(alloc: Global, text: &str) -> Result<String, ReferenceFault>
+fn decode(alloc: Global, text: &str) -> Result<String, ReferenceFault>
     ensures { IfOk result (λ found. string_bytes found ≡ percent_decode text.now) }
 {
     if has_unnamed(text) {
@@ -139,10 +139,10 @@ fn put_below(alloc: Global, folder: &str, rest: &str, path: &str) -> Result<Stri
 }
 
 /// The folder, and below it the decoded rest of the URI.
-fn below(alloc: Global, folder: &str, rest: &str) -> Result<String, ReferenceFault>
+fn path_below(alloc: Global, folder: &str, rest: &str) -> Result<String, ReferenceFault>
     ensures { IfOk result (λ path. string_bytes path ≡ below folder.now rest.now) }
 {
-    let path = decoded(alloc, rest)?;
+    let path = decode(alloc, rest)?;
     put_below(alloc, folder, rest, path.as_str()).map_err(no_memory)
 }
 
@@ -180,26 +180,26 @@ fn file_path(alloc: Global, uri: &str) -> Result<String, ReferenceFault>
     if !parts.path.starts_with('/') {
         return Err(ReferenceFault::Relative);
     }
-    decoded(alloc, parts.path)
+    decode(alloc, parts.path)
 }
 
 /// Where the URI lies: below the folder of the longest prefix, or, where no map has one, at the path of a `file` URI
 /// without a host (RFC 8089). Escapes are decoded.
-pub fn place_of(alloc: Global, maps: &[Map], uri: &str) -> Result<Place, ReferenceFault>
+pub fn locate(alloc: Global, maps: &[Map], uri: &str) -> Result<Location, ReferenceFault>
     ensures { IfOk result (λ place.
-        IsPlace maps.now uri.now (string_bytes place.path) place.is_mapped) }
+        IsLocation maps.now uri.now (string_bytes place.path) place.is_mapped) }
 {
-    match longest(maps, uri) {
+    match longest_prefix(maps, uri) {
         Some((folder, rest)) => {
-            let path = below(alloc, folder, rest)?;
-            Ok(Place {
+            let path = path_below(alloc, folder, rest)?;
+            Ok(Location {
                 path,
                 is_mapped: true,
             })
         }
         None => {
             let path = file_path(alloc, uri)?;
-            Ok(Place {
+            Ok(Location {
                 path,
                 is_mapped: false,
             })

@@ -54,7 +54,7 @@ fn enter<'p>(folder: &mut Vec<&'p str>, segment: &'p str) -> Result<(), AllocErr
 }
 
 /// Where the segments lead, one after the other.
-fn walked<'p>(alloc: Global, segments: &[&'p str]) -> Result<Vec<&'p str>, AllocError>
+fn walk_segments<'p>(alloc: Global, segments: &[&'p str]) -> Result<Vec<&'p str>, AllocError>
     ensures { IfOk result (λ folder. map (λ s. s.now) folder.items
         ≡ walked (map (λ s. s.now) segments.now)) }
 {
@@ -80,7 +80,7 @@ pub fn without_dots<'p>(alloc: Global, segments: &[&'p str]) -> Result<Vec<&'p s
     ensures { IfOk result (λ left. map (λ s. s.now) left.items
         ≡ without_dots (map (λ s. s.now) segments.now)) }
 {
-    let mut left = walked(alloc, segments)?;
+    let mut left = walk_segments(alloc, segments)?;
     if ends_in_dots(segments) {
         left.push("")?;
     }
@@ -100,7 +100,7 @@ fn push_behind(path: &mut String, segments: &[&str]) -> Result<(), AllocError>
 }
 
 /// The path of segments: each but the first has a slash before it.
-pub fn joined(alloc: Global, segments: &[&str]) -> Result<String, AllocError>
+pub fn joined_path(alloc: Global, segments: &[&str]) -> Result<String, AllocError>
     ensures { IfOk result (λ path. string_bytes path ≡ path_of (map (λ s. s.now) segments.now)) }
 {
     let [first, others @ ..] = segments else {
@@ -118,7 +118,7 @@ pub fn remove_dot_segments(alloc: Global, path: &str) -> Result<String, AllocErr
 {
     let parts = segments(alloc, path)?;
     let left = without_dots(alloc, parts.as_slice())?;
-    joined(alloc, left.as_slice())
+    joined_path(alloc, left.as_slice())
 }
 
 /// Whether no segment is there that `..` takes away.

@@ -4,7 +4,7 @@ ghost use Rattle.std.specs.List.{prefix_len};
 ghost use Rattle.std.specs.Str.{IsCharBoundary};
 ghost use Rattle.rn_files.specs.Lines.{IsLineOf, IsPosition, begins_character, is_inside};
 
-use crate::lines::{Position, line_at};
+use crate::line_breaks::{Position, line_at};
 
 /// Whether a character of a text begins with the byte.
 fn begins_character(byte: u8) -> bool

@@ -6,21 +6,21 @@ ghost use Rattle.rn_pattern.specs.Graph.{rows_of};
 ghost use Rattle.rn_files.specs.Sources.{IsSound, count_links, differ_in_name, have_own_names, targets_of};
 
 use crate::cycles::{are_below, first_loop, is_graph};
-use crate::faults::{FaultKind, FaultPlace, SourceFault};
 use crate::following::link_of;
-use crate::sources::{Source, Sources};
+use crate::source_faults::{FaultKind, FaultPlace, SourceFault};
+use crate::sources::{SourceFile, Sources};
 use rn_modset::is_module_name;
 use std::alloc::{AllocError, Global};
 
 /// The numbers of the files that a file's includes and externals mean.
-fn copied_targets(alloc: Global, source: &Source) -> Result<Vec<usize>, AllocError>
+fn copied_targets(alloc: Global, source: &SourceFile) -> Result<Vec<usize>, AllocError>
     ensures { IfOk result (λ v. v.items ≡ source.now.targets.items) }
 {
     Vec::from_slice(alloc, source.targets.as_slice())
 }
 
 /// For each file, the numbers of those that its includes and externals mean.
-fn edges_of(alloc: Global, files: &[Source]) -> Result<Vec<Vec<usize>>, AllocError>
+fn edges_of(alloc: Global, files: &[SourceFile]) -> Result<Vec<Vec<usize>>, AllocError>
     ensures { IfOk result (λ edges. rows_of edges.items ≡ targets_of files.now) }
 {
     let mut edges = Vec::new(alloc);
@@ -31,7 +31,7 @@ fn edges_of(alloc: Global, files: &[Source]) -> Result<Vec<Vec<usize>>, AllocErr
 }
 
 /// Whether the names of all files are those of modules.
-fn have_names(files: &[Source]) -> bool
+fn have_names(files: &[SourceFile]) -> bool
     ensures { result ≡ list_all (λ f. is_module_name (string_bytes f.name)) files.now }
 {
     files
@@ -40,7 +40,7 @@ fn have_names(files: &[Source]) -> bool
 }
 
 /// Whether none of the others has the name of the file.
-fn differs_from(source: &Source, others: &[Source]) -> bool
+fn differs_from(source: &SourceFile, others: &[SourceFile]) -> bool
     ensures { result ≡ list_all (differ_in_name source.now) others.now }
 {
     others
@@ -50,7 +50,7 @@ fn differs_from(source: &Source, others: &[Source]) -> bool
 
 /// Whether no two files have one name. Each is compared with those after it, of which there are not many: a set has 1,024
 /// modules at most.
-fn have_own_names(files: &[Source]) -> bool
+fn have_own_names(files: &[SourceFile]) -> bool
     ensures { result ≡ have_own_names files.now }
 {
     let mut rest = files;
@@ -64,7 +64,7 @@ fn have_own_names(files: &[Source]) -> bool
 }
 
 /// How many includes and externals a file has.
-fn count_links(source: &Source) -> usize
+fn count_links(source: &SourceFile) -> usize
     ensures { result ≡ count_links source.now }
 {
     source
@@ -76,7 +76,7 @@ fn count_links(source: &Source) -> usize
 }
 
 /// Whether each include and external of all files has a target.
-fn have_targets(files: &[Source]) -> bool
+fn have_targets(files: &[SourceFile]) -> bool
     ensures { result ≡ list_all (λ f. length f.targets.items == count_links f) files.now }
 {
     files
@@ -85,7 +85,7 @@ fn have_targets(files: &[Source]) -> bool
 }
 
 /// The byte where the link with this number begins.
-fn link_place(source: &Source, number: usize) -> usize {
+fn link_place(source: &SourceFile, number: usize) -> usize {
     match source.outline.parts.iter().filter_map(link_of).nth(number) {
         Some((_, at)) => at,
         None => 0,
@@ -93,7 +93,7 @@ fn link_place(source: &Source, number: usize) -> usize {
 }
 
 /// Where a loop closes: the link of its last file that means its first one.
-fn closing_place(sources: &[Source], files: &[usize]) -> Option<FaultPlace> {
+fn closing_place(sources: &[SourceFile], files: &[usize]) -> Option<FaultPlace> {
     let first = files.first()?;
     let file = *files.last()?;
     let source = sources.get(file)?;
@@ -103,7 +103,7 @@ fn closing_place(sources: &[Source], files: &[usize]) -> Option<FaultPlace> {
 }
 
 /// That a file is meant or asked for which is none of the sources.
-fn stray() -> SourceFault {
+fn stray_fault() -> SourceFault {
     SourceFault {
         place: FaultPlace::Current,
         kind: FaultKind::Count,
@@ -111,7 +111,7 @@ fn stray() -> SourceFault {
 }
 
 /// A loop along references, as a fault at the reference that closes it.
-fn closed_loop(sources: &[Source], looped: Vec<usize>) -> SourceFault {
+fn closed_loop(sources: &[SourceFile], looped: Vec<usize>) -> SourceFault {
     let place = closing_place(sources, looped.as_slice()).unwrap_or(FaultPlace::Current);
     SourceFault {
         place,
@@ -127,19 +127,19 @@ pub fn fault_of(alloc: Global, sources: &Sources) -> Result<Option<SourceFault>,
     let edges = edges_of(alloc, files)?;
     let rows = edges.as_slice();
     if !is_graph(rows) {
-        return Ok(Some(stray()));
+        return Ok(Some(stray_fault()));
     }
     if !are_below(sources.roots.as_slice(), files.len()) {
-        return Ok(Some(stray()));
+        return Ok(Some(stray_fault()));
     }
     if !have_names(files) {
-        return Ok(Some(stray()));
+        return Ok(Some(stray_fault()));
     }
     if !have_targets(files) {
-        return Ok(Some(stray()));
+        return Ok(Some(stray_fault()));
     }
     if !have_own_names(files) {
-        return Ok(Some(stray()));
+        return Ok(Some(stray_fault()));
     }
     match first_loop(alloc, rows)? {
         Some(looped) => Ok(Some(closed_loop(files, looped))),

@@ -13,7 +13,7 @@ pub struct Asked<'a> {
 
 /// A file that was read.
 #[derive(Debug, Drop, PartialEq, Eq)]
-pub struct Source {
+pub struct SourceFile {
     /// The name of its module.
     pub name: String,
     /// The file as it is told to people: as it was asked for, or its path from the current folder.
@@ -31,7 +31,7 @@ pub struct Source {
 /// The files that are asked for and all that they reach: first those asked for, and then as they are first referred to.
 #[derive(Debug, Drop, PartialEq, Eq)]
 pub struct Sources {
-    pub files: Vec<Source>,
+    pub files: Vec<SourceFile>,
     /// The numbers of the files that are asked for, each once, in order.
     pub roots: Vec<usize>,
 }

@@ -1,7 +1,7 @@
 // The text of a file, and what it is made of.
 ghost use Rattle.std.specs.Prelude.{◌≡◌, IfOk, IsErr, OnOk, string_bytes};
 
-use crate::faults::FaultKind;
+use crate::source_faults::FaultKind;
 use rn_outline::{Outline, OutlineFault, read_outline};
 use rn_text::{TextFault, tokens};
 use std::alloc::{AllocError, Global};

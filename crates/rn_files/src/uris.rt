@@ -124,7 +124,7 @@ fn push_authority(out: &mut String, authority: Option<&str>) -> Result<(), Alloc
 }
 
 /// The text of parts (RFC 3986, section 5.3).
-pub fn join(alloc: Global, parts: &Parts<'_>) -> Result<String, AllocError>
+pub fn recompose(alloc: Global, parts: &Parts<'_>) -> Result<String, AllocError>
     ensures { IfOk result (λ text. string_bytes text ≡ recomposed (seen parts.now)) }
 {
     let mut out = String::new(alloc);

@@ -1,9 +1,9 @@
 // Files as they are found, each once.
 ghost use Rattle.std.specs.Prelude.{◌≡◌, ◌≤◌, IfOk, IfSome, Ok, vec_len};
 
-use crate::faults::{FaultKind, FaultPlace, SourceFault};
 use crate::files::FileFault;
-use crate::references::ReferenceFault;
+use crate::source_faults::{FaultKind, FaultPlace, SourceFault};
+use crate::uri_references::ReferenceFault;
 use rn_outline::Outline;
 use std::alloc::{AllocError, Global};
 use std::collections::BTreeMap;
@@ -72,7 +72,7 @@ impl Walk {
     }
 
     /// What a file answered; a fault is kept, and is then none.
-    pub fn noted<T: Drop>(
+    pub fn note_answer<T: Drop>(
         &mut self,
         place: FaultPlace,
         answer: Result<T, FileFault>,
@@ -91,7 +91,7 @@ impl Walk {
     }
 
     /// What a reference stands for; a fault is kept, and is then none.
-    pub fn noted_reference<T: Drop>(
+    pub fn note_reference<T: Drop>(
         &mut self,
         place: FaultPlace,
         answer: Result<T, ReferenceFault>,

@@ -2,8 +2,8 @@
 use Rattle.std.specs.Prelude.{◌≡◌, ℕ, Bool, true, false, List, Option, Some, None, Result, Ok, Err}
 use Rattle.std.specs.Io.KnownBytes.{Appends}
 use Rattle.rn_merge.specs.Streams.{AppendsFront}
-use Rattle.rn_flat.specs.declared.fault.FlatFault.{FlatFault}
-use Rattle.rn_flat.specs.declared.fault.FlatFault.TheVariants.{Usage, Refused, Unread, Unwritten, Memory}
+use Rattle.rn_flat.specs.declared.flat_fault.FlatFault.{FlatFault}
+use Rattle.rn_flat.specs.declared.flat_fault.FlatFault.TheVariants.{Usage, Refused, Unread, Unwritten, Memory}
 
 -- standard output takes all bytes; or it takes a front of them, and then fails
 abbrev pub IsWritten : {T : Type 0} → Option (List ℕ) → Option (List ℕ) → Bool → List ℕ → Result T FlatFault → Type 0

@@ -1,7 +1,7 @@
 -- Why the program does not do its work.
 use Rattle.std.specs.Prelude.{ℕ, Result, Ok, Err}
-use Rattle.rn_flat.specs.declared.fault.FlatFault.{FlatFault}
-use Rattle.rn_flat.specs.declared.fault.FlatFault.TheVariants.{Usage, Refused, Unread, Unwritten, Memory}
+use Rattle.rn_flat.specs.declared.flat_fault.FlatFault.{FlatFault}
+use Rattle.rn_flat.specs.declared.flat_fault.FlatFault.TheVariants.{Usage, Refused, Unread, Unwritten, Memory}
 
 -- the status with which the program ends
 abbrev pub status : FlatFault → ℕ

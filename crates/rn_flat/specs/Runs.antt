@@ -3,7 +3,7 @@ use Rattle.std.specs.Prelude.{ℕ, List, Option, Some, None, Result, Ok, Err, st
 use Rattle.std.specs.Io.KnownBytes.{Appends}
 use Rattle.rn_simplify.specs.Verdict.{prints, IsVerdict}
 use Rattle.rn_lift.specs.declared.lifted.LiftedModule.{LiftedModule}
-use Rattle.rn_flat.specs.declared.fault.FlatFault.{FlatFault}
+use Rattle.rn_flat.specs.declared.flat_fault.FlatFault.{FlatFault}
 use Rattle.rn_flat.specs.declared.words.Product.{Product}
 use Rattle.rn_flat.specs.declared.words.Product.TheVariants.{Schema, Bundle, List as Listing, Graph}
 use Rattle.rn_flat.specs.declared.words.Task.{Task}

@@ -2,7 +2,7 @@
 ghost use Rattle.std.specs.Prelude.{◌≡◌, MatchOption, OnOk};
 ghost use Rattle.rn_flat.specs.Comparisons.{DifferFirst};
 
-use crate::fault::{FlatFault, refused};
+use crate::flat_fault::{FlatFault, refusal_fault};
 use rn_files::{FileFault, Files, line_of};
 use rn_tell::{Colours, Message, Page, SHOWN, Spot, Told, push_printable};
 use std::alloc::{AllocError, Global};
@@ -37,7 +37,7 @@ pub fn check_file<F: Files>(
     let found = match files.read(alloc, path) {
         Ok(found) => found,
         Err(FileFault::Memory) => return Err(FlatFault::Memory),
-        Err(fault) => return Err(unread(alloc, path, fault)?),
+        Err(fault) => return Err(unread_fault(alloc, path, fault)?),
     };
     match first_difference(found.as_slice(), schema) {
         None => Ok(()),
@@ -46,7 +46,7 @@ pub fn check_file<F: Files>(
 }
 
 /// The file that is checked can't be read.
-fn unread(alloc: Global, path: &str, fault: FileFault) -> Result<FlatFault, AllocError> {
+fn unread_fault(alloc: Global, path: &str, fault: FileFault) -> Result<FlatFault, AllocError> {
     let mut lines = String::from_str(alloc, "rnc-flat: error: ")?;
     push_printable(&mut lines, path)?;
     lines.push_str(format!(in alloc; ": {fault}\n")?.as_str())?;
@@ -75,8 +75,8 @@ fn differs(
         text: found.as_str(),
     };
     let pages = [page];
-    let told = Told::one(alloc, message)?;
-    refused(alloc, &pages, &told, colours)
+    let told = Told::of_message(alloc, message)?;
+    refusal_fault(alloc, &pages, &told, colours)
 }
 
 /// Where the line begins in which a byte is.

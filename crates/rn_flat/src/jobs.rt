@@ -6,14 +6,14 @@ ghost use Rattle.rn_flat.specs.Modules.{IsSetOf};
 ghost use Rattle.rn_flat.specs.Runs.{Delivers, IsProduct, IsSchema, IsSchemaOf};
 
 use crate::compare::check_file;
-use crate::fault::{FlatFault, refused};
-use crate::modules::set_of;
+use crate::flat_fault::{FlatFault, refusal_fault};
+use crate::module_set::set_of;
 use crate::outputs::{Outputs, write_file, write_standard};
 use crate::products::{graph_text, list_text};
 use crate::readings::reading_fault;
 use crate::words::{Job, Product, Task};
 use rn_assemble::Refusal;
-use rn_files::{Asked, Files, Source, Sources, read_sources};
+use rn_files::{Asked, Files, SourceFile, Sources, read_sources};
 use rn_lift::{Lifted, lift};
 use rn_merge::{Sink, merge};
 use rn_modset::{AddFault, ModuleSet, write_bundle};
@@ -76,7 +76,7 @@ fn product_text(
         Product::Schema => schema_text(alloc, sources, colours),
         Product::Bundle => bundle(alloc, sources, colours),
         Product::List => {
-            let lifted = lifted(alloc, sources, colours)?;
+            let lifted = lift_files(alloc, sources, colours)?;
             Ok(list_text(alloc, &lifted, files)?.into_bytes())
         }
         Product::Graph => Ok(graph_text(alloc, files)?.into_bytes()),
@@ -87,19 +87,19 @@ fn product_text(
 fn schema_text(alloc: Global, sources: &Sources, colours: Colours) -> Result<Vec<u8>, FlatFault>
     ensures { IfOk result (λ text. IsSchema text.items) }
 {
-    let lifted = lifted(alloc, sources, colours)?;
+    let lifted = lift_files(alloc, sources, colours)?;
     schema(alloc, &lifted, sources.files.as_slice(), colours)
 }
 
 /// The bundle of the modules, made of the files.
 fn bundle(alloc: Global, sources: &Sources, colours: Colours) -> Result<Vec<u8>, FlatFault> {
-    let lifted = lifted(alloc, sources, colours)?;
+    let lifted = lift_files(alloc, sources, colours)?;
     let set = module_set(alloc, &lifted, sources.files.as_slice(), colours)?;
     Ok(write_bundle(alloc, &set)?)
 }
 
 /// The modules that the files become.
-fn lifted(alloc: Global, sources: &Sources, colours: Colours) -> Result<Lifted, FlatFault> {
+fn lift_files(alloc: Global, sources: &Sources, colours: Colours) -> Result<Lifted, FlatFault> {
     let mut files = Vec::new(alloc);
     for file in sources.files.as_slice() {
         files.push(Lifting {
@@ -123,19 +123,19 @@ fn lifted(alloc: Global, sources: &Sources, colours: Colours) -> Result<Lifted, 
 /// The files are refused, with what is told of them.
 fn told_of(
     alloc: Global,
-    files: &[Source],
+    files: &[SourceFile],
     told: &Told,
     colours: Colours,
 ) -> Result<FlatFault, AllocError> {
     let pages = source_pages(alloc, files)?;
-    refused(alloc, pages.as_slice(), told, colours)
+    refusal_fault(alloc, pages.as_slice(), told, colours)
 }
 
 /// The set of the modules.
 fn module_set(
     alloc: Global,
     lifted: &Lifted,
-    files: &[Source],
+    files: &[SourceFile],
     colours: Colours,
 ) -> Result<ModuleSet, FlatFault>
     ensures { IfOk result (IsSetOf lifted.now.modules.items) }
@@ -145,7 +145,7 @@ fn module_set(
         Err(fault) if fault.fault == AddFault::Memory => Err(FlatFault::Memory),
         Err(fault) => {
             let message = set_message(alloc, lifted, fault.module, &fault.fault)?;
-            let told = Told::one(alloc, message)?;
+            let told = Told::of_message(alloc, message)?;
             Err(told_of(alloc, files, &told, colours)?)
         }
     }
@@ -155,13 +155,13 @@ fn module_set(
 fn schema(
     alloc: Global,
     lifted: &Lifted,
-    files: &[Source],
+    files: &[SourceFile],
     colours: Colours,
 ) -> Result<Vec<u8>, FlatFault>
     ensures { IfOk result (λ text. IsSchemaOf lifted.now.modules.items text.items) }
 {
     let set = module_set(alloc, lifted, files, colours)?;
-    match merged(alloc, &set) {
+    match merged_bytes(alloc, &set) {
         Ok(text) => Ok(text),
         Err(Refusal::Memory) => Err(FlatFault::Memory),
         Err(refusal) => {
@@ -172,7 +172,7 @@ fn schema(
 }
 
 /// The bytes of the schema of a set.
-fn merged(alloc: Global, set: &ModuleSet) -> Result<Vec<u8>, Refusal>
+fn merged_bytes(alloc: Global, set: &ModuleSet) -> Result<Vec<u8>, Refusal>
     ensures { IfOk result (λ text. IsVerdict set.now (prints text.items)) }
 {
     match merge(alloc, set) {

@@ -5,15 +5,15 @@
 #![tactic(auto)]
 
 pub mod compare;
-pub mod fault;
+pub mod flat_fault;
 pub mod jobs;
-pub mod modules;
+pub mod module_set;
 pub mod outputs;
 mod products;
 mod readings;
 pub mod words;
 
-pub use fault::{FlatFault, fault_lines, status};
+pub use flat_fault::{FlatFault, fault_lines, status};
 pub use jobs::perform;
 pub use outputs::Outputs;
 pub use rn_tell::Colours;

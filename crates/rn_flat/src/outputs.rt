@@ -2,7 +2,7 @@
 ghost use Rattle.std.specs.Prelude.{◌≡◌, ℕ, List, OnErr, OnOk, false};
 ghost use Rattle.rn_flat.specs.Deliveries.{IsWritten, IsUnwritten};
 
-use crate::fault::FlatFault;
+use crate::flat_fault::FlatFault;
 use rn_merge::{Failed, Sink, write_output};
 use rn_tell::push_printable;
 use std::alloc::{AllocError, Global};
@@ -30,7 +30,7 @@ pub fn write_file<S: Outputs>(
 {
     match outputs.replace(path, bytes) {
         Ok(()) => Ok(()),
-        Err(Failed) => Err(unwritten(alloc, path)),
+        Err(Failed) => Err(unwritten_fault(alloc, path)),
     }
 }
 
@@ -42,12 +42,12 @@ pub fn write_standard<W: Sink>(alloc: Global, out: &mut W, bytes: &[u8]) -> Resu
 {
     match write_output(out, bytes) {
         Ok(()) => Ok(()),
-        Err(Failed) => Err(unwritten(alloc, "standard output")),
+        Err(Failed) => Err(unwritten_fault(alloc, "standard output")),
     }
 }
 
 /// The fault of an output. Where memory does not suffice for the line that says so, there is none.
-fn unwritten(alloc: Global, output: &str) -> FlatFault
+fn unwritten_fault(alloc: Global, output: &str) -> FlatFault
     ensures { IsUnwritten result }
 {
     match unwritten_line(alloc, output) {

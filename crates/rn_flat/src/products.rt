@@ -1,11 +1,15 @@
 // What is made of the modules and the files besides the schema.
-use rn_files::Source;
+use rn_files::SourceFile;
 use rn_lift::{Lifted, LiftedModule};
 use rn_outline::PartKind;
 use std::alloc::{AllocError, Global};
 
 /// A line for each module: its name and the file that it comes from.
-pub fn list_text(alloc: Global, lifted: &Lifted, files: &[Source]) -> Result<String, AllocError> {
+pub fn list_text(
+    alloc: Global,
+    lifted: &Lifted,
+    files: &[SourceFile],
+) -> Result<String, AllocError> {
     let mut lines = String::new(alloc);
     for module in lifted.modules.as_slice() {
         lines.push_str(module.name.as_str())?;
@@ -17,7 +21,7 @@ pub fn list_text(alloc: Global, lifted: &Lifted, files: &[Source]) -> Result<Str
 }
 
 /// The file that a module comes from.
-fn file_of<'a>(module: &LiftedModule, files: &'a [Source]) -> &'a str {
+fn file_of<'a>(module: &LiftedModule, files: &'a [SourceFile]) -> &'a str {
     module
         .origin(0)
         .and_then(|origin| files.get(origin.0))
@@ -25,7 +29,7 @@ fn file_of<'a>(module: &LiftedModule, files: &'a [Source]) -> &'a str {
 }
 
 /// The files and what each includes, as a directed graph of Graphviz; what it refers to by `external` is dashed.
-pub fn graph_text(alloc: Global, files: &[Source]) -> Result<String, AllocError> {
+pub fn graph_text(alloc: Global, files: &[SourceFile]) -> Result<String, AllocError> {
     let mut text = String::from_str(alloc, "digraph schema {\n")?;
     for file in files {
         let name = file.name.as_str();
@@ -42,8 +46,8 @@ pub fn graph_text(alloc: Global, files: &[Source]) -> Result<String, AllocError>
 fn push_edges(
     alloc: Global,
     text: &mut String,
-    files: &[Source],
-    file: &Source,
+    files: &[SourceFile],
+    file: &SourceFile,
 ) -> Result<(), AllocError> {
     let name = file.name.as_str();
     let links = file.outline.links(alloc)?;

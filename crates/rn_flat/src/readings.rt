@@ -1,7 +1,7 @@
 // What is wrong with the files that are read.
-use crate::fault::FlatFault;
+use crate::flat_fault::FlatFault;
 use rn_files::{Asked, ReadFault, Reading};
-use rn_tell::{Colours, attempt_pages, is_unread, reading_told, shown};
+use rn_tell::{Colours, attempt_pages, is_unread, reading_told, told_lines};
 use std::alloc::{AllocError, Global};
 
 /// The fault of reading.
@@ -29,7 +29,7 @@ fn reading_lines(
 ) -> Result<FlatFault, AllocError> {
     let told = reading_told(alloc, asked.files, reading)?;
     let pages = attempt_pages(alloc, reading.files.as_slice())?;
-    let lines = shown(alloc, pages.as_slice(), &told, colours)?;
+    let lines = told_lines(alloc, pages.as_slice(), &told, colours)?;
     if reading.faults.iter().any(is_unread) {
         Ok(FlatFault::Unread(lines))
     } else {

@@ -98,7 +98,7 @@ impl From<AllocError> for WordsFault {
 /// input would be read twice.
 pub fn plan(alloc: Global, words: &[String]) -> Result<Words, WordsFault> {
     match program(alloc)?.try_get_matches_from(words) {
-        Ok(matches) => asked_for(alloc, &matches),
+        Ok(matches) => asked_words(alloc, &matches),
         Err(error) => match error.kind() {
             ErrorKind::OutOfMemory => Err(WordsFault::Memory),
             ErrorKind::DisplayHelp | ErrorKind::DisplayVersion => Ok(Words::Shown(format!(in alloc;
@@ -117,14 +117,14 @@ fn program<'a>(alloc: Global) -> Result<Command<'a>, AllocError> {
         .about(ABOUT)
         .after_help(AFTER)
         .arg(files(alloc))?
-        .arg(valued(
+        .arg(valued_option(
             alloc,
             "output",
             "FILE",
             "Write to FILE, whole or not at all",
         )
         .short('o'))?
-        .arg(valued(
+        .arg(valued_option(
             alloc,
             "check",
             "FILE",
@@ -143,7 +143,7 @@ fn program<'a>(alloc: Global) -> Result<Command<'a>, AllocError> {
             "Write what includes what, as a Graphviz text",
         ))?
         .arg(map_option(alloc))?
-        .arg(valued(
+        .arg(valued_option(
             alloc,
             "root",
             "FOLDER",
@@ -162,7 +162,7 @@ fn files<'a>(alloc: Global) -> Arg<'a> {
 }
 
 /// An option with a value, given once at most.
-fn valued<'a>(alloc: Global, name: &'a str, value: &'a str, help: &'a str) -> Arg<'a> {
+fn valued_option<'a>(alloc: Global, name: &'a str, value: &'a str, help: &'a str) -> Arg<'a> {
     Arg::new(alloc, name)
         .long(name)
         .value_name(value)
@@ -188,7 +188,7 @@ fn map_option<'a>(alloc: Global) -> Arg<'a> {
 }
 
 /// What the words ask for, which are understood one by one.
-fn asked_for(alloc: Global, words: &ArgMatches<'_>) -> Result<Words, WordsFault> {
+fn asked_words(alloc: Global, words: &ArgMatches<'_>) -> Result<Words, WordsFault> {
     let files = copies(alloc, words.get_strs("FILE").unwrap_or(&[]))?;
     let maps = maps(alloc, words.get_strs("map").unwrap_or(&[]))?;
     let task = asked_task(alloc, words)?;

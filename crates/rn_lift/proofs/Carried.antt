@@ -2,9 +2,9 @@
 use Rattle.std.proofs.Common.{ℕ, List, Option, Some, None}
 use Rattle.std.specs.Prelude.{unwrap_or, slice_get, string_bytes}
 use Rattle.std.proofs.lemmas.List.Elements.{All-weaker}
-use Rattle.rn_outline.specs.declared.parts.Part.{Part}
-use Rattle.rn_outline.specs.declared.parts.PartKind.{PartKind}
-use Rattle.rn_outline.specs.declared.parts.PartKind.TheVariants.{Define, Start, Reference, Parent, External, Include, Grammar}
+use Rattle.rn_outline.specs.declared.file_parts.Part.{Part}
+use Rattle.rn_outline.specs.declared.file_parts.PartKind.{PartKind}
+use Rattle.rn_outline.specs.declared.file_parts.PartKind.TheVariants.{Define, Start, Reference, Parent, External, Include, Grammar}
 use Rattle.rn_plan.specs.declared.given.Lifting.{Lifting}
 use Rattle.rn_lift.specs.Modules.{IsModuleOf}
 use Rattle.rn_lift.specs.StandIns.{IsEdit, IsIncluded, IsLifted, Modules, Scopes, StandsForKind}

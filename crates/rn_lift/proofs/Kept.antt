@@ -6,10 +6,10 @@ use Rattle.std.proofs.lemmas.Option.{slice_get_within, get_or_from_slice_get}
 use Rattle.std.proofs.lemmas.List.{take_all}
 use Rattle.std.proofs.lemmas.List.Elements.{All-weaker, All-from_recursion, All-get_or, All-head}
 use Rattle.rn_outline.specs.Links.{targets_of}
-use Rattle.rn_outline.specs.declared.parts.Part.{Part}
-use Rattle.rn_outline.specs.declared.parts.PartKind.{PartKind}
-use Rattle.rn_outline.specs.declared.parts.PartKind.TheVariants.{Define, Start, Reference, Parent, External, Include, Grammar}
-use Rattle.rn_plan.specs.declared.fault.LiftFault.{LiftFault}
+use Rattle.rn_outline.specs.declared.file_parts.Part.{Part}
+use Rattle.rn_outline.specs.declared.file_parts.PartKind.{PartKind}
+use Rattle.rn_outline.specs.declared.file_parts.PartKind.TheVariants.{Define, Start, Reference, Parent, External, Include, Grammar}
+use Rattle.rn_plan.specs.declared.lift_fault.LiftFault.{LiftFault}
 use Rattle.rn_plan.specs.declared.given.Lifting.{Lifting}
 use Rattle.rn_lift.specs.Edits.{edited}
 use Rattle.rn_lift.specs.Modules.{AreMadeOfFiles, HasModule, HasScope, IsKept, IsKeptKind, IsMadeOfFile, IsModuleOf, IsPlain, KeepsText}

@@ -7,10 +7,10 @@ use Rattle.std.proofs.lemmas.List.Elements.{All-weaker, All-contains, All-get_or
 use Rattle.std.proofs.lemmas.List.Sorted.{All-permutation, Contains-permutation}
 use Rattle.rn_outline.specs.Links.{targets_of}
 use Rattle.rn_plan.specs.Files.{HasTargets, files_of}
-use Rattle.rn_plan.specs.declared.fault.LiftFault.{LiftFault}
+use Rattle.rn_plan.specs.declared.lift_fault.LiftFault.{LiftFault}
 use Rattle.rn_plan.specs.declared.given.Given.{Given}
 use Rattle.rn_plan.specs.declared.given.Lifting.{Lifting}
-use Rattle.rn_plan.specs.declared.scopes.Place.{Place}
+use Rattle.rn_plan.specs.declared.scopes.PlacedUnit.{PlacedUnit}
 use Rattle.rn_plan.specs.declared.scopes.Plan.{Plan}
 use Rattle.rn_plan.specs.declared.scopes.Scope.{Scope}
 use Rattle.rn_plan.specs.declared.units.Unit.{Unit}
@@ -29,16 +29,16 @@ stems_of plan = map (λ s. string_bytes s.stem) plan.scopes.items
 some_none : (b : Basis) → Some b ≡ None → ⊥
 some_none b e = cc
 
-same_name : (p q : Place) (name : List ℕ) → p ≡ q → string_bytes q.module ≡ name → string_bytes p.module ≡ name
-same_name p q name e h = ap (λ (x : Place). string_bytes x.module) e ∙ h
+same_name : (p q : PlacedUnit) (name : List ℕ) → p ≡ q → string_bytes q.module ≡ name → string_bytes p.module ≡ name
+same_name p q name e h = ap (λ (x : PlacedUnit). string_bytes x.module) e ∙ h
 
-abbrev made_of : Unit → Place → Basis
+abbrev made_of : Unit → PlacedUnit → Basis
 made_of u p = record { file = u.file; grammar = u.grammar; scope = p.scope }
 
-same_basis : (u v : Unit) (p q : Place) (b : Basis) → u ≡ v → p ≡ q → made_of v q ≡ b → made_of u p ≡ b
+same_basis : (u v : Unit) (p q : PlacedUnit) (b : Basis) → u ≡ v → p ≡ q → made_of v q ≡ b → made_of u p ≡ b
 same_basis u v p q b e f h =
     let i : made_of u p ≡ made_of v p = ap (λ (x : Unit). made_of x p) e in
-    let j : made_of v p ≡ made_of v q = ap (λ (y : Place). made_of v y) f in
+    let j : made_of v p ≡ made_of v q = ap (λ (y : PlacedUnit). made_of v y) f in
     i ∙ j ∙ h
 
 same_place : (units : Units) (plan : Plan) (name : List ℕ) (b : Basis) (h : IsPlanned units plan name b) (m : LiftedModule) (w : IsMade units plan h.number m) → w.place ≡ h.place
@@ -46,7 +46,7 @@ same_place units plan name b h m w = cc (w.is_found.is_place, h.is_place)
 
 same_unit : (units : Units) (plan : Plan) (name : List ℕ) (b : Basis) (h : IsPlanned units plan name b) (m : LiftedModule) (w : IsMade units plan h.number m) → w.unit ≡ h.unit
 same_unit units plan name b h m w =
-    let f : slice_get units.units.items w.place.unit ≡ slice_get units.units.items h.place.unit = ap (λ (p : Place). slice_get units.units.items p.unit) (same_place units plan name b h m w) in
+    let f : slice_get units.units.items w.place.unit ≡ slice_get units.units.items h.place.unit = ap (λ (p : PlacedUnit). slice_get units.units.items p.unit) (same_place units plan name b h m w) in
     cc (w.is_found.is_unit, h.is_unit, f)
 
 made_name : (units : Units) (plan : Plan) (name : List ℕ) (b : Basis) (h : IsPlanned units plan name b) (m : LiftedModule) (w : IsMade units plan h.number m) → string_bytes m.name ≡ name

@@ -4,7 +4,7 @@ use Rattle.std.specs.Prelude.{slice_get, string_bytes}
 use Rattle.std.proofs.lemmas.Option.{slice_get_read}
 use Rattle.rn_text.specs.Literals.{literal_bytes}
 use Rattle.rn_plan.specs.Places.{module_of}
-use Rattle.rn_plan.specs.declared.scopes.Place.{Place}
+use Rattle.rn_plan.specs.declared.scopes.PlacedUnit.{PlacedUnit}
 use Rattle.rn_plan.specs.declared.scopes.Scope.{Scope}
 use Rattle.rn_lift.specs.Planned.{IsPlaceOf, IsPlanned, IsPlannedScope, IsScopeOf}
 use Rattle.rn_lift.specs.StandIns.{IsIncluded, IsLifted}
@@ -25,7 +25,7 @@ basis_at file g h s t e f =
     i ∙ j
 
 -- the module of a place is planned
-planned : (v : View) (scope : ℕ) (named : Option ℕ) (grammar : ℕ) (place : Place) → (p : IsPlaceOf v scope named grammar place) → IsPlanned v.units.now v.plan.now (string_bytes place.module) (record { file = p.unit.file; grammar = grammar; scope = scope })
+planned : (v : View) (scope : ℕ) (named : Option ℕ) (grammar : ℕ) (place : PlacedUnit) → (p : IsPlaceOf v scope named grammar place) → IsPlanned v.units.now v.plan.now (string_bytes place.module) (record { file = p.unit.file; grammar = grammar; scope = scope })
 planned v scope named grammar place p = record {
   number = p.number;
   place = place;
@@ -37,7 +37,7 @@ planned v scope named grammar place p = record {
 }
 
 -- the literal of its name stands for an include
-pub included : (v : View) (scope : ℕ) (named : Option ℕ) (place : Place) (text : List ℕ) → IsPlaceOf v scope named 0 place → text ≡ literal_bytes (string_bytes place.module) → IsIncluded (IsPlanned v.units.now v.plan.now) scope named text
+pub included : (v : View) (scope : ℕ) (named : Option ℕ) (place : PlacedUnit) (text : List ℕ) → IsPlaceOf v scope named 0 place → text ≡ literal_bytes (string_bytes place.module) → IsIncluded (IsPlanned v.units.now v.plan.now) scope named text
 included v scope named place text p e = record {
   file = p.unit.file;
   is_named = p.is_named;
@@ -58,7 +58,7 @@ lifted v named grammar scope text p e = record {
     scope = scope;
     is_scope = p.is_scope;
     is_stem = refl;
-    is_entry = ap (λ (o : Option Place). module_of o) p.is_entry;
+    is_entry = ap (λ (o : Option PlacedUnit). module_of o) p.is_entry;
     is_no_root = p.is_no_root;
   };
   is_module = planned v p.number named grammar p.place p.is_place;

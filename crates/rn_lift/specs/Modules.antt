@@ -2,10 +2,10 @@
 use Rattle.std.specs.Prelude.{◌≡◌, ◌≢◌, ℕ, ◌<◌, ◌⊎◌, false, ⊤, List, [], ◌++◌, All, Contains, Option, Some, None, codes, length, map, slice_get, slice_range, string_bytes}
 use Rattle.std.specs.List.{AllByRecursion, list_any}
 use Rattle.rn_outline.specs.Links.{targets_of}
-use Rattle.rn_outline.specs.declared.parts.Part.{Part}
-use Rattle.rn_outline.specs.declared.parts.PartKind.{PartKind}
-use Rattle.rn_outline.specs.declared.parts.PartKind.TheVariants.{Define, Start, Reference}
-use Rattle.rn_outline.specs.declared.parts.Span.{Span}
+use Rattle.rn_outline.specs.declared.file_parts.Part.{Part}
+use Rattle.rn_outline.specs.declared.file_parts.PartKind.{PartKind}
+use Rattle.rn_outline.specs.declared.file_parts.PartKind.TheVariants.{Define, Start, Reference}
+use Rattle.rn_outline.specs.declared.file_parts.Span.{Span}
 use Rattle.rn_plan.specs.declared.given.Lifting.{Lifting}
 use Rattle.rn_lift.specs.Edits.{AreInTurn, edited}
 use Rattle.rn_lift.specs.Lifts.{bringing}

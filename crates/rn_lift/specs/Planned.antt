@@ -3,13 +3,13 @@ use Rattle.std.specs.Prelude.{◌≡◌, ◌≢◌, ℕ, ◌⊎◌, List, All, C
 use Rattle.rn_plan.specs.Files.{target_of}
 use Rattle.rn_plan.specs.Places.{entry_of}
 use Rattle.rn_plan.specs.declared.given.Given.{Given}
-use Rattle.rn_plan.specs.declared.scopes.Place.{Place}
+use Rattle.rn_plan.specs.declared.scopes.PlacedUnit.{PlacedUnit}
 use Rattle.rn_plan.specs.declared.scopes.Plan.{Plan}
 use Rattle.rn_plan.specs.declared.scopes.Scope.{Scope}
 use Rattle.rn_plan.specs.declared.units.Unit.{Unit}
 use Rattle.rn_plan.specs.declared.units.Units.{Units}
-use Rattle.rn_outline.specs.declared.parts.Part.{Part}
-use Rattle.rn_outline.specs.declared.parts.PartKind.{PartKind}
+use Rattle.rn_outline.specs.declared.file_parts.Part.{Part}
+use Rattle.rn_outline.specs.declared.file_parts.PartKind.{PartKind}
 use Rattle.rn_lift.specs.Modules.{BringsIn, IsModuleOf}
 use Rattle.rn_lift.specs.StandIns.{IsEdit, Stays, StandsFor, StandsForKind}
 use Rattle.rn_lift.specs.declared.edits.Edit.{Edit}
@@ -20,7 +20,7 @@ use Rattle.rn_lift.specs.declared.writing.View.{View}
 -- there will be a module of this name, made of this
 pub record IsPlanned (units : Units) (plan : Plan) (name : List ℕ) (b : Basis) : Type 0 where
   pub number : ℕ
-  pub place : Place
+  pub place : PlacedUnit
   pub unit : Unit
   pub is_place : slice_get plan.places.items number ≡ Some place
   pub is_unit : slice_get units.units.items place.unit ≡ Some unit
@@ -36,7 +36,7 @@ pub record IsPlannedScope (plan : Plan) (number : ℕ) (stem name : List ℕ) : 
   pub is_no_root : number ≢ 0
 
 -- a place in this scope, of this grammar of this file
-pub record IsPlaceOf (v : View) (scope : ℕ) (named : Option ℕ) (grammar : ℕ) (place : Place) : Type 0 where
+pub record IsPlaceOf (v : View) (scope : ℕ) (named : Option ℕ) (grammar : ℕ) (place : PlacedUnit) : Type 0 where
   pub number : ℕ
   pub unit : Unit
   pub is_place : slice_get v.plan.now.places.items number ≡ Some place
@@ -48,7 +48,7 @@ pub record IsPlaceOf (v : View) (scope : ℕ) (named : Option ℕ) (grammar : �
 -- a scope of which the first place is of this grammar of this file
 pub record IsScopeOf (v : View) (named : Option ℕ) (grammar : ℕ) (scope : Scope) : Type 0 where
   pub number : ℕ
-  pub place : Place
+  pub place : PlacedUnit
   pub is_scope : slice_get v.plan.now.scopes.items number ≡ Some scope
   pub is_no_root : number ≢ 0
   pub is_entry : slice_get v.plan.now.places.items scope.entry ≡ Some place
@@ -84,14 +84,14 @@ abbrev pub IsModuleAt : View → List ℕ → Type 0
 IsModuleAt v text = IsModuleOf (IsPlanned v.units.now v.plan.now) (IsPlannedScope v.plan.now) (string_bytes v.plan.now.names.start) v.given.now.file v.given.now.targets.items v.basis text
 
 -- a place, and what it is of
-pub record IsFound (units : Units) (plan : Plan) (number : ℕ) (place : Place) (unit : Unit) (given : Given) : Type 0 where
+pub record IsFound (units : Units) (plan : Plan) (number : ℕ) (place : PlacedUnit) (unit : Unit) (given : Given) : Type 0 where
   pub is_place : slice_get plan.places.items number ≡ Some place
   pub is_unit : slice_get units.units.items place.unit ≡ Some unit
   pub is_given : slice_get units.files.items unit.file ≡ Some given
 
 -- the module of a place, as it is planned
 pub record IsMade (units : Units) (plan : Plan) (number : ℕ) (m : LiftedModule) : Type 0 where
-  pub place : Place
+  pub place : PlacedUnit
   pub unit : Unit
   pub given : Given
   pub is_found : IsFound units plan number place unit given

@@ -2,9 +2,9 @@
 use Rattle.std.specs.Prelude.{◌≡◌, ◌≢◌, ℕ, ◌<◌, ◌≤◌, ◌⊎◌, false, ⊤, List, [], ◌∷◌, ◌++◌, Option, Some, slice_get, string_bytes, unwrap_or, None}
 use Rattle.rn_text.specs.Literals.{literal_bytes}
 use Rattle.rn_outline.specs.Spans.{mark}
-use Rattle.rn_outline.specs.declared.parts.Part.{Part}
-use Rattle.rn_outline.specs.declared.parts.PartKind.{PartKind}
-use Rattle.rn_outline.specs.declared.parts.PartKind.TheVariants.{Define, Start, Reference, Parent, External, Include, Grammar}
+use Rattle.rn_outline.specs.declared.file_parts.Part.{Part}
+use Rattle.rn_outline.specs.declared.file_parts.PartKind.{PartKind}
+use Rattle.rn_outline.specs.declared.file_parts.PartKind.TheVariants.{Define, Start, Reference, Parent, External, Include, Grammar}
 use Rattle.rn_lift.specs.declared.edits.Edit.{Edit}
 use Rattle.rn_lift.specs.declared.lifted.Basis.{Basis}
 

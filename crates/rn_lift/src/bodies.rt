@@ -136,7 +136,7 @@ impl Cutter {
         if let Some(part) = self.part_at(parts, begin) {
             self.chunks.push(Chunk::Link(self.next))?;
             self.next = self.next.saturating_add(1);
-            return Ok(behind(tokens, at, part.at.to.saturating_sub(self.from)));
+            return Ok(token_behind(tokens, at, part.at.to.saturating_sub(self.from)));
         }
         self.push(alloc, token)?;
         Ok(at + 1)
@@ -184,7 +184,7 @@ impl Cutter {
 }
 
 /// The first token behind one that does not begin before a byte.
-fn behind(tokens: &[Token<'_>], at: usize, byte: usize) -> usize
+fn token_behind(tokens: &[Token<'_>], at: usize, byte: usize) -> usize
     requires { at < length tokens.now }
     ensures { Advanced at result (length tokens.now) }
 {

@@ -4,7 +4,7 @@ ghost use Rattle.rn_lift.specs.Modules.{OthersStay};
 ghost use Rattle.rn_lift.specs.Planned.{AddsEdit, IsEditOf, StaysAt};
 
 use crate::excepts::Spliced;
-use crate::writing::{View, unsound};
+use crate::writing::{View, unsound_fault};
 use rn_outline::Span;
 use rn_plan::{LiftFault, Unit};
 use std::alloc::Global;
@@ -88,7 +88,7 @@ fn edit_of(
 {
     let given = view.given;
     let outline = given.file.outline;
-    let part = outline.parts.get(number).ok_or(unsound())?;
+    let part = outline.parts.get(number).ok_or(unsound_fault())?;
     if part.grammar != view.basis.grammar {
         return Ok(None);
     }

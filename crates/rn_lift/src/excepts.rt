@@ -3,8 +3,8 @@ ghost use Rattle.std.specs.Prelude.{◌≡◌, false, [], IfOk, string_bytes};
 ghost use Rattle.std.specs.List.{list_any};
 
 use crate::bodies::{Bodies, Chunk};
-use crate::definitions::{Definition, Definitions, Key};
 use crate::prefixes::Prefixes;
+use crate::scope_definitions::{Definition, Definitions, ScopedName};
 use rn_outline::{Method, Outline, Part, PartKind};
 use rn_plan::{LiftFault, LiftFaultKind, Plan, Unit, Units};
 use std::alloc::{AllocError, Global};
@@ -37,7 +37,7 @@ impl Spliced {
     }
 
     /// What stands in the place of a part.
-    pub(crate) fn copied(&self, part: usize) -> Result<Option<String>, AllocError> {
+    pub(crate) fn copied_text(&self, part: usize) -> Result<Option<String>, AllocError> {
         match self.text(part) {
             Some(text) => Ok(Some(text.clone()?)),
             None => Ok(None),
@@ -64,7 +64,7 @@ enum Task {
         next: usize,
     },
     /// The end of what a key stands for.
-    Leave(Key),
+    Leave(ScopedName),
 }
 
 /// A reference in an except that is followed: where it is, and what was written for it so far.
@@ -75,7 +75,7 @@ struct Trail {
     text: String,
     tasks: Vec<Task>,
     /// What is being followed.
-    open: BTreeSet<Key>,
+    open: BTreeSet<ScopedName>,
 }
 
 impl Trail {
@@ -120,7 +120,7 @@ impl Excepts {
             if let Some(part) = units.part(unit, *number) {
                 if part.in_except {
                     let trail = new_trail(alloc, unit.file, part.at.from);
-                    let text = self.followed(
+                    let text = self.followed_text(
                         alloc,
                         units,
                         plan,
@@ -140,7 +140,7 @@ impl Excepts {
     }
 
     /// What a part in an except stands for.
-    fn followed(
+    fn followed_text(
         &mut self,
         alloc: Global,
         units: &Units<'_>,
@@ -233,7 +233,9 @@ impl Excepts {
         let Some(key) = key_of(alloc, units, plan, place, part)? else {
             return Err(trail.fault(LiftFaultKind::ExceptReference));
         };
-        let standing = self.definitions.standing(alloc, units, plan, &key)?;
+        let standing = self
+            .definitions
+            .standing_definitions(alloc, units, plan, &key)?;
         if standing.is_empty() {
             return Err(trail.fault(LiftFaultKind::Undefined));
         }
@@ -302,7 +304,7 @@ fn key_of(
     plan: &Plan,
     place: usize,
     part: usize,
-) -> Result<Option<Key>, AllocError> {
+) -> Result<Option<ScopedName>, AllocError> {
     let Some(found) = part_at(units, plan, place, part) else {
         return Ok(None);
     };
@@ -310,7 +312,7 @@ fn key_of(
         return Ok(None);
     };
     let name = units.name_meant(file_of(units, plan, place), &found.kind);
-    Ok(Some(Key::new(alloc, scope, name)?))
+    Ok(Some(ScopedName::new(alloc, scope, name)?))
 }
 
 /// Whether an except may hold the combination of definitions.

@@ -3,13 +3,13 @@
 #![tactic(auto)]
 
 mod bodies;
-mod definitions;
 mod draft;
 mod edits;
 mod excepts;
 pub mod lifted;
 pub mod lifting;
 mod prefixes;
+mod scope_definitions;
 mod writing;
 
 pub use lifted::{Basis, Lifted, LiftedModule, Piece};

@@ -81,7 +81,8 @@ impl LiftedModule {
     /// was made for. The end of the text has an origin too.
     pub fn origin(&self, at: usize) -> Option<(usize, usize)>
         ensures some { IfSome result (IsOrigin self.now.pieces.items at) }
-        ensures none { IfNone result ((string_len self.now.text < at) ⊎ HasNoOrigin self.now.pieces.items at) }
+        ensures none { IfNone result ((string_len self.now.text < at)
+            ⊎ HasNoOrigin self.now.pieces.items at) }
     {
         if at > self.text.len() {
             return None;
@@ -94,7 +95,7 @@ impl LiftedModule {
 impl Lifted {
     /// What the files call what has this name in the modules: without what stands before its first dot and the dot, if it is a
     /// name of its own; `start` for the start of a grammar of its own. Any other name as it is.
-    pub fn written<'a>(&self, name: &'a str) -> &'a str {
+    pub fn written_name<'a>(&self, name: &'a str) -> &'a str {
         let Some((stem, rest)) = name.split_once('.') else {
             return name;
         };

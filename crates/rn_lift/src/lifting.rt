@@ -16,7 +16,7 @@ use std::alloc::{AllocError, Global};
 use std::cmp::Ordering;
 
 /// The module that brings in a scope: it hands the namespace to the first module.
-fn bringing(alloc: Global, plan: &Plan, scope: &Scope) -> Result<LiftedModule, AllocError>
+fn bringing_module(alloc: Global, plan: &Plan, scope: &Scope) -> Result<LiftedModule, AllocError>
     ensures { IfOk result (BringsIn (entry_of plan.now scope.now)) }
 {
     let mut pieces = Vec::new(alloc);
@@ -79,7 +79,7 @@ fn scopes_brought(plan: &Plan) -> &[Scope]
 }
 
 /// Adds the modules that bring in scopes.
-fn add_bringing(
+fn add_bringing_modules(
     alloc: Global,
     plan: &Plan,
     modules: &mut Vec<LiftedModule>,
@@ -92,7 +92,7 @@ fn add_bringing(
         (drop 1 plan.now.scopes.items)) }
 {
     for scope in scopes_brought(plan) {
-        let module = bringing(alloc, plan, scope)?;
+        let module = bringing_module(alloc, plan, scope)?;
         modules.push(module)?;
     }
     Ok(())
@@ -114,12 +114,12 @@ pub fn lift(alloc: Global, files: &[Lifting<'_>], roots: &[usize]) -> Result<Lif
     let units = Units::of(alloc, files)?;
     let plan = make_plan(alloc, &units, roots)?;
     let mut modules = place_modules(alloc, &units, &plan)?;
-    add_bringing(alloc, &plan, &mut modules)?;
-    finished(plan, modules)
+    add_bringing_modules(alloc, &plan, &mut modules)?;
+    finish(plan, modules)
 }
 
 /// The modules in the order of their names.
-fn finished(plan: Plan, mut modules: Vec<LiftedModule>) -> Result<Lifted, LiftFault>
+fn finish(plan: Plan, mut modules: Vec<LiftedModule>) -> Result<Lifted, LiftFault>
     ensures order { IfOk result (λ l. AreRising l.modules.items) }
     ensures same { IfOk result (λ l. IsPermutation modules.items l.modules.items) }
     ensures stems { IfOk result (λ l. l.stems ≡ plan.names.own) }

@@ -69,7 +69,7 @@ impl Prefixes {
             self.taken.take(alloc, "xsd")?;
             take_used(alloc, here.file.text, &mut self.taken)?;
         }
-        let made = self.taken.fresh(alloc, prefix)?;
+        let made = self.taken.fresh_name(alloc, prefix)?;
         self.declarations.push_str("datatypes ")?;
         self.declarations.push_str(made.as_str())?;
         self.declarations.push_str(" = ")?;

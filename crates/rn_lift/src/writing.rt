@@ -12,7 +12,9 @@ use crate::edits::edits_of;
 use crate::excepts::{Excepts, Spliced};
 use crate::lifted::{Basis, LiftedModule};
 use rn_outline::{Part, PartKind, Span, name_in};
-use rn_plan::{Given, LiftFault, LiftFaultKind, Place, Plan, ROOT, Scope, Unit, Units, own_name};
+use rn_plan::{
+    Given, LiftFault, LiftFaultKind, PlacedUnit, Plan, ROOT, Scope, Unit, Units, own_name,
+};
 use rn_text::write_literal;
 use std::alloc::{AllocError, Global};
 
@@ -29,7 +31,7 @@ pub(crate) struct View<'u, 'a> {
 }
 
 /// What was planned does not fit the files.
-pub(crate) fn unsound() -> LiftFault {
+pub(crate) fn unsound_fault() -> LiftFault {
     LiftFault {
         file: 0,
         at: 0,
@@ -48,7 +50,7 @@ pub(crate) fn module_at(
     ensures { IfOk result (IsMade units.now plan.now number) }
 {
     let Some(found) = found_at(units, plan, number) else {
-        return Err(unsound());
+        return Err(unsound_fault());
     };
     let Found { place, unit, given } = found;
     let spliced = excepts.splice(alloc, units, plan, number, unit, given.file.outline)?;
@@ -64,7 +66,7 @@ pub(crate) fn module_at(
         number,
         basis,
     };
-    let draft = written(alloc, &view, unit, &spliced)?;
+    let draft = draft_of(alloc, &view, unit, &spliced)?;
     let name = place.module.clone()?;
     Ok(draft.finish(name, basis))
 }
@@ -72,7 +74,7 @@ pub(crate) fn module_at(
 /// What a place is of.
 #[derive(Clone, Copy)]
 struct Found<'u, 'a> {
-    place: &'u Place,
+    place: &'u PlacedUnit,
     unit: &'u Unit,
     given: &'u Given<'a>,
 }
@@ -89,7 +91,7 @@ fn found_at<'u, 'a>(units: &'u Units<'a>, plan: &'u Plan, number: usize) -> Opti
 }
 
 /// The text of a place.
-fn written<'a>(
+fn draft_of<'a>(
     alloc: Global,
     view: &View<'_, 'a>,
     unit: &Unit,
@@ -182,9 +184,9 @@ impl<'u, 'a> View<'u, 'a> {
         if !part.in_except {
             return self.stand_in(alloc, number, &part.kind);
         }
-        match spliced.copied(number)? {
+        match spliced.copied_text(number)? {
             Some(text) => Ok(Some(text)),
-            None => Err(unsound()),
+            None => Err(unsound_fault()),
         }
     }
 
@@ -211,12 +213,14 @@ impl<'u, 'a> View<'u, 'a> {
             PartKind::Parent { name } => self.parent(alloc, *name),
             PartKind::Include { .. } => Ok(Some(self.include(alloc, number)?)),
             PartKind::External { .. } => {
-                Ok(Some(self.lifted(alloc, number, given.target(number), 0)?))
+                Ok(Some(self.lifted_reference(alloc, number, given.target(number), 0)?))
             }
             PartKind::Grammar {
                 number: grammar,
                 ..
-            } => { Ok(Some(self.lifted(alloc, number, Some(self.basis.file), *grammar)?)) }
+            } => {
+                Ok(Some(self.lifted_reference(alloc, number, Some(self.basis.file), *grammar)?))
+            }
         }
     }
 
@@ -272,8 +276,8 @@ impl<'u, 'a> View<'u, 'a> {
         ensures { IfOk result (λ text. IsIncluded (IsPlanned self.now.units.now self.now.plan.now)
             self.now.basis.scope (target_of self.now.given.now part) (string_bytes text)) }
     {
-        let Some(place) = self.included(part) else {
-            return Err(unsound());
+        let Some(place) = self.included_place(part) else {
+            return Err(unsound_fault());
         };
         let module = place.module.as_str();
         let literal = literal_of(alloc, module)?;
@@ -282,7 +286,7 @@ impl<'u, 'a> View<'u, 'a> {
 
     /// The place that an include leads to, if it is one of the file that the include names, in the
     /// same scope.
-    fn included(&self, part: usize) -> Option<&'u Place>
+    fn included_place(&self, part: usize) -> Option<&'u PlacedUnit>
         ensures { IfSome result (λ place. IsPlaceOf self.now self.now.basis.scope
             (target_of self.now.given.now part) 0 place.now) }
     {
@@ -302,7 +306,7 @@ impl<'u, 'a> View<'u, 'a> {
 
     /// The reference that stands for an external or a nested grammar, of this file and this grammar:
     /// to the start of the scope that it leads to.
-    fn lifted(
+    fn lifted_reference(
         &self,
         alloc: Global,
         part: usize,
@@ -314,8 +318,8 @@ impl<'u, 'a> View<'u, 'a> {
             file grammar (string_bytes text)) }
     {
         let plan = self.plan;
-        let Some(scope) = self.brought(part, file, grammar) else {
-            return Err(unsound());
+        let Some(scope) = self.brought_scope(part, file, grammar) else {
+            return Err(unsound_fault());
         };
         let stem = scope.stem.as_str();
         let start = plan.names.start.as_str();
@@ -325,7 +329,7 @@ impl<'u, 'a> View<'u, 'a> {
 
     /// The scope that an external or a nested grammar leads to, if its first place is one of this file
     /// and this grammar.
-    fn brought(&self, part: usize, file: Option<usize>, grammar: usize) -> Option<&'u Scope>
+    fn brought_scope(&self, part: usize, file: Option<usize>, grammar: usize) -> Option<&'u Scope>
         ensures { IfSome result (λ scope. IsScopeOf self.now file grammar scope.now) }
     {
         let plan = self.plan;

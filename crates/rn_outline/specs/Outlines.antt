@@ -1,7 +1,7 @@
 -- Outlines of texts.
 use Rattle.std.specs.Prelude.{ℕ}
 use Rattle.rn_outline.specs.Spans.{AreApart, AreInOrder}
-use Rattle.rn_outline.specs.declared.parts.Outline.{Outline}
+use Rattle.rn_outline.specs.declared.file_parts.Outline.{Outline}
 
 -- the parts stand in order within so many bytes, and their marks one behind another
 pub record IsOutline (length : ℕ) (o : Outline) : Type 0 where

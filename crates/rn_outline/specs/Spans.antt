@@ -1,9 +1,9 @@
 -- Where the parts of a file stand in its text.
 use Rattle.std.specs.Prelude.{ℕ, ◌≤◌, List, [], ◌∷◌, ⊤}
-use Rattle.rn_outline.specs.declared.parts.Part.{Part}
-use Rattle.rn_outline.specs.declared.parts.Span.{Span}
-use Rattle.rn_outline.specs.declared.parts.PartKind.{PartKind}
-use Rattle.rn_outline.specs.declared.parts.PartKind.TheVariants.{Define, Start, Include, Grammar}
+use Rattle.rn_outline.specs.declared.file_parts.Part.{Part}
+use Rattle.rn_outline.specs.declared.file_parts.Span.{Span}
+use Rattle.rn_outline.specs.declared.file_parts.PartKind.{PartKind}
+use Rattle.rn_outline.specs.declared.file_parts.PartKind.TheVariants.{Define, Start, Include, Grammar}
 
 -- each part lies within so many bytes, and begins at this one or later, no earlier than the one before it
 abbrev pub AreInOrder : ℕ → ℕ → List Part → Type 0

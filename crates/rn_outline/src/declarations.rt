@@ -2,8 +2,8 @@
 ghost use Rattle.std.specs.Prelude.{◌<◌, ◌≤◌, length, IfOk, IfSome};
 ghost use Rattle.rn_outline.specs.Cursor.{Advanced, Passed};
 
-use crate::fault::Stop;
-use crate::parts::{Declaration, DeclarationKind, Span, Uri};
+use crate::file_parts::{Declaration, DeclarationKind, Span, Uri};
+use crate::outline_fault::Stop;
 use crate::signs::{Sign, Word, sign_at, span};
 use crate::skips::{literal_at, plain_assign, word};
 use rn_text::Token;

@@ -2,8 +2,8 @@
 ghost use Rattle.std.specs.Prelude.{◌<◌, ◌≤◌, ◌+◌, length, IfOk};
 ghost use Rattle.rn_outline.specs.Cursor.{Advanced};
 
-use crate::fault::Stop;
-use crate::parts::{Method, PartKind};
+use crate::file_parts::{Method, PartKind};
+use crate::outline_fault::Stop;
 use crate::reader::{Frame, Mode, Reader};
 use crate::signs::{Sign, Word, end, sign_at, span};
 use crate::skips::{annotation, inherit, left_brace, literal_at};
@@ -17,7 +17,7 @@ pub(crate) fn item(reader: &mut Reader, tokens: &[Token<'_>], at: usize) -> Resu
     match sign_at(tokens, at) {
         Sign::LeftBracket => annotation(tokens, at),
         Sign::Prefixed => annotation(tokens, at + 1),
-        Sign::Ident => named(reader, tokens, at),
+        Sign::Ident => named_item(reader, tokens, at),
         Sign::Word(Word::Start) => start(reader, tokens, at),
         Sign::Word(Word::Div) => {
             let inside = left_brace(tokens, at + 1)?;
@@ -34,7 +34,7 @@ pub(crate) fn item(reader: &mut Reader, tokens: &[Token<'_>], at: usize) -> Resu
 }
 
 /// A definition, or an annotation element.
-fn named(reader: &mut Reader, tokens: &[Token<'_>], at: usize) -> Result<usize, Stop>
+fn named_item(reader: &mut Reader, tokens: &[Token<'_>], at: usize) -> Result<usize, Stop>
     requires { at < length tokens.now }
     ensures { IfOk result (λ r. Advanced at r (length tokens.now)) }
 {

@@ -4,20 +4,20 @@
 #![tactic(auto)]
 
 mod declarations;
-pub mod fault;
+pub mod file_parts;
 mod items;
 pub mod notes;
 mod operands;
 pub mod outline;
-pub mod parts;
+pub mod outline_fault;
 mod reader;
 mod signs;
 mod skips;
 
-pub use fault::OutlineFault;
-pub use notes::note_end;
-pub use outline::read_outline;
-pub use parts::{
+pub use file_parts::{
     Declaration, DeclarationKind, Method, Outline, Part, PartKind, Shape, Span, Uri, is_link,
     name_in,
 };
+pub use notes::note_end;
+pub use outline::read_outline;
+pub use outline_fault::OutlineFault;

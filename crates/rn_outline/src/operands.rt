@@ -2,9 +2,9 @@
 ghost use Rattle.std.specs.Prelude.{◌≡◌, ◌<◌, ◌≤◌, length, IfOk};
 ghost use Rattle.rn_outline.specs.Cursor.{Advanced, Passed};
 
-use crate::fault::Stop;
+use crate::file_parts::{PartKind, Span};
 use crate::items::next_item;
-use crate::parts::{PartKind, Span};
+use crate::outline_fault::Stop;
 use crate::reader::{Frame, Mode, Reader};
 use crate::signs::{Sign, Word, end, sign_at, span};
 use crate::skips::{
@@ -174,7 +174,11 @@ fn grammar(reader: &mut Reader, tokens: &[Token<'_>], at: usize) -> Result<usize
 }
 
 /// Reads what stands behind an operand.
-pub(crate) fn behind(reader: &mut Reader, tokens: &[Token<'_>], at: usize) -> Result<usize, Stop>
+pub(crate) fn behind_operand(
+    reader: &mut Reader,
+    tokens: &[Token<'_>],
+    at: usize,
+) -> Result<usize, Stop>
     requires { at ≤ length tokens.now }
     ensures { IfOk result (λ r. Advanced at r (length tokens.now)) }
 {
@@ -193,12 +197,12 @@ pub(crate) fn behind(reader: &mut Reader, tokens: &[Token<'_>], at: usize) -> Re
             reader.mode = Mode::Operand;
             Ok(at + 1)
         }
-        _ => closing(reader, tokens, at),
+        _ => pattern_end(reader, tokens, at),
     }
 }
 
 /// Reads the end of a pattern.
-fn closing(reader: &mut Reader, tokens: &[Token<'_>], at: usize) -> Result<usize, Stop>
+fn pattern_end(reader: &mut Reader, tokens: &[Token<'_>], at: usize) -> Result<usize, Stop>
     requires { at ≤ length tokens.now }
     ensures { IfOk result (λ r. Advanced at r (length tokens.now)) }
 {

@@ -5,10 +5,10 @@ ghost use Rattle.rn_outline.specs.Outlines.{IsOutline};
 ghost use Rattle.rn_outline.specs.Spans.{AreApart, AreInOrder};
 
 use crate::declarations::declarations;
-use crate::fault::{OutlineFault, Stop};
+use crate::file_parts::{Method, Outline, Part, PartKind, Shape, Span};
 use crate::items::item;
-use crate::operands::{behind, operand};
-use crate::parts::{Method, Outline, Part, PartKind, Shape, Span};
+use crate::operands::{behind_operand, operand};
+use crate::outline_fault::{OutlineFault, Stop};
 use crate::reader::{Frame, Mode, Reader};
 use crate::signs::{Sign, Word, begin, end, sign_at, span};
 use crate::skips::{annotation, follow, left_brace, word};
@@ -19,7 +19,7 @@ use std::alloc::Global;
 const DEEPEST: usize = 256;
 
 /// The place of the first bracket that is one too many.
-fn too_deep(tokens: &[Token<'_>]) -> Option<usize> {
+fn bracket_too_deep(tokens: &[Token<'_>]) -> Option<usize> {
     let mut depth: usize = 0;
     for (number, token) in tokens.iter().enumerate() {
         match sign_at(tokens, number) {
@@ -139,7 +139,7 @@ fn step(reader: &mut Reader, tokens: &[Token<'_>], at: usize) -> Result<usize, S
     match reader.mode {
         Mode::Item => item(reader, tokens, at),
         Mode::Operand | Mode::Excepted => operand(reader, tokens, at),
-        Mode::Behind => behind(reader, tokens, at),
+        Mode::Behind => behind_operand(reader, tokens, at),
         Mode::Closed => match sign_at(tokens, at) {
             Sign::Follow => follow(tokens, at + 1),
             _ => Err(Stop::Stuck(at)),
@@ -227,7 +227,7 @@ fn are_apart(parts: &[Part]) -> bool
 }
 
 /// An outline whose parts stand in order, within so many bytes.
-fn in_order(outline: Outline, len: usize) -> Option<Outline>
+fn ordered_outline(outline: Outline, len: usize) -> Option<Outline>
     ensures { IfSome result (λ o. IsOutline len o) }
 {
     let parts = outline.parts.as_slice();
@@ -266,7 +266,7 @@ fn read(alloc: Global, text: &str, tokens: &[Token<'_>]) -> Result<Outline, Stop
         parts,
         grammars,
     };
-    in_order(outline, to).ok_or(Stop::Stuck(tokens.len()))
+    ordered_outline(outline, to).ok_or(Stop::Stuck(tokens.len()))
 }
 
 /// The outline of a text with these tokens (RELAX NG Compact Syntax, 2): grammars, and patterns as files, with all that the
@@ -282,7 +282,7 @@ pub fn read_outline(
 ) -> Result<Outline, OutlineFault>
     ensures { IfOk result (λ o. IsOutline (length text.now) o) }
 {
-    if let Some(at) = too_deep(tokens) {
+    if let Some(at) = bracket_too_deep(tokens) {
         return Err(OutlineFault::Deep { at });
     }
     match read(alloc, text, tokens) {

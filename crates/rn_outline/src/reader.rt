@@ -1,7 +1,7 @@
 // The reader of a file's parts: what is open, and what may come.
 
-use crate::fault::Stop;
-use crate::parts::{Part, PartKind, Span};
+use crate::file_parts::{Part, PartKind, Span};
+use crate::outline_fault::Stop;
 use std::alloc::Global;
 
 /// What may come next.

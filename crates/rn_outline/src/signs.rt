@@ -2,8 +2,8 @@
 ghost use Rattle.std.specs.Prelude.{length};
 ghost use Rattle.rn_outline.specs.Cursor.{IsInside};
 
-use crate::parts::{Method, Span};
-use rn_text::{Kind, Token};
+use crate::file_parts::{Method, Span};
+use rn_text::{Keyword, Kind, Token, keyword_of};
 
 /// A keyword, by what follows it.
 #[derive(Clone, Copy)]
@@ -59,26 +59,32 @@ pub(crate) enum Sign {
     End,
 }
 
+/// The kind of the keyword that the text spells.
 fn keyword(text: &str) -> Sign {
-    let word = match text {
-        "element" | "attribute" => Word::Named,
-        "list" | "mixed" => Word::Braced,
-        "empty" | "text" => Word::Plain,
-        "notAllowed" => Word::NotAllowed,
-        "string" | "token" => Word::Datatype,
-        "datatypes" => Word::Datatypes,
-        "default" => Word::Default,
-        "div" => Word::Div,
-        "external" => Word::External,
-        "grammar" => Word::Grammar,
-        "include" => Word::Include,
-        "inherit" => Word::Inherit,
-        "namespace" => Word::Namespace,
-        "parent" => Word::Parent,
-        "start" => Word::Start,
-        _ => return Sign::Other,
-    };
-    Sign::Word(word)
+    match keyword_of(text) {
+        Some(keyword) => Sign::Word(word_of(keyword)),
+        None => Sign::Other,
+    }
+}
+
+fn word_of(keyword: Keyword) -> Word {
+    match keyword {
+        Keyword::Element | Keyword::Attribute => Word::Named,
+        Keyword::List | Keyword::Mixed => Word::Braced,
+        Keyword::Empty | Keyword::Text => Word::Plain,
+        Keyword::NotAllowed => Word::NotAllowed,
+        Keyword::String | Keyword::Token => Word::Datatype,
+        Keyword::Datatypes => Word::Datatypes,
+        Keyword::Default => Word::Default,
+        Keyword::Div => Word::Div,
+        Keyword::External => Word::External,
+        Keyword::Grammar => Word::Grammar,
+        Keyword::Include => Word::Include,
+        Keyword::Inherit => Word::Inherit,
+        Keyword::Namespace => Word::Namespace,
+        Keyword::Parent => Word::Parent,
+        Keyword::Start => Word::Start,
+    }
 }
 
 fn symbol(text: &str) -> Sign {

@@ -2,14 +2,14 @@
 ghost use Rattle.std.specs.Prelude.{◌<◌, ◌≤◌, length, IfOk, IsTrue};
 ghost use Rattle.rn_outline.specs.Cursor.{Advanced, Passed};
 
-use crate::fault::Stop;
-use crate::parts::{Method, Span};
+use crate::file_parts::{Method, Span};
+use crate::outline_fault::Stop;
 use crate::signs::{Sign, Word, sign_at, span};
 use rn_text::{Kind, Token, literal};
 use std::alloc::Global;
 
 /// What stands behind a `[`, up to its `]`.
-fn closed(tokens: &[Token<'_>], mut at: usize) -> Result<usize, Stop>
+fn closed_brackets(tokens: &[Token<'_>], mut at: usize) -> Result<usize, Stop>
     requires { at ≤ length tokens.now }
     ensures { IfOk result (λ r. Advanced at r (length tokens.now)) }
 {
@@ -40,7 +40,7 @@ pub(crate) fn annotation(tokens: &[Token<'_>], at: usize) -> Result<usize, Stop>
     ensures { IfOk result (λ r. Advanced at r (length tokens.now)) }
 {
     match sign_at(tokens, at) {
-        Sign::LeftBracket => closed(tokens, at + 1),
+        Sign::LeftBracket => closed_brackets(tokens, at + 1),
         _ => Err(Stop::Stuck(at)),
     }
 }
@@ -51,7 +51,7 @@ pub(crate) fn skip_annotation(tokens: &[Token<'_>], at: usize) -> Result<usize, 
     ensures { IfOk result (λ r. Passed at r (length tokens.now)) }
 {
     match sign_at(tokens, at) {
-        Sign::LeftBracket => closed(tokens, at + 1),
+        Sign::LeftBracket => closed_brackets(tokens, at + 1),
         _ => Ok(at),
     }
 }
@@ -76,7 +76,7 @@ pub(crate) fn name_class(tokens: &[Token<'_>], mut at: usize) -> Result<usize, S
     let mut is_read = false;
     'class: loop {
         match sign_at(tokens, at) {
-            Sign::LeftBracket if !is_read => at = closed(tokens, at + 1)?,
+            Sign::LeftBracket if !is_read => at = closed_brackets(tokens, at + 1)?,
             Sign::LeftParen if !is_read => {
                 at += 1;
                 depth += 1;
@@ -218,7 +218,7 @@ pub(crate) fn inherit(tokens: &[Token<'_>], at: usize) -> Result<(Option<Span>, 
 }
 
 /// The text of the literal that these tokens are.
-fn joined(alloc: Global, tokens: &[Token<'_>]) -> Result<String, Stop> {
+fn joined_segments(alloc: Global, tokens: &[Token<'_>]) -> Result<String, Stop> {
     let mut text = String::new(alloc);
     for token in tokens {
         if token.kind == Kind::Segment {
@@ -239,6 +239,6 @@ pub(crate) fn literal_at(
     ensures { IfOk result (λ r. Advanced at r.2 (length tokens.now)) }
 {
     let end = segments(tokens, at)?;
-    let text = joined(alloc, &tokens[at..end])?;
+    let text = joined_segments(alloc, &tokens[at..end])?;
     Ok((text, span(tokens, at, end), end))
 }

@@ -3,10 +3,10 @@ use Rattle.std.specs.Prelude.{◌≡◌, ◌≢◌, ℕ, ◌==◌, false, if◌t
 use Rattle.std.specs.List.{AllByRecursion}
 use Rattle.std.specs.BTreeSet.{BTreeSet, contains_text}
 use Rattle.std.specs.declared.alloc.Global.{Global}
-use Rattle.rn_outline.specs.declared.parts.Part.{Part}
-use Rattle.rn_outline.specs.declared.parts.PartKind.{PartKind}
-use Rattle.rn_outline.specs.declared.parts.PartKind.TheVariants.{Define, Reference, Parent}
-use Rattle.rn_outline.specs.declared.parts.Span.{Span}
+use Rattle.rn_outline.specs.declared.file_parts.Part.{Part}
+use Rattle.rn_outline.specs.declared.file_parts.PartKind.{PartKind}
+use Rattle.rn_outline.specs.declared.file_parts.PartKind.TheVariants.{Define, Reference, Parent}
+use Rattle.rn_outline.specs.declared.file_parts.Span.{Span}
 use Rattle.rn_plan.specs.declared.given.Lifting.{Lifting}
 
 -- a name without the backslash of a quoted one

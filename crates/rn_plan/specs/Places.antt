@@ -1,11 +1,11 @@
 -- Places of a plan.
 use Rattle.std.specs.Prelude.{ℕ, List, [], Option, Some, None, slice_get, string_bytes}
-use Rattle.rn_plan.specs.declared.scopes.Place.{Place}
+use Rattle.rn_plan.specs.declared.scopes.PlacedUnit.{PlacedUnit}
 use Rattle.rn_plan.specs.declared.scopes.Plan.{Plan}
 use Rattle.rn_plan.specs.declared.scopes.Scope.{Scope}
 
 -- the name of the module of a place, if there is one
-abbrev pub module_of : Option Place → List ℕ
+abbrev pub module_of : Option PlacedUnit → List ℕ
 module_of (Some place) = string_bytes place.module
 module_of None = []
 

@@ -1,14 +1,9 @@
 // What the declarations of a file bind (compact syntax, section 2, decl).
 
 use rn_outline::{Declaration, DeclarationKind, Outline, Span, Uri, name_in};
+use rn_syntax::{XML_URI, XSD_URI};
 use std::alloc::{AllocError, Global};
 use std::collections::BTreeMap;
-
-/// The namespace of the prefix `xml`, which is always bound.
-const XML: &str = "http://www.w3.org/XML/1998/namespace";
-
-/// The datatype library of the prefix `xsd`, which is bound where no declaration binds it otherwise.
-const XSD: &str = "http://www.w3.org/2001/XMLSchema-datatypes";
 
 /// Prefixes, each with the number of its first declaration.
 #[derive(Drop)]
@@ -75,7 +70,7 @@ impl Bound {
     /// The default namespace of the file.
     pub(crate) fn default_namespace<'a>(&self, outline: &'a Outline) -> Namespace<'a> {
         match self.default {
-            Some(number) => declared(outline, number).unwrap_or(Namespace::Inherited),
+            Some(number) => declared_namespace(outline, number).unwrap_or(Namespace::Inherited),
             None => Namespace::Inherited,
         }
     }
@@ -87,8 +82,8 @@ impl Bound {
         prefix: &str,
     ) -> Option<Namespace<'a>> {
         match self.namespaces.get(prefix) {
-            Some(number) => declared(outline, *number),
-            None if prefix == "xml" => Some(Namespace::Literal(XML)),
+            Some(number) => declared_namespace(outline, *number),
+            None if prefix == "xml" => Some(Namespace::Literal(XML_URI)),
             None => None,
         }
     }
@@ -96,18 +91,18 @@ impl Bound {
     /// The datatype library of a prefix.
     pub(crate) fn library<'a>(&self, outline: &'a Outline, prefix: &str) -> Option<&'a str> {
         match self.libraries.get(prefix) {
-            Some(number) => match declared(outline, *number)? {
+            Some(number) => match declared_namespace(outline, *number)? {
                 Namespace::Literal(uri) => Some(uri),
                 Namespace::Inherited => None,
             },
-            None if prefix == "xsd" => Some(XSD),
+            None if prefix == "xsd" => Some(XSD_URI),
             None => None,
         }
     }
 }
 
 /// What the declaration of this number binds to.
-fn declared(outline: &Outline, number: usize) -> Option<Namespace<'_>> {
+fn declared_namespace(outline: &Outline, number: usize) -> Option<Namespace<'_>> {
     match &outline.declarations.get(number)?.uri {
         Uri::Literal(uri) => Some(Namespace::Literal(uri.as_str())),
         Uri::Inherited => Some(Namespace::Inherited),

@@ -4,19 +4,19 @@
 #![tactic(auto)]
 
 mod bound;
-pub mod fault;
+mod free_names;
 pub mod given;
-pub mod names;
+pub mod lift_fault;
 mod namespaces;
+pub mod own_names;
 pub mod plan;
-mod roots;
+mod root_includes;
 pub mod scopes;
-mod soundness;
 pub mod units;
 
-pub use fault::{LiftFault, LiftFaultKind};
 pub use given::{Given, Lifting};
-pub use names::{Names, Taken, own_name};
+pub use lift_fault::{LiftFault, LiftFaultKind};
+pub use own_names::{Names, Taken, own_name};
 pub use plan::make_plan;
-pub use scopes::{Link, Place, Plan, ROOT, Scope};
+pub use scopes::{Link, PlacedUnit, Plan, ROOT, Scope};
 pub use units::{Unit, Units};

@@ -43,7 +43,7 @@ impl Namespaces {
     }
 
     /// The number of what a file's declaration says, where this is handed to the file.
-    fn resolved(
+    fn resolve(
         &mut self,
         alloc: Global,
         namespace: Namespace<'_>,
@@ -57,7 +57,7 @@ impl Namespaces {
 
     /// The namespace that an external or an include of a file hands on (RELAX NG 2001, 4.8), where this one is handed to the
     /// file: that of the prefix behind `inherit =`, or the default one. `None` where nothing binds the prefix.
-    pub(crate) fn handed_on(
+    pub(crate) fn handed_namespace(
         &mut self,
         alloc: Global,
         given: &Given<'_>,
@@ -72,7 +72,7 @@ impl Namespaces {
                 .namespace(outline, name_in(given.file.text, prefix)),
         };
         match namespace {
-            Some(namespace) => Ok(Some(self.resolved(alloc, namespace, handed)?)),
+            Some(namespace) => Ok(Some(self.resolve(alloc, namespace, handed)?)),
             None => Ok(None),
         }
     }

@@ -3,12 +3,12 @@ ghost use Rattle.std.specs.Prelude.{IfOk, string_bytes};
 ghost use Rattle.rn_plan.specs.Files.{files_of};
 ghost use Rattle.rn_plan.specs.Free.{AreFree};
 
-use crate::fault::{LiftFault, LiftFaultKind};
-use crate::names::Names;
+use crate::free_names::are_free;
+use crate::lift_fault::{LiftFault, LiftFaultKind};
 use crate::namespaces::Namespaces;
-use crate::roots::included;
-use crate::scopes::{Link, Place, PlaceKey, Plan, ROOT, Scope, ScopeKey};
-use crate::soundness::are_free;
+use crate::own_names::Names;
+use crate::root_includes::included_files;
+use crate::scopes::{Link, PlacedUnit, PlacedUnitKey, Plan, ROOT, Scope, ScopeKey};
 use crate::units::{Units, is_marked};
 use rn_outline::{Part, PartKind, Span};
 use std::alloc::{AllocError, Global};
@@ -109,7 +109,7 @@ impl Plan {
         units: &Units<'_>,
         roots: &[usize],
     ) -> Result<(), LiftFault> {
-        let included = included(alloc, units, roots)?;
+        let included = included_files(alloc, units, roots)?;
         for root in roots {
             self.add_root(alloc, units, *root, included.as_slice())?;
         }
@@ -173,7 +173,7 @@ impl Plan {
     }
 
     fn here(&self, units: &Units<'_>, place: usize) -> Option<Here> {
-        let Place {
+        let PlacedUnit {
             unit,
             scope,
             namespace,
@@ -252,7 +252,7 @@ impl Plan {
         if units.is_pattern(unit) {
             return Err(fault(here.file, named.at, LiftFaultKind::IncludedPattern));
         }
-        let handed = self.handed_on(alloc, units, here, named.inherit)?;
+        let handed = self.handed_namespace(alloc, units, here, named.inherit)?;
         self.place(
             alloc,
             units,
@@ -271,7 +271,7 @@ impl Plan {
         named: Named,
     ) -> Result<usize, LiftFault> {
         let unit = named.unit(units, here)?;
-        let Some(namespace) = self.handed_on(alloc, units, here, named.inherit)? else {
+        let Some(namespace) = self.handed_namespace(alloc, units, here, named.inherit)? else {
             let at = named.inherit.map_or(named.at, |prefix| prefix.from);
             return Err(fault(here.file, at, LiftFaultKind::Prefix));
         };
@@ -293,7 +293,7 @@ impl Plan {
         }
     }
 
-    fn handed_on(
+    fn handed_namespace(
         &mut self,
         alloc: Global,
         units: &Units<'_>,
@@ -303,7 +303,7 @@ impl Plan {
         match units.files.get(here.file) {
             Some(given) => Ok(
                 self.namespaces
-                    .handed_on(alloc, given, inherit, here.namespace)?,
+                    .handed_namespace(alloc, given, inherit, here.namespace)?,
             ),
             None => Ok(None),
         }
@@ -389,7 +389,7 @@ impl Plan {
         } else {
             0
         };
-        let key = PlaceKey {
+        let key = PlacedUnitKey {
             unit,
             namespace,
             scope,
@@ -400,7 +400,7 @@ impl Plan {
         let module = self.module_name(alloc, units, unit, scope)?;
         let number = self.places.len();
         self.place_numbers.insert(key, number)?;
-        self.places.push(Place {
+        self.places.push(PlacedUnit {
             unit,
             scope,
             namespace,

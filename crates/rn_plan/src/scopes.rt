@@ -2,8 +2,8 @@
 ghost use Rattle.std.specs.Prelude.{◌≡◌};
 ghost use Rattle.rn_plan.specs.Places.{entry_of};
 
-use crate::names::Names;
 use crate::namespaces::Namespaces;
+use crate::own_names::Names;
 use rn_outline::PartKind;
 use std::collections::BTreeMap;
 
@@ -32,7 +32,7 @@ pub struct Scope {
 
 /// A unit in a scope, which becomes a module.
 #[derive(Drop)]
-pub struct Place {
+pub struct PlacedUnit {
     pub unit: usize,
     pub scope: usize,
     /// The namespace that is handed to it; 0, where it does not need it.
@@ -58,7 +58,7 @@ pub(crate) struct ScopeKey {
 }
 
 #[derive(Clone, Copy, PartialEq, Eq, PartialOrd, Ord, Drop)]
-pub(crate) struct PlaceKey {
+pub(crate) struct PlacedUnitKey {
     pub(crate) unit: usize,
     pub(crate) namespace: usize,
     pub(crate) scope: usize,
@@ -69,14 +69,14 @@ pub(crate) struct PlaceKey {
 pub struct Plan {
     /// The first is that of the roots.
     pub scopes: Vec<Scope>,
-    pub places: Vec<Place>,
+    pub places: Vec<PlacedUnit>,
     /// The places of the roots.
     pub roots: Vec<usize>,
     pub(crate) namespaces: Namespaces,
     /// The names that were made for scopes and modules.
     pub names: Names,
     pub(crate) scope_numbers: BTreeMap<ScopeKey, usize>,
-    pub(crate) place_numbers: BTreeMap<PlaceKey, usize>,
+    pub(crate) place_numbers: BTreeMap<PlacedUnitKey, usize>,
 }
 
 impl Plan {

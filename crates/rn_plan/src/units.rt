@@ -3,7 +3,7 @@ ghost use Rattle.std.specs.Prelude.{◌≡◌, [], ◌∷◌, ◌++◌, All, IfO
 ghost use Rattle.rn_plan.specs.Files.{HasTargets, files_of};
 
 use crate::given::{Given, Lifting};
-use crate::names::written_name;
+use crate::own_names::written_name;
 use rn_outline::{Outline, Part, PartKind, Shape, Span};
 use std::alloc::{AllocError, Global};
 
@@ -231,7 +231,7 @@ impl<'a> Units<'a> {
         unit: &Unit,
     ) -> Result<(), AllocError> {
         for part in &unit.parts {
-            if let Some(used) = self.used(unit, *part) {
+            if let Some(used) = self.used_unit(unit, *part) {
                 if let Some(row) = users.get_mut(used) {
                     row.push(number)?;
                 }
@@ -241,7 +241,7 @@ impl<'a> Units<'a> {
     }
 
     /// The unit that a part includes, or places as a pattern.
-    fn used(&self, unit: &Unit, part: usize) -> Option<usize> {
+    fn used_unit(&self, unit: &Unit, part: usize) -> Option<usize> {
         let target = self.target(unit, part)?;
         match &self.part(unit, part)?.kind {
             PartKind::External { .. } if !self.is_pattern_file(target) => None,

@@ -2,10 +2,10 @@
 #![tactic(auto)]
 
 #[cfg(test)]
-mod lines;
-#[cfg(test)]
-mod reading;
-#[cfg(test)]
-mod references;
+mod line_breaks;
 #[cfg(test)]
 mod rows;
+#[cfg(test)]
+mod source_reading;
+#[cfg(test)]
+mod uri_references;

@@ -26,7 +26,7 @@ pub fn instances(alloc: Global, view: &View<'_>) -> Result<Vec<Instance>, AllocE
 }
 
 fn roots(alloc: Global, view: &View<'_>) -> Result<Vec<Instance>, AllocError> {
-    let included = included(alloc, view)?;
+    let included = included_modules(alloc, view)?;
     let mut roots = Vec::new(alloc);
     for (room, is_included) in included.iter().enumerate() {
         if !*is_included {
@@ -37,7 +37,7 @@ fn roots(alloc: Global, view: &View<'_>) -> Result<Vec<Instance>, AllocError> {
 }
 
 /// Of each module whether another one includes it.
-fn included(alloc: Global, view: &View<'_>) -> Result<Vec<bool>, AllocError> {
+fn included_modules(alloc: Global, view: &View<'_>) -> Result<Vec<bool>, AllocError> {
     let mut included = vec![in alloc; false; view.rooms.len()]?;
     for room in 0..view.rooms.len() {
         mark_included(view, room, &mut included);
@@ -48,7 +48,7 @@ fn included(alloc: Global, view: &View<'_>) -> Result<Vec<bool>, AllocError> {
 /// Marks what a module includes.
 fn mark_included(view: &View<'_>, room: usize, included: &mut Vec<bool>) {
     for part in 0..view.parts(room).len() {
-        if let Some(target) = view.included(Site { room, part }) {
+        if let Some(target) = view.included_module(Site { room, part }) {
             if let Some(mark) = included.get_mut(target) {
                 *mark = true;
             }
@@ -83,7 +83,7 @@ fn bring(
         if instances.len() >= MAX_INSTANCES {
             break;
         }
-        if let Some(target) = view.included(Site { room, part }) {
+        if let Some(target) = view.included_module(Site { room, part }) {
             instances.push(Instance {
                 room: target,
                 by: Some((by, part)),
@@ -172,7 +172,7 @@ fn push_own(
 }
 
 /// The keys that the module, with what it includes, defines, in order.
-pub fn provided<'v>(
+pub fn provided_keys<'v>(
     alloc: Global,
     view: &'v View<'_>,
     room: usize,
@@ -202,7 +202,7 @@ fn push_keys<'v>(
 }
 
 /// The two includes at which the ways to two instances of one module part, looked at from the module upwards.
-pub fn parting(instances: &[Instance], one: usize, other: usize) -> Option<(Site, Site)> {
+pub fn parting_includes(instances: &[Instance], one: usize, other: usize) -> Option<(Site, Site)> {
     let mut one = way_up(instances, one)?;
     let mut other = way_up(instances, other)?;
     for _ in 0..MAX_INSTANCES {

@@ -3,10 +3,10 @@
 ghost use Rattle.std.specs.Prelude.{IfOk};
 ghost use Rattle.rn_tell.specs.Messages.{IsFew};
 
-use crate::checks::{check_sentence, place_at};
-use crate::faults::{lift_message, lift_spot, reading_message, reading_spot};
+use crate::check_sentences::{check_sentence, place_at};
+use crate::fault_messages::{lift_message, lift_spot, reading_message, reading_spot};
 use crate::report::{Message, Page, Spot, Told, attempt_pages, source_pages};
-use rn_files::{Reading, Source, SourceFault};
+use rn_files::{Reading, SourceFault, SourceFile};
 use rn_lift::LiftedModule;
 use rn_merge::{Place, check};
 use rn_plan::LiftFault;
@@ -48,7 +48,7 @@ pub fn reading_told(alloc: Global, words: &[String], reading: &Reading) -> Resul
 }
 
 /// What is told of lifting that failed: its fault, and those of what the texts mean.
-pub fn lift_told(alloc: Global, files: &[Source], fault: &LiftFault) -> Result<Told, AllocError>
+pub fn lift_told(alloc: Global, files: &[SourceFile], fault: &LiftFault) -> Result<Told, AllocError>
     ensures { IfOk result IsFew }
 {
     let pages = source_pages(alloc, files)?;
@@ -101,7 +101,7 @@ fn told_in_order(
     ensures { IfOk result IsFew }
 {
     let mut told = Told::new(alloc);
-    for number in in_order(alloc, pages, faults)? {
+    for number in telling_order(alloc, pages, faults)? {
         if told.is_full() {
             told.further = told.further.saturating_add(1);
         } else if let Some(fault) = faults.get(number) {
@@ -112,7 +112,7 @@ fn told_in_order(
 }
 
 /// The numbers of the faults, in the order in which they are told.
-fn in_order(
+fn telling_order(
     alloc: Global,
     pages: &[Page<'_>],
     faults: &[Fault<'_>],

@@ -1,25 +1,25 @@
 //! What is wrong with files, as sentences with their places: the faults of reading and lifting, and each refusal of a set.
 //!
-//! All faults are found, and [`MAX_TOLD`] of them told; a [`Message`] is a sentence at a byte of a file, and [`shown`] makes
+//! All faults are found, and [`MAX_TOLD`] of them told; a [`Message`] is a sentence at a byte of a file, and [`told_lines`] makes
 //! lines of messages, with the line of the file and a caret. Places come from what the modules are made of: a module is read
 //! again, and each place in it leads back to the file that it comes from.
 #![tactic(auto)]
 
 mod brought;
-mod checks;
+mod check_sentences;
 mod defined;
-mod faults;
+mod fault_messages;
+mod further_refusals;
 mod gathered;
-mod loops;
-mod refusals;
+mod loop_sites;
 mod report;
 mod sentences;
 mod sites;
 
-pub use faults::{is_unread, set_message};
+pub use fault_messages::{is_unread, set_message};
 pub use gathered::{lift_told, reading_told};
 pub use report::{
-    Colours, MAX_TOLD, Message, Page, SHOWN, Spot, Told, attempt_pages, push_printable, shown,
-    source_pages,
+    Colours, MAX_TOLD, Message, Page, SHOWN, Spot, Told, attempt_pages, push_printable,
+    source_pages, told_lines,
 };
 pub use sentences::refusal_told;

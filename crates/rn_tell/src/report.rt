@@ -4,7 +4,7 @@ ghost use Rattle.rn_tell.specs.Limits.{max_told};
 ghost use Rattle.rn_tell.specs.Messages.{AreLines, AreMore, IsFew, IsPlace, IsPlaceAt, IsPlaceIn, note};
 ghost use Rattle.rn_tell.specs.Printed.{colour, head, painted, printable, printed, word};
 
-use rn_files::{Attempt, Source, line_of, position};
+use rn_files::{Attempt, SourceFile, line_of, position};
 use std::alloc::{AllocError, Global};
 
 /// The most messages that are told together; faults beyond them are counted.
@@ -58,7 +58,7 @@ impl Told {
     }
 
     /// One message.
-    pub fn one(alloc: Global, message: Message) -> Result<Told, AllocError>
+    pub fn of_message(alloc: Global, message: Message) -> Result<Told, AllocError>
         ensures { IfOk result IsFew }
     {
         let mut told = Told::new(alloc);
@@ -83,7 +83,7 @@ pub struct Page<'a> {
 }
 
 /// The sources as messages show them.
-pub fn source_pages(alloc: Global, files: &[Source]) -> Result<Vec<Page<'_>>, AllocError> {
+pub fn source_pages(alloc: Global, files: &[SourceFile]) -> Result<Vec<Page<'_>>, AllocError> {
     let mut pages = Vec::new(alloc);
     for file in files {
         pages.push(Page {
@@ -118,7 +118,7 @@ pub enum Colours {
 /// What is told, as lines: for each message `FILE:LINE:COLUMN: error: SENTENCE`, the line of the file, and a caret below the
 /// place; then a note that says how many faults are not told. A character that would control a terminal is shown as `?`. Of
 /// a line of more than 160 characters a part is shown.
-pub fn shown(
+pub fn told_lines(
     alloc: Global,
     pages: &[Page<'_>],
     told: &Told,
@@ -227,12 +227,12 @@ fn push_head(
     ensures { OnOk result (string_bytes lines.new
         ≡ string_bytes lines.old ++ head colours place.now grade) }
 {
-    lines.push_str(painted(colours, "\u{1B}[1m"))?;
+    lines.push_str(paint(colours, "\u{1B}[1m"))?;
     push_printable(lines, place)?;
     lines.push_str(": ")?;
-    lines.push_str(painted(colours, colour(grade)))?;
+    lines.push_str(paint(colours, colour(grade)))?;
     lines.push_str(word(grade))?;
-    lines.push_str(painted(colours, "\u{1B}[0m"))
+    lines.push_str(paint(colours, "\u{1B}[0m"))
 }
 
 /// The word of a grade.
@@ -256,7 +256,7 @@ fn colour(grade: Grade) -> &'static str
 }
 
 /// What changes the colour, where there are colours.
-fn painted(colours: Colours, sign: &'static str) -> &'static str
+fn paint(colours: Colours, sign: &'static str) -> &'static str
     ensures { result.now ≡ painted colours sign.now }
 {
     match colours {
@@ -286,16 +286,16 @@ fn push_source(
     push_part(lines, line, skipped)?;
     lines.push_str("\n    ")?;
     push_indent(lines, line, skipped, column)?;
-    lines.push_str(painted(colours, "\u{1B}[1;32m"))?;
+    lines.push_str(paint(colours, "\u{1B}[1;32m"))?;
     lines.push_str("^")?;
-    lines.push_str(painted(colours, "\u{1B}[0m"))?;
+    lines.push_str(paint(colours, "\u{1B}[0m"))?;
     lines.push_str("\n")
 }
 
 /// The part of the line that is shown.
 fn push_part(lines: &mut String, line: &str, skipped: usize) -> Result<(), AllocError> {
     for character in line.chars().skip(skipped).take(SHOWN) {
-        lines.push(printable(character))?;
+        lines.push(printable_character(character))?;
     }
     Ok(())
 }
@@ -319,13 +319,13 @@ pub fn push_printable(lines: &mut String, text: &str) -> Result<(), AllocError>
     ensures { OnOk result (string_bytes lines.new ≡ string_bytes lines.old ++ printed text.now) }
 {
     for character in text.chars() {
-        lines.push(printable(character))?;
+        lines.push(printable_character(character))?;
     }
     Ok(())
 }
 
 /// The character, or `?` where it would control a terminal.
-fn printable(character: char) -> char
+fn printable_character(character: char) -> char
     ensures { result ≡ printable character }
 {
     if character.is_control() && character != '\t' {

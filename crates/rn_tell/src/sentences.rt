@@ -2,15 +2,15 @@
 ghost use Rattle.std.specs.Prelude.{IfOk};
 ghost use Rattle.rn_tell.specs.Messages.{IsFew};
 
-use crate::brought::{Component, Instance, components, instances, parting, provided};
+use crate::brought::{Component, Instance, components, instances, parting_includes, provided_keys};
 use crate::defined::{Defined, taking_part};
+use crate::further_refusals::{Found, Kind, has_method, refusals_behind};
 use crate::gathered::texts_told;
-use crate::loops::{first_use, loop_of, loop_of_includes};
-use crate::refusals::{Found, Kind, has_method, refusals_behind};
+use crate::loop_sites::{first_use, loop_of, loop_of_includes};
 use crate::report::{MAX_TOLD, Message, Page, Spot, Told, place_text, source_pages};
-use crate::sites::{Site, View, include_of, key_of, key_text, viewed, within};
+use crate::sites::{Site, View, include_around, include_of, key_of, key_text, view_of};
 use rn_assemble::Refusal;
-use rn_files::Source;
+use rn_files::SourceFile;
 use rn_lift::Lifted;
 use rn_outline::{Method, Part};
 use std::alloc::{AllocError, Global};
@@ -34,7 +34,7 @@ type Placed = (Option<Spot>, String);
 /// found.
 pub fn refusal_told(
     alloc: Global,
-    files: &[Source],
+    files: &[SourceFile],
     lifted: &Lifted,
     refusal: &Refusal,
 ) -> Result<Told, AllocError>
@@ -45,7 +45,7 @@ pub fn refusal_told(
         return Ok(told);
     }
     let pages = source_pages(alloc, files)?;
-    let view = viewed(alloc, lifted)?;
+    let view = view_of(alloc, lifted)?;
     let instances = instances(alloc, &view)?;
     let defined = taking_part(alloc, &view, instances.as_slice())?;
     let others = refusals_behind(alloc, &view, defined.as_slice(), refusal)?;
@@ -63,12 +63,12 @@ pub fn refusal_told(
 fn tell(telling: &Telling<'_>, refusal: &Refusal, others: &[Found<'_>]) -> Result<Told, AllocError>
     ensures { IfOk result IsFew }
 {
-    let mut told = Told::one(telling.alloc, message_of(placed(telling, refusal)?))?;
+    let mut told = Told::of_message(telling.alloc, message_of(place_refusal(telling, refusal)?))?;
     for found in others {
         if told.is_full() {
             told.further = told.further.saturating_add(1);
         } else {
-            let placed = placed_found(telling, *found)?;
+            let placed = place_found(telling, *found)?;
             told.messages.push(message_of(placed))?;
         }
     }
@@ -80,27 +80,35 @@ fn message_of(placed: Placed) -> Message {
     Message { spot, sentence }
 }
 
-fn placed(telling: &Telling<'_>, refusal: &Refusal) -> Result<Placed, AllocError> {
+fn place_refusal(telling: &Telling<'_>, refusal: &Refusal) -> Result<Placed, AllocError> {
     match refusal {
         Refusal::PlainTwice { key } => plain_twice(telling, key_text(key)),
         Refusal::MixedMethods { key } => mixed_methods(telling, key_text(key)),
-        Refusal::Override { module, key } => unfounded(telling, module.as_str(), key_text(key)),
-        Refusal::Missing { module, wanted } => missing(telling, module.as_str(), wanted.as_str()),
+        Refusal::Override { module, key } => unfounded_override(
+            telling,
+            module.as_str(),
+            key_text(key),
+        ),
+        Refusal::Missing { module, wanted } => missing_include(
+            telling,
+            module.as_str(),
+            wanted.as_str(),
+        ),
         Refusal::Cycle { module } => cycle(telling, module.as_str()),
-        Refusal::Undefined { name } => undefined(telling, name.as_str()),
-        Refusal::Recursive { name } => recursive(telling, name.as_str()),
+        Refusal::Undefined { name } => undefined_name(telling, name.as_str()),
+        Refusal::Recursive { name } => recursive_name(telling, name.as_str()),
         Refusal::NameClass { key } => name_class(telling, key_text(key)),
-        _ => general(telling.alloc, refusal),
+        _ => general_sentence(telling.alloc, refusal),
     }
 }
 
-fn placed_found(telling: &Telling<'_>, found: Found<'_>) -> Result<Placed, AllocError> {
+fn place_found(telling: &Telling<'_>, found: Found<'_>) -> Result<Placed, AllocError> {
     match found.kind {
-        Kind::Override => unfounded(telling, found.module, found.key),
+        Kind::Override => unfounded_override(telling, found.module, found.key),
         Kind::PlainTwice => plain_twice(telling, found.key),
         Kind::MixedMethods => mixed_methods(telling, found.key),
-        Kind::NoStart => general(telling.alloc, &Refusal::NoStart),
-        Kind::Undefined => undefined(telling, found.key),
+        Kind::NoStart => general_sentence(telling.alloc, &Refusal::NoStart),
+        Kind::Undefined => undefined_name(telling, found.key),
     }
 }
 
@@ -110,11 +118,11 @@ fn place(telling: &Telling<'_>, site: Site) -> Result<String, AllocError> {
 }
 
 /// A key as the file writes it.
-fn spelled<'k>(telling: &Telling<'_>, key: &'k str) -> &'k str {
+fn spelled_key<'k>(telling: &Telling<'_>, key: &'k str) -> &'k str {
     if key.is_empty() {
         "start"
     } else {
-        telling.view.lifted.written(key)
+        telling.view.lifted.written_name(key)
     }
 }
 
@@ -134,14 +142,14 @@ fn plain_twice(telling: &Telling<'_>, key: &str) -> Result<Placed, AllocError> {
             telling, key, *first, *second,
         ),
         (Some(first), Some(second)) => {
-            let name = spelled(telling, key);
+            let name = spelled_key(telling, key);
             let other = place(telling, second.site)?;
             let sentence = format!(in telling.alloc;
                 "`{name}` is defined here and in {other}, neither with |= nor &="
             )?;
             Ok((telling.view.spot(first.site), sentence))
         }
-        _ => nowhere(
+        _ => unplaced_sentence(
             telling,
             key,
             "is defined twice, neither time with |= nor &=",
@@ -156,8 +164,8 @@ fn included_twice(
     first: Component,
     second: Component,
 ) -> Result<Placed, AllocError> {
-    let name = spelled(telling, key);
-    let sentence = match parting(telling.instances, first.instance, second.instance) {
+    let name = spelled_key(telling, key);
+    let sentence = match parting_includes(telling.instances, first.instance, second.instance) {
         Some((one, other)) => {
             let one = place(telling, one)?;
             let other = place(telling, other)?;
@@ -184,9 +192,9 @@ fn mixed_methods(telling: &Telling<'_>, key: &str) -> Result<Placed, AllocError>
     let choice = first_by(telling, found.as_slice(), Method::Choice);
     let interleave = first_by(telling, found.as_slice(), Method::Interleave);
     let (Some(choice), Some(interleave)) = (choice, interleave) else {
-        return nowhere(telling, key, "is combined by |= and by &=");
+        return unplaced_sentence(telling, key, "is combined by |= and by &=");
     };
-    let name = spelled(telling, key);
+    let name = spelled_key(telling, key);
     let other = place(telling, interleave)?;
     let sentence = format!(in telling.alloc;
         "`{name}` is combined by |= here, and by &= in {other}"
@@ -195,10 +203,14 @@ fn mixed_methods(telling: &Telling<'_>, key: &str) -> Result<Placed, AllocError>
 }
 
 /// An include that overrides what the included file lacks.
-fn unfounded(telling: &Telling<'_>, module: &str, key: &str) -> Result<Placed, AllocError> {
-    let name = spelled(telling, key);
+fn unfounded_override(
+    telling: &Telling<'_>,
+    module: &str,
+    key: &str,
+) -> Result<Placed, AllocError> {
+    let name = spelled_key(telling, key);
     let Some((site, include)) = first_unfounded(telling, module, key)? else {
-        return nowhere(
+        return unplaced_sentence(
             telling,
             key,
             "replaces what the included file does not define",
@@ -226,7 +238,7 @@ fn first_unfounded(
         if key_of(text, part) != Some(key) {
             continue;
         }
-        if let Some(include) = lacking(telling, room, part, key)? {
+        if let Some(include) = lacking_include(telling, room, part, key)? {
             return Ok(Some((Site { room, part: number }, include)));
         }
     }
@@ -234,23 +246,23 @@ fn first_unfounded(
 }
 
 /// The include of a definition that overrides what the included module, with what it includes, lacks.
-fn lacking(
+fn lacking_include(
     telling: &Telling<'_>,
     room: usize,
     part: &Part,
     key: &str,
 ) -> Result<Option<Site>, AllocError> {
-    let Some(include) = within(part) else {
+    let Some(include) = include_around(part) else {
         return Ok(None);
     };
     let site = Site {
         room,
         part: include,
     };
-    let Some(target) = telling.view.included(site) else {
+    let Some(target) = telling.view.included_module(site) else {
         return Ok(None);
     };
-    let provided = provided(telling.alloc, telling.view, target)?;
+    let provided = provided_keys(telling.alloc, telling.view, target)?;
     Ok(match provided.binary_search(&key) {
         Ok(_) => None,
         Err(_) => Some(site),
@@ -266,7 +278,11 @@ fn included_name<'v>(view: &'v View<'_>, include: Site) -> &'v str {
 }
 
 /// An include of what no file has as its name.
-fn missing(telling: &Telling<'_>, module: &str, wanted: &str) -> Result<Placed, AllocError> {
+fn missing_include(
+    telling: &Telling<'_>,
+    module: &str,
+    wanted: &str,
+) -> Result<Placed, AllocError> {
     let sentence = format!(in telling.alloc; "there is no `{wanted}` to include")?;
     let Some(room) = telling.view.room_of(module) else {
         return Ok((None, sentence));
@@ -314,16 +330,16 @@ fn cycle(telling: &Telling<'_>, module: &str) -> Result<Placed, AllocError> {
 }
 
 /// A name that nothing defines.
-fn undefined(telling: &Telling<'_>, name: &str) -> Result<Placed, AllocError> {
-    let written = spelled(telling, name);
+fn undefined_name(telling: &Telling<'_>, name: &str) -> Result<Placed, AllocError> {
+    let written = spelled_key(telling, name);
     let sentence = format!(in telling.alloc; "`{written}` is not defined")?;
     let site = first_use(telling.alloc, telling.view, telling.defined, name)?;
     Ok((site.and_then(|site| telling.view.spot(site)), sentence))
 }
 
 /// A name that comes back to itself outside elements.
-fn recursive(telling: &Telling<'_>, name: &str) -> Result<Placed, AllocError> {
-    let written = spelled(telling, name);
+fn recursive_name(telling: &Telling<'_>, name: &str) -> Result<Placed, AllocError> {
+    let written = spelled_key(telling, name);
     let mut sentence = format!(in telling.alloc; "`{written}` refers to itself outside elements")?;
     let way = loop_of(telling.alloc, telling.view, telling.defined, name)?;
     for (number, site) in way.iter().copied().enumerate().take(MAX_TOLD) {
@@ -351,14 +367,14 @@ fn push_others(alloc: Global, sentence: &mut String, count: usize) -> Result<(),
 /// The key that is defined there, as the file writes it.
 fn name_at<'t>(telling: &Telling<'t>, site: Site) -> &'t str {
     match telling.view.key(site) {
-        Some(key) => spelled(telling, key),
+        Some(key) => spelled_key(telling, key),
         None => "start",
     }
 }
 
 /// A definition with a name class that is not allowed.
 fn name_class(telling: &Telling<'_>, key: &str) -> Result<Placed, AllocError> {
-    let name = spelled(telling, key);
+    let name = spelled_key(telling, key);
     let sentence = format!(in telling.alloc;
         "`{name}` has a name class that is not allowed: * excepts *, p:* excepts * or p:*, or an attribute may be named xmlns (RELAX NG, section 4.16)"
     )?;
@@ -368,13 +384,13 @@ fn name_class(telling: &Telling<'_>, key: &str) -> Result<Placed, AllocError> {
 }
 
 /// The sentence on a key whose places are not found.
-fn nowhere(telling: &Telling<'_>, key: &str, what: &str) -> Result<Placed, AllocError> {
-    let name = spelled(telling, key);
+fn unplaced_sentence(telling: &Telling<'_>, key: &str, what: &str) -> Result<Placed, AllocError> {
+    let name = spelled_key(telling, key);
     Ok((None, format!(in telling.alloc; "`{name}` {what}")?))
 }
 
 /// The sentences on all files together.
-fn general(alloc: Global, refusal: &Refusal) -> Result<Placed, AllocError> {
+fn general_sentence(alloc: Global, refusal: &Refusal) -> Result<Placed, AllocError> {
     let sentence = match refusal {
         Refusal::NoStart => "none of the files defines start",
         Refusal::Instances =>

@@ -57,7 +57,7 @@ pub fn method_of(part: &Part) -> Option<Method> {
 }
 
 /// The number of the part that is the include of a definition that overrides.
-pub fn within(part: &Part) -> Option<usize> {
+pub fn include_around(part: &Part) -> Option<usize> {
     match &part.kind {
         PartKind::Define { within, .. } | PartKind::Start { within, .. } => *within,
         _ => None,
@@ -93,7 +93,7 @@ pub fn include_of(part: &Part) -> Option<(&str, usize)> {
 }
 
 /// The modules with what they are made of. A text that is none of the language is made of nothing.
-pub fn viewed(alloc: Global, lifted: &Lifted) -> Result<View<'_>, AllocError> {
+pub fn view_of(alloc: Global, lifted: &Lifted) -> Result<View<'_>, AllocError> {
     let mut rooms = Vec::new(alloc);
     for module in lifted.modules.as_slice() {
         rooms.push(made_room(alloc, module.text.as_str())?)?;
@@ -112,7 +112,7 @@ fn made_room(alloc: Global, text: &str) -> Result<Room, AllocError> {
     };
     if let Ok(outline) = read_outline(alloc, text, tokens.as_slice()) {
         room.overrides = overrides(alloc, text, outline.parts.as_slice())?;
-        room.outside = outside(alloc, tokens.as_slice())?;
+        room.outside = outside_names(alloc, tokens.as_slice())?;
         room.parts = outline.parts;
     }
     Ok(room)
@@ -126,7 +126,7 @@ fn overrides(
 ) -> Result<Vec<(usize, String)>, AllocError> {
     let mut overrides = Vec::new(alloc);
     for part in parts {
-        if let (Some(include), Some(key)) = (within(part), key_of(text, part)) {
+        if let (Some(include), Some(key)) = (include_around(part), key_of(text, part)) {
             overrides.push((include, String::from_str(alloc, key)?))?;
         }
     }
@@ -135,7 +135,7 @@ fn overrides(
 }
 
 /// Where names begin that are outside elements and annotations.
-fn outside(alloc: Global, tokens: &[Token<'_>]) -> Result<Vec<usize>, AllocError> {
+fn outside_names(alloc: Global, tokens: &[Token<'_>]) -> Result<Vec<usize>, AllocError> {
     let mut nesting = Nesting::new(alloc);
     let mut outside = Vec::new(alloc);
     for token in tokens {
@@ -269,7 +269,7 @@ impl View<'_> {
     }
 
     /// What the include overrides: with its number, each key.
-    pub fn overridden(&self, include: Site) -> &[(usize, String)] {
+    pub fn overridden_keys(&self, include: Site) -> &[(usize, String)] {
         match self.rooms.get(include.room) {
             Some(held) => {
                 let all = held.overrides.as_slice();
@@ -282,7 +282,7 @@ impl View<'_> {
     }
 
     /// The module that a site includes.
-    pub fn included(&self, site: Site) -> Option<usize> {
+    pub fn included_module(&self, site: Site) -> Option<usize> {
         let part = self.part(site)?;
         let (name, _) = include_of(part)?;
         self.room_of(name)

@@ -1,53 +1,54 @@
 // Bundles: their one spelling, what is read from damaged ones, and sets at their limits.
 use crate::contributions::{effective_count, is_effective, refuses, refuses_a_longer_text};
-use crate::rows::{holds, made, owned, push, same, same_bytes, same_count, same_for, written_set};
-use crate::samples::ONE;
+use crate::samples::{ONE, written_set};
 use crate::sets::{add, bundle, held, module, set_of_bundle};
 use rn_modset::{AddFault, Contribution, ModuleSet, read_bundle};
+use std::alloc::{AllocError, Global};
 use std::process::Abort;
 
 /// What is wrong with a bundle, or `good`.
 fn fault(rt: &(impl Abort + AllocGlobal), bytes: &[u8]) -> String {
-    match read_bundle(rt.alloc(), bytes) {
-        Ok(_) => owned(rt, "good"),
-        Err(fault) => made(rt, format!(in rt.alloc(); "{fault:?}")),
-    }
+    let told = match read_bundle(rt.alloc(), bytes) {
+        Ok(_) => String::from_str(rt.alloc(), "good"),
+        Err(fault) => format!(in rt.alloc(); "{fault:?}"),
+    };
+    told.expect(rt, "no memory")
 }
 
 /// A bundle has this fault, or is `good`.
 fn is_found(rt: &(impl Abort + AllocGlobal), given: &str, bytes: &[u8], wanted: &str) {
-    same_for(rt, given, fault(rt, bytes).as_str(), wanted);
+    assert_eq!(rt; fault(rt, bytes).as_str(), wanted, "{given}");
 }
 
 #[test]
 fn one_text_has_its_bundle(rt: HostRuntime) {
-    let bytes = bundle(&rt, &written_set(&rt, "@t 7\nabc"));
-    same_count(&rt, bytes.len(), 97);
-    same_bytes(&rt, bytes.as_slice(), ONE.as_bytes());
+    let set = written_set(rt.alloc(), "@t 7\nabc").expect(&rt, "no set");
+    let bytes = bundle(&rt, &set);
+    assert_eq!(rt; bytes.len(), 97);
+    assert_eq!(rt; bytes.as_slice(), ONE.as_bytes());
 }
 
 #[test]
 fn one_text_is_read_from_its_bundle(rt: HostRuntime) {
     let read = set_of_bundle(&rt, ONE.as_bytes());
     let is_read = read.contains(&module(&rt, "t", 7, b"abc"));
-    holds(&rt, is_read, "the text is read");
+    assert!(rt; is_read, "the text is read");
 }
 
 #[test]
 fn other_sets_have_their_bundles(rt: HostRuntime) {
     let empty = bundle(&rt, &ModuleSet::new(rt.alloc()));
-    same_bytes(&rt, empty.as_slice(), b"rncset 1\nend 0\n");
-    let withdrawn = bundle(&rt, &written_set(&rt, "@lib 2 withdrawn\n"));
-    same_bytes(
-        &rt,
-        withdrawn.as_slice(),
-        b"rncset 2\nwithdrawn lib 2\nend 1\n",
-    );
+    assert_eq!(rt; empty.as_slice(), b"rncset 1\nend 0\n".as_slice());
+    let set = written_set(rt.alloc(), "@lib 2 withdrawn\n").expect(&rt, "no set");
+    let withdrawn = bundle(&rt, &set);
+    let wanted = b"rncset 2\nwithdrawn lib 2\nend 1\n".as_slice();
+    assert_eq!(rt; withdrawn.as_slice(), wanted);
 }
 
 /// The bundle of a set written has so many bytes.
 fn has_length(rt: &(impl Abort + AllocGlobal), written: &str, wanted: usize) {
-    same_count(rt, bundle(rt, &written_set(rt, written)).len(), wanted);
+    let set = written_set(rt.alloc(), written).expect(rt, "no set");
+    assert_eq!(rt; bundle(rt, &set).len(), wanted);
 }
 
 #[test]
@@ -59,7 +60,8 @@ fn bundles_have_their_lengths(rt: HostRuntime) {
 
 /// A bundle's text with one part of it replaced.
 fn changed(rt: &(impl Abort + AllocGlobal), old: &str, new: &str) -> String {
-    made(rt, ONE.replacen(rt.alloc(), old, new, 1))
+    ONE.replacen(rt.alloc(), old, new, 1)
+        .expect(rt, "no memory")
 }
 
 /// Parts of the bundle of one text, what stands in their place, and what is wrong then.
@@ -94,11 +96,8 @@ fn damage_is_named(rt: HostRuntime) {
 
 #[test]
 fn version_2_has_a_withdrawal(rt: HostRuntime) {
-    same(
-        &rt,
-        fault(&rt, b"rncset 2\nend 0\n").as_str(),
-        "Header { entry: 0 }",
-    );
+    let found = fault(&rt, b"rncset 2\nend 0\n");
+    assert_eq!(rt; found.as_str(), "Header { entry: 0 }");
 }
 
 #[test]
@@ -112,20 +111,14 @@ fn fronts_are_no_bundles(rt: HostRuntime) {
 
 /// The entry of a text `abc` of revision 7.
 fn entry(rt: &(impl Abort + AllocGlobal), name: &str) -> String {
-    made(
-        rt,
-        format!(in rt.alloc();
-            "module {name} 7 3 ba7816bf8f01cfea414140de5dae2223b00361a396177a9cb410ff61f20015ad\nabc\n"
-        ),
-    )
+    let digest = "ba7816bf8f01cfea414140de5dae2223b00361a396177a9cb410ff61f20015ad";
+    format!(in rt.alloc(); "module {name} 7 3 {digest}\nabc\n").expect(rt, "no memory")
 }
 
 /// What is wrong with a bundle of two entries, or `good`.
 fn two_have(rt: &(impl Abort + AllocGlobal), version: u8, first: &str, second: &str, wanted: &str) {
-    let text = made(
-        rt,
-        format!(in rt.alloc(); "rncset {version}\n{first}{second}end 2\n"),
-    );
+    let text = format!(in rt.alloc(); "rncset {version}\n{first}{second}end 2\n");
+    let text = text.expect(rt, "no memory");
     is_found(rt, second, text.as_bytes(), wanted);
 }
 
@@ -150,26 +143,25 @@ fn a_withdrawal_stands_before_its_text(rt: HostRuntime) {
 }
 
 /// The entry of a withdrawal of a numbered name.
-fn withdrawal(rt: &(impl Abort + AllocGlobal), number: usize) -> String {
-    made(rt, format!(in rt.alloc(); "withdrawn m{number:04} 1\n"))
+fn withdrawal(alloc: Global, number: usize) -> Result<String, AllocError> {
+    format!(in alloc; "withdrawn m{number:04} 1\n")
 }
 
 /// A bundle of that many withdrawals.
-fn withdrawn(rt: &(impl Abort + AllocGlobal), count: usize) -> String {
-    let mut text = owned(rt, "rncset 2\n");
+fn withdrawn(alloc: Global, count: usize) -> Result<String, AllocError> {
+    let mut text = String::from_str(alloc, "rncset 2\n")?;
     for number in 0..count {
-        push(rt, &mut text, withdrawal(rt, number).as_str());
+        text.push_str(withdrawal(alloc, number)?.as_str())?;
     }
-    let end = made(rt, format!(in rt.alloc(); "end {count}\n"));
-    push(rt, &mut text, end.as_str());
-    text
+    text.push_str(format!(in alloc; "end {count}\n")?.as_str())?;
+    Ok(text)
 }
 
 #[test]
 fn entries_are_limited(rt: HostRuntime) {
-    let most = withdrawn(&rt, 1024);
+    let most = withdrawn(rt.alloc(), 1024).expect(&rt, "no memory");
     is_found(&rt, "1024 entries", most.as_bytes(), "good");
-    let more = withdrawn(&rt, 1025);
+    let more = withdrawn(rt.alloc(), 1025).expect(&rt, "no memory");
     is_found(
         &rt,
         "1025 entries",
@@ -180,7 +172,7 @@ fn entries_are_limited(rt: HostRuntime) {
 
 /// A contribution of a numbered name.
 fn numbered(rt: &(impl Abort + AllocGlobal), number: usize) -> Contribution {
-    let name = made(rt, format!(in rt.alloc(); "m{number:04}"));
+    let name = format!(in rt.alloc(); "m{number:04}").expect(rt, "no memory");
     module(rt, name.as_str(), 1, b"")
 }
 
@@ -189,7 +181,7 @@ fn full(rt: &(impl Abort + AllocGlobal)) -> ModuleSet {
     let mut set = ModuleSet::new(rt.alloc());
     for number in 0..1024 {
         let is_new = add(rt, &mut set, numbered(rt, number));
-        holds(rt, is_new, "each name is new");
+        assert!(rt; is_new, "each name is new");
     }
     set
 }
@@ -197,17 +189,17 @@ fn full(rt: &(impl Abort + AllocGlobal)) -> ModuleSet {
 /// What a full set refuses, and what it holds.
 fn takes_no_more(rt: &(impl Abort + AllocGlobal), set: &mut ModuleSet) {
     refuses(rt, set, "m1024", AddFault::Full);
-    same_count(rt, set.len(), 1024);
+    assert_eq!(rt; set.len(), 1024);
     let is_new = add(rt, set, numbered(rt, 7));
-    holds(rt, !is_new, "what a full set holds is held");
+    assert!(rt; !is_new, "what a full set holds is held");
 }
 
 /// A set of one that a full set lacks takes nothing from it.
 fn joins_nothing(rt: &(impl Abort + AllocGlobal), full: &ModuleSet) {
-    let mut set = written_set(rt, "@m1024\n");
+    let mut set = written_set(rt.alloc(), "@m1024\n").expect(rt, "no set");
     let is_refused = set.join(full) == Err(AddFault::Full);
-    holds(rt, is_refused, "a full set is not joined");
-    same_count(rt, set.len(), 1);
+    assert!(rt; is_refused, "a full set is not joined");
+    assert_eq!(rt; set.len(), 1);
 }
 
 #[test]
@@ -227,15 +219,11 @@ fn a_full_set_names_other_faults_first(rt: HostRuntime) {
 #[test]
 fn sets_tell_what_they_hold(rt: HostRuntime) {
     let text = "@b\nstart = text\n@a 2 withdrawn\n@a\nx = text\n@a 3\nx = empty";
-    let set = written_set(&rt, text);
+    let set = written_set(rt.alloc(), text).expect(&rt, "no set");
     let lines = "a 1\na 2 withdrawn\na 3\nb 1\n";
-    same(&rt, held(&rt, &set).as_str(), lines);
-    same_count(&rt, effective_count(&rt, &set), 2);
+    assert_eq!(rt; held(&rt, &set).as_str(), lines);
+    assert_eq!(rt; effective_count(&rt, &set), 2);
     let is_highest = is_effective(&rt, &set, "a", Some(b"x = empty"));
-    holds(&rt, is_highest, "the highest revision is effective");
-    holds(
-        &rt,
-        is_effective(&rt, &set, "c", None),
-        "no other module is",
-    );
+    assert!(rt; is_highest, "the highest revision is effective");
+    assert!(rt; is_effective(&rt, &set, "c", None), "no other module is");
 }

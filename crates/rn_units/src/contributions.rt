@@ -1,7 +1,5 @@
 // Sets: withdrawals, unions, limits and conflicts.
-use crate::rows::{
-    contribution, holds, made, owned, push, repeated, same, same_count, written_set,
-};
+use crate::samples::{contribution, repeated, written_set};
 use crate::sets::{add, bundle, held, module, refused, set_of_bundle};
 use rn_modset::{AddFault, Contribution, MAX_TEXT, ModuleSet, is_module_name};
 use std::process::Abort;
@@ -27,7 +25,7 @@ pub fn is_effective(
 /// The conflict of a set.
 fn conflict(rt: &(impl Abort + AllocGlobal), set: &ModuleSet) -> String {
     let fault = set.effective(rt.alloc()).err().expect(rt, "no conflict");
-    made(rt, format!(in rt.alloc(); "{fault:?}"))
+    format!(in rt.alloc(); "{fault:?}").expect(rt, "no memory")
 }
 
 /// What a set is given or asked, with what must come of it.
@@ -44,11 +42,17 @@ enum Step {
     Conflict(&'static str),
 }
 
+/// Whether a set takes the contribution written, which it doesn't hold.
+fn takes(rt: &(impl Abort + AllocGlobal), set: &mut ModuleSet, written: &str) -> bool {
+    let given = contribution(rt.alloc(), written).expect(rt, "no contribution");
+    add(rt, set, given)
+}
+
 /// Whether a step comes out as it must.
 fn succeeds(rt: &(impl Abort + AllocGlobal), set: &mut ModuleSet, step: &Step) -> bool {
     match step {
-        Step::Takes(written) => add(rt, set, contribution(rt, written)),
-        Step::Holds(written) => !add(rt, set, contribution(rt, written)),
+        Step::Takes(written) => takes(rt, set, written),
+        Step::Holds(written) => !takes(rt, set, written),
         Step::Effective(count) => effective_count(rt, set) == *count,
         Step::Module(name, text) => is_effective(rt, set, name, *text),
         Step::Conflict(wanted) => conflict(rt, set).as_str() == *wanted,
@@ -101,7 +105,7 @@ fn revisions(rt: &(impl Abort + AllocGlobal), is_odd: bool, count: u64) -> Modul
         let revision = if is_odd { 2 * n + 1 } else { 2 * n };
         if n < count {
             let is_new = add(rt, &mut set, module(rt, "a", revision, b"x"));
-            holds(rt, is_new, "each revision is new");
+            assert!(rt; is_new, "each revision is new");
         }
     }
     set
@@ -114,9 +118,11 @@ pub fn refuses(
     written: &str,
     wanted: AddFault,
 ) {
-    let (back, fault) = refused(rt, set, contribution(rt, written));
-    let is_back = back == contribution(rt, written);
-    holds(rt, is_back && fault == wanted, written);
+    let given = contribution(rt.alloc(), written).expect(rt, "no contribution");
+    let kept = contribution(rt.alloc(), written).expect(rt, "no contribution");
+    let (back, fault) = refused(rt, set, given);
+    let is_back = back == kept;
+    assert!(rt; is_back && fault == wanted, "{written}");
 }
 
 /// The set that a set's bundle reads back as.
@@ -132,24 +138,20 @@ fn join(rt: &impl Abort, set: &mut ModuleSet, other: &ModuleSet) {
 #[test]
 fn new_sets_are_empty(rt: HostRuntime) {
     let mut set = ModuleSet::new(rt.alloc());
-    holds(&rt, set.is_empty(), "a new set holds nothing");
+    assert!(rt; set.is_empty(), "a new set holds nothing");
     let _ = add(&rt, &mut set, module(&rt, "a", 0, b""));
-    holds(
-        &rt,
-        !set.is_empty(),
-        "a set of one contribution is not empty",
-    );
+    assert!(rt; !set.is_empty(), "a set of one contribution is not empty");
 }
 
 #[test]
 fn full_sets_join_themselves(rt: HostRuntime) {
     let mut set = revisions(&rt, false, 1024);
     let is_full = set.join(&revisions(&rt, true, 600)) == Err(AddFault::Full);
-    holds(&rt, is_full, "the set is full");
-    same_count(&rt, set.len(), 1024);
+    assert!(rt; is_full, "the set is full");
+    assert_eq!(rt; set.len(), 1024);
     let copy = copied(&rt, &set);
     join(&rt, &mut set, &copy);
-    same_count(&rt, set.len(), 1024);
+    assert_eq!(rt; set.len(), 1024);
 }
 
 #[test]
@@ -157,25 +159,26 @@ fn sets_join_themselves(rt: HostRuntime) {
     let odd = revisions(&rt, true, 600);
     let mut both = copied(&rt, &odd);
     join(&rt, &mut both, &odd);
-    same_count(&rt, both.len(), 600);
-    same_count(&rt, effective_count(&rt, &both), 1);
+    assert_eq!(rt; both.len(), 600);
+    assert_eq!(rt; effective_count(&rt, &both), 1);
 }
 
 #[test]
 fn joins_in_order(rt: HostRuntime) {
-    let mut set = written_set(&rt, "@b\nx\n@d\nx\n@a 3\nx");
-    let other = written_set(&rt, "@c\nx\n@a 3\nx\n@e\nx\n@a 2\nx\n@d 1 withdrawn\n");
+    let mut set = written_set(rt.alloc(), "@b\nx\n@d\nx\n@a 3\nx").expect(&rt, "no set");
+    let text = "@c\nx\n@a 3\nx\n@e\nx\n@a 2\nx\n@d 1 withdrawn\n";
+    let other = written_set(rt.alloc(), text).expect(&rt, "no set");
     join(&rt, &mut set, &other);
-    same_count(&rt, set.len(), 7);
+    assert_eq!(rt; set.len(), 7);
     let lines = "a 2\na 3\nb 1\nc 1\nd 1 withdrawn\nd 1\ne 1\n";
-    same(&rt, held(&rt, &set).as_str(), lines);
+    assert_eq!(rt; held(&rt, &set).as_str(), lines);
 }
 
 /// The contribution of a text of so many bytes.
 fn long(rt: &(impl Abort + AllocGlobal), revision: u64, length: usize) -> Contribution {
     let text = vec![in rt.alloc(); b'x'; length].expect(rt, "no memory");
     Contribution {
-        name: owned(rt, "a"),
+        name: String::from_str(rt.alloc(), "a").expect(rt, "no memory"),
         revision,
         text: Some(text),
     }
@@ -184,29 +187,29 @@ fn long(rt: &(impl Abort + AllocGlobal), revision: u64, length: usize) -> Contri
 /// A set refuses a text that is one byte too long.
 pub fn refuses_a_longer_text(rt: &(impl Abort + AllocGlobal), set: &mut ModuleSet) {
     let (_, fault) = refused(rt, set, long(rt, 1, MAX_TEXT + 1));
-    holds(rt, fault == AddFault::TooLong, "the text is too long");
+    assert!(rt; fault == AddFault::TooLong, "the text is too long");
 }
 
 /// The bundle of a set of the longest text reads back.
 fn keeps_the_longest_text(rt: &(impl Abort + AllocGlobal), set: &ModuleSet) {
     let bytes = bundle(rt, set);
-    same_count(rt, bytes.len(), 4_194_404);
-    same_count(rt, set_of_bundle(rt, bytes.as_slice()).len(), 1);
+    assert_eq!(rt; bytes.len(), 4_194_404);
+    assert_eq!(rt; set_of_bundle(rt, bytes.as_slice()).len(), 1);
 }
 
 #[test]
 fn longest_texts(rt: HostRuntime) {
-    same_count(&rt, MAX_TEXT, 4_194_304);
+    assert_eq!(rt; MAX_TEXT, 4_194_304);
     let mut set = ModuleSet::new(rt.alloc());
     let is_new = add(&rt, &mut set, long(&rt, 0, MAX_TEXT));
-    holds(&rt, is_new, "the longest text is new");
+    assert!(rt; is_new, "the longest text is new");
     refuses_a_longer_text(&rt, &mut set);
     keeps_the_longest_text(&rt, &set);
 }
 
 #[test]
 fn module_names(rt: HostRuntime) {
-    let mut long = repeated(&rt, "", "n", 200, "");
+    let mut long = repeated(rt.alloc(), "", "n", 200, "").expect(&rt, "no memory");
     for (name, wanted) in [
         ("AZaz09._/-:%~", true),
         ("", false),
@@ -215,8 +218,8 @@ fn module_names(rt: HostRuntime) {
         ("\u{e9}", false),
         (long.as_str(), true),
     ] {
-        holds(&rt, is_module_name(name) == wanted, name);
+        assert!(rt; is_module_name(name) == wanted, "{name}");
     }
-    push(&rt, &mut long, "n");
-    holds(&rt, !is_module_name(long.as_str()), "a name is too long");
+    long.push_str("n").expect(&rt, "no memory");
+    assert!(rt; !is_module_name(long.as_str()), "a name is too long");
 }

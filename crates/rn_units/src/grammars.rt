@@ -1,145 +1,155 @@
 // Sets and what they give: each set is written with its modules parted by lines of their names.
-use crate::rows::{Subject, each_set, made, owned, push, same_for, written_set};
-use rn_assemble::{Grammar, Key, Refusal, assemble};
+use crate::samples::{rows, written_set};
+use rn_assemble::{Grammar, Refusal, assemble};
+use rn_modset::ModuleSet;
 use rn_pattern::{NameClass, Pattern};
+use std::alloc::{AllocError, Global};
 use std::process::Abort;
 use std::rc::Rc;
 
 /// A grammar in one line: names with their URIs in braces, lists in parentheses.
-fn written(rt: &(impl Abort + AllocGlobal), grammar: &Grammar) -> String {
-    let mut out = owned(rt, "start = ");
-    write_pattern(rt, &mut out, grammar.start());
+fn grammar_line(alloc: Global, grammar: &Grammar) -> Result<String, AllocError> {
+    let mut out = String::from_str(alloc, "start = ")?;
+    write_pattern(&mut out, grammar.start())?;
     for (name, body) in grammar.defs().iter() {
-        write_words(rt, &mut out, &["; ", name, " = "]);
-        write_pattern(rt, &mut out, body);
+        write_words(&mut out, &["; ", name, " = "])?;
+        write_pattern(&mut out, body)?;
     }
-    out
+    Ok(out)
 }
 
-fn write_words(rt: &impl Abort, out: &mut String, words: &[&str]) {
+fn write_words(out: &mut String, words: &[&str]) -> Result<(), AllocError> {
     for word in words {
-        push(rt, out, word);
+        out.push_str(word)?;
     }
+    Ok(())
 }
 
-fn write_class(rt: &impl Abort, out: &mut String, class: &NameClass) {
+fn write_class(out: &mut String, class: &NameClass) -> Result<(), AllocError> {
     match class {
-        NameClass::AnyName(None) => push(rt, out, "*"),
+        NameClass::AnyName(None) => out.push_str("*"),
         NameClass::AnyName(Some(except)) => {
-            push(rt, out, "*-");
-            write_class(rt, out, except);
+            out.push_str("*-")?;
+            write_class(out, except)
         }
-        NameClass::NsName(uri, None) => write_words(rt, out, &["{", uri, "}*"]),
+        NameClass::NsName(uri, None) => write_words(out, &["{", uri, "}*"]),
         NameClass::NsName(uri, Some(except)) => {
-            write_words(rt, out, &["{", uri, "}*-"]);
-            write_class(rt, out, except);
+            write_words(out, &["{", uri, "}*-"])?;
+            write_class(out, except)
         }
-        NameClass::Name(uri, local) if uri.is_empty() => push(rt, out, local),
-        NameClass::Name(uri, local) => write_words(rt, out, &["{", uri, "}", local]),
+        NameClass::Name(uri, local) if uri.is_empty() => out.push_str(local),
+        NameClass::Name(uri, local) => write_words(out, &["{", uri, "}", local]),
         NameClass::Choice(classes) => {
-            push(rt, out, "(");
+            out.push_str("(")?;
             for class in classes {
-                write_class(rt, out, class);
-                push(rt, out, "|");
+                write_class(out, class)?;
+                out.push_str("|")?;
             }
-            push(rt, out, ")");
+            out.push_str(")")
         }
     }
 }
 
 fn write_type(
-    rt: &impl Abort,
     out: &mut String,
     library: &str,
     type_name: &str,
     params: &[(String, String)],
-) {
-    write_words(rt, out, &["<", library, ">", type_name]);
+) -> Result<(), AllocError> {
+    write_words(out, &["<", library, ">", type_name])?;
     for param in params {
-        write_words(rt, out, &["[", &param.0, "=", &param.1, "]"]);
+        write_words(out, &["[", &param.0, "=", &param.1, "]"])?;
     }
+    Ok(())
 }
 
-fn write_between(rt: &impl Abort, out: &mut String, at: usize, between: &str) {
+fn write_between(out: &mut String, at: usize, between: &str) -> Result<(), AllocError> {
     if at > 0 {
-        push(rt, out, between);
+        out.push_str(between)?;
     }
+    Ok(())
 }
 
 /// A pattern between two texts.
 #[cycle(write_pattern)]
-fn write_within(rt: &impl Abort, out: &mut String, before: &str, pattern: &Pattern, behind: &str) {
-    push(rt, out, before);
-    write_pattern(rt, out, pattern);
-    push(rt, out, behind);
+fn write_within(
+    out: &mut String,
+    before: &str,
+    pattern: &Pattern,
+    behind: &str,
+) -> Result<(), AllocError> {
+    out.push_str(before)?;
+    write_pattern(out, pattern)?;
+    out.push_str(behind)
 }
 
 /// The members of a list in parentheses.
 #[cycle(write_pattern)]
-fn write_members(rt: &impl Abort, out: &mut String, members: &[Rc<Pattern>], between: &str) {
-    push(rt, out, "(");
+fn write_members(
+    out: &mut String,
+    members: &[Rc<Pattern>],
+    between: &str,
+) -> Result<(), AllocError> {
+    out.push_str("(")?;
     for (i, member) in members.iter().enumerate() {
-        write_between(rt, out, i, between);
-        write_pattern(rt, out, member);
+        write_between(out, i, between)?;
+        write_pattern(out, member)?;
     }
-    push(rt, out, ")");
+    out.push_str(")")
 }
 
 #[cycle(write_pattern)]
-fn write_pattern(rt: &impl Abort, out: &mut String, pattern: &Pattern) {
+fn write_pattern(out: &mut String, pattern: &Pattern) -> Result<(), AllocError> {
     match pattern {
-        Pattern::NotAllowed => push(rt, out, "notAllowed"),
-        Pattern::Empty => push(rt, out, "empty"),
-        Pattern::Text => push(rt, out, "text"),
-        Pattern::Ref(name) => push(rt, out, name),
+        Pattern::NotAllowed => out.push_str("notAllowed"),
+        Pattern::Empty => out.push_str("empty"),
+        Pattern::Text => out.push_str("text"),
+        Pattern::Ref(name) => out.push_str(name),
         Pattern::Value(library, type_name, text) => {
-            write_words(rt, out, &["<", library, ">", type_name, "'", text, "'"]);
+            write_words(out, &["<", library, ">", type_name, "'", text, "'"])
         }
         Pattern::Datum(library, type_name, params, None) => {
-            write_type(rt, out, library, type_name, params.as_slice());
+            write_type(out, library, type_name, params.as_slice())
         }
         Pattern::Datum(library, type_name, params, Some(except)) => {
-            write_type(rt, out, library, type_name, params.as_slice());
-            write_within(rt, out, "-", except, "");
+            write_type(out, library, type_name, params.as_slice())?;
+            write_within(out, "-", except, "")
         }
-        Pattern::List(body) => write_within(rt, out, "list{", body, "}"),
+        Pattern::List(body) => write_within(out, "list{", body, "}"),
         Pattern::Attribute(class, body) => {
-            push(rt, out, "@");
-            write_class(rt, out, class);
-            write_within(rt, out, "{", body, "}");
+            out.push_str("@")?;
+            write_class(out, class)?;
+            write_within(out, "{", body, "}")
         }
         Pattern::Element(class, body) => {
-            write_class(rt, out, class);
-            write_within(rt, out, "{", body, "}");
+            write_class(out, class)?;
+            write_within(out, "{", body, "}")
         }
-        Pattern::OneOrMore(body) => write_within(rt, out, "{", body, "}+"),
-        Pattern::Group(members) => write_members(rt, out, members, ","),
-        Pattern::Interleave(members) => write_members(rt, out, members, "&"),
-        Pattern::Choice(members) => write_members(rt, out, members, "|"),
+        Pattern::OneOrMore(body) => write_within(out, "{", body, "}+"),
+        Pattern::Group(members) => write_members(out, members, ","),
+        Pattern::Interleave(members) => write_members(out, members, "&"),
+        Pattern::Choice(members) => write_members(out, members, "|"),
     }
 }
 
-/// What assembling a set written gives: its grammar, or the refusal as its name and fields.
-struct Assembly;
+/// A refusal as its name and fields.
+fn refusal_line(alloc: Global, refusal: &Refusal) -> Result<String, AllocError> {
+    format!(in alloc; "{refusal:?}")
+}
 
-impl Subject for Assembly {
-    fn answers<R: Abort + AllocGlobal>(&self, rt: &R, given: &str, wanted: &str) {
-        let found = match assemble(rt.alloc(), &written_set(rt, given)) {
-            Ok(grammar) => grammar_line(rt, grammar),
-            Err(refusal) => refusal_line(rt, refusal),
-        };
-        same_for(rt, given, found.as_str(), wanted);
+/// What assembling a set gives: its grammar, or the refusal.
+fn assembled_line(alloc: Global, set: &ModuleSet) -> Result<String, AllocError> {
+    match assemble(alloc, set) {
+        Ok(grammar) => grammar_line(alloc, &grammar),
+        Err(refusal) => refusal_line(alloc, &refusal),
     }
 }
 
-/// A grammar, as rows write it.
-fn grammar_line(rt: &(impl Abort + AllocGlobal), grammar: Grammar) -> String {
-    written(rt, &grammar)
-}
-
-/// A refusal, as rows write it.
-fn refusal_line(rt: &(impl Abort + AllocGlobal), refusal: Refusal) -> String {
-    made(rt, format!(in rt.alloc(); "{refusal:?}"))
+/// Assembling the set written gives what is wanted.
+fn assembles(rt: &(impl Abort + AllocGlobal), given: &str, wanted: &str) {
+    let set = written_set(rt.alloc(), given).expect(rt, "no set");
+    let found = assembled_line(rt.alloc(), &set).expect(rt, "no memory");
+    assert_eq!(rt; found.as_str(), wanted, "{given}");
 }
 
 const GRAMMARS: &str = r#"@a
@@ -232,35 +242,29 @@ z = empty b2 = text
 
 #[test]
 fn grammars(rt: HostRuntime) {
-    each_set(&rt, &Assembly, GRAMMARS);
+    let rows = rows(rt.alloc(), GRAMMARS, "\n\n", "\n=> ").expect(&rt, "no rows");
+    for (given, wanted) in &rows {
+        assembles(&rt, given, wanted);
+    }
 }
 
 /// The first places of the start's members, and then those of each definition's.
-struct FirstPlaces;
-
-impl Subject for FirstPlaces {
-    fn answers<R: Abort + AllocGlobal>(&self, rt: &R, given: &str, wanted: &str) {
-        let found = match assemble(rt.alloc(), &written_set(rt, given)) {
-            Ok(grammar) => firsts_line(rt, &grammar),
-            Err(refusal) => refusal_line(rt, refusal),
-        };
-        same_for(rt, given, found.as_str(), wanted);
-    }
-}
-
-/// First places, as rows write them.
-fn firsts_line(rt: &(impl Abort + AllocGlobal), grammar: &Grammar) -> String {
+fn firsts_line(alloc: Global, grammar: &Grammar) -> Result<String, AllocError> {
     let start = grammar.start_firsts();
-    let mut out = made(rt, format!(in rt.alloc(); "{start:?}"));
+    let mut out = format!(in alloc; "{start:?}")?;
     for number in 0..grammar.defs().len() {
         let firsts = grammar.firsts(number);
-        push(
-            rt,
-            &mut out,
-            made(rt, format!(in rt.alloc(); " {firsts:?}")).as_str(),
-        );
+        out.push_str(format!(in alloc; " {firsts:?}")?.as_str())?;
     }
-    out
+    Ok(out)
+}
+
+/// The grammar of the set written has these first places.
+fn has_firsts(rt: &(impl Abort + AllocGlobal), given: &str, wanted: &str) {
+    let set = written_set(rt.alloc(), given).expect(rt, "no set");
+    let grammar = assemble(rt.alloc(), &set).expect(rt, "no grammar");
+    let found = firsts_line(rt.alloc(), &grammar).expect(rt, "no memory");
+    assert_eq!(rt; found.as_str(), wanted, "{given}");
 }
 
 const FIRST_PLACES: &str = r#"@main
@@ -285,7 +289,10 @@ start &= text
 
 #[test]
 fn repeated_bodies_are_told(rt: HostRuntime) {
-    each_set(&rt, &FirstPlaces, FIRST_PLACES);
+    let rows = rows(rt.alloc(), FIRST_PLACES, "\n\n", "\n=> ").expect(&rt, "no rows");
+    for (given, wanted) in &rows {
+        has_firsts(&rt, given, wanted);
+    }
 }
 
 const REFUSALS: &str = r#"@
@@ -387,5 +394,8 @@ start = x
 
 #[test]
 fn refusals(rt: HostRuntime) {
-    each_set(&rt, &Assembly, REFUSALS);
+    let rows = rows(rt.alloc(), REFUSALS, "\n\n", "\n=> ").expect(&rt, "no rows");
+    for (given, wanted) in &rows {
+        assembles(&rt, given, wanted);
+    }
 }

@@ -3,14 +3,13 @@ ghost use Rattle.std.specs.Prelude.{All, IsTrue};
 ghost use Rattle.rn_pattern.specs.Store.{KeepsTrees};
 
 use crate::memory::{MAIN, SET, tell};
-use crate::rows::{holds, owned, same_count, written_set};
-use crate::samples::{BEGIN, END, is_reference, mark, name};
+use crate::samples::{BEGIN, END, is_reference, mark, name, written_set};
 use rn_assemble::{Grammar, Refusal, assemble};
 use rn_modset::ModuleSet;
 use rn_pattern::{Interned, NameClass, Patterns, Plain};
 use rn_syntax::{SyntaxFault, includes, parse};
 use rn_text::{is_keyword, is_ncname, tokens};
-use std::alloc::AllocError;
+use std::alloc::{AllocError, Global};
 use std::process::Abort;
 
 /// What constructors are given besides patterns.
@@ -20,14 +19,12 @@ struct Parts {
     parameters: Vec<(String, String)>,
 }
 
-fn given(rt: &(impl Abort + AllocGlobal)) -> Parts {
-    let mut parameters = Vec::new(rt.alloc());
-    let parameter = (owned(rt, "k"), owned(rt, "v"));
-    parameters.push(parameter).expect(rt, "no memory");
-    Parts {
-        class: name(rt.alloc(), "u", "n").expect(rt, "no memory"),
-        parameters,
-    }
+fn given(alloc: Global) -> Result<Parts, AllocError> {
+    let mut parameters = Vec::new(alloc);
+    let parameter = (String::from_str(alloc, "k")?, String::from_str(alloc, "v")?);
+    parameters.push(parameter)?;
+    let class = name(alloc, "u", "n")?;
+    Ok(Parts { class, parameters })
 }
 
 /// A pattern of each constructor, of the numbers 0 to 12, over patterns of the store.
@@ -40,7 +37,8 @@ fn made<P: Patterns>(
 ) -> Result<P::Id, AllocError>
     requires a { IsTrue (P.knows store.old a) }
     requires members { All (λ i. IsTrue (P.knows store.old i)) members.now }
-    ensures { KeepsTrees (P.knows store.old) (P.tree_of store.old) (P.knows store.new) (P.tree_of store.new) }
+    ensures { KeepsTrees (P.knows store.old) (P.tree_of store.old)
+        (P.knows store.new) (P.tree_of store.new) }
 {
     match number {
         0 => store.not_allowed(),
@@ -75,18 +73,18 @@ fn is_refused<P: Patterns>(
     let answer = made(store, parts, a, members.as_slice(), number);
     mark(rt.alloc(), END);
     let are_kept = is_reference(store, a, "a") && is_reference(store, b, "b");
-    holds(rt, are_kept, "a pattern is lost");
+    assert!(rt; are_kept, "a pattern is lost");
     answer.is_err()
 }
 
 #[test]
 fn constructors_of_a_plain_store(rt: HostRuntime) {
-    let parts = given(&rt);
+    let parts = given(rt.alloc()).expect(&rt, "no memory");
     let mut was_refused = false;
     for number in 0..13 {
         let mut store = Plain::new(rt.alloc());
         if is_refused(&rt, &mut store, &parts, number) {
-            same_count(&rt, store.nodes(), 2);
+            assert_eq!(rt; store.nodes(), 2);
             was_refused = true;
         }
     }
@@ -95,12 +93,12 @@ fn constructors_of_a_plain_store(rt: HostRuntime) {
 
 #[test]
 fn constructors_of_an_interned_store(rt: HostRuntime) {
-    let parts = given(&rt);
+    let parts = given(rt.alloc()).expect(&rt, "no memory");
     let mut was_refused = false;
     for number in 0..13 {
         let mut store = Interned::new(rt.alloc());
         if is_refused(&rt, &mut store, &parts, number) {
-            same_count(&rt, store.nodes(), 2);
+            assert_eq!(rt; store.nodes(), 2);
             was_refused = true;
         }
     }
@@ -114,8 +112,8 @@ fn a_module_is_read(rt: HostRuntime) {
     let answer = parse(rt.alloc(), found.as_slice());
     mark(rt.alloc(), END);
     match &answer {
-        Ok(module) => same_count(&rt, module.items.len(), 3),
-        Err(fault) => holds(&rt, *fault == SyntaxFault::Memory, "memory is refused"),
+        Ok(module) => assert_eq!(rt; module.items.len(), 3),
+        Err(fault) => assert!(rt; *fault == SyntaxFault::Memory, "memory is refused"),
     }
     tell(&rt, answer.is_err());
 }
@@ -145,14 +143,14 @@ fn is_refused_grammar(rt: &(impl Abort + AllocGlobal), set: &ModuleSet) -> bool 
 /// A grammar has one definition, or memory is refused.
 fn is_assembled(rt: &impl Abort, answer: &Result<Grammar, Refusal>) {
     match answer {
-        Ok(grammar) => same_count(rt, grammar.defs().len(), 1),
-        Err(refusal) => holds(rt, *refusal == Refusal::Memory, "memory is refused"),
+        Ok(grammar) => assert_eq!(rt; grammar.defs().len(), 1),
+        Err(refusal) => assert!(rt; *refusal == Refusal::Memory, "memory is refused"),
     }
 }
 
 #[test]
 fn a_set_is_assembled(rt: HostRuntime) {
-    let set = written_set(&rt, SET);
+    let set = written_set(rt.alloc(), SET).expect(&rt, "no set");
     tell(&rt, is_refused_grammar(&rt, &set));
 }
 
@@ -167,7 +165,7 @@ fn names_and_stores_need_no_memory(rt: HostRuntime) {
     let plain = Plain::new(rt.alloc()).nodes();
     let interned = Interned::new(rt.alloc()).nodes();
     mark(rt.alloc(), END);
-    holds(&rt, are_told && is_kept, "names and stores are told");
-    holds(&rt, plain == 0 && interned == 0, "new stores are empty");
+    assert!(rt; are_told && is_kept, "names and stores are told");
+    assert!(rt; plain == 0 && interned == 0, "new stores are empty");
     tell(&rt, false);
 }

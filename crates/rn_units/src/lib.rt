@@ -13,8 +13,6 @@ mod layers;
 mod memory;
 #[cfg(test)]
 mod modules;
-#[cfg(test)]
-mod rows;
 pub mod samples;
 #[cfg(test)]
 mod sets;

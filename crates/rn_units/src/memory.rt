@@ -1,8 +1,7 @@
 // Calls on texts, literals, sets and bundles, with their requests for memory refused in turn by what tests/out-of-memory loads
 // before the tests' program. A call that is refused answers want of memory, in its own type, and leaves what it was lent.
 // Without a refusal, as in the gate, it gives its own answer. Each test tells whether a call was refused.
-use crate::rows::{contribution, holds, made, owned, same, same_bytes, same_count, written_set};
-use crate::samples::{BEGIN, END, ONE, held, mark};
+use crate::samples::{BEGIN, END, ONE, contribution, held, mark, written_set};
 use rn_modset::{AddFault, BundleFault, ModuleSet, SetFault, read_bundle, write_bundle};
 use rn_text::{TextFault, literal, tokens, write_literal};
 use std::process::Abort;
@@ -26,8 +25,8 @@ fn a_text_is_cut(rt: HostRuntime) {
     let answer = tokens(rt.alloc(), MAIN.as_bytes());
     mark(rt.alloc(), END);
     match &answer {
-        Ok(found) => same_count(&rt, found.len(), 11),
-        Err(fault) => holds(&rt, *fault == TextFault::Memory, "memory is refused"),
+        Ok(found) => assert_eq!(rt; found.len(), 11),
+        Err(fault) => assert!(rt; *fault == TextFault::Memory, "memory is refused"),
     }
     tell(&rt, answer.is_err());
 }
@@ -40,7 +39,7 @@ fn a_literal_is_read(rt: HostRuntime) {
     let answer = literal(rt.alloc(), segment);
     mark(rt.alloc(), END);
     if let Ok(text) = &answer {
-        same(&rt, text.as_str(), "A");
+        assert_eq!(rt; text.as_str(), "A");
     }
     tell(&rt, answer.is_err());
 }
@@ -53,14 +52,15 @@ const FOUR_HELD: &str = "a 1\nb 2\nc 3 withdrawn\ne 1\n";
 
 /// A set holds the contributions of these lines.
 fn holds_these(rt: &(impl Abort + AllocGlobal), set: &ModuleSet, wanted: &str) {
-    same(rt, made(rt, held(rt.alloc(), set)).as_str(), wanted);
+    let lines = held(rt.alloc(), set).expect(rt, "no memory");
+    assert_eq!(rt; lines.as_str(), wanted);
 }
 
 #[test]
 fn a_contribution_is_added(rt: HostRuntime) {
-    let mut set = written_set(&rt, FOUR);
-    let kept = contribution(&rt, "d 4\nz");
-    let given = contribution(&rt, "d 4\nz");
+    let mut set = written_set(rt.alloc(), FOUR).expect(&rt, "no set");
+    let kept = contribution(rt.alloc(), "d 4\nz").expect(&rt, "no contribution");
+    let given = contribution(rt.alloc(), "d 4\nz").expect(&rt, "no contribution");
     mark(rt.alloc(), BEGIN);
     let answer = set.add(given);
     mark(rt.alloc(), END);
@@ -68,7 +68,7 @@ fn a_contribution_is_added(rt: HostRuntime) {
         Ok(_) => "a 1\nb 2\nc 3 withdrawn\nd 4\ne 1\n",
         Err((back, fault)) => {
             let is_back = *back == kept && *fault == AddFault::Memory;
-            holds(&rt, is_back, "the contribution comes back");
+            assert!(rt; is_back, "the contribution comes back");
             FOUR_HELD
         }
     };
@@ -78,13 +78,13 @@ fn a_contribution_is_added(rt: HostRuntime) {
 
 #[test]
 fn sets_are_joined(rt: HostRuntime) {
-    let mut set = written_set(&rt, FOUR);
-    let other = written_set(&rt, "@a 2\nx\n@b 2\nz\n@d\n");
+    let mut set = written_set(rt.alloc(), FOUR).expect(&rt, "no set");
+    let other = written_set(rt.alloc(), "@a 2\nx\n@b 2\nz\n@d\n").expect(&rt, "no set");
     mark(rt.alloc(), BEGIN);
     let answer = set.join(&other);
     mark(rt.alloc(), END);
     let is_right = answer == Ok(()) || answer == Err(AddFault::Memory);
-    holds(&rt, is_right, "the set is joined or refused");
+    assert!(rt; is_right, "the set is joined or refused");
     let wanted = match answer {
         Ok(()) => "a 1\na 2\nb 2\nb 2\nc 3 withdrawn\nd 1\ne 1\n",
         Err(_) => FOUR_HELD,
@@ -95,12 +95,12 @@ fn sets_are_joined(rt: HostRuntime) {
 
 #[test]
 fn a_bundle_is_written(rt: HostRuntime) {
-    let set = written_set(&rt, "@t 7\nabc");
+    let set = written_set(rt.alloc(), "@t 7\nabc").expect(&rt, "no set");
     mark(rt.alloc(), BEGIN);
     let answer = write_bundle(rt.alloc(), &set);
     mark(rt.alloc(), END);
     if let Ok(bytes) = &answer {
-        same_bytes(&rt, bytes.as_slice(), ONE.as_bytes());
+        assert_eq!(rt; bytes.as_slice(), ONE.as_bytes());
     }
     tell(&rt, answer.is_err());
 }
@@ -112,14 +112,14 @@ fn a_bundle_is_read(rt: HostRuntime) {
     mark(rt.alloc(), END);
     match &answer {
         Ok(set) => holds_these(&rt, set, "t 7\n"),
-        Err(fault) => holds(&rt, *fault == BundleFault::Memory, "memory is refused"),
+        Err(fault) => assert!(rt; *fault == BundleFault::Memory, "memory is refused"),
     }
     tell(&rt, answer.is_err());
 }
 
 #[test]
 fn a_literal_is_written(rt: HostRuntime) {
-    let mut out = owned(&rt, "x");
+    let mut out = String::from_str(rt.alloc(), "x").expect(&rt, "no memory");
     mark(rt.alloc(), BEGIN);
     let answer = write_literal(&mut out, "a\"b\nc");
     mark(rt.alloc(), END);
@@ -127,46 +127,46 @@ fn a_literal_is_written(rt: HostRuntime) {
         Ok(()) => "x\"a\" ~ '\"' ~ \"b\\x{A}c\"",
         Err(_) => "x",
     };
-    same(&rt, out.as_str(), wanted);
+    assert_eq!(rt; out.as_str(), wanted);
     tell(&rt, answer.is_err());
 }
 
 #[test]
 fn effective_modules_are_found(rt: HostRuntime) {
-    let set = written_set(&rt, SET);
+    let set = written_set(rt.alloc(), SET).expect(&rt, "no set");
     mark(rt.alloc(), BEGIN);
     let answer = set.effective(rt.alloc());
     mark(rt.alloc(), END);
     match &answer {
-        Ok(modules) => same_count(&rt, modules.iter().count(), 2),
-        Err(fault) => holds(&rt, *fault == SetFault::Memory, "memory is refused"),
+        Ok(modules) => assert_eq!(rt; modules.iter().count(), 2),
+        Err(fault) => assert!(rt; *fault == SetFault::Memory, "memory is refused"),
     }
     tell(&rt, answer.is_err());
 }
 
 #[test]
 fn what_a_set_tells_needs_no_memory(rt: HostRuntime) {
-    let mut set = written_set(&rt, FOUR);
-    let given = contribution(&rt, "b 2\ny");
+    let mut set = written_set(rt.alloc(), FOUR).expect(&rt, "no set");
+    let given = contribution(rt.alloc(), "b 2\ny").expect(&rt, "no contribution");
     mark(rt.alloc(), BEGIN);
     let is_held = set.contains(&given) && set.len() == 4 && set.iter().count() == 4;
     let is_added = set.add(given).is_ok();
     let is_empty = ModuleSet::new(rt.alloc()).len() == 0;
     mark(rt.alloc(), END);
-    holds(&rt, is_held && is_added && is_empty, "the set tells it");
+    assert!(rt; is_held && is_added && is_empty, "the set tells it");
     holds_these(&rt, &set, FOUR_HELD);
     tell(&rt, false);
 }
 
 #[test]
 fn what_is_effective_needs_no_memory(rt: HostRuntime) {
-    let set = written_set(&rt, FOUR);
+    let set = written_set(rt.alloc(), FOUR).expect(&rt, "no set");
     let modules = set.effective(rt.alloc()).expect(&rt, "a conflict");
     mark(rt.alloc(), BEGIN);
     let count = modules.iter().count();
     let text = modules.get("b");
     mark(rt.alloc(), END);
     let is_right = count == 3 && text == Some(b"y".as_slice());
-    holds(&rt, is_right, "the modules are told");
+    assert!(rt; is_right, "the modules are told");
     tell(&rt, false);
 }

@@ -1,7 +1,8 @@
 // What a text's module is: brackets, and the literals of its includes.
-use crate::rows::{holds, push, repeated};
+use crate::samples::repeated;
 use rn_syntax::{Item, Module, SyntaxFault, includes, parse};
 use rn_text::{Token, tokens};
+use std::alloc::{AllocError, Global};
 use std::borrow::CowStr;
 use std::process::Abort;
 
@@ -23,16 +24,15 @@ fn fault(rt: &(impl Abort + AllocGlobal), text: &str) -> Option<SyntaxFault> {
 
 /// A text that opens this many brackets and closes them.
 fn nested(
-    rt: &(impl Abort + AllocGlobal),
+    alloc: Global,
     front: &str,
     open: &str,
     inner: &str,
     close: &str,
     count: usize,
-) -> String {
-    let mut text = repeated(rt, front, open, count, inner);
-    push(rt, &mut text, repeated(rt, "", close, count, "").as_str());
-    text
+) -> Result<String, AllocError> {
+    let opened = repeated(alloc, front, open, count, inner)?;
+    repeated(alloc, opened.as_str(), close, count, "")
 }
 
 /// Texts of brackets: what stands before them, a bracket, what is inside, its closing one, the place in bytes of the one that
@@ -48,19 +48,19 @@ static BRACKETS: [(&str, &str, &str, &str, usize, bool); 5] = [
 #[test]
 fn brackets_too_deep(rt: HostRuntime) {
     for (front, open, inner, close, at, _) in &BRACKETS {
-        let text = nested(&rt, front, open, inner, close, 257);
+        let text = nested(rt.alloc(), front, open, inner, close, 257).expect(&rt, "no memory");
         let found = fault(&rt, text.as_str());
-        holds(&rt, found == Some(SyntaxFault::Deep { at: *at }), front);
+        assert!(rt; found == Some(SyntaxFault::Deep { at: *at }), "{front}");
     }
 }
 
 #[test]
 fn deepest_brackets(rt: HostRuntime) {
     for (front, open, inner, close, _, is_module) in &BRACKETS {
-        let text = nested(&rt, front, open, inner, close, 256);
+        let text = nested(rt.alloc(), front, open, inner, close, 256).expect(&rt, "no memory");
         let at_end = Some(SyntaxFault::Syntax { at: text.len() });
         let wanted = if *is_module { None } else { at_end };
-        holds(&rt, fault(&rt, text.as_str()) == wanted, front);
+        assert!(rt; fault(&rt, text.as_str()) == wanted, "{front}");
     }
 }
 
@@ -110,6 +110,6 @@ fn borrowed_literals(rt: HostRuntime) {
         ("include \"l\\x{69}b\"", false),
         ("include '''a\r'''", false),
     ] {
-        holds(&rt, is_borrowed(&rt, text) == Some(wanted), text);
+        assert!(rt; is_borrowed(&rt, text) == Some(wanted), "{text}");
     }
 }

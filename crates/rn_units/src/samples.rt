@@ -25,6 +25,21 @@ pub fn repeated(
     Ok(text)
 }
 
+/// The rows of a table, which a text parts, each cut at its arrow into what is given and what is wanted. `None` where a row has no
+/// arrow, or memory is wanting.
+pub fn rows<'a>(
+    alloc: Global,
+    table: &'a str,
+    between: &str,
+    arrow: &str,
+) -> Option<Vec<(&'a str, &'a str)>> {
+    let mut rows = Vec::new(alloc);
+    for row in table.split(between) {
+        rows.push(row.split_once(arrow)?).ok()?;
+    }
+    Some(rows)
+}
+
 /// A name of a namespace.
 pub fn name(alloc: Global, uri: &str, local: &str) -> Result<NameClass, AllocError> {
     let uri = String::from_str(alloc, uri)?;

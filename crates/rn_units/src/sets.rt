@@ -1,5 +1,4 @@
 // Sets: what is added to them, what they refuse, and their bundles.
-use crate::rows::made;
 use crate::samples;
 use rn_modset::{AddFault, Contribution, ModuleSet, read_bundle, write_bundle};
 use std::process::Abort;
@@ -32,7 +31,7 @@ pub fn refused(
 
 /// The contributions that a set holds, a line each.
 pub fn held(rt: &(impl Abort + AllocGlobal), set: &ModuleSet) -> String {
-    made(rt, samples::held(rt.alloc(), set))
+    samples::held(rt.alloc(), set).expect(rt, "no memory")
 }
 
 /// The bundle of a set.

@@ -1,14 +1,13 @@
 // The canonical form of each constructor by rows, and the order.
-use crate::rows::{holds, owned, same_count};
-use crate::samples;
+use crate::samples::name;
 use rn_pattern::{Interned, NameClass, Pattern, Patterns, Plain};
-use std::alloc::AllocError;
+use std::alloc::{AllocError, Global};
 use std::cmp::Ordering;
 use std::process::Abort;
 
 /// What is told of a store holds.
 fn is_told(rt: &impl Abort, told: Result<bool, AllocError>, said: &str) {
-    holds(rt, told.expect(rt, "no memory"), said);
+    assert!(rt; told.expect(rt, "no memory"), "{said}");
 }
 
 /// Whether a group within a group leaves its members in it, each as often as before.
@@ -95,15 +94,15 @@ fn makes_a_pair(store: &mut Interned) -> Result<bool, AllocError> {
 #[test]
 fn interned_counts_what_is_new(rt: HostRuntime) {
     let mut store = Interned::new(rt.alloc());
-    same_count(&rt, store.nodes(), 0);
+    assert_eq!(rt; store.nodes(), 0);
     is_told(&rt, shares(&mut store), "a choice is shared");
-    same_count(&rt, store.nodes(), 3);
+    assert_eq!(rt; store.nodes(), 3);
     is_told(
         &rt,
         makes_a_pair(&mut store),
         "an interleave of a pattern twice",
     );
-    same_count(&rt, store.nodes(), 4);
+    assert_eq!(rt; store.nodes(), 4);
 }
 
 /// Whether a reference that is there already is made anew, and a choice of the two is the first.
@@ -117,47 +116,38 @@ fn makes_anew(store: &mut Plain) -> Result<bool, AllocError> {
 fn plain_looks_for_nothing(rt: HostRuntime) {
     let mut store = Plain::new(rt.alloc());
     is_told(&rt, makes_anew(&mut store), "a reference is made anew");
-    same_count(&rt, store.nodes(), 2);
-}
-
-/// A name of a namespace.
-fn name(rt: &(impl Abort + AllocGlobal), uri: &str, local: &str) -> NameClass {
-    samples::name(rt.alloc(), uri, local).expect(rt, "no memory")
+    assert_eq!(rt; store.nodes(), 2);
 }
 
 /// The name `a` of a namespace, as an except.
-fn except(rt: &(impl Abort + AllocGlobal), uri: &str) -> Option<Box<NameClass>> {
-    Some(Box::new(rt.alloc(), name(rt, uri, "a")).expect(rt, "no memory"))
+fn except(alloc: Global, uri: &str) -> Result<Option<Box<NameClass>>, AllocError> {
+    Ok(Some(Box::new(alloc, name(alloc, uri, "a")?)?))
 }
 
 /// Name classes in their order, of the numbers 0 to 7.
-fn class(rt: &(impl Abort + AllocGlobal), number: usize) -> NameClass {
-    match number {
+fn class(alloc: Global, number: usize) -> Result<NameClass, AllocError> {
+    Ok(match number {
         0 => NameClass::AnyName(None),
-        1 => NameClass::AnyName(except(rt, "")),
-        2 => NameClass::NsName(owned(rt, "u"), None),
-        3 => NameClass::NsName(owned(rt, "u"), except(rt, "u")),
-        4 => NameClass::NsName(owned(rt, "v"), None),
-        5 => name(rt, "a", "c"),
-        6 => name(rt, "b", "b"),
-        _ => NameClass::Choice(Vec::new(rt.alloc())),
-    }
+        1 => NameClass::AnyName(except(alloc, "")?),
+        2 => NameClass::NsName(String::from_str(alloc, "u")?, None),
+        3 => NameClass::NsName(String::from_str(alloc, "u")?, except(alloc, "u")?),
+        4 => NameClass::NsName(String::from_str(alloc, "v")?, None),
+        5 => name(alloc, "a", "c")?,
+        6 => name(alloc, "b", "b")?,
+        _ => NameClass::Choice(Vec::new(alloc)),
+    })
 }
 
 /// How the name classes of two numbers stand to each other.
-fn ordered_classes(rt: &(impl Abort + AllocGlobal), one: usize, other: usize) -> Ordering {
-    class(rt, one).cmp(&class(rt, other))
+fn ordered_classes(alloc: Global, one: usize, other: usize) -> Result<Ordering, AllocError> {
+    Ok(class(alloc, one)?.cmp(&class(alloc, other)?))
 }
 
 /// The name class of a number stands to each other as the numbers do.
 fn class_is_ordered(rt: &(impl Abort + AllocGlobal), one: usize) {
     for other in 0..8usize {
-        let order = ordered_classes(rt, one, other);
-        holds(
-            rt,
-            order == one.cmp(&other),
-            "name classes have their order",
-        );
+        let order = ordered_classes(rt.alloc(), one, other).expect(rt, "no memory");
+        assert!(rt; order == one.cmp(&other), "name classes have their order");
     }
 }
 
@@ -169,70 +159,71 @@ fn name_classes_are_ordered(rt: HostRuntime) {
 }
 
 /// A pattern in its box.
-fn boxed(rt: &(impl Abort + AllocGlobal), pattern: Pattern) -> Box<Pattern> {
-    Box::new(rt.alloc(), pattern).expect(rt, "no memory")
+fn boxed(alloc: Global, pattern: Pattern) -> Result<Box<Pattern>, AllocError> {
+    Ok(Box::new(alloc, pattern)?)
 }
 
 /// A value of the type `token`.
-fn value(rt: &(impl Abort + AllocGlobal)) -> Pattern {
-    Pattern::Value(owned(rt, ""), owned(rt, "token"), owned(rt, "x"))
+fn value(alloc: Global) -> Result<Pattern, AllocError> {
+    let library = String::from_str(alloc, "")?;
+    let name = String::from_str(alloc, "token")?;
+    Ok(Pattern::Value(library, name, String::from_str(alloc, "x")?))
 }
 
 /// Data of the type `token`.
-fn datum(rt: &(impl Abort + AllocGlobal), except: Option<Box<Pattern>>) -> Pattern {
-    Pattern::Datum(
-        owned(rt, ""),
-        owned(rt, "token"),
-        Vec::new(rt.alloc()),
-        except,
-    )
+fn datum(alloc: Global, except: Option<Box<Pattern>>) -> Result<Pattern, AllocError> {
+    let library = String::from_str(alloc, "")?;
+    let name = String::from_str(alloc, "token")?;
+    Ok(Pattern::Datum(library, name, Vec::new(alloc), except))
 }
 
 /// An attribute `a` of a text.
-fn attribute(rt: &(impl Abort + AllocGlobal)) -> Pattern {
-    Pattern::Attribute(name(rt, "", "a"), boxed(rt, Pattern::Text))
+fn attribute(alloc: Global) -> Result<Pattern, AllocError> {
+    let class = name(alloc, "", "a")?;
+    Ok(Pattern::Attribute(class, boxed(alloc, Pattern::Text)?))
 }
 
 /// An element of this name.
-fn element(rt: &(impl Abort + AllocGlobal), local: &str, content: Pattern) -> Pattern {
-    Pattern::Element(name(rt, "", local), boxed(rt, content))
+fn element(alloc: Global, local: &str, content: Pattern) -> Result<Pattern, AllocError> {
+    let class = name(alloc, "", local)?;
+    Ok(Pattern::Element(class, boxed(alloc, content)?))
 }
 
 /// Patterns in their order, of the numbers 0 to 16.
-fn pattern(rt: &(impl Abort + AllocGlobal), number: usize) -> Pattern {
-    match number {
+fn pattern(alloc: Global, number: usize) -> Result<Pattern, AllocError> {
+    Ok(match number {
         0 => Pattern::NotAllowed,
         1 => Pattern::Empty,
         2 => Pattern::Text,
-        3 => Pattern::Ref(owned(rt, "a")),
-        4 => Pattern::Ref(owned(rt, "b")),
-        5 => value(rt),
-        6 => datum(rt, None),
-        7 => datum(rt, Some(boxed(rt, Pattern::Empty))),
-        8 => Pattern::List(boxed(rt, Pattern::Text)),
-        9 => attribute(rt),
-        10 => element(rt, "a", Pattern::Empty),
-        11 => element(rt, "a", Pattern::Text),
-        12 => element(rt, "b", Pattern::Empty),
-        13 => Pattern::OneOrMore(boxed(rt, Pattern::Text)),
-        14 => Pattern::Group(Vec::new(rt.alloc())),
-        15 => Pattern::Interleave(Vec::new(rt.alloc())),
-        _ => Pattern::Choice(Vec::new(rt.alloc())),
-    }
+        3 => Pattern::Ref(String::from_str(alloc, "a")?),
+        4 => Pattern::Ref(String::from_str(alloc, "b")?),
+        5 => value(alloc)?,
+        6 => datum(alloc, None)?,
+        7 => datum(alloc, Some(boxed(alloc, Pattern::Empty)?))?,
+        8 => Pattern::List(boxed(alloc, Pattern::Text)?),
+        9 => attribute(alloc)?,
+        10 => element(alloc, "a", Pattern::Empty)?,
+        11 => element(alloc, "a", Pattern::Text)?,
+        12 => element(alloc, "b", Pattern::Empty)?,
+        13 => Pattern::OneOrMore(boxed(alloc, Pattern::Text)?),
+        14 => Pattern::Group(Vec::new(alloc)),
+        15 => Pattern::Interleave(Vec::new(alloc)),
+        _ => Pattern::Choice(Vec::new(alloc)),
+    })
 }
 
 /// How the patterns of two numbers stand to each other.
-fn ordered_patterns(rt: &(impl Abort + AllocGlobal), one: usize, other: usize) -> Ordering {
-    let one = boxed(rt, pattern(rt, one));
-    let other = boxed(rt, pattern(rt, other));
-    one.cmp(&other)
+fn ordered_patterns(alloc: Global, one: usize, other: usize) -> Result<Ordering, AllocError> {
+    let one = boxed(alloc, pattern(alloc, one)?)?;
+    let other = boxed(alloc, pattern(alloc, other)?)?;
+    Ok(one.cmp(&other))
 }
 
 /// The pattern of a number stands to each other as the numbers do.
 fn pattern_is_ordered(rt: &(impl Abort + AllocGlobal), one: usize) {
     for other in 0..17usize {
-        let order = ordered_patterns(rt, one, other);
-        holds(rt, order == one.cmp(&other), "patterns have their order");
+        let order = ordered_patterns(rt.alloc(), one, other).expect(rt, "no memory");
+        assert!(rt; order == one.cmp(&other), "patterns have their order");
     }
 }
 

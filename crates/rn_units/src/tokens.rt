@@ -1,7 +1,5 @@
 // Tokens and literals by example, characters at the ends of their ranges, and long sources.
-use crate::rows::{
-    Subject, each_pair, granted, holds, made, owned, push, repeated, same, same_count, same_for,
-};
+use crate::samples::repeated;
 use rn_text::{Kind, TextFault, Token, is_keyword, is_ncname, literal, tokens, write_literal};
 use std::alloc::{AllocError, Global};
 use std::process::Abort;
@@ -13,29 +11,26 @@ fn line(alloc: Global, token: &Token) -> Result<String, AllocError> {
 }
 
 // The kinds, texts and places of tokens.
-fn lines(rt: &(impl Abort + AllocGlobal), found: &[Token]) -> String {
-    let mut out = String::new(rt.alloc());
+fn lines(alloc: Global, found: &[Token]) -> Result<String, AllocError> {
+    let mut out = String::new(alloc);
     for token in found {
-        push(rt, &mut out, made(rt, line(rt.alloc(), token)).as_str());
+        out.push_str(line(alloc, token)?.as_str())?;
     }
-    out
+    Ok(out)
 }
 
 // The kinds, texts and places of a source's tokens, or its fault.
-fn shown(rt: &(impl Abort + AllocGlobal), src: &[u8]) -> String {
-    match tokens(rt.alloc(), src) {
-        Ok(found) => lines(rt, found.as_slice()),
-        Err(fault) => made(rt, format!(in rt.alloc(); "{fault:?}")),
+fn shown(alloc: Global, src: &[u8]) -> Result<String, AllocError> {
+    match tokens(alloc, src) {
+        Ok(found) => lines(alloc, found.as_slice()),
+        Err(fault) => format!(in alloc; "{fault:?}"),
     }
 }
 
-// The tokens of a source.
-struct Tokens;
-
-impl Subject for Tokens {
-    fn answers<R: Abort + AllocGlobal>(&self, rt: &R, given: &str, wanted: &str) {
-        same(rt, shown(rt, given.as_bytes()).as_str(), wanted);
-    }
+// A source has these tokens, or this fault.
+fn is_cut(rt: &(impl Abort + AllocGlobal), src: &[u8], wanted: &str) {
+    let found = shown(rt.alloc(), src).expect(rt, "no memory");
+    assert_eq!(rt; found.as_str(), wanted);
 }
 
 static SOURCES: [(&str, &str); 38] = [
@@ -99,7 +94,9 @@ static SOURCES: [(&str, &str); 38] = [
 
 #[test]
 fn sources_are_cut(rt: HostRuntime) {
-    each_pair(&rt, &Tokens, &SOURCES);
+    for (source, wanted) in &SOURCES {
+        is_cut(&rt, source.as_bytes(), wanted);
+    }
 }
 
 static FAULTS: [(&[u8], &str); 5] = [
@@ -113,7 +110,7 @@ static FAULTS: [(&[u8], &str); 5] = [
 #[test]
 fn faults_have_their_places(rt: HostRuntime) {
     for (source, wanted) in &FAULTS {
-        same(&rt, shown(&rt, source).as_str(), wanted);
+        is_cut(&rt, source, wanted);
     }
 }
 
@@ -130,25 +127,19 @@ static SEGMENTS: [(&str, &str); 10] = [
     ("name", ""),
 ];
 
-// The literal's text of a token.
-fn text_of(rt: &(impl Abort + AllocGlobal), token: &Token) -> String {
-    made(rt, literal(rt.alloc(), token))
-}
-
-// The literal's text of a source's first token, whatever its kind.
-struct FirstLiteral;
-
-impl Subject for FirstLiteral {
-    fn answers<R: Abort + AllocGlobal>(&self, rt: &R, given: &str, wanted: &str) {
-        let found = tokens(rt.alloc(), given.as_bytes()).expect(rt, "a fault");
-        let first = found.as_slice().first().expect(rt, "no token");
-        same_for(rt, given, text_of(rt, first).as_str(), wanted);
-    }
+// The literal of a source's first token, whatever its kind, has this text.
+fn first_is_read(rt: &(impl Abort + AllocGlobal), given: &str, wanted: &str) {
+    let found = tokens(rt.alloc(), given.as_bytes()).expect(rt, "a fault");
+    let first = found.as_slice().first().expect(rt, "no token");
+    let text = literal(rt.alloc(), first).expect(rt, "no memory");
+    assert_eq!(rt; text.as_str(), wanted, "{given}");
 }
 
 #[test]
 fn segments_are_read(rt: HostRuntime) {
-    each_pair(&rt, &FirstLiteral, &SEGMENTS);
+    for (given, wanted) in &SEGMENTS {
+        first_is_read(&rt, given, wanted);
+    }
 }
 
 static LITERALS: [(&str, &str); 9] = [
@@ -164,42 +155,37 @@ static LITERALS: [(&str, &str); 9] = [
 ];
 
 // The literal of a text.
-fn written(rt: &(impl Abort + AllocGlobal), text: &str) -> String {
-    let mut out = String::new(rt.alloc());
-    granted(rt, write_literal(&mut out, text));
-    out
+fn written(alloc: Global, text: &str) -> Result<String, AllocError> {
+    let mut out = String::new(alloc);
+    write_literal(&mut out, text)?;
+    Ok(out)
 }
 
 // The text of the segments among tokens.
-fn text_of_segments(rt: &(impl Abort + AllocGlobal), found: &[Token]) -> String {
-    let mut read = String::new(rt.alloc());
+fn text_of_segments(alloc: Global, found: &[Token]) -> Result<String, AllocError> {
+    let mut read = String::new(alloc);
     for token in found {
         if token.kind == Kind::Segment {
-            push(rt, &mut read, text_of(rt, token).as_str());
+            read.push_str(literal(alloc, token)?.as_str())?;
         }
     }
-    read
+    Ok(read)
 }
 
-// The text of the segments of a source.
-fn read_back(rt: &(impl Abort + AllocGlobal), src: &str) -> String {
-    let found = tokens(rt.alloc(), src.as_bytes()).expect(rt, "a fault");
-    text_of_segments(rt, found.as_slice())
-}
-
-// The literal of a text, which is read back.
-struct Literal;
-
-impl Subject for Literal {
-    fn answers<R: Abort + AllocGlobal>(&self, rt: &R, given: &str, wanted: &str) {
-        same_for(rt, given, written(rt, given).as_str(), wanted);
-        same_for(rt, wanted, read_back(rt, wanted).as_str(), given);
-    }
+// A text has this literal, which is read back.
+fn is_written(rt: &(impl Abort + AllocGlobal), given: &str, wanted: &str) {
+    let found = written(rt.alloc(), given).expect(rt, "no memory");
+    assert_eq!(rt; found.as_str(), wanted, "{given}");
+    let found = tokens(rt.alloc(), wanted.as_bytes()).expect(rt, "a fault");
+    let read = text_of_segments(rt.alloc(), found.as_slice()).expect(rt, "no memory");
+    assert_eq!(rt; read.as_str(), given, "{wanted}");
 }
 
 #[test]
 fn literals_are_written(rt: HostRuntime) {
-    each_pair(&rt, &Literal, &LITERALS);
+    for (given, wanted) in &LITERALS {
+        is_written(&rt, given, wanted);
+    }
 }
 
 // The first and the last character of each range that may begin a name.
@@ -235,9 +221,9 @@ static NO_NAME: [u32; 8] = [0x2C, 0x2F, 0x3A, 0xB6, 0xB8, 0x2041, 0x203E, 0xF000
 
 // Whether `front` and the character of this number are a name.
 fn is_name_with(rt: &(impl Abort + AllocGlobal), front: &str, number: u32) -> bool {
-    let mut text = owned(rt, front);
+    let mut text = String::from_str(rt.alloc(), front).expect(rt, "no memory");
     if let Some(c) = char::from_u32(number) {
-        granted(rt, text.push(c));
+        text.push(c).expect(rt, "no memory");
     }
     is_ncname(text.as_str())
 }
@@ -277,15 +263,11 @@ fn names_end_before_what_stands_in_none(rt: HostRuntime) {
 
 #[test]
 fn names_and_keywords_are_told(rt: HostRuntime) {
-    holds(&rt, !is_ncname(""), "no name");
-    holds(&rt, !is_ncname("a:b"), "no name with a colon");
-    holds(&rt, is_keyword("notAllowed"), "a keyword");
-    holds(
-        &rt,
-        !is_keyword("notallowed"),
-        "no keyword in small letters",
-    );
-    holds(&rt, !is_keyword(""), "no keyword without letters");
+    assert!(rt; !is_ncname(""), "no name");
+    assert!(rt; !is_ncname("a:b"), "no name with a colon");
+    assert!(rt; is_keyword("notAllowed"), "a keyword");
+    assert!(rt; !is_keyword("notallowed"), "no keyword in small letters");
+    assert!(rt; !is_keyword(""), "no keyword without letters");
 }
 
 // Sources of about 4 MB: a piece, how often it stands, and how many tokens it then makes.
@@ -310,8 +292,8 @@ fn has_tokens(
     times: usize,
     wanted: usize,
 ) {
-    let source = repeated(rt, quotes, piece, times, quotes);
-    same_count(rt, count(rt, source.as_str()), wanted);
+    let source = repeated(rt.alloc(), quotes, piece, times, quotes).expect(rt, "no memory");
+    assert_eq!(rt; count(rt, source.as_str()), wanted);
 }
 
 #[test]

@@ -1,5 +1,5 @@
 // What is compared in tests, what they are given, and rows of tables. A helper that lacks memory, or finds something else than is wanted, ends its test;
-// no function of a library may do so, so each crate of tests has its own.
+// no function of a library may do so.
 use rn_modset::{Contribution, ModuleSet};
 use rn_units::samples;
 use std::alloc::AllocError;

@@ -9,7 +9,7 @@ loop-character-preserved c =
     let parts = c.in-Some.ensures.steps.0 in
     let step = printed_step _ _ c.in-Some.character held.0 parts in (
       IsUtf8-past_char _ _ c.in-Some.character held.0 parts,
-      rw (c.in_ok-push.ensures.bytes, c.printable.ensures, append_assoc) (rw step at held.1),
+      rw (c.in_ok-push.ensures.bytes, c.printable_character.ensures, append_assoc) (rw step at held.1),
     )
 
 pub returns : goal.returns

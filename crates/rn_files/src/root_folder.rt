@@ -1,0 +1,58 @@
+// Folders: the root folder that is asked for, and the deepest one that holds all files.
+
+/// The folder below which files must lie, with a slash at its end: its real path, and as it was asked for, from the current
+/// folder.
+#[derive(Debug, Drop)]
+pub struct RootFolder {
+    pub real: String,
+    pub spelled: String,
+}
+
+impl RootFolder {
+    /// Whether the real path of a file lies below it.
+    pub fn holds(&self, path: &str) -> bool {
+        path.starts_with(self.real.as_str())
+    }
+
+    /// Whether a path lies below it, as it is spelled.
+    pub fn spells(&self, path: &str) -> bool {
+        self.holds(path) || path.starts_with(self.spelled.as_str())
+    }
+}
+
+/// A path up to its last slash, and with it; nothing where it has no slash.
+pub fn folder_of(path: &str) -> &str {
+    match path.rfind('/') {
+        Some(at) => &path[..at + 1],
+        None => "",
+    }
+}
+
+/// The folder that a folder lies in, where both end in a slash.
+fn outer_folder(folder: &str) -> &str {
+    folder_of(folder.strip_suffix('/').unwrap_or(folder))
+}
+
+/// The deepest folder that has both the path and all of the folder in it.
+fn shared_folder<'p>(folder: &'p str, path: &str) -> &'p str {
+    let mut shared = folder;
+    for _ in 0..folder.len() {
+        if path.starts_with(shared) {
+            break;
+        }
+        shared = outer_folder(shared);
+    }
+    shared
+}
+
+/// The deepest folder that holds all files, with its last slash; nothing where there are none.
+pub fn common_folder<'p>(paths: &[&'p str]) -> &'p str {
+    let [first, others @ ..] = paths else {
+        return "";
+    };
+    let mut folder = folder_of(first);
+    for path in others {
+        folder = shared_folder(folder, path);
+    }
+    folder
+}

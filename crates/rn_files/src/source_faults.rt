@@ -1,0 +1,49 @@
+// What is wrong with files, and where.
+use crate::files::FileFault;
+use crate::uri_references::ReferenceFault;
+/// What a fault is about.
+#[derive(Clone, Copy, Debug, PartialEq, Eq)]
+pub enum FaultPlace {
+    /// The file with this number among those that are asked for.
+    Word(usize),
+    /// The root folder.
+    Root,
+    /// The current folder.
+    Current,
+    /// This byte of the file with this number among those that were read.
+    Text { file: usize, at: usize },
+}
+
+/// What is wrong.
+#[derive(Debug, Drop, PartialEq, Eq)]
+pub enum FaultKind {
+    /// The file that is named there can't be read.
+    File(FileFault),
+    /// The reference names no file.
+    Reference(ReferenceFault),
+    /// Here is no UTF-8.
+    Encoding,
+    /// Here is no token.
+    Lexical,
+    /// Here the text is no pattern and no grammar any more.
+    Syntax,
+    /// Here brackets are too deep.
+    Deep,
+    /// There are more files than a set has modules.
+    Count,
+    /// The file that is named there doesn't lie below the root folder.
+    Outside,
+    /// The name of the module is longer than 200 bytes.
+    Name,
+    /// Another file has the name of the module.
+    Twice,
+    /// The reference closes a loop through these files, in order, of which the first is the one that is referred to here.
+    Loop(Vec<usize>),
+}
+
+/// A fault and its place.
+#[derive(Debug, Drop, PartialEq, Eq)]
+pub struct SourceFault {
+    pub place: FaultPlace,
+    pub kind: FaultKind,
+}

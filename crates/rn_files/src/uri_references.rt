@@ -1,0 +1,220 @@
+// References, resolved against the URI of their file (RFC 3986, section 5.2).
+ghost use Rattle.std.specs.Prelude.{◌≡◌, ◌⊎◌, ◌++◌, [], Err, IfErr, IfNone, IfOk, IfSome, MatchBool, ◌==◌, length, map, string_bytes};
+ghost use Rattle.std.specs.List.{list_any};
+ghost use Rattle.rn_files.specs.Escapes.{escaped};
+ghost use Rattle.rn_files.specs.Paths.{LeadAbove, path_of, without_dots};
+ghost use Rattle.rn_files.specs.References.{StandsFor, dotted, fault_of, resolved};
+ghost use Rattle.rn_files.specs.Uris as uris;
+
+use crate::escapes::{escape, has_escapes};
+use crate::paths::{joined_path, lead_above, segments, without_dots};
+use crate::uris::{Parts, recompose, split};
+use std::alloc::{AllocError, Global};
+use thiserror::Error;
+
+/// Why a reference names no file.
+#[derive(Clone, Copy, Debug, PartialEq, Eq, Error)]
+pub enum ReferenceFault {
+    /// It is empty.
+    #[error("the reference is empty")]
+    Empty,
+    /// It has a query.
+    #[error("the reference has a query")]
+    Query,
+    /// It has a fragment.
+    #[error("the reference has a fragment")]
+    Fragment,
+    /// A `%` begins no escape.
+    #[error("a % is not followed by two hexadecimal digits")]
+    Escape,
+    /// An escape stands for a byte that no name of a file holds: 0 or `/`.
+    #[error("an escape stands for a byte that no file name holds")]
+    Byte,
+    /// The bytes of the escapes are no UTF-8.
+    #[error("the escapes are not UTF-8")]
+    Encoding,
+    /// It names a host.
+    #[error("the reference names a host")]
+    Host,
+    /// It has a scheme other than `file`, and no map has a prefix of it.
+    #[error("no map says where the URI lies")]
+    Scheme,
+    /// It has the scheme `file` and no path from `/` on.
+    #[error("the path of a file URI begins with /")]
+    Relative,
+    /// A `..` of it leads above the root of the path.
+    #[error("`..` leads above the topmost folder")]
+    Above,
+    /// A request for memory was refused.
+    #[error("out of memory")]
+    Memory,
+}
+
+/// Want of memory.
+pub fn no_memory(_: AllocError) -> ReferenceFault
+    ensures { result ≡ ReferenceFault.Memory }
+{
+    ReferenceFault::Memory
+}
+
+/// The folder of the base's path: all segments but the last. Of a base with an authority and an empty path it is the root.
+fn folder_of<'p>(alloc: Global, base: &Parts<'p>) -> Result<Vec<&'p str>, AllocError>
+    ensures { IfOk result (λ v. map (λ s. s.now) v.items ≡ uris.folder_of (uris.seen base.now)) }
+{
+    if base.authority.is_some() && base.path.is_empty() {
+        return Ok(vec![in alloc; ""]?);
+    }
+    let mut folder = segments(alloc, base.path)?;
+    folder.pop();
+    Ok(folder)
+}
+
+/// The base's path up to its last slash, and then the reference's path (RFC 3986, section 5.2.3).
+fn merge_paths<'p>(
+    alloc: Global,
+    base: &Parts<'p>,
+    path: &'p str,
+) -> Result<Vec<&'p str>, AllocError>
+    ensures { IfOk result (λ v. map (λ s. s.now) v.items
+        ≡ uris.merged (uris.seen base.now) path.now) }
+{
+    let mut merged = folder_of(alloc, base)?;
+    let behind = segments(alloc, path)?;
+    merged.extend_from_slice(behind.as_slice())?;
+    Ok(merged)
+}
+
+/// Whether the reference has a scheme or an authority of its own.
+fn has_own(reference: &Parts<'_>) -> bool
+    ensures { result ≡ uris.has_own (uris.seen reference.now) }
+{
+    reference.scheme.is_some() || reference.authority.is_some()
+}
+
+/// The segments of the target's path, with its dot segments.
+fn dotted_path<'p>(
+    alloc: Global,
+    base: &Parts<'p>,
+    reference: &Parts<'p>,
+) -> Result<Vec<&'p str>, AllocError>
+    ensures { IfOk result (λ v. map (λ s. s.now) v.items
+        ≡ uris.dotted (uris.seen base.now) (uris.seen reference.now)) }
+{
+    if has_own(reference) || reference.path.starts_with('/') {
+        segments(alloc, reference.path)
+    } else {
+        merge_paths(alloc, base, reference.path)
+    }
+}
+
+/// The path of the target, without dot segments.
+fn target_path(alloc: Global, dotted: &[&str]) -> Result<String, AllocError>
+    ensures { IfOk result (λ path. string_bytes path
+        ≡ path_of (without_dots (map (λ s. s.now) dotted.now))) }
+{
+    let left = without_dots(alloc, dotted)?;
+    joined_path(alloc, left.as_slice())
+}
+
+/// The parts of the target, but for its path.
+fn target_parts<'p>(base: &Parts<'p>, reference: &Parts<'p>, path: &'p str) -> Parts<'p>
+    ensures { path.now ≡ (uris.target (uris.seen base.now) (uris.seen reference.now)).path
+        → uris.seen result ≡ uris.target (uris.seen base.now) (uris.seen reference.now) }
+{
+    Parts {
+        scheme: reference.scheme.or(base.scheme),
+        authority: if has_own(reference) {
+            reference.authority
+        } else {
+            base.authority
+        },
+        path,
+    }
+}
+
+/// The target of a reference that is not empty (RFC 3986, section 5.2.2).
+fn target(alloc: Global, base: &Parts<'_>, reference: &Parts<'_>) -> Result<String, AllocError>
+    ensures { IfOk result (λ uri. string_bytes uri
+        ≡ uris.recomposed (uris.target (uris.seen base.now) (uris.seen reference.now))) }
+{
+    let dotted = dotted_path(alloc, base, reference)?;
+    let path = target_path(alloc, dotted.as_slice())?;
+    recompose(alloc, &target_parts(base, reference, path.as_str()))
+}
+
+/// Whether a reference has a byte.
+fn has_byte(bytes: &[u8], wanted: u8) -> bool
+    ensures { result ≡ list_any (λ b. b == wanted) bytes.now }
+{
+    bytes.iter().any(|byte| *byte == wanted)
+}
+
+/// What is wrong with a reference.
+fn fault_of(reference: &str) -> Option<ReferenceFault>
+    ensures { result ≡ fault_of reference.now }
+{
+    let bytes = reference.as_bytes();
+    if bytes.is_empty() {
+        Some(ReferenceFault::Empty)
+    } else if has_byte(bytes, b'#') {
+        Some(ReferenceFault::Fragment)
+    } else if has_byte(bytes, b'?') {
+        Some(ReferenceFault::Query)
+    } else if !has_escapes(bytes) {
+        Some(ReferenceFault::Escape)
+    } else {
+        None
+    }
+}
+
+/// The URI that a reference without fault stands for.
+fn resolved_uri(alloc: Global, base: &str, reference: &str) -> Result<String, AllocError>
+    ensures { IfOk result (λ uri. string_bytes uri ≡ resolved base.now reference.now) }
+{
+    let text = escape(alloc, reference)?;
+    target(alloc, &split(base), &split(text.as_str()))
+}
+
+/// Whether a `..` of a reference without fault leads above the root of its path.
+fn leads_above(alloc: Global, base: &str, reference: &str) -> Result<bool, AllocError>
+    ensures { IfOk result (λ above. MatchBool above (LeadAbove (dotted base.now reference.now))
+        (¬ (LeadAbove (dotted base.now reference.now)))) }
+{
+    let text = escape(alloc, reference)?;
+    let dotted = dotted_path(alloc, &split(base), &split(text.as_str()))?;
+    lead_above(alloc, dotted.as_slice())
+}
+
+/// The URI that a reference stands for in a file that has the URI `base`. What no URI holds is escaped first (XLink,
+/// section 5.4), as RELAX NG says (4.5).
+///
+/// Refused are a reference that is empty, one with a fragment, one with a query, and one with a `%` that begins no escape, the
+/// first of these. Else the only error is `Memory`.
+pub fn resolve(alloc: Global, base: &str, reference: &str) -> Result<String, ReferenceFault>
+    ensures fault { IfSome (fault_of reference.now) (λ fault. result ≡ Err fault) }
+    ensures uri { IfOk result (λ uri. string_bytes uri ≡ resolved base.now reference.now) }
+    ensures memory { IfNone (fault_of reference.now)
+        (IfErr result (λ fault. fault ≡ ReferenceFault.Memory)) }
+{
+    match fault_of(reference) {
+        Some(fault) => Err(fault),
+        None => resolved_uri(alloc, base, reference).map_err(no_memory),
+    }
+}
+
+/// The URI that a reference in a file stands for, as `resolve` says. `Above` where a `..` leads above the root of its path.
+pub fn resolve_below(alloc: Global, base: &str, reference: &str) -> Result<String, ReferenceFault>
+    ensures fault { IfSome (fault_of reference.now) (λ fault. result ≡ Err fault) }
+    ensures uri { IfOk result (λ uri. StandsFor base.now reference.now (string_bytes uri)) }
+    ensures above { IfNone (fault_of reference.now) (IfErr result (λ fault.
+        (fault ≡ ReferenceFault.Memory)
+        ⊎ ((fault ≡ ReferenceFault.Above) × LeadAbove (dotted base.now reference.now)))) }
+{
+    if let Some(fault) = fault_of(reference) {
+        return Err(fault);
+    }
+    if leads_above(alloc, base, reference).map_err(no_memory)? {
+        return Err(ReferenceFault::Above);
+    }
+    resolved_uri(alloc, base, reference).map_err(no_memory)
+}

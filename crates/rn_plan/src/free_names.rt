@@ -1,0 +1,110 @@
+// Whether the names that were made are free.
+ghost use Rattle.std.specs.Prelude.{◌≡◌, ◌<◌, false, length, slice_index, take, IfOk, IfSome, IsTrue, IsFalse, option_copied, string_bytes};
+ghost use Rattle.std.specs.BTreeSet.{contains_text};
+ghost use Rattle.std.specs.List.{AllByRecursion};
+ghost use Rattle.rn_plan.specs.Free.{AreFree, FileIsFree, IsFreeName, IsNoOwn, PartIsFree, name_span, unquoted};
+ghost use Rattle.rn_plan.specs.Files.{files_of};
+
+use crate::given::Given;
+use crate::own_names::{Names, Taken};
+use crate::scopes::Scope;
+use crate::units::Units;
+use rn_outline::{Part, PartKind, Span};
+use std::alloc::{AllocError, Global};
+use std::collections::BTreeSet;
+
+/// Whether no name that the files write is one that was made for a scope, or for a start.
+pub(crate) fn are_free(units: &Units<'_>, names: &Names) -> bool
+    ensures { IsTrue result
+        → AreFree (files_of units.now) names.now.own (string_bytes names.now.start) }
+{
+    for given in &units.files {
+        if !is_free_file(given, names) {
+            return false;
+        }
+    }
+    true
+}
+
+/// The same, of the names that one file writes.
+fn is_free_file(given: &Given<'_>, names: &Names) -> bool
+    ensures { IsTrue result
+        → FileIsFree names.now.own (string_bytes names.now.start) given.now.file }
+{
+    let mut rest = given.file.outline.parts.as_slice();
+    'parts: while let Some((part, behind)) = rest.split_first() {
+        if !is_free_part(given.file.text, part, names) {
+            return false;
+        }
+        rest = behind;
+    }
+    true
+}
+
+fn is_free_part(text: &str, part: &Part, names: &Names) -> bool
+    ensures { IsTrue result
+        → PartIsFree names.now.own (string_bytes names.now.start) text.now part.now }
+{
+    let Some(span) = name_span(&part.kind) else {
+        return true;
+    };
+    match text.get(span.from..span.to) {
+        Some(token) => is_free(unquoted_name(token), names),
+        None => false,
+    }
+}
+
+/// Whether a name is neither that of a start nor one with a stem that was made.
+fn is_free(name: &str, names: &Names) -> bool
+    ensures { IsTrue result → IsFreeName names.now.own (string_bytes names.now.start) name.now }
+{
+    name != names.start.as_str() && !is_own(&names.own, name)
+}
+
+/// The token that is the name which a part defines or refers to.
+fn name_span(kind: &PartKind) -> Option<Span>
+    ensures { result ≡ name_span kind.now }
+{
+    match kind {
+        PartKind::Define { name, .. } | PartKind::Reference { name } | PartKind::Parent { name } =>
+            { Some(*name) }
+        _ => None,
+    }
+}
+
+/// A name without the backslash of a quoted one.
+fn unquoted_name(token: &str) -> &str
+    ensures { result.now ≡ unquoted token.now }
+{
+    if let Some(name) = token.strip_prefix('\\') {
+        return name;
+    }
+    token
+}
+
+/// Whether a name begins with one of these stems and a dot.
+fn is_own(own: &BTreeSet<String>, name: &str) -> bool
+    ensures { IsFalse result → IsNoOwn own.now name.now }
+{
+    for at in 0..name.len() {
+        if ends_stem(own, name, at) {
+            return true;
+        }
+    }
+    false
+}
+
+/// Whether a dot stands at a byte, and one of these stems before it.
+fn ends_stem(own: &BTreeSet<String>, name: &str, at: usize) -> bool
+    requires { at < length name.now }
+    ensures { IsFalse result → slice_index name.now at ≡ 46
+        → contains_text own.now (take at name.now) ≡ false }
+{
+    if name.as_bytes()[at] != b'.' {
+        return false;
+    }
+    match name.get(..at) {
+        Some(front) => own.contains(front),
+        None => true,
+    }
+}

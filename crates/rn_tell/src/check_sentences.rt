@@ -1,0 +1,69 @@
+// The fault of a text as a sentence.
+use rn_merge::Place;
+use rn_text::{Token, tokens};
+use std::alloc::{AllocError, Global};
+
+/// Of bytes that are no UTF-8.
+pub const ENCODING: &str = "the file is not UTF-8 from here on";
+
+/// Of what is no token, white space or comment.
+pub const LEXICAL: &str = "nothing that the compact syntax has begins like this";
+
+/// Of a bracket too many.
+pub const DEEP: &str = "more than 256 brackets are open here";
+
+/// Of a request for memory that was refused.
+pub const MEMORY: &str = "out of memory";
+
+/// The byte where a text is at fault; the first one where memory did not suffice.
+pub fn place_at(place: &Place) -> usize {
+    match place {
+        Place::Encoding { at }
+        | Place::Lexical { at }
+        | Place::Deep { at }
+        | Place::Syntax { at }
+        | Place::Prefix { at }
+        | Place::Builtin { at }
+        | Place::ContextValue { at }
+        | Place::Except { at } => *at,
+        Place::Memory => 0,
+    }
+}
+
+/// What is wrong with a text.
+pub fn check_sentence(alloc: Global, text: &str, place: &Place) -> Result<String, AllocError> {
+    let sentence = match place {
+        Place::Syntax { at } => return unexpected_token(alloc, text, *at),
+        Place::Encoding { .. } => ENCODING,
+        Place::Lexical { .. } => LEXICAL,
+        Place::Deep { .. } => DEEP,
+        Place::Prefix { .. } =>
+            "this prefix is not declared, or is declared twice or against its meaning",
+        Place::Builtin { .. } =>
+            "without a datatype library there are only `string` and `token`, without parameters",
+        Place::ContextValue { .. } =>
+            "a value of the type QName or NOTATION depends on where it is written, and can't be merged",
+        Place::Except { .. } => "only data, values and choices of them can be excepted from data",
+        Place::Memory => MEMORY,
+    };
+    String::from_str(alloc, sentence)
+}
+
+/// The sentence on the token that can't stand where it is, or on the end of the text.
+pub fn unexpected_token(alloc: Global, text: &str, at: usize) -> Result<String, AllocError> {
+    let Ok(tokens) = tokens(alloc, text.as_bytes()) else {
+        return String::from_str(alloc, "this can't stand here");
+    };
+    match token_at(tokens.as_slice(), at) {
+        Some(token) => format!(in alloc; "`{token}` can't stand here"),
+        None => String::from_str(alloc, "the schema ends too early"),
+    }
+}
+
+/// The token that begins at a byte.
+fn token_at<'a>(tokens: &[Token<'a>], at: usize) -> Option<&'a str> {
+    tokens
+        .iter()
+        .find(|token| token.start == at)
+        .map(|token| token.text)
+}

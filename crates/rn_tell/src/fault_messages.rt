@@ -1,0 +1,171 @@
+// The faults of reading, lifting and gathering, as messages.
+use crate::check_sentences::{DEEP, ENCODING, LEXICAL, MEMORY, unexpected_token};
+use crate::report::{Message, Page, Spot};
+use rn_files::{FaultKind, FaultPlace, SourceFault};
+use rn_lift::Lifted;
+use rn_modset::AddFault;
+use rn_plan::{LiftFault, LiftFaultKind};
+use std::alloc::{AllocError, Global};
+
+/// Where a fault of reading is told; nowhere where it is about a word or a folder.
+pub fn reading_spot(place: FaultPlace) -> Option<Spot> {
+    match place {
+        FaultPlace::Text { file, at } => Some(Spot { file, at }),
+        FaultPlace::Word(_) | FaultPlace::Root | FaultPlace::Current => None,
+    }
+}
+
+/// The message of a fault of reading. The words are those that ask for files.
+pub fn reading_message(
+    alloc: Global,
+    words: &[String],
+    pages: &[Page<'_>],
+    fault: &SourceFault,
+) -> Result<Message, AllocError> {
+    let sentence = reading_sentence(alloc, pages, fault)?;
+    let sentence = match fault.place {
+        FaultPlace::Text { .. } => sentence,
+        FaultPlace::Word(number) => {
+            let word = words.get(number).map_or("-", |word| word.as_str());
+            sentence_about(alloc, word, sentence.as_str())?
+        }
+        FaultPlace::Root => sentence_about(alloc, "the folder of --root", sentence.as_str())?,
+        FaultPlace::Current => sentence_about(alloc, "the current folder", sentence.as_str())?,
+    };
+    Ok(Message {
+        spot: reading_spot(fault.place),
+        sentence,
+    })
+}
+
+/// A sentence about something that is named before it.
+fn sentence_about(alloc: Global, what: &str, sentence: &str) -> Result<String, AllocError> {
+    format!(in alloc; "{what}: {sentence}")
+}
+
+fn reading_sentence(
+    alloc: Global,
+    pages: &[Page<'_>],
+    fault: &SourceFault,
+) -> Result<String, AllocError> {
+    let sentence = match &fault.kind {
+        FaultKind::File(fault) => return format!(in alloc; "{fault}"),
+        FaultKind::Reference(fault) => return format!(in alloc; "{fault}"),
+        FaultKind::Syntax => return unexpected_at(alloc, pages, fault.place),
+        FaultKind::Loop(files) => return loop_sentence(alloc, pages, files.as_slice()),
+        FaultKind::Encoding => ENCODING,
+        FaultKind::Lexical => LEXICAL,
+        FaultKind::Deep => DEEP,
+        FaultKind::Count => "there are more than 1,024 files",
+        FaultKind::Outside => "the file is not below the root folder",
+        FaultKind::Name => "the name of the file, below the root folder, is longer than 200 bytes",
+        FaultKind::Twice => "another file has the same name",
+    };
+    String::from_str(alloc, sentence)
+}
+
+/// What can't stand at a place of a file.
+fn unexpected_at(
+    alloc: Global,
+    pages: &[Page<'_>],
+    place: FaultPlace,
+) -> Result<String, AllocError> {
+    match place {
+        FaultPlace::Text { file, at } => {
+            let text = match pages.get(file) {
+                Some(page) => page.text,
+                None => "",
+            };
+            unexpected_token(alloc, text, at)
+        }
+        _ => String::from_str(alloc, "this is no schema"),
+    }
+}
+
+/// The files of a loop of references, in order, which comes back to the first.
+fn loop_sentence(alloc: Global, pages: &[Page<'_>], files: &[usize]) -> Result<String, AllocError> {
+    let mut sentence = String::from_str(alloc, "the file refers to itself: ")?;
+    for file in files {
+        push_path(&mut sentence, pages, *file)?;
+        sentence.push_str(", ")?;
+    }
+    match files.first() {
+        Some(first) => push_path(&mut sentence, pages, *first)?,
+        None => {}
+    }
+    Ok(sentence)
+}
+
+/// Appends the path of a file.
+fn push_path(sentence: &mut String, pages: &[Page<'_>], file: usize) -> Result<(), AllocError> {
+    match pages.get(file) {
+        Some(page) => sentence.push_str(page.path),
+        None => sentence.push_str("-"),
+    }
+}
+
+/// Whether the fault is of a file that can't be read, and not of what is in the files.
+pub fn is_unread(fault: &SourceFault) -> bool {
+    matches!(&fault.kind, FaultKind::File(_))
+}
+
+/// Where a fault of lifting is told; nowhere where it is about all files.
+pub fn lift_spot(fault: &LiftFault) -> Option<Spot> {
+    match fault.kind {
+        LiftFaultKind::Many | LiftFaultKind::Unsound | LiftFaultKind::Memory => None,
+        _ => Some(Spot {
+            file: fault.file,
+            at: fault.at,
+        }),
+    }
+}
+
+/// The message of a fault of lifting.
+pub fn lift_message(alloc: Global, fault: &LiftFault) -> Result<Message, AllocError> {
+    let sentence = match fault.kind {
+        LiftFaultKind::IncludedPattern => {
+            "the file is a pattern, and only a grammar can be included; external takes a pattern"
+        }
+        LiftFaultKind::NoParent => "there is no grammar around this one that parent could mean",
+        LiftFaultKind::ExceptReference => {
+            "this stands for more than data, values and choices of them, which alone can be excepted"
+        }
+        LiftFaultKind::Prefix => "this prefix is not declared",
+        LiftFaultKind::NoFile => "no file is known that this means",
+        LiftFaultKind::Undefined => "this is not defined",
+        LiftFaultKind::Long => "what is excepted by names becomes longer than 4,194,304 bytes",
+        LiftFaultKind::Many => "the files become more than 65,536 modules",
+        LiftFaultKind::Outline => "what was read here is not what the file holds",
+        LiftFaultKind::Unsound => "the names that were made for the files are not free",
+        LiftFaultKind::Memory => MEMORY,
+    };
+    Ok(Message {
+        spot: lift_spot(fault),
+        sentence: String::from_str(alloc, sentence)?,
+    })
+}
+
+/// The message of a module, by its number, that can't be added to the set.
+pub fn set_message(
+    alloc: Global,
+    lifted: &Lifted,
+    module: usize,
+    fault: &AddFault,
+) -> Result<Message, AllocError> {
+    let sentence = match fault {
+        AddFault::BadName => "the name of a module is longer than 200 bytes",
+        AddFault::TooLong => "the text of a module is longer than 4,194,304 bytes",
+        AddFault::Full => "there are more than 1,024 modules",
+        AddFault::Memory => MEMORY,
+    };
+    Ok(Message {
+        spot: start_of(lifted, module),
+        sentence: String::from_str(alloc, sentence)?,
+    })
+}
+
+/// Where a module begins in the files.
+fn start_of(lifted: &Lifted, module: usize) -> Option<Spot> {
+    let (file, at) = lifted.modules.get(module)?.origin(0)?;
+    Some(Spot { file, at })
+}
