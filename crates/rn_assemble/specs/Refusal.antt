@@ -15,7 +15,7 @@ use Rattle.rn_syntax.specs.Tree.{Declaration, Item, Items}
 use Rattle.rn_syntax.specs.Tokens.{terminals}
 use Rattle.rn_syntax.specs.Fault.{HasTree}
 use Rattle.rn_syntax.specs.Places.{deep, prefix_places, builtin_places, context_places, except_places}
-use Rattle.rn_assemble.specs.Components.{Key, start_key, Component, Source, has_key, all_components, components, handed_on, modules_named, Includes, instance_limit, instances, roots, set_components}
+use Rattle.rn_assemble.specs.Components.{Key, start_key, Component, NamedModule, has_key, all_components, components, handed_on, modules_named, Includes, instance_limit, instances, roots, set_components}
 use Rattle.rn_assemble.specs.Combine.{IsPlainTwice, IsMixed, joined, joined_grammar}
 use Rattle.rn_assemble.specs.Least.{IsLeast, key_cmp}
 
@@ -98,7 +98,7 @@ abbrev pub IsFaulty : List Module → Text → Type 0
 IsFaulty texts x = (text : Text) × Contains texts (x, text) × ((f : TextFault) × HasTextFault text f)
 
 -- the includer has an include that names no module of the set
-abbrev pub Wants : List Source → Text → Text → Type 0
+abbrev pub Wants : List NamedModule → Text → Text → Type 0
 Wants modules x w = Includes modules x w × (modules_named w modules ≡ [])
 
 -- an include among the items defines the key, which the components of the included module lack (4.7)
@@ -115,24 +115,24 @@ module _ (included : Text → Text → List Component) (inherited : Text) (ds : 
     items_lack (t.item x xs) k = item_lacks x k || items_lack xs k
 
 -- in the module x, under no namespace: which keys are there does not depend on it
-abbrev pub Lacks : List Source → Text → Key → Type 0
-Lacks modules x k = (m : Source) × Contains (modules_named x modules) m × (items_lack (components modules) [] m.tree.declarations m.tree.items k ≡ true)
+abbrev pub Lacks : List NamedModule → Text → Key → Type 0
+Lacks modules x k = (m : NamedModule) × Contains (modules_named x modules) m × (items_lack (components modules) [] m.tree.declarations m.tree.items k ≡ true)
 
 -- what is joined under the key breaks the restrictions on name classes (4.16)
 abbrev pub BreaksNameRules : List Component → Key → Type 0
 BreaksNameRules cs k = (has_key k cs ≡ true) × ¬ KeepsNameRules (joined cs k)
 
 -- the grammar of the modules
-abbrev pub grammar_of : List Source → Grammar
+abbrev pub grammar_of : List NamedModule → Grammar
 grammar_of modules = joined_grammar (set_components modules)
 
 -- the refusal stands for the modules, with the least fields that it has
-abbrev pub StandsFor : List Source → Refusal → Type 0
+abbrev pub StandsFor : List NamedModule → Refusal → Type 0
 StandsFor modules (conflict x r) = ⊥
 StandsFor modules (faulty f x) = ⊥
 StandsFor modules (missing x w) = IsLeast text_cmp (λ y. (v : Text) × Wants modules y v) x × IsLeast text_cmp (Wants modules x) w
 StandsFor modules (cycle x) = IsLeast text_cmp (λ y. Reaches (Includes modules) y y) x
-StandsFor modules too_many_instances = instance_limit < sum_by (λ (r : Source). instances modules r.name) (roots modules)
+StandsFor modules too_many_instances = instance_limit < sum_by (λ (r : NamedModule). instances modules r.name) (roots modules)
 StandsFor modules (override x k) = IsLeast text_cmp (λ y. (j : Key) × Lacks modules y j) x × IsLeast key_cmp (Lacks modules x) k
 StandsFor modules (plain_twice k) = IsLeast key_cmp (λ j. IsPlainTwice j (set_components modules)) k
 StandsFor modules (mixed_methods k) = IsLeast key_cmp (λ j. IsMixed j (set_components modules)) k
@@ -142,21 +142,21 @@ StandsFor modules (recursive x) = IsLeast text_cmp (IsRecursive (grammar_of modu
 StandsFor modules (name_class k) = IsLeast key_cmp (BreaksNameRules (set_components modules)) k
 
 -- it is the first that stands for the modules
-abbrev pub IsFirstFor : List Source → Refusal → Type 0
+abbrev pub IsFirstFor : List NamedModule → Refusal → Type 0
 IsFirstFor modules r = StandsFor modules r × ((q : Refusal) → rank q < rank r → ¬ StandsFor modules q)
 
 -- the effective modules of the set with the trees of their texts, in the order of their names; no text has a fault
-pub record AreModules (s : List Member) (modules : List Source) : Type 0 where
+pub record AreModules (s : List Member) (modules : List NamedModule) : Type 0 where
   pub texts : List Module
   pub effective : AreEffective s texts
   pub faultless : (x : Text) → ¬ IsFaulty texts x
-  pub trees : AllZip (λ (x : Module) (m : Source). (m.name ≡ x.0) × IsModuleOf x.1 m.tree) texts modules
+  pub trees : AllZip (λ (x : Module) (m : NamedModule). (m.name ≡ x.0) × IsModuleOf x.1 m.tree) texts modules
 
 -- the refusal stands for the set
 abbrev pub Stands : List Member → Refusal → Type 0
 Stands s (conflict x r) = IsFirstConflict s x r
 Stands s (faulty f x) = (texts : List Module) × AreEffective s texts × IsLeast text_cmp (IsFaulty texts) x × ((text : Text) × Contains texts (x, text) × IsFirstFault text f)
-Stands s r = (modules : List Source) × AreModules s modules × StandsFor modules r
+Stands s r = (modules : List NamedModule) × AreModules s modules × StandsFor modules r
 
 -- it is the first that stands
 abbrev pub IsFirst : List Member → Refusal → Type 0
@@ -164,4 +164,4 @@ IsFirst s r = Stands s r × ((q : Refusal) → rank q < rank r → ¬ Stands s q
 
 -- no refusal stands, and this is the grammar of the set
 abbrev pub IsAssembled : List Member → Grammar → Type 0
-IsAssembled s g = ((r : Refusal) → ¬ Stands s r) × ((modules : List Source) × AreModules s modules × (g ≡ grammar_of modules))
+IsAssembled s g = ((r : Refusal) → ¬ Stands s r) × ((modules : List NamedModule) × AreModules s modules × (g ≡ grammar_of modules))

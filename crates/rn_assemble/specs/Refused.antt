@@ -6,7 +6,7 @@ use Rattle.rn_assemble.specs.declared.refusal.Key as code_key
 use Rattle.rn_assemble.specs.declared.refusal.Key.TheVariants as k
 use Rattle.rn_assemble.specs.declared.refusal.Refusal as code
 use Rattle.rn_assemble.specs.declared.refusal.Refusal.TheVariants as r
-use Rattle.rn_assemble.specs.Components.{Key, start_key, name_key, Source}
+use Rattle.rn_assemble.specs.Components.{Key, start_key, name_key, NamedModule}
 use Rattle.rn_assemble.specs.Refusal.{Refusal, encoding, lexical, deep_brackets, syntax, prefix, builtin, context_value, except, conflict, faulty, missing, cycle, too_many_instances, override, plain_twice, mixed_methods, no_start, undefined, recursive, name_class, IsFirst, IsFirstFor}
 
 abbrev pub key_view : code_key.Key → Key
@@ -39,7 +39,7 @@ refusal_view r.OutputTooDeep = None
 refusal_view r.Memory = None
 
 -- the first refusal that stands for the modules, or want of memory
-abbrev pub IsFirstOfModules : List Source → code.Refusal → Type 0
+abbrev pub IsFirstOfModules : List NamedModule → code.Refusal → Type 0
 IsFirstOfModules modules q = MatchOption (refusal_view q) (q ≡ r.Memory) (IsFirstFor modules)
 
 -- the first refusal that stands for the set, or want of memory

@@ -14,7 +14,7 @@ ghost use Rattle.rn_assemble.specs.inside.Methods.{CanCombine, IsUncombined};
 ghost use Rattle.rn_assemble.specs.Refusal.{IsAssembled, Lacks};
 ghost use Rattle.rn_assemble.specs.Refused.{IsFirstOfModules, IsFirstRefusal};
 ghost use Rattle.rn_assemble.specs.inside.Sound.{HasSoundReferences, IsUnsound};
-ghost use Rattle.rn_assemble.specs.inside.Views.{module_names, names_of, sources_view};
+ghost use Rattle.rn_assemble.specs.inside.Views.{module_names, modules_view, names_of};
 ghost use Rattle.rn_assemble.specs.inside.Listed.{OfKeys};
 
 use crate::components::{Components, Lack, components_of};
@@ -24,7 +24,8 @@ use crate::grammar::Grammar;
 use crate::inclusion::included_roots;
 use crate::joined_grammar::Joined;
 use crate::keys::{Keys, START};
-use crate::modules::{Source, sources};
+use crate::known_uris::KnownUris;
+use crate::modules::{NamedModule, read_modules};
 use crate::references::{least_recursive, references_of};
 use crate::refusal::Refusal;
 use crate::seeds::seed_of;
@@ -40,39 +41,50 @@ pub fn assemble(alloc: Global, set: &ModuleSet) -> Result<Grammar, Refusal>
     ensures { MatchResult result (λ g. IsAssembled set.now (grammar_view g))
         (IsFirstRefusal set.now) }
 {
-    let sources = sources(alloc, set)?;
-    let joined = assembled(alloc, sources.as_slice(), &seed_of(set))?;
+    let modules = read_modules(alloc, set)?;
+    let joined = assemble_modules(alloc, modules.as_slice(), &seed_of(set))?;
     Ok(Grammar { joined })
 }
 
 /// The grammar of the modules, or the first refusal that stands for them.
-fn assembled<'s>(alloc: Global, sources: &[Source<'s>], seed: &Seed) -> Result<Joined, Refusal>
-    requires in_order { IsStrictlySortedBy text_cmp (module_names sources.now) }
-    requires flat { AllByRecursion (λ (m : specs.Source). AreFlat m.tree.items)
-        (sources_view sources.now) }
-    ensures { MatchResult result (λ g. IsGrammarOf (sources_view sources.now) (joined_view g))
-        (IsFirstOfModules (sources_view sources.now)) }
+fn assemble_modules<'s>(
+    alloc: Global,
+    modules: &[NamedModule<'s>],
+    seed: &Seed,
+) -> Result<Joined, Refusal>
+    requires in_order { IsStrictlySortedBy text_cmp (module_names modules.now) }
+    requires flat { AllByRecursion (λ (m : specs.NamedModule). AreFlat m.tree.items)
+        (modules_view modules.now) }
+    ensures { MatchResult result (λ g. IsGrammarOf (modules_view modules.now) (joined_view g))
+        (IsFirstOfModules (modules_view modules.now)) }
 {
-    let roots = included_roots(alloc, sources)?;
-    let keys = Keys::new(alloc, sources, seed)?;
-    let contents = contents_of(alloc, sources, &keys)?;
-    let components = components_of(alloc, contents.as_slice(), roots.as_slice(), keys.len())?;
-    joined(alloc, sources, &keys, &components, seed)
+    let roots = included_roots(alloc, modules)?;
+    let keys = Keys::new(alloc, modules, seed)?;
+    let known = KnownUris::new(alloc)?;
+    let contents = contents_of(alloc, modules, &keys, &known)?;
+    let components = components_of(
+        alloc,
+        contents.as_slice(),
+        &known,
+        roots.as_slice(),
+        keys.len(),
+    )?;
+    join_components(alloc, modules, &keys, &components, seed)
 }
 
 /// The grammar to which the components of the modules are joined, or the first refusal that stands for them.
-fn joined<'s>(
+fn join_components<'s>(
     alloc: Global,
-    sources: &[Source<'_>],
+    modules: &[NamedModule<'_>],
     keys: &Keys<'s>,
     components: &Components<'_, '_, 's>,
     seed: &Seed,
 ) -> Result<Joined, Refusal>
-    requires { AreExpanded (sources_view sources.now) (names_of keys.now) components.now }
-    ensures { MatchResult result (λ g. IsGrammarOf (sources_view sources.now) (joined_view g))
-        (IsFirstOfModules (sources_view sources.now)) }
+    requires { AreExpanded (modules_view modules.now) (names_of keys.now) components.now }
+    ensures { MatchResult result (λ g. IsGrammarOf (modules_view modules.now) (joined_view g))
+        (IsFirstOfModules (modules_view modules.now)) }
 {
-    check_overrides(alloc, sources, keys, components.lack)?;
+    check_overrides(alloc, modules, keys, components.lack)?;
     check_methods(alloc, keys, components)?;
     check_references(alloc, keys, components)?;
     grammar(alloc, keys, components, seed)
@@ -81,19 +93,19 @@ fn joined<'s>(
 /// Refuses the least override of what isn't there.
 fn check_overrides(
     alloc: Global,
-    sources: &[Source<'_>],
+    modules: &[NamedModule<'_>],
     keys: &Keys<'_>,
     lack: Option<Lack>,
 ) -> Result<(), Refusal>
-    requires { IsLeastLack (sources_view sources.now) (names_of keys.now)
-        (Lacks (sources_view sources.now)) lack }
+    requires { IsLeastLack (modules_view modules.now) (names_of keys.now)
+        (Lacks (modules_view modules.now)) lack }
     ensures { MatchResult result (λ _. (y : Text) (k : specs.Key)
-        → ¬ Lacks (sources_view sources.now) y k) (IsLacking (sources_view sources.now)) }
+        → ¬ Lacks (modules_view modules.now) y k) (IsLacking (modules_view modules.now)) }
 {
     match lack {
         None => Ok(()),
         Some(lack) => Err(Refusal::Override {
-            module: String::from_str(alloc, sources[lack.module].name)?,
+            module: String::from_str(alloc, modules[lack.module].name)?,
             key: keys.key(alloc, lack.key)?,
         }),
     }

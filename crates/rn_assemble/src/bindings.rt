@@ -1,32 +1,45 @@
-// What the declarations of a module bind.
-ghost use Rattle.std.specs.Prelude.{◌≡◌, ◌++◌, ◌∷◌, [], List, Some, None, map, IfOk, OnOk, if◌then◌else◌, unwrap_or};
+// What the declarations of a module bind. Each declared URI is copied once, and shared by all that is resolved by it.
+ghost use Rattle.std.specs.Prelude.{◌≡◌, ◌++◌, ◌∷◌, [], List, Some, None, map, IfOk, OnOk, if◌then◌else◌};
 ghost use Rattle.std.specs.Option.{option_or};
+ghost use Rattle.std.specs.Rc.{rc_str_bytes};
 ghost use Rattle.std.specs.Str.{bytes_eq};
 ghost use Rattle.rn_pattern.specs.Tree.{Text};
 ghost use Rattle.rn_syntax.specs.Tree as tree;
-ghost use Rattle.rn_syntax.specs.Places as places;
-ghost use Rattle.rn_syntax.specs.View.{declaration_view, prefix_view, uri_view};
-ghost use Rattle.rn_assemble.specs.inside.Bound.{BindsAs, InScope, bound_default, bound_library, bound_namespace, bound_uri};
-ghost use Rattle.rn_assemble.specs.Components as components;
-ghost use Rattle.rn_assemble.specs.Resolve.{default_of, namespace_of, uri_text};
+ghost use Rattle.rn_syntax.specs.View.{declaration_view, uri_view};
+ghost use Rattle.rn_assemble.specs.inside.Bound.{BindsAs, bound_default, bound_library, bound_namespace, bound_uri};
 
-use rn_syntax::{Declaration, Prefix, Uri, XML_URI, XSD_URI};
+use crate::known_uris::KnownUris;
+use rn_syntax::{Declaration, Uri};
 use std::alloc::{AllocError, Global};
 use std::collections::BTreeMap;
+use std::rc::RcStr;
 
 /// What a namespace declaration gives: a URI, or the inherited namespace.
-#[derive(Clone, Copy)]
-enum Namespace<'t> {
-    Uri(&'t str),
+#[derive(Drop)]
+pub(crate) enum Namespace {
+    Uri(RcStr),
     Inherited,
+}
+
+impl Namespace {
+    /// The same namespace, its text shared.
+    fn share(&self) -> Result<Namespace, AllocError>
+        ensures { IfOk result (λ n. bound_uri n ≡ bound_uri self.now) }
+    {
+        match self {
+            Namespace::Uri(uri) => Ok(Namespace::Uri(uri.clone()?)),
+            Namespace::Inherited => Ok(Namespace::Inherited),
+        }
+    }
 }
 
 /// What a module's declarations bind its prefixes to, and its default namespace.
 #[derive(Drop)]
 pub(crate) struct Bindings<'t> {
-    default: Option<Namespace<'t>>,
-    namespaces: BTreeMap<&'t str, Namespace<'t>>,
-    libraries: BTreeMap<&'t str, &'t str>,
+    pub default: Option<Namespace>,
+    pub namespaces: BTreeMap<&'t str, Namespace>,
+    pub libraries: BTreeMap<&'t str, RcStr>,
+    pub known: KnownUris,
 }
 
 impl<'t> Bindings<'t> {
@@ -34,6 +47,7 @@ impl<'t> Bindings<'t> {
     pub fn new(
         alloc: Global,
         declarations: &'t [Declaration<'_>],
+        known: &KnownUris,
     ) -> Result<Bindings<'t>, AllocError>
         ensures { IfOk result (λ b. BindsAs b (map declaration_view declarations.now)) }
     {
@@ -41,35 +55,41 @@ impl<'t> Bindings<'t> {
             default: None,
             namespaces: BTreeMap::new(alloc),
             libraries: BTreeMap::new(alloc),
+            known: known.share()?,
         };
         for declaration in declarations {
-            bindings.declare(declaration)?;
+            bindings.declare(alloc, declaration)?;
         }
         Ok(bindings)
     }
 
     /// Adds what a declaration binds that was not bound.
-    fn declare(&mut self, declaration: &'t Declaration<'_>) -> Result<(), AllocError>
+    fn declare(&mut self, alloc: Global, declaration: &'t Declaration<'_>) -> Result<(), AllocError>
         ensures { OnOk result ((ds : List tree.Declaration) → BindsAs self.old ds
             → BindsAs self.new (ds ++ declaration_view declaration.now ∷ [])) }
     {
         match declaration {
-            Declaration::Namespace(prefix, uri) => self.bind(prefix.name, declared_namespace(uri)),
+            Declaration::Namespace(prefix, uri) => {
+                self.bind(prefix.name, declared_namespace(alloc, uri)?)
+            }
             Declaration::Default(_, prefix, uri) => {
-                self.bind_default(declared_namespace(uri));
+                let namespace = declared_namespace(alloc, uri)?;
+                self.bind_default(namespace.share()?);
                 match prefix {
-                    Some(prefix) => self.bind(prefix.name, declared_namespace(uri)),
+                    Some(prefix) => self.bind(prefix.name, namespace),
                     None => Ok(()),
                 }
             }
-            Declaration::Datatypes(prefix, uri) => self.bind_library(prefix.name, uri.as_str()),
+            Declaration::Datatypes(prefix, uri) => {
+                self.bind_library(prefix.name, RcStr::from_str(alloc, uri.as_str())?)
+            }
         }
     }
 
     /// Binds the default namespace, if it was not bound.
-    fn bind_default(&mut self, namespace: Namespace<'t>)
+    fn bind_default(&mut self, namespace: Namespace)
         ensures default { bound_default self.new
-            ≡ option_or (bound_default self.old) (Some (bound_uri namespace.entry)) }
+            ≡ option_or (bound_default self.old) (Some (bound_uri namespace)) }
         ensures namespaces { self.new.namespaces ≡ self.old.namespaces }
         ensures libraries { self.new.libraries ≡ self.old.libraries }
     {
@@ -79,11 +99,11 @@ impl<'t> Bindings<'t> {
     }
 
     /// Binds a prefix, if it was not bound.
-    fn bind(&mut self, prefix: &'t str, namespace: Namespace<'t>) -> Result<(), AllocError>
+    fn bind(&mut self, prefix: &'t str, namespace: Namespace) -> Result<(), AllocError>
         ensures default { self.new.default ≡ self.old.default }
         ensures namespaces { OnOk result ((p : Text)
             → bound_namespace self.new p ≡ option_or (bound_namespace self.old p)
-            (if bytes_eq prefix.now p then Some (bound_uri namespace.entry) else None)) }
+            (if bytes_eq prefix.now p then Some (bound_uri namespace) else None)) }
         ensures libraries { self.new.libraries ≡ self.old.libraries }
     {
         if !self.namespaces.contains_key(prefix) {
@@ -93,12 +113,12 @@ impl<'t> Bindings<'t> {
     }
 
     /// Binds a datatype prefix, if it was not bound.
-    fn bind_library(&mut self, prefix: &'t str, uri: &'t str) -> Result<(), AllocError>
+    fn bind_library(&mut self, prefix: &'t str, uri: RcStr) -> Result<(), AllocError>
         ensures default { self.new.default ≡ self.old.default }
         ensures namespaces { self.new.namespaces ≡ self.old.namespaces }
         ensures libraries { OnOk result ((p : Text)
             → bound_library self.new p ≡ option_or (bound_library self.old p)
-            (if bytes_eq prefix.now p then Some uri.now else None)) }
+            (if bytes_eq prefix.now p then Some (rc_str_bytes uri) else None)) }
     {
         if !self.libraries.contains_key(prefix) {
             self.libraries.insert(prefix, uri)?;
@@ -107,78 +127,12 @@ impl<'t> Bindings<'t> {
     }
 }
 
-fn declared_namespace<'t>(uri: &'t Uri<'_>) -> Namespace<'t>
-    ensures { bound_uri result ≡ uri_view uri.now }
+/// What a declaration of this URI gives.
+fn declared_namespace(alloc: Global, uri: &Uri<'_>) -> Result<Namespace, AllocError>
+    ensures { IfOk result (λ n. bound_uri n ≡ uri_view uri.now) }
 {
     match uri {
-        Uri::Literal(uri) => Namespace::Uri(uri.as_str()),
-        Uri::Inherited => Namespace::Inherited,
-    }
-}
-
-/// The declarations of a module under the namespace that it inherits.
-#[derive(Clone, Copy)]
-pub(crate) struct Scope<'c, 't> {
-    pub bindings: &'c Bindings<'t>,
-    pub inherited: &'t str,
-}
-
-impl<'c, 't> Scope<'c, 't> {
-    fn uri(self, namespace: Namespace<'t>) -> &'t str
-        ensures { result.now ≡ uri_text self.entry.inherited.now (bound_uri namespace.entry) }
-    {
-        match namespace {
-            Namespace::Uri(uri) => uri,
-            Namespace::Inherited => self.inherited,
-        }
-    }
-
-    /// The default namespace: the inherited one where none is declared.
-    pub fn default_namespace(self) -> &'t str
-        ensures { InScope self.entry (λ inherited ds. result.now ≡ default_of inherited ds) }
-    {
-        match self.bindings.default {
-            Some(uri) => self.uri(uri),
-            None => self.inherited,
-        }
-    }
-
-    /// The namespace of a prefix.
-    pub fn namespace(self, prefix: &'t str) -> &'t str
-        ensures { InScope self.entry (λ inherited ds. result.now
-            ≡ namespace_of inherited ds prefix.now) }
-    {
-        if prefix == "xml" {
-            return XML_URI;
-        }
-        match self.bindings.namespaces.get(prefix) {
-            Some(namespace) => self.uri(*namespace),
-            None => "",
-        }
-    }
-
-    /// The datatype library of a prefix.
-    pub fn library(self, prefix: &'t str) -> &'t str
-        ensures { InScope self.entry (λ inherited ds. result.now
-            ≡ unwrap_or (places.library_of ds prefix.now) []) }
-    {
-        if prefix == "xsd" {
-            return XSD_URI;
-        }
-        match self.bindings.libraries.get(prefix) {
-            Some(uri) => *uri,
-            None => "",
-        }
-    }
-
-    /// The namespace that an include hands on: that of its prefix, else the default one.
-    pub fn handed_on(self, inherit: Option<Prefix<'t>>) -> &'t str
-        ensures { InScope self.entry (λ inherited ds. result.now
-            ≡ components.handed_on inherited ds (prefix_view inherit.entry)) }
-    {
-        match inherit {
-            Some(prefix) => self.namespace(prefix.name),
-            None => self.default_namespace(),
-        }
+        Uri::Literal(uri) => Ok(Namespace::Uri(RcStr::from_str(alloc, uri.as_str())?)),
+        Uri::Inherited => Ok(Namespace::Inherited),
     }
 }

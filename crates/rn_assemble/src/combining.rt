@@ -15,7 +15,7 @@ ghost use Rattle.rn_assemble.specs.inside.Listed.{AtKey, AtPlace, Lists, Live, O
 
 use crate::components::{Body, Components};
 use crate::keys::Keys;
-use crate::nodes::{boxed, choice, interleave, shared};
+use crate::nodes::{box_pattern, choice, interleave, share_pattern};
 use crate::refusal::Refusal;
 use crate::resolution::pattern;
 use rn_pattern::Pattern;
@@ -99,7 +99,7 @@ type Shared = Vec<Option<Rc<Pattern>>>;
 
 /// The pattern of each key's components combined, `None` for a key that has none. `NameClass` names the least key one of
 /// whose components breaks the restrictions on name classes.
-pub(crate) fn combined(
+pub(crate) fn combine_components(
     alloc: Global,
     keys: &Keys<'_>,
     components: &Components<'_, '_, '_>,
@@ -110,13 +110,13 @@ pub(crate) fn combined(
     let mut shared: Shared = vec![in alloc; None; components.count_bodies()]?;
     let mut patterns = Vec::with_capacity(alloc, keys.len())?;
     for key in 0..keys.len() {
-        patterns.push(join(alloc, keys, components, &mut shared, key)?)?;
+        patterns.push(combine_key(alloc, keys, components, &mut shared, key)?)?;
     }
     Ok(patterns)
 }
 
 /// The pattern of one component is its own; several are one list, in their order.
-fn join(
+fn combine_key(
     alloc: Global,
     keys: &Keys<'_>,
     components: &Components<'_, '_, '_>,
@@ -134,16 +134,16 @@ fn join(
 {
     match components.of_key(key) {
         [] => Ok(None),
-        [place] => alone(alloc, keys, components, *place),
+        [place] => component_pattern(alloc, keys, components, *place),
         _ => {
-            let members = members(alloc, keys, components, shared, key)?;
-            Ok(Some(node(alloc, components, key, members)?))
+            let members = member_patterns(alloc, keys, components, shared, key)?;
+            Ok(Some(list_by_method(alloc, components, key, members)?))
         }
     }
 }
 
 /// The list of the members, by the key's method.
-fn node(
+fn list_by_method(
     alloc: Global,
     components: &Components<'_, '_, '_>,
     key: usize,
@@ -153,14 +153,14 @@ fn node(
         ≡ spec.combined k cs (trees_of (map shared_view members.items)))) }
 {
     if components.uses(key, Method::Interleave) {
-        boxed(alloc, interleave(members))
+        box_pattern(alloc, interleave(members))
     } else {
-        boxed(alloc, choice(members))
+        box_pattern(alloc, choice(members))
     }
 }
 
 /// The pattern of the component at a place.
-fn alone(
+fn component_pattern(
     alloc: Global,
     keys: &Keys<'_>,
     components: &Components<'_, '_, '_>,
@@ -176,11 +176,11 @@ fn alone(
     let Some(body) = components.body(number) else {
         return Ok(None);
     };
-    Ok(Some(resolved(alloc, keys, body)?))
+    Ok(Some(resolve_body(alloc, keys, body)?))
 }
 
 /// The patterns of the key's components, each body resolved once.
-fn members(
+fn member_patterns(
     alloc: Global,
     keys: &Keys<'_>,
     components: &Components<'_, '_, '_>,
@@ -199,7 +199,7 @@ fn members(
     let places = components.of_key(key);
     let mut members = Vec::with_capacity(alloc, places.len())?;
     for place in places {
-        if let Some(pattern) = member(alloc, keys, components, shared, *place)? {
+        if let Some(pattern) = member_pattern(alloc, keys, components, shared, *place)? {
             members.push(pattern)?;
         }
     }
@@ -207,7 +207,7 @@ fn members(
 }
 
 /// The pattern of the component at a place, shared by all components of its body.
-fn member(
+fn member_pattern(
     alloc: Global,
     keys: &Keys<'_>,
     components: &Components<'_, '_, '_>,
@@ -228,11 +228,11 @@ fn member(
     let Some(body) = components.body(number) else {
         return Ok(None);
     };
-    Ok(Some(share(alloc, keys, body, &mut shared[number])?))
+    Ok(Some(share_body(alloc, keys, body, &mut shared[number])?))
 }
 
 /// The pattern of the body, which is resolved where none is held.
-fn share(
+fn share_body(
     alloc: Global,
     keys: &Keys<'_>,
     body: &Body<'_, '_, '_>,
@@ -247,13 +247,13 @@ fn share(
     if let Some(pattern) = &*held {
         return Ok(pattern.clone()?);
     }
-    let pattern = shared(alloc, resolved(alloc, keys, body)?)?;
+    let pattern = share_pattern(alloc, resolve_body(alloc, keys, body)?)?;
     *held = Some(pattern.clone()?);
     Ok(pattern)
 }
 
 /// The pattern of a body that keeps the restrictions on name classes.
-fn resolved(
+fn resolve_body(
     alloc: Global,
     keys: &Keys<'_>,
     body: &Body<'_, '_, '_>,
@@ -261,7 +261,7 @@ fn resolved(
     ensures { OfBody (names_of keys.now) body.now
         (λ c. MatchResult result (λ p. IsSound c (boxed_view p)) (IsMisnamedBy c)) }
 {
-    let pattern = pattern(alloc, body.scope, body.component.body)?;
+    let pattern = pattern(alloc, body.context, body.component.body)?;
     if !keeps_name_rules(&pattern) {
         return Err(Refusal::NameClass {
             key: keys.key(alloc, body.component.key)?,

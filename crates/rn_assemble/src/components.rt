@@ -1,6 +1,7 @@
 // The components of a set: includes replaced by what they include, without what they override.
-ghost use Rattle.std.specs.Prelude.{◌≡◌, ℕ, suc, ◌+◌, ◌<◌, ◌≤◌, ◌==◌, not, List, [], ◌∷◌, ◌++◌, map, flat_map, filter, length, vec_len, slice_get, slice_index_or, Contains, IfOk, IfSome, option_copied};
+ghost use Rattle.std.specs.Prelude.{◌≡◌, IsTrue, ℕ, suc, ◌+◌, ◌<◌, ◌≤◌, ◌==◌, not, List, [], ◌∷◌, ◌++◌, map, flat_map, filter, length, vec_len, slice_get, slice_index_or, Contains, IfOk, IfSome, option_copied};
 ghost use Rattle.std.specs.List.{AllByRecursion};
+ghost use Rattle.std.specs.Rc.{rc_str_bytes};
 ghost use Rattle.std.specs.List.Sorted.{IsStrictlySortedBy};
 ghost use Rattle.rn_pattern.specs.Order.{text_cmp};
 ghost use Rattle.rn_pattern.specs.Tree.{Text};
@@ -14,24 +15,36 @@ ghost use Rattle.rn_assemble.specs.inside.Listed.{AreBefore, IsBody, Lists, Live
 ghost use Rattle.rn_assemble.specs.inside.Noting.{AtNumbers, InclusionLacks, IsOwnLack, Notes};
 ghost use Rattle.rn_assemble.specs.inside.Views.{IsNumbered, inclusion_view, written_view};
 
-use crate::bindings::Scope;
 use crate::contents::{Component, Contents, Include};
+use crate::context::Context;
 use crate::inclusion::INSTANCE_LIMIT;
+use crate::known_uris::KnownUris;
 use std::alloc::{AllocError, Global};
+use std::rc::RcStr;
 
 /// A module under the namespace that it inherits, and the number of its first body there.
 #[derive(Clone, Copy)]
-struct Context<'t> {
+struct MetContext<'c> {
     module: usize,
-    inherited: &'t str,
+    inherited: &'c RcStr,
     first: usize,
+}
+
+impl MetContext<'_> {
+    /// Whether it is that of this module under this namespace.
+    fn is_of(&self, module: usize, inherited: &RcStr) -> bool
+        ensures { IsTrue result → (self.now.«module» ≡ «module»)
+            × (rc_str_bytes self.now.inherited.now ≡ rc_str_bytes inherited.now) }
+    {
+        self.module == module && self.inherited.as_str() == inherited.as_str()
+    }
 }
 
 /// A component in a context.
 #[derive(Clone, Copy)]
 pub(crate) struct Body<'c, 't, 's> {
     pub component: Component<'t, 's>,
-    pub scope: Scope<'c, 't>,
+    pub context: Context<'c, 't>,
 }
 
 /// An include of a module that has no component of a key which the include's own components have.
@@ -45,7 +58,7 @@ pub(crate) struct Lack {
 #[derive(Drop)]
 pub(crate) struct Components<'c, 't, 's> {
     /// The contexts that were met, no more than a set has instances.
-    contexts: Vec<Context<'t>>,
+    contexts: Vec<MetContext<'c>>,
     bodies: Vec<Body<'c, 't, 's>>,
     /// The body of each component, also of those that an include has overridden.
     list: Vec<usize>,
@@ -59,6 +72,7 @@ pub(crate) struct Components<'c, 't, 's> {
 pub(crate) fn components_of<'c, 't, 's>(
     alloc: Global,
     contents: &'c [Contents<'t, 's>],
+    known: &'c KnownUris,
     roots: &[usize],
     keys: usize,
 ) -> Result<Components<'c, 't, 's>, AllocError>
@@ -71,7 +85,13 @@ pub(crate) fn components_of<'c, 't, 's>(
 {
     let mut components = Components::new(alloc, keys)?;
     for root in roots {
-        expand(&mut components, contents, *root, "", INSTANCE_LIMIT + 1)?;
+        expand(
+            &mut components,
+            contents,
+            *root,
+            &known.none,
+            INSTANCE_LIMIT + 1,
+        )?;
     }
     Ok(components)
 }
@@ -82,17 +102,18 @@ fn expand<'c, 't, 's>(
     components: &mut Components<'c, 't, 's>,
     contents: &'c [Contents<'t, 's>],
     module: usize,
-    inherited: &'t str,
+    inherited: &'c RcStr,
     depth: usize,
 ) -> Result<(), AllocError>
     ensures expands { OfExpanding contents.now components.old
         (λ modules names live. «module» < length modules
         → IfOk result (λ _. Expands names contents.now components.old components.new live
-        (specs.components_within depth modules (name_at modules «module») inherited.now))) }
+        (specs.components_within depth modules (name_at modules «module»)
+        (rc_str_bytes inherited.now)))) }
     ensures lacks { OfExpanding contents.now components.old
         (λ modules names live. «module» < length modules
         → IfOk result (λ _. Notes (AtNumbers modules names
-        (LacksWithin depth modules (name_at modules «module») inherited.now))
+        (LacksWithin depth modules (name_at modules «module») (rc_str_bytes inherited.now)))
         components.old.lack components.new.lack)) }
 {
     if depth == 0 {
@@ -101,11 +122,11 @@ fn expand<'c, 't, 's>(
     let Some(content) = contents.get(module) else {
         return Ok(());
     };
-    let scope = Scope {
+    let context = Context {
         bindings: &content.bindings,
         inherited,
     };
-    let first = components.enter(content, module, scope)?;
+    let first = components.enter(content, module, context)?;
     let mut next = 0;
     'includes: for include in &content.includes {
         components.add(content, first, next, include.from)?;
@@ -114,7 +135,7 @@ fn expand<'c, 't, 's>(
             contents,
             content,
             module,
-            scope,
+            context,
             include,
             depth - 1,
         )?;
@@ -130,26 +151,28 @@ fn expand_include<'c, 't, 's>(
     contents: &'c [Contents<'t, 's>],
     content: &Contents<'t, 's>,
     module: usize,
-    scope: Scope<'c, 't>,
+    context: Context<'c, 't>,
     include: &Include<'t>,
     depth: usize,
 ) -> Result<(), AllocError>
     ensures expands { OfIncluding contents.now components.old content.now include.now
-        (λ modules names live ds. scope.entry.bindings.now ≡ content.now.bindings
+        (λ modules names live ds. context.entry.bindings.now ≡ content.now.bindings
         → IfOk result (λ _. Expands names contents.now components.old components.new live
-        (specs.overridden (brought_in depth modules scope.entry.inherited.now ds include.now)
-        (resolved_between names content.now scope.entry.inherited.now ds
+        (specs.overridden (brought_in depth modules
+        (rc_str_bytes context.entry.inherited.now) ds include.now)
+        (resolved_between names content.now (rc_str_bytes context.entry.inherited.now) ds
         include.now.from include.now.to)))) }
     ensures lacks { OfIncluding contents.now components.old content.now include.now
-        (λ modules names live ds. scope.entry.bindings.now ≡ content.now.bindings
+        (λ modules names live ds. context.entry.bindings.now ≡ content.now.bindings
         → «module» < length modules → IfOk result (λ _. Notes (AtNumbers modules names
-        (InclusionLacks depth modules (name_at modules «module») scope.entry.inherited.now ds
+        (InclusionLacks depth modules (name_at modules «module»)
+        (rc_str_bytes context.entry.inherited.now) ds
         (map (written_view names) content.now.components.items) (inclusion_view include.now)))
         components.old.lack components.new.lack)) }
 {
     let before = components.list.len();
     if let Some(included) = include.module {
-        let inherited = scope.handed_on(include.inherit);
+        let inherited = context.handed_on(include.inherit);
         expand(components, contents, included, inherited, depth)?;
     }
     components.note_lacks(before, module, content, include);
@@ -183,56 +206,59 @@ impl<'c, 't, 's> Components<'c, 't, 's> {
         &mut self,
         content: &'c Contents<'t, 's>,
         module: usize,
-        scope: Scope<'c, 't>,
+        context: Context<'c, 't>,
     ) -> Result<usize, AllocError>
         ensures kept { KeepsLists self.old self.new }
         ensures entered { (contents : List Contents) → ContextsHold contents self.old
-            → IsItem contents «module» content.now → scope.entry.bindings.now ≡ content.now.bindings
+            → IsItem contents «module» content.now
+            → context.entry.bindings.now ≡ content.now.bindings
             → IfOk result (λ first. Enters contents self.old self.new first content.now
-            scope.entry.inherited.now) }
+            (rc_str_bytes context.entry.inherited.now)) }
     {
-        if let Some(first) = self.first_body(module, scope.inherited) {
+        if let Some(first) = self.first_body(module, context.inherited) {
             return Ok(first);
         }
         let first = self.bodies.len();
-        self.make_bodies(content, scope)?;
-        self.contexts.push(Context {
+        self.make_bodies(content, context)?;
+        self.contexts.push(MetContext {
             module,
-            inherited: scope.inherited,
+            inherited: context.inherited,
             first,
         })?;
         Ok(first)
     }
 
     /// The number of the first body of a context that was met.
-    fn first_body(&self, module: usize, inherited: &str) -> Option<usize>
-        ensures { IfSome result (λ first. (q : Context) × Contains self.now.contexts.items q
-            × (q.«module» ≡ «module») × (q.inherited.now ≡ inherited.now) × (q.first ≡ first)) }
+    fn first_body(&self, module: usize, inherited: &RcStr) -> Option<usize>
+        ensures { IfSome result (λ first. (q : MetContext) × Contains self.now.contexts.items q
+            × (q.«module» ≡ «module»)
+            × (rc_str_bytes q.inherited.now ≡ rc_str_bytes inherited.now)
+            × (q.first ≡ first)) }
     {
         for context in &self.contexts {
-            if context.module == module && context.inherited == inherited {
+            if context.is_of(module, inherited) {
                 return Some(context.first);
             }
         }
         None
     }
 
-    /// Adds the bodies of a module in a scope.
+    /// Adds the bodies of a module in a context.
     fn make_bodies(
         &mut self,
         content: &'c Contents<'t, 's>,
-        scope: Scope<'c, 't>,
+        context: Context<'c, 't>,
     ) -> Result<(), AllocError>
         ensures kept { KeepsLists self.old self.new }
         ensures contexts { self.new.contexts ≡ self.old.contexts }
         ensures made { IfOk result (λ _. self.new.bodies.items ≡ self.old.bodies.items
-            ++ map (λ c. record { component = c; scope = scope.entry })
+            ++ map (λ c. record { component = c; context = context.entry })
             content.now.components.items) }
     {
         for component in &content.components {
             self.bodies.push(Body {
                 component: *component,
-                scope,
+                context,
             })?;
         }
         Ok(())

@@ -6,12 +6,13 @@ ghost use Rattle.rn_syntax.specs.View.{item_view, items_view, pattern_view, pref
 ghost use Rattle.rn_assemble.specs.inside.Contained.{item_inclusions, inclusions, item_written, written};
 ghost use Rattle.rn_assemble.specs.inside.Keyed.{AreAmong, AreNames, defines, item_defines, key_at};
 ghost use Rattle.rn_assemble.specs.inside.Listed.{AreContents, IsContents};
-ghost use Rattle.rn_assemble.specs.inside.Views.{AddsComponents, AddsIncludes, module_names, names_of, source_view, sources_view};
+ghost use Rattle.rn_assemble.specs.inside.Views.{AddsComponents, AddsIncludes, module_names, modules_view, named_module_view, names_of};
 
 use crate::bindings::Bindings;
 use crate::inclusion::module_named;
 use crate::keys::{Keys, START};
-use crate::modules::Source;
+use crate::known_uris::KnownUris;
+use crate::modules::NamedModule;
 use rn_syntax::{Item, Method, Pat, Prefix};
 use std::alloc::{AllocError, Global};
 
@@ -44,17 +45,18 @@ pub(crate) struct Contents<'t, 's> {
 /// The contents of each module.
 pub(crate) fn contents_of<'t, 's>(
     alloc: Global,
-    sources: &'t [Source<'s>],
+    modules: &'t [NamedModule<'s>],
     keys: &Keys<'s>,
+    known: &KnownUris,
 ) -> Result<Vec<Contents<'t, 's>>, AllocError>
-    requires modules_in_order { IsStrictlySortedBy text_cmp (module_names sources.now) }
-    requires names { AreNames (sources_view sources.now) (names_of keys.now) }
-    ensures { IfOk result (λ all. AreContents (sources_view sources.now)
+    requires modules_in_order { IsStrictlySortedBy text_cmp (module_names modules.now) }
+    requires names { AreNames (modules_view modules.now) (names_of keys.now) }
+    ensures { IfOk result (λ all. AreContents (modules_view modules.now)
         (names_of keys.now) all.items) }
 {
     let mut all = Vec::new(alloc);
-    for source in sources {
-        all.push(contents_of_module(alloc, sources, keys, source)?)?;
+    for module in modules {
+        all.push(contents_of_module(alloc, modules, keys, known, module)?)?;
     }
     Ok(all)
 }
@@ -62,23 +64,24 @@ pub(crate) fn contents_of<'t, 's>(
 /// The contents of a module.
 fn contents_of_module<'t, 's>(
     alloc: Global,
-    sources: &[Source<'s>],
+    modules: &[NamedModule<'s>],
     keys: &Keys<'s>,
-    source: &'t Source<'s>,
+    known: &KnownUris,
+    module: &'t NamedModule<'s>,
 ) -> Result<Contents<'t, 's>, AllocError>
     requires keys_in_order { IsStrictlySortedBy text_cmp (names_of keys.now) }
     requires defined { AreAmong (names_of keys.now)
-        (defines (items_view source.now.tree.items.items)) }
-    requires modules_in_order { IsStrictlySortedBy text_cmp (module_names sources.now) }
-    ensures { IfOk result (λ c. IsContents (sources_view sources.now) (names_of keys.now)
-        (source_view source.now) c) }
+        (defines (items_view «module».now.tree.items.items)) }
+    requires modules_in_order { IsStrictlySortedBy text_cmp (module_names modules.now) }
+    ensures { IfOk result (λ c. IsContents (modules_view modules.now) (names_of keys.now)
+        (named_module_view «module».now) c) }
 {
     let mut contents = Contents {
-        bindings: Bindings::new(alloc, source.tree.decls.as_slice())?,
+        bindings: Bindings::new(alloc, module.tree.decls.as_slice(), known)?,
         components: Vec::new(alloc),
         includes: Vec::new(alloc),
     };
-    gather(&mut contents, sources, keys, &source.tree.items)?;
+    gather(&mut contents, modules, keys, &module.tree.items)?;
     Ok(contents)
 }
 
@@ -86,12 +89,12 @@ fn contents_of_module<'t, 's>(
 #[cycle(gather)]
 fn gather<'t, 's>(
     contents: &mut Contents<'t, 's>,
-    sources: &[Source<'s>],
+    modules: &[NamedModule<'s>],
     keys: &Keys<'s>,
     items: &'t [Item<'s>],
 ) -> Result<(), AllocError>
     requires keys_in_order { IsStrictlySortedBy text_cmp (names_of keys.now) }
-    requires modules_in_order { IsStrictlySortedBy text_cmp (module_names sources.now) }
+    requires modules_in_order { IsStrictlySortedBy text_cmp (module_names modules.now) }
     ensures bindings { contents.new.bindings ≡ contents.old.bindings }
     ensures components { AreAmong (names_of keys.now) (defines (items_view items.now))
         → IfOk result (λ _. AddsComponents keys.now contents.old contents.new
@@ -99,11 +102,11 @@ fn gather<'t, 's>(
     ensures more { IfOk result (λ _. length contents.new.components.items
         ≡ length contents.old.components.items + length (written (items_view items.now))) }
     ensures includes { IfOk result (λ _. AddsIncludes contents.old contents.new
-        (inclusions (sources_view sources.now) (length contents.old.components.items)
+        (inclusions (modules_view modules.now) (length contents.old.components.items)
         (items_view items.now))) }
 {
     'items: for item in items {
-        gather_item(contents, sources, keys, item)?;
+        gather_item(contents, modules, keys, item)?;
     }
     Ok(())
 }
@@ -112,12 +115,12 @@ fn gather<'t, 's>(
 #[cycle(gather)]
 fn gather_item<'t, 's>(
     contents: &mut Contents<'t, 's>,
-    sources: &[Source<'s>],
+    modules: &[NamedModule<'s>],
     keys: &Keys<'s>,
     item: &'t Item<'s>,
 ) -> Result<(), AllocError>
     requires keys_in_order { IsStrictlySortedBy text_cmp (names_of keys.now) }
-    requires modules_in_order { IsStrictlySortedBy text_cmp (module_names sources.now) }
+    requires modules_in_order { IsStrictlySortedBy text_cmp (module_names modules.now) }
     ensures bindings { contents.new.bindings ≡ contents.old.bindings }
     ensures components { AreAmong (names_of keys.now) (item_defines (item_view item.now))
         → IfOk result (λ _. AddsComponents keys.now contents.old contents.new
@@ -125,7 +128,7 @@ fn gather_item<'t, 's>(
     ensures more { IfOk result (λ _. length contents.new.components.items
         ≡ length contents.old.components.items + length (item_written (item_view item.now))) }
     ensures includes { IfOk result (λ _. AddsIncludes contents.old contents.new
-        (item_inclusions (sources_view sources.now) (length contents.old.components.items)
+        (item_inclusions (modules_view modules.now) (length contents.old.components.items)
         (item_view item.now))) }
 {
     match item {
@@ -134,15 +137,15 @@ fn gather_item<'t, 's>(
             push_component(contents, keys, key, *method, body)
         }
         Item::Start { method, body } => push_component(contents, keys, START, *method, body),
-        Item::Div(items) => gather(contents, sources, keys, items),
+        Item::Div(items) => gather(contents, modules, keys, items),
         Item::Include {
             wanted,
             inherit,
             items,
         } => {
             let from = contents.components.len();
-            gather(contents, sources, keys, items)?;
-            let module = module_named(sources, wanted);
+            gather(contents, modules, keys, items)?;
+            let module = module_named(modules, wanted);
             push_include(contents, module, *inherit, from)
         }
     }

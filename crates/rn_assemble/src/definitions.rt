@@ -14,7 +14,7 @@ ghost use Rattle.rn_assemble.specs.inside.Listed.{Lists, Live, OfKeys};
 ghost use Rattle.rn_assemble.specs.inside.Patterns.{HavePatterns, IsFirstAt, boxed_view};
 ghost use Rattle.rn_assemble.specs.inside.Views.{names_of};
 
-use crate::combining::combined;
+use crate::combining::combine_components;
 use crate::components::Components;
 use crate::firsts::Met;
 use crate::joined_grammar::{Definitions, Joined};
@@ -36,7 +36,7 @@ pub(crate) fn grammar(
         (λ names cs. has_key start_key cs ≡ true
         → MatchResult result (IsJoinedGrammar cs) (IsMisnamed cs)) }
 {
-    let mut patterns = combined(alloc, keys, components)?;
+    let mut patterns = combine_components(alloc, keys, components)?;
     let start = take(&mut patterns, START).unwrap();
     let mut met = vec![in alloc; 0; components.count_bodies()]?;
     let start_firsts = components.firsts(alloc, START, &mut met)?;

@@ -9,10 +9,10 @@ ghost use Rattle.rn_assemble.specs.inside.Included.{AreIncluded};
 ghost use Rattle.rn_assemble.specs.inside.Inclusions.{AreInclusions, IsLeastAmong, IsMissing, entries};
 ghost use Rattle.rn_assemble.specs.inside.Instances.{instances_of};
 ghost use Rattle.rn_assemble.specs.Refused.{IsFirstOfModules};
-ghost use Rattle.rn_assemble.specs.inside.Views.{module_names, sources_view, texts_of};
+ghost use Rattle.rn_assemble.specs.inside.Views.{module_names, modules_view, texts_of};
 
 use crate::instances::instances_up_to;
-use crate::modules::Source;
+use crate::modules::NamedModule;
 use crate::references::lesser_name;
 use crate::refusal::Refusal;
 use rn_pattern::graph::row_at;
@@ -26,16 +26,19 @@ pub(crate) const INSTANCE_LIMIT: usize = 512;
 
 /// The modules that no module includes. Or the first refusal that stands, of `Missing`, `Cycle` and `Instances`; `Memory`
 /// stands for want of memory alone.
-pub(crate) fn included_roots(alloc: Global, sources: &[Source<'_>]) -> Result<Vec<usize>, Refusal>
-    requires { IsStrictlySortedBy text_cmp (module_names sources.now) }
-    ensures { MatchResult result (λ roots. AreIncluded (sources_view sources.now) roots.items)
-        (IsFirstOfModules (sources_view sources.now)) }
+pub(crate) fn included_roots(
+    alloc: Global,
+    modules: &[NamedModule<'_>],
+) -> Result<Vec<usize>, Refusal>
+    requires { IsStrictlySortedBy text_cmp (module_names modules.now) }
+    ensures { MatchResult result (λ roots. AreIncluded (modules_view modules.now) roots.items)
+        (IsFirstOfModules (modules_view modules.now)) }
 {
-    let inclusions = inclusions(alloc, sources)?;
+    let inclusions = inclusions(alloc, modules)?;
     let rows = inclusions.as_slice();
     if let Some(module) = least_looped(alloc, rows)? {
         return Err(Refusal::Cycle {
-            module: String::from_str(alloc, sources[module].name)?,
+            module: String::from_str(alloc, modules[module].name)?,
         });
     }
     let roots = roots(alloc, rows)?;
@@ -46,48 +49,48 @@ pub(crate) fn included_roots(alloc: Global, sources: &[Source<'_>]) -> Result<Ve
 }
 
 /// The number of the module of that name.
-pub(crate) fn module_named(sources: &[Source<'_>], name: &str) -> Option<usize>
-    ensures within { IfSome result (λ m. m < length sources.now) }
-    ensures place { IsStrictlySortedBy text_cmp (module_names sources.now)
-        → result ≡ place_in (sources_view sources.now) name.now }
+pub(crate) fn module_named(modules: &[NamedModule<'_>], name: &str) -> Option<usize>
+    ensures within { IfSome result (λ m. m < length modules.now) }
+    ensures place { IsStrictlySortedBy text_cmp (module_names modules.now)
+        → result ≡ place_in (modules_view modules.now) name.now }
 {
-    let compare = |source: &Source<'_>| -> Ordering
-        ensures { result ≡ text_cmp source.now.name.now name.entry.now }
-    { source.name.cmp(name) };
-    sources.binary_search_by(compare).ok()
+    let compare = |module: &NamedModule<'_>| -> Ordering
+        ensures { result ≡ text_cmp «module».now.name.now name.entry.now }
+    { module.name.cmp(name) };
+    modules.binary_search_by(compare).ok()
 }
 
 /// For each module, the modules that its includes name. `Missing` names the least module with an include of none, and
 /// the least literal of such an include.
-fn inclusions(alloc: Global, sources: &[Source<'_>]) -> Result<Vec<Vec<usize>>, Refusal>
-    requires { IsStrictlySortedBy text_cmp (module_names sources.now) }
+fn inclusions(alloc: Global, modules: &[NamedModule<'_>]) -> Result<Vec<Vec<usize>>, Refusal>
+    requires { IsStrictlySortedBy text_cmp (module_names modules.now) }
     ensures { MatchResult result
-        (λ rows. AreInclusions (sources_view sources.now) (rows_of rows.items))
-        (IsFirstOfModules (sources_view sources.now)) }
+        (λ rows. AreInclusions (modules_view modules.now) (rows_of rows.items))
+        (IsFirstOfModules (modules_view modules.now)) }
 {
     let mut rows = Vec::new(alloc);
-    for source in sources {
-        let wanted = includes(alloc, &source.tree)?;
-        if let Some(literal) = least_missing(sources, wanted.as_slice()) {
+    for module in modules {
+        let wanted = includes(alloc, &module.tree)?;
+        if let Some(literal) = least_missing(modules, wanted.as_slice()) {
             return Err(Refusal::Missing {
-                module: String::from_str(alloc, source.name)?,
+                module: String::from_str(alloc, module.name)?,
                 wanted: String::from_str(alloc, literal)?,
             });
         }
-        rows.push(included(alloc, sources, wanted.as_slice())?)?;
+        rows.push(included_modules(alloc, modules, wanted.as_slice())?)?;
     }
     Ok(rows)
 }
 
 /// The least of the literals that names no module.
-fn least_missing<'m>(sources: &[Source<'_>], wanted: &[&'m str]) -> Option<&'m str>
-    requires { IsStrictlySortedBy text_cmp (module_names sources.now) }
-    ensures { IsLeastAmong (IsMissing (sources_view sources.now)) (texts_of wanted.now)
+fn least_missing<'m>(modules: &[NamedModule<'_>], wanted: &[&'m str]) -> Option<&'m str>
+    requires { IsStrictlySortedBy text_cmp (module_names modules.now) }
+    ensures { IsLeastAmong (IsMissing (modules_view modules.now)) (texts_of wanted.now)
         (option_map (λ s. s.now) result) }
 {
     let mut least = None;
     for literal in wanted {
-        if module_named(sources, literal).is_none() {
+        if module_named(modules, literal).is_none() {
             least = Some(lesser_name(least, literal));
         }
     }
@@ -95,18 +98,18 @@ fn least_missing<'m>(sources: &[Source<'_>], wanted: &[&'m str]) -> Option<&'m s
 }
 
 /// The modules that the literals name.
-fn included(
+fn included_modules(
     alloc: Global,
-    sources: &[Source<'_>],
+    modules: &[NamedModule<'_>],
     wanted: &[&str],
 ) -> Result<Vec<usize>, AllocError>
-    requires { IsStrictlySortedBy text_cmp (module_names sources.now) }
+    requires { IsStrictlySortedBy text_cmp (module_names modules.now) }
     ensures { IfOk result (λ row. row.items
-        ≡ filter_map (place_in (sources_view sources.now)) (texts_of wanted.now)) }
+        ≡ filter_map (place_in (modules_view modules.now)) (texts_of wanted.now)) }
 {
     let mut row = Vec::new(alloc);
     for literal in wanted {
-        if let Some(module) = module_named(sources, literal) {
+        if let Some(module) = module_named(modules, literal) {
             row.push(module)?;
         }
     }

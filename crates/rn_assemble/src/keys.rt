@@ -3,10 +3,10 @@ ghost use Rattle.std.specs.Prelude.{◌≡◌, ◌+◌, ◌-◌, ◌<◌, [], by
 ghost use Rattle.indexmap.specs.IndexSet.{insert_all};
 ghost use Rattle.rn_syntax.specs.View.{item_view, items_view};
 ghost use Rattle.rn_assemble.specs.inside.Keyed.{item_defines, defines, AreNames, IsFound, IsNumber, key_at};
-ghost use Rattle.rn_assemble.specs.inside.Views.{names_of, sources_view, texts_of};
+ghost use Rattle.rn_assemble.specs.inside.Views.{modules_view, names_of, texts_of};
 ghost use Rattle.rn_assemble.specs.Refused.{key_view};
 
-use crate::modules::Source;
+use crate::modules::NamedModule;
 use crate::refusal::Key;
 use indexmap::IndexSet;
 use rn_pattern::Seed;
@@ -24,12 +24,16 @@ pub(crate) struct Keys<'s> {
 
 impl<'s> Keys<'s> {
     /// The keys of these modules, in a set that hashes by the seed.
-    pub fn new(alloc: Global, sources: &[Source<'s>], seed: &Seed) -> Result<Keys<'s>, AllocError>
-        ensures { IfOk result (λ keys. AreNames (sources_view sources.now) (names_of keys)) }
+    pub fn new(
+        alloc: Global,
+        modules: &[NamedModule<'s>],
+        seed: &Seed,
+    ) -> Result<Keys<'s>, AllocError>
+        ensures { IfOk result (λ keys. AreNames (modules_view modules.now) (names_of keys)) }
     {
         let mut names = IndexSet::with_hasher(alloc, *seed);
-        for source in sources {
-            insert_names(&source.tree.items, &mut names)?;
+        for module in modules {
+            insert_names(&module.tree.items, &mut names)?;
         }
         names.sort()?;
         Ok(Keys { names })

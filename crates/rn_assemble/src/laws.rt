@@ -8,7 +8,7 @@ ghost use Rattle.rn_pattern.specs.Excepts.{HasExcepts};
 ghost use Rattle.rn_pattern.specs.Matching.{Grammar, definition_of, IsValid};
 ghost use Rattle.rn_modset.specs.Contributions.{Member};
 ghost use Rattle.rn_syntax.specs.Places.{except_places};
-ghost use Rattle.rn_assemble.specs.Components.{Key, Component, Source, components_within, has_key, instances_within, set_components, start_key};
+ghost use Rattle.rn_assemble.specs.Components.{Key, Component, NamedModule, components_within, has_key, instances_within, set_components, start_key};
 ghost use Rattle.rn_assemble.specs.Combine.{IsCombination, IsPlainTwice, IsMixed, joined_grammar, components_of, AreDistinct};
 ghost use Rattle.rn_assemble.specs.WellFormed.{IsWellFormed, HasWritableTexts};
 ghost use Rattle.rn_assemble.specs.Refusal.{Refusal, Stands, IsFirst, IsFirstFor, IsAssembled, AreModules, grammar_of};
@@ -30,8 +30,8 @@ pub fn components_have_a_combination()
 /// The components of modules in which no except is at fault have excepts of data, values and choices of them alone, and
 /// so has each definition of the joined grammar (section 7.1.4).
 pub fn components_keep_excepts()
-    ensures components { (modules : List Source)
-        → AllByRecursion (λ (m : Source). except_places m.tree ≡ []) modules
+    ensures components { (modules : List NamedModule)
+        → AllByRecursion (λ (m : NamedModule). except_places m.tree ≡ []) modules
         → AllByRecursion (λ (c : Component). HasExcepts c.body) (set_components modules) }
     ensures start { (cs : List Component) → AllByRecursion (λ (c : Component). HasExcepts c.body) cs
         → HasExcepts (joined_grammar cs).start }
@@ -54,10 +54,10 @@ pub fn plain_components_are_joined()
 /// Includes followed as deep as a module has instances, or deeper, give the same instances and the same components
 /// (section 4.7).
 pub fn includes_end()
-    ensures same_instances { (modules : List Source) (more depth : ℕ) (x : Text)
+    ensures same_instances { (modules : List NamedModule) (more depth : ℕ) (x : Text)
         → instances_within depth modules x ≤ depth
         → instances_within (depth + more) modules x ≡ instances_within depth modules x }
-    ensures same_components { (modules : List Source) (more depth : ℕ) (x inherited : Text)
+    ensures same_components { (modules : List NamedModule) (more depth : ℕ) (x inherited : Text)
         → instances_within depth modules x ≤ depth
         → components_within (depth + more) modules x inherited
         ≡ components_within depth modules x inherited }
@@ -65,7 +65,7 @@ pub fn includes_end()
 
 /// A set has one first refusal at most, with all its fields, and one grammar at most; so have its modules.
 pub fn one_first_refusal()
-    ensures of_modules { (modules : List Source) (q r : Refusal) → IsFirstFor modules q
+    ensures of_modules { (modules : List NamedModule) (q r : Refusal) → IsFirstFor modules q
         → IsFirstFor modules r → q ≡ r }
     ensures of_sets { (s : List Member) (q r : Refusal) → IsFirst s q → IsFirst s r → q ≡ r }
     ensures one_grammar { (s : List Member) (g h : Grammar) → IsAssembled s g → IsAssembled s h
@@ -77,8 +77,8 @@ pub fn one_first_refusal()
 /// section 2.2). Where no refusal stands, every reference is defined, no loop is reached, and name classes keep their
 /// restrictions (sections 4.16, 4.18 and 4.19).
 pub fn grammars_of_sets_are_well_formed()
-    ensures writable { (s : List Member) (modules : List Source) → AreModules s modules
+    ensures writable { (s : List Member) (modules : List NamedModule) → AreModules s modules
         → HasWritableTexts (grammar_of modules) }
-    ensures well_formed { (s : List Member) (modules : List Source) → AreModules s modules
+    ensures well_formed { (s : List Member) (modules : List NamedModule) → AreModules s modules
         → ((r : Refusal) → ¬ Stands s r) → IsWellFormed (grammar_of modules) }
 {}

@@ -12,7 +12,7 @@ ghost use Rattle.rn_syntax.specs.View.{module_view};
 ghost use Rattle.rn_assemble.specs.inside.Reading.{IsFaultOf, IsRead};
 ghost use Rattle.rn_assemble.specs.Refusal.{AreModules};
 ghost use Rattle.rn_assemble.specs.Refused.{IsFirstRefusal};
-ghost use Rattle.rn_assemble.specs.inside.Views.{module_names, sources_view};
+ghost use Rattle.rn_assemble.specs.inside.Views.{module_names, modules_view};
 
 use crate::refusal::Refusal;
 use rn_modset::ModuleSet;
@@ -22,27 +22,30 @@ use std::alloc::{AllocError, Global};
 
 /// An effective module: its name and its tree.
 #[derive(Drop)]
-pub(crate) struct Source<'a> {
+pub(crate) struct NamedModule<'a> {
     pub name: &'a str,
     pub tree: Module<'a>,
 }
 
 /// The effective modules, in the order of their names. Or the first refusal of the set, where that is a conflict or the
 /// first fault of a text: the fault of the least name whose module has one.
-pub(crate) fn sources<'a>(alloc: Global, set: &'a ModuleSet) -> Result<Vec<Source<'a>>, Refusal>
-    ensures ok { IfOk result (λ sources. AreModules set.now (sources_view sources.items)) }
-    ensures in_order { IfOk result (λ sources.
-        IsStrictlySortedBy text_cmp (module_names sources.items)) }
+pub(crate) fn read_modules<'a>(
+    alloc: Global,
+    set: &'a ModuleSet,
+) -> Result<Vec<NamedModule<'a>>, Refusal>
+    ensures ok { IfOk result (λ modules. AreModules set.now (modules_view modules.items)) }
+    ensures in_order { IfOk result (λ modules.
+        IsStrictlySortedBy text_cmp (module_names modules.items)) }
     ensures err { IfErr result (IsFirstRefusal set.now) }
 {
     let effective = set.effective(alloc)?;
-    let mut sources = Vec::new(alloc);
+    let mut modules = Vec::new(alloc);
     for module in effective.iter() {
         let (name, text) = *module;
         let tree = read(alloc, name, text)?;
-        sources.push(Source { name, tree })?;
+        modules.push(NamedModule { name, tree })?;
     }
-    Ok(sources)
+    Ok(modules)
 }
 
 /// The tree of a module's text, or the refusal of its first fault. Its tokens are given up here.

@@ -1,30 +1,31 @@
 // The nodes of resolved patterns, each in its box.
 ghost use Rattle.std.specs.Prelude.{◌≡◌, map, string_bytes, IfOk, MatchOption};
+ghost use Rattle.std.specs.Rc.{rc_str_bytes};
 ghost use Rattle.rn_pattern.specs.Opened.{pair};
 ghost use Rattle.rn_pattern.specs.Tree as tree;
 ghost use Rattle.rn_pattern.specs.Tree.{trees_of};
 ghost use Rattle.rn_pattern.specs.View.{parameters_view, pattern_view, shared_view};
 ghost use Rattle.rn_assemble.specs.inside.Patterns.{boxed_view};
 
-use rn_pattern::Pattern;
+use rn_pattern::{Data, Pattern, Value};
 use std::alloc::{AllocError, Global};
-use std::rc::Rc;
+use std::rc::{Rc, RcStr};
 
-pub(crate) fn owned(alloc: Global, text: &str) -> Result<String, AllocError>
+pub(crate) fn copy_text(alloc: Global, text: &str) -> Result<String, AllocError>
     ensures { IfOk result (λ s. string_bytes s ≡ text.now) }
 {
     String::from_str(alloc, text)
 }
 
 /// A pattern in its box. What resolves patterns hands boxes on, which are small.
-pub(crate) fn boxed(alloc: Global, pattern: Pattern) -> Result<Box<Pattern>, AllocError>
+pub(crate) fn box_pattern(alloc: Global, pattern: Pattern) -> Result<Box<Pattern>, AllocError>
     ensures { IfOk result (λ p. p.value ≡ pattern) }
 {
     Ok(Box::new(alloc, pattern)?)
 }
 
 /// The pattern of the box, to be shared.
-pub(crate) fn shared(alloc: Global, pattern: Box<Pattern>) -> Result<Rc<Pattern>, AllocError>
+pub(crate) fn share_pattern(alloc: Global, pattern: Box<Pattern>) -> Result<Rc<Pattern>, AllocError>
     ensures { IfOk result (λ p. p.value ≡ pattern.value) }
 {
     Ok(Rc::new(alloc, Box::into_inner(pattern))?)
@@ -32,56 +33,75 @@ pub(crate) fn shared(alloc: Global, pattern: Box<Pattern>) -> Result<Rc<Pattern>
 
 pub(crate) fn typed_value(
     alloc: Global,
-    library: &str,
+    library: &RcStr,
     type_name: &str,
     text: &str,
 ) -> Result<Box<Pattern>, AllocError>
-    ensures { IfOk result (λ p. boxed_view p ≡ tree.value library.now type_name.now text.now) }
+    ensures { IfOk result (λ p. boxed_view p
+        ≡ tree.value (rc_str_bytes library.now) type_name.now text.now) }
 {
-    let library = owned(alloc, library)?;
-    let type_name = owned(alloc, type_name)?;
-    let text = owned(alloc, text)?;
-    boxed(alloc, Pattern::Value(library, type_name, text))
+    let library = library.clone()?;
+    let type_name = copy_text(alloc, type_name)?;
+    let text = copy_text(alloc, text)?;
+    let value = Box::new(
+        alloc,
+        Value {
+            library,
+            type_name,
+            text,
+        },
+    )?;
+    box_pattern(alloc, Pattern::Value(value))
 }
 
 /// A datatype with its parameters, and what is excepted.
 pub(crate) fn typed_datum(
     alloc: Global,
-    library: &str,
+    library: &RcStr,
     type_name: &str,
     params: Vec<(String, String)>,
     except: Option<Box<Pattern>>,
 ) -> Result<Box<Pattern>, AllocError>
     ensures { IfOk result (λ p. MatchOption except
-        (boxed_view p ≡ tree.datum library.now type_name.now (parameters_view params.items))
-        (λ e. boxed_view p ≡ tree.datum_but library.now type_name.now (parameters_view params.items)
+        (boxed_view p ≡ tree.datum (rc_str_bytes library.now) type_name.now
+        (parameters_view params.items))
+        (λ e. boxed_view p ≡ tree.datum_but (rc_str_bytes library.now) type_name.now
+        (parameters_view params.items)
         (boxed_view e))) }
 {
-    let library = owned(alloc, library)?;
-    let type_name = owned(alloc, type_name)?;
-    boxed(alloc, Pattern::Datum(library, type_name, params, except))
+    let library = library.clone()?;
+    let type_name = copy_text(alloc, type_name)?;
+    let data = Box::new(
+        alloc,
+        Data {
+            library,
+            type_name,
+            params,
+        },
+    )?;
+    box_pattern(alloc, Pattern::Datum(data, except))
 }
 
 pub(crate) fn list(alloc: Global, content: Box<Pattern>) -> Result<Box<Pattern>, AllocError>
     ensures { IfOk result (λ p. boxed_view p ≡ tree.list (boxed_view content)) }
 {
-    boxed(alloc, Pattern::List(content))
+    box_pattern(alloc, Pattern::List(content))
 }
 
 pub(crate) fn one_or_more(alloc: Global, content: Box<Pattern>) -> Result<Box<Pattern>, AllocError>
     ensures { IfOk result (λ p. boxed_view p ≡ tree.one_or_more (boxed_view content)) }
 {
-    boxed(alloc, Pattern::OneOrMore(content))
+    box_pattern(alloc, Pattern::OneOrMore(content))
 }
 
 pub(crate) fn reference(alloc: Global, name: &str) -> Result<Box<Pattern>, AllocError>
     ensures { IfOk result (λ p. boxed_view p ≡ tree.ref name.now) }
 {
-    let name = owned(alloc, name)?;
-    boxed(alloc, Pattern::Ref(name))
+    let name = copy_text(alloc, name)?;
+    box_pattern(alloc, Pattern::Ref(name))
 }
 
-fn two(
+fn pair_members(
     alloc: Global,
     first: Rc<Pattern>,
     second: Rc<Pattern>,
@@ -114,20 +134,26 @@ pub(crate) fn choice(members: Vec<Rc<Pattern>>) -> Pattern
 }
 
 /// The choice of the pattern and empty.
-pub(crate) fn optional(alloc: Global, content: Box<Pattern>) -> Result<Box<Pattern>, AllocError>
+pub(crate) fn optional_pattern(
+    alloc: Global,
+    content: Box<Pattern>,
+) -> Result<Box<Pattern>, AllocError>
     ensures { IfOk result (λ p. boxed_view p ≡ tree.choice (pair (boxed_view content) tree.empty)) }
 {
     let empty = Rc::new(alloc, Pattern::Empty)?;
-    let members = two(alloc, shared(alloc, content)?, empty)?;
-    boxed(alloc, choice(members))
+    let members = pair_members(alloc, share_pattern(alloc, content)?, empty)?;
+    box_pattern(alloc, choice(members))
 }
 
 /// The interleave of the pattern and text.
-pub(crate) fn mixed(alloc: Global, content: Box<Pattern>) -> Result<Box<Pattern>, AllocError>
+pub(crate) fn mixed_pattern(
+    alloc: Global,
+    content: Box<Pattern>,
+) -> Result<Box<Pattern>, AllocError>
     ensures { IfOk result (λ p. boxed_view p
         ≡ tree.interleave (pair (boxed_view content) tree.text)) }
 {
     let text = Rc::new(alloc, Pattern::Text)?;
-    let members = two(alloc, shared(alloc, content)?, text)?;
-    boxed(alloc, interleave(members))
+    let members = pair_members(alloc, share_pattern(alloc, content)?, text)?;
+    box_pattern(alloc, interleave(members))
 }

@@ -179,10 +179,10 @@ fn refer<'s>(
         Pat::Attribute(_, content)
         | Pat::List(content)
         | Pat::Mixed(content)
-        | Pat::DatumBut(_, _, _, content)
+        | Pat::DatumBut(_, _, content)
         | Pat::Repeated(_, content) => refer(content, reach, found),
         Pat::Chain(_, members) => refer_all(members, reach, found),
-        Pat::Empty | Pat::NotAllowed | Pat::Text | Pat::Value(_, _) | Pat::Datum(_, _) => Ok(()),
+        Pat::Empty | Pat::NotAllowed | Pat::Text | Pat::Value(_) | Pat::Datum(_) => Ok(()),
     }
 }
 
@@ -309,12 +309,12 @@ pub(crate) fn least_recursive(
 {
     let first = row_at(references.all.as_slice(), START);
     let reached = reached(alloc, references.all.as_slice(), first)?;
-    let outer = only_marked(alloc, references.outer.as_slice(), reached.as_slice())?;
+    let outer = marked_rows(alloc, references.outer.as_slice(), reached.as_slice())?;
     least_looped(alloc, outer.as_slice())
 }
 
 /// The edges from marked nodes alone.
-fn only_marked(
+fn marked_rows(
     alloc: Global,
     edges: &[Vec<usize>],
     marks: &[bool],

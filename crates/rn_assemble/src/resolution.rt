@@ -1,75 +1,77 @@
 // Patterns and name classes with their names resolved.
 ghost use Rattle.std.specs.Prelude.{◌≡◌, List, [], map, IfOk};
+ghost use Rattle.std.specs.Cow.{cow_str_bytes};
+ghost use Rattle.std.specs.Rc.{rc_str_bytes};
 ghost use Rattle.rn_pattern.specs.Tree as tree;
 ghost use Rattle.rn_pattern.specs.Tree.{Text, name_trees_of, trees_of};
 ghost use Rattle.rn_pattern.specs.View.{name_class_view, parameters_view, shared_view};
 ghost use Rattle.rn_syntax.specs.Tree as source;
 ghost use Rattle.rn_syntax.specs.View as seen;
-ghost use Rattle.rn_assemble.specs.inside.Bound.{InScope};
+ghost use Rattle.rn_assemble.specs.inside.Bound.{InContext};
 ghost use Rattle.rn_assemble.specs.inside.Patterns.{boxed_view};
 ghost use Rattle.rn_assemble.specs.Resolve as resolve;
 
-use crate::bindings::Scope;
+use crate::context::Context;
 use crate::nodes::{
-    boxed, choice, group, interleave, list, mixed, one_or_more, optional, owned, reference, shared,
-    typed_datum, typed_value,
+    box_pattern, choice, copy_text, group, interleave, list, mixed_pattern, one_or_more,
+    optional_pattern, reference, share_pattern, typed_datum, typed_value,
 };
 use rn_pattern::{NameClass, Pattern};
-use rn_syntax::{AnyName, Datatype, Name, Nc, Operator, Param, Pat, Postfix};
+use rn_syntax::{AnyName, Data, Datatype, Name, Nc, Operator, Param, Pat, Postfix, Value};
 use std::alloc::{AllocError, Global};
-use std::rc::Rc;
+use std::rc::{Rc, RcStr};
 
 fn name<'t>(
     alloc: Global,
-    scope: Scope<'_, 't>,
-    own: &str,
+    context: Context<'_, 't>,
+    own: &RcStr,
     name: &'t Name<'_>,
 ) -> Result<NameClass, AllocError>
-    ensures { InScope scope.entry (λ inherited ds. IfOk result (λ c. name_class_view c
-        ≡ resolve.named inherited ds own.now (seen.name_view name.now))) }
+    ensures { InContext context.entry (λ inherited ds. IfOk result (λ c. name_class_view c
+        ≡ resolve.named inherited ds (rc_str_bytes own.now) (seen.name_view name.now))) }
 {
     match name {
-        Name::Local(local) => Ok(NameClass::Name(owned(alloc, own)?, owned(alloc, local)?)),
+        Name::Local(local) => Ok(NameClass::Name(own.clone()?, copy_text(alloc, local)?)),
         Name::Prefixed(prefix, local) => Ok(NameClass::Name(
-            owned(alloc, scope.namespace(prefix.name))?,
-            owned(alloc, local)?,
+            context.namespace(prefix.name).clone()?,
+            copy_text(alloc, local)?,
         )),
     }
 }
 
 /// Every name, or every name of a namespace.
-fn every<'t>(
+fn every_name<'t>(
     alloc: Global,
-    scope: Scope<'_, 't>,
+    context: Context<'_, 't>,
     any: &'t AnyName<'_>,
 ) -> Result<NameClass, AllocError>
-    ensures { InScope scope.entry (λ inherited ds. IfOk result (λ c. name_class_view c
+    ensures { InContext context.entry (λ inherited ds. IfOk result (λ c. name_class_view c
         ≡ resolve.every inherited ds (seen.any_view any.now))) }
 {
     match any {
         AnyName::Any => Ok(NameClass::AnyName(None)),
         AnyName::AnyOf(prefix) => Ok(NameClass::NsName(
-            owned(alloc, scope.namespace(prefix.name))?,
+            context.namespace(prefix.name).clone()?,
             None,
         )),
     }
 }
 
 /// The same without the names of a class.
-fn every_but<'t>(
+fn every_name_but<'t>(
     alloc: Global,
-    scope: Scope<'_, 't>,
+    context: Context<'_, 't>,
     any: &'t AnyName<'_>,
     except: NameClass,
 ) -> Result<NameClass, AllocError>
-    ensures { InScope scope.entry (λ inherited ds. IfOk result (λ c. name_class_view c
+    ensures { InContext context.entry (λ inherited ds. IfOk result (λ c. name_class_view c
         ≡ resolve.every_but inherited ds (seen.any_view any.now) (name_class_view except))) }
 {
     let except = Box::new(alloc, except)?;
     match any {
         AnyName::Any => Ok(NameClass::AnyName(Some(except))),
         AnyName::AnyOf(prefix) => Ok(NameClass::NsName(
-            owned(alloc, scope.namespace(prefix.name))?,
+            context.namespace(prefix.name).clone()?,
             Some(except),
         )),
     }
@@ -86,49 +88,50 @@ fn class_choice(members: Vec<NameClass>) -> NameClass
 #[cycle(name_class)]
 pub(crate) fn name_class<'t>(
     alloc: Global,
-    scope: Scope<'_, 't>,
-    own: &str,
+    context: Context<'_, 't>,
+    own: &RcStr,
     class: &'t Nc<'_>,
 ) -> Result<NameClass, AllocError>
-    ensures { InScope scope.entry (λ inherited ds. IfOk result (λ c. name_class_view c
-        ≡ resolve.resolved_class inherited ds own.now (seen.class_view class.now))) }
+    ensures { InContext context.entry (λ inherited ds. IfOk result (λ c. name_class_view c
+        ≡ resolve.resolved_class inherited ds (rc_str_bytes own.now) (seen.class_view class.now))) }
 {
     match class {
-        Nc::Name(given) => name(alloc, scope, own, given),
-        Nc::All(any) => every(alloc, scope, any),
+        Nc::Name(given) => name(alloc, context, own, given),
+        Nc::All(any) => every_name(alloc, context, any),
         Nc::AllBut(any, except) => {
-            let except = name_class(alloc, scope, own, except)?;
-            every_but(alloc, scope, any, except)
+            let except = name_class(alloc, context, own, except)?;
+            every_name_but(alloc, context, any, except)
         }
-        Nc::Choice(classes) => Ok(class_choice(name_classes(alloc, scope, own, classes)?)),
+        Nc::Choice(classes) => Ok(class_choice(name_classes(alloc, context, own, classes)?)),
     }
 }
 
 #[cycle(name_class)]
 fn name_classes<'t>(
     alloc: Global,
-    scope: Scope<'_, 't>,
-    own: &str,
+    context: Context<'_, 't>,
+    own: &RcStr,
     classes: &'t [Nc<'_>],
 ) -> Result<Vec<NameClass>, AllocError>
-    ensures { InScope scope.entry (λ inherited ds. IfOk result
+    ensures { InContext context.entry (λ inherited ds. IfOk result
         (λ v. name_trees_of (map name_class_view v.items)
-        ≡ resolve.resolved_classes inherited ds own.now (seen.classes_view classes.now))) }
+        ≡ resolve.resolved_classes inherited ds (rc_str_bytes own.now)
+        (seen.classes_view classes.now))) }
 {
-    let mut members = Vec::new(alloc);
+    let mut members = Vec::with_capacity(alloc, classes.len())?;
     for class in classes {
-        members.push(name_class(alloc, scope, own, class)?)?;
+        members.push(name_class(alloc, context, own, class)?)?;
     }
     Ok(members)
 }
 
-fn library<'t>(scope: Scope<'_, 't>, datatype: &'t Datatype<'_>) -> &'t str
-    ensures { InScope scope.entry (λ inherited ds. result.now
+fn library<'c>(context: Context<'c, '_>, datatype: &Datatype<'_>) -> &'c RcStr
+    ensures { InContext context.entry (λ inherited ds. rc_str_bytes result.now
         ≡ resolve.type_library inherited ds (seen.datatype_view datatype.now)) }
 {
     match datatype {
-        Datatype::String(_) | Datatype::Token(_) => "",
-        Datatype::Named(prefix, _) => scope.library(prefix.name),
+        Datatype::String(_) | Datatype::Token(_) => &context.bindings.known.none,
+        Datatype::Named(prefix, _) => context.library(prefix.name),
     }
 }
 
@@ -146,27 +149,28 @@ fn type_name<'t>(datatype: &'t Datatype<'_>) -> &'t str
 /// A value; one without a datatype is of the built-in token.
 fn value<'t>(
     alloc: Global,
-    scope: Scope<'_, 't>,
-    datatype: &'t Option<Datatype<'_>>,
-    text: &str,
+    context: Context<'_, 't>,
+    value: &'t Value<'_>,
 ) -> Result<Box<Pattern>, AllocError>
-    ensures { InScope scope.entry (λ inherited ds. IfOk result (λ p. boxed_view p
-        ≡ resolve.typed_value inherited ds (seen.type_view datatype.now) text.now)) }
+    ensures { InContext context.entry (λ inherited ds. IfOk result (λ p. boxed_view p
+        ≡ resolve.typed_value inherited ds (seen.type_view value.now.datatype)
+        (cow_str_bytes value.now.text))) }
 {
-    match datatype {
-        Some(datatype) => typed_value(alloc, library(scope, datatype), type_name(datatype), text),
-        None => typed_value(alloc, "", "token", text),
+    let text = value.text.as_str();
+    match &value.datatype {
+        Some(datatype) => typed_value(alloc, library(context, datatype), type_name(datatype), text),
+        None => typed_value(alloc, &context.bindings.known.none, "token", text),
     }
 }
 
 fn params(alloc: Global, given: &[Param<'_>]) -> Result<Vec<(String, String)>, AllocError>
     ensures { IfOk result (λ v. parameters_view v.items ≡ seen.params_view given.now) }
 {
-    let mut params = Vec::new(alloc);
+    let mut params = Vec::with_capacity(alloc, given.len())?;
     for param in given {
         params.push((
-            owned(alloc, param.name)?,
-            owned(alloc, param.text.as_str())?,
+            copy_text(alloc, param.name)?,
+            copy_text(alloc, param.text.as_str())?,
         ))?;
     }
     Ok(params)
@@ -174,20 +178,19 @@ fn params(alloc: Global, given: &[Param<'_>]) -> Result<Vec<(String, String)>, A
 
 fn datum<'t>(
     alloc: Global,
-    scope: Scope<'_, 't>,
-    datatype: &'t Datatype<'_>,
-    given: &[Param<'_>],
+    context: Context<'_, 't>,
+    data: &'t Data<'_>,
 ) -> Result<Box<Pattern>, AllocError>
-    ensures { InScope scope.entry (λ inherited ds. IfOk result (λ p. boxed_view p
-        ≡ tree.datum (resolve.type_library inherited ds (seen.datatype_view datatype.now))
-        (resolve.type_name inherited ds (seen.datatype_view datatype.now))
-        (seen.params_view given.now))) }
+    ensures { InContext context.entry (λ inherited ds. IfOk result (λ p. boxed_view p
+        ≡ tree.datum (resolve.type_library inherited ds (seen.datatype_view «data».now.datatype))
+        (resolve.type_name inherited ds (seen.datatype_view «data».now.datatype))
+        (seen.params_view «data».now.params.items))) }
 {
-    let params = params(alloc, given)?;
+    let params = params(alloc, &data.params)?;
     typed_datum(
         alloc,
-        library(scope, datatype),
-        type_name(datatype),
+        library(context, &data.datatype),
+        type_name(&data.datatype),
         params,
         None,
     )
@@ -196,21 +199,21 @@ fn datum<'t>(
 /// The datatype without the values of a pattern.
 fn datum_but<'t>(
     alloc: Global,
-    scope: Scope<'_, 't>,
-    datatype: &'t Datatype<'_>,
-    given: &[Param<'_>],
+    context: Context<'_, 't>,
+    data: &'t Data<'_>,
     except: Box<Pattern>,
 ) -> Result<Box<Pattern>, AllocError>
-    ensures { InScope scope.entry (λ inherited ds. IfOk result (λ p. boxed_view p
-        ≡ tree.datum_but (resolve.type_library inherited ds (seen.datatype_view datatype.now))
-        (resolve.type_name inherited ds (seen.datatype_view datatype.now))
-        (seen.params_view given.now) (boxed_view except))) }
+    ensures { InContext context.entry (λ inherited ds. IfOk result (λ p. boxed_view p
+        ≡ tree.datum_but
+        (resolve.type_library inherited ds (seen.datatype_view «data».now.datatype))
+        (resolve.type_name inherited ds (seen.datatype_view «data».now.datatype))
+        (seen.params_view «data».now.params.items) (boxed_view except))) }
 {
-    let params = params(alloc, given)?;
+    let params = params(alloc, &data.params)?;
     typed_datum(
         alloc,
-        library(scope, datatype),
-        type_name(datatype),
+        library(context, &data.datatype),
+        type_name(&data.datatype),
         params,
         Some(except),
     )
@@ -219,31 +222,31 @@ fn datum_but<'t>(
 /// An element; a name without prefix is in the default namespace.
 fn element<'t>(
     alloc: Global,
-    scope: Scope<'_, 't>,
+    context: Context<'_, 't>,
     class: &'t Nc<'_>,
     content: Box<Pattern>,
 ) -> Result<Box<Pattern>, AllocError>
-    ensures { InScope scope.entry (λ inherited ds. IfOk result (λ p. boxed_view p
+    ensures { InContext context.entry (λ inherited ds. IfOk result (λ p. boxed_view p
         ≡ tree.element (resolve.resolved_class inherited ds (resolve.default_of inherited ds)
         (seen.class_view class.now)) (boxed_view content))) }
 {
-    let class = name_class(alloc, scope, scope.default_namespace(), class)?;
-    boxed(alloc, Pattern::Element(class, content))
+    let class = name_class(alloc, context, context.default_namespace(), class)?;
+    box_pattern(alloc, Pattern::Element(Box::new(alloc, class)?, content))
 }
 
 /// An attribute; a name without prefix is in no namespace.
 fn attribute<'t>(
     alloc: Global,
-    scope: Scope<'_, 't>,
+    context: Context<'_, 't>,
     class: &'t Nc<'_>,
     content: Box<Pattern>,
 ) -> Result<Box<Pattern>, AllocError>
-    ensures { InScope scope.entry (λ inherited ds. IfOk result (λ p. boxed_view p
+    ensures { InContext context.entry (λ inherited ds. IfOk result (λ p. boxed_view p
         ≡ tree.attribute (resolve.resolved_class inherited ds [] (seen.class_view class.now))
         (boxed_view content))) }
 {
-    let class = name_class(alloc, scope, "", class)?;
-    boxed(alloc, Pattern::Attribute(class, content))
+    let class = name_class(alloc, context, &context.bindings.known.none, class)?;
+    box_pattern(alloc, Pattern::Attribute(Box::new(alloc, class)?, content))
 }
 
 fn chain(
@@ -256,13 +259,13 @@ fn chain(
         ≡ resolve.chained inherited ds operator (trees_of (map shared_view members.items))) }
 {
     match operator {
-        Operator::Comma => boxed(alloc, group(members)),
-        Operator::Ampersand => boxed(alloc, interleave(members)),
-        Operator::Bar => boxed(alloc, choice(members)),
+        Operator::Comma => box_pattern(alloc, group(members)),
+        Operator::Ampersand => box_pattern(alloc, interleave(members)),
+        Operator::Bar => box_pattern(alloc, choice(members)),
     }
 }
 
-fn repeated(
+fn repetition(
     alloc: Global,
     postfix: Postfix,
     content: Box<Pattern>,
@@ -272,8 +275,8 @@ fn repeated(
         ≡ resolve.repetition inherited ds postfix (boxed_view content)) }
 {
     match postfix {
-        Postfix::Question => optional(alloc, content),
-        Postfix::Star => optional(alloc, one_or_more(alloc, content)?),
+        Postfix::Question => optional_pattern(alloc, content),
+        Postfix::Star => optional_pattern(alloc, one_or_more(alloc, content)?),
         Postfix::Plus => one_or_more(alloc, content),
     }
 }
@@ -282,39 +285,39 @@ fn repeated(
 #[cycle(pattern)]
 pub(crate) fn pattern<'t>(
     alloc: Global,
-    scope: Scope<'_, 't>,
+    context: Context<'_, 't>,
     written: &'t Pat<'_>,
 ) -> Result<Box<Pattern>, AllocError>
-    ensures { InScope scope.entry (λ inherited ds. IfOk result (λ p. boxed_view p
+    ensures { InContext context.entry (λ inherited ds. IfOk result (λ p. boxed_view p
         ≡ resolve.resolved inherited ds (seen.pattern_view written.now))) }
 {
     match written {
         Pat::Element(class, content) => {
-            let content = pattern(alloc, scope, content)?;
-            element(alloc, scope, class, content)
+            let content = pattern(alloc, context, content)?;
+            element(alloc, context, class, content)
         }
         Pat::Attribute(class, content) => {
-            let content = pattern(alloc, scope, content)?;
-            attribute(alloc, scope, class, content)
+            let content = pattern(alloc, context, content)?;
+            attribute(alloc, context, class, content)
         }
-        Pat::List(content) => list(alloc, pattern(alloc, scope, content)?),
-        Pat::Mixed(content) => mixed(alloc, pattern(alloc, scope, content)?),
-        Pat::Empty => boxed(alloc, Pattern::Empty),
-        Pat::NotAllowed => boxed(alloc, Pattern::NotAllowed),
-        Pat::Text => boxed(alloc, Pattern::Text),
+        Pat::List(content) => list(alloc, pattern(alloc, context, content)?),
+        Pat::Mixed(content) => mixed_pattern(alloc, pattern(alloc, context, content)?),
+        Pat::Empty => box_pattern(alloc, Pattern::Empty),
+        Pat::NotAllowed => box_pattern(alloc, Pattern::NotAllowed),
+        Pat::Text => box_pattern(alloc, Pattern::Text),
         Pat::Ref(name) => reference(alloc, name),
-        Pat::Value(datatype, text) => value(alloc, scope, datatype, text.as_str()),
-        Pat::Datum(datatype, params) => datum(alloc, scope, datatype, params),
-        Pat::DatumBut(datatype, params, _, except) => {
-            let except = pattern(alloc, scope, except)?;
-            datum_but(alloc, scope, datatype, params, except)
+        Pat::Value(given) => value(alloc, context, given),
+        Pat::Datum(data) => datum(alloc, context, data),
+        Pat::DatumBut(data, _, except) => {
+            let except = pattern(alloc, context, except)?;
+            datum_but(alloc, context, data, except)
         }
         Pat::Repeated(postfix, content) => {
-            let content = pattern(alloc, scope, content)?;
-            repeated(alloc, *postfix, content)
+            let content = pattern(alloc, context, content)?;
+            repetition(alloc, *postfix, content)
         }
         Pat::Chain(operator, members) => {
-            let members = patterns(alloc, scope, members)?;
+            let members = patterns(alloc, context, members)?;
             chain(alloc, *operator, members)
         }
     }
@@ -323,17 +326,17 @@ pub(crate) fn pattern<'t>(
 #[cycle(pattern)]
 fn patterns<'t>(
     alloc: Global,
-    scope: Scope<'_, 't>,
+    context: Context<'_, 't>,
     written: &'t [Pat<'_>],
 ) -> Result<Vec<Rc<Pattern>>, AllocError>
-    ensures { InScope scope.entry (λ inherited ds. IfOk result
+    ensures { InContext context.entry (λ inherited ds. IfOk result
         (λ v. trees_of (map shared_view v.items)
         ≡ resolve.resolved_all inherited ds (seen.patterns_view written.now))) }
 {
-    let mut members = Vec::new(alloc);
+    let mut members = Vec::with_capacity(alloc, written.len())?;
     for member in written {
-        let pattern = pattern(alloc, scope, member)?;
-        members.push(shared(alloc, pattern)?)?;
+        let pattern = pattern(alloc, context, member)?;
+        members.push(share_pattern(alloc, pattern)?)?;
     }
     Ok(members)
 }

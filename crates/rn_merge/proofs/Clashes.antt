@@ -5,7 +5,7 @@ use Rattle.std.specs.List.{list_any}
 use Rattle.std.proofs.lemmas.Bool.{false≢true}
 use Rattle.rn_modset.specs.Contributions.{Member}
 use Rattle.rn_modset.proofs.Membership.{In, contains_from_in}
-use Rattle.rn_assemble.specs.Components.{Key, same_key, Component, Source, set_components}
+use Rattle.rn_assemble.specs.Components.{Key, same_key, Component, NamedModule, set_components}
 use Rattle.rn_assemble.specs.Combine.{of_key, is_plain, is_choice, is_interleave, IsPlainTwice, IsMixed}
 use Rattle.rn_assemble.specs.Refusal.{Refusal, plain_twice, mixed_methods, Stands, AreModules}
 use Rattle.rn_assemble.proofs.Refusals.NoLeast.{no_key}
@@ -23,7 +23,7 @@ keyed : (k : Key) (cs : List Component) → of_key k cs ≢ [] → In k (keys cs
 keyed k [] some = absurd (some refl)
 keyed k (c ∷ cs) some = keyed_at k c cs (same_key k c.key) refl (keyed k cs) some
 
-module _ (s : List Member) (modules : List Source) (a : AreModules s modules) (none : (q : Refusal) → ¬ Stands s q) where
+module _ (s : List Member) (modules : List NamedModule) (a : AreModules s modules) (none : (q : Refusal) → ¬ Stands s q) where
   abbrev cs : List Component
   cs = set_components modules
 

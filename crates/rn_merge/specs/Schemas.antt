@@ -6,7 +6,7 @@ use Rattle.rn_modset.specs.Modules.{AreEffective}
 use Rattle.rn_assemble.specs.declared.refusal.Refusal as code
 use Rattle.rn_assemble.specs.declared.refusal.Refusal.TheVariants as r
 use Rattle.rn_assemble.specs.Combine.{IsMixed, IsPlainTwice}
-use Rattle.rn_assemble.specs.Components.{Key, Source, set_components}
+use Rattle.rn_assemble.specs.Components.{Key, NamedModule, set_components}
 use Rattle.rn_assemble.specs.Refusal.{AreModules, IsFirst, Refusal, Stands}
 use Rattle.rn_assemble.specs.Refused.{refusal_view}
 use Rattle.rn_simplify.specs.ReadAgain.{IsReadAgain}
@@ -14,11 +14,11 @@ use Rattle.rn_simplify.specs.Verdict.{IsVerdict, prints}
 
 -- no name is defined plainly twice in the modules of the set (RELAX NG 2001, 4.17)
 abbrev pub DefinesPlainlyOnce : List Member → Type 0
-DefinesPlainlyOnce s = (modules : List Source) → AreModules s modules → (k : Key) → ¬ IsPlainTwice k (set_components modules)
+DefinesPlainlyOnce s = (modules : List NamedModule) → AreModules s modules → (k : Key) → ¬ IsPlainTwice k (set_components modules)
 
 -- no name is combined by both methods in the modules of the set (4.17)
 abbrev pub CombinesByOneMethod : List Member → Type 0
-CombinesByOneMethod s = (modules : List Source) → AreModules s modules → (k : Key) → ¬ IsMixed k (set_components modules)
+CombinesByOneMethod s = (modules : List NamedModule) → AreModules s modules → (k : Key) → ¬ IsMixed k (set_components modules)
 
 -- no refusal of modules stands for the set
 abbrev pub IsUnrefused : List Member → Type 0

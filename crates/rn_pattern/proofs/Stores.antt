@@ -1,6 +1,7 @@
 -- Stores of nodes, and the trees that their ids stand for.
 pub mod NodeTrees
 pub mod Gathering
+pub mod Opening
 pub mod Copied
 pub mod Hashing
 pub mod Interning

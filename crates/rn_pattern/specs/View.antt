@@ -2,20 +2,22 @@
 use Rattle.std.specs.Prelude.{List, map, Option, Some, None, String, string_bytes, Box}
 use Rattle.std.specs.declared.alloc.Global.{Global}
 use Rattle.std.specs.declared.rc.Rc.{Rc}
+use Rattle.std.specs.Rc.{rc_str_bytes}
 use Rattle.rn_pattern.specs.Tree as tree
 use Rattle.rn_pattern.specs.Tree.{Text, Parameters, NameTree, NameTrees, no_names, more_names, Tree, Trees, no_trees, more_trees, name_trees_of, trees_of}
 use Rattle.rn_pattern.specs.declared.tree.NameClass.{NameClass, fold-NameClass}
 use Rattle.rn_pattern.specs.declared.tree.NameClass.TheOpen.{NameClass-F}
 use Rattle.rn_pattern.specs.declared.tree.Pattern.{Pattern, fold-Pattern}
 use Rattle.rn_pattern.specs.declared.tree.Pattern.TheOpen.{Pattern-F}
+use Rattle.rn_pattern.specs.declared.tree.Value.{Value}
 
 -- one level, with each name class inside already seen as its tree
 abbrev pub name_class_step : NameClass-F NameTree → NameTree
 name_class_step (NameClass-F.AnyName None) = tree.any_name
 name_class_step (NameClass-F.AnyName (Some c)) = tree.any_name_but c.value
-name_class_step (NameClass-F.NsName u None) = tree.ns_name (string_bytes u)
-name_class_step (NameClass-F.NsName u (Some c)) = tree.ns_name_but (string_bytes u) c.value
-name_class_step (NameClass-F.Name u l) = tree.name (string_bytes u) (string_bytes l)
+name_class_step (NameClass-F.NsName u None) = tree.ns_name (rc_str_bytes u)
+name_class_step (NameClass-F.NsName u (Some c)) = tree.ns_name_but (rc_str_bytes u) c.value
+name_class_step (NameClass-F.Name u l) = tree.name (rc_str_bytes u) (string_bytes l)
 name_class_step (NameClass-F.Choice cs) = tree.name_choice (name_trees_of cs.items)
 
 abbrev pub name_class_view : NameClass → NameTree
@@ -29,12 +31,12 @@ pattern_step Pattern-F.NotAllowed = tree.not_allowed
 pattern_step Pattern-F.Empty = tree.empty
 pattern_step Pattern-F.Text = tree.text
 pattern_step (Pattern-F.Ref x) = tree.ref (string_bytes x)
-pattern_step (Pattern-F.Value l x t) = tree.value (string_bytes l) (string_bytes x) (string_bytes t)
-pattern_step (Pattern-F.Datum l x ps None) = tree.datum (string_bytes l) (string_bytes x) (parameters_view ps.items)
-pattern_step (Pattern-F.Datum l x ps (Some p)) = tree.datum_but (string_bytes l) (string_bytes x) (parameters_view ps.items) p.value
+pattern_step (Pattern-F.Value v) = tree.value (rc_str_bytes v.value.library) (string_bytes v.value.type_name) (string_bytes v.value.text)
+pattern_step (Pattern-F.Datum d None) = tree.datum (rc_str_bytes d.value.library) (string_bytes d.value.type_name) (parameters_view d.value.params.items)
+pattern_step (Pattern-F.Datum d (Some p)) = tree.datum_but (rc_str_bytes d.value.library) (string_bytes d.value.type_name) (parameters_view d.value.params.items) p.value
 pattern_step (Pattern-F.List p) = tree.list p.value
-pattern_step (Pattern-F.Attribute c p) = tree.attribute (name_class_view c) p.value
-pattern_step (Pattern-F.Element c p) = tree.element (name_class_view c) p.value
+pattern_step (Pattern-F.Attribute c p) = tree.attribute (name_class_view c.value) p.value
+pattern_step (Pattern-F.Element c p) = tree.element (name_class_view c.value) p.value
 pattern_step (Pattern-F.OneOrMore p) = tree.one_or_more p.value
 pattern_step (Pattern-F.Group ps) = tree.group (trees_of (map (λ (r : Rc Tree Global). r.value) ps.items))
 pattern_step (Pattern-F.Interleave ps) = tree.interleave (trees_of (map (λ (r : Rc Tree Global). r.value) ps.items))
@@ -43,8 +45,14 @@ pattern_step (Pattern-F.Choice ps) = tree.choice (trees_of (map (λ (r : Rc Tree
 abbrev pub pattern_view : Pattern → Tree
 pattern_view = fold-Pattern Tree pattern_step
 
+abbrev pub value_view : Value → Tree
+value_view v = tree.value (rc_str_bytes v.library) (string_bytes v.type_name) (string_bytes v.text)
+
 abbrev pub shared_view : Rc Pattern Global → Tree
 shared_view p = pattern_view p.value
+
+abbrev pub boxed_view : Box Pattern Global → Tree
+boxed_view p = pattern_view p.value
 
 -- the members of a list
 abbrev pub name_classes_view : List NameClass → NameTrees

@@ -6,6 +6,8 @@
 //! interleave are put in one order. [`Plain`] keeps each pattern that it is asked for; in [`Interned`] equal patterns
 //! have equal ids.
 //!
+//! [`steps`] takes the same steps on patterns themselves, for a pattern that no store is to keep.
+//!
 //! [`laws`] has what is proved of canonical patterns; [`examples`] has documents that are valid and documents that are not.
 //! [`name_classes`] has the restrictions on name classes (4.16). [`graph`] and [`ranks`] walk graphs whose nodes are numbers:
 //! definitions and what they refer to, modules and what they include.
@@ -13,6 +15,7 @@
 
 mod canonical;
 mod connector;
+mod copies;
 pub mod graph;
 mod hashing;
 pub mod interned;
@@ -27,6 +30,7 @@ pub mod plain;
 pub mod ranks;
 mod search;
 pub mod seed;
+pub mod steps;
 mod store;
 pub mod tree;
 
@@ -35,7 +39,7 @@ pub use node::{Node, NodeId};
 pub use patterns::Patterns;
 pub use plain::Plain;
 pub use seed::Seed;
-pub use tree::{NameClass, Pattern};
+pub use tree::{Data, NameClass, Pattern, Value};
 
 pub mod examples;
 pub mod laws;

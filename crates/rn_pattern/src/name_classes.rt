@@ -136,9 +136,9 @@ pub fn keeps_name_rules(pattern: &Pattern) -> bool
         | Pattern::Empty
         | Pattern::Text
         | Pattern::Ref(_)
-        | Pattern::Value(_, _, _)
-        | Pattern::Datum(_, _, _, None) => true,
-        Pattern::Datum(_, _, _, Some(except)) => keeps_name_rules(except),
+        | Pattern::Value(_)
+        | Pattern::Datum(_, None) => true,
+        Pattern::Datum(_, Some(except)) => keeps_name_rules(except),
         Pattern::List(content) => keeps_name_rules(content),
         Pattern::Attribute(class, content) => {
             has_name_excepts(class) && has_no_declaration(class) && keeps_name_rules(content)

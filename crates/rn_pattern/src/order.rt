@@ -1,9 +1,10 @@
 // The order of name classes and of patterns: by kind, then by the parts from left to right.
 ghost use Rattle.std.specs.Prelude.{◌≡◌};
+ghost use Rattle.rn_pattern.specs.inside.Compared.{data_cmp, value_cmp};
 ghost use Rattle.rn_pattern.specs.Order.{name_cmp, name_rank, names_cmp, rank, tree_cmp, trees_cmp};
 ghost use Rattle.rn_pattern.specs.View.{except_view, excepted_view, name_class_view, name_classes_view, pattern_view, patterns_view};
 
-use crate::tree::{NameClass, Pattern};
+use crate::tree::{Data, NameClass, Pattern, Value};
 use std::cmp::Ordering;
 use std::rc::Rc;
 
@@ -32,7 +33,10 @@ impl NameClass {
                 Ordering::Equal => compare_excepts(c, d),
                 order => order,
             },
-            (NameClass::Name(u, l), NameClass::Name(v, m)) => u.cmp(v).then(l.cmp(m)),
+            (NameClass::Name(u, l), NameClass::Name(v, m)) => match u.cmp(v) {
+                Ordering::Equal => l.cmp(m),
+                order => order,
+            },
             (NameClass::Choice(cs), NameClass::Choice(ds)) => compare_name_classes(cs, ds),
             _ => self.rank().cmp(&other.rank()),
         }
@@ -83,8 +87,8 @@ impl Pattern {
             Pattern::Empty => 1,
             Pattern::Text => 2,
             Pattern::Ref(_) => 3,
-            Pattern::Value(_, _, _) => 4,
-            Pattern::Datum(_, _, _, _) => 5,
+            Pattern::Value(_) => 4,
+            Pattern::Datum(_, _) => 5,
             Pattern::List(_) => 6,
             Pattern::Attribute(_, _) => 7,
             Pattern::Element(_, _) => 8,
@@ -104,16 +108,11 @@ impl Pattern {
     {
         match (self, other) {
             (Pattern::Ref(x), Pattern::Ref(y)) => x.cmp(y),
-            (Pattern::Value(k, x, s), Pattern::Value(l, y, t)) => k
-                .cmp(l)
-                .then(x.cmp(y))
-                .then(s.cmp(t)),
-            (Pattern::Datum(k, x, s, p), Pattern::Datum(l, y, t, q)) => {
-                match k.cmp(l).then(x.cmp(y)).then(s.cmp(t)) {
-                    Ordering::Equal => compare_excepted(p, q),
-                    order => order,
-                }
-            }
+            (Pattern::Value(v), Pattern::Value(w)) => compare_values(v, w),
+            (Pattern::Datum(d, p), Pattern::Datum(e, q)) => match compare_data(d, e) {
+                Ordering::Equal => compare_excepted(p, q),
+                order => order,
+            },
             (Pattern::List(p), Pattern::List(q)) => p.cmp(q),
             (Pattern::Attribute(c, p), Pattern::Attribute(d, q)) => match c.cmp(d) {
                 Ordering::Equal => p.cmp(q),
@@ -129,6 +128,34 @@ impl Pattern {
             (Pattern::Choice(ps), Pattern::Choice(qs)) => compare_patterns(ps, qs),
             _ => self.rank().cmp(&other.rank()),
         }
+    }
+}
+
+/// By the library, the type and the text.
+fn compare_values(v: &Value, w: &Value) -> Ordering
+    ensures { result ≡ value_cmp v.now w.now }
+{
+    match v.library.cmp(&w.library) {
+        Ordering::Equal => {}
+        order => return order,
+    }
+    match v.type_name.cmp(&w.type_name) {
+        Ordering::Equal => v.text.cmp(&w.text),
+        order => order,
+    }
+}
+
+/// By the library, the type and the parameters.
+fn compare_data(d: &Data, e: &Data) -> Ordering
+    ensures { result ≡ data_cmp d.now e.now }
+{
+    match d.library.cmp(&e.library) {
+        Ordering::Equal => {}
+        order => return order,
+    }
+    match d.type_name.cmp(&e.type_name) {
+        Ordering::Equal => d.params.cmp(&e.params),
+        order => order,
     }
 }
 

@@ -1,20 +1,38 @@
 // Patterns and name classes whose names are resolved.
-use std::rc::Rc;
+use std::rc::{Rc, RcStr};
 
-/// A name class. URIs and local names are UTF-8.
+/// A name class. Namespaces and local names are UTF-8. A namespace is shared by all names that are made of one binding, so a
+/// long one is stored once.
 #[derive(Drop)]
 pub enum NameClass {
     /// Every name, without those of the except.
     AnyName(Option<Box<NameClass>>),
     /// Every name of a namespace, without those of the except.
-    NsName(String, Option<Box<NameClass>>),
+    NsName(RcStr, Option<Box<NameClass>>),
     /// A namespace and a local name.
-    Name(String, String),
+    Name(RcStr, String),
     /// The names of each member, of which there are two or more.
     Choice(Vec<NameClass>),
 }
 
-/// A pattern. The members of a list are shared, since one body may stand in many lists.
+/// A value of a datatype. All texts are UTF-8, and the library is shared like a namespace.
+#[derive(Drop)]
+pub struct Value {
+    pub library: RcStr,
+    pub type_name: String,
+    pub text: String,
+}
+
+/// Data: the library of the datatype, its name there, and its parameters in their order, each a name and a text.
+#[derive(Drop)]
+pub struct Data {
+    pub library: RcStr,
+    pub type_name: String,
+    pub params: Vec<(String, String)>,
+}
+
+/// A pattern. The members of a list are shared, since one body may stand in many lists. What is large is in a box, since most
+/// patterns are references and lists.
 #[derive(Drop)]
 pub enum Pattern {
     NotAllowed,
@@ -22,13 +40,12 @@ pub enum Pattern {
     Text,
     /// The name of a definition.
     Ref(String),
-    /// The datatype library, the type and the text.
-    Value(String, String, String),
-    /// The datatype library, the type, its parameters and what is excepted.
-    Datum(String, String, Vec<(String, String)>, Option<Box<Pattern>>),
+    Value(Box<Value>),
+    /// Data, and what is excepted of it.
+    Datum(Box<Data>, Option<Box<Pattern>>),
     List(Box<Pattern>),
-    Attribute(NameClass, Box<Pattern>),
-    Element(NameClass, Box<Pattern>),
+    Attribute(Box<NameClass>, Box<Pattern>),
+    Element(Box<NameClass>, Box<Pattern>),
     OneOrMore(Box<Pattern>),
     Group(Vec<Rc<Pattern>>),
     Interleave(Vec<Rc<Pattern>>),

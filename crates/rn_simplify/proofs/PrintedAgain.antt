@@ -16,7 +16,7 @@ use Rattle.rn_syntax.specs.Tree as t
 use Rattle.rn_syntax.specs.Tokens.{terminals}
 use Rattle.rn_syntax.specs.Fault.{HasTree}
 use Rattle.rn_syntax.specs.Places.{deep, prefix_places, builtin_places, context_places, except_places}
-use Rattle.rn_assemble.specs.Components.{Source}
+use Rattle.rn_assemble.specs.Components.{NamedModule}
 use Rattle.rn_assemble.specs.Combine.{joined_grammar, read}
 use Rattle.rn_assemble.specs.WellFormed.{IsWellFormed}
 use Rattle.rn_assemble.specs.Refusal.{TextFault, encoding, lexical, deep_brackets, syntax, prefix, builtin, context_value, except, Refusal, conflict, faulty, IsModuleOf, HasTextFault, StandsFor, AreModules, Stands, IsAssembled, grammar_of}
@@ -57,7 +57,7 @@ module _ (one_tree : (ts : Tokens) (m n : t.Module) → HasTree ts m → HasTree
       abbrev texts : List effective.Module
       texts = (x, spelling n) ∷ []
 
-      abbrev printed : List Source
+      abbrev printed : List NamedModule
       printed = record { name = x; tree = r.tree } ∷ []
 
       faultless_at : (y text : Text) → Contains {X = Text × Text} texts (y, text) → (f : TextFault) → ¬ HasTextFault text f
@@ -74,8 +74,8 @@ module _ (one_tree : (ts : Tokens) (m n : t.Module) → HasTree ts m → HasTree
         }
 
         module _ (G : Grammar) (c : IsCanonicalOf G n) (w : IsWellFormed G) where
-          of_modules : (q : Refusal) → ¬ ((modules : List Source) × AreModules s modules × StandsFor modules q)
-          of_modules q (modules, b, h) = none_stands G n c w r x q (subst (λ (l : List Source). StandsFor l q) (one_modules one_tree s modules printed b are_modules) h)
+          of_modules : (q : Refusal) → ¬ ((modules : List NamedModule) × AreModules s modules × StandsFor modules q)
+          of_modules q (modules, b, h) = none_stands G n c w r x q (subst (λ (l : List NamedModule). StandsFor l q) (one_modules one_tree s modules printed b are_modules) h)
 
           no_refusal : (q : Refusal) → ¬ Stands s q
           no_refusal (conflict y k) h = a.agreed y k h.0

@@ -6,7 +6,7 @@ use Rattle.rn_pattern.specs.Datatype.{Table}
 use Rattle.rn_pattern.specs.Matching.{Grammar, IsValid}
 use Rattle.rn_pattern.specs.Reached.{IsCanonicalOf}
 use Rattle.rn_modset.specs.Contributions.{Member}
-use Rattle.rn_assemble.specs.Components.{Source, set_components}
+use Rattle.rn_assemble.specs.Components.{NamedModule, set_components}
 use Rattle.rn_assemble.specs.Combine.{IsCombination, read}
 use Rattle.rn_assemble.specs.Refusal.{Refusal, TextFault, AreModules, HasTextFault, StandsFor, grammar_of}
 use Rattle.rn_assemble.specs.WellFormed.{IsWellFormed}
@@ -18,7 +18,7 @@ use Rattle.rn_simplify.specs.ReadBack.{IsReadBack}
 -- combination of its components, has that canonical grammar again, and no other, and none of the refusals of modules
 -- stands for it
 pub record IsReadAgain (s : List Member) (text : Text) : Type 0 where
-  pub modules : List Source
+  pub modules : List NamedModule
   pub are_modules : AreModules s modules
   pub normal : Grammar
   pub canonical : IsCanonicalOf (grammar_of modules) normal

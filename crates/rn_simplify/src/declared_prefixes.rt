@@ -44,15 +44,33 @@ fn seed_of(texts: &BTreeSet<String>) -> Seed {
     Seed::of(&digest.finalize())
 }
 
+/// The most texts that are looked through one by one: of two texts mostly the lengths differ, while a hash takes all bytes.
+const FEW_TEXTS: usize = 64;
+
 /// The place of a text, counted from 1; the number of the texts if it isn't there.
 fn place_of(texts: &IndexSet<String, Seed>, text: &str) -> usize
     ensures { result ≡ place text.now (map (λ u. string_bytes u) texts.now.keys) }
 {
     let count = texts.len();
+    if count <= FEW_TEXTS {
+        return place_among(texts.as_slice(), text);
+    }
     match texts.get_index_of(text) {
         Some(i) => i + 1,
         None => count,
     }
+}
+
+/// The place of a text among few, counted from 1; their number if it isn't there.
+fn place_among(texts: &[String], text: &str) -> usize
+    ensures { result ≡ place text.now (map (λ u. string_bytes u) texts.now) }
+{
+    for index in 0..texts.len() {
+        if text == texts[index].as_str() {
+            return index + 1;
+        }
+    }
+    texts.len()
 }
 
 /// The prefixes of a grammar: `n1`, `n2` and so on for the namespaces, `d1`, `d2` and so on for the libraries.

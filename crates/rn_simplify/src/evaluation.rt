@@ -105,11 +105,8 @@ fn worth_of_pattern(settled: &Settled<'_>, pattern: &Pattern) -> Worth
         Pattern::Group(members) => worth_of_all(settled, members),
         Pattern::Interleave(members) => worth_of_all(settled, members),
         Pattern::Choice(members) => worth_of_any(settled, members),
-        Pattern::Text
-        | Pattern::Value(_, _, _)
-        | Pattern::Datum(_, _, _, None)
-        | Pattern::Datum(_, _, _, Some(_))
-        | Pattern::Element(_, _) => Worth::Other,
+        Pattern::Text | Pattern::Value(_) | Pattern::Datum(_, _) | Pattern::Element(_, _) =>
+            Worth::Other,
     }
 }
 

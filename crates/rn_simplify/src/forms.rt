@@ -51,13 +51,13 @@ pub(crate) fn canonical_form<P: Patterns>(
         | Pattern::Empty
         | Pattern::Text
         | Pattern::Ref(_)
-        | Pattern::Value(_, _, _) => leaf_form(store, settled, pattern),
-        Pattern::Datum(library, type_name, params, None) => store.datum(
-            library, type_name, params, None,
-        ),
-        Pattern::Datum(library, type_name, params, Some(except)) => {
+        | Pattern::Value(_) => leaf_form(store, settled, pattern),
+        Pattern::Datum(data, None) => {
+            store.datum(&data.library, &data.type_name, &data.params, None)
+        }
+        Pattern::Datum(data, Some(except)) => {
             let except = canonical_form(alloc, store, settled, except)?;
-            store.datum(library, type_name, params, Some(except))
+            store.datum(&data.library, &data.type_name, &data.params, Some(except))
         }
         Pattern::List(content)
         | Pattern::Attribute(_, content)
@@ -94,7 +94,7 @@ fn leaf_form<P: Patterns>(
         Pattern::Empty => store.empty(),
         Pattern::Text => store.text(),
         Pattern::Ref(name) => reference_form(store, settled, name),
-        Pattern::Value(library, type_name, text) => store.value(library, type_name, text),
+        Pattern::Value(value) => store.value(&value.library, &value.type_name, &value.text),
         _ => unreachable!(),
     }
 }
@@ -114,7 +114,7 @@ pub(crate) fn list_form<P: Patterns>(
         (trees_of (map shared_view members.now))))) }
     ensures kept { KeepsIds P.knows P.tree_of store.old store.new }
 {
-    let mut ids = Vec::new(alloc);
+    let mut ids = Vec::with_capacity(alloc, members.len())?;
     push_parts(alloc, store, settled, kind, members, &mut ids)?;
     kind.form_over(store, &ids)
 }

@@ -11,7 +11,7 @@ ghost use Rattle.rn_pattern.specs.Reached.{formed, all_canonical, IsPruned, IsCa
 ghost use Rattle.rn_modset.specs.Contributions.{Member};
 ghost use Rattle.rn_modset.specs.Modules.{AreEffective};
 ghost use Rattle.rn_syntax.specs.Places.{except_places};
-ghost use Rattle.rn_assemble.specs.Components.{Component, Source, set_components};
+ghost use Rattle.rn_assemble.specs.Components.{Component, NamedModule, set_components};
 ghost use Rattle.rn_assemble.specs.Combine.{IsCombination, joined_grammar, read};
 ghost use Rattle.rn_assemble.specs.WellFormed.{IsWellFormed, HasWritableTexts};
 ghost use Rattle.rn_assemble.specs.Refusal.{Refusal, StandsFor};
@@ -89,8 +89,8 @@ pub fn combinations_are_read_back()
         → AllByRecursion (λ (c : Component). HasExcepts c.body) cs → IsCombination cs C
         → IsCanonicalOf (joined_grammar cs) N → (r : IsReadBack N) (T : Table) (doc : Item)
         → IsValid C T doc ↔ IsValid (read r.tree) T doc }
-    ensures modules { (modules : List Source) (C N : Grammar)
-        → AllByRecursion (λ (m : Source). except_places m.tree ≡ []) modules
+    ensures modules { (modules : List NamedModule) (C N : Grammar)
+        → AllByRecursion (λ (m : NamedModule). except_places m.tree ≡ []) modules
         → IsCombination (set_components modules) C
         → IsCanonicalOf (joined_grammar (set_components modules)) N
         → (r : IsReadBack N) (T : Table) (doc : Item) → IsValid C T doc

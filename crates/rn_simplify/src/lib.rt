@@ -25,6 +25,7 @@ mod repeated_members;
 mod settled;
 mod settling;
 mod shapes;
+mod tree_forms;
 mod worth;
 mod writer;
 

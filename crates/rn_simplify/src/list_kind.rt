@@ -1,10 +1,13 @@
 // The kinds of lists of patterns (RELAX NG, 4.12).
-ghost use Rattle.std.specs.Prelude.{All, IfOk, IsTrue, map};
+ghost use Rattle.std.specs.Prelude.{◌≡◌, All, IfOk, IsTrue, map};
 ghost use Rattle.rn_pattern.specs.Store.{KeepsIds, StandsFor};
+ghost use Rattle.rn_pattern.specs.View.{pattern_view, shared_view};
 ghost use Rattle.rn_simplify.specs.inside.Parts.{list_step};
 
-use rn_pattern::Patterns;
-use std::alloc::AllocError;
+use rn_pattern::steps::{choice_over, group_over, interleave_over};
+use rn_pattern::{Pattern, Patterns};
+use std::alloc::{AllocError, Global};
+use std::rc::Rc;
 
 /// A kind of list.
 #[derive(Clone, Copy)]
@@ -30,6 +33,22 @@ impl ListKind {
             ListKind::Group => store.group(parts),
             ListKind::Interleave => store.ileave(parts),
             ListKind::Choice => store.choice(parts),
+        }
+    }
+
+    /// The canonical form of a list of this kind, over those of its parts.
+    pub(crate) fn tree_over(
+        self,
+        alloc: Global,
+        parts: Vec<Rc<Pattern>>,
+    ) -> Result<Pattern, AllocError>
+        ensures { IfOk result (λ p. pattern_view p
+            ≡ list_step self (map shared_view parts.items)) }
+    {
+        match self {
+            ListKind::Group => group_over(alloc, parts),
+            ListKind::Interleave => interleave_over(alloc, parts),
+            ListKind::Choice => choice_over(alloc, parts),
         }
     }
 }

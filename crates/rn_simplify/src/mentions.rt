@@ -59,11 +59,13 @@ impl Mentions {
     {
         match pattern {
             Pattern::NotAllowed | Pattern::Empty | Pattern::Text | Pattern::Ref(_) => Ok(()),
-            Pattern::Value(library, _, _) => self.add_library(alloc, library),
-            Pattern::Datum(library, _, _, None) => self.add_library(alloc, library),
-            Pattern::Datum(library, _, _, Some(except)) => {
-                self.add_library(alloc, library)?;
-                self.add_pattern(alloc, except)
+            Pattern::Value(value) => self.add_library(alloc, &value.library),
+            Pattern::Datum(data, except) => {
+                self.add_library(alloc, &data.library)?;
+                match except {
+                    None => Ok(()),
+                    Some(except) => self.add_pattern(alloc, except),
+                }
             }
             Pattern::Attribute(class, content) | Pattern::Element(class, content) => {
                 self.add_class(alloc, class)?;

@@ -18,7 +18,7 @@ use crate::evaluation::settle_all;
 use crate::joined::canonical_body;
 use crate::normal::Normal;
 use crate::reachable::prune_forms;
-use crate::rebuilt::rebuild_box;
+use crate::rebuilt::rebuild;
 use crate::settled::Settled;
 use crate::settling::{body_of, name_of};
 use rn_assemble::Grammar;
@@ -55,19 +55,16 @@ pub fn normalise_in<P: Patterns>(
 }
 
 /// A start, and definitions by their names.
-type Parts = (Box<Pattern>, Vec<(String, Pattern)>);
+type Parts = (Pattern, Vec<(String, Pattern)>);
 
 /// The canonical grammar of these parts, which are those of the grammar's.
 fn normal_of(grammar: &Grammar, parts: Parts) -> Normal
-    requires { IsCanonicalOf (grammar_view grammar.now) (parts_view parts.0.value parts.1.items) }
+    requires { IsCanonicalOf (grammar_view grammar.now) (parts_view parts.0 parts.1.items) }
     ensures canonical { IsCanonicalOf (grammar_view grammar.now) (normal_view result) }
     ensures documents { ValidAlike (grammar_view grammar.now) (normal_view result) }
 {
     let (start, defs) = parts;
-    Normal {
-        start: Box::into_inner(start),
-        defs,
-    }
+    Normal { start, defs }
 }
 
 /// The canonical start and the canonical definitions that it reaches.
@@ -77,7 +74,7 @@ fn canonical_parts<P: Patterns>(
     store: &mut P,
 ) -> Result<Parts, AllocError>
     ensures canonical { IfOk result (λ parts. IsCanonicalOf (grammar_view grammar.now)
-        (parts_view parts.0.value parts.1.items)) }
+        (parts_view parts.0 parts.1.items)) }
     ensures kept { KeepsIds P.knows P.tree_of store.old store.new }
 {
     let settled = settle_all(alloc, grammar)?;
@@ -93,10 +90,10 @@ fn canonical_parts<P: Patterns>(
     Ok((start, defs))
 }
 
-/// The canonical start and the canonical definitions that it reaches, each made in a store of its own.
+/// The canonical start and the canonical definitions that it reaches, each made by itself.
 fn parts_apart(alloc: Global, grammar: &Grammar) -> Result<Parts, AllocError>
     ensures { IfOk result (λ parts. IsCanonicalOf (grammar_view grammar.now)
-        (parts_view parts.0.value parts.1.items)) }
+        (parts_view parts.0 parts.1.items)) }
 {
     let settled = settle_all(alloc, grammar)?;
     let start = body_form_apart(alloc, &settled, grammar.start(), grammar.start_firsts())?;
@@ -105,21 +102,21 @@ fn parts_apart(alloc: Global, grammar: &Grammar) -> Result<Parts, AllocError>
     Ok((start, defs))
 }
 
-/// The canonical form of a body, in its box.
+/// The canonical form of a body.
 pub(crate) fn body_form<P: Patterns>(
     alloc: Global,
     store: &mut P,
     settled: &Settled<'_>,
     body: &Pattern,
     firsts: &[usize],
-) -> Result<Box<Pattern>, AllocError>
+) -> Result<Pattern, AllocError>
     requires { AreFirsts firsts.now (joined_members (pattern_view body.now)) }
-    ensures made { IfOk result (λ p. pattern_view p.value ≡ form.canonical (becomes settled.now)
+    ensures made { IfOk result (λ p. pattern_view p ≡ form.canonical (becomes settled.now)
         (pattern_view body.now)) }
     ensures kept { KeepsIds P.knows P.tree_of store.old store.new }
 {
     let form = canonical_body(alloc, store, settled, body, firsts)?;
-    rebuild_box(alloc, store, form)
+    rebuild(alloc, store, form)
 }
 
 /// The canonical forms of the definitions, in their order.
@@ -138,12 +135,12 @@ fn definition_forms<P: Patterns>(
         (λ v. IsDistinct bytes_eq (map (λ d. d.0) (definitions_view v.items))) }
     ensures kept { KeepsIds P.knows P.tree_of store.old store.new }
 {
-    let mut forms = Vec::new(alloc);
+    let mut forms = Vec::with_capacity(alloc, settled.names.len())?;
     for number in 0..settled.names.len() {
         let name = name_of(settled.names, number).clone()?;
         let body = body_of(settled.names, number);
         let form = body_form(alloc, store, settled, body, grammar.firsts(number))?;
-        forms.push((name, Box::into_inner(form)))?;
+        forms.push((name, form))?;
     }
     Ok(forms)
 }

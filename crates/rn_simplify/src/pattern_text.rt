@@ -1,15 +1,15 @@
 // The text of a pattern (compact syntax, section 2, pattern).
-ghost use Rattle.std.specs.Prelude.{◌≡◌, ℕ, ◌<◌, ◌≤◌, drop, length, ◌∷◌, [], List, Some, map, string_bytes, codes, bytes_eq, chars, ◌&&◌, ◌++◌, MatchOption};
+ghost use Rattle.std.specs.Prelude.{◌≡◌, ℕ, ◌<◌, ◌≤◌, drop, length, ◌∷◌, [], List, Some, map, codes, bytes_eq, chars, ◌&&◌, ◌++◌, MatchOption};
 ghost use Rattle.rn_text.specs.Parts.{Piece};
-ghost use Rattle.rn_simplify.specs.Spelling.{braced, chain, chain_or_one, datum_pieces, infix_of, keyword, operand, optional, optional_one, params_pieces, parenthesized, primary, space, value_pieces, written_choice, written_interleave, written_name, written_tree};
+ghost use Rattle.rn_simplify.specs.Spelling.{braced, chain, chain_or_one, infix_of, keyword, operand, optional, optional_one, params_pieces, parenthesized, primary, space, written_choice, written_interleave, written_name, written_tree};
 ghost use Rattle.rn_pattern.specs.View.{name_class_view, parameters_view, pattern_view};
-ghost use Rattle.rn_simplify.specs.inside.Writes.{bytes_of, depth_after, prefixes_view, rows_of, Writes};
+ghost use Rattle.rn_simplify.specs.inside.Writes.{bytes_of, data_text, depth_after, prefixes_view, rows_of, value_text, Writes};
 
 use crate::class_text::write_class;
 use crate::declared_prefixes::Prefixes;
 use crate::shapes::{Shape, begins_with_empty, begins_with_text, shape_of_pattern};
 use crate::writer::Writer;
-use rn_pattern::{NameClass, Pattern};
+use rn_pattern::{Data, NameClass, Pattern, Value};
 use std::rc::Rc;
 
 /// Writes a pattern.
@@ -26,11 +26,9 @@ pub(crate) fn write_pattern(writer: &mut Writer, prefixes: &Prefixes, pattern: &
         Pattern::Empty => writer.put("empty"),
         Pattern::Text => writer.put("text"),
         Pattern::Ref(name) => writer.identifier(name),
-        Pattern::Value(library, type_name, text) => {
-            write_value(writer, prefixes, library, type_name, text);
-        }
-        Pattern::Datum(library, type_name, params, except) => {
-            write_data(writer, prefixes, library, type_name, params);
+        Pattern::Value(value) => write_value(writer, prefixes, value),
+        Pattern::Datum(data, except) => {
+            write_data(writer, prefixes, data);
             write_except(writer, prefixes, except);
         }
         Pattern::List(content) => {
@@ -238,34 +236,26 @@ fn is_token(library: &str, type_name: &str) -> bool
 }
 
 /// Writes a value.
-fn write_value(writer: &mut Writer, prefixes: &Prefixes, library: &str, type_name: &str, text: &str)
-    ensures { Writes (value_pieces
-        (prefixes_view prefixes.now) library.now type_name.now text.now) writer.old writer.new }
+fn write_value(writer: &mut Writer, prefixes: &Prefixes, value: &Value)
+    ensures { Writes (value_text (prefixes_view prefixes.now) value.now) writer.old writer.new }
 {
-    if is_token(library, type_name) {
-        writer.literal(text);
+    if is_token(&value.library, &value.type_name) {
+        writer.literal(&value.text);
     } else {
-        prefixes.write_type(writer, library, type_name);
+        prefixes.write_type(writer, &value.library, &value.type_name);
         writer.put(" ");
-        writer.literal(text);
+        writer.literal(&value.text);
     }
 }
 
 /// Writes a datatype and its parameters.
-fn write_data(
-    writer: &mut Writer,
-    prefixes: &Prefixes,
-    library: &str,
-    type_name: &str,
-    params: &[(String, String)],
-)
-    ensures { Writes (datum_pieces (prefixes_view prefixes.now) library.now type_name.now
-        (parameters_view params.now)) writer.old writer.new }
+fn write_data(writer: &mut Writer, prefixes: &Prefixes, data: &Data)
+    ensures { Writes (data_text (prefixes_view prefixes.now) «data».now) writer.old writer.new }
 {
-    prefixes.write_type(writer, library, type_name);
-    if !params.is_empty() {
+    prefixes.write_type(writer, &data.library, &data.type_name);
+    if !data.params.is_empty() {
         writer.open_bracket(" { ");
-        write_params(writer, params);
+        write_params(writer, &data.params);
         writer.close_bracket(" }");
     }
 }

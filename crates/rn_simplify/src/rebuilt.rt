@@ -3,25 +3,29 @@ ghost use Rattle.std.specs.Prelude.{◌≡◌, All, IfOk, IfSome, IsSome, IsTrue
 ghost use Rattle.std.specs.Option.{option_map};
 ghost use Rattle.rn_pattern.specs.Nodes.{node_members};
 ghost use Rattle.rn_pattern.specs.Store.{node_view};
-ghost use Rattle.rn_pattern.specs.Tree.{Tree};
+ghost use Rattle.rn_pattern.specs.Tree.{Tree, value};
 ghost use Rattle.rn_pattern.specs.View.{excepted_view, name_class_view, parameters_view, pattern_view, shared_view};
 ghost use Rattle.rn_simplify.specs.inside.NodeKinds.{datum_over, has_members, is_leaf, node_content};
 ghost use Rattle.rn_simplify.specs.inside.Sizes.{except_trees};
 
-use rn_pattern::{NameClass, Node, Pattern, Patterns};
+use rn_pattern::{Data, NameClass, Node, Pattern, Patterns, Value};
 use std::alloc::{AllocError, Global};
-use std::rc::Rc;
+use std::rc::{Rc, RcStr};
 
 /// The pattern of an id.
 #[cycle(rebuild)]
-fn rebuild<P: Patterns>(alloc: Global, store: &P, id: P::Id) -> Result<Pattern, AllocError>
+pub(crate) fn rebuild<P: Patterns>(
+    alloc: Global,
+    store: &P,
+    id: P::Id,
+) -> Result<Pattern, AllocError>
     requires { IsTrue (P.knows store.now id) }
     ensures { IfOk result (λ p. pattern_view p ≡ P.tree_of store.now id) }
 {
     let node = store.node(id);
     match node {
         Node::NotAllowed | Node::Empty | Node::Text | Node::Ref(_) | Node::Value(_, _, _) => {
-            leaf_pattern(node)
+            leaf_pattern(alloc, node)
         }
         Node::Datum(library, type_name, params, except) => {
             let except = rebuild_except(alloc, store, *except)?;
@@ -42,7 +46,7 @@ fn rebuild<P: Patterns>(alloc: Global, store: &P, id: P::Id) -> Result<Pattern, 
 }
 
 /// The pattern of a node that names no other.
-fn leaf_pattern<Id>(node: &Node<Id>) -> Result<Pattern, AllocError>
+fn leaf_pattern<Id>(alloc: Global, node: &Node<Id>) -> Result<Pattern, AllocError>
     requires { IsTrue (is_leaf node.now) }
     ensures { (at : Id → Tree) → IfOk result (λ p. pattern_view p ≡ node_view at node.now) }
 {
@@ -51,26 +55,45 @@ fn leaf_pattern<Id>(node: &Node<Id>) -> Result<Pattern, AllocError>
         Node::Empty => Ok(Pattern::Empty),
         Node::Text => Ok(Pattern::Text),
         Node::Ref(name) => Ok(Pattern::Ref(name.clone()?)),
-        Node::Value(library, type_name, text) => {
-            Ok(Pattern::Value(library.clone()?, type_name.clone()?, text.clone()?))
-        }
+        Node::Value(library, type_name, text) => value_pattern(alloc, library, type_name, text),
         _ => unreachable!(),
     }
 }
 
+fn value_pattern(
+    alloc: Global,
+    library: &str,
+    type_name: &String,
+    text: &String,
+) -> Result<Pattern, AllocError>
+    ensures { IfOk result (λ p. pattern_view p ≡ value library.now (string_bytes type_name.now)
+        (string_bytes text.now)) }
+{
+    let value = Value {
+        library: RcStr::from_str(alloc, library)?,
+        type_name: type_name.clone()?,
+        text: text.clone()?,
+    };
+    Ok(Pattern::Value(new_box(alloc, value)?))
+}
+
 fn datum_pattern(
     alloc: Global,
-    library: &String,
+    library: &str,
     type_name: &String,
     params: &[(String, String)],
     except: Option<Box<Pattern>>,
 ) -> Result<Pattern, AllocError>
     ensures { IfOk result (λ p. pattern_view p
-        ≡ datum_over (string_bytes library.now) (string_bytes type_name.now)
+        ≡ datum_over library.now (string_bytes type_name.now)
         (parameters_view params.now) (excepted_view except)) }
 {
-    let params = params.to_vec(alloc)?;
-    Ok(Pattern::Datum(library.clone()?, type_name.clone()?, params, except))
+    let data = Data {
+        library: RcStr::from_str(alloc, library)?,
+        type_name: type_name.clone()?,
+        params: params.to_vec(alloc)?,
+    };
+    Ok(Pattern::Datum(new_box(alloc, data)?, except))
 }
 
 /// The pattern of a node with a content, over the content's pattern.
@@ -86,11 +109,18 @@ fn pattern_over_content<Id>(
 {
     match node {
         Node::List(_) => Ok(Pattern::List(content)),
-        Node::Attribute(class, _) => Ok(Pattern::Attribute(clone_class(alloc, class)?, content)),
-        Node::Element(class, _) => Ok(Pattern::Element(clone_class(alloc, class)?, content)),
+        Node::Attribute(class, _) => Ok(Pattern::Attribute(boxed_class(alloc, class)?, content)),
+        Node::Element(class, _) => Ok(Pattern::Element(boxed_class(alloc, class)?, content)),
         Node::OneOrMore(_) => Ok(Pattern::OneOrMore(content)),
         _ => unreachable!(),
     }
+}
+
+/// A copy of the name class, in its box.
+fn boxed_class(alloc: Global, class: &NameClass) -> Result<Box<NameClass>, AllocError>
+    ensures { IfOk result (λ c. name_class_view c.value ≡ name_class_view class.now) }
+{
+    new_box(alloc, class.try_clone(alloc)?)
 }
 
 /// The pattern of a node with a list of members, over the members' patterns.
@@ -109,11 +139,7 @@ fn pattern_over_members<Id>(node: &Node<Id>, members: Vec<Rc<Pattern>>) -> Patte
 
 /// The pattern of an id, in its box.
 #[cycle(rebuild)]
-pub(crate) fn rebuild_box<P: Patterns>(
-    alloc: Global,
-    store: &P,
-    id: P::Id,
-) -> Result<Box<Pattern>, AllocError>
+fn rebuild_box<P: Patterns>(alloc: Global, store: &P, id: P::Id) -> Result<Box<Pattern>, AllocError>
     requires { IsTrue (P.knows store.now id) }
     ensures { IfOk result (λ p. pattern_view p.value ≡ P.tree_of store.now id) }
 {
@@ -140,7 +166,7 @@ fn rebuild_shared<P: Patterns>(
     new_shared(alloc, rebuild(alloc, store, id)?)
 }
 
-fn new_shared<T: Drop>(alloc: Global, value: T) -> Result<Rc<T>, AllocError>
+pub(crate) fn new_shared<T: Drop>(alloc: Global, value: T) -> Result<Rc<T>, AllocError>
     ensures { IfOk result (λ r. r.value ≡ value) }
 {
     Ok(Rc::new(alloc, value)?)
@@ -171,7 +197,7 @@ fn rebuild_members<P: Patterns>(
     requires { All (λ i. IsTrue (P.knows store.now i)) ids.now }
     ensures { IfOk result (λ v. map shared_view v.items ≡ map (P.tree_of store.now) ids.now) }
 {
-    let mut members: Vec<Rc<Pattern>> = Vec::new(alloc);
+    let mut members: Vec<Rc<Pattern>> = Vec::with_capacity(alloc, ids.len())?;
     for (i, id) in ids.iter().enumerate() {
         let member = if i > 0 && *id == ids[i - 1] {
             members[i - 1].clone()?
@@ -181,38 +207,4 @@ fn rebuild_members<P: Patterns>(
         members.push(member)?;
     }
     Ok(members)
-}
-
-#[cycle(clone_class)]
-fn clone_class(alloc: Global, class: &NameClass) -> Result<NameClass, AllocError>
-    ensures { IfOk result (λ c. name_class_view c ≡ name_class_view class.now) }
-{
-    Ok(match class {
-        NameClass::AnyName(None) => NameClass::AnyName(None),
-        NameClass::AnyName(Some(except)) => NameClass::AnyName(Some(clone_box(alloc, except)?)),
-        NameClass::NsName(uri, None) => NameClass::NsName(uri.clone()?, None),
-        NameClass::NsName(uri, Some(except)) => {
-            NameClass::NsName(uri.clone()?, Some(clone_box(alloc, except)?))
-        }
-        NameClass::Name(uri, local) => NameClass::Name(uri.clone()?, local.clone()?),
-        NameClass::Choice(members) => NameClass::Choice(clone_members(alloc, members)?),
-    })
-}
-
-#[cycle(clone_class)]
-fn clone_box(alloc: Global, class: &NameClass) -> Result<Box<NameClass>, AllocError>
-    ensures { IfOk result (λ c. name_class_view c.value ≡ name_class_view class.now) }
-{
-    new_box(alloc, clone_class(alloc, class)?)
-}
-
-#[cycle(clone_class)]
-fn clone_members(alloc: Global, members: &[NameClass]) -> Result<Vec<NameClass>, AllocError>
-    ensures { IfOk result (λ v. map name_class_view v.items ≡ map name_class_view members.now) }
-{
-    let mut copy = Vec::new(alloc);
-    for member in members {
-        copy.push(clone_class(alloc, member)?)?;
-    }
-    Ok(copy)
 }

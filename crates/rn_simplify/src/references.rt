@@ -59,7 +59,7 @@ impl References {
     {
         match pattern {
             Pattern::Ref(name) => self.add_name(names, name, reach),
-            Pattern::Datum(_, _, _, Some(content)) => self.add(names, content, reach),
+            Pattern::Datum(_, Some(content)) => self.add(names, content, reach),
             Pattern::List(content) | Pattern::Attribute(_, content) | Pattern::OneOrMore(content) =>
                 { self.add(names, content, reach) }
             Pattern::Element(_, content) => self.add(names, content, Reach::Everywhere),
@@ -69,8 +69,8 @@ impl References {
             Pattern::NotAllowed
             | Pattern::Empty
             | Pattern::Text
-            | Pattern::Value(_, _, _)
-            | Pattern::Datum(_, _, _, None) => Ok(()),
+            | Pattern::Value(_)
+            | Pattern::Datum(_, None) => Ok(()),
         }
     }
 

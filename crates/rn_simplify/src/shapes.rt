@@ -68,7 +68,7 @@ pub(crate) fn shape_of_pattern(pattern: &Pattern) -> Shape
         ≡ (written_tree f (pattern_view pattern.now)).shape }
 {
     match pattern {
-        Pattern::Datum(_, _, _, Some(_)) => Shape::Chained,
+        Pattern::Datum(_, Some(_)) => Shape::Chained,
         Pattern::OneOrMore(_) => Shape::Postfixed,
         Pattern::Group(_) => Shape::Chained,
         Pattern::Interleave(members) => shape_of_interleave(members),

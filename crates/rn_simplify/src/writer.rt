@@ -6,11 +6,9 @@ ghost use Rattle.rn_simplify.specs.inside.Writes.{IsHindrance, WritesBytes, open
 
 use rn_assemble::Refusal;
 use rn_modset::MAX_TEXT;
+use rn_syntax::MAX_OPEN;
 use rn_text::{is_keyword, write_literal};
 use std::alloc::Global;
-
-/// The most brackets that are open at once, which are as many as a module may have, so that the text can be read back.
-const MAX_OPEN: usize = 256;
 
 /// Why no more is written.
 #[derive(Clone, Copy, PartialEq, Eq)]
@@ -25,7 +23,7 @@ pub(crate) enum Stop {
 pub(crate) struct Writer {
     pub(crate) text: String,
     pub(crate) depth: usize,
-    /// More than [`MAX_OPEN`] brackets were open at once.
+    /// More than [`MAX_OPEN`] brackets were open at once, so no module could have the text.
     pub(crate) too_deep: bool,
     pub(crate) stopped: Option<Stop>,
 }

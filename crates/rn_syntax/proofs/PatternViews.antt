@@ -1,20 +1,19 @@
 -- The trees of patterns of the code, level by level.
-use Rattle.std.proofs.Common.{◌≡◌, ◌∙◌, ℕ, ap, rules, Box, Vec, Global}
+use Rattle.std.proofs.Common.{◌≡◌, ◌∙◌, ℕ, ap, rules, Box, Global}
 use Rattle.std.specs.Prelude.{Result, Ok, Err}
 use Rattle.rn_syntax.specs.declared.fault.Fault.{Fault}
 use Rattle.rn_syntax.specs.inside.Reading.{Makes}
 use Rattle.rn_syntax.specs.declared.token.Postfix.{Postfix}
 use Rattle.rn_syntax.specs.Tree as t
-use Rattle.rn_syntax.specs.View.{boxed_view, class_view, datatype_view, params_view, pattern_view}
+use Rattle.rn_syntax.specs.View.{boxed_view, boxed_class_view, datatype_view, params_view, pattern_view}
 use Rattle.rn_syntax.specs.declared.tree.Nc as code_class
-use Rattle.rn_syntax.specs.declared.tree.Datatype as code_type
-use Rattle.rn_syntax.specs.declared.tree.Param.{Param}
+use Rattle.rn_syntax.specs.declared.tree.Data.{Data}
 use Rattle.rn_syntax.specs.declared.tree.Pat.{Pat, Element, Attribute, List, Mixed, Empty, NotAllowed, Text, DatumBut, Repeated, the_lemmas}
 
-pub view-Element : (c : code_class.Nc) (p : Box Pat Global) → pattern_view (Element c p) ≡ t.element (class_view c) (pattern_view p.value)
+pub view-Element : (c : Box code_class.Nc Global) (p : Box Pat Global) → pattern_view (Element c p) ≡ t.element (boxed_class_view c) (boxed_view p)
 view-Element c p = search (rules, the_lemmas)
 
-pub view-Attribute : (c : code_class.Nc) (p : Box Pat Global) → pattern_view (Attribute c p) ≡ t.attribute (class_view c) (pattern_view p.value)
+pub view-Attribute : (c : Box code_class.Nc Global) (p : Box Pat Global) → pattern_view (Attribute c p) ≡ t.attribute (boxed_class_view c) (boxed_view p)
 view-Attribute c p = search (rules, the_lemmas)
 
 pub view-List : (p : Box Pat Global) → pattern_view (List p) ≡ t.list (pattern_view p.value)
@@ -32,8 +31,8 @@ view-NotAllowed = search (rules, the_lemmas)
 pub view-Text : pattern_view Text ≡ t.text
 view-Text = search (rules, the_lemmas)
 
-pub view-DatumBut : (x : code_type.Datatype) (ps : Vec Param Global) (i : ℕ) (p : Box Pat Global) → pattern_view (DatumBut x ps i p) ≡ t.datum_but (datatype_view x) (params_view ps.items) i (pattern_view p.value)
-view-DatumBut x ps i p = search (rules, the_lemmas)
+pub view-DatumBut : (d : Box Data Global) (i : ℕ) (p : Box Pat Global) → pattern_view (DatumBut d i p) ≡ t.datum_but (datatype_view d.value.datatype) (params_view d.value.params.items) i (pattern_view p.value)
+view-DatumBut d i p = search (rules, the_lemmas)
 
 pub view-Repeated : (s : Postfix) (p : Box Pat Global) → pattern_view (Repeated s p) ≡ t.repeated s (pattern_view p.value)
 view-Repeated s p = search (rules, the_lemmas)

@@ -66,17 +66,17 @@ params_view ps = map param_view ps
 
 -- one level, with each pattern inside already seen as its tree
 abbrev pub pattern_step : Pat-F Pattern → Pattern
-pattern_step (Pat-F.Element c p) = t.element (class_view c) p.value
-pattern_step (Pat-F.Attribute c p) = t.attribute (class_view c) p.value
+pattern_step (Pat-F.Element c p) = t.element (boxed_class_view c) p.value
+pattern_step (Pat-F.Attribute c p) = t.attribute (boxed_class_view c) p.value
 pattern_step (Pat-F.List p) = t.list p.value
 pattern_step (Pat-F.Mixed p) = t.mixed p.value
 pattern_step Pat-F.Empty = t.empty
 pattern_step Pat-F.NotAllowed = t.not_allowed
 pattern_step Pat-F.Text = t.text
 pattern_step (Pat-F.Ref x) = t.ref x.now
-pattern_step (Pat-F.Value x s) = t.value (type_view x) (cow_str_bytes s)
-pattern_step (Pat-F.Datum x ps) = t.datum (datatype_view x) (params_view ps.items)
-pattern_step (Pat-F.DatumBut x ps i p) = t.datum_but (datatype_view x) (params_view ps.items) i p.value
+pattern_step (Pat-F.Value v) = t.value (type_view v.value.datatype) (cow_str_bytes v.value.text)
+pattern_step (Pat-F.Datum d) = t.datum (datatype_view d.value.datatype) (params_view d.value.params.items)
+pattern_step (Pat-F.DatumBut d i p) = t.datum_but (datatype_view d.value.datatype) (params_view d.value.params.items) i p.value
 pattern_step (Pat-F.Repeated s p) = t.repeated s p.value
 pattern_step (Pat-F.Chain op ps) = t.chain op (patterns_of ps.items)
 

@@ -11,8 +11,8 @@ ghost use Rattle.rn_syntax.specs.Tokens.{placed, terminals};
 use crate::terminals::{Terminal, symbol};
 use rn_text::{Kind, Token};
 
-/// How many brackets may be open at once.
-const MAX_OPEN: usize = 256;
+/// How many brackets a module may have open at once.
+pub const MAX_OPEN: usize = 256;
 
 /// How many brackets are open behind a terminal, unless they are too many.
 fn open_behind(depth: usize, terminal: Terminal<'_>) -> Option<usize>

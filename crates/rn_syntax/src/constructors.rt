@@ -3,12 +3,12 @@ ghost use Rattle.std.specs.Prelude.{◌≡◌, ◌++◌, ◌∷◌, [], Some, No
 ghost use Rattle.std.specs.Cow.{cow_str_bytes};
 ghost use Rattle.rn_syntax.specs.inside.Reading.{Makes};
 ghost use Rattle.rn_syntax.specs.Tree as tree;
-ghost use Rattle.rn_syntax.specs.View.{boxed_class_view, boxed_view, datatype_view, params_view, pattern_view, patterns_view};
+ghost use Rattle.rn_syntax.specs.View.{boxed_class_view, boxed_view, datatype_view, params_view, pattern_view, patterns_view, type_view};
 
 use crate::boxes::boxed;
 use crate::fault::Fault;
 use crate::token::{Operator, Postfix};
-use crate::tree::{Datatype, Nc, Param, Pat};
+use crate::tree::{Data, Datatype, Nc, Param, Pat, Value};
 use std::alloc::{AllocError, Global};
 use std::borrow::CowStr;
 
@@ -21,7 +21,7 @@ pub(crate) fn element<'a>(
     ensures { Makes boxed_view (tree.element (boxed_class_view class.entry)
         (boxed_view content.entry)) end result }
 {
-    boxed(alloc, Pat::Element(Box::into_inner(class), content), end)
+    boxed(alloc, Pat::Element(class, content), end)
 }
 
 pub(crate) fn attribute<'a>(
@@ -33,7 +33,7 @@ pub(crate) fn attribute<'a>(
     ensures { Makes boxed_view (tree.attribute (boxed_class_view class.entry)
         (boxed_view content.entry)) end result }
 {
-    boxed(alloc, Pat::Attribute(Box::into_inner(class), content), end)
+    boxed(alloc, Pat::Attribute(class, content), end)
 }
 
 pub(crate) fn list<'a>(
@@ -84,6 +84,19 @@ pub(crate) fn reference(
     boxed(alloc, Pat::Ref(name), end)
 }
 
+/// A value, which lies in a box of its own.
+fn boxed_value<'a>(
+    alloc: Global,
+    value: Value<'a>,
+    end: usize,
+) -> Result<(Box<Pat<'a>>, usize), Fault>
+    ensures { Makes boxed_view (tree.value (type_view value.entry.datatype)
+        (cow_str_bytes value.entry.text)) end result }
+{
+    let value = Box::new(alloc, value)?;
+    boxed(alloc, Pat::Value(value), end)
+}
+
 pub(crate) fn plain_value(
     alloc: Global,
     text: CowStr<'_>,
@@ -91,7 +104,14 @@ pub(crate) fn plain_value(
 ) -> Result<(Box<Pat<'_>>, usize), Fault>
     ensures { Makes boxed_view (tree.value None (cow_str_bytes text.entry)) end result }
 {
-    boxed(alloc, Pat::Value(None, text), end)
+    boxed_value(
+        alloc,
+        Value {
+            datatype: None,
+            text,
+        },
+        end,
+    )
 }
 
 pub(crate) fn value<'a>(
@@ -103,7 +123,14 @@ pub(crate) fn value<'a>(
     ensures { Makes boxed_view (tree.value (Some (datatype_view datatype.entry))
         (cow_str_bytes text.entry)) end result }
 {
-    boxed(alloc, Pat::Value(Some(datatype), text), end)
+    boxed_value(
+        alloc,
+        Value {
+            datatype: Some(datatype),
+            text,
+        },
+        end,
+    )
 }
 
 pub(crate) fn datum<'a>(
@@ -115,7 +142,8 @@ pub(crate) fn datum<'a>(
     ensures { Makes boxed_view (tree.datum (datatype_view datatype.entry)
         (params_view params.entry.items)) end result }
 {
-    boxed(alloc, Pat::Datum(datatype, params), end)
+    let data = Box::new(alloc, Data { datatype, params })?;
+    boxed(alloc, Pat::Datum(data), end)
 }
 
 pub(crate) fn datum_but<'a>(
@@ -129,7 +157,8 @@ pub(crate) fn datum_but<'a>(
     ensures { Makes boxed_view (tree.datum_but (datatype_view datatype.entry)
         (params_view params.entry.items) at (boxed_view except.entry)) end result }
 {
-    boxed(alloc, Pat::DatumBut(datatype, params, at, except), end)
+    let data = Box::new(alloc, Data { datatype, params })?;
+    boxed(alloc, Pat::DatumBut(data, at, except), end)
 }
 
 pub(crate) fn repeated<'a>(

@@ -24,8 +24,11 @@ pub mod token;
 pub mod tree;
 
 pub use bindings::{XML_URI, XSD_URI};
+pub use brackets::MAX_OPEN;
 pub use fault::SyntaxFault;
 pub use included::includes;
 pub use reader::parse;
 pub use token::{Method, Operator, Postfix};
-pub use tree::{AnyName, Datatype, Declaration, Item, Module, Name, Nc, Param, Pat, Prefix, Uri};
+pub use tree::{
+    AnyName, Data, Datatype, Declaration, Item, Module, Name, Nc, Param, Pat, Prefix, Uri, Value,
+};

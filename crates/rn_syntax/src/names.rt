@@ -74,7 +74,7 @@ pub(crate) fn name_class<'a>(
     if !is_operator(tokens, end, Operator::Bar) {
         return Ok((first, end));
     }
-    let mut members = Vec::new(alloc);
+    let mut members = Vec::with_capacity(alloc, 2)?;
     push_member(&mut members, first)?;
     'choice: while is_operator(tokens, end, Operator::Bar) {
         let (class, behind) = class_operand(alloc, tokens, end + 1)?;

@@ -37,7 +37,7 @@ pub(crate) fn pattern<'a>(
     let Terminal::Operator(operator) = next(tokens, end) else {
         return Ok((first, end));
     };
-    let mut members = Vec::new(alloc);
+    let mut members = Vec::with_capacity(alloc, 2)?;
     push_member(&mut members, first)?;
     'chain: while is_operator(tokens, end, operator) {
         let (member, behind) = operand(alloc, tokens, end + 1)?;

@@ -1,13 +1,26 @@
 // The places in the patterns of a module that break a rule.
 ghost use Rattle.std.specs.Prelude.{◌≡◌};
+ghost use Rattle.std.specs.Cow.{cow_str_bytes};
 ghost use Rattle.rn_syntax.specs.inside.Bound.{bound};
 ghost use Rattle.rn_syntax.specs.Places.{first};
 ghost use Rattle.rn_syntax.specs.inside.Rules as rules;
-ghost use Rattle.rn_syntax.specs.View.{pattern_view, patterns_view, item_view, items_view};
+ghost use Rattle.rn_syntax.specs.Tree as tree;
+ghost use Rattle.rn_syntax.specs.View.{pattern_view, patterns_view, item_view, items_view, type_view};
 
 use crate::bindings::Bindings;
 use crate::rules::Rule;
-use crate::tree::{Item, Module, Pat};
+use crate::tree::{Item, Module, Pat, Value};
+
+/// The place of a value whose datatype breaks the rule.
+fn value_place(rule: Rule, bindings: &Bindings<'_, '_>, value: &Value<'_>) -> Option<usize>
+    ensures { result ≡ first (rules.pattern_places (bound bindings.now) rule
+        (tree.value (type_view value.now.datatype) (cow_str_bytes value.now.text))) }
+{
+    match value.datatype {
+        Some(datatype) => rule.value(bindings, datatype),
+        None => None,
+    }
+}
 
 /// The first place in a pattern that breaks the rule.
 #[tactic(auto, using(crate::proofs::Firsts::none_first, crate::proofs::Firsts::some_first))]
@@ -26,11 +39,11 @@ fn pattern_place(rule: Rule, bindings: &Bindings<'_, '_>, pattern: &Pat<'_>) -> 
         Pat::List(content) | Pat::Mixed(content) | Pat::Repeated(_, content) => {
             pattern_place(rule, bindings, content)
         }
-        Pat::Empty | Pat::NotAllowed | Pat::Text | Pat::Ref(_) | Pat::Value(None, _) => None,
-        Pat::Value(Some(datatype), _) => rule.value(bindings, *datatype),
-        Pat::Datum(datatype, params) => rule.data(bindings, *datatype, params),
-        Pat::DatumBut(datatype, params, at, excepted) => {
-            if let Some(wrong) = rule.data(bindings, *datatype, params) {
+        Pat::Empty | Pat::NotAllowed | Pat::Text | Pat::Ref(_) => None,
+        Pat::Value(value) => value_place(rule, bindings, value),
+        Pat::Datum(data) => rule.data(bindings, data.datatype, &data.params),
+        Pat::DatumBut(data, at, excepted) => {
+            if let Some(wrong) = rule.data(bindings, data.datatype, &data.params) {
                 return Some(wrong);
             }
             match rule.except(*at, excepted) {

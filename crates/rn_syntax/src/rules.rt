@@ -129,7 +129,7 @@ fn is_allowed(pattern: &Pat<'_>) -> bool
     ensures { result ≡ places.is_allowed (pattern_view pattern.now) }
 {
     match pattern {
-        Pat::NotAllowed | Pat::Value(_, _) | Pat::Datum(_, _) | Pat::DatumBut(_, _, _, _) => true,
+        Pat::NotAllowed | Pat::Value(_) | Pat::Datum(_) | Pat::DatumBut(_, _, _) => true,
         Pat::Chain(Operator::Bar, members) => are_allowed(members),
         _ => false,
     }

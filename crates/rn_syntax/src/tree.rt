@@ -48,21 +48,36 @@ pub struct Param<'a> {
     pub text: CowStr<'a>,
 }
 
-/// A pattern. A chain of one operator is one list of two or more; parentheses leave nothing.
+/// A value; one without a datatype is of the built-in token.
+#[derive(Drop)]
+pub struct Value<'a> {
+    pub datatype: Option<Datatype<'a>>,
+    pub text: CowStr<'a>,
+}
+
+/// Data: a datatype and its parameters.
+#[derive(Drop)]
+pub struct Data<'a> {
+    pub datatype: Datatype<'a>,
+    pub params: Vec<Param<'a>>,
+}
+
+/// A pattern. A chain of one operator is one list of two or more; parentheses leave nothing. What is large is in a box, since
+/// most patterns are references and chains.
 #[derive(Drop)]
 pub enum Pat<'a> {
-    Element(Nc<'a>, Box<Pat<'a>>),
-    Attribute(Nc<'a>, Box<Pat<'a>>),
+    Element(Box<Nc<'a>>, Box<Pat<'a>>),
+    Attribute(Box<Nc<'a>>, Box<Pat<'a>>),
     List(Box<Pat<'a>>),
     Mixed(Box<Pat<'a>>),
     Empty,
     NotAllowed,
     Text,
     Ref(&'a str),
-    Value(Option<Datatype<'a>>, CowStr<'a>),
-    Datum(Datatype<'a>, Vec<Param<'a>>),
+    Value(Box<Value<'a>>),
+    Datum(Box<Data<'a>>),
     /// The number is the byte of the source at which the `-` begins.
-    DatumBut(Datatype<'a>, Vec<Param<'a>>, usize, Box<Pat<'a>>),
+    DatumBut(Box<Data<'a>>, usize, Box<Pat<'a>>),
     Repeated(Postfix, Box<Pat<'a>>),
     Chain(Operator, Vec<Pat<'a>>),
 }

@@ -1,13 +1,12 @@
 // Sets and what they give: each set is written with its modules parted by lines of their names.
+use crate::pattern_lines::{write_pattern, write_words};
 use crate::samples::{rows, written_set};
 use rn_assemble::{Grammar, Refusal, assemble};
 use rn_modset::ModuleSet;
-use rn_pattern::{NameClass, Pattern};
 use std::alloc::{AllocError, Global};
 use std::process::Abort;
-use std::rc::Rc;
 
-/// A grammar in one line: names with their URIs in braces, lists in parentheses.
+/// A grammar in one line, its patterns as `pattern_lines` has them.
 fn grammar_line(alloc: Global, grammar: &Grammar) -> Result<String, AllocError> {
     let mut out = String::from_str(alloc, "start = ")?;
     write_pattern(&mut out, grammar.start())?;
@@ -16,120 +15,6 @@ fn grammar_line(alloc: Global, grammar: &Grammar) -> Result<String, AllocError> 
         write_pattern(&mut out, body)?;
     }
     Ok(out)
-}
-
-fn write_words(out: &mut String, words: &[&str]) -> Result<(), AllocError> {
-    for word in words {
-        out.push_str(word)?;
-    }
-    Ok(())
-}
-
-fn write_class(out: &mut String, class: &NameClass) -> Result<(), AllocError> {
-    match class {
-        NameClass::AnyName(None) => out.push_str("*"),
-        NameClass::AnyName(Some(except)) => {
-            out.push_str("*-")?;
-            write_class(out, except)
-        }
-        NameClass::NsName(uri, None) => write_words(out, &["{", uri, "}*"]),
-        NameClass::NsName(uri, Some(except)) => {
-            write_words(out, &["{", uri, "}*-"])?;
-            write_class(out, except)
-        }
-        NameClass::Name(uri, local) if uri.is_empty() => out.push_str(local),
-        NameClass::Name(uri, local) => write_words(out, &["{", uri, "}", local]),
-        NameClass::Choice(classes) => {
-            out.push_str("(")?;
-            for class in classes {
-                write_class(out, class)?;
-                out.push_str("|")?;
-            }
-            out.push_str(")")
-        }
-    }
-}
-
-fn write_type(
-    out: &mut String,
-    library: &str,
-    type_name: &str,
-    params: &[(String, String)],
-) -> Result<(), AllocError> {
-    write_words(out, &["<", library, ">", type_name])?;
-    for param in params {
-        write_words(out, &["[", &param.0, "=", &param.1, "]"])?;
-    }
-    Ok(())
-}
-
-fn write_between(out: &mut String, at: usize, between: &str) -> Result<(), AllocError> {
-    if at > 0 {
-        out.push_str(between)?;
-    }
-    Ok(())
-}
-
-/// A pattern between two texts.
-#[cycle(write_pattern)]
-fn write_within(
-    out: &mut String,
-    before: &str,
-    pattern: &Pattern,
-    behind: &str,
-) -> Result<(), AllocError> {
-    out.push_str(before)?;
-    write_pattern(out, pattern)?;
-    out.push_str(behind)
-}
-
-/// The members of a list in parentheses.
-#[cycle(write_pattern)]
-fn write_members(
-    out: &mut String,
-    members: &[Rc<Pattern>],
-    between: &str,
-) -> Result<(), AllocError> {
-    out.push_str("(")?;
-    for (i, member) in members.iter().enumerate() {
-        write_between(out, i, between)?;
-        write_pattern(out, member)?;
-    }
-    out.push_str(")")
-}
-
-#[cycle(write_pattern)]
-fn write_pattern(out: &mut String, pattern: &Pattern) -> Result<(), AllocError> {
-    match pattern {
-        Pattern::NotAllowed => out.push_str("notAllowed"),
-        Pattern::Empty => out.push_str("empty"),
-        Pattern::Text => out.push_str("text"),
-        Pattern::Ref(name) => out.push_str(name),
-        Pattern::Value(library, type_name, text) => {
-            write_words(out, &["<", library, ">", type_name, "'", text, "'"])
-        }
-        Pattern::Datum(library, type_name, params, None) => {
-            write_type(out, library, type_name, params.as_slice())
-        }
-        Pattern::Datum(library, type_name, params, Some(except)) => {
-            write_type(out, library, type_name, params.as_slice())?;
-            write_within(out, "-", except, "")
-        }
-        Pattern::List(body) => write_within(out, "list{", body, "}"),
-        Pattern::Attribute(class, body) => {
-            out.push_str("@")?;
-            write_class(out, class)?;
-            write_within(out, "{", body, "}")
-        }
-        Pattern::Element(class, body) => {
-            write_class(out, class)?;
-            write_within(out, "{", body, "}")
-        }
-        Pattern::OneOrMore(body) => write_within(out, "{", body, "}+"),
-        Pattern::Group(members) => write_members(out, members, ","),
-        Pattern::Interleave(members) => write_members(out, members, "&"),
-        Pattern::Choice(members) => write_members(out, members, "|"),
-    }
 }
 
 /// A refusal as its name and fields.

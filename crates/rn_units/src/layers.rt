@@ -1,34 +1,55 @@
 // Constructors of patterns, and what reads a module and assembles a set, with their requests for memory refused in turn as in `memory`.
-ghost use Rattle.std.specs.Prelude.{All, IsTrue};
+ghost use Rattle.std.specs.Prelude.{All, IfOk, IsTrue};
 ghost use Rattle.rn_pattern.specs.Store.{KeepsTrees};
 
 use crate::memory::{MAIN, SET, tell};
 use crate::samples::{BEGIN, END, is_reference, mark, name, written_set};
+use crate::steps::{over, stepped};
 use rn_assemble::{Grammar, Refusal, assemble};
 use rn_modset::ModuleSet;
-use rn_pattern::{Interned, NameClass, Patterns, Plain};
+use rn_pattern::{Data, Interned, NameClass, Patterns, Plain, Value};
 use rn_syntax::{SyntaxFault, includes, parse};
 use rn_text::{is_keyword, is_ncname, tokens};
 use std::alloc::{AllocError, Global};
 use std::process::Abort;
+use std::rc::RcStr;
 
-/// What constructors are given besides patterns.
+/// What constructors and steps are given besides patterns.
 #[derive(Drop)]
-struct Parts {
-    class: NameClass,
-    parameters: Vec<(String, String)>,
+pub struct Parts {
+    pub class: NameClass,
+    pub value: Value,
+    pub data: Data,
 }
 
-fn given(alloc: Global) -> Result<Parts, AllocError> {
-    let mut parameters = Vec::new(alloc);
-    let parameter = (String::from_str(alloc, "k")?, String::from_str(alloc, "v")?);
-    parameters.push(parameter)?;
-    let class = name(alloc, "u", "n")?;
-    Ok(Parts { class, parameters })
+/// A choice of names that isn't in order, a value, and data with a parameter.
+pub fn given(alloc: Global) -> Result<Parts, AllocError> {
+    let value = Value {
+        library: RcStr::from_str(alloc, "")?,
+        type_name: String::from_str(alloc, "token")?,
+        text: String::from_str(alloc, "x")?,
+    };
+    let mut params = Vec::new(alloc);
+    params.push((String::from_str(alloc, "k")?, String::from_str(alloc, "v")?))?;
+    let data = Data {
+        library: RcStr::from_str(alloc, "u")?,
+        type_name: String::from_str(alloc, "t")?,
+        params,
+    };
+    let class = names(alloc)?;
+    Ok(Parts { class, value, data })
+}
+
+fn names(alloc: Global) -> Result<NameClass, AllocError> {
+    let mut members = Vec::new(alloc);
+    members.push(name(alloc, "u", "n")?)?;
+    members.push(name(alloc, "u", "m")?)?;
+    members.push(name(alloc, "u", "n")?)?;
+    Ok(NameClass::Choice(members))
 }
 
 /// A pattern of each constructor, of the numbers 0 to 12, over patterns of the store.
-fn made<P: Patterns>(
+pub fn made<P: Patterns>(
     store: &mut P,
     parts: &Parts,
     a: P::Id,
@@ -37,7 +58,8 @@ fn made<P: Patterns>(
 ) -> Result<P::Id, AllocError>
     requires a { IsTrue (P.knows store.old a) }
     requires members { All (λ i. IsTrue (P.knows store.old i)) members.now }
-    ensures { KeepsTrees (P.knows store.old) (P.tree_of store.old)
+    ensures known { IfOk result (λ i. IsTrue (P.knows store.new i)) }
+    ensures kept { KeepsTrees (P.knows store.old) (P.tree_of store.old)
         (P.knows store.new) (P.tree_of store.new) }
 {
     match number {
@@ -45,8 +67,17 @@ fn made<P: Patterns>(
         1 => store.empty(),
         2 => store.text(),
         3 => store.reference("c"),
-        4 => store.value("", "token", "x"),
-        5 => store.datum("u", "t", parts.parameters.as_slice(), Some(a)),
+        4 => store.value(
+            &parts.value.library,
+            &parts.value.type_name,
+            &parts.value.text,
+        ),
+        5 => store.datum(
+            &parts.data.library,
+            &parts.data.type_name,
+            &parts.data.params,
+            Some(a),
+        ),
         6 => store.list(a),
         7 => store.attribute(&parts.class, a),
         8 => store.element(&parts.class, a),
@@ -101,6 +132,25 @@ fn constructors_of_an_interned_store(rt: HostRuntime) {
             assert_eq!(rt; store.nodes(), 2);
             was_refused = true;
         }
+    }
+    tell(&rt, was_refused);
+}
+
+/// Whether a step on patterns is refused.
+fn is_refused_step(rt: &(impl Abort + AllocGlobal), parts: &Parts, number: usize) -> bool {
+    let given = over(rt.alloc(), (1, 6, 1)).expect(rt, "no memory");
+    mark(rt.alloc(), BEGIN);
+    let answer = stepped(rt.alloc(), parts, given, number);
+    mark(rt.alloc(), END);
+    answer.is_err()
+}
+
+#[test]
+fn steps_on_patterns(rt: HostRuntime) {
+    let parts = given(rt.alloc()).expect(&rt, "no memory");
+    let mut was_refused = false;
+    for number in 4..13 {
+        was_refused |= is_refused_step(&rt, &parts, number);
     }
     tell(&rt, was_refused);
 }

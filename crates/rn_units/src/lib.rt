@@ -13,9 +13,15 @@ mod layers;
 mod memory;
 #[cfg(test)]
 mod modules;
+#[cfg(test)]
+mod pattern_lines;
 pub mod samples;
 #[cfg(test)]
 mod sets;
+#[cfg(test)]
+mod sizes;
+#[cfg(test)]
+mod steps;
 #[cfg(test)]
 mod stores;
 #[cfg(test)]

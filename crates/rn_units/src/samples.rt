@@ -4,6 +4,7 @@ ghost use Rattle.std.specs.Prelude.{IsTrue};
 use rn_modset::{Contribution, ModuleSet};
 use rn_pattern::{NameClass, Node, Patterns};
 use std::alloc::{AllocError, Global};
+use std::rc::RcStr;
 
 /// The bundle of the text `abc`, the module `t` of revision 7.
 pub const ONE: &str =
@@ -42,7 +43,7 @@ pub fn rows<'a>(
 
 /// A name of a namespace.
 pub fn name(alloc: Global, uri: &str, local: &str) -> Result<NameClass, AllocError> {
-    let uri = String::from_str(alloc, uri)?;
+    let uri = RcStr::from_str(alloc, uri)?;
     Ok(NameClass::Name(uri, String::from_str(alloc, local)?))
 }
 

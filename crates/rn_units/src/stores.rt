@@ -1,9 +1,10 @@
 // The canonical form of each constructor by rows, and the order.
 use crate::samples::name;
-use rn_pattern::{Interned, NameClass, Pattern, Patterns, Plain};
+use rn_pattern::{Data, Interned, NameClass, Pattern, Patterns, Plain, Value};
 use std::alloc::{AllocError, Global};
 use std::cmp::Ordering;
 use std::process::Abort;
+use std::rc::RcStr;
 
 /// What is told of a store holds.
 fn is_told(rt: &impl Abort, told: Result<bool, AllocError>, said: &str) {
@@ -129,9 +130,9 @@ fn class(alloc: Global, number: usize) -> Result<NameClass, AllocError> {
     Ok(match number {
         0 => NameClass::AnyName(None),
         1 => NameClass::AnyName(except(alloc, "")?),
-        2 => NameClass::NsName(String::from_str(alloc, "u")?, None),
-        3 => NameClass::NsName(String::from_str(alloc, "u")?, except(alloc, "u")?),
-        4 => NameClass::NsName(String::from_str(alloc, "v")?, None),
+        2 => NameClass::NsName(RcStr::from_str(alloc, "u")?, None),
+        3 => NameClass::NsName(RcStr::from_str(alloc, "u")?, except(alloc, "u")?),
+        4 => NameClass::NsName(RcStr::from_str(alloc, "v")?, None),
         5 => name(alloc, "a", "c")?,
         6 => name(alloc, "b", "b")?,
         _ => NameClass::Choice(Vec::new(alloc)),
@@ -165,27 +166,33 @@ fn boxed(alloc: Global, pattern: Pattern) -> Result<Box<Pattern>, AllocError> {
 
 /// A value of the type `token`.
 fn value(alloc: Global) -> Result<Pattern, AllocError> {
-    let library = String::from_str(alloc, "")?;
-    let name = String::from_str(alloc, "token")?;
-    Ok(Pattern::Value(library, name, String::from_str(alloc, "x")?))
+    let value = Value {
+        library: RcStr::from_str(alloc, "")?,
+        type_name: String::from_str(alloc, "token")?,
+        text: String::from_str(alloc, "x")?,
+    };
+    Ok(Pattern::Value(Box::new(alloc, value)?))
 }
 
 /// Data of the type `token`.
 fn datum(alloc: Global, except: Option<Box<Pattern>>) -> Result<Pattern, AllocError> {
-    let library = String::from_str(alloc, "")?;
-    let name = String::from_str(alloc, "token")?;
-    Ok(Pattern::Datum(library, name, Vec::new(alloc), except))
+    let data = Data {
+        library: RcStr::from_str(alloc, "")?,
+        type_name: String::from_str(alloc, "token")?,
+        params: Vec::new(alloc),
+    };
+    Ok(Pattern::Datum(Box::new(alloc, data)?, except))
 }
 
 /// An attribute `a` of a text.
 fn attribute(alloc: Global) -> Result<Pattern, AllocError> {
-    let class = name(alloc, "", "a")?;
+    let class = Box::new(alloc, name(alloc, "", "a")?)?;
     Ok(Pattern::Attribute(class, boxed(alloc, Pattern::Text)?))
 }
 
 /// An element of this name.
 fn element(alloc: Global, local: &str, content: Pattern) -> Result<Pattern, AllocError> {
-    let class = name(alloc, "", local)?;
+    let class = Box::new(alloc, name(alloc, "", local)?)?;
     Ok(Pattern::Element(class, boxed(alloc, content)?))
 }
 

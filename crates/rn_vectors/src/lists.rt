@@ -1,11 +1,97 @@
-// Lists within lists of their kind, drawn: they merge to the same as with all members side by side, and with each reference to a definition that is
-// worth notAllowed or empty written out as that.
+// Lists within lists of their kind, by rows and drawn. Those that are drawn merge to the same as with all members side by side, and with each reference to
+// a definition that is worth notAllowed or empty written out as that.
 ghost use Rattle.std.specs.Prelude.{◌<◌, ◌≤◌};
 
 use crate::drawing::Draw;
-use crate::merges::merged;
-use crate::rows::{made, owned, push, same_for};
+use crate::merges::{BothStores, Merge, MergeAgain, merged, prints_in_either_store};
+use crate::rows::{each_schema, made, owned, push, same_for, written_set};
 use std::process::Abort;
+
+/// Lists of which some members are lists of the same kind, or come to that, or to nothing.
+const LISTS: &str =
+    r#"start = element r { ((a | c) | b) | (b | (c | (a | a))) } a = element a { empty } b = element b { empty } c = element c { empty }
+=>
+start = element r { a | b | c }
+a = element a { empty }
+b = element b { empty }
+c = element c { empty }
+--
+start = element r { a, ((b, a), (empty, (b, a))) } a = element a { empty } b = element b { empty }
+=>
+start = element r { a, b, a, b, a }
+a = element a { empty }
+b = element b { empty }
+--
+start = element r { (b & (b & a)) & ((a & empty) & text) } a = element a { empty } b = element b { empty }
+=>
+start = element r { mixed { a & a & b & b } }
+a = element a { empty }
+b = element b { empty }
+--
+start = element r { (empty, (b | a)) | a+ | (m, (b | n)) } m = empty n = a, notAllowed a = element a { empty } b = element b { empty }
+=>
+start = element r { a | b | a+ }
+a = element a { empty }
+b = element b { empty }
+--
+start = element r { a+ & (empty, (b & a)) & (m | n) & ((a & b) | n) } m = empty n = notAllowed a = element a { empty } b = element b { empty }
+=>
+start = element r { a & a & b & b & a+ }
+a = element a { empty }
+b = element b { empty }
+--
+start = element r { a, ((b, a+) | n), (empty & (b, a)), m } m = empty n = notAllowed a = element a { empty } b = element b { empty }
+=>
+start = element r { a, b, a+, b, a }
+a = element a { empty }
+b = element b { empty }
+--
+start = element r { (m, a) | (a, m2) | (a | n) | (a & m) | list { m | "v" } | list { m2 | "v" } } m = empty m2 = m? n = notAllowed a = element a { empty }
+=>
+start = element r { a | list { "v"? } }
+a = element a { empty }
+--
+start = element r { attribute k { n } | list { n, a } | n+ | element e { n } | a } n = notAllowed a = element a { empty }
+=>
+start = element r { a | element e { notAllowed } }
+a = element a { empty }
+--
+start = element r { m+, (a+)+, (a+ | n)+ } m = empty n = notAllowed a = element a { empty }
+=>
+start = element r { a+, a+ }
+a = element a { empty }
+--
+start = element r { (string - (notAllowed | notAllowed)) | string | (token - ("b" | notAllowed | "a" | "b")) | (token - ("a" | notAllowed)) }
+=>
+start = element r { string | (token - "a") | (token - ("a" | "b")) }
+--
+start = element r { (string - (token - notAllowed)) | (string - token) }
+=>
+start = element r { string - token }
+--
+@main
+include "lib" include "other" include "lib" include "lib"
+start = element r { x, y } m = empty n = notAllowed a = element a { empty } b = element b { empty }
+@lib
+x |= b | (a | m) x |= n
+y &= b & (m & a) y &= m
+@other
+x |= a+
+y &= a+
+=>
+start = element r { x, y }
+a = element a { empty }
+b = element b { empty }
+x = (a | b | a+)?
+y = a & a & a & b & b & b & a+
+"#;
+
+#[test]
+fn lists_print_their_schemas(rt: HostRuntime) {
+    each_schema(&rt, &Merge, LISTS);
+    each_schema(&rt, &MergeAgain, LISTS);
+    each_schema(&rt, &BothStores, LISTS);
+}
 
 /// Members as a text has them, and as they are written out. The last two are notAllowed.
 const MEMBERS: [(&str, &str); 7] = [
@@ -62,7 +148,7 @@ fn draw_list(rt: &(impl Abort + AllocGlobal), draw: &mut Draw, connector: &str, 
     Drawn { nested, flat }
 }
 
-/// The schema of a module whose start has that content.
+/// The schema of a module whose start has that content, which is printed through either store too.
 fn schema(rt: &(impl Abort + AllocGlobal), content: &str, definitions: &str) -> String {
     let text = made(
         rt,
@@ -70,6 +156,7 @@ fn schema(rt: &(impl Abort + AllocGlobal), content: &str, definitions: &str) -> 
             "start = element r {{ {content} }}\nx = element x {{ text }}{definitions}"
         ),
     );
+    prints_in_either_store(rt, &written_set(rt, text.as_str()));
     merged(rt, text.as_str())
 }
 

@@ -1,7 +1,7 @@
 // Modules that are included several times, drawn: a set merges to the same as where each include has a module of its own, with the same text. There no two
 // components have the same body.
 use crate::drawing::Draw;
-use crate::merges::answer;
+use crate::merges::{answer, prints_in_either_store};
 use crate::rows::{made, owned, push, same_for, written_set};
 use std::process::Abort;
 
@@ -82,5 +82,6 @@ fn bodies_that_stand_before_are_as_if_written_anew(rt: HostRuntime) {
         let found = answer(&rt, &written_set(&rt, one.as_str()));
         let wanted = answer(&rt, &written_set(&rt, many.as_str()));
         same_for(&rt, text.as_str(), found.as_str(), wanted.as_str());
+        prints_in_either_store(&rt, &written_set(&rt, one.as_str()));
     }
 }

@@ -11,10 +11,10 @@ use Rattle.rn_pattern.specs.Order.{text_cmp}
 use Rattle.rn_assemble.specs.declared.components.Components.{Components}
 use Rattle.rn_assemble.specs.declared.components.Lack.{Lack}
 use Rattle.rn_assemble.specs.declared.joined_grammar.Joined.{Joined}
-use Rattle.rn_assemble.specs.declared.modules.Source as code_source
+use Rattle.rn_assemble.specs.declared.modules.NamedModule as code_module
 use Rattle.rn_assemble.specs.declared.refusal.Refusal as code
 use Rattle.rn_assemble.specs.inside.Checked.{AreExpanded, IsGrammarOf}
-use Rattle.rn_assemble.specs.Components.{Component, Key, Source, components, has_key, roots, set_components, start_key}
+use Rattle.rn_assemble.specs.Components.{Component, Key, NamedModule, components, has_key, roots, set_components, start_key}
 use Rattle.rn_assemble.specs.inside.Contained.{AreFlat}
 use Rattle.rn_assemble.specs.inside.Expanded.{IsListed, name_at}
 use Rattle.rn_assemble.specs.JoinedView.{joined_view}
@@ -28,26 +28,26 @@ use Rattle.rn_assemble.specs.inside.Methods.{CanCombine}
 use Rattle.rn_assemble.specs.Refusal.{Lacks, StandsFor, override}
 use Rattle.rn_assemble.specs.Refused.{IsFirstOfModules}
 use Rattle.rn_assemble.specs.inside.Sound.{HasSoundReferences}
-use Rattle.rn_assemble.specs.inside.Views.{source_view, sources_view}
+use Rattle.rn_assemble.specs.inside.Views.{named_module_view, modules_view}
 use Rattle.rn_assemble.proofs.Answering.FirstRefusal.{NoneBelow, none_included, none_lacking, none_combined, none_sound, misnamed_first, joined_grammar_of}
 use Rattle.rn_assemble.proofs.Expansion.Lacking.{lacks_alike}
 
 -- the name of a module, by its place
-pub source_name : (ms : List code_source.Source) (i : ℕ) (d : code_source.Source) → i < length ms → (get_or ms i d).name.now ≡ name_at (sources_view ms) i
-source_name ms i d l =
-    sym (get_or-map (λ (n : Source). n.name) (sources_view ms) i (source_view d) [] (omega (arith, l, length-map ms source_view)) ∙ ap (λ (n : Source). n.name) (get_or-map source_view ms i d (source_view d) l))
+pub name_seen_at : (ms : List code_module.NamedModule) (i : ℕ) (d : code_module.NamedModule) → i < length ms → (get_or ms i d).name.now ≡ name_at (modules_view ms) i
+name_seen_at ms i d l =
+    sym (get_or-map (λ (n : NamedModule). n.name) (modules_view ms) i (named_module_view d) [] (omega (arith, l, length-map ms named_module_view)) ∙ ap (λ (n : NamedModule). n.name) (get_or-map named_module_view ms i d (named_module_view d) l))
 
 -- the components of the roots are those of the set
-from_roots : (modules : List Source) (numbers : List ℕ) → AreIncluded modules numbers → flat_map (λ n. components modules (name_at modules n) []) numbers ≡ set_components modules
+from_roots : (modules : List NamedModule) (numbers : List ℕ) → AreIncluded modules numbers → flat_map (λ n. components modules (name_at modules n) []) numbers ≡ set_components modules
 from_roots modules numbers a =
     let f : Text → List Component = λ x. components modules x [] in
-    sym (flat_map-map f (name_at modules) numbers) ∙ ap (flat_map f) a.are ∙ flat_map-map f (λ (m : Source). m.name) (roots modules)
+    sym (flat_map-map f (name_at modules) numbers) ∙ ap (flat_map f) a.are ∙ flat_map-map f (λ (m : NamedModule). m.name) (roots modules)
 
 -- least of what holds alike
 least_alike : {X : Type 0} (cmp : X → X → Ordering) (P Q : X → Type 0) → ((x : X) → P x → Q x) → ((x : X) → Q x → P x) → (x : X) → IsLeast cmp P x → IsLeast cmp Q x
 least_alike cmp P Q to from x h = record { holds = to x h.holds; least = λ y q. h.least y (from y q) }
 
-least_lack : (modules : List Source) (names : List Text) (P Q : Text → Key → Type 0) → ((y : Text) (k : Key) → P y k ↔ Q y k) → (o : Option Lack) → IsLeastLack modules names P o → IsLeastLack modules names Q o
+least_lack : (modules : List NamedModule) (names : List Text) (P Q : Text → Key → Type 0) → ((y : Text) (k : Key) → P y k ↔ Q y k) → (o : Option Lack) → IsLeastLack modules names P o → IsLeastLack modules names Q o
 least_lack modules names P Q alike None h = λ y k q. h y k ((alike y k).1 q)
 least_lack modules names P Q alike (Some l) h = (
   h.0,
@@ -56,7 +56,7 @@ least_lack modules names P Q alike (Some l) h = (
   least_alike key_cmp (P (name_at modules l.«module»)) (Q (name_at modules l.«module»)) (λ k p. (alike _ k).0 p) (λ k q. (alike _ k).1 q) (key_at names l.key) h.3,
 )
 
-pub expanded : (modules : List Source) (names : List Text) (x : Components) (numbers : List ℕ) → IsStrictlySortedBy text_cmp (map (λ (m : Source). m.name) modules) → AllByRecursion (λ (m : Source). AreFlat m.tree.items) modules
+pub expanded : (modules : List NamedModule) (names : List Text) (x : Components) (numbers : List ℕ) → IsStrictlySortedBy text_cmp (map (λ (m : NamedModule). m.name) modules) → AllByRecursion (λ (m : NamedModule). AreFlat m.tree.items) modules
     → AreIncluded modules numbers → AreNames modules names → IsListed names x (flat_map (λ n. components modules (name_at modules n) []) numbers) → IsLeastLack modules names (LacksFrom modules numbers) x.lack → AreExpanded modules names x
 expanded modules names x numbers o flat a n listed lack = record {
   numbers = numbers;
@@ -66,11 +66,11 @@ expanded modules names x numbers o flat a n listed lack = record {
   lack = least_lack modules names (LacksFrom modules numbers) (Lacks modules) (λ y k. lacks_alike modules numbers o flat a y k) x.lack lack;
 }
 
-pub override_stands : (modules : List Source) (names : List Text) (l : Lack) (x : Text) (k : Key) → IsLeastLack modules names (Lacks modules) (Some l) → x ≡ name_at modules l.«module» → k ≡ key_at names l.key → StandsFor modules (override x k)
+pub override_stands : (modules : List NamedModule) (names : List Text) (l : Lack) (x : Text) (k : Key) → IsLeastLack modules names (Lacks modules) (Some l) → x ≡ name_at modules l.«module» → k ≡ key_at names l.key → StandsFor modules (override x k)
 override_stands modules names l x k h ex ek =
     subst (λ (y : Text). StandsFor modules (override y k)) (sym ex) (subst (λ (j : Key). StandsFor modules (override (name_at modules l.«module») j)) (sym ek) (h.2, h.3))
 
-module _ (modules : List Source) (names : List Text) (x : Components) (h : AreExpanded modules names x) where
+module _ (modules : List NamedModule) (names : List Text) (x : Components) (h : AreExpanded modules names x) where
   -- what holds of live components, of those of the set
   pub at_set : (P : List Component → Type 0) → ((live : List Live) → Lists names x live → IsStrictlySortedBy text_cmp names → P (components_in live)) → P (set_components modules)
   at_set P f = subst P h.listed.2 (f h.listed.0 h.listed.1 h.in_order)

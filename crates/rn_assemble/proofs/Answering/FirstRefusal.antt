@@ -9,7 +9,7 @@ use Rattle.rn_assemble.specs.declared.refusal.Refusal as code
 use Rattle.rn_assemble.specs.declared.refusal.Refusal.TheVariants as r
 use Rattle.rn_assemble.specs.inside.Checked.{IsGrammarOf, IsLacking}
 use Rattle.rn_assemble.specs.Combine.{IsMixed, IsPlainTwice}
-use Rattle.rn_assemble.specs.Components.{Key, Source, has_key, set_components, start_key}
+use Rattle.rn_assemble.specs.Components.{Key, NamedModule, has_key, set_components, start_key}
 use Rattle.rn_assemble.specs.JoinedView.{joined_view}
 use Rattle.rn_assemble.specs.inside.Included.{AreIncluded}
 use Rattle.rn_assemble.specs.inside.Joining.{IsJoinedGrammar, IsMisnamed}
@@ -18,7 +18,7 @@ use Rattle.rn_assemble.specs.Refusal.{Refusal, conflict, faulty, missing, cycle,
 use Rattle.rn_assemble.specs.Refused.{IsFirstOfModules}
 use Rattle.rn_assemble.specs.inside.Sound.{HasSoundReferences, IsUnsound}
 
-module _ (modules : List Source) where
+module _ (modules : List NamedModule) where
   -- no refusal stands of those whose places are below n
   abbrev pub NoneBelow : ℕ → Type 0
   NoneBelow n = (q : Refusal) → rank q < n → StandsFor modules q → ⊥

@@ -8,14 +8,14 @@ use Rattle.rn_pattern.specs.Order.{text_cmp}
 use Rattle.rn_pattern.proofs.Ordered.InOrder.{contains_cases, contained_each, text_no_less}
 use Rattle.rn_modset.specs.Contributions.{Member}
 use Rattle.rn_modset.specs.Modules.{Module, AreEffective, NamesRise, module_cmp, module_of, modules_of}
-use Rattle.rn_assemble.specs.declared.modules.Source as code_source
+use Rattle.rn_assemble.specs.declared.modules.NamedModule as code_module
 use Rattle.rn_assemble.specs.declared.refusal.Refusal as code
-use Rattle.rn_assemble.specs.Components.{Source}
+use Rattle.rn_assemble.specs.Components.{NamedModule}
 use Rattle.rn_assemble.specs.Least.{IsLeast}
 use Rattle.rn_assemble.specs.inside.Reading.{IsRead, IsFaultOf}
 use Rattle.rn_assemble.specs.Refusal.{TextFault, Refusal, conflict, faulty, rank, HasTextFault, IsFirstFault, IsFaulty, IsModuleOf, AreModules, Stands, IsFirst}
 use Rattle.rn_assemble.specs.Refused.{IsFirstRefusal, refusal_view}
-use Rattle.rn_assemble.specs.inside.Views.{module_names, source_view, sources_view}
+use Rattle.rn_assemble.specs.inside.Views.{module_names, named_module_view, modules_view}
 use Rattle.rn_assemble.proofs.Referring.Named.{in_order_mapped}
 
 -- the text has no fault
@@ -23,17 +23,17 @@ abbrev pub HasFaultlessText : Module → Type 0
 HasFaultlessText x = (f : TextFault) → ¬ HasTextFault x.1 f
 
 -- the module was read from this name and text
-abbrev pub IsReadFrom : Module → Source → Type 0
+abbrev pub IsReadFrom : Module → NamedModule → Type 0
 IsReadFrom x m = (m.name ≡ x.0) × IsRead x.1 m.tree
 
 -- ---- all are read
 
-all_faultless : (texts : List Module) (modules : List Source) → AllZip IsReadFrom texts modules → AllByRecursion HasFaultlessText texts
+all_faultless : (texts : List Module) (modules : List NamedModule) → AllZip IsReadFrom texts modules → AllByRecursion HasFaultlessText texts
 all_faultless [] modules h = tt
 all_faultless (x ∷ texts) [] h = absurd h
 all_faultless (x ∷ texts) (m ∷ modules) h = (h.0.1.faultless, all_faultless texts modules h.1)
 
-all_modules : (texts : List Module) (modules : List Source) → AllZip IsReadFrom texts modules → AllZip (λ (x : Module) (m : Source). (m.name ≡ x.0) × IsModuleOf x.1 m.tree) texts modules
+all_modules : (texts : List Module) (modules : List NamedModule) → AllZip IsReadFrom texts modules → AllZip (λ (x : Module) (m : NamedModule). (m.name ≡ x.0) × IsModuleOf x.1 m.tree) texts modules
 all_modules [] [] h = tt
 all_modules [] (m ∷ modules) h = absurd h
 all_modules (x ∷ texts) [] h = absurd h
@@ -42,7 +42,7 @@ all_modules (x ∷ texts) (m ∷ modules) h = ((h.0.0, h.0.1.is_module), all_mod
 none_faulty : (texts : List Module) → AllByRecursion HasFaultlessText texts → (x : Text) → ¬ IsFaulty texts x
 none_faulty texts all x (text, inside, (f, has)) = contained_each HasFaultlessText texts all (x, text) inside f has
 
-are_modules : (s : List Member) (texts : List Module) (modules : List Source) → AreEffective s texts → AllZip IsReadFrom texts modules → AreModules s modules
+are_modules : (s : List Member) (texts : List Module) (modules : List NamedModule) → AreEffective s texts → AllZip IsReadFrom texts modules → AreModules s modules
 are_modules s texts modules effective read = record {
   texts = texts;
   effective = effective;
@@ -94,31 +94,31 @@ abbrev Lent : Type 0
 Lent = Bor (List ℕ) × Bor (List ℕ)
 
 -- the modules were read from the names and texts that the loop has met
-abbrev pub AreReadFrom : List (Bor Lent) → List code_source.Source → Type 0
-AreReadFrom met sources = AllZip IsReadFrom (modules_of (map (λ (y : Bor Lent). y.now) met)) (sources_view sources)
+abbrev pub AreReadFrom : List (Bor Lent) → List code_module.NamedModule → Type 0
+AreReadFrom met modules = AllZip IsReadFrom (modules_of (map (λ (y : Bor Lent). y.now) met)) (modules_view modules)
 
-pub read_more : (met : List (Bor Lent)) (sources : List code_source.Source) (y : Bor Lent) (m : code_source.Source) → AreReadFrom met sources → IsReadFrom (module_of y.now) (source_view m) → AreReadFrom (met ++ y ∷ []) (sources ++ m ∷ [])
+pub read_more : (met : List (Bor Lent)) (modules : List code_module.NamedModule) (y : Bor Lent) (m : code_module.NamedModule) → AreReadFrom met modules → IsReadFrom (module_of y.now) (named_module_view m) → AreReadFrom (met ++ y ∷ []) (modules ++ m ∷ [])
 read_more [] [] y m h r = (r, tt)
-read_more [] (k ∷ sources) y m h r = absurd h
+read_more [] (k ∷ modules) y m h r = absurd h
 read_more (z ∷ met) [] y m h r = absurd h
-read_more (z ∷ met) (k ∷ sources) y m h r = (h.0, read_more met sources y m h.1 r)
+read_more (z ∷ met) (k ∷ modules) y m h r = (h.0, read_more met modules y m h.1 r)
 
-names_read : (texts : List Module) (sources : List code_source.Source) → AllZip IsReadFrom texts (sources_view sources) → module_names sources ≡ map (λ (x : Module). x.0) texts
+names_read : (texts : List Module) (modules : List code_module.NamedModule) → AllZip IsReadFrom texts (modules_view modules) → module_names modules ≡ map (λ (x : Module). x.0) texts
 names_read [] [] h = refl
-names_read [] (m ∷ sources) h = absurd h
+names_read [] (m ∷ modules) h = absurd h
 names_read (x ∷ texts) [] h = absurd h
-names_read (x ∷ texts) (m ∷ sources) h = let first = h.0.0 in let rest = names_read texts sources h.1 in λ i. first i ∷ rest i
+names_read (x ∷ texts) (m ∷ modules) h = let first = h.0.0 in let rest = names_read texts modules h.1 in λ i. first i ∷ rest i
 
-module _ (s : List Member) (texts : List Module) (effective : AreEffective s texts) (all : List Lent) (same : modules_of all ≡ texts) (met : List (Bor Lent)) (sources : List code_source.Source) (read : AreReadFrom met sources) where
+module _ (s : List Member) (texts : List Module) (effective : AreEffective s texts) (all : List Lent) (same : modules_of all ≡ texts) (met : List (Bor Lent)) (modules : List code_module.NamedModule) (read : AreReadFrom met modules) where
   module _ (whole : map (λ (y : Bor Lent). y.now) met ≡ all) where
-    all_read : AllZip IsReadFrom texts (sources_view sources)
-    all_read = subst (λ (ms : List Module). AllZip IsReadFrom ms (sources_view sources)) (ap modules_of whole ∙ same) read
+    all_read : AllZip IsReadFrom texts (modules_view modules)
+    all_read = subst (λ (ms : List Module). AllZip IsReadFrom ms (modules_view modules)) (ap modules_of whole ∙ same) read
 
-    pub all_met : AreModules s (sources_view sources)
-    all_met = are_modules s texts (sources_view sources) effective all_read
+    pub all_met : AreModules s (modules_view modules)
+    all_met = are_modules s texts (modules_view modules) effective all_read
 
-    pub all_in_order : IsStrictlySortedBy text_cmp (module_names sources)
-    all_in_order = subst (IsStrictlySortedBy text_cmp) (sym (names_read texts sources all_read)) (in_order_mapped (λ (x : Module). x.0) texts effective.in_order)
+    pub all_in_order : IsStrictlySortedBy text_cmp (module_names modules)
+    all_in_order = subst (IsStrictlySortedBy text_cmp) (sym (names_read texts modules all_read)) (in_order_mapped (λ (x : Module). x.0) texts effective.in_order)
 
   pub met_refused : map (λ (y : Bor Lent). y.now) met ≡ take (length met) all → (y : Lent) → (length met < length all) × (y ≡ get_or all (length met) y) → (q : code.Refusal) → IsFaultOf y.0.now y.1.now q → IsFirstRefusal s q
   met_refused so_far y (l, is) q h =
@@ -127,4 +127,4 @@ module _ (s : List Member) (texts : List Module) (effective : AreEffective s tex
       let inside : n < length texts = omega (arith, l, length-map all module_of, ap length same) in
       let here : x ≡ get_or texts n x = ap module_of is ∙ sym (get_or-map module_of all n y x l) ∙ ap (λ (ms : List Module). get_or ms n x) same in
       let front : modules_of (map (λ (z : Bor Lent). z.now) met) ≡ take n texts = ap modules_of so_far ∙ sym (take-map module_of n all) ∙ ap (take n) same in
-      text_refused s texts effective n x inside here (subst (λ (ms : List Module). AllByRecursion HasFaultlessText ms) front (all_faultless _ (sources_view sources) read)) q h
+      text_refused s texts effective n x inside here (subst (λ (ms : List Module). AllByRecursion HasFaultlessText ms) front (all_faultless _ (modules_view modules) read)) q h

@@ -7,7 +7,7 @@ use Rattle.rn_pattern.specs.Tree.{Text}
 use Rattle.rn_pattern.proofs.Ordered.Ascending.{each_front, each_behind}
 use Rattle.rn_syntax.specs.Tree as t
 use Rattle.rn_syntax.specs.Tree.{Declaration, Item, Items}
-use Rattle.rn_assemble.specs.Components.{Component, Source, item_components, all_components, module_components, overridden, handed_on, item_includes, includes, modules_named, components_within, instances_within}
+use Rattle.rn_assemble.specs.Components.{Component, NamedModule, item_components, all_components, module_components, overridden, handed_on, item_includes, includes, modules_named, components_within, instances_within}
 
 -- the components of items depend on those of their includes alone
 module _ (f g : Text → Text → List Component) where
@@ -32,13 +32,13 @@ module _ (f g : Text → Text → List Component) where
           let rest = items-agree xs (each_behind Agree (item_includes x) (includes xs) a) in
           λ i. first i ++ rest i
 
-  sources-agree : (u : Text) (ms : List Source) → AllByRecursion Agree (flat_map (λ (m : Source). includes m.tree.items) ms)
-      → flat_map (λ (m : Source). module_components f u m.tree) ms ≡ flat_map (λ (m : Source). module_components g u m.tree) ms
-  sources-agree u [] a = refl
-  sources-agree u (m ∷ ms) a =
-      let more = flat_map (λ (n : Source). includes n.tree.items) ms in
+  modules-agree : (u : Text) (ms : List NamedModule) → AllByRecursion Agree (flat_map (λ (m : NamedModule). includes m.tree.items) ms)
+      → flat_map (λ (m : NamedModule). module_components f u m.tree) ms ≡ flat_map (λ (m : NamedModule). module_components g u m.tree) ms
+  modules-agree u [] a = refl
+  modules-agree u (m ∷ ms) a =
+      let more = flat_map (λ (n : NamedModule). includes n.tree.items) ms in
       let first = items-agree u m.tree.declarations m.tree.items (each_front Agree (includes m.tree.items) more a) in
-      let rest = sources-agree u ms (each_behind Agree (includes m.tree.items) more a) in
+      let rest = modules-agree u ms (each_behind Agree (includes m.tree.items) more a) in
       λ i. first i ++ rest i
 
 -- no part of a sum is more than the sum
@@ -54,10 +54,10 @@ sums_agree : (f g : Text → ℕ) (xs : List Text) → AllByRecursion (λ y. f y
 sums_agree f g [] h = refl
 sums_agree f g (x ∷ xs) h = omega (arith, sum_by-cons f x xs, sum_by-cons g x xs, h.0, sums_agree f g xs h.1)
 
-module _ (modules : List Source) where
+module _ (modules : List NamedModule) where
   -- what the modules of this name include
   abbrev pub wanted : Text → List Text
-  wanted x = flat_map (λ (m : Source). includes m.tree.items) (modules_named x modules)
+  wanted x = flat_map (λ (m : NamedModule). includes m.tree.items) (modules_named x modules)
 
   pub few : (depth : ℕ) (x : Text) → instances_within (suc depth) modules x ≤ suc depth → AllByRecursion (λ y. instances_within depth modules y ≤ depth) (wanted x)
   few depth x h = parts_up_to (instances_within depth modules) depth (wanted x) (omega (arith, h))
@@ -70,7 +70,7 @@ module _ (modules : List Source) where
   one_deeper : (depth : ℕ) (x u : Text) → instances_within depth modules x ≤ depth → components_within (suc depth) modules x u ≡ components_within depth modules x u
   one_deeper zero x u h = absurd (omega (arith, h))
   one_deeper (suc depth) x u h =
-      sources-agree (components_within (suc depth) modules) (components_within depth modules) u (modules_named x modules)
+      modules-agree (components_within (suc depth) modules) (components_within depth modules) u (modules_named x modules)
       (each_to (λ y. instances_within depth modules y ≤ depth) (Agree (components_within (suc depth) modules) (components_within depth modules)) (λ y k v. one_deeper depth y v k) (wanted x) (few depth x h))
 
   pub instances_enough : (more depth : ℕ) (x : Text) → instances_within depth modules x ≤ depth → instances_within (depth + more) modules x ≡ instances_within depth modules x

@@ -13,7 +13,7 @@ use Rattle.rn_pattern.specs.Tree.{Text}
 use Rattle.rn_pattern.specs.Order.{text_cmp}
 use Rattle.rn_pattern.specs.Graph.{AllBelow, IsGraph, row}
 use Rattle.rn_pattern.proofs.Ordered.InOrder.{contains_behind, contains_front}
-use Rattle.rn_assemble.specs.Components.{Source, includes, roots}
+use Rattle.rn_assemble.specs.Components.{NamedModule, includes, roots}
 use Rattle.rn_assemble.specs.inside.Expanded.{name_at}
 use Rattle.rn_assemble.specs.inside.Inclusions.{AreInclusions, entries}
 use Rattle.rn_assemble.proofs.Expansion.Inclusions.{included_at, same_place}
@@ -53,17 +53,17 @@ entries_below rows x c =
     All-contains (λ y. y < length rows) (entries rows) x (All-filter (λ y. not (list_any (λ z. eqb y z) (concat rows))) (λ y. y < length rows) (range_with_len 0 (length rows)) (range_below (length rows))) c
 
 -- the includes of all, where those of each are known
-joined_names : (f : ℕ → Text) (ms : List Source) (rows : List (List ℕ)) → length rows ≡ length ms → ((i : ℕ) (d : Source) → i < length ms → map f (row rows i) ≡ includes (get_or ms i d).tree.items)
-    → flat_map (λ (m : Source). includes m.tree.items) ms ≡ map f (concat rows)
+joined_names : (f : ℕ → Text) (ms : List NamedModule) (rows : List (List ℕ)) → length rows ≡ length ms → ((i : ℕ) (d : NamedModule) → i < length ms → map f (row rows i) ≡ includes (get_or ms i d).tree.items)
+    → flat_map (λ (m : NamedModule). includes m.tree.items) ms ≡ map f (concat rows)
 joined_names f [] [] s h = refl
 joined_names f [] (r ∷ rows) s h = absurd (omega (arith, s))
 joined_names f (m ∷ ms) [] s h = absurd (omega (arith, s))
 joined_names f (m ∷ ms) (r ∷ rows) s h =
     let first : includes m.tree.items ≡ map f r = sym (h 0 m (omega arith)) in
     let rest = joined_names f ms rows (omega (arith, s)) (λ i d l. h (suc i) d (omega (arith, l))) in
-    ap (λ l. l ++ flat_map (λ (n : Source). includes n.tree.items) ms) first ∙ ap (λ l. map f r ++ l) rest ∙ sym (map-append f r (concat rows))
+    ap (λ l. l ++ flat_map (λ (n : NamedModule). includes n.tree.items) ms) first ∙ ap (λ l. map f r ++ l) rest ∙ sym (map-append f r (concat rows))
 
-module _ (ms : List Source) (o : IsStrictlySortedBy text_cmp (map (λ (m : Source). m.name) ms)) where
+module _ (ms : List NamedModule) (o : IsStrictlySortedBy text_cmp (map (λ (m : NamedModule). m.name) ms)) where
   among_same : (i : ℕ) → i < length ms → (ns : List ℕ) → AllBelow (length ms) ns → list_any (bytes_eq (name_at ms i)) (map (name_at ms) ns) ≡ list_any (λ n. eqb i n) ns
   among_same i l [] b = refl
   among_same i l (n ∷ ns) b =
@@ -77,7 +77,7 @@ module _ (ms : List Source) (o : IsStrictlySortedBy text_cmp (map (λ (m : Sourc
     numbers = range_with_len 0 (length rows)
 
     abbrev all : List Text
-    all = flat_map (λ (m : Source). includes m.tree.items) ms
+    all = flat_map (λ (m : NamedModule). includes m.tree.items) ms
 
     same : all ≡ map (name_at ms) (concat rows)
     same = joined_names (name_at ms) ms rows h.size (λ i d l. h.named i l ∙ included_at ms o i d l)
@@ -88,13 +88,13 @@ module _ (ms : List Source) (o : IsStrictlySortedBy text_cmp (map (λ (m : Sourc
         let l : x < length ms = subst (λ n. x < n) h.size (All-contains (λ y. y < length rows) numbers x (range_below (length rows)) c) in
         sym (ap not (ap (list_any (bytes_eq (name_at ms x))) same ∙ among_same x l (concat rows) below))
 
-    named : map (name_at ms) numbers ≡ map (λ (m : Source). m.name) ms
-    named = sym (fill_by_all (name_at ms) (map (λ (m : Source). m.name) ms) (length rows) [] (length-map ms (λ (m : Source). m.name) ∙ sym h.size) (λ k l. refl))
+    named : map (name_at ms) numbers ≡ map (λ (m : NamedModule). m.name) ms
+    named = sym (fill_by_all (name_at ms) (map (λ (m : NamedModule). m.name) ms) (length rows) [] (length-map ms (λ (m : NamedModule). m.name) ∙ sym h.size) (λ k l. refl))
 
     -- the entries are the roots
-    pub entries_named : map (name_at ms) (entries rows) ≡ map (λ (m : Source). m.name) (roots ms)
+    pub entries_named : map (name_at ms) (entries rows) ≡ map (λ (m : NamedModule). m.name) (roots ms)
     entries_named =
         ap (map (name_at ms)) (keep_same (λ x. not (list_any (λ y. eqb x y) (concat rows))) (λ x. not (list_any (bytes_eq (name_at ms x)) all)) numbers agree)
         ∙ keep_mapped (name_at ms) (λ x. not (list_any (bytes_eq x) all)) numbers
         ∙ ap (filter (λ x. not (list_any (bytes_eq x) all))) named
-        ∙ sym (keep_mapped (λ (m : Source). m.name) (λ x. not (list_any (bytes_eq x) all)) ms)
+        ∙ sym (keep_mapped (λ (m : NamedModule). m.name) (λ x. not (list_any (bytes_eq x) all)) ms)

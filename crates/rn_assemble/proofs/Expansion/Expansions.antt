@@ -1,5 +1,6 @@
 -- Steps of expanding: bodies of a context, components added one after the other, and those that are taken out.
 use Rattle.std.proofs.Common.{◌≡◌, ℕ, ◌+◌, ◌-◌, ◌<◌, ◌≤◌, Bool, true, false, ◌||◌, cond, List, [], ◌∷◌, ◌++◌, length, get_or, take, drop, map, filter, refl, sym, ap, ◌∙◌, subst, arith, append-nil, append_assoc, Contains, length-drop}
+use Rattle.std.specs.Rc.{rc_str_bytes}
 use Rattle.std.specs.Prelude.{not, ◌==◌, slice_range}
 use Rattle.std.specs.List.{AllByRecursion, list_any}
 use Rattle.std.proofs.lemmas.List.{length-map, map-append, length-append, get_or_append_left, get_or-append-add, get_or-map, get_or-drop, take_more}
@@ -8,11 +9,11 @@ use Rattle.rn_pattern.specs.Tree.{Text}
 use Rattle.rn_pattern.proofs.Ordered.Ascending.{each_behind}
 use Rattle.rn_pattern.proofs.Ordered.InOrder.{contained_each}
 use Rattle.rn_syntax.specs.Tree.{Declaration}
-use Rattle.rn_assemble.specs.declared.bindings.Scope.{Scope}
+use Rattle.rn_assemble.specs.declared.context.Context.{Context}
 use Rattle.rn_assemble.specs.declared.contents.Component as code
 use Rattle.rn_assemble.specs.declared.contents.Contents.{Contents}
 use Rattle.rn_assemble.specs.declared.components.Body.{Body}
-use Rattle.rn_assemble.specs.declared.components.Context.{Context}
+use Rattle.rn_assemble.specs.declared.components.MetContext.{MetContext}
 use Rattle.rn_assemble.specs.declared.components.Components.{Components}
 use Rattle.rn_assemble.specs.inside.Bound.{BindsAs}
 use Rattle.rn_assemble.specs.Components.{Component}
@@ -26,32 +27,32 @@ pub starts_grown : (bodies more : List Body) (first : ℕ) (content : Contents) 
 starts_grown bodies more first content u h = record {
   within = omega (arith, h.within, length-append bodies more);
   component = λ i d e l. ap (λ (b : Body). b.component) (get_or_append_left bodies more d (first + i) (omega (arith, l, h.within))) ∙ h.component i d e l;
-  bindings = λ i d l. ap (λ (b : Body). b.scope.bindings.now) (get_or_append_left bodies more d (first + i) (omega (arith, l, h.within))) ∙ h.bindings i d l;
-  inherited_is = λ i d l. ap (λ (b : Body). b.scope.inherited.now) (get_or_append_left bodies more d (first + i) (omega (arith, l, h.within))) ∙ h.inherited_is i d l;
+  bindings = λ i d l. ap (λ (b : Body). b.context.bindings.now) (get_or_append_left bodies more d (first + i) (omega (arith, l, h.within))) ∙ h.bindings i d l;
+  inherited_is = λ i d l. ap (λ (b : Body). (rc_str_bytes b.context.inherited.now)) (get_or_append_left bodies more d (first + i) (omega (arith, l, h.within))) ∙ h.inherited_is i d l;
 }
 
-pub starts_made : (bodies : List Body) (content : Contents) (scope : Scope) → scope.bindings.now ≡ content.bindings → StartsAt (bodies ++ map (λ (c : code.Component). record { component = c; scope = scope }) content.components.items) (length bodies) content scope.inherited.now
-starts_made bodies content scope same =
+pub starts_made : (bodies : List Body) (content : Contents) (context : Context) → context.bindings.now ≡ content.bindings → StartsAt (bodies ++ map (λ (c : code.Component). record { component = c; context = context }) content.components.items) (length bodies) content (rc_str_bytes context.inherited.now)
+starts_made bodies content context same =
     let cs = content.components.items in
-    let f : code.Component → Body = λ c. record { component = c; scope = scope } in
+    let f : code.Component → Body = λ c. record { component = c; context = context } in
     let at : (i : ℕ) (d : Body) (e : code.Component) → i < length cs → get_or (bodies ++ map f cs) (length bodies + i) d ≡ f (get_or cs i e) = λ i d e l. get_or-append-add bodies (map f cs) i d ∙ get_or-map f cs i e d l in
     record {
       within = omega (arith, length-append bodies (map f cs), length-map cs f);
       component = λ i d e l. ap (λ (b : Body). b.component) (at i d e l);
-      bindings = λ i d l. ap (λ (b : Body). b.scope.bindings.now) (at i d d.component l) ∙ same;
-      inherited_is = λ i d l. ap (λ (b : Body). b.scope.inherited.now) (at i d d.component l);
+      bindings = λ i d l. ap (λ (b : Body). b.context.bindings.now) (at i d d.component l) ∙ same;
+      inherited_is = λ i d l. ap (λ (b : Body). (rc_str_bytes b.context.inherited.now)) (at i d d.component l);
     }
 
-pub contexts_grown : (contents : List Contents) (bodies more : List Body) (qs : List Context) → AllByRecursion (ContextHolds contents bodies) qs → AllByRecursion (ContextHolds contents (bodies ++ more)) qs
-contexts_grown contents bodies more qs h = each_to (ContextHolds contents bodies) (ContextHolds contents (bodies ++ more)) (λ q k content i. starts_grown bodies more q.first content q.inherited.now (k content i)) qs h
+pub contexts_grown : (contents : List Contents) (bodies more : List Body) (qs : List MetContext) → AllByRecursion (ContextHolds contents bodies) qs → AllByRecursion (ContextHolds contents (bodies ++ more)) qs
+contexts_grown contents bodies more qs h = each_to (ContextHolds contents bodies) (ContextHolds contents (bodies ++ more)) (λ q k content i. starts_grown bodies more q.first content (rc_str_bytes q.inherited.now) (k content i)) qs h
 
 one_item : (contents : List Contents) (i : ℕ) (c d : Contents) → IsItem contents i c → IsItem contents i d → c ≡ d
 one_item contents i c d h k = sym (h.is c) ∙ k.is c
 
-pub context_made : (contents : List Contents) (bodies : List Body) (q : Context) (content : Contents) → IsItem contents q.module content → StartsAt bodies q.first content q.inherited.now → ContextHolds contents bodies q
-context_made contents bodies q content i h = λ d k. subst (λ (c : Contents). StartsAt bodies q.first c q.inherited.now) (one_item contents q.module content d i k) h
+pub context_made : (contents : List Contents) (bodies : List Body) (q : MetContext) (content : Contents) → IsItem contents q.module content → StartsAt bodies q.first content (rc_str_bytes q.inherited.now) → ContextHolds contents bodies q
+context_made contents bodies q content i h = λ d k. subst (λ (c : Contents). StartsAt bodies q.first c (rc_str_bytes q.inherited.now)) (one_item contents q.module content d i k) h
 
-pub context_found : (contents : List Contents) (bodies : List Body) (qs : List Context) (q : Context) (m first : ℕ) (u : Text) (content : Contents) → AllByRecursion (ContextHolds contents bodies) qs → Contains qs q → q.module ≡ m → q.inherited.now ≡ u → q.first ≡ first → IsItem contents m content → StartsAt bodies first content u
+pub context_found : (contents : List Contents) (bodies : List Body) (qs : List MetContext) (q : MetContext) (m first : ℕ) (u : Text) (content : Contents) → AllByRecursion (ContextHolds contents bodies) qs → Contains qs q → q.module ≡ m → (rc_str_bytes q.inherited.now) ≡ u → q.first ≡ first → IsItem contents m content → StartsAt bodies first content u
 context_found contents bodies qs q m first u content h c em eu ef i =
     let s = contained_each (ContextHolds contents bodies) qs h q c content (subst (λ n. IsItem contents n content) (sym em) i) in
     subst (λ n. StartsAt bodies n content u) ef (subst (λ v. StartsAt bodies q.first content v) eu s)

@@ -12,26 +12,26 @@ use Rattle.rn_pattern.specs.Ranks.{HasNoLoop, IsFirstLoop}
 use Rattle.rn_pattern.proofs.Ordered.InOrder.{text_no_less}
 use Rattle.rn_pattern.proofs.Graphs.Rows.{AreRows, is_graph, no_rows, row_before, row_behind, rows_pushed}
 use Rattle.rn_syntax.specs.View.{module_view}
-use Rattle.rn_assemble.specs.declared.modules.Source as code
-use Rattle.rn_assemble.specs.Components.{Includes, Source, includes, instance_limit, instances_within, roots}
+use Rattle.rn_assemble.specs.declared.modules.NamedModule as code
+use Rattle.rn_assemble.specs.Components.{Includes, NamedModule, includes, instance_limit, instances_within, roots}
 use Rattle.rn_assemble.specs.inside.Expanded.{name_at}
 use Rattle.rn_assemble.specs.inside.Included.{AreIncluded}
 use Rattle.rn_assemble.specs.inside.Inclusions.{AreInclusions, IsLeastAmong, IsMissing, entries, included_by}
 use Rattle.rn_assemble.specs.inside.Instances.{instances_of}
 use Rattle.rn_assemble.specs.Refusal.{IsFirstFor, Refusal, StandsFor, Wants, conflict, cycle, faulty, missing, rank, too_many_instances}
-use Rattle.rn_assemble.specs.inside.Views.{module_names, source_view, sources_view}
+use Rattle.rn_assemble.specs.inside.Views.{module_names, named_module_view, modules_view}
 use Rattle.rn_assemble.proofs.Expansion.Entries.{entries_below, entries_named}
 use Rattle.rn_assemble.proofs.Expansion.Inclusions.{first_cycle, include_stands, included_at, includer, no_cycle, none_missing, not_missing, rise, stands_include, total}
 use Rattle.rn_assemble.proofs.Referring.Named.{unmapped}
 use Rattle.rn_assemble.proofs.Referring.Numbers.{not_itself}
 use Rattle.rn_assemble.proofs.Expansion.WantedNumbers.{found_all, names_rise, numbers}
 
-pub rows_are : (modules : List Source) (rows edges : List (Vec ℕ Global)) → edges ≡ rows → AreInclusions modules (rows_of rows) → AreInclusions modules (rows_of edges)
+pub rows_are : (modules : List NamedModule) (rows edges : List (Vec ℕ Global)) → edges ≡ rows → AreInclusions modules (rows_of rows) → AreInclusions modules (rows_of edges)
 rows_are modules rows edges e h = subst (λ es. AreInclusions modules (rows_of es)) (sym e) h
 
-module _ (xs : List code.Source) where
-  abbrev ms : List Source
-  ms = sources_view xs
+module _ (xs : List code.NamedModule) where
+  abbrev ms : List NamedModule
+  ms = modules_view xs
 
   -- the rows of the modules before a place
   pub record AreBegun (k : ℕ) (rows : List (Vec ℕ Global)) : Type 0 where
@@ -41,25 +41,25 @@ module _ (xs : List code.Source) where
 
   module _ (in_order : IsStrictlySortedBy text_cmp (module_names xs)) where
     size : length ms ≡ length xs
-    size = length-map xs source_view
+    size = length-map xs named_module_view
 
-    o : IsStrictlySortedBy text_cmp (map (λ (m : Source). m.name) ms)
+    o : IsStrictlySortedBy text_cmp (map (λ (m : NamedModule). m.name) ms)
     o = names_rise xs in_order
 
     -- the name of the module at a place, and what it includes
-    view_at : (i : ℕ) (s : code.Source) → i < length xs → s ≡ get_or xs i s → get_or ms i (source_view s) ≡ source_view s
-    view_at i s l e = get_or-map source_view xs i s (source_view s) l ∙ ap source_view (sym e)
+    view_at : (i : ℕ) (s : code.NamedModule) → i < length xs → s ≡ get_or xs i s → get_or ms i (named_module_view s) ≡ named_module_view s
+    view_at i s l e = get_or-map named_module_view xs i s (named_module_view s) l ∙ ap named_module_view (sym e)
 
-    pub name_seen : (i : ℕ) (s : code.Source) → i < length xs → s ≡ get_or xs i s → name_at ms i ≡ s.name.now
-    name_seen i s l e = get_or-map (λ (m : Source). m.name) ms i (source_view s) [] (omega (arith, l, size)) ∙ ap (λ (m : Source). m.name) (view_at i s l e)
+    pub name_seen : (i : ℕ) (s : code.NamedModule) → i < length xs → s ≡ get_or xs i s → name_at ms i ≡ s.name.now
+    name_seen i s l e = get_or-map (λ (m : NamedModule). m.name) ms i (named_module_view s) [] (omega (arith, l, size)) ∙ ap (λ (m : NamedModule). m.name) (view_at i s l e)
 
-    included_seen : (i : ℕ) (s : code.Source) → i < length xs → s ≡ get_or xs i s → included_by ms (name_at ms i) ≡ includes (module_view s.tree).items
-    included_seen i s l e = included_at ms o i (source_view s) (omega (arith, l, size)) ∙ ap (λ (m : Source). includes m.tree.items) (view_at i s l e)
+    included_seen : (i : ℕ) (s : code.NamedModule) → i < length xs → s ≡ get_or xs i s → included_by ms (name_at ms i) ≡ includes (module_view s.tree).items
+    included_seen i s l e = included_at ms o i (named_module_view s) (omega (arith, l, size)) ∙ ap (λ (m : NamedModule). includes m.tree.items) (view_at i s l e)
 
     pub begins : (rows : List (Vec ℕ Global)) → rows ≡ [] → AreBegun 0 rows
     begins rows e = subst (AreBegun 0) (sym e) (record { long = refl; below = no_rows (length xs); named = λ i l. absurd (omega (arith, l)) })
 
-    pub goes_on : (k : ℕ) (rows rows' : List (Vec ℕ Global)) (v : Vec ℕ Global) (s : code.Source) (texts : List Text) → k < length xs → s ≡ get_or xs k s → AreBegun k rows → rows' ≡ rows ++ v ∷ []
+    pub goes_on : (k : ℕ) (rows rows' : List (Vec ℕ Global)) (v : Vec ℕ Global) (s : code.NamedModule) (texts : List Text) → k < length xs → s ≡ get_or xs k s → AreBegun k rows → rows' ≡ rows ++ v ∷ []
         → texts ≡ includes (module_view s.tree).items → IsLeastAmong (IsMissing ms) texts None → v.items ≡ numbers ms texts → AreBegun (k + 1) rows'
     goes_on k rows rows' v s texts l at b e are none is =
         let found = found_all ms texts none in
@@ -81,7 +81,7 @@ module _ (xs : List code.Source) where
 
     -- ---- an include of no module
 
-    module _ (k : ℕ) (rows : List (Vec ℕ Global)) (s : code.Source) (texts : List Text) (w : Text) (l : k < length xs) (at : s ≡ get_or xs k s) (b : AreBegun k rows) (are : texts ≡ includes (module_view s.tree).items) (h : IsLeastAmong (IsMissing ms) texts (Some w)) where
+    module _ (k : ℕ) (rows : List (Vec ℕ Global)) (s : code.NamedModule) (texts : List Text) (w : Text) (l : k < length xs) (at : s ≡ get_or xs k s) (b : AreBegun k rows) (are : texts ≡ includes (module_view s.tree).items) (h : IsLeastAmong (IsMissing ms) texts (Some w)) where
       x : name_at ms k ≡ s.name.now
       x = name_seen k s l at
 
@@ -142,7 +142,7 @@ module _ (xs : List code.Source) where
         some_lower (cycle y) lt s = no_cycle ms o rows h loop_free y s.holds
         some_lower q lt s = absurd (omega (arith, lt))
 
-        all_instances : (depth : ℕ) → sum_by (instances_of depth rows) (entries rows) ≡ sum_by (λ (m : Source). instances_within depth ms m.name) (roots ms)
+        all_instances : (depth : ℕ) → sum_by (instances_of depth rows) (entries rows) ≡ sum_by (λ (m : NamedModule). instances_within depth ms m.name) (roots ms)
         all_instances depth = total ms o rows h depth (entries rows) (subst (λ n. AllBelow n (entries rows)) h.size (entries_below rows)) (entries_named ms o rows h)
 
         pub too_many : ((depth : ℕ) → instance_limit < depth → instance_limit < sum_by (instances_of depth rows) (entries rows)) → IsFirstFor ms too_many_instances

@@ -4,17 +4,17 @@ use Rattle.std.specs.List.{AllByRecursion, AllZip}
 use Rattle.std.specs.Prelude.{flat_map}
 use Rattle.std.proofs.lemmas.List.Elements.{Contains-append_left, Contains-append_right}
 use Rattle.rn_pattern.proofs.Ordered.InOrder.{contains_cases, each_contained}
-use Rattle.rn_assemble.specs.declared.modules.Source as source
+use Rattle.rn_assemble.specs.declared.modules.NamedModule as code_module
 use Rattle.std.proofs.lemmas.List.{length-map, get_or-map, take_more}
 use Rattle.rn_pattern.specs.Tree.{Text}
 use Rattle.rn_pattern.proofs.Ordered.Ascending.{each_front, each_behind}
 use Rattle.rn_syntax.specs.declared.tree.Item.{Item}
 use Rattle.rn_syntax.specs.Tree as t
 use Rattle.rn_syntax.specs.View.{item_view, items_view}
-use Rattle.rn_assemble.specs.Components.{Source}
+use Rattle.rn_assemble.specs.Components.{NamedModule}
 use Rattle.rn_assemble.specs.inside.Contained.{Written, Inclusion, inclusions, item_inclusions, written, item_written}
 use Rattle.rn_assemble.specs.declared.contents.Component.{Component}
-use Rattle.rn_assemble.specs.inside.Views.{Adds, written_view, source_view, sources_view}
+use Rattle.rn_assemble.specs.inside.Views.{Adds, written_view, named_module_view, modules_view}
 use Rattle.rn_assemble.specs.inside.Keyed.{AreNames, defines, item_defines}
 
 -- the item at a place, and those behind it
@@ -40,7 +40,7 @@ adds_more names cs ds es us vs a b = record {
 pub written_to : (xs : List Item) (i : ℕ) (x : Item) → i < length xs → x ≡ get_or xs i x → written (items_view (drop i xs)) ≡ item_written (item_view x) ++ written (items_view (drop (i + 1) xs))
 written_to xs i x l e = ap written (items_at xs i x l e)
 
-module _ (modules : List Source) where
+module _ (modules : List NamedModule) where
   pub inclusions_more : (xs : List Item) (i : ℕ) (x : Item) → i < length xs → x ≡ get_or xs i x → (m n : ℕ) → n ≡ m + length (item_written (item_view x)) → (us vs ws : List Inclusion)
       → us ++ inclusions modules m (items_view (drop i xs)) ≡ ws → vs ≡ us ++ item_inclusions modules m (item_view x) → vs ++ inclusions modules n (items_view (drop (i + 1) xs)) ≡ ws
   inclusions_more xs i x l e m n s us vs ws h k =
@@ -56,10 +56,10 @@ contains_flat f (z ∷ zs) x y c d = elim (contains_cases z x zs c) [
   | inr k ↦ Contains-append_right (f z) (flat_map f zs) y (contains_flat f zs x y k d)
 ]
 
-pub defined_each : (ms : List source.Source) (names : List Text) (i : ℕ) (m : source.Source) → AreNames (sources_view ms) names → i < length ms → m ≡ get_or ms i m → AllByRecursion (Contains names) (defines (items_view m.tree.items.items))
+pub defined_each : (ms : List code_module.NamedModule) (names : List Text) (i : ℕ) (m : code_module.NamedModule) → AreNames (modules_view ms) names → i < length ms → m ≡ get_or ms i m → AllByRecursion (Contains names) (defines (items_view m.tree.items.items))
 defined_each ms names i m a l e =
-    let at : Contains (sources_view ms) (source_view m) = (i, omega (arith, l, length-map ms source_view), get_or-map source_view ms i m (source_view m) l ∙ ap source_view (sym e)) in
-    each_contained (Contains names) (defines (items_view m.tree.items.items)) (λ x k. (a.defined x).1 (contains_flat (λ (n : Source). defines n.tree.items) (sources_view ms) (source_view m) x at k))
+    let at : Contains (modules_view ms) (named_module_view m) = (i, omega (arith, l, length-map ms named_module_view), get_or-map named_module_view ms i m (named_module_view m) l ∙ ap named_module_view (sym e)) in
+    each_contained (Contains names) (defines (items_view m.tree.items.items)) (λ x k. (a.defined x).1 (contains_flat (λ (n : NamedModule). defines n.tree.items) (modules_view ms) (named_module_view m) x at k))
 
 pub zip_seen : {X Y C : Type 0} (f : X → Y) (R : Y → C → Type 0) (xs : List X) (cs : List C) → AllZip (λ x c. R (f x) c) xs cs → AllZip R (map f xs) cs
 zip_seen f R [] [] h = h

@@ -14,7 +14,7 @@ use Rattle.rn_assemble.specs.declared.contents.Contents.{Contents}
 use Rattle.rn_assemble.specs.declared.contents.Include.{Include}
 use Rattle.rn_assemble.specs.declared.components.Body.{Body}
 use Rattle.rn_assemble.specs.declared.components.Components.{Components}
-use Rattle.rn_assemble.specs.Components.{Component, Source, components_within, handed_on, module_components, overridden}
+use Rattle.rn_assemble.specs.Components.{Component, NamedModule, components_within, handed_on, module_components, overridden}
 use Rattle.rn_assemble.specs.inside.Contained.{AreFlat, Inclusion, inclusions, item_inclusions, Written, written}
 use Rattle.rn_assemble.specs.inside.Listed.{IsContents, IsLive, Live, Lists, ListsBy, resolved_component}
 use Rattle.rn_assemble.specs.inside.Views.{IsNumbered, inclusion_view, written_view}
@@ -26,10 +26,10 @@ use Rattle.rn_assemble.proofs.Expansion.Spliced.{Ordered, spliced, spliced_is, i
 use Rattle.rn_assemble.proofs.Expansion.ModuleLookups.{included_agrees, place_within}
 
 -- each include's module is one of the modules
-abbrev pub IsWithin : List Source → Inclusion → Type 0
+abbrev pub IsWithin : List NamedModule → Inclusion → Type 0
 IsWithin modules i = (k : ℕ) → i.module_at ≡ Some k → k < length modules
 
-module _ (modules : List Source) where
+module _ (modules : List NamedModule) where
   mutual
     item_within : (n : ℕ) (x : t.Item) → AllByRecursion (IsWithin modules) (item_inclusions modules n x)
     item_within n (t.define x m p) = tt
@@ -42,7 +42,7 @@ module _ (modules : List Source) where
     items_within n (t.item x xs) = each_join (IsWithin modules) (item_inclusions modules n x) _ (item_within n x) (items_within _ xs)
 
 -- how far a module is expanded
-pub record Going (modules : List Source) (names : List Text) (contents : List Contents) (content : Contents) (old now : Components) (live : List Live) (m : Source) (u : Text) (depth first n : ℕ) (includes : List Include) : Type 0 where
+pub record Going (modules : List NamedModule) (names : List Text) (contents : List Contents) (content : Contents) (old now : Components) (live : List Live) (m : NamedModule) (u : Text) (depth first n : ℕ) (includes : List Include) : Type 0 where
   pub done : List Component
   pub adds : AddsLive names old now live done
   pub left : done ++ spliced (included_in depth modules) u m.tree.declarations (map (written_view names) content.components.items) (map inclusion_view includes) n ≡ module_components (components_within depth modules) u m.tree
@@ -52,7 +52,7 @@ pub record Going (modules : List Source) (names : List Text) (contents : List Co
   pub ordered : Ordered (length content.components.items) n (map inclusion_view includes)
   pub within : AllByRecursion (IsWithin modules) (map inclusion_view includes)
 
-module _ (modules : List Source) (names : List Text) (contents : List Contents) (content : Contents) (live : List Live) (m : Source) (u : Text) (depth first : ℕ) where
+module _ (modules : List NamedModule) (names : List Text) (contents : List Contents) (content : Contents) (live : List Live) (m : NamedModule) (u : Text) (depth first : ℕ) where
   abbrev ws : List Written
   ws = map (written_view names) content.components.items
 
@@ -165,7 +165,7 @@ if_ok_always (Ok a) p = p
 if_ok_always (Err e) p = tt
 
 -- at the end
-pub finishes : (modules : List Source) (names : List Text) (contents : List Contents) (content : Contents) (live : List Live) (m : Source) (u : Text) (depth first : ℕ) (old now new : Components) (n end : ℕ)
+pub finishes : (modules : List NamedModule) (names : List Text) (contents : List Contents) (content : Contents) (live : List Live) (m : NamedModule) (u : Text) (depth first : ℕ) (old now new : Components) (n end : ℕ)
     (g : Going modules names contents content old now live m u depth first n []) → end ≡ length content.components.items
     → AddsLive names now new (live ++ g.adds.added) (map (resolved_component u m.tree.declarations) (slice_range (map (written_view names) content.components.items) n end)) → KeepsBodies now new
     → (cs : List Component) → module_components (components_within depth modules) u m.tree ≡ cs → Expands names contents old new live cs

@@ -15,7 +15,7 @@ use Rattle.rn_syntax.specs.Tree.{Declaration, Item, Items}
 use Rattle.rn_assemble.specs.declared.contents.Component as code
 use Rattle.rn_assemble.specs.declared.components.Lack.{Lack}
 use Rattle.rn_assemble.specs.declared.contents.Contents.{Contents}
-use Rattle.rn_assemble.specs.Components.{Component, Key, Source, components_within, handed_on, has_key, includes, item_includes, modules_named, same_key}
+use Rattle.rn_assemble.specs.Components.{Component, Key, NamedModule, components_within, handed_on, has_key, includes, item_includes, modules_named, same_key}
 use Rattle.rn_assemble.specs.inside.Contained.{AreFlat, Inclusion, IsFlat, Written, inclusions, item_inclusions, item_written, place_in, written}
 use Rattle.rn_assemble.specs.inside.Expanded.{included_in, name_at}
 use Rattle.rn_assemble.specs.inside.Keyed.{key_at}
@@ -41,7 +41,7 @@ any_unmap f P (x ∷ xs) (zero, y, l, e, p) = (0, x, omega arith, refl, subst P 
 any_unmap f P (x ∷ xs) (suc k, y, l, e, p) = let r = any_unmap f P xs (k, y, omega (arith, l), e, p) in (suc r.0, r.1, omega (arith, r.2), r.3, r.4)
 
 -- which key is lacked by an include alone
-module _ (modules : List Source) (f : Text → Text → List Component) (at : Option ℕ → Text → List Component) (agree : (w v : Text) → at (place_in modules w) v ≡ f w v) (u : Text) (ds : List Declaration) where
+module _ (modules : List NamedModule) (f : Text → Text → List Component) (at : Option ℕ → Text → List Component) (agree : (w v : Text) → at (place_in modules w) v ≡ f w v) (u : Text) (ds : List Declaration) where
   abbrev res : List Written → List Component
   res ws = map (resolved_component u ds) ws
 
@@ -76,7 +76,7 @@ module _ (modules : List Source) (f : Text → Text → List Component) (at : Op
   items_lack_is k xs fl = items_lack_by (written xs) k xs 0 fl (omega arith) (whole_range (written xs))
 
 -- which modules are included, by name and by place, and the namespace that is handed on
-module _ (modules : List Source) (u : Text) (ds : List Declaration) where
+module _ (modules : List NamedModule) (u : Text) (ds : List Declaration) where
   abbrev wanted_at : Text × Text → Option ℕ × Text
   wanted_at w = (place_in modules w.0, w.1)
 
@@ -115,22 +115,22 @@ module _ (modules : List Source) (u : Text) (ds : List Declaration) where
         map-append wanted_at (item_handed u ds x) (handed u ds xs) ∙ (λ j. first j ++ rest j) ∙ sym (map-append included_at (item_inclusions modules n x) (inclusions modules m xs))
 
 -- a module that is not there lacks nothing
-nothing_lacked : (depth : ℕ) (modules : List Source) (w v y : Text) (k : Key) → modules_named w modules ≡ [] → ¬ LacksWithin depth modules w v y k
+nothing_lacked : (depth : ℕ) (modules : List NamedModule) (w v y : Text) (k : Key) → modules_named w modules ≡ [] → ¬ LacksWithin depth modules w v y k
 nothing_lacked zero modules w v y k e h = h
 nothing_lacked (suc depth) modules w v y k e h =
-    let c : Contains [] h.0 = subst (λ (ms : List Source). Contains ms h.0) e h.1 in
+    let c : Contains [] h.0 = subst (λ (ms : List NamedModule). Contains ms h.0) e h.1 in
     absurd (omega (arith, c.1))
 
-lacked_at : (depth : ℕ) (modules : List Source) (w v y : Text) (k : Key) (o : Option ℕ) → place_in modules w ≡ o → LacksWithin depth modules w v y k → IncludedLacks depth modules o v y k
+lacked_at : (depth : ℕ) (modules : List NamedModule) (w v y : Text) (k : Key) (o : Option ℕ) → place_in modules w ≡ o → LacksWithin depth modules w v y k → IncludedLacks depth modules o v y k
 lacked_at depth modules w v y k None e h = nothing_lacked depth modules w v y k (none_named w 0 modules e) h
 lacked_at depth modules w v y k (Some i) e h = subst (λ x. LacksWithin depth modules x v y k) (sym (place_name w i modules e)) h
 
-lacked_from : (depth : ℕ) (modules : List Source) (w v y : Text) (k : Key) (o : Option ℕ) → place_in modules w ≡ o → IncludedLacks depth modules o v y k → LacksWithin depth modules w v y k
+lacked_from : (depth : ℕ) (modules : List NamedModule) (w v y : Text) (k : Key) (o : Option ℕ) → place_in modules w ≡ o → IncludedLacks depth modules o v y k → LacksWithin depth modules w v y k
 lacked_from depth modules w v y k None e h = absurd h
 lacked_from depth modules w v y k (Some i) e h = subst (λ x. LacksWithin depth modules x v y k) (place_name w i modules e) h
 
 -- the lacks of the one module of a name
-module _ (depth : ℕ) (modules : List Source) (x u : Text) (m : Source) (named : modules_named x modules ≡ m ∷ []) (flat : AreFlat m.tree.items) (y : Text) (k : Key) where
+module _ (depth : ℕ) (modules : List NamedModule) (x u : Text) (m : NamedModule) (named : modules_named x modules ≡ m ∷ []) (flat : AreFlat m.tree.items) (y : Text) (k : Key) where
   abbrev is : List Inclusion
   is = inclusions modules 0 m.tree.items
 
@@ -141,7 +141,7 @@ module _ (depth : ℕ) (modules : List Source) (x u : Text) (m : Source) (named 
   Within w = IncludedLacks depth modules w.0 w.1 y k
 
   -- in a module, by its own includes or within
-  abbrev InModule : Source → Type 0
+  abbrev InModule : NamedModule → Type 0
   InModule n = ((x ≡ y) × (items_lack (components_within depth modules) u n.tree.declarations n.tree.items k ≡ true))
       ⊎ ((w : Text × Text) × Contains {X = Text × Text} (handed u n.tree.declarations n.tree.items) w × LacksWithin depth modules w.0 w.1 y k)
 
@@ -167,15 +167,15 @@ module _ (depth : ℕ) (modules : List Source) (x u : Text) (m : Source) (named 
 
   pub lacks_brought : LacksWithin (suc depth) modules x u y k → SomeLacks (InclusionLacks depth modules x u m.tree.declarations (written m.tree.items)) is y k
   lacks_brought h =
-      let only : (m ≡ h.0) ⊎ Contains [] h.0 = contains_cases m h.0 [] (subst (λ (ms : List Source). Contains ms h.0) named h.1) in
+      let only : (m ≡ h.0) ⊎ Contains [] h.0 = contains_cases m h.0 [] (subst (λ (ms : List NamedModule). Contains ms h.0) named h.1) in
       let a = to_brought (⊎_elim (λ s. subst InModule (sym s) h.2) (λ c. absurd (omega (arith, c.1))) only) in
       (a.1, (a.0, a.2, a.3), a.4)
 
   pub brought_lacks : SomeLacks (InclusionLacks depth modules x u m.tree.declarations (written m.tree.items)) is y k → LacksWithin (suc depth) modules x u y k
-  brought_lacks (i, c, h) = (m, subst (λ (ms : List Source). Contains ms m) (sym named) (contains_front m []), from_brought (c.0, i, c.1, c.2, h))
+  brought_lacks (i, c, h) = (m, subst (λ (ms : List NamedModule). Contains ms m) (sym named) (contains_front m []), from_brought (c.0, i, c.1, c.2, h))
 
 -- what the includes of a module's contents brought is what the module lacks
-pub module_noted : (depth : ℕ) (modules : List Source) (names : List Text) (x u : Text) (m : Source) (content : Contents) (old new : Option Lack) → modules_named x modules ≡ m ∷ [] → AreFlat m.tree.items → IsContents modules names m content
+pub module_noted : (depth : ℕ) (modules : List NamedModule) (names : List Text) (x u : Text) (m : NamedModule) (content : Contents) (old new : Option Lack) → modules_named x modules ≡ m ∷ [] → AreFlat m.tree.items → IsContents modules names m content
     → Notes (AtNumbers modules names (SomeLacks (InclusionLacks depth modules x u m.tree.declarations (map (written_view names) content.components.items)) (map inclusion_view content.includes.items))) old new
     → Notes (AtNumbers modules names (LacksWithin (suc depth) modules x u)) old new
 module_noted depth modules names x u m content old new named flat is h =
@@ -209,12 +209,12 @@ number_of : (names : List Text) (u : Text) (ds : List Declaration) (k : Key) (ws
 number_of names u ds k [] h e = absurd (false≢true e)
 number_of names u ds k (w ∷ ws) h e = number_at names k w (same_key k w.key) (has_key k (map (resolved_component u ds) ws)) refl h.0 (number_of names u ds k ws h.1) e
 
-module _ (modules : List Source) (names : List Text) (contents : List Contents) (are : AreContents modules names contents) (flat : AllByRecursion (λ (m : Source). AreFlat m.tree.items) modules) where
-  key_number : (depth : ℕ) (u : Text) (m : Source) (k : Key) → Contains modules m → items_lack (components_within depth modules) u m.tree.declarations m.tree.items k ≡ true → IsKeyNumber names k
+module _ (modules : List NamedModule) (names : List Text) (contents : List Contents) (are : AreContents modules names contents) (flat : AllByRecursion (λ (m : NamedModule). AreFlat m.tree.items) modules) where
+  key_number : (depth : ℕ) (u : Text) (m : NamedModule) (k : Key) → Contains modules m → items_lack (components_within depth modules) u m.tree.declarations m.tree.items k ≡ true → IsKeyNumber names k
   key_number depth u m k c e =
       let r = paired (IsContents modules names) modules contents m are c in
       let ws = written m.tree.items in
-      let fl = contained_each (λ (n : Source). AreFlat n.tree.items) modules flat m c in
+      let fl = contained_each (λ (n : NamedModule). AreFlat n.tree.items) modules flat m c in
       let a = Any-from_list_any (lacks_by modules (components_within depth modules) (included_in depth modules) (included_agrees depth modules) u m.tree.declarations ws k) (inclusions modules 0 m.tree.items) (items_lack_is modules (components_within depth modules) (included_in depth modules) (included_agrees depth modules) u m.tree.declarations k m.tree.items fl ∙ e) in
       let i = a.1 in
       let own = and_parts (has_key k (map (resolved_component u m.tree.declarations) (slice_range ws i.first i.end))) _ a.4 in
@@ -224,8 +224,8 @@ module _ (modules : List Source) (names : List Text) (contents : List Contents) 
   pub lack_found : (depth : ℕ) (x u y : Text) (k : Key) → LacksWithin depth modules x u y k → IsModuleName modules y × IsKeyNumber names k
   lack_found zero x u y k h = absurd h
   lack_found (suc depth) x u y k (m, c, inl (s, e)) =
-      let there = kept_contains (λ (n : Source). bytes_eq x n.name) modules m c in
-      let test = All-contains (λ (n : Source). bytes_eq x n.name ≡ true) (modules_named x modules) m (filter_passes (λ (n : Source). bytes_eq x n.name) modules) c in
+      let there = kept_contains (λ (n : NamedModule). bytes_eq x n.name) modules m c in
+      let test = All-contains (λ (n : NamedModule). bytes_eq x n.name ≡ true) (modules_named x modules) m (filter_passes (λ (n : NamedModule). bytes_eq x n.name) modules) c in
       let name : y ≡ m.name = sym s ∙ (bytes_eq-Decides x m.name).0 test in
-      ((there.0, there.1, name ∙ sym (get_or-map (λ (n : Source). n.name) modules there.0 m [] there.1 ∙ ap (λ (n : Source). n.name) there.2)), key_number depth u m k there e)
+      ((there.0, there.1, name ∙ sym (get_or-map (λ (n : NamedModule). n.name) modules there.0 m [] there.1 ∙ ap (λ (n : NamedModule). n.name) there.2)), key_number depth u m k there e)
   lack_found (suc depth) x u y k (m, c, inr (w, d, h)) = lack_found depth w.0 w.1 y k h

@@ -17,7 +17,7 @@ use Rattle.rn_pattern.specs.Graph.{AllBelow, row}
 use Rattle.rn_pattern.specs.Ranks.{HasNoLoop, IsFirstLoop, Leads, by_edge, and_edge}
 use Rattle.rn_pattern.proofs.Ordered.InOrder.{contains_behind, contains_front, text_no_less}
 use Rattle.rn_pattern.proofs.Graphs.FirstLoop.{source_within}
-use Rattle.rn_assemble.specs.Components.{Includes, Source, includes, instances_within, modules_named, roots}
+use Rattle.rn_assemble.specs.Components.{Includes, NamedModule, includes, instances_within, modules_named, roots}
 use Rattle.rn_assemble.specs.inside.Contained.{place_in}
 use Rattle.rn_assemble.specs.inside.Expanded.{name_at}
 use Rattle.rn_assemble.specs.inside.Inclusions.{AreInclusions, IsMissing, included_by}
@@ -34,7 +34,7 @@ pub sum_through : {X Y : Type 0} (f : X → ℕ) (g : Y → ℕ) (v : X → Y) (
 sum_through f g v [] h = refl
 sum_through f g v (x ∷ xs) h = omega (arith, sum_by-cons f x xs, sum_by-cons g (v x) (map v xs), h x (contains_front x xs), sum_through f g v xs (λ y c. h y (contains_behind x y xs c)))
 
-module _ (ms : List Source) where
+module _ (ms : List NamedModule) where
   -- an include stands among those of its includer
   pub include_stands : (x y : Text) → Includes ms x y → Contains (included_by ms x) y
   include_stands x y h = Contains-from_any {eq = bytes_eq} (λ a b e. (bytes_eq-Decides a b).0 e) y (included_by ms x) h
@@ -45,7 +45,7 @@ module _ (ms : List Source) where
   -- who includes is a module
   includer_at : (x y : Text) (o : Option ℕ) → place_in ms x ≡ o → Includes ms x y → (i : ℕ) × (i < length ms) × (name_at ms i ≡ x)
   includer_at x y None e h =
-      let none : false ≡ true = sym (ap (λ l. list_any (bytes_eq y) (flat_map (λ (m : Source). includes m.tree.items) l)) (none_named x 0 ms e)) ∙ h in
+      let none : false ≡ true = sym (ap (λ l. list_any (bytes_eq y) (flat_map (λ (m : NamedModule). includes m.tree.items) l)) (none_named x 0 ms e)) ∙ h in
       absurd (false≢true none)
   includer_at x y (Some i) e h = (i, place_within x i ms e, place_name x i ms e)
 
@@ -56,19 +56,19 @@ module _ (ms : List Source) where
   begins x y (by_one s) = includer x y s
   begins x z (by_more {a = a} {b = y} {c = c} s r) = includer x y s
 
-  module _ (o : IsStrictlySortedBy text_cmp (map (λ (m : Source). m.name) ms)) where
+  module _ (o : IsStrictlySortedBy text_cmp (map (λ (m : NamedModule). m.name) ms)) where
     pub not_missing : (i : ℕ) (x : Text) → i < length ms → name_at ms i ≡ x → ¬ IsMissing ms x
     not_missing i x l e none = let r = one_named ms o i l in let no : r.0 ∷ [] ≡ [] = sym r.2 ∙ ap (λ z. modules_named z ms) e ∙ none in cc
 
     -- what the module at a place includes
-    pub included_at : (i : ℕ) (d : Source) → i < length ms → included_by ms (name_at ms i) ≡ includes (get_or ms i d).tree.items
+    pub included_at : (i : ℕ) (d : NamedModule) → i < length ms → included_by ms (name_at ms i) ≡ includes (get_or ms i d).tree.items
     included_at i d l =
         let r = one_named ms o i l in
-        ap (flat_map (λ (m : Source). includes m.tree.items)) r.2 ∙ append-nil (includes r.0.tree.items) ∙ ap (λ (m : Source). includes m.tree.items) (sym (r.1 d))
+        ap (flat_map (λ (m : NamedModule). includes m.tree.items)) r.2 ∙ append-nil (includes r.0.tree.items) ∙ ap (λ (m : NamedModule). includes m.tree.items) (sym (r.1 d))
 
     -- names rise with their numbers
     pub rise : (i j : ℕ) → i < j → j < length ms → text_cmp (name_at ms i) (name_at ms j) ≡ Less
-    rise i j h l = Less-from_sorted text_cmp (map (λ (m : Source). m.name) ms) i j [] o h (omega (arith, l, length-map ms (λ (m : Source). m.name)))
+    rise i j h l = Less-from_sorted text_cmp (map (λ (m : NamedModule). m.name) ms) i j [] o h (omega (arith, l, length-map ms (λ (m : NamedModule). m.name)))
 
     pub same_place : (i j : ℕ) → i < length ms → j < length ms → name_at ms i ≡ name_at ms j → i ≡ j
     same_place i j a b e = ⊎_elim (λ q. q) (⊎_elim
@@ -131,9 +131,9 @@ module _ (ms : List Source) where
       counted (suc depth) i l =
           ap (λ n. 1 + n) (sum_through (instances_of depth rows) (instances_within depth ms) (name_at ms) (row rows i) (λ j c. counted depth j (omega (arith, h.graph i j c, h.size))) ∙ ap (sum_by (instances_within depth ms)) (h.named i l))
 
-      pub total : (depth : ℕ) (ns : List ℕ) → AllBelow (length ms) ns → map (name_at ms) ns ≡ map (λ (m : Source). m.name) (roots ms)
-          → sum_by (instances_of depth rows) ns ≡ sum_by (λ (m : Source). instances_within depth ms m.name) (roots ms)
+      pub total : (depth : ℕ) (ns : List ℕ) → AllBelow (length ms) ns → map (name_at ms) ns ≡ map (λ (m : NamedModule). m.name) (roots ms)
+          → sum_by (instances_of depth rows) ns ≡ sum_by (λ (m : NamedModule). instances_within depth ms m.name) (roots ms)
       total depth ns b e =
           sum_through (instances_of depth rows) (instances_within depth ms) (name_at ms) ns (λ n c. counted depth n (b n c))
           ∙ ap (sum_by (instances_within depth ms)) e
-          ∙ sym (sum_through (λ (m : Source). instances_within depth ms m.name) (instances_within depth ms) (λ (m : Source). m.name) (roots ms) (λ m c. refl))
+          ∙ sym (sum_through (λ (m : NamedModule). instances_within depth ms m.name) (instances_within depth ms) (λ (m : NamedModule). m.name) (roots ms) (λ m c. refl))

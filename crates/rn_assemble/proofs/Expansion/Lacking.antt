@@ -13,7 +13,7 @@ use Rattle.rn_pattern.specs.References.{Reaches, by_one, by_more}
 use Rattle.rn_pattern.proofs.Ordered.InOrder.{contained_each, each_contained}
 use Rattle.rn_syntax.specs.Tree as t
 use Rattle.rn_syntax.specs.Tree.{Declaration, Item, Items}
-use Rattle.rn_assemble.specs.Components.{Key, Source, Includes, components_within, item_includes, includes, instance_limit, instances_within, modules_named, roots}
+use Rattle.rn_assemble.specs.Components.{Key, NamedModule, Includes, components_within, item_includes, includes, instance_limit, instances_within, modules_named, roots}
 use Rattle.rn_assemble.specs.inside.Contained.{AreFlat}
 use Rattle.rn_assemble.specs.inside.Expanded.{name_at}
 use Rattle.rn_assemble.specs.inside.Included.{AreIncluded}
@@ -43,16 +43,16 @@ module _ (u : Text) (ds : List Declaration) where
   handed_to : (xs : Items) (y : Text) → Contains (includes xs) y → (w : Text × Text) × Contains {X = Text × Text} (handed u ds xs) w × (w.0 ≡ y)
   handed_to xs y c = map_contained (λ (v : Text × Text). v.0) (handed u ds xs) y (subst (λ l. Contains l y) (sym (handed_names xs)) c)
 
-module _ (modules : List Source) (total : ℕ) where
+module _ (modules : List NamedModule) (total : ℕ) where
   -- the module lacks the key, where includes are followed so deep
   abbrev LacksAt : Text → Key → Type 0
-  LacksAt y k = (m : Source) × Contains (modules_named y modules) m × (items_lack (components_within total modules) [] m.tree.declarations m.tree.items k ≡ true)
+  LacksAt y k = (m : NamedModule) × Contains (modules_named y modules) m × (items_lack (components_within total modules) [] m.tree.declarations m.tree.items k ≡ true)
 
-  fewer : (depth : ℕ) (x : Text) (m : Source) (y : Text) → instances_within (suc depth) modules x ≤ suc depth → Contains (modules_named x modules) m → Contains (includes m.tree.items) y → instances_within depth modules y ≤ depth
+  fewer : (depth : ℕ) (x : Text) (m : NamedModule) (y : Text) → instances_within (suc depth) modules x ≤ suc depth → Contains (modules_named x modules) m → Contains (includes m.tree.items) y → instances_within depth modules y ≤ depth
   fewer depth x m y h c d =
-      contained_each (λ z. instances_within depth modules z ≤ depth) (wanted modules x) (few modules depth x h) y (flat_contains (λ (n : Source). includes n.tree.items) (modules_named x modules) m y c d)
+      contained_each (λ z. instances_within depth modules z ≤ depth) (wanted modules x) (few modules depth x h) y (flat_contains (λ (n : NamedModule). includes n.tree.items) (modules_named x modules) m y c d)
 
-  deep_enough : (depth : ℕ) (x u : Text) (m : Source) (k : Key) → suc depth ≤ total → instances_within (suc depth) modules x ≤ suc depth → Contains (modules_named x modules) m
+  deep_enough : (depth : ℕ) (x u : Text) (m : NamedModule) (k : Key) → suc depth ≤ total → instances_within (suc depth) modules x ≤ suc depth → Contains (modules_named x modules) m
       → items_lack (components_within depth modules) u m.tree.declarations m.tree.items k ≡ items_lack (components_within total modules) [] m.tree.declarations m.tree.items k
   deep_enough depth x u m k le h c =
       items_lack_same (components_within depth modules) (components_within total modules) u [] m.tree.declarations m.tree.items
@@ -79,21 +79,21 @@ module _ (modules : List Source) (total : ℕ) where
   along (suc depth) x y u k le h (by_one s) l = step depth x y y u k s h (λ f v. here depth y v k (omega (arith, le)) f l)
   along (suc depth) x y u k le h (by_more {b = b} s r) l = step depth x b y u k s h (λ f v. along depth b y v k (omega (arith, le)) f r l)
 
-module _ (modules : List Source) (limit : ℕ) (few_instances : ¬ (limit < sum_by (λ (m : Source). instances_within (suc limit) modules m.name) (roots modules))) where
-  root_few : (r : Source) → Contains (roots modules) r → instances_within (suc limit) modules r.name ≤ suc limit
+module _ (modules : List NamedModule) (limit : ℕ) (few_instances : ¬ (limit < sum_by (λ (m : NamedModule). instances_within (suc limit) modules m.name) (roots modules))) where
+  root_few : (r : NamedModule) → Contains (roots modules) r → instances_within (suc limit) modules r.name ≤ suc limit
   root_few r (i, l, e) =
-      let count : Source → ℕ = λ m. instances_within (suc limit) modules m.name in
+      let count : NamedModule → ℕ = λ m. instances_within (suc limit) modules m.name in
       omega (arith, get_or-le-sum_by count (roots modules) i r l, ap count e, lt_of_not-le few_instances)
 
-  module _ (numbers : List ℕ) (no_cycle : (x : Text) → ¬ Reaches (Includes modules) x x) (are : map (name_at modules) numbers ≡ map (λ (m : Source). m.name) (roots modules)) where
+  module _ (numbers : List ℕ) (no_cycle : (x : Text) → ¬ Reaches (Includes modules) x x) (are : map (name_at modules) numbers ≡ map (λ (m : NamedModule). m.name) (roots modules)) where
     from_roots : (y : Text) (k : Key) → (n : ℕ) × Contains numbers n × LacksWithin (suc limit) modules (name_at modules n) [] y k → LacksAt modules (suc limit) y k
     from_roots y k (n, c, l) =
-        let r = map_contained (λ (m : Source). m.name) (roots modules) (name_at modules n) (subst (λ xs. Contains xs (name_at modules n)) are (map_contains (name_at modules) numbers n c)) in
+        let r = map_contained (λ (m : NamedModule). m.name) (roots modules) (name_at modules n) (subst (λ xs. Contains xs (name_at modules n)) are (map_contains (name_at modules) numbers n c)) in
         lacked modules (suc limit) (suc limit) (name_at modules n) [] y k (omega arith) (subst (λ x. instances_within (suc limit) modules x ≤ suc limit) r.2 (root_few r.0 r.1)) l
 
     from_root : (y : Text) (k : Key) → IsRooted modules y → LacksAt modules (suc limit) y k → (n : ℕ) × Contains numbers n × LacksWithin (suc limit) modules (name_at modules n) [] y k
     from_root y k (r, c, p) l =
-        let n = map_contained (name_at modules) numbers r.name (subst (λ xs. Contains xs r.name) (sym are) (map_contains (λ (m : Source). m.name) (roots modules) r c)) in
+        let n = map_contained (name_at modules) numbers r.name (subst (λ xs. Contains xs r.name) (sym are) (map_contains (λ (m : NamedModule). m.name) (roots modules) r c)) in
         let below : LacksWithin (suc limit) modules r.name [] y k = ⊎_elim
         (λ e. subst (λ x. LacksWithin (suc limit) modules x [] y k) (sym e) (here modules (suc limit) (suc limit) y [] k (omega arith) (subst (λ x. instances_within (suc limit) modules x ≤ suc limit) e (root_few r c)) l))
         (λ q. along modules (suc limit) (suc limit) r.name y [] k (omega arith) (root_few r c) q l) p in
@@ -101,7 +101,7 @@ module _ (modules : List Source) (limit : ℕ) (few_instances : ¬ (limit < sum_
 
     to_roots : (y : Text) (k : Key) → LacksAt modules (suc limit) y k → (n : ℕ) × Contains numbers n × LacksWithin (suc limit) modules (name_at modules n) [] y k
     to_roots y k (m, c, l) =
-        let there = kept (λ (n : Source). bytes_eq y n.name) modules m c in
+        let there = kept (λ (n : NamedModule). bytes_eq y n.name) modules m c in
         let same : m.name ≡ y = sym ((bytes_eq-Decides y m.name).0 there.1) in
         from_root y k (subst (IsRooted modules) same (rooted modules no_cycle m there.0)) (m, c, l)
 
@@ -109,6 +109,6 @@ module _ (modules : List Source) (limit : ℕ) (few_instances : ¬ (limit < sum_
     lacks_either_way y k = (from_roots y k, to_roots y k)
 
 -- what the instances of the roots lack, the modules lack
-pub lacks_alike : (modules : List Source) (numbers : List ℕ) → IsStrictlySortedBy text_cmp (map (λ (m : Source). m.name) modules)
-    → AllByRecursion (λ (m : Source). AreFlat m.tree.items) modules → AreIncluded modules numbers → (y : Text) (k : Key) → LacksFrom modules numbers y k ↔ Lacks modules y k
+pub lacks_alike : (modules : List NamedModule) (numbers : List ℕ) → IsStrictlySortedBy text_cmp (map (λ (m : NamedModule). m.name) modules)
+    → AllByRecursion (λ (m : NamedModule). AreFlat m.tree.items) modules → AreIncluded modules numbers → (y : Text) (k : Key) → LacksFrom modules numbers y k ↔ Lacks modules y k
 lacks_alike modules numbers sorted flat a y k = lacks_either_way modules instance_limit a.few numbers a.no_cycle a.are y k

@@ -8,58 +8,58 @@ use Rattle.std.proofs.lemmas.List.Elements.{All-from_recursion}
 use Rattle.std.proofs.lemmas.Slice.Eq.{bytes_eq-Decides}
 use Rattle.rn_pattern.specs.Tree.{Text}
 use Rattle.rn_pattern.specs.Order.{text_cmp}
-use Rattle.rn_assemble.specs.Components.{Source, components_within, module_components, modules_named}
+use Rattle.rn_assemble.specs.Components.{NamedModule, components_within, module_components, modules_named}
 use Rattle.rn_assemble.specs.inside.Contained.{AreFlat, place_in}
 use Rattle.rn_assemble.specs.inside.Expanded.{included_in, name_at}
 use Rattle.rn_assemble.proofs.Expansion.ModulePlaces.{differs}
 
 -- a place that is found, or none
-none_named_at : (b : Bool) (w : Text) (n : ℕ) (m : Source) (ms : List Source) → bytes_eq w m.name ≡ b → (position_from (λ (k : Source). bytes_eq w k.name) (n + 1) ms ≡ None → modules_named w ms ≡ []) → cond b (Some n) (position_from (λ (k : Source). bytes_eq w k.name) (n + 1) ms) ≡ None → cond b (m ∷ modules_named w ms) (modules_named w ms) ≡ []
+none_named_at : (b : Bool) (w : Text) (n : ℕ) (m : NamedModule) (ms : List NamedModule) → bytes_eq w m.name ≡ b → (position_from (λ (k : NamedModule). bytes_eq w k.name) (n + 1) ms ≡ None → modules_named w ms ≡ []) → cond b (Some n) (position_from (λ (k : NamedModule). bytes_eq w k.name) (n + 1) ms) ≡ None → cond b (m ∷ modules_named w ms) (modules_named w ms) ≡ []
 none_named_at true w n m ms e ih h = cc
 none_named_at false w n m ms e ih h = ih h
 
-pub none_named : (w : Text) (n : ℕ) (ms : List Source) → position_from (λ (k : Source). bytes_eq w k.name) n ms ≡ None → modules_named w ms ≡ []
+pub none_named : (w : Text) (n : ℕ) (ms : List NamedModule) → position_from (λ (k : NamedModule). bytes_eq w k.name) n ms ≡ None → modules_named w ms ≡ []
 none_named w n [] h = refl
 none_named w n (m ∷ ms) h = none_named_at (bytes_eq w m.name) w n m ms refl (none_named w (n + 1) ms) h
 
-found_at : (b : Bool) (w : Text) (n k : ℕ) (m : Source) (ms : List Source) → bytes_eq w m.name ≡ b → (position_from (λ (j : Source). bytes_eq w j.name) (n + 1) ms ≡ Some k → (i : ℕ) × (k ≡ n + 1 + i) × (i < length ms) × (name_at ms i ≡ w))
-    → cond b (Some n) (position_from (λ (j : Source). bytes_eq w j.name) (n + 1) ms) ≡ Some k → (i : ℕ) × (k ≡ n + i) × (i < length (m ∷ ms)) × (name_at (m ∷ ms) i ≡ w)
+found_at : (b : Bool) (w : Text) (n k : ℕ) (m : NamedModule) (ms : List NamedModule) → bytes_eq w m.name ≡ b → (position_from (λ (j : NamedModule). bytes_eq w j.name) (n + 1) ms ≡ Some k → (i : ℕ) × (k ≡ n + 1 + i) × (i < length ms) × (name_at ms i ≡ w))
+    → cond b (Some n) (position_from (λ (j : NamedModule). bytes_eq w j.name) (n + 1) ms) ≡ Some k → (i : ℕ) × (k ≡ n + i) × (i < length (m ∷ ms)) × (name_at (m ∷ ms) i ≡ w)
 found_at true w n k m ms e ih h = (0, (let same : n ≡ k = cc in omega (arith, same)), omega arith, sym ((bytes_eq-Decides w m.name).0 e))
 found_at false w n k m ms e ih h = let r = ih h in (suc r.0, omega (arith, r.1), omega (arith, r.2), r.3)
 
-found_named : (w : Text) (n k : ℕ) (ms : List Source) → position_from (λ (j : Source). bytes_eq w j.name) n ms ≡ Some k → (i : ℕ) × (k ≡ n + i) × (i < length ms) × (name_at ms i ≡ w)
+found_named : (w : Text) (n k : ℕ) (ms : List NamedModule) → position_from (λ (j : NamedModule). bytes_eq w j.name) n ms ≡ Some k → (i : ℕ) × (k ≡ n + i) × (i < length ms) × (name_at ms i ≡ w)
 found_named w n k [] h = cc
 found_named w n k (m ∷ ms) h = found_at (bytes_eq w m.name) w n k m ms refl (found_named w (n + 1) k ms) h
 
-pub place_within : (w : Text) (k : ℕ) (ms : List Source) → place_in ms w ≡ Some k → k < length ms
+pub place_within : (w : Text) (k : ℕ) (ms : List NamedModule) → place_in ms w ≡ Some k → k < length ms
 place_within w k ms h = let r = found_named w 0 k ms h in omega (arith, r.1, r.2)
 
-pub place_name : (w : Text) (k : ℕ) (ms : List Source) → place_in ms w ≡ Some k → name_at ms k ≡ w
+pub place_name : (w : Text) (k : ℕ) (ms : List NamedModule) → place_in ms w ≡ Some k → name_at ms k ≡ w
 place_name w k ms h = let r = found_named w 0 k ms h in let e : k ≡ r.0 = omega (arith, r.1) in ap (name_at ms) e ∙ r.3
 
-nothing_there : (depth : ℕ) (ms : List Source) (w v : Text) → modules_named w ms ≡ [] → [] ≡ components_within depth ms w v
+nothing_there : (depth : ℕ) (ms : List NamedModule) (w v : Text) → modules_named w ms ≡ [] → [] ≡ components_within depth ms w v
 nothing_there zero ms w v e = refl
-nothing_there (suc depth) ms w v e = sym (ap (flat_map (λ (m : Source). module_components (components_within depth ms) v m.tree)) e)
+nothing_there (suc depth) ms w v e = sym (ap (flat_map (λ (m : NamedModule). module_components (components_within depth ms) v m.tree)) e)
 
-agree_at : (depth : ℕ) (ms : List Source) (w v : Text) (o : Option ℕ) → place_in ms w ≡ o → included_in depth ms o v ≡ components_within depth ms w v
+agree_at : (depth : ℕ) (ms : List NamedModule) (w v : Text) (o : Option ℕ) → place_in ms w ≡ o → included_in depth ms o v ≡ components_within depth ms w v
 agree_at depth ms w v None e = nothing_there depth ms w v (none_named w 0 ms e)
 agree_at depth ms w v (Some k) e = ap (λ x. components_within depth ms x v) (place_name w k ms e)
 
-pub included_agrees : (depth : ℕ) (ms : List Source) (w v : Text) → included_in depth ms (place_in ms w) v ≡ components_within depth ms w v
+pub included_agrees : (depth : ℕ) (ms : List NamedModule) (w v : Text) → included_in depth ms (place_in ms w) v ≡ components_within depth ms w v
 included_agrees depth ms w v = agree_at depth ms w v (place_in ms w) refl
 
 -- the one module of a name
-all_other : (x : Text) (ms : List Source) → AllByRecursion (λ y. text_cmp x y ≡ Less) (map (λ (m : Source). m.name) ms) → modules_named x ms ≡ []
+all_other : (x : Text) (ms : List NamedModule) → AllByRecursion (λ y. text_cmp x y ≡ Less) (map (λ (m : NamedModule). m.name) ms) → modules_named x ms ≡ []
 all_other x [] h = refl
 all_other x (m ∷ ms) h = ap (λ b. cond b (m ∷ modules_named x ms) (modules_named x ms)) (differs x m.name (λ e. let t : Less ≡ Equal = sym h.0 ∙ ap (text_cmp x) (sym e) ∙ tied_itself nat_list_cmp_total x in cc)) ∙ all_other x ms h.1
 
-less_at : (x : Text) (ms : List Source) (i : ℕ) → AllByRecursion (λ y. text_cmp x y ≡ Less) (map (λ (m : Source). m.name) ms) → i < length ms → text_cmp x (name_at ms i) ≡ Less
+less_at : (x : Text) (ms : List NamedModule) (i : ℕ) → AllByRecursion (λ y. text_cmp x y ≡ Less) (map (λ (m : NamedModule). m.name) ms) → i < length ms → text_cmp x (name_at ms i) ≡ Less
 less_at x [] i h l = absurd (omega (arith, l))
 less_at x (m ∷ ms) zero h l = h.0
 less_at x (m ∷ ms) (suc i) h l = less_at x ms i h.1 (omega (arith, l))
 
 -- the module at a place, the one of its name
-pub one_named : (ms : List Source) → IsStrictlySortedBy text_cmp (map (λ (m : Source). m.name) ms) → (i : ℕ) → i < length ms → (m : Source) × ((d : Source) → get_or ms i d ≡ m) × (modules_named (name_at ms i) ms ≡ m ∷ [])
+pub one_named : (ms : List NamedModule) → IsStrictlySortedBy text_cmp (map (λ (m : NamedModule). m.name) ms) → (i : ℕ) → i < length ms → (m : NamedModule) × ((d : NamedModule) → get_or ms i d ≡ m) × (modules_named (name_at ms i) ms ≡ m ∷ [])
 unfolding IsStrictlySortedBy
 one_named [] o i l = absurd (omega (arith, l))
 one_named (m ∷ ms) o zero l = (m, λ d. refl, ap (λ b. cond b (m ∷ modules_named m.name ms) (modules_named m.name ms)) ((bytes_eq-Decides m.name m.name).1 refl) ∙ ap (λ l. m ∷ l) (all_other m.name ms o.0))
@@ -69,22 +69,22 @@ one_named (m ∷ ms) o (suc i) l =
     let above = less_at m.name ms i o.0 (omega (arith, l)) in
     (r.0, r.1, ap (λ b. cond b (m ∷ modules_named x ms) (modules_named x ms)) (differs x m.name (λ e. let t : Less ≡ Equal = sym above ∙ ap (text_cmp m.name) e ∙ tied_itself nat_list_cmp_total m.name in cc)) ∙ r.2)
 
-zip_at : {C : Type 0} (R : Source → C → Type 0) (ms : List Source) (cs : List C) → AllZip R ms cs → (i : ℕ) → i < length ms → (d : Source) (e : C) → R (get_or ms i d) (get_or cs i e)
+zip_at : {C : Type 0} (R : NamedModule → C → Type 0) (ms : List NamedModule) (cs : List C) → AllZip R ms cs → (i : ℕ) → i < length ms → (d : NamedModule) (e : C) → R (get_or ms i d) (get_or cs i e)
 zip_at R [] cs z i l d e = absurd (omega (arith, l))
 zip_at R (m ∷ ms) [] z i l d e = absurd z
 zip_at R (m ∷ ms) (c ∷ cs) z zero l d e = z.0
 zip_at R (m ∷ ms) (c ∷ cs) z (suc i) l d e = zip_at R ms cs z.1 i (omega (arith, l)) d e
 
 -- R holds of the module at a place and what stands there
-pub module_at : {C : Type 0} (R : Source → C → Type 0) (ms : List Source) (cs : List C) → IsStrictlySortedBy text_cmp (map (λ (m : Source). m.name) ms) → AllZip R ms cs → AllByRecursion (λ (m : Source). AreFlat m.tree.items) ms → (i : ℕ) → i < length ms
-    → (m : Source) × ((c : C) → R m (get_or cs i c)) × (modules_named (name_at ms i) ms ≡ m ∷ []) × AreFlat m.tree.items
+pub module_at : {C : Type 0} (R : NamedModule → C → Type 0) (ms : List NamedModule) (cs : List C) → IsStrictlySortedBy text_cmp (map (λ (m : NamedModule). m.name) ms) → AllZip R ms cs → AllByRecursion (λ (m : NamedModule). AreFlat m.tree.items) ms → (i : ℕ) → i < length ms
+    → (m : NamedModule) × ((c : C) → R m (get_or cs i c)) × (modules_named (name_at ms i) ms ≡ m ∷ []) × AreFlat m.tree.items
 module_at R ms cs o z f i l =
     let r = one_named ms o i l in (
       r.0,
       λ c. subst (λ m. R m (get_or cs i c)) (r.1 r.0) (zip_at R ms cs z i l r.0 c),
       r.2,
-      subst (λ (m : Source). AreFlat m.tree.items) (r.1 r.0) (All-from_recursion (λ (m : Source). AreFlat m.tree.items) ms f i r.0 l),
+      subst (λ (m : NamedModule). AreFlat m.tree.items) (r.1 r.0) (All-from_recursion (λ (m : NamedModule). AreFlat m.tree.items) ms f i r.0 l),
     )
 
-pub expanded_is : (depth : ℕ) (ms : List Source) (i : ℕ) (u : Text) (m : Source) → modules_named (name_at ms i) ms ≡ m ∷ [] → components_within (suc depth) ms (name_at ms i) u ≡ module_components (components_within depth ms) u m.tree
-expanded_is depth ms i u m e = ap (flat_map (λ (k : Source). module_components (components_within depth ms) u k.tree)) e ∙ append-nil (module_components (components_within depth ms) u m.tree)
+pub expanded_is : (depth : ℕ) (ms : List NamedModule) (i : ℕ) (u : Text) (m : NamedModule) → modules_named (name_at ms i) ms ≡ m ∷ [] → components_within (suc depth) ms (name_at ms i) u ≡ module_components (components_within depth ms) u m.tree
+expanded_is depth ms i u m e = ap (flat_map (λ (k : NamedModule). module_components (components_within depth ms) u k.tree)) e ∙ append-nil (module_components (components_within depth ms) u m.tree)

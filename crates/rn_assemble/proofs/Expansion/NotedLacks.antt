@@ -6,7 +6,7 @@ use Rattle.std.proofs.lemmas.List.Elements.{Contains-append_left, Contains-push,
 use Rattle.rn_pattern.specs.Tree.{Text}
 use Rattle.rn_pattern.specs.Order.{text_cmp}
 use Rattle.rn_assemble.specs.declared.components.Lack.{Lack}
-use Rattle.rn_assemble.specs.Components.{Key, Source}
+use Rattle.rn_assemble.specs.Components.{Key, NamedModule}
 use Rattle.rn_assemble.specs.inside.Expanded.{name_at}
 use Rattle.rn_assemble.specs.inside.Keyed.{key_at}
 use Rattle.rn_assemble.specs.inside.Lacking.{IsLeastLack}
@@ -65,7 +65,7 @@ notes_new o l f = record { one = λ m e. let same : m ≡ l = cc in inr same; st
 abbrev pub SomeLacks : {X : Type 0} → (X → Text → Key → Type 0) → List X → Text → Key → Type 0
 SomeLacks {X} P xs y k = (x : X) × Contains xs x × P x y k
 
-module _ {X : Type 0} (modules : List Source) (names : List Text) (P : X → Text → Key → Type 0) where
+module _ {X : Type 0} (modules : List NamedModule) (names : List Text) (P : X → Text → Key → Type 0) where
   abbrev Some_at : List X → Lack → Type 0
   Some_at xs = AtNumbers modules names (SomeLacks P xs)
 
@@ -93,17 +93,17 @@ key_before a b (inl h) e k = omega (arith, h, e)
 key_before a b (inr h) e k = omega (arith, h.1, k)
 
 -- the name of one of the modules, and the key of one of the numbers
-abbrev pub IsModuleName : List Source → Text → Type 0
+abbrev pub IsModuleName : List NamedModule → Text → Type 0
 IsModuleName modules y = (i : ℕ) × (i < length modules) × (y ≡ name_at modules i)
 
 abbrev pub IsKeyNumber : List Text → Key → Type 0
 IsKeyNumber names k = (n : ℕ) × (n < suc (length names)) × (k ≡ key_at names n)
 
-module _ (modules : List Source) (names : List Text) (mo : IsStrictlySortedBy text_cmp (map (λ (m : Source). m.name) modules)) (no : IsStrictlySortedBy text_cmp names) where
+module _ (modules : List NamedModule) (names : List Text) (mo : IsStrictlySortedBy text_cmp (map (λ (m : NamedModule). m.name) modules)) (no : IsStrictlySortedBy text_cmp names) where
   less_place : (i j : ℕ) → i < length modules → j < length modules → text_cmp (name_at modules i) (name_at modules j) ≡ Less → i < j
   less_place i j h k e =
-      let size = length-map modules (λ (m : Source). m.name) in
-      let less : suc i < suc j = less_number (map (λ (m : Source). m.name) modules) mo (suc i) (suc j) (omega (arith, h, size)) (omega (arith, k, size)) e in
+      let size = length-map modules (λ (m : NamedModule). m.name) in
+      let less : suc i < suc j = less_number (map (λ (m : NamedModule). m.name) modules) mo (suc i) (suc j) (omega (arith, h, size)) (omega (arith, k, size)) e in
       omega (arith, less)
 
   module _ (P : Text → Key → Type 0) (is_module : (y : Text) (k : Key) → P y k → IsModuleName modules y) (is_key : (y : Text) (k : Key) → P y k → IsKeyNumber names k) where

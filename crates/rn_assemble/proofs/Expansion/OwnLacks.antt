@@ -16,7 +16,7 @@ use Rattle.rn_syntax.specs.Tree.{Declaration}
 use Rattle.rn_assemble.specs.declared.components.Body.{Body}
 use Rattle.rn_assemble.specs.declared.components.Lack.{Lack}
 use Rattle.rn_assemble.specs.declared.contents.Component as code
-use Rattle.rn_assemble.specs.Components.{Component, Source, handed_on, has_key}
+use Rattle.rn_assemble.specs.Components.{Component, NamedModule, handed_on, has_key}
 use Rattle.rn_assemble.specs.Combine.{of_key}
 use Rattle.rn_assemble.specs.inside.Contained.{Inclusion}
 use Rattle.rn_assemble.specs.inside.Expanded.{included_in, name_at}
@@ -152,14 +152,14 @@ key_within names n own h e =
     let same : n ≡ a.1.key = eqb-true n a.1.key a.4 in
     omega (arith, below, same)
 
-same_place : (modules : List Source) → IsStrictlySortedBy text_cmp (map (λ (m : Source). m.name) modules) → (i j : ℕ) → i < length modules → j < length modules → name_at modules i ≡ name_at modules j → i ≡ j
+same_place : (modules : List NamedModule) → IsStrictlySortedBy text_cmp (map (λ (m : NamedModule). m.name) modules) → (i j : ℕ) → i < length modules → j < length modules → name_at modules i ≡ name_at modules j → i ≡ j
 same_place modules o i j h k e = elim (cases_eq i j) [
   | inl same ↦ same
-  | inr other ↦ let size = length-map modules (λ (m : Source). m.name) in absurd (apart_both (map (λ (m : Source). m.name) modules) o i j other (omega (arith, h, size)) (omega (arith, k, size)) e)
+  | inr other ↦ let size = length-map modules (λ (m : NamedModule). m.name) in absurd (apart_both (map (λ (m : NamedModule). m.name) modules) o i j other (omega (arith, h, size)) (omega (arith, k, size)) e)
 ]
 
 -- an include's own lacks by names, and all that the include brings
-module _ (modules : List Source) (names : List Text) (mo : IsStrictlySortedBy text_cmp (map (λ (m : Source). m.name) modules)) (no : IsStrictlySortedBy text_cmp names) (number : ℕ) (within : number < length modules)
+module _ (modules : List NamedModule) (names : List Text) (mo : IsStrictlySortedBy text_cmp (map (λ (m : NamedModule). m.name) modules)) (no : IsStrictlySortedBy text_cmp names) (number : ℕ) (within : number < length modules)
     (depth : ℕ) (u : Text) (ds : List Declaration) (cs : List code.Component) (numbered : AllByRecursion (IsNumbered names) cs) (i : Inclusion) where
   abbrev own : List code.Component
   own = slice_range cs i.first i.end

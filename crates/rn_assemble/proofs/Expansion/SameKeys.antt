@@ -9,7 +9,7 @@ use Rattle.rn_pattern.proofs.Ordered.Ascending.{each_front, each_behind}
 use Rattle.rn_pattern.proofs.Ordered.InOrder.{each_contained}
 use Rattle.rn_syntax.specs.Tree as t
 use Rattle.rn_syntax.specs.Tree.{Declaration, Item, Items}
-use Rattle.rn_assemble.specs.Components.{Key, Component, Source, same_key, has_key, overridden, handed_on, item_components, all_components, module_components, item_includes, includes, modules_named, components_within, instances_within}
+use Rattle.rn_assemble.specs.Components.{Key, Component, NamedModule, same_key, has_key, overridden, handed_on, item_components, all_components, module_components, item_includes, includes, modules_named, components_within, instances_within}
 use Rattle.rn_assemble.specs.Refusal.{item_lacks, items_lack}
 use Rattle.rn_assemble.proofs.Combined.Depth.{components_enough, wanted}
 use Rattle.rn_assemble.proofs.Referring.Numbers.{same_key-Decides}
@@ -70,20 +70,20 @@ module _ (f g : Text → Text → List Component) where
           let rest = items_lack_same xs (each_behind HaveSameKeys (item_includes x) (includes xs) a) k in
           λ i. first i || rest i
 
-  sources_keys : (u v : Text) (ms : List Source) → AllByRecursion HaveSameKeys (flat_map (λ (m : Source). includes m.tree.items) ms) → (k : Key)
-      → has_key k (flat_map (λ (m : Source). module_components f u m.tree) ms) ≡ has_key k (flat_map (λ (m : Source). module_components g v m.tree) ms)
-  sources_keys u v [] a k = refl
-  sources_keys u v (m ∷ ms) a k =
-      let more = flat_map (λ (n : Source). includes n.tree.items) ms in
-      keys_joined k (module_components f u m.tree) (flat_map (λ (n : Source). module_components f u n.tree) ms) (module_components g v m.tree) (flat_map (λ (n : Source). module_components g v n.tree) ms)
-      (items_keys u v m.tree.declarations m.tree.items (each_front HaveSameKeys (includes m.tree.items) more a) k) (sources_keys u v ms (each_behind HaveSameKeys (includes m.tree.items) more a) k)
+  modules_keys : (u v : Text) (ms : List NamedModule) → AllByRecursion HaveSameKeys (flat_map (λ (m : NamedModule). includes m.tree.items) ms) → (k : Key)
+      → has_key k (flat_map (λ (m : NamedModule). module_components f u m.tree) ms) ≡ has_key k (flat_map (λ (m : NamedModule). module_components g v m.tree) ms)
+  modules_keys u v [] a k = refl
+  modules_keys u v (m ∷ ms) a k =
+      let more = flat_map (λ (n : NamedModule). includes n.tree.items) ms in
+      keys_joined k (module_components f u m.tree) (flat_map (λ (n : NamedModule). module_components f u n.tree) ms) (module_components g v m.tree) (flat_map (λ (n : NamedModule). module_components g v n.tree) ms)
+      (items_keys u v m.tree.declarations m.tree.items (each_front HaveSameKeys (includes m.tree.items) more a) k) (modules_keys u v ms (each_behind HaveSameKeys (includes m.tree.items) more a) k)
 
-module _ (modules : List Source) where
+module _ (modules : List NamedModule) where
   keys_anywhere : (depth : ℕ) (x : Text) → HaveSameKeys (components_within depth modules) (components_within depth modules) x
   keys_anywhere zero x u v k = refl
   keys_anywhere (suc depth) x u v k =
       let all : (y : Text) → HaveSameKeys (components_within depth modules) (components_within depth modules) y = keys_anywhere depth in
-      sources_keys (components_within depth modules) (components_within depth modules) u v (modules_named x modules) (each_contained (HaveSameKeys (components_within depth modules) (components_within depth modules)) (wanted modules x) (λ y c. all y)) k
+      modules_keys (components_within depth modules) (components_within depth modules) u v (modules_named x modules) (each_contained (HaveSameKeys (components_within depth modules) (components_within depth modules)) (wanted modules x) (λ y c. all y)) k
 
   -- the same at any depth from the number of a module's instances on
   pub keys_enough : (total depth : ℕ) (x : Text) → depth ≤ total → instances_within depth modules x ≤ depth → HaveSameKeys (components_within depth modules) (components_within total modules) x

@@ -5,7 +5,7 @@ use Rattle.std.proofs.lemmas.List.{map-append, length-append, take_rest, drop_at
 use Rattle.rn_pattern.specs.Tree.{Text}
 use Rattle.rn_syntax.specs.Tree as t
 use Rattle.rn_syntax.specs.Tree.{Declaration, Item, Items}
-use Rattle.rn_assemble.specs.Components.{Component, Source, all_components, item_components, item_includes, includes, overridden, handed_on}
+use Rattle.rn_assemble.specs.Components.{Component, NamedModule, all_components, item_components, item_includes, includes, overridden, handed_on}
 use Rattle.rn_assemble.specs.inside.Contained.{AreFlat, IsFlat, Inclusion, Written, inclusions, item_inclusions, item_written, place_in, written}
 use Rattle.rn_assemble.specs.inside.Listed.{resolved_component}
 
@@ -69,7 +69,7 @@ module _ (at : Option ℕ → Text → List Component) (u : Text) (ds : List Dec
   spliced ws [] n = map (resolved_component u ds) (slice_range ws n (length ws))
   spliced ws (i ∷ is) n = map (resolved_component u ds) (slice_range ws n i.first) ++ (overridden (at i.module_at (handed_on u ds i.inherit)) (map (resolved_component u ds) (slice_range ws i.first i.end)) ++ spliced ws is i.first)
 
-module _ (modules : List Source) where
+module _ (modules : List NamedModule) where
   -- where there is no include
   mutual
     item_none : (n : ℕ) (x : Item) → item_includes x ≡ [] → item_inclusions modules n x ≡ []

@@ -15,13 +15,13 @@ use Rattle.rn_pattern.proofs.Ordered.InOrder.{contains_behind, contains_cases, c
 use Rattle.rn_pattern.proofs.Graphs.Rows.{none_below}
 use Rattle.rn_syntax.specs.Tree as t
 use Rattle.rn_syntax.specs.Tree.{Item, Items}
-use Rattle.rn_assemble.specs.Components.{Source, includes, item_includes}
+use Rattle.rn_assemble.specs.Components.{NamedModule, includes, item_includes}
 use Rattle.rn_assemble.specs.inside.Contained.{place_in}
 use Rattle.rn_assemble.specs.inside.Expanded.{name_at}
 use Rattle.rn_assemble.specs.inside.Inclusions.{IsLeastAmong, IsMissing}
 use Rattle.rn_assemble.specs.inside.Referred.{lesser_text}
-use Rattle.rn_assemble.specs.inside.Views.{module_names, sources_view, texts_of}
-use Rattle.rn_assemble.specs.declared.modules.Source as code
+use Rattle.rn_assemble.specs.inside.Views.{module_names, modules_view, texts_of}
+use Rattle.rn_assemble.specs.declared.modules.NamedModule as code
 use Rattle.rn_assemble.proofs.Referring.LeastUndefined.{no_text, texts_more}
 use Rattle.rn_assemble.proofs.Expansion.Inclusions.{not_missing}
 use Rattle.rn_assemble.proofs.Expansion.ModuleLookups.{none_named, place_name, place_within}
@@ -75,7 +75,7 @@ module _ (P : Text → Type 0) where
 
 -- ---- the numbers of modules
 
-module _ (ms : List Source) where
+module _ (ms : List NamedModule) where
   abbrev pub numbers : List Text → List ℕ
   numbers xs = filter_map (place_in ms) xs
 
@@ -116,14 +116,14 @@ module _ (ms : List Source) where
   missing_where x None e s = no_place x (sym e)
   missing_where x (Some k) e s = absurd (false≢true (sym s))
 
-  pub there_where : IsStrictlySortedBy text_cmp (map (λ (m : Source). m.name) ms) → (x : Text) (o : Option ℕ) → o ≡ place_in ms x → is_some o ≡ true → ¬ IsMissing ms x
+  pub there_where : IsStrictlySortedBy text_cmp (map (λ (m : NamedModule). m.name) ms) → (x : Text) (o : Option ℕ) → o ≡ place_in ms x → is_some o ≡ true → ¬ IsMissing ms x
   there_where order x None e s = absurd (false≢true s)
   there_where order x (Some k) e s = not_missing ms order k x (place_within x k ms (sym e)) (place_name x k ms (sym e))
 
 -- names in the order of modules
-pub names_seen : (xs : List code.Source) → map (λ (m : Source). m.name) (sources_view xs) ≡ module_names xs
+pub names_seen : (xs : List code.NamedModule) → map (λ (m : NamedModule). m.name) (modules_view xs) ≡ module_names xs
 names_seen [] = refl
 names_seen (x ∷ xs) = ap (λ l. x.name.now ∷ l) (names_seen xs)
 
-pub names_rise : (xs : List code.Source) → IsStrictlySortedBy text_cmp (module_names xs) → IsStrictlySortedBy text_cmp (map (λ (m : Source). m.name) (sources_view xs))
+pub names_rise : (xs : List code.NamedModule) → IsStrictlySortedBy text_cmp (module_names xs) → IsStrictlySortedBy text_cmp (map (λ (m : NamedModule). m.name) (modules_view xs))
 names_rise xs h = subst (IsStrictlySortedBy text_cmp) (sym (names_seen xs)) h

@@ -1,14 +1,8 @@
 -- Lists of patterns and name classes, resolved one after the other.
 use Rattle.std.proofs.Common.{◌≡◌, ℕ, ◌+◌, ◌<◌, List, [], ◌∷◌, ◌++◌, length, get_or, take, map, refl, sym, ap, ◌∙◌}
 use Rattle.std.proofs.lemmas.List.{take_more, map-append}
-use Rattle.std.specs.Prelude.{Box, String, string_bytes, Vec}
+use Rattle.std.specs.Prelude.{Box, Vec}
 use Rattle.std.specs.declared.alloc.Global.{Global}
-use Rattle.rn_pattern.specs.Tree as tree
-use Rattle.rn_pattern.specs.View.{pattern_step as code_step, pattern_view as code_view}
-use Rattle.rn_pattern.specs.declared.tree.Pattern.{fold-roll-Pattern}
-use Rattle.rn_pattern.specs.declared.tree.Pattern.TheOpen.{Pattern-F}
-use Rattle.rn_pattern.specs.declared.tree.Pattern.TheVariants.{rolls-Value}
-use Rattle.rn_pattern.specs.declared.tree.Pattern.TheVariants as made
 use Rattle.rn_pattern.specs.Tree.{Text, more_names, more_trees, name_trees_of, trees_of}
 use Rattle.rn_syntax.specs.Tree.{Declaration}
 use Rattle.rn_syntax.specs.View.{class_view, classes_view, pattern_step, pattern_view, patterns_view}
@@ -38,9 +32,6 @@ patterns_resolved inherited ds [] = refl
 patterns_resolved inherited ds (p ∷ ps) = ap (more_trees (resolved inherited ds (pattern_view p))) (patterns_resolved inherited ds ps)
 
 -- trees of single nodes
-pub value_seen : (l x s : String Global) → code_view (made.Value l x s) ≡ tree.value (string_bytes l) (string_bytes x) (string_bytes s)
-value_seen l x s = ap code_view (sym (rolls-Value l x s)) ∙ fold-roll-Pattern tree.Tree code_step (Pattern-F.Value l x s)
-
 pub repeated_seen : (r : Postfix) (p : Box Pat Global) → pattern_view (written.Repeated r p) ≡ t.repeated r (pattern_view p.value)
 repeated_seen r p = ap pattern_view (sym (rolls-Repeated r p)) ∙ fold-roll-Pat t.Pattern pattern_step (Pat-F.Repeated r p)
 

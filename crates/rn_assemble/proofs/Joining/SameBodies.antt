@@ -1,5 +1,6 @@
 -- A body stands for one component, whichever declarations its bindings stand for.
 use Rattle.std.proofs.Common.{◌≡◌, ℕ, cond, List, [], Option, Some, None, refl, sym, ap, ◌∙◌}
+use Rattle.std.specs.Rc.{rc_str_bytes}
 use Rattle.std.specs.Prelude.{if◌then◌else◌, codes, unwrap_or, bytes_eq}
 use Rattle.std.specs.Option.{option_map_or}
 use Rattle.rn_pattern.specs.Opened.{pair}
@@ -104,5 +105,5 @@ module _ (inherited : Text) (b : Bindings) (ds es : List Declaration) (h : Binds
 pub one_body : (names : List Text) (b : Body) (key other : ℕ) (c d : Component) → IsBody names b key c → IsBody names b other d → c.body ≡ d.body
 one_body names b key other c d h k =
     ap (λ (e : Component). e.body) h.shown.2
-    ∙ same_pattern b.scope.inherited.now b.scope.bindings.now h.shown.0 k.shown.0 h.shown.1 k.shown.1 (pattern_view b.component.body.now)
+    ∙ same_pattern (rc_str_bytes b.context.inherited.now) b.context.bindings.now h.shown.0 k.shown.0 h.shown.1 k.shown.1 (pattern_view b.component.body.now)
     ∙ sym (ap (λ (e : Component). e.body) k.shown.2)

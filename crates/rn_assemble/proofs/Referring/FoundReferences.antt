@@ -1,5 +1,6 @@
 -- The references of keys, by the names that their bodies refer to.
 use Rattle.std.proofs.Common.{◌≡◌, ⊎_elim, ℕ, zero, suc, ◌<◌, Bool, true, false, cond, List, [], ◌∷◌, ◌++◌, length, get_or, map, flat_map, filter, Option, Some, None, refl, sym, ap, ◌∙◌, subst, arith, Contains, eqb}
+use Rattle.std.specs.Rc.{rc_str_bytes}
 use Rattle.std.specs.Prelude.{◌↔◌, Decides, IsSome, slice_get}
 use Rattle.std.specs.List.{AllByRecursion}
 use Rattle.std.specs.List.Sorted.{IsStrictlySortedBy}
@@ -146,7 +147,7 @@ module _ (names : List Text) (bs : List Body) (list : List ℕ) where
       body_refers e s y =
           let n = at_number s.number s.body y s.is in
           let ds = s.made.shown.0 in
-          let i = s.body.scope.inherited.now in
+          let i = rc_str_bytes s.body.context.inherited.now in
           let is = ap (λ (c : Component). c.body) s.made.shown.2 in
           let r = same i ds y (pattern_view s.body.component.body.now) in
           ((λ c. subst (R y) (sym is) (r.0 (n.0 c))), λ h. n.1 (r.1 (subst (R y) is h)))

@@ -15,7 +15,7 @@ use Rattle.rn_pattern.proofs.Ordered.Ascending.{each_front, each_behind}
 use Rattle.rn_pattern.proofs.Ordered.InOrder.{each_contained, contained_each}
 use Rattle.rn_modset.specs.Contributions.{Member}
 use Rattle.rn_syntax.specs.Places.{except_places}
-use Rattle.rn_assemble.specs.Components.{Key, start_key, name_key, same_key, Component, Source, has_key, set_components}
+use Rattle.rn_assemble.specs.Components.{Key, start_key, name_key, same_key, Component, NamedModule, has_key, set_components}
 use Rattle.rn_assemble.specs.Combine.{of_key, bodies, combined, join, joined}
 use Rattle.rn_assemble.specs.Refusal.{Refusal, conflict, faulty, no_start, undefined, recursive, name_class, BreaksNameRules, StandsFor, Stands, AreModules, grammar_of}
 use Rattle.rn_assemble.specs.WellFormed.{IsWellFormed}
@@ -197,7 +197,7 @@ keyless : (k : Key) (cs : List Component) → has_key k cs ≡ false → bodies 
 keyless k [] e = refl
 keyless k (c ∷ cs) e = keyless_at (same_key k c.key) k c cs (keyless k cs) e
 
-module _ (modules : List Source) (none : (q : Refusal) → ¬ StandsFor modules q) where
+module _ (modules : List NamedModule) (none : (q : Refusal) → ¬ StandsFor modules q) where
   abbrev cs : List Component
   cs = set_components modules
 
@@ -213,7 +213,7 @@ module _ (modules : List Source) (none : (q : Refusal) → ¬ StandsFor modules 
       subst (λ (qs : List Tree). KeepsNameRules (join (combined (name_key x) cs) qs)) e
       (⊎_elim (λ h. keeps (name_key x) h) (λ h. absurd (let nothing : [] ≡ p ∷ ps = sym (keyless (name_key x) cs h) ∙ e in cc)) (cases_Bool (has_key (name_key x) cs)))
 
-  module _ (faultless : AllByRecursion (λ (m : Source). except_places m.tree ≡ []) modules) where
+  module _ (faultless : AllByRecursion (λ (m : NamedModule). except_places m.tree ≡ []) modules) where
     pub well_formed : IsWellFormed (grammar_of modules)
     well_formed = record {
       defined = no_text (IsUndefined (grammar_of modules)) (referred (grammar_of modules)) (undefined_within (grammar_of modules)) (λ x s. none (undefined x) s);
@@ -224,15 +224,15 @@ module _ (modules : List Source) (none : (q : Refusal) → ¬ StandsFor modules 
       names = λ x. subst (λ (o : Option Tree). IfSome o KeepsNameRules) (sym (joined_definition cs x)) (some_keeps x (bodies (name_key x) cs) refl);
     }
 
-pub no_excepts : (modules : List Source) → AllByRecursion (λ (m : Source). IsFaultless m.tree) modules → AllByRecursion (λ (m : Source). except_places m.tree ≡ []) modules
+pub no_excepts : (modules : List NamedModule) → AllByRecursion (λ (m : NamedModule). IsFaultless m.tree) modules → AllByRecursion (λ (m : NamedModule). except_places m.tree ≡ []) modules
 no_excepts [] h = tt
 no_excepts (m ∷ ms) h = (h.0.excepts, no_excepts ms h.1)
 
-pub stands : (s : List Member) (modules : List Source) → AreModules s modules → (q : Refusal) → StandsFor modules q → Stands s q
+pub stands : (s : List Member) (modules : List NamedModule) → AreModules s modules → (q : Refusal) → StandsFor modules q → Stands s q
 stands s modules a (conflict x r) h = absurd h
 stands s modules a (faulty f x) h = absurd h
 stands s modules a q h = (modules, a, h)
 
 -- the grammar of a set for which no refusal stands
-pub assembled_well_formed : (s : List Member) (modules : List Source) → AreModules s modules → ((r : Refusal) → ¬ Stands s r) → IsWellFormed (grammar_of modules)
+pub assembled_well_formed : (s : List Member) (modules : List NamedModule) → AreModules s modules → ((r : Refusal) → ¬ Stands s r) → IsWellFormed (grammar_of modules)
 assembled_well_formed s modules a none = well_formed modules (λ q h. none q (stands s modules a q h)) (no_excepts modules (modules_faultless s modules a))

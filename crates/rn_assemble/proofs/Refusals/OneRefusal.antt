@@ -6,7 +6,7 @@ use Rattle.std.proofs.lemmas.Cmp.{nat_list_cmp_total}
 use Rattle.rn_pattern.specs.Tree.{Text}
 use Rattle.rn_pattern.specs.Order.{text_cmp}
 use Rattle.rn_pattern.proofs.Ordered.Orders.{text_same}
-use Rattle.rn_assemble.specs.Components.{Key, start_key, name_key, Source}
+use Rattle.rn_assemble.specs.Components.{Key, start_key, name_key, NamedModule}
 use Rattle.rn_assemble.specs.Least.{IsLeast, key_cmp}
 use Rattle.rn_assemble.specs.Refusal.{Refusal, conflict, faulty, missing, cycle, too_many_instances, override, plain_twice, mixed_methods, no_start, undefined, recursive, name_class, rank, Wants, Lacks, StandsFor, IsFirstFor}
 
@@ -37,7 +37,7 @@ least_text = one_least text_cmp nat_list_cmp_total.antisymm text_same
 pub least_key : (P : Key → Type 0) (x y : Key) → IsLeast key_cmp P x → IsLeast key_cmp P y → x ≡ y
 least_key = one_least key_cmp key_back key_same
 
-module _ (modules : List Source) where
+module _ (modules : List NamedModule) where
   -- two refusals of one place that stand are one
   pub one_of_rank : (q r : Refusal) → rank q ≡ rank r → StandsFor modules q → StandsFor modules r → q ≡ r
   one_of_rank (missing x w) (missing y v) e s t =

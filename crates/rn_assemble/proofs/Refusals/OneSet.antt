@@ -18,7 +18,7 @@ use Rattle.rn_syntax.specs.Grammar.{Tokens}
 use Rattle.rn_syntax.specs.Tree as t
 use Rattle.rn_syntax.specs.Tokens.{terminals}
 use Rattle.rn_syntax.specs.Fault.{HasTree}
-use Rattle.rn_assemble.specs.Components.{Source}
+use Rattle.rn_assemble.specs.Components.{NamedModule}
 use Rattle.rn_assemble.specs.Refusal.{TextFault, encoding, lexical, deep_brackets, syntax, prefix, builtin, context_value, except, fault_rank, IsFirstFault, IsFaulty, Refusal, conflict, faulty, rank, IsModuleOf, StandsFor, AreModules, Stands, IsFirst, IsAssembled, grammar_of}
 use Rattle.rn_assemble.specs.Least.{IsLeast}
 use Rattle.rn_assemble.proofs.Refusals.OneRefusal.{same_at, least_text, one_of_rank}
@@ -65,32 +65,32 @@ module _ (one_tree : (ts : Tokens) (m n : t.Module) → HasTree ts m → HasTree
       let same : ts ≡ us = one_token_list (chars text) ts us has other in
       one_tree (terminals us) m n (subst (λ l. HasTree (terminals l) m) same tree) tree'
 
-  one_source : (x : Module) (m n : Source) → (m.name ≡ x.0) × IsModuleOf x.1 m.tree → (n.name ≡ x.0) × IsModuleOf x.1 n.tree → m ≡ n
-  one_source x m n h k =
+  one_tree_each : (x : Module) (m n : NamedModule) → (m.name ≡ x.0) × IsModuleOf x.1 m.tree → (n.name ≡ x.0) × IsModuleOf x.1 n.tree → m ≡ n
+  one_tree_each x m n h k =
       let name : m.name ≡ n.name = h.0 ∙ sym k.0 in
       let tree : m.tree ≡ n.tree = one_module_of x.1 m.tree n.tree h.1 k.1 in
       λ i. record { name = name i; tree = tree i }
 
-  sources : (xs : List Module) (ms ns : List Source) → AllZip (λ (x : Module) (m : Source). (m.name ≡ x.0) × IsModuleOf x.1 m.tree) xs ms → AllZip (λ (x : Module) (m : Source). (m.name ≡ x.0) × IsModuleOf x.1 m.tree) xs ns → ms ≡ ns
-  sources [] [] [] h k = refl
-  sources [] [] (n ∷ ns) h k = absurd k
-  sources [] (m ∷ ms) ns h k = absurd h
-  sources (x ∷ xs) [] ns h k = absurd h
-  sources (x ∷ xs) (m ∷ ms) [] h k = absurd k
-  sources (x ∷ xs) (m ∷ ms) (n ∷ ns) h k = let first = one_source x m n h.0 k.0 in let rest = sources xs ms ns h.1 k.1 in λ i. first i ∷ rest i
+  modules : (xs : List Module) (ms ns : List NamedModule) → AllZip (λ (x : Module) (m : NamedModule). (m.name ≡ x.0) × IsModuleOf x.1 m.tree) xs ms → AllZip (λ (x : Module) (m : NamedModule). (m.name ≡ x.0) × IsModuleOf x.1 m.tree) xs ns → ms ≡ ns
+  modules [] [] [] h k = refl
+  modules [] [] (n ∷ ns) h k = absurd k
+  modules [] (m ∷ ms) ns h k = absurd h
+  modules (x ∷ xs) [] ns h k = absurd h
+  modules (x ∷ xs) (m ∷ ms) [] h k = absurd k
+  modules (x ∷ xs) (m ∷ ms) (n ∷ ns) h k = let first = one_tree_each x m n h.0 k.0 in let rest = modules xs ms ns h.1 k.1 in λ i. first i ∷ rest i
 
   module _ (s : List Member) where
     -- the set has one list of modules
-    pub one_modules : (ms ns : List Source) → AreModules s ms → AreModules s ns → ms ≡ ns
+    pub one_modules : (ms ns : List NamedModule) → AreModules s ms → AreModules s ns → ms ≡ ns
     one_modules ms ns a b =
         let same : a.texts ≡ b.texts = one_effective s a.texts b.texts a.effective b.effective in
-        sources b.texts ms ns (subst (λ (xs : List Module). AllZip (λ (x : Module) (m : Source). (m.name ≡ x.0) × IsModuleOf x.1 m.tree) xs ms) same a.trees) b.trees
+        modules b.texts ms ns (subst (λ (xs : List Module). AllZip (λ (x : Module) (m : NamedModule). (m.name ≡ x.0) × IsModuleOf x.1 m.tree) xs ms) same a.trees) b.trees
 
     abbrev OfModules : Refusal → Type 0
-    OfModules r = (modules : List Source) × AreModules s modules × StandsFor modules r
+    OfModules r = (modules : List NamedModule) × AreModules s modules × StandsFor modules r
 
     by_modules : (q r : Refusal) → rank q ≡ rank r → OfModules q → OfModules r → q ≡ r
-    by_modules q r e (ms, a, h) (ns, b, k) = one_of_rank ns q r e (subst (λ (l : List Source). StandsFor l q) (one_modules ms ns a b) h) k
+    by_modules q r e (ms, a, h) (ns, b, k) = one_of_rank ns q r e (subst (λ (l : List NamedModule). StandsFor l q) (one_modules ms ns a b) h) k
 
     one_conflict : (x y : Text) (r q : ℕ) → IsFirstConflict s x r → IsFirstConflict s y q → conflict x r ≡ conflict y q
     one_conflict x y r q h k =

@@ -13,7 +13,7 @@ use Rattle.rn_syntax.specs.Tree.{Pattern, Patterns, Declaration, Item, Items}
 use Rattle.rn_syntax.specs.Places.{place_if, pattern_places, patterns_places, item_places, items_places, is_allowed, are_allowed, except_places}
 use Rattle.rn_syntax.proofs.EmptyLists.{nil_parts}
 use Rattle.rn_assemble.specs.Resolve.{resolved, resolved_all}
-use Rattle.rn_assemble.specs.Components.{Component, Source, has_key, overridden, handed_on, item_components, all_components, module_components, modules_named, components_within, components, instance_limit, roots, set_components}
+use Rattle.rn_assemble.specs.Components.{Component, NamedModule, has_key, overridden, handed_on, item_components, all_components, module_components, modules_named, components_within, components, instance_limit, roots, set_components}
 
 -- where excepts in a pattern are at fault
 abbrev pub places : Pattern → List ℕ
@@ -109,20 +109,20 @@ module _ (included : Text → Text → List Component) (good : (x u : Text) → 
         each_join Good (item_components included inherited ds x) (all_components included inherited ds xs) (item_good x both.0) (items_good xs both.1)
 
 -- no except of the module is at fault
-abbrev Allowed : Source → Type 0
+abbrev Allowed : NamedModule → Type 0
 Allowed m = except_places m.tree ≡ []
 
-module _ (modules : List Source) (allowed : AllByRecursion Allowed modules) where
+module _ (modules : List NamedModule) (allowed : AllByRecursion Allowed modules) where
   within_good : (depth : ℕ) (x u : Text) → AllByRecursion Good (components_within depth modules x u)
   within_good zero x u = tt
   within_good (suc depth) x u =
-      each_flat Good Allowed (λ (m : Source). module_components (components_within depth modules) u m.tree)
+      each_flat Good Allowed (λ (m : NamedModule). module_components (components_within depth modules) u m.tree)
       (λ m h. items_good (components_within depth modules) (within_good depth) u m.tree.declarations m.tree.items h) (modules_named x modules) (each_kept Allowed (λ m. bytes_eq x m.name) modules allowed)
 
   -- the components of the set
   pub set_excepts : AllByRecursion (λ (c : Component). HasExcepts c.body) (set_components modules)
-  set_excepts = each_flat Good (λ _. ⊤) (λ (r : Source). components modules r.name []) (λ r h. within_good (suc instance_limit) r.name []) (roots modules) (all_true (roots modules))
+  set_excepts = each_flat Good (λ _. ⊤) (λ (r : NamedModule). components modules r.name []) (λ r h. within_good (suc instance_limit) r.name []) (roots modules) (all_true (roots modules))
     where
-      all_true : (rs : List Source) → AllByRecursion (λ _. ⊤) rs
+      all_true : (rs : List NamedModule) → AllByRecursion (λ _. ⊤) rs
       all_true [] = tt
       all_true (r ∷ rs) = (tt, all_true rs)

@@ -6,7 +6,7 @@ use Rattle.rn_modset.specs.Modules as effective
 use Rattle.rn_syntax.specs.Tree.{Item, Module, items_of}
 use Rattle.rn_syntax.specs.Grammar as g
 use Rattle.rn_syntax.specs.Grammar.{Tokens, IsComponent, AreInnerItems, MayHaveOverrides, AreItems, IsModule}
-use Rattle.rn_assemble.specs.Components.{Source, item_includes, includes}
+use Rattle.rn_assemble.specs.Components.{NamedModule, item_includes, includes}
 use Rattle.rn_assemble.specs.inside.Contained.{IsFlat, AreFlat}
 use Rattle.rn_assemble.specs.Refusal.{IsModuleOf, AreModules}
 
@@ -39,12 +39,12 @@ module_flat : {ts : Tokens} {m : Module} → IsModule ts m → AreFlat m.items
 module_flat (g.items d i) = items_flat i
 module_flat (g.grammar d a i f) = items_flat i
 
-trees_flat : (texts : List effective.Module) (modules : List Source) → AllZip (λ (x : effective.Module) (m : Source). (m.name ≡ x.0) × IsModuleOf x.1 m.tree) texts modules → AllByRecursion (λ (m : Source). AreFlat m.tree.items) modules
+trees_flat : (texts : List effective.Module) (modules : List NamedModule) → AllZip (λ (x : effective.Module) (m : NamedModule). (m.name ≡ x.0) × IsModuleOf x.1 m.tree) texts modules → AllByRecursion (λ (m : NamedModule). AreFlat m.tree.items) modules
 trees_flat [] [] h = tt
 trees_flat [] (m ∷ modules) h = absurd h
 trees_flat (x ∷ texts) [] h = absurd h
 trees_flat (x ∷ texts) (m ∷ modules) h = (module_flat h.0.1.1.2, trees_flat texts modules h.1)
 
 -- the trees of a set's modules
-pub modules_flat : (s : List Member) (modules : List Source) → AreModules s modules → AllByRecursion (λ (m : Source). AreFlat m.tree.items) modules
+pub modules_flat : (s : List Member) (modules : List NamedModule) → AreModules s modules → AllByRecursion (λ (m : NamedModule). AreFlat m.tree.items) modules
 modules_flat s modules are = trees_flat are.texts modules are.trees

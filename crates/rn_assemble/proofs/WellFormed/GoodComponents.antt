@@ -13,7 +13,7 @@ use Rattle.rn_syntax.specs.Tree.{Declaration, Item, Items, Module, NameClass}
 use Rattle.rn_syntax.specs.Places.{class_places, unbound_type, wrong_builtin, context_value, inherit_places, declarations_places, item_places, items_places, prefix_places, builtin_places, context_places, except_places}
 use Rattle.rn_syntax.proofs.EmptyLists.{nil_parts}
 use Rattle.rn_assemble.specs.Texts.{IsXml}
-use Rattle.rn_assemble.specs.Components.{Component, Source, has_key, overridden, handed_on, item_components, all_components, module_components, modules_named, components_within, components, instance_limit, roots, set_components}
+use Rattle.rn_assemble.specs.Components.{Component, NamedModule, has_key, overridden, handed_on, item_components, all_components, module_components, modules_named, components_within, components, instance_limit, roots, set_components}
 use Rattle.rn_assemble.specs.Refusal.{TextFault, prefix, builtin, context_value as context_fault, except, IsModuleOf, HasTextFault, AreModules, grammar_of}
 use Rattle.rn_assemble.specs.WellFormed.{HasWritableTexts}
 use Rattle.rn_assemble.proofs.WellFormed.ComponentExcepts.{in_item, in_items, resolved_has, each_kept}
@@ -78,21 +78,21 @@ pub record IsFaultless (m : Module) : Type 0 where
   pub no_context : context_places m ≡ []
   pub excepts : except_places m ≡ []
 
-module _ (modules : List Source) (faultless : AllByRecursion (λ (m : Source). IsFaultless m.tree) modules) where
+module _ (modules : List NamedModule) (faultless : AllByRecursion (λ (m : NamedModule). IsFaultless m.tree) modules) where
   within_writable : (depth : ℕ) (x u : Text) → IsXml u → AllByRecursion IsWritableComponent (components_within depth modules x u)
   within_writable zero x u h = tt
   within_writable (suc depth) x u h =
-      each_flat IsWritableComponent (λ (m : Source). IsFaultless m.tree) (λ (m : Source). module_components (components_within depth modules) u m.tree)
+      each_flat IsWritableComponent (λ (m : NamedModule). IsFaultless m.tree) (λ (m : NamedModule). module_components (components_within depth modules) u m.tree)
       (λ m f. items_writable (components_within depth modules) (within_writable depth) u m.tree.declarations h f.good.declarations m.tree.items f.good.items
       (nil_parts (declarations_places [] m.tree.declarations) (prefix_items m.tree.declarations m.tree.items) f.bound).1 f.builtin_types f.no_context f.excepts)
-      (modules_named x modules) (each_kept (λ (m : Source). IsFaultless m.tree) (λ m. bytes_eq x m.name) modules faultless)
+      (modules_named x modules) (each_kept (λ (m : NamedModule). IsFaultless m.tree) (λ m. bytes_eq x m.name) modules faultless)
 
-  all_true : (rs : List Source) → AllByRecursion (λ _. ⊤) rs
+  all_true : (rs : List NamedModule) → AllByRecursion (λ _. ⊤) rs
   all_true [] = tt
   all_true (r ∷ rs) = (tt, all_true rs)
 
   set_writable : AllByRecursion IsWritableComponent (set_components modules)
-  set_writable = each_flat IsWritableComponent (λ _. ⊤) (λ (r : Source). components modules r.name []) (λ r h. within_writable (suc instance_limit) r.name [] xml_nothing) (roots modules) (all_true (roots modules))
+  set_writable = each_flat IsWritableComponent (λ _. ⊤) (λ (r : NamedModule). components modules r.name []) (λ r h. within_writable (suc instance_limit) r.name [] xml_nothing) (roots modules) (all_true (roots modules))
 
   pub grammar_writable : HasWritableTexts (grammar_of modules)
   grammar_writable = joined_writable (set_components modules) set_writable
@@ -112,17 +112,17 @@ faultless_of text m none (u, (ts, has, tree)) = record {
   excepts = no_places (except_places m) (λ h. none except (m, (u, (ts, has, tree)), h));
 }
 
-each_faultless : (texts : List effective.Module) (modules : List Source) → ((x text : Text) → Contains {X = Text × Text} texts (x, text) → (f : TextFault) → ¬ HasTextFault text f)
-    → AllZip (λ (x : effective.Module) (m : Source). (m.name ≡ x.0) × IsModuleOf x.1 m.tree) texts modules → AllByRecursion (λ (m : Source). IsFaultless m.tree) modules
+each_faultless : (texts : List effective.Module) (modules : List NamedModule) → ((x text : Text) → Contains {X = Text × Text} texts (x, text) → (f : TextFault) → ¬ HasTextFault text f)
+    → AllZip (λ (x : effective.Module) (m : NamedModule). (m.name ≡ x.0) × IsModuleOf x.1 m.tree) texts modules → AllByRecursion (λ (m : NamedModule). IsFaultless m.tree) modules
 each_faultless [] [] none h = tt
 each_faultless [] (m ∷ ms) none h = absurd h
 each_faultless (x ∷ xs) [] none h = absurd h
 each_faultless (x ∷ xs) (m ∷ ms) none h = (faultless_of x.1 m.tree (none x.0 x.1 (contains_front x xs)) h.0.1, each_faultless xs ms (λ y text c. none y text (contains_behind x (y, text) xs c)) h.1)
 
 -- the modules of a set are faultless
-pub modules_faultless : (s : List Member) (modules : List Source) → AreModules s modules → AllByRecursion (λ (m : Source). IsFaultless m.tree) modules
+pub modules_faultless : (s : List Member) (modules : List NamedModule) → AreModules s modules → AllByRecursion (λ (m : NamedModule). IsFaultless m.tree) modules
 modules_faultless s modules a = each_faultless a.texts modules (λ x text c f h. a.faultless x (text, c, (f, h))) a.trees
 
 -- and their grammar can be written
-pub set_grammar_writable : (s : List Member) (modules : List Source) → AreModules s modules → HasWritableTexts (grammar_of modules)
+pub set_grammar_writable : (s : List Member) (modules : List NamedModule) → AreModules s modules → HasWritableTexts (grammar_of modules)
 set_grammar_writable s modules a = grammar_writable modules (modules_faultless s modules a)

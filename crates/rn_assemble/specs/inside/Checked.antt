@@ -8,7 +8,7 @@ use Rattle.rn_pattern.specs.Matching.{Grammar}
 use Rattle.rn_assemble.specs.declared.components.Components.{Components}
 use Rattle.rn_assemble.specs.declared.refusal.Refusal as code
 use Rattle.rn_assemble.specs.declared.refusal.Refusal.TheVariants as r
-use Rattle.rn_assemble.specs.Components.{Source, set_components}
+use Rattle.rn_assemble.specs.Components.{NamedModule, set_components}
 use Rattle.rn_assemble.specs.inside.Expanded.{IsListed}
 use Rattle.rn_assemble.specs.inside.Included.{AreIncluded}
 use Rattle.rn_assemble.specs.inside.Lacking.{IsLeastLack}
@@ -16,7 +16,7 @@ use Rattle.rn_assemble.specs.Refusal.{Refusal, override, Lacks, StandsFor, gramm
 use Rattle.rn_assemble.specs.Refused.{key_view}
 
 -- no include refuses the modules, and these are their components, by the numbers of these names, and their least override of what isn't there
-pub record AreExpanded (modules : List Source) (names : List Text) (x : Components) : Type 0 where
+pub record AreExpanded (modules : List NamedModule) (names : List Text) (x : Components) : Type 0 where
   pub numbers : List ℕ
   pub included : AreIncluded modules numbers
   pub in_order : IsStrictlySortedBy text_cmp names
@@ -24,11 +24,11 @@ pub record AreExpanded (modules : List Source) (names : List Text) (x : Componen
   pub lack : IsLeastLack modules names (Lacks modules) x.lack
 
 -- the least override of what isn't there, or want of memory
-abbrev pub IsLacking : List Source → code.Refusal → Type 0
+abbrev pub IsLacking : List NamedModule → code.Refusal → Type 0
 IsLacking modules (r.Override m k) = StandsFor modules (override (string_bytes m) (key_view k))
 IsLacking modules r.Memory = ⊤
 IsLacking modules _ = ⊥
 
 -- no refusal stands for the modules, and this is their grammar
-abbrev pub IsGrammarOf : List Source → Grammar → Type 0
+abbrev pub IsGrammarOf : List NamedModule → Grammar → Type 0
 IsGrammarOf modules g = ((q : Refusal) → ¬ StandsFor modules q) × (g ≡ grammar_of modules)

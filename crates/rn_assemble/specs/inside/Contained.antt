@@ -5,7 +5,7 @@ use Rattle.rn_pattern.specs.Tree.{Text}
 use Rattle.rn_syntax.specs.declared.token.Method.{Method}
 use Rattle.rn_syntax.specs.Tree as t
 use Rattle.rn_syntax.specs.Tree.{Item, Items, Pattern}
-use Rattle.rn_assemble.specs.Components.{Key, start_key, name_key, Source, includes}
+use Rattle.rn_assemble.specs.Components.{Key, start_key, name_key, NamedModule, includes}
 
 -- a component as it is written
 pub record Written : Type 0 where
@@ -21,8 +21,8 @@ pub record Inclusion : Type 0 where
   pub end : ℕ
 
 -- the place of the module of that name
-abbrev pub place_in : List Source → Text → Option ℕ
-place_in modules x = position_from (λ (m : Source). bytes_eq x m.name) 0 modules
+abbrev pub place_in : List NamedModule → Text → Option ℕ
+place_in modules x = position_from (λ (m : NamedModule). bytes_eq x m.name) 0 modules
 
 abbrev mutual
   pub item_written : Item → List Written
@@ -36,7 +36,7 @@ abbrev mutual
   written (t.item x xs) = item_written x ++ written xs
 
 -- the includes, where the first component has that place
-module _ (modules : List Source) where
+module _ (modules : List NamedModule) where
   abbrev mutual
     pub item_inclusions : ℕ → Item → List Inclusion
     item_inclusions n (t.define x m p) = []

@@ -1,5 +1,6 @@
 -- What expanding an include does to the components of the code.
 use Rattle.std.specs.Prelude.{ℕ, ◌+◌, ◌<◌, ◌≤◌, ◌≡◌, ◌==◌, not, List, [], ◌++◌, length, map, filter, slice_index_or, slice_range, Option, Some, None}
+use Rattle.std.specs.Rc.{rc_str_bytes}
 use Rattle.std.specs.List.{AllByRecursion, list_any}
 use Rattle.std.specs.List.Sorted.{IsStrictlySortedBy}
 use Rattle.rn_pattern.specs.Tree.{Text}
@@ -12,10 +13,10 @@ use Rattle.rn_assemble.specs.declared.components.Components.{Components}
 use Rattle.rn_pattern.specs.Graph.{AllBelow}
 use Rattle.rn_syntax.specs.Tree.{Declaration}
 use Rattle.rn_syntax.specs.View.{prefix_view}
-use Rattle.rn_assemble.specs.declared.components.Context.{Context}
+use Rattle.rn_assemble.specs.declared.components.MetContext.{MetContext}
 use Rattle.rn_assemble.specs.inside.Bound.{BindsAs}
 use Rattle.rn_assemble.specs.inside.Views.{IsNumbered}
-use Rattle.rn_assemble.specs.Components.{Component, Source, components_within, handed_on}
+use Rattle.rn_assemble.specs.Components.{Component, NamedModule, components_within, handed_on}
 use Rattle.rn_assemble.specs.inside.Contained.{AreFlat}
 use Rattle.rn_assemble.specs.inside.Listed.{AreContents, Live, Lists, Rises, components_in}
 
@@ -34,8 +35,8 @@ pub record KeepsBodies (old new : Components) : Type 0 where
 pub record StartsAt (bodies : List Body) (first : ℕ) (content : Contents) (inherited : Text) : Type 0 where
   pub within : first + length content.components.items ≤ length bodies
   pub component : (i : ℕ) (d : Body) (e : code.Component) → i < length content.components.items → (slice_index_or bodies (first + i) d).component ≡ slice_index_or content.components.items i e
-  pub bindings : (i : ℕ) (d : Body) → i < length content.components.items → (slice_index_or bodies (first + i) d).scope.bindings.now ≡ content.bindings
-  pub inherited_is : (i : ℕ) (d : Body) → i < length content.components.items → (slice_index_or bodies (first + i) d).scope.inherited.now ≡ inherited
+  pub bindings : (i : ℕ) (d : Body) → i < length content.components.items → (slice_index_or bodies (first + i) d).context.bindings.now ≡ content.bindings
+  pub inherited_is : (i : ℕ) (d : Body) → i < length content.components.items → rc_str_bytes (slice_index_or bodies (first + i) d).context.inherited.now ≡ inherited
 
 -- these components were added behind the live ones, at new places
 pub record AddsLive (names : List Text) (old new : Components) (live : List Live) (cs : List Component) : Type 0 where
@@ -60,8 +61,8 @@ pub record IsItem (contents : List Contents) (i : ℕ) (content : Contents) : Ty
   pub is : (d : Contents) → slice_index_or contents i d ≡ content
 
 -- each context that was met has its bodies
-abbrev pub ContextHolds : List Contents → List Body → Context → Type 0
-ContextHolds contents bodies q = (content : Contents) → IsItem contents q.module content → StartsAt bodies q.first content q.inherited.now
+abbrev pub ContextHolds : List Contents → List Body → MetContext → Type 0
+ContextHolds contents bodies q = (content : Contents) → IsItem contents q.module content → StartsAt bodies q.first content (rc_str_bytes q.inherited.now)
 
 abbrev pub ContextsHold : List Contents → Components → Type 0
 ContextsHold contents x = AllByRecursion (ContextHolds contents x.bodies.items) x.contexts.items
@@ -81,30 +82,30 @@ abbrev pub left_by : List code.Component → List Live → List Live
 left_by own es = filter (λ (e : Live). not (list_any (λ (c : code.Component). e.key == c.key) own)) es
 
 -- the name of a module by its place
-abbrev pub name_at : List Source → ℕ → Text
-name_at modules i = slice_index_or (map (λ (m : Source). m.name) modules) i []
+abbrev pub name_at : List NamedModule → ℕ → Text
+name_at modules i = slice_index_or (map (λ (m : NamedModule). m.name) modules) i []
 
 -- the components of an included module, if there is one
-abbrev pub included_in : ℕ → List Source → Option ℕ → Text → List Component
+abbrev pub included_in : ℕ → List NamedModule → Option ℕ → Text → List Component
 included_in depth modules None inherited = []
 included_in depth modules (Some i) inherited = components_within depth modules (name_at modules i) inherited
 
 -- what the include brings in, before its own components override it
-abbrev pub brought_in : ℕ → List Source → Text → List Declaration → Include → List Component
+abbrev pub brought_in : ℕ → List NamedModule → Text → List Declaration → Include → List Component
 brought_in depth modules inherited ds include =
     included_in depth modules include.«module» (handed_on inherited ds (prefix_view include.inherit))
 
 -- modules and names in their order, the contents of the modules, and the live components so far
-pub record CanExpand (modules : List Source) (names : List Text) (contents : List Contents) (x : Components) (live : List Live) : Type 0 where
-  pub modules_in_order : IsStrictlySortedBy text_cmp (map (λ (m : Source). m.name) modules)
+pub record CanExpand (modules : List NamedModule) (names : List Text) (contents : List Contents) (x : Components) (live : List Live) : Type 0 where
+  pub modules_in_order : IsStrictlySortedBy text_cmp (map (λ (m : NamedModule). m.name) modules)
   pub names_in_order : IsStrictlySortedBy text_cmp names
-  pub flat : AllByRecursion (λ (m : Source). AreFlat m.tree.items) modules
+  pub flat : AllByRecursion (λ (m : NamedModule). AreFlat m.tree.items) modules
   pub are : AreContents modules names contents
   pub contexts : ContextsHold contents x
   pub lists : Lists names x live
 
 -- the include is one of the module with these contents
-pub record CanInclude (modules : List Source) (names : List Text) (content : Contents) (include : Include) (ds : List Declaration) : Type 0 where
+pub record CanInclude (modules : List NamedModule) (names : List Text) (content : Contents) (include : Include) (ds : List Declaration) : Type 0 where
   pub within : (i : ℕ) → include.«module» ≡ Some i → i < length modules
   pub ordered : include.from ≤ include.to
   pub inside : include.to ≤ length content.components.items
@@ -118,10 +119,10 @@ pub record Expands (names : List Text) (contents : List Contents) (old new : Com
   pub grows : (more : List Body) × (new.bodies.items ≡ old.bodies.items ++ more)
 
 -- modules and names in their order, and the contents of the modules
-pub record CanList (modules : List Source) (names : List Text) (contents : List Contents) : Type 0 where
-  pub modules_in_order : IsStrictlySortedBy text_cmp (map (λ (m : Source). m.name) modules)
+pub record CanList (modules : List NamedModule) (names : List Text) (contents : List Contents) : Type 0 where
+  pub modules_in_order : IsStrictlySortedBy text_cmp (map (λ (m : NamedModule). m.name) modules)
   pub names_in_order : IsStrictlySortedBy text_cmp names
-  pub flat : AllByRecursion (λ (m : Source). AreFlat m.tree.items) modules
+  pub flat : AllByRecursion (λ (m : NamedModule). AreFlat m.tree.items) modules
   pub are : AreContents modules names contents
 
 -- the live components are these, in this order
@@ -131,17 +132,17 @@ IsListed names x cs = (live : List Live) × Lists names x live × (components_in
 -- ---- of which modules a contract speaks
 
 -- P holds of the modules that have these contents, with so many keys, where the roots are numbers of modules
-abbrev pub OfRoots : List Contents → ℕ → List ℕ → (List Source → List Text → Type 0) → Type 0
-OfRoots contents keys roots P = (modules : List Source) (names : List Text) → CanList modules names contents
+abbrev pub OfRoots : List Contents → ℕ → List ℕ → (List NamedModule → List Text → Type 0) → Type 0
+OfRoots contents keys roots P = (modules : List NamedModule) (names : List Text) → CanList modules names contents
     → keys ≡ length names + 1 → AllBelow (length modules) roots → P modules names
 
 -- P holds of the modules that have these contents, and of the live components so far
-abbrev pub OfExpanding : List Contents → Components → (List Source → List Text → List Live → Type 0) → Type 0
-OfExpanding contents x P = (modules : List Source) (names : List Text) (live : List Live)
+abbrev pub OfExpanding : List Contents → Components → (List NamedModule → List Text → List Live → Type 0) → Type 0
+OfExpanding contents x P = (modules : List NamedModule) (names : List Text) (live : List Live)
     → CanExpand modules names contents x live → P modules names live
 
 -- the same with the declarations of the module, of which the include is
 abbrev pub OfIncluding : List Contents → Components → Contents → Include
-    → (List Source → List Text → List Live → List Declaration → Type 0) → Type 0
-OfIncluding contents x content include P = (modules : List Source) (names : List Text) (live : List Live) (ds : List Declaration)
+    → (List NamedModule → List Text → List Live → List Declaration → Type 0) → Type 0
+OfIncluding contents x content include P = (modules : List NamedModule) (names : List Text) (live : List Live) (ds : List Declaration)
     → CanExpand modules names contents x live → CanInclude modules names content include ds → P modules names live ds

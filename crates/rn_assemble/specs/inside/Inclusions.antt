@@ -4,22 +4,22 @@ use Rattle.std.specs.List.{concat, list_any, range_with_len}
 use Rattle.rn_pattern.specs.Tree.{Text}
 use Rattle.rn_pattern.specs.Order.{text_cmp}
 use Rattle.rn_pattern.specs.Graph.{IsGraph, row}
-use Rattle.rn_assemble.specs.Components.{Source, includes, modules_named}
+use Rattle.rn_assemble.specs.Components.{NamedModule, includes, modules_named}
 use Rattle.rn_assemble.specs.inside.Expanded.{name_at}
 use Rattle.rn_assemble.specs.Least.{IsLeast}
 
 -- what the modules of this name include, in the order of the text
-abbrev pub included_by : List Source → Text → List Text
-included_by modules x = flat_map (λ (m : Source). includes m.tree.items) (modules_named x modules)
+abbrev pub included_by : List NamedModule → Text → List Text
+included_by modules x = flat_map (λ (m : NamedModule). includes m.tree.items) (modules_named x modules)
 
 -- the row of each module has the numbers of those that it includes, in the order of the text; none is missing
-pub record AreInclusions (modules : List Source) (rows : List (List ℕ)) : Type 0 where
+pub record AreInclusions (modules : List NamedModule) (rows : List (List ℕ)) : Type 0 where
   pub size : length rows ≡ length modules
   pub graph : IsGraph rows
   pub named : (i : ℕ) → i < length modules → map (name_at modules) (row rows i) ≡ included_by modules (name_at modules i)
 
 -- no module has this name
-abbrev pub IsMissing : List Source → Text → Type 0
+abbrev pub IsMissing : List NamedModule → Text → Type 0
 IsMissing modules x = modules_named x modules ≡ []
 
 -- the least of the texts of which P holds, if there is one

@@ -6,7 +6,7 @@ use Rattle.rn_pattern.specs.Tree.{Text}
 use Rattle.rn_pattern.specs.Order.{text_cmp}
 use Rattle.rn_syntax.specs.Tree as t
 use Rattle.rn_syntax.specs.Tree.{Item, Items}
-use Rattle.rn_assemble.specs.Components.{Key, start_key, name_key, Source}
+use Rattle.rn_assemble.specs.Components.{Key, start_key, name_key, NamedModule}
 
 -- the names that items define, those of includes' own items among them
 abbrev mutual
@@ -21,9 +21,9 @@ abbrev mutual
   defines (t.item x xs) = item_defines x ++ defines xs
 
 -- all names that the modules define, each once, in their order
-pub record AreNames (modules : List Source) (names : List Text) : Type 0 where
+pub record AreNames (modules : List NamedModule) (names : List Text) : Type 0 where
   pub in_order : IsStrictlySortedBy text_cmp names
-  pub defined : (x : Text) → Contains names x ↔ Contains (flat_map (λ (m : Source). defines m.tree.items) modules) x
+  pub defined : (x : Text) → Contains names x ↔ Contains (flat_map (λ (m : NamedModule). defines m.tree.items) modules) x
 
 -- each of these is one of the names
 abbrev pub AreAmong : List Text → List Text → Type 0

@@ -5,7 +5,7 @@ use Rattle.rn_pattern.specs.Order.{text_cmp}
 use Rattle.rn_syntax.specs.Tree as t
 use Rattle.rn_syntax.specs.Tree.{Declaration, Item, Items}
 use Rattle.rn_assemble.specs.declared.components.Lack.{Lack}
-use Rattle.rn_assemble.specs.Components.{Key, Source, handed_on, modules_named, components_within, instance_limit}
+use Rattle.rn_assemble.specs.Components.{Key, NamedModule, handed_on, modules_named, components_within, instance_limit}
 use Rattle.rn_assemble.specs.inside.Expanded.{name_at}
 use Rattle.rn_assemble.specs.inside.Keyed.{key_at}
 use Rattle.rn_assemble.specs.Least.{IsLeast, key_cmp}
@@ -25,18 +25,18 @@ module _ (inherited : Text) (ds : List Declaration) where
     handed (t.item x xs) = item_handed x ++ handed xs
 
 -- the module x under a namespace, or a module that it includes, fewer than depth times one inside the other, is called y and lacks a key that an include of it defines
-abbrev pub LacksWithin : (depth : ℕ) → List Source → (x inherited y : Text) → Key → Type 0
+abbrev pub LacksWithin : (depth : ℕ) → List NamedModule → (x inherited y : Text) → Key → Type 0
 LacksWithin zero modules x inherited y k = ⊥
-LacksWithin (suc depth) modules x inherited y k = (m : Source) × Contains (modules_named x modules) m
+LacksWithin (suc depth) modules x inherited y k = (m : NamedModule) × Contains (modules_named x modules) m
     × (((x ≡ y) × (items_lack (components_within depth modules) inherited m.tree.declarations m.tree.items k ≡ true))
     ⊎ ((w : Text × Text) × Contains {X = Text × Text} (handed inherited m.tree.declarations m.tree.items) w × LacksWithin depth modules w.0 w.1 y k))
 
 -- one of the modules of these numbers, under no namespace, or one that it includes, lacks the key
-abbrev pub LacksFrom : List Source → List ℕ → Text → Key → Type 0
+abbrev pub LacksFrom : List NamedModule → List ℕ → Text → Key → Type 0
 LacksFrom modules numbers y k = (n : ℕ) × Contains numbers n × LacksWithin (suc instance_limit) modules (name_at modules n) [] y k
 
 -- the numbers of the least module of which P holds for some key, and of the least key there, or P holds of none
-abbrev pub IsLeastLack : List Source → List Text → (Text → Key → Type 0) → Option Lack → Type 0
+abbrev pub IsLeastLack : List NamedModule → List Text → (Text → Key → Type 0) → Option Lack → Type 0
 IsLeastLack modules names P None = (y : Text) (k : Key) → ¬ P y k
 IsLeastLack modules names P (Some l) = (l.«module» < length modules) × (l.key < suc (length names))
     × IsLeast text_cmp (λ y. (k : Key) × P y k) (name_at modules l.«module») × IsLeast key_cmp (P (name_at modules l.«module»)) (key_at names l.key)

@@ -1,5 +1,6 @@
 -- How the modules' contents and the components of a set lie in the code.
 use Rattle.std.specs.Prelude.{ℕ, suc, ◌+◌, ◌<◌, ◌≤◌, ◌≡◌, ◌==◌, List, [], ◌∷◌, length, map, filter, slice_index_or, slice_range, Contains, ⊤}
+use Rattle.std.specs.Rc.{rc_str_bytes}
 use Rattle.std.specs.List.{AllByRecursion, AllZip}
 use Rattle.std.specs.List.Sorted.{IsStrictlySortedBy}
 use Rattle.rn_pattern.specs.Tree.{Text}
@@ -12,19 +13,19 @@ use Rattle.rn_assemble.specs.declared.components.Components.{Components}
 use Rattle.rn_assemble.specs.declared.keys.Keys.{Keys}
 use Rattle.rn_assemble.specs.Resolve.{resolved}
 use Rattle.rn_assemble.specs.inside.Bound.{BindsAs}
-use Rattle.rn_assemble.specs.Components.{Component, Key, Source}
+use Rattle.rn_assemble.specs.Components.{Component, Key, NamedModule}
 use Rattle.rn_assemble.specs.inside.Contained.{Written, written, inclusions}
 use Rattle.rn_assemble.specs.inside.Keyed.{key_at}
 use Rattle.rn_assemble.specs.inside.Views.{IsNumbered, inclusion_view, names_of, written_view}
 
 -- the contents are those of the module
-pub record IsContents (modules : List Source) (names : List Text) (m : Source) (c : Contents) : Type 0 where
+pub record IsContents (modules : List NamedModule) (names : List Text) (m : NamedModule) (c : Contents) : Type 0 where
   pub bindings : BindsAs c.bindings m.tree.declarations
   pub components : map (written_view names) c.components.items ≡ written m.tree.items
   pub numbered : AllByRecursion (IsNumbered names) c.components.items
   pub includes : map inclusion_view c.includes.items ≡ inclusions modules 0 m.tree.items
 
-abbrev pub AreContents : List Source → List Text → List Contents → Type 0
+abbrev pub AreContents : List NamedModule → List Text → List Contents → Type 0
 AreContents modules names contents = AllZip (IsContents modules names) modules contents
 
 -- a written component with its names resolved
@@ -40,7 +41,7 @@ resolved_between names content inherited ds from to =
 pub record IsBody (names : List Text) (b : Body) (key : ℕ) (c : Component) : Type 0 where
   pub key_is : b.component.key ≡ key
   pub numbered : key < suc (length names)
-  pub shown : (ds : List Declaration) × BindsAs b.scope.bindings.now ds × (c ≡ resolved_component b.scope.inherited.now ds (written_view names b.component))
+  pub shown : (ds : List Declaration) × BindsAs b.context.bindings.now ds × (c ≡ resolved_component (rc_str_bytes b.context.inherited.now) ds (written_view names b.component))
 
 -- a component that no include has overridden: its place, the number of its key, and what it is
 pub record Live : Type 0 where

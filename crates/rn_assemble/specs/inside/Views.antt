@@ -4,12 +4,12 @@ use Rattle.std.specs.List.{AllByRecursion}
 use Rattle.std.specs.Borrow.{Bor}
 use Rattle.rn_pattern.specs.Tree.{Text}
 use Rattle.rn_syntax.specs.View.{module_view, pattern_view, prefix_view}
-use Rattle.rn_assemble.specs.declared.modules.Source as code_source
+use Rattle.rn_assemble.specs.declared.modules.NamedModule as code_module
 use Rattle.rn_assemble.specs.declared.keys.Keys.{Keys}
 use Rattle.rn_assemble.specs.declared.contents.Component as code_component
 use Rattle.rn_assemble.specs.declared.contents.Contents.{Contents}
 use Rattle.rn_assemble.specs.declared.contents.Include.{Include}
-use Rattle.rn_assemble.specs.Components.{Source}
+use Rattle.rn_assemble.specs.Components.{NamedModule}
 use Rattle.rn_assemble.specs.inside.Keyed.{key_at}
 use Rattle.rn_assemble.specs.inside.Contained.{Written, Inclusion}
 
@@ -20,14 +20,14 @@ texts_of xs = map (λ (s : Bor (List ℕ)). s.now) xs
 abbrev pub names_of : Keys → List Text
 names_of keys = texts_of keys.names.keys
 
-abbrev pub source_view : code_source.Source → Source
-source_view m = record { name = m.name.now; tree = module_view m.tree }
+abbrev pub named_module_view : code_module.NamedModule → NamedModule
+named_module_view m = record { name = m.name.now; tree = module_view m.tree }
 
-abbrev pub sources_view : List code_source.Source → List Source
-sources_view modules = map source_view modules
+abbrev pub modules_view : List code_module.NamedModule → List NamedModule
+modules_view modules = map named_module_view modules
 
-abbrev pub module_names : List code_source.Source → List Text
-module_names modules = map (λ (m : code_source.Source). m.name.now) modules
+abbrev pub module_names : List code_module.NamedModule → List Text
+module_names modules = map (λ (m : code_module.NamedModule). m.name.now) modules
 
 abbrev pub written_view : List Text → code_component.Component → Written
 written_view names c = record { key = key_at names c.key; method = c.method; pattern = pattern_view c.body.now }

@@ -1,15 +1,15 @@
 -- The members one by one.
-use Rattle.std.proofs.Common.{◌+◌, ◌≤◌, ◌<◌, length, map, sym, ◌∙◌, arith}
+use Rattle.std.proofs.Common.{◌≡◌, ◌+◌, ◌≤◌, ◌<◌, length, map, sym, ◌∙◌, arith}
 use Rattle.rn_pattern.specs.Order.{tree_cmp}
 use Rattle.rn_pattern.specs.View.{pattern_view, shared_view}
 use Rattle.rn_pattern.proofs.Ordered.Stepwise.{trees_cmp-trees_of, rest_longer, rest_shorter, rest_level, rest_settled, rest_tied}
 use Rattle.std.proofs.Common.{nat_cmp, ap}
 use Rattle.std.specs.Prelude.{string_bytes}
-use Rattle.std.specs.Ordering.{ordering_then}
+use Rattle.std.specs.Rc.{rc_str_bytes}
 use Rattle.rn_pattern.specs.Tree.{trees_of}
 use Rattle.rn_pattern.specs.Order.{rank, text_cmp, parameters_cmp, trees_cmp}
 use Rattle.rn_pattern.specs.View.{parameters_view, excepted_view}
-use Rattle.rn_pattern.proofs.Stores.ShownTrees.{parameters_cmp-view}
+use Rattle.rn_pattern.specs.inside.Compared.{data_cmp}
 use Rattle.rn_pattern.proofs.Ordered.PatternKinds.{ranks_apart, plain_order, group_seen, interleave_seen, choice_seen, datum_seen, datum_order, heads_tied, heads_settled, not_ref, rank_ref, not_value, rank_value, not_datum, rank_datum, not_list, rank_list, not_attribute, rank_attribute, not_element, rank_element, not_oneormore, rank_oneormore, not_group, rank_group, not_interleave, rank_interleave, not_choice, rank_choice}
 use Rattle.rn_pattern.proofs.+compare_patterns.Goals as goal
 use Rattle.rn_pattern.proofs.+compare_patterns.Goals.{tree::Pattern::cmp-in_default-via-in-Ref+in_default, tree::Pattern::cmp-in_default-via-in-Value+in_default, tree::Pattern::cmp-in_default-via-in-Datum+in_default, tree::Pattern::cmp-in_default-via-in-List+in_default, tree::Pattern::cmp-in_default-via-in-Attribute+in_default, tree::Pattern::cmp-in_default-via-in-Element+in_default, tree::Pattern::cmp-in_default-via-in-OneOrMore+in_default, tree::Pattern::cmp-in_default-via-in-Group+in_default, tree::Pattern::cmp-in_default-via-in-Interleave+in_default, tree::Pattern::cmp-in_default-via-in-Choice+in_default, tree::Pattern::cmp-in_default-via-in_default}
@@ -68,31 +68,31 @@ tree::Pattern::cmp-returns-in-Choice-Choice t c =
 
 pub tree::Pattern::cmp-returns-in-Equal : goal.tree::Pattern::cmp-returns-in-Equal
 tree::Pattern::cmp-returns-in-Equal t c =
-    let d = c.in-Datum-Datum in
-    let K = text_cmp (string_bytes d.k) (string_bytes d.l) in
-    let X = text_cmp (string_bytes d.x) (string_bytes d.y) in
-    let S = parameters_cmp (parameters_view d.s.items) (parameters_view d.t.items) in
-    let M = trees_cmp (excepted_view d.p) (excepted_view d.q) in
-    let third = c.cmp-in-Datum-Datum-3.ensures ∙ parameters_cmp-view d.s.items d.t.items in
-    let e = c.then-in-Datum-Datum-2.ensures ∙ (λ i. ordering_then (c.then-in-Datum-Datum.ensures i) (third i)) ∙ (λ i. ordering_then (ordering_then (c.cmp-in-Datum-Datum.ensures i) (c.cmp-in-Datum-Datum-2.ensures i)) S) in
-    let x = ap pattern_view d.is-0 ∙ datum_seen d.k d.x d.s d.p in
-    let y = ap pattern_view d.is-1 ∙ datum_seen d.l d.y d.t d.q in
-    let whole = (λ i. tree_cmp (x i) (y i)) ∙ datum_order (string_bytes d.k) (string_bytes d.l) (string_bytes d.x) (string_bytes d.y) (parameters_view d.s.items) (parameters_view d.t.items) d.p d.q in
-    c.compare_excepted.ensures ∙ sym (whole ∙ heads_tied K X S M c.then-in-Datum-Datum-2.result e c.in-Equal.is)
+    let d = c.in-Datum-Datum.d.value in
+    let e = c.in-Datum-Datum.e.value in
+    let K = text_cmp (rc_str_bytes d.library) (rc_str_bytes e.library) in
+    let X = text_cmp (string_bytes d.type_name) (string_bytes e.type_name) in
+    let S = parameters_cmp (parameters_view d.params.items) (parameters_view e.params.items) in
+    let M = trees_cmp (excepted_view c.in-Datum-Datum.p) (excepted_view c.in-Datum-Datum.q) in
+    let heads : c.compare_data.result ≡ data_cmp d e = c.compare_data.ensures ∙ (λ i. data_cmp (c.deref-in-Datum-Datum.ensures i) (c.deref-in-Datum-Datum-2.ensures i)) in
+    let x = ap pattern_view c.in-Datum-Datum.is-0 ∙ datum_seen c.in-Datum-Datum.d c.in-Datum-Datum.p in
+    let y = ap pattern_view c.in-Datum-Datum.is-1 ∙ datum_seen c.in-Datum-Datum.e c.in-Datum-Datum.q in
+    let whole = (λ i. tree_cmp (x i) (y i)) ∙ datum_order (rc_str_bytes d.library) (rc_str_bytes e.library) (string_bytes d.type_name) (string_bytes e.type_name) (parameters_view d.params.items) (parameters_view e.params.items) c.in-Datum-Datum.p c.in-Datum-Datum.q in
+    c.compare_excepted.ensures ∙ sym (whole ∙ heads_tied K X S M c.compare_data.result heads c.in-Equal.is)
 
-pub tree::Pattern::cmp-returns-in_default-then : goal.tree::Pattern::cmp-returns-in_default-then
-tree::Pattern::cmp-returns-in_default-then t c =
-    let d = c.in-Datum-Datum in
-    let K = text_cmp (string_bytes d.k) (string_bytes d.l) in
-    let X = text_cmp (string_bytes d.x) (string_bytes d.y) in
-    let S = parameters_cmp (parameters_view d.s.items) (parameters_view d.t.items) in
-    let M = trees_cmp (excepted_view d.p) (excepted_view d.q) in
-    let third = c.cmp-in-Datum-Datum-3.ensures ∙ parameters_cmp-view d.s.items d.t.items in
-    let e = c.then-in-Datum-Datum-2.ensures ∙ (λ i. ordering_then (c.then-in-Datum-Datum.ensures i) (third i)) ∙ (λ i. ordering_then (ordering_then (c.cmp-in-Datum-Datum.ensures i) (c.cmp-in-Datum-Datum-2.ensures i)) S) in
-    let x = ap pattern_view d.is-0 ∙ datum_seen d.k d.x d.s d.p in
-    let y = ap pattern_view d.is-1 ∙ datum_seen d.l d.y d.t d.q in
-    let whole = (λ i. tree_cmp (x i) (y i)) ∙ datum_order (string_bytes d.k) (string_bytes d.l) (string_bytes d.x) (string_bytes d.y) (parameters_view d.s.items) (parameters_view d.t.items) d.p d.q in
-    sym (whole ∙ heads_settled K X S M c.then-in-Datum-Datum-2.result e c.in_default-then.not-Equal)
+pub tree::Pattern::cmp-returns-in_default-compare_data : goal.tree::Pattern::cmp-returns-in_default-compare_data
+tree::Pattern::cmp-returns-in_default-compare_data t c =
+    let d = c.in-Datum-Datum.d.value in
+    let e = c.in-Datum-Datum.e.value in
+    let K = text_cmp (rc_str_bytes d.library) (rc_str_bytes e.library) in
+    let X = text_cmp (string_bytes d.type_name) (string_bytes e.type_name) in
+    let S = parameters_cmp (parameters_view d.params.items) (parameters_view e.params.items) in
+    let M = trees_cmp (excepted_view c.in-Datum-Datum.p) (excepted_view c.in-Datum-Datum.q) in
+    let heads : c.compare_data.result ≡ data_cmp d e = c.compare_data.ensures ∙ (λ i. data_cmp (c.deref-in-Datum-Datum.ensures i) (c.deref-in-Datum-Datum-2.ensures i)) in
+    let x = ap pattern_view c.in-Datum-Datum.is-0 ∙ datum_seen c.in-Datum-Datum.d c.in-Datum-Datum.p in
+    let y = ap pattern_view c.in-Datum-Datum.is-1 ∙ datum_seen c.in-Datum-Datum.e c.in-Datum-Datum.q in
+    let whole = (λ i. tree_cmp (x i) (y i)) ∙ datum_order (rc_str_bytes d.library) (rc_str_bytes e.library) (string_bytes d.type_name) (string_bytes e.type_name) (parameters_view d.params.items) (parameters_view e.params.items) c.in-Datum-Datum.p c.in-Datum-Datum.q in
+    sym (whole ∙ heads_settled K X S M c.compare_data.result heads c.in_default-compare_data.not-Equal)
 
 pub tree::Pattern::cmp-returns-in_default : goal.tree::Pattern::cmp-returns-in_default
 tree::Pattern::cmp-returns-in_default t c =
@@ -101,8 +101,8 @@ tree::Pattern::cmp-returns-in_default t c =
     let by_rank = c.cmp-in_default.ensures ∙ (λ i. nat_cmp (c.rank.ensures i) (c.rank-in_default.ensures i)) in
     elim c.in_default.branch [
       | tree::Pattern::cmp-in_default-via-in-Ref+in_default w ↦ by_rank ∙ ranks_apart (pattern_view self) (pattern_view other) (λ e. not_ref other w.in_default.not-Ref-1 (sym e ∙ ap (λ n. rank (pattern_view n)) w.in_default.is-0 ∙ rank_ref w.in_default.field-0-0))
-      | tree::Pattern::cmp-in_default-via-in-Value+in_default w ↦ by_rank ∙ ranks_apart (pattern_view self) (pattern_view other) (λ e. not_value other w.in_default.not-Value-1 (sym e ∙ ap (λ n. rank (pattern_view n)) w.in_default.is-0 ∙ rank_value w.in_default.field-0-0 w.in_default.field-1-0 w.in_default.field-2-0))
-      | tree::Pattern::cmp-in_default-via-in-Datum+in_default w ↦ by_rank ∙ ranks_apart (pattern_view self) (pattern_view other) (λ e. not_datum other w.in_default.not-Datum-1 (sym e ∙ ap (λ n. rank (pattern_view n)) w.in_default.is-0 ∙ rank_datum w.in_default.field-0-0 w.in_default.field-1-0 w.in_default.field-2-0 w.in_default.field-3-0))
+      | tree::Pattern::cmp-in_default-via-in-Value+in_default w ↦ by_rank ∙ ranks_apart (pattern_view self) (pattern_view other) (λ e. not_value other w.in_default.not-Value-1 (sym e ∙ ap (λ n. rank (pattern_view n)) w.in_default.is-0 ∙ rank_value w.in_default.field-0-0))
+      | tree::Pattern::cmp-in_default-via-in-Datum+in_default w ↦ by_rank ∙ ranks_apart (pattern_view self) (pattern_view other) (λ e. not_datum other w.in_default.not-Datum-1 (sym e ∙ ap (λ n. rank (pattern_view n)) w.in_default.is-0 ∙ rank_datum w.in_default.field-0-0 w.in_default.field-1-0))
       | tree::Pattern::cmp-in_default-via-in-List+in_default w ↦ by_rank ∙ ranks_apart (pattern_view self) (pattern_view other) (λ e. not_list other w.in_default.not-List-1 (sym e ∙ ap (λ n. rank (pattern_view n)) w.in_default.is-0 ∙ rank_list w.in_default.field-0-0))
       | tree::Pattern::cmp-in_default-via-in-Attribute+in_default w ↦ by_rank ∙ ranks_apart (pattern_view self) (pattern_view other) (λ e. not_attribute other w.in_default.not-Attribute-1 (sym e ∙ ap (λ n. rank (pattern_view n)) w.in_default.is-0 ∙ rank_attribute w.in_default.field-0-0 w.in_default.field-1-0))
       | tree::Pattern::cmp-in_default-via-in-Element+in_default w ↦ by_rank ∙ ranks_apart (pattern_view self) (pattern_view other) (λ e. not_element other w.in_default.not-Element-1 (sym e ∙ ap (λ n. rank (pattern_view n)) w.in_default.is-0 ∙ rank_element w.in_default.field-0-0 w.in_default.field-1-0))

@@ -4,7 +4,7 @@ use Rattle.std.specs.Prelude.{flat_map, ◌||◌}
 use Rattle.std.specs.List.{AllByRecursion}
 use Rattle.std.proofs.lemmas.Bool.{false≢true}
 use Rattle.std.proofs.lemmas.Grind.{flat_map-append}
-use Rattle.rn_pattern.specs.Tree.{Tree, Trees, not_allowed, empty, group, interleave, choice, list_of, trees_of}
+use Rattle.rn_pattern.specs.Tree.{Tree, Trees, not_allowed, empty, group, interleave, choice}
 use Rattle.rn_pattern.specs.Order.{tree_cmp}
 use Rattle.rn_pattern.specs.Canonical.{sorted, sorted_once, node_of, is_not_allowed, has_not_allowed, alternatives, grouped, interleaved, choice_step, group_step, interleave_step}
 use Rattle.rn_pattern.specs.CanonicalShape.{may_choose, may_group, may_interleave, IsCanonicalPattern, AnyName}

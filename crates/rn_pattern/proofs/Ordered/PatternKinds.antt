@@ -4,13 +4,16 @@ use Rattle.std.specs.Prelude.{Box, String, string_bytes, Vec}
 use Rattle.std.specs.Ordering.{ordering_then}
 use Rattle.std.specs.declared.alloc.Global.{Global}
 use Rattle.std.specs.declared.rc.Rc.{Rc}
+use Rattle.std.specs.Rc.{rc_str_bytes}
 use Rattle.std.proofs.lemmas.Cmp.{ranked}
 use Rattle.rn_pattern.specs.Tree as tree
 use Rattle.rn_pattern.specs.Tree.{Text, Parameters, Tree, Trees, no_trees, more_trees, trees_of}
 use Rattle.rn_pattern.specs.Order.{rank, text_cmp, parameters_cmp, tree_cmp, trees_cmp}
 use Rattle.rn_pattern.specs.View.{pattern_step, pattern_view, shared_view, parameters_view, excepted_view}
+use Rattle.rn_pattern.specs.declared.tree.Data.{Data}
 use Rattle.rn_pattern.specs.declared.tree.NameClass.{NameClass}
 use Rattle.rn_pattern.specs.declared.tree.Pattern.{Pattern, fold-roll-Pattern, map-Pattern}
+use Rattle.rn_pattern.specs.declared.tree.Value.{Value}
 use Rattle.rn_pattern.specs.declared.tree.Pattern.TheOpen.{Pattern-F}
 use Rattle.rn_pattern.specs.declared.tree.Pattern.TheVariants as variant
 use Rattle.rn_pattern.specs.declared.tree.Pattern.TheViews as pattern
@@ -35,9 +38,9 @@ abbrev pub datum_of : Text → Text → Parameters → Trees → Tree
 datum_of k x s no_trees = tree.datum k x s
 datum_of k x s (more_trees p ps) = tree.datum_but k x s p
 
-pub datum_seen : (k x : String Global) (s : Vec (String Global × String Global) Global) (p : Option (Box Pattern Global)) → pattern_view (pattern.Datum k x s p) ≡ datum_of (string_bytes k) (string_bytes x) (parameters_view s.items) (excepted_view p)
-datum_seen k x s None = ap pattern_view (sym (variant.rolls-Datum k x s None)) ∙ fold-roll-Pattern Tree pattern_step (Pattern-F.Datum k x s None)
-datum_seen k x s (Some p) = ap pattern_view (sym (variant.rolls-Datum k x s (Some p))) ∙ fold-roll-Pattern Tree pattern_step (Pattern-F.Datum k x s (Some p))
+pub datum_seen : (d : Box Data Global) (p : Option (Box Pattern Global)) → pattern_view (pattern.Datum d p) ≡ datum_of (rc_str_bytes d.value.library) (string_bytes d.value.type_name) (parameters_view d.value.params.items) (excepted_view p)
+datum_seen d None = ap pattern_view (sym (variant.rolls-Datum d None)) ∙ fold-roll-Pattern Tree pattern_step (Pattern-F.Datum d None)
+datum_seen d (Some p) = ap pattern_view (sym (variant.rolls-Datum d (Some p))) ∙ fold-roll-Pattern Tree pattern_step (Pattern-F.Datum d (Some p))
 
 pub datum_order : (k l x y : Text) (s t : Parameters) (p q : Option (Box Pattern Global)) → tree_cmp (datum_of k x s (excepted_view p)) (datum_of l y t (excepted_view q)) ≡ ordering_then (text_cmp k l) (ordering_then (text_cmp x y) (ordering_then (parameters_cmp s t) (trees_cmp (excepted_view p) (excepted_view q))))
 datum_order k l x y s t None None = simp then-Equal
@@ -45,13 +48,13 @@ datum_order k l x y s t None (Some q) = refl
 datum_order k l x y s t (Some p) None = refl
 datum_order k l x y s t (Some p) (Some q) = simp then-Equal
 
-heads_first : (K X S M r : Ordering) → r ≡ ordering_then (ordering_then K X) S → ordering_then K (ordering_then X (ordering_then S M)) ≡ ordering_then r M
-heads_first K X S M r e = sym (ap (λ o. ordering_then o M) e ∙ then_assoc (ordering_then K X) S M ∙ then_assoc K X (ordering_then S M))
+heads_first : (K X S M r : Ordering) → r ≡ ordering_then K (ordering_then X S) → ordering_then K (ordering_then X (ordering_then S M)) ≡ ordering_then r M
+heads_first K X S M r e = sym (ap (λ o. ordering_then o M) e ∙ then_assoc K (ordering_then X S) M ∙ ap (ordering_then K) (then_assoc X S M))
 
-pub heads_tied : (K X S M r : Ordering) → r ≡ ordering_then (ordering_then K X) S → r ≡ Equal → ordering_then K (ordering_then X (ordering_then S M)) ≡ M
+pub heads_tied : (K X S M r : Ordering) → r ≡ ordering_then K (ordering_then X S) → r ≡ Equal → ordering_then K (ordering_then X (ordering_then S M)) ≡ M
 heads_tied K X S M r e h = heads_first K X S M r e ∙ then_tied r M h
 
-pub heads_settled : (K X S M r : Ordering) → r ≡ ordering_then (ordering_then K X) S → ¬ (r ≡ Equal) → ordering_then K (ordering_then X (ordering_then S M)) ≡ r
+pub heads_settled : (K X S M r : Ordering) → r ≡ ordering_then K (ordering_then X S) → ¬ (r ≡ Equal) → ordering_then K (ordering_then X (ordering_then S M)) ≡ r
 heads_settled K X S M r e h = heads_first K X S M r e ∙ then_settled r M h
 
 pub ranks_apart : (p q : Tree) → ¬ (rank p ≡ rank q) → nat_cmp (rank p) (rank q) ≡ tree_cmp p q
@@ -62,8 +65,8 @@ by_view x = ap rank (fold-roll-Pattern Tree pattern_step x)
 
 layer_ref : (x : Pattern-F Pattern) → ((a : String Global) → x ≡ Pattern-F.Ref a → ⊥) → ¬ (rank (pattern_step (map-Pattern Pattern Tree pattern_view x)) ≡ 3)
 layer_ref (Pattern-F.Ref a) h f = h a refl
-layer_ref (Pattern-F.Datum k m s None) h f = absurd (omega (arith, f))
-layer_ref (Pattern-F.Datum k m s (Some q)) h f = absurd (omega (arith, f))
+layer_ref (Pattern-F.Datum d None) h f = absurd (omega (arith, f))
+layer_ref (Pattern-F.Datum d (Some q)) h f = absurd (omega (arith, f))
 layer_ref x h f = absurd (omega (arith, f))
 
 pub not_ref : (q : Pattern) → ((a : String Global) → q ≡ variant.Ref a → ⊥) → ¬ (rank (pattern_view q) ≡ 3)
@@ -72,33 +75,33 @@ not_ref q h f =
     let whole : pattern.roll-Pattern x ≡ q = pattern.roll-out-Pattern q in
     layer_ref x (λ a k. h a (sym whole ∙ ap pattern.roll-Pattern k ∙ variant.rolls-Ref a)) (sym (by_view x) ∙ ap (λ n. rank (pattern_view n)) whole ∙ f)
 
-layer_value : (x : Pattern-F Pattern) → ((a : String Global) (b : String Global) (c : String Global) → x ≡ Pattern-F.Value a b c → ⊥) → ¬ (rank (pattern_step (map-Pattern Pattern Tree pattern_view x)) ≡ 4)
-layer_value (Pattern-F.Value a b c) h f = h a b c refl
-layer_value (Pattern-F.Datum k m s None) h f = absurd (omega (arith, f))
-layer_value (Pattern-F.Datum k m s (Some q)) h f = absurd (omega (arith, f))
+layer_value : (x : Pattern-F Pattern) → ((a : Box Value Global) → x ≡ Pattern-F.Value a → ⊥) → ¬ (rank (pattern_step (map-Pattern Pattern Tree pattern_view x)) ≡ 4)
+layer_value (Pattern-F.Value a) h f = h a refl
+layer_value (Pattern-F.Datum d None) h f = absurd (omega (arith, f))
+layer_value (Pattern-F.Datum d (Some q)) h f = absurd (omega (arith, f))
 layer_value x h f = absurd (omega (arith, f))
 
-pub not_value : (q : Pattern) → ((a : String Global) (b : String Global) (c : String Global) → q ≡ variant.Value a b c → ⊥) → ¬ (rank (pattern_view q) ≡ 4)
+pub not_value : (q : Pattern) → ((a : Box Value Global) → q ≡ variant.Value a → ⊥) → ¬ (rank (pattern_view q) ≡ 4)
 not_value q h f =
     let x = pattern.out-Pattern q in
     let whole : pattern.roll-Pattern x ≡ q = pattern.roll-out-Pattern q in
-    layer_value x (λ a b c k. h a b c (sym whole ∙ ap pattern.roll-Pattern k ∙ variant.rolls-Value a b c)) (sym (by_view x) ∙ ap (λ n. rank (pattern_view n)) whole ∙ f)
+    layer_value x (λ a k. h a (sym whole ∙ ap pattern.roll-Pattern k ∙ variant.rolls-Value a)) (sym (by_view x) ∙ ap (λ n. rank (pattern_view n)) whole ∙ f)
 
-layer_datum : (x : Pattern-F Pattern) → ((a : String Global) (b : String Global) (c : Vec (String Global × String Global) Global) (e : Option (Box Pattern Global)) → x ≡ Pattern-F.Datum a b c e → ⊥) → ¬ (rank (pattern_step (map-Pattern Pattern Tree pattern_view x)) ≡ 5)
-layer_datum (Pattern-F.Datum a b c None) h f = h a b c None refl
-layer_datum (Pattern-F.Datum a b c (Some e)) h f = h a b c (Some e) refl
+layer_datum : (x : Pattern-F Pattern) → ((a : Box Data Global) (e : Option (Box Pattern Global)) → x ≡ Pattern-F.Datum a e → ⊥) → ¬ (rank (pattern_step (map-Pattern Pattern Tree pattern_view x)) ≡ 5)
+layer_datum (Pattern-F.Datum a None) h f = h a None refl
+layer_datum (Pattern-F.Datum a (Some e)) h f = h a (Some e) refl
 layer_datum x h f = absurd (omega (arith, f))
 
-pub not_datum : (q : Pattern) → ((a : String Global) (b : String Global) (c : Vec (String Global × String Global) Global) (e : Option (Box Pattern Global)) → q ≡ variant.Datum a b c e → ⊥) → ¬ (rank (pattern_view q) ≡ 5)
+pub not_datum : (q : Pattern) → ((a : Box Data Global) (e : Option (Box Pattern Global)) → q ≡ variant.Datum a e → ⊥) → ¬ (rank (pattern_view q) ≡ 5)
 not_datum q h f =
     let x = pattern.out-Pattern q in
     let whole : pattern.roll-Pattern x ≡ q = pattern.roll-out-Pattern q in
-    layer_datum x (λ a b c e k. h a b c e (sym whole ∙ ap pattern.roll-Pattern k ∙ variant.rolls-Datum a b c e)) (sym (by_view x) ∙ ap (λ n. rank (pattern_view n)) whole ∙ f)
+    layer_datum x (λ a e k. h a e (sym whole ∙ ap pattern.roll-Pattern k ∙ variant.rolls-Datum a e)) (sym (by_view x) ∙ ap (λ n. rank (pattern_view n)) whole ∙ f)
 
 layer_list : (x : Pattern-F Pattern) → ((a : Box Pattern Global) → x ≡ Pattern-F.List a → ⊥) → ¬ (rank (pattern_step (map-Pattern Pattern Tree pattern_view x)) ≡ 6)
 layer_list (Pattern-F.List a) h f = h a refl
-layer_list (Pattern-F.Datum k m s None) h f = absurd (omega (arith, f))
-layer_list (Pattern-F.Datum k m s (Some q)) h f = absurd (omega (arith, f))
+layer_list (Pattern-F.Datum d None) h f = absurd (omega (arith, f))
+layer_list (Pattern-F.Datum d (Some q)) h f = absurd (omega (arith, f))
 layer_list x h f = absurd (omega (arith, f))
 
 pub not_list : (q : Pattern) → ((a : Box Pattern Global) → q ≡ variant.List a → ⊥) → ¬ (rank (pattern_view q) ≡ 6)
@@ -107,25 +110,25 @@ not_list q h f =
     let whole : pattern.roll-Pattern x ≡ q = pattern.roll-out-Pattern q in
     layer_list x (λ a k. h a (sym whole ∙ ap pattern.roll-Pattern k ∙ variant.rolls-List a)) (sym (by_view x) ∙ ap (λ n. rank (pattern_view n)) whole ∙ f)
 
-layer_attribute : (x : Pattern-F Pattern) → ((a : NameClass) (b : Box Pattern Global) → x ≡ Pattern-F.Attribute a b → ⊥) → ¬ (rank (pattern_step (map-Pattern Pattern Tree pattern_view x)) ≡ 7)
+layer_attribute : (x : Pattern-F Pattern) → ((a : Box NameClass Global) (b : Box Pattern Global) → x ≡ Pattern-F.Attribute a b → ⊥) → ¬ (rank (pattern_step (map-Pattern Pattern Tree pattern_view x)) ≡ 7)
 layer_attribute (Pattern-F.Attribute a b) h f = h a b refl
-layer_attribute (Pattern-F.Datum k m s None) h f = absurd (omega (arith, f))
-layer_attribute (Pattern-F.Datum k m s (Some q)) h f = absurd (omega (arith, f))
+layer_attribute (Pattern-F.Datum d None) h f = absurd (omega (arith, f))
+layer_attribute (Pattern-F.Datum d (Some q)) h f = absurd (omega (arith, f))
 layer_attribute x h f = absurd (omega (arith, f))
 
-pub not_attribute : (q : Pattern) → ((a : NameClass) (b : Box Pattern Global) → q ≡ variant.Attribute a b → ⊥) → ¬ (rank (pattern_view q) ≡ 7)
+pub not_attribute : (q : Pattern) → ((a : Box NameClass Global) (b : Box Pattern Global) → q ≡ variant.Attribute a b → ⊥) → ¬ (rank (pattern_view q) ≡ 7)
 not_attribute q h f =
     let x = pattern.out-Pattern q in
     let whole : pattern.roll-Pattern x ≡ q = pattern.roll-out-Pattern q in
     layer_attribute x (λ a b k. h a b (sym whole ∙ ap pattern.roll-Pattern k ∙ variant.rolls-Attribute a b)) (sym (by_view x) ∙ ap (λ n. rank (pattern_view n)) whole ∙ f)
 
-layer_element : (x : Pattern-F Pattern) → ((a : NameClass) (b : Box Pattern Global) → x ≡ Pattern-F.Element a b → ⊥) → ¬ (rank (pattern_step (map-Pattern Pattern Tree pattern_view x)) ≡ 8)
+layer_element : (x : Pattern-F Pattern) → ((a : Box NameClass Global) (b : Box Pattern Global) → x ≡ Pattern-F.Element a b → ⊥) → ¬ (rank (pattern_step (map-Pattern Pattern Tree pattern_view x)) ≡ 8)
 layer_element (Pattern-F.Element a b) h f = h a b refl
-layer_element (Pattern-F.Datum k m s None) h f = absurd (omega (arith, f))
-layer_element (Pattern-F.Datum k m s (Some q)) h f = absurd (omega (arith, f))
+layer_element (Pattern-F.Datum d None) h f = absurd (omega (arith, f))
+layer_element (Pattern-F.Datum d (Some q)) h f = absurd (omega (arith, f))
 layer_element x h f = absurd (omega (arith, f))
 
-pub not_element : (q : Pattern) → ((a : NameClass) (b : Box Pattern Global) → q ≡ variant.Element a b → ⊥) → ¬ (rank (pattern_view q) ≡ 8)
+pub not_element : (q : Pattern) → ((a : Box NameClass Global) (b : Box Pattern Global) → q ≡ variant.Element a b → ⊥) → ¬ (rank (pattern_view q) ≡ 8)
 not_element q h f =
     let x = pattern.out-Pattern q in
     let whole : pattern.roll-Pattern x ≡ q = pattern.roll-out-Pattern q in
@@ -133,8 +136,8 @@ not_element q h f =
 
 layer_oneormore : (x : Pattern-F Pattern) → ((a : Box Pattern Global) → x ≡ Pattern-F.OneOrMore a → ⊥) → ¬ (rank (pattern_step (map-Pattern Pattern Tree pattern_view x)) ≡ 9)
 layer_oneormore (Pattern-F.OneOrMore a) h f = h a refl
-layer_oneormore (Pattern-F.Datum k m s None) h f = absurd (omega (arith, f))
-layer_oneormore (Pattern-F.Datum k m s (Some q)) h f = absurd (omega (arith, f))
+layer_oneormore (Pattern-F.Datum d None) h f = absurd (omega (arith, f))
+layer_oneormore (Pattern-F.Datum d (Some q)) h f = absurd (omega (arith, f))
 layer_oneormore x h f = absurd (omega (arith, f))
 
 pub not_oneormore : (q : Pattern) → ((a : Box Pattern Global) → q ≡ variant.OneOrMore a → ⊥) → ¬ (rank (pattern_view q) ≡ 9)
@@ -145,8 +148,8 @@ not_oneormore q h f =
 
 layer_group : (x : Pattern-F Pattern) → ((a : Vec (Rc Pattern Global) Global) → x ≡ Pattern-F.Group a → ⊥) → ¬ (rank (pattern_step (map-Pattern Pattern Tree pattern_view x)) ≡ 10)
 layer_group (Pattern-F.Group a) h f = h a refl
-layer_group (Pattern-F.Datum k m s None) h f = absurd (omega (arith, f))
-layer_group (Pattern-F.Datum k m s (Some q)) h f = absurd (omega (arith, f))
+layer_group (Pattern-F.Datum d None) h f = absurd (omega (arith, f))
+layer_group (Pattern-F.Datum d (Some q)) h f = absurd (omega (arith, f))
 layer_group x h f = absurd (omega (arith, f))
 
 pub not_group : (q : Pattern) → ((a : Vec (Rc Pattern Global) Global) → q ≡ variant.Group a → ⊥) → ¬ (rank (pattern_view q) ≡ 10)
@@ -157,8 +160,8 @@ not_group q h f =
 
 layer_interleave : (x : Pattern-F Pattern) → ((a : Vec (Rc Pattern Global) Global) → x ≡ Pattern-F.Interleave a → ⊥) → ¬ (rank (pattern_step (map-Pattern Pattern Tree pattern_view x)) ≡ 11)
 layer_interleave (Pattern-F.Interleave a) h f = h a refl
-layer_interleave (Pattern-F.Datum k m s None) h f = absurd (omega (arith, f))
-layer_interleave (Pattern-F.Datum k m s (Some q)) h f = absurd (omega (arith, f))
+layer_interleave (Pattern-F.Datum d None) h f = absurd (omega (arith, f))
+layer_interleave (Pattern-F.Datum d (Some q)) h f = absurd (omega (arith, f))
 layer_interleave x h f = absurd (omega (arith, f))
 
 pub not_interleave : (q : Pattern) → ((a : Vec (Rc Pattern Global) Global) → q ≡ variant.Interleave a → ⊥) → ¬ (rank (pattern_view q) ≡ 11)
@@ -169,8 +172,8 @@ not_interleave q h f =
 
 layer_choice : (x : Pattern-F Pattern) → ((a : Vec (Rc Pattern Global) Global) → x ≡ Pattern-F.Choice a → ⊥) → ¬ (rank (pattern_step (map-Pattern Pattern Tree pattern_view x)) ≡ 12)
 layer_choice (Pattern-F.Choice a) h f = h a refl
-layer_choice (Pattern-F.Datum k m s None) h f = absurd (omega (arith, f))
-layer_choice (Pattern-F.Datum k m s (Some q)) h f = absurd (omega (arith, f))
+layer_choice (Pattern-F.Datum d None) h f = absurd (omega (arith, f))
+layer_choice (Pattern-F.Datum d (Some q)) h f = absurd (omega (arith, f))
 layer_choice x h f = absurd (omega (arith, f))
 
 pub not_choice : (q : Pattern) → ((a : Vec (Rc Pattern Global) Global) → q ≡ variant.Choice a → ⊥) → ¬ (rank (pattern_view q) ≡ 12)
@@ -182,20 +185,20 @@ not_choice q h f =
 pub rank_ref : (a : String Global) → rank (pattern_view (variant.Ref a)) ≡ 3
 rank_ref a = ap (λ n. rank (pattern_view n)) (sym (variant.rolls-Ref a)) ∙ by_view (Pattern-F.Ref a)
 
-pub rank_value : (a : String Global) (b : String Global) (c : String Global) → rank (pattern_view (variant.Value a b c)) ≡ 4
-rank_value a b c = ap (λ n. rank (pattern_view n)) (sym (variant.rolls-Value a b c)) ∙ by_view (Pattern-F.Value a b c)
+pub rank_value : (a : Box Value Global) → rank (pattern_view (variant.Value a)) ≡ 4
+rank_value a = ap (λ n. rank (pattern_view n)) (sym (variant.rolls-Value a)) ∙ by_view (Pattern-F.Value a)
 
-pub rank_datum : (a : String Global) (b : String Global) (c : Vec (String Global × String Global) Global) (e : Option (Box Pattern Global)) → rank (pattern_view (variant.Datum a b c e)) ≡ 5
-rank_datum a b c None = ap rank (datum_seen a b c None)
-rank_datum a b c (Some e) = ap rank (datum_seen a b c (Some e))
+pub rank_datum : (a : Box Data Global) (e : Option (Box Pattern Global)) → rank (pattern_view (variant.Datum a e)) ≡ 5
+rank_datum a None = ap rank (datum_seen a None)
+rank_datum a (Some e) = ap rank (datum_seen a (Some e))
 
 pub rank_list : (a : Box Pattern Global) → rank (pattern_view (variant.List a)) ≡ 6
 rank_list a = ap (λ n. rank (pattern_view n)) (sym (variant.rolls-List a)) ∙ by_view (Pattern-F.List a)
 
-pub rank_attribute : (a : NameClass) (b : Box Pattern Global) → rank (pattern_view (variant.Attribute a b)) ≡ 7
+pub rank_attribute : (a : Box NameClass Global) (b : Box Pattern Global) → rank (pattern_view (variant.Attribute a b)) ≡ 7
 rank_attribute a b = ap (λ n. rank (pattern_view n)) (sym (variant.rolls-Attribute a b)) ∙ by_view (Pattern-F.Attribute a b)
 
-pub rank_element : (a : NameClass) (b : Box Pattern Global) → rank (pattern_view (variant.Element a b)) ≡ 8
+pub rank_element : (a : Box NameClass Global) (b : Box Pattern Global) → rank (pattern_view (variant.Element a b)) ≡ 8
 rank_element a b = ap (λ n. rank (pattern_view n)) (sym (variant.rolls-Element a b)) ∙ by_view (Pattern-F.Element a b)
 
 pub rank_oneormore : (a : Box Pattern Global) → rank (pattern_view (variant.OneOrMore a)) ≡ 9

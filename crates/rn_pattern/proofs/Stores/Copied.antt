@@ -1,14 +1,16 @@
 -- What is copied stands for the same.
-use Rattle.std.proofs.Common.{◌≡◌, List, [], ◌∷◌, Option, Some, None, refl}
+use Rattle.std.proofs.Common.{◌≡◌, List, [], ◌∷◌, map, Option, Some, None, refl}
 use Rattle.std.specs.Prelude.{String, string_bytes, Vec}
 use Rattle.std.specs.List.{AllZip}
 use Rattle.std.specs.Option.{option_map}
 use Rattle.std.specs.declared.alloc.Global.{Global}
+use Rattle.std.specs.declared.rc.Rc.{Rc}
 use Rattle.rn_pattern.specs.Tree.{Tree}
 use Rattle.rn_pattern.specs.Store.{node_view, datum_by}
-use Rattle.rn_pattern.specs.View.{parameters_view}
+use Rattle.rn_pattern.specs.View.{parameters_view, pattern_view, shared_view}
 use Rattle.rn_pattern.specs.declared.node.Node.{Node}
 use Rattle.rn_pattern.specs.declared.node.NodeId.{NodeId}
+use Rattle.rn_pattern.specs.declared.tree.Pattern.{Pattern}
 
 pub datum_seen : (at : NodeId → Tree) (l x : String Global) (ps : Vec (String Global × String Global) Global) (e : Option NodeId) → node_view at (Node.Datum l x ps e) ≡ datum_by (string_bytes l) (string_bytes x) (parameters_view ps.items) (option_map at e)
 datum_seen at l x ps None = refl
@@ -19,3 +21,9 @@ parameters_copied [] [] h = refl
 parameters_copied [] (q ∷ qs) h = absurd h
 parameters_copied (p ∷ ps) [] h = absurd h
 parameters_copied (p ∷ ps) (q ∷ qs) h = λ i. (h.0.0 i, h.0.1 i) ∷ parameters_copied ps qs h.1 i
+
+pub members_shared : (ps qs : List (Rc Pattern Global)) → AllZip (λ (p q : Rc Pattern Global). q.value ≡ p.value) ps qs → map shared_view qs ≡ map shared_view ps
+members_shared [] [] h = refl
+members_shared [] (q ∷ qs) h = absurd h
+members_shared (p ∷ ps) [] h = absurd h
+members_shared (p ∷ ps) (q ∷ qs) h = λ i. pattern_view (h.0 i) ∷ members_shared ps qs h.1 i

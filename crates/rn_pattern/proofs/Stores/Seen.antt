@@ -1,6 +1,8 @@
 -- The trees of name classes and of patterns with a list of members.
 use Rattle.std.proofs.Common.{◌≡◌, List, [], ◌∷◌, map, Some, None, refl, sym, ap, subst, ◌∙◌}
-use Rattle.std.specs.Prelude.{Box, String, string_bytes, Vec}
+use Rattle.std.specs.Prelude.{Box, Vec}
+use Rattle.std.specs.Rc.{rc_str_bytes}
+use Rattle.std.specs.declared.rc.RcStr.{RcStr}
 use Rattle.std.specs.declared.alloc.Global.{Global}
 use Rattle.rn_pattern.specs.Tree as tree
 use Rattle.rn_pattern.specs.Tree.{NameTree, name_list_of, name_trees_of}
@@ -17,7 +19,7 @@ choice_seen v = ap name_class_view (sym (rolls-Choice v)) ∙ fold-roll-NameClas
 pub any_name_but_seen : (c : Box NameClass Global) → name_class_view (class.AnyName (Some c)) ≡ tree.any_name_but (name_class_view c.value)
 any_name_but_seen c = ap name_class_view (sym (rolls-AnyName (Some c))) ∙ fold-roll-NameClass NameTree name_class_step (NameClass-F.AnyName (Some c))
 
-pub ns_name_but_seen : (u : String Global) (c : Box NameClass Global) → name_class_view (class.NsName u (Some c)) ≡ tree.ns_name_but (string_bytes u) (name_class_view c.value)
+pub ns_name_but_seen : (u : RcStr Global) (c : Box NameClass Global) → name_class_view (class.NsName u (Some c)) ≡ tree.ns_name_but (rc_str_bytes u) (name_class_view c.value)
 ns_name_but_seen u c = ap name_class_view (sym (rolls-NsName u (Some c))) ∙ fold-roll-NameClass NameTree name_class_step (NameClass-F.NsName u (Some c))
 
 layer : (x : NameClass-F NameClass) → ((v : Vec NameClass Global) → x ≡ NameClass-F.Choice v → ⊥) → names_within (name_class_step (map-NameClass NameClass NameTree name_class_view x)) ≡ name_class_step (map-NameClass NameClass NameTree name_class_view x) ∷ []

@@ -18,7 +18,7 @@ use Rattle.rn_pattern.proofs.Matches.OpenedKeeps.{opened_valid}
 use Rattle.rn_syntax.specs.Tree as t
 use Rattle.rn_syntax.specs.Tree.{Declaration, Module}
 use Rattle.rn_syntax.proofs.EmptyLists.{nil_parts}
-use Rattle.rn_assemble.specs.Components.{Key, start_key, name_key, same_key, Component, Source, has_key, item_includes, includes, Includes, components, instances, instances_within, roots, set_components}
+use Rattle.rn_assemble.specs.Components.{Key, start_key, name_key, same_key, Component, NamedModule, has_key, item_includes, includes, Includes, components, instances, instances_within, roots, set_components}
 use Rattle.rn_assemble.specs.Combine.{of_key, bodies, combined, IsPlainTwice, IsMixed, IsCombination, join, joined, joined_grammar, read, components_of, AreDistinct}
 use Rattle.rn_assemble.specs.WellFormed.{IsWellFormed}
 use Rattle.rn_assemble.specs.Refusal.{Refusal, conflict, faulty, missing, cycle, too_many_instances, override, plain_twice, mixed_methods, no_start, undefined, recursive, name_class, item_lacks, items_lack, Lacks, StandsFor, grammar_of}
@@ -98,13 +98,13 @@ keeps_rules cs w (name_key y) h = keeps_at (name_key y) cs (bodies (name_key y) 
 
 -- a set of one module that includes none
 module _ (x : Text) (m : Module) (alone : includes m.items ≡ []) where
-  abbrev one : Source
+  abbrev one : NamedModule
   one = record { name = x; tree = m }
 
-  abbrev set : List Source
+  abbrev set : List NamedModule
   set = one ∷ []
 
-  wanted_at : (b : Bool) → flat_map (λ (s : Source). includes s.tree.items) (cond b set []) ≡ []
+  wanted_at : (b : Bool) → flat_map (λ (s : NamedModule). includes s.tree.items) (cond b set []) ≡ []
   wanted_at true = ap (λ l. l ++ []) alone
   wanted_at false = refl
 
@@ -121,23 +121,23 @@ module _ (x : Text) (m : Module) (alone : includes m.items ≡ []) where
   one_instance : instances set x ≡ 1
   one_instance = ap (λ l. 1 + sum_by (instances_within 512 set) l) (wanted_at (bytes_eq x x))
 
-  few_instances : ¬ (512 < sum_by (λ (r : Source). instances set r.name) (roots set))
+  few_instances : ¬ (512 < sum_by (λ (r : NamedModule). instances set r.name) (roots set))
   few_instances h =
-      let l : 512 < sum_by (λ (r : Source). instances set r.name) set = subst (λ (rs : List Source). 512 < sum_by (λ (r : Source). instances set r.name) rs) one_root h in
-      absurd (omega (arith, l, sum_by-cons (λ (r : Source). instances set r.name) one [], one_instance))
+      let l : 512 < sum_by (λ (r : NamedModule). instances set r.name) set = subst (λ (rs : List NamedModule). 512 < sum_by (λ (r : NamedModule). instances set r.name) rs) one_root h in
+      absurd (omega (arith, l, sum_by-cons (λ (r : NamedModule). instances set r.name) one [], one_instance))
 
-  named_one : (b : Bool) (s : Source) → Contains (cond b set []) s → s ≡ one
+  named_one : (b : Bool) (s : NamedModule) → Contains (cond b set []) s → s ≡ one
   named_one true s c = ⊎_elim (λ e. sym e) (λ (i, l, is). absurd (omega (arith, l))) (contains_cases one s [] c)
   named_one false s (i, l, is) = absurd (omega (arith, l))
 
   no_override : (y : Text) (k : Key) → ¬ Lacks set y k
   no_override y k (s, c, h) =
       let e : s ≡ one = named_one (bytes_eq y x) s c in
-      let here : items_lack (components set) [] m.declarations m.items k ≡ true = subst (λ (v : Source). items_lack (components set) [] v.tree.declarations v.tree.items k ≡ true) e h in
+      let here : items_lack (components set) [] m.declarations m.items k ≡ true = subst (λ (v : NamedModule). items_lack (components set) [] v.tree.declarations v.tree.items k ≡ true) e h in
       false≢true (sym (items_lack_none (components set) [] m.declarations k m.items alone) ∙ here)
 
 module _ (G N : Grammar) (c : IsCanonicalOf G N) (w : IsWellFormed G) (r : IsReadBack N) (x : Text) where
-  abbrev printed : List Source
+  abbrev printed : List NamedModule
   printed = record { name = x; tree = r.tree } ∷ []
 
   parts : set_components printed ≡ components_of (opened_grammar N)

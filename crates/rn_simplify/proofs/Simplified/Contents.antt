@@ -12,7 +12,7 @@ use Rattle.rn_simplify.specs.inside.Contents.{content_of}
 
 -- a pattern over a content
 abbrev pub IsOver : Pattern → Box Pattern Global → Type 0
-IsOver p b = (p ≡ variant.List b) ⊎ (((c : NameClass) × p ≡ variant.Attribute c b) ⊎ (((c : NameClass) × p ≡ variant.Element c b) ⊎ (p ≡ variant.OneOrMore b)))
+IsOver p b = (p ≡ variant.List b) ⊎ (((c : Box NameClass Global) × p ≡ variant.Attribute c b) ⊎ (((c : Box NameClass Global) × p ≡ variant.Element c b) ⊎ (p ≡ variant.OneOrMore b)))
 
 pub content_seen : (p : Pattern) (b : Box Pattern Global) → IsOver p b → content_of (pattern_view p) ≡ Some (pattern_view b.value)
 content_seen p b (inl e) = ap (λ q. content_of (pattern_view q)) (e ∙ sym (variant.rolls-List b)) ∙ ap content_of (fold-roll-Pattern Tree pattern_step (Pattern-F.List b))

@@ -1,7 +1,8 @@
 -- Texts that are gathered one after the other are in order, each once.
 use Rattle.std.proofs.Common.{◌≡◌, Bool, true, false, List, [], ◌∷◌, ◌++◌, map, refl, sym, ap, ◌∙◌, subst, append_assoc, append-nil, ◌⊎◌, inl, inr, length, nat_eq}
-use Rattle.std.specs.Prelude.{String, string_bytes, bytes_eq, not, ◌||◌, Vec, Box, Result, Ok, Err, OnOk}
+use Rattle.std.specs.Prelude.{String, string_bytes, bytes_eq, not, ◌||◌, Vec, Box, Option, Some, Result, Ok, Err, OnOk}
 use Rattle.std.specs.List.{list_any}
+use Rattle.std.specs.Rc.{rc_str_bytes}
 use Rattle.std.specs.BTreeSet.{BTreeSet, insert_key}
 use Rattle.std.specs.declared.rc.Rc.{Rc}
 use Rattle.std.specs.declared.alloc.Global.{Global}
@@ -16,6 +17,7 @@ use Rattle.rn_pattern.specs.Tree.{Text, NameTree, name_trees_of, Tree, trees_of}
 use Rattle.rn_pattern.specs.Order.{text_cmp}
 use Rattle.rn_pattern.specs.Canonical.{put_once, sorted_once}
 use Rattle.rn_pattern.specs.View.{name_class_view, pattern_step, pattern_view, shared_view}
+use Rattle.rn_pattern.specs.declared.tree.Data.{Data}
 use Rattle.rn_pattern.specs.declared.tree.NameClass.{NameClass}
 use Rattle.rn_pattern.specs.declared.tree.Pattern.{Pattern}
 use Rattle.rn_pattern.specs.declared.tree.Pattern.TheOpen.{Pattern-F}
@@ -28,7 +30,7 @@ use Rattle.rn_pattern.proofs.Ordered.Sorting.{sorted_once_permutation}
 use Rattle.rn_simplify.specs.declared.mentions.Mentions.{Mentions}
 use Rattle.rn_simplify.proofs.ReadBack.Ordered.{any_mapped}
 use Rattle.rn_simplify.specs.Spelling.{name_uris, names_uris, mentions, mentions_all}
-use Rattle.rn_simplify.specs.inside.Gathers.{is_other, IsGathered, GathersTexts, Mentioned, nothing, both, by_name, by_names, by_tree, by_trees, Gathers}
+use Rattle.rn_simplify.specs.inside.Gathers.{is_other, IsGathered, GathersTexts, Mentioned, nothing, both, by_library, by_name, by_names, by_tree, by_trees, Gathers}
 
 -- ---- one more text
 
@@ -133,13 +135,16 @@ in_list p v (inl e) = ap (λ q. by_tree (pattern_view q)) e ∙ ap by_tree (grou
 in_list p v (inr (inl e)) = ap (λ q. by_tree (pattern_view q)) e ∙ ap by_tree (interleave_seen v)
 in_list p v (inr (inr e)) = ap (λ q. by_tree (pattern_view q)) e ∙ ap by_tree (choice_seen v)
 
-attribute_named : (n : NameClass) (q : Box Pattern Global) → by_tree (pattern_view (variant.Attribute n q)) ≡ both (by_name (name_class_view n)) (by_tree (pattern_view q.value))
+attribute_named : (n : Box NameClass Global) (q : Box Pattern Global) → by_tree (pattern_view (variant.Attribute n q)) ≡ both (by_name (name_class_view n.value)) (by_tree (pattern_view q.value))
 attribute_named n q = ap by_tree (ap pattern_view (sym (variant.rolls-Attribute n q)) ∙ fold-roll-Pattern Tree pattern_step (Pattern-F.Attribute n q))
 
-element_named : (n : NameClass) (q : Box Pattern Global) → by_tree (pattern_view (variant.Element n q)) ≡ both (by_name (name_class_view n)) (by_tree (pattern_view q.value))
+element_named : (n : Box NameClass Global) (q : Box Pattern Global) → by_tree (pattern_view (variant.Element n q)) ≡ both (by_name (name_class_view n.value)) (by_tree (pattern_view q.value))
 element_named n q = ap by_tree (ap pattern_view (sym (variant.rolls-Element n q)) ∙ fold-roll-Pattern Tree pattern_step (Pattern-F.Element n q))
 
-pub named : (p : Pattern) (n : NameClass) (q : Box Pattern Global) → (p ≡ variant.Attribute n q) ⊎ (p ≡ variant.Element n q) → by_tree (pattern_view p) ≡ both (by_name (name_class_view n)) (by_tree (pattern_view q.value))
+pub with_library : (p : Pattern) (d : Box Data Global) (o : Option (Box Pattern Global)) (q : Box Pattern Global) → p ≡ variant.Datum d o → o ≡ Some q → by_tree (pattern_view p) ≡ both (by_library (rc_str_bytes d.value.library)) (by_tree (pattern_view q.value))
+with_library p d o q e h = ap (λ r. by_tree (pattern_view r)) (e ∙ ap (variant.Datum d) h ∙ sym (variant.rolls-Datum d (Some q))) ∙ ap by_tree (fold-roll-Pattern Tree pattern_step (Pattern-F.Datum d (Some q)))
+
+pub named : (p : Pattern) (n : Box NameClass Global) (q : Box Pattern Global) → (p ≡ variant.Attribute n q) ⊎ (p ≡ variant.Element n q) → by_tree (pattern_view p) ≡ both (by_name (name_class_view n.value)) (by_tree (pattern_view q.value))
 named p n q (inl e) = ap (λ r. by_tree (pattern_view r)) e ∙ attribute_named n q
 named p n q (inr e) = ap (λ r. by_tree (pattern_view r)) e ∙ element_named n q
 

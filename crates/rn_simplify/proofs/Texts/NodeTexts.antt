@@ -12,14 +12,15 @@ use Rattle.rn_text.specs.declared.parts.Part.TheVariants.{Token}
 use Rattle.rn_text.specs.Parts.{Piece}
 use Rattle.rn_pattern.specs.Tree as tree
 use Rattle.rn_pattern.specs.Tree.{Text, NameTree, Tree}
+use Rattle.rn_pattern.specs.declared.tree.Data.{Data}
 use Rattle.rn_pattern.specs.declared.tree.Pattern.{Pattern}
 use Rattle.rn_pattern.specs.declared.tree.Pattern.TheOpen.{Pattern-F}
 use Rattle.rn_pattern.specs.declared.tree.Pattern.TheViews.{out-Pattern, roll-Pattern, the_lemmas}
 use Rattle.rn_pattern.specs.declared.tree.Pattern.TheFolds.{fold-roll-Pattern}
 use Rattle.rn_simplify.specs.declared.writer.Writer.{Writer}
-use Rattle.rn_simplify.specs.Spelling.{Prefixes, Written, symbol, keyword, space, infix_of, braced, parenthesized, primary, operand, chain, chain_or_one, datum_pieces, optional, optional_one, written_name, written_tree, written_choice, written_interleave}
-use Rattle.rn_pattern.specs.View.{parameters_view, pattern_step, pattern_view}
-use Rattle.rn_simplify.specs.inside.Writes.{rows_of, begins, none, opening, closing, Writes, WritesBytes}
+use Rattle.rn_simplify.specs.Spelling.{Prefixes, Written, symbol, keyword, space, infix_of, braced, parenthesized, primary, operand, chain, chain_or_one, optional, optional_one, written_name, written_tree, written_choice, written_interleave}
+use Rattle.rn_pattern.specs.View.{pattern_step, pattern_view}
+use Rattle.rn_simplify.specs.inside.Writes.{data_text, rows_of, begins, none, opening, closing, Writes, WritesBytes}
 use Rattle.rn_simplify.proofs.Texts.Writing.{writes_nil, writes_as, writes_then, writes_pieces}
 use Rattle.rn_simplify.proofs.Texts.PartTexts.{writes_minus, writes_braced, writes_parenthesized, writes_part}
 use Rattle.rn_simplify.proofs.Texts.PatternTexts.{space_written}
@@ -67,15 +68,13 @@ pub writes_except : (f : Prefixes) (p : Tree) {a b c : Writer} → WritesBytes (
 writes_except f p h k = writes_then (infix_of (codes "-")) (primary (written_tree f p)) (writes_minus h) k
 
 -- with what is excepted, if anything is
-pub writes_datum : (f : Prefixes) (l x : String Global) (ps : Vec (String Global × String Global) Global) (o : Option (Box Pattern Global)) {a b c : Writer} → Writes (datum_pieces f (string_bytes l) (string_bytes x) (parameters_view ps.items)) a b → MatchOption o (Writes [] b c) (λ p. Writes (infix_of (codes "-") ++ primary (written_tree f (pattern_view p.value))) b c) → Writes (written_tree f (pattern_view (pat.Datum l x ps o))).pieces a c
-writes_datum f l x ps None {a} {b} {c} h k =
-    let e : pattern_view (pat.Datum l x ps None) ≡ tree.datum (string_bytes l) (string_bytes x) (parameters_view ps.items) = ap pattern_view (sym (pat.rolls-Datum l x ps None)) ∙ fold-roll-Pattern Tree pattern_step (Pattern-F.Datum l x ps None) in
-    subst (λ t. Writes (written_tree f t).pieces a c) (sym e)
-    (writes_as (append-nil _) (writes_then (datum_pieces f (string_bytes l) (string_bytes x) (parameters_view ps.items)) [] h k))
-writes_datum f l x ps (Some p) {a} {b} {c} h k =
-    let e : pattern_view (pat.Datum l x ps (Some p)) ≡ tree.datum_but (string_bytes l) (string_bytes x) (parameters_view ps.items) (pattern_view p.value) = ap pattern_view (sym (pat.rolls-Datum l x ps (Some p))) ∙ fold-roll-Pattern Tree pattern_step (Pattern-F.Datum l x ps (Some p)) in
-    subst (λ t. Writes (written_tree f t).pieces a c) (sym e)
-    (writes_then (datum_pieces f (string_bytes l) (string_bytes x) (parameters_view ps.items)) (infix_of (codes "-") ++ primary (written_tree f (pattern_view p.value))) h k)
+pub writes_datum : (f : Prefixes) (d : Box Data Global) (o : Option (Box Pattern Global)) {a b c : Writer} → Writes (data_text f d.value) a b → MatchOption o (Writes [] b c) (λ p. Writes (infix_of (codes "-") ++ primary (written_tree f (pattern_view p.value))) b c) → Writes (written_tree f (pattern_view (pat.Datum d o))).pieces a c
+writes_datum f d None {a} {b} {c} h k =
+    let e = ap pattern_view (sym (pat.rolls-Datum d None)) ∙ fold-roll-Pattern Tree pattern_step (Pattern-F.Datum d None) in
+    subst (λ t. Writes (written_tree f t).pieces a c) (sym e) (writes_as (append-nil _) (writes_then (data_text f d.value) [] h k))
+writes_datum f d (Some p) {a} {b} {c} h k =
+    let e = ap pattern_view (sym (pat.rolls-Datum d (Some p))) ∙ fold-roll-Pattern Tree pattern_step (Pattern-F.Datum d (Some p)) in
+    subst (λ t. Writes (written_tree f t).pieces a c) (sym e) (writes_then (data_text f d.value) (infix_of (codes "-") ++ primary (written_tree f (pattern_view p.value))) h k)
 
 pub writes_list : (f : Prefixes) (p : Tree) {a b c : Writer} → WritesBytes (codes "list") none a b → Writes (braced (written_tree f p).pieces) b c → Writes (written_tree f (tree.list p)).pieces a c
 writes_list f p h k = writes_then (keyword (codes "list") ∷ []) (braced (written_tree f p).pieces) (writes_list_word h) k
@@ -225,9 +224,9 @@ not_repeated_at f p Pattern-F.NotAllowed e h = rolled f p _ e ∙ ap (λ t. (wri
 not_repeated_at f p Pattern-F.Empty e h = rolled f p _ e ∙ ap (λ t. (written_tree f t).repeated) (fold-roll-Pattern Tree pattern_step Pattern-F.Empty)
 not_repeated_at f p Pattern-F.Text e h = rolled f p _ e ∙ ap (λ t. (written_tree f t).repeated) (fold-roll-Pattern Tree pattern_step Pattern-F.Text)
 not_repeated_at f p (Pattern-F.Ref x) e h = rolled f p _ e ∙ ap (λ t. (written_tree f t).repeated) (fold-roll-Pattern Tree pattern_step (Pattern-F.Ref x))
-not_repeated_at f p (Pattern-F.Value l x t) e h = rolled f p _ e ∙ ap (λ t. (written_tree f t).repeated) (fold-roll-Pattern Tree pattern_step (Pattern-F.Value l x t))
-not_repeated_at f p (Pattern-F.Datum l x ps None) e h = rolled f p _ e ∙ ap (λ t. (written_tree f t).repeated) (fold-roll-Pattern Tree pattern_step (Pattern-F.Datum l x ps None))
-not_repeated_at f p (Pattern-F.Datum l x ps (Some b)) e h = rolled f p _ e ∙ ap (λ t. (written_tree f t).repeated) (fold-roll-Pattern Tree pattern_step (Pattern-F.Datum l x ps (Some b)))
+not_repeated_at f p (Pattern-F.Value v) e h = rolled f p _ e ∙ ap (λ t. (written_tree f t).repeated) (fold-roll-Pattern Tree pattern_step (Pattern-F.Value v))
+not_repeated_at f p (Pattern-F.Datum d None) e h = rolled f p _ e ∙ ap (λ t. (written_tree f t).repeated) (fold-roll-Pattern Tree pattern_step (Pattern-F.Datum d None))
+not_repeated_at f p (Pattern-F.Datum d (Some b)) e h = rolled f p _ e ∙ ap (λ t. (written_tree f t).repeated) (fold-roll-Pattern Tree pattern_step (Pattern-F.Datum d (Some b)))
 not_repeated_at f p (Pattern-F.List b) e h = rolled f p _ e ∙ ap (λ t. (written_tree f t).repeated) (fold-roll-Pattern Tree pattern_step (Pattern-F.List b))
 not_repeated_at f p (Pattern-F.Attribute n b) e h = rolled f p _ e ∙ ap (λ t. (written_tree f t).repeated) (fold-roll-Pattern Tree pattern_step (Pattern-F.Attribute n b))
 not_repeated_at f p (Pattern-F.Element n b) e h = rolled f p _ e ∙ ap (λ t. (written_tree f t).repeated) (fold-roll-Pattern Tree pattern_step (Pattern-F.Element n b))

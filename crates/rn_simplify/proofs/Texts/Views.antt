@@ -1,6 +1,8 @@
 -- The trees of name classes and patterns by their variants.
 use Rattle.std.proofs.Common.{◌≡◌, Some, sym, ap, ◌∙◌}
-use Rattle.std.specs.Prelude.{String, string_bytes, Box}
+use Rattle.std.specs.Prelude.{Box}
+use Rattle.std.specs.Rc.{rc_str_bytes}
+use Rattle.std.specs.declared.rc.RcStr.{RcStr}
 use Rattle.std.specs.declared.alloc.Global.{Global}
 use Rattle.rn_pattern.specs.Tree as tree
 use Rattle.rn_pattern.specs.Tree.{NameTree, Tree, name_trees_of, trees_of}
@@ -13,5 +15,5 @@ use Rattle.rn_pattern.specs.View.{name_class_step, name_class_view}
 pub any_but_view : (p : Box NameClass Global) → name_class_view (n.AnyName (Some p)) ≡ tree.any_name_but (name_class_view p.value)
 any_but_view p = ap name_class_view (sym (n.rolls-AnyName (Some p))) ∙ fold-roll-NameClass NameTree name_class_step (NameClass-F.AnyName (Some p))
 
-pub ns_but_view : (u : String Global) (p : Box NameClass Global) → name_class_view (n.NsName u (Some p)) ≡ tree.ns_name_but (string_bytes u) (name_class_view p.value)
+pub ns_but_view : (u : RcStr Global) (p : Box NameClass Global) → name_class_view (n.NsName u (Some p)) ≡ tree.ns_name_but (rc_str_bytes u) (name_class_view p.value)
 ns_but_view u p = ap name_class_view (sym (n.rolls-NsName u (Some p))) ∙ fold-roll-NameClass NameTree name_class_step (NameClass-F.NsName u (Some p))

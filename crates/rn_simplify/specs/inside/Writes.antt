@@ -1,5 +1,6 @@
 -- What is appended to a text up to a limit, and the brackets that are open at its end.
 use Rattle.std.specs.Prelude.{◌≡◌, ℕ, ◌+◌, ◌-◌, ◌<◌, ◌≤◌, Bool, true, false, cond, ◌||◌, List, [], ◌∷◌, ◌++◌, length, codes, Option, Some, None, option_and_then, nat_lt, bytes_eq, map, string_bytes}
+use Rattle.std.specs.Rc.{rc_str_bytes}
 use Rattle.std.specs.Str.{chars, encode_utf8_all}
 use Rattle.rn_text.specs.declared.parts.Part.{Part}
 use Rattle.rn_text.specs.declared.parts.Part.TheVariants.{Token}
@@ -15,11 +16,13 @@ use Rattle.rn_simplify.specs.declared.shapes.Shape.{Shape}
 use Rattle.rn_simplify.specs.declared.shapes.Shape.TheVariants.{Closed, Postfixed, Chained}
 use Rattle.rn_simplify.specs.declared.declared_prefixes.Prefixes as code
 use Rattle.rn_simplify.specs.Spelling as s
-use Rattle.rn_simplify.specs.Spelling.{closed, postfixed, chained, Written, written_tree, bindings, default_line, infix_of, literal, line_end, library_prefix, namespace_prefix}
+use Rattle.rn_simplify.specs.Spelling.{closed, postfixed, chained, Written, written_tree, bindings, datum_pieces, default_line, infix_of, literal, line_end, library_prefix, namespace_prefix, value_pieces}
 use Rattle.std.specs.declared.rc.Rc.{Rc}
 use Rattle.std.specs.declared.alloc.Global.{Global}
+use Rattle.rn_pattern.specs.declared.tree.Data.{Data}
 use Rattle.rn_pattern.specs.declared.tree.Pattern.{Pattern}
-use Rattle.rn_pattern.specs.View.{pattern_view}
+use Rattle.rn_pattern.specs.declared.tree.Value.{Value}
+use Rattle.rn_pattern.specs.View.{parameters_view, pattern_view}
 pub use Rattle.rn_simplify.specs.Limits.{most_bytes, most_open}
 
 -- the pieces in bytes
@@ -91,6 +94,13 @@ shape_view Chained = chained
 -- the texts that have prefixes, in their order
 abbrev pub prefixes_view : code.Prefixes → s.Prefixes
 prefixes_view f = record { namespaces = map (λ u. string_bytes u) f.namespaces.keys; libraries = map (λ l. string_bytes l) f.libraries.keys }
+
+-- a value and data as they are written
+abbrev pub value_text : s.Prefixes → Value → List Piece
+value_text f v = value_pieces f (rc_str_bytes v.library) (string_bytes v.type_name) (string_bytes v.text)
+
+abbrev pub data_text : s.Prefixes → Data → List Piece
+data_text f d = datum_pieces f (rc_str_bytes d.library) (string_bytes d.type_name) (parameters_view d.params.items)
 
 -- the members of a list as they are written
 abbrev pub rows_of : s.Prefixes → List (Rc Pattern Global) → List Written

@@ -1,4 +1,5 @@
 use Rattle.std.proofs.Common.{◌≡◌, ◌+◌, ◌-◌, ◌<◌, ◌≤◌, ◌++◌, ◌∷◌, [], ℕ, suc, List, length, get_or, take, drop, map, Option, None, refl, sym, ap, ◌∙◌, subst, arith}
+use Rattle.std.specs.Rc.{rc_str_bytes}
 use Rattle.std.specs.Prelude.{slice_range}
 use Rattle.std.specs.List.{AllByRecursion}
 use Rattle.std.proofs.lemmas.List.{drop_more, drop_all, map-append, take_all, take_more}
@@ -34,7 +35,7 @@ expand-returns-in_default-clause-lacks t c = λ modules names live k l. absurd (
 
 pub expand-returns-then-depth-eq0-clause-lacks : goal.expand-returns-then-depth-eq0-clause-lacks
 expand-returns-then-depth-eq0-clause-lacks t c = λ modules names live k l.
-    let Q : ℕ → Text → specs.Key → Type 0 = λ d. LacksWithin d modules (name_at modules c.args.«module») c.args.inherited.now in
+    let Q : ℕ → Text → specs.Key → Type 0 = λ d. LacksWithin d modules (name_at modules c.args.«module») (rc_str_bytes c.args.inherited.now) in
     subst (λ d. Notes (AtNumbers modules names (Q d)) c.args.components.now.lack c.args.components.now.lack) (sym c.if-depth-eq0.true)
     (notes_none (AtNumbers modules names (Q 0)) c.args.components.now.lack (λ q h. h.2))
 
@@ -43,9 +44,9 @@ expand-includes-init t c = record {
   going = λ modules names live m k is flat.
       let at = c.in-Some.ensures.lookup.3 in
       let item : IsItem c.args.contents.now c.args.«module» c.in-Some.content.now = record { within = at.0; is = λ d. sym (at.1 d) } in
-      let P = InclusionLacks (c.args.depth - 1) modules (name_at modules c.args.«module») c.args.inherited.now m.tree.declarations (map (written_view names) c.in-Some.content.now.components.items) in
+      let P = InclusionLacks (c.args.depth - 1) modules (name_at modules c.args.«module») (rc_str_bytes c.args.inherited.now) m.tree.declarations (map (written_view names) c.in-Some.content.now.components.items) in
       let kept = c.in_ok-first.ensures.kept in (
-        going_none modules names c.args.contents.now c.in-Some.content.now live m c.args.inherited.now (c.args.depth - 1) c.in_ok-first.first c.args.components.now c.enter.new.self is flat k.lists kept (c.in_ok-first.ensures.entered c.args.contents.now k.contexts item refl),
+        going_none modules names c.args.contents.now c.in-Some.content.now live m (rc_str_bytes c.args.inherited.now) (c.args.depth - 1) c.in_ok-first.first c.args.components.now c.enter.new.self is flat k.lists kept (c.in_ok-first.ensures.entered c.args.contents.now k.contexts item refl),
         λ w. subst (λ (o : Option Lack). Notes (AtNumbers modules names (SomeLacks P [])) c.args.components.now.lack o) (sym kept.lack) (some_none modules names P c.args.components.now.lack),
       );
 }
@@ -55,7 +56,7 @@ expand-includes-preserved t c = record {
   going = λ modules names live m k is flat.
       let contents = c.args.contents.now in
       let content = c.in-Some.content.now in
-      let u = c.args.inherited.now in
+      let u = (rc_str_bytes c.args.inherited.now) in
       let ds = m.tree.declarations in
       let items = content.includes.items in
       let i = c.includes.include-index in
@@ -86,7 +87,7 @@ pub expand-returns-clause-expands : goal.expand-returns-clause-expands
 expand-returns-clause-expands t c = λ modules names live k l.
     let contents = c.args.contents.now in
     let content = c.in-Some.content.now in
-    let u = c.args.inherited.now in
+    let u = (rc_str_bytes c.args.inherited.now) in
     let items = content.includes.items in
     let at = c.in-Some.ensures.lookup.3 in
     let r = module_at (IsContents modules names) modules contents k.modules_in_order k.are k.flat c.args.«module» l in
@@ -105,7 +106,7 @@ pub expand-returns-clause-lacks : goal.expand-returns-clause-lacks
 expand-returns-clause-lacks t c = λ modules names live k l.
     let contents = c.args.contents.now in
     let content = c.in-Some.content.now in
-    let u = c.args.inherited.now in
+    let u = (rc_str_bytes c.args.inherited.now) in
     let x = name_at modules c.args.«module» in
     let items = content.includes.items in
     let at = c.in-Some.ensures.lookup.3 in
@@ -127,18 +128,18 @@ expand_include-returns t c =
     let contents = c.args.contents.now in
     let content = c.args.content.now in
     let include = c.args.include.now in
-    let u = c.args.scope.inherited.now in
+    let u = (rc_str_bytes c.args.context.inherited.now) in
     let old = c.args.components.now in
     let mid = c.match-include.components in
     let noted = c.note_lacks.new.self in
     let taken = c.take_out.new.self in
     let n = c.note_lacks.ensures in
     let before : length old.list.items ≡ c.len-before.result = sym (c.len-before.ensures ∙ old.list.ok.0) in
-    let included : (modules : List specs.Source) (names : List Text) (live : List Live) (ds : List Declaration) → CanExpand modules names contents old live → CanInclude modules names content include ds → c.args.scope.bindings.now ≡ content.bindings
+    let included : (modules : List specs.NamedModule) (names : List Text) (live : List Live) (ds : List Declaration) → CanExpand modules names contents old live → CanInclude modules names content include ds → c.args.context.bindings.now ≡ content.bindings
     → Expands names contents old mid live (included_in c.args.depth modules include.«module» (specs.handed_on u ds (prefix_view include.inherit))) =
     λ modules names live ds k i same.
     let v = specs.handed_on u ds (prefix_view include.inherit) in
-    let binds : BindsAs c.args.scope.bindings.now ds = subst (λ b. BindsAs b ds) (sym same) i.binds in
+    let binds : BindsAs c.args.context.bindings.now ds = subst (λ b. BindsAs b ds) (sym same) i.binds in
     elim c.match-include.branch [
       | expand_include-in-Some+in_ok-expand w ↦
           subst (λ (x : Components). Expands names contents old x live (included_in c.args.depth modules include.«module» v)) (sym w.components-is)
@@ -157,7 +158,7 @@ expand_include-returns t c =
           overrides names contents content u ds old mid noted taken live _ include.from include.to e k.names_in_order i.numbered n.kept n.list n.places c.take_out.ensures.kept c.take_out.ensures.list left;
       lacks = λ modules names live ds k i same w.
           let v = specs.handed_on u ds (prefix_view include.inherit) in
-          let binds : BindsAs c.args.scope.bindings.now ds = subst (λ b. BindsAs b ds) (sym same) i.binds in
+          let binds : BindsAs c.args.context.bindings.now ds = subst (λ b. BindsAs b ds) (sym same) i.binds in
           let e = included modules names live ds k i same in
           let within : Notes (AtNumbers modules names (IncludedLacks c.args.depth modules include.«module» v)) old.lack mid.lack = elim c.match-include.branch [
             | expand_include-in-Some+in_ok-expand b ↦

@@ -1,24 +1,24 @@
 use Rattle.std.proofs.Common.{◌+◌, List, sym, subst, take, arith}
 use Rattle.std.proofs.lemmas.List.{take_all}
 use Rattle.std.specs.List.{AllZip}
-use Rattle.rn_assemble.specs.declared.modules.Source.{Source}
+use Rattle.rn_assemble.specs.declared.modules.NamedModule.{NamedModule}
 use Rattle.rn_assemble.specs.declared.contents.Contents.{Contents}
 use Rattle.rn_assemble.specs.inside.Listed.{IsContents}
-use Rattle.rn_assemble.specs.inside.Views.{names_of, source_view, sources_view}
+use Rattle.rn_assemble.specs.inside.Views.{names_of, named_module_view, modules_view}
 use Rattle.rn_assemble.proofs.Expansion.Gathered.{defined_each, zip_seen, zip_more}
 use Rattle.rn_assemble.proofs.contents.contents_of.Goals as goal
 
 pub contents_of_module-requires-clause-defined : goal.contents_of_module-requires-clause-defined
-contents_of_module-requires-clause-defined c = defined_each c.args.sources.now (names_of c.args.keys.now) c.loop-source.source-index c.source-item.result c.requires.names c.loop-source-test.true c.source-item.is
+contents_of_module-requires-clause-defined c = defined_each c.args.modules.now (names_of c.args.keys.now) c.loop-module.module-index c.module-item.result c.requires.names c.loop-module-test.true c.module-item.is
 
-pub loop-source-preserved : goal.loop-source-preserved
-loop-source-preserved c =
-    let R : Source → Contents → Type 0 = λ m d. IsContents (sources_view c.args.sources.now) (names_of c.args.keys.now) (source_view m) d in
-    subst (λ (cs : List Contents). AllZip R (take (c.loop-source.source-index + 1) c.args.sources.now) cs) (sym c.in_ok-push.ensures.items)
-    (zip_more R c.args.sources.now c.loop-source.all.items c.loop-source.source-index c.source-item.result c.in_ok-contents_of_module.field-0 c.loop-source-test.true c.source-item.is c.loop-source.invariant c.in_ok-contents_of_module.ensures)
+pub loop-module-preserved : goal.loop-module-preserved
+loop-module-preserved c =
+    let R : NamedModule → Contents → Type 0 = λ m d. IsContents (modules_view c.args.modules.now) (names_of c.args.keys.now) (named_module_view m) d in
+    subst (λ (cs : List Contents). AllZip R (take (c.loop-module.module-index + 1) c.args.modules.now) cs) (sym c.in_ok-push.ensures.items)
+    (zip_more R c.args.modules.now c.loop-module.all.items c.loop-module.module-index c.module-item.result c.in_ok-contents_of_module.field-0 c.loop-module-test.true c.module-item.is c.loop-module.invariant c.in_ok-contents_of_module.ensures)
 
 pub returns : goal.returns
 returns c =
-    let R : Source → Contents → Type 0 = λ m d. IsContents (sources_view c.args.sources.now) (names_of c.args.keys.now) (source_view m) d in
-    zip_seen source_view (IsContents (sources_view c.args.sources.now) (names_of c.args.keys.now)) c.args.sources.now c.loop-source.all.items
-    (subst (λ (ms : List Source). AllZip R ms c.loop-source.all.items) (take_all c.loop-source.source-index c.args.sources.now (omega (arith, c.loop-source-test.false))) c.loop-source.invariant)
+    let R : NamedModule → Contents → Type 0 = λ m d. IsContents (modules_view c.args.modules.now) (names_of c.args.keys.now) (named_module_view m) d in
+    zip_seen named_module_view (IsContents (modules_view c.args.modules.now) (names_of c.args.keys.now)) c.args.modules.now c.loop-module.all.items
+    (subst (λ (ms : List NamedModule). AllZip R ms c.loop-module.all.items) (take_all c.loop-module.module-index c.args.modules.now (omega (arith, c.loop-module-test.false))) c.loop-module.invariant)

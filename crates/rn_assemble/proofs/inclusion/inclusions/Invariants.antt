@@ -2,5 +2,5 @@
 use Rattle.rn_assemble.proofs.Expansion.FirstIncludes.{AreBegun}
 use Rattle.rn_assemble.proofs.inclusion.inclusions.Given as goal
 
-abbrev pub invariant-loop-source : goal.invariant-loop-source
-invariant-loop-source l = AreBegun l.sources l.source-index l.rows.items
+abbrev pub invariant-loop-module : goal.invariant-loop-module
+invariant-loop-module l = AreBegun l.modules l.module-index l.rows.items

@@ -17,8 +17,8 @@ reached-requires-clause-first_within c =
     subst (λ (n : ℕ). AllBelow n c.row_at-first.result.now) same
     (row_within c.as_slice.result.now 0 c.row_at-first.result.now (graph_still _ _ c.requires.all c.as_slice.ensures.value) c.row_at-first.ensures)
 
-pub only_marked-requires-clause-graph : goal.only_marked-requires-clause-graph
-only_marked-requires-clause-graph c = graph_still _ _ c.requires.outer c.as_slice-3.ensures.value
+pub marked_rows-requires-clause-graph : goal.marked_rows-requires-clause-graph
+marked_rows-requires-clause-graph c = graph_still _ _ c.requires.outer c.as_slice-3.ensures.value
 
 pub least_looped-requires : goal.least_looped-requires
 least_looped-requires c = graph_still _ _ c.in_ok-outer.ensures.graph c.as_slice-5.ensures.value

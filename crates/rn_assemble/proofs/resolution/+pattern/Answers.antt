@@ -1,4 +1,5 @@
 use Rattle.std.proofs.Common.{◌≡◌, ap, sym, ◌∙◌, arith, map}
+use Rattle.std.specs.Rc.{rc_str_bytes}
 use Rattle.std.proofs.lemmas.List.{take_all}
 use Rattle.std.proofs.lemmas.Result.{IfOk-weaker}
 use Rattle.rn_pattern.specs.Tree.{trees_of}
@@ -12,22 +13,22 @@ use Rattle.rn_assemble.proofs.resolution.+pattern.Goals as goal
 
 pub patterns-returns : goal.patterns-returns
 patterns-returns t c = λ ds b.
-    let f = λ (k : Pat). resolved c.args.scope.inherited.now ds (pattern_view k) in
+    let f = λ (k : Pat). resolved (rc_str_bytes c.args.context.inherited.now) ds (pattern_view k) in
     ap trees_of (c.loop-member.invariant ds b ∙ ap (map f) (take_all c.loop-member.member-index c.args.written.now (omega arith)))
-    ∙ patterns_resolved c.args.scope.inherited.now ds c.args.written.now
+    ∙ patterns_resolved (rc_str_bytes c.args.context.inherited.now) ds c.args.written.now
 
 pub pattern-returns-in_ok-content-in-Repeated : goal.pattern-returns-in_ok-content-in-Repeated
 pattern-returns-in_ok-content-in-Repeated t c = λ ds b.
-    let i = c.args.scope.inherited.now in
+    let i = (rc_str_bytes c.args.context.inherited.now) in
     let r = c.in-Repeated.postfix in
     let seen = ap (λ p. resolved i ds (pattern_view p)) c.in-Repeated.is ∙ ap (resolved i ds) (repeated_seen r c.in-Repeated.content) in
     let inner = c.in_ok-content-in-Repeated.ensures ds b ∙ ap (λ p. resolved i ds (pattern_view p)) c.deref-in-Repeated.ensures in
-    IfOk-weaker c.repeated.result (λ p. boxed_view p ≡ repetition i ds r (boxed_view c.in_ok-content-in-Repeated.content)) _
-    (λ p h. h ∙ ap (repetition i ds r) inner ∙ sym seen) (c.repeated.ensures i ds)
+    IfOk-weaker c.repetition.result (λ p. boxed_view p ≡ repetition i ds r (boxed_view c.in_ok-content-in-Repeated.content)) _
+    (λ p h. h ∙ ap (repetition i ds r) inner ∙ sym seen) (c.repetition.ensures i ds)
 
 pub pattern-returns-in_ok-members-in-Chain : goal.pattern-returns-in_ok-members-in-Chain
 pattern-returns-in_ok-members-in-Chain t c = λ ds b.
-    let i = c.args.scope.inherited.now in
+    let i = (rc_str_bytes c.args.context.inherited.now) in
     let o = c.in-Chain.operator in
     let seen = ap (λ p. resolved i ds (pattern_view p)) c.in-Chain.is ∙ ap (resolved i ds) (chain_seen o c.in-Chain.members) in
     let inner = c.in_ok-members-in-Chain.ensures ds b ∙ ap (λ ps. resolved_all i ds (patterns_view ps)) c.deref-in-Chain.ensures.value in

@@ -26,9 +26,9 @@ loop-number-preserved c =
     let t = becomes c.args.settled.now in
     let n = c.loop-number.number in
     let name : string_bytes c.in_ok-name.name ≡ (get_or ds n nothing).0 = c.in_ok-name.ensures.cases ∙ c.name_of.ensures nothing in
-    let made : pattern_view c.into_inner.result ≡ form.canonical t (get_or ds n nothing).1 =
-    ap pattern_view c.into_inner.ensures ∙ c.in_ok-form.ensures ∙ ap (form.canonical t) (c.body_of-body.ensures nothing) in
-    forms_more (λ (d : Text × Tree). (d.0, form.canonical t d.1)) ds n c.loop-number.forms.items c.push.new.self.items (c.in_ok-name.name, c.into_inner.result)
+    let made : pattern_view c.in_ok-form.form ≡ form.canonical t (get_or ds n nothing).1 =
+    c.in_ok-form.ensures ∙ ap (form.canonical t) (c.body_of-body.ensures nothing) in
+    forms_more (λ (d : Text × Tree). (d.0, form.canonical t d.1)) ds n c.loop-number.forms.items c.push.new.self.items (c.in_ok-name.name, c.in_ok-form.form)
     (omega (arith, size_of_view c.args.settled.now.names.now.entries)) c.loop-number.invariant c.in_ok-push.ensures.items (λ i. (name i, made i))
 
 pub returns-clause-made : goal.returns-clause-made

@@ -68,7 +68,7 @@ list_form-returns-clause-made g t c =
     let new = c.form_over.new.store in
     let parts_are : map at c.deref.result.now ≡ map (canonical s) (parts kind ps) =
     ap (map at) c.deref.ensures.value ∙ c.in_ok-push_parts.ensures.made
-    ∙ ap (λ is. map (g.P.Patterns.tree_of c.args.store.now) is ++ map (canonical s) (parts kind ps)) c.new-ids.ensures.items in
+    ∙ ap (λ is. map (g.P.Patterns.tree_of c.args.store.now) is ++ map (canonical s) (parts kind ps)) c.in_ok-ids.ensures.items in
     subst (λ (u : Tree). IfOk c.form_over.result (StandsFor (g.P.Patterns.knows new) (g.P.Patterns.tree_of new) u))
     (ap (list_step kind) parts_are ∙ parts_same s (settled_canonical ds worth) kind ps)
     c.form_over.ensures.made

@@ -1,8 +1,6 @@
 use Rattle.std.proofs.Common.{map, sym, ap, ◌∙◌, subst}
-use Rattle.rn_pattern.specs.Reached.{IsPruned}
 use Rattle.rn_pattern.specs.Tree.{Text, Tree}
 use Rattle.rn_pattern.specs.View.{pattern_view}
-use Rattle.rn_pattern.specs.declared.tree.Pattern.{Pattern}
 use Rattle.rn_assemble.specs.Firsts.{AreFirsts, joined_members}
 use Rattle.rn_assemble.specs.GrammarView.{definitions_view, grammar_view}
 use Rattle.rn_simplify.specs.inside.Worth.{becomes}
@@ -16,8 +14,7 @@ returns-clause-canonical g c =
     let (rank, settling) = c.in_ok-settled.ensures.exact in
     let fs = definitions_view c.in_ok-forms.forms.items in
     let vs = definitions_view c.in_ok-defs.defs.items in
-    canonical_of (grammar_view c.args.grammar.now) (becomes c.in_ok-settled.settled) rank _ fs vs _ (pattern_view c.in_ok-start.start.value) settling c.in_ok-settled.ensures.names c.start.ensures c.in_ok-start.ensures.made c.in_ok-forms.ensures.made
-    (subst (λ (q : Pattern). IsPruned (record { start = pattern_view q; definitions = fs }) (record { start = pattern_view q; definitions = vs })) c.deref.ensures c.in_ok-defs.ensures)
+    canonical_of (grammar_view c.args.grammar.now) (becomes c.in_ok-settled.settled) rank _ fs vs _ (pattern_view c.in_ok-start.start) settling c.in_ok-settled.ensures.names c.start.ensures c.in_ok-start.ensures.made c.in_ok-forms.ensures.made c.in_ok-defs.ensures
 
 pub body_form-requires : goal.body_form-requires
 body_form-requires g c = subst (λ (p : Tree). AreFirsts c.start_firsts.result.now (joined_members p)) (sym c.start.ensures) c.start_firsts.ensures

@@ -32,11 +32,11 @@ loop-number-preserved g c =
     let t = settled_by ds c.args.settled.now.worth.items in
     let n = c.loop-number.number in
     let name : string_bytes c.in_ok-name.name ≡ (get_or ds n nothing).0 = c.in_ok-name.ensures.cases ∙ c.name_of.ensures nothing in
-    let made : pattern_view c.into_inner.result ≡ form.canonical t (get_or ds n nothing).1 =
-    ap pattern_view c.into_inner.ensures ∙ c.in_ok-form.ensures.made ∙ ap (form.canonical t) (c.body_of-body.ensures nothing) in
+    let made : pattern_view c.in_ok-form.form ≡ form.canonical t (get_or ds n nothing).1 =
+    c.in_ok-form.ensures.made ∙ ap (form.canonical t) (c.body_of-body.ensures nothing) in
     record {
       kept = keeps_then (k init) (k old) (k c.body_form.new.store) (r init) (r old) (r c.body_form.new.store) inv.kept c.body_form.ensures.kept;
-      made = forms_more (λ (d : Text × Tree). (d.0, form.canonical t d.1)) ds n c.loop-number.forms.items c.push.new.self.items (c.in_ok-name.name, c.into_inner.result)
+      made = forms_more (λ (d : Text × Tree). (d.0, form.canonical t d.1)) ds n c.loop-number.forms.items c.push.new.self.items (c.in_ok-name.name, c.in_ok-form.form)
           (omega (arith, size_of_view c.args.settled.now.names.now.entries)) inv.made c.in_ok-push.ensures.items (λ i. (name i, made i));
     }
 

@@ -1,13 +1,13 @@
 use Rattle.std.proofs.Common.{rules, ◌≡◌, ◌-◌, ℕ, length, take, drop, nat_eq, true, false, None, Some, [], ◌++◌, sym, ap, ◌∙◌, subst, refl}
-use Rattle.std.specs.Prelude.{codes, string_bytes, MatchOption}
+use Rattle.std.specs.Prelude.{codes, MatchOption}
 use Rattle.std.specs.Str.{chars}
 use Rattle.rn_pattern.specs.Tree as tree
 use Rattle.rn_pattern.specs.Tree.{Tree}
 use Rattle.rn_pattern.specs.declared.tree.Pattern.TheFolds.{fold_out-Pattern, fold-roll-Pattern}
 use Rattle.rn_pattern.specs.declared.tree.Pattern.TheViews.{the_lemmas}
-use Rattle.rn_simplify.specs.Spelling.{chain, comma, datum_pieces, infix_of, operand, optional_one, primary, written_choice, written_interleave, written_tree}
-use Rattle.rn_pattern.specs.View.{name_class_view, parameters_view, pattern_step, pattern_view}
-use Rattle.rn_simplify.specs.inside.Writes.{bytes_of, depth_after, prefixes_view, rows_of, Writes}
+use Rattle.rn_simplify.specs.Spelling.{chain, comma, infix_of, operand, optional_one, primary, written_choice, written_interleave, written_tree}
+use Rattle.rn_pattern.specs.View.{name_class_view, pattern_step, pattern_view}
+use Rattle.rn_simplify.specs.inside.Writes.{bytes_of, data_text, depth_after, prefixes_view, rows_of, Writes}
 use Rattle.rn_simplify.proofs.Texts.Writing.{writes_as, writes_pieces}
 use Rattle.rn_simplify.proofs.Texts.PartTexts.{writes_identifier, writes_braced, writes_parenthesized}
 use Rattle.rn_simplify.proofs.ReadBack.Chains.{before}
@@ -156,13 +156,8 @@ write_except-returns-in-Some t c =
 pub write_pattern-returns-in-Datum : goal.write_pattern-returns-in-Datum
 write_pattern-returns-in-Datum t c =
     let f = prefixes_view c.args.prefixes.now in
-    let l = c.in-Datum.library in
-    let x = c.in-Datum.type_name in
-    let ps = c.in-Datum.params in
-    let e = ap (λ k. datum_pieces f k c.deref-in-Datum-2.result.now (parameters_view c.deref-in-Datum-3.result.now)) c.deref-in-Datum.ensures
-    ∙ ap (λ k. datum_pieces f (string_bytes l) k (parameters_view c.deref-in-Datum-3.result.now)) c.deref-in-Datum-2.ensures
-    ∙ ap (λ qs. datum_pieces f (string_bytes l) (string_bytes x) (parameters_view qs)) c.deref-in-Datum-3.ensures.value in
-    subst (λ p. Writes (written_tree f (pattern_view p)).pieces c.args.writer.now c.write_except.new.writer) (sym c.in-Datum.is) (writes_datum f l x ps c.in-Datum.except (writes_as e c.write_data.ensures) c.write_except.ensures)
+    let e = ap (data_text f) c.deref-in-Datum.ensures in
+    subst (λ p. Writes (written_tree f (pattern_view p)).pieces c.args.writer.now c.write_except.new.writer) (sym c.in-Datum.is) (writes_datum f c.in-Datum.data c.in-Datum.except (writes_as e c.write_data.ensures) c.write_except.ensures)
 
 pub write_pattern-returns-in-List : goal.write_pattern-returns-in-List
 write_pattern-returns-in-List t c =
@@ -174,16 +169,16 @@ write_pattern-returns-in-List t c =
 pub write_pattern-returns-in-Attribute : goal.write_pattern-returns-in-Attribute
 write_pattern-returns-in-Attribute t c =
     let f = prefixes_view c.args.prefixes.now in
-    let n = name_class_view c.in-Attribute.class in
-    let p = pattern_view c.deref-in-Attribute.result.now in
+    let n = name_class_view c.deref-in-Attribute.result.now in
+    let p = pattern_view c.deref-in-Attribute-2.result.now in
     let e : pattern_view c.args.pattern.now ≡ tree.attribute n p = search (rules, the_lemmas, fold_out-Pattern Tree pattern_step, fold-roll-Pattern Tree pattern_step) in
     subst (λ q. Writes (written_tree f q).pieces c.args.writer.now c.write_braced-in-Attribute.new.writer) (sym e) (writes_attribute f n p c.write_head.ensures c.write_braced-in-Attribute.ensures)
 
 pub write_pattern-returns-in-Element : goal.write_pattern-returns-in-Element
 write_pattern-returns-in-Element t c =
     let f = prefixes_view c.args.prefixes.now in
-    let n = name_class_view c.in-Element.class in
-    let p = pattern_view c.deref-in-Element.result.now in
+    let n = name_class_view c.deref-in-Element.result.now in
+    let p = pattern_view c.deref-in-Element-2.result.now in
     let e : pattern_view c.args.pattern.now ≡ tree.element n p = search (rules, the_lemmas, fold_out-Pattern Tree pattern_step, fold-roll-Pattern Tree pattern_step) in
     subst (λ q. Writes (written_tree f q).pieces c.args.writer.now c.write_braced-in-Element.new.writer) (sym e) (writes_element f n p c.write_head-in-Element.ensures c.write_braced-in-Element.ensures)
 

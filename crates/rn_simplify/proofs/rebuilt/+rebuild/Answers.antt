@@ -41,10 +41,11 @@ pub rebuild-returns-in_ok-except-in-Datum : goal.rebuild-returns-in_ok-except-in
 rebuild-returns-in_ok-except-in-Datum g t c =
     let at = g.P.Patterns.tree_of c.args.store.now in
     let d = c.in-Datum in
-    let ps = c.deref.ensures.value in
+    let l = c.deref.ensures in
+    let ps = c.deref-in-Datum.ensures.value in
     let except = c.in_ok-except-in-Datum.ensures in
     subst (λ x. IfOk c.datum_pattern.result (λ p. pattern_view p ≡ x))
-    ((λ i. datum_over (string_bytes d.library) (string_bytes d.type_name) (parameters_view (ps i)) (except i))
+    ((λ i. datum_over (l i) (string_bytes d.type_name) (parameters_view (ps i)) (except i))
     ∙ node_of_datum at d.library d.type_name d.params d.except
     ∙ sym (ap (node_view at) d.is) ∙ c.node-node.ensures.root) c.datum_pattern.ensures
 

@@ -144,7 +144,7 @@ pub name_class-choice-init : goal.name_class-choice-init
 name_class-choice-init t c = record {
   further = c.in_ok-first.ensures.inside.further;
   inside = c.in_ok-first.ensures.inside.inside;
-  so_far = λ s. so_far_same _ _ (sym (c.in_ok-push_member.ensures ∙ ap (λ l. map class_view l ++ boxed_class_view c.in_ok-first.first ∷ []) c.new-members.ensures.items))
+  so_far = λ s. so_far_same _ _ (sym (c.in_ok-push_member.ensures ∙ ap (λ l. map class_view l ++ boxed_class_view c.in_ok-first.first ∷ []) c.in_ok-members.ensures.items))
       (class_first (c.in_ok-first.ensures.reads s), c.if-not-is_operator.ensures.is);
 }
 

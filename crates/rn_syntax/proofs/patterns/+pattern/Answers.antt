@@ -276,7 +276,7 @@ pattern-chain-init t c = record {
   inside = c.in_ok-first.ensures.inside.inside;
   so_far = λ s.
       let here = ap first_terminal c.in-Operator.ensures.next.1 in
-      operands_same c.in-Operator.operator _ _ (sym (c.in_ok-push_member.ensures ∙ ap (λ l. map pattern_view l ++ boxed_view c.in_ok-first.first ∷ []) c.new-members.ensures.items))
+      operands_same c.in-Operator.operator _ _ (sym (c.in_ok-push_member.ensures ∙ ap (λ l. map pattern_view l ++ boxed_view c.in_ok-first.first ∷ []) c.in_ok-members.ensures.items))
       (pattern_first c.in-Operator.operator here (c.in_ok-first.ensures.reads s), here);
 }
 

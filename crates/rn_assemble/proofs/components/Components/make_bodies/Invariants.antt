@@ -7,5 +7,5 @@ abbrev pub invariant-loop-component : goal.invariant-loop-component
 invariant-loop-component l = record {
   kept : KeepsLists l.fn.self l.self;
   contexts : l.self.contexts ≡ l.fn.self.contexts;
-  made : l.self.bodies.items ≡ l.fn.self.bodies.items ++ map (λ (c : Component). record { component = c; scope = l.scope }) (take l.component-index l.content.components.items);
+  made : l.self.bodies.items ≡ l.fn.self.bodies.items ++ map (λ (c : Component). record { component = c; context = l.context }) (take l.component-index l.content.components.items);
 }

@@ -7,31 +7,31 @@ use Rattle.std.proofs.lemmas.List.Sums.{fold-append}
 use Rattle.indexmap.specs.IndexSet.{insert_all, insert_key}
 use Rattle.rn_pattern.specs.Tree.{Text}
 use Rattle.rn_syntax.specs.View.{items_view}
-use Rattle.rn_assemble.specs.Components.{Source}
-use Rattle.rn_assemble.specs.declared.modules.Source as code_source
+use Rattle.rn_assemble.specs.Components.{NamedModule}
+use Rattle.rn_assemble.specs.declared.modules.NamedModule as code_module
 use Rattle.rn_assemble.specs.inside.Keyed.{defines}
-use Rattle.rn_assemble.specs.inside.Views.{texts_of, source_view, sources_view}
+use Rattle.rn_assemble.specs.inside.Views.{texts_of, named_module_view, modules_view}
 use Rattle.rn_assemble.proofs.Referring.KeyNames.{from_all, in_all, reordered, sorted_once}
 use Rattle.rn_assemble.proofs.keys.Keys.new.Goals as goal
 
-pub loop-source-preserved : goal.loop-source-preserved
-loop-source-preserved c =
-    let i = c.loop-source.source-index in
-    let names = texts_of c.loop-source.names.keys in
-    let all : List code_source.Source → List Text = λ ms. flat_map (λ (m : Source). defines m.tree.items) (sources_view ms) in
+pub loop-module-preserved : goal.loop-module-preserved
+loop-module-preserved c =
+    let i = c.loop-module.module-index in
+    let names = texts_of c.loop-module.names.keys in
+    let all : List code_module.NamedModule → List Text = λ ms. flat_map (λ (m : NamedModule). defines m.tree.items) (modules_view ms) in
     record {
-      inserted = ap (λ ks. insert_all bytes_eq ks (all (drop (i + 1) c.args.sources.now))) (c.in_ok-insert_names.ensures ∙ ap (λ xs. insert_all bytes_eq names (defines (items_view xs))) c.deref.ensures.value ∙ ap (λ m. insert_all bytes_eq names (defines (source_view m).tree.items)) c.source-item.is)
-          ∙ sym (fold-append (insert_key bytes_eq) names (defines (source_view (get_or c.args.sources.now i c.source-item.result)).tree.items) (all (drop (i + 1) c.args.sources.now)))
-          ∙ ap (insert_all bytes_eq names) (sym (at_drop_more all c.args.sources.now i c.source-item.result c.loop-source-test.true)) ∙ c.loop-source.invariant.inserted;
+      inserted = ap (λ ks. insert_all bytes_eq ks (all (drop (i + 1) c.args.modules.now))) (c.in_ok-insert_names.ensures ∙ ap (λ xs. insert_all bytes_eq names (defines (items_view xs))) c.deref.ensures.value ∙ ap (λ m. insert_all bytes_eq names (defines (named_module_view m).tree.items)) c.module-item.is)
+          ∙ sym (fold-append (insert_key bytes_eq) names (defines (named_module_view (get_or c.args.modules.now i c.module-item.result)).tree.items) (all (drop (i + 1) c.args.modules.now)))
+          ∙ ap (insert_all bytes_eq names) (sym (at_drop_more all c.args.modules.now i c.module-item.result c.loop-module-test.true)) ∙ c.loop-module.invariant.inserted;
     }
 
 pub returns : goal.returns
 returns c =
     let now : Bor (List ℕ) → Text = λ b. b.now in
-    let all : List code_source.Source → List Text = λ ms. flat_map (λ (m : Source). defines m.tree.items) (sources_view ms) in
-    let names = all c.args.sources.now in
-    let listed : texts_of c.loop-source.names.keys ≡ insert_all bytes_eq [] names =
-    ap (insert_all bytes_eq (texts_of c.loop-source.names.keys)) (sym (at_drop_all all c.args.sources.now c.loop-source.source-index (omega arith))) ∙ c.loop-source.invariant.inserted in
+    let all : List code_module.NamedModule → List Text = λ ms. flat_map (λ (m : NamedModule). defines m.tree.items) (modules_view ms) in
+    let names = all c.args.modules.now in
+    let listed : texts_of c.loop-module.names.keys ≡ insert_all bytes_eq [] names =
+    ap (insert_all bytes_eq (texts_of c.loop-module.names.keys)) (sym (at_drop_all all c.args.modules.now c.loop-module.module-index (omega arith))) ∙ c.loop-module.invariant.inserted in
     let same = c.sort.ensures.reordered.0 in
     record {
       in_order = sorted_once now c.sort.new.self.keys c.in_ok-sort.ensures.sorted c.sort.ensures.unique;

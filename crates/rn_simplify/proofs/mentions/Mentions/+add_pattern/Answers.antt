@@ -1,23 +1,25 @@
-use Rattle.std.proofs.Common.{rules, ◌≡◌, ◌∷◌, [], ◌++◌, ◌+◌, map, take, sym, ap, ◌∙◌, subst}
+use Rattle.std.proofs.Common.{◌≡◌, ◌∷◌, [], ◌++◌, ◌+◌, map, take, sym, ap, ◌∙◌, subst}
 use Rattle.std.specs.Prelude.{OnOk}
 use Rattle.std.proofs.lemmas.List.{take_more, map-append}
-use Rattle.rn_pattern.specs.Tree.{Tree, trees_of}
-use Rattle.rn_pattern.specs.declared.tree.Pattern.TheFolds.{fold_out-Pattern, fold-roll-Pattern}
-use Rattle.rn_pattern.specs.declared.tree.Pattern.TheViews.{the_lemmas}
-use Rattle.rn_pattern.specs.View.{name_class_view, pattern_view, pattern_step, shared_view}
+use Rattle.std.specs.Rc.{rc_str_bytes}
+use Rattle.rn_pattern.specs.Tree.{trees_of}
+use Rattle.rn_pattern.specs.declared.tree.Data.{Data}
+use Rattle.rn_pattern.specs.View.{name_class_view, pattern_view, shared_view}
 use Rattle.rn_simplify.specs.inside.Gathers.{Gathers, both, by_library, by_name, by_tree, by_trees}
-use Rattle.rn_simplify.proofs.Texts.Gathered.{gathers_unless, gathers_one_tree, in_list, named}
+use Rattle.rn_simplify.proofs.Texts.Gathered.{gathers_unless, gathers_one_tree, in_list, named, with_library}
 use Rattle.rn_simplify.proofs.mentions.Mentions.+add_pattern.Goals as goal
 
-pub add_pattern-returns-in_ok-add_library-in-Datum-default-default-default-Some : goal.add_pattern-returns-in_ok-add_library-in-Datum-default-default-default-Some
-add_pattern-returns-in_ok-add_library-in-Datum-default-default-default-Some t c =
-    let l = c.deref-in-Datum-default-default-default-Some.result.now in
-    let p = pattern_view c.deref-in-Datum-default-default-default-Some-2.result.now in
+pub add_pattern-returns-in-Some : goal.add_pattern-returns-in-Some
+add_pattern-returns-in-Some t c =
+    let d = c.in-Datum.«data» in
+    let l = c.deref-in-Datum-2.result.now in
+    let p = c.deref-in-Some.result.now in
     let r = c.add_pattern.result in
     let z = c.add_pattern.new.self in
-    let e : by_tree (pattern_view c.args.pattern.now) ≡ both (by_library l) (by_tree p) = search (rules, the_lemmas, fold_out-Pattern Tree pattern_step, fold-roll-Pattern Tree pattern_step) in
+    let library : l ≡ rc_str_bytes d.value.library = c.deref-in-Datum-2.ensures.value ∙ ap (λ (x : Data). rc_str_bytes x.library) c.deref-in-Datum.ensures in
+    let e = with_library c.args.pattern.now d c.in-Datum.except c.in-Some.except c.in-Datum.is c.in-Some.is ∙ sym (λ i. both (by_library (library i)) (by_tree (pattern_view (c.deref-in-Some.ensures i)))) in
     subst (λ m. OnOk r (Gathers m c.args.self.now z)) (sym e)
-    (gathers_unless r (by_library l) (by_tree p) z c.in_ok-add_library-in-Datum-default-default-default-Some.ensures c.add_pattern.ensures)
+    (gathers_unless r (by_library l) (by_tree (pattern_view p)) z c.in_ok-add_library-in-Datum.ensures c.add_pattern.ensures)
 
 pub add_pattern-returns-in-Group : goal.add_pattern-returns-in-Group
 add_pattern-returns-in-Group t c =
@@ -26,11 +28,12 @@ add_pattern-returns-in-Group t c =
 
 pub add_pattern-returns-in_ok-add_class-in-Attribute : goal.add_pattern-returns-in_ok-add_class-in-Attribute
 add_pattern-returns-in_ok-add_class-in-Attribute t c =
-    let n = c.in-Attribute.class in
-    let p = c.deref-in-Attribute.result.now in
+    let n = c.deref-in-Attribute.result.now in
+    let p = c.deref-in-Attribute-2.result.now in
     let r = c.add_pattern-in-Attribute.result in
     let z = c.add_pattern-in-Attribute.new.self in
-    let e = named c.args.pattern.now n c.in-Attribute.content c.in-Attribute.is ∙ ap (λ q. both (by_name (name_class_view n)) (by_tree (pattern_view q))) (sym c.deref-in-Attribute.ensures) in
+    let e = named c.args.pattern.now c.in-Attribute.class c.in-Attribute.content c.in-Attribute.is
+    ∙ sym (λ i. both (by_name (name_class_view (c.deref-in-Attribute.ensures i))) (by_tree (pattern_view (c.deref-in-Attribute-2.ensures i)))) in
     subst (λ m. OnOk r (Gathers m c.args.self.now z)) (sym e)
     (gathers_unless r (by_name (name_class_view n)) (by_tree (pattern_view p)) z c.in_ok-add_class-in-Attribute.ensures c.add_pattern-in-Attribute.ensures)
 

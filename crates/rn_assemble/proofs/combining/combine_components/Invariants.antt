@@ -1,0 +1,18 @@
+-- The keys before are combined, and none of them breaks the restrictions on name classes.
+use Rattle.std.proofs.Common.{◌≡◌, ◌<◌, ℕ, List, length}
+use Rattle.std.specs.List.Sorted.{IsStrictlySortedBy}
+use Rattle.rn_pattern.specs.Order.{text_cmp}
+use Rattle.rn_assemble.specs.inside.Keyed.{key_at}
+use Rattle.rn_assemble.specs.inside.Listed.{Lists, Live, components_in}
+use Rattle.rn_assemble.specs.inside.Patterns.{AreShared, pattern_of, tree_at}
+use Rattle.rn_assemble.specs.Refusal.{BreaksNameRules}
+use Rattle.rn_assemble.specs.inside.Views.{names_of}
+use Rattle.rn_assemble.proofs.combining.combine_components.Given as goal
+
+abbrev pub invariant-loop-key : goal.invariant-loop-key
+invariant-loop-key l = record {
+  size : length l.patterns.items ≡ l.key;
+  shared : AreShared (names_of l.keys) l.components.bodies.items l.shared.items;
+  patterns : (live : List Live) → Lists (names_of l.keys) l.components live → IsStrictlySortedBy text_cmp (names_of l.keys)
+      → (n : ℕ) → n < l.key → (tree_at l.patterns.items n ≡ pattern_of (components_in live) (key_at (names_of l.keys) n)) × ¬ BreaksNameRules (components_in live) (key_at (names_of l.keys) n);
+}

@@ -1,0 +1,81 @@
+// A module's declarations under the namespace that it inherits.
+ghost use Rattle.std.specs.Prelude.{◌≡◌, [], unwrap_or};
+ghost use Rattle.std.specs.Rc.{rc_str_bytes};
+ghost use Rattle.rn_syntax.specs.Places as places;
+ghost use Rattle.rn_syntax.specs.View.{prefix_view};
+ghost use Rattle.rn_assemble.specs.inside.Bound.{InContext, bound_uri};
+ghost use Rattle.rn_assemble.specs.Components as components;
+ghost use Rattle.rn_assemble.specs.Resolve.{default_of, namespace_of, uri_text};
+
+use crate::bindings::{Bindings, Namespace};
+use rn_syntax::Prefix;
+use std::rc::RcStr;
+
+/// The declarations of a module under the namespace that it inherits.
+#[derive(Clone, Copy)]
+pub(crate) struct Context<'c, 't> {
+    pub bindings: &'c Bindings<'t>,
+    pub inherited: &'c RcStr,
+}
+
+impl<'c, 't> Context<'c, 't> {
+    fn uri(self, namespace: &'c Namespace) -> &'c RcStr
+        ensures { rc_str_bytes result.now
+            ≡ uri_text (rc_str_bytes self.entry.inherited.now) (bound_uri namespace.now) }
+    {
+        match namespace {
+            Namespace::Uri(uri) => uri,
+            Namespace::Inherited => self.inherited,
+        }
+    }
+
+    /// The default namespace: the inherited one where none is declared.
+    pub fn default_namespace(self) -> &'c RcStr
+        ensures { InContext self.entry (λ inherited ds. rc_str_bytes result.now
+            ≡ default_of inherited ds) }
+    {
+        match &self.bindings.default {
+            Some(namespace) => self.uri(namespace),
+            None => self.inherited,
+        }
+    }
+
+    /// The namespace of a prefix.
+    pub fn namespace(self, prefix: &str) -> &'c RcStr
+        ensures { InContext self.entry (λ inherited ds. rc_str_bytes result.now
+            ≡ namespace_of inherited ds prefix.now) }
+    {
+        if prefix == "xml" {
+            return &self.bindings.known.xml;
+        }
+        match self.bindings.namespaces.get(prefix) {
+            Some(namespace) => self.uri(namespace),
+            None => &self.bindings.known.none,
+        }
+    }
+
+    /// The datatype library of a prefix.
+    pub fn library(self, prefix: &str) -> &'c RcStr
+        ensures { InContext self.entry (λ inherited ds. rc_str_bytes result.now
+            ≡ unwrap_or (places.library_of ds prefix.now) []) }
+    {
+        if prefix == "xsd" {
+            return &self.bindings.known.xsd;
+        }
+        match self.bindings.libraries.get(prefix) {
+            Some(uri) => uri,
+            None => &self.bindings.known.none,
+        }
+    }
+
+    /// The namespace that an include hands on: that of its prefix, else the default one.
+    pub fn handed_on(self, inherit: Option<Prefix<'t>>) -> &'c RcStr
+        ensures { InContext self.entry (λ inherited ds. rc_str_bytes result.now
+            ≡ components.handed_on inherited ds (prefix_view inherit.entry)) }
+    {
+        match inherit {
+            Some(prefix) => self.namespace(prefix.name),
+            None => self.default_namespace(),
+        }
+    }
+}

@@ -1,0 +1,11 @@
+use Rattle.std.proofs.Common.{◌≡◌, ◌++◌, map, take}
+use Rattle.rn_pattern.specs.Canonical.{canonical}
+use Rattle.rn_pattern.specs.Tree.{trees_of}
+use Rattle.rn_pattern.specs.View.{shared_view}
+use Rattle.rn_simplify.specs.inside.Parts.{parts}
+use Rattle.rn_simplify.specs.inside.Worth.{becomes}
+use Rattle.rn_simplify.proofs.tree_forms.+tree_form.Given as goal
+
+abbrev pub invariant-push_parts-loop-member : goal.invariant-push_parts-loop-member
+invariant-push_parts-loop-member l = map shared_view l.forms.items ≡ map shared_view l.initial.forms.items
+    ++ map (canonical (becomes l.settled)) (parts l.kind (trees_of (map shared_view (take l.member-index l.members))))
