@@ -34,11 +34,12 @@ pub trait Files {
     ghost gives: { Self → List ℕ → List ℕ → Type 0 } = { λ _ _ _. Unit {0} };
 
     /// The one path of the file or the folder that the path leads to: it begins with `/`, and has no segment that is empty,
-    /// `.`, `..` or a link.
+    /// `.`, `..` or a link. A fault tells why there is none, or that memory ran out.
     fn real_path(&self, alloc: Global, path: &str) -> Result<String, FileFault>
         ensures { IfOk result (λ found. leads self.now path.now (string_bytes found)) };
 
-    /// The bytes of the file at the path, or of standard input at `-`. `Large` where they are more than `MAX_TEXT`.
+    /// The bytes of the file at the path, or of standard input at `-`. `Large` where they are more than `MAX_TEXT`;
+    /// another fault tells why they can't be read, or that memory ran out.
     fn read(&self, alloc: Global, path: &str) -> Result<Vec<u8>, FileFault>
         ensures { IfOk result (λ bytes. gives self.now path.now bytes.items) };
 }

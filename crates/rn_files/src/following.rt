@@ -1,6 +1,6 @@
 // Reading files, and what they refer to.
 ghost use Rattle.std.specs.Prelude.{◌≡◌, ◌<◌, ◌≤◌, All, IfOk, IfSome, IsNone, is_some, string_bytes, vec_len};
-ghost use Rattle.rn_files.specs.Limits.{max_text};
+ghost use Rattle.rn_modset.specs.Limits.{max_text};
 ghost use Rattle.rn_files.specs.Following.{IsFollowed, LeadsTo};
 ghost use Rattle.rn_files.specs.Maps.{IsLocation};
 ghost use Rattle.rn_files.specs.References.{StandsFor};

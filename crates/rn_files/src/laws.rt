@@ -1,7 +1,7 @@
 //! Laws over the definitions that the contracts cite. Each function does nothing: what it ensures is the law.
 ghost use Rattle.std.specs.Prelude.{◌≡◌, ◌≤◌, true, length, List, ℕ, All};
 ghost use Rattle.rn_modset.specs.Contributions.{is_module_name};
-ghost use Rattle.rn_files.specs.Limits.{max_name};
+ghost use Rattle.rn_modset.specs.Limits.{max_name};
 ghost use Rattle.rn_files.specs.Names.{IsByte, name_of};
 
 /// Distinct paths have distinct names.

@@ -41,7 +41,7 @@ fn remove_last(path: &mut String)
 }
 
 impl MemoryFiles {
-    /// No files. The current folder is a real path.
+    /// No files. The current folder is a real path. Refused only for want of memory.
     pub fn new(alloc: Global, current: &str) -> Result<MemoryFiles, AllocError> {
         Ok(MemoryFiles {
             current: String::from_str(alloc, current)?,
@@ -49,7 +49,7 @@ impl MemoryFiles {
         })
     }
 
-    /// Puts a file at a real path, in place of what was there.
+    /// Puts a file at a real path, in place of what was there. Refused only for want of memory: then what was there stays.
     pub fn add_file(&mut self, alloc: Global, path: &str, bytes: &[u8]) -> Result<(), AllocError> {
         let path = String::from_str(alloc, path)?;
         let bytes = bytes.to_vec(alloc)?;
@@ -57,7 +57,8 @@ impl MemoryFiles {
         Ok(())
     }
 
-    /// Puts a link to a real path at a real path, in place of what was there.
+    /// Puts a link to a real path at a real path, in place of what was there. Refused only for want of memory: then what was
+    /// there stays.
     pub fn add_link(&mut self, alloc: Global, path: &str, target: &str) -> Result<(), AllocError> {
         let path = String::from_str(alloc, path)?;
         let target = String::from_str(alloc, target)?;

@@ -24,7 +24,8 @@ pub fn first_difference(found: &[u8], wanted: &[u8]) -> Option<usize>
     }
 }
 
-/// Says whether the file has the bytes of the schema.
+/// Refuses a file that has other bytes than the schema: the fault tells the first line that differs, or why the file can't be
+/// read, or that memory ran out.
 pub fn check_file<F: Files>(
     alloc: Global,
     files: &F,

@@ -11,7 +11,7 @@ use std::alloc::{AllocError, Global};
 use std::collections::BTreeSet;
 
 /// How many bytes all texts in excepts may have together, which is what a printed text may have.
-const LIMIT: usize = 4_194_304;
+const MAX_EXCEPTS: usize = 4_194_304;
 
 /// What stands in the place of the references in excepts of a place, and the declarations that it needs.
 #[derive(Drop)]
@@ -93,7 +93,7 @@ impl Excepts {
         Ok(Excepts {
             definitions: Definitions::of(alloc, units, plan)?,
             bodies: Bodies::new(alloc),
-            left: LIMIT,
+            left: MAX_EXCEPTS,
         })
     }
 
@@ -151,7 +151,7 @@ impl Excepts {
         part: usize,
     ) -> Result<String, LiftFault> {
         self.open(alloc, units, plan, &mut trail, place, part)?;
-        for _ in 0..LIMIT {
+        for _ in 0..MAX_EXCEPTS {
             let Some(task) = trail.tasks.pop() else {
                 self.left = self.left.saturating_sub(trail.text.len());
                 return Ok(trail.text);

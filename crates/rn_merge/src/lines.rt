@@ -123,7 +123,7 @@ fn push_identifier(line: &mut String, name: &str) -> Result<(), AllocError>
 }
 
 /// The line of `list` for a contribution, without its line feed: name, revision, and the text's
-/// length in bytes with its digest, or that it is withdrawn.
+/// length in bytes with its digest, or that it is withdrawn. Refused only for want of memory.
 pub fn list_line(alloc: Global, contribution: &Contribution) -> Result<String, AllocError>
     ensures { IfOk result (λ line. string_bytes line ≡ list_line (member contribution.now)) }
 {

@@ -110,7 +110,7 @@ pub enum PartKind {
         literal_at: Span,
         inherit: Option<Span>,
     },
-    /// `include` (4.7), likewise. `at` ends with its overrides.
+    /// `include` (4.7), with the text of its literal, and the prefix behind `inherit =`. `at` ends with its overrides.
     Include {
         literal: String,
         literal_at: Span,

@@ -16,7 +16,7 @@ use rn_text::Token;
 use std::alloc::Global;
 
 /// How many brackets may be open at once.
-const DEEPEST: usize = 256;
+const MAX_OPEN: usize = 256;
 
 /// The place of the first bracket that is one too many.
 fn bracket_too_deep(tokens: &[Token<'_>]) -> Option<usize> {
@@ -24,7 +24,7 @@ fn bracket_too_deep(tokens: &[Token<'_>]) -> Option<usize> {
     for (number, token) in tokens.iter().enumerate() {
         match sign_at(tokens, number) {
             Sign::LeftBrace | Sign::LeftParen | Sign::LeftBracket => {
-                if depth >= DEEPEST {
+                if depth >= MAX_OPEN {
                     return Some(token.start);
                 }
                 depth += 1;

@@ -43,7 +43,7 @@ impl Taken {
         }
     }
 
-    /// Takes a name: whether it was free.
+    /// Takes a name: whether it was free. Refused only for want of memory.
     pub fn take(&mut self, alloc: Global, name: &str) -> Result<bool, AllocError>
         ensures free { IfOk result (λ r. r ≡ not (contains_text self.old.names name.now)) }
         ensures takes { OnOk result (Takes name.now self.old.names self.new.names) }
@@ -55,7 +55,7 @@ impl Taken {
         Ok(true)
     }
 
-    /// Takes the first free one of a name, the name with `-2` behind it, with `-3` and so on.
+    /// Takes the first free one of a name, the name with `-2` behind it, with `-3` and so on. Refused only for want of memory.
     pub fn fresh_name(&mut self, alloc: Global, name: &str) -> Result<String, AllocError>
         ensures free { IfOk result (λ r. contains_text self.old.names (string_bytes r) ≡ false) }
         ensures takes { IfOk result (λ r. Takes (string_bytes r) self.old.names self.new.names) }
@@ -126,7 +126,7 @@ pub(crate) fn written_name<'a>(text: &'a str, kind: &PartKind) -> &'a str {
     }
 }
 
-/// A name of its own: a stem, a dot and a name.
+/// A name of its own: a stem, a dot and a name. Refused only for want of memory.
 pub fn own_name(alloc: Global, stem: &str, name: &str) -> Result<String, AllocError>
     ensures { IfOk result (λ own. string_bytes own ≡ stem.now ++ (46 ∷ name.now)) }
 {

@@ -145,7 +145,7 @@ pub fn lift_message(alloc: Global, fault: &LiftFault) -> Result<Message, AllocEr
     })
 }
 
-/// The message of a module, by its number, that can't be added to the set.
+/// The message of a module, by its number, that can't be added to the set. Refused only for want of memory.
 pub fn set_message(
     alloc: Global,
     lifted: &Lifted,

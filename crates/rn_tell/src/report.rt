@@ -57,7 +57,7 @@ impl Told {
         }
     }
 
-    /// One message.
+    /// One message. Refused only for want of memory.
     pub fn of_message(alloc: Global, message: Message) -> Result<Told, AllocError>
         ensures { IfOk result IsFew }
     {
@@ -82,7 +82,7 @@ pub struct Page<'a> {
     pub text: &'a str,
 }
 
-/// The sources as messages show them.
+/// The sources as messages show them. Refused only for want of memory.
 pub fn source_pages(alloc: Global, files: &[SourceFile]) -> Result<Vec<Page<'_>>, AllocError> {
     let mut pages = Vec::new(alloc);
     for file in files {
@@ -95,7 +95,7 @@ pub fn source_pages(alloc: Global, files: &[SourceFile]) -> Result<Vec<Page<'_>>
     Ok(pages)
 }
 
-/// Files as far as they were read, as messages show them.
+/// Files as far as they were read, as messages show them. Refused only for want of memory.
 pub fn attempt_pages(alloc: Global, files: &[Attempt]) -> Result<Vec<Page<'_>>, AllocError> {
     let mut pages = Vec::new(alloc);
     for file in files {
@@ -314,7 +314,7 @@ fn push_indent(
     Ok(())
 }
 
-/// Appends a text, of which no character controls a terminal.
+/// Appends a text, of which no character controls a terminal. Refused only for want of memory: a front of it is there then.
 pub fn push_printable(lines: &mut String, text: &str) -> Result<(), AllocError>
     ensures { OnOk result (string_bytes lines.new ≡ string_bytes lines.old ++ printed text.now) }
 {
