@@ -1,8 +1,9 @@
 -- What stands between the delimiters of a segment, and the text that it is.
+use Rattle.std.proofs.lemmas.Bool.Decides.{nat_tests}
 use Rattle.std.proofs.Common.{◌≡◌, ◌≢◌, ℕ, ◌-◌, ◌<◌, Bool, true, false, cond, List, [], ◌∷◌, ◌++◌, length, drop, take, refl, sym, ap, ◌∙◌, subst, arith, append_assoc, append-nil, length-append, ⊎_elim, eqb-true, eq-eqb, zero, suc, Some, None}
 use Rattle.std.specs.Prelude.{◌==◌, ◌&&◌, Option, MatchOption, encode_utf8}
 use Rattle.std.proofs.Math.Seq.{take-append_seam}
-use Rattle.std.proofs.lemmas.Bool.{cases_Bool, cond-true, cond-false, and_parts, and_from, and_left, and_right, or_cases}
+use Rattle.std.proofs.lemmas.Bool.{cases_Bool, cond-true, cond-false, and_parts, and_from, and_right}
 use Rattle.std.specs.Char.{is_ascii_hexdigit}
 use Rattle.std.specs.Str.{encode_utf8_all}
 use Rattle.std.specs.Str.Parse.{digits_value}
@@ -16,8 +17,7 @@ use Rattle.rn_text.proofs.Unique.{same_front}
 use Rattle.rn_text.proofs.Delimited.{delimiter_at, three_by, closed_one, closed_three}
 
 none_of : (l : List ℕ) → is_empty l ≡ true → l ≡ []
-none_of [] e = refl
-none_of (z ∷ zs) e = cc
+none_of l h1 = grind (arith, nat_tests)
 
 true_is_false : (b : Bool) → b ≡ true → b ≡ false → ⊥
 true_is_false b t f = let h : true ≡ false = sym t ∙ f in cc
@@ -39,13 +39,7 @@ ends_with_one d (c ∷ cs) e = ⊎_elim
     (cases_Bool (c == d))
 
 three_is : (d : ℕ) (l : List ℕ) → three_of d l ≡ true → ends_at_three d l ≡ true → l ≡ d ∷ d ∷ d ∷ []
-three_is d [] t e = cc
-three_is d (x ∷ []) t e = let h : true ≡ false = sym t ∙ and_right (x == d) _ refl in cc
-three_is d (x ∷ y ∷ []) t e = let h : true ≡ false = sym t ∙ and_right (x == d) _ (and_right (y == d) _ refl) in cc
-three_is d (x ∷ y ∷ z ∷ zs) t e =
-    let first = and_parts (x == d) _ t in
-    let others = and_parts (y == d) _ first.1 in
-    (λ i. eqb-true x d first.0 i ∷ eqb-true y d others.0 i ∷ eqb-true z d others.1 i ∷ none_of zs (sym (cond-true _ _ _ t) ∙ e) i)
+three_is d l h1 h2 = grind (arith, nat_tests, none_of)
 
 ends_with_three : (d : ℕ) (l : List ℕ) → ends_at_three d l ≡ true → (front : List ℕ) × (l ≡ front ++ d ∷ d ∷ d ∷ [])
 ends_with_three d [] e = cc
@@ -95,9 +89,6 @@ found_one now d text opened None is single h = ap is_delimited is ∙ not_true (
 found_one now d text opened (Some x) is single h =
     let whole : text ≡ d ∷ (now x ++ d ∷ []) = is ∙ ap (λ l. d ∷ l) h in
     sym (ap between_delimiters whole ∙ between_one d (now x) (and_right (is_delimiter d) _ (ap (three_of d) (sym whole) ∙ single)))
-
-pub none_delimited : (text : List ℕ) (d : ℕ) (opened : List ℕ) → text ≡ d ∷ opened → is_delimiter d ≡ false → is_delimited text ≡ false
-none_delimited text d opened is q = ap is_delimited is ∙ and_left _ _ q
 
 -- one by one
 pub three_none : (text : List ℕ) (c : ℕ) → ((front : List ℕ) → text ≢ front ++ c ∷ []) → (front : List ℕ) → text ≢ front ++ c ∷ c ∷ c ∷ []
@@ -199,20 +190,16 @@ whole_behind : (front rest cs : List ℕ) → front ++ rest ≡ cs → EscapesWh
 whole_behind front rest cs split whole f after e = whole (front ++ f) after (append_assoc front f after ∙ ap (λ l. front ++ l) e ∙ split)
 
 begins_some : (p : ℕ → Bool) (l : List ℕ) → begins_with p l ≡ true → is_empty l ≡ false
-begins_some p [] e = cc
-begins_some p (c ∷ cs) e = refl
+begins_some p l h1 = grind (arith, nat_tests)
 
 begins_front : (p : ℕ → Bool) (l more : List ℕ) → is_empty l ≡ false → begins_with p (l ++ more) ≡ begins_with p l
-begins_front p [] more e = cc
-begins_front p (c ∷ cs) more e = refl
+begins_front p l more h1 = grind (arith, nat_tests)
 
 drop_one : (l more : List ℕ) → is_empty l ≡ false → drop 1 (l ++ more) ≡ drop 1 l ++ more
-drop_one [] more e = cc
-drop_one (c ∷ cs) more e = refl
+drop_one l more h1 = grind (arith, nat_tests)
 
 run_some : (p : ℕ → Bool) (l : List ℕ) → is_empty (after_run p l) ≡ false → is_empty l ≡ false
-run_some p [] e = e
-run_some p (c ∷ cs) e = refl
+run_some p l h1 = grind (arith, nat_tests)
 
 -- what an escape at the front of a text is, it is where more follows
 pub within_brace : (c : ℕ) (cs more : List ℕ) → escape_front (c ∷ cs) ≡ true → (escape_front (c ∷ cs ++ more) ≡ true) × (after_brace (c ∷ cs ++ more) ≡ after_brace (c ∷ cs) ++ more)
@@ -228,10 +215,7 @@ within_brace c cs more e =
     )
 
 delimiter_ends : (q : ℕ) → is_delimiter q ≡ true → (is_ascii_hexdigit q ≡ false) × ((q == 125) ≡ false)
-delimiter_ends q d = ⊎_elim
-    (λ e. (ap is_ascii_hexdigit (eqb-true q 34 e), ap (λ x. x == 125) (eqb-true q 34 e)))
-    (λ e. (ap is_ascii_hexdigit (eqb-true q 39 e), ap (λ x. x == 125) (eqb-true q 39 e)))
-    (or_cases (q == 34) (q == 39) d)
+delimiter_ends q h1 = grind (arith, nat_tests)
 
 -- digits and a brace that come before a delimiter
 digits_within : (digits more : List ℕ) (q : ℕ) → is_delimiter q ≡ true → begins_with is_ascii_hexdigit (digits ++ q ∷ more) ≡ true → begins_with (λ d. d == 125) (after_run is_ascii_hexdigit (digits ++ q ∷ more)) ≡ true
@@ -261,14 +245,10 @@ whole_within (c ∷ cs) more q d e whole =
 
 -- without what follows the next delimiter
 whole_before : (cs more : List ℕ) (q : ℕ) → is_delimiter q ≡ true → EscapesWhole (cs ++ q ∷ more) → EscapesWhole cs
-whole_before cs more q d whole front [] split e = cc
-whole_before cs more q d whole front (c ∷ after) split e =
-    whole_within (c ∷ after) more q d e (whole front (c ∷ after ++ q ∷ more) (sym (append_assoc front (c ∷ after) (q ∷ more)) ∙ ap (λ l. l ++ q ∷ more) split) (within_brace c after (q ∷ more) e).0)
+whole_before cs more q h1 h2 = grind (arith, nat_tests, append_assoc, whole_within, within_brace)
 
 opened_three : (d : ℕ) (cs : List ℕ) → three_of d (d ∷ cs) ≡ true → (more : List ℕ) × (cs ≡ d ∷ d ∷ more)
-opened_three d [] t = absurd (true_is_false (three_of d (d ∷ [])) t (and_right (d == d) _ refl))
-opened_three d (x ∷ []) t = absurd (true_is_false (three_of d (d ∷ x ∷ [])) t (and_right (d == d) _ (and_right (x == d) _ refl)))
-opened_three d (x ∷ y ∷ more) t = let two = and_parts (x == d) (y == d) (and_parts (d == d) _ t).1 in (more, λ i. eqb-true x d two.0 i ∷ eqb-true y d two.1 i ∷ more)
+opened_three d cs h1 = grind (arith, nat_tests, true_is_false)
 
 -- the escapes between the delimiters of a segment
 pub segment_whole : (cs : List ℕ) → is_segment cs ≡ true → EscapesWhole (between_delimiters cs)
@@ -297,10 +277,6 @@ pub record ReadSoFar (segment rest out : List ℕ) : Type 0 where
 
 pub read_start : (segment rest : List ℕ) → rest ≡ between_delimiters segment → ReadSoFar segment rest []
 read_start segment rest is = record { read = λ e. ap (λ l. encode_utf8_all (text_after 0 l)) is; whole = λ e. subst EscapesWhole (sym is) (segment_whole segment e) }
-
-pub not_segment : (cs : List ℕ) → is_delimited cs ≡ false → is_segment cs ≡ true → ⊥
-not_segment [] never e = cc
-not_segment (d ∷ cs) never e = true_is_false (is_delimited (d ∷ cs)) (and_parts (is_delimited (d ∷ cs)) (escapes_hold d cs) e).0 never
 
 pub read_more : (segment text rest out : List ℕ) (c : ℕ) → ReadSoFar segment text out → StandsFor text c rest → ReadSoFar segment rest (out ++ encode_utf8 c)
 read_more segment text rest out c so_far stands =

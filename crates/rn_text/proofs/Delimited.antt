@@ -1,11 +1,12 @@
 -- Segments at the front of a text.
-use Rattle.std.proofs.Common.{◌≡◌, ℕ, true, false, cond, List, [], ◌∷◌, ◌++◌, length, drop, refl, sym, ap, ◌∙◌, subst, arith, ⊎_elim, ne_eqb, eq-eqb, Some, None}
+use Rattle.std.proofs.lemmas.Bool.Decides.{nat_tests}
+use Rattle.std.proofs.Common.{◌≡◌, ℕ, true, false, cond, List, [], ◌∷◌, ◌++◌, length, drop, sym, ap, ◌∙◌, subst, arith, ⊎_elim, ne_eqb, Some, None}
 use Rattle.std.specs.Prelude.{◌==◌, ◌&&◌, not, Option, MatchOption}
-use Rattle.std.proofs.lemmas.Bool.{cases_Bool, cond-true, cond-false, and_parts, and_from, and_left, and_right}
+use Rattle.std.proofs.lemmas.Bool.{cases_Bool, cond-true, cond-false, and_parts, and_left}
 use Rattle.rn_text.specs.declared.parts.Part.{Part}
-use Rattle.rn_text.specs.declared.parts.Part.TheVariants.{Space, Comment, Token}
-use Rattle.rn_text.specs.declared.parts.Kind.TheVariants.{Name, Keyword, Quoted, Prefixed, AnyOf, Segment, Symbol}
-use Rattle.rn_text.specs.Segments.{is_empty, is_delimiter, is_delimited, is_segment, opens_threefold, three_of, ends_at_one, ends_at_three, escapes_hold, escape_front, is_whole_escape, escaped_char}
+use Rattle.rn_text.specs.declared.parts.Part.TheVariants.{Token}
+use Rattle.rn_text.specs.declared.parts.Kind.TheVariants.{Segment}
+use Rattle.rn_text.specs.Segments.{is_delimiter, is_delimited, is_segment, opens_threefold, three_of, ends_at_one, ends_at_three, escapes_hold, escape_front, is_whole_escape, escaped_char}
 use Rattle.rn_text.specs.Parts.{BeginsWith, IsFirstPart, IsDelimitedFront, IsNeverDelimited, spells}
 use Rattle.rn_text.specs.Tokens.{BeginsNoPart}
 use Rattle.rn_text.proofs.Texts.{same_test}
@@ -14,44 +15,22 @@ use Rattle.rn_text.proofs.FirstParts.{quote, class_of, class_quote, front_of}
 use Rattle.rn_text.proofs.Unique.{same_front}
 
 only_segment : (part : Part) → class_of part ≡ quote → part ≡ Token Segment
-only_segment Space k = cc
-only_segment Comment k = cc
-only_segment (Token Name) k = cc
-only_segment (Token Keyword) k = cc
-only_segment (Token Quoted) k = cc
-only_segment (Token Prefixed) k = cc
-only_segment (Token AnyOf) k = cc
-only_segment (Token Segment) k = refl
-only_segment (Token Symbol) k = cc
+only_segment part h1 = grind (arith, nat_tests)
 
 -- a text opens threefold if a front of it does
 opens_grows : (front after : List ℕ) → opens_threefold front ≡ true → opens_threefold (front ++ after) ≡ true
-opens_grows [] after e = cc
-opens_grows (c ∷ cs) after e = let both = and_parts (is_delimiter c) (three_of c (c ∷ cs)) e in and_from (is_delimiter c) (three_of c (c ∷ cs ++ after)) both.0 (three_grows c (c ∷ cs) after both.1)
+opens_grows front after h1 = grind (arith, nat_tests, three_grows)
 
 opens_alike : (text front after : List ℕ) → front ++ after ≡ text → (opens_threefold text ≡ true → opens_threefold front ≡ true) → opens_threefold front ≡ opens_threefold text
 opens_alike text front after split h = same_test (opens_threefold front) (opens_threefold text) (λ e. ap opens_threefold (sym split) ∙ opens_grows front after e) h
 
 -- of the fronts of a text that end at three delimiters, each begins with three where one does
 three_shrinks : (d : ℕ) (front after : List ℕ) → three_of d (front ++ after) ≡ true → ends_at_three d front ≡ true → three_of d front ≡ true
-three_shrinks d [] after e ends = cc
-three_shrinks d (x ∷ []) after e ends = ⊎_elim (λ t. t) (λ f. let h : false ≡ true = sym (cond-false _ _ _ f) ∙ ends in cc) (cases_Bool (three_of d (x ∷ [])))
-three_shrinks d (x ∷ y ∷ []) after e ends = ⊎_elim
-    (λ t. t)
-    (λ f. let one : three_of d (y ∷ []) ≡ false = and_right (y == d) _ refl in let h : false ≡ true = sym (cond-false _ _ _ f ∙ cond-false _ _ _ one) ∙ ends in cc)
-    (cases_Bool (three_of d (x ∷ y ∷ [])))
-three_shrinks d (x ∷ y ∷ z ∷ zs) after e ends = e
-
-none_of : (l : List ℕ) → is_empty l ≡ true → l ≡ []
-none_of [] e = refl
-none_of (z ∷ zs) e = cc
+three_shrinks d front after h1 h2 = grind (arith, nat_tests)
 
 -- three characters and no more
 only_three : (d : ℕ) (l : List ℕ) → three_of d l ≡ true → ends_at_three d l ≡ true → length l ≡ 3
-only_three d [] t e = cc
-only_three d (x ∷ []) t e = let h : true ≡ false = sym t ∙ and_right (x == d) _ refl in cc
-only_three d (x ∷ y ∷ []) t e = let h : true ≡ false = sym t ∙ and_right (x == d) _ (and_right (y == d) _ refl) in cc
-only_three d (x ∷ y ∷ z ∷ zs) t e = let h : zs ≡ [] = none_of zs (sym (cond-true _ _ _ t) ∙ e) in omega (arith, ap length h)
+only_three d l h1 h2 = grind (arith, nat_tests)
 
 -- fronts of one text that end at their first three delimiters are as long
 three_unique : (d : ℕ) (f g after rest : List ℕ) → f ++ after ≡ g ++ rest → ends_at_three d f ≡ true → ends_at_three d g ≡ true → length f ≡ length g
@@ -89,9 +68,7 @@ module _ (d : ℕ) (cs : List ℕ) (is : is_delimited (d ∷ cs) ≡ true) where
 
 -- behind three characters
 long_enough : (d : ℕ) (cs : List ℕ) → ends_at_three d (drop 2 cs) ≡ true → (x : ℕ) × (y : ℕ) × (more : List ℕ) × (cs ≡ x ∷ y ∷ more)
-long_enough d [] e = cc
-long_enough d (x ∷ []) e = cc
-long_enough d (x ∷ y ∷ more) e = (x, y, more, refl)
+long_enough d cs h1 = grind (arith, nat_tests)
 
 -- a text has one front between delimiters
 pub one_delimited : (text f g a b : List ℕ) → IsDelimitedFront text f a → IsDelimitedFront text g b → length f ≡ length g
@@ -129,55 +106,19 @@ delimited_front text part front after k begins = record { split = begins.split; 
     go [] e = cc
     go (c ∷ cs) e = (and_parts (is_delimited (c ∷ cs)) _ e).0
 
-three_same : (d : ℕ) (cs : List ℕ) → three_of d (d ∷ d ∷ d ∷ cs) ≡ true
-three_same d cs = let same : (d == d) ≡ true = eq-eqb d d refl in and_from (d == d) _ same (and_from (d == d) _ same same)
-
-head_of : {x y : ℕ} {xs ys : List ℕ} → x ∷ xs ≡ y ∷ ys → x ≡ y
-head_of e = cc
-
-tail_of : {x y : ℕ} {xs ys : List ℕ} → x ∷ xs ≡ y ∷ ys → xs ≡ ys
-tail_of e = cc
-
 -- behind three delimiters, what ends at the next three
 three_front : (d : ℕ) (opened front after : List ℕ) → is_delimiter d ≡ true → front ++ after ≡ opened → ends_at_three d front ≡ true → IsDelimitedFront (d ∷ d ∷ d ∷ opened) (d ∷ d ∷ d ∷ front) after
-three_front d opened front after q split ends =
-    record {
-      split = ap (λ l. d ∷ d ∷ d ∷ l) split;
-      is = and_from (is_delimiter d) _ q (cond-true _ _ _ (three_same d front) ∙ ends);
-      threefold = λ e. and_from (is_delimiter d) _ q (three_same d front);
-    }
+three_front d opened front after h1 h2 h3 = grind (arith, nat_tests)
 
 three_never : (d : ℕ) (opened : List ℕ) → is_delimiter d ≡ true → ((front after : List ℕ) → front ++ after ≡ opened → ends_at_three d front ≡ true → ⊥) → IsNeverDelimited (d ∷ d ∷ d ∷ opened)
-three_never d opened q none [] after x = let h : false ≡ true = x.is in cc
-three_never d opened q none (c ∷ cs) after x =
-    let heads : c ≡ d = head_of x.split in
-    let ends = closed_three c cs x.is (x.threefold (and_from (is_delimiter d) _ q (three_same d opened))) in
-    let long = long_enough c cs ends in
-    let behind : long.2 ++ after ≡ opened = tail_of (tail_of (ap (λ l. l ++ after) (sym long.3) ∙ tail_of x.split)) in
-    none long.2 after behind (ap (λ e. ends_at_three e long.2) (sym heads) ∙ ap (λ l. ends_at_three c (drop 2 l)) (sym long.3) ∙ ends)
+three_never d opened h1 h2 = grind (arith, nat_tests, long_enough)
 
 -- behind one delimiter, what ends at the next
 one_front : (d : ℕ) (tail front after : List ℕ) → is_delimiter d ≡ true → three_of d (d ∷ tail) ≡ false → front ++ after ≡ tail → ends_at_one d front ≡ true → IsDelimitedFront (d ∷ tail) (d ∷ front) after
-one_front d tail front after q single split ends =
-    record {
-      split = ap (λ l. d ∷ l) split;
-      is = and_from (is_delimiter d) _ q (cond-false _ _ _ stays ∙ ends);
-      threefold = λ e. let h : true ≡ false = sym (and_parts (is_delimiter d) (three_of d (d ∷ tail)) e).1 ∙ single in cc;
-    }
-  where
-    stays : three_of d (d ∷ front) ≡ false
-    stays = ⊎_elim
-        (λ t. let h : true ≡ false = sym (three_grows d (d ∷ front) after t) ∙ ap (λ l. three_of d (d ∷ l)) split ∙ single in cc)
-        (λ f. f)
-        (cases_Bool (three_of d (d ∷ front)))
+one_front d tail front after h1 h2 h3 h4 = grind (arith, nat_tests, three_grows)
 
 one_never : (d : ℕ) (tail : List ℕ) → is_delimiter d ≡ true → three_of d (d ∷ tail) ≡ false → ((front after : List ℕ) → front ++ after ≡ tail → ends_at_one d front ≡ true → ⊥) → IsNeverDelimited (d ∷ tail)
-one_never d tail q single none [] after x = let h : false ≡ true = x.is in cc
-one_never d tail q single none (c ∷ cs) after x =
-    let heads : c ≡ d = head_of x.split in
-    let plain : opens_threefold (d ∷ tail) ≡ false = and_right (is_delimiter d) _ single in
-    let ends = closed_one c cs x.is (opens_alike (d ∷ tail) (c ∷ cs) after x.split x.threefold ∙ plain) in
-    none cs after (tail_of x.split) (ap (λ e. ends_at_one e cs) (sym heads) ∙ ends)
+one_never d tail h1 h2 h3 = grind (arith, nat_tests, opens_alike)
 
 -- the same of what a search gave
 pub delimited_three : {T : Type 0} (now : T → List ℕ) (d : ℕ) (text opened : List ℕ) (r : Option T) → is_delimiter d ≡ true → text ≡ d ∷ d ∷ d ∷ opened
@@ -211,10 +152,7 @@ pub escapes_within : (d : ℕ) (cs : List ℕ) → is_delimiter d ≡ true → e
 escapes_within d cs q = ap (λ b. cond b (is_whole_escape (d ∷ cs) && not (escaped_char (d ∷ cs) == d)) true && escapes_hold d cs) (delimiter_plain d cs q)
 
 segment_escapes : (d : ℕ) (front : List ℕ) (cs after : List ℕ) → is_delimiter d ≡ true → front ++ after ≡ d ∷ cs → is_delimited front ≡ true → is_segment front ≡ escapes_hold d front
-segment_escapes d [] cs after q split is = cc
-segment_escapes d (c ∷ more) cs after q split is =
-    let heads : c ≡ d = head_of split in
-    ap (λ b. b && escapes_hold c more) is ∙ ap (λ x. escapes_hold x more) heads ∙ sym (escapes_within d more q) ∙ ap (λ x. escapes_hold d (x ∷ more)) (sym heads)
+segment_escapes d front cs after h1 h2 h3 = grind (arith, nat_tests, escapes_within)
 
 -- a segment whose escapes hold
 pub segment_first : (text : List ℕ) (d : ℕ) (cs front after : List ℕ) → text ≡ d ∷ cs → is_delimiter d ≡ true → IsDelimitedFront text front after → escapes_hold d front ≡ true → IsFirstPart text (Token Segment) front after

@@ -1,10 +1,11 @@
 -- The tokens of a text that is cut: what spells them, and where they stand.
-use Rattle.std.proofs.Common.{◌≡◌, ℕ, ◌+◌, ◌-◌, ◌<◌, ◌≤◌, ltb, leb, Bool, true, cond, List, [], ◌∷◌, ◌++◌, length, drop, take, refl, sym, ap, ◌∙◌, subst, arith, append_assoc, length-append, ⊎_elim, eqb-true}
-use Rattle.std.specs.Prelude.{◌&&◌, nat_le, encode_utf8}
+use Rattle.std.proofs.lemmas.Bool.Decides.{nat_tests}
+use Rattle.std.proofs.Common.{◌≡◌, ℕ, ◌+◌, ◌-◌, ◌<◌, ◌≤◌, ltb, leb, Bool, true, cond, List, [], ◌∷◌, ◌++◌, length, drop, take, refl, sym, ap, ◌∙◌, subst, arith, append_assoc, length-append}
+use Rattle.std.specs.Prelude.{◌&&◌, encode_utf8}
 use Rattle.std.specs.List.{list_all, AllByRecursion}
 use Rattle.std.specs.Str.{IsUtf8, chars, encode_utf8_all, all_scalars}
 use Rattle.std.proofs.Math.Seq.{take-append_seam}
-use Rattle.std.proofs.lemmas.Bool.{cases_Bool, cond-true, cond-false, and_parts, and_from, or_cases, lt-ltb, le-leb, leb-true}
+use Rattle.std.proofs.lemmas.Bool.{and_parts, and_from, lt-ltb}
 use Rattle.std.proofs.lemmas.Str.{chars-encodes, encodes-chars, encodes-append, len_utf8_bounds, length-encode}
 use Rattle.rn_text.specs.declared.parts.Part.{Part}
 use Rattle.rn_text.specs.declared.parts.Part.TheVariants.{Space, Comment, Token}
@@ -15,23 +16,9 @@ use Rattle.rn_text.proofs.Cuts.{mark_front, no_empty_part}
 use Rattle.rn_text.proofs.Contents.{drop_front}
 use Rattle.rn_text.proofs.Spelled.{spelled_is}
 
--- characters of XML are scalar values
-low_scalar : (c : ℕ) → ltb c 55296 ≡ true → cond (ltb c 55296) true (leb 57344 c && ltb c 1114112) ≡ true
-low_scalar c e = cond-true _ _ _ e
-
-high_scalar : (c : ℕ) → 57344 ≤ c → c < 1114112 → cond (ltb c 55296) true (leb 57344 c && ltb c 1114112) ≡ true
-high_scalar c l h = ⊎_elim (λ e. cond-true _ _ _ e) (λ e. cond-false _ _ _ e ∙ and_from (leb 57344 c) (ltb c 1114112) (le-leb 57344 c l) (lt-ltb c 1114112 h)) (cases_Bool (ltb c 55296))
-
 scalar_of : (c : ℕ) → is_xml_char c ≡ true → cond (ltb c 55296) true (leb 57344 c && ltb c 1114112) ≡ true
 unfolding is_xml_char
-scalar_of c e =
-    ⊎_elim (λ e. ⊎_elim (λ e. ⊎_elim (λ e. ⊎_elim (λ e. ⊎_elim
-    (λ e. low_scalar c (ap (λ x. ltb x 55296) (eqb-true c 9 e)))
-    (λ e. low_scalar c (ap (λ x. ltb x 55296) (eqb-true c 10 e))) (or_cases _ _ e))
-    (λ e. low_scalar c (ap (λ x. ltb x 55296) (eqb-true c 13 e))) (or_cases _ _ e))
-    (λ e. let b = and_parts (nat_le 0x20 c) (nat_le c 0xD7FF) e in low_scalar c (lt-ltb c 55296 (omega (arith, leb-true c 0xD7FF b.1)))) (or_cases _ _ e))
-    (λ e. let b = and_parts (nat_le 0xE000 c) (nat_le c 0xFFFD) e in high_scalar c (omega (arith, leb-true 0xE000 c b.0)) (omega (arith, leb-true c 0xFFFD b.1))) (or_cases _ _ e))
-    (λ e. let b = and_parts (nat_le 0x10000 c) (nat_le c 0x10FFFF) e in high_scalar c (omega (arith, leb-true 0x10000 c b.0)) (omega (arith, leb-true c 0x10FFFF b.1))) (or_cases _ _ e)
+scalar_of c h1 = grind (arith, nat_tests, lt-ltb)
 
 pub xml_scalars : (cs : List ℕ) → list_all is_xml_char cs ≡ true → all_scalars cs ≡ true
 xml_scalars [] e = refl

@@ -1,5 +1,7 @@
 -- The tokens of a written literal, and their texts.
-use Rattle.std.proofs.Common.{◌≡◌, ℕ, Bool, true, false, cond, List, [], ◌∷◌, ◌++◌, refl, sym, ap, ◌∙◌, subst, append-nil, lit<}
+use Rattle.std.proofs.Common.{arith}
+use Rattle.std.proofs.lemmas.Bool.Decides.{nat_tests}
+use Rattle.std.proofs.Common.{◌≡◌, ℕ, true, false, List, [], ◌∷◌, ◌++◌, refl, sym, ap, ◌∙◌, subst, append-nil, lit<}
 use Rattle.std.specs.Prelude.{◌==◌, codes, encode_utf8}
 use Rattle.std.specs.List.{list_all, flat_map, AllByRecursion}
 use Rattle.std.specs.Str.{chars, encode_utf8_all, IsUtf8}
@@ -9,7 +11,7 @@ use Rattle.rn_text.specs.declared.parts.Part.TheVariants.{Space, Token}
 use Rattle.rn_text.specs.declared.parts.Kind.TheVariants.{Segment, Symbol}
 use Rattle.rn_text.specs.Characters.{is_xml_char}
 use Rattle.rn_text.specs.Segments.{begins_with, segment_text}
-use Rattle.rn_text.specs.Literals.{literal_bytes, is_quote, quoted, joined, segments, literal_of}
+use Rattle.rn_text.specs.Literals.{literal_bytes, quoted, joined, segments, literal_of}
 use Rattle.rn_text.specs.Parts.{Piece, IsCut, symbols}
 use Rattle.rn_text.specs.Tokens.{Lexeme, HasTokens, SegmentsHaveText, lexemes, unmarked, unmarked_start}
 use Rattle.rn_text.proofs.FirstParts.{white_first}
@@ -50,9 +52,7 @@ literal_xml : (ss : List (List ℕ)) → list_all is_xml_char (flat_map (λ s. s
 unfolding is_xml_char
 literal_xml [] e = quoted_xml [] refl
 literal_xml (s ∷ []) e = quoted_xml s (all_parts is_xml_char s [] e).0
-literal_xml (s ∷ r ∷ ss) e =
-    let parts = all_parts is_xml_char s (flat_map (λ x. x) (r ∷ ss)) e in
-    all_append is_xml_char (quoted s) (codes " ~ " ++ joined (r ∷ ss)) (quoted_xml s parts.0) (all_append is_xml_char (codes " ~ ") (joined (r ∷ ss)) refl (literal_xml (r ∷ ss) parts.1))
+literal_xml (s ∷ r ∷ ss) e = grind (arith, nat_tests, all_append, all_parts, quoted_xml, literal_xml (r ∷ ss))
 
 -- and their texts are the text's
 segment_back : (s : List ℕ) → Together s → list_all is_xml_char s ≡ true → segment_text (chars (encode_utf8_all (quoted s))) ≡ s
@@ -68,12 +68,7 @@ literal_texts (s ∷ r ∷ ss) place t e =
 
 -- no byte order mark begins it
 no_mark : (s rest : List ℕ) → begins_with (λ c. c == 0xFEFF) (quoted s ++ rest) ≡ false
-no_mark [] rest = refl
-no_mark (c ∷ cs) rest = go (is_quote c)
-  where
-    go : (b : Bool) → (cond b 39 34 == 0xFEFF) ≡ false
-    go true = refl
-    go false = refl
+no_mark s rest = grind (arith, nat_tests)
 
 literal_unmarked : (ss : List (List ℕ)) → unmarked (joined ss) ≡ joined ss
 literal_unmarked [] = refl
@@ -94,9 +89,4 @@ literal_reads_back cs xml =
 
 -- the same of the bytes that are written
 pub literal_bytes_read_back : (text : List ℕ) → list_all is_xml_char (chars text) ≡ true → IsUtf8 (literal_bytes text) × ((ts : List Lexeme) × HasTokens (chars (literal_bytes text)) ts × SegmentsHaveText ts (chars text))
-literal_bytes_read_back text xml =
-    let back = literal_reads_back (chars text) xml in
-    let scalars = xml_scalars (literal_of (chars text)) back.1.xml in (
-      (literal_of (chars text), (scalars, refl)),
-      (back.0, subst (λ cs. HasTokens cs back.0) (sym (chars-encodes (literal_of (chars text)) scalars)) back.1, back.2),
-    )
+literal_bytes_read_back text h1 = grind (arith, nat_tests, chars-encodes, literal_reads_back, xml_scalars)

@@ -1,14 +1,15 @@
 -- What spells a token, kind by kind, and that it is one before a break.
-use Rattle.std.proofs.Common.{◌≡◌, ℕ, ◌+◌, Bool, true, false, List, [], ◌∷◌, ◌++◌, length, drop, refl, sym, ap, ◌∙◌, subst, arith, append-nil, length-append, ⊎_elim, eqb-true}
-use Rattle.std.specs.Prelude.{◌==◌, ◌&&◌, not, codes}
+use Rattle.std.proofs.lemmas.Bool.Decides.{nat_tests}
+use Rattle.std.proofs.Common.{◌≡◌, ℕ, ◌+◌, Bool, true, false, List, [], ◌∷◌, ◌++◌, length, refl, sym, ap, ◌∙◌, subst, arith, append-nil, length-append, ⊎_elim, eqb-true}
+use Rattle.std.specs.Prelude.{◌==◌, not, codes}
 use Rattle.std.specs.Str.{bytes_eq}
 use Rattle.std.proofs.lemmas.Bool.{cases_Bool, and_parts, not-true}
 use Rattle.std.proofs.lemmas.Slice.Eq.{bytes_eq-Decides}
 use Rattle.rn_text.specs.declared.parts.Part.TheVariants.{Token}
 use Rattle.rn_text.specs.declared.parts.Kind.{Kind}
 use Rattle.rn_text.specs.declared.parts.Kind.TheVariants.{Name, Keyword, Quoted, Prefixed, AnyOf, Segment, Symbol}
-use Rattle.rn_text.specs.Characters.{is_ncname, is_keyword, is_name_char}
-use Rattle.rn_text.specs.Segments.{run_of, after_run, begins_with, is_delimited, is_segment, opens_threefold, escapes_hold, escape_front}
+use Rattle.rn_text.specs.Characters.{is_ncname, is_keyword}
+use Rattle.rn_text.specs.Segments.{is_delimited, is_segment, opens_threefold, escapes_hold, escape_front}
 use Rattle.rn_text.specs.Parts.{IsFirstPart, IsSpelled, spells, is_prefixed, is_break, ends_token}
 use Rattle.rn_text.proofs.Texts.{run_split}
 use Rattle.rn_text.proofs.FirstParts.{keyword_is_name}
@@ -19,12 +20,7 @@ use Rattle.rn_text.proofs.Contents.{within_brace}
 
 -- a name, a colon, and what passes
 prefix_parts : (p : List ℕ → Bool) (s : List ℕ) → is_prefixed p s ≡ true → (name : List ℕ) × (local : List ℕ) × (s ≡ name ++ 58 ∷ local) × (is_ncname name ≡ true) × (p local ≡ true)
-prefix_parts p s e =
-    let rest = after_run is_name_char s in
-    let outer = and_parts (is_ncname (run_of is_name_char s) && begins_with (λ d. d == 58) rest) (p (drop 1 rest)) e in
-    let inner = and_parts (is_ncname (run_of is_name_char s)) (begins_with (λ d. d == 58) rest) outer.0 in
-    let colon = colon_of rest inner.1 in
-    (run_of is_name_char s, colon.behind, sym (run_split is_name_char s) ∙ ap (λ l. run_of is_name_char s ++ l) colon.is, inner.0, ap (λ l. p (drop 1 l)) (sym colon.is) ∙ outer.1)
+prefix_parts p s h1 = grind (arith, nat_tests, colon_of, run_split)
 
 pub spelled_is : (k : Kind) (s : List ℕ) → spells (Token k) s ≡ true → IsSpelled k s
 spelled_is Name s e = let both = and_parts (is_ncname s) (not (is_keyword s)) e in (both.0, not-true (is_keyword s) both.1)
@@ -71,11 +67,7 @@ before_break Symbol s b rest e ends = symbol_before s b rest e ends
 
 -- and one that ends the text
 begins_no_escape : (s more : List ℕ) → escape_front (s ++ more) ≡ false → escape_front s ≡ false
-begins_no_escape [] more e = refl
-begins_no_escape (c ∷ cs) more e = ⊎_elim
-    (λ t. let h : true ≡ false = sym (within_brace c cs more t).0 ∙ e in cc)
-    (λ f. f)
-    (cases_Bool (escape_front (c ∷ cs)))
+begins_no_escape s more h1 = grind (arith, nat_tests, within_brace)
 
 pub at_end : (k : Kind) (s : List ℕ) → spells (Token k) s ≡ true → IsFirstPart s (Token k) s []
 at_end k s e =
@@ -86,5 +78,4 @@ at_end k s e =
     }
 
 pub before_end : (k : Kind) (s rest : List ℕ) → spells (Token k) s ≡ true → ends_token rest ≡ true → IsFirstPart (s ++ rest) (Token k) s rest
-before_end k s [] e ends = subst (λ t. IsFirstPart t (Token k) s []) (sym (append-nil s)) (at_end k s e)
-before_end k s (b ∷ rest) e ends = before_break k s b rest e ends
+before_end k s rest h1 h2 = grind (arith, nat_tests, append-nil, at_end, before_break)

@@ -1,4 +1,6 @@
 -- Keywords, and the bytes and characters that spell them.
+use Rattle.std.proofs.Common.{arith}
+use Rattle.std.proofs.lemmas.Bool.Decides.{nat_tests}
 use Rattle.std.proofs.Common.{◌≡◌, ◌≢◌, ℕ, true, false, List, [], ◌∷◌, refl, sym, ap, ◌∙◌, map, lit<, ltb-true}
 use Rattle.std.specs.Prelude.{Option, Some, None, MatchOption, ◌||◌, nat_lt, zero, suc}
 use Rattle.std.specs.Option.{is_some}
@@ -8,7 +10,6 @@ use Rattle.std.proofs.lemmas.Bool.{and_parts, false_from_ne_true}
 use Rattle.std.proofs.lemmas.Slice.Eq.{bytes_eq-Decides}
 use Rattle.std.proofs.lemmas.Str.{encodes-chars, chars-IsAscii, encodes-IsAscii}
 use Rattle.rn_text.specs.declared.keywords.Keyword.{Keyword}
-use Rattle.rn_text.specs.declared.keywords.Keyword.TheVariants as k
 use Rattle.rn_text.specs.Keywords.{spelling, every_keyword}
 use Rattle.rn_text.specs.Characters.{keywords, is_keyword}
 
@@ -18,25 +19,7 @@ IsKnown w = (is_keyword (spelling w) ≡ true) × (list_all (λ c. nat_lt c 128)
 
 known : (w : Keyword) → IsKnown w
 unfolding is_keyword keywords
-known k.Attribute = (refl, refl)
-known k.Default = (refl, refl)
-known k.Datatypes = (refl, refl)
-known k.Div = (refl, refl)
-known k.Element = (refl, refl)
-known k.Empty = (refl, refl)
-known k.External = (refl, refl)
-known k.Grammar = (refl, refl)
-known k.Include = (refl, refl)
-known k.Inherit = (refl, refl)
-known k.List = (refl, refl)
-known k.Mixed = (refl, refl)
-known k.Namespace = (refl, refl)
-known k.NotAllowed = (refl, refl)
-known k.Parent = (refl, refl)
-known k.Start = (refl, refl)
-known k.String = (refl, refl)
-known k.Text = (refl, refl)
-known k.Token = (refl, refl)
+known w = grind (arith, nat_tests)
 
 -- ---- the bytes that spell them
 
@@ -54,8 +37,7 @@ bytes_spelled w bs u e = sym (encodes-chars bs u) ∙ ap encode_utf8_all e ∙ e
 
 -- a keyword is the same in bytes and in characters
 pub found_chars : (r : Option Keyword) (bs : List ℕ) → IsUtf8 bs → MatchOption r ((w : Keyword) → bs ≢ spelling w) (λ w. bs ≡ spelling w) → MatchOption r ((w : Keyword) → chars bs ≢ spelling w) (λ w. chars bs ≡ spelling w)
-found_chars None bs u none = λ w e. none w (bytes_spelled w bs u e)
-found_chars (Some w) bs u e = ap chars e ∙ spelling_chars w
+found_chars r bs h1 h2 = grind (arith, nat_tests, bytes_spelled, spelling_chars)
 
 -- ---- what is one of them
 

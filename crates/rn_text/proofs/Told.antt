@@ -1,4 +1,5 @@
 -- A source has tokens or a fault: each can be looked for.
+use Rattle.std.proofs.lemmas.Bool.Decides.{nat_tests}
 use Rattle.std.proofs.Common.{◌≡◌, ◌≢◌, ℕ, zero, suc, ◌+◌, ◌<◌, ◌≤◌, ◌⊎◌, inl, inr, Bool, true, false, List, [], ◌∷◌, length, take, drop, refl, sym, ap, ◌∙◌, arith, length-append, length-take-le}
 use Rattle.std.specs.Prelude.{not, ◌&&◌, ◌||◌}
 use Rattle.std.specs.List.{list_all, list_any, flat_map}
@@ -58,43 +59,22 @@ found : (q : Part → Bool) (ps : List Part) → list_any q ps ≡ true → (p :
 found q [] e = cc
 found q (p ∷ ps) e = elim (or_cases (q p) (list_any q ps) e) [ inl h ↦ (p, h) | inr h ↦ found q ps h ]
 
-here : (a b : Bool) → a ≡ true → (a || b) ≡ true
-here true b e = refl
-here false b e = cc
-
-there : (a b : Bool) → b ≡ true → (a || b) ≡ true
-there true b e = refl
-there false b e = e
-
 -- each part is one of those
 listed : (q : Part → Bool) (p : Part) → q p ≡ true → list_any q parts ≡ true
-listed q Space e = here _ _ e
-listed q Comment e = there (q Space) _ (here _ _ e)
-listed q (Token Name) e = there (q Space) _ (there (q Comment) _ (here _ _ e))
-listed q (Token Keyword) e = there (q Space) _ (there (q Comment) _ (there (q (Token Name)) _ (here _ _ e)))
-listed q (Token Quoted) e = there (q Space) _ (there (q Comment) _ (there (q (Token Name)) _ (there (q (Token Keyword)) _ (here _ _ e))))
-listed q (Token Prefixed) e = there (q Space) _ (there (q Comment) _ (there (q (Token Name)) _ (there (q (Token Keyword)) _ (there (q (Token Quoted)) _ (here _ _ e)))))
-listed q (Token AnyOf) e = there (q Space) _ (there (q Comment) _ (there (q (Token Name)) _ (there (q (Token Keyword)) _ (there (q (Token Quoted)) _ (there (q (Token Prefixed)) _ (here _ _ e))))))
-listed q (Token Segment) e =
-    there (q Space) _ (there (q Comment) _ (there (q (Token Name)) _ (there (q (Token Keyword)) _ (there (q (Token Quoted)) _ (there (q (Token Prefixed)) _ (there (q (Token AnyOf)) _ (here _ _ e)))))))
-listed q (Token Symbol) e =
-    there (q Space) _ (there (q Comment) _ (there (q (Token Name)) _ (there (q (Token Keyword)) _ (there (q (Token Quoted)) _ (there (q (Token Prefixed)) _ (there (q (Token AnyOf)) _ (there (q (Token Segment)) _ (here _ _ e))))))))
+listed q p h1 = grind (arith, nat_tests)
 
 -- the front of that length spells a part where it may stand
 abbrev starts : List ℕ → ℕ → Bool
 starts text n = list_any (λ p. spells p (take n text)) parts && ((not (opens_threefold text) || opens_threefold (take n text)) && not (escape_front text))
 
 implied : (a b : Bool) → (not a || b) ≡ true → a ≡ true → b ≡ true
-implied true b e h = e
-implied false b e h = cc
+implied a b h1 h2 = grind (arith, nat_tests)
 
 implies : (a b : Bool) → (a ≡ true → b ≡ true) → (not a || b) ≡ true
-implies true b h = h refl
-implies false b h = refl
+implies a b h1 = grind (arith, nat_tests)
 
 not_true : (b : Bool) → not b ≡ true → b ≡ false
-not_true true e = cc
-not_true false e = refl
+not_true b h1 = grind (arith, nat_tests)
 
 begins_by : (text : List ℕ) (n : ℕ) → starts text n ≡ true → (p : Part) × BeginsWith text p (take n text) (drop n text)
 begins_by text n e =

@@ -1,17 +1,16 @@
 -- What stands for itself between delimiters is its own text.
-use Rattle.std.proofs.Common.{◌≡◌, ℕ, Bool, true, false, cond, List, [], ◌∷◌, refl, ap}
+use Rattle.std.proofs.Common.{arith}
+use Rattle.std.proofs.lemmas.Bool.Decides.{nat_tests}
+use Rattle.std.proofs.Common.{◌≡◌, ℕ, Bool, true, false, cond, List, [], ◌∷◌, refl}
 use Rattle.std.specs.Prelude.{◌==◌, ◌&&◌, not}
 use Rattle.std.proofs.lemmas.Bool.{and_parts}
 use Rattle.rn_text.specs.Segments.{escape_front, is_verbatim, text_after}
 
 pub not_true : (b : Bool) → not b ≡ true → b ≡ false
-not_true true e = cc
-not_true false e = refl
+not_true b h1 = grind (arith, nat_tests)
 
 verbatim_at : (b r : Bool) (c : ℕ) (cs x y : List ℕ) → b ≡ false → r ≡ false → text_after 0 cs ≡ cs → cond b x (cond r y (c ∷ text_after 0 cs)) ≡ c ∷ cs
-verbatim_at false false c cs x y p q e = ap (λ l. c ∷ l) e
-verbatim_at true r c cs x y p q e = cc
-verbatim_at false true c cs x y p q e = cc
+verbatim_at b r c cs x y h1 h2 h3 = grind (arith, nat_tests)
 
 pub verbatim_text : (cs : List ℕ) → is_verbatim cs ≡ true → text_after 0 cs ≡ cs
 verbatim_text [] e = refl
