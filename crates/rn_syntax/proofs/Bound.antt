@@ -1,43 +1,108 @@
--- What one declaration more binds.
-use Rattle.std.proofs.Common.{◌≡◌, ℕ, Bool, true, false, List, [], ◌∷◌, ◌++◌, Option, Some, None, refl, cond, is_some, option_map}
-use Rattle.std.specs.Prelude.{◌||◌, if◌then◌else◌}
+-- Which declaration binds, with one declaration more, and what its URI is.
+use Rattle.std.proofs.Common.{◌≡◌, ℕ, zero, suc, map, ◌<◌, Bool, true, false, List, [], ◌∷◌, ◌++◌, Option, Some, None, refl, ap, sym, ◌∙◌, cond, is_some, option_map, length, arith, get_or, MatchOption}
+use Rattle.std.specs.Prelude.{if◌then◌else◌, ⊤}
 use Rattle.std.specs.Str.{bytes_eq}
 use Rattle.rn_syntax.specs.Tree as t
-use Rattle.rn_syntax.specs.Tree.{Declaration}
-use Rattle.rn_syntax.specs.Places.{declared_namespace, declared_library, has_default, first}
+use Rattle.rn_syntax.specs.Tree.{Declaration, Uri}
+use Rattle.rn_syntax.specs.Places.{declared_namespace, declared_library, declared_default, has_default, binds_namespace, binds_library, is_default, number_of, uri_of, uri_at, is_library, first}
+use Rattle.rn_syntax.specs.inside.Numbered.{library_text}
 
-pub default_more : (ds es : List Declaration) → has_default (ds ++ es) ≡ (has_default ds || has_default es)
-default_more [] es = refl
-default_more (t.namespace q i u ∷ ds) es = default_more ds es
-default_more (t.default i q u ∷ ds) es = refl
-default_more (t.datatypes q i s ∷ ds) es = default_more ds es
+module _ (f : Declaration → Bool) where
+  pub number_more : (ds : List Declaration) (d : Declaration) → number_of f (ds ++ d ∷ []) ≡ (if is_some (number_of f ds) then number_of f ds else if f d then Some (length ds) else None)
+  number_more [] d = refl
+  number_more (x ∷ ds) d = step (f x) (f d) _ _ (length ds) (number_more ds d)
+    where
+      step : (b c : Bool) (r s : Option ℕ) (n : ℕ) → r ≡ (if is_some s then s else if c then Some n else None)
+          → (if b then Some 0 else option_map suc r) ≡ (if is_some (if b then Some 0 else option_map suc s) then (if b then Some 0 else option_map suc s) else if c then Some (suc n) else None)
+      step true c r s n e = refl
+      step false true r None n e = ap (option_map suc) e
+      step false false r None n e = ap (option_map suc) e
+      step false c r (Some m) n e = ap (option_map suc) e
 
-if_some : {A : Type 0} (b : Bool) (x : A) (r s : Option A) (e : Bool) → is_some r ≡ (is_some s || e) → is_some (if b then Some x else r) ≡ (is_some (if b then Some x else s) || e)
-if_some true x r s e h = refl
-if_some false x r s e h = h
+  pub number_within : (ds : List Declaration) → MatchOption (number_of f ds) ⊤ (λ n. n < length ds)
+  number_within [] = tt
+  number_within (d ∷ ds) = step (f d) _ (length ds) (number_within ds)
+    where
+      step : (b : Bool) (r : Option ℕ) (l : ℕ) → MatchOption r ⊤ (λ n. n < l) → MatchOption (if b then Some 0 else option_map suc r) ⊤ (λ n. n < suc l)
+      step true r l h = omega arith
+      step false None l h = tt
+      step false (Some n) l h = omega (arith, h)
 
-pub namespace_more : (ds es : List Declaration) (p : List ℕ) → is_some (declared_namespace (ds ++ es) p) ≡ (is_some (declared_namespace ds p) || is_some (declared_namespace es p))
-namespace_more [] es p = refl
-namespace_more (t.namespace q i u ∷ ds) es p = if_some (bytes_eq q p) u _ _ _ (namespace_more ds es p)
-namespace_more (t.default i (Some q) u ∷ ds) es p = if_some (bytes_eq q.0 p) u _ _ _ (namespace_more ds es p)
-namespace_more (t.default i None u ∷ ds) es p = namespace_more ds es p
-namespace_more (t.datatypes q i s ∷ ds) es p = namespace_more ds es p
+next : (d : Declaration) (ds : List Declaration) (r : Option ℕ) (o : Option Uri) → o ≡ option_map (uri_at ds) r → o ≡ option_map (uri_at (d ∷ ds)) (option_map suc r)
+next d ds None o h = h
+next d ds (Some n) o h = h
 
-if_or : {A : Type 0} (b : Bool) (x : A) (r s e : Option A) → r ≡ (if is_some s then s else e) → (if b then Some x else r) ≡ (if is_some (if b then Some x else s) then (if b then Some x else s) else e)
-if_or true x r s e h = refl
-if_or false x r s e h = h
+here : (b : Bool) (d : Declaration) (ds : List Declaration) (r : Option ℕ) (o : Option Uri) → o ≡ option_map (uri_at ds) r
+    → (if b then Some (uri_of d) else o) ≡ option_map (uri_at (d ∷ ds)) (if b then Some 0 else option_map suc r)
+here true d ds r o h = refl
+here false d ds r o h = next d ds r o h
 
-pub library_more : (ds es : List Declaration) (p : List ℕ) → declared_library (ds ++ es) p ≡ (if is_some (declared_library ds p) then declared_library ds p else declared_library es p)
-library_more [] es p = refl
-library_more (t.datatypes q i s ∷ ds) es p = if_or (bytes_eq q p) s _ _ _ (library_more ds es p)
-library_more (t.namespace q i u ∷ ds) es p = library_more ds es p
-library_more (t.default i q u ∷ ds) es p = library_more ds es p
+pub default_uri : (ds : List Declaration) → declared_default ds ≡ option_map (uri_at ds) (number_of is_default ds)
+default_uri [] = refl
+default_uri (t.default i q u ∷ ds) = refl
+default_uri (t.namespace q i u ∷ ds) = next (t.namespace q i u) ds _ _ (default_uri ds)
+default_uri (t.datatypes q i s ∷ ds) = next (t.datatypes q i s) ds _ _ (default_uri ds)
 
-pub put_some : {A : Type 0} (b : Bool) (x : A) (r : Option A) → is_some (cond b (Some x) r) ≡ (is_some r || b)
-put_some true x None = refl
-put_some true x (Some y) = refl
-put_some false x None = refl
-put_some false x (Some y) = refl
+pub namespace_uri : (ds : List Declaration) (p : List ℕ) → declared_namespace ds p ≡ option_map (uri_at ds) (number_of (binds_namespace p) ds)
+namespace_uri [] p = refl
+namespace_uri (t.namespace q i u ∷ ds) p = here (bytes_eq q p) (t.namespace q i u) ds _ _ (namespace_uri ds p)
+namespace_uri (t.default i (Some q) u ∷ ds) p = here (bytes_eq q.0 p) (t.default i (Some q) u) ds _ _ (namespace_uri ds p)
+namespace_uri (t.default i None u ∷ ds) p = next (t.default i None u) ds _ _ (namespace_uri ds p)
+namespace_uri (t.datatypes q i s ∷ ds) p = next (t.datatypes q i s) ds _ _ (namespace_uri ds p)
+
+-- a library's URI is a literal
+literal_if : (b : Bool) (s : List ℕ) (o : Option (List ℕ)) → option_map (λ x. t.literal x) (if b then Some s else o) ≡ (if b then Some (t.literal s) else option_map (λ x. t.literal x) o)
+literal_if true s o = refl
+literal_if false s o = refl
+
+pub library_uri : (ds : List Declaration) (p : List ℕ) → option_map (λ s. t.literal s) (declared_library ds p) ≡ option_map (uri_at ds) (number_of (binds_library p) ds)
+library_uri [] p = refl
+library_uri (t.datatypes q i s ∷ ds) p = literal_if (bytes_eq q p) s _ ∙ here (bytes_eq q p) (t.datatypes q i s) ds _ _ (library_uri ds p)
+library_uri (t.namespace q i u ∷ ds) p = next (t.namespace q i u) ds _ _ (library_uri ds p)
+library_uri (t.default i q u ∷ ds) p = next (t.default i q u) ds _ _ (library_uri ds p)
+
+-- the library of the declaration that binds a datatype prefix
+on : (ds : List Declaration) (x : Declaration) (n : ℕ) (d : Declaration) (r : Option ℕ) (o : Option (List ℕ)) → ((m : ℕ) → r ≡ Some m → o ≡ library_text (get_or ds m d))
+    → option_map suc r ≡ Some n → o ≡ library_text (get_or (x ∷ ds) n d)
+on ds x n d None o h e = cc
+on ds x n d (Some m) o h e = let z : suc m ≡ n = cc in h m refl ∙ ap (λ k. library_text (get_or (x ∷ ds) k d)) z
+
+at : (b : Bool) (ds : List Declaration) (x : Declaration) (n : ℕ) (d : Declaration) (r : Option ℕ) (o : Option (List ℕ)) → ((m : ℕ) → r ≡ Some m → o ≡ library_text (get_or ds m d))
+    → (if b then Some 0 else option_map suc r) ≡ Some n → (if b then library_text x else o) ≡ library_text (get_or (x ∷ ds) n d)
+at true ds x n d r o h e = let z : 0 ≡ n = cc in ap (λ k. library_text (get_or (x ∷ ds) k d)) z
+at false ds x n d r o h e = on ds x n d r o h e
+
+pub library_found : (ds : List Declaration) (p : List ℕ) (n : ℕ) (d : Declaration) → number_of (binds_library p) ds ≡ Some n → declared_library ds p ≡ library_text (get_or ds n d)
+library_found [] p n d e = cc
+library_found (t.datatypes q i s ∷ ds) p n d e = at (bytes_eq q p) ds (t.datatypes q i s) n d _ _ (λ m. library_found ds p m d) e
+library_found (t.namespace q i u ∷ ds) p n d e = on ds (t.namespace q i u) n d _ _ (λ m. library_found ds p m d) e
+library_found (t.default i q u ∷ ds) p n d e = on ds (t.default i q u) n d _ _ (λ m. library_found ds p m d) e
+
+-- whether the default namespace is declared
+some_map : {A B : Type 0} (g : A → B) (r : Option A) → is_some (option_map g r) ≡ is_some r
+some_map g None = refl
+some_map g (Some x) = refl
+
+pub is_default_by : (ds : List Declaration) → is_some (number_of is_default ds) ≡ has_default ds
+is_default_by [] = refl
+is_default_by (t.default i q u ∷ ds) = refl
+is_default_by (t.namespace q i u ∷ ds) = some_map suc (number_of is_default ds) ∙ is_default_by ds
+is_default_by (t.datatypes q i s ∷ ds) = some_map suc (number_of is_default ds) ∙ is_default_by ds
+
+-- the declarations as they are seen
+pub length_of : {A B : Type 0} (f : A → B) (xs : List A) → length (map f xs) ≡ length xs
+length_of f [] = refl
+length_of f (x ∷ xs) = ap suc (length_of f xs)
+
+pub at_map : {A B : Type 0} (f : A → B) (xs : List A) (i : ℕ) (x : A) → x ≡ get_or xs i x → get_or (map f xs) i (f x) ≡ f x
+at_map f [] i x e = refl
+at_map f (y ∷ xs) zero x e = ap f (sym e)
+at_map f (y ∷ xs) (suc i) x e = at_map f xs i x e
+
+-- whether a library is a given one has nothing to do with the declarations
+pub same_library : (ds es : List Declaration) (o : Option (List ℕ)) (s : List ℕ) → is_library ds o s ≡ is_library es o s
+same_library ds es None s = refl
+same_library ds es (Some l) s = refl
 
 -- the first wrong place, with those of one declaration more
 pub wrong_more : (all w w' : Option ℕ) (a b : List ℕ) → all ≡ (if is_some w then w else first (a ++ b)) → w' ≡ (if is_some w then w else first a) → all ≡ (if is_some w' then w' else first b)
@@ -45,14 +110,9 @@ wrong_more all (Some i) w' a b e f = cc
 wrong_more all None w' [] b e f = cc
 wrong_more all None w' (x ∷ a) b e f = cc
 
-pub put_absent : {A B : Type 0} (f : A → B) (b : Bool) (x : A) (r : Option A) → (b ≡ true → is_some r ≡ false) → option_map f (cond b (Some x) r) ≡ (if is_some r then option_map f r else (if b then Some (f x) else None))
-put_absent f true x None h = refl
-put_absent f true x (Some y) h = let e : true ≡ false = h refl in cc
-put_absent f false x None h = refl
-put_absent f false x (Some y) h = refl
-
-pub library_step : {A B : Type 0} (f : A → B) (r : Option A) (d e : Option B) → option_map f r ≡ d → (if is_some r then option_map f r else e) ≡ (if is_some d then d else e)
-library_step f None None e h = refl
-library_step f None (Some y) e h = cc
-library_step f (Some x) None e h = cc
-library_step f (Some x) (Some y) e h = h
+-- what was not bound is bound
+pub put_absent : (b : Bool) (x : ℕ) (r : Option ℕ) → (b ≡ true → is_some r ≡ false) → cond b (Some x) r ≡ (if is_some r then r else if b then Some x else None)
+put_absent true x None h = refl
+put_absent true x (Some y) h = let e : true ≡ false = h refl in cc
+put_absent false x None h = refl
+put_absent false x (Some y) h = refl

@@ -1,9 +1,9 @@
 -- A fault of the tree is one of the tokens.
-use Rattle.std.proofs.Common.{◌≡◌, List, map, None}
+use Rattle.std.proofs.Common.{◌≡◌, ℕ, List, map, Option, Some, None}
 use Rattle.rn_text.specs.declared.source.Token.{Token}
 use Rattle.rn_text.specs.Tokens.{lexeme_of}
 use Rattle.rn_syntax.specs.declared.fault.SyntaxFault.{SyntaxFault}
-use Rattle.rn_syntax.specs.declared.fault.SyntaxFault.TheVariants.{Deep, Syntax, Prefix, Builtin, ContextValue, Except, Memory}
+use Rattle.rn_syntax.specs.declared.fault.SyntaxFault.TheVariants.{Deep, Syntax, Memory}
 use Rattle.rn_syntax.specs.Tree.{Module}
 use Rattle.rn_syntax.specs.Tokens.{terminals}
 use Rattle.rn_syntax.specs.Fault.{HasTree}
@@ -12,20 +12,13 @@ use Rattle.rn_syntax.specs.Places.{deep}
 use Rattle.rn_syntax.specs.Faults.{HasModuleFault, IsFault, IsSyntax}
 
 pub found_fault : (xs : List Token) (m : Module) (e : SyntaxFault) → deep 0 (terminals (map lexeme_of xs)) ≡ None → (AreSpelled xs → HasTree (terminals (map lexeme_of xs)) m) → HasModuleFault m e → IsFault xs e
-found_fault xs m (Deep at) d t h = absurd h
-found_fault xs m (Syntax at) d t h = absurd h
-found_fault xs m (Prefix at) d t h = (d, m, t, h)
-found_fault xs m (Builtin at) d t h = (d, m, t, h)
-found_fault xs m (ContextValue at) d t h = (d, m, t, h)
-found_fault xs m (Except at) d t h = (d, m, t, h)
+found_fault xs m (Deep at) d t h = let none : ◌≡◌ {A = Option ℕ} None (Some at) = h.place in cc
+found_fault xs m (Syntax at) d t h = let none : ◌≡◌ {A = Option ℕ} None (Some at) = h.place in cc
 found_fault xs m Memory d t h = absurd h
+found_fault xs m e d t h = (d, m, t, h)
 
 -- a fault of the grammar is one of the tokens
 pub syntax_fault : (xs : List Token) (e : SyntaxFault) → deep 0 (terminals (map lexeme_of xs)) ≡ None → IsSyntax xs e → IsFault xs e
 syntax_fault xs (Syntax at) d h = (d, h)
 syntax_fault xs Memory d h = tt
-syntax_fault xs (Deep at) d h = absurd h
-syntax_fault xs (Prefix at) d h = absurd h
-syntax_fault xs (Builtin at) d h = absurd h
-syntax_fault xs (ContextValue at) d h = absurd h
-syntax_fault xs (Except at) d h = absurd h
+syntax_fault xs e d h = absurd h

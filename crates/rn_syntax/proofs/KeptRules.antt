@@ -4,6 +4,7 @@ use Rattle.rn_syntax.specs.Tree as t
 use Rattle.rn_syntax.specs.Tree.{NameClass, Datatype, Params, Pattern, Patterns, Declaration, Item, Items, Module}
 use Rattle.rn_syntax.specs.Places.{Text, first, place_if, pattern_places, patterns_places, item_places, items_places, class_places, unbound_type, wrong_builtin, context_value, inherit_places, is_allowed, declarations_places}
 use Rattle.rn_syntax.specs.Faults.{HasNoFault}
+use Rattle.rn_syntax.proofs.FaultKinds.{no_fault as none_of_kinds}
 use Rattle.rn_syntax.proofs.EmptyLists.{nil_parts, both_nil}
 use Rattle.rn_syntax.proofs.Firsts.{none_first}
 
@@ -69,9 +70,9 @@ no_fault m declared h =
     let unbound = λ (v : Bool) (x : Datatype) (ps : Params) (e : types ds v x ps ≡ []). (nil_parts _ _ (nil_parts (unbound_type ds v x ps ++ wrong_builtin ds v x ps) _ e).0).0 in
     let builtin = λ (v : Bool) (x : Datatype) (ps : Params) (e : types ds v x ps ≡ []). (nil_parts (unbound_type ds v x ps) (wrong_builtin ds v x ps) (nil_parts (unbound_type ds v x ps ++ wrong_builtin ds v x ps) _ e).0).1 in
     let context = λ (v : Bool) (x : Datatype) (ps : Params) (e : types ds v x ps ≡ []). (nil_parts (unbound_type ds v x ps ++ wrong_builtin ds v x ps) _ e).1 in
-    record {
-      prefix = none_first (declarations_places [] ds) _ declared ∙ ap first (kept_items (class_places ds) (class_places ds) (types ds) (unbound_type ds) excepts (λ _ _. []) (inherit_places ds) (inherit_places ds) (λ x z. z) unbound (λ n p z. refl) (λ o z. z) m.items none);
-      builtin = ap first (kept_items (class_places ds) (λ _. []) (types ds) (wrong_builtin ds) excepts (λ _ _. []) (inherit_places ds) (λ _. []) (λ x z. refl) builtin (λ n p z. refl) (λ o z. refl) m.items none);
-      context = ap first (kept_items (class_places ds) (λ _. []) (types ds) (context_value ds) excepts (λ _ _. []) (inherit_places ds) (λ _. []) (λ x z. refl) context (λ n p z. refl) (λ o z. refl) m.items none);
-      except = ap first (kept_items (class_places ds) (λ _. []) (types ds) (λ _ _ _. []) excepts excepts (inherit_places ds) (λ _. []) (λ x z. refl) (λ v x ps z. refl) (λ n p z. z) (λ o z. refl) m.items none);
-    }
+    none_of_kinds
+    m
+    (none_first (declarations_places [] ds) _ declared ∙ ap first (kept_items (class_places ds) (class_places ds) (types ds) (unbound_type ds) excepts (λ _ _. []) (inherit_places ds) (inherit_places ds) (λ x z. z) unbound (λ n p z. refl) (λ o z. z) m.items none))
+    (ap first (kept_items (class_places ds) (λ _. []) (types ds) (wrong_builtin ds) excepts (λ _ _. []) (inherit_places ds) (λ _. []) (λ x z. refl) builtin (λ n p z. refl) (λ o z. refl) m.items none))
+    (ap first (kept_items (class_places ds) (λ _. []) (types ds) (context_value ds) excepts (λ _ _. []) (inherit_places ds) (λ _. []) (λ x z. refl) context (λ n p z. refl) (λ o z. refl) m.items none))
+    (ap first (kept_items (class_places ds) (λ _. []) (types ds) (λ _ _ _. []) excepts excepts (inherit_places ds) (λ _. []) (λ x z. refl) (λ v x ps z. refl) (λ n p z. z) (λ o z. refl) m.items none))

@@ -1,18 +1,22 @@
 -- Tokens are a module without a fault or have a fault, never both, and one fault.
-use Rattle.std.proofs.Common.{◌≡◌, ◌≢◌, ℕ, ◌+◌, ◌<◌, ◌⊎◌, inl, inr, List, [], ◌∷◌, ◌++◌, length, map, Option, Some, None, refl, sym, ap, ◌∙◌, subst, arith, append-nil, append_assoc, length-append}
+use Rattle.std.proofs.Common.{◌≡◌, ◌≢◌, ℕ, zero, suc, ◌+◌, ◌<◌, ◌⊎◌, inl, inr, ⊎_elim, List, [], ◌∷◌, ◌++◌, map, Option, Some, None, MatchOption, refl, sym, ap, ◌∙◌, subst, arith, append-nil, append_assoc}
+use Rattle.std.proofs.lemmas.Bool.{cases_order}
 use Rattle.rn_text.specs.declared.source.Token.{Token}
 use Rattle.rn_text.specs.Tokens.{lexeme_of}
+use Rattle.rn_syntax.specs.declared.fault.FaultKind.{FaultKind}
 use Rattle.rn_syntax.specs.declared.fault.SyntaxFault.{SyntaxFault}
-use Rattle.rn_syntax.specs.declared.fault.SyntaxFault.TheVariants.{Deep, Syntax, Prefix, Builtin, ContextValue, Except, Memory}
+use Rattle.rn_syntax.specs.declared.fault.SyntaxFault.TheVariants.{Deep, Syntax, Memory}
 use Rattle.rn_syntax.specs.Terminal.{Placed, ◌#◌}
 use Rattle.rn_syntax.specs.Tree.{Module}
 use Rattle.rn_syntax.specs.Grammar as g
 use Rattle.rn_syntax.specs.Grammar.{Tokens}
 use Rattle.rn_syntax.specs.Tokens.{terminals}
 use Rattle.rn_syntax.specs.Fault.{HasTree, Begins, IsRefused, Stops}
-use Rattle.rn_syntax.specs.Faults.{HasNoFault, HasModuleFault, StopsAt, IsFaultOfTree, IsFault}
-use Rattle.rn_syntax.specs.Places.{deep, first, prefix_places, builtin_places, context_places, except_places}
+use Rattle.rn_syntax.specs.Faults.{kind_rank, kind_places, kind_and_place, HasNoFault, IsFirstOfKinds, HasModuleFault, StopsAt, IsFaultOfTree, IsFault}
+use Rattle.rn_syntax.specs.Places.{deep, first}
 use Rattle.rn_syntax.specs.Spelled.{AreSpelled, IsPlace, last_end}
+use Rattle.rn_syntax.proofs.Found.{found_fault}
+use Rattle.rn_syntax.proofs.FaultKinds.{fault_at, fault_here, no_memory, one_kind, same_fault}
 use Rattle.rn_syntax.proofs.OneTree.{one_tree}
 
 -- ---- where tokens stop to begin a module
@@ -79,47 +83,36 @@ one_some o x y = cc
 none_some : {i : ℕ} (o : Option ℕ) → o ≡ None → o ≡ Some i → ⊥
 none_some o x y = cc
 
+-- of two first faults of a tree neither is before the other
+same_first : (m : Module) (j k : FaultKind) (a b : ℕ) → IsFirstOfKinds m j a → IsFirstOfKinds m k b → j ≡ k
+same_first m j k a b x y =
+    ⊎_elim (λ same. one_kind j k same) (⊎_elim (λ less. absurd (none_some _ (y.before j less) x.place)) (λ more. absurd (none_some _ (x.before k more) y.place))) (cases_order (kind_rank j) (kind_rank k))
+
+one_first : (m : Module) (j k : FaultKind) (a b : ℕ) → IsFirstOfKinds m j a → IsFirstOfKinds m k b → fault_at j a ≡ fault_at k b
+one_first m j k a b x y =
+    let same = same_first m j k a b x y in
+    let place : a ≡ b = one_some (first (kind_places k m)) (subst (λ i. first (kind_places i m) ≡ Some a) same x.place) y.place in
+    λ i. fault_at (same i) (place i)
+
+-- the fault of a tree, with its kind and place
+record OfKind (m : Module) (e : SyntaxFault) : Type 0 where
+  kind : FaultKind
+  at : ℕ
+  is : e ≡ fault_at kind at
+  first_one : IsFirstOfKinds m kind at
+
+of_kind : (m : Module) (e : SyntaxFault) (o : Option (FaultKind × ℕ)) → kind_and_place e ≡ o → MatchOption o ⊥ (λ k. IsFirstOfKinds m k.0 k.1) → OfKind m e
+of_kind m e None is h = absurd h
+of_kind m e (Some k) is h = record { kind = k.0; at = k.1; is = same_fault e k.0 k.1 is; first_one = h }
+
 pub fault_of_tree : (m : Module) (e f : SyntaxFault) → HasModuleFault m e → HasModuleFault m f → e ≡ f
-fault_of_tree m (Prefix i) (Prefix j) x y = ap Prefix (one_some _ x y)
-fault_of_tree m (Prefix i) (Builtin j) x y = absurd (none_some _ y.0 x)
-fault_of_tree m (Prefix i) (ContextValue j) x y = absurd (none_some _ y.0 x)
-fault_of_tree m (Prefix i) (Except j) x y = absurd (none_some _ y.0 x)
-fault_of_tree m (Builtin i) (Prefix j) x y = absurd (none_some _ x.0 y)
-fault_of_tree m (Builtin i) (Builtin j) x y = ap Builtin (one_some _ x.1 y.1)
-fault_of_tree m (Builtin i) (ContextValue j) x y = absurd (none_some _ y.1 x.1)
-fault_of_tree m (Builtin i) (Except j) x y = absurd (none_some _ y.1 x.1)
-fault_of_tree m (ContextValue i) (Prefix j) x y = absurd (none_some _ x.0 y)
-fault_of_tree m (ContextValue i) (Builtin j) x y = absurd (none_some _ x.1 y.1)
-fault_of_tree m (ContextValue i) (ContextValue j) x y = ap ContextValue (one_some _ x.2 y.2)
-fault_of_tree m (ContextValue i) (Except j) x y = absurd (none_some _ y.2 x.2)
-fault_of_tree m (Except i) (Prefix j) x y = absurd (none_some _ x.0 y)
-fault_of_tree m (Except i) (Builtin j) x y = absurd (none_some _ x.1 y.1)
-fault_of_tree m (Except i) (ContextValue j) x y = absurd (none_some _ x.2 y.2)
-fault_of_tree m (Except i) (Except j) x y = ap Except (one_some _ x.3 y.3)
-fault_of_tree m (Deep i) f x y = absurd x
-fault_of_tree m (Syntax i) f x y = absurd x
-fault_of_tree m Memory f x y = absurd x
-fault_of_tree m (Prefix i) (Deep j) x y = absurd y
-fault_of_tree m (Prefix i) (Syntax j) x y = absurd y
-fault_of_tree m (Prefix i) Memory x y = absurd y
-fault_of_tree m (Builtin i) (Deep j) x y = absurd y
-fault_of_tree m (Builtin i) (Syntax j) x y = absurd y
-fault_of_tree m (Builtin i) Memory x y = absurd y
-fault_of_tree m (ContextValue i) (Deep j) x y = absurd y
-fault_of_tree m (ContextValue i) (Syntax j) x y = absurd y
-fault_of_tree m (ContextValue i) Memory x y = absurd y
-fault_of_tree m (Except i) (Deep j) x y = absurd y
-fault_of_tree m (Except i) (Syntax j) x y = absurd y
-fault_of_tree m (Except i) Memory x y = absurd y
+fault_of_tree m e f x y =
+    let a = of_kind m e (kind_and_place e) refl x in
+    let b = of_kind m f (kind_and_place f) refl y in
+    a.is ∙ one_first m a.kind b.kind a.at b.at a.first_one b.first_one ∙ sym b.is
 
 no_fault_of_tree : (m : Module) (e : SyntaxFault) → HasNoFault m → ¬ HasModuleFault m e
-no_fault_of_tree m (Deep i) n x = x
-no_fault_of_tree m (Syntax i) n x = x
-no_fault_of_tree m (Prefix i) n x = none_some _ n.prefix x
-no_fault_of_tree m (Builtin i) n x = none_some _ n.builtin x.1
-no_fault_of_tree m (ContextValue i) n x = none_some _ n.context x.2
-no_fault_of_tree m (Except i) n x = none_some _ n.except x.3
-no_fault_of_tree m Memory n x = x
+no_fault_of_tree m e none x = let a = of_kind m e (kind_and_place e) refl x in none_some _ (none a.kind) a.first_one.place
 
 -- how far tokens are read: a bracket is too many, they are no module, or they are a module, whose tree may have a fault
 data Kind : Type 0 where
@@ -142,11 +135,8 @@ module _ (xs : List Token) (spelled : AreSpelled xs) where
   kind_of : (e : SyntaxFault) → IsFault xs e → e ≢ Memory → (k : Kind) × IsKind e k
   kind_of (Deep at) x n = (too_deep at, (x, refl))
   kind_of (Syntax at) x n = (no_module at, (x.0, x.1 spelled, refl))
-  kind_of (Prefix at) x n = tree_kind (Prefix at) x
-  kind_of (Builtin at) x n = tree_kind (Builtin at) x
-  kind_of (ContextValue at) x n = tree_kind (ContextValue at) x
-  kind_of (Except at) x n = tree_kind (Except at) x
   kind_of Memory x n = absurd (n refl)
+  kind_of e x n = tree_kind e x
 
   same_kind : (e f : SyntaxFault) (k l : Kind) → IsKind e k → IsKind f l → e ≡ f
   same_kind e f (too_deep i) (too_deep j) x y = x.1 ∙ ap Deep (one_some _ x.0 y.0) ∙ sym y.1
@@ -175,13 +165,8 @@ module _ (xs : List Token) (spelled : AreSpelled xs) where
   not_of_kind m e (a_module n f) s x = no_fault_of_tree m f s.2 (subst (λ z. HasModuleFault z f) (one_tree ts n m x.1 s.1) x.2)
 
   memory_by : (e : SyntaxFault) → ((e ≢ Memory) → ⊥) → e ≡ Memory
-  memory_by (Deep at) h = absurd (h (λ e. cc))
-  memory_by (Syntax at) h = absurd (h (λ e. cc))
-  memory_by (Prefix at) h = absurd (h (λ e. cc))
-  memory_by (Builtin at) h = absurd (h (λ e. cc))
-  memory_by (ContextValue at) h = absurd (h (λ e. cc))
-  memory_by (Except at) h = absurd (h (λ e. cc))
   memory_by Memory h = refl
+  memory_by e h = absurd (h (λ e. cc))
 
   pub no_fault : (m : Module) (e : SyntaxFault) → deep 0 ts ≡ None → HasTree ts m → HasNoFault m → IsFault xs e → e ≡ Memory
   no_fault m e d tree none x = memory_by e (λ n. let k = kind_of e x n in not_of_kind m e k.0 (d, tree, none) k.1)
@@ -203,16 +188,21 @@ module _ (xs : List Token) (spelled : AreSpelled xs) where
   place_of (t # i ∷ bad) = (i, refl)
 
   module _ (faultless : (e : SyntaxFault) → IsFault xs e → e ≡ Memory) (shallow : deep 0 ts ≡ None) where
-    -- a module without a fault, by the first place of each kind
-    places_told : (m : Module) → HasTree ts m → (p b c x : Option ℕ) → first (prefix_places m) ≡ p → first (builtin_places m) ≡ b → first (context_places m) ≡ c → first (except_places m) ≡ x → IsSound m
-    places_told m tree None None None None p b c x = (shallow, tree, record { prefix = p; builtin = b; context = c; except = x })
-    places_told m tree (Some i) b c x p bs cs xs' = let e : Prefix i ≡ Memory = faultless (Prefix i) (shallow, m, (λ s. tree), p) in cc
-    places_told m tree None (Some i) c x p b cs xs' = let e : Builtin i ≡ Memory = faultless (Builtin i) (shallow, m, (λ s. tree), (p, b)) in cc
-    places_told m tree None None (Some i) x p b c xs' = let e : ContextValue i ≡ Memory = faultless (ContextValue i) (shallow, m, (λ s. tree), (p, b, c)) in cc
-    places_told m tree None None None (Some i) p b c x = let e : Except i ≡ Memory = faultless (Except i) (shallow, m, (λ s. tree), (p, b, c, x)) in cc
+    module _ (m : Module) (tree : HasTree ts m) where
+      -- a kind before which there is none, by its first place
+      none_here : (k : FaultKind) → ((j : FaultKind) → kind_rank j < kind_rank k → first (kind_places j m) ≡ None) → (o : Option ℕ) → first (kind_places k m) ≡ o → o ≡ None
+      none_here k before None e = refl
+      none_here k before (Some at) e =
+          let has : HasModuleFault m (fault_at k at) = fault_here m k at (record { place = e; before = before }) in
+          let is : fault_at k at ≡ Memory = faultless (fault_at k at) (found_fault xs m (fault_at k at) shallow (λ s. tree) has) in
+          absurd (no_memory k at is)
 
-    sound_tree : (m : Module) → HasTree ts m → IsSound m
-    sound_tree m tree = places_told m tree (first (prefix_places m)) (first (builtin_places m)) (first (context_places m)) (first (except_places m)) refl refl refl refl
+      none_before : (n : ℕ) (k : FaultKind) → kind_rank k < n → first (kind_places k m) ≡ None
+      none_before zero k l = absurd (omega (arith, l))
+      none_before (suc n) k l = none_here k (λ j less. none_before n j (omega (arith, l, less))) (first (kind_places k m)) refl
+
+      sound_tree : IsSound m
+      sound_tree = (shallow, tree, λ k. none_before (kind_rank k + 1) k (omega arith))
 
     never_stops : (bad : Tokens) → ¬ Stops ts bad
     never_stops bad s =

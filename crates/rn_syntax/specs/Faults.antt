@@ -1,8 +1,10 @@
 -- The faults of a module that the grammar leaves open, each kind over the whole module and at its first place (compact syntax,
 -- section 2; RELAX NG 2001, 7.1.4).
-use Rattle.std.specs.Prelude.{◌≡◌, ℕ, List, map, Some, None}
+use Rattle.std.specs.Prelude.{◌≡◌, ◌<◌, ℕ, List, [], map, Option, Some, None, MatchOption, codes}
 use Rattle.rn_text.specs.declared.source.Token.{Token}
 use Rattle.rn_text.specs.Tokens.{lexeme_of}
+use Rattle.rn_syntax.specs.declared.fault.FaultKind.{FaultKind}
+use Rattle.rn_syntax.specs.declared.fault.FaultKind.TheVariants as kind
 use Rattle.rn_syntax.specs.declared.fault.SyntaxFault.{SyntaxFault}
 use Rattle.rn_syntax.specs.declared.fault.SyntaxFault.TheVariants.{Deep, Syntax, Prefix, Builtin, ContextValue, Except, Memory}
 use Rattle.rn_syntax.specs.Tree.{Module}
@@ -12,24 +14,64 @@ use Rattle.rn_syntax.specs.Fault.{HasTree, Stops}
 use Rattle.rn_syntax.specs.Spelled.{AreSpelled, IsPlace}
 use Rattle.rn_syntax.specs.Places.{deep, first, prefix_places, builtin_places, context_places, except_places}
 
--- none stands
-pub record HasNoFault (m : Module) : Type 0 where
-  pub prefix : first (prefix_places m) ≡ None
-  pub builtin : first (builtin_places m) ≡ None
-  pub context : first (context_places m) ≡ None
-  pub except : first (except_places m) ≡ None
+-- ---- kinds of faults of module texts, those of bytes and characters among them
+
+abbrev pub kind_name : FaultKind → List ℕ
+kind_name kind.Encoding = codes "Encoding"
+kind_name kind.Lexical = codes "Lexical"
+kind_name kind.Deep = codes "Deep"
+kind_name kind.Syntax = codes "Syntax"
+kind_name kind.Prefix = codes "Prefix"
+kind_name kind.Builtin = codes "Builtin"
+kind_name kind.ContextValue = codes "ContextValue"
+kind_name kind.Except = codes "Except"
+
+-- the number of a kind in the order of the tests
+abbrev pub kind_rank : FaultKind → ℕ
+kind_rank kind.Encoding = 0
+kind_rank kind.Lexical = 1
+kind_rank kind.Deep = 2
+kind_rank kind.Syntax = 3
+kind_rank kind.Prefix = 4
+kind_rank kind.Builtin = 5
+kind_rank kind.ContextValue = 6
+kind_rank kind.Except = 7
+
+-- where a tree is at fault; of the first four kinds no tree is
+abbrev pub kind_places : FaultKind → Module → List ℕ
+kind_places kind.Prefix m = prefix_places m
+kind_places kind.Builtin m = builtin_places m
+kind_places kind.ContextValue m = context_places m
+kind_places kind.Except m = except_places m
+kind_places _ m = []
+
+-- want of memory is of no kind
+abbrev pub kind_and_place : SyntaxFault → Option (FaultKind × ℕ)
+kind_and_place (Deep at) = Some (kind.Deep, at)
+kind_and_place (Syntax at) = Some (kind.Syntax, at)
+kind_and_place (Prefix at) = Some (kind.Prefix, at)
+kind_and_place (Builtin at) = Some (kind.Builtin, at)
+kind_and_place (ContextValue at) = Some (kind.ContextValue, at)
+kind_and_place (Except at) = Some (kind.Except, at)
+kind_and_place Memory = None
+
+-- ---- faults of trees
+
+-- the tree has no fault of any kind
+abbrev pub HasNoFault : Module → Type 0
+HasNoFault m = (k : FaultKind) → first (kind_places k m) ≡ None
+
+-- the tree has a fault of this kind, first at this place, and none of a kind that is looked for before it
+pub record IsFirstOfKinds (m : Module) (k : FaultKind) (at : ℕ) : Type 0 where
+  pub place : first (kind_places k m) ≡ Some at
+  pub before : (j : FaultKind) → kind_rank j < kind_rank k → first (kind_places j m) ≡ None
+
+abbrev pub HasModuleFault : Module → SyntaxFault → Type 0
+HasModuleFault m e = MatchOption (kind_and_place e) ⊥ (λ k. IsFirstOfKinds m k.0 k.1)
 
 -- the tokens are this module, no bracket of theirs is too many, and no fault stands
 abbrev pub IsSound : List Token → Module → Type 0
 IsSound xs m = (deep 0 (terminals (map lexeme_of xs)) ≡ None) × HasTree (terminals (map lexeme_of xs)) m × HasNoFault m
-
--- this one stands, and none of those that are looked for before it
-abbrev pub HasModuleFault : Module → SyntaxFault → Type 0
-HasModuleFault m (Prefix at) = first (prefix_places m) ≡ Some at
-HasModuleFault m (Builtin at) = (first (prefix_places m) ≡ None) × (first (builtin_places m) ≡ Some at)
-HasModuleFault m (ContextValue at) = (first (prefix_places m) ≡ None) × (first (builtin_places m) ≡ None) × (first (context_places m) ≡ Some at)
-HasModuleFault m (Except at) = (first (prefix_places m) ≡ None) × (first (builtin_places m) ≡ None) × (first (context_places m) ≡ None) × (first (except_places m) ≡ Some at)
-HasModuleFault m _ = ⊥
 
 -- the tokens before this place begin a module, and with the one there none begins
 abbrev pub StopsAt : List Token → ℕ → Type 0

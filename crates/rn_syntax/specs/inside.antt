@@ -7,6 +7,6 @@ pub mod Including
 pub mod Reading
 pub mod Itemizing
 pub mod Modular
-pub mod Bound
+pub mod Numbered
 pub mod Borrowed
 pub mod Parts

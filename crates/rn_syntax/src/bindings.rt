@@ -1,13 +1,14 @@
 // What the declarations of a module bind.
-ghost use Rattle.std.specs.Prelude.{◌≡◌, ◌++◌, ◌∷◌, [], ℕ, List, Option, Some, None, is_some, MatchOption, false, map, IfOk, option_map, drop, take, codes, ◌||◌, if◌then◌else◌};
-ghost use Rattle.std.specs.Str.{bytes_eq};
+ghost use Rattle.std.specs.Prelude.{◌≡◌, ◌<◌, ◌++◌, ◌∷◌, [], ℕ, List, length, Option, Some, None, is_some, MatchOption, ⊤, map, IfOk, option_map, drop, take, codes, ◌||◌, if◌then◌else◌};
 ghost use Rattle.std.specs.Cow.{cow_str_bytes};
 ghost use Rattle.std.specs.BTreeMap as tree;
 ghost use Rattle.std.specs.Cmp.Lexicographic.{slice_cmp};
 ghost use Rattle.std.specs.Ordering.{nat_cmp};
+ghost use Rattle.rn_syntax.specs.Tree.{literal};
 ghost use Rattle.rn_syntax.specs.Places as places;
 ghost use Rattle.rn_syntax.specs.Places.{first};
 ghost use Rattle.rn_syntax.specs.View.{declaration_view, uri_view};
+ghost use Rattle.rn_syntax.specs.inside.Numbered.{is_prefix, library_text};
 
 use crate::tree::{Declaration, Prefix, Uri};
 use std::alloc::{AllocError, Global};
@@ -19,45 +20,93 @@ pub const XML_URI: &str = "http://www.w3.org/XML/1998/namespace";
 /// The library of datatype prefix `xsd` (RELAX NG Compact Syntax, section 2, decl).
 pub const XSD_URI: &str = "http://www.w3.org/2001/XMLSchema-datatypes";
 
-/// What declarations bind, each prefix by the first that does.
+/// What the declarations of a module bind: the default namespace, namespace prefixes and datatype prefixes, each by the first
+/// declaration that does. A declaration is told by its number: its index among the declarations.
 #[derive(Drop)]
-pub(crate) struct Bindings<'m, 'a> {
-    pub declarations: &'m [Declaration<'a>],
-    default: bool,
-    namespaces: BTreeMap<&'m str, ()>,
-    libraries: BTreeMap<&'m str, &'m str>,
-    ghost default_is: { default ≡ places.has_default (map declaration_view declarations.now) },
-    ghost namespaces_are: { (p : List ℕ) → is_some (tree.get_by (λ k. slice_cmp nat_cmp p k.now) namespaces) ≡ is_some (places.declared_namespace (map declaration_view declarations.now) p) },
-    ghost libraries_are: { (p : List ℕ) → option_map (λ v. v.now) (tree.get_by (λ k. slice_cmp nat_cmp p k.now) libraries) ≡ places.declared_library (map declaration_view declarations.now) p },
+pub struct Bindings<'m, 'a> {
+    declarations: &'m [Declaration<'a>],
+    default: Option<usize>,
+    namespaces: BTreeMap<&'m str, usize>,
+    libraries: BTreeMap<&'m str, usize>,
+    ghost default_is: { default ≡ places.number_of places.is_default (map declaration_view declarations.now) },
+    ghost namespaces_are: { (p : List ℕ) → tree.get_by (λ k. slice_cmp nat_cmp p k.now) namespaces ≡ places.number_of (places.binds_namespace p) (map declaration_view declarations.now) },
+    ghost libraries_are: { (p : List ℕ) → tree.get_by (λ k. slice_cmp nat_cmp p k.now) libraries ≡ places.number_of (places.binds_library p) (map declaration_view declarations.now) },
 }
 
 impl<'m, 'a> Bindings<'m, 'a> {
-    ghost use Rattle.rn_syntax.specs.inside.Bound.{bound};
+    ghost use Rattle.rn_syntax.specs.Bound.{bound};
+
+    /// What these declarations bind, whether they may bind it so or not. It fails only where memory is refused.
+    pub fn new(alloc: Global, declarations: &'m [Declaration<'a>]) -> Result<Self, AllocError>
+        ensures { IfOk result (λ b. bound b ≡ map declaration_view declarations.now) }
+    {
+        let (bindings, _) = bind_all(alloc, declarations)?;
+        Ok(bindings)
+    }
 
     /// What no declaration binds.
-    fn new(alloc: Global) -> Self
+    fn of_none(alloc: Global) -> Self
         ensures { result.declarations.now ≡ [] }
     {
         Bindings {
             declarations: &[],
-            default: false,
+            default: None,
             namespaces: BTreeMap::new(alloc),
             libraries: BTreeMap::new(alloc),
         }
+    }
+
+    /// The number of the first default declaration, if there is one.
+    pub fn default(&self) -> Option<usize>
+        ensures number { result ≡ places.number_of places.is_default (bound self.now) }
+        ensures within { MatchOption result ⊤ (λ n. n < length (bound self.now)) }
+        ensures uri { places.declared_default (bound self.now)
+            ≡ option_map (places.uri_at (bound self.now)) result }
+    {
+        self.default
+    }
+
+    /// The number of the first declaration that binds the namespace prefix, if one does. `xml` is bound without.
+    pub fn namespace(&self, prefix: &str) -> Option<usize>
+        ensures number { result
+            ≡ places.number_of (places.binds_namespace prefix.now) (bound self.now) }
+        ensures within { MatchOption result ⊤ (λ n. n < length (bound self.now)) }
+        ensures uri { places.declared_namespace (bound self.now) prefix.now
+            ≡ option_map (places.uri_at (bound self.now)) result }
+    {
+        self.namespaces.get(prefix).copied()
+    }
+
+    /// The number of the first declaration that binds the datatype prefix, if one does. `xsd` is bound without.
+    pub fn library(&self, prefix: &str) -> Option<usize>
+        ensures number { result
+            ≡ places.number_of (places.binds_library prefix.now) (bound self.now) }
+        ensures within { MatchOption result ⊤ (λ n. n < length (bound self.now)) }
+        ensures uri { option_map literal (places.declared_library (bound self.now) prefix.now)
+            ≡ option_map (places.uri_at (bound self.now)) result }
+    {
+        self.libraries.get(prefix).copied()
+    }
+
+    /// Whether the default namespace is declared.
+    fn has_default(&self) -> bool
+        ensures { result ≡ places.has_default (bound self.now) }
+    {
+        self.default.is_some()
     }
 
     /// Whether the namespace prefix is bound.
     pub(crate) fn is_bound(&self, prefix: &str) -> bool
         ensures { result ≡ places.is_bound (bound self.now) prefix.now }
     {
-        prefix == "xml" || self.namespaces.contains_key(prefix)
+        prefix == "xml" || self.namespace(prefix).is_some()
     }
 
     /// Whether the datatype prefix is bound.
     pub(crate) fn has_library(&self, prefix: &str) -> bool
         ensures { result ≡ is_some (places.library_of (bound self.now) prefix.now) }
     {
-        prefix == "xsd" || self.libraries.contains_key(prefix)
+        prefix == "xsd" || self.library(prefix).is_some()
     }
 
     /// Whether the datatype prefix is bound to this library.
@@ -68,10 +117,11 @@ impl<'m, 'a> Bindings<'m, 'a> {
         if prefix == "xsd" {
             return XSD_URI == uri;
         }
-        match self.libraries.get(prefix) {
-            Some(library) => *library == uri,
-            None => false,
-        }
+        let Some(number) = self.library(prefix) else {
+            return false;
+        };
+        let declarations = self.declarations;
+        is_library(&declarations[number], uri)
     }
 
     /// Whether the prefix is bound to the library of XML Schema.
@@ -90,7 +140,7 @@ impl<'m, 'a> Bindings<'m, 'a> {
     {
         let is_wrong = prefix.name == "xmlns"
             || (prefix.name == "xml" && !is_xml(uri))
-            || self.namespaces.contains_key(prefix.name);
+            || self.namespace(prefix.name).is_some();
         if is_wrong { Some(prefix.at) } else { None }
     }
 
@@ -101,7 +151,7 @@ impl<'m, 'a> Bindings<'m, 'a> {
             prefix.entry.at) }
     {
         let is_wrong = (prefix.name == "xsd" && uri != XSD_URI)
-            || self.libraries.contains_key(prefix.name);
+            || self.library(prefix.name).is_some();
         if is_wrong { Some(prefix.at) } else { None }
     }
 
@@ -115,14 +165,15 @@ impl<'m, 'a> Bindings<'m, 'a> {
         ensures { IfOk result (λ b. b.declarations.now ≡ declarations.now) }
     {
         let Bindings {
-            declarations: _,
+            declarations: before,
             default,
             namespaces,
             libraries,
         } = self;
-        let namespaces = with_namespace(namespaces, last)?;
-        let libraries = with_library(libraries, last)?;
-        let default = has_default(default, last);
+        let number = before.len();
+        let namespaces = with_prefix(namespaces, namespace_prefix(last), number)?;
+        let libraries = with_prefix(libraries, library_prefix(last), number)?;
+        let default = with_default(default, last, number);
         Ok(Bindings {
             declarations,
             default,
@@ -139,7 +190,7 @@ impl<'m, 'a> Bindings<'m, 'a> {
     {
         match declaration {
             Declaration::Namespace(prefix, uri) => self.wrong_namespace(*prefix, uri),
-            Declaration::Default(at, _, _) if self.default => Some(*at),
+            Declaration::Default(at, _, _) if self.has_default() => Some(*at),
             Declaration::Default(_, Some(prefix), uri) => self.wrong_namespace(*prefix, uri),
             Declaration::Default(_, None, _) => None,
             Declaration::Datatypes(prefix, uri) => self.wrong_library(*prefix, uri.as_str()),
@@ -159,13 +210,30 @@ impl<'m, 'a> Bindings<'m, 'a> {
     }
 }
 
-/// Whether the default namespace is declared, before or by the declaration.
-fn has_default(before: bool, declaration: &Declaration<'_>) -> bool
-    ensures { result ≡ (before || places.has_default (declaration_view declaration.now ∷ [])) }
+/// The number of the first default declaration, of which one may be this one of that number.
+fn with_default(
+    before: Option<usize>,
+    declaration: &Declaration<'_>,
+    number: usize,
+) -> Option<usize>
+    ensures { result ≡ (if is_some before then before
+        else if places.is_default (declaration_view declaration.now) then Some number else None) }
+{
+    match (before, declaration) {
+        (Some(before), _) => Some(before),
+        (None, Declaration::Default(_, _, _)) => Some(number),
+        (None, _) => None,
+    }
+}
+
+/// Whether the declaration is of this datatype library.
+fn is_library(declaration: &Declaration<'_>, uri: &str) -> bool
+    ensures { result ≡ places.is_library []
+        (library_text (declaration_view declaration.now)) uri.now }
 {
     match declaration {
-        Declaration::Default(_, _, _) => true,
-        _ => before,
+        Declaration::Datatypes(_, library) => library.as_str() == uri,
+        _ => false,
     }
 }
 
@@ -181,10 +249,8 @@ fn is_xml(uri: &Uri<'_>) -> bool
 
 /// The namespace prefix that a declaration binds.
 fn namespace_prefix<'m>(declaration: &Declaration<'m>) -> Option<&'m str>
-    ensures { MatchOption result ((p : List ℕ)
-        → is_some (places.declared_namespace (declaration_view declaration.now ∷ []) p) ≡ false)
-        (λ q. (p : List ℕ) → is_some (places.declared_namespace
-        (declaration_view declaration.now ∷ []) p) ≡ bytes_eq q.now p) }
+    ensures { (p : List ℕ) → places.binds_namespace p (declaration_view declaration.now)
+        ≡ is_prefix result p }
 {
     match declaration {
         Declaration::Namespace(prefix, _) => Some(prefix.name),
@@ -193,42 +259,37 @@ fn namespace_prefix<'m>(declaration: &Declaration<'m>) -> Option<&'m str>
     }
 }
 
-/// The namespace prefixes with what a declaration binds.
-fn with_namespace<'m>(
-    mut namespaces: BTreeMap<&'m str, ()>,
-    declaration: &Declaration<'m>,
-) -> Result<BTreeMap<&'m str, ()>, AllocError>
-    ensures { IfOk result (λ m. (p : List ℕ)
-        → is_some (tree.get_by (λ k. slice_cmp nat_cmp p k.now) m)
-        ≡ (is_some (tree.get_by (λ k. slice_cmp nat_cmp p k.now) namespaces.entry)
-        || is_some (places.declared_namespace (declaration_view declaration.now ∷ []) p))) }
+/// The datatype prefix that a declaration binds.
+fn library_prefix<'m>(declaration: &Declaration<'m>) -> Option<&'m str>
+    ensures { (p : List ℕ) → places.binds_library p (declaration_view declaration.now)
+        ≡ is_prefix result p }
 {
-    let Some(prefix) = namespace_prefix(declaration) else {
-        return Ok(namespaces);
-    };
-    namespaces.insert(prefix, ())?;
-    Ok(namespaces)
+    match declaration {
+        Declaration::Datatypes(prefix, _) => Some(prefix.name),
+        Declaration::Namespace(_, _) | Declaration::Default(_, _, _) => None,
+    }
 }
 
-/// The datatype prefixes with what a declaration binds, where it was not bound.
-fn with_library<'m>(
-    mut libraries: BTreeMap<&'m str, &'m str>,
-    declaration: &'m Declaration<'_>,
-) -> Result<BTreeMap<&'m str, &'m str>, AllocError>
+/// The prefixes with this one, where it was not bound, by the declaration of that number.
+fn with_prefix<'m>(
+    mut numbers: BTreeMap<&'m str, usize>,
+    prefix: Option<&'m str>,
+    number: usize,
+) -> Result<BTreeMap<&'m str, usize>, AllocError>
     ensures { IfOk result (λ m. (p : List ℕ)
-        → option_map (λ v. v.now) (tree.get_by (λ k. slice_cmp nat_cmp p k.now) m)
-        ≡ (if is_some (tree.get_by (λ k. slice_cmp nat_cmp p k.now) libraries.entry)
-        then option_map (λ v. v.now) (tree.get_by (λ k. slice_cmp nat_cmp p k.now) libraries.entry)
-        else places.declared_library (declaration_view declaration.now ∷ []) p)) }
+        → tree.get_by (λ k. slice_cmp nat_cmp p k.now) m
+        ≡ (if is_some (tree.get_by (λ k. slice_cmp nat_cmp p k.now) numbers.entry)
+        then tree.get_by (λ k. slice_cmp nat_cmp p k.now) numbers.entry
+        else if is_prefix prefix.entry p then Some number else None)) }
 {
-    let Declaration::Datatypes(prefix, uri) = declaration else {
-        return Ok(libraries);
+    let Some(prefix) = prefix else {
+        return Ok(numbers);
     };
-    if libraries.contains_key(prefix.name) {
-        return Ok(libraries);
+    if numbers.contains_key(prefix) {
+        return Ok(numbers);
     }
-    libraries.insert(prefix.name, uri.as_str())?;
-    Ok(libraries)
+    numbers.insert(prefix, number)?;
+    Ok(numbers)
 }
 
 /// What the declarations bind, and the place of the first that is wrong.
@@ -239,7 +300,7 @@ pub(crate) fn bind_all<'m, 'a>(
     ensures { IfOk result (λ r. (r.0.declarations.now ≡ declarations.now)
         × (r.1 ≡ first (places.declarations_places [] (map declaration_view declarations.now)))) }
 {
-    let mut bindings = Bindings::new(alloc);
+    let mut bindings = Bindings::of_none(alloc);
     let mut wrong = None;
     'declarations: for index in 0..declarations.len() {
         let last = &declarations[index];

@@ -1,8 +1,41 @@
-// Why tokens are no module.
+// Kinds of faults of module texts, and why tokens are no module.
 ghost use Rattle.std.specs.Prelude.{◌≡◌};
+ghost use Rattle.rn_syntax.specs.Faults.{kind_and_place, kind_name};
 
 use std::alloc::{AllocError, AllocFailed};
 use thiserror::Error;
+
+/// What may be wrong with a module text, in the order in which it is tested. `Encoding` and `Lexical` are the faults of
+/// `rn_text::TextFault`, the others those of `SyntaxFault`.
+#[derive(Clone, Copy, Debug, PartialEq, Eq)]
+pub enum FaultKind {
+    Encoding,
+    Lexical,
+    Deep,
+    Syntax,
+    Prefix,
+    Builtin,
+    ContextValue,
+    Except,
+}
+
+impl FaultKind {
+    /// The name of the kind, as the program prints it.
+    pub fn name(self) -> &'static str
+        ensures { result.now ≡ kind_name self }
+    {
+        match self {
+            FaultKind::Encoding => "Encoding",
+            FaultKind::Lexical => "Lexical",
+            FaultKind::Deep => "Deep",
+            FaultKind::Syntax => "Syntax",
+            FaultKind::Prefix => "Prefix",
+            FaultKind::Builtin => "Builtin",
+            FaultKind::ContextValue => "ContextValue",
+            FaultKind::Except => "Except",
+        }
+    }
+}
 
 /// What is wrong with the tokens of a text. The first kind in this order that stands is answered, at its first place: `at`
 /// counts bytes from the start of the text.
@@ -30,6 +63,23 @@ pub enum SyntaxFault {
     /// A request for memory was refused.
     #[error("out of memory")]
     Memory,
+}
+
+impl SyntaxFault {
+    /// The kind of the fault and its place in bytes from the start of the text. None where memory was refused.
+    pub fn kind_and_place(&self) -> Option<(FaultKind, usize)>
+        ensures { result ≡ kind_and_place self.now }
+    {
+        match self {
+            SyntaxFault::Deep { at } => Some((FaultKind::Deep, *at)),
+            SyntaxFault::Syntax { at } => Some((FaultKind::Syntax, *at)),
+            SyntaxFault::Prefix { at } => Some((FaultKind::Prefix, *at)),
+            SyntaxFault::Builtin { at } => Some((FaultKind::Builtin, *at)),
+            SyntaxFault::ContextValue { at } => Some((FaultKind::ContextValue, *at)),
+            SyntaxFault::Except { at } => Some((FaultKind::Except, *at)),
+            SyntaxFault::Memory => None,
+        }
+    }
 }
 
 impl From<AllocError> for SyntaxFault {

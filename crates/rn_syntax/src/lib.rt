@@ -23,9 +23,9 @@ mod terminals;
 pub mod token;
 pub mod tree;
 
-pub use bindings::{XML_URI, XSD_URI};
+pub use bindings::{Bindings, XML_URI, XSD_URI};
 pub use brackets::MAX_OPEN;
-pub use fault::SyntaxFault;
+pub use fault::{FaultKind, SyntaxFault};
 pub use included::includes;
 pub use reader::parse;
 pub use token::{Method, Operator, Postfix};

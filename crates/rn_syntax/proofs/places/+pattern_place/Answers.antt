@@ -1,6 +1,6 @@
 -- Neither data nor what is excepted from it breaks the rule, so the first place is that in the excepted pattern.
 use Rattle.std.proofs.Common.{◌≡◌, sym, ◌∙◌, ap, None, false}
-use Rattle.rn_syntax.specs.inside.Bound.{bound}
+use Rattle.rn_syntax.specs.Bound.{bound}
 use Rattle.rn_syntax.specs.Places.{first}
 use Rattle.rn_syntax.specs.inside.Rules.{datatypes, excepts, pattern_places}
 use Rattle.rn_syntax.specs.View.{datatype_view, params_view, pattern_view}
