@@ -14,26 +14,18 @@ use Rattle.rn_syntax.specs.Tree as t
 use Rattle.rn_syntax.specs.Tree.{Declaration, Item, Items}
 use Rattle.rn_syntax.specs.Tokens.{terminals}
 use Rattle.rn_syntax.specs.Fault.{HasTree}
-use Rattle.rn_syntax.specs.Places.{deep, prefix_places, builtin_places, context_places, except_places}
+use Rattle.rn_syntax.specs.Places.{deep}
+use Rattle.rn_syntax.specs.Faults.{kind_rank, kind_places}
+use Rattle.rn_syntax.specs.declared.fault.FaultKind.{FaultKind}
+use Rattle.rn_syntax.specs.declared.fault.FaultKind.TheVariants as kind
 use Rattle.rn_assemble.specs.Components.{Key, start_key, Component, NamedModule, has_key, all_components, components, handed_on, modules_named, Includes, instance_limit, instances, roots, set_components}
 use Rattle.rn_assemble.specs.Combine.{IsPlainTwice, IsMixed, joined, joined_grammar}
 use Rattle.rn_assemble.specs.Least.{IsLeast, key_cmp}
 
--- what is wrong with the text of one module
-pub data TextFault : Type 0 where
-  encoding : TextFault
-  lexical : TextFault
-  deep_brackets : TextFault
-  syntax : TextFault
-  prefix : TextFault
-  builtin : TextFault
-  context_value : TextFault
-  except : TextFault
-
 -- modules by their names; a name that is wanted and not there; what is combined by its key
 pub data Refusal : Type 0 where
   conflict : (name : Text) (revision : ℕ) → Refusal
-  faulty : TextFault → (name : Text) → Refusal
+  faulty : FaultKind → (name : Text) → Refusal
   missing : (includer wanted : Text) → Refusal
   cycle : (name : Text) → Refusal
   too_many_instances : Refusal
@@ -45,17 +37,7 @@ pub data Refusal : Type 0 where
   recursive : (name : Text) → Refusal
   name_class : Key → Refusal
 
--- the place of a fault, and of a refusal, in the order of the tests
-abbrev pub fault_rank : TextFault → ℕ
-fault_rank encoding = 0
-fault_rank lexical = 1
-fault_rank deep_brackets = 2
-fault_rank syntax = 3
-fault_rank prefix = 4
-fault_rank builtin = 5
-fault_rank context_value = 6
-fault_rank except = 7
-
+-- the place of a refusal in the order of the tests
 abbrev pub rank : Refusal → ℕ
 rank (conflict x r) = 0
 rank (faulty f x) = 1
@@ -79,23 +61,20 @@ abbrev pub TokensAre : Text → (List Lexeme → Type 0) → Type 0
 TokensAre text P = IsUtf8 text × ((ts : List Lexeme) × HasTokens (chars text) ts × P ts)
 
 -- the text has the fault, whatever else it has
-abbrev pub HasTextFault : Text → TextFault → Type 0
-HasTextFault text encoding = ¬ IsUtf8 text
-HasTextFault text lexical = IsUtf8 text × ((ts : List Lexeme) → ¬ HasTokens (chars text) ts)
-HasTextFault text deep_brackets = TokensAre text (λ ts. is_some (deep 0 (terminals ts)) ≡ true)
-HasTextFault text syntax = TokensAre text (λ ts. (m : t.Module) → ¬ HasTree (terminals ts) m)
-HasTextFault text prefix = (m : t.Module) × IsModuleOf text m × (prefix_places m ≢ [])
-HasTextFault text builtin = (m : t.Module) × IsModuleOf text m × (builtin_places m ≢ [])
-HasTextFault text context_value = (m : t.Module) × IsModuleOf text m × (context_places m ≢ [])
-HasTextFault text except = (m : t.Module) × IsModuleOf text m × (except_places m ≢ [])
+abbrev pub HasTextFault : Text → FaultKind → Type 0
+HasTextFault text kind.Encoding = ¬ IsUtf8 text
+HasTextFault text kind.Lexical = IsUtf8 text × ((ts : List Lexeme) → ¬ HasTokens (chars text) ts)
+HasTextFault text kind.Deep = TokensAre text (λ ts. is_some (deep 0 (terminals ts)) ≡ true)
+HasTextFault text kind.Syntax = TokensAre text (λ ts. (m : t.Module) → ¬ HasTree (terminals ts) m)
+HasTextFault text k = (m : t.Module) × IsModuleOf text m × (kind_places k m ≢ [])
 
 -- the first fault of the text
-abbrev pub IsFirstFault : Text → TextFault → Type 0
-IsFirstFault text f = HasTextFault text f × ((g : TextFault) → fault_rank g < fault_rank f → ¬ HasTextFault text g)
+abbrev pub IsFirstFault : Text → FaultKind → Type 0
+IsFirstFault text f = HasTextFault text f × ((g : FaultKind) → kind_rank g < kind_rank f → ¬ HasTextFault text g)
 
 -- a module whose text has a fault
 abbrev pub IsFaulty : List Module → Text → Type 0
-IsFaulty texts x = (text : Text) × Contains texts (x, text) × ((f : TextFault) × HasTextFault text f)
+IsFaulty texts x = (text : Text) × Contains texts (x, text) × ((f : FaultKind) × HasTextFault text f)
 
 -- the includer has an include that names no module of the set
 abbrev pub Wants : List NamedModule → Text → Text → Type 0

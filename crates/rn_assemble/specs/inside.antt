@@ -1,5 +1,6 @@
 -- What contracts of private functions speak of: numbers that stand for names, and how modules, components and references lie
 -- in the code. No public contract cites it.
+pub mod Shared
 pub mod Bound
 pub mod Checked
 pub mod Contained

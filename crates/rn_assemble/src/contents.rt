@@ -8,7 +8,7 @@ ghost use Rattle.rn_assemble.specs.inside.Keyed.{AreAmong, AreNames, defines, it
 ghost use Rattle.rn_assemble.specs.inside.Listed.{AreContents, IsContents};
 ghost use Rattle.rn_assemble.specs.inside.Views.{AddsComponents, AddsIncludes, module_names, modules_view, named_module_view, names_of};
 
-use crate::bindings::Bindings;
+use crate::declared_uris::DeclaredUris;
 use crate::inclusion::module_named;
 use crate::keys::{Keys, START};
 use crate::known_uris::KnownUris;
@@ -37,7 +37,7 @@ pub(crate) struct Include<'t> {
 /// What a module's declarations bind, its components and its includes, in the order of the text.
 #[derive(Drop)]
 pub(crate) struct Contents<'t, 's> {
-    pub bindings: Bindings<'t>,
+    pub bindings: DeclaredUris<'t>,
     pub components: Vec<Component<'t, 's>>,
     pub includes: Vec<Include<'t>>,
 }
@@ -77,7 +77,7 @@ fn contents_of_module<'t, 's>(
         (named_module_view «module».now) c) }
 {
     let mut contents = Contents {
-        bindings: Bindings::new(alloc, module.tree.decls.as_slice(), known)?,
+        bindings: DeclaredUris::new(alloc, module.tree.decls.as_slice(), known)?,
         components: Vec::new(alloc),
         includes: Vec::new(alloc),
     };

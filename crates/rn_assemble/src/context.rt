@@ -1,31 +1,35 @@
 // A module's declarations under the namespace that it inherits.
-ghost use Rattle.std.specs.Prelude.{◌≡◌, [], unwrap_or};
+ghost use Rattle.std.specs.Prelude.{◌≡◌, ◌<◌, [], length, unwrap_or};
 ghost use Rattle.std.specs.Rc.{rc_str_bytes};
+ghost use Rattle.rn_syntax.specs.Bound.{bound};
 ghost use Rattle.rn_syntax.specs.Places as places;
+ghost use Rattle.rn_syntax.specs.Places.{uri_at};
 ghost use Rattle.rn_syntax.specs.View.{prefix_view};
-ghost use Rattle.rn_assemble.specs.inside.Bound.{InContext, bound_uri};
+ghost use Rattle.rn_assemble.specs.inside.Bound.{InContext};
 ghost use Rattle.rn_assemble.specs.Components as components;
 ghost use Rattle.rn_assemble.specs.Resolve.{default_of, namespace_of, uri_text};
 
-use crate::bindings::{Bindings, Namespace};
+use crate::declared_uris::{DeclaredUris, SharedUri};
 use rn_syntax::Prefix;
 use std::rc::RcStr;
 
 /// The declarations of a module under the namespace that it inherits.
 #[derive(Clone, Copy)]
 pub(crate) struct Context<'c, 't> {
-    pub bindings: &'c Bindings<'t>,
+    pub bindings: &'c DeclaredUris<'t>,
     pub inherited: &'c RcStr,
 }
 
 impl<'c, 't> Context<'c, 't> {
-    fn uri(self, namespace: &'c Namespace) -> &'c RcStr
-        ensures { rc_str_bytes result.now
-            ≡ uri_text (rc_str_bytes self.entry.inherited.now) (bound_uri namespace.now) }
+    /// The URI of the declaration of that number.
+    fn uri(self, number: usize) -> &'c RcStr
+        requires { number < length (bound self.bindings.now.numbers) }
+        ensures { rc_str_bytes result.now ≡ uri_text (rc_str_bytes self.entry.inherited.now)
+            (uri_at (bound self.entry.bindings.now.numbers) number) }
     {
-        match namespace {
-            Namespace::Uri(uri) => uri,
-            Namespace::Inherited => self.inherited,
+        match &self.bindings.uris[number] {
+            SharedUri::Text(uri) => uri,
+            SharedUri::Inherited => self.inherited,
         }
     }
 
@@ -34,13 +38,14 @@ impl<'c, 't> Context<'c, 't> {
         ensures { InContext self.entry (λ inherited ds. rc_str_bytes result.now
             ≡ default_of inherited ds) }
     {
-        match &self.bindings.default {
-            Some(namespace) => self.uri(namespace),
+        match self.bindings.numbers.default() {
+            Some(number) => self.uri(number),
             None => self.inherited,
         }
     }
 
     /// The namespace of a prefix.
+    #[tactic(auto, using(crate::specs::inside::Bound::binds_are))]
     pub fn namespace(self, prefix: &str) -> &'c RcStr
         ensures { InContext self.entry (λ inherited ds. rc_str_bytes result.now
             ≡ namespace_of inherited ds prefix.now) }
@@ -48,13 +53,14 @@ impl<'c, 't> Context<'c, 't> {
         if prefix == "xml" {
             return &self.bindings.known.xml;
         }
-        match self.bindings.namespaces.get(prefix) {
-            Some(namespace) => self.uri(namespace),
+        match self.bindings.numbers.namespace(prefix) {
+            Some(number) => self.uri(number),
             None => &self.bindings.known.none,
         }
     }
 
     /// The datatype library of a prefix.
+    #[tactic(auto, using(crate::specs::inside::Bound::binds_are))]
     pub fn library(self, prefix: &str) -> &'c RcStr
         ensures { InContext self.entry (λ inherited ds. rc_str_bytes result.now
             ≡ unwrap_or (places.library_of ds prefix.now) []) }
@@ -62,8 +68,8 @@ impl<'c, 't> Context<'c, 't> {
         if prefix == "xsd" {
             return &self.bindings.known.xsd;
         }
-        match self.bindings.libraries.get(prefix) {
-            Some(uri) => uri,
+        match self.bindings.numbers.library(prefix) {
+            Some(number) => self.uri(number),
             None => &self.bindings.known.none,
         }
     }

@@ -57,7 +57,7 @@ fn definitions(
     seed: &Seed,
     patterns: &mut Vec<Option<Box<Pattern>>>,
     met: &mut Met,
-) -> Result<(Definitions, Vec<Vec<usize>>), AllocError>
+) -> Result<(Definitions, Vec<Vec<u32>>), AllocError>
     ensures { OfKeys keys.now components.now
         (λ names cs. HavePatterns names cs [] patterns.old.items
         → IfOk result (λ made. HaveTied (rows_of made.1.items) (definitions_view made.0.entries)

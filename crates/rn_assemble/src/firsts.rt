@@ -13,8 +13,8 @@ pub(crate) type Met = Vec<usize>;
 
 impl Components<'_, '_, '_> {
     /// For each component of the key, the index in its list of the first with the same body. None, where no body stands
-    /// twice. What was met of other keys does no harm.
-    pub fn firsts(&self, alloc: Global, key: usize, met: &mut Met) -> Result<Vec<usize>, AllocError>
+    /// twice, or where an index takes more than 32 bits. What was met of other keys does no harm.
+    pub fn firsts(&self, alloc: Global, key: usize, met: &mut Met) -> Result<Vec<u32>, AllocError>
         ensures { AtKey self.now key (λ k cs.
             IfOk result (λ firsts. AreTied firsts.items (joined_members (joined cs k)))) }
     {
@@ -25,13 +25,14 @@ impl Components<'_, '_, '_> {
         self.first_indices(alloc, places, met)
     }
 
-    /// The index of the first place with the same body, for each of the places. None, where no body stands twice.
+    /// The index of the first place with the same body, for each of the places. None, where no body stands twice, or
+    /// where an index takes more than 32 bits.
     fn first_indices(
         &self,
         alloc: Global,
         places: &[usize],
         met: &mut Met,
-    ) -> Result<Vec<usize>, AllocError>
+    ) -> Result<Vec<u32>, AllocError>
         ensures { IfOk result (λ firsts. (i j : ℕ) → slice_get firsts.items i ≡ Some j
             → IsFirst self.now.list.items places.now i j) }
     {
@@ -40,6 +41,9 @@ impl Components<'_, '_, '_> {
         for index in 0..places.len() {
             let first = self.first_index(places, index, met);
             is_repeated |= first < index;
+            let Ok(first) = u32::try_from(first) else {
+                return Ok(Vec::new(alloc));
+            };
             firsts.push(first)?;
         }
         if is_repeated {

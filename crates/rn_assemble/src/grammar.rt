@@ -40,14 +40,16 @@ impl Grammar {
     /// For each member of the start, where several components are joined to a list, the index of the first member that is
     /// the same body. It is empty where no body stands twice, and for a start of one component. Whoever looks at members
     /// one by one need not look at a body again, however many includes bring it in.
-    pub fn start_firsts(&self) -> &[usize]
+    pub fn start_firsts(&self) -> &[u32]
         ensures { AreFirsts result.now (joined_members (grammar_view self.now).start) }
     {
         self.joined.start_firsts.as_slice()
     }
 
-    /// The same for the members of the definition of that number, in the order of `defs`. It is empty for other numbers.
-    pub fn firsts(&self, number: usize) -> &[usize]
+    /// For each member of the definition of that number, in the order of `defs`, where several components are joined to a list,
+    /// the index of the first member that is the same body. It is empty where no body stands twice, for a definition of one
+    /// component, and for other numbers.
+    pub fn firsts(&self, number: usize) -> &[u32]
         ensures { (d : Text × Tree) → number < length (grammar_view self.now).definitions
             → AreFirsts result.now
             (joined_members (slice_index_or (grammar_view self.now).definitions number d).1) }

@@ -18,9 +18,9 @@ pub(crate) struct Joined {
     pub start: Pattern,
     pub defs: Definitions,
     /// For each member of the start, the first one with its body.
-    pub start_firsts: Vec<usize>,
+    pub start_firsts: Vec<u32>,
     /// The same for each definition.
-    pub firsts: Vec<Vec<usize>>,
+    pub firsts: Vec<Vec<u32>>,
     ghost start_tied: { AreTied start_firsts.items (joined_members (pattern_view start)) } by { AreTied-prop start_firsts.items (joined_members (pattern_view start)) },
     ghost tied: { HaveTied (rows_of firsts.items) (definitions_view defs.entries) } by { HaveTied-prop (rows_of firsts.items) (definitions_view defs.entries) },
 }

@@ -2,11 +2,11 @@
 #![tactic(auto)]
 
 pub mod assembly;
-mod bindings;
 mod combining;
 mod components;
 mod contents;
 mod context;
+mod declared_uris;
 mod definitions;
 mod firsts;
 pub mod grammar;

@@ -80,13 +80,8 @@ fn no_module(module: String, fault: SyntaxFault) -> Refusal
         → HasTokens (chars text) (map lexeme_of tokens) → IsFault tokens fault
         → IsFaultOf (string_bytes «module») text result }
 {
-    match fault {
-        SyntaxFault::Deep { at: _ } => Refusal::Deep { module },
-        SyntaxFault::Syntax { at: _ } => Refusal::Syntax { module },
-        SyntaxFault::Prefix { at: _ } => Refusal::Prefix { module },
-        SyntaxFault::Builtin { at: _ } => Refusal::Builtin { module },
-        SyntaxFault::ContextValue { at: _ } => Refusal::ContextValue { module },
-        SyntaxFault::Except { at: _ } => Refusal::Except { module },
-        SyntaxFault::Memory => Refusal::Memory,
+    match fault.kind_and_place() {
+        Some((kind, _)) => Refusal::of_fault(kind, module),
+        None => Refusal::Memory,
     }
 }

@@ -1,4 +1,4 @@
-// The nodes of resolved patterns, each in its box.
+// The nodes of resolved patterns.
 ghost use Rattle.std.specs.Prelude.{◌≡◌, map, string_bytes, IfOk, MatchOption};
 ghost use Rattle.std.specs.Rc.{rc_str_bytes};
 ghost use Rattle.rn_pattern.specs.Opened.{pair};
@@ -17,18 +17,32 @@ pub(crate) fn copy_text(alloc: Global, text: &str) -> Result<String, AllocError>
     String::from_str(alloc, text)
 }
 
-/// A pattern in its box. What resolves patterns hands boxes on, which are small.
+/// A value in its box. It is of any type, since a pattern that a call may give back is dear to prove.
+pub(crate) fn new_box<T: Drop>(alloc: Global, value: T) -> Result<Box<T>, AllocError>
+    ensures { IfOk result (λ b. b.value ≡ value) }
+{
+    Ok(Box::new(alloc, value)?)
+}
+
+/// A value that can be shared.
+pub(crate) fn new_shared<T: Drop>(alloc: Global, value: T) -> Result<Rc<T>, AllocError>
+    ensures { IfOk result (λ r. r.value ≡ value) }
+{
+    Ok(Rc::new(alloc, value)?)
+}
+
+/// A pattern in its box.
 pub(crate) fn box_pattern(alloc: Global, pattern: Pattern) -> Result<Box<Pattern>, AllocError>
     ensures { IfOk result (λ p. p.value ≡ pattern) }
 {
-    Ok(Box::new(alloc, pattern)?)
+    new_box(alloc, pattern)
 }
 
 /// The pattern of the box, to be shared.
 pub(crate) fn share_pattern(alloc: Global, pattern: Box<Pattern>) -> Result<Rc<Pattern>, AllocError>
     ensures { IfOk result (λ p. p.value ≡ pattern.value) }
 {
-    Ok(Rc::new(alloc, Box::into_inner(pattern))?)
+    new_shared(alloc, Box::into_inner(pattern))
 }
 
 pub(crate) fn typed_value(
@@ -36,8 +50,8 @@ pub(crate) fn typed_value(
     library: &RcStr,
     type_name: &str,
     text: &str,
-) -> Result<Box<Pattern>, AllocError>
-    ensures { IfOk result (λ p. boxed_view p
+) -> Result<Pattern, AllocError>
+    ensures { IfOk result (λ p. pattern_view p
         ≡ tree.value (rc_str_bytes library.now) type_name.now text.now) }
 {
     let library = library.clone()?;
@@ -51,7 +65,7 @@ pub(crate) fn typed_value(
             text,
         },
     )?;
-    box_pattern(alloc, Pattern::Value(value))
+    Ok(Pattern::Value(value))
 }
 
 /// A datatype with its parameters, and what is excepted.
@@ -61,11 +75,11 @@ pub(crate) fn typed_datum(
     type_name: &str,
     params: Vec<(String, String)>,
     except: Option<Box<Pattern>>,
-) -> Result<Box<Pattern>, AllocError>
+) -> Result<Pattern, AllocError>
     ensures { IfOk result (λ p. MatchOption except
-        (boxed_view p ≡ tree.datum (rc_str_bytes library.now) type_name.now
+        (pattern_view p ≡ tree.datum (rc_str_bytes library.now) type_name.now
         (parameters_view params.items))
-        (λ e. boxed_view p ≡ tree.datum_but (rc_str_bytes library.now) type_name.now
+        (λ e. pattern_view p ≡ tree.datum_but (rc_str_bytes library.now) type_name.now
         (parameters_view params.items)
         (boxed_view e))) }
 {
@@ -79,26 +93,25 @@ pub(crate) fn typed_datum(
             params,
         },
     )?;
-    box_pattern(alloc, Pattern::Datum(data, except))
+    Ok(Pattern::Datum(data, except))
 }
 
-pub(crate) fn list(alloc: Global, content: Box<Pattern>) -> Result<Box<Pattern>, AllocError>
-    ensures { IfOk result (λ p. boxed_view p ≡ tree.list (boxed_view content)) }
+pub(crate) fn list(content: Box<Pattern>) -> Pattern
+    ensures { pattern_view result ≡ tree.list (boxed_view content) }
 {
-    box_pattern(alloc, Pattern::List(content))
+    Pattern::List(content)
 }
 
-pub(crate) fn one_or_more(alloc: Global, content: Box<Pattern>) -> Result<Box<Pattern>, AllocError>
-    ensures { IfOk result (λ p. boxed_view p ≡ tree.one_or_more (boxed_view content)) }
+pub(crate) fn one_or_more(alloc: Global, content: Pattern) -> Result<Pattern, AllocError>
+    ensures { IfOk result (λ p. pattern_view p ≡ tree.one_or_more (pattern_view content)) }
 {
-    box_pattern(alloc, Pattern::OneOrMore(content))
+    Ok(Pattern::OneOrMore(new_box(alloc, content)?))
 }
 
-pub(crate) fn reference(alloc: Global, name: &str) -> Result<Box<Pattern>, AllocError>
-    ensures { IfOk result (λ p. boxed_view p ≡ tree.ref name.now) }
+pub(crate) fn reference(alloc: Global, name: &str) -> Result<Pattern, AllocError>
+    ensures { IfOk result (λ p. pattern_view p ≡ tree.ref name.now) }
 {
-    let name = copy_text(alloc, name)?;
-    box_pattern(alloc, Pattern::Ref(name))
+    Ok(Pattern::Ref(copy_text(alloc, name)?))
 }
 
 fn pair_members(
@@ -134,26 +147,21 @@ pub(crate) fn choice(members: Vec<Rc<Pattern>>) -> Pattern
 }
 
 /// The choice of the pattern and empty.
-pub(crate) fn optional_pattern(
-    alloc: Global,
-    content: Box<Pattern>,
-) -> Result<Box<Pattern>, AllocError>
-    ensures { IfOk result (λ p. boxed_view p ≡ tree.choice (pair (boxed_view content) tree.empty)) }
+pub(crate) fn optional_pattern(alloc: Global, content: Pattern) -> Result<Pattern, AllocError>
+    ensures { IfOk result (λ p. pattern_view p
+        ≡ tree.choice (pair (pattern_view content) tree.empty)) }
 {
-    let empty = Rc::new(alloc, Pattern::Empty)?;
-    let members = pair_members(alloc, share_pattern(alloc, content)?, empty)?;
-    box_pattern(alloc, choice(members))
+    let content = new_shared(alloc, content)?;
+    let empty = new_shared(alloc, Pattern::Empty)?;
+    Ok(choice(pair_members(alloc, content, empty)?))
 }
 
 /// The interleave of the pattern and text.
-pub(crate) fn mixed_pattern(
-    alloc: Global,
-    content: Box<Pattern>,
-) -> Result<Box<Pattern>, AllocError>
-    ensures { IfOk result (λ p. boxed_view p
-        ≡ tree.interleave (pair (boxed_view content) tree.text)) }
+pub(crate) fn mixed_pattern(alloc: Global, content: Pattern) -> Result<Pattern, AllocError>
+    ensures { IfOk result (λ p. pattern_view p
+        ≡ tree.interleave (pair (pattern_view content) tree.text)) }
 {
-    let text = Rc::new(alloc, Pattern::Text)?;
-    let members = pair_members(alloc, share_pattern(alloc, content)?, text)?;
-    box_pattern(alloc, interleave(members))
+    let content = new_shared(alloc, content)?;
+    let text = new_shared(alloc, Pattern::Text)?;
+    Ok(interleave(pair_members(alloc, content, text)?))
 }

@@ -1,5 +1,9 @@
 // Why a set has no schema.
+ghost use Rattle.std.specs.Prelude.{◌≡◌, MatchOption, Some, None, string_bytes};
+ghost use Rattle.rn_assemble.specs.Refused.{fault_of};
+
 use rn_modset::SetFault;
+use rn_syntax::FaultKind;
 use std::alloc::{AllocError, AllocFailed};
 use thiserror::Error;
 
@@ -87,8 +91,43 @@ pub enum Refusal {
     Memory,
 }
 
+impl Refusal {
+    /// The refusal of a module whose text has a fault of this kind.
+    pub fn of_fault(kind: FaultKind, module: String) -> Self
+        ensures { fault_of result ≡ Some (kind, string_bytes «module») }
+    {
+        match kind {
+            FaultKind::Encoding => Refusal::Encoding { module },
+            FaultKind::Lexical => Refusal::Lexical { module },
+            FaultKind::Deep => Refusal::Deep { module },
+            FaultKind::Syntax => Refusal::Syntax { module },
+            FaultKind::Prefix => Refusal::Prefix { module },
+            FaultKind::Builtin => Refusal::Builtin { module },
+            FaultKind::ContextValue => Refusal::ContextValue { module },
+            FaultKind::Except => Refusal::Except { module },
+        }
+    }
+
+    /// The kind of fault for which a module's text is refused, and the module. None for refusals of other kinds.
+    pub fn fault(&self) -> Option<(FaultKind, &str)>
+        ensures { MatchOption result (fault_of self.now ≡ None)
+            (λ found. fault_of self.now ≡ Some (found.0, found.1.now)) }
+    {
+        match self {
+            Refusal::Encoding { module } => Some((FaultKind::Encoding, module.as_str())),
+            Refusal::Lexical { module } => Some((FaultKind::Lexical, module.as_str())),
+            Refusal::Deep { module } => Some((FaultKind::Deep, module.as_str())),
+            Refusal::Syntax { module } => Some((FaultKind::Syntax, module.as_str())),
+            Refusal::Prefix { module } => Some((FaultKind::Prefix, module.as_str())),
+            Refusal::Builtin { module } => Some((FaultKind::Builtin, module.as_str())),
+            Refusal::ContextValue { module } => Some((FaultKind::ContextValue, module.as_str())),
+            Refusal::Except { module } => Some((FaultKind::Except, module.as_str())),
+            _ => None,
+        }
+    }
+}
+
 impl From<AllocError> for Refusal {
-    ghost use Rattle.std.specs.Prelude.{◌≡◌};
     ghost use Rattle.rn_assemble.specs.declared.refusal.Refusal.TheVariants.{Memory};
 
     ghost from_gives = { λ _ r. r ≡ Memory };
@@ -99,7 +138,6 @@ impl From<AllocError> for Refusal {
 }
 
 impl<T: Drop> From<AllocFailed<T>> for Refusal {
-    ghost use Rattle.std.specs.Prelude.{◌≡◌};
     ghost use Rattle.rn_assemble.specs.declared.refusal.Refusal.TheVariants.{Memory};
 
     ghost from_gives = { λ _ r. r ≡ Memory };
@@ -110,7 +148,6 @@ impl<T: Drop> From<AllocFailed<T>> for Refusal {
 }
 
 impl From<SetFault> for Refusal {
-    ghost use Rattle.std.specs.Prelude.{◌≡◌};
     ghost use Rattle.rn_assemble.specs.Answers.{refusal_of};
 
     ghost from_gives = { λ fault r. r ≡ refusal_of fault };

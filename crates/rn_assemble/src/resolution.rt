@@ -4,7 +4,7 @@ ghost use Rattle.std.specs.Cow.{cow_str_bytes};
 ghost use Rattle.std.specs.Rc.{rc_str_bytes};
 ghost use Rattle.rn_pattern.specs.Tree as tree;
 ghost use Rattle.rn_pattern.specs.Tree.{Text, name_trees_of, trees_of};
-ghost use Rattle.rn_pattern.specs.View.{name_class_view, parameters_view, shared_view};
+ghost use Rattle.rn_pattern.specs.View.{name_class_view, parameters_view, pattern_view, shared_view};
 ghost use Rattle.rn_syntax.specs.Tree as source;
 ghost use Rattle.rn_syntax.specs.View as seen;
 ghost use Rattle.rn_assemble.specs.inside.Bound.{InContext};
@@ -13,8 +13,8 @@ ghost use Rattle.rn_assemble.specs.Resolve as resolve;
 
 use crate::context::Context;
 use crate::nodes::{
-    box_pattern, choice, copy_text, group, interleave, list, mixed_pattern, one_or_more,
-    optional_pattern, reference, share_pattern, typed_datum, typed_value,
+    choice, copy_text, group, interleave, list, mixed_pattern, new_box, new_shared, one_or_more,
+    optional_pattern, reference, typed_datum, typed_value,
 };
 use rn_pattern::{NameClass, Pattern};
 use rn_syntax::{AnyName, Data, Datatype, Name, Nc, Operator, Param, Pat, Postfix, Value};
@@ -151,8 +151,8 @@ fn value<'t>(
     alloc: Global,
     context: Context<'_, 't>,
     value: &'t Value<'_>,
-) -> Result<Box<Pattern>, AllocError>
-    ensures { InContext context.entry (λ inherited ds. IfOk result (λ p. boxed_view p
+) -> Result<Pattern, AllocError>
+    ensures { InContext context.entry (λ inherited ds. IfOk result (λ p. pattern_view p
         ≡ resolve.typed_value inherited ds (seen.type_view value.now.datatype)
         (cow_str_bytes value.now.text))) }
 {
@@ -180,8 +180,8 @@ fn datum<'t>(
     alloc: Global,
     context: Context<'_, 't>,
     data: &'t Data<'_>,
-) -> Result<Box<Pattern>, AllocError>
-    ensures { InContext context.entry (λ inherited ds. IfOk result (λ p. boxed_view p
+) -> Result<Pattern, AllocError>
+    ensures { InContext context.entry (λ inherited ds. IfOk result (λ p. pattern_view p
         ≡ tree.datum (resolve.type_library inherited ds (seen.datatype_view «data».now.datatype))
         (resolve.type_name inherited ds (seen.datatype_view «data».now.datatype))
         (seen.params_view «data».now.params.items))) }
@@ -202,8 +202,8 @@ fn datum_but<'t>(
     context: Context<'_, 't>,
     data: &'t Data<'_>,
     except: Box<Pattern>,
-) -> Result<Box<Pattern>, AllocError>
-    ensures { InContext context.entry (λ inherited ds. IfOk result (λ p. boxed_view p
+) -> Result<Pattern, AllocError>
+    ensures { InContext context.entry (λ inherited ds. IfOk result (λ p. pattern_view p
         ≡ tree.datum_but
         (resolve.type_library inherited ds (seen.datatype_view «data».now.datatype))
         (resolve.type_name inherited ds (seen.datatype_view «data».now.datatype))
@@ -225,13 +225,13 @@ fn element<'t>(
     context: Context<'_, 't>,
     class: &'t Nc<'_>,
     content: Box<Pattern>,
-) -> Result<Box<Pattern>, AllocError>
-    ensures { InContext context.entry (λ inherited ds. IfOk result (λ p. boxed_view p
+) -> Result<Pattern, AllocError>
+    ensures { InContext context.entry (λ inherited ds. IfOk result (λ p. pattern_view p
         ≡ tree.element (resolve.resolved_class inherited ds (resolve.default_of inherited ds)
         (seen.class_view class.now)) (boxed_view content))) }
 {
     let class = name_class(alloc, context, context.default_namespace(), class)?;
-    box_pattern(alloc, Pattern::Element(Box::new(alloc, class)?, content))
+    Ok(Pattern::Element(new_box(alloc, class)?, content))
 }
 
 /// An attribute; a name without prefix is in no namespace.
@@ -240,39 +240,31 @@ fn attribute<'t>(
     context: Context<'_, 't>,
     class: &'t Nc<'_>,
     content: Box<Pattern>,
-) -> Result<Box<Pattern>, AllocError>
-    ensures { InContext context.entry (λ inherited ds. IfOk result (λ p. boxed_view p
+) -> Result<Pattern, AllocError>
+    ensures { InContext context.entry (λ inherited ds. IfOk result (λ p. pattern_view p
         ≡ tree.attribute (resolve.resolved_class inherited ds [] (seen.class_view class.now))
         (boxed_view content))) }
 {
     let class = name_class(alloc, context, &context.bindings.known.none, class)?;
-    box_pattern(alloc, Pattern::Attribute(Box::new(alloc, class)?, content))
+    Ok(Pattern::Attribute(new_box(alloc, class)?, content))
 }
 
-fn chain(
-    alloc: Global,
-    operator: Operator,
-    members: Vec<Rc<Pattern>>,
-) -> Result<Box<Pattern>, AllocError>
+fn chain(operator: Operator, members: Vec<Rc<Pattern>>) -> Pattern
     ensures { (inherited : Text) (ds : List source.Declaration)
-        → IfOk result (λ p. boxed_view p
-        ≡ resolve.chained inherited ds operator (trees_of (map shared_view members.items))) }
+        → pattern_view result
+        ≡ resolve.chained inherited ds operator (trees_of (map shared_view members.items)) }
 {
     match operator {
-        Operator::Comma => box_pattern(alloc, group(members)),
-        Operator::Ampersand => box_pattern(alloc, interleave(members)),
-        Operator::Bar => box_pattern(alloc, choice(members)),
+        Operator::Comma => group(members),
+        Operator::Ampersand => interleave(members),
+        Operator::Bar => choice(members),
     }
 }
 
-fn repetition(
-    alloc: Global,
-    postfix: Postfix,
-    content: Box<Pattern>,
-) -> Result<Box<Pattern>, AllocError>
+fn repetition(alloc: Global, postfix: Postfix, content: Pattern) -> Result<Pattern, AllocError>
     ensures { (inherited : Text) (ds : List source.Declaration)
-        → IfOk result (λ p. boxed_view p
-        ≡ resolve.repetition inherited ds postfix (boxed_view content)) }
+        → IfOk result (λ p. pattern_view p
+        ≡ resolve.repetition inherited ds postfix (pattern_view content)) }
 {
     match postfix {
         Postfix::Question => optional_pattern(alloc, content),
@@ -281,7 +273,7 @@ fn repetition(
     }
 }
 
-/// The pattern.
+/// The pattern, in its box.
 #[cycle(pattern)]
 pub(crate) fn pattern<'t>(
     alloc: Global,
@@ -289,6 +281,19 @@ pub(crate) fn pattern<'t>(
     written: &'t Pat<'_>,
 ) -> Result<Box<Pattern>, AllocError>
     ensures { InContext context.entry (λ inherited ds. IfOk result (λ p. boxed_view p
+        ≡ resolve.resolved inherited ds (seen.pattern_view written.now))) }
+{
+    new_box(alloc, resolve_pattern(alloc, context, written)?)
+}
+
+/// The pattern.
+#[cycle(pattern)]
+fn resolve_pattern<'t>(
+    alloc: Global,
+    context: Context<'_, 't>,
+    written: &'t Pat<'_>,
+) -> Result<Pattern, AllocError>
+    ensures { InContext context.entry (λ inherited ds. IfOk result (λ p. pattern_view p
         ≡ resolve.resolved inherited ds (seen.pattern_view written.now))) }
 {
     match written {
@@ -300,11 +305,11 @@ pub(crate) fn pattern<'t>(
             let content = pattern(alloc, context, content)?;
             attribute(alloc, context, class, content)
         }
-        Pat::List(content) => list(alloc, pattern(alloc, context, content)?),
-        Pat::Mixed(content) => mixed_pattern(alloc, pattern(alloc, context, content)?),
-        Pat::Empty => box_pattern(alloc, Pattern::Empty),
-        Pat::NotAllowed => box_pattern(alloc, Pattern::NotAllowed),
-        Pat::Text => box_pattern(alloc, Pattern::Text),
+        Pat::List(content) => Ok(list(pattern(alloc, context, content)?)),
+        Pat::Mixed(content) => mixed_pattern(alloc, resolve_pattern(alloc, context, content)?),
+        Pat::Empty => Ok(Pattern::Empty),
+        Pat::NotAllowed => Ok(Pattern::NotAllowed),
+        Pat::Text => Ok(Pattern::Text),
         Pat::Ref(name) => reference(alloc, name),
         Pat::Value(given) => value(alloc, context, given),
         Pat::Datum(data) => datum(alloc, context, data),
@@ -313,12 +318,12 @@ pub(crate) fn pattern<'t>(
             datum_but(alloc, context, data, except)
         }
         Pat::Repeated(postfix, content) => {
-            let content = pattern(alloc, context, content)?;
+            let content = resolve_pattern(alloc, context, content)?;
             repetition(alloc, *postfix, content)
         }
         Pat::Chain(operator, members) => {
             let members = patterns(alloc, context, members)?;
-            chain(alloc, *operator, members)
+            Ok(chain(*operator, members))
         }
     }
 }
@@ -335,8 +340,8 @@ fn patterns<'t>(
 {
     let mut members = Vec::with_capacity(alloc, written.len())?;
     for member in written {
-        let pattern = pattern(alloc, context, member)?;
-        members.push(share_pattern(alloc, pattern)?)?;
+        let pattern = resolve_pattern(alloc, context, member)?;
+        members.push(new_shared(alloc, pattern)?)?;
     }
     Ok(members)
 }

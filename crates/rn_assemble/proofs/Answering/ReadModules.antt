@@ -8,19 +8,20 @@ use Rattle.rn_pattern.specs.Order.{text_cmp}
 use Rattle.rn_pattern.proofs.Ordered.InOrder.{contains_cases, contained_each, text_no_less}
 use Rattle.rn_modset.specs.Contributions.{Member}
 use Rattle.rn_modset.specs.Modules.{Module, AreEffective, NamesRise, module_cmp, module_of, modules_of}
+use Rattle.rn_syntax.specs.declared.fault.FaultKind.{FaultKind}
 use Rattle.rn_assemble.specs.declared.modules.NamedModule as code_module
 use Rattle.rn_assemble.specs.declared.refusal.Refusal as code
 use Rattle.rn_assemble.specs.Components.{NamedModule}
 use Rattle.rn_assemble.specs.Least.{IsLeast}
 use Rattle.rn_assemble.specs.inside.Reading.{IsRead, IsFaultOf}
-use Rattle.rn_assemble.specs.Refusal.{TextFault, Refusal, conflict, faulty, rank, HasTextFault, IsFirstFault, IsFaulty, IsModuleOf, AreModules, Stands, IsFirst}
+use Rattle.rn_assemble.specs.Refusal.{Refusal, conflict, faulty, rank, HasTextFault, IsFirstFault, IsFaulty, IsModuleOf, AreModules, Stands, IsFirst}
 use Rattle.rn_assemble.specs.Refused.{IsFirstRefusal, refusal_view}
 use Rattle.rn_assemble.specs.inside.Views.{module_names, named_module_view, modules_view}
 use Rattle.rn_assemble.proofs.Referring.Named.{in_order_mapped}
 
 -- the text has no fault
 abbrev pub HasFaultlessText : Module → Type 0
-HasFaultlessText x = (f : TextFault) → ¬ HasTextFault x.1 f
+HasFaultlessText x = (f : FaultKind) → ¬ HasTextFault x.1 f
 
 -- the module was read from this name and text
 abbrev pub IsReadFrom : Module → NamedModule → Type 0
@@ -75,13 +76,13 @@ module _ (s : List Member) (texts : List Module) (effective : AreEffective s tex
   no_conflict q l h = absurd (omega (arith, l))
 
   module _ (n : ℕ) (x : Module) (l : n < length texts) (is : x ≡ get_or texts n x) (before : AllByRecursion HasFaultlessText (take n texts)) where
-    first_faulty : (f : TextFault) → IsFirstFault x.1 f → IsFirst s (faulty f x.0)
+    first_faulty : (f : FaultKind) → IsFirstFault x.1 f → IsFirst s (faulty f x.0)
     first_faulty f first =
         let inside : Contains {X = Module} texts x = (n, l, sym is) in
         let least : IsLeast text_cmp (IsFaulty texts) x.0 = record { holds = (x.1, inside, (f, first.0)); least = least_faulty texts effective.in_order n x l is before } in
         ((texts, effective, least, (x.1, inside, first)), no_conflict)
 
-    refused_by : (o : Option Refusal) (M : Type 0) → MatchOption o M (λ w. (f : TextFault) × (w ≡ faulty f x.0) × IsFirstFault x.1 f) → MatchOption o M (IsFirst s)
+    refused_by : (o : Option Refusal) (M : Type 0) → MatchOption o M (λ w. (f : FaultKind) × (w ≡ faulty f x.0) × IsFirstFault x.1 f) → MatchOption o M (IsFirst s)
     refused_by None M h = h
     refused_by (Some w) M (f, e, first) = subst (IsFirst s) (sym e) (first_faulty f first)
 

@@ -12,26 +12,7 @@ use Rattle.rn_assemble.proofs.Referring.Numbers.{name_at}
 pub unsound : (cs : List Component) (q : Refusal) → IsLeastUndefined cs q → IsUnsound cs q
 unsound cs (r.Undefined x) h = h
 unsound cs r.Memory h = tt
-unsound cs (r.Conflict m v) h = absurd h
-unsound cs (r.Encoding m) h = absurd h
-unsound cs (r.Lexical m) h = absurd h
-unsound cs (r.Deep m) h = absurd h
-unsound cs (r.Syntax m) h = absurd h
-unsound cs (r.Prefix m) h = absurd h
-unsound cs (r.Builtin m) h = absurd h
-unsound cs (r.ContextValue m) h = absurd h
-unsound cs (r.Except m) h = absurd h
-unsound cs (r.Missing m w) h = absurd h
-unsound cs (r.Cycle m) h = absurd h
-unsound cs r.Instances h = absurd h
-unsound cs (r.Override m k) h = absurd h
-unsound cs (r.PlainTwice k) h = absurd h
-unsound cs (r.MixedMethods k) h = absurd h
-unsound cs r.NoStart h = absurd h
-unsound cs (r.Recursive n) h = absurd h
-unsound cs (r.NameClass k) h = absurd h
-unsound cs r.OutputTooLarge h = absurd h
-unsound cs r.OutputTooDeep h = absurd h
+unsound cs q h = absurd h
 
 -- the name of a number
 pub name_there : (names : List Text) (x : Text) (n : ℕ) → IsNumber names x n → get_or names (n - 1) [] ≡ x

@@ -14,12 +14,15 @@ use Rattle.rn_pattern.proofs.Ordered.InOrder.{by_name, one_by_name, text_no_less
 use Rattle.rn_pattern.proofs.Ordered.Orders.{text_same}
 use Rattle.rn_modset.specs.Contributions.{Member}
 use Rattle.rn_modset.specs.Modules.{Module, IsHighest, IsFirstConflict, AreEffective}
+use Rattle.rn_syntax.specs.declared.fault.FaultKind.{FaultKind}
+use Rattle.rn_syntax.specs.Faults.{kind_rank}
 use Rattle.rn_syntax.specs.Grammar.{Tokens}
 use Rattle.rn_syntax.specs.Tree as t
 use Rattle.rn_syntax.specs.Tokens.{terminals}
 use Rattle.rn_syntax.specs.Fault.{HasTree}
+use Rattle.rn_syntax.proofs.FaultKinds.{one_kind}
 use Rattle.rn_assemble.specs.Components.{NamedModule}
-use Rattle.rn_assemble.specs.Refusal.{TextFault, encoding, lexical, deep_brackets, syntax, prefix, builtin, context_value, except, fault_rank, IsFirstFault, IsFaulty, Refusal, conflict, faulty, rank, IsModuleOf, StandsFor, AreModules, Stands, IsFirst, IsAssembled, grammar_of}
+use Rattle.rn_assemble.specs.Refusal.{IsFirstFault, IsFaulty, Refusal, conflict, faulty, rank, IsModuleOf, StandsFor, AreModules, Stands, IsFirst, IsAssembled, grammar_of}
 use Rattle.rn_assemble.specs.Least.{IsLeast}
 use Rattle.rn_assemble.proofs.Refusals.OneRefusal.{same_at, least_text, one_of_rank}
 
@@ -39,19 +42,8 @@ unfolding IsStrictlySortedBy
 one_entry [] h x v w (i, l, is) d = absurd (omega (arith, l))
 one_entry (e ∷ ds) h x v w c d = one_entry_at e ds x v w h.0 (one_entry ds h.1 x v w) (contains_cases e (x, v) ds c) (contains_cases e (x, w) ds d)
 
-pub one_fault : (f g : TextFault) → fault_rank f ≡ fault_rank g → f ≡ g
-one_fault encoding encoding e = refl
-one_fault lexical lexical e = refl
-one_fault deep_brackets deep_brackets e = refl
-one_fault syntax syntax e = refl
-one_fault prefix prefix e = refl
-one_fault builtin builtin e = refl
-one_fault context_value context_value e = refl
-one_fault except except e = refl
-one_fault f g e = absurd (omega (arith, e))
-
-first_fault : (text : Text) (f g : TextFault) → IsFirstFault text f → IsFirstFault text g → f ≡ g
-first_fault text f g s t = ⊎_elim (λ e. one_fault f g e) (⊎_elim (λ h. absurd (t.1 f h s.0)) (λ h. absurd (s.1 g h t.0))) (cases_order (fault_rank f) (fault_rank g))
+pub first_fault : (text : Text) (f g : FaultKind) → IsFirstFault text f → IsFirstFault text g → f ≡ g
+first_fault text f g s t = ⊎_elim (λ e. one_kind f g e) (⊎_elim (λ h. absurd (t.1 f h s.0)) (λ h. absurd (s.1 g h t.0))) (cases_order (kind_rank f) (kind_rank g))
 
 one_revision : (s : List Member) (x : Text) (r q : ℕ) → IsHighest s x r → IsHighest s x q → r ≡ q
 one_revision s x r q h k = omega (arith, h.highest q k.text k.held, k.highest r h.text h.held)
@@ -98,7 +90,7 @@ module _ (one_tree : (ts : Tokens) (m n : t.Module) → HasTree ts m → HasTree
         let revision : r ≡ q = one_revision s y r q (subst (λ z. IsHighest s z r) name h.0.0) k.0.0 in
         λ i. conflict (name i) (revision i)
 
-    one_faulty : (f g : TextFault) (x y : Text) → Stands s (faulty f x) → Stands s (faulty g y) → faulty f x ≡ faulty g y
+    one_faulty : (f g : FaultKind) (x y : Text) → Stands s (faulty f x) → Stands s (faulty g y) → faulty f x ≡ faulty g y
     one_faulty f g x y (xs, a, least, (text, inside, first)) (ys, b, least', (text', inside', first')) =
         let same : xs ≡ ys = one_effective s xs ys a b in
         let name : x ≡ y = least_text _ x y (subst (λ (l : List Module). IsLeast text_cmp (IsFaulty l) x) same least) least' in

@@ -8,13 +8,17 @@ use Rattle.rn_pattern.proofs.Ordered.Ascending.{each_join, each_flat}
 use Rattle.rn_pattern.proofs.Ordered.InOrder.{contains_front, contains_behind}
 use Rattle.rn_modset.specs.Contributions.{Member}
 use Rattle.rn_modset.specs.Modules as effective
+use Rattle.rn_syntax.specs.declared.fault.FaultKind.{FaultKind}
+use Rattle.rn_syntax.specs.declared.fault.FaultKind.TheVariants as kind
 use Rattle.rn_syntax.specs.Tree as t
 use Rattle.rn_syntax.specs.Tree.{Declaration, Item, Items, Module, NameClass}
 use Rattle.rn_syntax.specs.Places.{class_places, unbound_type, wrong_builtin, context_value, inherit_places, declarations_places, item_places, items_places, prefix_places, builtin_places, context_places, except_places}
+use Rattle.rn_syntax.specs.Faults.{kind_places}
 use Rattle.rn_syntax.proofs.EmptyLists.{nil_parts}
+use Rattle.rn_syntax.proofs.FaultKinds.{each_empty}
 use Rattle.rn_assemble.specs.Texts.{IsXml}
 use Rattle.rn_assemble.specs.Components.{Component, NamedModule, has_key, overridden, handed_on, item_components, all_components, module_components, modules_named, components_within, components, instance_limit, roots, set_components}
-use Rattle.rn_assemble.specs.Refusal.{TextFault, prefix, builtin, context_value as context_fault, except, IsModuleOf, HasTextFault, AreModules, grammar_of}
+use Rattle.rn_assemble.specs.Refusal.{IsModuleOf, HasTextFault, AreModules, grammar_of}
 use Rattle.rn_assemble.specs.WellFormed.{HasWritableTexts}
 use Rattle.rn_assemble.proofs.WellFormed.ComponentExcepts.{in_item, in_items, resolved_has, each_kept}
 use Rattle.rn_assemble.proofs.WellFormed.GoodTrees.{IsGoodItem, AreGoodItems, AreGoodDeclarations, IsGoodModule, module_good}
@@ -103,16 +107,25 @@ no_places : (xs : List ℕ) → ¬ (xs ≢ []) → xs ≡ []
 no_places [] h = refl
 no_places (x ∷ xs) h = absurd (h (λ e. cc))
 
-faultless_of : (text : Text) (m : Module) → ((f : TextFault) → ¬ HasTextFault text f) → IsModuleOf text m → IsFaultless m
-faultless_of text m none (u, (ts, has, tree)) = record {
-  good = module_good tree (tokens_good (chars text) ts has);
-  bound = no_places (prefix_places m) (λ h. none prefix (m, (u, (ts, has, tree)), h));
-  builtin_types = no_places (builtin_places m) (λ h. none builtin (m, (u, (ts, has, tree)), h));
-  no_context = no_places (context_places m) (λ h. none context_fault (m, (u, (ts, has, tree)), h));
-  excepts = no_places (except_places m) (λ h. none except (m, (u, (ts, has, tree)), h));
-}
+no_places_of : (text : Text) (m : Module) → ((f : FaultKind) → ¬ HasTextFault text f) → IsModuleOf text m → (k : FaultKind) → kind_places k m ≡ []
+no_places_of text m none is kind.Encoding = refl
+no_places_of text m none is kind.Lexical = refl
+no_places_of text m none is kind.Deep = refl
+no_places_of text m none is kind.Syntax = refl
+no_places_of text m none is k = no_places (kind_places k m) (λ h. none k (m, is, h))
 
-each_faultless : (texts : List effective.Module) (modules : List NamedModule) → ((x text : Text) → Contains {X = Text × Text} texts (x, text) → (f : TextFault) → ¬ HasTextFault text f)
+faultless_of : (text : Text) (m : Module) → ((f : FaultKind) → ¬ HasTextFault text f) → IsModuleOf text m → IsFaultless m
+faultless_of text m none (u, (ts, has, tree)) =
+    let empty = each_empty m (λ k. no_places_of text m none (u, (ts, has, tree)) k) in
+    record {
+      good = module_good tree (tokens_good (chars text) ts has);
+      bound = empty.0;
+      builtin_types = empty.1;
+      no_context = empty.2;
+      excepts = empty.3;
+    }
+
+each_faultless : (texts : List effective.Module) (modules : List NamedModule) → ((x text : Text) → Contains {X = Text × Text} texts (x, text) → (f : FaultKind) → ¬ HasTextFault text f)
     → AllZip (λ (x : effective.Module) (m : NamedModule). (m.name ≡ x.0) × IsModuleOf x.1 m.tree) texts modules → AllByRecursion (λ (m : NamedModule). IsFaultless m.tree) modules
 each_faultless [] [] none h = tt
 each_faultless [] (m ∷ ms) none h = absurd h

@@ -7,12 +7,13 @@ use Rattle.rn_assemble.proofs.components.Components.first_indices.Goals as goal
 
 pub loop-index-preserved : goal.loop-index-preserved
 loop-index-preserved c = record {
-  size = ap length c.in_ok-push.ensures.items ∙ length_push c.loop-index.firsts.items c.first_index-first.result ∙ ap (λ n. n + 1) c.loop-index.invariant.size;
+  size = ap length c.in_ok-push.ensures.items ∙ length_push c.loop-index.firsts.items c.in-Ok.first ∙ ap (λ n. n + 1) c.loop-index.invariant.size;
   are = λ i j at.
       let list = c.args.self.now.list.items in
       let places = c.args.places.now in
       let here = subst (λ n. IsFirst list places n c.first_index-first.result) (sym c.loop-index.invariant.size) c.first_index-first.ensures in
-      firsts_more list places c.loop-index.firsts.items c.first_index-first.result c.loop-index.invariant.are here i j (subst (λ fs. slice_get fs i ≡ Some j) c.in_ok-push.ensures.items at);
+      let same : c.in-Ok.first ≡ c.first_index-first.result = c.in-Ok.ensures.1 in
+      firsts_more list places c.loop-index.firsts.items c.in-Ok.first c.loop-index.invariant.are (subst (λ f. IsFirst list places (length c.loop-index.firsts.items) f) (sym same) here) i j (subst (λ fs. slice_get fs i ≡ Some j) c.in_ok-push.ensures.items at);
 }
 
 pub returns-then-is_repeated : goal.returns-then-is_repeated
