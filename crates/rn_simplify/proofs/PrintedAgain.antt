@@ -15,11 +15,15 @@ use Rattle.rn_syntax.specs.Grammar.{Tokens}
 use Rattle.rn_syntax.specs.Tree as t
 use Rattle.rn_syntax.specs.Tokens.{terminals}
 use Rattle.rn_syntax.specs.Fault.{HasTree}
-use Rattle.rn_syntax.specs.Places.{deep, prefix_places, builtin_places, context_places, except_places}
+use Rattle.rn_syntax.specs.Places.{deep}
+use Rattle.rn_syntax.specs.Faults.{kind_places}
+use Rattle.rn_syntax.specs.declared.fault.FaultKind.{FaultKind}
+use Rattle.rn_syntax.specs.declared.fault.FaultKind.TheVariants as kind
+use Rattle.rn_syntax.proofs.FaultKinds.{no_places}
 use Rattle.rn_assemble.specs.Components.{NamedModule}
 use Rattle.rn_assemble.specs.Combine.{joined_grammar, read}
 use Rattle.rn_assemble.specs.WellFormed.{IsWellFormed}
-use Rattle.rn_assemble.specs.Refusal.{TextFault, encoding, lexical, deep_brackets, syntax, prefix, builtin, context_value, except, Refusal, conflict, faulty, IsModuleOf, HasTextFault, StandsFor, AreModules, Stands, IsAssembled, grammar_of}
+use Rattle.rn_assemble.specs.Refusal.{Refusal, conflict, faulty, IsModuleOf, HasTextFault, StandsFor, AreModules, Stands, IsAssembled, grammar_of}
 use Rattle.rn_assemble.proofs.Refusals.NoRefusal.{assembled_well_formed}
 use Rattle.rn_assemble.proofs.Combined.OneModule.{one_module}
 use Rattle.rn_assemble.proofs.Refusals.OneSet.{one_effective, one_module_of, one_modules}
@@ -43,15 +47,12 @@ module _ (one_tree : (ts : Tokens) (m n : t.Module) → HasTree ts m → HasTree
     same_tree m h = one_module_of one_tree (spelling n) m r.tree h is_module
 
     -- the text has no fault
-    pub no_fault : (f : TextFault) → ¬ HasTextFault (spelling n) f
-    no_fault encoding h = h r.utf8
-    no_fault lexical (u, h) = h r.tokens r.has_tokens
-    no_fault deep_brackets (u, (ts, has, e)) = false≢true (sym shallow ∙ r.shallow ∙ ap (λ l. is_some (deep 0 (terminals l))) (sym (same_tokens ts has)) ∙ e)
-    no_fault syntax (u, (ts, has, none)) = none r.tree (subst (λ l. HasTree (terminals l) r.tree) (sym (same_tokens ts has)) r.has_tree)
-    no_fault prefix (m, is, some) = some (ap prefix_places (same_tree m is) ∙ r.no_prefix)
-    no_fault builtin (m, is, some) = some (ap builtin_places (same_tree m is) ∙ r.no_builtin)
-    no_fault context_value (m, is, some) = some (ap context_places (same_tree m is) ∙ r.no_context)
-    no_fault except (m, is, some) = some (ap except_places (same_tree m is) ∙ r.no_except)
+    pub no_fault : (f : FaultKind) → ¬ HasTextFault (spelling n) f
+    no_fault kind.Encoding h = h r.utf8
+    no_fault kind.Lexical (u, h) = h r.tokens r.has_tokens
+    no_fault kind.Deep (u, (ts, has, e)) = false≢true (sym shallow ∙ r.shallow ∙ ap (λ l. is_some (deep 0 (terminals l))) (sym (same_tokens ts has)) ∙ e)
+    no_fault kind.Syntax (u, (ts, has, none)) = none r.tree (subst (λ l. HasTree (terminals l) r.tree) (sym (same_tokens ts has)) r.has_tree)
+    no_fault k (m, is, some) = some (ap (kind_places k) (same_tree m is) ∙ no_places r.tree r.no_prefix r.no_builtin r.no_context r.no_except k)
 
     module _ (x : Text) where
       abbrev texts : List effective.Module
@@ -60,7 +61,7 @@ module _ (one_tree : (ts : Tokens) (m n : t.Module) → HasTree ts m → HasTree
       abbrev printed : List NamedModule
       printed = record { name = x; tree = r.tree } ∷ []
 
-      faultless_at : (y text : Text) → Contains {X = Text × Text} texts (y, text) → (f : TextFault) → ¬ HasTextFault text f
+      faultless_at : (y text : Text) → Contains {X = Text × Text} texts (y, text) → (f : FaultKind) → ¬ HasTextFault text f
       faultless_at y text c f h =
           ⊎_elim (λ e. no_fault f (subst (λ s. HasTextFault s f) (sym (ap (λ (d : Text × Text). d.1) e)) h)) (λ (i, l, is). absurd (omega (arith, l))) (contains_cases {X = Text × Text} (x, spelling n) (y, text) [] c)
 

@@ -6,9 +6,10 @@ use Rattle.rn_pattern.specs.Datatype.{Table}
 use Rattle.rn_pattern.specs.Matching.{Grammar, IsValid}
 use Rattle.rn_pattern.specs.Reached.{IsCanonicalOf}
 use Rattle.rn_modset.specs.Contributions.{Member}
+use Rattle.rn_syntax.specs.declared.fault.FaultKind.{FaultKind}
 use Rattle.rn_assemble.specs.Components.{NamedModule, set_components}
 use Rattle.rn_assemble.specs.Combine.{IsCombination, read}
-use Rattle.rn_assemble.specs.Refusal.{Refusal, TextFault, AreModules, HasTextFault, StandsFor, grammar_of}
+use Rattle.rn_assemble.specs.Refusal.{Refusal, AreModules, HasTextFault, StandsFor, grammar_of}
 use Rattle.rn_assemble.specs.WellFormed.{IsWellFormed}
 use Rattle.rn_simplify.specs.Spelling.{spelling}
 use Rattle.rn_simplify.specs.ReadBack.{IsReadBack}
@@ -23,7 +24,7 @@ pub record IsReadAgain (s : List Member) (text : Text) : Type 0 where
   pub normal : Grammar
   pub canonical : IsCanonicalOf (grammar_of modules) normal
   pub text_is : text ≡ spelling normal
-  pub no_fault : (f : TextFault) → ¬ HasTextFault text f
+  pub no_fault : (f : FaultKind) → ¬ HasTextFault text f
   pub read_back : IsReadBack normal
   pub joined_documents : (T : Table) (doc : Item) → IsValid (grammar_of modules) T doc ↔ IsValid (read read_back.tree) T doc
   pub same_documents : (C : Grammar) → IsCombination (set_components modules) C → (T : Table) (doc : Item) → IsValid C T doc ↔ IsValid (read read_back.tree) T doc

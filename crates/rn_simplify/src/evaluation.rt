@@ -79,7 +79,7 @@ fn worth_of_body(
     alloc: Global,
     settled: &Settled<'_>,
     body: &Pattern,
-    firsts: &[usize],
+    firsts: &[u32],
 ) -> Result<Worth, AllocError>
     requires { AreFirsts firsts.now (joined_members (pattern_view body.now)) }
     ensures { IfOk result (λ w. w ≡ evaluated (worth_in settled.now) (pattern_view body.now)) }

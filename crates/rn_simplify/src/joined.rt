@@ -22,7 +22,7 @@ pub(crate) fn canonical_body<P: Patterns>(
     store: &mut P,
     settled: &Settled<'_>,
     body: &Pattern,
-    firsts: &[usize],
+    firsts: &[u32],
 ) -> Result<P::Id, AllocError>
     requires { AreFirsts firsts.now (joined_members (pattern_view body.now)) }
     ensures made { IfOk result (StandsFor (P.knows store.new) (P.tree_of store.new)
@@ -45,7 +45,7 @@ fn choice_form<P: Patterns>(
     store: &mut P,
     settled: &Settled<'_>,
     members: &[Rc<Pattern>],
-    firsts: &[usize],
+    firsts: &[u32],
 ) -> Result<P::Id, AllocError>
     requires { AreFirsts firsts.now (map shared_view members.now) }
     ensures made { IfOk result (StandsFor (P.knows store.new) (P.tree_of store.new)
@@ -63,7 +63,7 @@ fn interleave_form<P: Patterns>(
     store: &mut P,
     settled: &Settled<'_>,
     members: &[Rc<Pattern>],
-    firsts: &[usize],
+    firsts: &[u32],
 ) -> Result<P::Id, AllocError>
     requires { AreFirsts firsts.now (map shared_view members.now) }
     ensures made { IfOk result (StandsFor (P.knows store.new) (P.tree_of store.new)
@@ -81,7 +81,7 @@ fn member_ids<P: Patterns>(
     store: &mut P,
     settled: &Settled<'_>,
     members: &[Rc<Pattern>],
-    firsts: &[usize],
+    firsts: &[u32],
 ) -> Result<Vec<P::Id>, AllocError>
     requires { AreFirsts firsts.now (map shared_view members.now) }
     ensures known { IfOk result (λ ids. All (λ i. IsTrue (P.knows store.new i)) ids.items) }
@@ -104,7 +104,7 @@ fn id_at<P: Patterns>(
     store: &mut P,
     settled: &Settled<'_>,
     members: &[Rc<Pattern>],
-    firsts: &[usize],
+    firsts: &[u32],
     ids: &[P::Id],
     index: usize,
 ) -> Result<P::Id, AllocError>

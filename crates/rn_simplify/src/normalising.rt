@@ -108,7 +108,7 @@ pub(crate) fn body_form<P: Patterns>(
     store: &mut P,
     settled: &Settled<'_>,
     body: &Pattern,
-    firsts: &[usize],
+    firsts: &[u32],
 ) -> Result<Pattern, AllocError>
     requires { AreFirsts firsts.now (joined_members (pattern_view body.now)) }
     ensures made { IfOk result (λ p. pattern_view p ≡ form.canonical (becomes settled.now)

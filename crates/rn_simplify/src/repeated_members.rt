@@ -11,13 +11,13 @@ use std::alloc::{AllocError, Global};
 use std::rc::Rc;
 
 /// The index of the first member that is the same as the one at the index.
-pub(crate) fn first_of(firsts: &[usize], index: usize) -> usize
+pub(crate) fn first_of(firsts: &[u32], index: usize) -> usize
     ensures { (members : List Tree) (p : Tree) → AreFirsts firsts.now members
         → slice_get members index ≡ Some p
         → (result ≤ index) × (slice_index_or members result p ≡ p) }
 {
     match firsts.get(index) {
-        Some(first) => *first,
+        Some(first) => *first as usize,
         None => index,
     }
 }
@@ -26,7 +26,7 @@ pub(crate) fn first_of(firsts: &[usize], index: usize) -> usize
 pub(crate) fn distinct_members(
     alloc: Global,
     members: &[Rc<Pattern>],
-    firsts: &[usize],
+    firsts: &[u32],
 ) -> Result<Vec<Rc<Pattern>>, AllocError>
     requires { AreFirsts firsts.now (map shared_view members.now) }
     ensures { IfOk result (λ v. HoldSame (map shared_view v.items) (map shared_view members.now)) }
@@ -44,7 +44,7 @@ pub(crate) fn distinct_members(
 pub(crate) fn without_repeats(
     alloc: Global,
     body: &Pattern,
-    firsts: &[usize],
+    firsts: &[u32],
 ) -> Result<Option<Box<Pattern>>, AllocError>
     requires { AreFirsts firsts.now (joined_members (pattern_view body.now)) }
     ensures { IfOk result (λ found. IfSome found

@@ -46,7 +46,7 @@ fn body_references(
     alloc: Global,
     names: &Definitions,
     body: &Pattern,
-    firsts: &[usize],
+    firsts: &[u32],
 ) -> Result<References, AllocError>
     requires { AreFirsts firsts.now (joined_members (pattern_view body.now)) }
     ensures { IfOk result (AreReferences (definitions_view names.now.entries)

@@ -1,11 +1,12 @@
-// The canonical form of a pattern, made as a tree (RELAX NG, 4.20 and 4.21).
-ghost use Rattle.std.specs.Prelude.{◌≡◌, ◌++◌, ◌∷◌, [], IfOk, IsSome, IsTrue, OnOk, Some, map, string_bytes};
+// The canonical form of a pattern, made as a tree that shares with the pattern what stays the same (RELAX NG, 4.20 and 4.21).
+ghost use Rattle.std.specs.Prelude.{◌≡◌, ◌++◌, ◌∷◌, [], IfOk, IsSome, IsTrue, OnOk, Some, if◌then◌else◌, map};
 ghost use Rattle.std.specs.Option.{option_map};
 ghost use Rattle.rn_pattern.specs.Canonical as form;
 ghost use Rattle.rn_pattern.specs.Canonical.{canonical_all};
-ghost use Rattle.rn_pattern.specs.Tree.{Text, Tree, trees_of};
-ghost use Rattle.rn_pattern.specs.View.{pattern_view, shared_view};
-ghost use Rattle.rn_simplify.specs.inside.Contents.{content_of, is_leaf};
+ghost use Rattle.rn_pattern.specs.CanonicalShape as shape;
+ghost use Rattle.rn_pattern.specs.Tree.{Text, Tree, ref, trees_of};
+ghost use Rattle.rn_pattern.specs.View.{name_class_view, pattern_view, shared_view};
+ghost use Rattle.rn_simplify.specs.inside.Contents.{content_of, form_or, is_leaf};
 ghost use Rattle.rn_simplify.specs.inside.Parts.{list_step, parts, parts_of};
 ghost use Rattle.rn_simplify.specs.inside.Worth.{becomes};
 
@@ -13,15 +14,12 @@ use crate::list_kind::ListKind;
 use crate::rebuilt::{new_box, new_shared};
 use crate::settled::Settled;
 use crate::worth::Worth;
-use rn_pattern::Pattern;
-use rn_pattern::steps::{
-    attribute_over, datum_over, element_over, list_over, one_or_more_over, value_of,
-};
+use rn_pattern::steps::{attribute_over, datum_over, element_over, list_over, one_or_more_over};
+use rn_pattern::{NameClass, Pattern};
 use std::alloc::{AllocError, Global};
 use std::rc::Rc;
 
 /// The canonical form of a pattern.
-#[cycle(tree_form)]
 pub(crate) fn tree_form(
     alloc: Global,
     settled: &Settled<'_>,
@@ -30,68 +28,154 @@ pub(crate) fn tree_form(
     ensures { IfOk result (λ p. pattern_view p ≡ form.canonical (becomes settled.now)
         (pattern_view pattern.now)) }
 {
+    let made = form_of(alloc, settled, pattern)?;
+    form_or_copy(alloc, made, pattern)
+}
+
+/// The form, or a copy of the pattern where there is none.
+fn form_or_copy(
+    alloc: Global,
+    made: Option<Pattern>,
+    pattern: &Pattern,
+) -> Result<Pattern, AllocError>
+    ensures { IfOk result (λ p. pattern_view p ≡ form_or made (pattern_view pattern.now)) }
+{
+    match made {
+        Some(form) => Ok(form),
+        None => pattern.try_clone(alloc),
+    }
+}
+
+/// The canonical form of a pattern, or `None` where that is the pattern itself.
+#[cycle(form_of)]
+fn form_of(
+    alloc: Global,
+    settled: &Settled<'_>,
+    pattern: &Pattern,
+) -> Result<Option<Pattern>, AllocError>
+    ensures { IfOk result (λ made. form_or made (pattern_view pattern.now)
+        ≡ form.canonical (becomes settled.now) (pattern_view pattern.now)) }
+{
     match pattern {
         Pattern::NotAllowed
         | Pattern::Empty
         | Pattern::Text
         | Pattern::Ref(_)
-        | Pattern::Value(_) => leaf_form(alloc, settled, pattern),
-        Pattern::Datum(data, None) => datum_over(alloc, data, None),
+        | Pattern::Value(_) => Ok(leaf_form(settled, pattern)),
+        Pattern::Datum(_, None) => Ok(None),
         Pattern::Datum(data, Some(except)) => {
-            let except = content_form(alloc, settled, except)?;
-            datum_over(alloc, data, Some(except))
+            let made = form_of(alloc, settled, except)?;
+            let except = form_or_copy(alloc, made, except)?;
+            let form = datum_over(alloc, data, Some(new_box(alloc, except)?))?;
+            Ok(Some(form))
         }
         Pattern::List(content)
         | Pattern::Attribute(_, content)
         | Pattern::Element(_, content)
         | Pattern::OneOrMore(content) => {
-            let content = content_form(alloc, settled, content)?;
-            form_over_content(alloc, pattern, content)
+            let made = form_of(alloc, settled, content)?;
+            form_by_content(alloc, pattern, made, content)
         }
-        Pattern::Group(members) => list_form(alloc, settled, ListKind::Group, members),
-        Pattern::Interleave(members) => list_form(alloc, settled, ListKind::Interleave, members),
-        Pattern::Choice(members) => list_form(alloc, settled, ListKind::Choice, members),
+        Pattern::Group(members) => {
+            Ok(Some(list_form(alloc, settled, ListKind::Group, members)?))
+        }
+        Pattern::Interleave(members) => {
+            Ok(Some(list_form(alloc, settled, ListKind::Interleave, members)?))
+        }
+        Pattern::Choice(members) => {
+            Ok(Some(list_form(alloc, settled, ListKind::Choice, members)?))
+        }
     }
 }
 
-/// The canonical form of a pattern, in its box.
-#[cycle(tree_form)]
-fn content_form(
-    alloc: Global,
-    settled: &Settled<'_>,
-    pattern: &Pattern,
-) -> Result<Box<Pattern>, AllocError>
-    ensures { IfOk result (λ p. pattern_view p.value ≡ form.canonical (becomes settled.now)
-        (pattern_view pattern.now)) }
-{
-    new_box(alloc, tree_form(alloc, settled, pattern)?)
-}
-
-/// What a reference becomes: notAllowed or empty if its definition is worth that, else itself.
-fn reference_form(settled: &Settled<'_>, name: &String) -> Result<Pattern, AllocError>
-    ensures { IfOk result (λ p. pattern_view p ≡ becomes settled.now (string_bytes name.now)) }
+/// What a reference becomes: notAllowed or empty if its definition is worth that. It stays itself else.
+fn reference_form(settled: &Settled<'_>, name: &str) -> Option<Pattern>
+    ensures { form_or result (ref name.now) ≡ becomes settled.now name.now }
 {
     match settled.worth_of(name) {
-        Worth::NotAllowed => Ok(Pattern::NotAllowed),
-        Worth::Empty => Ok(Pattern::Empty),
-        Worth::Other => Ok(Pattern::Ref(name.clone()?)),
+        Worth::NotAllowed => Some(Pattern::NotAllowed),
+        Worth::Empty => Some(Pattern::Empty),
+        Worth::Other => None,
     }
 }
 
-/// The canonical form of a pattern that has no other pattern in it and is no datatype.
-fn leaf_form(alloc: Global, settled: &Settled<'_>, pattern: &Pattern) -> Result<Pattern, AllocError>
+/// The canonical form of a pattern that has no other pattern in it and is no datatype, or `None` where that is the pattern
+/// itself.
+fn leaf_form(settled: &Settled<'_>, pattern: &Pattern) -> Option<Pattern>
     requires { IsTrue (is_leaf (pattern_view pattern.now)) }
-    ensures { IfOk result (λ p. pattern_view p ≡ form.canonical (becomes settled.now)
-        (pattern_view pattern.now)) }
+    ensures { form_or result (pattern_view pattern.now)
+        ≡ form.canonical (becomes settled.now) (pattern_view pattern.now) }
 {
     match pattern {
-        Pattern::NotAllowed => Ok(Pattern::NotAllowed),
-        Pattern::Empty => Ok(Pattern::Empty),
-        Pattern::Text => Ok(Pattern::Text),
         Pattern::Ref(name) => reference_form(settled, name),
-        Pattern::Value(value) => value_of(alloc, value),
-        _ => unreachable!(),
+        _ => None,
     }
+}
+
+/// The canonical form of a pattern with a content, or `None` where that is the pattern itself; `made` is the content's.
+fn form_by_content(
+    alloc: Global,
+    pattern: &Pattern,
+    made: Option<Pattern>,
+    content: &Pattern,
+) -> Result<Option<Pattern>, AllocError>
+    requires { content_of (pattern_view pattern.now) ≡ Some (pattern_view content.now) }
+    ensures { (settled : Text → Tree)
+        → form_or made (pattern_view content.now)
+        ≡ form.canonical settled (pattern_view content.now)
+        → IfOk result (λ p. form_or p (pattern_view pattern.now)
+        ≡ form.canonical settled (pattern_view pattern.now)) }
+{
+    if made.is_none() && stays_over_content(pattern) {
+        return Ok(None);
+    }
+    let content = form_or_copy(alloc, made, content)?;
+    let form = form_over_content(alloc, pattern, new_box(alloc, content)?)?;
+    Ok(Some(form))
+}
+
+/// Whether a pattern with a content is its own canonical form, if the content is.
+fn stays_over_content(pattern: &Pattern) -> bool
+    ensures { (settled : Text → Tree) → IsTrue result
+        → option_map (form.canonical settled) (content_of (pattern_view pattern.now))
+        ≡ content_of (pattern_view pattern.now)
+        → form.canonical settled (pattern_view pattern.now) ≡ pattern_view pattern.now }
+{
+    match pattern {
+        Pattern::List(content) => !is_not_allowed(content),
+        Pattern::Attribute(class, content) => is_one_class(class) && !is_not_allowed(content),
+        Pattern::Element(class, _) => is_one_class(class),
+        Pattern::OneOrMore(content) => may_repeat(content),
+        _ => false,
+    }
+}
+
+/// Whether the pattern is `notAllowed`.
+fn is_not_allowed(pattern: &Pattern) -> bool
+    ensures { result ≡ form.is_not_allowed (pattern_view pattern.now) }
+{
+    matches!(pattern, Pattern::NotAllowed)
+}
+
+/// Whether a repetition of the pattern stays one (4.20 and 4.21).
+fn may_repeat(pattern: &Pattern) -> bool
+    ensures { result ≡ shape.may_repeat (pattern_view pattern.now) }
+{
+    !matches!(
+        pattern,
+        Pattern::NotAllowed | Pattern::Empty | Pattern::OneOrMore(_)
+    )
+}
+
+/// Whether the name class has no other in it, so that it is in canonical form.
+fn is_one_class(class: &NameClass) -> bool
+    ensures { IsTrue result
+        → form.canonical_name (name_class_view class.now) ≡ name_class_view class.now }
+{
+    matches!(
+        class,
+        NameClass::AnyName(None) | NameClass::NsName(_, None) | NameClass::Name(_, _)
+    )
 }
 
 /// The canonical form of a pattern with a content, over the content's.
@@ -117,7 +201,7 @@ fn form_over_content(
 
 /// The canonical form of a list of the members. All parts of it are put in order at once, however deep lists of its kind are
 /// within one another.
-#[cycle(tree_form)]
+#[cycle(form_of)]
 fn list_form(
     alloc: Global,
     settled: &Settled<'_>,
@@ -133,7 +217,7 @@ fn list_form(
 }
 
 /// Adds the canonical forms of the parts of a list of the members.
-#[cycle(tree_form)]
+#[cycle(form_of)]
 fn push_parts(
     alloc: Global,
     settled: &Settled<'_>,
@@ -146,52 +230,79 @@ fn push_parts(
         (parts kind (trees_of (map shared_view members.now)))) }
 {
     for member in members {
-        push_part(alloc, settled, kind, member, forms)?;
+        if !push_inner(alloc, settled, kind, member, forms)? {
+            let made = form_of(alloc, settled, member)?;
+            push_form(alloc, made, member, forms)?;
+        }
     }
     Ok(())
 }
 
-/// Adds the canonical forms of the parts that a member of a list is: those of a list of the same kind, of any other pattern
-/// itself.
-#[cycle(tree_form)]
-fn push_part(
+/// Adds the canonical forms of the parts of a list of the same kind, and answers whether the pattern is one. Of any other
+/// pattern, which is a part itself, nothing is added.
+#[cycle(form_of)]
+fn push_inner(
     alloc: Global,
     settled: &Settled<'_>,
     kind: ListKind,
     pattern: &Pattern,
     forms: &mut Vec<Rc<Pattern>>,
-) -> Result<(), AllocError>
-    ensures { OnOk result (map shared_view forms.new.items ≡ map shared_view forms.old.items
+) -> Result<bool, AllocError>
+    ensures { IfOk result (λ opened. map shared_view forms.new.items
+        ++ (if opened then [] else form.canonical (becomes settled.now)
+        (pattern_view pattern.now) ∷ []) ≡ map shared_view forms.old.items
         ++ map (form.canonical (becomes settled.now)) (parts_of kind (pattern_view pattern.now))) }
 {
     match kind {
         ListKind::Group => match pattern {
-            Pattern::Group(members) => push_parts(alloc, settled, kind, members, forms),
-            _ => push_whole(alloc, settled, pattern, forms),
+            Pattern::Group(members) => {
+                push_parts(alloc, settled, kind, members, forms)?;
+                Ok(true)
+            }
+            _ => Ok(false),
         },
         ListKind::Interleave => match pattern {
-            Pattern::Interleave(members) => push_parts(alloc, settled, kind, members, forms),
-            _ => push_whole(alloc, settled, pattern, forms),
+            Pattern::Interleave(members) => {
+                push_parts(alloc, settled, kind, members, forms)?;
+                Ok(true)
+            }
+            _ => Ok(false),
         },
         ListKind::Choice => match pattern {
-            Pattern::Choice(members) => push_parts(alloc, settled, kind, members, forms),
-            _ => push_whole(alloc, settled, pattern, forms),
+            Pattern::Choice(members) => {
+                push_parts(alloc, settled, kind, members, forms)?;
+                Ok(true)
+            }
+            _ => Ok(false),
         },
     }
 }
 
-/// Adds the canonical form of a pattern.
-#[cycle(tree_form)]
-fn push_whole(
+/// Adds the form of a member, or the member itself, which is shared, where there is none.
+fn push_form(
     alloc: Global,
-    settled: &Settled<'_>,
-    pattern: &Pattern,
+    made: Option<Pattern>,
+    member: &Rc<Pattern>,
     forms: &mut Vec<Rc<Pattern>>,
 ) -> Result<(), AllocError>
     ensures { OnOk result (map shared_view forms.new.items ≡ map shared_view forms.old.items
-        ++ form.canonical (becomes settled.now) (pattern_view pattern.now) ∷ []) }
+        ++ form_or made (shared_view member.now) ∷ []) }
 {
-    let form = new_shared(alloc, tree_form(alloc, settled, pattern)?)?;
+    let form = form_or_shared(alloc, made, member)?;
     forms.push(form)?;
     Ok(())
+}
+
+/// The form, or the member itself, which is shared, where there is none.
+fn form_or_shared(
+    alloc: Global,
+    made: Option<Pattern>,
+    member: &Rc<Pattern>,
+) -> Result<Rc<Pattern>, AllocError>
+    ensures { IfOk result (λ p. shared_view p ≡ form_or made (shared_view member.now)) }
+{
+    match made {
+        Some(form) => new_shared(alloc, form),
+        None => Ok(member.clone()?),
+    }
 }

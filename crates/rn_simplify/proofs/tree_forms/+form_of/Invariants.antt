@@ -4,7 +4,7 @@ use Rattle.rn_pattern.specs.Tree.{trees_of}
 use Rattle.rn_pattern.specs.View.{shared_view}
 use Rattle.rn_simplify.specs.inside.Parts.{parts}
 use Rattle.rn_simplify.specs.inside.Worth.{becomes}
-use Rattle.rn_simplify.proofs.tree_forms.+tree_form.Given as goal
+use Rattle.rn_simplify.proofs.tree_forms.+form_of.Given as goal
 
 abbrev pub invariant-push_parts-loop-member : goal.invariant-push_parts-loop-member
 invariant-push_parts-loop-member l = map shared_view l.forms.items ≡ map shared_view l.initial.forms.items
