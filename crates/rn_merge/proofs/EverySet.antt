@@ -12,8 +12,10 @@ use Rattle.rn_pattern.specs.Reached.{IsReached, IsPruned, IsCanonicalOf, all_can
 use Rattle.rn_modset.specs.Contributions.{Member}
 use Rattle.rn_modset.specs.Modules.{Module, Holds, IsEffective, IsConflict, AreEffective}
 use Rattle.rn_modset.proofs.Membership.{In, in_from_contains, contains_from_in, in_from_has}
+use Rattle.rn_syntax.specs.declared.fault.FaultKind.{FaultKind}
+use Rattle.rn_syntax.specs.Faults.{kind_rank}
 use Rattle.rn_assemble.specs.Components.{NamedModule}
-use Rattle.rn_assemble.specs.Refusal.{TextFault, fault_rank, HasTextFault, IsFaulty, Refusal, conflict, faulty, rank, IsModuleOf, AreModules, Stands, IsFirst, IsAssembled, grammar_of}
+use Rattle.rn_assemble.specs.Refusal.{HasTextFault, IsFaulty, Refusal, conflict, faulty, rank, IsModuleOf, AreModules, Stands, IsFirst, IsAssembled, grammar_of}
 use Rattle.rn_assemble.proofs.Refusals.NoLeast.{no_text}
 use Rattle.rn_simplify.specs.Spelling.{spelling}
 use Rattle.rn_simplify.specs.ReadBack.{is_too_deep}
@@ -61,12 +63,12 @@ module _ (s : List Member) where
       faultless : (x : Text) → ¬ IsFaulty texts x
       faultless = no_text (IsFaulty texts) (map (λ (m : Module). m.0) texts) faulty_name (λ x least.
           let (text, inside, (f, has)) = least.holds in
-          no_first fault_rank (HasTextFault text) (λ g h low. none (faulty g x) (texts, a, least, (text, inside, (h, low)))) f has)
+          no_first kind_rank (HasTextFault text) (λ g h low. none (faulty g x) (texts, a, least, (text, inside, (h, low)))) f has)
 
     abbrev AreTrees : List Module → List NamedModule → Type 0
     AreTrees texts modules = AllZip (λ (x : Module) (m : NamedModule). (m.name ≡ x.0) × IsModuleOf x.1 m.tree) texts modules
 
-    never_trees : (texts : List Module) → ((x : Module) → In x texts → (f : TextFault) → ¬ HasTextFault x.1 f) → ((modules : List NamedModule) → AreTrees texts modules → ⊥) → ⊥
+    never_trees : (texts : List Module) → ((x : Module) → In x texts → (f : FaultKind) → ¬ HasTextFault x.1 f) → ((modules : List NamedModule) → AreTrees texts modules → ⊥) → ⊥
     never_trees [] h lacks = lacks [] tt
     never_trees (x ∷ texts) h lacks = never_trees texts (λ y i. h y (inr i)) (λ modules are.
         faultless_good x.1 (h x (inl refl)) (λ (tokens, m, t, shallow, tree, sound).

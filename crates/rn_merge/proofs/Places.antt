@@ -9,6 +9,7 @@ use Rattle.rn_text.specs.declared.source.TextFault as reading
 use Rattle.rn_text.specs.declared.source.TextFault.TheVariants as r
 use Rattle.rn_text.proofs.Told as told
 use Rattle.rn_text.proofs.Unique.{one_token_list}
+use Rattle.rn_syntax.specs.declared.fault.FaultKind.{FaultKind}
 use Rattle.rn_syntax.specs.declared.fault.SyntaxFault.{SyntaxFault}
 use Rattle.rn_syntax.specs.declared.fault.SyntaxFault.TheVariants as s
 use Rattle.rn_syntax.specs.Terminal.{◌#◌}
@@ -16,17 +17,18 @@ use Rattle.rn_syntax.specs.Grammar.{Tokens}
 use Rattle.rn_syntax.specs.Tree.{Module}
 use Rattle.rn_syntax.specs.Tokens.{terminals}
 use Rattle.rn_syntax.specs.Fault.{HasTree, Stops}
+use Rattle.rn_syntax.specs.Faults as parsing
 use Rattle.rn_syntax.specs.Faults.{HasNoFault, IsFault, IsFaultOfTree}
 use Rattle.rn_syntax.specs.Places.{deep}
 use Rattle.rn_syntax.specs.Spelled.{AreSpelled, IsPlace, last_end}
 use Rattle.rn_syntax.proofs.OneFault as parsed
-use Rattle.rn_assemble.specs.Refusal.{TextFault, fault_rank, HasTextFault, IsFirstFault}
-use Rattle.rn_assemble.proofs.Refusals.OneSet.{one_fault}
+use Rattle.rn_assemble.specs.Refusal.{HasTextFault, IsFirstFault}
+use Rattle.rn_assemble.proofs.Refusals.OneSet.{first_fault}
 use Rattle.rn_assemble.proofs.Refusals.TextFaults.{faultless, first_lexical, first_of_tokens}
 use Rattle.rn_merge.specs.declared.texts.Place.{Place}
-use Rattle.rn_merge.specs.declared.texts.Place.TheVariants.{Encoding, Lexical, Deep, Syntax, Prefix, Builtin, ContextValue, Except, Memory}
-use Rattle.rn_merge.specs.Texts.{AreTokensOf, IsGood, HasPlace, text_place, syntax_place}
-use Rattle.rn_merge.specs.Kinds.{kind_of}
+use Rattle.rn_merge.specs.declared.texts.Place.TheVariants.{Encoding, Lexical, Memory}
+use Rattle.rn_merge.specs.Texts.{AreTokensOf, IsGood, HasSyntaxFault, HasPlace, kind_and_place, text_place, syntax_place}
+use Rattle.rn_merge.specs.Kinds.{kind_alone, kind_of}
 use Rattle.rn_merge.proofs.Checked.{tokens_of, placed}
 
 -- ---- tokens of a text, as those of a source
@@ -66,11 +68,8 @@ module _ (xs ys : List Token) (spelled : AreSpelled xs) (same : map lexeme_of xs
     subst (λ (ts : Tokens). deep 0 ts ≡ None) alike d,
     λ _. let found = stops spelled in (found.0, subst (λ (ts : Tokens). Stops ts found.0) alike found.1, place_moved found.0 at found.2),
   )
-  moved (s.Prefix at) h = tree_moved (s.Prefix at) h
-  moved (s.Builtin at) h = tree_moved (s.Builtin at) h
-  moved (s.ContextValue at) h = tree_moved (s.ContextValue at) h
-  moved (s.Except at) h = tree_moved (s.Except at) h
   moved s.Memory h = tt
+  moved e h = tree_moved e h
 
 -- ---- the side that a fault is of
 
@@ -91,13 +90,8 @@ record OfTokens (text : List ℕ) (place : Place) : Type 0 where
 of_side : (text : List ℕ) (place : Place) → HasPlace text place → place ≢ Memory → OfBytes text place ⊎ OfTokens text place
 of_side text (Encoding at) h n = inl (record { fault = r.Encoding at; has = h; some = λ e. cc; is = refl })
 of_side text (Lexical at) h n = inl (record { fault = r.Lexical at; has = h; some = λ e. cc; is = refl })
-of_side text (Deep at) (xs, t, h) n = inr (record { tokens = xs; are = t; fault = s.Deep at; has = h; some = λ e. cc; is = refl })
-of_side text (Syntax at) (xs, t, h) n = inr (record { tokens = xs; are = t; fault = s.Syntax at; has = h; some = λ e. cc; is = refl })
-of_side text (Prefix at) (xs, t, h) n = inr (record { tokens = xs; are = t; fault = s.Prefix at; has = h; some = λ e. cc; is = refl })
-of_side text (Builtin at) (xs, t, h) n = inr (record { tokens = xs; are = t; fault = s.Builtin at; has = h; some = λ e. cc; is = refl })
-of_side text (ContextValue at) (xs, t, h) n = inr (record { tokens = xs; are = t; fault = s.ContextValue at; has = h; some = λ e. cc; is = refl })
-of_side text (Except at) (xs, t, h) n = inr (record { tokens = xs; are = t; fault = s.Except at; has = h; some = λ e. cc; is = refl })
 of_side text Memory h n = absurd (n refl)
+of_side text place (xs, t, f, is, h) n = inr (record { tokens = xs; are = t; fault = f; has = h; some = λ e. n (sym is ∙ ap syntax_place e); is = sym is })
 
 -- what has tokens has no fault of its bytes
 not_of_bytes : (text : List ℕ) (place : Place) (xs : List Token) → AreTokensOf text xs → ¬ OfBytes text place
@@ -118,15 +112,8 @@ pub one_place : (text : List ℕ) (place other : Place) → HasPlace text place 
 one_place text place other x y p q = one_side text place other (of_side text place x p) (of_side text other y q)
 
 memory_by : (place : Place) → ((place ≢ Memory) → ⊥) → place ≡ Memory
-memory_by (Encoding at) h = absurd (h (λ e. cc))
-memory_by (Lexical at) h = absurd (h (λ e. cc))
-memory_by (Deep at) h = absurd (h (λ e. cc))
-memory_by (Syntax at) h = absurd (h (λ e. cc))
-memory_by (Prefix at) h = absurd (h (λ e. cc))
-memory_by (Builtin at) h = absurd (h (λ e. cc))
-memory_by (ContextValue at) h = absurd (h (λ e. cc))
-memory_by (Except at) h = absurd (h (λ e. cc))
 memory_by Memory h = refl
+memory_by place h = absurd (h (λ e. cc))
 
 good_side : (text : List ℕ) (place : Place) → IsGood text → OfBytes text place ⊎ OfTokens text place → ⊥
 good_side text place (xs, m, t, d, tree, none) (inl b) = not_of_bytes text place xs t b
@@ -144,13 +131,8 @@ bytes_memory (r.Lexical at) e = cc
 bytes_memory r.Memory e = refl
 
 syntax_memory : (f : SyntaxFault) → syntax_place f ≡ Memory → f ≡ s.Memory
-syntax_memory (s.Deep at) e = cc
-syntax_memory (s.Syntax at) e = cc
-syntax_memory (s.Prefix at) e = cc
-syntax_memory (s.Builtin at) e = cc
-syntax_memory (s.ContextValue at) e = cc
-syntax_memory (s.Except at) e = cc
 syntax_memory s.Memory e = refl
+syntax_memory f e = cc
 
 bytes_placed : (text : List ℕ) (f : reading.TextFault) → lexed.HasFault text f → HasPlace text (text_place f)
 bytes_placed text (r.Encoding at) h = h
@@ -173,50 +155,44 @@ module _ (text : List ℕ) (bad : ¬ IsGood text) (none : (place : Place) → Ha
 
 -- ---- the kinds that refuse a module
 
-pub good : (text : List ℕ) → IsGood text → (fault : TextFault) → ¬ HasTextFault text fault
+pub good : (text : List ℕ) → IsGood text → (fault : FaultKind) → ¬ HasTextFault text fault
 good text (xs, m, t, d, tree, none) fault = (faultless text t.utf8 (map lexeme_of xs) t.are d m tree none).faultless fault
+
+-- the kind of a place is that of its fault
+its_kind : (f : SyntaxFault) → kind_and_place (syntax_place f) ≡ parsing.kind_and_place f
+its_kind s.Memory = refl
+its_kind f = refl
+
+kind_told : (P : FaultKind → Type 0) (o : Option (FaultKind × ℕ)) → IfSome o (λ k. P k.0) → IfSome (kind_alone o) P
+kind_told P None h = tt
+kind_told P (Some k) h = h
+
+first_of : (text : List ℕ) (place : Place) → HasSyntaxFault text place → IfSome (kind_of place) (IsFirstFault text)
+first_of text place (xs, t, f, is, h) = subst (λ p. IfSome (kind_of p) (IsFirstFault text)) is
+    (subst (λ o. IfSome (kind_alone o) (IsFirstFault text)) (sym (its_kind f)) (kind_told (IsFirstFault text) (parsing.kind_and_place f) (first_of_tokens text xs t.utf8 t.are f h)))
 
 pub first : (text : List ℕ) (place : Place) → HasPlace text place → IfSome (kind_of place) (IsFirstFault text)
 first text (Encoding at) h = (h.0, λ g lower. absurd (omega (arith, lower)))
 first text (Lexical at) h = first_lexical text h.0 at h.1
-first text (Deep at) (xs, t, h) = first_of_tokens text xs t.utf8 t.are (s.Deep at) h
-first text (Syntax at) (xs, t, h) = first_of_tokens text xs t.utf8 t.are (s.Syntax at) h
-first text (Prefix at) (xs, t, h) = first_of_tokens text xs t.utf8 t.are (s.Prefix at) h
-first text (Builtin at) (xs, t, h) = first_of_tokens text xs t.utf8 t.are (s.Builtin at) h
-first text (ContextValue at) (xs, t, h) = first_of_tokens text xs t.utf8 t.are (s.ContextValue at) h
-first text (Except at) (xs, t, h) = first_of_tokens text xs t.utf8 t.are (s.Except at) h
 first text Memory h = tt
+first text place h = first_of text place h
 
 no_kind : (place : Place) → kind_of place ≡ None → place ≡ Memory
-no_kind (Encoding at) e = cc
-no_kind (Lexical at) e = cc
-no_kind (Deep at) e = cc
-no_kind (Syntax at) e = cc
-no_kind (Prefix at) e = cc
-no_kind (Builtin at) e = cc
-no_kind (ContextValue at) e = cc
-no_kind (Except at) e = cc
 no_kind Memory e = refl
+no_kind place e = cc
 
 -- a text without such faults has no place
-lacks_place : (text : List ℕ) (place : Place) → ((fault : TextFault) → ¬ HasTextFault text fault) → (k : Option TextFault) → kind_of place ≡ k → IfSome k (IsFirstFault text) → place ≡ Memory
+lacks_place : (text : List ℕ) (place : Place) → ((fault : FaultKind) → ¬ HasTextFault text fault) → (k : Option FaultKind) → kind_of place ≡ k → IfSome k (IsFirstFault text) → place ≡ Memory
 lacks_place text place none None e h = no_kind place e
 lacks_place text place none (Some f) e h = absurd (none f h.0)
 
-pub faultless_good : (text : List ℕ) → ((fault : TextFault) → ¬ HasTextFault text fault) → ¬ (¬ IsGood text)
+pub faultless_good : (text : List ℕ) → ((fault : FaultKind) → ¬ HasTextFault text fault) → ¬ (¬ IsGood text)
 faultless_good text none bad = never_neither text bad (λ place h. lacks_place text place none (kind_of place) refl (first text place h))
 
--- a text has one first fault
-one_first : (text : List ℕ) (f g : TextFault) → IsFirstFault text f → IsFirstFault text g → f ≡ g
-one_first text f g x y = elim (cases_order (fault_rank f) (fault_rank g)) [
-  | inl same ↦ one_fault f g same
-  | inr other ↦ elim other [ inl lower ↦ absurd (y.1 f lower x.0) | inr higher ↦ absurd (x.1 g higher y.0) ]
-]
-
-other_place : (text : List ℕ) (fault : TextFault) (place : Place) → IsFirstFault text fault → kind_of place ≢ Some fault → (k : Option TextFault) → kind_of place ≡ k → IfSome k (IsFirstFault text) → place ≡ Memory
+other_place : (text : List ℕ) (fault : FaultKind) (place : Place) → IsFirstFault text fault → kind_of place ≢ Some fault → (k : Option FaultKind) → kind_of place ≡ k → IfSome k (IsFirstFault text) → place ≡ Memory
 other_place text fault place x n None e h = no_kind place e
-other_place text fault place x n (Some g) e h = absurd (n (e ∙ ap Some (one_first text g fault h x)))
+other_place text fault place x n (Some g) e h = absurd (n (e ∙ ap Some (first_fault text g fault h x)))
 
-pub first_placed : (text : List ℕ) (fault : TextFault) → IsFirstFault text fault → ¬ ((place : Place) → HasPlace text place → kind_of place ≢ Some fault)
+pub first_placed : (text : List ℕ) (fault : FaultKind) → IsFirstFault text fault → ¬ ((place : Place) → HasPlace text place → kind_of place ≢ Some fault)
 first_placed text fault x none = never_neither text (λ is_good. good text is_good fault x.0)
     (λ place h. other_place text fault place x (none place h) (kind_of place) refl (first text place h))

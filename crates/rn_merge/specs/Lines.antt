@@ -8,9 +8,13 @@ use Rattle.rn_modset.specs.Contributions.{Member}
 use Rattle.rn_modset.specs.Bundles.{spaced, digest}
 use Rattle.rn_modset.specs.declared.faults.AddFault.{AddFault}
 use Rattle.rn_modset.specs.declared.faults.BundleFault.{BundleFault}
+use Rattle.rn_syntax.specs.declared.fault.FaultKind.{FaultKind}
+use Rattle.rn_syntax.specs.Faults.{kind_name}
 use Rattle.rn_assemble.specs.declared.refusal.Key.{Key}
 use Rattle.rn_assemble.specs.declared.refusal.Refusal.{Refusal}
+use Rattle.rn_assemble.specs.Refused.{fault_of}
 use Rattle.rn_merge.specs.declared.texts.Place.{Place}
+use Rattle.rn_merge.specs.Texts.{kind_and_place}
 use Rattle.rn_merge.specs.declared.words.ProgramFault.{ProgramFault}
 use Rattle.rn_modset.specs.declared.faults.AddFault.TheVariants as adding
 use Rattle.rn_modset.specs.declared.faults.BundleFault.TheVariants as reading
@@ -29,16 +33,13 @@ key_text (Define name) = identifier (string_bytes name)
 
 -- ---- refusals: the name, and the fields behind it
 
+-- where the text of a module is refused, of the kind of its fault
+abbrev pub fault_name : Option (FaultKind × List ℕ) → List ℕ
+fault_name (Some fault) = kind_name fault.0
+fault_name None = []
+
 abbrev pub refusal_name : Refusal → List ℕ
 refusal_name (refusing.Conflict m revision) = codes "Conflict"
-refusal_name (refusing.Encoding m) = codes "Encoding"
-refusal_name (refusing.Lexical m) = codes "Lexical"
-refusal_name (refusing.Deep m) = codes "Deep"
-refusal_name (refusing.Syntax m) = codes "Syntax"
-refusal_name (refusing.Prefix m) = codes "Prefix"
-refusal_name (refusing.Builtin m) = codes "Builtin"
-refusal_name (refusing.ContextValue m) = codes "ContextValue"
-refusal_name (refusing.Except m) = codes "Except"
 refusal_name (refusing.Missing m wanted) = codes "Missing"
 refusal_name (refusing.Cycle m) = codes "Cycle"
 refusal_name refusing.Instances = codes "Instances"
@@ -52,31 +53,30 @@ refusal_name (refusing.NameClass key) = codes "NameClass"
 refusal_name refusing.OutputTooLarge = codes "OutputTooLarge"
 refusal_name refusing.OutputTooDeep = codes "OutputTooDeep"
 refusal_name refusing.Memory = codes "Memory"
+refusal_name refusal = fault_name (fault_of refusal)
+
+-- the module whose text is refused
+abbrev pub fault_fields : Option (FaultKind × List ℕ) → List (List ℕ)
+fault_fields (Some fault) = fault.1 ∷ []
+fault_fields None = []
 
 -- a key is `start` or an identifier, a wanted name is a literal
 abbrev pub refusal_fields : Refusal → List (List ℕ)
 refusal_fields (refusing.Conflict m revision) = string_bytes m ∷ decimal revision ∷ []
-refusal_fields (refusing.Encoding m) = string_bytes m ∷ []
-refusal_fields (refusing.Lexical m) = string_bytes m ∷ []
-refusal_fields (refusing.Deep m) = string_bytes m ∷ []
-refusal_fields (refusing.Syntax m) = string_bytes m ∷ []
-refusal_fields (refusing.Prefix m) = string_bytes m ∷ []
-refusal_fields (refusing.Builtin m) = string_bytes m ∷ []
-refusal_fields (refusing.ContextValue m) = string_bytes m ∷ []
-refusal_fields (refusing.Except m) = string_bytes m ∷ []
 refusal_fields (refusing.Missing m wanted) = string_bytes m ∷ literal_bytes (string_bytes wanted) ∷ []
 refusal_fields (refusing.Cycle m) = string_bytes m ∷ []
-refusal_fields refusing.Instances = []
 refusal_fields (refusing.Override m key) = string_bytes m ∷ key_text key ∷ []
 refusal_fields (refusing.PlainTwice key) = key_text key ∷ []
 refusal_fields (refusing.MixedMethods key) = key_text key ∷ []
-refusal_fields refusing.NoStart = []
 refusal_fields (refusing.Undefined name) = identifier (string_bytes name) ∷ []
 refusal_fields (refusing.Recursive name) = identifier (string_bytes name) ∷ []
 refusal_fields (refusing.NameClass key) = key_text key ∷ []
+refusal_fields refusing.Instances = []
+refusal_fields refusing.NoStart = []
 refusal_fields refusing.OutputTooLarge = []
 refusal_fields refusing.OutputTooDeep = []
 refusal_fields refusing.Memory = []
+refusal_fields refusal = fault_fields (fault_of refusal)
 
 -- one space between the name and each field
 abbrev pub refusal_line : Refusal → List ℕ
@@ -115,16 +115,12 @@ bundle_line n reading.Truncated = spaced (codes "bundle" ∷ decimal n ∷ codes
 bundle_line n reading.Trailing = spaced (codes "bundle" ∷ decimal n ∷ codes "Trailing" ∷ [])
 bundle_line n reading.Memory = codes "Memory"
 
+abbrev pub line_or_memory : Option (FaultKind × ℕ) → List ℕ
+line_or_memory (Some fault) = spaced (kind_name fault.0 ∷ decimal fault.1 ∷ [])
+line_or_memory None = codes "Memory"
+
 abbrev pub place_line : Place → List ℕ
-place_line (placing.Encoding at) = spaced (codes "Encoding" ∷ decimal at ∷ [])
-place_line (placing.Lexical at) = spaced (codes "Lexical" ∷ decimal at ∷ [])
-place_line (placing.Deep at) = spaced (codes "Deep" ∷ decimal at ∷ [])
-place_line (placing.Syntax at) = spaced (codes "Syntax" ∷ decimal at ∷ [])
-place_line (placing.Prefix at) = spaced (codes "Prefix" ∷ decimal at ∷ [])
-place_line (placing.Builtin at) = spaced (codes "Builtin" ∷ decimal at ∷ [])
-place_line (placing.ContextValue at) = spaced (codes "ContextValue" ∷ decimal at ∷ [])
-place_line (placing.Except at) = spaced (codes "Except" ∷ decimal at ∷ [])
-place_line placing.Memory = codes "Memory"
+place_line place = line_or_memory (kind_and_place place)
 
 abbrev pub fault_line : ProgramFault → List ℕ
 fault_line failing.Usage = codes "usage"

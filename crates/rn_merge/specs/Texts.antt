@@ -1,13 +1,15 @@
 -- The fault of a module text and its place (RELAX NG Compact Syntax, 2 and appendix A).
-use Rattle.std.specs.Prelude.{◌≡◌, ℕ, List, None, map}
+use Rattle.std.specs.Prelude.{◌≡◌, ℕ, List, Option, Some, None, map}
 use Rattle.std.specs.Str.{IsUtf8, chars}
 use Rattle.rn_text.specs.Tokens.{HasTokens, HasFault, lexeme_of}
 use Rattle.rn_text.specs.declared.source.Token.{Token}
 use Rattle.rn_text.specs.declared.source.TextFault.{TextFault}
 use Rattle.rn_text.specs.declared.source.TextFault.TheVariants as reading
+use Rattle.rn_syntax.specs.declared.fault.FaultKind.{FaultKind}
+use Rattle.rn_syntax.specs.declared.fault.FaultKind.TheVariants as kind
 use Rattle.rn_syntax.specs.declared.fault.SyntaxFault.{SyntaxFault}
-use Rattle.rn_syntax.specs.declared.fault.SyntaxFault.TheVariants as parsing
 use Rattle.rn_syntax.specs.Fault.{HasTree}
+use Rattle.rn_syntax.specs.Faults as parsing
 use Rattle.rn_syntax.specs.Faults.{HasNoFault, IsFault}
 use Rattle.rn_syntax.specs.Places.{deep}
 use Rattle.rn_syntax.specs.Spelled.{AreSpelled}
@@ -27,9 +29,29 @@ abbrev pub IsGood : List ℕ → Type 0
 IsGood text = (tokens : List Token) × (m : Module) × AreTokensOf text tokens × (deep 0 (terminals (map lexeme_of tokens)) ≡ None)
     × HasTree (terminals (map lexeme_of tokens)) m × HasNoFault m
 
--- the tokens of the text have the fault, and none that is looked for before it
-abbrev pub HasSyntaxFault : List ℕ → SyntaxFault → Type 0
-HasSyntaxFault text fault = (tokens : List Token) × AreTokensOf text tokens × IsFault tokens fault
+-- ---- kinds of faults and their places
+
+abbrev pub place_of : FaultKind → ℕ → Place
+place_of kind.Encoding at = Encoding at
+place_of kind.Lexical at = Lexical at
+place_of kind.Deep at = Deep at
+place_of kind.Syntax at = Syntax at
+place_of kind.Prefix at = Prefix at
+place_of kind.Builtin at = Builtin at
+place_of kind.ContextValue at = ContextValue at
+place_of kind.Except at = Except at
+
+-- want of memory is of no kind
+abbrev pub kind_and_place : Place → Option (FaultKind × ℕ)
+kind_and_place (Encoding at) = Some (kind.Encoding, at)
+kind_and_place (Lexical at) = Some (kind.Lexical, at)
+kind_and_place (Deep at) = Some (kind.Deep, at)
+kind_and_place (Syntax at) = Some (kind.Syntax, at)
+kind_and_place (Prefix at) = Some (kind.Prefix, at)
+kind_and_place (Builtin at) = Some (kind.Builtin, at)
+kind_and_place (ContextValue at) = Some (kind.ContextValue, at)
+kind_and_place (Except at) = Some (kind.Except, at)
+kind_and_place Memory = None
 
 -- the place of a fault of the bytes or the tokens
 abbrev pub text_place : TextFault → Place
@@ -37,24 +59,23 @@ text_place (reading.Encoding at) = Encoding at
 text_place (reading.Lexical at) = Lexical at
 text_place reading.Memory = Memory
 
+abbrev pub place_or_memory : Option (FaultKind × ℕ) → Place
+place_or_memory (Some k) = place_of k.0 k.1
+place_or_memory None = Memory
+
 -- the place of a fault of the grammar
 abbrev pub syntax_place : SyntaxFault → Place
-syntax_place (parsing.Deep at) = Deep at
-syntax_place (parsing.Syntax at) = Syntax at
-syntax_place (parsing.Prefix at) = Prefix at
-syntax_place (parsing.Builtin at) = Builtin at
-syntax_place (parsing.ContextValue at) = ContextValue at
-syntax_place (parsing.Except at) = Except at
-syntax_place parsing.Memory = Memory
+syntax_place fault = place_or_memory (parsing.kind_and_place fault)
+
+-- ---- the fault of a text
+
+-- the tokens of the text have the fault of this place, and none that is looked for before it
+abbrev pub HasSyntaxFault : List ℕ → Place → Type 0
+HasSyntaxFault text place = (tokens : List Token) × AreTokensOf text tokens × (fault : SyntaxFault) × (syntax_place fault ≡ place) × IsFault tokens fault
 
 -- the text has the fault at the place
 abbrev pub HasPlace : List ℕ → Place → Type 0
 HasPlace text (Encoding at) = HasFault text (reading.Encoding at)
 HasPlace text (Lexical at) = HasFault text (reading.Lexical at)
-HasPlace text (Deep at) = HasSyntaxFault text (parsing.Deep at)
-HasPlace text (Syntax at) = HasSyntaxFault text (parsing.Syntax at)
-HasPlace text (Prefix at) = HasSyntaxFault text (parsing.Prefix at)
-HasPlace text (Builtin at) = HasSyntaxFault text (parsing.Builtin at)
-HasPlace text (ContextValue at) = HasSyntaxFault text (parsing.ContextValue at)
-HasPlace text (Except at) = HasSyntaxFault text (parsing.Except at)
 HasPlace text Memory = Unit {0}
+HasPlace text place = HasSyntaxFault text place

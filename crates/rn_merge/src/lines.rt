@@ -21,20 +21,12 @@ pub fn refusal_line(alloc: Global, refusal: &Refusal) -> Result<String, AllocErr
     Ok(line)
 }
 
-/// The name of a refusal.
+/// The name of a refusal: where the text of a module is refused, of the kind of its fault.
 fn refusal_name(refusal: &Refusal) -> &'static str
     ensures { result.now ≡ refusal_name refusal.now }
 {
     match refusal {
         Refusal::Conflict { .. } => "Conflict",
-        Refusal::Encoding { .. } => "Encoding",
-        Refusal::Lexical { .. } => "Lexical",
-        Refusal::Deep { .. } => "Deep",
-        Refusal::Syntax { .. } => "Syntax",
-        Refusal::Prefix { .. } => "Prefix",
-        Refusal::Builtin { .. } => "Builtin",
-        Refusal::ContextValue { .. } => "ContextValue",
-        Refusal::Except { .. } => "Except",
         Refusal::Missing { .. } => "Missing",
         Refusal::Cycle { .. } => "Cycle",
         Refusal::Instances => "Instances",
@@ -48,6 +40,10 @@ fn refusal_name(refusal: &Refusal) -> &'static str
         Refusal::OutputTooLarge => "OutputTooLarge",
         Refusal::OutputTooDeep => "OutputTooDeep",
         Refusal::Memory => "Memory",
+        _ => match refusal.fault() {
+            Some((kind, _)) => kind.name(),
+            None => unreachable!(),
+        },
     }
 }
 
@@ -61,15 +57,7 @@ fn push_fields(line: &mut String, refusal: &Refusal) -> Result<(), AllocError>
             push_word(line, module.as_str())?;
             write!(line, " {revision}")
         }
-        Refusal::Encoding { module }
-        | Refusal::Lexical { module }
-        | Refusal::Deep { module }
-        | Refusal::Syntax { module }
-        | Refusal::Prefix { module }
-        | Refusal::Builtin { module }
-        | Refusal::ContextValue { module }
-        | Refusal::Except { module }
-        | Refusal::Cycle { module } => push_word(line, module.as_str()),
+        Refusal::Cycle { module } => push_word(line, module.as_str()),
         Refusal::Missing { module, wanted } => {
             push_word(line, module.as_str())?;
             line.push_str(" ")?;
@@ -90,6 +78,10 @@ fn push_fields(line: &mut String, refusal: &Refusal) -> Result<(), AllocError>
         | Refusal::OutputTooLarge
         | Refusal::OutputTooDeep
         | Refusal::Memory => Ok(()),
+        _ => match refusal.fault() {
+            Some((_, module)) => push_word(line, module),
+            None => unreachable!(),
+        },
     }
 }
 
@@ -187,16 +179,12 @@ fn add_fault_name(fault: &AddFault) -> &'static str
 fn place_line(alloc: Global, place: &Place) -> Result<String, AllocError>
     ensures { IfOk result (λ line. string_bytes line ≡ place_line place.now) }
 {
-    match place {
-        Place::Encoding { at } => format!(in alloc; "Encoding {at}"),
-        Place::Lexical { at } => format!(in alloc; "Lexical {at}"),
-        Place::Deep { at } => format!(in alloc; "Deep {at}"),
-        Place::Syntax { at } => format!(in alloc; "Syntax {at}"),
-        Place::Prefix { at } => format!(in alloc; "Prefix {at}"),
-        Place::Builtin { at } => format!(in alloc; "Builtin {at}"),
-        Place::ContextValue { at } => format!(in alloc; "ContextValue {at}"),
-        Place::Except { at } => format!(in alloc; "Except {at}"),
-        Place::Memory => String::from_str(alloc, "Memory"),
+    match place.kind_and_place() {
+        Some((kind, at)) => {
+            let name = kind.name();
+            format!(in alloc; "{name} {at}")
+        }
+        None => String::from_str(alloc, "Memory"),
     }
 }
 

@@ -1,6 +1,7 @@
 // Laws of module texts. The functions have no bodies: their contracts are what is proved.
 ghost use Rattle.std.specs.Prelude.{◌≡◌, ◌≢◌, ℕ, List, Some, IfSome};
-ghost use Rattle.rn_assemble.specs.Refusal.{HasTextFault, IsFirstFault, TextFault};
+ghost use Rattle.rn_syntax.specs.declared.fault.FaultKind.{FaultKind};
+ghost use Rattle.rn_assemble.specs.Refusal.{HasTextFault, IsFirstFault};
 ghost use Rattle.rn_merge.specs.Kinds.{kind_of};
 ghost use Rattle.rn_merge.specs.Texts.{HasPlace, IsGood};
 
@@ -23,11 +24,11 @@ pub fn texts_are_good_or_have_one_place()
 /// a text has no such fault and is not good, or that no place has the kind of its first fault, is
 /// impossible.
 pub fn checked_texts_are_merged()
-    ensures good { (text : List ℕ) → IsGood text → (fault : TextFault) → ¬ HasTextFault text fault }
-    ensures faultless { (text : List ℕ) → ((fault : TextFault) → ¬ HasTextFault text fault)
+    ensures good { (text : List ℕ) → IsGood text → (fault : FaultKind) → ¬ HasTextFault text fault }
+    ensures faultless { (text : List ℕ) → ((fault : FaultKind) → ¬ HasTextFault text fault)
         → ¬ (¬ IsGood text) }
     ensures first { (text : List ℕ) (place : Place)
         → HasPlace text place → IfSome (kind_of place) (IsFirstFault text) }
-    ensures placed { (text : List ℕ) (fault : TextFault) → IsFirstFault text fault
+    ensures placed { (text : List ℕ) (fault : FaultKind) → IsFirstFault text fault
         → ¬ ((place : Place) → HasPlace text place → kind_of place ≢ Some fault) }
 {}

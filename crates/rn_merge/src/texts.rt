@@ -1,8 +1,8 @@
 // The fault of one module text.
-ghost use Rattle.std.specs.Prelude.{OnOk, IfErr};
-ghost use Rattle.rn_merge.specs.Texts.{IsGood, HasPlace};
+ghost use Rattle.std.specs.Prelude.{◌≡◌, OnOk, IfErr};
+ghost use Rattle.rn_merge.specs.Texts.{IsGood, HasPlace, kind_and_place, place_of};
 
-use rn_syntax::{SyntaxFault, parse};
+use rn_syntax::{FaultKind, SyntaxFault, parse};
 use rn_text::{TextFault, tokens};
 use std::alloc::Global;
 use thiserror::Error;
@@ -45,8 +45,43 @@ pub enum Place {
     Memory,
 }
 
+impl Place {
+    /// The fault of a kind at a place.
+    pub fn of(kind: FaultKind, at: usize) -> Self
+        ensures { result ≡ place_of kind at }
+    {
+        match kind {
+            FaultKind::Encoding => Place::Encoding { at },
+            FaultKind::Lexical => Place::Lexical { at },
+            FaultKind::Deep => Place::Deep { at },
+            FaultKind::Syntax => Place::Syntax { at },
+            FaultKind::Prefix => Place::Prefix { at },
+            FaultKind::Builtin => Place::Builtin { at },
+            FaultKind::ContextValue => Place::ContextValue { at },
+            FaultKind::Except => Place::Except { at },
+        }
+    }
+
+    /// The kind of the fault and its place in bytes from the start of the text. None where memory
+    /// was refused.
+    pub fn kind_and_place(&self) -> Option<(FaultKind, usize)>
+        ensures { result ≡ kind_and_place self.now }
+    {
+        match self {
+            Place::Encoding { at } => Some((FaultKind::Encoding, *at)),
+            Place::Lexical { at } => Some((FaultKind::Lexical, *at)),
+            Place::Deep { at } => Some((FaultKind::Deep, *at)),
+            Place::Syntax { at } => Some((FaultKind::Syntax, *at)),
+            Place::Prefix { at } => Some((FaultKind::Prefix, *at)),
+            Place::Builtin { at } => Some((FaultKind::Builtin, *at)),
+            Place::ContextValue { at } => Some((FaultKind::ContextValue, *at)),
+            Place::Except { at } => Some((FaultKind::Except, *at)),
+            Place::Memory => None,
+        }
+    }
+}
+
 impl From<TextFault> for Place {
-    ghost use Rattle.std.specs.Prelude.{◌≡◌};
     ghost use Rattle.rn_merge.specs.Texts.{text_place};
 
     ghost from_gives = { λ fault place. place ≡ text_place fault };
@@ -61,20 +96,14 @@ impl From<TextFault> for Place {
 }
 
 impl From<SyntaxFault> for Place {
-    ghost use Rattle.std.specs.Prelude.{◌≡◌};
     ghost use Rattle.rn_merge.specs.Texts.{syntax_place};
 
     ghost from_gives = { λ fault place. place ≡ syntax_place fault };
 
     fn from(fault: SyntaxFault) -> Self {
-        match fault {
-            SyntaxFault::Deep { at } => Place::Deep { at },
-            SyntaxFault::Syntax { at } => Place::Syntax { at },
-            SyntaxFault::Prefix { at } => Place::Prefix { at },
-            SyntaxFault::Builtin { at } => Place::Builtin { at },
-            SyntaxFault::ContextValue { at } => Place::ContextValue { at },
-            SyntaxFault::Except { at } => Place::Except { at },
-            SyntaxFault::Memory => Place::Memory,
+        match fault.kind_and_place() {
+            Some((kind, at)) => Place::of(kind, at),
+            None => Place::Memory,
         }
     }
 }

@@ -17,17 +17,16 @@ pub const MEMORY: &str = "out of memory";
 
 /// The byte where a text is at fault; the first one where memory did not suffice.
 pub fn place_at(place: &Place) -> usize {
-    match place {
-        Place::Encoding { at }
-        | Place::Lexical { at }
-        | Place::Deep { at }
-        | Place::Syntax { at }
-        | Place::Prefix { at }
-        | Place::Builtin { at }
-        | Place::ContextValue { at }
-        | Place::Except { at } => *at,
-        Place::Memory => 0,
-    }
+    place.kind_and_place().map_or(0, |(_, at)| at)
+}
+
+/// Whether the fault is one of prefixes, datatypes and values. The others are found when a file is read, or are none in the
+/// whole language.
+pub fn is_of_meaning(place: &Place) -> bool {
+    matches!(
+        place,
+        Place::Prefix { .. } | Place::Builtin { .. } | Place::ContextValue { .. }
+    )
 }
 
 /// What is wrong with a text.

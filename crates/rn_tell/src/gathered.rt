@@ -3,7 +3,7 @@
 ghost use Rattle.std.specs.Prelude.{IfOk};
 ghost use Rattle.rn_tell.specs.Messages.{IsFew};
 
-use crate::check_sentences::{check_sentence, place_at};
+use crate::check_sentences::{check_sentence, is_of_meaning, place_at};
 use crate::fault_messages::{lift_message, lift_spot, reading_message, reading_spot};
 use crate::report::{Message, Page, Spot, Told, attempt_pages, source_pages};
 use rn_files::{Reading, SourceFault, SourceFile};
@@ -80,15 +80,6 @@ fn fault_of(alloc: Global, text: &str) -> Result<Option<Place>, AllocError> {
         Err(Place::Memory) => Err(AllocError),
         Err(place) => Ok(Some(place)),
     }
-}
-
-/// Whether the fault is one of prefixes, datatypes and values. The others are found when a file is read, or are none in the
-/// whole language.
-fn is_of_meaning(place: &Place) -> bool {
-    matches!(
-        place,
-        Place::Prefix { .. } | Place::Builtin { .. } | Place::ContextValue { .. }
-    )
 }
 
 /// Messages of the first faults in order.

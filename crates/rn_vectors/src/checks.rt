@@ -187,17 +187,7 @@ fn large_texts_have_their_fault_at_the_end(rt: HostRuntime) {
 
 /// The place of a fault.
 fn place(fault: &Place) -> usize {
-    match fault {
-        Place::Encoding { at }
-        | Place::Lexical { at }
-        | Place::Deep { at }
-        | Place::Syntax { at }
-        | Place::Prefix { at }
-        | Place::Builtin { at }
-        | Place::ContextValue { at }
-        | Place::Except { at } => *at,
-        Place::Memory => usize::MAX,
-    }
+    fault.kind_and_place().map_or(usize::MAX, |(_, at)| at)
 }
 
 /// The length of the first front of a text that is refused at a place behind it, or otherwise than with status 1.
