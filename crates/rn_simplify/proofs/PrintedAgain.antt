@@ -52,7 +52,7 @@ module _ (one_tree : (ts : Tokens) (m n : t.Module) → HasTree ts m → HasTree
     no_fault kind.Lexical (u, h) = h r.tokens r.has_tokens
     no_fault kind.Deep (u, (ts, has, e)) = false≢true (sym shallow ∙ r.shallow ∙ ap (λ l. is_some (deep 0 (terminals l))) (sym (same_tokens ts has)) ∙ e)
     no_fault kind.Syntax (u, (ts, has, none)) = none r.tree (subst (λ l. HasTree (terminals l) r.tree) (sym (same_tokens ts has)) r.has_tree)
-    no_fault k (m, is, some) = some (ap (kind_places k) (same_tree m is) ∙ no_places r.tree r.no_prefix r.no_builtin r.no_context r.no_except k)
+    no_fault k h = h.2 (ap (kind_places k) (same_tree h.0 h.1) ∙ no_places r.tree r.no_prefix r.no_builtin r.no_context r.no_except k)
 
     module _ (x : Text) where
       abbrev texts : List effective.Module
