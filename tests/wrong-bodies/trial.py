@@ -38,31 +38,29 @@ def command(crate):
 
 
 def cycles(crate):
-    """The cycles of calls that functions of a name are in, each with the names of all functions in it, by that name."""
-    found = collections.defaultdict(dict)
+    """The cycle of calls that a function is in, by its module and its name."""
+    found = {}
     for at, _, names in os.walk(f"{TOP}/crates/{crate}/src"):
         for name in names:
             with open(f"{at}/{name}", encoding="utf-8") as file:
-                members = IN_CYCLE.findall(file.read())
-            for cycle, one in members:
-                found[one].setdefault(cycle, set()).update(other for of, other in members if of == cycle)
+                found.update({(os.path.splitext(name)[0], one): cycle for cycle, one in IN_CYCLE.findall(file.read())})
     return found
 
 
 def others_in_cycles(crate):
     """The names of the other functions in the cycles of calls that functions of a name are in, by that name."""
-    others = collections.defaultdict(set)
-    for one, its in cycles(crate).items():
-        others[one] = set().union(*its.values()) - {one}
+    its, others = cycles(crate), collections.defaultdict(set)
+    for (_, one), cycle in its.items():
+        others[one].update({other for (_, other), of in its.items() if of == cycle} - {one})
     return others
 
 
 def kept_for(crate, functions):
-    """Says of a path whether it is that of one of these functions, or of a cycle of calls that one is in, or has the name of one in such a cycle."""
+    """Says of a path whether it is that of one of these functions, or of a cycle of calls that one is in, or of a function in such a cycle."""
     paths, its = [function.split("::")[1:] for function in functions], cycles(crate)
-    around = [cycle for path in paths for cycle in its[path[-1]].items()]
-    names = {f"+{cycle}" for cycle, _ in around} | {name for _, members in around for name in members}
-    return lambda path: path in paths or path[-1] in names
+    around = {its[path[0], path[-1]] for path in paths if (path[0], path[-1]) in its}
+    names = {f"+{cycle}" for cycle in around}
+    return lambda path: path in paths or path[-1] in names or its.get((path[0], path[-1])) in around
 
 
 def checked(crate, texts, functions, kept, words):
