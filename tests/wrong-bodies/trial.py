@@ -38,29 +38,38 @@ def command(crate):
 
 
 def cycles(crate):
-    """The cycle of calls that a function is in, by its module and its name."""
-    found = {}
+    """The cycles of calls that functions of a name are in, by their module and that name."""
+    found = collections.defaultdict(set)
     for at, _, names in os.walk(f"{TOP}/crates/{crate}/src"):
         for name in names:
             with open(f"{at}/{name}", encoding="utf-8") as file:
-                found.update({(os.path.splitext(name)[0], one): cycle for cycle, one in IN_CYCLE.findall(file.read())})
-    return found
+                for cycle, one in IN_CYCLE.findall(file.read()):
+                    found[os.path.splitext(name)[0], one].add(cycle)
+    return dict(found)
 
 
 def others_in_cycles(crate):
     """The names of the other functions in the cycles of calls that functions of a name are in, by that name."""
     its, others = cycles(crate), collections.defaultdict(set)
-    for (_, one), cycle in its.items():
-        others[one].update({other for (_, other), of in its.items() if of == cycle} - {one})
+    for (_, one), around in its.items():
+        others[one].update({other for (_, other), of in its.items() if of & around} - {one})
     return others
+
+
+def cycles_of(path, its):
+    """The cycles of calls that the function of a path may be in. A method's path is that of its type, which may be in another module: it goes by its
+    name there."""
+    if (path[0], path[-1]) in its:
+        return its[path[0], path[-1]]
+    return set().union(*(around for (_, one), around in its.items() if one == path[-1])) if len(path) > 2 else set()
 
 
 def kept_for(crate, functions):
     """Says of a path whether it is that of one of these functions, or of a cycle of calls that one is in, or of a function in such a cycle."""
     paths, its = [function.split("::")[1:] for function in functions], cycles(crate)
-    around = {its[path[0], path[-1]] for path in paths if (path[0], path[-1]) in its}
+    around = set().union(*(cycles_of(path, its) for path in paths))
     names = {f"+{cycle}" for cycle in around}
-    return lambda path: path in paths or path[-1] in names or its.get((path[0], path[-1])) in around
+    return lambda path: path in paths or path[-1] in names or bool(cycles_of(path, its) & around)
 
 
 def checked(crate, texts, functions, kept, words):
