@@ -1,7 +1,8 @@
 -- The trees of definitions, by their names.
 use Rattle.std.specs.Prelude.{List, map, String, string_bytes}
 use Rattle.std.specs.declared.alloc.Global.{Global}
-use Rattle.rn_pattern.specs.Tree.{Text, Tree}
+use Rattle.rn_pattern.specs.Tree.{Tree}
+use Rattle.rn_text.specs.Texts.{Text}
 use Rattle.rn_pattern.specs.View.{pattern_view}
 use Rattle.rn_pattern.specs.declared.tree.Pattern.{Pattern}
 

@@ -3,8 +3,7 @@ use Rattle.std.specs.Prelude.{ℕ, ◌≡◌, ◌≢◌, ◌<◌, Bool, true, fa
 use Rattle.std.specs.List.{AllZip}
 use Rattle.std.specs.Str.{IsUtf8, chars}
 use Rattle.rn_text.specs.Tokens.{Lexeme, HasTokens}
-use Rattle.rn_pattern.specs.Tree.{Text}
-use Rattle.rn_pattern.specs.Order.{text_cmp}
+use Rattle.rn_text.specs.Texts.{Text, text_cmp}
 use Rattle.rn_pattern.specs.Matching.{Grammar}
 use Rattle.rn_pattern.specs.References.{Reaches, IsUndefined, IsRecursive}
 use Rattle.rn_pattern.specs.NameRules.{KeepsNameRules}

@@ -1,7 +1,7 @@
 -- What a refusal of the code says: it is the first that stands.
 use Rattle.std.specs.Prelude.{◌≡◌, List, MatchOption, Option, Some, None}
 use Rattle.std.specs.String.{string_bytes}
-use Rattle.rn_pattern.specs.Tree.{Text}
+use Rattle.rn_text.specs.Texts.{Text}
 use Rattle.rn_syntax.specs.declared.fault.FaultKind.{FaultKind}
 use Rattle.rn_syntax.specs.declared.fault.FaultKind.TheVariants as kind
 use Rattle.rn_modset.specs.Contributions.{Member}

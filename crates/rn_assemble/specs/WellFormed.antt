@@ -1,6 +1,7 @@
 -- What a grammar keeps that is put together without a refusal (RELAX NG 2001, 4.16, 4.18, 4.19 and 7.1.4).
 use Rattle.std.specs.Prelude.{IfSome, Contains}
-use Rattle.rn_pattern.specs.Tree.{Text, Tree}
+use Rattle.rn_pattern.specs.Tree.{Tree}
+use Rattle.rn_text.specs.Texts.{Text}
 use Rattle.rn_pattern.specs.Matching.{Grammar, definition_of}
 use Rattle.rn_pattern.specs.Excepts.{HasExcepts}
 use Rattle.rn_pattern.specs.NameRules.{KeepsNameRules}

@@ -1,13 +1,13 @@
 // Definitions of one key combined (RELAX NG 2001, 4.17).
 ghost use Rattle.std.specs.Prelude.{◌≡◌, ◌+◌, ◌<◌, List, Decides, length, map, option_map, IfOk, IsSomeAnd, MatchResult};
 ghost use Rattle.std.specs.List.Sorted.{IsStrictlySortedBy};
-ghost use Rattle.rn_pattern.specs.Order.{text_cmp};
-ghost use Rattle.rn_pattern.specs.Tree.{Text, trees_of};
-ghost use Rattle.rn_pattern.specs.View.{shared_view};
+ghost use Rattle.rn_pattern.specs.Tree.{trees_of};
+ghost use Rattle.rn_text.specs.Texts.{Text, text_cmp};
+ghost use Rattle.rn_pattern.specs.View.{shared_view, boxed_view};
 ghost use Rattle.rn_assemble.specs.Combine as spec;
 ghost use Rattle.rn_assemble.specs.inside.Joining.{IsMisnamed};
 ghost use Rattle.rn_assemble.specs.inside.Keyed.{key_at};
-ghost use Rattle.rn_assemble.specs.inside.Patterns.{AreCombined, AreSharedBy, AreSound, IsMisnamedAt, IsMisnamedBy, IsSound, MayHold, boxed_view, pattern_of};
+ghost use Rattle.rn_assemble.specs.inside.Patterns.{AreCombined, AreSharedBy, AreSound, IsMisnamedAt, IsMisnamedBy, IsSound, MayHold, pattern_of};
 ghost use Rattle.rn_assemble.specs.Refusal.{BreaksNameRules};
 ghost use Rattle.rn_assemble.specs.inside.Views.{names_of};
 ghost use Rattle.rn_assemble.specs.inside.Methods.{IsLeastNumber, is_method};

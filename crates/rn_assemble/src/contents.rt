@@ -1,7 +1,7 @@
 // What a module consists of, with each div replaced by its children.
 ghost use Rattle.std.specs.Prelude.{◌≡◌, ◌+◌, ◌<◌, ◌∷◌, [], length, IfOk};
 ghost use Rattle.std.specs.List.Sorted.{IsStrictlySortedBy};
-ghost use Rattle.rn_pattern.specs.Order.{text_cmp};
+ghost use Rattle.rn_text.specs.Texts.{text_cmp};
 ghost use Rattle.rn_syntax.specs.View.{item_view, items_view, pattern_view, prefix_view};
 ghost use Rattle.rn_assemble.specs.inside.Contained.{item_inclusions, inclusions, item_written, written};
 ghost use Rattle.rn_assemble.specs.inside.Keyed.{AreAmong, AreNames, defines, item_defines, key_at};

@@ -2,16 +2,17 @@
 ghost use Rattle.std.specs.Prelude.{◌≡◌, ◌∷◌, ◌++◌, List, [], None, false, true, bytes_eq, map, slice_index_or, slice_set, IfOk, MatchResult, OnOk};
 ghost use Rattle.std.specs.List.{list_any};
 ghost use Rattle.std.specs.List.Sorted.{IsStrictlySortedBy};
-ghost use Rattle.rn_pattern.specs.Order.{text_cmp};
 ghost use Rattle.rn_pattern.specs.Graph.{rows_of};
-ghost use Rattle.rn_pattern.specs.Tree.{Text, Tree};
+ghost use Rattle.rn_pattern.specs.Tree.{Tree};
+ghost use Rattle.rn_text.specs.Texts.{Text, text_cmp};
 ghost use Rattle.rn_assemble.specs.Combine.{joined_grammar};
 ghost use Rattle.rn_assemble.specs.Components.{has_key, start_key};
 ghost use Rattle.rn_assemble.specs.DefinitionsView.{definitions_view};
 ghost use Rattle.rn_assemble.specs.inside.Tied.{HaveTied};
 ghost use Rattle.rn_assemble.specs.inside.Joining.{HasStart, IsJoinedGrammar, IsMisnamed};
 ghost use Rattle.rn_assemble.specs.inside.Listed.{Lists, Live, OfKeys};
-ghost use Rattle.rn_assemble.specs.inside.Patterns.{HavePatterns, IsFirstAt, boxed_view};
+ghost use Rattle.rn_assemble.specs.inside.Patterns.{HavePatterns, IsFirstAt};
+ghost use Rattle.rn_pattern.specs.View.{boxed_view};
 ghost use Rattle.rn_assemble.specs.inside.Views.{names_of};
 
 use crate::combining::combine_components;

@@ -2,7 +2,7 @@
 ghost use Rattle.std.specs.Prelude.{◌≡◌, ◌<◌, ◌==◌, ◌||◌, ◌↔◌, ℕ, length, vec_len, option_map, sum_by, IfOk, IfSome, IsTrue, MatchResult};
 ghost use Rattle.std.specs.List.{concat, filter_map, list_any};
 ghost use Rattle.std.specs.List.Sorted.{IsStrictlySortedBy};
-ghost use Rattle.rn_pattern.specs.Order.{text_cmp};
+ghost use Rattle.rn_text.specs.Texts.{text_cmp};
 ghost use Rattle.rn_pattern.specs.Graph.{AllBelow, IsGraph, is_marked, rows_of};
 ghost use Rattle.rn_assemble.specs.inside.Contained.{place_in};
 ghost use Rattle.rn_assemble.specs.inside.Included.{AreIncluded};

@@ -1,7 +1,7 @@
 // Laws of components, of what is combined of them, and of refusals.
 ghost use Rattle.std.specs.Prelude.{◌≡◌, ◌↔◌, ◌≤◌, ◌+◌, ℕ, List, [], IfSome, true};
 ghost use Rattle.std.specs.List.{AllByRecursion};
-ghost use Rattle.rn_pattern.specs.Tree.{Text};
+ghost use Rattle.rn_text.specs.Texts.{Text};
 ghost use Rattle.rn_pattern.specs.Document.{Item};
 ghost use Rattle.rn_pattern.specs.Datatype.{Table};
 ghost use Rattle.rn_pattern.specs.Excepts.{HasExcepts};

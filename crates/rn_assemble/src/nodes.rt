@@ -4,8 +4,7 @@ ghost use Rattle.std.specs.Rc.{rc_str_bytes};
 ghost use Rattle.rn_pattern.specs.Opened.{pair};
 ghost use Rattle.rn_pattern.specs.Tree as tree;
 ghost use Rattle.rn_pattern.specs.Tree.{trees_of};
-ghost use Rattle.rn_pattern.specs.View.{parameters_view, pattern_view, shared_view};
-ghost use Rattle.rn_assemble.specs.inside.Patterns.{boxed_view};
+ghost use Rattle.rn_pattern.specs.View.{parameters_view, pattern_view, shared_view, boxed_view};
 
 use rn_pattern::{Data, Pattern, Value};
 use std::alloc::{AllocError, Global};

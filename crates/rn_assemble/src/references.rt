@@ -1,8 +1,7 @@
 // References, what is reached by them, and loops.
 ghost use Rattle.std.specs.Prelude.{◌≡◌, ℕ, ◌+◌, ◌<◌, List, [], ◌∷◌, length, if◌then◌else◌, ◌++◌, vec_len, map, option_map, is_some, MatchResult, IfOk, IfSome, OnOk};
 ghost use Rattle.std.specs.List.Sorted.{IsStrictlySortedBy};
-ghost use Rattle.rn_pattern.specs.Order.{text_cmp};
-ghost use Rattle.rn_pattern.specs.Tree.{Text};
+ghost use Rattle.rn_text.specs.Texts.{Text, text_cmp};
 ghost use Rattle.rn_pattern.specs.References.{IsUndefined};
 ghost use Rattle.rn_assemble.specs.Components.{Component};
 ghost use Rattle.rn_syntax.specs.View.{pattern_view, patterns_view};

@@ -3,12 +3,12 @@ ghost use Rattle.std.specs.Prelude.{◌≡◌, List, [], map, IfOk};
 ghost use Rattle.std.specs.Cow.{cow_str_bytes};
 ghost use Rattle.std.specs.Rc.{rc_str_bytes};
 ghost use Rattle.rn_pattern.specs.Tree as tree;
-ghost use Rattle.rn_pattern.specs.Tree.{Text, name_trees_of, trees_of};
-ghost use Rattle.rn_pattern.specs.View.{name_class_view, parameters_view, pattern_view, shared_view};
+ghost use Rattle.rn_pattern.specs.Tree.{name_trees_of, trees_of};
+ghost use Rattle.rn_text.specs.Texts.{Text};
+ghost use Rattle.rn_pattern.specs.View.{name_class_view, parameters_view, pattern_view, shared_view, boxed_view};
 ghost use Rattle.rn_syntax.specs.Tree as source;
 ghost use Rattle.rn_syntax.specs.View as seen;
 ghost use Rattle.rn_assemble.specs.inside.Bound.{InContext};
-ghost use Rattle.rn_assemble.specs.inside.Patterns.{boxed_view};
 ghost use Rattle.rn_assemble.specs.Resolve as resolve;
 
 use crate::context::Context;

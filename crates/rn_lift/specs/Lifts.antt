@@ -1,8 +1,7 @@
 -- The modules that files are lifted to.
 use Rattle.std.specs.Prelude.{◌≡◌, ℕ, ⊤, List, [], ◌∷◌, ◌++◌, IfSome, codes, slice_get, string_bytes}
 use Rattle.std.specs.declared.cmp.Ordering.TheVariants.{Less}
-use Rattle.std.specs.Ordering.{nat_cmp}
-use Rattle.std.specs.Cmp.Lexicographic.{slice_cmp}
+use Rattle.rn_text.specs.Texts.{text_cmp}
 use Rattle.rn_text.specs.Literals.{literal_bytes}
 use Rattle.rn_lift.specs.declared.lifted.LiftedModule.{LiftedModule}
 
@@ -12,7 +11,7 @@ bringing namespace included = codes "namespace handed = " ++ (literal_bytes name
 
 -- one name is below another, byte by byte
 abbrev pub IsBelow : LiftedModule → LiftedModule → Type 0
-IsBelow m n = slice_cmp nat_cmp (string_bytes m.name) (string_bytes n.name) ≡ Less
+IsBelow m n = text_cmp (string_bytes m.name) (string_bytes n.name) ≡ Less
 
 -- each module's name is below that of the next one
 abbrev pub AreRising : List LiftedModule → Type 0

@@ -6,7 +6,8 @@ use Rattle.std.specs.Cmp.Lexicographic.{bytes_decides}
 use Rattle.std.proofs.lemmas.Bool.{cases_order}
 use Rattle.std.proofs.lemmas.Map.Views.{Contains-from_lookup}
 use Rattle.rn_text.specs.Tokens.{lexeme_of}
-use Rattle.rn_pattern.specs.Tree.{Text, Tree}
+use Rattle.rn_pattern.specs.Tree.{Tree}
+use Rattle.rn_text.specs.Texts.{Text}
 use Rattle.rn_pattern.specs.Matching.{Grammar, definition_of}
 use Rattle.rn_pattern.specs.Reached.{IsReached, IsPruned, IsCanonicalOf, all_canonical}
 use Rattle.rn_modset.specs.Contributions.{Member}

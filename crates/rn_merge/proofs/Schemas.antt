@@ -1,7 +1,7 @@
 -- What follows of the verdict of a set: of its text, and of a refusal.
 use Rattle.std.proofs.Common.{◌≡◌, ◌∷◌, [], List, refl, subst, sym}
 use Rattle.std.specs.Prelude.{IfErr, IfOk, IsErrAnd, Ok, Err, Some, string_bytes}
-use Rattle.rn_pattern.specs.Tree.{Text}
+use Rattle.rn_text.specs.Texts.{Text}
 use Rattle.rn_pattern.specs.Matching.{Grammar}
 use Rattle.rn_pattern.specs.Reached.{IsCanonicalOf}
 use Rattle.rn_modset.specs.Contributions.{Member}

@@ -1,6 +1,6 @@
 -- What is promised of the schema of a set, and of a refusal in its place.
 use Rattle.std.specs.Prelude.{ℕ, ◌≢◌, List, [], ◌∷◌, MatchOption, Some}
-use Rattle.rn_pattern.specs.Tree.{Text}
+use Rattle.rn_text.specs.Texts.{Text}
 use Rattle.rn_modset.specs.Contributions.{Member}
 use Rattle.rn_modset.specs.Modules.{AreEffective}
 use Rattle.rn_assemble.specs.declared.refusal.Refusal as code

@@ -11,7 +11,7 @@ use Rattle.std.proofs.lemmas.Cmp.{tied_itself, nat_list_cmp_total}
 use Rattle.std.proofs.lemmas.List.{get_or-map, length-map}
 use Rattle.std.proofs.lemmas.List.Sorted.{searchable_from_sorted}
 use Rattle.std.proofs.lemmas.Map.Keys.{Less-from_sorted}
-use Rattle.rn_modset.specs.Contributions.{text_cmp}
+use Rattle.rn_text.specs.Texts.{text_cmp}
 use Rattle.rn_modset.specs.Modules.{Module, module_cmp, module_of, modules_of, NamesRise}
 use Rattle.rn_modset.proofs.TotalOrder.{texts_same}
 

@@ -7,7 +7,8 @@ use Rattle.std.specs.List.Sorted.{IsStrictlySortedBy}
 use Rattle.std.proofs.lemmas.Cmp.{tied_itself, nat_list_cmp_total, ranked}
 use Rattle.std.proofs.lemmas.List.{append-nil}
 use Rattle.std.specs.Option.{option_cmp}
-use Rattle.rn_modset.specs.Contributions.{Member, member_cmp, text_cmp}
+use Rattle.rn_modset.specs.Contributions.{Member, member_cmp}
+use Rattle.rn_text.specs.Texts.{text_cmp}
 use Rattle.rn_modset.specs.Sets.{Rises, has}
 use Rattle.rn_modset.specs.Modules.{Holds, IsHighest, IsEffective, IsConflict, IsFirstConflict, Module, module_cmp, NamesRise, AreEffective}
 use Rattle.rn_modset.proofs.TotalOrder.{members_total, texts_same}

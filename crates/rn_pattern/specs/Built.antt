@@ -1,7 +1,8 @@
 -- What the constructors of a store make, and stores whose patterns are all canonical.
 use Rattle.std.specs.Prelude.{◌≡◌, ℕ, List, map, Bool, IsTrue, Option, IfSome}
 use Rattle.std.specs.Option.{option_map}
-use Rattle.rn_pattern.specs.Tree.{Text, Parameters, NameTree, Tree, not_allowed, empty, text, ref, value, element}
+use Rattle.rn_pattern.specs.Tree.{Parameters, NameTree, Tree, not_allowed, empty, text, ref, value, element}
+use Rattle.rn_text.specs.Texts.{Text}
 use Rattle.rn_pattern.specs.Canonical.{canonical_name, choice_step, group_step, interleave_step, one_or_more_step, list_step, attribute_step}
 use Rattle.rn_pattern.specs.CanonicalShape.{IsCanonicalPattern}
 use Rattle.rn_pattern.specs.Store.{AddsOnly, KeepsIds, KnowsAll, StandsFor, datum_step}

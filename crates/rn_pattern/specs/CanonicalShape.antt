@@ -3,7 +3,8 @@ use Rattle.std.specs.Prelude.{◌≡◌, All, Bool, true, false, List, [], ◌�
 use Rattle.std.specs.List.Sorted.{IsStrictlySortedBy}
 use Rattle.std.specs.declared.cmp.Ordering.{Ordering}
 use Rattle.std.specs.Ordering.{is_lt}
-use Rattle.rn_pattern.specs.Tree.{Text, NameTree, NameTrees, any_name_but, ns_name_but, name_choice, no_names, more_names, name_list_of, Tree, Trees, not_allowed, empty, ref, datum_but, list, attribute, element, one_or_more, group, interleave, choice, no_trees, more_trees, list_of}
+use Rattle.rn_pattern.specs.Tree.{NameTree, NameTrees, any_name_but, ns_name_but, name_choice, no_names, more_names, name_list_of, Tree, Trees, not_allowed, empty, ref, datum_but, list, attribute, element, one_or_more, group, interleave, choice, no_trees, more_trees, list_of}
+use Rattle.rn_text.specs.Texts.{Text}
 use Rattle.rn_pattern.specs.Order.{name_cmp, tree_cmp}
 use Rattle.rn_pattern.specs.Canonical.{is_not_allowed}
 

@@ -1,6 +1,7 @@
 -- Grammars, tables of datatypes and documents for which section 6 of RELAX NG 2001 says what is valid.
 use Rattle.std.specs.Prelude.{List, [], ◌∷◌, ◌++◌, codes}
-use Rattle.rn_pattern.specs.Tree.{Text, NameTree, any_name_but, ns_name, ns_name_but, name, name_choice, name_trees_of, Tree, empty, text, ref, value, datum, datum_but, list, attribute, element, one_or_more, group, interleave, choice, trees_of}
+use Rattle.rn_pattern.specs.Tree.{NameTree, any_name_but, ns_name, ns_name_but, name, name_choice, name_trees_of, Tree, empty, text, ref, value, datum, datum_but, list, attribute, element, one_or_more, group, interleave, choice, trees_of}
+use Rattle.rn_text.specs.Texts.{Text}
 use Rattle.rn_pattern.specs.Document.{Attribute, Item, Items, node, string, no_items, more_items, IsDocument}
 use Rattle.rn_pattern.specs.Datatype.{Table}
 use Rattle.rn_pattern.specs.Matching.{Grammar, IsValid}

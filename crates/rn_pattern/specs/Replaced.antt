@@ -1,6 +1,7 @@
 -- References replaced by what stands for them, and nothing else changed (RELAX NG 2001, 4.19 to 4.21).
 use Rattle.std.specs.Prelude.{map}
-use Rattle.rn_pattern.specs.Tree.{Text, Tree, Trees, not_allowed, empty, text, ref, value, datum, datum_but, list, attribute, element, one_or_more, group, interleave, choice, no_trees, more_trees}
+use Rattle.rn_pattern.specs.Tree.{Tree, Trees, not_allowed, empty, text, ref, value, datum, datum_but, list, attribute, element, one_or_more, group, interleave, choice, no_trees, more_trees}
+use Rattle.rn_text.specs.Texts.{Text}
 use Rattle.rn_pattern.specs.Matching.{Grammar}
 
 module _ (by : Text → Tree) where

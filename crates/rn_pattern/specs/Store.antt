@@ -1,7 +1,8 @@
 -- What the ids of a store of patterns stand for.
 use Rattle.std.specs.Prelude.{◌≡◌, ◌≢◌, ◌↔◌, ◌⊎◌, All, AllPairs, Contains, ℕ, List, map, length, Bool, IsTrue, Option, Some, None, string_bytes}
 use Rattle.rn_pattern.specs.Tree as tree
-use Rattle.rn_pattern.specs.Tree.{Text, Parameters, Tree, trees_of}
+use Rattle.rn_pattern.specs.Tree.{Parameters, Tree, trees_of}
+use Rattle.rn_text.specs.Texts.{Text}
 use Rattle.rn_pattern.specs.Canonical.{datum_but_step}
 use Rattle.rn_pattern.specs.View.{name_class_view, parameters_view}
 use Rattle.rn_pattern.specs.declared.node.Node.{Node}

@@ -8,7 +8,8 @@ ghost use Rattle.rn_pattern.specs.Order.{tree_cmp};
 ghost use Rattle.rn_pattern.specs.inside.Reduced.{IsReducedIn, reduced_tree};
 ghost use Rattle.rn_pattern.specs.Store.{KnowsAll, datum_by, datum_step};
 ghost use Rattle.rn_pattern.specs.inside.Table.{knows_in, tree_in, trees};
-ghost use Rattle.rn_pattern.specs.Tree.{Parameters, Text, Tree};
+ghost use Rattle.rn_pattern.specs.Tree.{Parameters, Tree};
+ghost use Rattle.rn_text.specs.Texts.{Text};
 ghost use Rattle.rn_pattern.specs.View.{name_class_view, parameters_view};
 
 use crate::connector::Connector;

@@ -7,7 +7,8 @@ ghost use Rattle.rn_pattern.specs.Canonical.{attribute_step, canonical_name, cho
 ghost use Rattle.rn_pattern.specs.inside.Lists.{listed, members_by};
 ghost use Rattle.rn_pattern.specs.Order.{tree_cmp};
 ghost use Rattle.rn_pattern.specs.Store.{datum_by, datum_step};
-ghost use Rattle.rn_pattern.specs.Tree.{Parameters, Text, element};
+ghost use Rattle.rn_pattern.specs.Tree.{Parameters, element};
+ghost use Rattle.rn_text.specs.Texts.{Text};
 ghost use Rattle.rn_pattern.specs.View.{boxed_view, name_class_view, parameters_view, pattern_view, shared_view};
 
 use crate::connector::Connector;

@@ -1,6 +1,6 @@
 -- The text that is printed for a set is read back.
 use Rattle.std.proofs.Common.{List, subst, arith}
-use Rattle.rn_pattern.specs.Tree.{Text}
+use Rattle.rn_text.specs.Texts.{Text}
 use Rattle.rn_pattern.specs.Reached.{IsCanonicalOf}
 use Rattle.rn_modset.specs.Contributions.{Member}
 use Rattle.rn_syntax.proofs.OneTree.{one_tree}

@@ -2,7 +2,8 @@
 use Rattle.std.specs.Prelude.{◌≡◌, ℕ, Bool, List, Option, Some, Contains, Decides, map, position, bytes_eq}
 use Rattle.std.specs.List.{filter_map}
 use Rattle.std.specs.Map.{lookup}
-use Rattle.rn_pattern.specs.Tree.{Text, Tree}
+use Rattle.rn_pattern.specs.Tree.{Tree}
+use Rattle.rn_text.specs.Texts.{Text}
 use Rattle.rn_pattern.specs.Matching.{Grammar}
 use Rattle.rn_pattern.specs.Graph.{Reached, is_marked}
 use Rattle.rn_pattern.specs.Canonical.{canonical, ref_unless_settled}

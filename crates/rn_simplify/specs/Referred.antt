@@ -1,6 +1,7 @@
 -- The names that a pattern refers to (RELAX NG 2001, 4.18 and 4.19), in the order of the references.
 use Rattle.std.specs.Prelude.{List, [], ◌∷◌, ◌++◌}
-use Rattle.rn_pattern.specs.Tree.{Text, Tree, Trees, ref, datum_but, list, attribute, element, one_or_more, group, interleave, choice, no_trees, more_trees}
+use Rattle.rn_pattern.specs.Tree.{Tree, Trees, ref, datum_but, list, attribute, element, one_or_more, group, interleave, choice, no_trees, more_trees}
+use Rattle.rn_text.specs.Texts.{Text}
 use Rattle.rn_assemble.specs.declared.references.Reach as code
 use Rattle.rn_assemble.specs.declared.references.Reach.TheVariants.{Everywhere, OutsideElements}
 

@@ -2,7 +2,8 @@
 use Rattle.std.specs.Prelude.{◌≡◌, ℕ, ◌<◌, List, length, take, slice_index_or, Some, Contains, bytes_eq}
 use Rattle.std.specs.Map.{lookup}
 use Rattle.std.specs.Option.{option_map_or}
-use Rattle.rn_pattern.specs.Tree.{Text, Tree, ref}
+use Rattle.rn_pattern.specs.Tree.{Tree, ref}
+use Rattle.rn_text.specs.Texts.{Text}
 use Rattle.rn_pattern.specs.Matching.{Grammar, definition_of}
 use Rattle.rn_pattern.specs.Canonical.{canonical, ref_unless_settled}
 use Rattle.rn_pattern.specs.CanonicalShape.{IsCanonicalPattern}

@@ -1,7 +1,8 @@
 // Laws of canonical grammars and of their texts.
 ghost use Rattle.std.specs.Prelude.{◌≡◌, ◌↔◌, ◌≤◌, ℕ, length, List, [], ◌∷◌, IfSome};
 ghost use Rattle.std.specs.List.{AllByRecursion};
-ghost use Rattle.rn_pattern.specs.Tree.{Text, Tree};
+ghost use Rattle.rn_pattern.specs.Tree.{Tree};
+ghost use Rattle.rn_text.specs.Texts.{Text};
 ghost use Rattle.rn_pattern.specs.Document.{Item};
 ghost use Rattle.rn_pattern.specs.Datatype.{Table};
 ghost use Rattle.rn_pattern.specs.Excepts.{HasExcepts};

@@ -3,7 +3,8 @@ ghost use Rattle.std.specs.Prelude.{◌≡◌, ◌≤◌, ◌<◌, IfOk, IfSome,
 ghost use Rattle.rn_assemble.specs.Firsts.{AreFirsts, joined_members};
 ghost use Rattle.rn_pattern.specs.Tree.{Tree};
 ghost use Rattle.rn_pattern.specs.View.{pattern_view, shared_view};
-ghost use Rattle.rn_simplify.specs.inside.Repeats.{AreSameButRepeats, HoldSame};
+ghost use Rattle.rn_simplify.specs.inside.Repeats.{AreSameButRepeats};
+ghost use Rattle.rn_pattern.specs.Canonical.{HaveSameMembers};
 
 use crate::rebuilt::new_box;
 use rn_pattern::Pattern;
@@ -29,7 +30,7 @@ pub(crate) fn distinct_members(
     firsts: &[u32],
 ) -> Result<Vec<Rc<Pattern>>, AllocError>
     requires { AreFirsts firsts.now (map shared_view members.now) }
-    ensures { IfOk result (λ v. HoldSame (map shared_view v.items) (map shared_view members.now)) }
+    ensures { IfOk result (λ v. HaveSameMembers (map shared_view v.items) (map shared_view members.now)) }
 {
     let mut found = Vec::new(alloc);
     for index in 0..members.len() {

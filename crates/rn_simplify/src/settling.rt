@@ -4,12 +4,13 @@ ghost use Rattle.rn_pattern.specs.Graph.{AllBelow, IsGraph, is_marked, row, rows
 ghost use Rattle.rn_pattern.specs.Ranks.{HasNoLoop, IsRanking};
 ghost use Rattle.rn_assemble.specs.Firsts.{AreFirsts, joined_members};
 ghost use Rattle.rn_assemble.specs.GrammarView.{definitions_view, grammar_view};
-ghost use Rattle.rn_pattern.specs.Tree.{Text, Tree};
+ghost use Rattle.rn_pattern.specs.Tree.{Tree};
+ghost use Rattle.rn_text.specs.Texts.{Text};
 ghost use Rattle.rn_pattern.specs.View.{pattern_view};
 ghost use Rattle.rn_simplify.specs.inside.Marked.{ArePlaces};
 ghost use Rattle.rn_simplify.specs.inside.References.{AreReferences, AreRows};
 ghost use Rattle.rn_simplify.specs.Numbered.{MarksReached, graph_of, rows_by, start_of};
-ghost use Rattle.rn_simplify.specs.inside.Repeats.{HoldSame};
+ghost use Rattle.rn_pattern.specs.Canonical.{HaveSameMembers};
 ghost use Rattle.rn_simplify.specs.Settling.{IsSettlingOrder};
 ghost use Rattle.rn_assemble.specs.declared.references.Reach.TheVariants.{OutsideElements};
 
@@ -126,7 +127,7 @@ fn marked_places(alloc: Global, marks: &[bool]) -> Result<Vec<usize>, AllocError
 
 /// The references of the start.
 fn start_references(alloc: Global, grammar: &Grammar) -> Result<Vec<usize>, AllocError>
-    ensures { IfOk result (λ v. HoldSame v.items (start_of (grammar_view grammar.now))) }
+    ensures { IfOk result (λ v. HaveSameMembers v.items (start_of (grammar_view grammar.now))) }
 {
     let firsts = grammar.start_firsts();
     let found = body_references(alloc, grammar.defs(), grammar.start(), firsts)?;

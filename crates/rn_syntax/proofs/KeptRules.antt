@@ -2,7 +2,8 @@
 use Rattle.std.proofs.Common.{◌≡◌, ℕ, Bool, true, false, not, List, [], ◌∷◌, ◌++◌, Option, Some, None, refl, ap, ◌∙◌}
 use Rattle.rn_syntax.specs.Tree as t
 use Rattle.rn_syntax.specs.Tree.{NameClass, Datatype, Params, Pattern, Patterns, Declaration, Item, Items, Module}
-use Rattle.rn_syntax.specs.Places.{Text, first, place_if, pattern_places, patterns_places, item_places, items_places, class_places, unbound_type, wrong_builtin, context_value, inherit_places, is_allowed, declarations_places}
+use Rattle.rn_syntax.specs.Places.{first, place_if, pattern_places, patterns_places, item_places, items_places, class_places, unbound_type, wrong_builtin, context_value, inherit_places, is_allowed, declarations_places}
+use Rattle.rn_text.specs.Texts.{Text}
 use Rattle.rn_syntax.specs.Faults.{HasNoFault}
 use Rattle.rn_syntax.proofs.FaultKinds.{no_fault as none_of_kinds}
 use Rattle.rn_syntax.proofs.EmptyLists.{nil_parts, both_nil}

@@ -1,6 +1,6 @@
 -- Refusals of references.
 use Rattle.std.proofs.Common.{◌≡◌, ℕ, suc, ◌-◌, List, [], get_or, arith}
-use Rattle.rn_pattern.specs.Tree.{Text}
+use Rattle.rn_text.specs.Texts.{Text}
 use Rattle.rn_assemble.specs.Components.{Component}
 use Rattle.rn_assemble.specs.inside.Keyed.{IsNumber}
 use Rattle.rn_assemble.specs.inside.Referred.{IsLeastUndefined}

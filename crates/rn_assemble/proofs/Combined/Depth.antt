@@ -3,11 +3,11 @@ use Rattle.std.proofs.Common.{◌≡◌, ℕ, zero, suc, ◌+◌, ◌≤◌, Lis
 use Rattle.std.specs.Prelude.{flat_map, sum_by}
 use Rattle.std.specs.List.{AllByRecursion}
 use Rattle.std.proofs.lemmas.List.Sums.{sum_by-cons}
-use Rattle.rn_pattern.specs.Tree.{Text}
+use Rattle.rn_text.specs.Texts.{Text}
 use Rattle.rn_pattern.proofs.Ordered.Ascending.{each_front, each_behind}
 use Rattle.rn_syntax.specs.Tree as t
-use Rattle.rn_syntax.specs.Tree.{Declaration, Item, Items}
-use Rattle.rn_assemble.specs.Components.{Component, NamedModule, item_components, all_components, module_components, overridden, handed_on, item_includes, includes, modules_named, components_within, instances_within}
+use Rattle.rn_syntax.specs.Tree.{Declaration, Item, Items, item_includes, includes}
+use Rattle.rn_assemble.specs.Components.{Component, NamedModule, item_components, all_components, module_components, overridden, handed_on, modules_named, components_within, instances_within}
 
 -- the components of items depend on those of their includes alone
 module _ (f g : Text → Text → List Component) where

@@ -3,14 +3,14 @@ use Rattle.std.proofs.Common.{◌≡◌, ◌<◌, ◌⊎◌, inl, inr, Bool, tru
 use Rattle.std.specs.Prelude.{not, bytes_eq, count_by}
 use Rattle.std.specs.List.{AllByRecursion, list_any}
 use Rattle.std.proofs.lemmas.Slice.Eq.{bytes_eq-Decides}
-use Rattle.rn_pattern.specs.Tree.{Text, Tree}
+use Rattle.rn_pattern.specs.Tree.{Tree}
+use Rattle.rn_text.specs.Texts.{Text, text_cmp}
 use Rattle.rn_syntax.specs.declared.token.Method.TheVariants as m
 use Rattle.rn_assemble.specs.Components.{Component, start_key, name_key, Key}
 use Rattle.rn_assemble.specs.Combine.{of_key, IsPlainTwice, IsMixed, uses, is_plain, is_choice, is_interleave, joined, combined, join, defined_names, joined_grammar, plain_start, plain_definition, components_of, Differ, AreDistinct}
 use Rattle.std.specs.List.Sorted.{IsStrictlySortedBy}
 use Rattle.std.proofs.lemmas.Bool.{false≢true}
 use Rattle.std.proofs.lemmas.Cmp.{nat_list_cmp_total, tied_itself}
-use Rattle.rn_pattern.specs.Order.{text_cmp}
 use Rattle.rn_pattern.specs.Matching.{Grammar}
 
 same : (x : Text) → bytes_eq x x ≡ true

@@ -2,7 +2,8 @@
 use Rattle.std.proofs.Common.{Bool, true, false, cond, not, List, [], ◌∷◌, map, filter, Option, sym, subst}
 use Rattle.std.specs.Prelude.{IfSome, bytes_eq, ⊤}
 use Rattle.std.specs.List.{AllByRecursion}
-use Rattle.rn_pattern.specs.Tree.{Text, Tree, Trees, interleave, choice, trees_of}
+use Rattle.rn_pattern.specs.Tree.{Tree, Trees, interleave, choice, trees_of}
+use Rattle.rn_text.specs.Texts.{Text}
 use Rattle.rn_pattern.specs.Matching.{definition_of}
 use Rattle.rn_pattern.specs.Excepts.{HasExcepts, HaveExcepts}
 use Rattle.rn_pattern.proofs.Ordered.InOrder.{contained_each}

@@ -9,11 +9,11 @@ use Rattle.std.proofs.lemmas.List.{get_or_default, length-map, map-append}
 use Rattle.std.proofs.lemmas.List.Elements.{All-contains, All-filter, Contains-append_cases}
 use Rattle.std.proofs.lemmas.List.FromFn.{fill_by_all, get_or-range_with_len, length-range_with_len}
 use Rattle.std.proofs.lemmas.Slice.Eq.{bytes_eq-Decides}
-use Rattle.rn_pattern.specs.Tree.{Text}
-use Rattle.rn_pattern.specs.Order.{text_cmp}
+use Rattle.rn_text.specs.Texts.{Text, text_cmp}
 use Rattle.rn_pattern.specs.Graph.{AllBelow, IsGraph, row}
 use Rattle.rn_pattern.proofs.Ordered.InOrder.{contains_behind, contains_front}
-use Rattle.rn_assemble.specs.Components.{NamedModule, includes, roots}
+use Rattle.rn_assemble.specs.Components.{NamedModule, roots}
+use Rattle.rn_syntax.specs.Tree.{includes}
 use Rattle.rn_assemble.specs.inside.Expanded.{name_at}
 use Rattle.rn_assemble.specs.inside.Inclusions.{AreInclusions, entries}
 use Rattle.rn_assemble.proofs.Expansion.Inclusions.{included_at, same_place}

@@ -5,15 +5,15 @@ use Rattle.std.specs.List.Sorted.{IsStrictlySortedBy}
 use Rattle.std.specs.declared.alloc.Global.{Global}
 use Rattle.std.proofs.lemmas.Bool.{cases_order}
 use Rattle.std.proofs.lemmas.List.{get_or-map, length-map, length_push}
-use Rattle.rn_pattern.specs.Tree.{Text}
-use Rattle.rn_pattern.specs.Order.{text_cmp}
+use Rattle.rn_text.specs.Texts.{Text, text_cmp}
 use Rattle.rn_pattern.specs.Graph.{AllBelow, row, rows_of}
 use Rattle.rn_pattern.specs.Ranks.{HasNoLoop, IsFirstLoop}
 use Rattle.rn_pattern.proofs.Ordered.InOrder.{text_no_less}
 use Rattle.rn_pattern.proofs.Graphs.Rows.{AreRows, is_graph, no_rows, row_before, row_behind, rows_pushed}
 use Rattle.rn_syntax.specs.View.{module_view}
 use Rattle.rn_assemble.specs.declared.modules.NamedModule as code
-use Rattle.rn_assemble.specs.Components.{Includes, NamedModule, includes, instance_limit, instances_within, roots}
+use Rattle.rn_assemble.specs.Components.{Includes, NamedModule, instance_limit, instances_within, roots}
+use Rattle.rn_syntax.specs.Tree.{includes}
 use Rattle.rn_assemble.specs.inside.Expanded.{name_at}
 use Rattle.rn_assemble.specs.inside.Included.{AreIncluded}
 use Rattle.rn_assemble.specs.inside.Inclusions.{AreInclusions, IsLeastAmong, IsMissing, entries, included_by}

@@ -6,7 +6,7 @@ use Rattle.std.proofs.lemmas.List.Elements.{Contains-append_left, Contains-appen
 use Rattle.rn_pattern.proofs.Ordered.InOrder.{contains_cases, each_contained}
 use Rattle.rn_assemble.specs.declared.modules.NamedModule as code_module
 use Rattle.std.proofs.lemmas.List.{length-map, get_or-map, take_more}
-use Rattle.rn_pattern.specs.Tree.{Text}
+use Rattle.rn_text.specs.Texts.{Text}
 use Rattle.rn_pattern.proofs.Ordered.Ascending.{each_front, each_behind}
 use Rattle.rn_syntax.specs.declared.tree.Item.{Item}
 use Rattle.rn_syntax.specs.Tree as t

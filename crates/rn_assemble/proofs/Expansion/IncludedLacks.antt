@@ -8,14 +8,14 @@ use Rattle.std.proofs.lemmas.List.{length-append, length-map, map-append, get_or
 use Rattle.std.proofs.lemmas.List.Elements.{All-contains, filter_passes}
 use Rattle.std.proofs.lemmas.List.Folds.{Any-from_list_any, list_any-append, list_any-from_Any}
 use Rattle.std.proofs.lemmas.Slice.Eq.{bytes_eq-Decides}
-use Rattle.rn_pattern.specs.Tree.{Text}
+use Rattle.rn_text.specs.Texts.{Text}
 use Rattle.rn_pattern.proofs.Ordered.InOrder.{contained_each, contains_cases, contains_front}
 use Rattle.rn_syntax.specs.Tree as t
-use Rattle.rn_syntax.specs.Tree.{Declaration, Item, Items}
+use Rattle.rn_syntax.specs.Tree.{Declaration, Item, Items, includes, item_includes}
 use Rattle.rn_assemble.specs.declared.contents.Component as code
 use Rattle.rn_assemble.specs.declared.components.Lack.{Lack}
 use Rattle.rn_assemble.specs.declared.contents.Contents.{Contents}
-use Rattle.rn_assemble.specs.Components.{Component, Key, NamedModule, components_within, handed_on, has_key, includes, item_includes, modules_named, same_key}
+use Rattle.rn_assemble.specs.Components.{Component, Key, NamedModule, components_within, handed_on, has_key, modules_named, same_key}
 use Rattle.rn_assemble.specs.inside.Contained.{AreFlat, Inclusion, IsFlat, Written, inclusions, item_inclusions, item_written, place_in, written}
 use Rattle.rn_assemble.specs.inside.Expanded.{included_in, name_at}
 use Rattle.rn_assemble.specs.inside.Keyed.{key_at}

@@ -10,14 +10,14 @@ use Rattle.std.proofs.lemmas.List.Sums.{sum_by-cons}
 use Rattle.std.proofs.lemmas.Map.Keys.{Less-from_sorted}
 use Rattle.std.proofs.lemmas.Map.Views.{Contains-from_any, list_any-from_Contains}
 use Rattle.std.proofs.lemmas.Slice.Eq.{bytes_eq-Decides}
-use Rattle.rn_pattern.specs.Tree.{Text}
-use Rattle.rn_pattern.specs.Order.{text_cmp}
+use Rattle.rn_text.specs.Texts.{Text, text_cmp}
 use Rattle.rn_pattern.specs.References.{Reaches, by_one, by_more}
 use Rattle.rn_pattern.specs.Graph.{AllBelow, row}
 use Rattle.rn_pattern.specs.Ranks.{HasNoLoop, IsFirstLoop, Leads, by_edge, and_edge}
 use Rattle.rn_pattern.proofs.Ordered.InOrder.{contains_behind, contains_front, text_no_less}
 use Rattle.rn_pattern.proofs.Graphs.FirstLoop.{source_within}
-use Rattle.rn_assemble.specs.Components.{Includes, NamedModule, includes, instances_within, modules_named, roots}
+use Rattle.rn_assemble.specs.Components.{Includes, NamedModule, instances_within, modules_named, roots}
+use Rattle.rn_syntax.specs.Tree.{includes}
 use Rattle.rn_assemble.specs.inside.Contained.{place_in}
 use Rattle.rn_assemble.specs.inside.Expanded.{name_at}
 use Rattle.rn_assemble.specs.inside.Inclusions.{AreInclusions, IsMissing, included_by}

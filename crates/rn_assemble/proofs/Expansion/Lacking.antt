@@ -7,13 +7,12 @@ use Rattle.std.proofs.Math.Nat.{lt_of_not-le}
 use Rattle.std.proofs.lemmas.List.{map-append}
 use Rattle.std.proofs.lemmas.List.Sums.{get_or-le-sum_by}
 use Rattle.std.proofs.lemmas.Slice.Eq.{bytes_eq-Decides}
-use Rattle.rn_pattern.specs.Tree.{Text}
-use Rattle.rn_pattern.specs.Order.{text_cmp}
+use Rattle.rn_text.specs.Texts.{Text, text_cmp}
 use Rattle.rn_pattern.specs.References.{Reaches, by_one, by_more}
 use Rattle.rn_pattern.proofs.Ordered.InOrder.{contained_each, each_contained}
 use Rattle.rn_syntax.specs.Tree as t
-use Rattle.rn_syntax.specs.Tree.{Declaration, Item, Items}
-use Rattle.rn_assemble.specs.Components.{Key, NamedModule, Includes, components_within, item_includes, includes, instance_limit, instances_within, modules_named, roots}
+use Rattle.rn_syntax.specs.Tree.{Declaration, Item, Items, item_includes, includes}
+use Rattle.rn_assemble.specs.Components.{Key, NamedModule, Includes, components_within, instance_limit, instances_within, modules_named, roots}
 use Rattle.rn_assemble.specs.inside.Contained.{AreFlat}
 use Rattle.rn_assemble.specs.inside.Expanded.{name_at}
 use Rattle.rn_assemble.specs.inside.Included.{AreIncluded}

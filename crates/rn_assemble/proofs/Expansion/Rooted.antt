@@ -7,10 +7,11 @@ use Rattle.std.proofs.lemmas.Cmp.{nat_list_eq_equiv}
 use Rattle.std.proofs.lemmas.List.Elements.{All-contains, All-contains_itself, All-filter, filter_passes}
 use Rattle.std.proofs.lemmas.Map.Views.{Contains-from_any, list_any-from_Contains}
 use Rattle.std.proofs.lemmas.Slice.Eq.{bytes_eq-Decides}
-use Rattle.rn_pattern.specs.Tree.{Text}
+use Rattle.rn_text.specs.Texts.{Text}
 use Rattle.rn_pattern.specs.References.{Reaches, by_one, by_more}
 use Rattle.rn_pattern.proofs.Ordered.InOrder.{contains_behind, contains_cases, contains_front}
-use Rattle.rn_assemble.specs.Components.{NamedModule, Includes, includes, modules_named, roots}
+use Rattle.rn_assemble.specs.Components.{NamedModule, Includes, modules_named, roots}
+use Rattle.rn_syntax.specs.Tree.{includes}
 use Rattle.rn_assemble.proofs.Combined.Depth.{wanted}
 use Rattle.rn_assemble.proofs.Referring.FoundReferences.{flat_contains, flat_contained, map_contains}
 use Rattle.rn_assemble.proofs.Expansion.Steps.{reach_last}

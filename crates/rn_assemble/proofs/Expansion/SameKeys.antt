@@ -4,12 +4,12 @@ use Rattle.std.specs.Prelude.{flat_map, ◌||◌, ◌&&◌}
 use Rattle.std.specs.List.{AllByRecursion}
 use Rattle.std.proofs.Math.Bool.{and-false}
 use Rattle.std.proofs.lemmas.List.Folds.{list_any-append}
-use Rattle.rn_pattern.specs.Tree.{Text}
+use Rattle.rn_text.specs.Texts.{Text}
 use Rattle.rn_pattern.proofs.Ordered.Ascending.{each_front, each_behind}
 use Rattle.rn_pattern.proofs.Ordered.InOrder.{each_contained}
 use Rattle.rn_syntax.specs.Tree as t
-use Rattle.rn_syntax.specs.Tree.{Declaration, Item, Items}
-use Rattle.rn_assemble.specs.Components.{Key, Component, NamedModule, same_key, has_key, overridden, handed_on, item_components, all_components, module_components, item_includes, includes, modules_named, components_within, instances_within}
+use Rattle.rn_syntax.specs.Tree.{Declaration, Item, Items, item_includes, includes}
+use Rattle.rn_assemble.specs.Components.{Key, Component, NamedModule, same_key, has_key, overridden, handed_on, item_components, all_components, module_components, modules_named, components_within, instances_within}
 use Rattle.rn_assemble.specs.Refusal.{item_lacks, items_lack}
 use Rattle.rn_assemble.proofs.Combined.Depth.{components_enough, wanted}
 use Rattle.rn_assemble.proofs.Referring.Numbers.{same_key-Decides}

@@ -2,10 +2,10 @@
 use Rattle.std.proofs.Common.{◌≡◌, ℕ, zero, suc, ◌+◌, ◌-◌, ◌≤◌, List, [], ◌∷◌, ◌++◌, length, take, drop, map, Option, refl, sym, ap, ◌∙◌, subst, arith, append_assoc, append-nil}
 use Rattle.std.specs.Prelude.{slice_range}
 use Rattle.std.proofs.lemmas.List.{map-append, length-append, take_rest, drop_at, take_at, drop-drop, length-drop, length-take-le}
-use Rattle.rn_pattern.specs.Tree.{Text}
+use Rattle.rn_text.specs.Texts.{Text}
 use Rattle.rn_syntax.specs.Tree as t
-use Rattle.rn_syntax.specs.Tree.{Declaration, Item, Items}
-use Rattle.rn_assemble.specs.Components.{Component, NamedModule, all_components, item_components, item_includes, includes, overridden, handed_on}
+use Rattle.rn_syntax.specs.Tree.{Declaration, Item, Items, item_includes, includes}
+use Rattle.rn_assemble.specs.Components.{Component, NamedModule, all_components, item_components, overridden, handed_on}
 use Rattle.rn_assemble.specs.inside.Contained.{AreFlat, IsFlat, Inclusion, Written, inclusions, item_inclusions, item_written, place_in, written}
 use Rattle.rn_assemble.specs.inside.Listed.{resolved_component}
 

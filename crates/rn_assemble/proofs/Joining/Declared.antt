@@ -1,6 +1,6 @@
 -- The default namespace, by the first default declaration.
 use Rattle.std.proofs.Common.{◌≡◌, List, [], ◌∷◌, Some, None, refl, ap}
-use Rattle.rn_pattern.specs.Tree.{Text}
+use Rattle.rn_text.specs.Texts.{Text}
 use Rattle.rn_syntax.specs.Tree as t
 use Rattle.rn_syntax.specs.Tree.{Uri, Declaration}
 use Rattle.rn_syntax.specs.Places.{declared_default}

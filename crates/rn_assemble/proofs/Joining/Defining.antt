@@ -7,8 +7,9 @@ use Rattle.std.specs.declared.alloc.Global.{Global}
 use Rattle.std.proofs.lemmas.Bool.{cases_Bool, cases_eq, false≢true}
 use Rattle.std.proofs.lemmas.List.{get_or-set_other, length_push, map-append}
 use Rattle.indexmap.specs.IndexMap.{insert_entry}
-use Rattle.rn_pattern.specs.Tree.{Text, Tree}
-use Rattle.rn_pattern.specs.View.{pattern_view}
+use Rattle.rn_pattern.specs.Tree.{Tree}
+use Rattle.rn_text.specs.Texts.{Text}
+use Rattle.rn_pattern.specs.View.{pattern_view, boxed_view}
 use Rattle.rn_pattern.specs.declared.tree.Pattern.{Pattern}
 use Rattle.rn_assemble.specs.declared.components.Body.{Body}
 use Rattle.rn_assemble.specs.Combine.{defined_names, joined, joined_grammar}
@@ -18,7 +19,7 @@ use Rattle.rn_assemble.specs.Firsts.{joined_members}
 use Rattle.rn_assemble.specs.inside.Tied.{AreTied, HaveTied}
 use Rattle.rn_assemble.specs.inside.Keyed.{key_at}
 use Rattle.rn_assemble.specs.inside.Listed.{IsLive, Live, ListsBy, Rises, components_in}
-use Rattle.rn_assemble.specs.inside.Patterns.{AreCombined, HavePatterns, IsFirstAt, before, boxed_view, tree_at}
+use Rattle.rn_assemble.specs.inside.Patterns.{AreCombined, HavePatterns, IsFirstAt, before, tree_at}
 use Rattle.rn_assemble.proofs.Joining.FirstMembers.{tied_more}
 use Rattle.rn_assemble.proofs.Joining.DefinedNames.{defined_known, defined_new, defined_start, names_mapped, not_among}
 use Rattle.rn_assemble.proofs.Joining.FirstPlaces.{all_before, before_more, before_next, key_there, none_before}

@@ -8,8 +8,9 @@ use Rattle.std.proofs.lemmas.Option.{get_or_from_slice_get, slice_get-get_or}
 use Rattle.std.specs.declared.alloc.Global.{Global}
 use Rattle.rn_pattern.specs.Graph.{row, rows_of}
 use Rattle.rn_pattern.specs.Opened.{one_or_node}
-use Rattle.rn_pattern.specs.Order.{text_cmp, tree_cmp}
-use Rattle.rn_pattern.specs.Tree.{Text, Tree, interleave, choice, trees_of}
+use Rattle.rn_pattern.specs.Order.{tree_cmp}
+use Rattle.rn_pattern.specs.Tree.{Tree, interleave, choice, trees_of}
+use Rattle.rn_text.specs.Texts.{Text, text_cmp}
 use Rattle.rn_pattern.proofs.Ordered.InOrder.{contained_each}
 use Rattle.rn_pattern.proofs.Matches.Keeps.{list_of-trees_of}
 use Rattle.rn_pattern.proofs.Ordered.Orders.{tree_same}

@@ -2,11 +2,13 @@
 use Rattle.std.proofs.Common.{◌≡◌, true, List, get_or, Option, Some, None, refl, ap, ◌∙◌}
 use Rattle.std.specs.Prelude.{Box, IsSome, option_map}
 use Rattle.std.specs.declared.alloc.Global.{Global}
-use Rattle.rn_pattern.specs.Tree.{Text, Tree}
+use Rattle.rn_pattern.specs.Tree.{Tree}
+use Rattle.rn_text.specs.Texts.{Text}
 use Rattle.rn_pattern.specs.declared.tree.Pattern.{Pattern}
 use Rattle.rn_assemble.specs.Combine.{joined}
 use Rattle.rn_assemble.specs.Components.{Component, has_key, start_key}
-use Rattle.rn_assemble.specs.inside.Patterns.{AreCombined, boxed_view}
+use Rattle.rn_assemble.specs.inside.Patterns.{AreCombined}
+use Rattle.rn_pattern.specs.View.{boxed_view}
 use Rattle.rn_assemble.proofs.Joining.Defining.{start_there}
 
 some_viewed : (o : Option (Box Pattern Global)) (p : Tree) → option_map boxed_view o ≡ Some p → IsSome o

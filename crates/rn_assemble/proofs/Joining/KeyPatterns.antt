@@ -10,9 +10,9 @@ use Rattle.std.specs.declared.alloc.Global.{Global}
 use Rattle.std.specs.declared.rc.Rc.{Rc}
 use Rattle.rn_pattern.specs.NameRules.{KeepsNameRules, KeepNameRules}
 use Rattle.rn_pattern.specs.Opened.{one_or_node}
-use Rattle.rn_pattern.specs.Order.{text_cmp}
-use Rattle.rn_pattern.specs.Tree.{Text, Tree, Trees, no_trees, interleave, choice, trees_of}
-use Rattle.rn_pattern.specs.View.{shared_view}
+use Rattle.rn_pattern.specs.Tree.{Tree, Trees, no_trees, interleave, choice, trees_of}
+use Rattle.rn_text.specs.Texts.{Text, text_cmp}
+use Rattle.rn_pattern.specs.View.{shared_view, boxed_view}
 use Rattle.rn_pattern.specs.declared.tree.Pattern.{Pattern}
 use Rattle.rn_pattern.proofs.Ordered.Ascending.{each_join}
 use Rattle.rn_assemble.specs.declared.components.Body.{Body}
@@ -25,7 +25,7 @@ use Rattle.rn_assemble.specs.inside.Joining.{IsMisnamed}
 use Rattle.rn_assemble.specs.inside.Keyed.{key_at}
 use Rattle.rn_assemble.specs.Least.{IsLeast, key_cmp}
 use Rattle.rn_assemble.specs.inside.Listed.{Live, ListsBy, components_in}
-use Rattle.rn_assemble.specs.inside.Patterns.{AreCombined, AreSound, IsMisnamedAs, IsSound, boxed_view, pattern_of, tree_at}
+use Rattle.rn_assemble.specs.inside.Patterns.{AreCombined, AreSound, IsMisnamedAs, IsSound, pattern_of, tree_at}
 use Rattle.rn_assemble.specs.Refusal.{BreaksNameRules}
 use Rattle.rn_assemble.specs.Refused.{key_view}
 use Rattle.rn_assemble.proofs.Referring.FoundReferences.{all_keyed}

@@ -2,8 +2,7 @@
 use Rattle.std.proofs.Common.{◌≡◌, ℕ, suc, ◌<◌, Bool, true, false, cond, List, [], ◌∷◌, length, filter, refl, ap, ◌∙◌, eqb}
 use Rattle.std.specs.List.{AllByRecursion}
 use Rattle.std.specs.List.Sorted.{IsStrictlySortedBy}
-use Rattle.rn_pattern.specs.Tree.{Text}
-use Rattle.rn_pattern.specs.Order.{text_cmp}
+use Rattle.rn_text.specs.Texts.{Text, text_cmp}
 use Rattle.rn_assemble.specs.Components.{same_key}
 use Rattle.rn_assemble.specs.Combine.{of_key}
 use Rattle.rn_assemble.specs.inside.Keyed.{key_at}

@@ -3,7 +3,8 @@ use Rattle.std.proofs.Common.{◌≡◌, ℕ, ◌+◌, ◌<◌, List, [], ◌∷
 use Rattle.std.proofs.lemmas.List.{take_more, map-append}
 use Rattle.std.specs.Prelude.{Box, Vec}
 use Rattle.std.specs.declared.alloc.Global.{Global}
-use Rattle.rn_pattern.specs.Tree.{Text, more_names, more_trees, name_trees_of, trees_of}
+use Rattle.rn_pattern.specs.Tree.{more_names, more_trees, name_trees_of, trees_of}
+use Rattle.rn_text.specs.Texts.{Text}
 use Rattle.rn_syntax.specs.Tree.{Declaration}
 use Rattle.rn_syntax.specs.View.{class_view, classes_view, pattern_step, pattern_view, patterns_view}
 use Rattle.rn_syntax.specs.declared.tree.Nc.{Nc}

@@ -1,7 +1,7 @@
 -- A body stands for one component, whichever declarations its bindings stand for.
 use Rattle.std.proofs.Common.{◌≡◌, ℕ, List, sym, ap, ◌∙◌}
 use Rattle.std.specs.Rc.{rc_str_bytes}
-use Rattle.rn_pattern.specs.Tree.{Text}
+use Rattle.rn_text.specs.Texts.{Text}
 use Rattle.rn_syntax.specs.View.{pattern_view}
 use Rattle.rn_assemble.specs.Components.{Component}
 use Rattle.rn_assemble.specs.inside.Bound.{binds_are}

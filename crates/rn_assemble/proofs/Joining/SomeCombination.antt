@@ -3,7 +3,8 @@ use Rattle.std.proofs.Common.{◌≡◌, Bool, true, false, ◌||◌, cond, List
 use Rattle.std.specs.Prelude.{IsPermutation, MatchOption}
 use Rattle.std.proofs.lemmas.Bool.{false≢true}
 use Rattle.std.proofs.lemmas.List.Sorted.{IsPermutation-refl}
-use Rattle.rn_pattern.specs.Tree.{Text, Tree, Trees, trees_of}
+use Rattle.rn_pattern.specs.Tree.{Tree, Trees, trees_of}
+use Rattle.rn_text.specs.Texts.{Text}
 use Rattle.rn_pattern.specs.Matching.{Grammar, definition_of}
 use Rattle.rn_pattern.specs.Opened.{pair}
 use Rattle.rn_assemble.specs.Components.{Key, start_key, name_key, Component, has_key, same_key}

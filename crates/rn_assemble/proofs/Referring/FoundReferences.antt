@@ -10,8 +10,8 @@ use Rattle.std.proofs.lemmas.List.Elements.{Contains-append_left, Contains-appen
 use Rattle.std.specs.Prelude.{not}
 use Rattle.std.proofs.lemmas.Bool.{eqb-true, eqb-false, false≢true}
 use Rattle.std.proofs.lemmas.List.{length-map, get_or_default}
-use Rattle.rn_pattern.specs.Tree.{Text, Tree, Trees}
-use Rattle.rn_pattern.specs.Order.{text_cmp}
+use Rattle.rn_pattern.specs.Tree.{Tree, Trees}
+use Rattle.rn_text.specs.Texts.{Text, text_cmp}
 use Rattle.rn_pattern.specs.Matching.{definition_of}
 use Rattle.rn_pattern.specs.Graph.{row}
 use Rattle.rn_pattern.proofs.Ordered.InOrder.{contains_behind, contains_front, contains_cases}

@@ -8,8 +8,8 @@ use Rattle.std.proofs.lemmas.Bool.{cases_lt}
 use Rattle.std.proofs.lemmas.List.{length-map}
 use Rattle.std.proofs.lemmas.List.Elements.{Contains-append_left, Contains-append_right, Contains-append_cases}
 use Rattle.std.proofs.lemmas.Map.Views.{Contains-from_lookup}
-use Rattle.rn_pattern.specs.Tree.{Text, Tree}
-use Rattle.rn_pattern.specs.Order.{text_cmp}
+use Rattle.rn_pattern.specs.Tree.{Tree}
+use Rattle.rn_text.specs.Texts.{Text, text_cmp}
 use Rattle.rn_pattern.specs.Matching.{Grammar, definition_of}
 use Rattle.rn_pattern.specs.Reached.{RefersTo}
 use Rattle.rn_pattern.specs.References.{RefersOutside, IsUndefined}

@@ -2,7 +2,8 @@
 use Rattle.std.proofs.Common.{◌≡◌, ◌⊎◌, inl, inr, ⊎_elim, Bool, true, false, cond, List, [], ◌∷◌, Option, sym, subst, arith, Contains}
 use Rattle.std.specs.Prelude.{IsSomeAnd}
 use Rattle.rn_pattern.specs.Tree as tree
-use Rattle.rn_pattern.specs.Tree.{Text, Tree, Trees, interleave, choice, no_trees, more_trees, trees_of}
+use Rattle.rn_pattern.specs.Tree.{Tree, Trees, interleave, choice, no_trees, more_trees, trees_of}
+use Rattle.rn_text.specs.Texts.{Text}
 use Rattle.rn_pattern.specs.Matching.{definition_of}
 use Rattle.rn_pattern.specs.Reached.{RefersTo, SomeRefersTo}
 use Rattle.rn_pattern.specs.References.{RefersOutside, SomeRefersOutside}

@@ -6,8 +6,7 @@ use Rattle.std.specs.List.Sorted.{IsStrictlySortedBy}
 use Rattle.std.proofs.lemmas.Bool.{cases_eq, cases_lt, false≢true}
 use Rattle.std.proofs.lemmas.Cmp.{nat_list_cmp_total, tied_itself}
 use Rattle.std.proofs.lemmas.Map.Keys.{Less-from_sorted}
-use Rattle.rn_pattern.specs.Tree.{Text}
-use Rattle.rn_pattern.specs.Order.{text_cmp}
+use Rattle.rn_text.specs.Texts.{Text, text_cmp}
 use Rattle.rn_pattern.specs.Graph.{row}
 use Rattle.rn_pattern.proofs.Ordered.InOrder.{text_no_less}
 use Rattle.rn_assemble.specs.declared.components.Body.{Body}

@@ -3,8 +3,8 @@ use Rattle.std.proofs.Common.{◌≡◌, ℕ, suc, ◌<◌, inl, inr, Bool, true
 use Rattle.std.specs.Prelude.{IsSomeAnd, Decides, MatchOption}
 use Rattle.std.specs.List.Sorted.{IsStrictlySortedBy}
 use Rattle.std.proofs.lemmas.Bool.{cases_eq, cases_lt}
-use Rattle.rn_pattern.specs.Tree.{Text, Tree}
-use Rattle.rn_pattern.specs.Order.{text_cmp}
+use Rattle.rn_pattern.specs.Tree.{Tree}
+use Rattle.rn_text.specs.Texts.{Text, text_cmp}
 use Rattle.rn_pattern.specs.Matching.{Grammar, definition_of}
 use Rattle.rn_pattern.specs.Reached.{RefersTo, IsReached, by_start, by_definition}
 use Rattle.rn_pattern.specs.References.{RefersOutside, by_one, by_more, LeadsTo, IsRecursive}

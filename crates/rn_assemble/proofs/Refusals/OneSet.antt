@@ -6,8 +6,7 @@ use Rattle.std.specs.Str.{chars}
 use Rattle.std.proofs.lemmas.Bool.{cases_order}
 use Rattle.std.proofs.lemmas.Cmp.{nat_list_cmp_total}
 use Rattle.rn_text.proofs.Unique.{one_token_list}
-use Rattle.rn_pattern.specs.Tree.{Text}
-use Rattle.rn_pattern.specs.Order.{text_cmp}
+use Rattle.rn_text.specs.Texts.{Text, text_cmp}
 use Rattle.rn_pattern.specs.Matching.{Grammar}
 use Rattle.rn_pattern.proofs.Ordered.Ascending.{AllAbove}
 use Rattle.rn_pattern.proofs.Ordered.InOrder.{by_name, one_by_name, text_no_less, contained_each, contains_cases}

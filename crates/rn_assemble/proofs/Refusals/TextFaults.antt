@@ -6,7 +6,7 @@ use Rattle.rn_text.specs.Tokens.{Lexeme, HasTokens, IsLexicalPlace, lexeme_of}
 use Rattle.rn_text.specs.declared.source.Token.{Token}
 use Rattle.rn_text.proofs.Places.{list_or_place}
 use Rattle.rn_text.proofs.Unique.{one_token_list}
-use Rattle.rn_pattern.specs.Tree.{Text}
+use Rattle.rn_text.specs.Texts.{Text}
 use Rattle.rn_syntax.specs.declared.fault.FaultKind.{FaultKind}
 use Rattle.rn_syntax.specs.declared.fault.FaultKind.TheVariants as kind
 use Rattle.rn_syntax.specs.declared.fault.SyntaxFault.{SyntaxFault}

@@ -3,10 +3,10 @@ use Rattle.std.proofs.Common.{◌≡◌, List, [], ◌∷◌, ◌++◌, refl}
 use Rattle.std.specs.List.{AllByRecursion, AllZip}
 use Rattle.rn_modset.specs.Contributions.{Member}
 use Rattle.rn_modset.specs.Modules as effective
-use Rattle.rn_syntax.specs.Tree.{Item, Module, items_of}
+use Rattle.rn_syntax.specs.Tree.{Item, Module, items_of, item_includes, includes}
 use Rattle.rn_syntax.specs.Grammar as g
 use Rattle.rn_syntax.specs.Grammar.{Tokens, IsComponent, AreInnerItems, MayHaveOverrides, AreItems, IsModule}
-use Rattle.rn_assemble.specs.Components.{NamedModule, item_includes, includes}
+use Rattle.rn_assemble.specs.Components.{NamedModule}
 use Rattle.rn_assemble.specs.inside.Contained.{IsFlat, AreFlat}
 use Rattle.rn_assemble.specs.Refusal.{IsModuleOf, AreModules}
 

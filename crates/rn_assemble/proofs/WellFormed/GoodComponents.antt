@@ -3,7 +3,7 @@ use Rattle.std.proofs.Common.{◌≡◌, ◌≢◌, ℕ, zero, suc, not, List, [
 use Rattle.std.specs.Prelude.{⊤, bytes_eq}
 use Rattle.std.specs.List.{AllByRecursion, AllZip}
 use Rattle.std.specs.Str.{chars}
-use Rattle.rn_pattern.specs.Tree.{Text}
+use Rattle.rn_text.specs.Texts.{Text}
 use Rattle.rn_pattern.proofs.Ordered.Ascending.{each_join, each_flat}
 use Rattle.rn_pattern.proofs.Ordered.InOrder.{contains_front, contains_behind}
 use Rattle.rn_modset.specs.Contributions.{Member}

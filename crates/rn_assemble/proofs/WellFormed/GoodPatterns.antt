@@ -6,7 +6,8 @@ use Rattle.std.proofs.lemmas.Bool.{false≢true, or_cases}
 use Rattle.std.proofs.lemmas.Slice.Eq.{bytes_eq-Decides}
 use Rattle.rn_text.specs.Characters.{is_xml_char}
 use Rattle.rn_pattern.specs.Tree as w
-use Rattle.rn_pattern.specs.Tree.{Text, Tree, Trees, no_trees, more_trees, NameTree, NameTrees}
+use Rattle.rn_pattern.specs.Tree.{Tree, Trees, no_trees, more_trees, NameTree, NameTrees}
+use Rattle.rn_text.specs.Texts.{Text}
 use Rattle.rn_pattern.specs.Excepts.{IsExcept, AreExcepts, HasExcepts, HaveExcepts}
 use Rattle.rn_syntax.specs.declared.token.Operator.TheVariants as o
 use Rattle.rn_syntax.specs.declared.token.Postfix.TheVariants as r

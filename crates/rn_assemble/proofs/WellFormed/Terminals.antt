@@ -16,7 +16,7 @@ use Rattle.rn_text.specs.Tokens.{Lexeme, HasTokens, width, unmarked, unmarked_st
 use Rattle.rn_text.proofs.NamesXml.{ncname_xml}
 use Rattle.rn_text.proofs.Quoted.{all_append}
 use Rattle.rn_text.proofs.Contents.{EscapesWhole, segment_whole}
-use Rattle.rn_pattern.specs.Tree.{Text}
+use Rattle.rn_text.specs.Texts.{Text}
 use Rattle.rn_text.specs.declared.keywords.Keyword as code
 use Rattle.rn_text.specs.declared.keywords.Keyword.TheVariants as k
 use Rattle.rn_syntax.specs.Terminal as t

@@ -1,7 +1,7 @@
 -- What the bindings of a module stand for (compact syntax, section 2: namespace and datatypes declarations).
 use Rattle.std.specs.Prelude.{◌≡◌, List}
 use Rattle.std.specs.Rc.{rc_str_bytes}
-use Rattle.rn_pattern.specs.Tree.{Text}
+use Rattle.rn_text.specs.Texts.{Text}
 use Rattle.rn_syntax.specs.Bound.{bound}
 use Rattle.rn_syntax.specs.Tree.{Declaration}
 use Rattle.rn_assemble.specs.declared.declared_uris.DeclaredUris.{DeclaredUris}

@@ -1,11 +1,11 @@
 -- What a module consists of, with each div replaced by its children (RELAX NG 2001, 4.11): its components in the order of the text, and its includes, each with the place of its own components among them.
 use Rattle.std.specs.Prelude.{ℕ, ◌≡◌, ◌+◌, List, [], ◌∷◌, ◌++◌, length, bytes_eq, Option, ⊤}
 use Rattle.std.specs.List.{position_from}
-use Rattle.rn_pattern.specs.Tree.{Text}
+use Rattle.rn_text.specs.Texts.{Text}
 use Rattle.rn_syntax.specs.declared.token.Method.{Method}
 use Rattle.rn_syntax.specs.Tree as t
-use Rattle.rn_syntax.specs.Tree.{Item, Items, Pattern}
-use Rattle.rn_assemble.specs.Components.{Key, start_key, name_key, NamedModule, includes}
+use Rattle.rn_syntax.specs.Tree.{Item, Items, Pattern, includes}
+use Rattle.rn_assemble.specs.Components.{Key, start_key, name_key, NamedModule}
 
 -- a component as it is written
 pub record Written : Type 0 where

@@ -1,6 +1,6 @@
 -- Includes that no refusal stands against, and the modules that none includes (RELAX NG 4.7).
 use Rattle.std.specs.Prelude.{◌≡◌, ℕ, ◌<◌, List, length, map, sum_by}
-use Rattle.rn_pattern.specs.Tree.{Text}
+use Rattle.rn_text.specs.Texts.{Text}
 use Rattle.rn_pattern.specs.References.{Reaches}
 use Rattle.rn_pattern.specs.Graph.{AllBelow}
 use Rattle.rn_assemble.specs.Components.{NamedModule, Includes, instance_limit, instances, roots}

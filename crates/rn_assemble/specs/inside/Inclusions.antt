@@ -1,10 +1,10 @@
 -- The includes of modules by the modules' numbers (RELAX NG 2001, 4.7).
 use Rattle.std.specs.Prelude.{◌≡◌, ℕ, ◌<◌, ◌==◌, not, List, [], length, map, filter, flat_map, Contains, Option, Some, None}
 use Rattle.std.specs.List.{concat, list_any, range_with_len}
-use Rattle.rn_pattern.specs.Tree.{Text}
-use Rattle.rn_pattern.specs.Order.{text_cmp}
+use Rattle.rn_text.specs.Texts.{Text, text_cmp}
 use Rattle.rn_pattern.specs.Graph.{IsGraph, row}
-use Rattle.rn_assemble.specs.Components.{NamedModule, includes, modules_named}
+use Rattle.rn_assemble.specs.Components.{NamedModule, modules_named}
+use Rattle.rn_syntax.specs.Tree.{includes}
 use Rattle.rn_assemble.specs.inside.Expanded.{name_at}
 use Rattle.rn_assemble.specs.Least.{IsLeast}
 

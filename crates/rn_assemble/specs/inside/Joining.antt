@@ -1,8 +1,7 @@
 -- The grammar that components are joined to, and what stands against it (RELAX NG 4.16, 4.17).
 use Rattle.std.specs.Prelude.{◌≡◌, true, List, ⊤}
 use Rattle.std.specs.List.Sorted.{IsStrictlySortedBy}
-use Rattle.rn_pattern.specs.Order.{text_cmp}
-use Rattle.rn_pattern.specs.Tree.{Text}
+use Rattle.rn_text.specs.Texts.{Text, text_cmp}
 use Rattle.rn_assemble.specs.declared.components.Components.{Components}
 use Rattle.rn_assemble.specs.declared.joined_grammar.Joined.{Joined}
 use Rattle.rn_assemble.specs.declared.refusal.Refusal.{Refusal}

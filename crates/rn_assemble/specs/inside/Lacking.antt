@@ -1,7 +1,6 @@
 -- Overrides of what isn't there, in the instances of a module (RELAX NG 4.7).
 use Rattle.std.specs.Prelude.{◌≡◌, ◌⊎◌, ℕ, zero, suc, ◌<◌, true, List, [], ◌∷◌, ◌++◌, length, Option, Some, None, Contains}
-use Rattle.rn_pattern.specs.Tree.{Text}
-use Rattle.rn_pattern.specs.Order.{text_cmp}
+use Rattle.rn_text.specs.Texts.{Text, text_cmp}
 use Rattle.rn_syntax.specs.Tree as t
 use Rattle.rn_syntax.specs.Tree.{Declaration, Item, Items}
 use Rattle.rn_assemble.specs.declared.components.Lack.{Lack}

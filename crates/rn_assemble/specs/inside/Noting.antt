@@ -1,7 +1,7 @@
 -- How the code keeps the least of the lacks that it has met, and which lacks an include brings.
 use Rattle.std.specs.Prelude.{◌≡◌, ◌⊎◌, ℕ, suc, ◌<◌, ◌≤◌, ◌==◌, ◌&&◌, not, true, Bool, List, length, map, slice_range, Option, Some, None}
 use Rattle.std.specs.List.{list_any}
-use Rattle.rn_pattern.specs.Tree.{Text}
+use Rattle.rn_text.specs.Texts.{Text}
 use Rattle.rn_syntax.specs.Tree.{Declaration}
 use Rattle.rn_assemble.specs.declared.components.Lack.{Lack}
 use Rattle.rn_assemble.specs.declared.contents.Component as code

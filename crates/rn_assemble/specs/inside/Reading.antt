@@ -1,6 +1,6 @@
 -- What the text of one module gives: its tree, or its first fault.
 use Rattle.std.specs.Prelude.{◌≡◌, MatchOption}
-use Rattle.rn_pattern.specs.Tree.{Text}
+use Rattle.rn_text.specs.Texts.{Text}
 use Rattle.rn_syntax.specs.Tree.{Module}
 use Rattle.rn_syntax.specs.declared.fault.FaultKind.{FaultKind}
 use Rattle.rn_assemble.specs.declared.refusal.Refusal as code

@@ -1,8 +1,7 @@
 -- References of components: to what is defined, and not back to themselves outside elements.
 use Rattle.std.specs.Prelude.{List, ⊤}
 use Rattle.std.specs.String.{string_bytes}
-use Rattle.rn_pattern.specs.Tree.{Text}
-use Rattle.rn_pattern.specs.Order.{text_cmp}
+use Rattle.rn_text.specs.Texts.{Text, text_cmp}
 use Rattle.rn_pattern.specs.References.{IsUndefined, IsRecursive}
 use Rattle.rn_assemble.specs.Components.{Component}
 use Rattle.rn_assemble.specs.Combine.{joined_grammar}

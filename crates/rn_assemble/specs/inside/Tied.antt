@@ -5,7 +5,8 @@ use Rattle.std.specs.Ordering.{Ordering-set}
 use Rattle.std.specs.declared.cmp.Ordering.TheVariants.{Equal}
 use Rattle.rn_pattern.specs.Graph.{row}
 use Rattle.rn_pattern.specs.Order.{tree_cmp}
-use Rattle.rn_pattern.specs.Tree.{Text, Tree}
+use Rattle.rn_pattern.specs.Tree.{Tree}
+use Rattle.rn_text.specs.Texts.{Text}
 use Rattle.rn_assemble.specs.Firsts.{AreFirstsBy, joined_members}
 
 -- the same by the order of patterns, which tells different ones apart

@@ -2,7 +2,7 @@
 use Rattle.std.specs.Prelude.{ℕ, suc, ◌<◌, ◌≡◌, List, ◌++◌, length, map}
 use Rattle.std.specs.List.{AllByRecursion}
 use Rattle.std.specs.Borrow.{Bor}
-use Rattle.rn_pattern.specs.Tree.{Text}
+use Rattle.rn_text.specs.Texts.{Text}
 use Rattle.rn_syntax.specs.View.{module_view, pattern_view, prefix_view}
 use Rattle.rn_assemble.specs.declared.modules.NamedModule as code_module
 use Rattle.rn_assemble.specs.declared.keys.Keys.{Keys}

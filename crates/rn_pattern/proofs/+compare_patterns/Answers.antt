@@ -7,7 +7,8 @@ use Rattle.std.proofs.Common.{nat_cmp, ap}
 use Rattle.std.specs.Prelude.{string_bytes}
 use Rattle.std.specs.Rc.{rc_str_bytes}
 use Rattle.rn_pattern.specs.Tree.{trees_of}
-use Rattle.rn_pattern.specs.Order.{rank, text_cmp, parameters_cmp, trees_cmp}
+use Rattle.rn_pattern.specs.Order.{rank, parameters_cmp, trees_cmp}
+use Rattle.rn_text.specs.Texts.{text_cmp}
 use Rattle.rn_pattern.specs.View.{parameters_view, excepted_view}
 use Rattle.rn_pattern.specs.inside.Compared.{data_cmp}
 use Rattle.rn_pattern.proofs.Ordered.PatternKinds.{ranks_apart, plain_order, group_seen, interleave_seen, choice_seen, datum_seen, datum_order, heads_tied, heads_settled, not_ref, rank_ref, not_value, rank_value, not_datum, rank_datum, not_list, rank_list, not_attribute, rank_attribute, not_element, rank_element, not_oneormore, rank_oneormore, not_group, rank_group, not_interleave, rank_interleave, not_choice, rank_choice}

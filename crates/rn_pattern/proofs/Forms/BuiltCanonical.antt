@@ -4,7 +4,8 @@ use Rattle.std.specs.Prelude.{◌⊎◌, All, IfSome}
 use Rattle.std.specs.Option.{option_map}
 use Rattle.std.specs.List.{AllByRecursion}
 use Rattle.std.proofs.lemmas.List.Elements.{recursion_from_All}
-use Rattle.rn_pattern.specs.Tree.{Text, Parameters, Tree}
+use Rattle.rn_pattern.specs.Tree.{Parameters, Tree}
+use Rattle.rn_text.specs.Texts.{Text}
 use Rattle.rn_pattern.specs.Canonical.{choice_step, group_step, interleave_step}
 use Rattle.rn_pattern.specs.CanonicalShape.{AnyName, IsCanonicalPattern}
 use Rattle.rn_pattern.specs.inside.Stored.{knows, tree_at}

@@ -1,7 +1,8 @@
 -- What holds of a pattern's parts and of the patterns over them is kept by the canonical form and by opening.
 use Rattle.std.proofs.Common.{Bool, true, false, cond, List, [], ◌∷◌, sym, subst}
 use Rattle.std.specs.Prelude.{flat_map}
-use Rattle.rn_pattern.specs.Tree.{Text, Parameters, NameTree, Tree, Trees, not_allowed, empty, text, ref, value, datum, datum_but, list, attribute, element, one_or_more, group, interleave, choice, no_trees, more_trees, list_of, trees_of}
+use Rattle.rn_pattern.specs.Tree.{Parameters, NameTree, Tree, Trees, not_allowed, empty, text, ref, value, datum, datum_but, list, attribute, element, one_or_more, group, interleave, choice, no_trees, more_trees, list_of, trees_of}
+use Rattle.rn_text.specs.Texts.{Text}
 use Rattle.rn_pattern.specs.Order.{tree_cmp}
 use Rattle.rn_pattern.specs.Canonical.{sorted, sorted_once, canonical_name, node_of, has_not_allowed, alternatives, grouped, interleaved, choice_step, group_step, interleave_step, one_or_more_step, list_step, attribute_step, datum_but_step, canonical, canonical_all}
 use Rattle.rn_pattern.specs.Opened.{pair, one_or_node, opened_choice, opened_interleave, opened, opened_all}

@@ -1,7 +1,8 @@
 -- References, excepts and the restrictions on name classes are kept by the canonical form and by opening.
 use Rattle.std.proofs.Common.{inl, inr, List, [], ◌∷◌, sym, subst}
 use Rattle.std.specs.Prelude.{flat_map}
-use Rattle.rn_pattern.specs.Tree.{Text, Parameters, NameTree, NameTrees, any_name, any_name_but, ns_name, ns_name_but, name, name_choice, no_names, more_names, name_list_of, name_trees_of, Tree, Trees, not_allowed, empty, value, datum, datum_but, choice, no_trees, more_trees, list_of, trees_of}
+use Rattle.rn_pattern.specs.Tree.{Parameters, NameTree, NameTrees, any_name, any_name_but, ns_name, ns_name_but, name, name_choice, no_names, more_names, name_list_of, name_trees_of, Tree, Trees, not_allowed, empty, value, datum, datum_but, choice, no_trees, more_trees, list_of, trees_of}
+use Rattle.rn_text.specs.Texts.{Text}
 use Rattle.rn_pattern.specs.Order.{name_cmp, tree_cmp}
 use Rattle.rn_pattern.specs.Canonical.{sorted_once, name_class_of, names_within, name_choice_step, canonical_name, canonical_names, node_of, alternatives, datum_but_step, canonical, canonical_all}
 use Rattle.rn_pattern.specs.Opened.{opened_choice, opened, opened_all}

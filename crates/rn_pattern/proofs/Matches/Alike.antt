@@ -2,7 +2,8 @@
 use Rattle.std.proofs.Common.{◌↔◌, inl, inr, ⊎_elim, List, [], ◌∷◌, map, refl}
 use Rattle.std.specs.Prelude.{⊤}
 use Rattle.std.specs.List.{AllZip}
-use Rattle.rn_pattern.specs.Tree.{Text, Parameters, NameTree, Tree, Trees, not_allowed, empty, text, ref, value, datum, datum_but, list, attribute, element, one_or_more, group, interleave, choice, no_trees, more_trees}
+use Rattle.rn_pattern.specs.Tree.{Parameters, NameTree, Tree, Trees, not_allowed, empty, text, ref, value, datum, datum_but, list, attribute, element, one_or_more, group, interleave, choice, no_trees, more_trees}
+use Rattle.rn_text.specs.Texts.{Text}
 use Rattle.rn_pattern.specs.Document.{Attribute, Item, items_of, string}
 use Rattle.rn_pattern.specs.Datatype.{Table, words}
 use Rattle.rn_pattern.specs.Matching.{Matches, SomeMatches, EachMatches, Weakly, Meaning}

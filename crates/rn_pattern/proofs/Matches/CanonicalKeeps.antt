@@ -1,6 +1,7 @@
 -- The canonical form matches what the pattern does, where a reference's stand-in does what the reference does.
 use Rattle.std.proofs.Common.{◌↔◌, inl, inr, ⊎_elim, List, [], ◌∷◌, map}
-use Rattle.rn_pattern.specs.Tree.{Text, Tree, Trees, not_allowed, empty, text, ref, value, datum, datum_but, list, attribute, element, one_or_more, group, interleave, choice, no_trees, more_trees, trees_of}
+use Rattle.rn_pattern.specs.Tree.{Tree, Trees, not_allowed, empty, text, ref, value, datum, datum_but, list, attribute, element, one_or_more, group, interleave, choice, no_trees, more_trees, trees_of}
+use Rattle.rn_text.specs.Texts.{Text}
 use Rattle.rn_pattern.specs.Document.{Attribute, Item, items_of, string}
 use Rattle.rn_pattern.specs.Datatype.{Table, words}
 use Rattle.rn_pattern.specs.Matching.{Matches, SomeMatches, EachMatches, Meaning}

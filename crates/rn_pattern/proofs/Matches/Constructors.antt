@@ -1,6 +1,7 @@
 -- Each canonical step gives a pattern that matches what the node over its parts does, in every grammar, under every table, at every depth.
 use Rattle.std.proofs.Common.{List}
-use Rattle.rn_pattern.specs.Tree.{Text, Parameters, NameTree, Tree, datum_but, list, attribute, element, one_or_more, group, interleave, choice, trees_of}
+use Rattle.rn_pattern.specs.Tree.{Parameters, NameTree, Tree, datum_but, list, attribute, element, one_or_more, group, interleave, choice, trees_of}
+use Rattle.rn_text.specs.Texts.{Text}
 use Rattle.rn_pattern.specs.Datatype.{Table}
 use Rattle.rn_pattern.specs.Matching.{MatchesWithin, MatchAlike, Meaning}
 use Rattle.rn_pattern.specs.Canonical.{canonical_name, choice_step, group_step, interleave_step, one_or_more_step, list_step, attribute_step, datum_but_step}

@@ -4,7 +4,8 @@ use Rattle.std.specs.Prelude.{flat_map}
 use Rattle.std.specs.Ordering.{match_ordering}
 use Rattle.std.proofs.lemmas.Bool.{false≢true}
 use Rattle.std.proofs.lemmas.List.{replicate-append-replicate}
-use Rattle.rn_pattern.specs.Tree.{Text, Parameters, NameTree, Tree, Trees, not_allowed, empty, datum_but, list, attribute, one_or_more, group, interleave, choice, no_trees, more_trees, list_of, trees_of}
+use Rattle.rn_pattern.specs.Tree.{Parameters, NameTree, Tree, Trees, not_allowed, empty, datum_but, list, attribute, one_or_more, group, interleave, choice, no_trees, more_trees, list_of, trees_of}
+use Rattle.rn_text.specs.Texts.{Text}
 use Rattle.rn_pattern.specs.Document.{Attribute, Item, string}
 use Rattle.rn_pattern.specs.Datatype.{Table}
 use Rattle.rn_pattern.specs.Order.{tree_cmp}

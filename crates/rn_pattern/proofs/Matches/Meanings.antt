@@ -1,7 +1,8 @@
 -- What a constructor's answer matches, by the tree that it stands for.
 use Rattle.std.proofs.Common.{◌≡◌, List, Option, Some, None, Result, Ok, Err, Bool, sym, ◌∙◌, subst}
 use Rattle.std.specs.Prelude.{IfOk}
-use Rattle.rn_pattern.specs.Tree.{Text, Parameters, Tree}
+use Rattle.rn_pattern.specs.Tree.{Parameters, Tree}
+use Rattle.rn_text.specs.Texts.{Text}
 use Rattle.rn_pattern.specs.Matching.{MatchAlike}
 use Rattle.rn_pattern.specs.Store.{StandsFor, datum_by, datum_step}
 use Rattle.rn_pattern.specs.inside.Stored.{tree_at}

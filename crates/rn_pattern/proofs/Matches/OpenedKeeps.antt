@@ -1,7 +1,8 @@
 -- A pattern that is opened matches what it did, and so does a grammar.
 use Rattle.std.proofs.Common.{◌↔◌, inl, inr, ⊎_elim, ℕ, zero, suc, List, [], ◌∷◌, Option, Some, None, option_map, sym, subst}
 use Rattle.std.specs.Prelude.{IsSomeAnd}
-use Rattle.rn_pattern.specs.Tree.{Text, Tree, Trees, not_allowed, empty, text, ref, value, datum, datum_but, list, attribute, element, one_or_more, group, interleave, choice, no_trees, more_trees, list_of}
+use Rattle.rn_pattern.specs.Tree.{Tree, Trees, not_allowed, empty, text, ref, value, datum, datum_but, list, attribute, element, one_or_more, group, interleave, choice, no_trees, more_trees, list_of}
+use Rattle.rn_text.specs.Texts.{Text}
 use Rattle.rn_pattern.specs.Document.{Attribute, Item}
 use Rattle.rn_pattern.specs.Datatype.{Table}
 use Rattle.rn_pattern.specs.Matching.{Matches, SomeMatches, Grammar, definition_of, MatchesWithin, IsValid, MatchAlike, Meaning}

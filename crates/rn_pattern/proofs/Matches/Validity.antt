@@ -3,7 +3,8 @@ use Rattle.std.proofs.Common.{◌≡◌, ◌↔◌, ◌+◌, ◌≤◌, ℕ, zer
 use Rattle.std.specs.Prelude.{bytes_eq, IfSome, IsSomeAnd}
 use Rattle.std.specs.Option.{option_map_or}
 use Rattle.std.specs.Map.{lookup}
-use Rattle.rn_pattern.specs.Tree.{Text, Tree, not_allowed, empty, ref}
+use Rattle.rn_pattern.specs.Tree.{Tree, not_allowed, empty, ref}
+use Rattle.rn_text.specs.Texts.{Text}
 use Rattle.rn_pattern.specs.Document.{Attribute, Item}
 use Rattle.rn_pattern.specs.Datatype.{Table}
 use Rattle.rn_pattern.specs.Matching.{Matches, Grammar, definition_of, MatchesWithin, IsValid, Meaning}

@@ -4,7 +4,8 @@ use Rattle.std.specs.Ordering.{ordering_then}
 use Rattle.std.specs.Cmp.Lexicographic.{slice_cmp, pointwise, pointwise_decides}
 use Rattle.std.proofs.lemmas.Cmp.{ranked, tied_itself, nat_cmp_total, nat_list_cmp_total, lists_total}
 use Rattle.rn_pattern.specs.Tree.{NameTree, NameTrees, no_names, name_choice}
-use Rattle.rn_pattern.specs.Order.{text_cmp, parameters_cmp, names_cmp}
+use Rattle.rn_pattern.specs.Order.{parameters_cmp, names_cmp}
+use Rattle.rn_text.specs.Texts.{text_cmp}
 use Rattle.rn_pattern.specs.inside.Hashing.{Key, key_eq, key_decides, number_decides, text_decides, parameter_decides, names_decides}
 use Rattle.rn_pattern.proofs.Ordered.Orders.{text_same, parameters_same, name_same}
 use Rattle.rn_pattern.proofs.Ordered.TotalOrder.{parameters_total, name_cmp_total}

@@ -7,8 +7,9 @@ use Rattle.std.specs.declared.rc.Rc.{Rc}
 use Rattle.std.specs.Rc.{rc_str_bytes}
 use Rattle.std.proofs.lemmas.Cmp.{ranked}
 use Rattle.rn_pattern.specs.Tree as tree
-use Rattle.rn_pattern.specs.Tree.{Text, Parameters, Tree, Trees, no_trees, more_trees, trees_of}
-use Rattle.rn_pattern.specs.Order.{rank, text_cmp, parameters_cmp, tree_cmp, trees_cmp}
+use Rattle.rn_pattern.specs.Tree.{Parameters, Tree, Trees, no_trees, more_trees, trees_of}
+use Rattle.rn_text.specs.Texts.{Text, text_cmp}
+use Rattle.rn_pattern.specs.Order.{rank, parameters_cmp, tree_cmp, trees_cmp}
 use Rattle.rn_pattern.specs.View.{pattern_step, pattern_view, shared_view, parameters_view, excepted_view}
 use Rattle.rn_pattern.specs.declared.tree.Data.{Data}
 use Rattle.rn_pattern.specs.declared.tree.NameClass.{NameClass}

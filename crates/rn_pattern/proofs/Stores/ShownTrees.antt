@@ -8,7 +8,8 @@ use Rattle.rn_pattern.specs.View.{parameters_view}
 use Rattle.std.specs.Ordering.{ordering_then}
 use Rattle.std.specs.Cmp.Lexicographic.{slice_cmp}
 use Rattle.rn_pattern.specs.Tree.{Tree, trees_of, not_allowed, empty, text, ref, value, datum, datum_but, list, attribute, element, one_or_more, group, interleave, choice}
-use Rattle.rn_pattern.specs.Order.{rank, text_cmp, parameters_cmp, names_cmp, tree_cmp, trees_cmp}
+use Rattle.rn_pattern.specs.Order.{rank, parameters_cmp, names_cmp, tree_cmp, trees_cmp}
+use Rattle.rn_text.specs.Texts.{text_cmp}
 use Rattle.rn_pattern.specs.Store.{node_view}
 use Rattle.rn_pattern.specs.Nodes.{node_members}
 use Rattle.rn_pattern.specs.inside.Stored.{NamesBelow, node_rank, node_texts, node_parameters, node_class}

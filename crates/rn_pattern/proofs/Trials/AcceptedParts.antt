@@ -6,10 +6,11 @@ use Rattle.std.proofs.lemmas.Bool.{false≢true}
 use Rattle.std.proofs.lemmas.Bool.Decides.{Decides-like, Decides-not, Decides-and, Decides-or, Decides-by_and, Decides-by_or}
 use Rattle.std.proofs.lemmas.List.Elements.{Decides-contains}
 use Rattle.std.proofs.lemmas.Slice.Eq.{bytes_eq-Decides}
-use Rattle.rn_pattern.specs.Tree.{Text, Parameters, NameTree, NameTrees, any_name, any_name_but, ns_name, ns_name_but, name, name_choice, no_names, more_names}
+use Rattle.rn_pattern.specs.Tree.{Parameters, NameTree, NameTrees, any_name, any_name_but, ns_name, ns_name_but, name, name_choice, no_names, more_names}
+use Rattle.rn_text.specs.Texts.{Text, is_white}
 use Rattle.rn_pattern.specs.Document.{Attribute, Item, Items, node, string, items_of}
 use Rattle.rn_pattern.specs.Names.{HoldsName, SomeHoldsName}
-use Rattle.rn_pattern.specs.Datatype.{Table, is_white, IsBlank, collapsed, Allows, TakesAsEqual}
+use Rattle.rn_pattern.specs.Datatype.{Table, IsBlank, collapsed, Allows, TakesAsEqual}
 use Rattle.rn_pattern.specs.Matching.{IsString, IsPadding, Weakly}
 use Rattle.rn_pattern.proofs.Matches.Weaving.{Weave, woven, first, second}
 use Rattle.rn_pattern.proofs.Trials.Accepting.{both, either, is_nothing, some_weave, some_cut, are_strings, is_blank, is_padding, is_string_with, is_attribute_with, is_element_with, weakly, holds_name, some_holds_name, same_parameters, is_allowed, is_equal, allows, takes_as_equal}

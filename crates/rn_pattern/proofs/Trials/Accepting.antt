@@ -2,9 +2,10 @@
 use Rattle.std.proofs.Common.{◌+◌, ℕ, zero, suc, Bool, true, false, not, ◌&&◌, ◌||◌, List, [], ◌∷◌, map, length}
 use Rattle.std.specs.Prelude.{bytes_eq, codes}
 use Rattle.std.specs.Option.{option_map_or}
-use Rattle.rn_pattern.specs.Tree.{Text, Parameters, NameTree, NameTrees, any_name, any_name_but, ns_name, ns_name_but, name, name_choice, no_names, more_names, Tree, Trees, not_allowed, empty, text, ref, value, datum, datum_but, list, attribute, element, one_or_more, group, interleave, choice, no_trees, more_trees}
+use Rattle.rn_pattern.specs.Tree.{Parameters, NameTree, NameTrees, any_name, any_name_but, ns_name, ns_name_but, name, name_choice, no_names, more_names, Tree, Trees, not_allowed, empty, text, ref, value, datum, datum_but, list, attribute, element, one_or_more, group, interleave, choice, no_trees, more_trees}
+use Rattle.rn_text.specs.Texts.{Text, is_white}
 use Rattle.rn_pattern.specs.Document.{Attribute, Item, Items, node, string, items_of}
-use Rattle.rn_pattern.specs.Datatype.{Table, is_white, words, collapsed}
+use Rattle.rn_pattern.specs.Datatype.{Table, words, collapsed}
 use Rattle.rn_pattern.specs.Matching.{Grammar, definition_of}
 
 -- the second test alone where the first passes, or fails

@@ -6,7 +6,7 @@ use Rattle.std.proofs.lemmas.Bool.{false≢true}
 use Rattle.std.proofs.lemmas.Bool.Decides.{Decides-not, Decides-and, Decides-by_and}
 use Rattle.std.proofs.lemmas.List.Kept.{AllPairs-cons}
 use Rattle.std.proofs.lemmas.Slice.Eq.{bytes_eq-Decides}
-use Rattle.rn_pattern.specs.Tree.{Text}
+use Rattle.rn_text.specs.Texts.{Text}
 use Rattle.rn_pattern.specs.Document.{Attribute, Item, Items, node, string, no_items, more_items, items_of, HasDistinctNames, StringsStandApart, IsDocument, AreDocuments}
 use Rattle.rn_pattern.specs.Datatype.{Table}
 use Rattle.rn_pattern.specs.Matching.{Grammar}

@@ -3,7 +3,8 @@ use Rattle.std.specs.Prelude.{string_bytes}
 use Rattle.std.specs.Rc.{rc_str_bytes}
 use Rattle.std.specs.declared.cmp.Ordering.{Ordering}
 use Rattle.std.specs.Ordering.{ordering_then}
-use Rattle.rn_pattern.specs.Order.{parameters_cmp, text_cmp}
+use Rattle.rn_pattern.specs.Order.{parameters_cmp}
+use Rattle.rn_text.specs.Texts.{text_cmp}
 use Rattle.rn_pattern.specs.View.{parameters_view}
 use Rattle.rn_pattern.specs.declared.tree.Data.{Data}
 use Rattle.rn_pattern.specs.declared.tree.Value.{Value}

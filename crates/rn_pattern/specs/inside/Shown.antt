@@ -4,8 +4,9 @@ use Rattle.std.specs.declared.alloc.Global.{Global}
 use Rattle.std.specs.declared.cmp.Ordering.{Ordering}
 use Rattle.std.specs.Ordering.{nat_cmp, ordering_then}
 use Rattle.std.specs.Cmp.Lexicographic.{slice_cmp}
-use Rattle.rn_pattern.specs.Tree.{Text, Parameters, NameTrees, no_names, more_names, Tree, Trees, ref, value, datum, datum_but, list, attribute, element, one_or_more, group, interleave, choice, no_trees, more_trees, trees_of}
-use Rattle.rn_pattern.specs.Order.{names_cmp, parameters_cmp, rank, text_cmp}
+use Rattle.rn_pattern.specs.Tree.{Parameters, NameTrees, no_names, more_names, Tree, Trees, ref, value, datum, datum_but, list, attribute, element, one_or_more, group, interleave, choice, no_trees, more_trees, trees_of}
+use Rattle.rn_text.specs.Texts.{Text, text_cmp}
+use Rattle.rn_pattern.specs.Order.{names_cmp, parameters_cmp, rank}
 use Rattle.rn_pattern.specs.View.{name_class_view, parameters_view}
 use Rattle.rn_pattern.specs.declared.tree.NameClass.{NameClass}
 use Rattle.rn_pattern.specs.declared.node.NodeId.{NodeId}

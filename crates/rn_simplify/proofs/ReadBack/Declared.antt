@@ -5,7 +5,7 @@ use Rattle.std.specs.List.{AllByRecursion}
 use Rattle.std.specs.Str.{encode_utf8_all}
 use Rattle.std.proofs.lemmas.Slice.Eq.{bytes_eq-Decides}
 use Rattle.std.proofs.lemmas.Bool.{cond-true, cond-false, or_from, and_left}
-use Rattle.rn_pattern.specs.Tree.{Text}
+use Rattle.rn_text.specs.Texts.{Text}
 use Rattle.rn_syntax.specs.Tree as s
 use Rattle.rn_syntax.specs.Tree.{Declaration, Uri}
 use Rattle.rn_syntax.specs.Places.{declared_namespace, declared_library, declarations_places, place_if, is_wrong_namespace, is_wrong_library, is_xml_uri, xsd_uri}

@@ -8,12 +8,13 @@ use Rattle.rn_text.specs.Characters.{is_ncname, is_keyword, keywords, is_xml_cha
 use Rattle.rn_text.specs.Parts.{Piece}
 use Rattle.rn_text.specs.Tokens.{width}
 use Rattle.rn_text.proofs.Pieces.{Sound, Free, Breaks, no_pieces, free_free, sound_free, keyword_sound}
-use Rattle.rn_pattern.specs.Tree.{Text, Tree}
+use Rattle.rn_pattern.specs.Tree.{Tree}
+use Rattle.rn_text.specs.Texts.{Text}
 use Rattle.rn_pattern.specs.Opened.{opened}
 use Rattle.rn_syntax.specs.Terminal as t
 use Rattle.rn_syntax.specs.Terminal.{◌#◌}
 use Rattle.rn_syntax.specs.Tree as s
-use Rattle.rn_syntax.specs.Tree.{Declaration, Item, items_of}
+use Rattle.rn_syntax.specs.Tree.{Declaration, Item, items_of, includes}
 use Rattle.rn_syntax.specs.Grammar as g
 use Rattle.rn_syntax.specs.Grammar.{Tokens, IsDeclaration, AreDeclarations, IsComponent, AreItems}
 use Rattle.rn_syntax.specs.Places.{items_places, class_places, unbound_type, wrong_builtin, context_value, inherit_places, place_if, is_allowed}
@@ -23,7 +24,7 @@ use Rattle.rn_text.specs.declared.keywords.Keyword.TheVariants as k
 use Rattle.rn_syntax.proofs.Terms.{before, terms, behind, terms-append}
 use Rattle.rn_syntax.proofs.EmptyLists.{both_nil}
 use Rattle.rn_assemble.specs.Resolve.{default_of}
-use Rattle.rn_assemble.specs.Components.{Component, start_key, name_key, all_components, includes}
+use Rattle.rn_assemble.specs.Components.{Component, start_key, name_key, all_components}
 use Rattle.rn_simplify.specs.Spelling.{space, line_end, symbol, keyword, word, identifier, literal, Prefixes, binding, bindings, default_line, definition_line, definition_lines, written_tree}
 use Rattle.rn_simplify.specs.Printable.{IsPrintable}
 use Rattle.rn_assemble.specs.Texts.{IsName, IsXml}

@@ -6,7 +6,8 @@ use Rattle.rn_text.specs.Parts.{Piece}
 use Rattle.rn_text.specs.Tokens.{width}
 use Rattle.rn_text.proofs.Pieces.{Sound, free_then, sound_then}
 use Rattle.rn_pattern.specs.Tree as r
-use Rattle.rn_pattern.specs.Tree.{Text, NameTree, Tree, Trees, no_trees, more_trees}
+use Rattle.rn_pattern.specs.Tree.{NameTree, Tree, Trees, no_trees, more_trees}
+use Rattle.rn_text.specs.Texts.{Text}
 use Rattle.rn_pattern.specs.Excepts.{IsExcept}
 use Rattle.rn_pattern.specs.Opened.{opened, opened_all, opened_choice, opened_interleave}
 use Rattle.rn_syntax.specs.Terminal as t

@@ -3,7 +3,7 @@ use Rattle.std.proofs.Common.{◌≡◌, ℕ, suc, ◌+◌, List, [], ◌∷◌,
 use Rattle.std.specs.Prelude.{bytes_eq, position}
 use Rattle.std.specs.List.{prefix_len}
 use Rattle.std.proofs.lemmas.Bool.Decides.{nat_tests}
-use Rattle.rn_pattern.specs.Tree.{Text}
+use Rattle.rn_text.specs.Texts.{Text}
 use Rattle.rn_simplify.specs.Spelling.{place}
 
 step_false : (k n q : ℕ) → q ≡ cond (nat_lt k n) (k + 1) n → q + 1 ≡ cond (nat_lt (1 + k) (suc n)) ((1 + k) + 1) (suc n)

@@ -4,7 +4,8 @@ use Rattle.std.specs.Prelude.{IfSome, bytes_eq, flat_map, sum_by}
 use Rattle.std.specs.List.{AllByRecursion, list_any}
 use Rattle.std.proofs.lemmas.Bool.{false≢true}
 use Rattle.std.proofs.lemmas.List.Sums.{sum_by-cons}
-use Rattle.rn_pattern.specs.Tree.{Text, Tree}
+use Rattle.rn_pattern.specs.Tree.{Tree}
+use Rattle.rn_text.specs.Texts.{Text}
 use Rattle.rn_pattern.specs.Document.{Item}
 use Rattle.rn_pattern.specs.Datatype.{Table}
 use Rattle.rn_pattern.specs.Matching.{Grammar, IsValid}
@@ -16,9 +17,9 @@ use Rattle.rn_pattern.specs.Reached.{IsCanonicalOf}
 use Rattle.rn_pattern.proofs.Ordered.InOrder.{contains_cases}
 use Rattle.rn_pattern.proofs.Matches.OpenedKeeps.{opened_valid}
 use Rattle.rn_syntax.specs.Tree as t
-use Rattle.rn_syntax.specs.Tree.{Declaration, Module}
+use Rattle.rn_syntax.specs.Tree.{Declaration, Module, item_includes, includes}
 use Rattle.rn_syntax.proofs.EmptyLists.{nil_parts}
-use Rattle.rn_assemble.specs.Components.{Key, start_key, name_key, same_key, Component, NamedModule, has_key, item_includes, includes, Includes, components, instances, instances_within, roots, set_components}
+use Rattle.rn_assemble.specs.Components.{Key, start_key, name_key, same_key, Component, NamedModule, has_key, Includes, components, instances, instances_within, roots, set_components}
 use Rattle.rn_assemble.specs.Combine.{of_key, bodies, combined, IsPlainTwice, IsMixed, IsCombination, join, joined, joined_grammar, read, components_of, AreDistinct}
 use Rattle.rn_assemble.specs.WellFormed.{IsWellFormed}
 use Rattle.rn_assemble.specs.Refusal.{Refusal, conflict, faulty, missing, cycle, too_many_instances, override, plain_twice, mixed_methods, no_start, undefined, recursive, name_class, item_lacks, items_lack, Lacks, StandsFor, grammar_of}

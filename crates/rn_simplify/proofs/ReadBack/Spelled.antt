@@ -4,7 +4,8 @@ use Rattle.std.specs.Prelude.{flat_map, ⊤}
 use Rattle.std.specs.List.{AllByRecursion}
 use Rattle.std.proofs.lemmas.Bool.{false≢true}
 use Rattle.rn_pattern.specs.Tree as t
-use Rattle.rn_pattern.specs.Tree.{Text, NameTree, NameTrees, any_name, any_name_but, ns_name, ns_name_but, name, name_choice, no_names, more_names, name_list_of, Tree, Trees, no_trees, more_trees, list_of}
+use Rattle.rn_pattern.specs.Tree.{NameTree, NameTrees, any_name, any_name_but, ns_name, ns_name_but, name, name_choice, no_names, more_names, name_list_of, Tree, Trees, no_trees, more_trees, list_of}
+use Rattle.rn_text.specs.Texts.{Text}
 use Rattle.rn_pattern.specs.Matching.{Grammar, definition_of}
 use Rattle.rn_pattern.specs.CanonicalShape.{IsCanonicalName, AreCanonicalNames, is_single, IsCanonical, AreCanonical, IsCanonicalPattern, AnyName, is_several, may_group, may_interleave, may_choose}
 use Rattle.rn_pattern.specs.Canonical.{canonical_within, settled_within}

@@ -8,7 +8,8 @@ use Rattle.rn_text.specs.Characters.{is_keyword, keywords}
 use Rattle.rn_text.specs.Parts.{IsCut, text_of}
 use Rattle.rn_text.specs.Tokens.{HasTokens, lexemes}
 use Rattle.rn_text.proofs.Pieces.{Free, free_free, keyword_sound}
-use Rattle.rn_pattern.specs.Tree.{Text, Tree}
+use Rattle.rn_pattern.specs.Tree.{Tree}
+use Rattle.rn_text.specs.Texts.{Text}
 use Rattle.rn_pattern.specs.Matching.{Grammar}
 use Rattle.rn_pattern.specs.Opened.{opened, opened_grammar}
 use Rattle.rn_syntax.specs.Tree as s

@@ -8,7 +8,7 @@ use Rattle.rn_pattern.specs.Graph.{AllBelow, IsGraph, Reached, at_first, along, 
 use Rattle.rn_simplify.specs.Numbered.{graph_of, start_of}
 use Rattle.rn_simplify.specs.Referred.{references}
 use Rattle.rn_simplify.specs.inside.References.{AreRows}
-use Rattle.rn_simplify.specs.inside.Repeats.{HoldSame}
+use Rattle.rn_pattern.specs.Canonical.{HaveSameMembers}
 use Rattle.rn_assemble.specs.declared.references.Reach.TheVariants.{Everywhere}
 use Rattle.rn_simplify.proofs.Simplified.ReferenceGraph.{numbers_below, row_within, rows_graph, rows_size}
 
@@ -19,7 +19,7 @@ reached_too rows other first others f g k (at_first c) = at_first (g k c)
 reached_too rows other first others f g k (along {x = m} r c) = along (reached_too rows other first others f g m r) (f m k c)
 
 -- rows and first nodes that hold the same as those of a grammar
-module _ (G : Grammar) (rows : List (List ℕ)) (first : List ℕ) (size : length rows ≡ length G.definitions) (rows_same : (k : ℕ) → k < length G.definitions → HoldSame (row rows k) (row (graph_of G) k)) (first_same : HoldSame first (start_of G)) where
+module _ (G : Grammar) (rows : List (List ℕ)) (first : List ℕ) (size : length rows ≡ length G.definitions) (rows_same : (k : ℕ) → k < length G.definitions → HaveSameMembers (row rows k) (row (graph_of G) k)) (first_same : HaveSameMembers first (start_of G)) where
   edge_there : (k y : ℕ) → Contains (row rows k) y → Contains (row (graph_of G) k) y
   edge_there k y c = let l = row_within rows k y c in (rows_same k (omega (arith, l, size)) y).0 c
 
@@ -39,12 +39,12 @@ module _ (G : Grammar) (rows : List (List ℕ)) (first : List ℕ) (size : lengt
       (λ e. reached_too rows (graph_of G) first (start_of G) edge_there (λ y. (first_same y).0) k (d.0 e), λ r. d.1 (reached_too (graph_of G) rows (start_of G) first edge_here (λ y. (first_same y).1) k r))
 
 -- rows and first nodes as the code holds them
-module _ (G : Grammar) (rows : List (Vec ℕ Global)) (first held : List ℕ) (first_is : held ≡ first) (are : AreRows (row (graph_of G)) (length G.definitions) rows) (first_same : HoldSame first (start_of G)) where
+module _ (G : Grammar) (rows : List (Vec ℕ Global)) (first held : List ℕ) (first_is : held ≡ first) (are : AreRows (row (graph_of G)) (length G.definitions) rows) (first_same : HaveSameMembers first (start_of G)) where
   shown_size : length (rows_of rows) ≡ length G.definitions
   shown_size = length-map rows (λ (v : Vec ℕ Global). v.items) ∙ are.size
 
-  held_same : HoldSame held (start_of G)
-  held_same = subst (λ l. HoldSame l (start_of G)) (sym first_is) first_same
+  held_same : HaveSameMembers held (start_of G)
+  held_same = subst (λ l. HaveSameMembers l (start_of G)) (sym first_is) first_same
 
   pub shown_graph : IsGraph (rows_of rows)
   shown_graph = alike_graph G (rows_of rows) held shown_size are.each held_same

@@ -3,7 +3,8 @@ use Rattle.std.proofs.Common.{◌≡◌, ℕ, List, map, subst}
 use Rattle.rn_pattern.specs.Canonical.{canonical}
 use Rattle.rn_pattern.specs.Matching.{Grammar}
 use Rattle.rn_pattern.specs.Reached.{IsCanonicalOf, IsPruned}
-use Rattle.rn_pattern.specs.Tree.{Text, Tree}
+use Rattle.rn_pattern.specs.Tree.{Tree}
+use Rattle.rn_text.specs.Texts.{Text}
 use Rattle.rn_simplify.specs.Settling.{IsSettling}
 use Rattle.rn_simplify.proofs.Simplified.Normalised.{formed_is}
 use Rattle.rn_simplify.proofs.Simplified.RankOrder.{normal_is}

@@ -8,7 +8,8 @@ use Rattle.std.specs.declared.rc.Rc.{Rc}
 use Rattle.std.proofs.lemmas.Bool.{false≢true}
 use Rattle.std.proofs.lemmas.List.{take_more, map-append}
 use Rattle.rn_pattern.specs.Tree as t
-use Rattle.rn_pattern.specs.Tree.{Text, Parameters, NameTree, Tree, Trees, no_trees, more_trees, list_of, trees_of}
+use Rattle.rn_pattern.specs.Tree.{Parameters, NameTree, Tree, Trees, no_trees, more_trees, list_of, trees_of}
+use Rattle.rn_text.specs.Texts.{Text}
 use Rattle.rn_pattern.specs.Order.{tree_cmp}
 use Rattle.rn_pattern.specs.Canonical.{put, put_once, sorted, sorted_once, node_of, is_not_allowed, has_not_allowed, alternatives, grouped, interleaved, choice_step, one_or_more_step, list_step, attribute_step, datum_but_step, canonical, canonical_all, canonical_name, ref_unless_settled}
 use Rattle.rn_pattern.specs.CanonicalShape.{is_several, may_choose, may_group, may_interleave, IsCanonicalPattern, AnyName}

@@ -1,7 +1,8 @@
 -- A canonical grammar that is opened has itself as its canonical grammar, and no other.
 use Rattle.std.proofs.Common.{◌≡◌, ◌↔◌, ℕ, zero, suc, false, List, [], ◌∷◌, length, map, Option, Some, None, option_map, refl, sym, ap, ◌∙◌, subst, Contains}
 use Rattle.std.specs.List.{AllByRecursion}
-use Rattle.rn_pattern.specs.Tree.{Text, Tree, ref}
+use Rattle.rn_pattern.specs.Tree.{Tree, ref}
+use Rattle.rn_text.specs.Texts.{Text}
 use Rattle.rn_pattern.specs.Matching.{Grammar, definition_of}
 use Rattle.rn_pattern.specs.Canonical.{canonical, ref_unless_settled, settled_within}
 use Rattle.rn_pattern.specs.Opened.{opened, opened_grammar}

@@ -4,7 +4,8 @@ use Rattle.std.specs.Prelude.{bytes_eq}
 use Rattle.std.specs.Option.{option_map_or}
 use Rattle.std.specs.Cmp.Lexicographic.{bytes_decides}
 use Rattle.std.proofs.lemmas.Map.Views.{Contains-from_lookup}
-use Rattle.rn_pattern.specs.Tree.{Text, Parameters, Tree, not_allowed, empty, ref, datum_but}
+use Rattle.rn_pattern.specs.Tree.{Parameters, Tree, not_allowed, empty, ref, datum_but}
+use Rattle.rn_text.specs.Texts.{Text}
 use Rattle.rn_pattern.specs.Matching.{Grammar, definition_of}
 use Rattle.rn_pattern.specs.Canonical.{canonical, ref_unless_settled, settled_within}
 use Rattle.rn_pattern.specs.Reached.{RefersTo, IsReached, by_start, by_definition, formed, all_canonical}

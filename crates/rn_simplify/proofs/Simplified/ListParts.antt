@@ -5,7 +5,8 @@ use Rattle.std.specs.List.{AllByRecursion}
 use Rattle.std.specs.declared.alloc.Global.{Global}
 use Rattle.std.specs.declared.rc.Rc.{Rc}
 use Rattle.std.proofs.lemmas.List.{take_more, append-nil, append_assoc, map-append}
-use Rattle.rn_pattern.specs.Tree.{Text, Tree, Trees, group, interleave, choice, no_trees, more_trees, trees_of}
+use Rattle.rn_pattern.specs.Tree.{Tree, Trees, group, interleave, choice, no_trees, more_trees, trees_of}
+use Rattle.rn_text.specs.Texts.{Text}
 use Rattle.rn_pattern.specs.Canonical.{canonical, canonical_all}
 use Rattle.rn_pattern.specs.CanonicalShape.{AnyName, IsCanonicalPattern}
 use Rattle.rn_pattern.specs.View.{pattern_view, shared_view}

@@ -10,14 +10,15 @@ use Rattle.std.proofs.lemmas.Bool.Decides.{Decides-eqb}
 use Rattle.std.proofs.lemmas.List.{take_more, map-append, length-map, length-set, length_push, get_or_push, get_or_append_left, get_or-set_same, get_or-set_other}
 use Rattle.std.proofs.lemmas.List.Elements.{Contains-append_left, Contains-push, Contains-push_cases}
 use Rattle.std.proofs.lemmas.Map.Keys.{IsDistinct-push}
-use Rattle.rn_pattern.specs.Tree.{Text, Tree}
+use Rattle.rn_pattern.specs.Tree.{Tree}
+use Rattle.rn_text.specs.Texts.{Text}
 use Rattle.rn_pattern.specs.View.{pattern_view}
 use Rattle.rn_pattern.specs.declared.tree.Pattern.{Pattern}
 use Rattle.rn_pattern.proofs.Ordered.InOrder.{contains_front, contains_behind}
 use Rattle.rn_pattern.specs.Graph.{is_marked, row, rows_of}
 use Rattle.rn_assemble.specs.GrammarView.{definitions_view}
 use Rattle.rn_simplify.specs.inside.References.{AreRows}
-use Rattle.rn_simplify.specs.inside.Repeats.{HoldSame}
+use Rattle.rn_pattern.specs.Canonical.{HaveSameMembers}
 use Rattle.rn_simplify.proofs.Simplified.ReferenceGraph.{nothing}
 use Rattle.rn_simplify.proofs.Simplified.ReferredIn.{contains_none}
 
@@ -78,15 +79,15 @@ module _ (wanted : ℕ → List ℕ) where
   pub no_rows : (rows : List (Vec ℕ Global)) → rows ≡ [] → AreRows wanted 0 rows
   no_rows rows e = record { size = ap length e; each = λ k l. absurd (omega (arith, l)) }
 
-  pub more_rows : (n : ℕ) (rows new : List (Vec ℕ Global)) (v : Vec ℕ Global) → new ≡ rows ++ v ∷ [] → HoldSame v.items (wanted n) → AreRows wanted n rows → AreRows wanted (n + 1) new
+  pub more_rows : (n : ℕ) (rows new : List (Vec ℕ Global)) (v : Vec ℕ Global) → new ≡ rows ++ v ∷ [] → HaveSameMembers v.items (wanted n) → AreRows wanted n rows → AreRows wanted (n + 1) new
   more_rows n rows new v e h a =
       let whole : rows_of (rows ++ v ∷ []) ≡ rows_of rows ++ v.items ∷ [] = map-append (λ (w : Vec ℕ Global). w.items) rows (v ∷ []) in
       let long : length (rows_of rows) ≡ n = length-map rows (λ (w : Vec ℕ Global). w.items) ∙ a.size in
       subst (AreRows wanted (n + 1)) (sym e) (record {
         size = length_push rows v ∙ ap (λ m. m + 1) a.size;
-        each = below_more (λ k. HoldSame (row (rows_of (rows ++ v ∷ [])) k) (wanted k)) n
-            (λ k l. subst (λ r. HoldSame r (wanted k)) (sym (ap (λ rs. row rs k) whole ∙ get_or_append_left (rows_of rows) (v.items ∷ []) [] k (omega (arith, l, long)))) (a.each k l))
-            (subst (λ r. HoldSame r (wanted n)) (sym (ap (λ rs. row rs n) whole ∙ get_or_push (rows_of rows) v.items [] n long)) h);
+        each = below_more (λ k. HaveSameMembers (row (rows_of (rows ++ v ∷ [])) k) (wanted k)) n
+            (λ k l. subst (λ r. HaveSameMembers r (wanted k)) (sym (ap (λ rs. row rs k) whole ∙ get_or_append_left (rows_of rows) (v.items ∷ []) [] k (omega (arith, l, long)))) (a.each k l))
+            (subst (λ r. HaveSameMembers r (wanted n)) (sym (ap (λ rs. row rs n) whole ∙ get_or_push (rows_of rows) v.items [] n long)) h);
       })
 
 -- rows of which those below n are emptied where there is no mark

@@ -5,7 +5,8 @@ use Rattle.std.specs.declared.alloc.Global.{Global}
 use Rattle.rn_pattern.proofs.Ordered.PatternKinds.{datum_of}
 use Rattle.rn_pattern.specs.Nodes.{node_members}
 use Rattle.rn_pattern.specs.Store.{node_view}
-use Rattle.rn_pattern.specs.Tree.{Text, Parameters, Tree}
+use Rattle.rn_pattern.specs.Tree.{Parameters, Tree}
+use Rattle.rn_text.specs.Texts.{Text}
 use Rattle.rn_pattern.specs.View.{excepted_view, parameters_view}
 use Rattle.rn_pattern.specs.declared.node.Node.{Node}
 use Rattle.rn_pattern.specs.declared.tree.NameClass.{NameClass}

@@ -1,7 +1,8 @@
 -- What is settled in order, and the grammar of the forms.
 use Rattle.std.proofs.Common.{◌≡◌, ℕ, List, [], ◌∷◌, map, Option, Some, None, Result, Ok, Err, IfOk, refl, ap, ◌∙◌}
 use Rattle.std.specs.Option.{option_map_or}
-use Rattle.rn_pattern.specs.Tree.{Text, Tree, ref}
+use Rattle.rn_pattern.specs.Tree.{Tree, ref}
+use Rattle.rn_text.specs.Texts.{Text}
 use Rattle.rn_pattern.specs.Matching.{Grammar, definition_of}
 use Rattle.rn_pattern.specs.Canonical.{canonical, ref_unless_settled}
 use Rattle.rn_pattern.specs.CanonicalShape.{IsCanonicalPattern}

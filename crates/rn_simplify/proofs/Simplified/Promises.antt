@@ -1,6 +1,7 @@
 -- What a grammar promises its canonical grammar promises, and that promises it when it is opened: definitions, no loops, excepts, name classes.
 use Rattle.std.proofs.Common.{◌≡◌, ◌⊎◌, inl, inr, List, [], ◌∷◌, length, map, Option, Some, None, refl, sym, ap, ◌∙◌, subst, arith, Contains, IsSomeAnd}
-use Rattle.rn_pattern.specs.Tree.{Text, Parameters, Tree, datum_but}
+use Rattle.rn_pattern.specs.Tree.{Parameters, Tree, datum_but}
+use Rattle.rn_text.specs.Texts.{Text}
 use Rattle.rn_pattern.specs.Matching.{Grammar, definition_of}
 use Rattle.rn_pattern.specs.Canonical.{canonical, settled_within}
 use Rattle.rn_pattern.specs.Opened.{opened, opened_grammar}

@@ -1,6 +1,7 @@
 -- References settled in the order of ranks, and the forms pruned to those that are reached, give the canonical grammar.
 use Rattle.std.proofs.Common.{◌≡◌, inl, inr, ℕ, length, Option, Some, None, option_map, refl, sym, ap, ◌∙◌, subst}
-use Rattle.rn_pattern.specs.Tree.{Text, Tree, Trees, ref, datum_but, list, attribute, one_or_more, group, interleave, choice, no_trees, more_trees}
+use Rattle.rn_pattern.specs.Tree.{Tree, Trees, ref, datum_but, list, attribute, one_or_more, group, interleave, choice, no_trees, more_trees}
+use Rattle.rn_text.specs.Texts.{Text}
 use Rattle.rn_pattern.specs.Matching.{Grammar, definition_of}
 use Rattle.rn_pattern.specs.Canonical.{canonical, settled_within}
 use Rattle.rn_pattern.specs.Reached.{RefersTo, SomeRefersTo, IsReached, by_start, by_definition, formed, all_canonical, IsPruned, IsCanonicalOf}

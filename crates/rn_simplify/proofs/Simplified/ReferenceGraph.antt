@@ -7,7 +7,8 @@ use Rattle.std.specs.Cmp.Lexicographic.{bytes_decides}
 use Rattle.std.proofs.lemmas.Bool.{cases_lt}
 use Rattle.std.proofs.lemmas.List.{get_or-map, length-map, get_or_past}
 use Rattle.std.proofs.lemmas.List.Quantifiers.{position-Some}
-use Rattle.rn_pattern.specs.Tree.{Text, Tree, not_allowed}
+use Rattle.rn_pattern.specs.Tree.{Tree, not_allowed}
+use Rattle.rn_text.specs.Texts.{Text}
 use Rattle.rn_pattern.specs.Matching.{Grammar}
 use Rattle.rn_pattern.specs.Reached.{IsReached, by_start, by_definition}
 use Rattle.rn_pattern.specs.Graph.{AllBelow, IsGraph, Reached, at_first, along, row}

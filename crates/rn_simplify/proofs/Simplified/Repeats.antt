@@ -7,9 +7,10 @@ use Rattle.std.specs.declared.rc.Rc.{Rc}
 use Rattle.std.proofs.lemmas.List.{take_more, map-append, length-map, length-take-le, get_or-map, get_or-take, get_or_default}
 use Rattle.std.proofs.lemmas.List.Elements.{Contains-append_left, Contains-append_right, Contains-append_cases, Contains-push, Contains-push_cases}
 use Rattle.std.proofs.lemmas.Option.{slice_get-get_or}
-use Rattle.rn_pattern.specs.Tree.{Text, Tree, Trees, not_allowed, interleave, choice, no_trees, more_trees, list_of, trees_of}
+use Rattle.rn_pattern.specs.Tree.{Tree, Trees, not_allowed, interleave, choice, no_trees, more_trees, list_of, trees_of}
+use Rattle.rn_text.specs.Texts.{Text}
 use Rattle.rn_pattern.specs.Order.{tree_cmp}
-use Rattle.rn_pattern.specs.Canonical.{sorted_once, node_of, alternatives, choice_step, canonical, canonical_all}
+use Rattle.rn_pattern.specs.Canonical.{sorted_once, node_of, alternatives, choice_step, canonical, canonical_all, HaveSameMembers}
 use Rattle.rn_pattern.specs.View.{pattern_view, shared_view}
 use Rattle.rn_pattern.specs.declared.tree.Pattern.{Pattern}
 use Rattle.rn_pattern.specs.declared.tree.Pattern.TheVariants as variant
@@ -24,7 +25,7 @@ use Rattle.rn_assemble.specs.Firsts.{joined_members}
 use Rattle.rn_simplify.specs.Numbered.{number_of, numbers_of}
 use Rattle.rn_simplify.specs.Referred.{Reach, references, all_references}
 use Rattle.rn_simplify.specs.inside.References.{AreReferences}
-use Rattle.rn_simplify.specs.inside.Repeats.{AreSameButRepeats, choices, interleaves, HoldSame}
+use Rattle.rn_simplify.specs.inside.Repeats.{AreSameButRepeats, choices, interleaves}
 use Rattle.rn_simplify.specs.inside.Worth.{both, either, evaluated, evaluated_all, evaluated_any}
 use Rattle.rn_assemble.specs.declared.references.Reach.TheVariants.{Everywhere, OutsideElements}
 use Rattle.rn_simplify.specs.declared.references.References.{References}
@@ -35,7 +36,7 @@ use Rattle.rn_simplify.proofs.Simplified.ReferredIn.{contains_none, mapped_in, s
 -- ---- lists that hold the same
 
 module _ {X : Type 0} where
-  pub same_itself : (xs ys : List X) → xs ≡ ys → HoldSame xs ys
+  pub same_itself : (xs ys : List X) → xs ≡ ys → HaveSameMembers xs ys
   same_itself xs ys e x = (λ c. subst (λ (l : List X). Contains l x) e c, λ c. subst (λ (l : List X). Contains l x) (sym e) c)
 
   within_more : (xs ys : List X) (x : X) → ((y : X) → Contains xs y → Contains ys y) → (y : X) → Contains (xs ++ x ∷ []) y → Contains (ys ++ x ∷ []) y
@@ -43,11 +44,11 @@ module _ {X : Type 0} where
       ⊎_elim (λ d. Contains-append_left ys (x ∷ []) y (f y d)) (λ e. subst (λ z. Contains (ys ++ x ∷ []) z) e (Contains-push ys x)) (Contains-push_cases xs x y c)
 
   -- one more, which stands in both
-  pub same_more : (xs ys : List X) (x : X) → HoldSame xs ys → HoldSame (xs ++ x ∷ []) (ys ++ x ∷ [])
+  pub same_more : (xs ys : List X) (x : X) → HaveSameMembers xs ys → HaveSameMembers (xs ++ x ∷ []) (ys ++ x ∷ [])
   same_more xs ys x h y = (within_more xs ys x (λ z. (h z).0) y, within_more ys xs x (λ z. (h z).1) y)
 
   -- one more, which stands before
-  pub same_again : (xs ys : List X) (x : X) → HoldSame xs ys → Contains ys x → HoldSame xs (ys ++ x ∷ [])
+  pub same_again : (xs ys : List X) (x : X) → HaveSameMembers xs ys → Contains ys x → HaveSameMembers xs (ys ++ x ∷ [])
   same_again xs ys x h d y =
       (λ c. Contains-append_left ys (x ∷ []) y ((h y).0 c), λ c. (h y).1 (⊎_elim (λ a. a) (λ e. subst (λ z. Contains ys z) e d) (Contains-push_cases ys x y c)))
 
@@ -66,7 +67,7 @@ module _ {X Y : Type 0} (f : X → List Y) where
   flat_within : (xs ys : List X) → ((x : X) → Contains xs x → Contains ys x) → (y : Y) → Contains (flat_map f xs) y → Contains (flat_map f ys) y
   flat_within xs ys g y c = let w = from_flat xs y c in into_flat ys w.0 y (g w.0 w.1) w.2
 
-  pub flat_same : (xs ys : List X) → HoldSame xs ys → HoldSame (flat_map f xs) (flat_map f ys)
+  pub flat_same : (xs ys : List X) → HaveSameMembers xs ys → HaveSameMembers (flat_map f xs) (flat_map f ys)
   flat_same xs ys h y = (flat_within xs ys (λ x. (h x).0) y, flat_within ys xs (λ x. (h x).1) y)
 
 -- ---- the members without those that stand before
@@ -91,15 +92,15 @@ IsFirstOf ms n j = (q : Tree) → slice_get ms n ≡ Some q → (j ≤ n) × (ge
 
 -- the member n, which is none of those before, is kept; else it is left out
 pub kept_more : (members : List (Rc Pattern Global)) (n : ℕ) (r v : Rc Pattern Global) (old new : List (Rc Pattern Global)) → n < length members → r ≡ get_or members n r → new ≡ old ++ v ∷ [] → shared_view v ≡ shared_view r
-    → HoldSame (map shared_view old) (map shared_view (take n members)) → HoldSame (map shared_view new) (map shared_view (take (n + 1) members))
+    → HaveSameMembers (map shared_view old) (map shared_view (take n members)) → HaveSameMembers (map shared_view new) (map shared_view (take (n + 1) members))
 kept_more members n r v old new within is e same h =
     let before = map shared_view (take n members) in
-    subst (λ ts. HoldSame (map shared_view new) ts) (sym (seen_taken members n r within is))
-    (subst (λ ts. HoldSame ts (before ++ shared_view r ∷ [])) (sym (ap (map shared_view) e ∙ map-append shared_view old (v ∷ []) ∙ ap (λ t. map shared_view old ++ t ∷ []) same))
+    subst (λ ts. HaveSameMembers (map shared_view new) ts) (sym (seen_taken members n r within is))
+    (subst (λ ts. HaveSameMembers ts (before ++ shared_view r ∷ [])) (sym (ap (map shared_view) e ∙ map-append shared_view old (v ∷ []) ∙ ap (λ t. map shared_view old ++ t ∷ []) same))
     (same_more (map shared_view old) before (shared_view r) h))
 
 pub left_out : (members : List (Rc Pattern Global)) (n j : ℕ) (old new : List (Rc Pattern Global)) → n < length members → new ≡ old → j < n → IsFirstOf (map shared_view members) n j
-    → HoldSame (map shared_view old) (map shared_view (take n members)) → HoldSame (map shared_view new) (map shared_view (take (n + 1) members))
+    → HaveSameMembers (map shared_view old) (map shared_view (take n members)) → HaveSameMembers (map shared_view new) (map shared_view (take (n + 1) members))
 left_out [] n j old new within e less first h = absurd (omega (arith, within))
 left_out (m ∷ ms) n j old new within e less first h =
     let members = m ∷ ms in
@@ -109,12 +110,12 @@ left_out (m ∷ ms) n j old new within e less first h =
     let there : slice_get (map shared_view members) n ≡ Some p =
     slice_get-get_or (map shared_view members) n p (omega (arith, within, length-map members shared_view)) ∙ ap (λ t. Some t) (get_or-map shared_view members n m p within) in
     let in_front : Contains before p = (j, omega (arith, less, front_size members n (omega (arith, within))), front_seen members n j p (omega (arith, within)) less ∙ (first p there).1) in
-    subst (λ ts. HoldSame (map shared_view new) ts) (sym (seen_taken members n r within (sym (get_or_default members n r m within))))
-    (subst (λ xs. HoldSame (map shared_view xs) (before ++ p ∷ [])) (sym e) (same_again (map shared_view old) before p h in_front))
+    subst (λ ts. HaveSameMembers (map shared_view new) ts) (sym (seen_taken members n r within (sym (get_or_default members n r m within))))
+    (subst (λ xs. HaveSameMembers (map shared_view xs) (before ++ p ∷ [])) (sym e) (same_again (map shared_view old) before p h in_front))
 
 -- a list to which components are joined
-holds_listed : (ps qs : List Tree) → HoldSame ps qs → HoldSame (list_of (trees_of ps)) (list_of (trees_of qs))
-holds_listed ps qs h = subst (λ l. HoldSame l (list_of (trees_of qs))) (sym (list_of-trees_of ps)) (subst (λ l. HoldSame ps l) (sym (list_of-trees_of qs)) h)
+holds_listed : (ps qs : List Tree) → HaveSameMembers ps qs → HaveSameMembers (list_of (trees_of ps)) (list_of (trees_of qs))
+holds_listed ps qs h = subst (λ l. HaveSameMembers l (list_of (trees_of qs))) (sym (list_of-trees_of ps)) (subst (λ l. HaveSameMembers ps l) (sym (list_of-trees_of qs)) h)
 
 module _ (p : Pattern) (v : Vec (Rc Pattern Global) Global) (xs : List (Rc Pattern Global)) (h : xs ≡ v.items) where
   pub choice_members : p ≡ variant.Choice v → joined_members (pattern_view p) ≡ map shared_view xs
@@ -123,17 +124,17 @@ module _ (p : Pattern) (v : Vec (Rc Pattern Global) Global) (xs : List (Rc Patte
   pub interleave_members : p ≡ variant.Interleave v → joined_members (pattern_view p) ≡ map shared_view xs
   interleave_members is = ap (λ q. joined_members (pattern_view q)) is ∙ ap joined_members (interleave_seen v) ∙ list_of-trees_of (map shared_view v.items) ∙ ap (map shared_view) (sym h)
 
-  pub choices_are : (q : Pattern) (w : Vec (Rc Pattern Global) Global) → q ≡ variant.Choice w → p ≡ variant.Choice v → HoldSame (map shared_view w.items) (map shared_view xs) → AreSameButRepeats (pattern_view q) (pattern_view p)
+  pub choices_are : (q : Pattern) (w : Vec (Rc Pattern Global) Global) → q ≡ variant.Choice w → p ≡ variant.Choice v → HaveSameMembers (map shared_view w.items) (map shared_view xs) → AreSameButRepeats (pattern_view q) (pattern_view p)
   choices_are q w f e s =
       subst (λ t. AreSameButRepeats t (pattern_view p)) (sym (ap pattern_view f ∙ choice_seen w))
       (subst (λ t. AreSameButRepeats (choice (trees_of (map shared_view w.items))) t) (sym (ap pattern_view e ∙ choice_seen v))
-      (choices (holds_listed (map shared_view w.items) (map shared_view v.items) (subst (λ ys. HoldSame (map shared_view w.items) (map shared_view ys)) h s))))
+      (choices (holds_listed (map shared_view w.items) (map shared_view v.items) (subst (λ ys. HaveSameMembers (map shared_view w.items) (map shared_view ys)) h s))))
 
-  pub interleaves_are : (q : Pattern) (w : Vec (Rc Pattern Global) Global) → q ≡ variant.Interleave w → p ≡ variant.Interleave v → HoldSame (map shared_view w.items) (map shared_view xs) → AreSameButRepeats (pattern_view q) (pattern_view p)
+  pub interleaves_are : (q : Pattern) (w : Vec (Rc Pattern Global) Global) → q ≡ variant.Interleave w → p ≡ variant.Interleave v → HaveSameMembers (map shared_view w.items) (map shared_view xs) → AreSameButRepeats (pattern_view q) (pattern_view p)
   interleaves_are q w f e s =
       subst (λ t. AreSameButRepeats t (pattern_view p)) (sym (ap pattern_view f ∙ interleave_seen w))
       (subst (λ t. AreSameButRepeats (interleave (trees_of (map shared_view w.items))) t) (sym (ap pattern_view e ∙ interleave_seen v))
-      (interleaves (holds_listed (map shared_view w.items) (map shared_view v.items) (subst (λ ys. HoldSame (map shared_view w.items) (map shared_view ys)) h s))))
+      (interleaves (holds_listed (map shared_view w.items) (map shared_view v.items) (subst (λ ys. HaveSameMembers (map shared_view w.items) (map shared_view ys)) h s))))
 
 -- ---- references
 
@@ -141,21 +142,21 @@ all_flat : (s : Reach) (ps : Trees) → all_references s ps ≡ flat_map (refere
 all_flat s no_trees = refl
 all_flat s (more_trees p ps) = ap (λ xs. references s p ++ xs) (all_flat s ps)
 
-all_same : (s : Reach) (ps qs : Trees) → HoldSame (list_of ps) (list_of qs) → HoldSame (all_references s ps) (all_references s qs)
+all_same : (s : Reach) (ps qs : Trees) → HaveSameMembers (list_of ps) (list_of qs) → HaveSameMembers (all_references s ps) (all_references s qs)
 all_same s ps qs h =
-    subst (λ xs. HoldSame xs (all_references s qs)) (sym (all_flat s ps)) (subst (λ ys. HoldSame (flat_map (references s) (list_of ps)) ys) (sym (all_flat s qs)) (flat_same (references s) (list_of ps) (list_of qs) h))
+    subst (λ xs. HaveSameMembers xs (all_references s qs)) (sym (all_flat s ps)) (subst (λ ys. HaveSameMembers (flat_map (references s) (list_of ps)) ys) (sym (all_flat s qs)) (flat_same (references s) (list_of ps) (list_of qs) h))
 
-pub references_same : (s : Reach) (p q : Tree) → AreSameButRepeats p q → HoldSame (references s p) (references s q)
+pub references_same : (s : Reach) (p q : Tree) → AreSameButRepeats p q → HaveSameMembers (references s p) (references s q)
 references_same s p q (choices {ps = ps} {qs = qs} h) = all_same s ps qs h
 references_same s p q (interleaves {ps = ps} {qs = qs} h) = all_same s ps qs h
 
 numbers_within : (ds : List (Text × Tree)) (xs ys : List Text) → ((x : Text) → Contains xs x → Contains ys x) → (k : ℕ) → Contains (numbers_of ds xs) k → Contains (numbers_of ds ys) k
 numbers_within ds xs ys f k c = let w = source_of (number_of ds) xs k c in mapped_in (number_of ds) ys w.0 k (f w.0 w.1) w.2
 
-pub numbers_alike : (ds : List (Text × Tree)) (xs ys : List Text) → HoldSame xs ys → HoldSame (numbers_of ds xs) (numbers_of ds ys)
+pub numbers_alike : (ds : List (Text × Tree)) (xs ys : List Text) → HaveSameMembers xs ys → HaveSameMembers (numbers_of ds xs) (numbers_of ds ys)
 numbers_alike ds xs ys h k = (numbers_within ds xs ys (λ x. (h x).0) k, numbers_within ds ys xs (λ x. (h x).1) k)
 
-same_then : {X : Type 0} (xs ys zs : List X) → HoldSame xs ys → HoldSame ys zs → HoldSame xs zs
+same_then : {X : Type 0} (xs ys zs : List X) → HaveSameMembers xs ys → HaveSameMembers ys zs → HaveSameMembers xs zs
 same_then xs ys zs h k x = (λ c. (k x).0 ((h x).0 c), λ c. (h x).1 ((k x).1 c))
 
 -- the references of a list without repeats are those of the list
@@ -212,7 +213,7 @@ module _ (op : Worth → Worth → Worth) (assoc : (a b c : Worth) → op a (op 
   op_all (p ∷ ps) qs g =
       sym (assoc (f p) (folded ps) (folded qs)) ∙ ap (op (f p)) (op_all ps qs (λ r c. g r (contains_behind p r ps c))) ∙ op_within qs p (g p (contains_front p ps))
 
-  folded_same : (ps qs : List Tree) → HoldSame ps qs → folded ps ≡ folded qs
+  folded_same : (ps qs : List Tree) → HaveSameMembers ps qs → folded ps ≡ folded qs
   folded_same ps qs h = sym (op_all qs ps (λ p. (h p).1)) ∙ swapped (folded qs) (folded ps) ∙ op_all ps qs (λ p. (h p).0)
 
 module _ (named : Text → Worth) where
@@ -239,7 +240,7 @@ all_canonical s (p ∷ ps) = ap (λ xs. canonical s p ∷ xs) (all_canonical s p
 tree_no_less : (x y : Tree) → tree_cmp x y ≡ Less → ¬ (tree_cmp y x ≡ Less)
 tree_no_less x y h k = let e : Less ≡ Greater = sym h ∙ tree_cmp_total.antisymm x y ∙ ap ordering_reverse k in cc
 
-sorted_once_same : (xs ys : List Tree) → HoldSame xs ys → sorted_once tree_cmp xs ≡ sorted_once tree_cmp ys
+sorted_once_same : (xs ys : List Tree) → HaveSameMembers xs ys → sorted_once tree_cmp xs ≡ sorted_once tree_cmp ys
 sorted_once_same xs ys h = one_list tree_cmp tree_no_less (sorted_once tree_cmp xs) (sorted_once tree_cmp ys)
     (climbs_sorted_once tree_cmp tree_cmp_total tree_same xs) (climbs_sorted_once tree_cmp tree_cmp_total tree_same ys)
     (λ x c. (sorted_once_members tree_cmp tree_same ys x).1 ((h x).0 ((sorted_once_members tree_cmp tree_same xs x).0 c)))
@@ -250,7 +251,7 @@ parts_flat s [] = refl
 parts_flat s (p ∷ ps) = ap (λ xs. alternatives (canonical s p) ++ xs) (parts_flat s ps)
 
 -- of a choice the members that stand before fall away
-pub choice_same : (s : Text → Tree) (ps qs : List Tree) → HoldSame ps qs → choice_step (canonical_all s (trees_of ps)) ≡ choice_step (canonical_all s (trees_of qs))
+pub choice_same : (s : Text → Tree) (ps qs : List Tree) → HaveSameMembers ps qs → choice_step (canonical_all s (trees_of ps)) ≡ choice_step (canonical_all s (trees_of qs))
 choice_same s ps qs h =
     let f : Tree → List Tree = λ p. alternatives (canonical s p) in
     ap (node_of not_allowed choice)

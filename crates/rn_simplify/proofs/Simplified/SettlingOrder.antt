@@ -11,7 +11,8 @@ use Rattle.std.proofs.lemmas.Cmp.{nat_eq_equiv}
 use Rattle.std.proofs.lemmas.List.{get_or-take, get_or_default, length-map, length-take-le}
 use Rattle.std.proofs.lemmas.List.Sorted.{Contains-permutation, IsPermutation-sym}
 use Rattle.std.proofs.lemmas.Map.Keys.{apart_from_distinct, IsDistinct-IsPermutation}
-use Rattle.rn_pattern.specs.Tree.{Text, Tree}
+use Rattle.rn_pattern.specs.Tree.{Tree}
+use Rattle.rn_text.specs.Texts.{Text}
 use Rattle.rn_pattern.specs.Matching.{Grammar, definition_of}
 use Rattle.rn_pattern.specs.Reached.{RefersTo, IsReached, by_start, by_definition}
 use Rattle.rn_pattern.specs.References.{RefersOutside, Reaches, by_one, by_more, LeadsTo}
@@ -22,7 +23,7 @@ use Rattle.rn_simplify.specs.inside.Marked.{ArePlaces}
 use Rattle.rn_simplify.specs.Numbered.{MarksReached, number_of, numbers_of, rows_by}
 use Rattle.rn_simplify.specs.Referred.{references}
 use Rattle.rn_simplify.specs.inside.References.{AreRows}
-use Rattle.rn_simplify.specs.inside.Repeats.{HoldSame}
+use Rattle.rn_pattern.specs.Canonical.{HaveSameMembers}
 use Rattle.rn_simplify.specs.Settling.{IsSettlingOrder}
 use Rattle.rn_assemble.specs.declared.references.Reach.TheVariants.{OutsideElements}
 use Rattle.rn_simplify.proofs.Simplified.Forms.{found_in}
@@ -67,7 +68,7 @@ module _ (G : Grammar) (marks : List Bool) (outs : List (List ℕ)) (marked : Ma
   places_below places order pl perm k c =
       let w = marked_name k (pl.only k (Contains-permutation order places k (IsPermutation-sym places order perm) c)) in (is_at ds w.0 k w.1).within
 
-  module _ (size : length outs ≡ length ds) (outs_are : (k : ℕ) → k < length ds → HoldSame (row outs k) (cond (is_marked marks k) (numbers_of ds (references OutsideElements (get_or ds k nothing).1)) [])) where
+  module _ (size : length outs ≡ length ds) (outs_are : (k : ℕ) → k < length ds → HaveSameMembers (row outs k) (cond (is_marked marks k) (numbers_of ds (references OutsideElements (get_or ds k nothing).1)) [])) where
     edge : (x y : Text) (p : Tree) (a b : ℕ) → IsReached G x → number_of ds x ≡ Some a → definition_of G x ≡ Some p → RefersOutside y p → number_of ds y ≡ Some b → Contains (row outs a) b
     edge x y p a b r e d h f =
         let here = mapped_in (number_of ds) (references OutsideElements p) y b (outside_in y p h) f in
@@ -178,7 +179,7 @@ module _ (G : Grammar) (marks : List Bool) (outs : List (List ℕ)) (marked : Ma
         pub settling_order_is : IsSettlingOrder G order
         settling_order_is = record { in_order = record { once = once; behind = behind }; listed = listed; rank = rank; falls = rank_falls; below = rank_below }
 
-by_mark : (b : Bool) (xs ys : List ℕ) → HoldSame xs ys → HoldSame (cond b xs []) (cond b ys [])
+by_mark : (b : Bool) (xs ys : List ℕ) → HaveSameMembers xs ys → HaveSameMembers (cond b xs []) (cond b ys [])
 by_mark true xs ys h x = h x
 by_mark false xs ys h x = (λ c. c, λ c. c)
 
@@ -188,10 +189,10 @@ module _ (ds : List (Text × Tree)) (shown marks : List Bool) (rows cleared outs
   outside_size h = length-map outs (λ (v : Vec ℕ Global). v.items) ∙ ap length g ∙ h ∙ are.size
 
   pub outside_rows : ((k : ℕ) → k < length rows → row (rows_of cleared) k ≡ cond (is_marked shown k) (row (rows_of rows) k) [])
-      → (k : ℕ) → k < length ds → HoldSame (row (rows_of outs) k) (cond (is_marked marks k) (numbers_of ds (references OutsideElements (get_or ds k nothing).1)) [])
+      → (k : ℕ) → k < length ds → HaveSameMembers (row (rows_of outs) k) (cond (is_marked marks k) (numbers_of ds (references OutsideElements (get_or ds k nothing).1)) [])
   outside_rows h k l =
       let wanted = numbers_of ds (references OutsideElements (get_or ds k nothing).1) in
-      let here : HoldSame (row (rows_of rows) k) wanted = subst (HoldSame (row (rows_of rows) k)) (row_is OutsideElements ds ds k l) (are.each k l) in
-      subst (λ r. HoldSame r (cond (is_marked marks k) wanted []))
+      let here : HaveSameMembers (row (rows_of rows) k) wanted = subst (HaveSameMembers (row (rows_of rows) k)) (row_is OutsideElements ds ds k l) (are.each k l) in
+      subst (λ r. HaveSameMembers r (cond (is_marked marks k) wanted []))
       (sym (ap (λ vs. row (rows_of vs) k) g ∙ h k (omega (arith, l, are.size)) ∙ ap (λ ms. cond (is_marked ms k) (row (rows_of rows) k) []) f))
       (by_mark (is_marked marks k) (row (rows_of rows) k) wanted here)

@@ -13,8 +13,8 @@ use Rattle.std.proofs.Math.Dec.{eqb-suc-zero}
 use Rattle.std.proofs.lemmas.Cmp.{nat_list_cmp_total}
 use Rattle.std.proofs.lemmas.List.Sorted.{IsPermutation-append_comm}
 use Rattle.rn_modset.proofs.Rising.{insert_held}
-use Rattle.rn_pattern.specs.Tree.{Text, NameTree, name_trees_of, Tree, trees_of}
-use Rattle.rn_pattern.specs.Order.{text_cmp}
+use Rattle.rn_pattern.specs.Tree.{NameTree, name_trees_of, Tree, trees_of}
+use Rattle.rn_text.specs.Texts.{Text, text_cmp}
 use Rattle.rn_pattern.specs.Canonical.{put_once, sorted_once}
 use Rattle.rn_pattern.specs.View.{name_class_view, pattern_step, pattern_view, shared_view}
 use Rattle.rn_pattern.specs.declared.tree.Data.{Data}

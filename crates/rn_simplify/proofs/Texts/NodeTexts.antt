@@ -11,7 +11,8 @@ use Rattle.rn_text.specs.declared.parts.Kind.TheVariants.{Keyword}
 use Rattle.rn_text.specs.declared.parts.Part.TheVariants.{Token}
 use Rattle.rn_text.specs.Parts.{Piece}
 use Rattle.rn_pattern.specs.Tree as tree
-use Rattle.rn_pattern.specs.Tree.{Text, NameTree, Tree}
+use Rattle.rn_pattern.specs.Tree.{NameTree, Tree}
+use Rattle.rn_text.specs.Texts.{Text}
 use Rattle.rn_pattern.specs.declared.tree.Data.{Data}
 use Rattle.rn_pattern.specs.declared.tree.Pattern.{Pattern}
 use Rattle.rn_pattern.specs.declared.tree.Pattern.TheOpen.{Pattern-F}

@@ -9,7 +9,8 @@ use Rattle.rn_text.specs.declared.parts.Part.TheVariants.{Token}
 use Rattle.rn_text.specs.declared.parts.Kind.TheVariants.{Name, Keyword, Quoted, Prefixed, AnyOf}
 use Rattle.rn_text.specs.Characters.{is_keyword}
 use Rattle.rn_text.specs.Parts.{Piece}
-use Rattle.rn_pattern.specs.Tree.{Text, NameTree, any_name, any_name_but, ns_name, ns_name_but, name, name_choice}
+use Rattle.rn_pattern.specs.Tree.{NameTree, any_name, any_name_but, ns_name, ns_name_but, name, name_choice}
+use Rattle.rn_text.specs.Texts.{Text}
 use Rattle.rn_simplify.specs.declared.writer.Writer.{Writer}
 use Rattle.rn_simplify.specs.Spelling.{Prefixes, Written, closed, postfixed, chained, space, symbol, keyword, word, identifier, prefixed, any_of, name_piece, type_piece, namespace_prefix, library_prefix, place, infix_of, comma, parenthesized, braced, operand, primary, operand_in, primary_in, written_name}
 use Rattle.rn_simplify.specs.inside.Writes.{bytes_of, bracket_of, depth_after, depth_behind, opening, closing, none, Writes, WritesBytes}

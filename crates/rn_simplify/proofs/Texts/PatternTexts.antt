@@ -7,7 +7,8 @@ use Rattle.std.specs.Str.{chars, encode_utf8_all, IsUtf8}
 use Rattle.std.proofs.Math.Dec.{eqb-suc-zero}
 use Rattle.rn_text.specs.Literals.{literal_bytes, segments, quoted, joined, literal_of}
 use Rattle.rn_text.specs.Parts.{Piece, text_of}
-use Rattle.rn_pattern.specs.Tree.{Text, Parameters}
+use Rattle.rn_pattern.specs.Tree.{Parameters}
+use Rattle.rn_text.specs.Texts.{Text}
 use Rattle.rn_simplify.specs.declared.writer.Writer.{Writer}
 use Rattle.rn_simplify.specs.Spelling as s
 use Rattle.rn_simplify.specs.Spelling.{Prefixes, literal, segment, infix_of, space, word, type_piece, value_pieces, datum_pieces, param_pieces, params_pieces, braced}

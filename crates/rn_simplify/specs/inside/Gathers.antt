@@ -3,8 +3,8 @@ use Rattle.std.specs.Prelude.{◌≡◌, Bool, true, false, ◌||◌, ◌&&◌, 
 use Rattle.std.specs.List.{list_any}
 use Rattle.std.specs.BTreeSet.{BTreeSet}
 use Rattle.std.specs.declared.alloc.Global.{Global}
-use Rattle.rn_pattern.specs.Tree.{Text, NameTree, NameTrees, Tree, Trees}
-use Rattle.rn_pattern.specs.Order.{text_cmp}
+use Rattle.rn_pattern.specs.Tree.{NameTree, NameTrees, Tree, Trees}
+use Rattle.rn_text.specs.Texts.{Text, text_cmp}
 use Rattle.rn_pattern.specs.Canonical.{sorted_once}
 use Rattle.rn_pattern.specs.Matching.{Grammar}
 use Rattle.rn_simplify.specs.declared.mentions.Mentions.{Mentions}

@@ -1,7 +1,8 @@
 -- What the nodes of each kind have.
 use Rattle.std.specs.Prelude.{Bool, true, false, Option, Some, None}
 use Rattle.rn_pattern.specs.Tree as tree
-use Rattle.rn_pattern.specs.Tree.{Text, Parameters, Tree, Trees, no_trees, more_trees}
+use Rattle.rn_pattern.specs.Tree.{Parameters, Tree, Trees, no_trees, more_trees}
+use Rattle.rn_text.specs.Texts.{Text}
 use Rattle.rn_pattern.specs.declared.node.Node.{Node}
 
 -- neither a datatype nor over a content nor over members

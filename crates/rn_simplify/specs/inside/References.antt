@@ -2,19 +2,20 @@
 use Rattle.std.specs.Prelude.{◌≡◌, ℕ, ◌<◌, List, length, Vec}
 use Rattle.std.specs.declared.alloc.Global.{Global}
 use Rattle.rn_pattern.specs.Graph.{row, rows_of}
-use Rattle.rn_pattern.specs.Tree.{Text, Tree}
+use Rattle.rn_pattern.specs.Tree.{Tree}
+use Rattle.rn_text.specs.Texts.{Text}
 use Rattle.rn_simplify.specs.Numbered.{numbers_of}
 use Rattle.rn_simplify.specs.Referred.{references}
-use Rattle.rn_simplify.specs.inside.Repeats.{HoldSame}
+use Rattle.rn_pattern.specs.Canonical.{HaveSameMembers}
 use Rattle.rn_simplify.specs.declared.references.References.{References}
 use Rattle.rn_assemble.specs.declared.references.Reach.TheVariants.{Everywhere, OutsideElements}
 
 -- what a pattern refers to
 pub record AreReferences (ds : List (Text × Tree)) (p : Tree) (found : References) : Type 0 where
-  pub everywhere : HoldSame found.everywhere.items (numbers_of ds (references Everywhere p))
-  pub outside : HoldSame found.outside.items (numbers_of ds (references OutsideElements p))
+  pub everywhere : HaveSameMembers found.everywhere.items (numbers_of ds (references Everywhere p))
+  pub outside : HaveSameMembers found.outside.items (numbers_of ds (references OutsideElements p))
 
 -- n rows, each of which holds the same as the one that is wanted in its place
 pub record AreRows (wanted : ℕ → List ℕ) (n : ℕ) (rows : List (Vec ℕ Global)) : Type 0 where
   pub size : length rows ≡ n
-  pub each : (k : ℕ) → k < n → HoldSame (row (rows_of rows) k) (wanted k)
+  pub each : (k : ℕ) → k < n → HaveSameMembers (row (rows_of rows) k) (wanted k)

@@ -2,7 +2,8 @@
 use Rattle.std.specs.Prelude.{List, slice_index_or}
 use Rattle.std.specs.Option.{option_map_or}
 use Rattle.rn_pattern.specs.Tree as t
-use Rattle.rn_pattern.specs.Tree.{Text, Tree, Trees, no_trees, more_trees}
+use Rattle.rn_pattern.specs.Tree.{Tree, Trees, no_trees, more_trees}
+use Rattle.rn_text.specs.Texts.{Text}
 use Rattle.rn_simplify.specs.Numbered.{number_of}
 use Rattle.rn_assemble.specs.GrammarView.{definitions_view}
 use Rattle.rn_simplify.specs.declared.settled.Settled.{Settled}

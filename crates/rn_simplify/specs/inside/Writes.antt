@@ -6,7 +6,8 @@ use Rattle.rn_text.specs.declared.parts.Part.{Part}
 use Rattle.rn_text.specs.declared.parts.Part.TheVariants.{Token}
 use Rattle.rn_text.specs.declared.parts.Kind.TheVariants.{Symbol}
 use Rattle.rn_text.specs.Parts.{Piece, text_of}
-use Rattle.rn_pattern.specs.Tree.{Text, Tree}
+use Rattle.rn_pattern.specs.Tree.{Tree}
+use Rattle.rn_text.specs.Texts.{Text}
 use Rattle.rn_assemble.specs.declared.refusal.Refusal.{Refusal}
 use Rattle.rn_assemble.specs.declared.refusal.Refusal.TheVariants as r
 use Rattle.rn_simplify.specs.declared.writer.Writer.{Writer}

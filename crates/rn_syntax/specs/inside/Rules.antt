@@ -4,7 +4,7 @@ use Rattle.rn_syntax.specs.declared.rules.Rule.{Rule}
 use Rattle.rn_syntax.specs.declared.rules.Rule.TheVariants as r
 use Rattle.rn_syntax.specs.Tree.{NameClass, Datatype, Params, Pattern, Patterns, Declaration, Item, Items}
 use Rattle.rn_syntax.specs.Places as places
-use Rattle.rn_syntax.specs.Places.{Text}
+use Rattle.rn_text.specs.Texts.{Text}
 
 unfoldable pub classes : List Declaration → Rule → NameClass → List ℕ
 classes ds r.Prefixes n = places.class_places ds n

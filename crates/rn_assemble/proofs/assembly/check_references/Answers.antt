@@ -1,6 +1,5 @@
 use Rattle.std.proofs.Common.{◌≡◌, sym, ◌∙◌, subst, arith}
-use Rattle.rn_pattern.specs.Tree.{Text}
-use Rattle.rn_pattern.specs.Order.{text_cmp}
+use Rattle.rn_text.specs.Texts.{Text, text_cmp}
 use Rattle.rn_pattern.specs.References.{IsRecursive}
 use Rattle.rn_assemble.specs.Combine.{joined_grammar}
 use Rattle.rn_assemble.specs.Least.{IsLeast}

@@ -2,7 +2,8 @@ use Rattle.std.proofs.Common.{sym, ap, ◌∙◌}
 use Rattle.std.specs.Prelude.{IsSomeAnd, slice_get}
 use Rattle.rn_pattern.specs.NameRules.{KeepsNameRules}
 use Rattle.rn_pattern.specs.Graph.{rows_of}
-use Rattle.rn_assemble.specs.inside.Patterns.{IsMisnamedAs, IsSound, boxed_view}
+use Rattle.rn_assemble.specs.inside.Patterns.{IsMisnamedAs, IsSound}
+use Rattle.rn_pattern.specs.View.{boxed_view}
 use Rattle.rn_assemble.specs.inside.Views.{names_of}
 use Rattle.rn_assemble.proofs.Joining.KeyPatterns.{refused_by}
 use Rattle.rn_assemble.proofs.Joining.UsedMethods.{live_body}

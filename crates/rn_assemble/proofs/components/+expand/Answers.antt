@@ -3,7 +3,7 @@ use Rattle.std.specs.Rc.{rc_str_bytes}
 use Rattle.std.specs.Prelude.{slice_range}
 use Rattle.std.specs.List.{AllByRecursion}
 use Rattle.std.proofs.lemmas.List.{drop_more, drop_all, map-append, take_all, take_more}
-use Rattle.rn_pattern.specs.Tree.{Text}
+use Rattle.rn_text.specs.Texts.{Text}
 use Rattle.rn_syntax.specs.Tree.{Declaration}
 use Rattle.rn_syntax.specs.View.{prefix_view}
 use Rattle.rn_assemble.specs.declared.contents.Contents.{Contents}

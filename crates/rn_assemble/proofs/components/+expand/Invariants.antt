@@ -1,7 +1,7 @@
 -- What was added, what is left to add, and the lacks that were met.
 use Rattle.std.proofs.Common.{◌+◌, ◌-◌, ◌*◌, ◌<◌, List, length, take, drop, map}
 use Rattle.std.specs.Rc.{rc_str_bytes}
-use Rattle.rn_pattern.specs.Tree.{Text}
+use Rattle.rn_text.specs.Texts.{Text}
 use Rattle.rn_assemble.specs.Components.{NamedModule}
 use Rattle.rn_assemble.specs.inside.Contained.{AreFlat}
 use Rattle.rn_assemble.specs.inside.Listed.{IsContents, Live}

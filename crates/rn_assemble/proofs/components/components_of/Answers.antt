@@ -3,7 +3,7 @@ use Rattle.std.specs.Prelude.{flat_map}
 use Rattle.std.proofs.lemmas.List.{map-append, take_all, take_more}
 use Rattle.std.proofs.lemmas.List.Concat.{flat_map-append}
 use Rattle.std.proofs.lemmas.List.Elements.{Contains-get_or}
-use Rattle.rn_pattern.specs.Tree.{Text}
+use Rattle.rn_text.specs.Texts.{Text}
 use Rattle.rn_assemble.specs.Components.{Component, Key, components, components_within, instance_limit}
 use Rattle.rn_assemble.specs.inside.Lacking.{LacksFrom, LacksWithin}
 use Rattle.rn_assemble.specs.inside.Listed.{Live}

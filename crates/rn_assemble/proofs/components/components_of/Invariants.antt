@@ -1,6 +1,6 @@
 use Rattle.std.proofs.Common.{◌≡◌, ◌+◌, List, [], None, length, take}
 use Rattle.std.specs.Prelude.{flat_map}
-use Rattle.rn_pattern.specs.Tree.{Text}
+use Rattle.rn_text.specs.Texts.{Text}
 use Rattle.rn_pattern.specs.Graph.{AllBelow}
 use Rattle.rn_assemble.specs.Components.{NamedModule, components}
 use Rattle.rn_assemble.specs.inside.Expanded.{CanList, ContextsHold, name_at}

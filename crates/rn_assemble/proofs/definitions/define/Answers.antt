@@ -1,7 +1,8 @@
 use Rattle.std.proofs.Common.{◌≡◌, ◌++◌, ◌∷◌, [], map, ap, ◌∙◌}
 use Rattle.std.specs.Prelude.{bytes_eq, string_bytes}
 use Rattle.std.specs.List.{list_any}
-use Rattle.rn_pattern.specs.Tree.{Text, Tree}
+use Rattle.rn_pattern.specs.Tree.{Tree}
+use Rattle.rn_text.specs.Texts.{Text}
 use Rattle.rn_pattern.specs.View.{pattern_view}
 use Rattle.rn_assemble.specs.GrammarView.{definitions_view}
 use Rattle.rn_assemble.proofs.Joining.Defining.{inserted}

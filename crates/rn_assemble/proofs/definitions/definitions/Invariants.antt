@@ -2,7 +2,7 @@
 use Rattle.std.proofs.Common.{List, []}
 use Rattle.std.specs.List.Sorted.{IsStrictlySortedBy}
 use Rattle.rn_pattern.specs.Graph.{rows_of}
-use Rattle.rn_pattern.specs.Order.{text_cmp}
+use Rattle.rn_text.specs.Texts.{text_cmp}
 use Rattle.rn_assemble.specs.inside.Listed.{Lists, Live, components_in}
 use Rattle.rn_assemble.specs.inside.Patterns.{HavePatterns}
 use Rattle.rn_assemble.specs.inside.Views.{names_of}

@@ -1,12 +1,11 @@
 use Rattle.std.proofs.Common.{◌≡◌, Some, sym, ap, ◌∙◌, subst, arith}
 use Rattle.std.specs.Prelude.{option_map}
-use Rattle.rn_pattern.specs.View.{pattern_view}
+use Rattle.rn_pattern.specs.View.{pattern_view, boxed_view}
 use Rattle.rn_assemble.specs.Combine.{joined}
 use Rattle.rn_assemble.specs.Components.{start_key}
 use Rattle.rn_assemble.specs.Firsts.{joined_members}
 use Rattle.rn_assemble.specs.inside.Tied.{AreTied}
 use Rattle.rn_assemble.specs.inside.Listed.{components_in}
-use Rattle.rn_assemble.specs.inside.Patterns.{boxed_view}
 use Rattle.rn_assemble.specs.inside.Views.{names_of}
 use Rattle.rn_assemble.proofs.Joining.Defining.{others_left, start_there}
 use Rattle.rn_assemble.proofs.Joining.HeldStart.{start_held}

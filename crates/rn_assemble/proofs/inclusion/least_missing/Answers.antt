@@ -2,7 +2,7 @@
 use Rattle.std.proofs.Common.{◌++◌, ◌∷◌, [], ap, ◌∙◌, sym, subst, take, get_or, option_map, Some, Option}
 use Rattle.std.specs.Prelude.{not}
 use Rattle.std.proofs.lemmas.List.{take_all}
-use Rattle.rn_pattern.specs.Tree.{Text}
+use Rattle.rn_text.specs.Texts.{Text}
 use Rattle.rn_assemble.specs.inside.Inclusions.{IsLeastAmong, IsMissing}
 use Rattle.rn_assemble.specs.inside.Views.{modules_view, texts_of}
 use Rattle.rn_assemble.proofs.Referring.LeastUndefined.{no_text, texts_more}

@@ -2,7 +2,7 @@ use Rattle.std.proofs.Common.{[], ◌∷◌, ◌++◌, Some, sym, ◌∙◌, sub
 use Rattle.std.specs.Prelude.{IsSome}
 use Rattle.std.proofs.lemmas.Bool.{false≢true}
 use Rattle.rn_pattern.specs.Matching.{definition_of}
-use Rattle.rn_pattern.specs.Tree.{Text}
+use Rattle.rn_text.specs.Texts.{Text}
 use Rattle.rn_assemble.specs.Combine.{joined_grammar}
 use Rattle.rn_assemble.specs.inside.Listed.{components_in}
 use Rattle.rn_assemble.specs.inside.Referred.{IsLeastOf}

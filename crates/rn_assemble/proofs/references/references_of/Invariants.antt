@@ -1,7 +1,7 @@
 -- The keys before are done.
 use Rattle.std.proofs.Common.{◌≡◌, ◌+◌, List, length, option_map, vec_len}
 use Rattle.std.specs.List.Sorted.{IsStrictlySortedBy}
-use Rattle.rn_pattern.specs.Order.{text_cmp}
+use Rattle.rn_text.specs.Texts.{text_cmp}
 use Rattle.rn_pattern.specs.Graph.{rows_of}
 use Rattle.rn_pattern.proofs.Graphs.Rows.{AreRows}
 use Rattle.rn_assemble.specs.inside.Listed.{Lists, Live, components_in}

@@ -2,9 +2,8 @@ use Rattle.std.proofs.Common.{◌≡◌, ap, ◌∙◌}
 use Rattle.std.specs.Rc.{rc_str_bytes}
 use Rattle.std.proofs.lemmas.Result.{IfOk-weaker}
 use Rattle.rn_pattern.specs.Tree as tree
-use Rattle.rn_pattern.specs.View.{parameters_view, pattern_view}
+use Rattle.rn_pattern.specs.View.{parameters_view, pattern_view, boxed_view}
 use Rattle.rn_syntax.specs.View.{params_view}
-use Rattle.rn_assemble.specs.inside.Patterns.{boxed_view}
 use Rattle.rn_assemble.proofs.resolution.datum_but.Goals as goal
 
 pub returns : goal.returns

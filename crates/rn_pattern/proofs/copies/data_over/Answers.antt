@@ -5,7 +5,8 @@ use Rattle.std.specs.Option.{option_map}
 use Rattle.std.specs.Rc.{rc_str_bytes}
 use Rattle.std.specs.declared.alloc.Global.{Global}
 use Rattle.rn_pattern.specs.Store.{datum_by}
-use Rattle.rn_pattern.specs.Tree.{Parameters, Text}
+use Rattle.rn_pattern.specs.Tree.{Parameters}
+use Rattle.rn_text.specs.Texts.{Text}
 use Rattle.rn_pattern.specs.View.{boxed_view, excepted_view, parameters_view}
 use Rattle.rn_pattern.specs.declared.tree.Pattern.{Pattern}
 use Rattle.rn_pattern.proofs.Ordered.PatternKinds.{datum_of, datum_seen}

@@ -3,7 +3,7 @@ use Rattle.std.specs.Prelude.{String, string_bytes}
 use Rattle.std.specs.declared.alloc.Global.{Global}
 use Rattle.std.specs.Hash as fed
 use Rattle.std.proofs.lemmas.List.{take_all}
-use Rattle.rn_pattern.specs.Tree.{Text}
+use Rattle.rn_text.specs.Texts.{Text}
 use Rattle.rn_pattern.proofs.Stores.Gathering.{flat_map-through}
 use Rattle.rn_pattern.proofs.hashing.hash_parameters.Goals as goal
 

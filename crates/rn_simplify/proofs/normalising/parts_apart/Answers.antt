@@ -1,5 +1,6 @@
 use Rattle.std.proofs.Common.{map, sym, ap, ◌∙◌, subst}
-use Rattle.rn_pattern.specs.Tree.{Text, Tree}
+use Rattle.rn_pattern.specs.Tree.{Tree}
+use Rattle.rn_text.specs.Texts.{Text}
 use Rattle.rn_pattern.specs.View.{pattern_view}
 use Rattle.rn_assemble.specs.Firsts.{AreFirsts, joined_members}
 use Rattle.rn_assemble.specs.GrammarView.{definitions_view, grammar_view}

@@ -1,7 +1,7 @@
 use Rattle.std.proofs.Common.{ap, map, ◌∙◌, subst, arith}
 use Rattle.std.proofs.lemmas.List.{take_all}
 use Rattle.rn_pattern.specs.View.{pattern_view, shared_view}
-use Rattle.rn_simplify.specs.inside.Repeats.{HoldSame}
+use Rattle.rn_pattern.specs.Canonical.{HaveSameMembers}
 use Rattle.rn_simplify.proofs.Simplified.Repeats.{kept_more, left_out}
 use Rattle.rn_simplify.proofs.repeated_members.distinct_members.Goals as goal
 use Rattle.rn_simplify.proofs.repeated_members.distinct_members.Goals.{then-first_of-index+in_ok-clone+in_ok-push, else-first_of-index}
@@ -15,4 +15,4 @@ loop-index-preserved c = elim c.if-first_of-index.branch [
 ]
 
 pub returns : goal.returns
-returns c = subst (λ ms. HoldSame (map shared_view c.loop-index.found.items) (map shared_view ms)) (take_all c.loop-index.index c.args.members.now (omega arith)) c.loop-index.invariant
+returns c = subst (λ ms. HaveSameMembers (map shared_view c.loop-index.found.items) (map shared_view ms)) (take_all c.loop-index.index c.args.members.now (omega arith)) c.loop-index.invariant

@@ -3,7 +3,7 @@ use Rattle.rn_assemble.specs.GrammarView.{grammar_view}
 use Rattle.rn_pattern.specs.Graph.{row}
 use Rattle.rn_simplify.specs.Numbered.{graph_of, rows_by}
 use Rattle.rn_simplify.specs.inside.References.{AreRows}
-use Rattle.rn_simplify.specs.inside.Repeats.{HoldSame}
+use Rattle.rn_pattern.specs.Canonical.{HaveSameMembers}
 use Rattle.rn_assemble.specs.declared.references.Reach.TheVariants.{Everywhere, OutsideElements}
 use Rattle.rn_simplify.proofs.Simplified.Marks.{no_rows, more_rows}
 use Rattle.rn_simplify.proofs.Simplified.Numbers.{size_of_view}
@@ -27,10 +27,10 @@ loop-number-preserved c =
     let within : n < length ds = omega (arith, ap length c.defs.ensures, size_of_view c.defs.result.now.entries) in
     record {
       everywhere = more_rows (row (graph_of (grammar_view c.args.grammar.now))) n c.loop-number.everywhere.items c.push.new.self.items found.everywhere c.in_ok-push.ensures.items
-          (subst (λ r. HoldSame found.everywhere.items r) (sym (row_is Everywhere ds ds n within)) (c.in_ok-found.ensures nothing).everywhere)
+          (subst (λ r. HaveSameMembers found.everywhere.items r) (sym (row_is Everywhere ds ds n within)) (c.in_ok-found.ensures nothing).everywhere)
           c.loop-number.invariant.everywhere;
       outside = more_rows (row (rows_by OutsideElements ds ds)) n c.loop-number.outside.items c.push-in-loop-number.new.self.items found.outside c.in_ok-push-2.ensures.items
-          (subst (λ r. HoldSame found.outside.items r) (sym (row_is OutsideElements ds ds n within)) (c.in_ok-found.ensures nothing).outside)
+          (subst (λ r. HaveSameMembers found.outside.items r) (sym (row_is OutsideElements ds ds n within)) (c.in_ok-found.ensures nothing).outside)
           c.loop-number.invariant.outside;
     }
 

@@ -1,6 +1,6 @@
 use Rattle.std.proofs.Common.{◌≡◌, List, map}
 use Rattle.std.specs.Prelude.{slice_range}
-use Rattle.rn_pattern.specs.Tree.{Text}
+use Rattle.rn_text.specs.Texts.{Text}
 use Rattle.rn_syntax.specs.Tree.{Declaration}
 use Rattle.rn_assemble.specs.inside.Expanded.{AddsLive, CanAdd, KeepsBodies}
 use Rattle.rn_assemble.specs.inside.Listed.{Live, resolved_component}

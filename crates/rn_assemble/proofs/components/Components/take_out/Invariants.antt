@@ -1,7 +1,7 @@
 use Rattle.std.proofs.Common.{◌≡◌, ◌<◌, ◌≤◌, ◌++◌, List, length}
 use Rattle.std.specs.Prelude.{slice_range}
 use Rattle.std.specs.List.{AllByRecursion}
-use Rattle.rn_pattern.specs.Tree.{Text}
+use Rattle.rn_text.specs.Texts.{Text}
 use Rattle.rn_assemble.specs.inside.Expanded.{KeepsBodies, left_by}
 use Rattle.rn_assemble.specs.inside.Listed.{Lists, Live, Rises}
 use Rattle.rn_assemble.proofs.components.Components.take_out.Given as goal

@@ -1,7 +1,7 @@
 -- The search by names finds the module, or there is none.
 use Rattle.std.proofs.Common.{rules}
 use Rattle.std.proofs.lemmas.Fn.{always_returns_same}
-use Rattle.rn_modset.specs.Contributions.{text_cmp}
+use Rattle.rn_text.specs.Texts.{text_cmp}
 use Rattle.rn_modset.proofs.Lookups.{found_there, found_nowhere}
 use Rattle.rn_modset.proofs.modules.Effective.get.Goals as goal
 

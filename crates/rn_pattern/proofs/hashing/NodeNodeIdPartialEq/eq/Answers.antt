@@ -3,7 +3,8 @@ use Rattle.std.proofs.Common.{◌≡◌, nat_eq, nat_cmp, sym, ◌∙◌, map}
 use Rattle.std.specs.Ordering.{ordering_then}
 use Rattle.std.specs.Cmp.Lexicographic.{slice_cmp, pointwise}
 use Rattle.std.specs.Cmp.Derive.Mapped.{pointwise-map}
-use Rattle.rn_pattern.specs.Order.{text_cmp, parameters_cmp, names_cmp}
+use Rattle.rn_pattern.specs.Order.{parameters_cmp, names_cmp}
+use Rattle.rn_text.specs.Texts.{text_cmp}
 use Rattle.rn_pattern.specs.inside.Shown.{class_view}
 use Rattle.rn_pattern.specs.View.{parameters_view}
 use Rattle.rn_pattern.specs.inside.Hashing.{key}

@@ -1,7 +1,8 @@
 use Rattle.std.proofs.Common.{◌≡◌, ◌++◌, OnOk, map, List, sym, ap, append-nil, ◌∙◌, subst, arith}
 use Rattle.std.proofs.lemmas.List.{take_all}
 use Rattle.rn_assemble.specs.GrammarView.{definitions_view}
-use Rattle.rn_pattern.specs.Tree.{Text, trees_of}
+use Rattle.rn_pattern.specs.Tree.{trees_of}
+use Rattle.rn_text.specs.Texts.{Text}
 use Rattle.rn_pattern.specs.View.{pattern_view, shared_view}
 use Rattle.rn_simplify.specs.Numbered.{numbers_of}
 use Rattle.rn_simplify.specs.Referred.{all_references, references}
