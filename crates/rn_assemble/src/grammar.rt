@@ -18,7 +18,8 @@ pub struct Grammar {
 
 impl Grammar {
     ghost use Rattle.std.specs.Prelude.{◌≡◌, ◌<◌, length, slice_index_or};
-    ghost use Rattle.rn_pattern.specs.Tree.{Text, Tree};
+    ghost use Rattle.rn_text.specs.Texts.{Text};
+    ghost use Rattle.rn_pattern.specs.Tree.{Tree};
     ghost use Rattle.rn_pattern.specs.View.{pattern_view};
     ghost use Rattle.rn_assemble.specs.Firsts.{AreFirsts, joined_members};
     ghost use Rattle.rn_assemble.specs.GrammarView.{definitions_view, grammar_view};
