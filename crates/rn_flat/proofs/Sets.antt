@@ -3,7 +3,7 @@ use Rattle.std.proofs.Common.{◌≡◌, ℕ, suc, ◌+◌, ◌<◌, List, [], �
 use Rattle.std.proofs.Math.Seq.{take-suc}
 use Rattle.std.proofs.lemmas.List.{map-append}
 use Rattle.rn_modset.specs.Sets.{union, with_member}
-use Rattle.rn_modset.proofs.Unions.{union_push}
+use Rattle.rn_modset.proofs.Unions.UnionMembers.{union_push}
 use Rattle.rn_lift.specs.declared.lifted.LiftedModule.{LiftedModule}
 use Rattle.rn_flat.specs.Modules.{lifted_member, set_of_modules}
 

@@ -4,7 +4,7 @@ use Rattle.std.specs.Prelude.{Option, Some, Contains}
 use Rattle.std.specs.List.Sorted.{IsStrictlySortedBy}
 use Rattle.rn_modset.specs.Contributions.{Member}
 use Rattle.rn_modset.specs.Modules.{Module, NamesRise, Holds, IsEffective, AreEffective}
-use Rattle.rn_modset.proofs.Membership.{in_from_contains, contains_from_in, in_from_has, has_from_in}
+use Rattle.rn_modset.proofs.Unions.Membership.{in_from_contains, contains_from_in, in_from_has, has_from_in}
 
 module _ (name : List ℕ) (revision : ℕ) (text : List ℕ) where
   abbrev alone : List Member

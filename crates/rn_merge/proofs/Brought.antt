@@ -6,12 +6,12 @@ use Rattle.std.proofs.lemmas.Option.{slice_get_within, get_or_from_slice_get}
 use Rattle.rn_modset.specs.Contributions.{Member}
 use Rattle.rn_modset.specs.Sets.{Rises, has, union}
 use Rattle.rn_modset.specs.Grammar.{IsBundle}
-use Rattle.rn_modset.proofs.Kept.{none_kept}
-use Rattle.rn_modset.proofs.Membership.{In, in_left, in_from_contains, contains_from_in, in_from_has, has_from_in}
-use Rattle.rn_modset.proofs.OneFault.{bundle_fault}
-use Rattle.rn_modset.proofs.Readable as readable
-use Rattle.rn_modset.proofs.UnionLaws.{one_set}
-use Rattle.rn_modset.proofs.Unions.{has_union, rises_union, length_union}
+use Rattle.rn_modset.proofs.Unions.AddedMember.{none_kept}
+use Rattle.rn_modset.proofs.Unions.Membership.{In, in_left, in_from_contains, contains_from_in, in_from_has, has_from_in}
+use Rattle.rn_modset.proofs.BundleFaults.OneBundleFault.{bundle_fault}
+use Rattle.rn_modset.proofs.BundlesRead.DistinctBundles as readable
+use Rattle.rn_modset.proofs.Unions.UnionLaws.{one_set}
+use Rattle.rn_modset.proofs.Unions.UnionMembers.{has_union, rises_union, length_union}
 use Rattle.rn_merge.specs.declared.run.RunFault.{RunFault}
 use Rattle.rn_merge.specs.declared.run.RunFault.TheVariants.{Bundle, Full, Memory, Write}
 use Rattle.rn_merge.specs.Laws.{Brings, BringSame, AreSame}
@@ -93,7 +93,7 @@ module _ (bundles : List (List ℕ)) (s : List Member) (h : IsUnion bundles s) w
   pub held : (m : Member) → Brings bundles m → Contains s m
   held m (b, t, c, is, k) =
       let (u, i, other) = set_of_bundle bundles h.sets h.are b (in_from_contains bundles b c) in
-      let same : t ≡ u = readable.one_set b t u is other in
+      let same : t ≡ u = readable.one_set_of_bundle b t u is other in
       let inside : In m u = subst (λ (v : List Member). In m v) same (in_from_contains t m k) in
       contains_from_in s m (subst (λ (v : List Member). In m v) (sym h.is) (unions_some [] h.sets u m i inside))
 

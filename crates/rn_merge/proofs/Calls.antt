@@ -5,8 +5,8 @@ use Rattle.std.specs.List.{flat_map}
 use Rattle.rn_modset.specs.Contributions.{Member}
 use Rattle.rn_modset.specs.Sets.{has}
 use Rattle.rn_modset.specs.Laws.{Call, after, brought}
-use Rattle.rn_modset.proofs.Membership.{In, in_append, in_left, in_right, in_from_contains, contains_from_in, in_from_has, has_from_in}
-use Rattle.rn_modset.proofs.UnionLaws.{call_laws}
+use Rattle.rn_modset.proofs.Unions.Membership.{In, in_append, in_left, in_right, in_from_contains, contains_from_in, in_from_has, has_from_in}
+use Rattle.rn_modset.proofs.Unions.UnionLaws.{call_laws}
 use Rattle.rn_assemble.specs.declared.refusal.Refusal.TheVariants as r
 use Rattle.rn_merge.specs.Laws.{IsLeftBy, Bring, BringAlike}
 use Rattle.rn_merge.specs.Verdicts.{Answer, answer_view, IsAnswer}

@@ -4,7 +4,7 @@ use Rattle.std.specs.Prelude.{count_by}
 use Rattle.std.specs.List.{list_any}
 use Rattle.std.proofs.lemmas.Bool.{false≢true}
 use Rattle.rn_modset.specs.Contributions.{Member}
-use Rattle.rn_modset.proofs.Membership.{In, contains_from_in}
+use Rattle.rn_modset.proofs.Unions.Membership.{In, contains_from_in}
 use Rattle.rn_assemble.specs.Components.{Key, same_key, Component, NamedModule, set_components}
 use Rattle.rn_assemble.specs.Combine.{of_key, is_plain, is_choice, is_interleave, IsPlainTwice, IsMixed}
 use Rattle.rn_assemble.specs.Refusal.{Refusal, plain_twice, mixed_methods, Stands, AreModules}

@@ -8,7 +8,7 @@ use Rattle.rn_pattern.specs.Canonical.{sorted_once}
 use Rattle.rn_pattern.proofs.Ordered.Ascending.{AllAbove, each_unsorted_once, climbs_sorted_once}
 use Rattle.rn_pattern.proofs.Ordered.InOrder.{by_name}
 use Rattle.rn_pattern.proofs.Ordered.Orders.{text_same}
-use Rattle.rn_modset.proofs.Membership.{In, all_in, all_by_in, in_from_contains, contains_from_in}
+use Rattle.rn_modset.proofs.Unions.Membership.{In, all_in, all_by_in, in_from_contains, contains_from_in}
 
 -- what has no first value has none
 module _ {X : Type 0} (rank : X → ℕ) (P : X → Type 0) (none : (x : X) → P x → ((y : X) → rank y < rank x → ¬ P y) → ⊥) where

@@ -12,7 +12,7 @@ use Rattle.rn_pattern.specs.Matching.{Grammar, definition_of}
 use Rattle.rn_pattern.specs.Reached.{IsReached, IsPruned, IsCanonicalOf, all_canonical}
 use Rattle.rn_modset.specs.Contributions.{Member}
 use Rattle.rn_modset.specs.Modules.{Module, Holds, IsEffective, IsConflict, AreEffective}
-use Rattle.rn_modset.proofs.Membership.{In, in_from_contains, contains_from_in, in_from_has}
+use Rattle.rn_modset.proofs.Unions.Membership.{In, in_from_contains, contains_from_in, in_from_has}
 use Rattle.rn_syntax.specs.declared.fault.FaultKind.{FaultKind}
 use Rattle.rn_syntax.specs.Faults.{kind_rank}
 use Rattle.rn_assemble.specs.Components.{NamedModule}

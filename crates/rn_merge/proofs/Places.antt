@@ -7,8 +7,8 @@ use Rattle.rn_text.specs.Tokens.{Lexeme, HasTokens, lexeme_of}
 use Rattle.rn_text.specs.declared.source.Token.{Token}
 use Rattle.rn_text.specs.declared.source.TextFault as reading
 use Rattle.rn_text.specs.declared.source.TextFault.TheVariants as r
-use Rattle.rn_text.proofs.Told as told
-use Rattle.rn_text.proofs.Unique.{one_token_list}
+use Rattle.rn_text.proofs.TokenLists.TokensOrFault as told
+use Rattle.rn_text.proofs.TokenLists.OneTokenList.{one_token_list}
 use Rattle.rn_syntax.specs.declared.fault.FaultKind.{FaultKind}
 use Rattle.rn_syntax.specs.declared.fault.SyntaxFault.{SyntaxFault}
 use Rattle.rn_syntax.specs.declared.fault.SyntaxFault.TheVariants as s

@@ -13,11 +13,11 @@ use std::alloc::{AllocError, Global};
 pub fn hex_digest(alloc: Global, text: &[u8]) -> Result<String, AllocError>
     ensures { IfOk result (λ digits. string_bytes digits ≡ digest text.now) }
 {
-    spelled(alloc, &Sha256::digest(text))
+    digest_digits(alloc, &Sha256::digest(text))
 }
 
-/// A digest in hexadecimal digits in lower case.
-pub(crate) fn spelled(alloc: Global, digest: &[u8]) -> Result<String, AllocError>
+/// The hexadecimal digits of a digest, in lower case, the higher one of each byte first.
+pub(crate) fn digest_digits(alloc: Global, digest: &[u8]) -> Result<String, AllocError>
     ensures { IfOk result (λ digits. string_bytes digits ≡ encode_lower digest.now) }
 {
     hex::encode(alloc, digest)

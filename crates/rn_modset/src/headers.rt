@@ -13,14 +13,22 @@ use crate::names::is_module_name;
 /// What a header line says.
 #[derive(Clone, Copy)]
 pub enum HeaderLine<'a> {
+    /// `module NAME REV LEN SHA256`: a text stands behind the line.
     Text {
+        /// The module's name.
         name: &'a str,
+        /// The module's revision.
         revision: u64,
+        /// How many bytes the text has, at most `MAX_TEXT`.
         len: usize,
+        /// The 64 digits of the text's digest.
         digest: &'a [u8],
     },
+    /// `withdrawn NAME REV`: nothing stands behind the line.
     Withdrawal {
+        /// The module's name.
         name: &'a str,
+        /// The revision that withdraws the module.
         revision: u64,
     },
 }

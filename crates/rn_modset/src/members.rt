@@ -3,7 +3,7 @@ ghost use Rattle.std.specs.Prelude.{◌≡◌, ◌≤◌, ◌+◌, ◌++◌, ◌
 ghost use Rattle.std.specs.List.{insert};
 ghost use Rattle.rn_modset.specs.Contributions.{members_of};
 ghost use Rattle.rn_modset.specs.Digests.{set_digest};
-ghost use Rattle.rn_modset.specs.inside.Digested.{IsDigested, AreDigested, HasRoom};
+ghost use Rattle.rn_modset.specs.inside.Digested.{members_in, IsDigested, AreDigested, HasRoom};
 
 use crate::contribution::Contribution;
 use crate::digesting::text_digest;
@@ -13,14 +13,18 @@ use std::alloc::{AllocError, Global};
 /// A contribution with the digest of its text.
 #[derive(Drop)]
 pub struct Digested {
+    /// The contribution.
     pub contribution: Contribution,
+    /// SHA-256 (FIPS 180-4) of its text, of no bytes if it is a withdrawal.
     pub digest: [u8; 32],
 }
 
 /// Contributions, and at the same places the digests of their texts. So each text is digested once.
 #[derive(Drop)]
 pub struct Members {
+    /// The contributions, in a set in their order.
     pub contributions: Vec<Contribution>,
+    /// The digest of each contribution's text, at the same place.
     pub digests: Vec<[u8; 32]>,
 }
 
@@ -51,7 +55,7 @@ impl Members {
     /// The digest of all digests, one after another.
     pub fn digest(&self) -> [u8; 32]
         requires { AreDigested self.now }
-        ensures { result ≡ set_digest (members_of self.now.contributions.items) }
+        ensures { result ≡ set_digest (members_in self.now) }
     {
         let digests = self.digests.as_slice();
         let mut hasher = Sha256::new();

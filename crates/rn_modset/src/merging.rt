@@ -3,7 +3,7 @@ ghost use Rattle.std.specs.Prelude.{◌≡◌, ◌≢◌, ◌+◌, ◌<◌, ◌�
 ghost use Rattle.rn_modset.specs.Contributions.{Member, member, members_of, member_cmp};
 ghost use Rattle.rn_modset.specs.Sets.{Rises, has, missing, union};
 ghost use Rattle.rn_modset.specs.inside.Merges.{IsNotBelow, KeepsFrom, AreApart, EndsAbove, TakesGreatest};
-ghost use Rattle.rn_modset.specs.inside.Digested.{IsDigested, AreDigested, HasRoom};
+ghost use Rattle.rn_modset.specs.inside.Digested.{members_in, IsDigested, AreDigested, HasRoom};
 
 use crate::contribution::Contribution;
 use crate::members::{Digested, Members};
@@ -35,10 +35,10 @@ pub fn copy_missing(
     count: usize,
 ) -> Result<Members, AllocError>
     requires held { Rises (members_of held.now) }
-    requires others { Rises (members_of others.now.contributions.items) }
+    requires others { Rises (members_in others.now) }
     requires digested { AreDigested others.now }
     ensures copies { IfOk result (λ copies. members_of copies.contributions.items
-        ≡ missing (members_of held.now) (members_of others.now.contributions.items)) }
+        ≡ missing (members_of held.now) (members_in others.now)) }
     ensures digested { IfOk result AreDigested }
 {
     let contributions = others.contributions.as_slice();
@@ -88,16 +88,13 @@ fn begins_with(rest: &[Contribution], contribution: &Contribution) -> bool
 
 /// Moves all of both lists, which share none, into the empty one, in order.
 pub fn merge_members(held: &mut Members, added: &mut Members, merged: &mut Members)
-    requires held { Rises (members_of held.old.contributions.items) × AreDigested held.old }
-    requires added { Rises (members_of added.old.contributions.items) × AreDigested added.old }
-    requires apart { AreApart (members_of held.old.contributions.items)
-        (members_of added.old.contributions.items) }
+    requires held { Rises (members_in held.old) × AreDigested held.old }
+    requires added { Rises (members_in added.old) × AreDigested added.old }
+    requires apart { AreApart (members_in held.old) (members_in added.old) }
     requires empty { (merged.old.contributions.items ≡ []) × AreDigested merged.old }
     requires room { HasRoom merged.old
         (vec_len held.old.contributions + vec_len added.old.contributions) }
-    ensures all { members_of merged.new.contributions.items
-        ≡ union (members_of held.old.contributions.items)
-        (members_of added.old.contributions.items) }
+    ensures all { members_in merged.new ≡ union (members_in held.old) (members_in added.old) }
     ensures digested { AreDigested merged.new }
 {
     while let Some(greatest) = pop_greatest(held, added) {
@@ -110,15 +107,13 @@ pub fn merge_members(held: &mut Members, added: &mut Members, merged: &mut Membe
 
 /// The greatest of both lists, taken from the end of its own.
 fn pop_greatest(held: &mut Members, added: &mut Members) -> Option<Digested>
-    requires held { Rises (members_of held.old.contributions.items) × AreDigested held.old }
-    requires added { Rises (members_of added.old.contributions.items) × AreDigested added.old }
-    requires apart { AreApart (members_of held.old.contributions.items)
-        (members_of added.old.contributions.items) }
+    requires held { Rises (members_in held.old) × AreDigested held.old }
+    requires added { Rises (members_in added.old) × AreDigested added.old }
+    requires apart { AreApart (members_in held.old) (members_in added.old) }
     ensures greatest { MatchOption result
         ((held.old.contributions.items ≡ []) × (added.old.contributions.items ≡ []))
-        (λ d. TakesGreatest (members_of held.old.contributions.items)
-        (members_of added.old.contributions.items) (members_of held.new.contributions.items)
-        (members_of added.new.contributions.items) (member d.contribution)) }
+        (λ d. TakesGreatest (members_in held.old) (members_in added.old) (members_in held.new)
+        (members_in added.new) (member d.contribution)) }
     ensures fewer { MatchOption result
         (vec_len held.old.contributions + vec_len added.old.contributions ≡ 0)
         (λ d. vec_len held.new.contributions + vec_len added.new.contributions + 1

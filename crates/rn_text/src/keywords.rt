@@ -7,29 +7,48 @@ ghost use Rattle.rn_text.specs.Keywords.{spelling};
 /// One of the 19 keywords (RELAX NG Compact Syntax, appendix A, keyword), named as it is spelled.
 #[derive(Clone, Copy, Debug, PartialEq, Eq)]
 pub enum Keyword {
+    /// `attribute`, of a pattern of attributes.
     Attribute,
+    /// `default`, of the namespace that names without a prefix have.
     Default,
+    /// `datatypes`, of a prefix that stands for a datatype library.
     Datatypes,
+    /// `div`, of components that stand together.
     Div,
+    /// `element`, of a pattern of an element.
     Element,
+    /// `empty`, the pattern of no content.
     Empty,
+    /// `external`, of the pattern that another schema is.
     External,
+    /// `grammar`, of a pattern with definitions of its own.
     Grammar,
+    /// `include`, of a grammar whose components are taken over.
     Include,
+    /// `inherit`, of the namespace that an include or an external passes on.
     Inherit,
+    /// `list`, of a pattern of words with white space between.
     List,
+    /// `mixed`, of a pattern with text between its elements.
     Mixed,
+    /// `namespace`, of a prefix that stands for a namespace.
     Namespace,
+    /// `notAllowed`, the pattern that nothing matches.
     NotAllowed,
+    /// `parent`, of a name that the grammar around defines.
     Parent,
+    /// `start`, of the definition where a grammar begins.
     Start,
+    /// `string`, a datatype of the empty library: all characters count.
     String,
+    /// `text`, the pattern of any text.
     Text,
+    /// `token`, a datatype of the empty library: white space is normalised.
     Token,
 }
 
 /// The keyword that the bytes spell.
-fn spelled(bytes: &[u8]) -> Option<Keyword>
+fn keyword_of_bytes(bytes: &[u8]) -> Option<Keyword>
     ensures { MatchOption result ((k : Keyword) → bytes.now ≢ spelling k)
         (λ k. bytes.now ≡ spelling k) }
 {
@@ -63,7 +82,7 @@ pub fn keyword_of(text: &str) -> Option<Keyword>
     ensures { MatchOption result ((k : Keyword) → chars text.now ≢ spelling k)
         (λ k. chars text.now ≡ spelling k) }
 {
-    spelled(text.as_bytes())
+    keyword_of_bytes(text.as_bytes())
 }
 
 /// Whether the text is a keyword.

@@ -1,11 +1,13 @@
 // Literals: from segments to their text, and back.
-ghost use Rattle.std.specs.Prelude.{◌≡◌, ◌≢◌, ◌++◌, ◌∷◌, ◌<◌, ◌≤◌, ◌&&◌, ◌==◌, [], true, false, ℕ, List, length, IfOk, OnOk, OnErr, MatchOption, IfSome};
+ghost use Rattle.std.specs.Prelude.{◌≡◌, ◌≢◌, ◌++◌, ◌∷◌, ◌<◌, ◌≤◌, ◌&&◌, ◌==◌, [], true, false, ℕ, List, length, IfOk, OnOk, OnErr, MatchOption};
 ghost use Rattle.std.specs.String.{string_bytes};
 ghost use Rattle.std.specs.Prelude.{map};
 ghost use Rattle.std.specs.List.{flat_map};
-ghost use Rattle.std.specs.Str.{chars, encode_utf8_all, IsUtf8};
+ghost use Rattle.std.specs.Str.{chars, encode_utf8_all};
+ghost use Rattle.rn_text.specs.Texts.{AnswersUtf8, LeavesUtf8};
 ghost use Rattle.rn_text.specs.Segments.{segment_text, is_segment, is_delimiter, is_delimited, between_delimiters};
-ghost use Rattle.rn_text.specs.Literals.{StandsFor, written, are_parted, literal_bytes, delimiter_for, between, quoted, segments};
+ghost use Rattle.rn_text.specs.Literals.{written, are_parted, literal_bytes, delimiter_for, quoted, segments};
+ghost use Rattle.rn_text.specs.inside.Writing.{StandsFor, between};
 
 use crate::characters::{after_char, split_first};
 use crate::segments::{after_three, is_delimiter, split_escape};
@@ -17,7 +19,7 @@ fn before_char(text: &str, c: char) -> Option<&str>
     requires { c < 128 }
     ensures cases { MatchOption result ((front : List ℕ) → chars text.now ≢ front ++ c ∷ [])
         (λ r. chars text.now ≡ chars r.now ++ c ∷ []) }
-    ensures utf8 { IfSome result (λ r. IsUtf8 r.now) }
+    ensures utf8 { AnswersUtf8 result }
 {
     text.strip_suffix(c)
 }
@@ -27,7 +29,7 @@ fn before_three(text: &str, c: char) -> Option<&str>
     requires { c < 128 }
     ensures cases { MatchOption result ((front : List ℕ) → chars text.now ≢ front ++ c ∷ c ∷ c ∷ [])
         (λ r. chars text.now ≡ chars r.now ++ c ∷ c ∷ c ∷ []) }
-    ensures utf8 { IfSome result (λ r. IsUtf8 r.now) }
+    ensures utf8 { AnswersUtf8 result }
 {
     before_char(before_char(before_char(text, c)?, c)?, c)
 }
@@ -36,7 +38,7 @@ fn before_three(text: &str, c: char) -> Option<&str>
 pub fn between_delimiters(segment: &str) -> Option<&str>
     ensures cases { MatchOption result (is_delimited (chars segment.now) ≡ false)
         (λ r. chars r.now ≡ between_delimiters (chars segment.now)) }
-    ensures utf8 { IfSome result (λ r. IsUtf8 r.now) }
+    ensures utf8 { AnswersUtf8 result }
 {
     let (delimiter, opened) = split_first(segment)?;
     if !is_delimiter(delimiter) {
@@ -52,7 +54,7 @@ pub fn between_delimiters(segment: &str) -> Option<&str>
 fn split_text(rest: &str) -> Option<(char, &str)>
     ensures cases { MatchOption result (chars rest.now ≡ [])
         (λ p. StandsFor (chars rest.now) p.0 (chars p.1.now)) }
-    ensures utf8 { IfSome result (λ p. IsUtf8 p.1.now) }
+    ensures utf8 { LeavesUtf8 result }
 {
     let (first, after) = split_first(rest)?;
     if let Some((escaped, after)) = split_escape(rest) {

@@ -1,11 +1,12 @@
 // Segments of literals, and escapes in them.
-ghost use Rattle.std.specs.Prelude.{◌≡◌, ◌∷◌, ◌++◌, ◌==◌, ◌&&◌, ◌<◌, ◌⊎◌, [], drop, not, true, false, length, ℕ, List, MatchOption, IfSome, IsTrue};
-ghost use Rattle.std.specs.Str.{chars, IsUtf8};
+ghost use Rattle.std.specs.Prelude.{◌≡◌, ◌∷◌, ◌++◌, ◌==◌, ◌&&◌, ◌<◌, ◌⊎◌, [], drop, not, true, false, length, ℕ, List, MatchOption, IsTrue};
+ghost use Rattle.std.specs.Str.{chars};
 ghost use Rattle.std.specs.Char.{is_ascii_hexdigit};
 ghost use Rattle.std.specs.List.{list_all};
 ghost use Rattle.std.specs.Str.Parse.{digits_value};
+ghost use Rattle.rn_text.specs.Texts.{AnswersUtf8, LeavesUtf8};
 ghost use Rattle.rn_text.specs.Characters.{is_xml_char};
-ghost use Rattle.rn_text.specs.Parts.{IsDelimitedFront, IsNeverDelimited};
+ghost use Rattle.rn_text.specs.inside.PartEnds.{IsDelimitedFront, IsNeverDelimited};
 ghost use Rattle.rn_text.specs.Segments.{is_empty, is_delimiter, after_run, is_x, escape_front, after_brace, escaped_char, after_escape, is_whole_escape, is_verbatim, escapes_hold, three_of, ends_at_one, ends_at_three, is_line_end};
 
 use crate::characters::{after_char, is_xml_char, split_first};
@@ -29,7 +30,7 @@ pub(crate) fn after_escape_front(text: &str) -> Option<&str>
     ensures cases { MatchOption result (escape_front (chars text.now) ≡ false)
         (λ r. (escape_front (chars text.now) ≡ true)
         × (chars r.now ≡ after_brace (chars text.now))) }
-    ensures utf8 { IfSome result (λ r. IsUtf8 r.now) }
+    ensures utf8 { AnswersUtf8 result }
 {
     let rest = after_char(after_char(text, '\\')?, 'x')?;
     after_char(after_xs(rest), '{')
@@ -54,7 +55,7 @@ pub(crate) fn split_escape(text: &str) -> Option<(char, &str)>
         → is_whole_escape (chars text.now) ≡ false)
         (λ p. (escape_front (chars text.now) ≡ true) × (is_whole_escape (chars text.now) ≡ true)
         × (p.0 ≡ escaped_char (chars text.now)) × (chars p.1.now ≡ after_escape (chars text.now))) }
-    ensures utf8 { IfSome result (λ p. IsUtf8 p.1.now) }
+    ensures utf8 { LeavesUtf8 result }
 {
     let digits = after_escape_front(text)?;
     let rest = after_hex_digits(digits);
@@ -106,7 +107,7 @@ pub(crate) fn after_three(text: &str, delimiter: char) -> Option<&str>
     requires { delimiter < 128 }
     ensures cases { MatchOption result (three_of delimiter (chars text.now) ≡ false)
         (λ r. chars text.now ≡ delimiter ∷ delimiter ∷ delimiter ∷ chars r.now) }
-    ensures utf8 { IfSome result (λ r. IsUtf8 r.now) }
+    ensures utf8 { AnswersUtf8 result }
 {
     after_char(
         after_char(after_char(text, delimiter)?, delimiter)?,
@@ -127,7 +128,7 @@ fn after_next_one(text: &str, delimiter: char) -> Option<&str>
         → ends_at_one delimiter front ≡ true → ⊥)
         (λ r. (front : List ℕ) × (front ++ chars r.now ≡ chars text.now)
         × (ends_at_one delimiter front ≡ true)) }
-    ensures utf8 { IfSome result (λ r. IsUtf8 r.now) }
+    ensures utf8 { AnswersUtf8 result }
 {
     let mut rest = text;
     while let Some((c, after)) = split_first(rest) {
@@ -149,7 +150,7 @@ fn after_next_three(text: &str, delimiter: char) -> Option<&str>
         → ends_at_three delimiter front ≡ true → ⊥)
         (λ r. (front : List ℕ) × (front ++ chars r.now ≡ chars text.now)
         × (ends_at_three delimiter front ≡ true)) }
-    ensures utf8 { IfSome result (λ r. IsUtf8 r.now) }
+    ensures utf8 { AnswersUtf8 result }
 {
     let mut rest = text;
     while let Some((_, after)) = split_first(rest) {
@@ -167,7 +168,7 @@ pub(crate) fn after_delimiters(text: &str, delimiter: char) -> Option<&str>
         × ((cs : List ℕ) × (chars text.now ≡ delimiter ∷ cs)) }
     ensures cases { MatchOption result (IsNeverDelimited (chars text.now))
         (λ r. (front : List ℕ) × IsDelimitedFront (chars text.now) front (chars r.now)) }
-    ensures utf8 { IfSome result (λ r. IsUtf8 r.now) }
+    ensures utf8 { AnswersUtf8 result }
 {
     if let Some(opened) = after_three(text, delimiter) {
         return after_next_three(opened, delimiter);

@@ -10,25 +10,35 @@ use crate::parts::{Kind, Part, split_part};
 use std::alloc::Global;
 use thiserror::Error;
 
-/// A token of a source: its text, lent by the source, and the bytes where it begins and ends there.
+/// A token of a source, and where it stands there.
 #[derive(Clone, Copy, Debug, PartialEq, Eq)]
 pub struct Token<'a> {
+    /// What it is.
     pub kind: Kind,
+    /// Its characters as the source has them, lent by it: a segment with its delimiters, a quoted name with its backslash.
     pub text: &'a str,
+    /// How many bytes of the source stand before it, a byte order mark among them.
     pub start: usize,
+    /// How many bytes of the source stand before what follows it: `start` and the length of `text`.
     pub end: usize,
 }
 
-/// What is wrong with a source, and the place of it, as a count of bytes from the source's start.
+/// What is wrong with a source.
 #[derive(Debug, Drop, PartialEq, Eq, Error)]
 pub enum TextFault {
     /// The longest front that is UTF-8 ends here.
     #[error("not UTF-8 at {at}")]
-    Encoding { at: usize },
+    Encoding {
+        /// How many bytes of the source stand before it.
+        at: usize,
+    },
     /// Here stands the first character that XML does not have, or, where there is none, something
     /// that is neither a token nor white space nor a comment.
     #[error("no token at {at}")]
-    Lexical { at: usize },
+    Lexical {
+        /// How many bytes of the source stand before it.
+        at: usize,
+    },
     /// Memory was refused.
     #[error("out of memory")]
     Memory,

@@ -5,7 +5,7 @@ use Rattle.std.specs.List.Sorted.{IsStrictlySortedBy}
 use Rattle.std.specs.Str.{chars}
 use Rattle.std.proofs.lemmas.Bool.{cases_order}
 use Rattle.std.proofs.lemmas.Cmp.{nat_list_cmp_total}
-use Rattle.rn_text.proofs.Unique.{one_token_list}
+use Rattle.rn_text.proofs.TokenLists.OneTokenList.{one_token_list}
 use Rattle.rn_text.specs.Texts.{Text, text_cmp}
 use Rattle.rn_pattern.specs.Matching.{Grammar}
 use Rattle.rn_pattern.proofs.Ordered.Ascending.{AllAbove}

@@ -4,8 +4,8 @@ use Rattle.std.specs.Str.{IsUtf8, chars}
 use Rattle.std.proofs.lemmas.Bool.{cases_order}
 use Rattle.rn_text.specs.Tokens.{Lexeme, HasTokens, IsLexicalPlace, lexeme_of}
 use Rattle.rn_text.specs.declared.source.Token.{Token}
-use Rattle.rn_text.proofs.Places.{list_or_place}
-use Rattle.rn_text.proofs.Unique.{one_token_list}
+use Rattle.rn_text.proofs.TokenLists.OneFaultPlace.{list_or_place}
+use Rattle.rn_text.proofs.TokenLists.OneTokenList.{one_token_list}
 use Rattle.rn_text.specs.Texts.{Text}
 use Rattle.rn_syntax.specs.declared.fault.FaultKind.{FaultKind}
 use Rattle.rn_syntax.specs.declared.fault.FaultKind.TheVariants as kind

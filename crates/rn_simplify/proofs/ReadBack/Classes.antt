@@ -6,7 +6,7 @@ use Rattle.std.proofs.lemmas.Str.{encodes-chars}
 use Rattle.rn_text.specs.Characters.{is_xml_char}
 use Rattle.rn_text.specs.Parts.{Piece, symbols}
 use Rattle.rn_text.specs.Tokens.{width}
-use Rattle.rn_text.proofs.Pieces.{Sound, free_sound, free_then, sound_then, symbol_sound, prefixed_sound, any_free}
+use Rattle.rn_text.proofs.Cutting.SoundPieces.{Sound, free_sound, free_then, sound_then, symbol_sound, prefixed_sound, any_free}
 use Rattle.rn_pattern.specs.Tree.{NameTree, NameTrees, any_name_but, ns_name, ns_name_but, name, name_choice, no_names, more_names}
 use Rattle.rn_text.specs.Texts.{Text}
 use Rattle.rn_syntax.specs.Terminal as t

@@ -4,7 +4,7 @@ use Rattle.std.specs.Prelude.{codes}
 use Rattle.std.proofs.lemmas.List.{length-append, length-map}
 use Rattle.std.proofs.lemmas.Str.{length-le-encodes}
 use Rattle.rn_text.specs.Parts.{Piece, text_of}
-use Rattle.rn_text.proofs.Pieces.{text_of-append}
+use Rattle.rn_text.proofs.Cutting.SoundPieces.{text_of-append}
 use Rattle.rn_text.specs.Texts.{Text}
 use Rattle.rn_pattern.specs.Matching.{Grammar}
 use Rattle.rn_simplify.specs.Spelling.{keyword, space, word, infix_of, literal, line_end, binding, bindings, default_line, definition_line, definition_lines, prefixes, namespace_entries, library_entries, namespace_prefix, library_prefix, has_wide_empty, spelled, spelling}

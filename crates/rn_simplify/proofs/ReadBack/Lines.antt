@@ -7,7 +7,7 @@ use Rattle.std.specs.Str.{chars, encode_utf8_all}
 use Rattle.rn_text.specs.Characters.{is_ncname, is_keyword, keywords, is_xml_char}
 use Rattle.rn_text.specs.Parts.{Piece}
 use Rattle.rn_text.specs.Tokens.{width}
-use Rattle.rn_text.proofs.Pieces.{Sound, Free, Breaks, no_pieces, free_free, sound_free, keyword_sound}
+use Rattle.rn_text.proofs.Cutting.SoundPieces.{Sound, Free, Breaks, no_pieces, free_free, sound_free, keyword_sound}
 use Rattle.rn_pattern.specs.Tree.{Tree}
 use Rattle.rn_text.specs.Texts.{Text}
 use Rattle.rn_pattern.specs.Opened.{opened}

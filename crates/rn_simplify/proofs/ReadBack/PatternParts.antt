@@ -4,8 +4,8 @@ use Rattle.std.specs.Prelude.{codes}
 use Rattle.rn_text.specs.Characters.{is_xml_char, is_keyword, keywords}
 use Rattle.rn_text.specs.Parts.{Piece, text_of, symbols}
 use Rattle.rn_text.specs.Tokens.{width}
-use Rattle.rn_text.proofs.Pieces.{Sound, Free, Breaks, sound_then, symbol_sound, keyword_sound}
-use Rattle.rn_text.proofs.Breaks.{is_break}
+use Rattle.rn_text.proofs.Cutting.SoundPieces.{Sound, Free, Breaks, sound_then, symbol_sound, keyword_sound}
+use Rattle.rn_text.proofs.Cutting.BeforeBreaks.{is_break}
 use Rattle.rn_syntax.specs.Terminal as t
 use Rattle.rn_syntax.specs.Terminal.{◌#◌}
 use Rattle.rn_syntax.specs.Tree as s

@@ -4,7 +4,7 @@ use Rattle.std.specs.Prelude.{codes, not}
 use Rattle.std.proofs.lemmas.Bool.{true≢false, and_from}
 use Rattle.rn_text.specs.Parts.{Piece}
 use Rattle.rn_text.specs.Tokens.{width}
-use Rattle.rn_text.proofs.Pieces.{Sound, free_then, sound_then}
+use Rattle.rn_text.proofs.Cutting.SoundPieces.{Sound, free_then, sound_then}
 use Rattle.rn_pattern.specs.Tree as r
 use Rattle.rn_pattern.specs.Tree.{NameTree, Tree, Trees, no_trees, more_trees}
 use Rattle.rn_text.specs.Texts.{Text}

@@ -6,7 +6,7 @@ use Rattle.std.proofs.lemmas.Str.{encodes-chars}
 use Rattle.rn_text.specs.Characters.{is_keyword, keywords}
 use Rattle.rn_text.specs.Parts.{Piece}
 use Rattle.rn_text.specs.Tokens.{width}
-use Rattle.rn_text.proofs.Pieces.{Sound, no_pieces, free_sound, free_then, sound_then, keyword_sound, prefixed_sound}
+use Rattle.rn_text.proofs.Cutting.SoundPieces.{Sound, no_pieces, free_sound, free_then, sound_then, keyword_sound, prefixed_sound}
 use Rattle.rn_pattern.specs.Tree.{Parameters}
 use Rattle.rn_text.specs.Texts.{Text}
 use Rattle.rn_syntax.specs.Terminal as t

@@ -7,7 +7,7 @@ use Rattle.std.proofs.lemmas.Str.{chars-encodes}
 use Rattle.rn_text.specs.Characters.{is_keyword, keywords}
 use Rattle.rn_text.specs.Parts.{IsCut, text_of}
 use Rattle.rn_text.specs.Tokens.{HasTokens, lexemes}
-use Rattle.rn_text.proofs.Pieces.{Free, free_free, keyword_sound}
+use Rattle.rn_text.proofs.Cutting.SoundPieces.{Free, free_free, keyword_sound}
 use Rattle.rn_pattern.specs.Tree.{Tree}
 use Rattle.rn_text.specs.Texts.{Text}
 use Rattle.rn_pattern.specs.Matching.{Grammar}

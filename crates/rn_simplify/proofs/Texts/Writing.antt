@@ -4,7 +4,7 @@ use Rattle.std.specs.Prelude.{option_and_then, string_bytes}
 use Rattle.std.specs.Str.{encode_utf8_all}
 use Rattle.std.proofs.lemmas.Str.{encodes-append}
 use Rattle.rn_text.specs.Parts.{Piece, text_of}
-use Rattle.rn_text.proofs.Pieces.{text_of-append}
+use Rattle.rn_text.proofs.Cutting.SoundPieces.{text_of-append}
 use Rattle.rn_simplify.specs.declared.writer.Writer.{Writer}
 use Rattle.rn_simplify.specs.declared.writer.Stop.{Stop}
 use Rattle.rn_simplify.specs.declared.writer.Stop.TheVariants.{TooLarge}

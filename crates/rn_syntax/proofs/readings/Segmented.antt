@@ -1,9 +1,8 @@
 -- Literals, segment by segment.
 use Rattle.std.proofs.Common.{◌≡◌, ℕ, Bool, true, false, List, [], ◌∷◌, ◌++◌, refl, ap, sym, ◌∙◌, subst, append_assoc, append-nil, unwrap_or, cond, not}
 use Rattle.std.specs.Prelude.{◌&&◌, ◌==◌}
-use Rattle.std.proofs.lemmas.Bool.{false≢true, and_parts}
+use Rattle.std.proofs.lemmas.Bool.{false≢true, and_parts, not-true}
 use Rattle.rn_text.specs.Segments.{after_run, between_delimiters, escape_front, begins_with, is_verbatim, is_x}
-use Rattle.rn_text.proofs.Verbatim.{not_true}
 use Rattle.rn_syntax.specs.declared.terminals.Terminal as code
 use Rattle.rn_syntax.specs.declared.terminals.Terminal.TheVariants as c
 use Rattle.rn_syntax.specs.Terminal as t
@@ -31,7 +30,7 @@ verbatim_first : (d : ℕ) (cs : List ℕ) (b : Bool) → is_plain d ≡ b → i
 verbatim_first d cs false h e = refl
 verbatim_first d cs true h e =
     let p = and_parts (not (d == 92)) (not (d == 13)) h in
-    e ∙ sym (verbatim_at (escape_front (d ∷ cs)) (d == 13) (is_verbatim cs) (no_escape (d == 92) (begins_with is_x cs) (begins_with (λ e. e == 123) (after_run is_x cs)) (not_true (d == 92) p.0)) (not_true (d == 13) p.1))
+    e ∙ sym (verbatim_at (escape_front (d ∷ cs)) (d == 13) (is_verbatim cs) (no_escape (d == 92) (begins_with is_x cs) (begins_with (λ e. e == 123) (after_run is_x cs)) (not-true (d == 92) p.0)) (not-true (d == 13) p.1))
 
 -- plain characters at the front change nothing
 verbatim_behind : (cs : List ℕ) → is_verbatim (after_run is_plain cs) ≡ is_verbatim cs

@@ -1,6 +1,6 @@
 -- The digest at a place is that of the text there.
 use Rattle.std.proofs.Common.{◌∙◌, ap, arith, length}
-use Rattle.rn_modset.proofs.Digests.{digest_at}
+use Rattle.rn_modset.proofs.Numerals.TextDigests.{digest_at}
 use Rattle.rn_modset.proofs.bundles.append_entries.Goals as goal
 
 pub append_entry-requires : goal.append_entry-requires

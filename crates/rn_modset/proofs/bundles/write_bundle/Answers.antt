@@ -2,7 +2,7 @@
 use Rattle.std.proofs.Common.{arith, ◌≡◌}
 use Rattle.std.proofs.lemmas.Grind.{common_steps}
 use Rattle.rn_modset.specs.Bundles.{bundle}
-use Rattle.rn_modset.proofs.Spelled.{bundle_at}
+use Rattle.rn_modset.proofs.BundlesWritten.SpelledBundles.{bundle_at}
 use Rattle.rn_modset.proofs.bundles.write_bundle.Goals as goal
 
 pub returns : goal.returns

@@ -1,7 +1,7 @@
 -- The line cut at its first two spaces, and each kind of header.
 use Rattle.std.proofs.Common.{◌≡◌, ◌≢◌, sym, ◌∙◌, codes}
 use Rattle.std.specs.Cmp.Lexicographic.{same_text}
-use Rattle.rn_modset.proofs.HeaderLines.{IsCut, no_name, bad_name, no_such_kind, text_by, withdrawal_by}
+use Rattle.rn_modset.proofs.LineParts.HeaderLines.{IsCut, no_name, bad_name, no_such_kind, text_by, withdrawal_by}
 use Rattle.rn_modset.proofs.Truths.{differs, other_text}
 use Rattle.rn_modset.proofs.headers.header.Goals as goal
 use Rattle.rn_modset.proofs.headers.header.Goals.{else-eq-2-via-then-eq-2+else-withdrawals, else-eq-2-via-else-eq-2}

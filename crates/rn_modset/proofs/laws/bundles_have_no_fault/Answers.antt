@@ -1,4 +1,4 @@
-use Rattle.rn_modset.proofs.OneFault.{bundle_fault}
+use Rattle.rn_modset.proofs.BundleFaults.OneBundleFault.{bundle_fault}
 use Rattle.rn_modset.proofs.laws.bundles_have_no_fault.Goals as goal
 
 pub returns : goal.returns

@@ -1,4 +1,4 @@
-use Rattle.rn_modset.proofs.OneFault.{one_fault}
+use Rattle.rn_modset.proofs.BundleFaults.OneBundleFault.{one_fault}
 use Rattle.rn_modset.proofs.laws.bytes_have_one_fault.Goals as goal
 
 pub returns : goal.returns

@@ -1,4 +1,4 @@
-use Rattle.rn_modset.proofs.UnionLaws.{call_laws}
+use Rattle.rn_modset.proofs.Unions.UnionLaws.{call_laws}
 use Rattle.rn_modset.proofs.laws.calls_bring_their_union.Goals as goal
 
 pub returns : goal.returns

@@ -1,4 +1,4 @@
-use Rattle.rn_modset.proofs.Spelled.{bundle_spelled, bundle_at}
+use Rattle.rn_modset.proofs.BundlesWritten.SpelledBundles.{bundle_spelled, bundle_at}
 use Rattle.rn_modset.proofs.laws.grammar_is_the_spelling.Goals as goal
 
 pub returns : goal.returns

@@ -1,6 +1,6 @@
 use Rattle.std.proofs.Common.{sym, ◌∙◌}
 use Rattle.rn_modset.specs.Bundles.{bundle}
-use Rattle.rn_modset.proofs.Spelled.{bundle_spelled, bundle_by}
+use Rattle.rn_modset.proofs.BundlesWritten.SpelledBundles.{bundle_spelled, bundle_by}
 use Rattle.rn_modset.proofs.laws.sets_have_one_bundle.Goals as goal
 
 pub returns-clause-exists : goal.returns-clause-exists

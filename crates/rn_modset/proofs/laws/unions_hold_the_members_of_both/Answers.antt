@@ -1,6 +1,6 @@
-use Rattle.rn_modset.proofs.Kept.{rises_with}
-use Rattle.rn_modset.proofs.Unions.{has_union, rises_union}
-use Rattle.rn_modset.proofs.Contained.{held, with_one, of_both}
+use Rattle.rn_modset.proofs.Unions.AddedMember.{rises_with}
+use Rattle.rn_modset.proofs.Unions.UnionMembers.{has_union, rises_union}
+use Rattle.rn_modset.proofs.Unions.HeldMembers.{held, with_one, of_both}
 use Rattle.rn_modset.proofs.laws.unions_hold_the_members_of_both.Goals as goal
 
 pub returns : goal.returns

@@ -4,8 +4,8 @@ use Rattle.std.proofs.lemmas.List.{map_push}
 use Rattle.rn_modset.specs.Contributions.{member, members_of}
 use Rattle.rn_modset.specs.Digests.{text_digest}
 use Rattle.rn_modset.specs.Sets.{missing}
-use Rattle.rn_modset.proofs.Digests.{on_ok, digest_at}
-use Rattle.rn_modset.proofs.Merges.{step_by, passed, counted}
+use Rattle.rn_modset.proofs.Numerals.TextDigests.{on_ok, digest_at}
+use Rattle.rn_modset.proofs.Unions.MergedLists.{step_by, passed, counted}
 use Rattle.rn_modset.proofs.merging.copy_missing.Goals as goal
 use Rattle.rn_modset.proofs.merging.copy_missing.Goals.{then-not-begins_with+in_ok-clone+in_ok-push, else-not-begins_with}
 

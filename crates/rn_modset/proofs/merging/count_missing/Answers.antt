@@ -2,7 +2,7 @@
 use Rattle.std.proofs.Common.{length, sym, ap, ◌∙◌, arith}
 use Rattle.std.proofs.lemmas.List.{length-append}
 use Rattle.rn_modset.specs.Contributions.{Member}
-use Rattle.rn_modset.proofs.Merges.{step_by, passed, counted}
+use Rattle.rn_modset.proofs.Unions.MergedLists.{step_by, passed, counted}
 use Rattle.rn_modset.proofs.merging.count_missing.Goals as goal
 use Rattle.rn_modset.proofs.merging.count_missing.Goals.{then-not-begins_with, else-not-begins_with}
 

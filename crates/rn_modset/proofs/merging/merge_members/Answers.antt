@@ -3,8 +3,8 @@ use Rattle.std.proofs.Common.{rules, ◌≡◌, ◌++◌, ◌∷◌, [], List, a
 use Rattle.std.proofs.lemmas.List.{reverse-append}
 use Rattle.rn_modset.specs.Contributions.{Member, member, members_of}
 use Rattle.rn_modset.specs.inside.Digested.{HasRoom}
-use Rattle.rn_modset.proofs.Digests.{on_ok, not_failed}
-use Rattle.rn_modset.proofs.Merges.{IsMerging, merge_start, merge_step, merge_end, rises_left}
+use Rattle.rn_modset.proofs.Numerals.TextDigests.{on_ok, not_failed}
+use Rattle.rn_modset.proofs.Unions.MergedLists.{IsMerging, merge_start, merge_step, merge_end, rises_left}
 use Rattle.rn_modset.proofs.merging.merge_members.Goals as goal
 
 pub pop_greatest-requires-clause-held : goal.pop_greatest-requires-clause-held

@@ -1,7 +1,7 @@
 use Rattle.std.proofs.Common.{◌+◌, vec_len, reverse}
 use Rattle.rn_modset.specs.Contributions.{members_of}
 use Rattle.rn_modset.specs.inside.Digested.{AreDigested, HasRoom}
-use Rattle.rn_modset.proofs.Merges.{IsMerging}
+use Rattle.rn_modset.proofs.Unions.MergedLists.{IsMerging}
 use Rattle.rn_modset.proofs.merging.merge_members.Given as goal
 
 -- what was taken, the greatest first, and what is left

@@ -4,8 +4,8 @@ use Rattle.std.specs.declared.cmp.Ordering.TheVariants.{Less}
 use Rattle.rn_modset.specs.Contributions.{member, members_of, member_cmp}
 use Rattle.rn_modset.specs.Sets.{Rises}
 use Rattle.rn_modset.specs.inside.Merges.{IsNotBelow, KeepsFrom}
-use Rattle.rn_modset.proofs.EntryByEntry.{less_from_test, not_less_from_test}
-use Rattle.rn_modset.proofs.Merges.{skip_one, rises_tail}
+use Rattle.rn_modset.proofs.BundlesRead.EntryByEntry.{less_from_test, not_less_from_test}
+use Rattle.rn_modset.proofs.Unions.MergedLists.{skip_one, rises_tail}
 use Rattle.rn_modset.proofs.merging.skip_below.Goals as goal
 
 pub loop-first-preserved : goal.loop-first-preserved

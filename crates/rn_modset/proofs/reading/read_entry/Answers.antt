@@ -5,8 +5,8 @@ use Rattle.rn_modset.specs.declared.headers.HeaderLine.TheVariants.{Text}
 use Rattle.rn_modset.specs.Bundles.{header_line}
 use Rattle.rn_modset.specs.Faults.{IsEntryFault, no_header, bad_text, entry_memory}
 use Rattle.rn_modset.specs.inside.Headers.{header_view, MayStand}
-use Rattle.rn_modset.proofs.Refusals.{refused_by}
-use Rattle.rn_modset.proofs.Spelled.{header_at, no_header_at}
+use Rattle.rn_modset.proofs.BundleFaults.RefusedCalls.{refused_by}
+use Rattle.rn_modset.proofs.BundlesWritten.SpelledBundles.{header_at, no_header_at}
 use Rattle.rn_modset.proofs.reading.read_entry.Goals as goal
 
 pub returns-then-at-ge-MAX_CONTRIBUTIONS-clause-fault : goal.returns-then-at-ge-MAX_CONTRIBUTIONS-clause-fault

@@ -1,5 +1,5 @@
 use Rattle.std.proofs.Common.{rules}
-use Rattle.rn_text.proofs.Texts.{trimmed_by}
+use Rattle.rn_text.proofs.Words.Runs.{trimmed_by}
 use Rattle.rn_syntax.specs.inside.Reading.{is_plain}
 use Rattle.rn_syntax.proofs.literals.behind_plain.Goals as goal
 

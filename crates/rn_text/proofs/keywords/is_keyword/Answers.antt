@@ -1,6 +1,6 @@
 use Rattle.std.proofs.Common.{◌∙◌}
 use Rattle.std.specs.Str.{chars}
-use Rattle.rn_text.proofs.Spellings.{found_keyword}
+use Rattle.rn_text.proofs.Words.KeywordSpellings.{found_keyword}
 use Rattle.rn_text.proofs.keywords.is_keyword.Goals as goal
 
 pub returns : goal.returns

@@ -1,8 +1,8 @@
 use Rattle.std.proofs.Common.{sym, ◌∙◌}
 use Rattle.std.proofs.lemmas.Str.{utf8_valid_len-IsValidUpTo}
-use Rattle.rn_text.proofs.Places.{list_or_place, one_place}
-use Rattle.rn_text.proofs.Told.{tokens_or_place, utf8_or_front}
-use Rattle.rn_text.proofs.Unique.{one_token_list}
+use Rattle.rn_text.proofs.TokenLists.OneFaultPlace.{list_or_place, one_place}
+use Rattle.rn_text.proofs.TokenLists.TokensOrFault.{tokens_or_place, utf8_or_front}
+use Rattle.rn_text.proofs.TokenLists.OneTokenList.{one_token_list}
 use Rattle.rn_text.proofs.laws.one_token_list.Goals as goal
 
 pub returns : goal.returns

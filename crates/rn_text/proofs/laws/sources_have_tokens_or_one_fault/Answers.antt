@@ -1,4 +1,4 @@
-use Rattle.rn_text.proofs.Told.{source_told, no_fault, one_fault}
+use Rattle.rn_text.proofs.TokenLists.TokensOrFault.{source_told, no_fault, one_fault}
 use Rattle.rn_text.proofs.laws.sources_have_tokens_or_one_fault.Goals as goal
 
 pub returns : goal.returns

@@ -1,4 +1,4 @@
-use Rattle.rn_text.proofs.Lexemes.{tokens_in_order}
+use Rattle.rn_text.proofs.TokenLists.CutLexemes.{tokens_in_order}
 use Rattle.rn_text.proofs.laws.tokens_stand_in_order.Goals as goal
 
 pub returns : goal.returns

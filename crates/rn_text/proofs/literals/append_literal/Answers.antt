@@ -3,8 +3,9 @@ use Rattle.std.proofs.ResultArms.{chosen}
 use Rattle.std.specs.Prelude.{encode_utf8}
 use Rattle.std.specs.Str.{chars, encode_utf8_all}
 use Rattle.std.specs.String.{string_bytes}
-use Rattle.rn_text.specs.Literals.{written, delimiter_for, between, literal_bytes}
-use Rattle.rn_text.proofs.Written.{tail_of, step_written, more_written, start_written, start_longer, empty_literal, pushed_ok, pushed_last, pushed_longer, longer_twice, longer_same}
+use Rattle.rn_text.specs.Literals.{written, delimiter_for, literal_bytes}
+use Rattle.rn_text.specs.inside.Writing.{between}
+use Rattle.rn_text.proofs.Quoting.WrittenLiterals.{tail_of, step_written, more_written, start_written, start_longer, empty_literal, pushed_ok, pushed_last, pushed_longer, longer_twice, longer_same}
 use Rattle.rn_text.proofs.literals.append_literal.Goals as goal
 
 pub returns-in_default-clause-ok : goal.returns-in_default-clause-ok

@@ -1,6 +1,6 @@
 use Rattle.std.proofs.Common.{rules}
 use Rattle.std.specs.Str.{chars}
-use Rattle.rn_text.proofs.Contents.{three_none, three_none_behind, last_three}
+use Rattle.rn_text.proofs.Quoting.SegmentContents.{three_none, three_none_behind, last_three}
 use Rattle.rn_text.proofs.literals.before_three.Goals as goal
 
 pub returns-in_err-before_char-clause-cases : goal.returns-in_err-before_char-clause-cases

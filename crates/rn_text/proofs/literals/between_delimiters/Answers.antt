@@ -1,6 +1,6 @@
 use Rattle.std.proofs.Common.{sym}
 use Rattle.std.specs.Str.{chars}
-use Rattle.rn_text.proofs.Contents.{found_three, found_one}
+use Rattle.rn_text.proofs.Quoting.SegmentContents.{found_three, found_one}
 use Rattle.rn_text.proofs.literals.between_delimiters.Goals as goal
 
 pub returns-in-Some-clause-cases : goal.returns-in-Some-clause-cases

@@ -3,7 +3,7 @@ use Rattle.std.proofs.ResultArms.{chosen}
 use Rattle.std.specs.Prelude.{encode_utf8}
 use Rattle.std.specs.Str.{chars}
 use Rattle.std.specs.String.{string_bytes}
-use Rattle.rn_text.proofs.Contents.{ReadSoFar, read_start, read_more, read_end, shorter}
+use Rattle.rn_text.proofs.Quoting.SegmentContents.{ReadSoFar, read_start, read_more, read_end, shorter}
 use Rattle.rn_text.proofs.literals.literal.Goals as goal
 
 pub loop-c-init : goal.loop-c-init

@@ -2,7 +2,7 @@ use Rattle.std.proofs.Common.{◌++◌, ◌∙◌, sym, ap, is_ok}
 use Rattle.std.proofs.ResultArms.{chosen}
 use Rattle.std.specs.Prelude.{encode_utf8}
 use Rattle.std.specs.String.{string_bytes}
-use Rattle.rn_text.proofs.Written.{parted_written, pushed_last, pushed_longer, longer_twice}
+use Rattle.rn_text.proofs.Quoting.WrittenLiterals.{parted_written, pushed_last, pushed_longer, longer_twice}
 use Rattle.rn_text.proofs.literals.push_between.Goals as goal
 
 pub returns-in_err-push-clause-longer : goal.returns-in_err-push-clause-longer

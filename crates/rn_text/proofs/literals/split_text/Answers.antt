@@ -1,6 +1,6 @@
 use Rattle.std.proofs.Common.{ne_eqb, ap, ◌∙◌, ◌∷◌}
 use Rattle.std.specs.Str.{chars}
-use Rattle.rn_text.proofs.Contents.{escape_stands, plain_stands, pair_stands, return_stands}
+use Rattle.rn_text.proofs.Quoting.SegmentContents.{escape_stands, plain_stands, pair_stands, return_stands}
 use Rattle.rn_text.proofs.literals.split_text.Goals as goal
 
 pub returns-in-Some-clause-cases : goal.returns-in-Some-clause-cases

@@ -1,7 +1,7 @@
 use Rattle.std.proofs.Common.{ap, length}
 use Rattle.std.specs.String.{string_bytes}
 use Rattle.std.proofs.lemmas.Str.{IsUtf8-string_bytes}
-use Rattle.rn_text.proofs.Written.{cut_behind}
+use Rattle.rn_text.proofs.Quoting.WrittenLiterals.{cut_behind}
 use Rattle.rn_text.proofs.literals.write_literal.Goals as goal
 
 pub truncate-requires : goal.truncate-requires

@@ -2,8 +2,8 @@ use Rattle.std.proofs.Common.{◌∷◌, sym, ap, ◌∙◌, rules}
 use Rattle.std.specs.Str.{chars}
 use Rattle.rn_text.specs.Segments.{begins_with}
 use Rattle.rn_text.specs.Characters.{is_name_start}
-use Rattle.rn_text.proofs.FirstParts.{none_at}
-use Rattle.rn_text.proofs.Names.{no_escape_front, quoted_none, quoted_at}
+use Rattle.rn_text.proofs.Cutting.FirstParts.{none_at}
+use Rattle.rn_text.proofs.Cutting.NameTokens.{no_escape_front, quoted_none, quoted_at}
 use Rattle.rn_text.proofs.parts.after_quoted.Goals as goal
 
 pub returns-clause-cases : goal.returns-clause-cases

@@ -1,6 +1,6 @@
 use Rattle.std.proofs.Common.{◌∷◌, [], sym}
 use Rattle.std.specs.Str.{chars}
-use Rattle.rn_text.proofs.FirstParts.{pair_symbol, single_symbol, no_symbol, no_pair_after, longest_at, no_pair_in_nothing}
+use Rattle.rn_text.proofs.Cutting.FirstParts.{pair_symbol, single_symbol, no_symbol, no_pair_after, longest_at, no_pair_in_nothing}
 use Rattle.rn_text.proofs.parts.after_symbol.Goals as goal
 use Rattle.rn_text.proofs.parts.after_symbol.Goals.{in-Some+else-is_symbol_pair, in_default}
 

@@ -4,7 +4,7 @@ use Rattle.std.proofs.lemmas.Bool.{and_from, not_from_false}
 use Rattle.rn_text.specs.Characters.{is_keyword, is_ncname, is_name_char}
 use Rattle.rn_text.specs.Segments.{run_of}
 use Rattle.rn_text.specs.declared.parts.Kind.TheVariants.{Name, Keyword}
-use Rattle.rn_text.proofs.Names.{named_cut, named_word, named_plain, named_prefix, run_is_name}
+use Rattle.rn_text.proofs.Cutting.NameTokens.{named_cut, named_word, named_plain, named_prefix, run_is_name}
 use Rattle.rn_text.proofs.parts.split_named.Goals as goal
 
 pub overflow_sub-text : goal.overflow_sub-text

@@ -1,7 +1,7 @@
 use Rattle.std.proofs.Common.{◌∷◌, [], sym, subst, rules, ne_eqb}
 use Rattle.std.specs.Str.{chars}
 use Rattle.rn_text.specs.Parts.{IsFirstPart}
-use Rattle.rn_text.proofs.FirstParts.{none_in_nothing, white_first, comment_first, symbol_first, symbol_none, class_other, first_at, none_at}
+use Rattle.rn_text.proofs.Cutting.FirstParts.{none_in_nothing, white_first, comment_first, symbol_first, symbol_none, class_other, first_at, none_at}
 use Rattle.rn_text.proofs.parts.split_part.Goals as goal
 
 pub returns-in_err-first-clause-cases : goal.returns-in_err-first-clause-cases

@@ -1,5 +1,5 @@
 use Rattle.std.specs.Str.{chars}
-use Rattle.rn_text.proofs.Delimited.{delimited_three, delimited_one}
+use Rattle.rn_text.proofs.Cutting.DelimitedFronts.{delimited_three, delimited_one}
 use Rattle.rn_text.proofs.segments.after_delimiters.Goals as goal
 
 pub returns-in-Some-clause-cases : goal.returns-in-Some-clause-cases

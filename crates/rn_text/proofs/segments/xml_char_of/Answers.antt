@@ -1,6 +1,6 @@
 use Rattle.std.proofs.Common.{ap, sym, ◌∙◌, rules}
 use Rattle.rn_text.specs.Characters.{is_xml_char}
-use Rattle.rn_text.proofs.Escapes.{not_read, read_number, no_scalar}
+use Rattle.rn_text.proofs.Words.HexDigits.{not_read, read_number, no_scalar}
 use Rattle.rn_text.proofs.segments.xml_char_of.Goals as goal
 
 pub returns-in_err-number : goal.returns-in_err-number

@@ -3,7 +3,7 @@ use Rattle.std.proofs.Common.{◌∙◌, ap, arith, take}
 use Rattle.std.proofs.lemmas.List.{take_all}
 use Rattle.std.specs.List.{flat_map}
 use Rattle.sha2.specs.Sha256.{sha256}
-use Rattle.rn_modset.proofs.Digests.{digests_flat}
+use Rattle.rn_modset.proofs.Numerals.TextDigests.{digests_flat}
 use Rattle.rn_modset.proofs.members.Members.digest.Goals as goal
 
 pub returns : goal.returns

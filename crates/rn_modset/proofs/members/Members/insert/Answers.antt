@@ -1,6 +1,6 @@
 -- The digest is put in beside its contribution.
 use Rattle.std.proofs.Common.{rules, ◌≡◌, true, is_ok, insert, ap, ◌∙◌}
-use Rattle.rn_modset.proofs.Digests.{digests_insert}
+use Rattle.rn_modset.proofs.Numerals.TextDigests.{digests_insert}
 use Rattle.rn_modset.proofs.members.Members.insert.Goals as goal
 
 pub returns-clause-digested : goal.returns-clause-digested

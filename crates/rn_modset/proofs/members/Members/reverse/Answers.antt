@@ -1,6 +1,6 @@
 -- Both lists are turned round.
 use Rattle.std.proofs.Common.{◌∙◌, ap, sym}
-use Rattle.rn_modset.proofs.Digests.{digests_reverse, digests_of}
+use Rattle.rn_modset.proofs.Numerals.TextDigests.{digests_reverse, digests_of}
 use Rattle.rn_modset.proofs.members.Members.reverse.Goals as goal
 
 pub returns-clause-digested : goal.returns-clause-digested

@@ -8,9 +8,9 @@ use Rattle.rn_modset.specs.Modules.{AreEffective, IsFirstConflict, modules_of, m
 use Rattle.rn_modset.specs.inside.Places.{IsFollowed, IsContradicted}
 use Rattle.rn_modset.specs.Sets.{Rises}
 use Rattle.rn_modset.proofs.Truths.{differs}
-use Rattle.rn_modset.proofs.Walks.{walk_start}
-use Rattle.rn_modset.proofs.Fronts.{IsHeldAt}
-use Rattle.rn_modset.proofs.WalkSteps.{step_on, step_conflict, step_text, step_withdrawal, walk_done}
+use Rattle.rn_modset.proofs.EffectiveModules.SetWalk.{walk_start}
+use Rattle.rn_modset.proofs.EffectiveModules.SlicePlaces.{IsHeldAt}
+use Rattle.rn_modset.proofs.EffectiveModules.WalkSteps.{step_on, step_conflict, step_text, step_withdrawal, walk_done}
 use Rattle.rn_modset.proofs.sets.ModuleSet.effective.Goals as goal
 use Rattle.rn_modset.proofs.sets.ModuleSet.effective.Goals.{in-Some+in_ok-map_err, in_default}
 

@@ -1,7 +1,7 @@
 use Rattle.std.proofs.Common.{take, drop}
 use Rattle.rn_modset.specs.Contributions.{members_of}
 use Rattle.rn_modset.specs.Modules.{modules_of}
-use Rattle.rn_modset.proofs.Walks.{IsWalk}
+use Rattle.rn_modset.proofs.EffectiveModules.SetWalk.{IsWalk}
 use Rattle.rn_modset.proofs.sets.ModuleSet.effective.Given as goal
 
 -- the modules of what has been passed

@@ -1,0 +1,3 @@
+-- Bundles read entry by entry, in one way.
+pub mod EntryByEntry
+pub mod DistinctBundles

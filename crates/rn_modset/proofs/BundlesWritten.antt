@@ -1,0 +1,3 @@
+-- Bundles as they are spelled.
+pub mod AnyWithdrawal
+pub mod SpelledBundles

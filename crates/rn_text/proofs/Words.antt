@@ -1,0 +1,6 @@
+-- Characters, their runs, and the words made of them.
+pub mod Basics
+pub mod Runs
+pub mod HexDigits
+pub mod KeywordSpellings
+pub mod XmlNames

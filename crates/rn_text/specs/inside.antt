@@ -1,0 +1,3 @@
+-- What contracts of private functions speak of. No public contract cites it.
+pub mod PartEnds
+pub mod Writing
