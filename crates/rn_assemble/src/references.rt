@@ -18,7 +18,7 @@ ghost use Rattle.rn_assemble.specs.inside.Listed.{Lists, Live, OfKeys, component
 use crate::components::Components;
 use crate::keys::{Keys, START};
 use crate::refusal::Refusal;
-use rn_pattern::graph::{reached, row_at};
+use rn_pattern::graph::{reached_nodes, row_at};
 use rn_pattern::ranks::least_looped;
 use rn_syntax::Pat;
 use std::alloc::{AllocError, Global};
@@ -307,7 +307,7 @@ pub(crate) fn least_recursive(
         (rows_of references.now.outer.items) → IfOk result (IsLeastRecursive names cs) }
 {
     let first = row_at(references.all.as_slice(), START);
-    let reached = reached(alloc, references.all.as_slice(), first)?;
+    let reached = reached_nodes(alloc, references.all.as_slice(), first)?;
     let outer = marked_rows(alloc, references.outer.as_slice(), reached.as_slice())?;
     least_looped(alloc, outer.as_slice())
 }

@@ -1,7 +1,7 @@
 -- The shape of canonical forms, and what they keep.
 pub mod Fixed
 pub mod KeptRules
-pub mod Kept
+pub mod KeptByForms
 pub mod CanonicalForm
 pub mod ListsWithin
 pub mod Settled

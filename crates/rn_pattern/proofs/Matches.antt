@@ -5,7 +5,7 @@ pub mod Products
 pub mod Splits
 pub mod Pairings
 pub mod Compositions
-pub mod Keeps
+pub mod StepsKeep
 pub mod NamesKept
 pub mod CanonicalKeeps
 pub mod Validity

@@ -5,6 +5,6 @@ pub mod Opening
 pub mod Copied
 pub mod Hashing
 pub mod Interning
-pub mod Seen
+pub mod ClassTrees
 pub mod ShownTrees
 pub mod Sharing

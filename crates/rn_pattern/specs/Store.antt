@@ -1,5 +1,5 @@
 -- What the ids of a store of patterns stand for.
-use Rattle.std.specs.Prelude.{◌≡◌, ◌≢◌, ◌↔◌, ◌⊎◌, All, AllPairs, Contains, ℕ, List, map, length, Bool, IsTrue, Option, Some, None, string_bytes}
+use Rattle.std.specs.Prelude.{◌≡◌, ◌≢◌, ◌↔◌, ◌⊎◌, ◌+◌, ◌≤◌, All, AllPairs, Contains, ℕ, List, map, length, Bool, IsTrue, IfOk, OnErr, Option, Some, None, Result, string_bytes}
 use Rattle.rn_pattern.specs.Tree as tree
 use Rattle.rn_pattern.specs.Tree.{Parameters, Tree, trees_of}
 use Rattle.rn_text.specs.Texts.{Text}
@@ -39,6 +39,11 @@ KeepsIds knows tree_of old new = KeepsTrees (knows old) (tree_of old) (knows new
 -- an id of the new store is one of the old, or the answered one
 abbrev pub AddsOnly : {I : Type 0} → (I → Bool) → (I → Bool) → I → Type 0
 AddsOnly {I} knows knows' answered = (i : I) → IsTrue (knows' i) → IsTrue (knows i) ⊎ (i ≡ answered)
+
+-- a constructor keeps what the ids of a store stand for; it adds no id but the one that it answers, and if it is refused, none
+abbrev pub AddsAnswerOnly : {S I E : Type 0} → (S → I → Bool) → (S → I → Tree) → (S → ℕ) → (old new : S) → Result I E → Type 0
+AddsAnswerOnly knows tree_of size old new result =
+    KeepsIds knows tree_of old new × IfOk result (AddsOnly (knows old) (knows new)) × (size new ≤ size old + 1) × OnErr result (size new ≡ size old)
 
 -- the store has exactly this many ids
 abbrev pub HasCount : {I : Type 0} → (I → Bool) → ℕ → Type 0

@@ -5,12 +5,10 @@ use Rattle.std.specs.declared.rc.Rc.{Rc}
 use Rattle.std.specs.Rc.{rc_str_bytes}
 use Rattle.rn_pattern.specs.Tree as tree
 use Rattle.rn_pattern.specs.Tree.{Parameters, NameTree, NameTrees, no_names, more_names, Tree, Trees, no_trees, more_trees, name_trees_of, trees_of}
-use Rattle.rn_text.specs.Texts.{Text}
 use Rattle.rn_pattern.specs.declared.tree.NameClass.{NameClass, fold-NameClass}
 use Rattle.rn_pattern.specs.declared.tree.NameClass.TheOpen.{NameClass-F}
 use Rattle.rn_pattern.specs.declared.tree.Pattern.{Pattern, fold-Pattern}
 use Rattle.rn_pattern.specs.declared.tree.Pattern.TheOpen.{Pattern-F}
-use Rattle.rn_pattern.specs.declared.tree.Value.{Value}
 
 -- one level, with each name class inside already seen as its tree
 abbrev pub name_class_step : NameClass-F NameTree → NameTree
@@ -46,27 +44,13 @@ pattern_step (Pattern-F.Choice ps) = tree.choice (trees_of (map (λ (r : Rc Tree
 abbrev pub pattern_view : Pattern → Tree
 pattern_view = fold-Pattern Tree pattern_step
 
-abbrev pub value_view : Value → Tree
-value_view v = tree.value (rc_str_bytes v.library) (string_bytes v.type_name) (string_bytes v.text)
-
 abbrev pub shared_view : Rc Pattern Global → Tree
 shared_view p = pattern_view p.value
 
 abbrev pub boxed_view : Box Pattern Global → Tree
 boxed_view p = pattern_view p.value
 
--- the members of a list
-abbrev pub name_classes_view : List NameClass → NameTrees
-name_classes_view cs = name_trees_of (map name_class_view cs)
-
-abbrev pub patterns_view : List (Rc Pattern Global) → Trees
-patterns_view ps = trees_of (map shared_view ps)
-
 -- an except as a list of none or one
-abbrev pub except_view : Option (Box NameClass Global) → NameTrees
-except_view None = no_names
-except_view (Some c) = more_names (name_class_view c.value) no_names
-
 abbrev pub excepted_view : Option (Box Pattern Global) → Trees
 excepted_view None = no_trees
 excepted_view (Some p) = more_trees (pattern_view p.value) no_trees

@@ -1,6 +1,7 @@
 -- What contracts of private functions speak of: where nodes lie, when they are equal and how they are hashed, searches. No public contract cites it.
 pub mod Stored
 pub mod Shown
+pub mod PartViews
 pub mod Table
 pub mod Lists
 pub mod Reduced

@@ -22,7 +22,9 @@ use std::cmp::Ordering;
 /// A pattern in canonical form: one that the store has, or a node over its ids that is to be stored.
 #[derive(Drop)]
 pub enum Reduced {
+    /// The id of a pattern that the store has.
     Stored(NodeId),
+    /// A node over ids of the store.
     New(Node<NodeId>),
 }
 

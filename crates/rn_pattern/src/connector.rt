@@ -6,7 +6,8 @@ ghost use Rattle.rn_pattern.specs.inside.Stored.{NamesBelow};
 ghost use Rattle.rn_pattern.specs.Store.{node_view};
 ghost use Rattle.rn_pattern.specs.Tree.{Tree, trees_of};
 ghost use Rattle.rn_pattern.specs.declared.node.NodeId.{NodeId};
-ghost use Rattle.rn_pattern.specs.View.{pattern_view, patterns_view, shared_view};
+ghost use Rattle.rn_pattern.specs.View.{pattern_view, shared_view};
+ghost use Rattle.rn_pattern.specs.inside.PartViews.{patterns_view};
 
 use crate::node::{Node, NodeId};
 use crate::tree::Pattern;

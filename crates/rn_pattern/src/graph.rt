@@ -1,6 +1,6 @@
 // Reachability in a graph whose nodes are numbers.
 
-ghost use Rattle.std.specs.Prelude.{◌≡◌, ℕ, ◌+◌, ◌<◌, ◌≤◌, Decides, ◌∷◌, ◌++◌, [], length, vec_len, take, IfOk, OnOk, if◌then◌else◌, slice_index_or, slice_set};
+ghost use Rattle.std.specs.Prelude.{◌≡◌, ℕ, ◌+◌, ◌<◌, ◌≤◌, ◌↔◌, true, ◌∷◌, ◌++◌, [], length, vec_len, take, IfOk, OnOk, if◌then◌else◌, slice_index_or, slice_set};
 ghost use Rattle.rn_pattern.specs.Graph.{AllBelow, row, IsGraph, is_marked, Reached, rows_of};
 ghost use Rattle.rn_pattern.specs.inside.Marking.{Agrees, Marks};
 
@@ -43,7 +43,7 @@ pub fn row_at(edges: &[Vec<usize>], node: usize) -> &[usize]
 
 /// For each node, whether it is one of the first or is reached from them. The only error is want of memory; the edges and the
 /// first nodes are what they were.
-pub fn reached(
+pub fn reached_nodes(
     alloc: Global,
     edges: &[Vec<usize>],
     first: &[usize],
@@ -52,7 +52,7 @@ pub fn reached(
     requires first_within { AllBelow (length edges.now) first.now }
     ensures size { IfOk result (λ seen. length seen.items ≡ length edges.now) }
     ensures exact { IfOk result (λ seen. (x : ℕ)
-        → Decides (is_marked seen.items x) (Reached (rows_of edges.now) first.now x)) }
+        → (is_marked seen.items x ≡ true) ↔ Reached (rows_of edges.now) first.now x) }
 {
     let mut seen = vec![in alloc; false; edges.len()]?;
     let mut order = Vec::new(alloc);

@@ -2,12 +2,13 @@
 ghost use Rattle.std.specs.Prelude.{◌≡◌, fold};
 ghost use Rattle.std.specs.Hash as fed;
 ghost use Rattle.rn_pattern.specs.inside.Hashing.{name_writes, names_writes, node_eq, node_writes, parameters_writes, places_writes};
-ghost use Rattle.rn_pattern.specs.View.{name_class_view, name_classes_view, parameters_view};
+ghost use Rattle.rn_pattern.specs.View.{name_class_view, parameters_view};
+ghost use Rattle.rn_pattern.specs.inside.PartViews.{name_classes_view};
 ghost use Rattle.rn_pattern.specs.inside.Hashing.{node_eq_equiv, node_eq_writes};
 ghost use Rattle.std.specs.Cmp.{partial_equiv_from_equiv};
 
 use crate::node::{Node, NodeId};
-use crate::parts::{compare_heads, kind, parts_of};
+use crate::node_parts::{compare_heads, kind, parts_of};
 use crate::tree::NameClass;
 use std::cmp::Ordering;
 use std::hash::{Hash, Hasher};

@@ -6,7 +6,7 @@ ghost use Rattle.rn_pattern.specs.inside.Stored.{NameEarlier, NameEarlier-prop, 
 
 use crate::node::{Node, NodeId};
 use crate::node_table::NodeTable;
-use crate::patterns::Patterns;
+use crate::pattern_store::Patterns;
 use crate::seed::Seed;
 use crate::store::NodeStore;
 use indexmap::IndexSet;

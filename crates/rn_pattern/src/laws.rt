@@ -5,7 +5,7 @@ ghost use Rattle.std.specs.Cmp.{IsTotalOrder};
 ghost use Rattle.std.specs.declared.cmp.Ordering.TheVariants.{Equal};
 ghost use Rattle.rn_pattern.specs.Tree.{Parameters, NameTree, Tree, ref, datum_but, list, attribute, element, one_or_more, group, interleave, choice, trees_of};
 ghost use Rattle.rn_text.specs.Texts.{Text};
-ghost use Rattle.rn_pattern.specs.Names.{HoldAlike};
+ghost use Rattle.rn_pattern.specs.HeldNames.{HoldAlike};
 ghost use Rattle.rn_pattern.specs.Matching.{Grammar, MatchAlike, ValidAlike};
 ghost use Rattle.rn_pattern.specs.Order.{name_cmp, tree_cmp};
 ghost use Rattle.rn_pattern.specs.Canonical.{sorted, sorted_once, canonical_name, choice_step, group_step, interleave_step, one_or_more_step, list_step, attribute_step, datum_but_step, canonical, settled_in, settled_within, canonical_within, HaveSameMembers};
@@ -20,7 +20,7 @@ ghost use Rattle.rn_pattern.specs.Store.{AddsOnly, KeepsIds, StandsFor};
 
 use crate::interned::Interned;
 use crate::node::NodeId;
-use crate::patterns::Patterns;
+use crate::pattern_store::Patterns;
 use crate::plain::Plain;
 
 /// Each canonical step gives a pattern that matches exactly what the node over its parts matches, in every grammar, for

@@ -3,7 +3,8 @@ ghost use Rattle.std.specs.Prelude.{◌≡◌, ◌++◌, IfOk, OnOk, map};
 ghost use Rattle.rn_pattern.specs.Canonical.{canonical_name, name_class_of, sorted_once};
 ghost use Rattle.rn_pattern.specs.inside.NameParts.{name_parts};
 ghost use Rattle.rn_pattern.specs.Order.{name_cmp};
-ghost use Rattle.rn_pattern.specs.View.{name_class_view, name_classes_view};
+ghost use Rattle.rn_pattern.specs.View.{name_class_view};
+ghost use Rattle.rn_pattern.specs.inside.PartViews.{name_classes_view};
 
 use crate::tree::NameClass;
 use std::alloc::{AllocError, Global};

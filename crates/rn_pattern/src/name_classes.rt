@@ -1,7 +1,8 @@
 // The restrictions on name classes (RELAX NG 2001, 4.16).
-ghost use Rattle.std.specs.Prelude.{◌≢◌, Decides, string_bytes, codes, []};
+ghost use Rattle.std.specs.Prelude.{◌≡◌, ◌≢◌, ◌↔◌, true, string_bytes, codes, []};
 ghost use Rattle.rn_pattern.specs.NameRules.{HasNoAny, HaveNoAny, HasNamesAlone, HaveNamesAlone, HasNameExcepts, HaveNameExcepts, HasNoDeclaration, HaveNoDeclaration, IsNoDeclaration, KeepsNameRules, KeepNameRules, declarations};
-ghost use Rattle.rn_pattern.specs.View.{name_class_view, name_classes_view, pattern_view, patterns_view};
+ghost use Rattle.rn_pattern.specs.View.{name_class_view, pattern_view};
+ghost use Rattle.rn_pattern.specs.inside.PartViews.{name_classes_view, patterns_view};
 
 use crate::tree::{NameClass, Pattern};
 use std::rc::Rc;
@@ -12,7 +13,7 @@ const XMLNS_URI: &str = "http://www.w3.org/2000/xmlns";
 /// Whether the class holds no anyName, at any depth.
 #[cycle(no_any)]
 fn has_no_any(class: &NameClass) -> bool
-    ensures { Decides result (HasNoAny (name_class_view class.now)) }
+    ensures { (result ≡ true) ↔ HasNoAny (name_class_view class.now) }
 {
     match class {
         NameClass::AnyName(_) => false,
@@ -24,7 +25,7 @@ fn has_no_any(class: &NameClass) -> bool
 
 #[cycle(no_any)]
 fn have_no_any(classes: &[NameClass]) -> bool
-    ensures { Decides result (HaveNoAny (name_classes_view classes.now)) }
+    ensures { (result ≡ true) ↔ HaveNoAny (name_classes_view classes.now) }
 {
     for class in classes {
         if !has_no_any(class) {
@@ -37,7 +38,7 @@ fn have_no_any(classes: &[NameClass]) -> bool
 /// Whether the class holds neither an anyName nor an nsName, at any depth.
 #[cycle(names_alone)]
 fn has_names_alone(class: &NameClass) -> bool
-    ensures { Decides result (HasNamesAlone (name_class_view class.now)) }
+    ensures { (result ≡ true) ↔ HasNamesAlone (name_class_view class.now) }
 {
     match class {
         NameClass::AnyName(_) | NameClass::NsName(_, _) => false,
@@ -48,7 +49,7 @@ fn has_names_alone(class: &NameClass) -> bool
 
 #[cycle(names_alone)]
 fn have_names_alone(classes: &[NameClass]) -> bool
-    ensures { Decides result (HaveNamesAlone (name_classes_view classes.now)) }
+    ensures { (result ≡ true) ↔ HaveNamesAlone (name_classes_view classes.now) }
 {
     for class in classes {
         if !has_names_alone(class) {
@@ -61,7 +62,7 @@ fn have_names_alone(classes: &[NameClass]) -> bool
 /// Whether no except of an anyName holds an anyName, and none of an nsName an anyName or an nsName.
 #[cycle(name_excepts)]
 fn has_name_excepts(class: &NameClass) -> bool
-    ensures { Decides result (HasNameExcepts (name_class_view class.now)) }
+    ensures { (result ≡ true) ↔ HasNameExcepts (name_class_view class.now) }
 {
     match class {
         NameClass::AnyName(None) | NameClass::NsName(_, None) | NameClass::Name(_, _) => true,
@@ -73,7 +74,7 @@ fn has_name_excepts(class: &NameClass) -> bool
 
 #[cycle(name_excepts)]
 fn have_name_excepts(classes: &[NameClass]) -> bool
-    ensures { Decides result (HaveNameExcepts (name_classes_view classes.now)) }
+    ensures { (result ≡ true) ↔ HaveNameExcepts (name_classes_view classes.now) }
 {
     for class in classes {
         if !has_name_excepts(class) {
@@ -85,14 +86,14 @@ fn have_name_excepts(classes: &[NameClass]) -> bool
 
 /// Whether it is not the namespace of declarations.
 fn is_other_namespace(uri: &str) -> bool
-    ensures { Decides result (uri.now ≢ declarations) }
+    ensures { (result ≡ true) ↔ (uri.now ≢ declarations) }
 {
     uri != XMLNS_URI
 }
 
 /// Whether the name is no `xmlns` without a namespace, and not of the namespace of declarations.
 fn is_no_declaration(uri: &str, local: &str) -> bool
-    ensures { Decides result (IsNoDeclaration uri.now local.now) }
+    ensures { (result ≡ true) ↔ IsNoDeclaration uri.now local.now }
 {
     !(uri == "" && local == "xmlns") && is_other_namespace(uri)
 }
@@ -100,7 +101,7 @@ fn is_no_declaration(uri: &str, local: &str) -> bool
 /// Whether the class holds no name of a declaration, and nothing of their namespace, at any depth.
 #[cycle(no_declaration)]
 fn has_no_declaration(class: &NameClass) -> bool
-    ensures { Decides result (HasNoDeclaration (name_class_view class.now)) }
+    ensures { (result ≡ true) ↔ HasNoDeclaration (name_class_view class.now) }
 {
     match class {
         NameClass::AnyName(None) => true,
@@ -116,7 +117,7 @@ fn has_no_declaration(class: &NameClass) -> bool
 
 #[cycle(no_declaration)]
 fn have_no_declaration(classes: &[NameClass]) -> bool
-    ensures { Decides result (HaveNoDeclaration (name_classes_view classes.now)) }
+    ensures { (result ≡ true) ↔ HaveNoDeclaration (name_classes_view classes.now) }
 {
     for class in classes {
         if !has_no_declaration(class) {
@@ -129,7 +130,7 @@ fn have_no_declaration(classes: &[NameClass]) -> bool
 /// Whether each name class in the pattern keeps the restrictions.
 #[cycle(name_rules)]
 pub fn keeps_name_rules(pattern: &Pattern) -> bool
-    ensures { Decides result (KeepsNameRules (pattern_view pattern.now)) }
+    ensures { (result ≡ true) ↔ KeepsNameRules (pattern_view pattern.now) }
 {
     match pattern {
         Pattern::NotAllowed
@@ -153,7 +154,7 @@ pub fn keeps_name_rules(pattern: &Pattern) -> bool
 
 #[cycle(name_rules)]
 fn keep_name_rules(members: &[Rc<Pattern>]) -> bool
-    ensures { Decides result (KeepNameRules (patterns_view members.now)) }
+    ensures { (result ≡ true) ↔ KeepNameRules (patterns_view members.now) }
 {
     for member in members {
         if !keeps_name_rules(member) {

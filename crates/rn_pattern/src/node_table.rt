@@ -7,12 +7,13 @@ ghost use Rattle.rn_pattern.specs.inside.Shown.{ShowsTree, part_texts};
 ghost use Rattle.rn_pattern.specs.Store.{node_view};
 
 use crate::node::{Node, NodeId};
-use crate::parts::{Parts, bare_parts, compare_heads, parts_of};
+use crate::node_parts::{Parts, bare_parts, compare_heads, parts_of};
 use std::cmp::Ordering;
 
 /// The nodes of a store in the order of their ids, borrowed.
 #[derive(Clone, Copy)]
 pub struct NodeTable<'a> {
+    /// The node of each id, at the place that the id is.
     pub nodes: &'a [Node<NodeId>],
     ghost earlier: { NameEarlier 0 nodes.now } by { NameEarlier-prop 0 nodes.now },
 }

@@ -2,7 +2,8 @@
 ghost use Rattle.std.specs.Prelude.{◌≡◌};
 ghost use Rattle.rn_pattern.specs.inside.Compared.{data_cmp, value_cmp};
 ghost use Rattle.rn_pattern.specs.Order.{name_cmp, name_rank, names_cmp, rank, tree_cmp, trees_cmp};
-ghost use Rattle.rn_pattern.specs.View.{except_view, excepted_view, name_class_view, name_classes_view, pattern_view, patterns_view};
+ghost use Rattle.rn_pattern.specs.View.{excepted_view, name_class_view, pattern_view};
+ghost use Rattle.rn_pattern.specs.inside.PartViews.{except_view, name_classes_view, patterns_view};
 
 use crate::tree::{Data, NameClass, Pattern, Value};
 use std::cmp::Ordering;

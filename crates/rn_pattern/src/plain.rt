@@ -4,7 +4,7 @@ ghost use Rattle.rn_pattern.specs.inside.Stored.{NameEarlier, NameEarlier-prop, 
 
 use crate::node::{Node, NodeId};
 use crate::node_table::NodeTable;
-use crate::patterns::Patterns;
+use crate::pattern_store::Patterns;
 use crate::store::NodeStore;
 use std::alloc::{AllocError, Global};
 

@@ -10,7 +10,9 @@ use std::alloc::{AllocError, Global};
 /// Ranks by which each edge leads to a lower one, or a node on a loop.
 #[derive(Drop)]
 pub enum Order {
+    /// The rank of each node, in the order of the nodes.
     Ranked(Vec<usize>),
+    /// A node that comes back to itself.
     Looped(usize),
 }
 

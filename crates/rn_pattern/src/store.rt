@@ -5,7 +5,7 @@ ghost use Rattle.rn_pattern.specs.inside.Hashing.{tree_at-same};
 ghost use Rattle.rn_pattern.specs.Matching.{MatchAlike};
 ghost use Rattle.rn_pattern.specs.inside.Stored.{NamesBelow, knows, tree_at, trees_of_nodes};
 ghost use Rattle.rn_pattern.specs.inside.Reduced.{IsReducedIn, reduced_tree};
-ghost use Rattle.rn_pattern.specs.Store.{AddsOnly, KeepsIds, StandsFor, datum_by, datum_step, node_view};
+ghost use Rattle.rn_pattern.specs.Store.{AddsAnswerOnly, AddsOnly, KeepsIds, StandsFor, datum_by, datum_step, node_view};
 ghost use Rattle.rn_pattern.specs.inside.Count.{ids_counted};
 ghost use Rattle.rn_pattern.specs.Tree.{Tree};
 ghost use Rattle.rn_pattern.specs.View.{parameters_view};
@@ -13,7 +13,7 @@ ghost use Rattle.rn_pattern.specs.View.{parameters_view};
 use crate::canonical::{self, Reduced};
 use crate::node::{Node, NodeId};
 use crate::node_table::NodeTable;
-use crate::patterns::Patterns;
+use crate::pattern_store::Patterns;
 use crate::tree::NameClass;
 use std::alloc::{AllocError, Global};
 
@@ -107,11 +107,8 @@ impl<S: NodeStore> Patterns for S {
             (datum_by library.now type_name.now (parameters_view params.now)
             (option_map (tree_at (S.trees self.old)) except))
             (tree_at (S.trees self.new) i)) }
-        ensures kept { KeepsIds knows tree_at (S.trees self.old) (S.trees self.new) }
-        ensures adds { IfOk result (AddsOnly
-            (knows (S.trees self.old)) (knows (S.trees self.new))) }
-        ensures grows { length (S.trees self.new) ≤ length (S.trees self.old) + 1 }
-        ensures refused { OnErr result (length (S.trees self.new) ≡ length (S.trees self.old)) }
+        ensures kept { AddsAnswerOnly knows tree_at length
+            (S.trees self.old) (S.trees self.new) result }
     {
         let pattern = canonical::datum(
             &self.table(),

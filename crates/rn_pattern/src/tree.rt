@@ -18,16 +18,22 @@ pub enum NameClass {
 /// A value of a datatype. All texts are UTF-8, and the library is shared like a namespace.
 #[derive(Drop)]
 pub struct Value {
+    /// The URI of the datatype library; empty for the built-in one (6.2.9).
     pub library: RcStr,
+    /// The datatype's name in the library.
     pub type_name: String,
+    /// The string, before its datatype normalises it.
     pub text: String,
 }
 
 /// Data: the library of the datatype, its name there, and its parameters in their order, each a name and a text.
 #[derive(Drop)]
 pub struct Data {
+    /// The URI of the datatype library; empty for the built-in one (6.2.9).
     pub library: RcStr,
+    /// The datatype's name in the library.
     pub type_name: String,
+    /// A name and a text each, as often and in the order in which they are written.
     pub params: Vec<(String, String)>,
 }
 
@@ -35,19 +41,30 @@ pub struct Data {
 /// patterns are references and lists.
 #[derive(Drop)]
 pub enum Pattern {
+    /// Matches nothing.
     NotAllowed,
+    /// No attribute and no content (6.2.3).
     Empty,
+    /// Any strings (6.2.4).
     Text,
     /// The name of a definition.
     Ref(String),
+    /// A string that its datatype takes as equal to the value (6.2.8).
     Value(Box<Value>),
-    /// Data, and what is excepted of it.
+    /// Data, and what is excepted of it (6.2.8).
     Datum(Box<Data>, Option<Box<Pattern>>),
+    /// The pattern of a string's words (6.2.10).
     List(Box<Pattern>),
+    /// The names, and the pattern of the text (6.2.7).
     Attribute(Box<NameClass>, Box<Pattern>),
+    /// The names, and the pattern of the attributes and the content (6.2.7).
     Element(Box<NameClass>, Box<Pattern>),
+    /// One or more of the pattern (6.2.5).
     OneOrMore(Box<Pattern>),
+    /// The members in their order (6.2.2).
     Group(Vec<Rc<Pattern>>),
+    /// The members in any order, parts of one among those of others (6.2.6).
     Interleave(Vec<Rc<Pattern>>),
+    /// One of the members (6.2.1).
     Choice(Vec<Rc<Pattern>>),
 }

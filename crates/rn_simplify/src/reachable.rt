@@ -13,7 +13,7 @@ ghost use Rattle.rn_assemble.specs.declared.references.Reach.TheVariants.{Everyw
 use crate::references::referred_numbers;
 use rn_assemble::Definitions;
 use rn_pattern::Pattern;
-use rn_pattern::graph::reached;
+use rn_pattern::graph::reached_nodes;
 use std::alloc::{AllocError, Global};
 
 /// The forms that the start reaches, in the order of their names. The forms have the names of the definitions, in their
@@ -55,7 +55,7 @@ fn reached_forms(
 {
     let rows = rows_of_forms(alloc, names, forms)?;
     let first = referred_numbers(alloc, names, start)?;
-    reached(alloc, &rows, &first)
+    reached_nodes(alloc, &rows, &first)
 }
 
 /// The references of each form.

@@ -18,7 +18,7 @@ use crate::references::References;
 use crate::repeated_members::without_repeats;
 use rn_assemble::{Definitions, Grammar};
 use rn_pattern::Pattern;
-use rn_pattern::graph::reached;
+use rn_pattern::graph::reached_nodes;
 use rn_pattern::ranks::{Order, ranks};
 use std::alloc::{AllocError, Global};
 
@@ -147,7 +147,7 @@ fn reached_definitions(
     ensures exact { IfOk result (λ v. MarksReached (grammar_view grammar.now) v.items) }
 {
     let start = start_references(alloc, grammar)?;
-    reached(alloc, rows, &start)
+    reached_nodes(alloc, rows, &start)
 }
 
 /// Ranks by which each row refers to lower ones, where no row leads back to itself.

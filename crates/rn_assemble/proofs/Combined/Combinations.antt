@@ -14,7 +14,7 @@ use Rattle.rn_assemble.specs.Components.{Key, start_key, name_key, Component, sa
 use Rattle.rn_assemble.specs.Combine.{of_key, bodies, combined, PairedUp, alone, paired, Combines, IsCombination, join, joined, first_of, defined_names, joined_grammar}
 use Rattle.rn_pattern.proofs.Matches.Compositions.{Content, Matching}
 use Rattle.rn_pattern.proofs.Matches.Pairings.{paired_choice, paired_interleave, some_permuted, side_permuted}
-use Rattle.rn_pattern.proofs.Matches.Keeps.{list_of-trees_of, SomeOf, some_of_trees, trees_of_some}
+use Rattle.rn_pattern.proofs.Matches.StepsKeep.{list_of-trees_of, SomeOf, some_of_trees, trees_of_some}
 use Rattle.rn_pattern.proofs.Matches.Alike.{Alike, refers_alike, alike_then}
 use Rattle.std.specs.List.{list_any}
 use Rattle.rn_pattern.proofs.Matches.OpenedKeeps.{one_or_choice, one_or_interleave, Side}

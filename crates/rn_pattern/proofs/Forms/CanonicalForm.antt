@@ -12,7 +12,7 @@ use Rattle.rn_pattern.proofs.Ordered.Sorting.{ascends_sorted}
 use Rattle.rn_pattern.proofs.Ordered.Orders.{name_same, tree_same}
 use Rattle.rn_pattern.proofs.Ordered.TotalOrder.{name_cmp_total, tree_cmp_total}
 use Rattle.rn_pattern.proofs.Matches.NamesKept.{name_list_of-name_trees_of}
-use Rattle.rn_pattern.proofs.Matches.Keeps.{list_of-trees_of}
+use Rattle.rn_pattern.proofs.Matches.StepsKeep.{list_of-trees_of}
 use Rattle.std.specs.List.{AllByRecursion}
 use Rattle.std.specs.List.Sorted.{IsStrictlySortedBy}
 use Rattle.rn_pattern.specs.CanonicalShape.{IsAscending, is_no_choice, IsCanonicalName, AreCanonicalNames, may_choose, may_group, may_interleave, IsCanonical, AreCanonical}

@@ -10,23 +10,21 @@ use Rattle.rn_pattern.specs.Opened.{one_or_node, opened_choice, opened_interleav
 use Rattle.rn_pattern.proofs.Ordered.Ascending.{climbing_sorted_once, ascending_sorted, sorted_last, sorted_once_last}
 use Rattle.rn_pattern.proofs.Ordered.Orders.{tree_same}
 use Rattle.rn_pattern.proofs.Ordered.TotalOrder.{tree_cmp_total}
-use Rattle.rn_pattern.proofs.Matches.Keeps.{list_of-trees_of, trees_of-list_of}
+use Rattle.rn_pattern.proofs.Matches.StepsKeep.{list_of-trees_of, trees_of-list_of}
 use Rattle.rn_pattern.proofs.Forms.CanonicalForm.{NameMember, name_members, Member, members_list, canonical_name_is}
+use Rattle.rn_pattern.proofs.Forms.ListsWithin.{one_choice, one_group, one_interleave}
+use Rattle.rn_pattern.proofs.Forms.NamesTogether.{one_within}
 use Rattle.std.specs.List.{AllByRecursion}
-use Rattle.rn_pattern.specs.CanonicalShape.{is_several, IsAscending, is_no_choice, is_single, IsCanonicalName, AreCanonicalNames, may_choose, may_group, may_interleave, may_repeat, IsCanonical, AreCanonical, AnyName, IsCanonicalPattern}
+use Rattle.rn_pattern.specs.CanonicalShape.{is_several, IsAscending, is_single, IsCanonicalName, AreCanonicalNames, may_choose, may_group, may_interleave, may_repeat, IsCanonical, AreCanonical, AnyName, IsCanonicalPattern}
 use Rattle.std.specs.List.Sorted.{IsStrictlySortedBy}
 
 name_trees_of-name_list_of : (cs : NameTrees) → name_trees_of (name_list_of cs) ≡ cs
 name_trees_of-name_list_of no_names = refl
 name_trees_of-name_list_of (more_names c cs) = ap (more_names c) (name_trees_of-name_list_of cs)
 
-within_itself : (c : NameTree) → is_no_choice c ≡ true → names_within c ≡ c ∷ []
-within_itself (name_choice cs) e = absurd (false≢true e)
-within_itself c e = refl
-
 flat_within : (cs : List NameTree) → AllByRecursion NameMember cs → flat_map names_within cs ≡ cs
 flat_within [] h = refl
-flat_within (c ∷ cs) h = ap (λ l. l ++ flat_map names_within cs) (within_itself c h.0.1) ∙ ap (λ l. c ∷ l) (flat_within cs h.1)
+flat_within (c ∷ cs) h = ap (λ l. l ++ flat_map names_within cs) (one_within c h.0.1) ∙ ap (λ l. c ∷ l) (flat_within cs h.1)
 
 class_itself : (cs : NameTrees) → is_single (name_list_of cs) ≡ false → name_class_of (name_list_of cs) ≡ name_choice cs
 class_itself no_names e = refl
@@ -49,21 +47,6 @@ mutual
   canonical_names_fixed no_names h = refl
   canonical_names_fixed (more_names c cs) h = let e = canonical_name_fixed c h.0.0 in let f = canonical_names_fixed cs h.1 in λ i. e i ∷ f i
 
-alternatives_itself : (p : Tree) → may_choose p ≡ true → alternatives p ≡ p ∷ []
-alternatives_itself not_allowed e = absurd (false≢true e)
-alternatives_itself (choice ps) e = absurd (false≢true e)
-alternatives_itself p e = refl
-
-grouped_itself : (p : Tree) → may_group p ≡ true → grouped p ≡ p ∷ []
-grouped_itself empty e = absurd (false≢true e)
-grouped_itself (group ps) e = absurd (false≢true e)
-grouped_itself p e = refl
-
-interleaved_itself : (p : Tree) → may_interleave p ≡ true → interleaved p ≡ p ∷ []
-interleaved_itself empty e = absurd (false≢true e)
-interleaved_itself (interleave ps) e = absurd (false≢true e)
-interleaved_itself p e = refl
-
 group_allowed : (p : Tree) → may_group p ≡ true → is_not_allowed p ≡ false
 group_allowed not_allowed e = absurd (false≢true e)
 group_allowed p e = refl
@@ -80,15 +63,15 @@ node_itself none over (more_trees p (more_trees q ps)) e = ap (λ l. over (more_
 module _ (Named : Text → Type 0) where
   flat_alternatives : (ps : List Tree) → AllByRecursion (Member Named may_choose) ps → flat_map alternatives ps ≡ ps
   flat_alternatives [] h = refl
-  flat_alternatives (p ∷ ps) h = ap (λ l. l ++ flat_map alternatives ps) (alternatives_itself p h.0.1) ∙ ap (λ l. p ∷ l) (flat_alternatives ps h.1)
+  flat_alternatives (p ∷ ps) h = ap (λ l. l ++ flat_map alternatives ps) (one_choice p h.0.1) ∙ ap (λ l. p ∷ l) (flat_alternatives ps h.1)
 
   flat_grouped : (ps : List Tree) → AllByRecursion (Member Named may_group) ps → flat_map grouped ps ≡ ps
   flat_grouped [] h = refl
-  flat_grouped (p ∷ ps) h = ap (λ l. l ++ flat_map grouped ps) (grouped_itself p h.0.1) ∙ ap (λ l. p ∷ l) (flat_grouped ps h.1)
+  flat_grouped (p ∷ ps) h = ap (λ l. l ++ flat_map grouped ps) ((one_group p h.0.1).1) ∙ ap (λ l. p ∷ l) (flat_grouped ps h.1)
 
   flat_interleaved : (ps : List Tree) → AllByRecursion (Member Named may_interleave) ps → flat_map interleaved ps ≡ ps
   flat_interleaved [] h = refl
-  flat_interleaved (p ∷ ps) h = ap (λ l. l ++ flat_map interleaved ps) (interleaved_itself p h.0.1) ∙ ap (λ l. p ∷ l) (flat_interleaved ps h.1)
+  flat_interleaved (p ∷ ps) h = ap (λ l. l ++ flat_map interleaved ps) ((one_interleave p h.0.1).1) ∙ ap (λ l. p ∷ l) (flat_interleaved ps h.1)
 
   all_allowed_group : (ps : List Tree) → AllByRecursion (Member Named may_group) ps → has_not_allowed ps ≡ false
   all_allowed_group [] h = refl
@@ -171,14 +154,14 @@ module _ (Named : Text → Type 0) where
 
     others_alternatives : (os : Trees) → AllByRecursion (Member Named may_choose) (map form (list_of os)) → IsStrictlySortedBy tree_cmp (map form (list_of os)) → alternatives (form (one_or_node choice os)) ≡ map form (list_of os)
     others_alternatives no_trees h k = refl
-    others_alternatives (more_trees o no_trees) h k = alternatives_itself (form o) h.0.1
+    others_alternatives (more_trees o no_trees) h k = one_choice (form o) h.0.1
     others_alternatives (more_trees o (more_trees q os)) h k =
         let forms = map form (list_of (more_trees o (more_trees q os))) in
         ap (λ l. alternatives (choice_step l)) (all_form (more_trees o (more_trees q os))) ∙ ap alternatives (choice_list forms h k) ∙ list_of-trees_of forms
 
     others_interleaved : (os : Trees) → AllByRecursion (Member Named may_interleave) (map form (list_of os)) → IsAscending tree_cmp (map form (list_of os)) → interleaved (form (one_or_node interleave os)) ≡ map form (list_of os)
     others_interleaved no_trees h k = refl
-    others_interleaved (more_trees o no_trees) h k = interleaved_itself (form o) h.0.1
+    others_interleaved (more_trees o no_trees) h k = (one_interleave (form o) h.0.1).1
     others_interleaved (more_trees o (more_trees q os)) h k =
         let forms = map form (list_of (more_trees o (more_trees q os))) in
         ap (λ l. interleaved (interleave_step l)) (all_form (more_trees o (more_trees q os))) ∙ ap interleaved (interleave_list forms h k) ∙ list_of-trees_of forms

@@ -10,7 +10,7 @@ use Rattle.rn_pattern.specs.Canonical.{sorted, sorted_once, node_of, is_not_allo
 use Rattle.rn_pattern.specs.CanonicalShape.{may_choose, may_group, may_interleave, IsCanonicalPattern, AnyName}
 use Rattle.rn_pattern.proofs.Ordered.Ascending.{each_sorted, each_sorted_once}
 use Rattle.rn_pattern.proofs.Forms.CanonicalForm.{Member, each_allowed, flat_choice, flat_group, flat_interleave}
-use Rattle.rn_pattern.proofs.Matches.Keeps.{list_of-trees_of}
+use Rattle.rn_pattern.proofs.Matches.StepsKeep.{list_of-trees_of}
 use Rattle.rn_pattern.proofs.Ordered.Orders.{tree_same}
 use Rattle.rn_pattern.proofs.Ordered.TotalOrder.{tree_cmp_total}
 use Rattle.rn_pattern.proofs.Ordered.Within.{sorted_behind, sorted_once_behind, sorted_within, sorted_once_within}
@@ -20,7 +20,7 @@ flat_between f front ps rest = flat_map-append f front (ps ++ rest) ∙ ap (λ x
 
 -- ---- choice
 
-one_choice : (p : Tree) → may_choose p ≡ true → alternatives p ≡ p ∷ []
+pub one_choice : (p : Tree) → may_choose p ≡ true → alternatives p ≡ p ∷ []
 one_choice not_allowed h = absurd (false≢true h)
 one_choice (choice ps) h = absurd (false≢true h)
 one_choice p h = refl
@@ -87,7 +87,7 @@ module _ (order : List Tree → List Tree) (over : Trees → Tree) (inside : Tre
       → step (front ++ (step ps ∷ rest)) ≡ step (front ++ (ps ++ rest))
   within front ps rest h = within_at (has_not_allowed ps) front ps rest refl h
 
-one_group : (p : Tree) → may_group p ≡ true → (is_not_allowed p ≡ false) × (grouped p ≡ p ∷ [])
+pub one_group : (p : Tree) → may_group p ≡ true → (is_not_allowed p ≡ false) × (grouped p ≡ p ∷ [])
 one_group not_allowed h = absurd (false≢true h)
 one_group empty h = absurd (false≢true h)
 one_group (group ps) h = absurd (false≢true h)
@@ -102,7 +102,7 @@ pub group_within : (front ps rest : List Tree) → AllByRecursion IsCanonicalPat
 group_within front ps rest h =
     within (λ xs. xs) group grouped (λ _ _ _. refl) front ps rest (λ e. group_members (flat_map grouped ps) (flat_group AnyName ps (each_allowed AnyName ps h e)))
 
-one_interleave : (p : Tree) → may_interleave p ≡ true → (is_not_allowed p ≡ false) × (interleaved p ≡ p ∷ [])
+pub one_interleave : (p : Tree) → may_interleave p ≡ true → (is_not_allowed p ≡ false) × (interleaved p ≡ p ∷ [])
 one_interleave not_allowed h = absurd (false≢true h)
 one_interleave empty h = absurd (false≢true h)
 one_interleave (interleave ps) h = absurd (false≢true h)

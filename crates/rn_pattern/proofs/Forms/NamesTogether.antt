@@ -28,7 +28,7 @@ once = sorted_once name_cmp
 abbrev flat : NameTrees → List NameTree
 flat cs = flat_map names_within (canonical_names cs)
 
-one_within : (c : NameTree) → is_no_choice c ≡ true → names_within c ≡ c ∷ []
+pub one_within : (c : NameTree) → is_no_choice c ≡ true → names_within c ≡ c ∷ []
 one_within (name_choice cs) h = absurd (false≢true h)
 one_within c h = refl
 

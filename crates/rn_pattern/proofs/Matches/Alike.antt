@@ -8,7 +8,7 @@ use Rattle.rn_pattern.specs.Document.{Attribute, Item, items_of, string}
 use Rattle.rn_pattern.specs.Datatype.{Table, words}
 use Rattle.rn_pattern.specs.Matching.{Matches, SomeMatches, EachMatches, Weakly, Meaning}
 use Rattle.rn_pattern.specs.Reached.{RefersTo, SomeRefersTo}
-use Rattle.rn_pattern.proofs.Matches.Keeps.{weakly_to}
+use Rattle.rn_pattern.proofs.Matches.StepsKeep.{weakly_to}
 
 pub all_zip_to : {A B : Type 0} (R S : A → B → Type 0) → ((x : A) (y : B) → R x y → S x y) → (xs : List A) (ys : List B) → AllZip R xs ys → AllZip S xs ys
 all_zip_to R S to [] [] h = h

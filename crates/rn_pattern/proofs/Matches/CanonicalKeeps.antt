@@ -7,7 +7,7 @@ use Rattle.rn_pattern.specs.Datatype.{Table, words}
 use Rattle.rn_pattern.specs.Matching.{Matches, SomeMatches, EachMatches, Meaning}
 use Rattle.rn_pattern.specs.Canonical.{canonical, canonical_all, canonical_name}
 use Rattle.rn_pattern.specs.Excepts.{IsExcept, AreExcepts, HasExcepts, HaveExcepts}
-use Rattle.rn_pattern.proofs.Matches.Keeps.{choice_kept, group_kept, interleave_kept, one_or_more_kept, list_kept, datum_kept, attribute_kept, weakly_to}
+use Rattle.rn_pattern.proofs.Matches.StepsKeep.{choice_kept, group_kept, interleave_kept, one_or_more_kept, list_kept, datum_kept, attribute_kept, weakly_to}
 use Rattle.rn_pattern.proofs.Matches.NamesKept.{names_kept}
 use Rattle.rn_pattern.proofs.Matches.Alike.{all_zip_to}
 

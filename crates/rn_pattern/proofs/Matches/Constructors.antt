@@ -5,7 +5,7 @@ use Rattle.rn_text.specs.Texts.{Text}
 use Rattle.rn_pattern.specs.Datatype.{Table}
 use Rattle.rn_pattern.specs.Matching.{MatchesWithin, MatchAlike, Meaning}
 use Rattle.rn_pattern.specs.Canonical.{canonical_name, choice_step, group_step, interleave_step, one_or_more_step, list_step, attribute_step, datum_but_step}
-use Rattle.rn_pattern.proofs.Matches.Keeps.{choice_kept, group_kept, interleave_kept, one_or_more_kept, list_kept, datum_kept, attribute_kept}
+use Rattle.rn_pattern.proofs.Matches.StepsKeep.{choice_kept, group_kept, interleave_kept, one_or_more_kept, list_kept, datum_kept, attribute_kept}
 use Rattle.rn_pattern.proofs.Matches.NamesKept.{names_kept}
 use Rattle.rn_pattern.proofs.Matches.Alike.{Alike, then_alike}
 

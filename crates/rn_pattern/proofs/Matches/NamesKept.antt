@@ -4,7 +4,7 @@ use Rattle.std.specs.Prelude.{flat_map}
 use Rattle.std.specs.Ordering.{match_ordering}
 use Rattle.rn_pattern.specs.Tree.{NameTree, NameTrees, any_name, any_name_but, ns_name, ns_name_but, name, name_choice, no_names, more_names, name_list_of, name_trees_of}
 use Rattle.rn_text.specs.Texts.{Text}
-use Rattle.rn_pattern.specs.Names.{HoldsName, SomeHoldsName}
+use Rattle.rn_pattern.specs.HeldNames.{HoldsName, SomeHoldsName}
 use Rattle.rn_pattern.specs.Order.{name_cmp}
 use Rattle.rn_pattern.specs.Canonical.{put_once, sorted_once, name_class_of, names_within, name_choice_step, canonical_name, canonical_names}
 use Rattle.rn_pattern.proofs.Ordered.Orders.{name_same}

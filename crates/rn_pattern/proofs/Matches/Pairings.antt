@@ -13,7 +13,7 @@ use Rattle.rn_pattern.proofs.Ordered.TotalOrder.{tree_cmp_total}
 use Rattle.rn_pattern.proofs.Ordered.Sorting.{sorted_permutation, sorted_once_permutation}
 use Rattle.rn_pattern.proofs.Matches.Products.{IsComposition, Product, product_apart, product_join, product_one, product_sorted, product_unsorted}
 use Rattle.rn_pattern.proofs.Matches.Compositions.{Content, nothing, InTurn, in_turn, Mixed, mixed, mixed_swap, Matching, group_product, product_group, interleave_product, product_interleave}
-use Rattle.rn_pattern.proofs.Matches.Keeps.{list_of-trees_of, SomeOf, some_of_trees, trees_of_some, some_left, some_right, some_either, some_sorted, some_unsorted}
+use Rattle.rn_pattern.proofs.Matches.StepsKeep.{list_of-trees_of, SomeOf, some_of_trees, trees_of_some, some_left, some_right, some_either, some_sorted, some_unsorted}
 
 module _ (T : Table) (μ : Meaning) where
   pub paired_choice : (ps : List Tree) (p : Tree) → PairedUp choice ps p → (a : List Attribute) (m : List Item) → Matches T μ a m p ↔ SomeOf T μ a m ps

@@ -1,46 +1,20 @@
 -- Nodes whose parts the order does not tell apart are equal.
-use Rattle.std.proofs.Common.{◌≡◌, Bool, true, false, ◌&&◌, nat_eq, List, [], ◌∷◌, refl, sym, ap, ◌∙◌, Ordering, Less, Equal, Greater, nat_cmp}
+use Rattle.std.proofs.Common.{◌≡◌, Bool, true, false, ◌&&◌, nat_eq, refl, sym, ap, ◌∙◌, Ordering, Equal, nat_cmp}
 use Rattle.std.specs.Ordering.{ordering_then}
 use Rattle.std.specs.Cmp.Lexicographic.{slice_cmp, pointwise, pointwise_decides}
 use Rattle.std.proofs.lemmas.Cmp.{ranked, tied_itself, nat_cmp_total, nat_list_cmp_total, lists_total}
-use Rattle.rn_pattern.specs.Tree.{NameTree, NameTrees, no_names, name_choice}
+use Rattle.rn_pattern.specs.Tree.{name_choice}
 use Rattle.rn_pattern.specs.Order.{parameters_cmp, names_cmp}
 use Rattle.rn_text.specs.Texts.{text_cmp}
-use Rattle.rn_pattern.specs.inside.Hashing.{Key, key_eq, key_decides, number_decides, text_decides, parameter_decides, names_decides}
-use Rattle.rn_pattern.proofs.Ordered.Orders.{text_same, parameters_same, name_same}
+use Rattle.rn_pattern.specs.inside.Hashing.{NodeParts, same_parts, parts_decides, number_decides, text_decides, parameter_decides, names_decides}
+use Rattle.rn_pattern.proofs.Ordered.Orders.{then_first, then_second, list_same, text_same, parameters_same, names_same}
 use Rattle.rn_pattern.proofs.Ordered.TotalOrder.{parameters_total, name_cmp_total}
 
-pub then_first : (o r : Ordering) → ordering_then o r ≡ Equal → o ≡ Equal
-then_first Less r h = h
-then_first Equal r h = refl
-then_first Greater r h = h
-
-pub then_second : (o r : Ordering) → ordering_then o r ≡ Equal → r ≡ Equal
-then_second Less r h = cc
-then_second Equal r h = h
-then_second Greater r h = cc
-
-list_same : {X : Type 0} (R : X → X → Ordering) → ((x y : X) → R x y ≡ Equal → x ≡ y) → (xs ys : List X) → slice_cmp R xs ys ≡ Equal → xs ≡ ys
-list_same R same [] [] h = refl
-list_same R same [] (y ∷ ys) h = cc
-list_same R same (x ∷ xs) [] h = cc
-list_same R same (x ∷ xs) (y ∷ ys) h =
-    let here : x ≡ y = same x y (then_first (R x y) (slice_cmp R xs ys) h) in
-    let more : xs ≡ ys = list_same R same xs ys (then_second (R x y) (slice_cmp R xs ys) h) in
-    λ i. here i ∷ more i
-
-abbrev choice_of : NameTree → NameTrees
-choice_of (name_choice cs) = cs
-choice_of c = no_names
-
-names_same : (cs ds : NameTrees) → names_cmp cs ds ≡ Equal → cs ≡ ds
-names_same cs ds h = ap choice_of (name_same (name_choice cs) (name_choice ds) h)
-
-abbrev pub heads : Key → Key → Ordering
+abbrev pub heads : NodeParts → NodeParts → Ordering
 heads x y = ordering_then (nat_cmp x.0 y.0) (ordering_then (slice_cmp text_cmp x.1 y.1) (ordering_then (parameters_cmp x.2 y.2) (names_cmp x.3 y.3)))
 
 -- the same heads, and then the same ids
-pub eq_by_places : (x y : Key) → heads x y ≡ Equal → key_eq x y ≡ pointwise nat_eq x.4 y.4
+pub eq_by_places : (x y : NodeParts) → heads x y ≡ Equal → same_parts x y ≡ pointwise nat_eq x.4 y.4
 eq_by_places x y h =
     let c : Ordering = names_cmp x.3 y.3 in
     let p : Ordering = parameters_cmp x.2 y.2 in
@@ -58,8 +32,8 @@ not_true : (b : Bool) → ¬ (b ≡ true) → false ≡ b
 not_true true h = absurd (h refl)
 not_true false h = refl
 
-pub heads_itself : (x : Key) → heads x x ≡ Equal
+pub heads_itself : (x : NodeParts) → heads x x ≡ Equal
 heads_itself x = λ i. ordering_then (tied_itself nat_cmp_total x.0 i) (ordering_then (tied_itself (lists_total nat_list_cmp_total) x.1 i) (ordering_then (tied_itself parameters_total x.2 i) (tied_itself name_cmp_total (name_choice x.3) i)))
 
-pub not_eq : (x y : Key) → ¬ (heads x y ≡ Equal) → false ≡ key_eq x y
-not_eq x y h = not_true (key_eq x y) (λ e. h (ap (heads x) (sym ((key_decides x y).0 e)) ∙ heads_itself x))
+pub not_eq : (x y : NodeParts) → ¬ (heads x y ≡ Equal) → false ≡ same_parts x y
+not_eq x y h = not_true (same_parts x y) (λ e. h (ap (heads x) (sym ((parts_decides x y).0 e)) ∙ heads_itself x))

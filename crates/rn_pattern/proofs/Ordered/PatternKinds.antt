@@ -18,9 +18,9 @@ use Rattle.rn_pattern.specs.declared.tree.Value.{Value}
 use Rattle.rn_pattern.specs.declared.tree.Pattern.TheOpen.{Pattern-F}
 use Rattle.rn_pattern.specs.declared.tree.Pattern.TheVariants as variant
 use Rattle.rn_pattern.specs.declared.tree.Pattern.TheViews as pattern
-use Rattle.rn_pattern.proofs.Ordered.TotalOrder.{then-Equal, then_assoc}
+use Rattle.rn_pattern.proofs.Ordered.TotalOrder.{then_assoc, tree_cmp-by_parts}
+use Rattle.rn_pattern.proofs.Ordered.Orders.{then-Equal}
 use Rattle.rn_pattern.proofs.Ordered.Stepwise.{then_settled, then_tied}
-use Rattle.rn_pattern.proofs.Stores.ShownTrees.{tree_cmp-by_shown}
 
 shared_by : (ps : List (Rc Pattern Global)) → map (λ (r : Rc Tree Global). r.value) (map (λ (p : Rc Pattern Global). record { ptr = p.ptr; value = pattern_view p.value }) ps) ≡ map shared_view ps
 shared_by [] = refl
@@ -59,7 +59,7 @@ pub heads_settled : (K X S M r : Ordering) → r ≡ ordering_then K (ordering_t
 heads_settled K X S M r e h = heads_first K X S M r e ∙ then_settled r M h
 
 pub ranks_apart : (p q : Tree) → ¬ (rank p ≡ rank q) → nat_cmp (rank p) (rank q) ≡ tree_cmp p q
-ranks_apart p q h = sym (tree_cmp-by_shown p q ∙ then_settled (nat_cmp (rank p) (rank q)) _ (λ e. h (ranked (rank p) (rank q) Equal (sym e))))
+ranks_apart p q h = sym (tree_cmp-by_parts p q ∙ then_settled (nat_cmp (rank p) (rank q)) _ (λ e. h (ranked (rank p) (rank q) Equal (sym e))))
 
 by_view : (x : Pattern-F Pattern) → rank (pattern_view (pattern.roll-Pattern x)) ≡ rank (pattern_step (map-Pattern Pattern Tree pattern_view x))
 by_view x = ap rank (fold-roll-Pattern Tree pattern_step x)

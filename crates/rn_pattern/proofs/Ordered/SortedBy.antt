@@ -1,18 +1,18 @@
 -- A sort by what the entries stand for sorts what they stand for.
-use Rattle.std.proofs.Common.{◌≡◌, ◌+◌, Bool, true, false, cond, List, [], ◌∷◌, map, get_or, refl, sym, ap, ◌∙◌, arith, Ordering, Less, Equal, Greater, Bor}
+use Rattle.std.proofs.Common.{◌≡◌, ◌+◌, Bool, true, false, cond, List, [], ◌∷◌, map, get_or, refl, sym, ap, ◌∙◌, arith, Ordering, Equal, Bor}
 use Rattle.std.specs.Ordering.{is_lt, is_eq}
 use Rattle.std.specs.Cmp.{IsTotalOrder, IsStrictWeakOrder}
 use Rattle.std.specs.Fn.{ComparesAs, Called}
 use Rattle.std.specs.Prelude.{IsPermutation, IsSortedBy}
 use Rattle.std.specs.List.{dedup, dedup_from}
 use Rattle.std.specs.List.Retain.{IsDeduped}
-use Rattle.std.proofs.lemmas.Cmp.{tied_itself}
 use Rattle.std.proofs.lemmas.Fn.{always_returns_same, dedup_same}
 use Rattle.std.proofs.lemmas.List.{get_or-map, length-map}
 use Rattle.std.proofs.lemmas.List.Sorted.{IsPermutation-map, ranks_by}
 use denote.Param.Members.{Mut}
 use Rattle.rn_pattern.specs.Canonical.{put_once, sorted, sorted_once}
 use Rattle.rn_pattern.proofs.Ordered.Sorting.{sorted_from_sort, dedup-sorted}
+use Rattle.rn_pattern.proofs.Ordered.Within.{put_twice}
 
 module _ {X Y : Type 0} (R : X → X → Ordering) (o : IsTotalOrder R) (one : (x y : X) → R x y ≡ Equal → x ≡ y) (at : Y → X) where
   abbrev pub lt_at : Y → Y → Bool
@@ -58,20 +58,11 @@ module _ {X Y : Type 0} (R : X → X → Ordering) (o : IsTotalOrder R) (one : (
   pub ids_sorted_once : (xs ys zs : List Y) → map at ys ≡ sorted R (map at xs) → zs ≡ dedup same_at ys → map at zs ≡ sorted_once R (map at xs)
   ids_sorted_once xs ys zs s e = ap (map at) e ∙ map-dedup ys ∙ ap (dedup (λ p q. is_eq (R p q))) s ∙ dedup-sorted R o one (map at xs)
 
-  put_once-twice_at : (a : Ordering) (x y : X) (ys : List X) → R x y ≡ a → put_once R x (put_once R x ys) ≡ put_once R x ys → put_once R x (put_once R x (y ∷ ys)) ≡ put_once R x (y ∷ ys)
-  put_once-twice_at Less x y ys e h = let itself : R x x ≡ Equal = tied_itself o x in rw (e, itself) refl
-  put_once-twice_at Equal x y ys e h = rw (e, e) refl
-  put_once-twice_at Greater x y ys e h = rw (e, e) (ap (λ t. y ∷ t) h)
-
-  put_once-twice : (x : X) (ys : List X) → put_once R x (put_once R x ys) ≡ put_once R x ys
-  put_once-twice x [] = let itself : R x x ≡ Equal = tied_itself o x in rw itself refl
-  put_once-twice x (y ∷ ys) = put_once-twice_at (R x y) x y ys refl (put_once-twice x ys)
-
   -- entries that are the same stand for the same, and count once
   module _ (same : Y → Y → Bool) (stands : (x y : Y) → same x y ≡ true → at x ≡ at y) where
     sorted_once-dedup_at : (b : Bool) (k x : Y) (xs : List Y) → same x k ≡ b → sorted_once R (map at (dedup_from same k xs)) ≡ put_once R (at k) (sorted_once R (map at xs)) → sorted_once R (map at (dedup_from same x xs)) ≡ put_once R (at x) (sorted_once R (map at xs))
         → sorted_once R (map at (cond b (dedup_from same k xs) (k ∷ dedup_from same x xs))) ≡ put_once R (at k) (put_once R (at x) (sorted_once R (map at xs)))
-    sorted_once-dedup_at true k x xs e h g = h ∙ sym (ap (λ t. put_once R (at k) (put_once R t (sorted_once R (map at xs)))) (stands x k e) ∙ put_once-twice (at k) (sorted_once R (map at xs)))
+    sorted_once-dedup_at true k x xs e h g = h ∙ sym (ap (λ t. put_once R (at k) (put_once R t (sorted_once R (map at xs)))) (stands x k e) ∙ put_twice R o one (at k) (sorted_once R (map at xs)))
     sorted_once-dedup_at false k x xs e h g = ap (put_once R (at k)) g
 
     sorted_once-dedup_from : (k : Y) (xs : List Y) → sorted_once R (map at (dedup_from same k xs)) ≡ put_once R (at k) (sorted_once R (map at xs))

@@ -44,7 +44,8 @@ module _ {X : Type 0} (R : X → X → Ordering) (o : IsTotalOrder R) (one : (x 
   put_twice_at Greater x y ys e h =
       ap (λ a. match_ordering a (x ∷ y ∷ put_once R x ys) (y ∷ put_once R x ys) (y ∷ put_once R x (put_once R x ys))) e ∙ ap (λ t. y ∷ t) h
 
-  put_twice : (x : X) (ys : List X) → put_once R x (put_once R x ys) ≡ put_once R x ys
+  -- what is put in twice stands once
+  pub put_twice : (x : X) (ys : List X) → put_once R x (put_once R x ys) ≡ put_once R x ys
   put_twice x [] = ap (λ a. match_ordering a (x ∷ x ∷ []) (x ∷ []) (x ∷ x ∷ [])) (tied_itself o x)
   put_twice x (y ∷ ys) = put_twice_at (R x y) x y ys refl (put_twice x ys)
 

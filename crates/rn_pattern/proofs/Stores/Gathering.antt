@@ -1,4 +1,4 @@
--- One more part in a list of the members of the parts.
+-- One more part among ids: the ids of the members of the parts so far, and of the next.
 use Rattle.std.proofs.Common.{◌≡◌, ◌+◌, ◌<◌, ℕ, List, [], ◌∷◌, ◌++◌, length, map, take, get_or, flat_map, All, IsTrue, refl, sym, ap, subst, ◌∙◌, arith, Option, Some, None, Bor}
 use Rattle.std.proofs.lemmas.List.{take_more, append-nil, map-append}
 use Rattle.std.proofs.lemmas.List.Concat.{flat_map-append}

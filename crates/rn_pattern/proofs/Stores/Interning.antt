@@ -7,7 +7,7 @@ use Rattle.rn_pattern.specs.Tree as tree
 use Rattle.rn_pattern.specs.Tree.{NameTree, NameTrees, any_name, no_names, more_names, Tree, trees_of}
 use Rattle.rn_pattern.specs.Store.{AddsOnly, KeepsTrees, StandsFor, node_view}
 use Rattle.rn_pattern.specs.inside.Stored.{NamesBelow, NameEarlier, knows, node_rank, tree_at, trees_of_nodes}
-use Rattle.rn_pattern.specs.inside.Hashing.{key, key_decides, node_eq}
+use Rattle.rn_pattern.specs.inside.Hashing.{node_parts, parts_decides, node_eq}
 use Rattle.rn_pattern.specs.declared.node.Node.{Node}
 use Rattle.rn_pattern.specs.declared.node.NodeId.{NodeId}
 use Rattle.rn_pattern.proofs.Stores.NodeTrees.{NameEarlier-push, length-trees_of_nodes, trees_of_nodes-push, trees_of_nodes-at, node_view_same, keeps_before, keeps_same, place_known, adds_at_end, adds_none}
@@ -28,24 +28,24 @@ members_same : (at : NodeId → Tree) (is js : List NodeId) → map (λ (i : Nod
 members_same at is js e = sym (map_places at is) ∙ ap (map (λ j. at (record { 0 = j }))) e ∙ map_places at js
 
 -- equal keys stand for the same tree
-pub same_key_view : (at : NodeId → Tree) (m n : Node NodeId) → key m ≡ key n → node_view at m ≡ node_view at n
-same_key_view at Node.NotAllowed Node.NotAllowed e = refl
-same_key_view at Node.Empty Node.Empty e = refl
-same_key_view at Node.Text Node.Text e = refl
-same_key_view at (Node.Ref x) (Node.Ref y) e = ap (λ k. tree.ref (get_or k.1 0 [])) e
-same_key_view at (Node.Value l x t) (Node.Value m y u) e = ap (λ k. tree.value (get_or k.1 0 []) (get_or k.1 1 []) (get_or k.1 2 [])) e
-same_key_view at (Node.Datum l x ps None) (Node.Datum m y qs None) e = ap (λ k. tree.datum (get_or k.1 0 []) (get_or k.1 1 []) k.2) e
-same_key_view at (Node.Datum l x ps None) (Node.Datum m y qs (Some j)) e = let f : 0 ≡ 1 = ap (λ k. length k.4) e in absurd (omega (arith, f))
-same_key_view at (Node.Datum l x ps (Some i)) (Node.Datum m y qs None) e = let f : 1 ≡ 0 = ap (λ k. length k.4) e in absurd (omega (arith, f))
-same_key_view at (Node.Datum l x ps (Some i)) (Node.Datum m y qs (Some j)) e = ap (λ k. tree.datum_but (get_or k.1 0 []) (get_or k.1 1 []) k.2 (at (record { 0 = get_or k.4 0 0 }))) e
-same_key_view at (Node.List i) (Node.List j) e = ap (λ k. tree.list (at (record { 0 = get_or k.4 0 0 }))) e
-same_key_view at (Node.Attribute c i) (Node.Attribute d j) e = ap (λ k. tree.attribute (first_name k.3) (at (record { 0 = get_or k.4 0 0 }))) e
-same_key_view at (Node.Element c i) (Node.Element d j) e = ap (λ k. tree.element (first_name k.3) (at (record { 0 = get_or k.4 0 0 }))) e
-same_key_view at (Node.OneOrMore i) (Node.OneOrMore j) e = ap (λ k. tree.one_or_more (at (record { 0 = get_or k.4 0 0 }))) e
-same_key_view at (Node.Group is) (Node.Group js) e = ap (λ ts. tree.group (trees_of ts)) (members_same at is.items js.items (ap (λ k. k.4) e))
-same_key_view at (Node.Interleave is) (Node.Interleave js) e = ap (λ ts. tree.interleave (trees_of ts)) (members_same at is.items js.items (ap (λ k. k.4) e))
-same_key_view at (Node.Choice is) (Node.Choice js) e = ap (λ ts. tree.choice (trees_of ts)) (members_same at is.items js.items (ap (λ k. k.4) e))
-same_key_view at m n e = let f : node_rank m ≡ node_rank n = ap (λ k. k.0) e in absurd (omega (arith, f))
+pub same_parts_view : (at : NodeId → Tree) (m n : Node NodeId) → node_parts m ≡ node_parts n → node_view at m ≡ node_view at n
+same_parts_view at Node.NotAllowed Node.NotAllowed e = refl
+same_parts_view at Node.Empty Node.Empty e = refl
+same_parts_view at Node.Text Node.Text e = refl
+same_parts_view at (Node.Ref x) (Node.Ref y) e = ap (λ k. tree.ref (get_or k.1 0 [])) e
+same_parts_view at (Node.Value l x t) (Node.Value m y u) e = ap (λ k. tree.value (get_or k.1 0 []) (get_or k.1 1 []) (get_or k.1 2 [])) e
+same_parts_view at (Node.Datum l x ps None) (Node.Datum m y qs None) e = ap (λ k. tree.datum (get_or k.1 0 []) (get_or k.1 1 []) k.2) e
+same_parts_view at (Node.Datum l x ps None) (Node.Datum m y qs (Some j)) e = let f : 0 ≡ 1 = ap (λ k. length k.4) e in absurd (omega (arith, f))
+same_parts_view at (Node.Datum l x ps (Some i)) (Node.Datum m y qs None) e = let f : 1 ≡ 0 = ap (λ k. length k.4) e in absurd (omega (arith, f))
+same_parts_view at (Node.Datum l x ps (Some i)) (Node.Datum m y qs (Some j)) e = ap (λ k. tree.datum_but (get_or k.1 0 []) (get_or k.1 1 []) k.2 (at (record { 0 = get_or k.4 0 0 }))) e
+same_parts_view at (Node.List i) (Node.List j) e = ap (λ k. tree.list (at (record { 0 = get_or k.4 0 0 }))) e
+same_parts_view at (Node.Attribute c i) (Node.Attribute d j) e = ap (λ k. tree.attribute (first_name k.3) (at (record { 0 = get_or k.4 0 0 }))) e
+same_parts_view at (Node.Element c i) (Node.Element d j) e = ap (λ k. tree.element (first_name k.3) (at (record { 0 = get_or k.4 0 0 }))) e
+same_parts_view at (Node.OneOrMore i) (Node.OneOrMore j) e = ap (λ k. tree.one_or_more (at (record { 0 = get_or k.4 0 0 }))) e
+same_parts_view at (Node.Group is) (Node.Group js) e = ap (λ ts. tree.group (trees_of ts)) (members_same at is.items js.items (ap (λ k. k.4) e))
+same_parts_view at (Node.Interleave is) (Node.Interleave js) e = ap (λ ts. tree.interleave (trees_of ts)) (members_same at is.items js.items (ap (λ k. k.4) e))
+same_parts_view at (Node.Choice is) (Node.Choice js) e = ap (λ ts. tree.choice (trees_of ts)) (members_same at is.items js.items (ap (λ k. k.4) e))
+same_parts_view at m n e = let f : node_rank m ≡ node_rank n = ap (λ k. k.0) e in absurd (omega (arith, f))
 
 abbrev pub Inserted : List (Node NodeId) → List (Node NodeId) → Node NodeId → Type 0
 Inserted ns ms n = (ms ≡ ns) ⊎ (ms ≡ ns ++ n ∷ [])
@@ -87,7 +87,7 @@ inserted_stands ns ms n i k how earlier below at_place equal =
     let new = tree_at (trees_of_nodes ms) in
     let found = get_is ms i.0 k at_place in
     let is_there = trees_of_nodes-at ms i.0 tree.not_allowed k (inserted_earlier ns ms n how earlier below) found.0 in
-    let same = same_key_view new n k ((key_decides (key n) (key k)).0 equal) in
+    let same = same_parts_view new n k ((parts_decides (node_parts n) (node_parts k)).0 equal) in
     let kept = node_view_same old new (length (trees_of_nodes ns)) n (λ j l. sym (inserted_keeps ns ms n how j (place_known (trees_of_nodes ns) j l)).1) below in
     (place_known (trees_of_nodes ms) i (omega (arith, length-trees_of_nodes ms, found.0)), is_there ∙ ap (node_view new) found.1 ∙ sym same ∙ sym kept)
 

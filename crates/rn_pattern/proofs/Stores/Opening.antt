@@ -1,4 +1,4 @@
--- One more part in a list of the members of the parts.
+-- One more part among shared patterns: the members of the parts so far, and of the next.
 use Rattle.std.proofs.Common.{◌≡◌, ◌+◌, ◌<◌, ℕ, List, [], ◌∷◌, ◌++◌, length, map, take, get_or, flat_map, sym, ap, subst, ◌∙◌, Option, Some, None, Bor}
 use Rattle.std.proofs.lemmas.List.{map-append}
 use Rattle.std.specs.Prelude.{MatchOption}

@@ -12,11 +12,11 @@ use Rattle.rn_pattern.specs.inside.Shown.{texts_in, parameters_in, names_in, mem
 use Rattle.rn_pattern.specs.Store.{AddsOnly, KeepsTrees, StandsFor, node_view}
 use Rattle.rn_pattern.specs.Nodes.{node_members}
 use Rattle.rn_pattern.specs.inside.Stored.{NamesBelow, NameEarlier, knows, tree_at, trees_of_nodes}
-use Rattle.rn_pattern.specs.inside.Hashing.{key, key_decides, node_eq}
+use Rattle.rn_pattern.specs.inside.Hashing.{node_parts, parts_decides, node_eq}
 use Rattle.rn_pattern.specs.declared.interned.Interned.{Interned}
 use Rattle.rn_pattern.specs.declared.node.Node.{Node}
 use Rattle.rn_pattern.specs.declared.node.NodeId.{NodeId}
-use Rattle.rn_pattern.proofs.Matches.Keeps.{list_of-trees_of}
+use Rattle.rn_pattern.proofs.Matches.StepsKeep.{list_of-trees_of}
 use Rattle.rn_pattern.proofs.Stores.NodeTrees.{length-trees_of_nodes, trees_of_nodes-at, names_below_at, knows_place, place_known}
 use Rattle.rn_pattern.proofs.Stores.ShownTrees.{shows_node}
 
@@ -37,8 +37,8 @@ places_same at i j tells (p ∷ ps) (q ∷ qs) h k e =
     let more = places_same at i j tells ps qs (All-tail (λ (r : NodeId). r.0 < i) p ps h) (All-tail (λ (r : NodeId). r.0 < j) q qs k) (ap tail_of e) in
     λ x. here x ∷ more x
 
-key_from_view : (at : NodeId → Tree) (i j : ℕ) (m n : Node NodeId) → NamesBelow i m → NamesBelow j n → Tells at i j → node_view at m ≡ node_view at n → key m ≡ key n
-key_from_view at i j m n h k tells e =
+parts_from_view : (at : NodeId → Tree) (i j : ℕ) (m n : Node NodeId) → NamesBelow i m → NamesBelow j n → Tells at i j → node_view at m ≡ node_view at n → node_parts m ≡ node_parts n
+parts_from_view at i j m n h k tells e =
     let x = shows_node at i m h in
     let y = shows_node at j n k in
     let members : map at (node_members m) ≡ map at (node_members n) =
@@ -59,9 +59,9 @@ module _ (ns : List (Node NodeId)) (earlier : NameEarlier 0 ns) (unique : IsDist
       let m = get_or ns p.0 d in
       let k = get_or ns q.0 d in
       let view : node_view at m ≡ node_view at k = sym (trees_of_nodes-at ns p.0 tree.not_allowed d earlier in_p) ∙ e ∙ trees_of_nodes-at ns q.0 tree.not_allowed d earlier in_q in
-      let same = key_from_view at p.0 q.0 m k (names_below_at ns p.0 d earlier in_p) (names_below_at ns q.0 d earlier in_q) (λ x y f g h. tells x y (omega arith) (omega arith) h) view in
-      let not_less : ¬ (p.0 < q.0) = λ l. false≢true (sym (apart_from_distinct node_eq ns p.0 q.0 d unique l in_q) ∙ (key_decides (key m) (key k)).1 same) in
-      let not_more : ¬ (q.0 < p.0) = λ l. false≢true (sym (apart_from_distinct node_eq ns q.0 p.0 d unique l in_p) ∙ (key_decides (key k) (key m)).1 (sym same)) in
+      let same = parts_from_view at p.0 q.0 m k (names_below_at ns p.0 d earlier in_p) (names_below_at ns q.0 d earlier in_q) (λ x y f g h. tells x y (omega arith) (omega arith) h) view in
+      let not_less : ¬ (p.0 < q.0) = λ l. false≢true (sym (apart_from_distinct node_eq ns p.0 q.0 d unique l in_q) ∙ (parts_decides (node_parts m) (node_parts k)).1 same) in
+      let not_more : ¬ (q.0 < p.0) = λ l. false≢true (sym (apart_from_distinct node_eq ns q.0 p.0 d unique l in_p) ∙ (parts_decides (node_parts k) (node_parts m)).1 (sym same)) in
       omega (arith, not_less, not_more)
 
   tells_below : (n : ℕ) → n ≤ length ns → Tells at n n

@@ -7,7 +7,7 @@ use Rattle.rn_pattern.specs.declared.tree.NameClass.{NameClass}
 use Rattle.rn_pattern.specs.View.{parameters_view}
 use Rattle.std.specs.Ordering.{ordering_then}
 use Rattle.std.specs.Cmp.Lexicographic.{slice_cmp}
-use Rattle.rn_pattern.specs.Tree.{Tree, trees_of, not_allowed, empty, text, ref, value, datum, datum_but, list, attribute, element, one_or_more, group, interleave, choice}
+use Rattle.rn_pattern.specs.Tree.{Tree, trees_of}
 use Rattle.rn_pattern.specs.Order.{rank, parameters_cmp, names_cmp, tree_cmp, trees_cmp}
 use Rattle.rn_text.specs.Texts.{text_cmp}
 use Rattle.rn_pattern.specs.Store.{node_view}
@@ -16,7 +16,8 @@ use Rattle.rn_pattern.specs.inside.Stored.{NamesBelow, node_rank, node_texts, no
 use Rattle.rn_pattern.specs.inside.Shown.{texts_in, parameters_in, names_in, members_in, class_view, ShowsTree}
 use Rattle.rn_pattern.specs.declared.node.Node.{Node}
 use Rattle.rn_pattern.specs.declared.node.NodeId.{NodeId}
-use Rattle.rn_pattern.proofs.Ordered.TotalOrder.{then-Equal, then_assoc}
+use Rattle.rn_pattern.proofs.Ordered.TotalOrder.{then_assoc, tree_cmp-by_parts}
+use Rattle.rn_pattern.proofs.Ordered.Orders.{then-Equal}
 use Rattle.rn_pattern.proofs.Ordered.Stepwise.{then_settled, then_tied, trees_cmp-trees_of}
 
 abbrev pub Shows : (NodeId → Tree) → ℕ → Node NodeId → Type 0
@@ -38,25 +39,6 @@ shows_node at k (Node.Choice is) h = record { kinds = refl; texts_are = refl; pa
 shows_node at k n h = record { kinds = refl; texts_are = refl; parameters_are = refl; class_is = refl; members_are = refl; below = All-nil (λ (j : NodeId). j.0 < k) }
 
 -- the order, part by part
-pub tree_cmp-by_shown : (p q : Tree) → tree_cmp p q ≡ ordering_then (nat_cmp (rank p) (rank q)) (ordering_then (slice_cmp text_cmp (texts_in p) (texts_in q)) (ordering_then (parameters_cmp (parameters_in p) (parameters_in q)) (ordering_then (names_cmp (names_in p) (names_in q)) (trees_cmp (members_in p) (members_in q)))))
-tree_cmp-by_shown not_allowed not_allowed = refl
-tree_cmp-by_shown empty empty = refl
-tree_cmp-by_shown text text = refl
-tree_cmp-by_shown (ref x) (ref y) = simp then-Equal
-tree_cmp-by_shown (value k x s) (value l y t) = simp then-Equal
-tree_cmp-by_shown (datum k x s) (datum l y t) = simp (then-Equal, then_assoc)
-tree_cmp-by_shown (datum k x s) (datum_but l y t q) = simp (then-Equal, then_assoc)
-tree_cmp-by_shown (datum_but k x s p) (datum l y t) = simp (then-Equal, then_assoc)
-tree_cmp-by_shown (datum_but k x s p) (datum_but l y t q) = simp (then-Equal, then_assoc)
-tree_cmp-by_shown (list p) (list q) = simp then-Equal
-tree_cmp-by_shown (attribute c p) (attribute d q) = simp then-Equal
-tree_cmp-by_shown (element c p) (element d q) = simp then-Equal
-tree_cmp-by_shown (one_or_more p) (one_or_more q) = simp then-Equal
-tree_cmp-by_shown (group ps) (group qs) = refl
-tree_cmp-by_shown (interleave ps) (interleave qs) = refl
-tree_cmp-by_shown (choice ps) (choice qs) = refl
-tree_cmp-by_shown p q = refl
-
 -- the same facts of what was read out of a node, and of what stands past the end
 pub shows_parts : (at : NodeId → Tree) (t : Tree) (place : ℕ) (n : Node NodeId) (kind : ℕ) (texts : List (List ℕ)) (parameters : List (String Global × String Global)) (class : Option NameClass) (members : List NodeId) → NamesBelow place n → node_view at n ≡ t
     → kind ≡ node_rank n → texts ≡ node_texts n → parameters ≡ node_parameters n → class ≡ node_class n → members ≡ node_members n → ShowsTree at t place kind texts parameters class members
@@ -84,7 +66,7 @@ module _ (at : NodeId → Tree) (p q : Tree) (i j k l : ℕ) (xs ys : List (List
   -- the order is that of the heads, and then that of the members
   pub tree_cmp-by_heads : tree_cmp p q ≡ ordering_then heads members
   tree_cmp-by_heads =
-      tree_cmp-by_shown p q
+      tree_cmp-by_parts p q
       ∙ (λ z. ordering_then (nat_cmp ((sym x.kinds) z) ((sym y.kinds) z)) (ordering_then (slice_cmp text_cmp ((sym x.texts_are) z) ((sym y.texts_are) z)) (ordering_then (parameters_cmp ((sym x.parameters_are) z) ((sym y.parameters_are) z)) (ordering_then (names_cmp ((sym x.class_is) z) ((sym y.class_is) z)) (trees_cmp ((sym x.members_are) z) ((sym y.members_are) z))))))
       ∙ ap (λ t. ordering_then (nat_cmp k l) (ordering_then (slice_cmp text_cmp xs ys) (ordering_then (parameters_cmp (parameters_view ps) (parameters_view qs)) (ordering_then (names_cmp (class_view c) (class_view d)) t)))) (trees_cmp-trees_of (map at ms) (map at ns))
       ∙ sym (then_four (nat_cmp k l) (slice_cmp text_cmp xs ys) (parameters_cmp (parameters_view ps) (parameters_view qs)) (names_cmp (class_view c) (class_view d)) members)

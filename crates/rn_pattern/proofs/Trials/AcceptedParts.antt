@@ -9,7 +9,7 @@ use Rattle.std.proofs.lemmas.Slice.Eq.{bytes_eq-Decides}
 use Rattle.rn_pattern.specs.Tree.{Parameters, NameTree, NameTrees, any_name, any_name_but, ns_name, ns_name_but, name, name_choice, no_names, more_names}
 use Rattle.rn_text.specs.Texts.{Text, is_white}
 use Rattle.rn_pattern.specs.Document.{Attribute, Item, Items, node, string, items_of}
-use Rattle.rn_pattern.specs.Names.{HoldsName, SomeHoldsName}
+use Rattle.rn_pattern.specs.HeldNames.{HoldsName, SomeHoldsName}
 use Rattle.rn_pattern.specs.Datatype.{Table, IsBlank, collapsed, Allows, TakesAsEqual}
 use Rattle.rn_pattern.specs.Matching.{IsString, IsPadding, Weakly}
 use Rattle.rn_pattern.proofs.Matches.Weaving.{Weave, woven, first, second}

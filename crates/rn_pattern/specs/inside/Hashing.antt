@@ -35,21 +35,21 @@ abbrev mutual
   same_names (more_names c cs) (more_names d ds) = same_name c d && same_names cs ds
   same_names cs ds = false
 
--- what tells nodes apart: the kind, the texts, the parameters, the name class and the ids
-abbrev pub Key : Type 0
-Key = ℕ × List Text × Parameters × NameTrees × List ℕ
+-- the parts of a node, by which nodes are told apart: the kind, the texts, the parameters, the name class and the ids
+abbrev pub NodeParts : Type 0
+NodeParts = ℕ × List Text × Parameters × NameTrees × List ℕ
 
-abbrev pub key : Node NodeId → Key
-key n = (node_rank n, node_texts n, parameters_view (node_parameters n), class_view (node_class n), map (λ i. i.0) (node_members n))
+abbrev pub node_parts : Node NodeId → NodeParts
+node_parts n = (node_rank n, node_texts n, parameters_view (node_parameters n), class_view (node_class n), map (λ i. i.0) (node_members n))
 
 abbrev pub same_parameter : Text × Text → Text × Text → Bool
 same_parameter x y = same_text x.0 y.0 && same_text x.1 y.1
 
-abbrev pub key_eq : Key → Key → Bool
-key_eq x y = nat_eq x.0 y.0 && (pointwise same_text x.1 y.1 && (pointwise same_parameter x.2 y.2 && (same_names x.3 y.3 && pointwise nat_eq x.4 y.4)))
+abbrev pub same_parts : NodeParts → NodeParts → Bool
+same_parts x y = nat_eq x.0 y.0 && (pointwise same_text x.1 y.1 && (pointwise same_parameter x.2 y.2 && (same_names x.3 y.3 && pointwise nat_eq x.4 y.4)))
 
 abbrev pub node_eq : Node NodeId → Node NodeId → Bool
-node_eq = on key key_eq
+node_eq = on node_parts same_parts
 
 -- each test decides equality
 both_true : (a b : Bool) → a ≡ true → b ≡ true → (a && b) ≡ true
@@ -111,8 +111,8 @@ parameter_decides x y = (
   λ e. both_true (same_text x.0 y.0) (same_text x.1 y.1) ((text_decides x.0 y.0).1 (ap (λ p. p.0) e)) ((text_decides x.1 y.1).1 (ap (λ p. p.1) e)),
 )
 
-pub key_decides : (x y : Key) → Decides (key_eq x y) (x ≡ y)
-key_decides x y =
+pub parts_decides : (x y : NodeParts) → Decides (same_parts x y) (x ≡ y)
+parts_decides x y =
     let a = nat_eq x.0 y.0 in
     let b = pointwise same_text x.1 y.1 in
     let c = pointwise same_parameter x.2 y.2 in
@@ -132,7 +132,7 @@ key_decides x y =
     )
 
 pub node_eq_equiv : IsEquivalence node_eq
-node_eq_equiv = on_equiv key (decided key_eq key_decides)
+node_eq_equiv = on_equiv node_parts (decided same_parts parts_decides)
 
 abbrev mutual
   pub name_writes : NameTree → List (List ℕ)
@@ -170,28 +170,28 @@ parts_writes n = []
 abbrev pub node_writes : Node NodeId → List (List ℕ)
 node_writes n = fed.u8 (node_rank n) ++ parts_writes n
 
--- the key alone says what is fed: the kind tells how many of the three texts there are
+-- the parts alone say what is fed: the kind tells how many of the three texts there are
 text_count : ℕ → ℕ
 text_count rank = cond (nat_eq rank 3) 1 (cond (nat_eq rank 4) 3 (cond (nat_eq rank 5) 2 0))
 
-key_writes : Key → List (List ℕ)
-key_writes k = fed.u8 k.0 ++ (flat_map fed.str (take (text_count k.0) k.1) ++ (parameters_writes k.2 ++ (names_writes k.3 ++ flat_map fed.usize k.4)))
+node_parts_writes : NodeParts → List (List ℕ)
+node_parts_writes k = fed.u8 k.0 ++ (flat_map fed.str (take (text_count k.0) k.1) ++ (parameters_writes k.2 ++ (names_writes k.3 ++ flat_map fed.usize k.4)))
 
-node_key_writes : (n : Node NodeId) → key_writes (key n) ≡ node_writes n
-unfolding key_writes text_count
-node_key_writes Node.NotAllowed = refl
-node_key_writes Node.Empty = refl
-node_key_writes Node.Text = refl
-node_key_writes (Node.Ref x) = simp append-nil
-node_key_writes (Node.Value l x t) = simp append-nil
-node_key_writes (Node.Datum l x ps e) = simp append_assoc
-node_key_writes (Node.List i) = simp append-nil
-node_key_writes (Node.Attribute c i) = simp append-nil
-node_key_writes (Node.Element c i) = simp append-nil
-node_key_writes (Node.OneOrMore i) = simp append-nil
-node_key_writes (Node.Group is) = refl
-node_key_writes (Node.Interleave is) = refl
-node_key_writes (Node.Choice is) = refl
+writes_of_parts : (n : Node NodeId) → node_parts_writes (node_parts n) ≡ node_writes n
+unfolding node_parts_writes text_count
+writes_of_parts Node.NotAllowed = refl
+writes_of_parts Node.Empty = refl
+writes_of_parts Node.Text = refl
+writes_of_parts (Node.Ref x) = simp append-nil
+writes_of_parts (Node.Value l x t) = simp append-nil
+writes_of_parts (Node.Datum l x ps e) = simp append_assoc
+writes_of_parts (Node.List i) = simp append-nil
+writes_of_parts (Node.Attribute c i) = simp append-nil
+writes_of_parts (Node.Element c i) = simp append-nil
+writes_of_parts (Node.OneOrMore i) = simp append-nil
+writes_of_parts (Node.Group is) = refl
+writes_of_parts (Node.Interleave is) = refl
+writes_of_parts (Node.Choice is) = refl
 
 pub node_eq_writes : (m n : Node NodeId) → IsTrue (node_eq m n) → node_writes m ≡ node_writes n
-node_eq_writes m n h = sym (node_key_writes m) ∙ ap key_writes ((key_decides (key m) (key n)).0 h) ∙ node_key_writes n
+node_eq_writes m n h = sym (writes_of_parts m) ∙ ap node_parts_writes ((parts_decides (node_parts m) (node_parts n)).0 h) ∙ writes_of_parts n

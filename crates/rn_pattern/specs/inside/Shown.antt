@@ -10,7 +10,7 @@ use Rattle.rn_pattern.specs.Order.{names_cmp, parameters_cmp, rank}
 use Rattle.rn_pattern.specs.View.{name_class_view, parameters_view}
 use Rattle.rn_pattern.specs.declared.tree.NameClass.{NameClass}
 use Rattle.rn_pattern.specs.declared.node.NodeId.{NodeId}
-use Rattle.rn_pattern.specs.declared.parts.Parts.{Parts}
+use Rattle.rn_pattern.specs.declared.node_parts.Parts.{Parts}
 
 -- three texts, empty where there are fewer
 abbrev pub texts_in : Tree → List Text

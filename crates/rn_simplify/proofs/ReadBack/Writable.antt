@@ -10,7 +10,7 @@ use Rattle.rn_pattern.specs.Canonical.{put_once, sorted_once, name_class_of, nam
 use Rattle.rn_pattern.specs.Reached.{IsCanonicalOf}
 use Rattle.rn_pattern.specs.Opened.{opened_grammar}
 use Rattle.rn_pattern.proofs.Ordered.Ascending.{each_flat, each_sorted_once}
-use Rattle.rn_pattern.proofs.Forms.Kept.{IsKept, opened_kept}
+use Rattle.rn_pattern.proofs.Forms.KeptByForms.{IsKept, opened_kept}
 use Rattle.rn_pattern.proofs.Forms.KeptRules.{canonical_except, opened_except}
 use Rattle.rn_assemble.specs.Texts.{IsWritableName, AreWritableNames, IsWritable, AreWritable}
 use Rattle.rn_assemble.specs.WellFormed.{HasWritableTexts}

@@ -11,7 +11,7 @@ use Rattle.rn_pattern.specs.Canonical.{canonical, ref_unless_settled, settled_wi
 use Rattle.rn_pattern.specs.Reached.{RefersTo, IsReached, by_start, by_definition, formed, all_canonical}
 use Rattle.rn_pattern.specs.References.{RefersOutside}
 use Rattle.rn_pattern.proofs.Matches.Validity.{lookup-map}
-use Rattle.rn_pattern.proofs.Forms.Kept.{IsKept, canonical_kept}
+use Rattle.rn_pattern.proofs.Forms.KeptByForms.{IsKept, canonical_kept}
 use Rattle.rn_pattern.proofs.Forms.KeptRules.{RefersIn, RefersOutsideIn, refers_kept, outside_kept}
 
 pub found_in : (N : Grammar) (x : Text) (p : Tree) → definition_of N x ≡ Some p → Contains N.definitions (x, p)

@@ -14,7 +14,7 @@ use Rattle.rn_pattern.specs.Canonical.{sorted_once, node_of, alternatives, choic
 use Rattle.rn_pattern.specs.View.{pattern_view, shared_view}
 use Rattle.rn_pattern.specs.declared.tree.Pattern.{Pattern}
 use Rattle.rn_pattern.specs.declared.tree.Pattern.TheVariants as variant
-use Rattle.rn_pattern.proofs.Matches.Keeps.{list_of-trees_of}
+use Rattle.rn_pattern.proofs.Matches.StepsKeep.{list_of-trees_of}
 use Rattle.rn_pattern.proofs.Ordered.Ascending.{climbs_sorted_once}
 use Rattle.rn_pattern.proofs.Ordered.InOrder.{contains_behind, contains_front, contains_cases, one_list}
 use Rattle.rn_pattern.proofs.Ordered.Orders.{tree_same}

@@ -8,11 +8,11 @@ use Rattle.rn_pattern.proofs.Graphs.Rows.{graph_still, row_within}
 use Rattle.rn_assemble.proofs.Referring.NumberedReferences.{least}
 use Rattle.rn_assemble.proofs.references.least_recursive.Goals as goal
 
-pub reached-requires-clause-graph : goal.reached-requires-clause-graph
-reached-requires-clause-graph c = graph_still _ _ c.requires.all c.as_slice-2.ensures.value
+pub reached_nodes-requires-clause-graph : goal.reached_nodes-requires-clause-graph
+reached_nodes-requires-clause-graph c = graph_still _ _ c.requires.all c.as_slice-2.ensures.value
 
-pub reached-requires-clause-first_within : goal.reached-requires-clause-first_within
-reached-requires-clause-first_within c =
+pub reached_nodes-requires-clause-first_within : goal.reached_nodes-requires-clause-first_within
+reached_nodes-requires-clause-first_within c =
     let same : length c.as_slice.result.now ≡ length c.as_slice-2.result.now = ap (λ (l : List (Vec ℕ Global)). length l) (c.as_slice.ensures.value ∙ sym c.as_slice-2.ensures.value) in
     subst (λ (n : ℕ). AllBelow n c.row_at-first.result.now) same
     (row_within c.as_slice.result.now 0 c.row_at-first.result.now (graph_still _ _ c.requires.all c.as_slice.ensures.value) c.row_at-first.ensures)

@@ -18,4 +18,4 @@ returns-clause-made g c =
 
 pub returns-clause-kept : goal.returns-clause-kept
 returns-clause-kept g c =
-    then_kept g.P.Patterns.knows g.P.Patterns.tree_of c.args.store.now c.member_ids.new.store c.ileave.new.self c.member_ids.ensures.kept c.ileave.ensures.kept
+    then_kept g.P.Patterns.knows g.P.Patterns.tree_of c.args.store.now c.member_ids.new.store c.ileave.new.self c.member_ids.ensures.kept c.ileave.ensures.kept.0

@@ -14,15 +14,15 @@ use Rattle.rn_simplify.proofs.Simplified.ReferenceGraph.{rows_graph, rows_size, 
 use Rattle.rn_simplify.proofs.Simplified.PrunedForms.{rows_same, numbers_same}
 use Rattle.rn_simplify.proofs.reachable.reached_forms.Goals as goal
 
-pub reached-requires-clause-graph : goal.reached-requires-clause-graph
-reached-requires-clause-graph c =
+pub reached_nodes-requires-clause-graph : goal.reached_nodes-requires-clause-graph
+reached_nodes-requires-clause-graph c =
     let ds = definitions_view c.args.names.now.entries in
     let fs = definitions_view c.args.forms.now in
     let graph : rows_of c.deref.result.now ≡ rows_by Everywhere fs fs = ap rows_of c.deref.ensures.value ∙ c.in_ok-rows.ensures ∙ rows_same Everywhere ds fs c.requires in
     subst IsGraph (sym graph) (rows_graph Everywhere fs fs refl)
 
-pub reached-requires-clause-first_within : goal.reached-requires-clause-first_within
-reached-requires-clause-first_within c = λ y k.
+pub reached_nodes-requires-clause-first_within : goal.reached_nodes-requires-clause-first_within
+reached_nodes-requires-clause-first_within c = λ y k.
     let ds = definitions_view c.args.names.now.entries in
     let fs = definitions_view c.args.forms.now in
     let names = references Everywhere (pattern_view c.args.start.now) in
@@ -38,4 +38,4 @@ returns-clause-reached c =
     let names = references Everywhere (pattern_view c.args.start.now) in
     let graph : rows_of c.deref.result.now ≡ graph_of F = ap rows_of c.deref.ensures.value ∙ c.in_ok-rows.ensures ∙ rows_same Everywhere ds fs c.requires in
     let first : c.deref-2.result.now ≡ start_of F = c.deref-2.ensures.value ∙ c.in_ok-first.ensures ∙ numbers_same ds fs names c.requires in
-    IfOk-weaker c.reached.result _ _ (λ marks exact k. subst (λ (l : List ℕ). Decides (is_marked marks.items k) (Reached (graph_of F) l k)) first (subst (λ (r : List (List ℕ)). Decides (is_marked marks.items k) (Reached r c.deref-2.result.now k)) graph (exact k))) c.reached.ensures.exact
+    IfOk-weaker c.reached_nodes.result _ _ (λ marks exact k. subst (λ (l : List ℕ). Decides (is_marked marks.items k) (Reached (graph_of F) l k)) first (subst (λ (r : List (List ℕ)). Decides (is_marked marks.items k) (Reached r c.deref-2.result.now k)) graph (exact k))) c.reached_nodes.ensures.exact

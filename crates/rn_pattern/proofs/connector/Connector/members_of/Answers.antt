@@ -2,7 +2,7 @@
 use Rattle.std.proofs.Common.{map, sym, ap, ◌∙◌}
 use Rattle.rn_pattern.specs.inside.Lists.{members_by}
 use Rattle.rn_pattern.specs.Store.{node_view}
-use Rattle.rn_pattern.proofs.Matches.Keeps.{list_of-trees_of}
+use Rattle.rn_pattern.proofs.Matches.StepsKeep.{list_of-trees_of}
 use Rattle.rn_pattern.proofs.connector.Connector.members_of.Goals as goal
 
 pub returns-in-Choice-node-clause-tree : goal.returns-in-Choice-node-clause-tree

@@ -3,7 +3,7 @@ use Rattle.std.proofs.Common.{map, sym, ap, ◌∙◌}
 use Rattle.rn_pattern.specs.Canonical.{alternatives, grouped, interleaved}
 use Rattle.rn_pattern.specs.inside.Lists.{members_by}
 use Rattle.rn_pattern.specs.View.{pattern_view, shared_view}
-use Rattle.rn_pattern.proofs.Matches.Keeps.{list_of-trees_of}
+use Rattle.rn_pattern.proofs.Matches.StepsKeep.{list_of-trees_of}
 use Rattle.rn_pattern.proofs.Ordered.PatternKinds.{group_seen, interleave_seen, choice_seen}
 use Rattle.rn_pattern.proofs.connector.Connector.members_within.Goals as goal
 

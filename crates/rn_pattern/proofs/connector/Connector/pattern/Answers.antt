@@ -1,7 +1,7 @@
 -- The tree of a list is over those of its members.
 use Rattle.std.proofs.Common.{sym, ap, ◌∙◌}
 use Rattle.rn_pattern.specs.inside.Lists.{over}
-use Rattle.rn_pattern.specs.View.{patterns_view}
+use Rattle.rn_pattern.specs.inside.PartViews.{patterns_view}
 use Rattle.rn_pattern.proofs.Ordered.PatternKinds.{group_seen, interleave_seen, choice_seen}
 use Rattle.rn_pattern.proofs.connector.Connector.pattern.Goals as goal
 

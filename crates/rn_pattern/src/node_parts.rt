@@ -14,12 +14,19 @@ use std::slice;
 /// ids in it. What a kind lacks is empty.
 #[derive(Clone, Copy)]
 pub struct Parts<'a> {
+    /// The place of the kind in the order, from 0 for `notAllowed` to 12 for a choice.
     pub kind: u8,
+    /// The name of a reference, or the library of a datatype.
     pub first: &'a str,
+    /// The type's name in its library.
     pub second: &'a str,
+    /// The text of a value.
     pub third: &'a str,
+    /// A name and a text each, in their order.
     pub parameters: &'a [(String, String)],
+    /// The names of an attribute or an element.
     pub class: Option<&'a NameClass>,
+    /// The ids in the node, in their order.
     pub members: &'a [NodeId],
 }
 

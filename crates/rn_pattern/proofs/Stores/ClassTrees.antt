@@ -1,5 +1,5 @@
 -- The trees of name classes and of patterns with a list of members.
-use Rattle.std.proofs.Common.{◌≡◌, List, [], ◌∷◌, map, Some, None, refl, sym, ap, subst, ◌∙◌}
+use Rattle.std.proofs.Common.{◌≡◌, [], ◌∷◌, map, Some, None, refl, sym, ap, subst, ◌∙◌}
 use Rattle.std.specs.Prelude.{Box, Vec}
 use Rattle.std.specs.Rc.{rc_str_bytes}
 use Rattle.std.specs.declared.rc.RcStr.{RcStr}
@@ -37,7 +37,3 @@ other_seen c h =
     let whole : class.roll-NameClass x ≡ c = class.roll-out-NameClass c in
     subst (λ n. names_within (name_class_view n) ≡ name_class_view n ∷ []) whole
     (subst (λ t. names_within t ≡ t ∷ []) (sym (fold-roll-NameClass NameTree name_class_step x)) (layer x (λ v e. h v (sym whole ∙ ap class.roll-NameClass e ∙ rolls-Choice v))))
-
-pub name_list_of-name_trees_of : (cs : List NameTree) → name_list_of (name_trees_of cs) ≡ cs
-name_list_of-name_trees_of [] = refl
-name_list_of-name_trees_of (c ∷ cs) = ap (λ t. c ∷ t) (name_list_of-name_trees_of cs)

@@ -1,10 +1,10 @@
 // What a store of patterns does.
-ghost use Rattle.std.specs.Prelude.{◌≡◌, ℕ, ◌+◌, ◌≤◌, Bool, IfOk, IfSome, IsTrue, OnErr, map};
+ghost use Rattle.std.specs.Prelude.{◌≡◌, ℕ, Bool, IfOk, IfSome, IsTrue, map};
 ghost use Rattle.std.specs.Option.{option_map};
 ghost use Rattle.rn_pattern.specs.Canonical.{attribute_step, canonical_name, choice_step, group_step, interleave_step, list_step, one_or_more_step};
 ghost use Rattle.rn_pattern.specs.Matching.{MatchAlike};
 ghost use Rattle.rn_pattern.specs.Nodes.{node_members};
-ghost use Rattle.rn_pattern.specs.Store.{AddsOnly, HasCount, KeepsIds, KnowsAll, StandsFor, datum_by, datum_step, node_view};
+ghost use Rattle.rn_pattern.specs.Store.{AddsAnswerOnly, HasCount, KnowsAll, StandsFor, datum_by, datum_step, node_view};
 ghost use Rattle.rn_pattern.specs.Tree as tree;
 ghost use Rattle.rn_pattern.specs.Tree.{Tree, trees_of};
 ghost use Rattle.rn_pattern.specs.View.{name_class_view, parameters_view};
@@ -39,44 +39,29 @@ pub trait Patterns {
     fn not_allowed(&mut self) -> Result<Self::Id, AllocError>
         ensures made { IfOk result (StandsFor (knows self.new) (tree_of self.new)
             tree.not_allowed) }
-        ensures kept { KeepsIds knows tree_of self.old self.new }
-        ensures adds { IfOk result (AddsOnly (knows self.old) (knows self.new)) }
-        ensures grows { size self.new ≤ size self.old + 1 }
-        ensures refused { OnErr result (size self.new ≡ size self.old) };
+        ensures kept { AddsAnswerOnly knows tree_of size self.old self.new result };
 
     /// `empty`.
     fn empty(&mut self) -> Result<Self::Id, AllocError>
         ensures made { IfOk result (StandsFor (knows self.new) (tree_of self.new) tree.empty) }
-        ensures kept { KeepsIds knows tree_of self.old self.new }
-        ensures adds { IfOk result (AddsOnly (knows self.old) (knows self.new)) }
-        ensures grows { size self.new ≤ size self.old + 1 }
-        ensures refused { OnErr result (size self.new ≡ size self.old) };
+        ensures kept { AddsAnswerOnly knows tree_of size self.old self.new result };
 
     /// `text`.
     fn text(&mut self) -> Result<Self::Id, AllocError>
         ensures made { IfOk result (StandsFor (knows self.new) (tree_of self.new) tree.text) }
-        ensures kept { KeepsIds knows tree_of self.old self.new }
-        ensures adds { IfOk result (AddsOnly (knows self.old) (knows self.new)) }
-        ensures grows { size self.new ≤ size self.old + 1 }
-        ensures refused { OnErr result (size self.new ≡ size self.old) };
+        ensures kept { AddsAnswerOnly knows tree_of size self.old self.new result };
 
     /// A reference to a definition. What the definition is worth is not looked at.
     fn reference(&mut self, name: &str) -> Result<Self::Id, AllocError>
         ensures made { IfOk result (StandsFor (knows self.new) (tree_of self.new)
             (tree.ref name.now)) }
-        ensures kept { KeepsIds knows tree_of self.old self.new }
-        ensures adds { IfOk result (AddsOnly (knows self.old) (knows self.new)) }
-        ensures grows { size self.new ≤ size self.old + 1 }
-        ensures refused { OnErr result (size self.new ≡ size self.old) };
+        ensures kept { AddsAnswerOnly knows tree_of size self.old self.new result };
 
     /// A value of a datatype: its library, its type and the text.
     fn value(&mut self, library: &str, type_name: &str, text: &str) -> Result<Self::Id, AllocError>
         ensures made { IfOk result (StandsFor (knows self.new) (tree_of self.new)
             (tree.value library.now type_name.now text.now)) }
-        ensures kept { KeepsIds knows tree_of self.old self.new }
-        ensures adds { IfOk result (AddsOnly (knows self.old) (knows self.new)) }
-        ensures grows { size self.new ≤ size self.old + 1 }
-        ensures refused { OnErr result (size self.new ≡ size self.old) };
+        ensures kept { AddsAnswerOnly knows tree_of size self.old self.new result };
 
     /// A datatype with its parameters in their order, and without an except that is `notAllowed`.
     fn datum(
@@ -93,10 +78,7 @@ pub trait Patterns {
         ensures means { IfOk result (λ i. MatchAlike
             (datum_by library.now type_name.now (parameters_view params.now)
             (option_map (tree_of self.old) except)) (tree_of self.new i)) }
-        ensures kept { KeepsIds knows tree_of self.old self.new }
-        ensures adds { IfOk result (AddsOnly (knows self.old) (knows self.new)) }
-        ensures grows { size self.new ≤ size self.old + 1 }
-        ensures refused { OnErr result (size self.new ≡ size self.old) };
+        ensures kept { AddsAnswerOnly knows tree_of size self.old self.new result };
 
     /// A list of that content; `notAllowed` where the content is (4.20).
     fn list(&mut self, content: Self::Id) -> Result<Self::Id, AllocError>
@@ -105,10 +87,7 @@ pub trait Patterns {
             (list_step (tree_of self.old content))) }
         ensures means { IfOk result (λ i. MatchAlike
             (tree.list (tree_of self.old content)) (tree_of self.new i)) }
-        ensures kept { KeepsIds knows tree_of self.old self.new }
-        ensures adds { IfOk result (AddsOnly (knows self.old) (knows self.new)) }
-        ensures grows { size self.new ≤ size self.old + 1 }
-        ensures refused { OnErr result (size self.new ≡ size self.old) };
+        ensures kept { AddsAnswerOnly knows tree_of size self.old self.new result };
 
     /// An attribute, its name class in canonical form; `notAllowed` where the content is (4.20).
     fn attribute(&mut self, nc: &NameClass, content: Self::Id) -> Result<Self::Id, AllocError>
@@ -118,10 +97,7 @@ pub trait Patterns {
         ensures means { IfOk result (λ i. MatchAlike
             (tree.attribute (name_class_view nc.now) (tree_of self.old content))
             (tree_of self.new i)) }
-        ensures kept { KeepsIds knows tree_of self.old self.new }
-        ensures adds { IfOk result (AddsOnly (knows self.old) (knows self.new)) }
-        ensures grows { size self.new ≤ size self.old + 1 }
-        ensures refused { OnErr result (size self.new ≡ size self.old) };
+        ensures kept { AddsAnswerOnly knows tree_of size self.old self.new result };
 
     /// An element, its name class in canonical form. Its content stays, `notAllowed` too.
     fn element(&mut self, nc: &NameClass, content: Self::Id) -> Result<Self::Id, AllocError>
@@ -131,10 +107,7 @@ pub trait Patterns {
         ensures means { IfOk result (λ i. MatchAlike
             (tree.element (name_class_view nc.now) (tree_of self.old content))
             (tree_of self.new i)) }
-        ensures kept { KeepsIds knows tree_of self.old self.new }
-        ensures adds { IfOk result (AddsOnly (knows self.old) (knows self.new)) }
-        ensures grows { size self.new ≤ size self.old + 1 }
-        ensures refused { OnErr result (size self.new ≡ size self.old) };
+        ensures kept { AddsAnswerOnly knows tree_of size self.old self.new result };
 
     /// A choice: the members of choices among the members in their place, without `notAllowed`, in order, each pattern
     /// once. No member left is `notAllowed`, one is itself.
@@ -144,10 +117,7 @@ pub trait Patterns {
             (choice_step (map (tree_of self.old) members.now))) }
         ensures means { IfOk result (λ i. MatchAlike
             (tree.choice (trees_of (map (tree_of self.old) members.now))) (tree_of self.new i)) }
-        ensures kept { KeepsIds knows tree_of self.old self.new }
-        ensures adds { IfOk result (AddsOnly (knows self.old) (knows self.new)) }
-        ensures grows { size self.new ≤ size self.old + 1 }
-        ensures refused { OnErr result (size self.new ≡ size self.old) };
+        ensures kept { AddsAnswerOnly knows tree_of size self.old self.new result };
 
     /// A group: the members of groups among the members in their place, without `empty`, the order kept; `notAllowed`
     /// where a member is (4.20, 4.21). No member left is `empty`, one is itself.
@@ -157,10 +127,7 @@ pub trait Patterns {
             (group_step (map (tree_of self.old) members.now))) }
         ensures means { IfOk result (λ i. MatchAlike
             (tree.group (trees_of (map (tree_of self.old) members.now))) (tree_of self.new i)) }
-        ensures kept { KeepsIds knows tree_of self.old self.new }
-        ensures adds { IfOk result (AddsOnly (knows self.old) (knows self.new)) }
-        ensures grows { size self.new ≤ size self.old + 1 }
-        ensures refused { OnErr result (size self.new ≡ size self.old) };
+        ensures kept { AddsAnswerOnly knows tree_of size self.old self.new result };
 
     /// An interleave: as a group, and in order, repeats kept.
     fn ileave(&mut self, members: &[Self::Id]) -> Result<Self::Id, AllocError>
@@ -170,10 +137,7 @@ pub trait Patterns {
         ensures means { IfOk result (λ i. MatchAlike
             (tree.interleave (trees_of (map (tree_of self.old) members.now)))
             (tree_of self.new i)) }
-        ensures kept { KeepsIds knows tree_of self.old self.new }
-        ensures adds { IfOk result (AddsOnly (knows self.old) (knows self.new)) }
-        ensures grows { size self.new ≤ size self.old + 1 }
-        ensures refused { OnErr result (size self.new ≡ size self.old) };
+        ensures kept { AddsAnswerOnly knows tree_of size self.old self.new result };
 
     /// A repetition; `notAllowed`, `empty` and a repetition stay what they are.
     fn one_or_more(&mut self, content: Self::Id) -> Result<Self::Id, AllocError>
@@ -182,10 +146,7 @@ pub trait Patterns {
             (one_or_more_step (tree_of self.old content))) }
         ensures means { IfOk result (λ i. MatchAlike
             (tree.one_or_more (tree_of self.old content)) (tree_of self.new i)) }
-        ensures kept { KeepsIds knows tree_of self.old self.new }
-        ensures adds { IfOk result (AddsOnly (knows self.old) (knows self.new)) }
-        ensures grows { size self.new ≤ size self.old + 1 }
-        ensures refused { OnErr result (size self.new ≡ size self.old) };
+        ensures kept { AddsAnswerOnly knows tree_of size self.old self.new result };
 
     // The size is the number of the ids that the store knows.
     ghost counted: { (s : Self) → HasCount (knows s) (size s) };

@@ -7,7 +7,7 @@ use Rattle.rn_pattern.specs.Order.{tree_cmp}
 use Rattle.rn_pattern.specs.Canonical.{sorted, sorted_once, canonical_name, node_of, has_not_allowed, alternatives, grouped, interleaved, choice_step, group_step, interleave_step, one_or_more_step, list_step, attribute_step, datum_but_step, canonical, canonical_all}
 use Rattle.rn_pattern.specs.Opened.{pair, one_or_node, opened_choice, opened_interleave, opened, opened_all}
 use Rattle.rn_pattern.proofs.Ordered.Ascending.{each_flat, each_sorted, each_sorted_once}
-use Rattle.rn_pattern.proofs.Matches.Keeps.{list_of-trees_of}
+use Rattle.rn_pattern.proofs.Matches.StepsKeep.{list_of-trees_of}
 use Rattle.std.specs.List.{AllByRecursion}
 
 -- of a pattern it says what it says of its parts

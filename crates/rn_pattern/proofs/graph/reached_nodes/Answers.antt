@@ -6,7 +6,7 @@ use Rattle.std.specs.List.{Contains}
 use Rattle.rn_pattern.specs.Graph.{row, rows_of}
 use Rattle.rn_pattern.specs.inside.Marking.{Marks}
 use Rattle.rn_pattern.proofs.Graphs.Marking.{search_begins, search_goes_on, search_ends, marked_below, none_yet}
-use Rattle.rn_pattern.proofs.graph.reached.Goals as goal
+use Rattle.rn_pattern.proofs.graph.reached_nodes.Goals as goal
 
 pub mark_all-requires-clause-within : goal.mark_all-requires-clause-within
 mark_all-requires-clause-within c = λ y h. omega (arith, c.requires.first_within y h, c.in_ok-seen.ensures.len)
