@@ -3,3 +3,4 @@ pub mod Merges
 pub mod Places
 pub mod Headers
 pub mod Digested
+pub mod Insertion

@@ -11,7 +11,8 @@ use Rattle.std.proofs.lemmas.List.Sorted.{searchable_from_sorted}
 use Rattle.rn_modset.specs.declared.contribution.Contribution.{Contribution}
 use Rattle.rn_modset.specs.contracts.contribution.ContributionOrd.TheImpl.{ghosts}
 use Rattle.rn_modset.specs.Contributions.{Member, member, members_of, member_cmp}
-use Rattle.rn_modset.specs.Sets.{Rises, IsPlace, has}
+use Rattle.rn_modset.specs.Sets.{Rises, has}
+use Rattle.rn_modset.specs.inside.Insertion.{IsInsertionPlace}
 use Rattle.rn_modset.proofs.Ordered.MemberOrder.{members_total}
 use Rattle.rn_modset.proofs.Ordered.ProgramOrder.{same_order}
 use Rattle.rn_modset.proofs.Ordered.RisingLists.{insert_at}
@@ -50,7 +51,7 @@ searchable cs c s i j d le lt =
     rw (same_order (get_or cs i d) c, same_order (get_or cs j d) c) far
 
 placed : (cs : List Contribution) (c : Contribution) (r : Result ℕ ℕ) → Rises (members_of cs) → IsBinarySearchResult (λ y. ghosts.cmp y c) cs r → IsSearchInRange r (length cs)
-    → MatchResult r (λ i. has (members_of cs) (member c) ≡ true) (IsPlace cs c)
+    → MatchResult r (λ i. has (members_of cs) (member c) ≡ true) (IsInsertionPlace cs c)
 placed cs c (Ok i) s h lt = found cs i (member c) lt (λ d. sym (same_order (get_or cs i d) c) ∙ h d)
 placed cs c (Err i) s h le =
     let parts = h (searchable cs c s) in
@@ -63,6 +64,6 @@ placed cs c (Err i) s h le =
 
 -- where it belongs, if it is not held
 pub place_of : (cs : List Contribution) (c : Contribution) (r : Result ℕ ℕ) → Rises (members_of cs) → IsBinarySearchResult (λ y. ghosts.cmp y c) cs r → IsSearchInRange r (length cs)
-    → MatchOption (result_err r) (has (members_of cs) (member c) ≡ true) (IsPlace cs c)
+    → MatchOption (result_err r) (has (members_of cs) (member c) ≡ true) (IsInsertionPlace cs c)
 place_of cs c (Ok i) s h b = placed cs c (Ok i) s h b
 place_of cs c (Err i) s h b = placed cs c (Err i) s h b

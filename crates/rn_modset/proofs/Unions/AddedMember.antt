@@ -5,7 +5,8 @@ use Rattle.std.specs.List.Sorted.{IsStrictlySortedBy}
 use Rattle.std.proofs.lemmas.Map.Views.{All-insert_key}
 use Rattle.rn_modset.specs.declared.contribution.Contribution.{Contribution}
 use Rattle.rn_modset.specs.Contributions.{Member, member, members_of, member_cmp, IsWithinLimits}
-use Rattle.rn_modset.specs.Sets.{Rises, IsSet, IsPlace, has, with_member}
+use Rattle.rn_modset.specs.Sets.{Rises, IsSet, has, with_member}
+use Rattle.rn_modset.specs.inside.Insertion.{IsInsertionPlace}
 use Rattle.rn_modset.proofs.Ordered.MemberOrder.{members_total}
 use Rattle.rn_modset.proofs.Ordered.SearchedPlaces.{length_map}
 use Rattle.rn_modset.proofs.Ordered.RisingLists.{sorted_insert, length_insert, insert_held}
@@ -35,7 +36,7 @@ kept_with s m h g room = record {
 }
 
 -- the list after an insertion that may have been refused
-pub kept_after : {T E : Type 0} (P : E → Type 0) (cs items : List Contribution) (c : Contribution) (at : ℕ) (r : Result T E) → IsSet (members_of cs) → IsPlace cs c at → IsWithinLimits (member c) → length cs < 1024 → OnOk r (items ≡ insert cs at c)
+pub kept_after : {T E : Type 0} (P : E → Type 0) (cs items : List Contribution) (c : Contribution) (at : ℕ) (r : Result T E) → IsSet (members_of cs) → IsInsertionPlace cs c at → IsWithinLimits (member c) → length cs < 1024 → OnOk r (items ≡ insert cs at c)
     → IfErr r (λ e. P e × (items ≡ cs)) → IsSet (members_of items)
 kept_after P cs items c at (Ok x) h p g room e f = rw e (rw p.is (kept_with (members_of cs) (member c) h g (λ _. omega (arith, length_map cs))))
 kept_after P cs items c at (Err x) h p g room e f = rw f.1 h
