@@ -1,5 +1,5 @@
 -- Which declaration binds, with one declaration more, and what its URI is.
-use Rattle.std.proofs.Common.{◌≡◌, ℕ, zero, suc, map, ◌<◌, Bool, true, false, List, [], ◌∷◌, ◌++◌, Option, Some, None, refl, ap, sym, ◌∙◌, cond, is_some, option_map, length, arith, get_or, MatchOption}
+use Rattle.std.proofs.Common.{◌≡◌, ℕ, zero, suc, map, ◌<◌, Bool, true, false, List, [], ◌∷◌, ◌++◌, Option, Some, None, refl, ap, sym, ◌∙◌, cond, is_some, option_map, length, arith, get_or, subst, MatchOption}
 use Rattle.std.specs.Prelude.{if◌then◌else◌, ⊤}
 use Rattle.std.specs.Str.{bytes_eq}
 use Rattle.rn_syntax.specs.Tree as t
@@ -27,6 +27,13 @@ module _ (f : Declaration → Bool) where
       step true r l h = omega arith
       step false None l h = tt
       step false (Some n) l h = omega (arith, h)
+
+  -- the same of a number that is it, and what it says of a URI
+  pub number_is_within : (ds : List Declaration) (o : Option ℕ) → o ≡ number_of f ds → MatchOption o ⊤ (λ n. n < length ds)
+  number_is_within ds o e = subst (λ r. MatchOption r ⊤ (λ n. n < length ds)) (sym e) (number_within ds)
+
+  pub number_is_of : (ds : List Declaration) (o : Option ℕ) (u : Option Uri) → u ≡ option_map (uri_at ds) (number_of f ds) → o ≡ number_of f ds → u ≡ option_map (uri_at ds) o
+  number_is_of ds o u h e = h ∙ ap (option_map (uri_at ds)) (sym e)
 
 next : (d : Declaration) (ds : List Declaration) (r : Option ℕ) (o : Option Uri) → o ≡ option_map (uri_at ds) r → o ≡ option_map (uri_at (d ∷ ds)) (option_map suc r)
 next d ds None o h = h

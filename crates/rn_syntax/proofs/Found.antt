@@ -9,7 +9,8 @@ use Rattle.rn_syntax.specs.Tokens.{terminals}
 use Rattle.rn_syntax.specs.Fault.{HasTree}
 use Rattle.rn_syntax.specs.Spelled.{AreSpelled}
 use Rattle.rn_syntax.specs.Places.{deep}
-use Rattle.rn_syntax.specs.Faults.{HasModuleFault, IsFault, IsSyntax}
+use Rattle.rn_syntax.specs.Faults.{HasModuleFault, IsFault}
+use Rattle.rn_syntax.specs.inside.Stopping.{IsSyntax}
 
 pub found_fault : (xs : List Token) (m : Module) (e : SyntaxFault) → deep 0 (terminals (map lexeme_of xs)) ≡ None → (AreSpelled xs → HasTree (terminals (map lexeme_of xs)) m) → HasModuleFault m e → IsFault xs e
 found_fault xs m (Deep at) d t h = let none : ◌≡◌ {A = Option ℕ} None (Some at) = h.place in cc

@@ -1,19 +1,18 @@
 -- A token that is seen as a keyword is the word that spells it.
-use Rattle.std.proofs.Common.{◌≡◌, ℕ, ◌<◌, inl, inr, Bool, true, false, cond, List, [], ◌∷◌, get_or, length, refl, sym, ap, ◌∙◌, map}
+use Rattle.std.proofs.Common.{◌≡◌, ℕ, ◌<◌, inl, inr, Bool, true, false, cond, List, [], ◌∷◌, get_or, length, refl, sym, ap, ◌∙◌}
 use Rattle.std.specs.Str.{bytes_eq, chars, encode_utf8_all, IsUtf8}
-use Rattle.std.specs.List.{list_all, AllByRecursion}
-use Rattle.std.proofs.lemmas.Bool.{and_parts, cases_Bool}
+use Rattle.std.specs.List.{AllByRecursion}
+use Rattle.std.proofs.lemmas.Bool.{cases_Bool}
 use Rattle.std.proofs.lemmas.Str.{encodes-chars}
 use Rattle.std.proofs.lemmas.Slice.Eq.{bytes_eq-Decides}
 use Rattle.rn_text.specs.declared.parts.Kind.{Kind}
 use Rattle.rn_text.specs.declared.parts.Kind.TheVariants.{Name, Keyword, Quoted, Prefixed, AnyOf, Segment, Symbol}
 use Rattle.rn_text.specs.declared.source.Token.{Token}
-use Rattle.rn_text.specs.Tokens.{lexeme_of}
 use Rattle.rn_text.specs.declared.keywords.Keyword as code
 use Rattle.rn_text.specs.Keywords.{spelling}
 use Rattle.rn_syntax.specs.Terminal as t
-use Rattle.rn_syntax.specs.Terminal.{Terminal, ◌#◌, keyword}
-use Rattle.rn_syntax.specs.Tokens.{placed, terminal_of, spelled_in, keyword_rows, symbol_rows}
+use Rattle.rn_syntax.specs.Terminal.{Terminal, keyword}
+use Rattle.rn_syntax.specs.Tokens.{terminal_of, spelled_in, keyword_rows, symbol_rows}
 use Rattle.rn_syntax.specs.inside.Reading.{rest}
 use Rattle.rn_syntax.specs.inside.Follow.{first_terminal}
 use Rattle.rn_syntax.proofs.readings.Next.{rest_cons}

@@ -77,12 +77,6 @@ IsSound xs m = (deep 0 (terminals (map lexeme_of xs)) ≡ None) × HasTree (term
 abbrev pub StopsAt : List Token → ℕ → Type 0
 StopsAt xs at = (bad : Tokens) × Stops (terminals (map lexeme_of xs)) bad × IsPlace xs bad at
 
--- the grammar is not met, or memory was refused
-abbrev pub IsSyntax : List Token → SyntaxFault → Type 0
-IsSyntax xs (Syntax at) = AreSpelled xs → StopsAt xs at
-IsSyntax xs Memory = Unit {0}
-IsSyntax xs _ = ⊥
-
 -- no bracket is too many, and the tree of the tokens has the fault
 abbrev pub IsFaultOfTree : List Token → SyntaxFault → Type 0
 IsFaultOfTree xs e = (deep 0 (terminals (map lexeme_of xs)) ≡ None) × (m : Module) × (AreSpelled xs → HasTree (terminals (map lexeme_of xs)) m) × HasModuleFault m e

@@ -7,6 +7,7 @@ pub mod Including
 pub mod Reading
 pub mod Itemizing
 pub mod Modular
+pub mod Stopping
 pub mod Numbered
 pub mod Borrowed
 pub mod Parts

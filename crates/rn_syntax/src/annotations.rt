@@ -70,7 +70,7 @@ fn follow(tokens: &[Token<'_>], at: usize) -> Result<usize, Fault>
     ensures skips { Skips IsFollow Anything tokens.now at result }
 {
     match next(tokens, at) {
-        Terminal::Ident(_) | Terminal::Keyword(_) | Terminal::Prefixed(_, _) => {
+        Terminal::Ident(_) | Terminal::Keyword(_) | Terminal::Prefixed(_) => {
             annotation(tokens, at + 1)
         }
         _ => Err(Fault::Stuck(at)),
@@ -95,7 +95,7 @@ pub(crate) fn begins_note(tokens: &[Token<'_>], at: usize) -> bool
     ensures is { result ≡ is_note (rest tokens.now at) }
 {
     match next(tokens, at) {
-        Terminal::Prefixed(_, _) => true,
+        Terminal::Prefixed(_) => true,
         Terminal::Ident(_) => match next(tokens, at + 1) {
             Terminal::LeftBracket => true,
             _ => false,

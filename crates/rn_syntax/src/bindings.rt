@@ -2,8 +2,7 @@
 ghost use Rattle.std.specs.Prelude.{◌≡◌, ◌<◌, ◌++◌, ◌∷◌, [], ℕ, List, length, Option, Some, None, is_some, MatchOption, ⊤, map, IfOk, option_map, drop, take, codes, ◌||◌, if◌then◌else◌};
 ghost use Rattle.std.specs.Cow.{cow_str_bytes};
 ghost use Rattle.std.specs.BTreeMap as tree;
-ghost use Rattle.std.specs.Cmp.Lexicographic.{slice_cmp};
-ghost use Rattle.std.specs.Ordering.{nat_cmp};
+ghost use Rattle.rn_text.specs.Texts.{text_cmp};
 ghost use Rattle.rn_syntax.specs.Tree.{literal};
 ghost use Rattle.rn_syntax.specs.Places as places;
 ghost use Rattle.rn_syntax.specs.Places.{first};
@@ -29,8 +28,8 @@ pub struct Bindings<'m, 'a> {
     namespaces: BTreeMap<&'m str, usize>,
     libraries: BTreeMap<&'m str, usize>,
     ghost default_is: { default ≡ places.number_of places.is_default (map declaration_view declarations.now) },
-    ghost namespaces_are: { (p : List ℕ) → tree.get_by (λ k. slice_cmp nat_cmp p k.now) namespaces ≡ places.number_of (places.binds_namespace p) (map declaration_view declarations.now) },
-    ghost libraries_are: { (p : List ℕ) → tree.get_by (λ k. slice_cmp nat_cmp p k.now) libraries ≡ places.number_of (places.binds_library p) (map declaration_view declarations.now) },
+    ghost namespaces_are: { (p : List ℕ) → tree.get_by (λ k. text_cmp p k.now) namespaces ≡ places.number_of (places.binds_namespace p) (map declaration_view declarations.now) },
+    ghost libraries_are: { (p : List ℕ) → tree.get_by (λ k. text_cmp p k.now) libraries ≡ places.number_of (places.binds_library p) (map declaration_view declarations.now) },
 }
 
 impl<'m, 'a> Bindings<'m, 'a> {
@@ -277,9 +276,9 @@ fn with_prefix<'m>(
     number: usize,
 ) -> Result<BTreeMap<&'m str, usize>, AllocError>
     ensures { IfOk result (λ m. (p : List ℕ)
-        → tree.get_by (λ k. slice_cmp nat_cmp p k.now) m
-        ≡ (if is_some (tree.get_by (λ k. slice_cmp nat_cmp p k.now) numbers.entry)
-        then tree.get_by (λ k. slice_cmp nat_cmp p k.now) numbers.entry
+        → tree.get_by (λ k. text_cmp p k.now) m
+        ≡ (if is_some (tree.get_by (λ k. text_cmp p k.now) numbers.entry)
+        then tree.get_by (λ k. text_cmp p k.now) numbers.entry
         else if is_prefix prefix.entry p then Some number else None)) }
 {
     let Some(prefix) = prefix else {

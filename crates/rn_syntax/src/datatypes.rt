@@ -9,7 +9,7 @@ ghost use Rattle.rn_syntax.specs.View.{datatype_view, param_view, params_view};
 use crate::annotations::skip_annotation;
 use crate::fault::Fault;
 use crate::literals::literal;
-use crate::terminals::{Terminal, equals, next, place, word};
+use crate::terminals::{Terminal, equals, local_name, next, place, prefix_name, word};
 use crate::tree::{Datatype, Param, Prefix};
 use rn_text::{Keyword, Token};
 use std::alloc::Global;
@@ -22,14 +22,12 @@ pub(crate) fn datatype<'a>(tokens: &[Token<'a>], at: usize) -> Option<Datatype<'
         (λ d. IsHere IsDatatype (rest tokens.now at) (datatype_view d) (rest tokens.now (at + 1))) }
 {
     match next(tokens, at) {
-        Terminal::Prefixed(name, local) => {
-            Some(Datatype::Named(
-                Prefix {
-                    name,
-                    at: place(tokens, at),
-                },
-                local,
-            ))
+        Terminal::Prefixed(text) => {
+            let prefix = Prefix {
+                name: prefix_name(text),
+                at: place(tokens, at),
+            };
+            Some(Datatype::Named(prefix, local_name(text)))
         }
         Terminal::Keyword(keyword) => match keyword {
             Keyword::String => Some(Datatype::String(place(tokens, at))),

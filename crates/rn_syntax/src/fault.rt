@@ -9,13 +9,21 @@ use thiserror::Error;
 /// `rn_text::TextFault`, the others those of `SyntaxFault`.
 #[derive(Clone, Copy, Debug, PartialEq, Eq)]
 pub enum FaultKind {
+    /// Bytes that are not UTF-8.
     Encoding,
+    /// A character that XML lacks, or what begins no token.
     Lexical,
+    /// Brackets, more than [`MAX_OPEN`](crate::MAX_OPEN) of them open at once.
     Deep,
+    /// Tokens that are no module.
     Syntax,
+    /// A prefix that is unbound or bound wrongly.
     Prefix,
+    /// A type that the built-in library lacks, or a parameter of one that it has.
     Builtin,
+    /// A value whose type looks at namespace bindings.
     ContextValue,
+    /// A pattern that may not be excepted.
     Except,
 }
 
@@ -41,7 +49,7 @@ impl FaultKind {
 /// counts bytes from the start of the text.
 #[derive(Debug, Drop, PartialEq, Eq, Error)]
 pub enum SyntaxFault {
-    /// The first of `{`, `(` and `[` that makes 257 open at once.
+    /// The first of `{`, `(` and `[` that makes more than [`MAX_OPEN`](crate::MAX_OPEN) open at once.
     #[error("more than 256 brackets are open at {at}")]
     Deep { at: usize },
     /// The first token with which the tokens so far begin no module; where all of them begin one and are none, the end of

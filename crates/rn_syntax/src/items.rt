@@ -55,7 +55,7 @@ fn begins_item(tokens: &[Token<'_>], at: usize) -> bool
     ensures is { result ≡ opens_item (first_terminal (rest tokens.now at)) }
 {
     match next(tokens, at) {
-        Terminal::LeftBracket | Terminal::Ident(_) | Terminal::Prefixed(_, _) => true,
+        Terminal::LeftBracket | Terminal::Ident(_) | Terminal::Prefixed(_) => true,
         Terminal::Keyword(keyword) => match keyword {
             Keyword::Start | Keyword::Div | Keyword::Include => true,
             _ => false,
@@ -216,7 +216,7 @@ fn begins_inner(tokens: &[Token<'_>], at: usize) -> bool
     ensures is { result ≡ opens_inner (first_terminal (rest tokens.now at)) }
 {
     match next(tokens, at) {
-        Terminal::LeftBracket | Terminal::Ident(_) | Terminal::Prefixed(_, _) => true,
+        Terminal::LeftBracket | Terminal::Ident(_) | Terminal::Prefixed(_) => true,
         Terminal::Keyword(keyword) => match keyword {
             Keyword::Start | Keyword::Div => true,
             _ => false,

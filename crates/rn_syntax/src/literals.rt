@@ -60,7 +60,7 @@ fn segment<'a>(alloc: Global, tokens: &[Token<'a>], at: usize) -> Result<(CowStr
     ensures borrows { IfOk result (λ r. AreSpelled tokens.now → SegmentBorrows tokens.now at r.0) }
 {
     match next(tokens, at) {
-        Terminal::Segment(token) => Ok((segment_text(alloc, token)?, at + 1)),
+        Terminal::Segment(_) => Ok((segment_text(alloc, tokens[at])?, at + 1)),
         _ => Err(Fault::Stuck(at)),
     }
 }

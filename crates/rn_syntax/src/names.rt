@@ -10,7 +10,9 @@ ghost use Rattle.rn_syntax.specs.View.{any_view, boxed_class_view, class_view, c
 use crate::annotations::{skip_annotation, skip_follows};
 use crate::boxes::boxed;
 use crate::fault::Fault;
-use crate::terminals::{Terminal, is_operator, keyword_text, next, place, right_paren};
+use crate::terminals::{
+    Terminal, is_operator, keyword_text, local_name, next, place, prefix_name, right_paren,
+};
 use crate::token::{Operator, Postfix};
 use crate::tree::{AnyName, Name, Nc, Prefix};
 use rn_text::Token;
@@ -95,8 +97,8 @@ fn any_name<'a>(tokens: &[Token<'a>], at: usize) -> Option<AnyName<'a>>
             Postfix::Star => Some(AnyName::Any),
             _ => None,
         },
-        Terminal::AnyOf(name) => Some(AnyName::AnyOf(Prefix {
-            name,
+        Terminal::AnyOf(text) => Some(AnyName::AnyOf(Prefix {
+            name: prefix_name(text),
             at: place(tokens, at),
         })),
         _ => None,
@@ -196,12 +198,12 @@ fn class_core<'a>(
             let name = keyword_text(tokens, at, keyword);
             one(alloc, Name::Local(name), at + 1)
         }
-        Terminal::Prefixed(name, local) => {
+        Terminal::Prefixed(text) => {
             let prefix = Prefix {
-                name,
+                name: prefix_name(text),
                 at: place(tokens, at),
             };
-            one(alloc, Name::Prefixed(prefix, local), at + 1)
+            one(alloc, Name::Prefixed(prefix, local_name(text)), at + 1)
         }
         Terminal::LeftParen => {
             let (class, end) = name_class(alloc, tokens, at + 1)?;

@@ -4,7 +4,8 @@ ghost use Rattle.rn_text.specs.Tokens.{lexeme_of};
 ghost use Rattle.rn_syntax.specs.Tokens.{terminals};
 ghost use Rattle.rn_syntax.specs.Places.{deep, first, declarations_places, prefix_places, builtin_places, context_places, except_places};
 ghost use Rattle.rn_syntax.specs.Fault.{HasTree};
-ghost use Rattle.rn_syntax.specs.Faults.{HasModuleFault, HasNoFault, IsFault, IsSyntax};
+ghost use Rattle.rn_syntax.specs.Faults.{HasModuleFault, HasNoFault, IsFault};
+ghost use Rattle.rn_syntax.specs.inside.Stopping.{IsSyntax};
 ghost use Rattle.rn_syntax.specs.Spelled.{AreSpelled};
 ghost use Rattle.rn_syntax.specs.View.{module_view};
 

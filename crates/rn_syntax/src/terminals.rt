@@ -25,11 +25,12 @@ pub(crate) enum Terminal<'a> {
     /// A name, without the backslash of a quoted one.
     Ident(&'a str),
     Keyword(Keyword),
-    /// The prefix, and the local name behind the colon.
-    Prefixed(&'a str, &'a str),
-    /// The prefix before `:*`.
+    /// A name with a prefix, as it is written.
+    Prefixed(&'a str),
+    /// A prefix and `:*`, as they are written.
     AnyOf(&'a str),
-    Segment(Token<'a>),
+    /// A segment of a literal, with its delimiters.
+    Segment(&'a str),
     Operator(Operator),
     Postfix(Postfix),
     Assign(Method),
@@ -48,6 +49,7 @@ pub(crate) enum Terminal<'a> {
     End,
 }
 
+#[inline(always)]
 fn keyword(text: &str) -> Terminal<'_>
     ensures is { seen result ≡ Some (spelled_in keyword_rows (chars text.now)) }
     ensures whole { IsWhole result }
@@ -59,6 +61,7 @@ fn keyword(text: &str) -> Terminal<'_>
     }
 }
 
+#[inline(always)]
 #[tactic(auto, unfolding(crate::specs::Tokens::symbol_rows))]
 pub(crate) fn symbol(text: &str) -> Terminal<'_>
     ensures is { seen result ≡ Some (spelled_in symbol_rows text.now) }
@@ -89,8 +92,8 @@ pub(crate) fn symbol(text: &str) -> Terminal<'_>
     }
 }
 
-/// The name at the front of a text.
-fn front_name(text: &str) -> &str
+/// The prefix at the front of a name with one, and of `:*` with one.
+pub(crate) fn prefix_name(text: &str) -> &str
     ensures { result.now ≡ encode_utf8_all (run_of is_name_char (chars text.now)) }
 {
     let behind = after_name_chars(text);
@@ -107,14 +110,15 @@ fn behind_first(text: &str) -> &str
     }
 }
 
-/// What stands behind the name at the front and one character more.
-fn behind_name(text: &str) -> &str
+/// The local name of a name with a prefix: what stands behind the prefix and the colon.
+pub(crate) fn local_name(text: &str) -> &str
     ensures { result.now ≡ encode_utf8_all (drop 1 (after_run is_name_char (chars text.now))) }
 {
     behind_first(after_name_chars(text))
 }
 
 /// A name that is written as it is.
+#[inline(always)]
 fn plain_name(text: &str) -> Terminal<'_>
     ensures is { seen result ≡ Some (terminal.ident text.now) }
     ensures whole { IsWhole result }
@@ -125,6 +129,7 @@ fn plain_name(text: &str) -> Terminal<'_>
 }
 
 /// What the grammar sees of a token.
+#[inline(always)]
 pub(crate) fn terminal_of<'a>(token: Token<'a>) -> Terminal<'a>
     ensures is { seen result ≡ Some (tokens.terminal_of token.entry.kind
         (chars token.entry.text.now)) }
@@ -135,14 +140,15 @@ pub(crate) fn terminal_of<'a>(token: Token<'a>) -> Terminal<'a>
         Kind::Name => plain_name(token.text),
         Kind::Keyword => keyword(token.text),
         Kind::Quoted => Terminal::Ident(behind_first(token.text)),
-        Kind::Prefixed => Terminal::Prefixed(front_name(token.text), behind_name(token.text)),
-        Kind::AnyOf => Terminal::AnyOf(front_name(token.text)),
-        Kind::Segment => Terminal::Segment(token),
+        Kind::Prefixed => Terminal::Prefixed(token.text),
+        Kind::AnyOf => Terminal::AnyOf(token.text),
+        Kind::Segment => Terminal::Segment(token.text),
         Kind::Symbol => symbol(token.text),
     }
 }
 
-/// The next terminal.
+/// The next terminal. It is inlined, so that a caller who asks for one terminal tests for no other.
+#[inline(always)]
 pub(crate) fn next<'a>(tokens: &[Token<'a>], at: usize) -> Terminal<'a>
     ensures inside { IsInside result at (length tokens.now) }
     ensures next { IsNext (rest tokens.now at) (seen result) (rest tokens.now (at + 1)) }

@@ -6,59 +6,78 @@ use std::borrow::CowStr;
 /// A prefix, and its place: the byte of the source at which its token begins.
 #[derive(Clone, Copy, Debug)]
 pub struct Prefix<'a> {
+    /// As it is written, without the backslash of a quoted one.
     pub name: &'a str,
+    /// Counts bytes from the start of the source.
     pub at: usize,
 }
 
 /// A name in a name class.
 #[derive(Clone, Copy, Debug)]
 pub enum Name<'a> {
+    /// Without a prefix.
     Local(&'a str),
+    /// The prefix, and the local name behind the colon.
     Prefixed(Prefix<'a>, &'a str),
 }
 
 /// `*`, or a prefix behind which `:*` stands.
 #[derive(Clone, Copy, Debug)]
 pub enum AnyName<'a> {
+    /// `*`, any name.
     Any,
+    /// Any name of the prefix's namespace.
     AnyOf(Prefix<'a>),
 }
 
-/// A name class.
+/// A name class (RELAX NG Compact Syntax, 2, nameClass).
 #[derive(Drop)]
 pub enum Nc<'a> {
+    /// One name.
     Name(Name<'a>),
+    /// All names, or all of a namespace.
     All(AnyName<'a>),
+    /// The same without what is behind the `-`.
     AllBut(AnyName<'a>, Box<Nc<'a>>),
+    /// Two or more, in the order of the text.
     Choice(Vec<Nc<'a>>),
 }
 
 /// The name of a datatype; `string` and `token` with the bytes of the source at which they begin.
 #[derive(Clone, Copy, Debug)]
 pub enum Datatype<'a> {
+    /// `string` of the built-in library.
     String(usize),
+    /// `token` of the built-in library.
     Token(usize),
+    /// The prefix of a library, and the local name behind the colon.
     Named(Prefix<'a>, &'a str),
 }
 
 /// A parameter of a datatype.
 #[derive(Drop)]
 pub struct Param<'a> {
+    /// Left of the `=`.
     pub name: &'a str,
+    /// Right of the `=`, without delimiters and escapes.
     pub text: CowStr<'a>,
 }
 
 /// A value; one without a datatype is of the built-in token.
 #[derive(Drop)]
 pub struct Value<'a> {
+    /// As it is written before the literal.
     pub datatype: Option<Datatype<'a>>,
+    /// Of the literal, without delimiters and escapes.
     pub text: CowStr<'a>,
 }
 
 /// Data: a datatype and its parameters.
 #[derive(Drop)]
 pub struct Data<'a> {
+    /// The name before the braces.
     pub datatype: Datatype<'a>,
+    /// In the order of the text.
     pub params: Vec<Param<'a>>,
 }
 
@@ -66,54 +85,82 @@ pub struct Data<'a> {
 /// most patterns are references and chains.
 #[derive(Drop)]
 pub enum Pat<'a> {
+    /// The name class, and the pattern in braces.
     Element(Box<Nc<'a>>, Box<Pat<'a>>),
+    /// The name class, and the pattern in braces.
     Attribute(Box<Nc<'a>>, Box<Pat<'a>>),
+    /// `list { .. }`
     List(Box<Pat<'a>>),
+    /// `mixed { .. }`
     Mixed(Box<Pat<'a>>),
+    /// `empty`
     Empty,
+    /// `notAllowed`
     NotAllowed,
+    /// `text`
     Text,
+    /// The name of a definition, without the backslash of a quoted one.
     Ref(&'a str),
+    /// A literal, with a datatype or without.
     Value(Box<Value<'a>>),
+    /// A datatype without an except.
     Datum(Box<Data<'a>>),
-    /// The number is the byte of the source at which the `-` begins.
+    /// A datatype with an except. The number is the byte of the source at which the `-` begins.
     DatumBut(Box<Data<'a>>, usize, Box<Pat<'a>>),
+    /// A pattern before `?`, `*` or `+`.
     Repeated(Postfix, Box<Pat<'a>>),
+    /// Two or more members, in the order of the text.
     Chain(Operator, Vec<Pat<'a>>),
 }
 
 /// The URI of a declaration.
 #[derive(Drop)]
 pub enum Uri<'a> {
+    /// Without delimiters and escapes.
     Literal(CowStr<'a>),
+    /// `inherit`: the namespace that the including module hands on.
     Inherited,
 }
 
 /// A declaration. A default one has the byte of the source at which its `default` begins.
 #[derive(Drop)]
 pub enum Declaration<'a> {
+    /// `namespace prefix = ..`
     Namespace(Prefix<'a>, Uri<'a>),
+    /// `default namespace = ..`, with a prefix or without.
     Default(usize, Option<Prefix<'a>>, Uri<'a>),
+    /// `datatypes prefix = ..`, with the URI of a datatype library.
     Datatypes(Prefix<'a>, CowStr<'a>),
 }
 
-/// What a grammar is made of.
+/// What a grammar is made of (RELAX NG Compact Syntax, 2, grammarContent).
 #[derive(Drop)]
 pub enum Item<'a> {
+    /// A definition.
     Define {
+        /// Without the backslash of a quoted one.
         name: &'a str,
+        /// How it is combined with others of its name.
         method: Method,
+        /// What it defines.
         body: Box<Pat<'a>>,
     },
+    /// The pattern that a document matches.
     Start {
+        /// How it is combined with other starts.
         method: Method,
+        /// Behind the method.
         body: Box<Pat<'a>>,
     },
+    /// `div { .. }`, with its items in the order of the text.
     Div(Vec<Item<'a>>),
-    /// The prefix is the word behind `inherit =`.
+    /// `include ".." inherit = .. { .. }`
     Include {
+        /// The literal, which names a module.
         wanted: CowStr<'a>,
+        /// The word behind `inherit =`, where it is written.
         inherit: Option<Prefix<'a>>,
+        /// The overrides, in the order of the text.
         items: Vec<Item<'a>>,
     },
 }
@@ -121,6 +168,8 @@ pub enum Item<'a> {
 /// A module.
 #[derive(Drop)]
 pub struct Module<'a> {
+    /// In the order of the text.
     pub decls: Vec<Declaration<'a>>,
+    /// In the order of the text; those of a `grammar` in braces too.
     pub items: Vec<Item<'a>>,
 }

@@ -84,17 +84,17 @@ core_class (g.any_name g.all) = refl
 core_class (g.any_name g.of) = refl
 core_class (g.parens k) = refl
 
-not_class : (y : code.Terminal) → ((n : _) → y ≡ c.Ident n → ⊥) → ((w : _) → y ≡ c.Keyword w → ⊥) → ((n : _) (l : _) → y ≡ c.Prefixed n l → ⊥) → (y ≡ c.LeftParen → ⊥) → begins_any (unwrap_or (seen y) x.other) ≡ false → is_class (unwrap_or (seen y) x.other) ≡ false
+not_class : (y : code.Terminal) → ((n : _) → y ≡ c.Ident n → ⊥) → ((w : _) → y ≡ c.Keyword w → ⊥) → ((n : _) → y ≡ c.Prefixed n → ⊥) → (y ≡ c.LeftParen → ⊥) → begins_any (unwrap_or (seen y) x.other) ≡ false → is_class (unwrap_or (seen y) x.other) ≡ false
 not_class (c.Ident n) h1 h2 h3 h4 e = absurd (h1 n refl)
 not_class (c.Keyword w) h1 h2 h3 h4 e = absurd (h2 w refl)
-not_class (c.Prefixed n l) h1 h2 h3 h4 e = absurd (h3 n l refl)
+not_class (c.Prefixed n) h1 h2 h3 h4 e = absurd (h3 n refl)
 not_class c.LeftParen h1 h2 h3 h4 e = absurd (h4 refl)
 not_class y h1 h2 h3 h4 e = e
 
 can_core : CanBe IsClassCore
 can_core more = (ident [] # 0 ∷ more, t.name (t.local []), g.word g.by_name)
 
-pub no_core : (now behind : Tokens) (y : code.Terminal) → IsNext now (seen y) behind → ((n : _) → y ≡ c.Ident n → ⊥) → ((w : _) → y ≡ c.Keyword w → ⊥) → ((n : _) (l : _) → y ≡ c.Prefixed n l → ⊥) → (y ≡ c.LeftParen → ⊥) → begins_any (first_terminal now) ≡ false
+pub no_core : (now behind : Tokens) (y : code.Terminal) → IsNext now (seen y) behind → ((n : _) → y ≡ c.Ident n → ⊥) → ((w : _) → y ≡ c.Keyword w → ⊥) → ((n : _) → y ≡ c.Prefixed n → ⊥) → (y ≡ c.LeftParen → ⊥) → begins_any (first_terminal now) ≡ false
     → Stuck IsClassCore Anything now now
 no_core now behind y e h1 h2 h3 h4 h =
     let f = first_next now behind (seen y) e in

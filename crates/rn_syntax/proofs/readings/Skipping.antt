@@ -191,21 +191,21 @@ named_begins (named n d) = name_is n
 pub can_named : CanBe (Bare IsFollow)
 can_named more = (t.ident [] # 0 ∷ left_bracket # 0 ∷ right_bracket # 0 ∷ more, tt, named (g.by_word g.by_name) (g.bracketed g.close))
 
-not_name : (x : code.Terminal) → ((n : _) → x ≡ c.Ident n → ⊥) → ((w : _) → x ≡ c.Keyword w → ⊥) → ((n : _) (l : _) → x ≡ c.Prefixed n l → ⊥) → is_follow_name (unwrap_or (seen x) t.other) ≡ false
+not_name : (x : code.Terminal) → ((n : _) → x ≡ c.Ident n → ⊥) → ((w : _) → x ≡ c.Keyword w → ⊥) → ((n : _) → x ≡ c.Prefixed n → ⊥) → is_follow_name (unwrap_or (seen x) t.other) ≡ false
 not_name (c.Ident n) h k l = absurd (h n refl)
 not_name (c.Keyword w) h k l = absurd (k w refl)
-not_name (c.Prefixed n m) h k l = absurd (l n m refl)
+not_name (c.Prefixed n) h k l = absurd (l n refl)
 not_name x h k l = refl
 
-pub no_name : (now behind : Tokens) (x : code.Terminal) → IsNext now (seen x) behind → ((n : _) → x ≡ c.Ident n → ⊥) → ((w : _) → x ≡ c.Keyword w → ⊥) → ((n : _) (l : _) → x ≡ c.Prefixed n l → ⊥) → Stuck (Bare IsFollow) Anything now now
+pub no_name : (now behind : Tokens) (x : code.Terminal) → IsNext now (seen x) behind → ((n : _) → x ≡ c.Ident n → ⊥) → ((w : _) → x ≡ c.Keyword w → ⊥) → ((n : _) → x ≡ c.Prefixed n → ⊥) → Stuck (Bare IsFollow) Anything now now
 no_name now behind x e h k l = stuck_here is_follow_name (λ t a r d. named_begins d) (ap is_follow_name (first_next now behind (seen x) e) ∙ not_name x h k l) can_named
 
 -- the name that the code saw
-pub follow_name : (x : code.Terminal) (now behind : Tokens) → ((n : Bor (List ℕ)) × (x ≡ c.Ident n)) ⊎ (((w : Keyword) × (x ≡ c.Keyword w)) ⊎ ((n : Bor (List ℕ)) × (l : Bor (List ℕ)) × (x ≡ c.Prefixed n l))) → IsNext now (seen x) behind
+pub follow_name : (x : code.Terminal) (now behind : Tokens) → ((n : Bor (List ℕ)) × (x ≡ c.Ident n)) ⊎ (((w : Keyword) × (x ≡ c.Keyword w)) ⊎ ((n : Bor (List ℕ)) × (x ≡ c.Prefixed n))) → IsNext now (seen x) behind
     → (y : Terminal) × (i : ℕ) × (now ≡ y # i ∷ behind) × IsFollowName y
 follow_name x now behind (inl (n, e)) h = let f = subst (λ (y : code.Terminal). IsNext now (seen y) behind) e h in (t.ident n.now, f.0, f.1, g.by_word g.by_name)
 follow_name x now behind (inr (inl (w, e))) h = let f = subst (λ (y : code.Terminal). IsNext now (seen y) behind) e h in (t.keyword w, f.0, f.1, g.by_word g.by_keyword)
-follow_name x now behind (inr (inr (n, l, e))) h = let f = subst (λ (y : code.Terminal). IsNext now (seen y) behind) e h in (t.prefixed n.now l.now, f.0, f.1, g.by_prefixed)
+follow_name x now behind (inr (inr (n, e))) h = let f = subst (λ (y : code.Terminal). IsNext now (seen y) behind) e h in (_, f.0, f.1, g.by_prefixed)
 
 pub named_at : {x : Terminal} {i : ℕ} {now next : Tokens} → IsFollowName x → now ≡ x # i ∷ next → Upto (Bare IsFollow) (Bare IsAnnotation) Anything now next
 named_at {x = x} {i = i} n e = upto_token e (λ t z r d. named n d) (λ t z r d g. from d)

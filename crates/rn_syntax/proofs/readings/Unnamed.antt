@@ -127,7 +127,7 @@ not_begun (c.Keyword w) h1 h2 h3 h4 e = absurd (h1 w refl)
 not_begun (c.Ident n) h1 h2 h3 h4 e = absurd (h2 n refl)
 not_begun (c.Segment s) h1 h2 h3 h4 e = absurd (h3 s refl)
 not_begun c.LeftParen h1 h2 h3 h4 e = absurd (h4 refl)
-not_begun (c.Prefixed n l) h1 h2 h3 h4 e = absurd (false≢true (sym e))
+not_begun (c.Prefixed n) h1 h2 h3 h4 e = absurd (false≢true (sym e))
 not_begun x h1 h2 h3 h4 e = refl
 
 none_here : {now : Tokens} → begins_core (first_terminal now) ≡ false → Stuck IsCore (Starts behind_core) now now

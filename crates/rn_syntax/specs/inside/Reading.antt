@@ -1,8 +1,9 @@
 -- What readers of tokens see, how far they come, and what their answers say of the grammar.
 use Rattle.std.specs.Prelude.{◌≡◌, ℕ, List, [], ◌∷◌, ◌++◌, Option, Some, None, Result, Ok, Err, Bool, true, not, ◌&&◌, ◌==◌, map, drop, ◌+◌, ◌≤◌, ◌<◌}
 use Rattle.std.specs.Str.{chars, encode_utf8_all}
+use Rattle.rn_text.specs.Characters.{is_name_char}
 use Rattle.rn_text.specs.declared.source.Token.{Token}
-use Rattle.rn_text.specs.Segments.{segment_text, is_segment}
+use Rattle.rn_text.specs.Segments.{after_run, run_of, segment_text, is_segment}
 use Rattle.rn_text.specs.Tokens.{lexeme_of}
 use Rattle.rn_syntax.specs.Terminal as t
 use Rattle.rn_syntax.specs.Terminal.{Terminal, Placed, ◌#◌}
@@ -37,21 +38,21 @@ is_plain c = not (c == 92) && not (c == 13)
 
 -- a segment that the code saw is one
 abbrev pub IsWhole : code.Terminal → Type 0
-IsWhole (c.Segment x) = is_segment (chars x.text.now) ≡ true
+IsWhole (c.Segment x) = is_segment (chars x.now) ≡ true
 IsWhole _ = Unit {0}
 
--- a segment that the code saw is this token
+-- a segment that the code saw is the text of this token
 abbrev pub IsSegmentOf : code.Terminal → Token → Type 0
-IsSegmentOf (c.Segment x) token = x ≡ token
+IsSegmentOf (c.Segment x) token = x ≡ token.text
 IsSegmentOf _ token = Unit {0}
 
 -- what the code sees of a token, as the grammar sees it: nothing at the end
 abbrev pub seen : code.Terminal → Option Terminal
 seen (c.Ident n) = Some (t.ident n.now)
 seen (c.Keyword w) = Some (t.keyword w)
-seen (c.Prefixed p l) = Some (t.prefixed p.now l.now)
-seen (c.AnyOf p) = Some (t.any_of p.now)
-seen (c.Segment x) = Some (t.segment (encode_utf8_all (segment_text (chars x.text.now))))
+seen (c.Prefixed x) = Some (t.prefixed (encode_utf8_all (run_of is_name_char (chars x.now))) (encode_utf8_all (drop 1 (after_run is_name_char (chars x.now)))))
+seen (c.AnyOf x) = Some (t.any_of (encode_utf8_all (run_of is_name_char (chars x.now))))
+seen (c.Segment x) = Some (t.segment (encode_utf8_all (segment_text (chars x.now))))
 seen (c.Operator op) = Some (t.operator op)
 seen (c.Postfix s) = Some (t.postfix s)
 seen (c.Assign w) = Some (t.assign w)

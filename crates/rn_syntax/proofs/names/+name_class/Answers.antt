@@ -28,7 +28,7 @@ pub class_core-returns-in-Prefixed-clause-inside : goal.class_core-returns-in-Pr
 class_core-returns-in-Prefixed-clause-inside t c = made_advanced boxed_class_view _ _ _ _ c.one-in-Prefixed.result c.one-in-Prefixed.ensures (one_on c.in-Prefixed.ensures.inside)
 
 pub class_core-returns-in-Prefixed-clause-reads : goal.class_core-returns-in-Prefixed-clause-reads
-class_core-returns-in-Prefixed-clause-reads t c = made_reads boxed_class_view c.args.tokens.now c.args.at (c.args.at + 1) c.one-in-Prefixed.result c.one-in-Prefixed.ensures (λ s. let n = c.in-Prefixed.ensures.next in prefixed_core (place_is c.args.tokens.now n.1 c.place.ensures) n.1)
+class_core-returns-in-Prefixed-clause-reads t c = made_reads boxed_class_view c.args.tokens.now c.args.at (c.args.at + 1) c.one-in-Prefixed.result c.one-in-Prefixed.ensures (λ s. let n = c.in-Prefixed.ensures.next in rw (c.prefix_name.ensures, c.local_name.ensures) (prefixed_core (place_is c.args.tokens.now n.1 c.place.ensures) n.1))
 
 pub class_core-returns-in_err-class-in-LeftParen-clause-reads : goal.class_core-returns-in_err-class-in-LeftParen-clause-reads
 class_core-returns-in_err-class-in-LeftParen-clause-reads t c =

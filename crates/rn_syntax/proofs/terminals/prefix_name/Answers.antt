@@ -1,4 +1,4 @@
--- What is left before the rest is the run of name characters.
+-- The prefix is the run of name characters.
 use Rattle.std.proofs.Common.{◌≡◌, ℕ, List, ◌++◌, Option, Some, None, ◌≢◌, Bor, sym, ap, ◌∙◌}
 use Rattle.std.specs.Str.{chars, encode_utf8_all}
 use Rattle.std.specs.Option.{MatchOption, unwrap_or}
@@ -8,7 +8,7 @@ use Rattle.std.proofs.lemmas.Str.{encodes-append, encodes-chars}
 use Rattle.rn_text.specs.Characters.{is_name_char}
 use Rattle.rn_text.specs.Segments.{run_of, after_run}
 use Rattle.rn_text.proofs.Words.Runs.{run_split}
-use Rattle.rn_syntax.proofs.terminals.front_name.Goals as goal
+use Rattle.rn_syntax.proofs.terminals.prefix_name.Goals as goal
 
 stripped : (r : Option (Bor (List ℕ))) (text : Bor (List ℕ)) (front behind : List ℕ) → text.now ≡ front ++ behind
     → MatchOption r ((f : List ℕ) → text.now ≢ f ++ behind) (λ p. StripsSuffix (FindsTextSuffix behind) text.now p.now) → (unwrap_or r text).now ≡ front
