@@ -6,7 +6,7 @@ use Rattle.rn_text.specs.declared.source.Token.{Token}
 use Rattle.rn_syntax.specs.declared.fault.SyntaxFault.{SyntaxFault}
 use Rattle.rn_syntax.specs.declared.fault.SyntaxFault.TheVariants as parsing
 use Rattle.rn_syntax.specs.Faults.{IsFault}
-use Rattle.rn_syntax.proofs.SourceTokens.{tokens_are_spelled}
+use Rattle.rn_syntax.proofs.TokenKinds.SourceTokens.{tokens_are_spelled}
 use Rattle.rn_merge.specs.declared.texts.Place.{Place}
 use Rattle.rn_merge.specs.Texts.{AreTokensOf, HasPlace, syntax_place}
 

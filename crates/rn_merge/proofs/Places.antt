@@ -20,8 +20,8 @@ use Rattle.rn_syntax.specs.Fault.{HasTree, Stops}
 use Rattle.rn_syntax.specs.Faults as parsing
 use Rattle.rn_syntax.specs.Faults.{HasNoFault, IsFault, IsFaultOfTree}
 use Rattle.rn_syntax.specs.Places.{deep}
-use Rattle.rn_syntax.specs.Spelled.{AreSpelled, IsPlace, last_end}
-use Rattle.rn_syntax.proofs.OneFault as parsed
+use Rattle.rn_syntax.specs.Spelled.{AreSpelled, BeginAt, last_end}
+use Rattle.rn_syntax.proofs.FaultPlaces.OneFault as parsed
 use Rattle.rn_assemble.specs.Refusal.{HasTextFault, IsFirstFault}
 use Rattle.rn_assemble.proofs.Refusals.OneSet.{first_fault}
 use Rattle.rn_assemble.proofs.Refusals.TextFaults.{faultless, first_lexical, first_of_tokens}
@@ -54,7 +54,7 @@ module _ (xs ys : List Token) (spelled : AreSpelled xs) (same : map lexeme_of xs
   alike : terminals (map lexeme_of xs) ≡ terminals (map lexeme_of ys)
   alike = ap terminals same
 
-  place_moved : (bad : Tokens) (at : ℕ) → IsPlace xs bad at → IsPlace ys bad at
+  place_moved : (bad : Tokens) (at : ℕ) → BeginAt xs bad at → BeginAt ys bad at
   place_moved [] at h = h ∙ last_end_same xs ys same
   place_moved (t # i ∷ bad) at h = h
 

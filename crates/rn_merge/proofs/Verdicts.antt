@@ -7,7 +7,7 @@ use Rattle.rn_pattern.specs.Matching.{Grammar}
 use Rattle.rn_pattern.specs.Reached.{IsCanonicalOf}
 use Rattle.rn_modset.specs.Contributions.{Member}
 use Rattle.rn_modset.specs.Modules.{AreEffective}
-use Rattle.rn_syntax.proofs.OneTree.{one_tree}
+use Rattle.rn_syntax.proofs.OneReading.OneTree.{one_tree}
 use Rattle.rn_assemble.specs.declared.refusal.Refusal as code
 use Rattle.rn_assemble.specs.declared.refusal.Refusal.TheVariants as r
 use Rattle.rn_assemble.specs.Refusal.{Refusal, Stands, IsAssembled}

@@ -19,7 +19,7 @@ use Rattle.rn_syntax.specs.Places.{deep}
 use Rattle.rn_syntax.specs.Faults.{kind_places}
 use Rattle.rn_syntax.specs.declared.fault.FaultKind.{FaultKind}
 use Rattle.rn_syntax.specs.declared.fault.FaultKind.TheVariants as kind
-use Rattle.rn_syntax.proofs.FaultKinds.{no_places}
+use Rattle.rn_syntax.proofs.FaultPlaces.FaultKinds.{no_places}
 use Rattle.rn_assemble.specs.Components.{NamedModule}
 use Rattle.rn_assemble.specs.Combine.{joined_grammar, read}
 use Rattle.rn_assemble.specs.WellFormed.{IsWellFormed}

@@ -3,7 +3,7 @@ use Rattle.std.proofs.Common.{List, subst, arith}
 use Rattle.rn_text.specs.Texts.{Text}
 use Rattle.rn_pattern.specs.Reached.{IsCanonicalOf}
 use Rattle.rn_modset.specs.Contributions.{Member}
-use Rattle.rn_syntax.proofs.OneTree.{one_tree}
+use Rattle.rn_syntax.proofs.OneReading.OneTree.{one_tree}
 use Rattle.rn_assemble.specs.Components.{set_components}
 use Rattle.rn_assemble.specs.Refusal.{HasTextFault, grammar_of}
 use Rattle.rn_assemble.proofs.WellFormed.ComponentExcepts.{set_excepts}

@@ -11,7 +11,7 @@ use Rattle.rn_syntax.specs.Tree.{Module}
 use Rattle.rn_syntax.specs.Grammar.{Tokens}
 use Rattle.rn_syntax.specs.Tokens.{terminals}
 use Rattle.rn_syntax.specs.Fault.{HasTree, Stops}
-use Rattle.rn_syntax.specs.Spelled.{AreSpelled, IsPlace}
+use Rattle.rn_syntax.specs.Spelled.{AreSpelled, BeginAt}
 use Rattle.rn_syntax.specs.Places.{deep, first, prefix_places, builtin_places, context_places, except_places}
 
 -- ---- kinds of faults of module texts, those of bytes and characters among them
@@ -75,7 +75,7 @@ IsSound xs m = (deep 0 (terminals (map lexeme_of xs)) ≡ None) × HasTree (term
 
 -- the tokens before this place begin a module, and with the one there none begins
 abbrev pub StopsAt : List Token → ℕ → Type 0
-StopsAt xs at = (bad : Tokens) × Stops (terminals (map lexeme_of xs)) bad × IsPlace xs bad at
+StopsAt xs at = (bad : Tokens) × Stops (terminals (map lexeme_of xs)) bad × BeginAt xs bad at
 
 -- no bracket is too many, and the tree of the tokens has the fault
 abbrev pub IsFaultOfTree : List Token → SyntaxFault → Type 0

@@ -22,6 +22,6 @@ last_end (x ∷ []) = x.end
 last_end (x ∷ y ∷ xs) = last_end (y ∷ xs)
 
 -- the byte at which these of the tokens begin; where none is left, that at which the last one ends
-abbrev pub IsPlace : List Token → Tokens → ℕ → Type 0
-IsPlace xs [] at = at ≡ last_end xs
-IsPlace xs (x # i ∷ ts) at = at ≡ i
+abbrev pub BeginAt : List Token → Tokens → ℕ → Type 0
+BeginAt xs [] at = at ≡ last_end xs
+BeginAt xs (x # i ∷ ts) at = at ≡ i

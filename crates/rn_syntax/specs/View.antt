@@ -98,7 +98,7 @@ place_view p = (p.name.now, p.at)
 
 abbrev pub prefix_view : Option code_prefix.Prefix → Option (List ℕ × ℕ)
 prefix_view None = None
-prefix_view (Some p) = Some (p.name.now, p.at)
+prefix_view (Some p) = Some (place_view p)
 
 abbrev pub declaration_view : code_declaration.Declaration → Declaration
 declaration_view (e.Namespace p x) = t.namespace p.name.now p.at (uri_view x)

@@ -1,8 +1,8 @@
 // Annotations and notes, which leave nothing in the tree (compact syntax, section 2, annotations).
-ghost use Rattle.std.specs.Prelude.{◌≡◌, ◌≤◌, ◌<◌, length, IfOk, IfSome, IsTrue};
+ghost use Rattle.std.specs.Prelude.{◌≡◌, ◌≤◌, ◌<◌, length, IfSome, IsTrue};
 ghost use Rattle.rn_syntax.specs.inside.Follow.{Starts, Anything, no_bracket, no_follow};
 ghost use Rattle.rn_syntax.specs.Grammar.{Closed, IsAnnotation, MayHaveAnnotation, AreFollows};
-ghost use Rattle.rn_syntax.specs.inside.Reading.{Passed, Advanced, Skips, rest};
+ghost use Rattle.rn_syntax.specs.inside.Reading.{GoesPast, MayGoPast, Skips, rest};
 ghost use Rattle.rn_syntax.specs.inside.Sequence.{IsFollow, is_note};
 
 use crate::fault::Fault;
@@ -12,7 +12,7 @@ use rn_text::Token;
 /// What stands behind a `[`, up to its `]`.
 fn skip_closed(tokens: &[Token<'_>], mut at: usize) -> Result<usize, Fault>
     requires { at ≤ length tokens.now }
-    ensures inside { IfOk result (λ behind. Advanced at behind (length tokens.now)) }
+    ensures inside { GoesPast at (length tokens.now) result }
     ensures skips { Skips Closed Anything tokens.now at result }
 {
     let mut depth: usize = 0;
@@ -42,7 +42,7 @@ fn skip_closed(tokens: &[Token<'_>], mut at: usize) -> Result<usize, Fault>
 /// `ann = "[" ( other | ann )* "]"`
 pub(crate) fn annotation(tokens: &[Token<'_>], at: usize) -> Result<usize, Fault>
     requires { at ≤ length tokens.now }
-    ensures inside { IfOk result (λ behind. Advanced at behind (length tokens.now)) }
+    ensures inside { GoesPast at (length tokens.now) result }
     ensures skips { Skips IsAnnotation Anything tokens.now at result }
 {
     match next(tokens, at) {
@@ -54,7 +54,7 @@ pub(crate) fn annotation(tokens: &[Token<'_>], at: usize) -> Result<usize, Fault
 /// `[ann]`
 pub(crate) fn skip_annotation(tokens: &[Token<'_>], at: usize) -> Result<usize, Fault>
     requires { at ≤ length tokens.now }
-    ensures inside { IfOk result (λ behind. Passed at behind (length tokens.now)) }
+    ensures inside { MayGoPast at (length tokens.now) result }
     ensures skips { Skips MayHaveAnnotation (Starts no_bracket) tokens.now at result }
 {
     match next(tokens, at) {
@@ -66,7 +66,7 @@ pub(crate) fn skip_annotation(tokens: &[Token<'_>], at: usize) -> Result<usize, 
 /// `( word | Prefixed ) ann`, behind a `>>`
 fn follow(tokens: &[Token<'_>], at: usize) -> Result<usize, Fault>
     requires { at ≤ length tokens.now }
-    ensures inside { IfOk result (λ behind. Advanced at behind (length tokens.now)) }
+    ensures inside { GoesPast at (length tokens.now) result }
     ensures skips { Skips IsFollow Anything tokens.now at result }
 {
     match next(tokens, at) {
@@ -80,7 +80,7 @@ fn follow(tokens: &[Token<'_>], at: usize) -> Result<usize, Fault>
 /// `follow*`
 pub(crate) fn skip_follows(tokens: &[Token<'_>], mut at: usize) -> Result<usize, Fault>
     requires { at ≤ length tokens.now }
-    ensures inside { IfOk result (λ behind. Passed at behind (length tokens.now)) }
+    ensures inside { MayGoPast at (length tokens.now) result }
     ensures skips { Skips AreFollows (Starts no_follow) tokens.now at result }
 {
     'follows: while let Terminal::Follow = next(tokens, at) {

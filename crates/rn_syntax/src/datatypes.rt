@@ -1,8 +1,8 @@
 // Datatypes and their parameters (compact syntax, section 2, datatypeName and param).
-ghost use Rattle.std.specs.Prelude.{◌≡◌, ◌≤◌, ◌<◌, ◌+◌, length, false, IfOk, IfSome, IsTrue, MatchOption};
+ghost use Rattle.std.specs.Prelude.{◌≡◌, ◌≤◌, ◌<◌, ◌+◌, length, false, IfSome, IsTrue, MatchOption};
 ghost use Rattle.rn_syntax.specs.inside.Follow.{Starts, begins_datatype, first_terminal, is_end, no_brace, no_tilde};
 ghost use Rattle.rn_syntax.specs.Grammar.{IsDatatype, MayHaveParams};
-ghost use Rattle.rn_syntax.specs.inside.Reading.{Passed, Advanced, Reads, rest};
+ghost use Rattle.rn_syntax.specs.inside.Reading.{GoesOn, MayGoOn, Reads, rest};
 ghost use Rattle.rn_syntax.specs.inside.Sequence.{IsHere, IsParam};
 ghost use Rattle.rn_syntax.specs.View.{datatype_view, param_view, params_view};
 
@@ -41,7 +41,7 @@ pub(crate) fn datatype<'a>(tokens: &[Token<'a>], at: usize) -> Option<Datatype<'
 /// `param = [ann] word "=" literal`
 fn param<'a>(alloc: Global, tokens: &[Token<'a>], at: usize) -> Result<(Param<'a>, usize), Fault>
     requires { at ≤ length tokens.now }
-    ensures inside { IfOk result (λ r. Advanced at r.1 (length tokens.now)) }
+    ensures inside { GoesOn at (length tokens.now) result }
     ensures reads { Reads IsParam (Starts no_tilde) param_view tokens.now at result }
 {
     let body = skip_annotation(tokens, at)?;
@@ -69,7 +69,7 @@ pub(crate) fn params<'a>(
     at: usize,
 ) -> Result<(Vec<Param<'a>>, usize), Fault>
     requires { at ≤ length tokens.now }
-    ensures inside { IfOk result (λ r. Passed at r.1 (length tokens.now)) }
+    ensures inside { MayGoOn at (length tokens.now) result }
     ensures reads { Reads MayHaveParams (Starts no_brace)
         (λ v. params_view v.items) tokens.now at result }
 {

@@ -3,7 +3,7 @@ ghost use Rattle.std.specs.Prelude.{◌≡◌, ◌≤◌, ◌<◌, length, map, 
 ghost use Rattle.rn_syntax.specs.inside.Declaring.{IsDatatypesEnd, IsDefaultEnd, IsNamespaceEnd, MayHaveDefaultPrefix};
 ghost use Rattle.rn_syntax.specs.inside.Follow.{Starts, Anything, begins_declaration, begins_item, first_terminal, no_tilde, no_word};
 ghost use Rattle.rn_syntax.specs.Grammar.{AreDeclarations, IsDeclaration, IsUri};
-ghost use Rattle.rn_syntax.specs.inside.Reading.{Passed, Advanced, Reads, ReadsOne, rest};
+ghost use Rattle.rn_syntax.specs.inside.Reading.{GoesOn, MayGoOn, Reads, ReadsOne, rest};
 ghost use Rattle.rn_syntax.specs.inside.Sequence.{IsOf, IsPrefixAt};
 ghost use Rattle.rn_syntax.specs.View.{declaration_view, place_view, prefix_view, uri_view};
 
@@ -53,7 +53,7 @@ fn declaration<'a>(
     at: usize,
 ) -> Result<(Declaration<'a>, usize), Fault>
     requires { at ≤ length tokens.now }
-    ensures inside { IfOk result (λ r. Advanced at r.1 (length tokens.now)) }
+    ensures inside { GoesOn at (length tokens.now) result }
     ensures reads { Reads IsDeclaration (Starts no_tilde) declaration_view tokens.now at result }
 {
     match next(tokens, at) {
@@ -86,7 +86,7 @@ fn namespace<'a>(
     at: usize,
 ) -> Result<(Declaration<'a>, usize), Fault>
     requires { at ≤ length tokens.now }
-    ensures inside { IfOk result (λ r. Advanced at r.1 (length tokens.now)) }
+    ensures inside { GoesOn at (length tokens.now) result }
     ensures reads { Reads IsNamespaceEnd (Starts no_tilde) declaration_view tokens.now at result }
 {
     let prefix = prefix(tokens, at)?;
@@ -103,7 +103,7 @@ fn default<'a>(
     start: usize,
 ) -> Result<(Declaration<'a>, usize), Fault>
     requires { at ≤ length tokens.now }
-    ensures inside { IfOk result (λ r. Advanced at r.1 (length tokens.now)) }
+    ensures inside { GoesOn at (length tokens.now) result }
     ensures reads { Reads (IsDefaultEnd start)
         (Starts no_tilde) declaration_view tokens.now at result }
 {
@@ -119,7 +119,7 @@ fn default<'a>(
 /// `[word]`
 fn default_prefix<'a>(tokens: &[Token<'a>], at: usize) -> Result<(Option<Prefix<'a>>, usize), Fault>
     requires { at ≤ length tokens.now }
-    ensures inside { IfOk result (λ r. Passed at r.1 (length tokens.now)) }
+    ensures inside { MayGoOn at (length tokens.now) result }
     ensures reads { Reads MayHaveDefaultPrefix (Starts no_word) prefix_view tokens.now at result }
 {
     match next(tokens, at) {
@@ -148,7 +148,7 @@ fn datatypes<'a>(
     at: usize,
 ) -> Result<(Declaration<'a>, usize), Fault>
     requires { at ≤ length tokens.now }
-    ensures inside { IfOk result (λ r. Advanced at r.1 (length tokens.now)) }
+    ensures inside { GoesOn at (length tokens.now) result }
     ensures reads { Reads IsDatatypesEnd (Starts no_tilde) declaration_view tokens.now at result }
 {
     let prefix = prefix(tokens, at)?;
@@ -160,7 +160,7 @@ fn datatypes<'a>(
 /// `uri = literal | "inherit"`
 fn uri<'a>(alloc: Global, tokens: &[Token<'a>], at: usize) -> Result<(Uri<'a>, usize), Fault>
     requires { at ≤ length tokens.now }
-    ensures inside { IfOk result (λ r. Advanced at r.1 (length tokens.now)) }
+    ensures inside { GoesOn at (length tokens.now) result }
     ensures reads { Reads IsUri (Starts no_tilde) uri_view tokens.now at result }
 {
     if is_keyword(tokens, at, Keyword::Inherit) {

@@ -1,10 +1,10 @@
 // The items of a grammar, and those of an include (compact syntax, section 2, grammarContent and includeContent).
-ghost use Rattle.std.specs.Prelude.{◌≡◌, ◌≤◌, ◌<◌, length, map, IfOk, IsTrue};
+ghost use Rattle.std.specs.Prelude.{◌≡◌, ◌≤◌, ◌<◌, length, map, IsTrue};
 ghost use Rattle.std.specs.Cow.{cow_str_bytes};
 ghost use Rattle.rn_syntax.specs.inside.Follow.{Anything, Starts, begins_item, behind_pattern, first_terminal, is_end, no_brace, no_inherit};
 ghost use Rattle.rn_syntax.specs.Grammar.{AreInnerItems, AreItems, IsComponent, MayInherit, MayHaveOverrides};
 ghost use Rattle.rn_syntax.specs.inside.Including.{AreItemsBehind, IsDivEnd, IsIncludeEnd, IsInnerItem, IsInnerDivEnd, IsItem, opens_inner, opens_item};
-ghost use Rattle.rn_syntax.specs.inside.Reading.{Passed, Advanced, Reads, rest};
+ghost use Rattle.rn_syntax.specs.inside.Reading.{GoesOn, MayGoOn, Reads, rest};
 ghost use Rattle.rn_syntax.specs.Tree as tree;
 ghost use Rattle.rn_syntax.specs.View.{boxed_view, item_view, items_view, prefix_view};
 
@@ -72,7 +72,7 @@ pub(crate) fn items<'a>(
     at: usize,
 ) -> Result<(Vec<Item<'a>>, usize), Fault>
     requires { at ≤ length tokens.now }
-    ensures inside { IfOk result (λ r. Passed at r.1 (length tokens.now)) }
+    ensures inside { MayGoOn at (length tokens.now) result }
     ensures reads { Reads AreItems (Starts is_end)
         (λ v. map item_view v.items) tokens.now at result }
 {
@@ -88,7 +88,7 @@ pub(crate) fn items_behind<'a>(
     read: Vec<Item<'a>>,
 ) -> Result<(Vec<Item<'a>>, usize), Fault>
     requires { at ≤ length tokens.now }
-    ensures inside { IfOk result (λ r. Passed at r.1 (length tokens.now)) }
+    ensures inside { MayGoOn at (length tokens.now) result }
     ensures reads { Reads (AreItemsBehind (map item_view read.entry.items)) (Starts is_end)
         (λ v. map item_view v.items) tokens.now at result }
 {
@@ -115,7 +115,7 @@ pub(crate) fn item<'a>(
     at: usize,
 ) -> Result<(Item<'a>, usize), Fault>
     requires { at ≤ length tokens.now }
-    ensures inside { IfOk result (λ r. Advanced at r.1 (length tokens.now)) }
+    ensures inside { GoesOn at (length tokens.now) result }
     ensures reads { Reads IsItem (Starts begins_item) item_view tokens.now at result }
 {
     match next(tokens, at) {
@@ -131,7 +131,7 @@ pub(crate) fn item<'a>(
 /// `define = ident assign pattern` and `start = "start" assign pattern`
 fn component<'a>(alloc: Global, tokens: &[Token<'a>], at: usize) -> Result<(Item<'a>, usize), Fault>
     requires { at ≤ length tokens.now }
-    ensures inside { IfOk result (λ r. Advanced at r.1 (length tokens.now)) }
+    ensures inside { GoesOn at (length tokens.now) result }
     ensures reads { Reads IsComponent (Starts behind_pattern) item_view tokens.now at result }
 {
     match next(tokens, at) {
@@ -156,7 +156,7 @@ fn component<'a>(alloc: Global, tokens: &[Token<'a>], at: usize) -> Result<(Item
 #[cycle(items)]
 fn div<'a>(alloc: Global, tokens: &[Token<'a>], at: usize) -> Result<(Item<'a>, usize), Fault>
     requires { at ≤ length tokens.now }
-    ensures inside { IfOk result (λ r. Advanced at r.1 (length tokens.now)) }
+    ensures inside { GoesOn at (length tokens.now) result }
     ensures reads { Reads IsDivEnd Anything item_view tokens.now at result }
 {
     let inside = left_brace(tokens, at)?;
@@ -168,7 +168,7 @@ fn div<'a>(alloc: Global, tokens: &[Token<'a>], at: usize) -> Result<(Item<'a>, 
 /// `literal [ "inherit" "=" word ] [ "{" inner* "}" ]`, behind `include`
 fn include<'a>(alloc: Global, tokens: &[Token<'a>], at: usize) -> Result<(Item<'a>, usize), Fault>
     requires { at ≤ length tokens.now }
-    ensures inside { IfOk result (λ r. Advanced at r.1 (length tokens.now)) }
+    ensures inside { GoesOn at (length tokens.now) result }
     ensures reads { Reads IsIncludeEnd (Starts begins_item) item_view tokens.now at result }
 {
     let (wanted, behind) = literal(alloc, tokens, at)?;
@@ -180,7 +180,7 @@ fn include<'a>(alloc: Global, tokens: &[Token<'a>], at: usize) -> Result<(Item<'
 /// `[ "inherit" "=" word ]`
 fn inherit<'a>(tokens: &[Token<'a>], at: usize) -> Result<(Option<Prefix<'a>>, usize), Fault>
     requires { at ≤ length tokens.now }
-    ensures inside { IfOk result (λ r. Passed at r.1 (length tokens.now)) }
+    ensures inside { MayGoOn at (length tokens.now) result }
     ensures reads { Reads MayInherit (Starts no_inherit) prefix_view tokens.now at result }
 {
     if !is_keyword(tokens, at, Keyword::Inherit) {
@@ -198,7 +198,7 @@ fn overrides<'a>(
     at: usize,
 ) -> Result<(Vec<Item<'a>>, usize), Fault>
     requires { at ≤ length tokens.now }
-    ensures inside { IfOk result (λ r. Passed at r.1 (length tokens.now)) }
+    ensures inside { MayGoOn at (length tokens.now) result }
     ensures reads { Reads MayHaveOverrides (Starts no_brace)
         (λ v. map item_view v.items) tokens.now at result }
 {
@@ -233,7 +233,7 @@ fn inner_items<'a>(
     at: usize,
 ) -> Result<(Vec<Item<'a>>, usize), Fault>
     requires { at ≤ length tokens.now }
-    ensures inside { IfOk result (λ r. Passed at r.1 (length tokens.now)) }
+    ensures inside { MayGoOn at (length tokens.now) result }
     ensures reads { Reads AreInnerItems (Starts is_end)
         (λ v. map item_view v.items) tokens.now at result }
 {
@@ -260,7 +260,7 @@ fn inner_item<'a>(
     at: usize,
 ) -> Result<(Item<'a>, usize), Fault>
     requires { at ≤ length tokens.now }
-    ensures inside { IfOk result (λ r. Advanced at r.1 (length tokens.now)) }
+    ensures inside { GoesOn at (length tokens.now) result }
     ensures reads { Reads IsInnerItem (Starts begins_item) item_view tokens.now at result }
 {
     match next(tokens, at) {
@@ -276,7 +276,7 @@ fn inner_item<'a>(
 #[cycle(inner_items)]
 fn inner_div<'a>(alloc: Global, tokens: &[Token<'a>], at: usize) -> Result<(Item<'a>, usize), Fault>
     requires { at ≤ length tokens.now }
-    ensures inside { IfOk result (λ r. Advanced at r.1 (length tokens.now)) }
+    ensures inside { GoesOn at (length tokens.now) result }
     ensures reads { Reads IsInnerDivEnd Anything item_view tokens.now at result }
 {
     let inside = left_brace(tokens, at)?;

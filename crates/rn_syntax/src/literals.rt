@@ -7,7 +7,7 @@ ghost use Rattle.rn_text.specs.Segments.{is_segment, after_run};
 ghost use Rattle.rn_syntax.specs.inside.Borrowed.{is_borrowed, is_written, BorrowsAsWritten, SegmentBorrows};
 ghost use Rattle.rn_syntax.specs.inside.Follow.{Starts, Anything, no_tilde};
 ghost use Rattle.rn_syntax.specs.Grammar.{IsLiteral};
-ghost use Rattle.rn_syntax.specs.inside.Reading.{Advanced, Reads, is_plain};
+ghost use Rattle.rn_syntax.specs.inside.Reading.{GoesOn, Reads, is_plain};
 ghost use Rattle.rn_syntax.specs.Spelled.{AreSpelled};
 ghost use Rattle.rn_syntax.specs.inside.Sequence.{IsSegment};
 
@@ -54,7 +54,7 @@ fn segment_text<'a>(alloc: Global, segment: Token<'a>) -> Result<CowStr<'a>, All
 /// `Segment`
 fn segment<'a>(alloc: Global, tokens: &[Token<'a>], at: usize) -> Result<(CowStr<'a>, usize), Fault>
     requires { at ≤ length tokens.now }
-    ensures inside { IfOk result (λ r. Advanced at r.1 (length tokens.now)) }
+    ensures inside { GoesOn at (length tokens.now) result }
     ensures reads { Reads IsSegment Anything cow_str_bytes tokens.now at result }
     ensures one { IfOk result (λ r. r.1 ≡ at + 1) }
     ensures borrows { IfOk result (λ r. AreSpelled tokens.now → SegmentBorrows tokens.now at r.0) }
@@ -72,7 +72,7 @@ pub(crate) fn literal<'a>(
     at: usize,
 ) -> Result<(CowStr<'a>, usize), Fault>
     requires { at ≤ length tokens.now }
-    ensures inside { IfOk result (λ r. Advanced at r.1 (length tokens.now)) }
+    ensures inside { GoesOn at (length tokens.now) result }
     ensures reads { Reads IsLiteral (Starts no_tilde) cow_str_bytes tokens.now at result }
     ensures borrows { IfOk result (λ r. AreSpelled tokens.now
         → BorrowsAsWritten tokens.now at r.0) }

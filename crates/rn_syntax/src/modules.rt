@@ -5,7 +5,7 @@ ghost use Rattle.rn_syntax.specs.Fault.{HasTree};
 ghost use Rattle.rn_syntax.specs.inside.Follow.{Starts, is_end};
 ghost use Rattle.rn_syntax.specs.inside.Itemizing.{AreAnnotatedItems};
 ghost use Rattle.rn_syntax.specs.inside.Modular.{IsAnnotatedBody, IsBody, IsGrammarEnd, IsModuleFault};
-ghost use Rattle.rn_syntax.specs.inside.Reading.{Passed, Reads};
+ghost use Rattle.rn_syntax.specs.inside.Reading.{MayGoOn, Reads};
 ghost use Rattle.rn_syntax.specs.Spelled.{AreSpelled};
 ghost use Rattle.rn_syntax.specs.Tokens.{terminals};
 ghost use Rattle.rn_syntax.specs.View.{item_view, module_view};
@@ -36,7 +36,7 @@ pub(crate) fn module<'a>(alloc: Global, tokens: &[Token<'a>]) -> Result<Module<'
 /// `item* | [ann] "grammar" "{" item* "}" follow*`
 fn body<'a>(alloc: Global, tokens: &[Token<'a>], at: usize) -> Result<(Vec<Item<'a>>, usize), Fault>
     requires { at ≤ length tokens.now }
-    ensures inside { IfOk result (λ r. Passed at r.1 (length tokens.now)) }
+    ensures inside { MayGoOn at (length tokens.now) result }
     ensures reads { Reads IsBody (Starts is_end) (λ v. map item_view v.items) tokens.now at result }
 {
     if let Terminal::LeftBracket = next(tokens, at) {
@@ -56,7 +56,7 @@ fn annotated_body<'a>(
     at: usize,
 ) -> Result<(Vec<Item<'a>>, usize), Fault>
     requires { at ≤ length tokens.now }
-    ensures inside { IfOk result (λ r. Passed at r.1 (length tokens.now)) }
+    ensures inside { MayGoOn at (length tokens.now) result }
     ensures reads { Reads IsAnnotatedBody (Starts is_end)
         (λ v. map item_view v.items) tokens.now at result }
 {
@@ -73,7 +73,7 @@ fn grammar<'a>(
     at: usize,
 ) -> Result<(Vec<Item<'a>>, usize), Fault>
     requires { at ≤ length tokens.now }
-    ensures inside { IfOk result (λ r. Passed at r.1 (length tokens.now)) }
+    ensures inside { MayGoOn at (length tokens.now) result }
     ensures reads { Reads IsGrammarEnd (Starts is_end)
         (λ v. map item_view v.items) tokens.now at result }
 {
@@ -91,7 +91,7 @@ fn annotated_items<'a>(
     at: usize,
 ) -> Result<(Vec<Item<'a>>, usize), Fault>
     requires { at ≤ length tokens.now }
-    ensures inside { IfOk result (λ r. Passed at r.1 (length tokens.now)) }
+    ensures inside { MayGoOn at (length tokens.now) result }
     ensures reads { Reads AreAnnotatedItems (Starts is_end)
         (λ v. map item_view v.items) tokens.now at result }
 {

@@ -1,8 +1,8 @@
 // Name classes (compact syntax, section 2, nameClass).
-ghost use Rattle.std.specs.Prelude.{◌≡◌, ◌≤◌, ◌<◌, ◌+◌, ◌++◌, ◌∷◌, [], length, map, false, IfOk, IfSome, OnOk, MatchOption};
+ghost use Rattle.std.specs.Prelude.{◌≡◌, ◌≤◌, ◌<◌, ◌+◌, ◌++◌, ◌∷◌, [], length, map, false, IfSome, OnOk, MatchOption};
 ghost use Rattle.rn_syntax.specs.inside.Follow.{Starts, Anything, begins_any, behind_class, behind_name, first_terminal};
 ghost use Rattle.rn_syntax.specs.Grammar.{IsAnyName, IsClassCore, IsClassOperand, IsClassPrimary, IsNameClass};
-ghost use Rattle.rn_syntax.specs.inside.Reading.{Advanced, Passed, Makes, Reads, rest};
+ghost use Rattle.rn_syntax.specs.inside.Reading.{GoesOn, Makes, MayGoOn, Reads, rest};
 ghost use Rattle.rn_syntax.specs.inside.Sequence.{IsAnyClassEnd, IsClassEnd, IsHere};
 ghost use Rattle.rn_syntax.specs.Tree as tree;
 ghost use Rattle.rn_syntax.specs.View.{any_view, boxed_class_view, class_view, classes_view, name_view};
@@ -69,7 +69,7 @@ pub(crate) fn name_class<'a>(
     at: usize,
 ) -> Result<(Box<Nc<'a>>, usize), Fault>
     requires { at ≤ length tokens.now }
-    ensures inside { IfOk result (λ r. Advanced at r.1 (length tokens.now)) }
+    ensures inside { GoesOn at (length tokens.now) result }
     ensures reads { Reads IsNameClass (Starts behind_class) boxed_class_view tokens.now at result }
 {
     let (first, mut end) = class_operand(alloc, tokens, at)?;
@@ -113,7 +113,7 @@ fn any_class<'a>(
     any: AnyName<'a>,
 ) -> Result<(Box<Nc<'a>>, usize), Fault>
     requires { at ≤ length tokens.now }
-    ensures inside { IfOk result (λ r. Passed at r.1 (length tokens.now)) }
+    ensures inside { MayGoOn at (length tokens.now) result }
     ensures reads { Reads (IsAnyClassEnd (any_view any.entry))
         (Starts behind_name) boxed_class_view tokens.now at result }
 {
@@ -129,7 +129,7 @@ fn class_operand<'a>(
     at: usize,
 ) -> Result<(Box<Nc<'a>>, usize), Fault>
     requires { at ≤ length tokens.now }
-    ensures inside { IfOk result (λ r. Advanced at r.1 (length tokens.now)) }
+    ensures inside { GoesOn at (length tokens.now) result }
     ensures reads { Reads IsClassOperand
         (Starts behind_name) boxed_class_view tokens.now at result }
 {
@@ -152,7 +152,7 @@ fn class_primary<'a>(
     at: usize,
 ) -> Result<(Box<Nc<'a>>, usize), Fault>
     requires { at ≤ length tokens.now }
-    ensures inside { IfOk result (λ r. Advanced at r.1 (length tokens.now)) }
+    ensures inside { GoesOn at (length tokens.now) result }
     ensures reads { Reads IsClassPrimary
         (Starts behind_name) boxed_class_view tokens.now at result }
 {
@@ -172,7 +172,7 @@ fn class_end<'a>(
 ) -> Result<(Box<Nc<'a>>, usize), Fault>
     requires inside { at ≤ length tokens.now }
     requires none { begins_any (first_terminal (rest tokens.now at)) ≡ false }
-    ensures inside { IfOk result (λ r. Advanced at r.1 (length tokens.now)) }
+    ensures inside { GoesOn at (length tokens.now) result }
     ensures reads { Reads IsClassEnd (Starts behind_name) boxed_class_view tokens.now at result }
 {
     let (class, behind) = class_core(alloc, tokens, at)?;
@@ -189,7 +189,7 @@ fn class_core<'a>(
 ) -> Result<(Box<Nc<'a>>, usize), Fault>
     requires inside { at ≤ length tokens.now }
     requires none { begins_any (first_terminal (rest tokens.now at)) ≡ false }
-    ensures inside { IfOk result (λ r. Advanced at r.1 (length tokens.now)) }
+    ensures inside { GoesOn at (length tokens.now) result }
     ensures reads { Reads IsClassCore Anything boxed_class_view tokens.now at result }
 {
     match next(tokens, at) {

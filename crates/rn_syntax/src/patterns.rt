@@ -1,9 +1,9 @@
 // Patterns (compact syntax, section 2, pattern).
-ghost use Rattle.std.specs.Prelude.{◌≡◌, ◌≤◌, ◌<◌, false, length, IfOk, IsTrue};
+ghost use Rattle.std.specs.Prelude.{◌≡◌, ◌≤◌, ◌<◌, false, length, IsTrue};
 ghost use Rattle.rn_syntax.specs.inside.Follow.{Anything, Starts, begins_datatype, behind_core, behind_operand, behind_pattern, behind_primary, first_terminal};
 ghost use Rattle.rn_syntax.specs.Grammar.{IsCore, IsOperand, IsPattern, IsPrimary};
 ghost use Rattle.rn_syntax.specs.inside.Parts.{BehindCore, BehindDatatype, BehindParams, BehindPrimary, IsDataEnd, IsTypedValue, IsBraced, IsNamed};
-ghost use Rattle.rn_syntax.specs.inside.Reading.{Passed, Advanced, Reads, rest};
+ghost use Rattle.rn_syntax.specs.inside.Reading.{GoesOn, MayGoOn, Reads, rest};
 ghost use Rattle.rn_syntax.specs.Terminal as terminal;
 ghost use Rattle.rn_syntax.specs.Tree as tree;
 ghost use Rattle.rn_syntax.specs.View.{boxed_class_view, boxed_view, datatype_view, params_view};
@@ -30,7 +30,7 @@ pub(crate) fn pattern<'a>(
     at: usize,
 ) -> Result<(Box<Pat<'a>>, usize), Fault>
     requires { at ≤ length tokens.now }
-    ensures inside { IfOk result (λ r. Advanced at r.1 (length tokens.now)) }
+    ensures inside { GoesOn at (length tokens.now) result }
     ensures reads { Reads IsPattern (Starts behind_pattern) boxed_view tokens.now at result }
 {
     let (first, mut end) = operand(alloc, tokens, at)?;
@@ -55,7 +55,7 @@ fn operand<'a>(
     at: usize,
 ) -> Result<(Box<Pat<'a>>, usize), Fault>
     requires { at ≤ length tokens.now }
-    ensures inside { IfOk result (λ r. Advanced at r.1 (length tokens.now)) }
+    ensures inside { GoesOn at (length tokens.now) result }
     ensures reads { Reads IsOperand (Starts behind_operand) boxed_view tokens.now at result }
 {
     let body = skip_annotation(tokens, at)?;
@@ -74,7 +74,7 @@ fn behind_core<'a>(
     core: Box<Pat<'a>>,
 ) -> Result<(Box<Pat<'a>>, usize), Fault>
     requires { at ≤ length tokens.now }
-    ensures inside { IfOk result (λ r. Passed at r.1 (length tokens.now)) }
+    ensures inside { MayGoOn at (length tokens.now) result }
     ensures reads { Reads (BehindCore (boxed_view core.entry))
         (Starts behind_operand) boxed_view tokens.now at result }
 {
@@ -90,7 +90,7 @@ fn behind_primary<'a>(
     primary: Box<Pat<'a>>,
 ) -> Result<(Box<Pat<'a>>, usize), Fault>
     requires { at ≤ length tokens.now }
-    ensures inside { IfOk result (λ r. Passed at r.1 (length tokens.now)) }
+    ensures inside { MayGoOn at (length tokens.now) result }
     ensures reads { Reads (BehindPrimary (boxed_view primary.entry))
         (Starts behind_operand) boxed_view tokens.now at result }
 {
@@ -110,7 +110,7 @@ fn behind_datatype<'a>(
     datatype: Datatype<'a>,
 ) -> Result<(Box<Pat<'a>>, usize), Fault>
     requires { at ≤ length tokens.now }
-    ensures inside { IfOk result (λ r. Passed at r.1 (length tokens.now)) }
+    ensures inside { MayGoOn at (length tokens.now) result }
     ensures reads { Reads (BehindDatatype (datatype_view datatype.entry))
         (Starts behind_operand) boxed_view tokens.now at result }
 {
@@ -132,7 +132,7 @@ fn behind_params<'a>(
     params: Vec<Param<'a>>,
 ) -> Result<(Box<Pat<'a>>, usize), Fault>
     requires { at ≤ length tokens.now }
-    ensures inside { IfOk result (λ r. Passed at r.1 (length tokens.now)) }
+    ensures inside { MayGoOn at (length tokens.now) result }
     ensures reads { Reads (BehindParams (datatype_view datatype.entry)
         (params_view params.entry.items)) (Starts behind_operand) boxed_view tokens.now at result }
 {
@@ -152,7 +152,7 @@ fn primary<'a>(
     at: usize,
 ) -> Result<(Box<Pat<'a>>, usize), Fault>
     requires { at ≤ length tokens.now }
-    ensures inside { IfOk result (λ r. Advanced at r.1 (length tokens.now)) }
+    ensures inside { GoesOn at (length tokens.now) result }
     ensures reads { Reads IsPrimary (Starts behind_primary) boxed_view tokens.now at result }
 {
     let body = skip_annotation(tokens, at)?;
@@ -168,7 +168,7 @@ fn typed_value<'a>(
     datatype: Datatype<'a>,
 ) -> Result<(Box<Pat<'a>>, usize), Fault>
     requires { at ≤ length tokens.now }
-    ensures inside { IfOk result (λ r. Advanced at r.1 (length tokens.now)) }
+    ensures inside { GoesOn at (length tokens.now) result }
     ensures reads { Reads (IsTypedValue (datatype_view datatype.entry))
         (Starts behind_core) boxed_view tokens.now at result }
 {
@@ -184,7 +184,7 @@ fn data<'a>(
     datatype: Datatype<'a>,
 ) -> Result<(Box<Pat<'a>>, usize), Fault>
     requires { at ≤ length tokens.now }
-    ensures inside { IfOk result (λ r. Passed at r.1 (length tokens.now)) }
+    ensures inside { MayGoOn at (length tokens.now) result }
     ensures reads { Reads (IsDataEnd (datatype_view datatype.entry))
         (Starts behind_core) boxed_view tokens.now at result }
 {
@@ -199,7 +199,7 @@ fn data<'a>(
 #[cycle(pattern)]
 fn core<'a>(alloc: Global, tokens: &[Token<'a>], at: usize) -> Result<(Box<Pat<'a>>, usize), Fault>
     requires { at ≤ length tokens.now }
-    ensures inside { IfOk result (λ r. Advanced at r.1 (length tokens.now)) }
+    ensures inside { GoesOn at (length tokens.now) result }
     ensures reads { Reads IsCore (Starts behind_core) boxed_view tokens.now at result }
 {
     match datatype(tokens, at) {
@@ -217,7 +217,7 @@ fn untyped_core<'a>(
 ) -> Result<(Box<Pat<'a>>, usize), Fault>
     requires inside { at ≤ length tokens.now }
     requires untyped { begins_datatype (first_terminal (rest tokens.now at)) ≡ false }
-    ensures inside { IfOk result (λ r. Advanced at r.1 (length tokens.now)) }
+    ensures inside { GoesOn at (length tokens.now) result }
     ensures reads { Reads IsCore (Starts behind_core) boxed_view tokens.now at result }
 {
     match next(tokens, at) {
@@ -246,7 +246,7 @@ fn keyword_core<'a>(
     requires inside { at < length tokens.now }
     requires here { first_terminal (rest tokens.now at) ≡ terminal.keyword keyword }
     requires untyped { begins_datatype (first_terminal (rest tokens.now at)) ≡ false }
-    ensures inside { IfOk result (λ r. Advanced at r.1 (length tokens.now)) }
+    ensures inside { GoesOn at (length tokens.now) result }
     ensures reads { Reads IsCore (Starts behind_core) boxed_view tokens.now at result }
 {
     match keyword {
@@ -281,7 +281,7 @@ fn named<'a>(
     at: usize,
 ) -> Result<((Box<Nc<'a>>, Box<Pat<'a>>), usize), Fault>
     requires { at ≤ length tokens.now }
-    ensures inside { IfOk result (λ r. Advanced at r.1 (length tokens.now)) }
+    ensures inside { GoesOn at (length tokens.now) result }
     ensures reads { Reads IsNamed Anything
         (λ r. (boxed_class_view r.0, boxed_view r.1)) tokens.now at result }
 {
@@ -298,7 +298,7 @@ fn braced<'a>(
     at: usize,
 ) -> Result<(Box<Pat<'a>>, usize), Fault>
     requires { at ≤ length tokens.now }
-    ensures inside { IfOk result (λ r. Advanced at r.1 (length tokens.now)) }
+    ensures inside { GoesOn at (length tokens.now) result }
     ensures reads { Reads IsBraced Anything boxed_view tokens.now at result }
 {
     let inside = left_brace(tokens, at)?;

@@ -6,8 +6,8 @@ ghost use Rattle.rn_text.specs.Characters.{is_name_char};
 ghost use Rattle.rn_text.specs.Keywords.{spelling};
 ghost use Rattle.rn_text.specs.Segments.{run_of, after_run};
 ghost use Rattle.rn_syntax.specs.inside.Follow.{Anything, first_terminal};
-ghost use Rattle.rn_syntax.specs.inside.Reading.{IsInside, IsNext, IsSegmentOf, IsWhole, Advanced, Passes, ReadsOne, rest, seen};
-ghost use Rattle.rn_syntax.specs.Spelled.{AreSpelled, IsPlace, SpellsItsKind};
+ghost use Rattle.rn_syntax.specs.inside.Reading.{GoesPast, IsInside, IsNext, IsSegmentOf, IsWhole, Passes, ReadsOne, rest, seen};
+ghost use Rattle.rn_syntax.specs.Spelled.{AreSpelled, BeginAt, SpellsItsKind};
 ghost use Rattle.rn_syntax.specs.inside.Sequence.{IsOf, IsWordAt, IsAssign};
 ghost use Rattle.rn_syntax.specs.declared.token.Method.TheVariants as method;
 ghost use Rattle.rn_syntax.specs.Terminal as terminal;
@@ -164,7 +164,7 @@ pub(crate) fn next<'a>(tokens: &[Token<'a>], at: usize) -> Terminal<'a>
 
 /// The byte at which a token begins; at the end, that at which the last one ends.
 pub(crate) fn place(tokens: &[Token<'_>], at: usize) -> usize
-    ensures { IsPlace tokens.now (rest tokens.now at) result }
+    ensures { BeginAt tokens.now (rest tokens.now at) result }
 {
     if at < tokens.len() {
         return tokens[at].start;
@@ -228,7 +228,7 @@ pub(crate) fn is_operator(tokens: &[Token<'_>], at: usize, wanted: Operator) -> 
 /// What stands behind `=`.
 pub(crate) fn equals(tokens: &[Token<'_>], at: usize) -> Result<usize, Fault>
     requires { at ≤ length tokens.now }
-    ensures inside { IfOk result (λ behind. Advanced at behind (length tokens.now)) }
+    ensures inside { GoesPast at (length tokens.now) result }
     ensures passes { Passes (terminal.assign method.Plain) tokens.now at result }
 {
     match next(tokens, at) {
@@ -254,7 +254,7 @@ pub(crate) fn assign(tokens: &[Token<'_>], at: usize) -> Result<Method, Fault>
 /// What stands behind `{`.
 pub(crate) fn left_brace(tokens: &[Token<'_>], at: usize) -> Result<usize, Fault>
     requires { at ≤ length tokens.now }
-    ensures inside { IfOk result (λ behind. Advanced at behind (length tokens.now)) }
+    ensures inside { GoesPast at (length tokens.now) result }
     ensures passes { Passes terminal.left_brace tokens.now at result }
 {
     match next(tokens, at) {
@@ -266,7 +266,7 @@ pub(crate) fn left_brace(tokens: &[Token<'_>], at: usize) -> Result<usize, Fault
 /// What stands behind `}`.
 pub(crate) fn right_brace(tokens: &[Token<'_>], at: usize) -> Result<usize, Fault>
     requires { at ≤ length tokens.now }
-    ensures inside { IfOk result (λ behind. Advanced at behind (length tokens.now)) }
+    ensures inside { GoesPast at (length tokens.now) result }
     ensures passes { Passes terminal.right_brace tokens.now at result }
 {
     match next(tokens, at) {
@@ -278,7 +278,7 @@ pub(crate) fn right_brace(tokens: &[Token<'_>], at: usize) -> Result<usize, Faul
 /// What stands behind `)`.
 pub(crate) fn right_paren(tokens: &[Token<'_>], at: usize) -> Result<usize, Fault>
     requires { at ≤ length tokens.now }
-    ensures inside { IfOk result (λ behind. Advanced at behind (length tokens.now)) }
+    ensures inside { GoesPast at (length tokens.now) result }
     ensures passes { Passes terminal.right_paren tokens.now at result }
 {
     match next(tokens, at) {

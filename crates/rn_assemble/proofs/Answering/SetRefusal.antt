@@ -4,7 +4,7 @@ use Rattle.std.specs.Prelude.{MatchOption, Option, Some, None}
 use Rattle.rn_pattern.specs.Matching.{Grammar}
 use Rattle.rn_modset.specs.Contributions.{Member}
 use Rattle.rn_modset.specs.Modules.{Module}
-use Rattle.rn_syntax.proofs.OneTree.{one_tree}
+use Rattle.rn_syntax.proofs.OneReading.OneTree.{one_tree}
 use Rattle.rn_assemble.specs.declared.refusal.Refusal as code
 use Rattle.rn_assemble.specs.declared.refusal.Refusal.TheVariants as r
 use Rattle.rn_assemble.specs.inside.Checked.{IsGrammarOf}

@@ -17,9 +17,9 @@ use Rattle.rn_syntax.specs.Tokens.{terminals}
 use Rattle.rn_syntax.specs.Fault.{HasTree, IsRefused, Stops}
 use Rattle.rn_syntax.specs.Faults.{kind_rank, kind_places, kind_and_place, HasNoFault, IsFirstOfKinds, IsFault}
 use Rattle.rn_syntax.specs.Places.{deep, first}
-use Rattle.rn_syntax.proofs.FaultKinds as of_kinds
-use Rattle.rn_syntax.proofs.OneTree.{one_tree}
-use Rattle.rn_syntax.proofs.SourceTokens.{tokens_are_spelled}
+use Rattle.rn_syntax.proofs.FaultPlaces.FaultKinds as of_kinds
+use Rattle.rn_syntax.proofs.OneReading.OneTree.{one_tree}
+use Rattle.rn_syntax.proofs.TokenKinds.SourceTokens.{tokens_are_spelled}
 use Rattle.rn_assemble.specs.declared.refusal.Refusal as code
 use Rattle.rn_assemble.specs.declared.refusal.Refusal.TheVariants as r
 use Rattle.rn_assemble.specs.Refusal.{faulty, HasTextFault, IsFirstFault, IsModuleOf, TokensAre}

@@ -23,7 +23,7 @@ use Rattle.rn_syntax.specs.Terminal as t
 use Rattle.rn_syntax.specs.Terminal.{Terminal, Placed, ◌#◌}
 use Rattle.rn_syntax.specs.Grammar.{Tokens}
 use Rattle.rn_syntax.specs.Tokens.{spelled_in, keyword_row, keyword_rows, symbol_rows, terminal_of, terminals}
-use Rattle.rn_syntax.proofs.Terms.{before, terms, terms-are, scalars_of}
+use Rattle.rn_syntax.proofs.TokenKinds.PieceTokens.{before, terms, terms-are, scalars_of}
 use Rattle.rn_assemble.specs.Texts.{IsName, IsXml}
 
 -- ---- names and texts in bytes

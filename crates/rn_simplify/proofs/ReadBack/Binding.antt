@@ -14,7 +14,7 @@ use Rattle.rn_pattern.specs.Matching.{Grammar}
 use Rattle.rn_syntax.specs.Tree as s
 use Rattle.rn_syntax.specs.Tree.{Declaration}
 use Rattle.rn_syntax.specs.Places.{xml_uri, xsd_uri, declarations_places, declared_namespace, declared_library}
-use Rattle.rn_syntax.proofs.Terms.{ascii, behind}
+use Rattle.rn_syntax.proofs.TokenKinds.PieceTokens.{ascii, behind}
 use Rattle.rn_assemble.specs.Resolve.{declared_text}
 use Rattle.std.specs.declared.cmp.Ordering.TheVariants.{Less}
 use Rattle.rn_simplify.specs.Spelling.{Prefixes, prefixes, place, namespace_prefix, library_prefix, namespace_entries, library_entries, has_wide_empty, name_uris, mentions, grammar_mentions, bindings, default_line}

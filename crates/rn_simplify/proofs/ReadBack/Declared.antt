@@ -11,7 +11,7 @@ use Rattle.rn_syntax.specs.Tree.{Declaration, Uri}
 use Rattle.rn_syntax.specs.Places.{declared_namespace, declared_library, declarations_places, place_if, is_wrong_namespace, is_wrong_library, is_xml_uri, xsd_uri}
 use Rattle.rn_simplify.specs.Spelling.{binding}
 use Rattle.rn_simplify.proofs.ReadBack.Lines.{namespaces_from, libraries_from, prefix_at}
-use Rattle.rn_syntax.proofs.Terms.{behind}
+use Rattle.rn_syntax.proofs.TokenKinds.PieceTokens.{behind}
 use Rattle.rn_assemble.proofs.Combined.Joined.{mapped, zipped}
 
 abbrev pub Entry : Type 0

@@ -17,7 +17,7 @@ use Rattle.rn_syntax.specs.declared.token.Operator.{Operator}
 use Rattle.rn_syntax.specs.declared.token.Operator.TheVariants as o
 use Rattle.rn_syntax.specs.declared.token.Postfix.{Postfix}
 use Rattle.rn_syntax.specs.declared.token.Postfix.TheVariants as pf
-use Rattle.rn_syntax.proofs.Terms.{terms, behind, terms-append}
+use Rattle.rn_syntax.proofs.TokenKinds.PieceTokens.{terms, behind, terms-append}
 use Rattle.rn_simplify.specs.Spelling.{space, symbol, keyword, infix_of, comma, parenthesized}
 use Rattle.rn_simplify.proofs.ReadBack.Words.{Reads, space_breaks, bar_free, ampersand_free, comma_free}
 

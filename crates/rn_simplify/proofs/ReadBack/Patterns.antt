@@ -21,8 +21,8 @@ use Rattle.rn_syntax.specs.Tokens.{symbol_rows, keyword_rows}
 use Rattle.rn_syntax.specs.declared.token.Operator.{Operator}
 use Rattle.rn_syntax.specs.declared.token.Operator.TheVariants as o
 use Rattle.rn_syntax.specs.declared.token.Postfix.TheVariants as pf
-use Rattle.rn_syntax.proofs.Terms.{before, terms, behind, terms-append}
-use Rattle.rn_syntax.proofs.EmptyLists.{both_nil}
+use Rattle.rn_syntax.proofs.TokenKinds.PieceTokens.{before, terms, behind, terms-append}
+use Rattle.rn_syntax.proofs.Basics.EmptyLists.{both_nil}
 use Rattle.rn_assemble.specs.Resolve.{default_of, resolved_class}
 use Rattle.rn_simplify.specs.Spelling.{space, symbol, keyword, type_piece, infix_of, comma, literal, Prefixes, closed, postfixed, chained, Written, written, operand, primary, parenthesized, braced, chain, optional_one, optional, chain_or_one, written_choice, written_interleave, written_name, datum_pieces, value_pieces, written_tree, written_trees}
 use Rattle.rn_simplify.specs.Printable as w

@@ -19,7 +19,7 @@ use Rattle.rn_syntax.specs.Places.{place_if, xsd_uri, unbound_type, wrong_builti
 use Rattle.rn_syntax.specs.Tokens.{symbol_rows, keyword_rows}
 use Rattle.rn_syntax.specs.declared.token.Method.TheVariants as m
 use Rattle.rn_text.specs.declared.keywords.Keyword.TheVariants as k
-use Rattle.rn_syntax.proofs.Terms.{before, terms, behind, terms-append, prefixed_term}
+use Rattle.rn_syntax.proofs.TokenKinds.PieceTokens.{before, terms, behind, terms-append, prefixed_term}
 use Rattle.rn_assemble.specs.Resolve.{type_library, type_name}
 use Rattle.rn_simplify.specs.Spelling.{space, symbol, word, literal, braced, Prefixes, library_prefix, type_piece, params_pieces, datum_pieces}
 use Rattle.rn_assemble.specs.Texts.{IsName, AreParams, IsType, string_type, token_type, library_type, IsData, bare, with_params, needs_context}

@@ -17,8 +17,8 @@ use Rattle.rn_syntax.specs.Tree.{Declaration, Module, items_of}
 use Rattle.rn_syntax.specs.Grammar as g
 use Rattle.rn_syntax.specs.Grammar.{Tokens, IsModule}
 use Rattle.rn_syntax.specs.Places.{declarations_places}
-use Rattle.rn_syntax.proofs.Terms.{terms, behind, terms-append, terms-are, scalars_of}
-use Rattle.rn_syntax.proofs.EmptyLists.{both_nil}
+use Rattle.rn_syntax.proofs.TokenKinds.PieceTokens.{terms, behind, terms-append, terms-are, scalars_of}
+use Rattle.rn_syntax.proofs.Basics.EmptyLists.{both_nil}
 use Rattle.rn_assemble.specs.Combine.{joined_grammar, plain_start, plain_definition, components_of, AreDistinct}
 use Rattle.rn_assemble.specs.Resolve.{default_of}
 use Rattle.rn_simplify.specs.Spelling.{keyword, Prefixes, prefixes, namespace_entries, library_entries, bindings, default_line, definition_line, definition_lines, spelled, spelling}

@@ -12,8 +12,8 @@ use Rattle.rn_syntax.specs.Grammar.{Tokens, IsPattern, AreMore, IsOperand}
 use Rattle.rn_syntax.specs.inside.Follow.{Starts, first_terminal, behind_operand, behind_pattern}
 use Rattle.rn_syntax.specs.inside.Sequence.{Then, both}
 use Rattle.rn_syntax.specs.inside.Reading.{Took, Stuck, seen, IsNext}
-use Rattle.rn_syntax.proofs.OneClass.{starts_to, tail}
-use Rattle.rn_syntax.proofs.OnePattern.{to_operand, more_front, more_op, same_op}
+use Rattle.rn_syntax.proofs.OneReading.OneClass.{starts_to, tail}
+use Rattle.rn_syntax.proofs.OneReading.OnePattern.{to_operand, more_front, more_op, same_op}
 use Rattle.rn_syntax.proofs.readings.Compose.{Upto, Fits, upto_at, upto_then, took_upto, stuck_upto, reads, stuck_in, first_alike}
 use Rattle.rn_syntax.proofs.readings.Repeating.{Whole}
 use Rattle.rn_syntax.proofs.readings.Chaining.{Rest, none, some, Chained, alone, many, IsChain, So_far}

@@ -17,9 +17,9 @@ use Rattle.rn_syntax.specs.inside.Follow.{Starts, Anything, first_terminal, no_t
 use Rattle.rn_syntax.specs.inside.Sequence.{Then, both, Gives, gives, IsToken, token, IsOf, of, IsHere, IsWordAt, word_at, IsPrefixAt, prefix_at}
 use Rattle.rn_syntax.specs.inside.Declaring.{IsUriEnd, IsNamespaceEnd, IsDatatypesEnd, MayHaveDefaultPrefix, no_prefix, prefix, IsDefaultEnd}
 use Rattle.rn_syntax.specs.inside.Reading.{Took, Stuck, seen, IsNext, rest}
-use Rattle.rn_syntax.specs.Spelled.{IsPlace}
-use Rattle.rn_syntax.proofs.OneClass.{word_one, starts_to}
-use Rattle.rn_syntax.proofs.OneTree.{declarations_tilde, item_to_tilde}
+use Rattle.rn_syntax.specs.Spelled.{BeginAt}
+use Rattle.rn_syntax.proofs.OneReading.OneClass.{word_one, starts_to}
+use Rattle.rn_syntax.proofs.OneReading.OneTree.{declarations_tilde, item_to_tilde}
 use Rattle.rn_syntax.proofs.readings.Compose.{Upto, Fits, Can, CanBe, upto_at, upto_token, upto_then, took_upto, stuck_upto, reads, stuck_in, took_gives, first_alike, stuck_here, fits_anything, fits_token, fits_gives, can_gives, can_token, of_took}
 use Rattle.rn_syntax.proofs.readings.Repeating.{Whole, behind_start, part_read, part_stuck, parts_took}
 use Rattle.rn_syntax.proofs.readings.Next.{first_next, place_is}
@@ -36,11 +36,11 @@ of_here {P = P} {ts = ts} {rest = rest} {a = a} k = go (subst (λ (l : Tokens). 
 prefix_one : {x : Terminal} {n : List ℕ} {i : ℕ} {p : List ℕ × ℕ} → IsWord x n → IsPrefixAt (x # i) p → p ≡ (n, i)
 prefix_one {i = i} w (prefix_at v) = ap (λ (l : List ℕ). (l, i)) (word_one v w)
 
-prefix_from : (xs : List Token) {y : Placed} {ts next : Tokens} {n : List ℕ} {j : ℕ} → IsWordAt y n → ts ≡ y ∷ next → IsPlace xs ts j → Took (IsOf IsPrefixAt) Anything ts (n, j) next
+prefix_from : (xs : List Token) {y : Placed} {ts next : Tokens} {n : List ℕ} {j : ℕ} → IsWordAt y n → ts ≡ y ∷ next → BeginAt xs ts j → Took (IsOf IsPrefixAt) Anything ts (n, j) next
 prefix_from xs {ts = ts} {next = next} {n = n} (word_at {i = i} w) e p =
     subst (λ (l : ℕ). Took (IsOf IsPrefixAt) Anything ts (n, l) next) (sym (place_is xs e p)) (of_took (λ b q. prefix_one w q) e (prefix_at w))
 
-pub prefix_took : (xs : List Token) {ts next : Tokens} {n : List ℕ} {j : ℕ} → Took (IsOf IsWordAt) Anything ts n next → IsPlace xs ts j → Took (IsOf IsPrefixAt) Anything ts (n, j) next
+pub prefix_took : (xs : List Token) {ts next : Tokens} {n : List ℕ} {j : ℕ} → Took (IsOf IsWordAt) Anything ts n next → BeginAt xs ts j → Took (IsOf IsPrefixAt) Anything ts (n, j) next
 prefix_took xs k p = let h = of_here k in prefix_from xs h.holds h.here p
 
 to_word : {t r : Tokens} {p : List ℕ × ℕ} → IsOf IsPrefixAt t p r → (n : List ℕ) × IsOf IsWordAt t n r

@@ -14,14 +14,14 @@ use Rattle.rn_syntax.specs.Terminal.{Terminal, Placed, ◌#◌}
 use Rattle.rn_syntax.specs.Grammar.{Tokens, IsWord, by_name, by_keyword}
 use Rattle.rn_syntax.specs.Tokens.{placed, terminal_of}
 use Rattle.rn_syntax.specs.inside.Reading.{seen, rest, IsInside, IsSegmentOf, IsNext}
-use Rattle.rn_syntax.specs.Spelled.{IsPlace, last_end}
+use Rattle.rn_syntax.specs.Spelled.{BeginAt, last_end}
 use Rattle.rn_syntax.specs.declared.token.Method.TheVariants as m
 use Rattle.rn_syntax.specs.inside.Follow.{first_terminal, is_end, Anything}
 use Rattle.rn_syntax.specs.declared.token.Method.{Method}
 use Rattle.rn_syntax.specs.inside.Sequence.{IsToken, IsOf, of, IsWordAt, word_at, IsAssign, by_method}
 use Rattle.rn_syntax.specs.inside.Reading.{Stuck}
 use Rattle.rn_syntax.specs.Spelled.{AreSpelled, SpellsItsKind}
-use Rattle.rn_syntax.proofs.OneClass.{word_one}
+use Rattle.rn_syntax.proofs.OneReading.OneClass.{word_one}
 use Rattle.rn_syntax.proofs.readings.Compose.{can_token, first_alike, token_first, stuck_here}
 
 pub rest_cons : (xs : List Token) (at : ℕ) (d : Token) → at < length xs → rest xs at ≡ placed (lexeme_of (get_or xs at d)) ∷ rest xs (at + 1)
@@ -54,11 +54,11 @@ inside_of c.End h at len e = absurd (h refl)
 inside_of x h at len e = e
 
 -- places
-pub place_at : (xs : List Token) (at : ℕ) (d : Token) → at < length xs → IsPlace xs (rest xs at) (get_or xs at d).start
-place_at xs at d h = subst (λ (ts : Tokens). IsPlace xs ts (get_or xs at d).start) (sym (rest_cons xs at d h)) refl
+pub place_at : (xs : List Token) (at : ℕ) (d : Token) → at < length xs → BeginAt xs (rest xs at) (get_or xs at d).start
+place_at xs at d h = subst (λ (ts : Tokens). BeginAt xs ts (get_or xs at d).start) (sym (rest_cons xs at d h)) refl
 
-pub place_past : (xs : List Token) (at i : ℕ) → length xs ≤ at → i ≡ last_end xs → IsPlace xs (rest xs at) i
-place_past xs at i h e = subst (λ (ts : Tokens). IsPlace xs ts i) (sym (rest_past xs at h)) e
+pub place_past : (xs : List Token) (at i : ℕ) → length xs ≤ at → i ≡ last_end xs → BeginAt xs (rest xs at) i
+place_past xs at i h e = subst (λ (ts : Tokens). BeginAt xs ts i) (sym (rest_past xs at h)) e
 
 pub last_get : (xs : List Token) (x : Token) → Some x ≡ slice_get xs (length xs - 1) → x.end ≡ last_end xs
 last_get [] x e = cc
@@ -178,8 +178,8 @@ brace_at xs at h e =
     let same : n.0 ≡ t.right_brace = brace_is n.0 (sym (ap (λ (l : Tokens). is_end (first_terminal l)) n.2) ∙ e) in
     (n.1, n.2 ∙ ap (λ (y : Terminal). y # n.1 ∷ rest xs (at + 1)) same)
 
-pub place_is : (xs : List Token) {ts next : Tokens} {x : Terminal} {i j : ℕ} → ts ≡ x # i ∷ next → IsPlace xs ts j → j ≡ i
-place_is xs {j = j} e h = subst (λ (l : Tokens). IsPlace xs l j) e h
+pub place_is : (xs : List Token) {ts next : Tokens} {x : Terminal} {i j : ℕ} → ts ≡ x # i ∷ next → BeginAt xs ts j → j ≡ i
+place_is xs {j = j} e h = subst (λ (l : Tokens). BeginAt xs l j) e h
 
 -- this terminal, where it is the first
 pub terminal_at : (xs : List Token) (at : ℕ) (y : Terminal) → at < length xs → first_terminal (rest xs at) ≡ y → (i : ℕ) × (rest xs at ≡ y # i ∷ rest xs (at + 1))

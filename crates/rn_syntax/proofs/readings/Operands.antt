@@ -15,8 +15,8 @@ use Rattle.rn_syntax.specs.inside.Sequence.{Then, both, Gives, gives}
 use Rattle.rn_syntax.specs.inside.Parts as part
 use Rattle.rn_syntax.specs.inside.Parts.{BehindCore, BehindPrimary, IsTypedValue, IsDataEnd, BehindDatatype, BehindParams}
 use Rattle.rn_syntax.specs.inside.Reading.{Took, Stuck, Bare, seen, IsNext, rest}
-use Rattle.rn_syntax.proofs.OneClass.{starts_to, minus_stays}
-use Rattle.rn_syntax.proofs.OnePattern.{to_primary, primary_to_follow, core_to_tilde, core_to_brace, follows_core}
+use Rattle.rn_syntax.proofs.OneReading.OneClass.{starts_to, minus_stays}
+use Rattle.rn_syntax.proofs.OneReading.OnePattern.{to_primary, primary_to_follow, core_to_tilde, core_to_brace, follows_core}
 use Rattle.rn_syntax.proofs.readings.Compose.{Upto, Fits, Can, upto_at, upto_token, upto_then, took_upto, stuck_upto, reads, stuck_in, took_gives, first_alike, alike_token}
 use Rattle.rn_syntax.proofs.readings.Next.{first_next}
 

@@ -12,7 +12,7 @@ use Rattle.rn_syntax.specs.Grammar.{Tokens, MayHaveAnnotation, IsLiteral, IsData
 use Rattle.rn_syntax.specs.inside.Follow.{Starts, Anything, first_terminal, is_end, no_bracket, no_tilde, no_brace}
 use Rattle.rn_syntax.specs.inside.Sequence.{Then, both, Gives, gives, IsToken, token, IsOf, of, IsWordAt, word_at, IsHere, IsParam}
 use Rattle.rn_syntax.specs.inside.Reading.{Took, Stuck, Bare, seen, IsNext}
-use Rattle.rn_syntax.proofs.OneClass.{params_no_tilde, param_front, word_no_bracket}
+use Rattle.rn_syntax.proofs.OneReading.OneClass.{params_no_tilde, param_front, word_no_bracket}
 use Rattle.rn_syntax.proofs.readings.Compose.{Upto, Fits, Can, CanBe, upto_at, upto_token, upto_then, took_upto, reads, stuck_in, took_gives, can_then, first_alike, fits_anything}
 use Rattle.rn_syntax.proofs.readings.Repeating.{Whole, behind_start, part_read, part_stuck, parts_took}
 use Rattle.rn_syntax.proofs.readings.Next.{first_next}

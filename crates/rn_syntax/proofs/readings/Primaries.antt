@@ -11,8 +11,8 @@ use Rattle.rn_syntax.specs.inside.Sequence.{Then, both, Gives, gives, IsHere}
 use Rattle.rn_syntax.specs.inside.Parts as part
 use Rattle.rn_syntax.specs.inside.Parts.{BehindCore, BehindPrimary, IsDataEnd, BehindDatatype}
 use Rattle.rn_syntax.specs.inside.Reading.{Took, Stuck, Bare}
-use Rattle.rn_syntax.proofs.OneClass.{datatype_one}
-use Rattle.rn_syntax.proofs.OnePattern.{core_front, datatype_front, follows_core}
+use Rattle.rn_syntax.proofs.OneReading.OneClass.{datatype_one}
+use Rattle.rn_syntax.proofs.OneReading.OnePattern.{core_front, datatype_front, follows_core}
 use Rattle.rn_syntax.proofs.readings.Compose.{Upto, Fits, Can, CanBe, upto_at, upto_token, upto_then, took_upto, stuck_upto, reads, stuck_in, took_gives, first_alike, can_then}
 use Rattle.rn_syntax.proofs.readings.Operands.{Follows, fits_given, can_given, fits_ends, can_ends, primary_follow}
 

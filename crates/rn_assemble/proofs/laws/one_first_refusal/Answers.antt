@@ -1,6 +1,6 @@
 use Rattle.rn_assemble.proofs.Refusals.OneRefusal.{one_first}
 use Rattle.rn_assemble.proofs.Refusals.OneSet.{first_of_set, one_assembled}
-use Rattle.rn_syntax.proofs.OneTree.{one_tree}
+use Rattle.rn_syntax.proofs.OneReading.OneTree.{one_tree}
 use Rattle.rn_assemble.proofs.laws.one_first_refusal.Goals as goal
 
 pub returns-clause-of_modules : goal.returns-clause-of_modules

@@ -3,7 +3,7 @@ use Rattle.std.specs.Str.{IsUtf8, chars}
 use Rattle.rn_text.specs.Tokens.{HasTokens, lexeme_of}
 use Rattle.rn_text.specs.declared.source.Token.{Token}
 use Rattle.rn_syntax.specs.View.{module_view}
-use Rattle.rn_syntax.proofs.SourceTokens.{tokens_are_spelled}
+use Rattle.rn_syntax.proofs.TokenKinds.SourceTokens.{tokens_are_spelled}
 use Rattle.rn_assemble.proofs.Refusals.TextFaults.{faultless}
 use Rattle.rn_assemble.proofs.modules.read.Goals as goal
 

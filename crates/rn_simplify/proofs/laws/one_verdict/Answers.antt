@@ -1,4 +1,4 @@
-use Rattle.rn_syntax.proofs.OneTree.{one_tree}
+use Rattle.rn_syntax.proofs.OneReading.OneTree.{one_tree}
 use Rattle.rn_simplify.proofs.OneVerdict.{one_verdict}
 use Rattle.rn_simplify.proofs.laws.one_verdict.Goals as goal
 

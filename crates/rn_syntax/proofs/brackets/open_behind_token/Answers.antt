@@ -3,8 +3,8 @@ use Rattle.std.proofs.Common.{◌≡◌, ap, sym, ◌∙◌, Some}
 use Rattle.std.specs.Str.{chars}
 use Rattle.rn_syntax.specs.inside.Reading.{seen}
 use Rattle.rn_syntax.specs.Tokens.{terminal_of, symbol_rows}
-use Rattle.rn_syntax.proofs.Spelled.{spelled_chars}
-use Rattle.rn_syntax.proofs.OpenBrackets.{other_deep, symbols_plain}
+use Rattle.rn_syntax.proofs.TokenKinds.KeywordsAndSymbols.{spelled_chars}
+use Rattle.rn_syntax.proofs.FaultPlaces.OpenBrackets.{other_deep, symbols_plain}
 use Rattle.rn_syntax.proofs.brackets.open_behind_token.Goals as goal
 
 pub returns-in-Symbol-clause-step : goal.returns-in-Symbol-clause-step

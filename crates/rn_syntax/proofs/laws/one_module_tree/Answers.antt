@@ -1,4 +1,4 @@
-use Rattle.rn_syntax.proofs.OneTree.{one_tree}
+use Rattle.rn_syntax.proofs.OneReading.OneTree.{one_tree}
 use Rattle.rn_syntax.proofs.laws.one_module_tree.Goals as goal
 
 pub returns : goal.returns

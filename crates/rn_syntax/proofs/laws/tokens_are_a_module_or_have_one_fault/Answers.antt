@@ -1,4 +1,4 @@
-use Rattle.rn_syntax.proofs.OneFault.{never_neither, no_fault, one_fault}
+use Rattle.rn_syntax.proofs.FaultPlaces.OneFault.{never_neither, no_fault, one_fault}
 use Rattle.rn_syntax.proofs.laws.tokens_are_a_module_or_have_one_fault.Goals as goal
 
 pub returns : goal.returns

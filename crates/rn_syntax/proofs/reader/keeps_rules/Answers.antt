@@ -3,7 +3,7 @@ use Rattle.std.proofs.Common.{ap, ◌∙◌, sym, map}
 use Rattle.rn_syntax.specs.Places.{first}
 use Rattle.rn_syntax.specs.inside.Rules.{classes, datatypes, excepts, inherits}
 use Rattle.rn_syntax.specs.View.{declaration_view, items_view, module_view}
-use Rattle.rn_syntax.proofs.KeptRules.{all_places, no_fault}
+use Rattle.rn_syntax.proofs.FaultPlaces.NoRuleBroken.{all_places, no_fault}
 use Rattle.rn_syntax.proofs.reader.keeps_rules.Goals as goal
 
 pub returns-in-None : goal.returns-in-None

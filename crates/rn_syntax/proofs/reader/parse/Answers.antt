@@ -3,7 +3,7 @@ use Rattle.std.proofs.Common.{◌∙◌, sym, subst}
 use Rattle.std.specs.Prelude.{MatchOption}
 use Rattle.rn_syntax.specs.Faults.{HasModuleFault, HasNoFault}
 use Rattle.rn_syntax.specs.View.{module_view}
-use Rattle.rn_syntax.proofs.Found.{found_fault, syntax_fault}
+use Rattle.rn_syntax.proofs.FaultPlaces.TreeFaults.{found_fault, syntax_fault}
 use Rattle.std.proofs.lemmas.Result.{err_from_is_err_and}
 use Rattle.rn_syntax.proofs.reader.parse.Goals as goal
 

@@ -3,7 +3,7 @@ use Rattle.std.proofs.Common.{ap, ◌∙◌, sym, map, []}
 use Rattle.rn_syntax.specs.Places.{first, items_places, class_places, unbound_type, inherit_places}
 use Rattle.rn_syntax.specs.inside.Rules.{classes, datatypes, excepts, inherits}
 use Rattle.rn_syntax.specs.View.{declaration_view, items_view}
-use Rattle.rn_syntax.proofs.Firsts.{none_first}
+use Rattle.rn_syntax.proofs.FaultPlaces.FirstPlaces.{none_first}
 use Rattle.rn_syntax.proofs.reader.prefix_place.Goals as goal
 
 pub returns : goal.returns

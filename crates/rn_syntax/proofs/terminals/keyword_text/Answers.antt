@@ -1,7 +1,7 @@
 -- The token is the keyword's spelling.
 use Rattle.std.proofs.Common.{◌∙◌, subst}
 use Rattle.std.specs.Str.{IsUtf8}
-use Rattle.rn_syntax.proofs.KeywordTexts.{text_is}
+use Rattle.rn_syntax.proofs.TokenKinds.KeywordTexts.{text_is}
 use Rattle.rn_syntax.proofs.terminals.keyword_text.Goals as goal
 
 pub returns : goal.returns

@@ -6,8 +6,8 @@ use Rattle.rn_text.specs.declared.parts.Part.TheVariants as part
 use Rattle.rn_text.specs.Parts.{spells}
 use Rattle.rn_syntax.specs.Terminal as t
 use Rattle.rn_syntax.specs.Tokens.{terminal_of, symbol_rows}
-use Rattle.rn_syntax.proofs.Spelled.{spelled_chars}
-use Rattle.rn_syntax.proofs.OpenBrackets.{symbols_plain}
+use Rattle.rn_syntax.proofs.TokenKinds.KeywordsAndSymbols.{spelled_chars}
+use Rattle.rn_syntax.proofs.FaultPlaces.OpenBrackets.{symbols_plain}
 use Rattle.rn_syntax.proofs.terminals.terminal_of.Goals as goal
 
 pub returns-in-Name-clause-is : goal.returns-in-Name-clause-is

@@ -16,8 +16,8 @@ use Rattle.rn_syntax.specs.Tokens.{terminal_of, spelled_in, keyword_rows, symbol
 use Rattle.rn_syntax.specs.inside.Reading.{rest}
 use Rattle.rn_syntax.specs.inside.Follow.{first_terminal}
 use Rattle.rn_syntax.proofs.readings.Next.{rest_cons}
-use Rattle.rn_syntax.proofs.OpenBrackets.{keywords_plain}
-use Rattle.rn_syntax.proofs.Spelled.{IsPlain}
+use Rattle.rn_syntax.proofs.FaultPlaces.OpenBrackets.{keywords_plain}
+use Rattle.rn_syntax.proofs.TokenKinds.KeywordsAndSymbols.{IsPlain}
 
 -- the spelling that a terminal has, if it is a keyword
 abbrev word_of : Terminal → List ℕ

@@ -13,8 +13,8 @@ use Rattle.rn_syntax.specs.Terminal.{Terminal, ◌#◌}
 use Rattle.rn_syntax.specs.Grammar.{Tokens}
 use Rattle.rn_syntax.specs.Places.{deep}
 use Rattle.rn_syntax.specs.Tokens.{terminal_of, spelled_in, keyword_row, keyword_rows, symbol_rows}
-use Rattle.rn_syntax.proofs.Terms.{ascii}
-use Rattle.rn_syntax.proofs.Spelled.{IsPlain}
+use Rattle.rn_syntax.proofs.TokenKinds.PieceTokens.{ascii}
+use Rattle.rn_syntax.proofs.TokenKinds.KeywordsAndSymbols.{IsPlain}
 
 either : (P : Terminal → Type 0) (b : Bool) (x y : Terminal) → P x → P y → P (cond b x y)
 either P true x y p q = p

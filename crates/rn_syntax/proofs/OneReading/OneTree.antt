@@ -9,8 +9,8 @@ use Rattle.rn_syntax.specs.Grammar as g
 use Rattle.rn_syntax.specs.inside.Follow.{Starts, no_bracket, no_tilde, behind_pattern, first_terminal, no_brace, begins_item, is_end, no_inherit, no_declaration}
 use Rattle.rn_syntax.specs.Grammar.{Tokens, IsWord, IsLiteral, Closed, IsAnnotation, MayHaveAnnotation, AreFollows, IsDatatype, AreParams, MayHaveParams, IsAnyName, IsNameClass, AreMoreClasses, IsClassOperand, IsClassPrimary, IsClassCore, IsPattern, AreMore, IsOperand, IsPrimary, IsCore, IsUri, IsDeclaration, AreDeclarations, IsComponent, IsNote, AreInnerItems, MayInherit, MayHaveOverrides, AreItems}
 use Rattle.rn_syntax.specs.Fault.{HasTree}
-use Rattle.rn_syntax.proofs.OneClass.{literal_one, annotation_one, may_one, word_one, starts_to, tail, word_is}
-use Rattle.rn_syntax.proofs.OnePattern.{literal_kind, pattern_one}
+use Rattle.rn_syntax.proofs.OneReading.OneClass.{literal_one, annotation_one, may_one, word_one, starts_to, tail, word_is}
+use Rattle.rn_syntax.proofs.OneReading.OnePattern.{literal_kind, pattern_one}
 
 abbrev pub is_include : Terminal → Bool
 is_include (keyword k.Include) = true

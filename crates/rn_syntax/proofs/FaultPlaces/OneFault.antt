@@ -14,10 +14,10 @@ use Rattle.rn_syntax.specs.Tokens.{terminals}
 use Rattle.rn_syntax.specs.Fault.{HasTree, Begins, IsRefused, Stops}
 use Rattle.rn_syntax.specs.Faults.{kind_rank, kind_places, kind_and_place, HasNoFault, IsFirstOfKinds, HasModuleFault, StopsAt, IsFaultOfTree, IsFault}
 use Rattle.rn_syntax.specs.Places.{deep, first}
-use Rattle.rn_syntax.specs.Spelled.{AreSpelled, IsPlace, last_end}
-use Rattle.rn_syntax.proofs.Found.{found_fault}
-use Rattle.rn_syntax.proofs.FaultKinds.{fault_at, fault_here, no_memory, one_kind, same_fault}
-use Rattle.rn_syntax.proofs.OneTree.{one_tree}
+use Rattle.rn_syntax.specs.Spelled.{AreSpelled, BeginAt, last_end}
+use Rattle.rn_syntax.proofs.FaultPlaces.TreeFaults.{found_fault}
+use Rattle.rn_syntax.proofs.FaultPlaces.FaultKinds.{fault_at, fault_here, no_memory, one_kind, same_fault}
+use Rattle.rn_syntax.proofs.OneReading.OneTree.{one_tree}
 
 -- ---- where tokens stop to begin a module
 
@@ -68,12 +68,12 @@ one_stop ts x y s t = elim (one_way s.front t.front x y (sym s.cut ∙ t.cut)) [
   | inr j ↦ sym (same_stop t.front s.front y x t.refused s.begins j)
 ]
 
-one_place : (xs : List Token) (bad : Tokens) (i j : ℕ) → IsPlace xs bad i → IsPlace xs bad j → i ≡ j
+one_place : (xs : List Token) (bad : Tokens) (i j : ℕ) → BeginAt xs bad i → BeginAt xs bad j → i ≡ j
 one_place xs [] i j x y = x ∙ sym y
 one_place xs (t # k ∷ bad) i j x y = x ∙ sym y
 
 stop_place : (xs : List Token) (i j : ℕ) → StopsAt xs i → StopsAt xs j → i ≡ j
-stop_place xs i j s t = one_place xs s.0 i j s.2 (subst (λ (bad : Tokens). IsPlace xs bad j) (one_stop _ t.0 s.0 t.1 s.1) t.2)
+stop_place xs i j s t = one_place xs s.0 i j s.2 (subst (λ (bad : Tokens). BeginAt xs bad j) (one_stop _ t.0 s.0 t.1 s.1) t.2)
 
 -- ---- one fault, and none where the module has none
 
@@ -183,7 +183,7 @@ module _ (xs : List Token) (spelled : AreSpelled xs) where
   empty_module = ([], record { declarations = []; items = _ }, g.items g.none g.none)
 
   -- the place of a token, or of the end
-  place_of : (bad : Tokens) → (at : ℕ) × IsPlace xs bad at
+  place_of : (bad : Tokens) → (at : ℕ) × BeginAt xs bad at
   place_of [] = (last_end xs, refl)
   place_of (t # i ∷ bad) = (i, refl)
 

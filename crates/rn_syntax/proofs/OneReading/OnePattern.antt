@@ -10,7 +10,7 @@ use Rattle.rn_syntax.specs.Tree.{Datatype, Params, AnyName, NameClass, Pattern, 
 use Rattle.rn_syntax.specs.Grammar as g
 use Rattle.rn_syntax.specs.inside.Follow.{Starts, no_bracket, no_follow, no_tilde, behind_primary, behind_operand, behind_pattern, first_terminal, no_brace, behind_core}
 use Rattle.rn_syntax.specs.Grammar.{Tokens, IsWord, IsLiteral, Closed, IsAnnotation, MayHaveAnnotation, AreFollows, IsDatatype, AreParams, MayHaveParams, IsAnyName, IsNameClass, AreMoreClasses, IsClassOperand, IsClassPrimary, IsClassCore, IsPattern, AreMore, IsOperand, IsPrimary, IsCore, IsUri, IsDeclaration, AreDeclarations, IsComponent, IsNote, AreInnerItems, MayInherit, MayHaveOverrides, AreItems}
-use Rattle.rn_syntax.proofs.OneClass.{literal_one, may_one, follows_one, datatype_one, starts_to, first_placed, tail, may_params_one, minus_stays, class_one}
+use Rattle.rn_syntax.proofs.OneReading.OneClass.{literal_one, may_one, follows_one, datatype_one, starts_to, first_placed, tail, may_params_one, minus_stays, class_one}
 
 pub to_operand : (x : Terminal) → behind_pattern x ≡ true → behind_operand x ≡ true
 to_operand (operator o) e = absurd (false≢true e)

@@ -5,9 +5,9 @@ use Rattle.rn_syntax.specs.Tree.{NameClass, Datatype, Params, Pattern, Patterns,
 use Rattle.rn_syntax.specs.Places.{first, place_if, pattern_places, patterns_places, item_places, items_places, class_places, unbound_type, wrong_builtin, context_value, inherit_places, is_allowed, declarations_places}
 use Rattle.rn_text.specs.Texts.{Text}
 use Rattle.rn_syntax.specs.Faults.{HasNoFault}
-use Rattle.rn_syntax.proofs.FaultKinds.{no_fault as none_of_kinds}
-use Rattle.rn_syntax.proofs.EmptyLists.{nil_parts, both_nil}
-use Rattle.rn_syntax.proofs.Firsts.{none_first}
+use Rattle.rn_syntax.proofs.FaultPlaces.FaultKinds.{no_fault as none_of_kinds}
+use Rattle.rn_syntax.proofs.Basics.EmptyLists.{nil_parts, both_nil}
+use Rattle.rn_syntax.proofs.FaultPlaces.FirstPlaces.{none_first}
 
 nothing_first : (xs : List ℕ) → first xs ≡ None → xs ≡ []
 nothing_first [] e = refl
