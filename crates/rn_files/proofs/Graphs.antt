@@ -12,7 +12,8 @@ use Rattle.std.proofs.lemmas.List.Elements.{All-contains, All-weaker, All-head, 
 use Rattle.std.proofs.lemmas.List.Sums.{AllPass-from_list_all}
 use Rattle.rn_files.specs.declared.sources.SourceFile.{SourceFile}
 use Rattle.rn_files.specs.declared.sources.Sources.{Sources}
-use Rattle.rn_files.specs.Sources.{HaveOwnNames, count_links, differ_in_name, have_own_names, targets_of, IsSound}
+use Rattle.rn_files.specs.Sources.{HaveOwnNames, count_links, targets_of, IsSound}
+use Rattle.rn_files.specs.inside.Sources.{differ_in_name, have_own_names}
 use Rattle.rn_modset.specs.Contributions.{is_module_name}
 use Rattle.rn_pattern.specs.Ranks.{HasNoLoop}
 use Rattle.rn_pattern.specs.Graph.{AllBelow, row, IsGraph, rows_of}

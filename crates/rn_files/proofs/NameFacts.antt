@@ -10,7 +10,7 @@ use Rattle.percent_encoding.specs.Percent.{percent_decode, percent_encode_byte}
 use Rattle.percent_encoding.proofs.PercentLemmas.{IsEscapeByte, All-percent_encode_byte, percent_decode-nil, percent_decode_not_percent, percent_decode-percent_encode_byte}
 use Rattle.rn_modset.specs.Contributions.{is_name_byte, is_module_name}
 use Rattle.rn_modset.specs.Limits.{max_name}
-use Rattle.rn_files.specs.Names.{IsByte, is_plain, escaped, name_of}
+use Rattle.rn_files.specs.ModuleNames.{IsByte, is_plain, escaped, name_of}
 
 plain_is_no_percent : (b : ℕ) → is_plain b ≡ true → b ≡ 37 → is_plain 37 ≡ true
 plain_is_no_percent b h e = ap is_plain (sym e) ∙ h

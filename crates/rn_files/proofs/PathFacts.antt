@@ -5,7 +5,8 @@ use Rattle.std.specs.List.{fold, flat_map}
 use Rattle.std.proofs.lemmas.Bool.{false≢true, cases_lt}
 use Rattle.std.proofs.lemmas.List.{map-append, take-map, get_or-map, take_rest, take_more, take_at, get_or_at, take-append-drop, drop_more, append-nil}
 use Rattle.std.proofs.lemmas.List.Sums.{fold-append}
-use Rattle.rn_files.specs.Paths.{Segment, LeadAbove, entered, finds_none, is_here, is_up, outer, path_of, walked}
+use Rattle.rn_files.specs.Paths.{Segment, entered, is_here, is_up, outer, path_of, walked}
+use Rattle.rn_files.specs.inside.References.{LeadAbove, finds_none}
 
 -- the texts of segments
 abbrev pub texts : List (Bor (List ℕ)) → List Segment

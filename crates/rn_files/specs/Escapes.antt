@@ -1,7 +1,7 @@
 -- What is escaped in references and in paths (RFC 3986, 2.1; XLink 1.0, 5.4).
-use Rattle.std.specs.Prelude.{ℕ, ◌==◌, ◌&&◌, ◌||◌, not, nat_le, Bool, true, false, List, [], ◌∷◌, ◌++◌, codes, if◌then◌else◌}
+use Rattle.std.specs.Prelude.{ℕ, ◌==◌, ◌&&◌, ◌||◌, not, nat_le, Bool, true, false, List, [], ◌∷◌, if◌then◌else◌}
 use Rattle.std.specs.List.{flat_map}
-use Rattle.std.specs.Char.{is_ascii_alphanumeric, is_ascii_hexdigit}
+use Rattle.std.specs.Char.{is_ascii_hexdigit}
 use Rattle.percent_encoding.specs.Percent.{percent_encode_byte}
 
 -- two hexadecimal digits come first
@@ -31,13 +31,3 @@ is_allowed b =
 -- the reference with each byte escaped that is not allowed
 abbrev pub escaped : List ℕ → List ℕ
 escaped reference = flat_map (kept_or_escaped is_allowed) reference
-
--- a path may hold the byte as it is (RFC 3986, 3.3): unreserved, a sub-delim, `:`, `@` or `/`
-abbrev pub is_path_byte : ℕ → Bool
-is_path_byte b =
-    is_ascii_alphanumeric b || b == 45 || b == 46 || b == 95 || b == 126 || b == 33 || b == 36 || (nat_le 38 b && nat_le b 44)
-    || b == 59 || b == 61 || b == 58 || b == 64 || b == 47
-
--- the URI of a path that begins with `/`: scheme `file`, an empty authority, and the path (RFC 8089)
-abbrev pub file_uri : List ℕ → List ℕ
-file_uri path = codes "file://" ++ flat_map (kept_or_escaped is_path_byte) path

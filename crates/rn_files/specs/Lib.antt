@@ -1,10 +1,9 @@
 pub mod Lines
-pub mod Names
+pub mod ModuleNames
 pub mod Sources
-pub mod Following
-pub mod Memory
 pub mod Paths
 pub mod Escapes
 pub mod Uris
-pub mod References
-pub mod Maps
+pub mod UriReferences
+pub mod Memory
+pub mod inside

@@ -1,5 +1,5 @@
 -- Lines of a text, and where its bytes stand in them. A line ends with LF, CR LF or CR.
-use Rattle.std.specs.Prelude.{◌≡◌, ℕ, ◌+◌, ◌-◌, ◌<◌, ◌≤◌, ◌==◌, ◌&&◌, ◌||◌, ◌⊎◌, nat_le, nat_lt, not, Bool, List, [], ◌∷◌, ◌++◌, length, min, count_by, slice_index, slice_range, drop, take_while, if◌then◌else◌}
+use Rattle.std.specs.Prelude.{◌≡◌, ℕ, ◌+◌, ◌<◌, ◌≤◌, ◌==◌, ◌&&◌, ◌||◌, ◌⊎◌, nat_le, nat_lt, not, Bool, List, [], ◌∷◌, ◌++◌, length, min, count_by, slice_index, slice_range, drop, take_while, if◌then◌else◌}
 use Rattle.std.specs.List.{concat}
 
 -- a line ends behind the byte b that the rest follows: behind LF, and behind a CR that no LF follows
@@ -15,13 +15,6 @@ onto bytes (line ∷ others) = (bytes ++ line) ∷ others
 abbrev pub lines : List ℕ → List (List ℕ)
 lines [] = [] ∷ []
 lines (b ∷ rest) = if closes b rest then (b ∷ []) ∷ lines rest else onto (b ∷ []) (lines rest)
-
--- the first line has n bytes, with the end that closes it
-pub record ClosesAt (text : List ℕ) (n : ℕ) (front rest : List ℕ) : Type 0 where
-  pub some : 0 < n
-  pub within : n ≤ length text
-  pub cut : lines text ≡ front ∷ lines rest
-  pub ascii : slice_index text (n - 1) < 128
 
 -- the byte stands in the line of this number, from 1, which begins at the byte start; behind the last byte, in the last line
 pub record StandsIn (text : List ℕ) (at number start : ℕ) : Type 0 where

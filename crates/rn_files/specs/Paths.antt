@@ -1,5 +1,5 @@
 -- Paths of URIs, as lists of segments (RFC 3986, 3.3, 5.2.3 and 5.2.4).
-use Rattle.std.specs.Prelude.{◌≡◌, ℕ, ◌+◌, ◌-◌, ◌==◌, ◌&&◌, ◌||◌, Bool, true, false, List, [], ◌∷◌, ◌++◌, length, take, slice_index_or, nat_eq, if◌then◌else◌}
+use Rattle.std.specs.Prelude.{ℕ, ◌+◌, ◌-◌, ◌==◌, ◌||◌, Bool, List, [], ◌∷◌, ◌++◌, length, take, slice_index_or, if◌then◌else◌}
 use Rattle.std.specs.List.{fold, slice_split, join_with_byte}
 use Rattle.std.specs.Str.{bytes_eq}
 
@@ -58,18 +58,3 @@ without_dots ss = if ends_in_dots ss then walked ss ++ ([] ∷ []) else walked s
 
 abbrev pub remove_dot_segments : List ℕ → List ℕ
 remove_dot_segments path = path_of (without_dots (segments path))
-
--- no segment is there that `..` takes away: the folder is the root, or nothing was entered
-abbrev pub is_top : List Segment → Bool
-is_top [] = true
-is_top (s ∷ []) = bytes_eq s []
-is_top (s ∷ t ∷ more) = false
-
--- the segment is a `..`, and the folder has none that it takes away
-abbrev pub finds_none : List Segment → Segment → Bool
-finds_none folder s = is_up s && is_top folder
-
--- a `..` among the segments finds none before it that it takes away
-abbrev pub LeadAbove : List Segment → Type 0
-LeadAbove ss = (before : List Segment) × (up : Segment) × (after : List Segment) × (ss ≡ before ++ (up ∷ after))
-    × (finds_none (walked before) up ≡ true)

@@ -1,7 +1,5 @@
 -- Sources: files that were read, with what they refer to.
-use Rattle.std.specs.Prelude.{◌≡◌, ℕ, ◌<◌, ◌≢◌, ◌&&◌, Bool, true, false, not, List, [], ◌∷◌, map, All, length, count_by, nat_lt, string_bytes, ⊤}
-use Rattle.std.specs.List.{list_all}
-use Rattle.std.specs.Str.{bytes_eq}
+use Rattle.std.specs.Prelude.{◌≡◌, ℕ, ◌<◌, ◌≢◌, Bool, true, false, List, [], ◌∷◌, map, All, length, count_by, string_bytes, ⊤}
 use Rattle.rn_outline.specs.declared.file_parts.PartKind.{PartKind}
 use Rattle.rn_outline.specs.declared.file_parts.PartKind.TheVariants.{External, Include}
 use Rattle.rn_modset.specs.Contributions.{is_module_name}
@@ -9,10 +7,6 @@ use Rattle.rn_pattern.specs.Graph.{IsGraph}
 use Rattle.rn_pattern.specs.Ranks.{HasNoLoop}
 use Rattle.rn_files.specs.declared.sources.SourceFile.{SourceFile}
 use Rattle.rn_files.specs.declared.sources.Sources.{Sources}
-
--- each number is less than the count
-abbrev pub are_below : ℕ → List ℕ → Bool
-are_below count numbers = list_all (λ x. nat_lt x count) numbers
 
 -- for each file, the numbers of those that its includes and externals mean
 abbrev pub targets_of : List SourceFile → List (List ℕ)
@@ -36,14 +30,6 @@ IsTextAt gives f = gives (string_bytes f.path) (string_bytes f.text)
 abbrev pub HaveOwnNames : List SourceFile → Type 0
 HaveOwnNames [] = ⊤
 HaveOwnNames (f ∷ fs) = All (λ g. string_bytes f.name ≢ string_bytes g.name) fs × HaveOwnNames fs
-
--- the test of it
-abbrev pub differ_in_name : SourceFile → SourceFile → Bool
-differ_in_name f g = not (bytes_eq (string_bytes f.name) (string_bytes g.name))
-
-abbrev pub have_own_names : List SourceFile → Bool
-have_own_names [] = true
-have_own_names (f ∷ fs) = list_all (differ_in_name f) fs && have_own_names fs
 
 -- targets and roots are numbers of files, and each include and external has a target; no file comes back to itself; and
 -- names are those of modules, each of one file

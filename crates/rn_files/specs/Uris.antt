@@ -1,20 +1,15 @@
 -- URIs and references without query and fragment: their parts (RFC 3986, 3 and 4), and what a reference stands for (5.2 and 5.3).
-use Rattle.std.specs.Prelude.{ℕ, ◌-◌, ◌==◌, ◌&&◌, ◌||◌, nat_eq, nat_lt, Bool, true, false, List, [], ◌∷◌, ◌++◌, length, take, drop, slice_index, codes, is_some, Option, Some, None, if◌then◌else◌}
+use Rattle.std.specs.Prelude.{ℕ, ◌-◌, ◌==◌, ◌&&◌, ◌||◌, nat_eq, nat_lt, Bool, false, List, [], ◌∷◌, ◌++◌, length, take, drop, slice_index, codes, is_some, Option, Some, None, if◌then◌else◌}
 use Rattle.std.specs.List.{list_all, before_first, after_first, position_or_len, starts_with}
-use Rattle.std.specs.Option.{option_copied, option_map, option_map_or, option_or}
+use Rattle.std.specs.Option.{option_map, option_map_or, option_or}
 use Rattle.std.specs.Char.{is_ascii_alphabetic, is_ascii_alphanumeric}
 use Rattle.rn_files.specs.Paths.{Segment, is_slash, path_of, segments, without_dots}
-use Rattle.rn_files.specs.declared.uris.Parts.{Parts}
 
 -- the parts; a part that is absent is none, which differs from one that is empty
 pub record UriParts : Type 0 where
   pub scheme : Option (List ℕ)
   pub authority : Option (List ℕ)
   pub path : List ℕ
-
--- the parts that the code has
-abbrev pub seen : Parts → UriParts
-seen p = record { scheme = option_copied p.scheme; authority = option_copied p.authority; path = p.path.now }
 
 abbrev pub is_colon : ℕ → Bool
 is_colon b = b == 58

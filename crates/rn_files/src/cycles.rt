@@ -3,7 +3,7 @@ ghost use Rattle.std.specs.Prelude.{◌≡◌, length, IfNone, IfOk};
 ghost use Rattle.std.specs.List.{list_all};
 ghost use Rattle.rn_pattern.specs.Graph.{IsGraph, rows_of};
 ghost use Rattle.rn_pattern.specs.Ranks.{HasNoLoop};
-ghost use Rattle.rn_files.specs.Sources.{are_below};
+ghost use Rattle.rn_files.specs.inside.Sources.{are_below};
 
 use rn_pattern::ranks::least_looped;
 use std::alloc::{AllocError, Global};

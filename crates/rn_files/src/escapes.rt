@@ -2,7 +2,8 @@
 ghost use Rattle.std.specs.Prelude.{◌≡◌, ◌++◌, ◌<◌, ◌∷◌, [], true, IfOk, IsTrue, OnOk, string_bytes, if◌then◌else◌};
 ghost use Rattle.std.specs.List.{flat_map};
 ghost use Rattle.percent_encoding.specs.Percent.{percent_encode_byte};
-ghost use Rattle.rn_files.specs.Escapes.{begins_with_digits, byte_or_escape, escaped, file_uri, has_escapes, is_allowed, is_path_byte};
+ghost use Rattle.rn_files.specs.Escapes.{begins_with_digits, byte_or_escape, escaped, has_escapes, is_allowed};
+ghost use Rattle.rn_files.specs.inside.FileUris.{file_uri, is_path_byte};
 
 use percent_encoding::percent_encode_byte;
 use std::alloc::{AllocError, Global};

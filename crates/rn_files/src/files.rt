@@ -1,6 +1,8 @@
 // What files are read from.
 ghost use Rattle.std.specs.Prelude.{ℕ, List, IfOk, string_bytes};
 
+use crate::file_texts::MAX_TEXT;
+use crate::grouped::Grouped;
 use std::alloc::Global;
 use thiserror::Error;
 
@@ -13,8 +15,8 @@ pub enum FileFault {
     /// The path leads to a folder.
     #[error("this is a folder")]
     Folder,
-    /// The file has more bytes than a text may have.
-    #[error("the file is larger than 4,194,304 bytes")]
+    /// The file has more than [`MAX_TEXT`] bytes.
+    #[error("the file is larger than {most} bytes", most = Grouped(MAX_TEXT))]
     Large,
     /// The system refused to read it.
     #[error("the file can't be read")]

@@ -1,18 +1,18 @@
 // Reading files, and what they refer to.
 ghost use Rattle.std.specs.Prelude.{◌≡◌, ◌<◌, ◌≤◌, All, IfOk, IfSome, IsNone, is_some, string_bytes, vec_len};
 ghost use Rattle.rn_modset.specs.Limits.{max_text};
-ghost use Rattle.rn_files.specs.Following.{IsFollowed, LeadsTo};
-ghost use Rattle.rn_files.specs.Maps.{IsLocation};
-ghost use Rattle.rn_files.specs.References.{StandsFor};
+ghost use Rattle.rn_files.specs.inside.Following.{IsFollowed, LeadsTo};
+ghost use Rattle.rn_files.specs.inside.Maps.{IsLocation};
+ghost use Rattle.rn_files.specs.inside.References.{StandsFor};
 ghost use Rattle.rn_files.specs.Sources.{is_link};
 
 use crate::escapes::file_uri;
+use crate::file_texts::{MAX_TEXT, Text, text_of};
 use crate::files::{FileFault, Files};
 use crate::maps::{Location, Map, locate};
 use crate::paths::remove_dot_segments;
 use crate::root_folder::RootFolder;
 use crate::source_faults::{FaultKind, FaultPlace};
-use crate::texts::{MAX_TEXT, Text, text_of};
 use crate::uri_references::resolve_below;
 use crate::walk::{Followed, Found, MAX_SOURCES, Origin, Walk};
 use rn_outline::{Outline, Part, PartKind};
@@ -21,11 +21,14 @@ use std::alloc::{AllocError, Global};
 /// The word for standard input.
 const STANDARD_INPUT: &str = "-";
 
-/// Where files are looked for: what maps say, the current folder, and the root folder, if one is given.
+/// Where files are looked for.
 #[derive(Clone, Copy)]
 pub struct Ways<'a> {
+    /// Where URIs lie.
     pub maps: &'a [Map],
+    /// The real path of the current folder.
     pub current: &'a str,
+    /// The root folder, if one is given.
     pub root: Option<&'a RootFolder>,
 }
 

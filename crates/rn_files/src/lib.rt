@@ -9,8 +9,10 @@
 
 mod cycles;
 mod escapes;
+mod file_texts;
 mod files;
 mod following;
+mod grouped;
 pub mod laws;
 mod line_breaks;
 mod maps;
@@ -23,12 +25,13 @@ mod soundness;
 mod source_faults;
 mod source_reading;
 mod sources;
-mod texts;
 mod uri_references;
 mod uris;
 mod walk;
 
+pub use file_texts::MAX_TEXT;
 pub use files::{FileFault, Files};
+pub use grouped::Grouped;
 pub use line_breaks::Position;
 pub use maps::Map;
 pub use memory_files::MemoryFiles;
@@ -38,6 +41,5 @@ pub use positions::{line_of, position};
 pub use source_faults::{FaultKind, FaultPlace, SourceFault};
 pub use source_reading::{ReadFault, Reading, read_sources};
 pub use sources::{Asked, Attempt, SourceFile, Sources};
-pub use texts::MAX_TEXT;
 pub use uri_references::{ReferenceFault, resolve};
 pub use walk::MAX_SOURCES;

@@ -1,11 +1,14 @@
 // Lines of a text.
 ghost use Rattle.std.specs.Prelude.{◌≡◌, ◌+◌, ◌-◌, ◌<◌, ◌≤◌, ◌∷◌, [], length, slice_index, take, drop, MatchOption};
-ghost use Rattle.rn_files.specs.Lines.{closes, lines, ClosesAt, StandsIn};
+ghost use Rattle.rn_files.specs.Lines.{closes, lines, StandsIn};
+ghost use Rattle.rn_files.specs.inside.Lines.{ClosesAt};
 
-/// Where a byte of a text stands: the number of its line and the number of its character in the line, both from 1.
+/// Where a byte of a text stands.
 #[derive(Clone, Copy, Debug, PartialEq, Eq)]
 pub struct Position {
+    /// The number of the line, from 1.
     pub line: usize,
+    /// The number of the character in the line, from 1.
     pub column: usize,
 }
 

@@ -3,7 +3,7 @@ ghost use Rattle.std.specs.Prelude.{◌≡◌, ◌==◌, IfOk, MatchOption, code
 ghost use Rattle.std.specs.List.{ends_with};
 ghost use Rattle.std.specs.Option.{option_copied, option_map};
 ghost use Rattle.percent_encoding.specs.Percent.{percent_decode};
-ghost use Rattle.rn_files.specs.Maps.{HasNoMap, IsFilePath, IsLongest, IsLocation, behind, behind_prefix, below, chosen, has_no_host, is_file_scheme, is_whole};
+ghost use Rattle.rn_files.specs.inside.Maps.{HasNoMap, IsFilePath, IsLongest, IsLocation, behind, behind_prefix, below, chosen, has_no_host, is_file_scheme, is_whole};
 
 use crate::uri_references::{ReferenceFault, no_memory};
 use crate::uris::split;
@@ -13,14 +13,18 @@ use std::alloc::{AllocError, Global};
 /// URIs that begin with the prefix, by whole segments, lie in the folder.
 #[derive(Debug, Drop, PartialEq, Eq)]
 pub struct Map {
+    /// The front of a URI, as it is spelled.
     pub prefix: String,
+    /// The path of a folder.
     pub folder: String,
 }
 
-/// Where a URI leads: a path, and whether a map found it.
+/// Where a URI leads.
 #[derive(Debug, Drop, PartialEq, Eq)]
 pub struct Location {
+    /// Where the file lies.
     pub path: String,
+    /// Whether a map found it.
     pub is_mapped: bool,
 }
 

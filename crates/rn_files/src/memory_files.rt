@@ -5,15 +5,17 @@ ghost use Rattle.std.specs.List.{before_last};
 ghost use Rattle.rn_files.specs.Paths.{is_slash};
 ghost use Rattle.rn_files.specs.Memory.{IsFileOf};
 
+use crate::file_texts::MAX_TEXT;
 use crate::files::{FileFault, Files};
-use crate::texts::MAX_TEXT;
 use std::alloc::{AllocError, Global};
 use std::collections::BTreeMap;
 
 /// What is at a path.
 #[derive(Debug, Drop)]
 pub enum MemoryEntry {
+    /// A file of these bytes.
     File(Vec<u8>),
+    /// A link to the file or folder at this real path.
     Link(String),
 }
 

@@ -1,6 +1,6 @@
 // Names of modules.
 ghost use Rattle.std.specs.Prelude.{◌≡◌, IfOk, string_bytes};
-ghost use Rattle.rn_files.specs.Names.{is_plain, name_of};
+ghost use Rattle.rn_files.specs.ModuleNames.{is_plain, name_of};
 
 use crate::escapes::push_byte;
 use std::alloc::{AllocError, Global};

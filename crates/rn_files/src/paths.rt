@@ -1,7 +1,8 @@
 // Paths of URIs, as lists of segments (RFC 3986, sections 3.3 and 5.2.4).
 ghost use Rattle.std.specs.Prelude.{◌≡◌, ◌==◌, ◌++◌, ◌∷◌, map, IfOk, MatchBool, OnOk, string_bytes};
 ghost use Rattle.std.specs.List.{flat_map};
-ghost use Rattle.rn_files.specs.Paths.{LeadAbove, ends_in_dots, entered, finds_none, is_here, is_top, is_up, outer, path_of, remove_dot_segments, segments, walked, without_dots};
+ghost use Rattle.rn_files.specs.Paths.{ends_in_dots, entered, is_here, is_up, outer, path_of, remove_dot_segments, segments, walked, without_dots};
+ghost use Rattle.rn_files.specs.inside.References.{LeadAbove, finds_none, is_top};
 
 use std::alloc::{AllocError, Global};
 

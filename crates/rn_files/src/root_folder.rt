@@ -1,10 +1,11 @@
 // Folders: the root folder that is asked for, and the deepest one that holds all files.
 
-/// The folder below which files must lie, with a slash at its end: its real path, and as it was asked for, from the current
-/// folder.
+/// The folder below which files must lie, with a slash at its end.
 #[derive(Debug, Drop)]
 pub struct RootFolder {
+    /// Its real path.
     pub real: String,
+    /// As it was asked for, from the current folder.
     pub spelled: String,
 }
 

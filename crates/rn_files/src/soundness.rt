@@ -3,7 +3,8 @@ ghost use Rattle.std.specs.Prelude.{◌≡◌, ◌==◌, true, IfNone, IfOk, len
 ghost use Rattle.std.specs.List.{list_all};
 ghost use Rattle.rn_modset.specs.Contributions.{is_module_name};
 ghost use Rattle.rn_pattern.specs.Graph.{rows_of};
-ghost use Rattle.rn_files.specs.Sources.{IsSound, count_links, differ_in_name, have_own_names, targets_of};
+ghost use Rattle.rn_files.specs.Sources.{IsSound, count_links, targets_of};
+ghost use Rattle.rn_files.specs.inside.Sources.{differ_in_name, have_own_names};
 
 use crate::cycles::{are_below, first_loop, is_graph};
 use crate::following::link_of;

@@ -11,7 +11,12 @@ pub enum FaultPlace {
     /// The current folder.
     Current,
     /// This byte of the file with this number among those that were read.
-    Text { file: usize, at: usize },
+    Text {
+        /// The number of the file.
+        file: usize,
+        /// The byte of its text.
+        at: usize,
+    },
 }
 
 /// What is wrong.
@@ -29,11 +34,11 @@ pub enum FaultKind {
     Syntax,
     /// Here brackets are too deep.
     Deep,
-    /// There are more files than a set has modules.
+    /// There are more than [`MAX_SOURCES`](crate::MAX_SOURCES) files.
     Count,
     /// The file that is named there doesn't lie below the root folder.
     Outside,
-    /// The name of the module is longer than 200 bytes.
+    /// The name of the module is longer than [`rn_modset::MAX_NAME`] bytes.
     Name,
     /// Another file has the name of the module.
     Twice,
@@ -44,6 +49,8 @@ pub enum FaultKind {
 /// A fault and its place.
 #[derive(Debug, Drop, PartialEq, Eq)]
 pub struct SourceFault {
+    /// What it is about.
     pub place: FaultPlace,
+    /// What is wrong there.
     pub kind: FaultKind,
 }

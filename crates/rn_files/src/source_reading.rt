@@ -1,6 +1,6 @@
 // From the files that are asked for to sources.
 ghost use Rattle.std.specs.Prelude.{◌≡◌, All, IfOk, IfSome};
-ghost use Rattle.rn_files.specs.Following.{IsFollowed};
+ghost use Rattle.rn_files.specs.inside.Following.{IsFollowed};
 ghost use Rattle.rn_files.specs.Sources.{IsSound, IsTextAt};
 
 use crate::files::Files;
@@ -296,10 +296,11 @@ fn name_files(
 /// leads to a file below the folder of the longest map, or at the path of a `file` URI. One file is one source, however it
 /// is spelled; its URI is the first one that leads to it.
 ///
-/// Refused are files that can't be read, texts that are no files of the language or have more than 4,194,304 bytes,
-/// references that name no file, more than 1,024 files, names of more than 200 bytes or of two files, files that don't lie
-/// below the root folder, and loops along references. Faults of all files are answered, but of loops one. A file that doesn't
-/// lie below the root folder that is asked for is not read.
+/// Refused are files that can't be read, texts that are no files of the language or have more than
+/// [`MAX_TEXT`](crate::MAX_TEXT) bytes, references that name no file, more than [`MAX_SOURCES`](crate::MAX_SOURCES) files,
+/// names of more than [`rn_modset::MAX_NAME`] bytes or of two files, files that don't lie below the root folder, and loops
+/// along references. Faults of all files are answered, but of loops one. A file that doesn't lie below the root folder that
+/// is asked for is not read.
 pub fn read_sources<F: Files>(
     alloc: Global,
     files: &F,

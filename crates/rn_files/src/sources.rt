@@ -2,12 +2,14 @@
 use crate::maps::Map;
 use rn_outline::Outline;
 
-/// The files that are asked for, `-` for standard input; the root folder, from which the names of modules are counted; and
-/// where URIs lie.
+/// What is asked for.
 #[derive(Clone, Copy)]
 pub struct Asked<'a> {
+    /// The files, by their paths; `-` is standard input.
     pub files: &'a [String],
+    /// The root folder, from which the names of modules are counted; `None` for the deepest folder that holds all files.
     pub root: Option<&'a str>,
+    /// Where URIs lie; of maps with one prefix the first counts.
     pub maps: &'a [Map],
 }
 
@@ -22,7 +24,9 @@ pub struct SourceFile {
     pub path: String,
     /// What its references are resolved against.
     pub uri: String,
+    /// The bytes of the file.
     pub text: String,
+    /// That of the text.
     pub outline: Outline,
     /// For each external and include of the outline, in order, the number of the file that is meant.
     pub targets: Vec<usize>,
@@ -31,6 +35,7 @@ pub struct SourceFile {
 /// The files that are asked for and all that they reach: first those asked for, and then as they are first referred to.
 #[derive(Debug, Drop, PartialEq, Eq)]
 pub struct Sources {
+    /// In that order; each is there once, however it is spelled.
     pub files: Vec<SourceFile>,
     /// The numbers of the files that are asked for, each once, in order.
     pub roots: Vec<usize>,
@@ -43,5 +48,6 @@ pub struct Attempt {
     pub name: String,
     /// The file as it is told to people.
     pub shown: String,
+    /// The front of it that is UTF-8.
     pub text: String,
 }

@@ -2,9 +2,11 @@
 ghost use Rattle.std.specs.Prelude.{◌≡◌, ◌⊎◌, ◌++◌, [], Err, IfErr, IfNone, IfOk, IfSome, MatchBool, ◌==◌, length, map, string_bytes};
 ghost use Rattle.std.specs.List.{list_any};
 ghost use Rattle.rn_files.specs.Escapes.{escaped};
-ghost use Rattle.rn_files.specs.Paths.{LeadAbove, path_of, without_dots};
-ghost use Rattle.rn_files.specs.References.{StandsFor, dotted, fault_of, resolved};
+ghost use Rattle.rn_files.specs.Paths.{path_of, without_dots};
+ghost use Rattle.rn_files.specs.inside.References.{LeadAbove, StandsFor, dotted};
+ghost use Rattle.rn_files.specs.UriReferences.{fault_of, resolved};
 ghost use Rattle.rn_files.specs.Uris as uris;
+ghost use Rattle.rn_files.specs.inside.Uris.{seen};
 
 use crate::escapes::{escape, has_escapes};
 use crate::paths::{joined_path, lead_above, segments, without_dots};
@@ -59,7 +61,7 @@ pub fn no_memory(_: AllocError) -> ReferenceFault
 
 /// The folder of the base's path: all segments but the last. Of a base with an authority and an empty path it is the root.
 fn folder_of<'p>(alloc: Global, base: &Parts<'p>) -> Result<Vec<&'p str>, AllocError>
-    ensures { IfOk result (λ v. map (λ s. s.now) v.items ≡ uris.folder_of (uris.seen base.now)) }
+    ensures { IfOk result (λ v. map (λ s. s.now) v.items ≡ uris.folder_of (seen base.now)) }
 {
     if base.authority.is_some() && base.path.is_empty() {
         return Ok(vec![in alloc; ""]?);
@@ -76,7 +78,7 @@ fn merge_paths<'p>(
     path: &'p str,
 ) -> Result<Vec<&'p str>, AllocError>
     ensures { IfOk result (λ v. map (λ s. s.now) v.items
-        ≡ uris.merged (uris.seen base.now) path.now) }
+        ≡ uris.merged (seen base.now) path.now) }
 {
     let mut merged = folder_of(alloc, base)?;
     let behind = segments(alloc, path)?;
@@ -86,7 +88,7 @@ fn merge_paths<'p>(
 
 /// Whether the reference has a scheme or an authority of its own.
 fn has_own(reference: &Parts<'_>) -> bool
-    ensures { result ≡ uris.has_own (uris.seen reference.now) }
+    ensures { result ≡ uris.has_own (seen reference.now) }
 {
     reference.scheme.is_some() || reference.authority.is_some()
 }
@@ -98,7 +100,7 @@ fn dotted_path<'p>(
     reference: &Parts<'p>,
 ) -> Result<Vec<&'p str>, AllocError>
     ensures { IfOk result (λ v. map (λ s. s.now) v.items
-        ≡ uris.dotted (uris.seen base.now) (uris.seen reference.now)) }
+        ≡ uris.dotted (seen base.now) (seen reference.now)) }
 {
     if has_own(reference) || reference.path.starts_with('/') {
         segments(alloc, reference.path)
@@ -118,8 +120,8 @@ fn target_path(alloc: Global, dotted: &[&str]) -> Result<String, AllocError>
 
 /// The parts of the target, but for its path.
 fn target_parts<'p>(base: &Parts<'p>, reference: &Parts<'p>, path: &'p str) -> Parts<'p>
-    ensures { path.now ≡ (uris.target (uris.seen base.now) (uris.seen reference.now)).path
-        → uris.seen result ≡ uris.target (uris.seen base.now) (uris.seen reference.now) }
+    ensures { path.now ≡ (uris.target (seen base.now) (seen reference.now)).path
+        → seen result ≡ uris.target (seen base.now) (seen reference.now) }
 {
     Parts {
         scheme: reference.scheme.or(base.scheme),
@@ -135,7 +137,7 @@ fn target_parts<'p>(base: &Parts<'p>, reference: &Parts<'p>, path: &'p str) -> P
 /// The target of a reference that is not empty (RFC 3986, section 5.2.2).
 fn target(alloc: Global, base: &Parts<'_>, reference: &Parts<'_>) -> Result<String, AllocError>
     ensures { IfOk result (λ uri. string_bytes uri
-        ≡ uris.recomposed (uris.target (uris.seen base.now) (uris.seen reference.now))) }
+        ≡ uris.recomposed (uris.target (seen base.now) (seen reference.now))) }
 {
     let dotted = dotted_path(alloc, base, reference)?;
     let path = target_path(alloc, dotted.as_slice())?;

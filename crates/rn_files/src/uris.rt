@@ -3,15 +3,19 @@ ghost use Rattle.std.specs.Prelude.{◌≡◌, ◌++◌, IfOk, OnOk, drop, strin
 ghost use Rattle.std.specs.List.{before_first, list_all};
 ghost use Rattle.std.specs.Option.{option_copied};
 ghost use Rattle.rn_files.specs.Paths.{is_slash};
-ghost use Rattle.rn_files.specs.Uris.{authority_of, authority_text, behind_authority, behind_scheme, behind_slashes, from_slash, is_scheme, is_scheme_byte, parts_of, recomposed, scheme_of, scheme_text, seen};
+ghost use Rattle.rn_files.specs.Uris.{authority_of, authority_text, behind_authority, behind_scheme, behind_slashes, from_slash, is_scheme, is_scheme_byte, parts_of, recomposed, scheme_of, scheme_text};
+ghost use Rattle.rn_files.specs.inside.Uris.{seen};
 
 use std::alloc::{AllocError, Global};
 
-/// A URI or a reference, cut into its parts; it has neither a query nor a fragment.
+/// A URI or a reference, cut into its parts (RFC 3986); it has neither a query nor a fragment.
 #[derive(Clone, Copy)]
 pub struct Parts<'a> {
+    /// What stands before the colon (3.1).
     pub scheme: Option<&'a str>,
+    /// What stands between two slashes and the next one (3.2); it may be empty.
     pub authority: Option<&'a str>,
+    /// What is left (3.3).
     pub path: &'a str,
 }
 

@@ -14,42 +14,57 @@ pub const MAX_SOURCES: usize = rn_modset::MAX_CONTRIBUTIONS;
 /// How a file was found.
 #[derive(Clone, Copy, Debug, PartialEq, Eq)]
 pub enum Origin {
+    /// It is standard input.
     Input,
+    /// By its path.
     Path,
+    /// By a map of URIs.
     Map,
 }
 
-/// A file that was found: its real path, or `-`, how it is told to people, and what its references are resolved against.
+/// A file that was found.
 #[derive(Drop)]
 pub struct Found {
+    /// Its real path, or `-`.
     pub path: String,
+    /// The file as it is told to people.
     pub shown: String,
+    /// What its references are resolved against.
     pub uri: String,
+    /// How it was found.
     pub origin: Origin,
 }
 
-/// A file that was found, and where it was named first.
+/// A file that was found, and where.
 #[derive(Drop)]
 pub struct Entry {
+    /// The file.
     pub found: Found,
+    /// Where it was named first.
     pub place: FaultPlace,
 }
 
-/// What was read at a path: the text, or as much of it as is UTF-8; what it is made of, if it has no fault; and the numbers
-/// of the files that its links mean.
+/// What was read at a path.
 #[derive(Drop)]
 pub struct Followed {
+    /// The real path, or `-`.
     pub path: String,
+    /// The text, or as much of it as is UTF-8.
     pub text: String,
+    /// What the text is made of, if it has no fault.
     pub outline: Option<Outline>,
+    /// The numbers of the files that its links mean, in order.
     pub targets: Vec<usize>,
 }
 
-/// The files in the order in which they were found; the number of each path; and what is wrong, as it was found.
+/// The files that were found so far.
 #[derive(Drop)]
 pub struct Walk {
+    /// In the order in which they were found.
     pub entries: Vec<Entry>,
+    /// Of each path, the number of its file.
     pub numbers: BTreeMap<String, usize>,
+    /// What is wrong, as it was found.
     pub faults: Vec<SourceFault>,
 }
 

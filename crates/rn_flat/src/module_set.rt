@@ -11,10 +11,12 @@ use std::alloc::{AllocError, Global};
 /// The revision that each module has.
 pub const REVISION: u64 = 1;
 
-/// Why modules are no set: the number of the module, and why it can't be added.
+/// Why modules are no set.
 #[derive(Debug, Drop, PartialEq, Eq)]
 pub struct SetFault {
+    /// The number of the module that can't be added.
     pub module: usize,
+    /// Why it can't.
     pub fault: AddFault,
 }
 

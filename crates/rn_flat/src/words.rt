@@ -36,27 +36,35 @@ pub enum Product {
 pub enum Task {
     /// A product is written to standard output, or to a file: whole, or not at all.
     Write {
+        /// What is written.
         product: Product,
+        /// The path of the file; `None` for standard output.
         output: Option<String>,
     },
     /// The schema is compared with a file, and nothing is written.
     Check {
+        /// The path of the file.
         file: String,
     },
 }
 
-/// What the program is to do. A file is a path, or `-` for standard input, which is read once at most.
+/// What the program is to do.
 #[derive(Debug, Drop)]
 pub struct Job {
+    /// The files that are asked for, by their paths; `-` is standard input, which is read once at most.
     pub files: Vec<String>,
+    /// The root folder, if one is given.
     pub root: Option<String>,
+    /// Where URIs lie.
     pub maps: Vec<Map>,
+    /// What is done with the files.
     pub task: Task,
 }
 
 /// What the words are.
 #[derive(Debug, Drop)]
 pub enum Words {
+    /// Files are asked for.
     Job(Job),
     /// A text is asked for: the help, or the version.
     Shown(String),

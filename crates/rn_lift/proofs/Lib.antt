@@ -1,7 +1,3 @@
-mod Added
-mod Appended
-mod Carried
-mod Covered
-mod Kept
-mod Made
-mod Places
+mod OneMore
+mod Modules
+mod StandIns

@@ -1,6 +1,6 @@
 pub mod Edits
 pub mod Lifts
-pub mod Modules
+pub mod LiftedModules
 pub mod Origins
-pub mod Planned
 pub mod StandIns
+pub mod inside

@@ -1,7 +1,7 @@
 // What is put in the place of bytes of a file.
 ghost use Rattle.std.specs.Prelude.{◌≡◌, All, IfOk, MatchOption, OnOk};
-ghost use Rattle.rn_lift.specs.Modules.{OthersStay};
-ghost use Rattle.rn_lift.specs.Planned.{AddsEdit, IsEditOf, StaysAt};
+ghost use Rattle.rn_lift.specs.LiftedModules.{OthersStay};
+ghost use Rattle.rn_lift.specs.inside.Planned.{AddsEdit, IsEditOf, StaysAt};
 
 use crate::excepts::Spliced;
 use crate::writing::{View, unsound_fault};

@@ -12,5 +12,6 @@ mod prefixes;
 mod scope_definitions;
 mod writing;
 
+pub use excepts::MAX_EXCEPTS;
 pub use lifted::{Basis, Lifted, LiftedModule, Piece};
 pub use lifting::lift;

@@ -9,9 +9,13 @@ use std::collections::BTreeSet;
 /// bytes of a file from `at` on, or they were made for what stands at `at`. All are counts of bytes.
 #[derive(Clone, Copy, Debug, PartialEq, Eq)]
 pub struct Piece {
+    /// The first byte of the module's text that belongs to it.
     pub from: usize,
+    /// The number of the file.
     pub file: usize,
+    /// The byte of that file's text.
     pub at: usize,
+    /// Whether the bytes are those of the file, and not made for what stands at `at`.
     pub is_source: bool,
 }
 
@@ -29,7 +33,9 @@ pub struct Basis {
 /// A module of the compact syntax without `external`, `parent`, nested `grammar` and bare patterns.
 #[derive(Debug, Drop, PartialEq, Eq)]
 pub struct LiftedModule {
+    /// No other module has it.
     pub name: String,
+    /// Each byte has its origin in `pieces`.
     pub text: String,
     /// In the order of their `from`, each with its own.
     pub pieces: Vec<Piece>,

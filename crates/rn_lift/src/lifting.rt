@@ -1,11 +1,11 @@
 // From files to modules.
 ghost use Rattle.std.specs.Prelude.{◌≡◌, ◌<◌, ◌⊎◌, ℕ, All, Contains, IfOk, IsPermutation, IsTrue, None, OnOk, drop, string_bytes, vec_len};
 ghost use Rattle.rn_lift.specs.Lifts.{AreRising, bringing};
-ghost use Rattle.rn_lift.specs.Modules.{AreMadeOfFiles, BringsIn, KeepsText};
-ghost use Rattle.rn_lift.specs.Planned.{HasPlace, IsBrought, IsMadeOfPlace};
+ghost use Rattle.rn_lift.specs.LiftedModules.{AreMadeOfFiles, BringsIn, KeepsText};
+ghost use Rattle.rn_lift.specs.inside.Planned.{HasPlace, IsBrought, IsMadeOfPlace};
 ghost use Rattle.rn_lift.specs.declared.lifted.LiftedModule.{LiftedModule};
 ghost use Rattle.rn_plan.specs.Free.{AreFree};
-ghost use Rattle.rn_plan.specs.Places.{entry_of};
+ghost use Rattle.rn_plan.specs.Entries.{entry_of};
 
 use crate::excepts::Excepts;
 use crate::lifted::{Lifted, LiftedModule, Piece};

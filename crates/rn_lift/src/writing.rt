@@ -3,9 +3,9 @@ ghost use Rattle.std.specs.Prelude.{◌≡◌, ◌≢◌, ◌<◌, ◌≤◌, �
 ghost use Rattle.std.specs.List.{list_any};
 ghost use Rattle.rn_text.specs.Literals.{literal_bytes};
 ghost use Rattle.rn_plan.specs.Files.{target_of};
-ghost use Rattle.rn_lift.specs.Modules.{front};
+ghost use Rattle.rn_lift.specs.LiftedModules.{front};
 ghost use Rattle.rn_lift.specs.StandIns.{IsIncluded, IsLifted, KindStays, Stays};
-ghost use Rattle.rn_lift.specs.Planned.{IsFound, IsMade, IsModuleAt, IsPlaceOf, IsPlanned, IsPlannedScope, IsScopeOf, StandsForAt, StandsForKindAt};
+ghost use Rattle.rn_lift.specs.inside.Planned.{IsFound, IsMade, IsModuleAt, IsPlaceOf, IsPlanned, IsPlannedScope, IsScopeOf, StandsForAt, StandsForKindAt};
 
 use crate::draft::Draft;
 use crate::edits::edits_of;

@@ -1,7 +1,9 @@
-//! Tests of outlines and of lifting.
+//! Tests of outlines and of lifting, and of limits that they have in common with modules.
 #![tactic(auto)]
 
 #[cfg(test)]
 mod lifts;
+#[cfg(test)]
+mod limits;
 #[cfg(test)]
 mod outlines;

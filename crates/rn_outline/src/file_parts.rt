@@ -10,22 +10,29 @@ use std::alloc::{AllocError, Global};
 /// or another pattern.
 #[derive(Clone, Copy, Debug, PartialEq, Eq)]
 pub enum Shape {
+    /// `grammar { .. }`, or its items alone.
     Grammar,
+    /// A pattern that is no `grammar`, which external takes and include does not (4.6, 4.7).
     Pattern,
 }
 
 /// Bytes of a text, counted from its start: from the first one up to, and without, the second.
 #[derive(Clone, Copy, Debug, PartialEq, Eq)]
 pub struct Span {
+    /// The first byte.
     pub from: usize,
+    /// The byte behind the last one.
     pub to: usize,
 }
 
 /// How a definition is combined with others of its name (RELAX NG 2001, 4.17): `=`, `|=`, `&=`.
 #[derive(Clone, Copy, Debug, PartialEq, Eq)]
 pub enum Method {
+    /// `=`
     Plain,
+    /// `|=`
     Choice,
+    /// `&=`
     Interleave,
 }
 
@@ -34,13 +41,16 @@ pub enum Method {
 pub enum DeclarationKind {
     /// `default namespace`, which may bind a prefix too.
     Default,
+    /// `namespace`
     Namespace,
+    /// `datatypes`
     Datatypes,
 }
 
 /// What a declaration binds its prefix to.
 #[derive(Debug, Drop, PartialEq, Eq)]
 pub enum Uri {
+    /// The text of the literal, its segments put together.
     Literal(String),
     /// `inherit`: what is handed to the file.
     Inherited,
@@ -50,6 +60,7 @@ pub enum Uri {
 /// bound at all, is not looked at here.
 #[derive(Debug, Drop, PartialEq, Eq)]
 pub struct Declaration {
+    /// By its keywords.
     pub kind: DeclarationKind,
     /// The token that is the prefix; `None` for a default namespace without one.
     pub prefix: Option<Span>,
@@ -63,6 +74,7 @@ pub struct Declaration {
 /// from it.
 #[derive(Debug, Drop, PartialEq, Eq)]
 pub struct Part {
+    /// From its first token to the end of its last one.
     pub at: Span,
     /// The grammar that it belongs to: 0 is the file's own, and each nested one has a number of its
     /// own.
@@ -70,18 +82,22 @@ pub struct Part {
     /// Whether it is excepted from data: it stands behind a `-`, with no more than parentheses and
     /// operators between.
     pub in_except: bool,
+    /// What it is.
     pub kind: PartKind,
 }
 
 /// What a part is, with the bytes of what it is made of.
 #[derive(Debug, Drop, PartialEq, Eq)]
 pub enum PartKind {
-    /// A definition (RELAX NG 2001, 4.17). `within` is the number of the part that is its include,
-    /// for an override (4.7).
+    /// A definition (RELAX NG 2001, 4.17).
     Define {
+        /// The token that is its name.
         name: Span,
+        /// How it is combined.
         method: Method,
+        /// Its pattern, with annotations.
         body: Span,
+        /// Of an override, the number of the part that is its include (4.7).
         within: Option<usize>,
         /// Whether the body is made of data, values, `notAllowed`, references, externals, grammars
         /// and choices of them alone.
@@ -90,35 +106,50 @@ pub enum PartKind {
     /// A definition of the start. In a file that is a pattern this is the first part; its body is
     /// the pattern, and `word` is empty.
     Start {
+        /// The token `start`.
         word: Span,
+        /// How it is combined.
         method: Method,
+        /// Its pattern, with annotations.
         body: Span,
+        /// Of an override, the number of the part that is its include (4.7).
         within: Option<usize>,
+        /// As of a definition.
         only_data: bool,
     },
     /// A reference to a definition of its grammar.
     Reference {
+        /// The token that is the name.
         name: Span,
     },
     /// `parent` and a name: a reference to a definition of the grammar around (4.18).
     Parent {
+        /// The token that is the name.
         name: Span,
     },
-    /// `external` (4.6), with the text of its literal, and the prefix behind `inherit =`.
+    /// `external` (4.6).
     External {
+        /// The text of its literal, its segments put together.
         literal: String,
+        /// The literal.
         literal_at: Span,
+        /// The prefix behind `inherit =`.
         inherit: Option<Span>,
     },
-    /// `include` (4.7), with the text of its literal, and the prefix behind `inherit =`. `at` ends with its overrides.
+    /// `include` (4.7). The part ends with its overrides.
     Include {
+        /// The text of its literal, its segments put together.
         literal: String,
+        /// The literal.
         literal_at: Span,
+        /// The prefix behind `inherit =`.
         inherit: Option<Span>,
     },
-    /// A nested `grammar { .. }` (4.18): its number, and what stands between its braces.
+    /// A nested `grammar { .. }` (4.18).
     Grammar {
+        /// Its number, which parts of it have as their grammar.
         number: usize,
+        /// What stands between its braces.
         inside: Span,
     },
 }
@@ -126,11 +157,13 @@ pub enum PartKind {
 /// What a file is made of. Nothing of it is borrowed.
 #[derive(Debug, Drop, PartialEq, Eq)]
 pub struct Outline {
+    /// Whether it is a grammar.
     pub shape: Shape,
     /// In the order of the text.
     pub declarations: Vec<Declaration>,
     /// What stands behind the declarations.
     pub body: Span,
+    /// In the order in which they begin.
     pub parts: Vec<Part>,
     /// How many grammars the parts belong to, the file's own among them.
     pub grammars: usize,

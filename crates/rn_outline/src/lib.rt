@@ -19,5 +19,5 @@ pub use file_parts::{
     name_in,
 };
 pub use notes::note_end;
-pub use outline::read_outline;
+pub use outline::{MAX_OPEN, read_outline};
 pub use outline_fault::OutlineFault;

@@ -1,6 +1,6 @@
 // The outline of a text.
 ghost use Rattle.std.specs.Prelude.{◌<◌, ◌≤◌, ◌+◌, length, IfOk, IfSome, IsTrue};
-ghost use Rattle.rn_outline.specs.Cursor.{Advanced, Passed};
+ghost use Rattle.rn_outline.specs.inside.Cursor.{GoesOn, MayGoOn};
 ghost use Rattle.rn_outline.specs.Outlines.{IsOutline};
 ghost use Rattle.rn_outline.specs.Spans.{AreApart, AreInOrder};
 
@@ -15,8 +15,9 @@ use crate::skips::{annotation, follow, left_brace, word};
 use rn_text::Token;
 use std::alloc::Global;
 
-/// How many brackets may be open at once.
-const MAX_OPEN: usize = 256;
+/// How many brackets may be open at once: as many as in a module, `MAX_OPEN` of rn_syntax, on which this crate does not
+/// stand.
+pub const MAX_OPEN: usize = 256;
 
 /// The place of the first bracket that is one too many.
 fn bracket_too_deep(tokens: &[Token<'_>]) -> Option<usize> {
@@ -41,7 +42,7 @@ fn bracket_too_deep(tokens: &[Token<'_>]) -> Option<usize> {
 /// What stands behind the annotations that come.
 fn skip_annotations(tokens: &[Token<'_>], mut at: usize) -> Result<usize, Stop>
     requires { at ≤ length tokens.now }
-    ensures { IfOk result (λ r. Passed at r (length tokens.now)) }
+    ensures { MayGoOn at (length tokens.now) result }
 {
     'annotations: while let Sign::LeftBracket = sign_at(tokens, at) {
         at = annotation(tokens, at)?;
@@ -134,7 +135,7 @@ fn begin_pattern(reader: &mut Reader, at: Span) -> Result<(), Stop> {
 /// Reads on at a token.
 fn step(reader: &mut Reader, tokens: &[Token<'_>], at: usize) -> Result<usize, Stop>
     requires { at ≤ length tokens.now }
-    ensures { IfOk result (λ r. Advanced at r (length tokens.now)) }
+    ensures { GoesOn at (length tokens.now) result }
 {
     match reader.mode {
         Mode::Item => item(reader, tokens, at),

@@ -1,18 +1,25 @@
 // Why a text has no outline.
 ghost use Rattle.std.specs.Prelude.{◌≡◌};
 
+use crate::outline::MAX_OPEN;
 use std::alloc::{AllocError, AllocFailed};
 use thiserror::Error;
 
 /// Why a text has no outline, with the place of it as a count of bytes from the start of the text.
 #[derive(Debug, Drop, PartialEq, Eq, Error)]
 pub enum OutlineFault {
-    /// The first of `{`, `(` and `[` that makes 257 open at once.
-    #[error("more than 256 brackets are open at {at}")]
-    Deep { at: usize },
+    /// The first of `{`, `(` and `[` that makes more than [`MAX_OPEN`] open at once.
+    #[error("more than {most} brackets are open at {at}", most = MAX_OPEN)]
+    Deep {
+        /// The byte of the text.
+        at: usize,
+    },
     /// The first token that can't stand where it stands; where the tokens end too early, the end of the last one.
     #[error("no file goes on like this at {at}")]
-    Syntax { at: usize },
+    Syntax {
+        /// The byte of the text.
+        at: usize,
+    },
     /// A request for memory was refused.
     #[error("out of memory")]
     Memory,

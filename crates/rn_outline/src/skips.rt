@@ -1,6 +1,7 @@
 // Runs of tokens that hold no part: annotations, literals, parameters, name classes.
 ghost use Rattle.std.specs.Prelude.{◌<◌, ◌≤◌, length, IfOk, IsTrue};
-ghost use Rattle.rn_outline.specs.Cursor.{Advanced, Passed};
+ghost use Rattle.rn_outline.specs.Cursor.{Advanced};
+ghost use Rattle.rn_outline.specs.inside.Cursor.{GoesOn, MayGoOn, Passed};
 
 use crate::file_parts::{Method, Span};
 use crate::outline_fault::Stop;
@@ -11,7 +12,7 @@ use std::alloc::Global;
 /// What stands behind a `[`, up to its `]`.
 fn closed_brackets(tokens: &[Token<'_>], mut at: usize) -> Result<usize, Stop>
     requires { at ≤ length tokens.now }
-    ensures { IfOk result (λ r. Advanced at r (length tokens.now)) }
+    ensures { GoesOn at (length tokens.now) result }
 {
     let mut depth: usize = 0;
     'closed: loop {
@@ -37,7 +38,7 @@ fn closed_brackets(tokens: &[Token<'_>], mut at: usize) -> Result<usize, Stop>
 /// What stands behind `[ .. ]` (compact syntax, section 2, annotations).
 pub(crate) fn annotation(tokens: &[Token<'_>], at: usize) -> Result<usize, Stop>
     requires { at ≤ length tokens.now }
-    ensures { IfOk result (λ r. Advanced at r (length tokens.now)) }
+    ensures { GoesOn at (length tokens.now) result }
 {
     match sign_at(tokens, at) {
         Sign::LeftBracket => closed_brackets(tokens, at + 1),
@@ -48,7 +49,7 @@ pub(crate) fn annotation(tokens: &[Token<'_>], at: usize) -> Result<usize, Stop>
 /// What stands behind an annotation, if one comes.
 pub(crate) fn skip_annotation(tokens: &[Token<'_>], at: usize) -> Result<usize, Stop>
     requires { at ≤ length tokens.now }
-    ensures { IfOk result (λ r. Passed at r (length tokens.now)) }
+    ensures { MayGoOn at (length tokens.now) result }
 {
     match sign_at(tokens, at) {
         Sign::LeftBracket => closed_brackets(tokens, at + 1),
@@ -59,7 +60,7 @@ pub(crate) fn skip_annotation(tokens: &[Token<'_>], at: usize) -> Result<usize, 
 /// What stands behind a name and `[ .. ]`, behind `>>`.
 pub(crate) fn follow(tokens: &[Token<'_>], at: usize) -> Result<usize, Stop>
     requires { at ≤ length tokens.now }
-    ensures { IfOk result (λ r. Advanced at r (length tokens.now)) }
+    ensures { GoesOn at (length tokens.now) result }
 {
     match sign_at(tokens, at) {
         Sign::Ident | Sign::Word(_) | Sign::Prefixed => annotation(tokens, at + 1),
@@ -70,7 +71,7 @@ pub(crate) fn follow(tokens: &[Token<'_>], at: usize) -> Result<usize, Stop>
 /// What stands behind the `{` of an element or an attribute, whose name class comes (compact syntax, section 2, nameClass).
 pub(crate) fn name_class(tokens: &[Token<'_>], mut at: usize) -> Result<usize, Stop>
     requires { at ≤ length tokens.now }
-    ensures { IfOk result (λ r. Advanced at r (length tokens.now)) }
+    ensures { GoesOn at (length tokens.now) result }
 {
     let mut depth: usize = 0;
     let mut is_read = false;
@@ -113,7 +114,7 @@ fn is_right_brace(tokens: &[Token<'_>], at: usize) -> bool
 /// What stands behind a word, `=` and a literal.
 fn param(tokens: &[Token<'_>], at: usize) -> Result<usize, Stop>
     requires { at ≤ length tokens.now }
-    ensures { IfOk result (λ r. Advanced at r (length tokens.now)) }
+    ensures { GoesOn at (length tokens.now) result }
 {
     let body = skip_annotation(tokens, at)?;
     let equals = word(tokens, body)?;
@@ -124,7 +125,7 @@ fn param(tokens: &[Token<'_>], at: usize) -> Result<usize, Stop>
 /// What stands behind the parameters of a datatype, behind their `{`.
 pub(crate) fn params(tokens: &[Token<'_>], mut at: usize) -> Result<usize, Stop>
     requires { at ≤ length tokens.now }
-    ensures { IfOk result (λ r. Advanced at r (length tokens.now)) }
+    ensures { GoesOn at (length tokens.now) result }
 {
     'params: while !is_right_brace(tokens, at) {
         at = param(tokens, at)?;
@@ -135,7 +136,7 @@ pub(crate) fn params(tokens: &[Token<'_>], mut at: usize) -> Result<usize, Stop>
 /// What stands behind a name or a keyword.
 pub(crate) fn word(tokens: &[Token<'_>], at: usize) -> Result<usize, Stop>
     requires { at ≤ length tokens.now }
-    ensures { IfOk result (λ r. Advanced at r (length tokens.now)) }
+    ensures { GoesOn at (length tokens.now) result }
 {
     match sign_at(tokens, at) {
         Sign::Ident | Sign::Word(_) => Ok(at + 1),
@@ -146,7 +147,7 @@ pub(crate) fn word(tokens: &[Token<'_>], at: usize) -> Result<usize, Stop>
 /// What stands behind a name that is no keyword.
 pub(crate) fn ident(tokens: &[Token<'_>], at: usize) -> Result<usize, Stop>
     requires { at ≤ length tokens.now }
-    ensures { IfOk result (λ r. Advanced at r (length tokens.now)) }
+    ensures { GoesOn at (length tokens.now) result }
 {
     match sign_at(tokens, at) {
         Sign::Ident => Ok(at + 1),
@@ -157,7 +158,7 @@ pub(crate) fn ident(tokens: &[Token<'_>], at: usize) -> Result<usize, Stop>
 /// What stands behind `=`.
 pub(crate) fn plain_assign(tokens: &[Token<'_>], at: usize) -> Result<usize, Stop>
     requires { at ≤ length tokens.now }
-    ensures { IfOk result (λ r. Advanced at r (length tokens.now)) }
+    ensures { GoesOn at (length tokens.now) result }
 {
     match sign_at(tokens, at) {
         Sign::Assign(method) => match method {
@@ -171,7 +172,7 @@ pub(crate) fn plain_assign(tokens: &[Token<'_>], at: usize) -> Result<usize, Sto
 /// What stands behind `{`.
 pub(crate) fn left_brace(tokens: &[Token<'_>], at: usize) -> Result<usize, Stop>
     requires { at ≤ length tokens.now }
-    ensures { IfOk result (λ r. Advanced at r (length tokens.now)) }
+    ensures { GoesOn at (length tokens.now) result }
 {
     match sign_at(tokens, at) {
         Sign::LeftBrace => Ok(at + 1),
@@ -182,7 +183,7 @@ pub(crate) fn left_brace(tokens: &[Token<'_>], at: usize) -> Result<usize, Stop>
 /// What stands behind a segment.
 fn segment(tokens: &[Token<'_>], at: usize) -> Result<usize, Stop>
     requires { at ≤ length tokens.now }
-    ensures { IfOk result (λ r. Advanced at r (length tokens.now)) }
+    ensures { GoesOn at (length tokens.now) result }
 {
     match sign_at(tokens, at) {
         Sign::Segment => Ok(at + 1),
@@ -193,7 +194,7 @@ fn segment(tokens: &[Token<'_>], at: usize) -> Result<usize, Stop>
 /// What stands behind a literal: segments with `~` between each two (compact syntax, section 2, literal).
 pub(crate) fn segments(tokens: &[Token<'_>], at: usize) -> Result<usize, Stop>
     requires { at ≤ length tokens.now }
-    ensures { IfOk result (λ r. Advanced at r (length tokens.now)) }
+    ensures { GoesOn at (length tokens.now) result }
 {
     let mut end = segment(tokens, at)?;
     'segments: while let Sign::Tilde = sign_at(tokens, end) {

@@ -1,4 +1,4 @@
 pub mod Files
 pub mod Free
-pub mod Names
-pub mod Places
+pub mod NameSets
+pub mod Entries

@@ -12,7 +12,9 @@ use std::alloc::{AllocError, Global};
 pub struct Lifting<'a> {
     /// The name of its module.
     pub name: &'a str,
+    /// Its bytes are what spans of the outline count.
     pub text: &'a str,
+    /// That of the text, from [`rn_outline::read_outline`].
     pub outline: &'a Outline,
     /// For each external and include of the outline, in its order, the number of the file that is
     /// meant.
@@ -22,6 +24,7 @@ pub struct Lifting<'a> {
 /// A file, with what its declarations bind and the number of its first unit.
 #[derive(Drop)]
 pub struct Given<'a> {
+    /// As it was given.
     pub file: Lifting<'a>,
     /// For each part of the outline, the number of the file that it names, if it names one.
     pub targets: Vec<Option<usize>>,

@@ -1,5 +1,6 @@
 // Why files can't be lifted.
 
+use crate::plan::MAX_PLACES;
 use std::alloc::{AllocError, AllocFailed};
 use thiserror::Error;
 
@@ -7,8 +8,11 @@ use thiserror::Error;
 /// start.
 #[derive(Debug, Drop, PartialEq, Eq)]
 pub struct LiftFault {
+    /// The number of the file among those that are lifted.
     pub file: usize,
+    /// The byte of its text.
     pub at: usize,
+    /// What is wrong there. With `Many`, `Unsound` and `Memory` the file and the byte mean nothing.
     pub kind: LiftFaultKind,
 }
 
@@ -35,11 +39,11 @@ pub enum LiftFaultKind {
     /// A reference in an except to a name without a definition (4.18).
     #[error("nothing defines this")]
     Undefined,
-    /// The texts that references in excepts stand for would have more than 4,194,304 bytes.
+    /// The texts that references in excepts stand for would have more bytes than `MAX_EXCEPTS` of rn_lift.
     #[error("too long definitions are excepted")]
     Long,
-    /// The files would make more than 65,536 modules.
-    #[error("more than 65,536 modules")]
+    /// The files would make more than [`MAX_PLACES`] modules.
+    #[error("more than {most} modules", most = MAX_PLACES)]
     Many,
     /// The outline is not that of the text: a name or a literal lies not in it, or before another
     /// one that stands before it in the outline.

@@ -1,7 +1,7 @@
 // Names of their own: distinct from all that are written, and from each other.
 ghost use Rattle.std.specs.Prelude.{◌≡◌, ◌∷◌, ◌++◌, false, not, IfOk, OnOk, string_bytes};
 ghost use Rattle.std.specs.BTreeSet.{contains_text};
-ghost use Rattle.rn_plan.specs.Names.{Takes};
+ghost use Rattle.rn_plan.specs.NameSets.{Takes};
 
 use crate::given::Given;
 use crate::units::Units;
@@ -89,7 +89,7 @@ fn last_segment(path: &str) -> &str {
     }
 }
 
-/// The stem of a file's name: its last segment without `.rnc`, made a name without dots, at most 80 bytes of it.
+/// The stem of a file's name: its last segment without `.rnc`, made a name without dots, at most [`STEM_LIMIT`] characters of it.
 fn stem_of(alloc: Global, path: &str) -> Result<String, AllocError> {
     let last = last_segment(path);
     let name = last.strip_suffix(".rnc").unwrap_or(last);

@@ -5,6 +5,7 @@ ghost use Rattle.rn_plan.specs.Free.{AreFree};
 
 use crate::free_names::are_free;
 use crate::lift_fault::{LiftFault, LiftFaultKind};
+use crate::linking::{Here, Named, fault};
 use crate::namespaces::Namespaces;
 use crate::own_names::Names;
 use crate::root_includes::included_files;
@@ -14,49 +15,8 @@ use rn_outline::{Part, PartKind, Span};
 use std::alloc::{AllocError, Global};
 use std::collections::BTreeMap;
 
-/// The most modules that files may make.
-const PLACE_LIMIT: usize = 65_536;
-
-/// A place that is looked at while its links are made.
-#[derive(Clone, Copy)]
-struct Here {
-    place: usize,
-    unit: usize,
-    scope: usize,
-    namespace: usize,
-    file: usize,
-}
-
-/// An external or an include: the file that it names, the prefix behind `inherit =`, and the byte of
-/// its literal.
-#[derive(Clone, Copy)]
-struct Named {
-    target: Option<usize>,
-    inherit: Option<Span>,
-    at: usize,
-}
-
-impl Named {
-    fn new(target: Option<usize>, inherit: Option<Span>, at: usize) -> Self {
-        Named {
-            target,
-            inherit,
-            at,
-        }
-    }
-
-    /// The unit of the file.
-    fn unit(self, units: &Units<'_>, here: Here) -> Result<usize, LiftFault> {
-        match self.target.and_then(|file| units.number(file, 0)) {
-            Some(unit) => Ok(unit),
-            None => Err(fault(here.file, self.at, LiftFaultKind::NoFile)),
-        }
-    }
-}
-
-fn fault(file: usize, at: usize, kind: LiftFaultKind) -> LiftFault {
-    LiftFault { file, at, kind }
-}
+/// The most modules that files may make, without those that bring in scopes.
+pub const MAX_PLACES: usize = 65_536;
 
 /// Which modules files become, of which some are roots: the scopes and places that the roots make,
 /// with all that they lead to (RELAX NG 2001, 4.6, 4.7, 4.18). Files that no root reaches have no
@@ -118,7 +78,7 @@ impl Plan {
 
     /// Makes the links of all places, those that are made on the way too.
     fn link_all(&mut self, alloc: Global, units: &Units<'_>) -> Result<(), LiftFault> {
-        for number in 0..PLACE_LIMIT {
+        for number in 0..MAX_PLACES {
             if number >= self.places.len() {
                 return Ok(());
             }

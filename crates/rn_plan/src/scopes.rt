@@ -1,6 +1,6 @@
 // Scopes, and the places of units in them.
 ghost use Rattle.std.specs.Prelude.{◌≡◌};
-ghost use Rattle.rn_plan.specs.Places.{entry_of};
+ghost use Rattle.rn_plan.specs.Entries.{entry_of};
 
 use crate::namespaces::Namespaces;
 use crate::own_names::Names;
@@ -25,15 +25,18 @@ pub struct Scope {
     pub entry: usize,
     /// The name of the module that brings it in; nothing, for the roots.
     pub module: String,
-    /// The file, and the byte of it, that it was made for.
+    /// The number of the file whose external or nested grammar it was made for.
     pub file: usize,
+    /// The byte of that file's text where the external or the grammar begins.
     pub at: usize,
 }
 
 /// A unit in a scope, which becomes a module.
 #[derive(Drop)]
 pub struct PlacedUnit {
+    /// The number of the unit.
     pub unit: usize,
+    /// The number of the scope.
     pub scope: usize,
     /// The namespace that is handed to it; 0, where it does not need it.
     pub(crate) namespace: usize,
@@ -46,7 +49,9 @@ pub struct PlacedUnit {
 /// What a part leads to: an include to a place; an external and a nested grammar to a scope.
 #[derive(Clone, Copy)]
 pub struct Link {
+    /// The number of the part in its file's outline.
     pub part: usize,
+    /// The number of the place, or of the scope.
     pub to: usize,
 }
 
@@ -69,6 +74,7 @@ pub(crate) struct PlacedUnitKey {
 pub struct Plan {
     /// The first is that of the roots.
     pub scopes: Vec<Scope>,
+    /// In the order in which they were reached from the roots.
     pub places: Vec<PlacedUnit>,
     /// The places of the roots.
     pub roots: Vec<usize>,

@@ -2,9 +2,9 @@
 #![tactic(auto)]
 
 #[cfg(test)]
-mod line_breaks;
+mod comparing;
 #[cfg(test)]
-mod rows;
+mod line_breaks;
 #[cfg(test)]
 mod source_reading;
 #[cfg(test)]

@@ -1,5 +1,5 @@
 // Places in texts.
-use crate::rows::{holds, same_for};
+use crate::comparing::{holds, same_for};
 use rn_files::{Position, line_of, position};
 
 /// A text, a byte of it, and the line, the column and the line's text where it stands.

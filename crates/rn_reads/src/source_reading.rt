@@ -1,5 +1,5 @@
 // Files in memory, read with what they refer to.
-use crate::rows::{granted, made, same_for};
+use crate::comparing::{expect_memory, expect_text, same_for};
 use rn_files::{Asked, Map, MemoryFiles, ReadFault, Reading, Sources, read_sources};
 use std::alloc::{AllocError, Global};
 
@@ -255,7 +255,7 @@ fn answer(alloc: Global, lines: &str) -> Result<String, AllocError> {
 #[test]
 fn rows(rt: HostRuntime) {
     for (lines, wanted) in &ROWS {
-        let found = made(&rt, answer(rt.alloc(), lines));
+        let found = expect_text(&rt, answer(rt.alloc(), lines));
         same_for(&rt, lines, found.as_str(), wanted);
     }
 }
@@ -329,9 +329,9 @@ fn answer_to_many(alloc: Global, count: usize) -> Result<String, AllocError> {
 
 #[test]
 fn too_many_files(rt: HostRuntime) {
-    let found = made(&rt, answer_to_many(rt.alloc(), 1_023));
+    let found = expect_text(&rt, answer_to_many(rt.alloc(), 1_023));
     same_for(&rt, "1,024 files", found.as_str(), "");
-    let found = made(&rt, answer_to_many(rt.alloc(), 1_024));
+    let found = expect_text(&rt, answer_to_many(rt.alloc(), 1_024));
     same_for(
         &rt,
         "1,025 files",
@@ -356,13 +356,13 @@ fn answer_to_spaces(alloc: Global, count: usize) -> Result<String, AllocError> {
 
 #[test]
 fn largest_text(rt: HostRuntime) {
-    let found = made(&rt, answer_to_spaces(rt.alloc(), 4_194_304));
+    let found = expect_text(&rt, answer_to_spaces(rt.alloc(), 4_194_304));
     same_for(&rt, "4 MiB", found.as_str(), "a.rnc [] roots [0]");
 }
 
 #[test]
 fn too_large_text(rt: HostRuntime) {
-    let found = made(&rt, answer_to_spaces(rt.alloc(), 4_194_305));
+    let found = expect_text(&rt, answer_to_spaces(rt.alloc(), 4_194_305));
     same_for(&rt, "a byte more", found.as_str(), "Word(0) File(Large);");
 }
 
@@ -381,7 +381,7 @@ fn answer_to_bytes(alloc: Global, bytes: &[u8]) -> Result<String, AllocError> {
 
 #[test]
 fn texts_that_are_not_utf8(rt: HostRuntime) {
-    let found = made(&rt, answer_to_bytes(rt.alloc(), b"# \xC3\xA9 \xFF"));
+    let found = expect_text(&rt, answer_to_bytes(rt.alloc(), b"# \xC3\xA9 \xFF"));
     same_for(
         &rt,
         "not UTF-8",

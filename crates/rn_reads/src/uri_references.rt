@@ -1,5 +1,5 @@
 // References resolved as RFC 3986, section 5.4, has them, and those that name no file.
-use crate::rows::{made, same_for};
+use crate::comparing::{expect_text, same_for};
 use rn_files::{remove_dot_segments, resolve};
 use std::alloc::{AllocError, Global};
 
@@ -64,7 +64,7 @@ fn shown(alloc: Global, base: &str, reference: &str) -> Result<String, AllocErro
 #[test]
 fn examples_of_the_standard(rt: HostRuntime) {
     for (reference, wanted) in &RESOLVED {
-        let found = made(&rt, shown(rt.alloc(), "http://a/b/c/d;p", reference));
+        let found = expect_text(&rt, shown(rt.alloc(), "http://a/b/c/d;p", reference));
         same_for(&rt, reference, found.as_str(), wanted);
     }
 }
@@ -72,7 +72,7 @@ fn examples_of_the_standard(rt: HostRuntime) {
 #[test]
 fn refused_references(rt: HostRuntime) {
     for (reference, wanted) in &REFUSED {
-        let found = made(&rt, shown(rt.alloc(), "file:///a/b", reference));
+        let found = expect_text(&rt, shown(rt.alloc(), "file:///a/b", reference));
         same_for(&rt, reference, found.as_str(), wanted);
     }
 }
@@ -89,7 +89,7 @@ static BASES: [(&str, &str, &str); 5] = [
 #[test]
 fn other_bases(rt: HostRuntime) {
     for (base, reference, wanted) in &BASES {
-        let found = made(&rt, shown(rt.alloc(), base, reference));
+        let found = expect_text(&rt, shown(rt.alloc(), base, reference));
         same_for(&rt, base, found.as_str(), wanted);
     }
 }
@@ -116,7 +116,7 @@ static PATHS: [(&str, &str); 15] = [
 #[test]
 fn dot_segments(rt: HostRuntime) {
     for (path, wanted) in &PATHS {
-        let found = made(&rt, remove_dot_segments(rt.alloc(), path));
+        let found = expect_text(&rt, remove_dot_segments(rt.alloc(), path));
         same_for(&rt, path, found.as_str(), wanted);
     }
 }

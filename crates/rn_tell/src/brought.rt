@@ -5,17 +5,21 @@ use std::alloc::{AllocError, Global};
 /// The most instances that a set may have; further ones are not looked at.
 pub const MAX_INSTANCES: usize = 512;
 
-/// An instance of a module, and the include that brings it: the number of the instance that has it, and of its part.
+/// An instance of a module.
 #[derive(Clone, Copy, Debug, PartialEq, Eq)]
 pub struct Instance {
+    /// The number of the module.
     pub room: usize,
+    /// The include that brings it: the number of the instance that has it, and of its part; `None` where nobody includes it.
     pub by: Option<(usize, usize)>,
 }
 
-/// A definition that takes part in the schema, and the number of its instance.
+/// A definition that takes part in the schema.
 #[derive(Clone, Copy, Debug, PartialEq, Eq)]
 pub struct Component {
+    /// The definition.
     pub site: Site,
+    /// The number of the instance of its module.
     pub instance: usize,
 }
 

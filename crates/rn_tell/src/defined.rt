@@ -3,12 +3,14 @@ use crate::brought::{Instance, instances_of, is_hidden};
 use crate::sites::{Site, View, key_of, use_of};
 use std::alloc::{AllocError, Global};
 
-/// A definition that takes part in the schema: its key, by which definitions are sorted, its module and its part; and whether
-/// it does so more than once, as its module is included more than once.
+/// A definition that takes part in the schema.
 #[derive(Clone, Copy, Debug, PartialEq, Eq, PartialOrd, Ord)]
 pub struct Defined<'v> {
+    /// Its key, by which definitions are sorted: a name, or nothing for the start.
     pub key: &'v str,
+    /// Its module and its part.
     pub site: Site,
+    /// Whether it takes part more than once, as its module is included more than once.
     pub is_repeated: bool,
 }
 

@@ -6,22 +6,29 @@ use rn_assemble::Refusal;
 use rn_outline::Method;
 use std::alloc::{AllocError, Global};
 
-/// The kind of a refusal.
+/// The kind of a refusal, in the order in which they are tested.
 #[derive(Clone, Copy, Debug, PartialEq, Eq, PartialOrd, Ord)]
 pub enum Kind {
+    /// An include overrides what is not there (RELAX NG 2001, 4.7).
     Override,
+    /// A name is defined twice by `=` (4.17).
     PlainTwice,
+    /// A name is combined by both methods (4.17).
     MixedMethods,
+    /// There is no start (4.18).
     NoStart,
+    /// A name is referred to and not defined (4.18).
     Undefined,
 }
 
-/// A refusal: its kind; of `Override` the module whose include is at fault, else nothing; and the key or the name, nothing
-/// for the start.
+/// A refusal that was found.
 #[derive(Clone, Copy, Debug, PartialEq, Eq, PartialOrd, Ord)]
 pub struct Found<'v> {
+    /// Its kind.
     pub kind: Kind,
+    /// Of `Override` the module whose include is at fault, else nothing.
     pub module: &'v str,
+    /// The key or the name; nothing for the start.
     pub key: &'v str,
 }
 

@@ -25,24 +25,30 @@ pub enum Grade {
     Note,
 }
 
-/// A place in the files: the number of the file, and a byte of its text.
+/// A place in the files.
 #[derive(Clone, Copy, Debug, PartialEq, Eq)]
 pub struct Spot {
+    /// The number of the file.
     pub file: usize,
+    /// The byte of its text.
     pub at: usize,
 }
 
 /// A sentence about a place, or about all files.
 #[derive(Debug, Drop)]
 pub struct Message {
+    /// The place; `None` where it is about all files.
     pub spot: Option<Spot>,
+    /// What is wrong there, without a stop at its end.
     pub sentence: String,
 }
 
-/// What is told: messages, at most `MAX_TOLD`, and how many faults there are more.
+/// What is told.
 #[derive(Debug, Drop)]
 pub struct Told {
+    /// At most [`MAX_TOLD`], in the order in which they are printed.
     pub messages: Vec<Message>,
+    /// How many faults there are more.
     pub further: usize,
 }
 
@@ -74,11 +80,14 @@ impl Told {
     }
 }
 
-/// A file as messages show it: the name of its module, its path, and its text or a front of it.
+/// A file as messages show it.
 #[derive(Clone, Copy, Debug)]
 pub struct Page<'a> {
+    /// The name of its module.
     pub name: &'a str,
+    /// Its path, as it is told to people.
     pub path: &'a str,
+    /// Its text, or a front of it.
     pub text: &'a str,
 }
 
@@ -111,13 +120,15 @@ pub fn attempt_pages(alloc: Global, files: &[Attempt]) -> Result<Vec<Page<'_>>, 
 /// Whether messages are shown in colours.
 #[derive(Clone, Copy, Debug, PartialEq, Eq)]
 pub enum Colours {
+    /// No colours.
     Plain,
+    /// Those of a terminal.
     Terminal,
 }
 
 /// What is told, as lines: for each message `FILE:LINE:COLUMN: error: SENTENCE`, the line of the file, and a caret below the
 /// place; then a note that says how many faults are not told. A character that would control a terminal is shown as `?`. Of
-/// a line of more than 160 characters a part is shown.
+/// a line of more than [`SHOWN`] characters a part is shown.
 pub fn told_lines(
     alloc: Global,
     pages: &[Page<'_>],

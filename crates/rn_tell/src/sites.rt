@@ -20,14 +20,18 @@ pub struct Room {
 /// The modules, and what each is made of.
 #[derive(Debug, Drop)]
 pub struct View<'a> {
+    /// The modules.
     pub lifted: &'a Lifted,
+    /// What each is made of, in their order.
     pub rooms: Vec<Room>,
 }
 
-/// A definition: the number of its module and the number of its part.
+/// A part of a module.
 #[derive(Clone, Copy, Debug, PartialEq, Eq, PartialOrd, Ord)]
 pub struct Site {
+    /// The number of the module.
     pub room: usize,
+    /// The number of the part among those of the module.
     pub part: usize,
 }
 

@@ -2,7 +2,7 @@
 ghost use Rattle.std.specs.Prelude.{All, IfOk, IsTrue};
 ghost use Rattle.rn_pattern.specs.Store.{KeepsTrees};
 
-use crate::memory::{MAIN, SET, tell};
+use crate::memory::{MAIN, SET, print_answer};
 use crate::samples::{BEGIN, END, is_reference, mark, name, written_set};
 use crate::steps::{over, stepped};
 use rn_assemble::{Grammar, Refusal, assemble};
@@ -49,7 +49,7 @@ fn names(alloc: Global) -> Result<NameClass, AllocError> {
 }
 
 /// A pattern of each constructor, of the numbers 0 to 12, over patterns of the store.
-pub fn made<P: Patterns>(
+pub fn constructed_pattern<P: Patterns>(
     store: &mut P,
     parts: &Parts,
     a: P::Id,
@@ -101,7 +101,7 @@ fn is_refused<P: Patterns>(
     members.push(b).expect(rt, "no memory");
     members.push(a).expect(rt, "no memory");
     mark(rt.alloc(), BEGIN);
-    let answer = made(store, parts, a, members.as_slice(), number);
+    let answer = constructed_pattern(store, parts, a, members.as_slice(), number);
     mark(rt.alloc(), END);
     let are_kept = is_reference(store, a, "a") && is_reference(store, b, "b");
     assert!(rt; are_kept, "a pattern is lost");
@@ -119,7 +119,7 @@ fn constructors_of_a_plain_store(rt: HostRuntime) {
             was_refused = true;
         }
     }
-    tell(&rt, was_refused);
+    print_answer(&rt, was_refused);
 }
 
 #[test]
@@ -133,7 +133,7 @@ fn constructors_of_an_interned_store(rt: HostRuntime) {
             was_refused = true;
         }
     }
-    tell(&rt, was_refused);
+    print_answer(&rt, was_refused);
 }
 
 /// Whether a step on patterns is refused.
@@ -152,7 +152,7 @@ fn steps_on_patterns(rt: HostRuntime) {
     for number in 4..13 {
         was_refused |= is_refused_step(&rt, &parts, number);
     }
-    tell(&rt, was_refused);
+    print_answer(&rt, was_refused);
 }
 
 #[test]
@@ -165,7 +165,7 @@ fn a_module_is_read(rt: HostRuntime) {
         Ok(module) => assert_eq!(rt; module.items.len(), 3),
         Err(fault) => assert!(rt; *fault == SyntaxFault::Memory, "memory is refused"),
     }
-    tell(&rt, answer.is_err());
+    print_answer(&rt, answer.is_err());
 }
 
 #[test]
@@ -178,7 +178,7 @@ fn includes_are_listed(rt: HostRuntime) {
     if let Ok(literals) = &answer {
         assert!(rt; literals.as_slice() == ["lib", "lib"].as_slice());
     }
-    tell(&rt, answer.is_err());
+    print_answer(&rt, answer.is_err());
 }
 
 /// Whether memory is refused to what assembles a set, of which the grammar has one definition.
@@ -201,7 +201,7 @@ fn is_assembled(rt: &impl Abort, answer: &Result<Grammar, Refusal>) {
 #[test]
 fn a_set_is_assembled(rt: HostRuntime) {
     let set = written_set(rt.alloc(), SET).expect(&rt, "no set");
-    tell(&rt, is_refused_grammar(&rt, &set));
+    print_answer(&rt, is_refused_grammar(&rt, &set));
 }
 
 #[test]
@@ -217,5 +217,5 @@ fn names_and_stores_need_no_memory(rt: HostRuntime) {
     mark(rt.alloc(), END);
     assert!(rt; are_told && is_kept, "names and stores are told");
     assert!(rt; plain == 0 && interned == 0, "new stores are empty");
-    tell(&rt, false);
+    print_answer(&rt, false);
 }

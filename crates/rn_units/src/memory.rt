@@ -1,15 +1,15 @@
 // Calls on texts, literals, sets and bundles, with their requests for memory refused in turn by what tests/out-of-memory loads
 // before the tests' program. A call that is refused answers want of memory, in its own type, and leaves what it was lent.
 // Without a refusal, as in the gate, it gives its own answer. Each test tells whether a call was refused.
-use crate::samples::{BEGIN, END, ONE, contribution, held, mark, written_set};
+use crate::samples::{BEGIN, END, ONE, answer_word, contribution, held, mark, written_set};
 use rn_modset::{AddFault, BundleFault, ModuleSet, SetFault, read_bundle, write_bundle};
 use rn_text::{TextFault, literal, tokens, write_literal};
 use std::process::Abort;
 
-/// Tells whether a call was refused.
-pub fn tell(rt: &(impl Abort + Print), is_refused: bool) {
-    let told = if is_refused { "refused" } else { "answered" };
-    println!(rt; "{told}").expect(rt, "nothing is told");
+/// Prints whether a call was refused.
+pub fn print_answer(rt: &(impl Abort + Print), is_refused: bool) {
+    let word = answer_word(is_refused);
+    println!(rt; "{word}").expect(rt, "nothing is printed");
 }
 
 /// A module.
@@ -28,7 +28,7 @@ fn a_text_is_cut(rt: HostRuntime) {
         Ok(found) => assert_eq!(rt; found.len(), 11),
         Err(fault) => assert!(rt; *fault == TextFault::Memory, "memory is refused"),
     }
-    tell(&rt, answer.is_err());
+    print_answer(&rt, answer.is_err());
 }
 
 #[test]
@@ -41,7 +41,7 @@ fn a_literal_is_read(rt: HostRuntime) {
     if let Ok(text) = &answer {
         assert_eq!(rt; text.as_str(), "A");
     }
-    tell(&rt, answer.is_err());
+    print_answer(&rt, answer.is_err());
 }
 
 /// Four contributions, as a set is written. With them it is full of what it asked room for, so a fifth one asks for more.
@@ -73,7 +73,7 @@ fn a_contribution_is_added(rt: HostRuntime) {
         }
     };
     holds_these(&rt, &set, wanted);
-    tell(&rt, answer.is_err());
+    print_answer(&rt, answer.is_err());
 }
 
 #[test]
@@ -90,7 +90,7 @@ fn sets_are_joined(rt: HostRuntime) {
         Err(_) => FOUR_HELD,
     };
     holds_these(&rt, &set, wanted);
-    tell(&rt, answer.is_err());
+    print_answer(&rt, answer.is_err());
 }
 
 #[test]
@@ -102,7 +102,7 @@ fn a_bundle_is_written(rt: HostRuntime) {
     if let Ok(bytes) = &answer {
         assert_eq!(rt; bytes.as_slice(), ONE.as_bytes());
     }
-    tell(&rt, answer.is_err());
+    print_answer(&rt, answer.is_err());
 }
 
 #[test]
@@ -114,7 +114,7 @@ fn a_bundle_is_read(rt: HostRuntime) {
         Ok(set) => holds_these(&rt, set, "t 7\n"),
         Err(fault) => assert!(rt; *fault == BundleFault::Memory, "memory is refused"),
     }
-    tell(&rt, answer.is_err());
+    print_answer(&rt, answer.is_err());
 }
 
 #[test]
@@ -128,7 +128,7 @@ fn a_literal_is_written(rt: HostRuntime) {
         Err(_) => "x",
     };
     assert_eq!(rt; out.as_str(), wanted);
-    tell(&rt, answer.is_err());
+    print_answer(&rt, answer.is_err());
 }
 
 #[test]
@@ -141,7 +141,7 @@ fn effective_modules_are_found(rt: HostRuntime) {
         Ok(modules) => assert_eq!(rt; modules.iter().count(), 2),
         Err(fault) => assert!(rt; *fault == SetFault::Memory, "memory is refused"),
     }
-    tell(&rt, answer.is_err());
+    print_answer(&rt, answer.is_err());
 }
 
 #[test]
@@ -155,7 +155,7 @@ fn what_a_set_tells_needs_no_memory(rt: HostRuntime) {
     mark(rt.alloc(), END);
     assert!(rt; is_held && is_added && is_empty, "the set tells it");
     holds_these(&rt, &set, FOUR_HELD);
-    tell(&rt, false);
+    print_answer(&rt, false);
 }
 
 #[test]
@@ -168,5 +168,5 @@ fn what_is_effective_needs_no_memory(rt: HostRuntime) {
     mark(rt.alloc(), END);
     let is_right = count == 3 && text == Some(b"y".as_slice());
     assert!(rt; is_right, "the modules are told");
-    tell(&rt, false);
+    print_answer(&rt, false);
 }

@@ -141,6 +141,11 @@ pub const BEGIN: usize = 7_654_321;
 /// How many bytes the request that is the second mark asks for: the requests after it are granted again.
 pub const END: usize = 7_654_322;
 
+/// What a test prints of a call between the marks: whether it was refused.
+pub fn answer_word(is_refused: bool) -> &'static str {
+    if is_refused { "refused" } else { "answered" }
+}
+
 /// Makes a mark.
 pub fn mark(alloc: Global, bytes: usize) {
     let room: Result<Vec<u8>, AllocError> = Vec::with_capacity(alloc, bytes);

@@ -2,7 +2,7 @@
 ghost use Rattle.std.specs.Prelude.{◌≡◌, ◌∷◌, [], All, IfOk, IsTrue};
 ghost use Rattle.rn_pattern.specs.Store.{KeepsIds};
 
-use crate::layers::{Parts, given, made};
+use crate::layers::{Parts, constructed_pattern, given};
 use crate::pattern_lines::pattern_line;
 use rn_pattern::steps::{
     attribute_over, choice_over, datum_over, element_over, group_over, interleave_over, list_over,
@@ -244,7 +244,10 @@ fn constructs<P: Patterns>(
     members.push(a).expect(rt, "no memory");
     members.push(b).expect(rt, "no memory");
     members.push(c).expect(rt, "no memory");
-    let id = made(store, parts, a, members.as_slice(), number).expect(rt, "no memory");
+    let id = constructed_pattern(store, parts, a, members.as_slice(), number).expect(
+        rt,
+        "no memory",
+    );
     assert!(rt; is_same(store, id, wanted), "{number} of {atoms:?}");
 }
 

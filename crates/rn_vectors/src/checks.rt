@@ -1,6 +1,6 @@
 // Module texts, and the one fault of each.
 use crate::merges::line_of;
-use crate::rows::{Subject, each_line, holds, made, owned, push, repeated, same, same_for};
+use crate::rows::{Subject, each_line, expect_text, holds, owned, push, repeated, same, same_for};
 use rn_merge::{Place, ProgramFault, check, status};
 use std::alloc::Global;
 use std::process::Abort;
@@ -179,7 +179,7 @@ fn large_texts_are_read(rt: HostRuntime) {
 #[test]
 fn large_texts_have_their_fault_at_the_end(rt: HostRuntime) {
     for (front, piece, count, length) in &LARGE {
-        let wanted = made(&rt, format!(in rt.alloc(); "Syntax {length}"));
+        let wanted = expect_text(&rt, format!(in rt.alloc(); "Syntax {length}"));
         let text = repeated(&rt, front, piece, *count, ")");
         answers(&rt, piece, text.as_str(), wanted.as_str());
     }

@@ -2,7 +2,7 @@
 use crate::merges::{
     FIRST_LINE, answer, answer_of_text, merged, prints_again, prints_in_either_store,
 };
-use crate::rows::{holds, made, owned, push, repeated, same, same_count, written_set};
+use crate::rows::{expect_text, holds, owned, push, repeated, same, same_count, written_set};
 use rn_modset::ModuleSet;
 use rn_units::samples::module;
 use std::process::Abort;
@@ -15,7 +15,7 @@ fn add_text(rt: &(impl Abort + AllocGlobal), set: &mut ModuleSet, name: &str, te
 
 /// The name of a module by its number.
 fn numbered(rt: &(impl Abort + AllocGlobal), number: usize) -> String {
-    made(rt, format!(in rt.alloc(); "c{number:03}"))
+    expect_text(rt, format!(in rt.alloc(); "c{number:03}"))
 }
 
 /// Adds a module of revision 1 that is named by its number.
@@ -30,7 +30,7 @@ fn including(rt: &(impl Abort + AllocGlobal), number: usize, next: usize) -> Str
     } else {
         ""
     };
-    made(
+    expect_text(
         rt,
         format!(in rt.alloc(); "include \"m{next}\" include \"m{next}\" {start}"),
     )
@@ -38,7 +38,7 @@ fn including(rt: &(impl Abort + AllocGlobal), number: usize, next: usize) -> Str
 
 /// Adds a module of revision 1, m`number`.
 fn add_short(rt: &(impl Abort + AllocGlobal), set: &mut ModuleSet, number: usize, text: &str) {
-    let name = made(rt, format!(in rt.alloc(); "m{number}"));
+    let name = expect_text(rt, format!(in rt.alloc(); "m{number}"));
     add_text(rt, set, name.as_str(), text);
 }
 
@@ -58,7 +58,7 @@ fn tower(rt: &(impl Abort + AllocGlobal), last: usize) -> ModuleSet {
     let mut set = ModuleSet::new(rt.alloc());
     for number in 0..last {
         let next = number + 1;
-        let text = made(rt, format!(in rt.alloc(); "include \"c{next:03}\""));
+        let text = expect_text(rt, format!(in rt.alloc(); "include \"c{next:03}\""));
         add_numbered(rt, &mut set, number, text.as_str());
     }
     add_numbered(rt, &mut set, last, "start = text");
@@ -194,7 +194,7 @@ fn prints_itself(rt: &(impl Abort + AllocGlobal), text: &str) {
 
 /// The definition of a reference by the next one.
 fn link(rt: &(impl Abort + AllocGlobal), number: usize, next: usize) -> String {
-    made(rt, format!(in rt.alloc(); "x{number:06} = x{next:06}\n"))
+    expect_text(rt, format!(in rt.alloc(); "x{number:06} = x{next:06}\n"))
 }
 
 #[test]
@@ -217,7 +217,7 @@ fn counted(
 ) -> String {
     let mut text = owned(rt, front);
     for number in 0..count {
-        let piece = made(rt, format!(in rt.alloc(); "{before}{number:06}{behind}"));
+        let piece = expect_text(rt, format!(in rt.alloc(); "{before}{number:06}{behind}"));
         push(rt, &mut text, piece.as_str());
     }
     text
@@ -225,14 +225,14 @@ fn counted(
 
 /// A schema of an element of as many references, with a separator between two, and of their definitions.
 fn listed(rt: &(impl Abort + AllocGlobal), count: usize, separator: &str) -> String {
-    let before = made(rt, format!(in rt.alloc(); "{separator}x"));
+    let before = expect_text(rt, format!(in rt.alloc(); "{separator}x"));
     let members = counted(rt, "", before.as_str(), count, "");
     let members = members
         .as_str()
         .strip_prefix(separator)
         .expect(rt, "no member");
     let definitions = counted(rt, "", "x", count, " = text\n");
-    made(
+    expect_text(
         rt,
         format!(in rt.alloc(); "start = element r {{ {members} }}\n{definitions}"),
     )
@@ -273,7 +273,7 @@ fn a_literal_is_long(rt: HostRuntime) {
 
 /// A definition of x by `|=`.
 fn definition(rt: &(impl Abort + AllocGlobal), number: usize) -> String {
-    made(
+    expect_text(
         rt,
         format!(in rt.alloc(); "x |= element e{number} {{ empty }} "),
     )
@@ -308,7 +308,7 @@ fn ten_million_components_are_combined(rt: HostRuntime) {
 
 /// The text of a module that overrides the x of the next.
 fn override_of(rt: &(impl Abort + AllocGlobal), number: usize, next: usize) -> String {
-    made(
+    expect_text(
         rt,
         format!(in rt.alloc(); "include \"c{next:03}\" {{ x = element e{number} {{ empty }} }}"),
     )

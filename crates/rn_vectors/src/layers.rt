@@ -1,5 +1,5 @@
 // What makes the schema of a grammar, with its requests for memory refused in turn as in `memory`.
-use crate::memory::{is_refused_answer, tell};
+use crate::memory::{is_refused_answer, print_answer};
 use crate::merges::{self, shown};
 use crate::rows::{holds, same_count, written_set};
 use rn_assemble::{Grammar, Refusal};
@@ -31,7 +31,7 @@ fn is_normalised(rt: &impl Abort, answer: &Result<Normal, AllocError>) {
 #[test]
 fn a_grammar_is_normalised(rt: HostRuntime) {
     let grammar = grammar(&rt);
-    tell(&rt, is_refused_normal(&rt, &grammar));
+    print_answer(&rt, is_refused_normal(&rt, &grammar));
 }
 
 /// Whether a grammar's canonical form is refused in a store of two references, which stay.
@@ -58,7 +58,7 @@ fn grammar(rt: &(impl Abort + AllocGlobal)) -> Box<Grammar> {
 #[test]
 fn a_grammar_is_normalised_in_a_plain_store(rt: HostRuntime) {
     let grammar = grammar(&rt);
-    tell(
+    print_answer(
         &rt,
         is_refused_in(&rt, &grammar, &mut Plain::new(rt.alloc())),
     );
@@ -67,7 +67,7 @@ fn a_grammar_is_normalised_in_a_plain_store(rt: HostRuntime) {
 #[test]
 fn a_grammar_is_normalised_in_an_interned_store(rt: HostRuntime) {
     let grammar = grammar(&rt);
-    tell(
+    print_answer(
         &rt,
         is_refused_in(&rt, &grammar, &mut Interned::new(rt.alloc())),
     );
@@ -94,7 +94,7 @@ fn normal(rt: &(impl Abort + AllocGlobal)) -> Box<Normal> {
 fn a_canonical_grammar_is_printed(rt: HostRuntime) {
     let normal = normal(&rt);
     let answer = printed(&rt, &normal);
-    tell(
+    print_answer(
         &rt,
         is_refused_answer(&rt, answer, "start = element r { y }\ny = text\n"),
     );
@@ -109,5 +109,5 @@ fn what_grammars_tell_needs_no_memory(rt: HostRuntime) {
     let counts = (grammar.defs().len(), normal.defs().len());
     mark(rt.alloc(), END);
     holds(&rt, is_same && counts == (1, 1), "grammars are told");
-    tell(&rt, false);
+    print_answer(&rt, false);
 }

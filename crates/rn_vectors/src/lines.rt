@@ -1,5 +1,5 @@
 // Words, lines, sources and sinks.
-use crate::rows::{Subject, contribution, each_line, holds, made, owned, same};
+use crate::rows::{Subject, contribution, each_line, expect_text, holds, owned, same};
 use rn_assemble::{Key, Refusal};
 use rn_merge::{Job, Place, ProgramFault, fault_line, list_line, plan, refusal_line, status};
 use rn_modset::{AddFault, BundleFault};
@@ -117,9 +117,9 @@ fn words_refused(rt: HostRuntime) {
 
 /// This is no revision, where a module is packed and where it is withdrawn.
 fn refuses_revision(rt: &(impl Abort + AllocGlobal), revision: &str) {
-    let pack = made(rt, format!(in rt.alloc(); "pack/a/{revision}/f"));
+    let pack = expect_text(rt, format!(in rt.alloc(); "pack/a/{revision}/f"));
     refuses(rt, pack.as_str(), &ProgramFault::Rev);
-    let withdraw = made(rt, format!(in rt.alloc(); "withdraw/a/{revision}"));
+    let withdraw = expect_text(rt, format!(in rt.alloc(); "withdraw/a/{revision}"));
     refuses(rt, withdraw.as_str(), &ProgramFault::Rev);
 }
 
@@ -173,7 +173,11 @@ fn words_of_other_jobs(rt: HostRuntime) {
 
 /// The fault has this line, and the program then ends with this status.
 fn ends(rt: &(impl Abort + AllocGlobal), fault: ProgramFault, line: &str, number: u8) {
-    same(rt, made(rt, fault_line(rt.alloc(), &fault)).as_str(), line);
+    same(
+        rt,
+        expect_text(rt, fault_line(rt.alloc(), &fault)).as_str(),
+        line,
+    );
     holds(rt, status(&fault) == number, line);
 }
 
@@ -212,7 +216,7 @@ fn fault_lines_of_bundles(rt: HostRuntime) {
 /// A contribution has this line in a list.
 fn is_listed(rt: &(impl Abort + AllocGlobal), written: &str, wanted: &str) {
     let line = list_line(rt.alloc(), &contribution(rt, written));
-    same(rt, made(rt, line).as_str(), wanted);
+    same(rt, expect_text(rt, line).as_str(), wanted);
 }
 
 #[test]
@@ -260,7 +264,7 @@ fn fault_lines_of_refusals(rt: HostRuntime) {
 fn shows(rt: &(impl Abort + AllocGlobal), refusal: Refusal, line: &str) {
     same(
         rt,
-        made(rt, refusal_line(rt.alloc(), &refusal)).as_str(),
+        expect_text(rt, refusal_line(rt.alloc(), &refusal)).as_str(),
         line,
     );
 }

@@ -4,7 +4,7 @@ ghost use Rattle.std.specs.Prelude.{◌<◌, ◌≤◌};
 
 use crate::drawing::Draw;
 use crate::merges::{BothStores, Merge, MergeAgain, merged, prints_in_either_store};
-use crate::rows::{each_schema, made, owned, push, same_for, written_set};
+use crate::rows::{each_schema, expect_text, owned, push, same_for, written_set};
 use std::process::Abort;
 
 /// Lists of which some members are lists of the same kind, or come to that, or to nothing.
@@ -150,7 +150,7 @@ fn draw_list(rt: &(impl Abort + AllocGlobal), draw: &mut Draw, connector: &str, 
 
 /// The schema of a module whose start has that content, which is printed through either store too.
 fn schema(rt: &(impl Abort + AllocGlobal), content: &str, definitions: &str) -> String {
-    let text = made(
+    let text = expect_text(
         rt,
         format!(in rt.alloc();
             "start = element r {{ {content} }}\nx = element x {{ text }}{definitions}"

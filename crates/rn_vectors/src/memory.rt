@@ -2,7 +2,9 @@
 // before the tests' program. A call that is refused answers want of memory, in its own type, and leaves what it was lent.
 // Without a refusal, as in the gate, it gives its own answer. Each test tells whether a call was refused.
 use crate::merges::{line_of, shown};
-use crate::rows::{contribution, holds, made, owned, repeated, same, same_bytes, written_set};
+use crate::rows::{
+    contribution, expect_text, holds, owned, repeated, same, same_bytes, written_set,
+};
 use crate::streams::{A, B, PRINTED, bundles, sink_of};
 use rn_assemble::Refusal;
 use rn_merge::{
@@ -10,14 +12,14 @@ use rn_merge::{
     list_line, merge, refusal_line, run_print, status,
 };
 use rn_modset::{BundleFault, ModuleSet};
-use rn_units::samples::{BEGIN, END, mark};
+use rn_units::samples::{BEGIN, END, answer_word, mark};
 use std::alloc::AllocError;
 use std::process::Abort;
 
-/// Tells whether a call was refused.
-pub fn tell(rt: &(impl Abort + Print), is_refused: bool) {
-    let told = if is_refused { "refused" } else { "answered" };
-    println!(rt; "{told}").expect(rt, "nothing is told");
+/// Prints whether a call was refused.
+pub fn print_answer(rt: &(impl Abort + Print), is_refused: bool) {
+    let word = answer_word(is_refused);
+    println!(rt; "{word}").expect(rt, "nothing is printed");
 }
 
 /// Sets, and what a merge answers for them.
@@ -99,7 +101,7 @@ fn sets_are_merged(rt: HostRuntime) {
         let answer = merged(&rt, &written_set(&rt, set));
         was_refused |= is_refused_answer(&rt, answer, wanted);
     }
-    tell(&rt, was_refused);
+    print_answer(&rt, was_refused);
 }
 
 /// What a check answers, as rows write it, where it isn't refused memory.
@@ -127,7 +129,7 @@ fn texts_are_checked(rt: HostRuntime) {
     ] {
         was_refused |= is_refused_answer(&rt, checked(&rt, text), wanted);
     }
-    tell(&rt, was_refused);
+    print_answer(&rt, was_refused);
 }
 
 #[test]
@@ -143,7 +145,7 @@ fn bundles_are_printed(rt: HostRuntime) {
     holds(&rt, is_refused || is_done, "the run is done or refused");
     let wanted = if is_done { PRINTED } else { "" };
     same_bytes(&rt, out.taken.as_slice(), wanted.as_bytes());
-    tell(&rt, is_refused);
+    print_answer(&rt, is_refused);
 }
 
 /// Whether a text is refused, which is this one otherwise.
@@ -159,7 +161,7 @@ fn a_refusal_has_its_line(rt: HostRuntime) {
     mark(rt.alloc(), BEGIN);
     let answer = refusal_line(rt.alloc(), &refusal);
     mark(rt.alloc(), END);
-    tell(&rt, is_refused(&rt, answer, "Missing main \"gone\""));
+    print_answer(&rt, is_refused(&rt, answer, "Missing main \"gone\""));
 }
 
 #[test]
@@ -169,8 +171,8 @@ fn a_contribution_has_its_line(rt: HostRuntime) {
     let answer = list_line(rt.alloc(), &given);
     mark(rt.alloc(), END);
     let digest = "ba7816bf8f01cfea414140de5dae2223b00361a396177a9cb410ff61f20015ad";
-    let wanted = made(&rt, format!(in rt.alloc(); "t 7 3 {digest}"));
-    tell(&rt, is_refused(&rt, answer, wanted.as_str()));
+    let wanted = expect_text(&rt, format!(in rt.alloc(); "t 7 3 {digest}"));
+    print_answer(&rt, is_refused(&rt, answer, wanted.as_str()));
 }
 
 #[test]
@@ -179,7 +181,7 @@ fn a_fault_has_its_line(rt: HostRuntime) {
     mark(rt.alloc(), BEGIN);
     let answer = fault_line(rt.alloc(), &fault);
     mark(rt.alloc(), END);
-    tell(&rt, is_refused(&rt, answer, "bundle 1 Header 2"));
+    print_answer(&rt, is_refused(&rt, answer, "bundle 1 Header 2"));
 }
 
 #[test]
@@ -192,5 +194,5 @@ fn streams_and_statuses_need_no_memory(rt: HostRuntime) {
     let number = status(&ProgramFault::Dash);
     mark(rt.alloc(), END);
     holds(&rt, is_new && number == 2, "the streams are new");
-    tell(&rt, false);
+    print_answer(&rt, false);
 }

@@ -1,5 +1,5 @@
 // What a merge answers for sets, and what its layers do. A helper that lacks memory, or is given what it can't take, ends its test.
-use crate::rows::{Subject, made, owned, same, same_for, written_set};
+use crate::rows::{Subject, expect_text, owned, same, same_for, written_set};
 use rn_assemble::{Grammar, Refusal, assemble};
 use rn_merge::{ProgramFault, fault_line, merge, refusal_line};
 use rn_modset::ModuleSet;
@@ -24,7 +24,7 @@ pub fn merged(rt: &(impl Abort + AllocGlobal), text: &str) -> String {
 pub fn shown(rt: &(impl Abort + AllocGlobal), answer: Result<String, Refusal>) -> String {
     match answer {
         Ok(text) => owned(rt, lines_of(rt, text.as_str())),
-        Err(refusal) => made(rt, refusal_line(rt.alloc(), &refusal)),
+        Err(refusal) => expect_text(rt, refusal_line(rt.alloc(), &refusal)),
     }
 }
 
@@ -60,7 +60,7 @@ pub struct MergeAgain;
 impl Subject for MergeAgain {
     fn answers<R: Abort + AllocGlobal>(&self, rt: &R, given: &str, _wanted: &str) {
         let text = printed(rt, &written_set(rt, given));
-        let again = made(rt, format!(in rt.alloc(); "@z 9\n{text}"));
+        let again = expect_text(rt, format!(in rt.alloc(); "@z 9\n{text}"));
         let again = printed(rt, &written_set(rt, again.as_str()));
         same_for(rt, given, again.as_str(), text.as_str());
     }
@@ -69,7 +69,7 @@ impl Subject for MergeAgain {
 /// What a set prints is printed again, as a set of its own.
 pub fn prints_again(rt: &(impl Abort + AllocGlobal), set: &ModuleSet) {
     let text = printed(rt, set);
-    let again = made(rt, format!(in rt.alloc(); "@z 9\n{text}"));
+    let again = expect_text(rt, format!(in rt.alloc(); "@z 9\n{text}"));
     let again = printed(rt, &written_set(rt, again.as_str()));
     same(rt, again.as_str(), text.as_str());
 }
@@ -124,5 +124,5 @@ pub fn prints_in_either_store(rt: &(impl Abort + AllocGlobal), set: &ModuleSet) 
 
 /// The line of a fault.
 pub fn line_of(rt: &(impl Abort + AllocGlobal), fault: ProgramFault) -> String {
-    made(rt, fault_line(rt.alloc(), &fault))
+    expect_text(rt, fault_line(rt.alloc(), &fault))
 }

@@ -2,7 +2,7 @@
 // components have the same body.
 use crate::drawing::Draw;
 use crate::merges::{answer, prints_in_either_store};
-use crate::rows::{made, owned, push, same_for, written_set};
+use crate::rows::{expect_text, owned, push, same_for, written_set};
 use std::process::Abort;
 
 /// What a module may define: `n` is worth notAllowed, and `m` empty.
@@ -41,35 +41,35 @@ fn draw_module(rt: &(impl Abort + AllocGlobal), draw: &mut Draw, count: usize) -
 
 /// The driver with its includes, and one module with the text.
 fn set_of_one(rt: &(impl Abort + AllocGlobal), text: &str) -> String {
-    let mut set = made(rt, format!(in rt.alloc(); "@main\n{DRIVER}"));
+    let mut set = expect_text(rt, format!(in rt.alloc(); "@main\n{DRIVER}"));
     for _ in 0..TIMES {
         push(rt, &mut set, " include \"lib\"");
     }
     push(
         rt,
         &mut set,
-        made(rt, format!(in rt.alloc(); "\n@lib\n{text}")).as_str(),
+        expect_text(rt, format!(in rt.alloc(); "\n@lib\n{text}")).as_str(),
     );
     set
 }
 
 /// The same with a module for each include.
 fn set_of_many(rt: &(impl Abort + AllocGlobal), text: &str) -> String {
-    let mut driver = made(rt, format!(in rt.alloc(); "@main\n{DRIVER}"));
+    let mut driver = expect_text(rt, format!(in rt.alloc(); "@main\n{DRIVER}"));
     let mut modules = owned(rt, "");
     for i in 0..TIMES {
         push(
             rt,
             &mut driver,
-            made(rt, format!(in rt.alloc(); " include \"lib{i}\"")).as_str(),
+            expect_text(rt, format!(in rt.alloc(); " include \"lib{i}\"")).as_str(),
         );
         push(
             rt,
             &mut modules,
-            made(rt, format!(in rt.alloc(); "\n@lib{i}\n{text}")).as_str(),
+            expect_text(rt, format!(in rt.alloc(); "\n@lib{i}\n{text}")).as_str(),
         );
     }
-    made(rt, format!(in rt.alloc(); "{driver}{modules}"))
+    expect_text(rt, format!(in rt.alloc(); "{driver}{modules}"))
 }
 
 #[test]

@@ -41,7 +41,7 @@ pub fn push(rt: &impl Abort, out: &mut String, text: &str) {
 }
 
 /// A text that was asked for.
-pub fn made(rt: &impl Abort, text: Result<String, AllocError>) -> String {
+pub fn expect_text(rt: &impl Abort, text: Result<String, AllocError>) -> String {
     text.expect(rt, "no memory")
 }
 
@@ -53,7 +53,7 @@ pub fn repeated(
     count: usize,
     end: &str,
 ) -> String {
-    made(rt, samples::repeated(rt.alloc(), front, piece, count, end))
+    expect_text(rt, samples::repeated(rt.alloc(), front, piece, count, end))
 }
 
 /// The contribution written, as `samples` has it.

@@ -18,6 +18,7 @@ const ATTEMPTS: usize = 100;
 /// The files of the system, as they are read.
 #[derive(Drop)]
 pub struct System<'a> {
+    /// What asks the system.
     pub rt: &'a HostRuntime,
 }
 
@@ -69,6 +70,7 @@ fn fault_of(error: &io::Error) -> FileFault {
 /// The files of the system, as they are written.
 #[derive(Drop)]
 pub struct Written<'a> {
+    /// What asks the system.
     pub rt: &'a HostRuntime,
 }
 

@@ -1,6 +1,6 @@
 use Rattle.std.proofs.Common.{◌≡◌, take}
 use Rattle.std.specs.Prelude.{string_bytes}
-use Rattle.rn_files.specs.Escapes.{file_uri}
+use Rattle.rn_files.specs.inside.FileUris.{file_uri}
 use Rattle.rn_files.proofs.escapes.file_uri.Given as goal
 
 abbrev pub invariant-loop-byte : goal.invariant-loop-byte

@@ -1,5 +1,5 @@
 use Rattle.std.proofs.Common.{All}
-use Rattle.rn_files.specs.Following.{IsFollowed}
+use Rattle.rn_files.specs.inside.Following.{IsFollowed}
 use Rattle.rn_files.proofs.following.follow_all.Given as goal
 
 -- what was read so far is what is given

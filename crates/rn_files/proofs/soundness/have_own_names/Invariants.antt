@@ -1,5 +1,5 @@
 use Rattle.std.proofs.Common.{◌≡◌, length}
-use Rattle.rn_files.specs.Sources.{have_own_names}
+use Rattle.rn_files.specs.inside.Sources.{have_own_names}
 use Rattle.rn_files.proofs.soundness.have_own_names.Given as goal
 
 -- what is left decides

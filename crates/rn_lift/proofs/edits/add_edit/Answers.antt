@@ -1,8 +1,8 @@
 use Rattle.std.proofs.Common.{◌≡◌, Option, subst}
 use Rattle.std.specs.Prelude.{MatchOption}
-use Rattle.rn_lift.specs.Planned.{IsEditOf, StaysAt}
+use Rattle.rn_lift.specs.inside.Planned.{IsEditOf, StaysAt}
 use Rattle.rn_lift.specs.declared.edits.Edit.{Edit}
-use Rattle.rn_lift.proofs.Covered.{none_added, one_added}
+use Rattle.rn_lift.proofs.StandIns.EachPart.{none_added, one_added}
 use Rattle.rn_lift.proofs.edits.add_edit.Goals as goal
 
 pub returns-in_default : goal.returns-in_default

@@ -1,6 +1,6 @@
 use Rattle.std.proofs.Common.{arith}
 use Rattle.std.proofs.lemmas.Option.{slice_get_within}
-use Rattle.rn_lift.proofs.Covered.{more}
+use Rattle.rn_lift.proofs.StandIns.EachPart.{more}
 use Rattle.rn_lift.proofs.edits.edits_of_file.Goals as goal
 
 pub loop-number-preserved : goal.loop-number-preserved

@@ -1,6 +1,6 @@
 -- The parts so far are covered.
 use Rattle.std.proofs.Common.{ℕ, ◌<◌, All}
-use Rattle.rn_lift.specs.Planned.{IsCovered, IsEditOf}
+use Rattle.rn_lift.specs.inside.Planned.{IsCovered, IsEditOf}
 use Rattle.rn_lift.proofs.edits.edits_of_file.Given as goal
 
 abbrev pub invariant-loop-number : goal.invariant-loop-number

@@ -1,7 +1,7 @@
 -- The modules that were there are kept, and those that bring in the scopes so far were added.
 use Rattle.std.proofs.Common.{◌≡◌, ◌⊎◌, All, None, take}
 use Rattle.std.specs.Prelude.{Contains}
-use Rattle.rn_lift.specs.Planned.{IsBrought}
+use Rattle.rn_lift.specs.inside.Planned.{IsBrought}
 use Rattle.rn_lift.specs.declared.lifted.LiftedModule.{LiftedModule}
 use Rattle.rn_lift.proofs.lifting.add_bringing_modules.Given as goal
 

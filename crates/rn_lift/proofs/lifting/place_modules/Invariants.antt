@@ -1,6 +1,6 @@
 -- The modules so far are those of the places so far.
 use Rattle.std.proofs.Common.{ℕ, ◌<◌, All}
-use Rattle.rn_lift.specs.Planned.{HasPlace, IsMadeOfPlace}
+use Rattle.rn_lift.specs.inside.Planned.{HasPlace, IsMadeOfPlace}
 use Rattle.rn_lift.proofs.lifting.place_modules.Given as goal
 
 abbrev pub invariant-loop-number : goal.invariant-loop-number

@@ -1,4 +1,4 @@
-use Rattle.rn_lift.proofs.Places.{read}
+use Rattle.rn_lift.proofs.StandIns.OfPlaces.{read}
 use Rattle.rn_lift.proofs.writing.found_at.Goals as goal
 
 pub returns : goal.returns

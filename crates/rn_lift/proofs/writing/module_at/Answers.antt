@@ -1,8 +1,8 @@
 use Rattle.std.proofs.Common.{ap, subst, sym, ◌∙◌, string_bytes}
 use Rattle.std.specs.Prelude.{String}
 use Rattle.std.specs.declared.alloc.Global.{Global}
-use Rattle.rn_lift.specs.Modules.{IsModuleOf}
-use Rattle.rn_lift.specs.Planned.{IsPlanned, IsPlannedScope}
+use Rattle.rn_lift.specs.LiftedModules.{IsModuleOf}
+use Rattle.rn_lift.specs.inside.Planned.{IsPlanned, IsPlannedScope}
 use Rattle.rn_lift.proofs.writing.module_at.Goals as goal
 
 pub returns : goal.returns

@@ -1,5 +1,5 @@
 use Rattle.std.proofs.Common.{ℕ, Some, ap, sym, ◌∙◌, arith}
-use Rattle.rn_lift.proofs.Places.{read}
+use Rattle.rn_lift.proofs.StandIns.OfPlaces.{read}
 use Rattle.rn_lift.proofs.writing.View.brought_scope.Goals as goal
 
 pub returns-then-place-number : goal.returns-then-place-number

@@ -1,7 +1,7 @@
 use Rattle.std.proofs.Common.{List, ℕ, ap, ◌∙◌, string_bytes}
 use Rattle.rn_text.specs.Literals.{literal_bytes}
 use Rattle.rn_plan.specs.Files.{target_of}
-use Rattle.rn_lift.proofs.Places.{included}
+use Rattle.rn_lift.proofs.StandIns.OfPlaces.{included}
 use Rattle.rn_lift.proofs.writing.View.include.Goals as goal
 
 pub returns : goal.returns

@@ -1,5 +1,5 @@
 use Rattle.std.proofs.Common.{ℕ, Some, ap, sym, ◌∙◌}
-use Rattle.rn_lift.proofs.Places.{read}
+use Rattle.rn_lift.proofs.StandIns.OfPlaces.{read}
 use Rattle.rn_lift.proofs.writing.View.included_place.Goals as goal
 
 pub returns-then-place-self : goal.returns-then-place-self

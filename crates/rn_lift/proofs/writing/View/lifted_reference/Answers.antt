@@ -1,5 +1,5 @@
 use Rattle.std.proofs.Common.{List, ℕ, [], ◌∷◌, ◌++◌, ap, ◌∙◌, string_bytes}
-use Rattle.rn_lift.proofs.Places.{lifted}
+use Rattle.rn_lift.proofs.StandIns.OfPlaces.{lifted}
 use Rattle.rn_lift.proofs.writing.View.lifted_reference.Goals as goal
 
 pub returns : goal.returns

@@ -13,11 +13,11 @@ pub fn same_for(rt: &impl Abort, given: &str, found: &str, wanted: &str) {
 }
 
 /// There is memory.
-pub fn granted(rt: &impl Abort, answer: Result<(), AllocError>) {
+pub fn expect_memory(rt: &impl Abort, answer: Result<(), AllocError>) {
     answer.expect(rt, "no memory");
 }
 
 /// A text that was asked for.
-pub fn made(rt: &impl Abort, text: Result<String, AllocError>) -> String {
+pub fn expect_text(rt: &impl Abort, text: Result<String, AllocError>) -> String {
     text.expect(rt, "no memory")
 }

@@ -6,7 +6,7 @@ use Rattle.rn_outline.specs.declared.file_parts.Part.{Part}
 use Rattle.rn_outline.specs.declared.file_parts.PartKind.{PartKind}
 use Rattle.rn_outline.specs.declared.file_parts.PartKind.TheVariants.{Define, Start, Reference, Parent, External, Include, Grammar}
 use Rattle.rn_plan.specs.declared.given.Lifting.{Lifting}
-use Rattle.rn_lift.specs.Modules.{IsModuleOf}
+use Rattle.rn_lift.specs.LiftedModules.{IsModuleOf}
 use Rattle.rn_lift.specs.StandIns.{IsEdit, IsIncluded, IsLifted, Modules, Scopes, StandsForKind}
 use Rattle.rn_lift.specs.declared.edits.Edit.{Edit}
 use Rattle.rn_lift.specs.declared.lifted.Basis.{Basis}

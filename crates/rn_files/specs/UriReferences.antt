@@ -1,9 +1,7 @@
 -- What references in files stand for (RFC 3986, 5.2; XLink 1.0, 5.4; RELAX NG 4.5).
-use Rattle.std.specs.Prelude.{◌≡◌, ℕ, ◌==◌, not, List, length, Option, Some, None, if◌then◌else◌}
+use Rattle.std.specs.Prelude.{ℕ, ◌==◌, not, List, length, Option, Some, None, if◌then◌else◌}
 use Rattle.std.specs.List.{list_any}
 use Rattle.rn_files.specs.Escapes.{escaped, has_escapes}
-use Rattle.rn_files.specs.Paths.{LeadAbove, Segment}
-use Rattle.rn_files.specs.Uris as uris
 use Rattle.rn_files.specs.Uris.{parts_of, recomposed, target}
 use Rattle.rn_files.specs.declared.uri_references.ReferenceFault.{ReferenceFault}
 use Rattle.rn_files.specs.declared.uri_references.ReferenceFault.TheVariants.{Empty, Fragment, Query, Escape}
@@ -20,12 +18,3 @@ fault_of reference =
 -- the URI that a reference without fault stands for in a file with the URI `base`
 abbrev pub resolved : List ℕ → List ℕ → List ℕ
 resolved base reference = recomposed (target (parts_of base) (parts_of (escaped reference)))
-
--- the segments of its path, before the dot segments are removed
-abbrev pub dotted : List ℕ → List ℕ → List Segment
-dotted base reference = uris.dotted (parts_of base) (parts_of (escaped reference))
-
--- the reference in a file with the URI `base` stands for this URI: it has no fault, and no `..` of it leads above the root
-abbrev pub StandsFor : List ℕ → List ℕ → List ℕ → Type 0
-StandsFor base reference uri =
-    (uri ≡ resolved base reference) × ¬ (LeadAbove (dotted base reference)) × (fault_of reference ≡ None)

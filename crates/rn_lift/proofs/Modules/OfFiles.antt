@@ -1,4 +1,4 @@
--- From what is planned to what is made.
+-- What is made of a plan is made of its files.
 use Rattle.std.proofs.Common.{◌≡◌, ◌≢◌, ℕ, zero, suc, ◌<◌, ◌⊎◌, inl, inr, List, ◌∷◌, [], Option, Some, None, option_map, All, map, length, drop, refl, sym, ap, subst, ◌∙◌}
 use Rattle.std.specs.Prelude.{Contains, IfOk, IsPermutation, Ok, Err, Result, String, slice_get, string_bytes}
 use Rattle.std.specs.declared.alloc.Global.{Global}
@@ -15,12 +15,12 @@ use Rattle.rn_plan.specs.declared.scopes.Plan.{Plan}
 use Rattle.rn_plan.specs.declared.scopes.Scope.{Scope}
 use Rattle.rn_plan.specs.declared.units.Unit.{Unit}
 use Rattle.rn_plan.specs.declared.units.Units.{Units}
-use Rattle.rn_lift.specs.Modules.{AreMadeOfFiles, BringsIn, HasModule, HasScope, IsMadeOfFile, IsModuleOf}
-use Rattle.rn_lift.specs.Planned.{HasPlace, IsBrought, IsMade, IsMadeOfPlace, IsPlanned, IsPlannedScope}
+use Rattle.rn_lift.specs.LiftedModules.{AreMadeOfFiles, BringsIn, HasModule, HasScope, IsMadeOfFile, IsModuleOf}
+use Rattle.rn_lift.specs.inside.Planned.{HasPlace, IsBrought, IsMade, basis_of, IsMadeOfPlace, IsPlanned, IsPlannedScope}
 use Rattle.rn_lift.specs.declared.lifted.Basis.{Basis}
 use Rattle.rn_lift.specs.declared.lifted.Lifted.{Lifted}
 use Rattle.rn_lift.specs.declared.lifted.LiftedModule.{LiftedModule}
-use Rattle.rn_lift.proofs.Carried.{carried}
+use Rattle.rn_lift.proofs.Modules.InAccounts.{carried}
 
 -- the stems of scopes
 abbrev pub stems_of : Plan → List (List ℕ)
@@ -32,13 +32,10 @@ some_none b e = cc
 same_name : (p q : PlacedUnit) (name : List ℕ) → p ≡ q → string_bytes q.module ≡ name → string_bytes p.module ≡ name
 same_name p q name e h = ap (λ (x : PlacedUnit). string_bytes x.module) e ∙ h
 
-abbrev made_of : Unit → PlacedUnit → Basis
-made_of u p = record { file = u.file; grammar = u.grammar; scope = p.scope }
-
-same_basis : (u v : Unit) (p q : PlacedUnit) (b : Basis) → u ≡ v → p ≡ q → made_of v q ≡ b → made_of u p ≡ b
+same_basis : (u v : Unit) (p q : PlacedUnit) (b : Basis) → u ≡ v → p ≡ q → basis_of v q ≡ b → basis_of u p ≡ b
 same_basis u v p q b e f h =
-    let i : made_of u p ≡ made_of v p = ap (λ (x : Unit). made_of x p) e in
-    let j : made_of v p ≡ made_of v q = ap (λ (y : PlacedUnit). made_of v y) f in
+    let i : basis_of u p ≡ basis_of v p = ap (λ (x : Unit). basis_of x p) e in
+    let j : basis_of v p ≡ basis_of v q = ap (λ (y : PlacedUnit). basis_of v y) f in
     i ∙ j ∙ h
 
 same_place : (units : Units) (plan : Plan) (name : List ℕ) (b : Basis) (h : IsPlanned units plan name b) (m : LiftedModule) (w : IsMade units plan h.number m) → w.place ≡ h.place
@@ -81,7 +78,7 @@ brought_again plan ms ns p s h = (h.0, Contains-permutation ms ns h.0 p h.1, h.2
 -- a module of a place says by the files what it says by the plan
 by_files : (units : Units) (plan : Plan) (files : List Lifting) (ms : List LiftedModule) → files_of units ≡ files → All HasTargets units.files.items → ((k : ℕ) → k < length plan.places.items → HasPlace units plan ms k) → All (IsBrought plan ms) (drop 1 plan.scopes.items) → (m : LiftedModule) → IsMadeOfPlace units plan m → IsMadeOfFile files ms (stems_of plan) (string_bytes plan.names.start) m
 by_files units plan files ms e targets each brought m w b is_basis =
-    let basis : Basis = record { file = w.1.unit.file; grammar = w.1.unit.grammar; scope = w.1.place.scope } in
+    let basis : Basis = basis_of w.1.unit w.1.place in
     let same : basis ≡ b = cc (w.1.is_basis, is_basis) in
     let g = w.1.given in
     let is_file : slice_get files basis.file ≡ Some g.file = ap (λ (fs : List Lifting). slice_get fs basis.file) (sym e) ∙ slice_get-map (λ (x : Given). x.file) units.files.items basis.file ∙ ap (λ (o : Option Given). option_map (λ (x : Given). x.file) o) w.1.is_found.is_given in

@@ -9,17 +9,21 @@ use std::alloc::{AllocError, Global};
 /// The most bytes of the text of a file.
 pub const MAX_TEXT: usize = rn_modset::MAX_TEXT;
 
-/// What was read of a file: its text, or as much of it as is UTF-8, and its outline, or what is wrong at a byte.
+/// What was read of a file.
 #[derive(Drop)]
 pub struct Text {
+    /// The text, or as much of it as is UTF-8.
     pub text: String,
+    /// Its outline, or what is wrong with it.
     pub outline: Result<Outline, TextWrong>,
 }
 
-/// What is wrong with a text, and the byte.
+/// What is wrong with a text.
 #[derive(Drop)]
 pub struct TextWrong {
+    /// The byte of the text.
     pub at: usize,
+    /// What is wrong there.
     pub kind: FaultKind,
 }
 

@@ -12,7 +12,7 @@ use Rattle.rn_outline.specs.declared.file_parts.PartKind.TheVariants.{Define, St
 use Rattle.rn_plan.specs.declared.lift_fault.LiftFault.{LiftFault}
 use Rattle.rn_plan.specs.declared.given.Lifting.{Lifting}
 use Rattle.rn_lift.specs.Edits.{edited}
-use Rattle.rn_lift.specs.Modules.{AreMadeOfFiles, HasModule, HasScope, IsKept, IsKeptKind, IsMadeOfFile, IsModuleOf, IsPlain, KeepsText}
+use Rattle.rn_lift.specs.LiftedModules.{AreMadeOfFiles, HasModule, HasScope, IsKept, IsKeptKind, IsMadeOfFile, IsModuleOf, IsPlain, KeepsText}
 use Rattle.rn_lift.specs.StandIns.{IsEdit, Modules, Scopes, StandsForKind}
 use Rattle.rn_lift.specs.declared.edits.Edit.{Edit}
 use Rattle.rn_lift.specs.declared.lifted.Basis.{Basis}

@@ -3,10 +3,10 @@ use Rattle.std.proofs.Common.{◌≡◌, ℕ, ◌<◌, List, [], ◌∷◌, ◌+
 use Rattle.std.specs.Prelude.{slice_get, string_bytes}
 use Rattle.std.proofs.lemmas.Option.{slice_get_read}
 use Rattle.rn_text.specs.Literals.{literal_bytes}
-use Rattle.rn_plan.specs.Places.{module_of}
+use Rattle.rn_plan.specs.Entries.{module_of}
 use Rattle.rn_plan.specs.declared.scopes.PlacedUnit.{PlacedUnit}
 use Rattle.rn_plan.specs.declared.scopes.Scope.{Scope}
-use Rattle.rn_lift.specs.Planned.{IsPlaceOf, IsPlanned, IsPlannedScope, IsScopeOf}
+use Rattle.rn_lift.specs.inside.Planned.{IsPlaceOf, IsPlanned, IsPlannedScope, IsScopeOf}
 use Rattle.rn_lift.specs.StandIns.{IsIncluded, IsLifted}
 use Rattle.rn_lift.specs.declared.lifted.Basis.{Basis}
 use Rattle.rn_lift.specs.declared.writing.View.{View}
@@ -15,13 +15,13 @@ use Rattle.rn_lift.specs.declared.writing.View.{View}
 pub read : {X : Type 0} (l xs : List X) (i : ℕ) (x : X) → l ≡ xs → i < length l → x ≡ get_or l i x → slice_get xs i ≡ Some x
 read {X} l xs i x e h g = subst (λ (t : List X). slice_get t i ≡ Some x) e (slice_get_read l (length l) i x refl h g)
 
-abbrev made_of : ℕ → ℕ → ℕ → Basis
-made_of file g s = record { file = file; grammar = g; scope = s }
+abbrev basis : ℕ → ℕ → ℕ → Basis
+basis file g s = record { file = file; grammar = g; scope = s }
 
-basis_at : (file g h s t : ℕ) → g ≡ h → s ≡ t → made_of file g s ≡ made_of file h t
+basis_at : (file g h s t : ℕ) → g ≡ h → s ≡ t → basis file g s ≡ basis file h t
 basis_at file g h s t e f =
-    let i : made_of file g s ≡ made_of file h s = ap (λ (x : ℕ). made_of file x s) e in
-    let j : made_of file h s ≡ made_of file h t = ap (λ (y : ℕ). made_of file h y) f in
+    let i : basis file g s ≡ basis file h s = ap (λ (x : ℕ). basis file x s) e in
+    let j : basis file h s ≡ basis file h t = ap (λ (y : ℕ). basis file h y) f in
     i ∙ j
 
 -- the module of a place is planned

@@ -1,7 +1,7 @@
 -- Modules and scopes as they are planned.
 use Rattle.std.specs.Prelude.{◌≡◌, ◌≢◌, ℕ, ◌⊎◌, List, All, Contains, map, Option, Some, slice_get, string_bytes}
 use Rattle.rn_plan.specs.Files.{target_of}
-use Rattle.rn_plan.specs.Places.{entry_of}
+use Rattle.rn_plan.specs.Entries.{entry_of}
 use Rattle.rn_plan.specs.declared.given.Given.{Given}
 use Rattle.rn_plan.specs.declared.scopes.PlacedUnit.{PlacedUnit}
 use Rattle.rn_plan.specs.declared.scopes.Plan.{Plan}
@@ -10,12 +10,16 @@ use Rattle.rn_plan.specs.declared.units.Unit.{Unit}
 use Rattle.rn_plan.specs.declared.units.Units.{Units}
 use Rattle.rn_outline.specs.declared.file_parts.Part.{Part}
 use Rattle.rn_outline.specs.declared.file_parts.PartKind.{PartKind}
-use Rattle.rn_lift.specs.Modules.{BringsIn, IsModuleOf}
+use Rattle.rn_lift.specs.LiftedModules.{BringsIn, IsModuleOf}
 use Rattle.rn_lift.specs.StandIns.{IsEdit, Stays, StandsFor, StandsForKind}
 use Rattle.rn_lift.specs.declared.edits.Edit.{Edit}
 use Rattle.rn_lift.specs.declared.lifted.Basis.{Basis}
 use Rattle.rn_lift.specs.declared.lifted.LiftedModule.{LiftedModule}
 use Rattle.rn_lift.specs.declared.writing.View.{View}
+
+-- what the module of a place is made of
+abbrev pub basis_of : Unit → PlacedUnit → Basis
+basis_of unit place = record { file = unit.file; grammar = unit.grammar; scope = place.scope }
 
 -- there will be a module of this name, made of this
 pub record IsPlanned (units : Units) (plan : Plan) (name : List ℕ) (b : Basis) : Type 0 where
@@ -25,7 +29,7 @@ pub record IsPlanned (units : Units) (plan : Plan) (name : List ℕ) (b : Basis)
   pub is_place : slice_get plan.places.items number ≡ Some place
   pub is_unit : slice_get units.units.items place.unit ≡ Some unit
   pub is_name : string_bytes place.module ≡ name
-  pub is_basis : record { file = unit.file; grammar = unit.grammar; scope = place.scope } ≡ b
+  pub is_basis : basis_of unit place ≡ b
 
 -- there will be a scope of this number, this stem and a first module of this name
 pub record IsPlannedScope (plan : Plan) (number : ℕ) (stem name : List ℕ) : Type 0 where
@@ -96,8 +100,8 @@ pub record IsMade (units : Units) (plan : Plan) (number : ℕ) (m : LiftedModule
   pub given : Given
   pub is_found : IsFound units plan number place unit given
   pub is_name : string_bytes m.name ≡ string_bytes place.module
-  pub is_basis : m.basis ≡ Some (record { file = unit.file; grammar = unit.grammar; scope = place.scope })
-  pub is_module : IsModuleOf (IsPlanned units plan) (IsPlannedScope plan) (string_bytes plan.names.start) given.file given.targets.items (record { file = unit.file; grammar = unit.grammar; scope = place.scope }) (string_bytes m.text)
+  pub is_basis : m.basis ≡ Some (basis_of unit place)
+  pub is_module : IsModuleOf (IsPlanned units plan) (IsPlannedScope plan) (string_bytes plan.names.start) given.file given.targets.items (basis_of unit place) (string_bytes m.text)
 
 -- the module of some place
 abbrev pub IsMadeOfPlace : Units → Plan → LiftedModule → Type 0

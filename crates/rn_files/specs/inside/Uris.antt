@@ -1,0 +1,8 @@
+-- The parts of a URI as the code has them.
+use Rattle.std.specs.Option.{option_copied}
+use Rattle.rn_files.specs.Uris.{UriParts}
+use Rattle.rn_files.specs.declared.uris.Parts.{Parts}
+
+-- the parts that these are
+abbrev pub seen : Parts → UriParts
+seen p = record { scheme = option_copied p.scheme; authority = option_copied p.authority; path = p.path.now }

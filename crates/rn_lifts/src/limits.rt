@@ -1,0 +1,52 @@
+// Limits that two crates have, of which neither stands on the other.
+use rn_lift::MAX_EXCEPTS;
+use rn_modset::MAX_TEXT;
+use rn_outline::{OutlineFault, read_outline};
+use rn_syntax::{MAX_OPEN, SyntaxFault, parse};
+use rn_text::tokens;
+use std::alloc::{AllocError, Global};
+use std::process::Abort;
+
+// A start in so many parentheses.
+fn enclosed_start(alloc: Global, count: usize) -> Result<String, AllocError> {
+    let mut text = String::from_str(alloc, "start = ")?;
+    for _ in 0..count {
+        text.push('(')?;
+    }
+    text.push('a')?;
+    for _ in 0..count {
+        text.push(')')?;
+    }
+    Ok(text)
+}
+
+// Whether too many brackets are open in a text: as a file, and as a module.
+fn are_too_deep(rt: &(impl Abort + AllocGlobal), text: &str) -> (bool, bool) {
+    let tokens = tokens(rt.alloc(), text.as_bytes()).expect(rt, "no tokens");
+    let outline = read_outline(rt.alloc(), text, tokens.as_slice());
+    let module = parse(rt.alloc(), tokens.as_slice());
+    (
+        matches!(outline, Err(OutlineFault::Deep { .. })),
+        matches!(module, Err(SyntaxFault::Deep { .. })),
+    )
+}
+
+#[test]
+fn files_and_modules_may_be_as_deep(rt: HostRuntime) {
+    let deepest = enclosed_start(rt.alloc(), MAX_OPEN).expect(&rt, "no memory");
+    assert!(&rt;
+        are_too_deep(&rt, deepest.as_str()) == (false, false),
+        "as deep as may be"
+    );
+    let deeper = enclosed_start(rt.alloc(), MAX_OPEN + 1).expect(&rt, "no memory");
+    assert!(&rt;
+        are_too_deep(&rt, deeper.as_str()) == (true, true),
+        "a bracket too many"
+    );
+    assert_eq!(&rt; rn_outline::MAX_OPEN, MAX_OPEN);
+}
+
+#[test]
+fn excepts_may_be_as_long_as_a_text(rt: HostRuntime) {
+    assert_eq!(&rt; MAX_EXCEPTS, MAX_TEXT);
+}
