@@ -17,8 +17,11 @@ use std::rc::RcStr;
 /// What constructors and steps are given besides patterns.
 #[derive(Drop)]
 pub struct Parts {
+    /// A choice of names that isn't in order.
     pub class: NameClass,
+    /// A value of a type of the empty library.
     pub value: Value,
+    /// Data with a parameter.
     pub data: Data,
 }
 

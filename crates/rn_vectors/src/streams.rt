@@ -23,6 +23,7 @@ pub const PRINTED: &str =
 /// A sink in memory that fails once it has taken as many bytes as it has room for.
 #[derive(Drop)]
 pub struct Room {
+    /// The bytes that it took, in their order.
     pub taken: Vec<u8>,
     room: usize,
     failed: bool,
