@@ -182,7 +182,7 @@ impl<'m, 'a> Bindings<'m, 'a> {
     }
 
     /// The place at which a declaration behind these is wrong.
-    #[tactic(auto, using(crate::proofs::Firsts::none_first, crate::proofs::Firsts::some_first))]
+    #[tactic(auto, using(crate::proofs::FaultPlaces::FirstPlaces::none_first, crate::proofs::FaultPlaces::FirstPlaces::some_first))]
     fn wrong_place(&self, declaration: &Declaration<'_>) -> Option<usize>
         ensures { result ≡ first (places.declaration_places (bound self.now)
             (declaration_view declaration.now)) }

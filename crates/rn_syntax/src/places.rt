@@ -23,7 +23,7 @@ fn value_place(rule: Rule, bindings: &Bindings<'_, '_>, value: &Value<'_>) -> Op
 }
 
 /// The first place in a pattern that breaks the rule.
-#[tactic(auto, using(crate::proofs::Firsts::none_first, crate::proofs::Firsts::some_first))]
+#[tactic(auto, using(crate::proofs::FaultPlaces::FirstPlaces::none_first, crate::proofs::FaultPlaces::FirstPlaces::some_first))]
 #[cycle(pattern_place)]
 fn pattern_place(rule: Rule, bindings: &Bindings<'_, '_>, pattern: &Pat<'_>) -> Option<usize>
     ensures { result ≡ first (rules.pattern_places (bound bindings.now) rule
@@ -56,7 +56,7 @@ fn pattern_place(rule: Rule, bindings: &Bindings<'_, '_>, pattern: &Pat<'_>) -> 
 }
 
 /// The first place in patterns that breaks the rule.
-#[tactic(auto, using(crate::proofs::Firsts::none_first, crate::proofs::Firsts::some_first))]
+#[tactic(auto, using(crate::proofs::FaultPlaces::FirstPlaces::none_first, crate::proofs::FaultPlaces::FirstPlaces::some_first))]
 #[cycle(pattern_place)]
 fn patterns_place(rule: Rule, bindings: &Bindings<'_, '_>, patterns: &[Pat<'_>]) -> Option<usize>
     ensures { result ≡ first (rules.patterns_places (bound bindings.now) rule
@@ -71,7 +71,7 @@ fn patterns_place(rule: Rule, bindings: &Bindings<'_, '_>, patterns: &[Pat<'_>])
 }
 
 /// The first place in the patterns of items that breaks the rule.
-#[tactic(auto, using(crate::proofs::Firsts::none_first, crate::proofs::Firsts::some_first))]
+#[tactic(auto, using(crate::proofs::FaultPlaces::FirstPlaces::none_first, crate::proofs::FaultPlaces::FirstPlaces::some_first))]
 #[cycle(items_place)]
 fn items_place(rule: Rule, bindings: &Bindings<'_, '_>, items: &[Item<'_>]) -> Option<usize>
     ensures { result ≡ first (rules.items_places (bound bindings.now) rule (items_view items.now)) }
@@ -84,7 +84,7 @@ fn items_place(rule: Rule, bindings: &Bindings<'_, '_>, items: &[Item<'_>]) -> O
     None
 }
 
-#[tactic(auto, using(crate::proofs::Firsts::none_first, crate::proofs::Firsts::some_first))]
+#[tactic(auto, using(crate::proofs::FaultPlaces::FirstPlaces::none_first, crate::proofs::FaultPlaces::FirstPlaces::some_first))]
 #[cycle(items_place)]
 fn item_place(rule: Rule, bindings: &Bindings<'_, '_>, item: &Item<'_>) -> Option<usize>
     ensures { result ≡ first (rules.item_places (bound bindings.now) rule (item_view item.now)) }

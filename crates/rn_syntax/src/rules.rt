@@ -58,7 +58,7 @@ fn any_name_place(bindings: &Bindings<'_, '_>, any: AnyName<'_>) -> Option<usize
 }
 
 /// The first unbound prefix of a name class.
-#[tactic(auto, using(crate::proofs::Firsts::none_first, crate::proofs::Firsts::some_first))]
+#[tactic(auto, using(crate::proofs::FaultPlaces::FirstPlaces::none_first, crate::proofs::FaultPlaces::FirstPlaces::some_first))]
 #[cycle(class_place)]
 fn class_place(bindings: &Bindings<'_, '_>, class: &Nc<'_>) -> Option<usize>
     ensures { result ≡ first (places.class_places (bound bindings.now) (class_view class.now)) }
@@ -76,7 +76,7 @@ fn class_place(bindings: &Bindings<'_, '_>, class: &Nc<'_>) -> Option<usize>
 }
 
 /// The first unbound prefix of several name classes.
-#[tactic(auto, using(crate::proofs::Firsts::none_first, crate::proofs::Firsts::some_first))]
+#[tactic(auto, using(crate::proofs::FaultPlaces::FirstPlaces::none_first, crate::proofs::FaultPlaces::FirstPlaces::some_first))]
 #[cycle(class_place)]
 fn classes_place(bindings: &Bindings<'_, '_>, classes: &[Nc<'_>]) -> Option<usize>
     ensures { result ≡ first (places.classes_places (bound bindings.now)
@@ -161,7 +161,7 @@ impl Rule {
     }
 
     /// The same of the datatype of a value.
-    #[tactic(auto, using(crate::proofs::Firsts::first_append), unfolding(crate::specs::inside::Rules::datatypes))]
+    #[tactic(auto, using(crate::proofs::FaultPlaces::FirstPlaces::first_append), unfolding(crate::specs::inside::Rules::datatypes))]
     pub(crate) fn value(self, bindings: &Bindings<'_, '_>, datatype: Datatype<'_>) -> Option<usize>
         ensures { result ≡ first (rules.datatypes (bound bindings.now) self true
             (datatype_view datatype.entry) []) }
@@ -178,7 +178,7 @@ impl Rule {
     }
 
     /// The same of the datatype of data.
-    #[tactic(auto, using(crate::proofs::Firsts::first_append, crate::proofs::Firsts::first_behind), unfolding(crate::specs::inside::Rules::datatypes))]
+    #[tactic(auto, using(crate::proofs::FaultPlaces::FirstPlaces::first_append, crate::proofs::FaultPlaces::FirstPlaces::first_behind), unfolding(crate::specs::inside::Rules::datatypes))]
     pub(crate) fn data(
         self,
         bindings: &Bindings<'_, '_>,
