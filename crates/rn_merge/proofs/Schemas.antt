@@ -9,7 +9,7 @@ use Rattle.rn_syntax.proofs.OneReading.OneTree.{one_tree}
 use Rattle.rn_assemble.specs.declared.refusal.Refusal as code
 use Rattle.rn_assemble.specs.declared.refusal.Refusal.TheVariants as r
 use Rattle.rn_assemble.specs.Refusal.{IsAssembled}
-use Rattle.rn_simplify.specs.Printed.{IsPrinted, IsUnprinted}
+use Rattle.rn_simplify.specs.Printing.{IsPrinted, IsUnprinted}
 use Rattle.rn_simplify.specs.Verdict.{IsVerdict, prints, too_large, too_deep}
 use Rattle.rn_simplify.proofs.PrintedAgain.{printed_again}
 use Rattle.rn_simplify.proofs.PrintedSets.{printed_read}

@@ -14,7 +14,7 @@ use Rattle.rn_assemble.specs.Refusal.{Refusal, Stands, IsAssembled}
 use Rattle.rn_assemble.specs.Refused.{IsFirstRefusal}
 use Rattle.rn_assemble.specs.WellFormed.{IsWellFormed}
 use Rattle.rn_assemble.proofs.Refusals.NoRefusal.{assembled_well_formed}
-use Rattle.rn_simplify.specs.Printed.{IsPrinted, IsUnprinted}
+use Rattle.rn_simplify.specs.Printing.{IsPrinted, IsUnprinted}
 use Rattle.rn_simplify.specs.Verdict.{Verdict, prints, refused, too_large, too_deep, IsCanonicalOfSet, IsVerdict}
 use Rattle.rn_simplify.proofs.OneVerdict.{one_verdict}
 use Rattle.rn_simplify.proofs.PrintedAgain.{printed_again}

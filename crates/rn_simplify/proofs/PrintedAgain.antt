@@ -32,7 +32,7 @@ use Rattle.rn_simplify.specs.Spelling.{spelling}
 use Rattle.rn_simplify.specs.Verdict.{IsVerdict, prints}
 use Rattle.rn_simplify.proofs.ReadBack.Binding.{spelling_reads_back}
 use Rattle.rn_simplify.proofs.ReadBack.ReadAgain.{read_canonical, none_stands}
-use Rattle.rn_simplify.proofs.ReadBack.Spelled.{spellable}
+use Rattle.rn_simplify.proofs.ReadBack.SpellableGrammars.{spellable}
 use Rattle.rn_assemble.proofs.WellFormed.GoodComponents.{set_grammar_writable}
 
 module _ (one_tree : (ts : Tokens) (m n : t.Module) → HasTree ts m → HasTree ts n → m ≡ n) where

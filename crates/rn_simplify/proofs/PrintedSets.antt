@@ -14,7 +14,7 @@ use Rattle.rn_simplify.specs.Verdict.{IsVerdict, prints}
 use Rattle.rn_simplify.proofs.ReadBack.Binding.{spelling_reads_back}
 use Rattle.rn_simplify.proofs.PrintedAgain.{no_fault}
 use Rattle.rn_simplify.proofs.ReadBack.ReadAgain.{combination_read, joined_read, read_canonical, read_only, read_well_formed, none_stands}
-use Rattle.rn_simplify.proofs.ReadBack.Spelled.{spellable}
+use Rattle.rn_simplify.proofs.ReadBack.SpellableGrammars.{spellable}
 
 pub printed_read : (s : List Member) (text : Text) → IsVerdict s (prints text) → IsReadAgain s text
 printed_read s text (n, (g, (none, (modules, a, e)), c), short, shallow, is) =

@@ -1,8 +1,8 @@
 -- A printed text is read back as its grammar.
 pub mod Binding
-pub mod Bound
-pub mod Declared
-pub mod Rebound
+pub mod NeededBindings
+pub mod DeclaredPrefixes
+pub mod MentionedTexts
 pub mod Lines
 pub mod Patterns
 pub mod PatternParts
@@ -11,11 +11,11 @@ pub mod Classes
 pub mod Chains
 pub mod Whole
 pub mod Words
-pub mod Spelled
-pub mod Few
+pub mod SpellableGrammars
+pub mod FewPrefixes
 pub mod Writable
-pub mod Numbered
-pub mod Ordered
-pub mod Rows
+pub mod NumberedPrefixes
+pub mod OrderedTexts
+pub mod Examples
 pub mod Places
 pub mod ReadAgain

@@ -1,19 +1,19 @@
 -- References settled, and the canonical forms.
-pub mod Evaluated
+pub mod FormKinds
 pub mod ListParts
 pub mod SettledMore
 pub mod SettlingOrder
 pub mod RankOrder
-pub mod Normalised
+pub mod FormedGrammar
 pub mod ReferenceGraph
 pub mod ReferredIn
 pub mod Numbers
 pub mod Marks
-pub mod Known
+pub mod StoreIds
 pub mod PrunedForms
 pub mod AlikeRows
 pub mod Repeats
-pub mod Retained
+pub mod MarkedElements
 pub mod Forms
 pub mod Contents
 pub mod NodeKinds

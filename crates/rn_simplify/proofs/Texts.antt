@@ -4,10 +4,10 @@ pub mod NodeTexts
 pub mod PartTexts
 pub mod PatternTexts
 pub mod SourceTexts
-pub mod Sources
+pub mod NormalSource
 pub mod Writing
-pub mod Answered
+pub mod FinishedText
 pub mod OpenAtOnce
 pub mod Members
-pub mod Gathered
+pub mod GatheredTexts
 pub mod Views

@@ -1,6 +1,6 @@
 -- The grammar that a `Normal` is.
 use Rattle.rn_pattern.specs.Matching.{Grammar}
-use Rattle.rn_simplify.specs.Sources.{parts_view}
+use Rattle.rn_simplify.specs.NormalParts.{parts_view}
 use Rattle.rn_simplify.specs.declared.normal.Normal.{Normal}
 pub use Rattle.rn_assemble.specs.JoinedView.{definitions_view}
 

@@ -6,7 +6,7 @@ use Rattle.rn_pattern.specs.Reached.{IsCanonicalOf}
 use Rattle.rn_modset.specs.Contributions.{Member}
 use Rattle.rn_assemble.specs.Refusal.{Refusal, IsFirst, IsAssembled}
 use Rattle.rn_simplify.specs.Spelling.{spelling}
-use Rattle.rn_simplify.specs.Limits.{most_bytes}
+use Rattle.rn_modset.specs.Limits.{max_text}
 use Rattle.rn_simplify.specs.ReadBack.{is_too_deep}
 
 -- refused: why there is no grammar; too_large, too_deep: why its text is not printed
@@ -20,9 +20,9 @@ pub data Verdict : Type 0 where
 abbrev pub IsCanonicalOfSet : List Member → Grammar → Type 0
 IsCanonicalOfSet s n = (g : Grammar) × IsAssembled s g × IsCanonicalOf g n
 
--- a text has at most 4 MiB, and at most 256 brackets open at once; the length is tested first
+-- a text has at most `max_text` bytes, and at most `max_open` brackets open at once; the length is tested first
 abbrev pub IsVerdict : List Member → Verdict → Type 0
 IsVerdict s (refused r) = IsFirst s r
-IsVerdict s too_large = (n : Grammar) × IsCanonicalOfSet s n × (most_bytes < length (spelling n))
-IsVerdict s too_deep = (n : Grammar) × IsCanonicalOfSet s n × (length (spelling n) ≤ most_bytes) × (is_too_deep n ≡ true)
-IsVerdict s (prints t) = (n : Grammar) × IsCanonicalOfSet s n × (length (spelling n) ≤ most_bytes) × (is_too_deep n ≡ false) × (t ≡ spelling n)
+IsVerdict s too_large = (n : Grammar) × IsCanonicalOfSet s n × (max_text < length (spelling n))
+IsVerdict s too_deep = (n : Grammar) × IsCanonicalOfSet s n × (length (spelling n) ≤ max_text) × (is_too_deep n ≡ true)
+IsVerdict s (prints t) = (n : Grammar) × IsCanonicalOfSet s n × (length (spelling n) ≤ max_text) × (is_too_deep n ≡ false) × (t ≡ spelling n)

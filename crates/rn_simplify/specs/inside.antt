@@ -1,11 +1,13 @@
--- What contracts of private functions speak of: what lists hold, what is settled, gathered and written. No public contract cites it.
+-- What contracts of private functions speak of: references by numbers, kinds of forms, what lists hold, what is gathered and written. No public contract cites it.
 pub mod Contents
+pub mod DefinitionNumbers
+pub mod FormKinds
 pub mod Gathers
-pub mod Marked
+pub mod ListParts
+pub mod MarkedElements
 pub mod NodeKinds
-pub mod Parts
-pub mod References
+pub mod ReferenceNumbers
+pub mod ReferredNames
 pub mod Repeats
-pub mod Sizes
-pub mod Worth
+pub mod SettlingOrder
 pub mod Writes

@@ -22,9 +22,9 @@ pub(crate) fn write_class(writer: &mut Writer, prefixes: &Prefixes, class: &Name
             writer.put("* - ");
             write_class_operand(writer, prefixes, except);
         }
-        NameClass::NsName(uri, None) => write_any_of(writer, prefixes, uri),
+        NameClass::NsName(uri, None) => write_ns_name(writer, prefixes, uri),
         NameClass::NsName(uri, Some(except)) => {
-            write_any_of(writer, prefixes, uri);
+            write_ns_name(writer, prefixes, uri);
             writer.put(" - ");
             write_class_operand(writer, prefixes, except);
         }
@@ -64,8 +64,8 @@ fn write_class_operand(writer: &mut Writer, prefixes: &Prefixes, class: &NameCla
     }
 }
 
-/// Writes every name of a namespace.
-fn write_any_of(writer: &mut Writer, prefixes: &Prefixes, uri: &str)
+/// Writes an nsName: every name of a namespace.
+fn write_ns_name(writer: &mut Writer, prefixes: &Prefixes, uri: &str)
     ensures { Writes (any_of (namespace_prefix
         (prefixes_view prefixes.now) uri.now) ∷ []) writer.old writer.new }
 {

@@ -1,7 +1,7 @@
 // The prefixes of namespaces and datatype libraries, and their declarations (compact syntax, section 2, decl).
 ghost use Rattle.std.specs.Prelude.{◌≡◌, ◌∷◌, [], codes, filter, map, string_bytes, IfOk};
 ghost use Rattle.std.specs.Str.{encode_utf8_all};
-ghost use Rattle.rn_simplify.specs.Spelling.{bindings, has_wide_empty, library_prefix, namespace_prefix, place, prefixes, type_piece};
+ghost use Rattle.rn_simplify.specs.Spelling.{bindings, has_empty_ns_name, library_prefix, namespace_prefix, place, prefixes, type_piece};
 ghost use Rattle.rn_simplify.specs.inside.Gathers.{is_other};
 ghost use Rattle.rn_simplify.specs.NormalView.{normal_view};
 ghost use Rattle.rn_simplify.specs.inside.Writes.{bound_to, declaration_lines, empty_entries, entries, prefixes_view, Writes, WritesBytes, none};
@@ -87,13 +87,13 @@ impl Prefixes {
     pub(crate) fn of(alloc: Global, normal: &Normal) -> Result<Prefixes, AllocError>
         ensures prefixes { IfOk result (λ f. prefixes_view f ≡ prefixes (normal_view normal.now)) }
         ensures empty { IfOk result (λ f. f.empty_namespace
-            ≡ has_wide_empty (normal_view normal.now)) }
+            ≡ has_empty_ns_name (normal_view normal.now)) }
     {
         let mentions = Mentions::of(alloc, normal)?;
         Ok(Prefixes {
             namespaces: declared_texts(alloc, mentions.namespaces, XML_URI)?,
             libraries: declared_texts(alloc, mentions.libraries, XSD_URI)?,
-            empty_namespace: mentions.any_of_none,
+            empty_namespace: mentions.has_empty_ns_name,
         })
     }
 

@@ -16,7 +16,7 @@ ghost use Rattle.rn_assemble.specs.Components.{Component, NamedModule, set_compo
 ghost use Rattle.rn_assemble.specs.Combine.{IsCombination, joined_grammar, read};
 ghost use Rattle.rn_assemble.specs.WellFormed.{IsWellFormed, HasWritableTexts};
 ghost use Rattle.rn_assemble.specs.Refusal.{Refusal, StandsFor};
-ghost use Rattle.rn_simplify.specs.Limits.{most_bytes};
+ghost use Rattle.rn_modset.specs.Limits.{max_text};
 ghost use Rattle.rn_simplify.specs.ReadBack.{IsReadBack};
 ghost use Rattle.rn_simplify.specs.Settling.{IsSettling};
 ghost use Rattle.rn_simplify.specs.Spellable.{IsSpellable};
@@ -30,14 +30,14 @@ pub fn spelling_reads_back()
 {}
 
 /// A grammar whose names are names, whose texts are XML characters and whose datatypes may stand has a canonical grammar
-/// of which the same holds; if that one's text is at most 4 MiB long, it is read back as the canonical grammar, opened.
+/// of which the same holds; if that one's text is no longer than a module's may be, it is read back as the canonical grammar, opened.
 pub fn canonical_texts_are_read_back()
     ensures writable { (G N : Grammar) → IsCanonicalOf G N → HasWritableTexts G
         → HasWritableTexts N }
     ensures spellable { (G N : Grammar) → IsCanonicalOf G N → HasWritableTexts G
-        → length (spelling N) ≤ most_bytes → IsSpellable N }
+        → length (spelling N) ≤ max_text → IsSpellable N }
     ensures read_back { (G N : Grammar) → IsCanonicalOf G N → HasWritableTexts G
-        → length (spelling N) ≤ most_bytes → IsReadBack N }
+        → length (spelling N) ≤ max_text → IsReadBack N }
 {}
 
 /// The canonical grammar of a grammar is valid for exactly its documents, for every table of datatypes (RELAX NG

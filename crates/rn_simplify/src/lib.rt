@@ -1,16 +1,17 @@
 //! The canonical grammar of a grammar, and its text.
 //!
-//! [`normalise`] settles the references that are worth notAllowed or empty, brings each pattern into its canonical form,
+//! [`normalise`] settles the references whose definitions come to notAllowed or empty, brings each pattern into its canonical form,
 //! and keeps the definitions that are reached from the start.
 //! [`print`] gives the one text of a canonical grammar in the compact syntax.
 #![tactic(auto)]
 
-mod apart;
+mod body_forms;
+mod boxes;
 mod class_text;
 mod declared_prefixes;
 mod evaluation;
-mod forms;
-mod joined;
+mod form_kind;
+mod joined_bodies;
 pub mod laws;
 mod list_kind;
 mod mentions;
@@ -19,14 +20,14 @@ pub mod normalising;
 mod pattern_text;
 pub mod printing;
 mod reachable;
-mod rebuilt;
-mod references;
+mod rebuilding;
+mod reference_numbers;
 mod repeated_members;
-mod settled;
+mod settled_definitions;
 mod settling;
 mod shapes;
+mod stored_forms;
 mod tree_forms;
-mod worth;
 mod writer;
 
 pub use normal::Normal;

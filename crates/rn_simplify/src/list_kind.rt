@@ -2,7 +2,7 @@
 ghost use Rattle.std.specs.Prelude.{◌≡◌, All, IfOk, IsTrue, map};
 ghost use Rattle.rn_pattern.specs.Store.{KeepsIds, StandsFor};
 ghost use Rattle.rn_pattern.specs.View.{pattern_view, shared_view};
-ghost use Rattle.rn_simplify.specs.inside.Parts.{list_step};
+ghost use Rattle.rn_simplify.specs.inside.ListParts.{members_step};
 
 use rn_pattern::steps::{choice_over, group_over, interleave_over};
 use rn_pattern::{Pattern, Patterns};
@@ -26,7 +26,7 @@ impl ListKind {
     ) -> Result<P::Id, AllocError>
         requires { All (λ i. IsTrue (P.knows store.old i)) parts.now }
         ensures made { IfOk result (StandsFor (P.knows store.new) (P.tree_of store.new)
-            (list_step self (map (P.tree_of store.old) parts.now))) }
+            (members_step self (map (P.tree_of store.old) parts.now))) }
         ensures kept { KeepsIds P.knows P.tree_of store.old store.new }
     {
         match self {
@@ -43,7 +43,7 @@ impl ListKind {
         parts: Vec<Rc<Pattern>>,
     ) -> Result<Pattern, AllocError>
         ensures { IfOk result (λ p. pattern_view p
-            ≡ list_step self (map shared_view parts.items)) }
+            ≡ members_step self (map shared_view parts.items)) }
     {
         match self {
             ListKind::Group => group_over(alloc, parts),

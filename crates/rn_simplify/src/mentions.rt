@@ -3,8 +3,8 @@ ghost use Rattle.std.specs.Prelude.{◌≡◌, ◌∷◌, [], IfOk, OnOk, map};
 ghost use Rattle.rn_pattern.specs.Tree.{name_trees_of, trees_of};
 ghost use Rattle.rn_pattern.specs.View.{name_class_view, pattern_view, shared_view};
 ghost use Rattle.rn_simplify.specs.NormalView.{definitions_view, normal_view};
-ghost use Rattle.rn_simplify.specs.Spelling.{has_wide_empty};
-ghost use Rattle.rn_simplify.specs.inside.Gathers.{GathersTexts, Gathers, IsGathered, by_any_of, by_definitions, by_grammar, by_library, by_name, by_names, by_tree, by_trees};
+ghost use Rattle.rn_simplify.specs.Spelling.{has_empty_ns_name};
+ghost use Rattle.rn_simplify.specs.inside.Gathers.{GathersTexts, Gathers, IsGathered, by_ns_name, by_definitions, by_grammar, by_library, by_name, by_names, by_tree, by_trees};
 
 use crate::normal::Normal;
 use rn_pattern::{NameClass, Pattern};
@@ -17,22 +17,23 @@ use std::rc::Rc;
 pub(crate) struct Mentions {
     pub(crate) namespaces: BTreeSet<String>,
     pub(crate) libraries: BTreeSet<String>,
-    /// Every name of the empty namespace stands in a name class.
-    pub(crate) any_of_none: bool,
+    /// An nsName of the empty namespace stands in a name class.
+    pub(crate) has_empty_ns_name: bool,
 }
 
 impl Mentions {
     pub(crate) fn of(alloc: Global, normal: &Normal) -> Result<Mentions, AllocError>
         ensures namespaces { IfOk result
             (λ m. IsGathered (by_grammar (normal_view normal.now)).namespaces m.namespaces) }
-        ensures wide { IfOk result (λ m. m.any_of_none ≡ has_wide_empty (normal_view normal.now)) }
+        ensures ns_name { IfOk result (λ m. m.has_empty_ns_name
+            ≡ has_empty_ns_name (normal_view normal.now)) }
         ensures libraries { IfOk result
             (λ m. IsGathered (by_grammar (normal_view normal.now)).libraries m.libraries) }
     {
         let mut mentions = Mentions {
             namespaces: BTreeSet::new(alloc),
             libraries: BTreeSet::new(alloc),
-            any_of_none: false,
+            has_empty_ns_name: false,
         };
         mentions.add_pattern(alloc, &normal.start)?;
         mentions.add_definitions(alloc, normal.defs.as_slice())?;
@@ -98,9 +99,9 @@ impl Mentions {
         match class {
             NameClass::AnyName(None) => Ok(()),
             NameClass::AnyName(Some(except)) => self.add_class(alloc, except),
-            NameClass::NsName(uri, None) => self.add_any_of(alloc, uri),
+            NameClass::NsName(uri, None) => self.add_ns_name(alloc, uri),
             NameClass::NsName(uri, Some(except)) => {
-                self.add_any_of(alloc, uri)?;
+                self.add_ns_name(alloc, uri)?;
                 self.add_class(alloc, except)
             }
             NameClass::Name(uri, _) => insert(alloc, &mut self.namespaces, uri),
@@ -119,12 +120,12 @@ impl Mentions {
         Ok(())
     }
 
-    /// Adds the namespace of a class of all its names.
-    fn add_any_of(&mut self, alloc: Global, uri: &str) -> Result<(), AllocError>
-        ensures { OnOk result (Gathers (by_any_of uri.now) self.old self.new) }
+    /// Adds the namespace of an nsName.
+    fn add_ns_name(&mut self, alloc: Global, uri: &str) -> Result<(), AllocError>
+        ensures { OnOk result (Gathers (by_ns_name uri.now) self.old self.new) }
     {
         if uri.is_empty() {
-            self.any_of_none = true;
+            self.has_empty_ns_name = true;
         }
         insert(alloc, &mut self.namespaces, uri)
     }

@@ -1,7 +1,7 @@
 // The canonical grammar.
 ghost use Rattle.rn_assemble.specs.OneProof.{IsWellFormed-prop};
 ghost use Rattle.rn_assemble.specs.WellFormed.{IsWellFormed};
-ghost use Rattle.rn_simplify.specs.Sources.{HasSource, parts_view};
+ghost use Rattle.rn_simplify.specs.NormalParts.{HasSource, parts_view};
 
 use rn_pattern::Pattern;
 
@@ -12,7 +12,9 @@ use rn_pattern::Pattern;
 pub struct Normal {
     pub(crate) start: Pattern,
     pub(crate) defs: Vec<(String, Pattern)>,
+    /// Every reference is defined, no loop is reached, excepts and name classes keep their restrictions.
     pub ghost well_formed: { IsWellFormed (parts_view start defs.items) } by { IsWellFormed-prop (parts_view start defs.items) },
+    /// It is the canonical grammar of a well-formed grammar whose texts can be written.
     pub ghost source: { ∥ HasSource (parts_view start defs.items) ∥₁ },
 }
 

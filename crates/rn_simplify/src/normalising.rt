@@ -1,7 +1,6 @@
 // From a grammar to its canonical form.
 ghost use Rattle.std.specs.Prelude.{◌≡◌, IfOk, bytes_eq, map};
 ghost use Rattle.std.specs.List.{IsDistinct};
-ghost use Rattle.rn_assemble.specs.Firsts.{AreFirsts, joined_members};
 ghost use Rattle.rn_assemble.specs.GrammarView.{definitions_view, grammar_view};
 ghost use Rattle.rn_pattern.specs.Canonical as form;
 ghost use Rattle.rn_pattern.specs.Matching.{ValidAlike};
@@ -11,16 +10,17 @@ ghost use Rattle.rn_pattern.specs.Tree.{Tree};
 ghost use Rattle.rn_text.specs.Texts.{Text};
 ghost use Rattle.rn_pattern.specs.View.{pattern_view};
 ghost use Rattle.rn_simplify.specs.NormalView.{normal_view};
-ghost use Rattle.rn_simplify.specs.Sources.{parts_view};
-ghost use Rattle.rn_simplify.specs.inside.Worth.{becomes};
+ghost use Rattle.rn_simplify.specs.NormalParts.{parts_view};
+ghost use Rattle.rn_simplify.specs.inside.FormKinds.{becomes};
+ghost use Rattle.rn_simplify.specs.inside.Repeats.{AreFirstsOf};
 
-use crate::apart::{body_form_apart, definition_forms_apart};
+use crate::body_forms::{body_form, definition_forms};
 use crate::evaluation::settle_all;
-use crate::joined::canonical_body;
+use crate::joined_bodies::canonical_body;
 use crate::normal::Normal;
 use crate::reachable::prune_forms;
-use crate::rebuilt::rebuild;
-use crate::settled::Settled;
+use crate::rebuilding::rebuild;
+use crate::settled_definitions::SettledDefinitions;
 use crate::settling::{body_of, name_of};
 use rn_assemble::Grammar;
 use rn_pattern::{Pattern, Patterns};
@@ -34,7 +34,7 @@ pub fn normalise(alloc: Global, grammar: &Grammar) -> Result<Normal, AllocError>
     ensures documents { IfOk result
         (λ n. ValidAlike (grammar_view grammar.now) (normal_view n)) }
 {
-    let parts = parts_apart(alloc, grammar)?;
+    let parts = canonical_parts(alloc, grammar)?;
     Ok(normal_of(grammar, parts))
 }
 
@@ -51,7 +51,7 @@ pub fn normalise_in<P: Patterns>(
         (λ n. ValidAlike (grammar_view grammar.now) (normal_view n)) }
     ensures kept { KeepsIds P.knows P.tree_of store.old store.new }
 {
-    let parts = canonical_parts(alloc, grammar, store)?;
+    let parts = stored_parts(alloc, grammar, store)?;
     Ok(normal_of(grammar, parts))
 }
 
@@ -69,7 +69,7 @@ fn normal_of(grammar: &Grammar, parts: Parts) -> Normal
 }
 
 /// The canonical start and the canonical definitions that it reaches.
-fn canonical_parts<P: Patterns>(
+fn stored_parts<P: Patterns>(
     alloc: Global,
     grammar: &Grammar,
     store: &mut P,
@@ -79,39 +79,39 @@ fn canonical_parts<P: Patterns>(
     ensures kept { KeepsIds P.knows P.tree_of store.old store.new }
 {
     let settled = settle_all(alloc, grammar)?;
-    let start = body_form(
+    let start = stored_body_form(
         alloc,
         store,
         &settled,
         grammar.start(),
         grammar.start_firsts(),
     )?;
-    let forms = definition_forms(alloc, store, &settled, grammar)?;
+    let forms = stored_definition_forms(alloc, store, &settled, grammar)?;
     let defs = prune_forms(alloc, settled.names, &start, forms)?;
     Ok((start, defs))
 }
 
 /// The canonical start and the canonical definitions that it reaches, each made by itself.
-fn parts_apart(alloc: Global, grammar: &Grammar) -> Result<Parts, AllocError>
+fn canonical_parts(alloc: Global, grammar: &Grammar) -> Result<Parts, AllocError>
     ensures { IfOk result (λ parts. IsCanonicalOf (grammar_view grammar.now)
         (parts_view parts.0 parts.1.items)) }
 {
     let settled = settle_all(alloc, grammar)?;
-    let start = body_form_apart(alloc, &settled, grammar.start(), grammar.start_firsts())?;
-    let forms = definition_forms_apart(alloc, &settled, grammar)?;
+    let start = body_form(alloc, &settled, grammar.start(), grammar.start_firsts())?;
+    let forms = definition_forms(alloc, &settled, grammar)?;
     let defs = prune_forms(alloc, settled.names, &start, forms)?;
     Ok((start, defs))
 }
 
 /// The canonical form of a body.
-pub(crate) fn body_form<P: Patterns>(
+pub(crate) fn stored_body_form<P: Patterns>(
     alloc: Global,
     store: &mut P,
-    settled: &Settled<'_>,
+    settled: &SettledDefinitions<'_>,
     body: &Pattern,
     firsts: &[u32],
 ) -> Result<Pattern, AllocError>
-    requires { AreFirsts firsts.now (joined_members (pattern_view body.now)) }
+    requires { AreFirstsOf firsts.now body.now }
     ensures made { IfOk result (λ p. pattern_view p ≡ form.canonical (becomes settled.now)
         (pattern_view body.now)) }
     ensures kept { KeepsIds P.knows P.tree_of store.old store.new }
@@ -121,10 +121,10 @@ pub(crate) fn body_form<P: Patterns>(
 }
 
 /// The canonical forms of the definitions, in their order.
-fn definition_forms<P: Patterns>(
+fn stored_definition_forms<P: Patterns>(
     alloc: Global,
     store: &mut P,
-    settled: &Settled<'_>,
+    settled: &SettledDefinitions<'_>,
     grammar: &Grammar,
 ) -> Result<Vec<(String, Pattern)>, AllocError>
     requires { definitions_view settled.now.names.now.entries
@@ -140,7 +140,7 @@ fn definition_forms<P: Patterns>(
     for number in 0..settled.names.len() {
         let name = name_of(settled.names, number).clone()?;
         let body = body_of(settled.names, number);
-        let form = body_form(alloc, store, settled, body, grammar.firsts(number))?;
+        let form = stored_body_form(alloc, store, settled, body, grammar.firsts(number))?;
         forms.push((name, form))?;
     }
     Ok(forms)

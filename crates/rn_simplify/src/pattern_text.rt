@@ -1,7 +1,7 @@
 // The text of a pattern (compact syntax, section 2, pattern).
 ghost use Rattle.std.specs.Prelude.{◌≡◌, ℕ, ◌<◌, ◌≤◌, drop, length, ◌∷◌, [], List, Some, map, codes, bytes_eq, chars, ◌&&◌, ◌++◌, MatchOption};
 ghost use Rattle.rn_text.specs.Parts.{Piece};
-ghost use Rattle.rn_simplify.specs.Spelling.{braced, chain, chain_or_one, infix_of, keyword, operand, optional, optional_one, params_pieces, parenthesized, primary, space, written_choice, written_interleave, written_name, written_tree};
+ghost use Rattle.rn_simplify.specs.Spelling.{in_braces, chain, mixed_pieces, infix_of, keyword, operand, optional, optional_member, params_pieces, in_parentheses, primary, space, written_choice, written_interleave, written_name, written_tree};
 ghost use Rattle.rn_pattern.specs.View.{name_class_view, parameters_view, pattern_view};
 ghost use Rattle.rn_simplify.specs.inside.Writes.{bytes_of, data_text, depth_after, prefixes_view, rows_of, value_text, Writes};
 
@@ -33,15 +33,15 @@ pub(crate) fn write_pattern(writer: &mut Writer, prefixes: &Prefixes, pattern: &
         }
         Pattern::List(content) => {
             writer.put("list");
-            write_braced(writer, prefixes, content);
+            write_in_braces(writer, prefixes, content);
         }
         Pattern::Attribute(class, content) => {
             write_head(writer, prefixes, "attribute", class);
-            write_braced(writer, prefixes, content);
+            write_in_braces(writer, prefixes, content);
         }
         Pattern::Element(class, content) => {
             write_head(writer, prefixes, "element", class);
-            write_braced(writer, prefixes, content);
+            write_in_braces(writer, prefixes, content);
         }
         Pattern::OneOrMore(content) => {
             write_primary(writer, prefixes, content);
@@ -69,8 +69,8 @@ fn write_except(writer: &mut Writer, prefixes: &Prefixes, except: &Option<Box<Pa
 
 /// Writes a pattern in braces.
 #[cycle(pattern)]
-fn write_braced(writer: &mut Writer, prefixes: &Prefixes, content: &Pattern)
-    ensures { Writes (braced (written_tree (prefixes_view prefixes.now)
+fn write_in_braces(writer: &mut Writer, prefixes: &Prefixes, content: &Pattern)
+    ensures { Writes (in_braces (written_tree (prefixes_view prefixes.now)
         (pattern_view content.now)).pieces) writer.old writer.new }
 {
     writer.open_bracket(" { ");
@@ -85,15 +85,15 @@ fn write_operand(writer: &mut Writer, prefixes: &Prefixes, pattern: &Pattern)
         (pattern_view pattern.now))) writer.old writer.new }
 {
     match shape_of_pattern(pattern) {
-        Shape::Chained => write_parenthesized(writer, prefixes, pattern),
+        Shape::Chained => write_in_parentheses(writer, prefixes, pattern),
         _ => write_pattern(writer, prefixes, pattern),
     }
 }
 
 /// Writes a pattern in parentheses.
 #[cycle(pattern)]
-fn write_parenthesized(writer: &mut Writer, prefixes: &Prefixes, pattern: &Pattern)
-    ensures { Writes (parenthesized
+fn write_in_parentheses(writer: &mut Writer, prefixes: &Prefixes, pattern: &Pattern)
+    ensures { Writes (in_parentheses
         (written_tree (prefixes_view prefixes.now)
         (pattern_view pattern.now)).pieces) writer.old writer.new }
 {
@@ -110,7 +110,7 @@ fn write_primary(writer: &mut Writer, prefixes: &Prefixes, pattern: &Pattern)
 {
     match shape_of_pattern(pattern) {
         Shape::Closed => write_pattern(writer, prefixes, pattern),
-        _ => write_parenthesized(writer, prefixes, pattern),
+        _ => write_in_parentheses(writer, prefixes, pattern),
     }
 }
 
@@ -158,7 +158,7 @@ fn write_interleave(writer: &mut Writer, prefixes: &Prefixes, members: &[Rc<Patt
 #[cycle(pattern)]
 fn write_mixed(writer: &mut Writer, prefixes: &Prefixes, members: &[Rc<Pattern>])
     requires { 0 < length members.now }
-    ensures { Writes (chain_or_one (infix_of (codes "&"))
+    ensures { Writes (mixed_pieces (infix_of (codes "&"))
         (rows_of (prefixes_view prefixes.now) (drop 1 members.now))) writer.old writer.new }
 {
     if members.len() == 2 {
@@ -193,7 +193,7 @@ fn write_optional(writer: &mut Writer, prefixes: &Prefixes, members: &[Rc<Patter
     if members.len() == 1 {
         writer.put("empty");
     } else if members.len() == 2 {
-        write_optional_one(writer, prefixes, &members[1]);
+        write_optional_member(writer, prefixes, &members[1]);
     } else {
         writer.open_bracket("(");
         write_chain(writer, prefixes, members, 1, " | ");
@@ -204,9 +204,9 @@ fn write_optional(writer: &mut Writer, prefixes: &Prefixes, members: &[Rc<Patter
 
 /// Writes the choice of empty and one other pattern.
 #[cycle(pattern)]
-fn write_optional_one(writer: &mut Writer, prefixes: &Prefixes, other: &Pattern)
+fn write_optional_member(writer: &mut Writer, prefixes: &Prefixes, other: &Pattern)
     ensures { let w = written_tree (prefixes_view prefixes.now) (pattern_view other.now) in
-        Writes (optional_one w.repeated w) writer.old writer.new }
+        Writes (optional_member w.repeated w) writer.old writer.new }
 {
     if let Pattern::OneOrMore(content) = other {
         write_primary(writer, prefixes, content);

@@ -3,7 +3,7 @@ ghost use Rattle.std.specs.Prelude.{string_bytes, codes, IfOk, IfErr};
 ghost use Rattle.rn_pattern.specs.View.{pattern_view};
 ghost use Rattle.rn_simplify.specs.NormalView.{definitions_view, normal_view};
 ghost use Rattle.rn_simplify.specs.Spelling.{definition_line, definition_lines, keyword};
-ghost use Rattle.rn_simplify.specs.Printed.{IsPrinted, IsUnprinted};
+ghost use Rattle.rn_simplify.specs.Printing.{IsPrinted, IsUnprinted};
 ghost use Rattle.rn_simplify.specs.ReadBack.{IsReadBack};
 ghost use Rattle.rn_simplify.specs.inside.Writes.{defined_as, prefixes_view, Writes};
 
@@ -16,7 +16,7 @@ use rn_pattern::Pattern;
 use std::alloc::Global;
 
 /// The one text of a canonical grammar: the declarations of its prefixes, its start, and its definitions in the order of their names, each on a line of its own.
-/// `OutputTooLarge` where the text would have more than 4,194,304 bytes, else `OutputTooDeep` where more than 256 of its brackets would be open at once;
+/// `OutputTooLarge` where the text would have more than [`rn_modset::MAX_TEXT`] bytes, else `OutputTooDeep` where more than [`rn_syntax::MAX_OPEN`] of its brackets would be open at once;
 /// brackets in literals don't count. A text is read back as the grammar, its `?`, `*` and `mixed` opened (compact syntax, section 2; RELAX NG Specification, sections 4.13 to 4.15).
 pub fn print(alloc: Global, normal: &Normal) -> Result<String, Refusal>
     ensures ok { IfOk result (λ text. IsPrinted (normal_view normal.now) (string_bytes text)) }

@@ -6,11 +6,11 @@ ghost use Rattle.rn_pattern.specs.Graph.{is_marked, rows_of};
 ghost use Rattle.rn_assemble.specs.GrammarView.{definitions_view};
 ghost use Rattle.rn_pattern.specs.Reached.{IsPruned};
 ghost use Rattle.rn_pattern.specs.View.{pattern_view};
-ghost use Rattle.rn_simplify.specs.inside.Marked.{marked};
-ghost use Rattle.rn_simplify.specs.Numbered.{MarksReached, rows_by};
+ghost use Rattle.rn_simplify.specs.inside.MarkedElements.{marked_elements};
+ghost use Rattle.rn_simplify.specs.inside.DefinitionNumbers.{MarksReached, rows_by};
 ghost use Rattle.rn_assemble.specs.declared.references.Reach.TheVariants.{Everywhere};
 
-use crate::references::referred_numbers;
+use crate::reference_numbers::referred_numbers;
 use rn_assemble::Definitions;
 use rn_pattern::Pattern;
 use rn_pattern::graph::reached_nodes;
@@ -76,7 +76,7 @@ fn rows_of_forms(
 
 /// Removes the forms that are not marked.
 fn keep_marked(forms: &mut Vec<(String, Pattern)>, marks: &[bool])
-    ensures { forms.new.items ≡ marked marks.now forms.old.items }
+    ensures { forms.new.items ≡ marked_elements marks.now forms.old.items }
 {
     let mut marks = marks.iter();
     forms.retain(

@@ -1,12 +1,12 @@
 // Members of a list to which components are joined that stand in it before (RELAX NG, 4.17).
 ghost use Rattle.std.specs.Prelude.{◌≡◌, ◌≤◌, ◌<◌, IfOk, IfSome, List, Some, length, map, slice_get, slice_index_or};
-ghost use Rattle.rn_assemble.specs.Firsts.{AreFirsts, joined_members};
+ghost use Rattle.rn_assemble.specs.Firsts.{AreFirsts};
 ghost use Rattle.rn_pattern.specs.Tree.{Tree};
 ghost use Rattle.rn_pattern.specs.View.{pattern_view, shared_view};
-ghost use Rattle.rn_simplify.specs.inside.Repeats.{AreSameButRepeats};
+ghost use Rattle.rn_simplify.specs.inside.Repeats.{AreFirstsAmong, AreFirstsOf, AreSameButRepeats};
 ghost use Rattle.rn_pattern.specs.Canonical.{HaveSameMembers};
 
-use crate::rebuilt::new_box;
+use crate::boxes::new_box;
 use rn_pattern::Pattern;
 use std::alloc::{AllocError, Global};
 use std::rc::Rc;
@@ -29,8 +29,9 @@ pub(crate) fn distinct_members(
     members: &[Rc<Pattern>],
     firsts: &[u32],
 ) -> Result<Vec<Rc<Pattern>>, AllocError>
-    requires { AreFirsts firsts.now (map shared_view members.now) }
-    ensures { IfOk result (λ v. HaveSameMembers (map shared_view v.items) (map shared_view members.now)) }
+    requires { AreFirstsAmong firsts.now members.now }
+    ensures { IfOk result
+        (λ v. HaveSameMembers (map shared_view v.items) (map shared_view members.now)) }
 {
     let mut found = Vec::new(alloc);
     for index in 0..members.len() {
@@ -47,7 +48,7 @@ pub(crate) fn without_repeats(
     body: &Pattern,
     firsts: &[u32],
 ) -> Result<Option<Box<Pattern>>, AllocError>
-    requires { AreFirsts firsts.now (joined_members (pattern_view body.now)) }
+    requires { AreFirstsOf firsts.now body.now }
     ensures { IfOk result (λ found. IfSome found
         (λ p. AreSameButRepeats (pattern_view p.value) (pattern_view body.now))) }
 {

@@ -2,19 +2,19 @@
 ghost use Rattle.std.specs.Prelude.{◌≡◌, ◌<◌, [], ℕ, IfOk, length, if◌then◌else◌, slice_index_or, string_bytes};
 ghost use Rattle.rn_pattern.specs.Graph.{AllBelow, IsGraph, is_marked, row, rows_of};
 ghost use Rattle.rn_pattern.specs.Ranks.{HasNoLoop, IsRanking};
-ghost use Rattle.rn_assemble.specs.Firsts.{AreFirsts, joined_members};
 ghost use Rattle.rn_assemble.specs.GrammarView.{definitions_view, grammar_view};
 ghost use Rattle.rn_pattern.specs.Tree.{Tree};
 ghost use Rattle.rn_text.specs.Texts.{Text};
 ghost use Rattle.rn_pattern.specs.View.{pattern_view};
-ghost use Rattle.rn_simplify.specs.inside.Marked.{ArePlaces};
-ghost use Rattle.rn_simplify.specs.inside.References.{AreReferences, AreRows};
-ghost use Rattle.rn_simplify.specs.Numbered.{MarksReached, graph_of, rows_by, start_of};
+ghost use Rattle.rn_simplify.specs.inside.MarkedElements.{ArePlaces};
+ghost use Rattle.rn_simplify.specs.inside.ReferenceNumbers.{AreReferences, AreRows};
+ghost use Rattle.rn_simplify.specs.inside.DefinitionNumbers.{MarksReached, graph_of, rows_by, start_of};
 ghost use Rattle.rn_pattern.specs.Canonical.{HaveSameMembers};
-ghost use Rattle.rn_simplify.specs.Settling.{IsSettlingOrder};
+ghost use Rattle.rn_simplify.specs.inside.SettlingOrder.{IsSettlingOrder};
 ghost use Rattle.rn_assemble.specs.declared.references.Reach.TheVariants.{OutsideElements};
+ghost use Rattle.rn_simplify.specs.inside.Repeats.{AreFirstsOf};
 
-use crate::references::References;
+use crate::reference_numbers::References;
 use crate::repeated_members::without_repeats;
 use rn_assemble::{Definitions, Grammar};
 use rn_pattern::Pattern;
@@ -49,7 +49,7 @@ fn body_references(
     body: &Pattern,
     firsts: &[u32],
 ) -> Result<References, AllocError>
-    requires { AreFirsts firsts.now (joined_members (pattern_view body.now)) }
+    requires { AreFirstsOf firsts.now body.now }
     ensures { IfOk result (AreReferences (definitions_view names.now.entries)
         (pattern_view body.now)) }
 {

@@ -8,13 +8,13 @@ ghost use Rattle.rn_pattern.specs.Tree.{Tree, ref, trees_of};
 ghost use Rattle.rn_text.specs.Texts.{Text};
 ghost use Rattle.rn_pattern.specs.View.{name_class_view, pattern_view, shared_view};
 ghost use Rattle.rn_simplify.specs.inside.Contents.{content_of, form_or, is_leaf};
-ghost use Rattle.rn_simplify.specs.inside.Parts.{list_step, parts, parts_of};
-ghost use Rattle.rn_simplify.specs.inside.Worth.{becomes};
+ghost use Rattle.rn_simplify.specs.inside.ListParts.{members_step, parts, parts_of};
+ghost use Rattle.rn_simplify.specs.inside.FormKinds.{becomes};
 
+use crate::boxes::{new_box, new_shared};
+use crate::form_kind::FormKind;
 use crate::list_kind::ListKind;
-use crate::rebuilt::{new_box, new_shared};
-use crate::settled::Settled;
-use crate::worth::Worth;
+use crate::settled_definitions::SettledDefinitions;
 use rn_pattern::steps::{attribute_over, datum_over, element_over, list_over, one_or_more_over};
 use rn_pattern::{NameClass, Pattern};
 use std::alloc::{AllocError, Global};
@@ -23,7 +23,7 @@ use std::rc::Rc;
 /// The canonical form of a pattern.
 pub(crate) fn tree_form(
     alloc: Global,
-    settled: &Settled<'_>,
+    settled: &SettledDefinitions<'_>,
     pattern: &Pattern,
 ) -> Result<Pattern, AllocError>
     ensures { IfOk result (λ p. pattern_view p ≡ form.canonical (becomes settled.now)
@@ -51,7 +51,7 @@ fn form_or_copy(
 #[cycle(form_of)]
 fn form_of(
     alloc: Global,
-    settled: &Settled<'_>,
+    settled: &SettledDefinitions<'_>,
     pattern: &Pattern,
 ) -> Result<Option<Pattern>, AllocError>
     ensures { IfOk result (λ made. form_or made (pattern_view pattern.now)
@@ -89,20 +89,20 @@ fn form_of(
     }
 }
 
-/// What a reference becomes: notAllowed or empty if its definition is worth that. It stays itself else.
-fn reference_form(settled: &Settled<'_>, name: &str) -> Option<Pattern>
+/// What a reference becomes: notAllowed or empty if that is the form of its definition. It stays itself else.
+fn reference_form(settled: &SettledDefinitions<'_>, name: &str) -> Option<Pattern>
     ensures { form_or result (ref name.now) ≡ becomes settled.now name.now }
 {
-    match settled.worth_of(name) {
-        Worth::NotAllowed => Some(Pattern::NotAllowed),
-        Worth::Empty => Some(Pattern::Empty),
-        Worth::Other => None,
+    match settled.kind_of(name) {
+        FormKind::NotAllowed => Some(Pattern::NotAllowed),
+        FormKind::Empty => Some(Pattern::Empty),
+        FormKind::Other => None,
     }
 }
 
 /// The canonical form of a pattern that has no other pattern in it and is no datatype, or `None` where that is the pattern
 /// itself.
-fn leaf_form(settled: &Settled<'_>, pattern: &Pattern) -> Option<Pattern>
+fn leaf_form(settled: &SettledDefinitions<'_>, pattern: &Pattern) -> Option<Pattern>
     requires { IsTrue (is_leaf (pattern_view pattern.now)) }
     ensures { form_or result (pattern_view pattern.now)
         ≡ form.canonical (becomes settled.now) (pattern_view pattern.now) }
@@ -144,8 +144,8 @@ fn stays_over_content(pattern: &Pattern) -> bool
 {
     match pattern {
         Pattern::List(content) => !is_not_allowed(content),
-        Pattern::Attribute(class, content) => is_one_class(class) && !is_not_allowed(content),
-        Pattern::Element(class, _) => is_one_class(class),
+        Pattern::Attribute(class, content) => is_single_class(class) && !is_not_allowed(content),
+        Pattern::Element(class, _) => is_single_class(class),
         Pattern::OneOrMore(content) => may_repeat(content),
         _ => false,
     }
@@ -169,7 +169,7 @@ fn may_repeat(pattern: &Pattern) -> bool
 }
 
 /// Whether the name class has no other in it, so that it is in canonical form.
-fn is_one_class(class: &NameClass) -> bool
+fn is_single_class(class: &NameClass) -> bool
     ensures { IsTrue result
         → form.canonical_name (name_class_view class.now) ≡ name_class_view class.now }
 {
@@ -205,11 +205,11 @@ fn form_over_content(
 #[cycle(form_of)]
 fn list_form(
     alloc: Global,
-    settled: &Settled<'_>,
+    settled: &SettledDefinitions<'_>,
     kind: ListKind,
     members: &[Rc<Pattern>],
 ) -> Result<Pattern, AllocError>
-    ensures { IfOk result (λ p. pattern_view p ≡ list_step kind (canonical_all
+    ensures { IfOk result (λ p. pattern_view p ≡ members_step kind (canonical_all
         (becomes settled.now) (trees_of (map shared_view members.now)))) }
 {
     let mut forms = Vec::with_capacity(alloc, members.len())?;
@@ -221,7 +221,7 @@ fn list_form(
 #[cycle(form_of)]
 fn push_parts(
     alloc: Global,
-    settled: &Settled<'_>,
+    settled: &SettledDefinitions<'_>,
     kind: ListKind,
     members: &[Rc<Pattern>],
     forms: &mut Vec<Rc<Pattern>>,
@@ -244,7 +244,7 @@ fn push_parts(
 #[cycle(form_of)]
 fn push_inner(
     alloc: Global,
-    settled: &Settled<'_>,
+    settled: &SettledDefinitions<'_>,
     kind: ListKind,
     pattern: &Pattern,
     forms: &mut Vec<Rc<Pattern>>,

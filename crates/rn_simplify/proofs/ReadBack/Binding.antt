@@ -17,19 +17,19 @@ use Rattle.rn_syntax.specs.Places.{xml_uri, xsd_uri, declarations_places, declar
 use Rattle.rn_syntax.proofs.TokenKinds.PieceTokens.{ascii, behind}
 use Rattle.rn_assemble.specs.Resolve.{declared_text}
 use Rattle.std.specs.declared.cmp.Ordering.TheVariants.{Less}
-use Rattle.rn_simplify.specs.Spelling.{Prefixes, prefixes, place, namespace_prefix, library_prefix, namespace_entries, library_entries, has_wide_empty, name_uris, mentions, grammar_mentions, bindings, default_line}
+use Rattle.rn_simplify.specs.Spelling.{Prefixes, prefixes, place, namespace_prefix, library_prefix, namespace_entries, library_entries, has_empty_ns_name, name_uris, mentions, grammar_mentions, bindings, default_line}
 use Rattle.rn_simplify.specs.Printable.{IsPrintable}
 use Rattle.rn_assemble.specs.Texts.{IsXml, IsName, Free}
 use Rattle.rn_simplify.specs.Spellable.{IsSpellable}
 use Rattle.rn_simplify.specs.ReadBack.{IsReadBack}
-use Rattle.rn_simplify.proofs.ReadBack.Bound.{IsBoundTo, IsLibrary}
+use Rattle.rn_simplify.proofs.ReadBack.NeededBindings.{IsBoundTo, IsLibrary}
 use Rattle.rn_simplify.proofs.ReadBack.Lines.{IsEntry, empty_xml, libraries_from, IsDefinition}
 use Rattle.rn_assemble.proofs.Combined.Joined.{mapped, zipped}
 use Rattle.rn_simplify.proofs.ReadBack.Whole.{declarations_of, IsDeclared, is_read_back}
-use Rattle.rn_simplify.proofs.ReadBack.Ordered.{less_differs, sorted_all, filter_all, sorted_keeps, filter_keeps, pick, AreApart, sorted_apart, filter_apart}
-use Rattle.rn_simplify.proofs.ReadBack.Declared.{Entry, OtherPrefix, HaveOwnPrefixes, found, no_library, found_library, Fresh, FreshLibrary, IsOwnNamespace, IsOwnLibrary, clean_declarations}
-use Rattle.rn_simplify.proofs.ReadBack.Numbered.{numbered_name, numbered_bytes, numbered_differ, place_bound, place_positive, place_one}
-use Rattle.rn_simplify.proofs.ReadBack.Rebound.{Named, Wide, Libraries, Names, tree_bound, all_first, all_second}
+use Rattle.rn_simplify.proofs.ReadBack.OrderedTexts.{less_differs, sorted_all, filter_all, sorted_keeps, filter_keeps, pick, AreApart, sorted_apart, filter_apart}
+use Rattle.rn_simplify.proofs.ReadBack.DeclaredPrefixes.{Entry, OtherPrefix, HaveOwnPrefixes, found, no_library, found_library, Fresh, FreshLibrary, IsOwnNamespace, IsOwnLibrary, clean_declarations}
+use Rattle.rn_simplify.proofs.ReadBack.NumberedPrefixes.{numbered_name, numbered_bytes, numbered_differ, place_bound, place_positive, place_one}
+use Rattle.rn_simplify.proofs.ReadBack.MentionedTexts.{Named, Wide, Libraries, Names, tree_bound, all_first, all_second}
 
 abbrev In : List Text → Text → Type 0
 In us u = list_any (bytes_eq u) us ≡ true
@@ -169,14 +169,14 @@ module _ (n : Grammar) (h : IsSpellable n) where
   -- ---- entries
 
   all_entries : (P : Entry → Type 0) → P (codes "n0", []) → AllByRecursion (λ u. P (pre u, u)) us → AllByRecursion P (namespace_entries n)
-  all_entries P z a = go (has_wide_empty n)
+  all_entries P z a = go (has_empty_ns_name n)
     where
       go : (b : Bool) → AllByRecursion P (cond b ((codes "n0", []) ∷ []) [] ++ map (λ u. (pre u, u)) us)
       go true = (z, all_map P pre us a)
       go false = all_map P pre us a
 
   own_entries : HaveOwnPrefixes (namespace_entries n)
-  own_entries = go (has_wide_empty n)
+  own_entries = go (has_empty_ns_name n)
     where
       rest : HaveOwnPrefixes (map (λ u. (pre u, u)) us)
       rest = own_map 110 pre us n_start refl h.few_namespaces us (filter_apart (λ u. not (bytes_eq u []) && not (bytes_eq u xml_uri)) (sorted_once text_cmp mentioned) (sorted_apart mentioned)) placed
@@ -235,14 +235,14 @@ module _ (n : Grammar) (h : IsSpellable n) where
   found_all = found (namespace_entries n) at_namespaces (libraries_from at_libraries (library_entries n)) own_entries
 
   found_named : AllByRecursion (λ u. Found (pre u, u)) us
-  found_named = of_map Found pre us (go (has_wide_empty n) found_all)
+  found_named = of_map Found pre us (go (has_empty_ns_name n) found_all)
     where
       go : (b : Bool) → AllByRecursion Found (cond b ((codes "n0", []) ∷ []) [] ++ map (λ u. (pre u, u)) us) → AllByRecursion Found (map (λ u. (pre u, u)) us)
       go true a = a.1
       go false a = a
 
-  found_zero : has_wide_empty n ≡ true → Found (codes "n0", [])
-  found_zero e = go (has_wide_empty n) e found_all
+  found_zero : has_empty_ns_name n ≡ true → Found (codes "n0", [])
+  found_zero e = go (has_empty_ns_name n) e found_all
     where
       go : (b : Bool) → b ≡ true → AllByRecursion Found (cond b ((codes "n0", []) ∷ []) [] ++ map (λ u. (pre u, u)) us) → Found (codes "n0", [])
       go true e a = a.0
@@ -274,10 +274,10 @@ module _ (n : Grammar) (h : IsSpellable n) where
       bound_by ds (pre u) u (placed_name 110 pre us n_start refl h.few_namespaces u q.0) (not_xml u q.0).1 q.1)
       (cases_Bool (bytes_eq u xml_uri))
 
-  wide : (u : Text) → In (grammar_mentions (name_uris true) (λ l. []) n) u → Wide N L u
-  wide u k e =
+  ns_named : (u : Text) → In (grammar_mentions (name_uris true) (λ l. []) n) u → Wide N L u
+  ns_named u k e =
       let is : u ≡ [] = (bytes_eq-Decides u []).0 e in
-      let stands : has_wide_empty n ≡ true = ap (λ v. list_any (bytes_eq v) (grammar_mentions (name_uris true) (λ l. []) n)) (sym is) ∙ k in
+      let stands : has_empty_ns_name n ≡ true = ap (λ v. list_any (bytes_eq v) (grammar_mentions (name_uris true) (λ l. []) n)) (sym is) ∙ k in
       let p : pre u ≡ codes "n0" = cond-true _ _ _ e in
       subst (λ q. IsBoundTo ds q u) (sym p) (subst (IsBoundTo ds (codes "n0")) (sym is) (bound_by ds (codes "n0") [] zero_name (ap (λ p. bytes_eq p (codes "xml")) zero_bytes) (found_zero stands)))
 
@@ -295,7 +295,7 @@ module _ (n : Grammar) (h : IsSpellable n) where
   all_named = mapped (In mentioned) (Named N L) named mentioned (all_in mentioned)
 
   all_wide : AllByRecursion (Wide N L) (grammar_mentions (name_uris true) (λ l. []) n)
-  all_wide = mapped (In (grammar_mentions (name_uris true) (λ l. []) n)) (Wide N L) wide _ (all_in (grammar_mentions (name_uris true) (λ l. []) n))
+  all_wide = mapped (In (grammar_mentions (name_uris true) (λ l. []) n)) (Wide N L) ns_named _ (all_in (grammar_mentions (name_uris true) (λ l. []) n))
 
   all_libraries : AllByRecursion (Libraries N L) libraries_mentioned
   all_libraries = mapped (In libraries_mentioned) (Libraries N L) library libraries_mentioned (all_in libraries_mentioned)

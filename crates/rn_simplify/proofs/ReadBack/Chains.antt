@@ -3,7 +3,7 @@ use Rattle.std.proofs.Common.{◌≡◌, ℕ, zero, suc, ◌<◌, List, [], ◌�
 use Rattle.rn_text.specs.Parts.{Piece}
 use Rattle.rn_pattern.specs.Tree.{name_trees_of}
 use Rattle.rn_pattern.specs.declared.tree.NameClass.{NameClass}
-use Rattle.rn_simplify.specs.Spelling.{Prefixes, Written, operand, chain, written_name, written_names}
+use Rattle.rn_simplify.specs.Spelling.{Prefixes, NodeText, operand, chain, written_name, written_names}
 use Rattle.rn_pattern.specs.View.{name_class_view}
 use Rattle.rn_simplify.specs.declared.writer.Writer.{Writer}
 use Rattle.rn_simplify.specs.inside.Writes.{Writes}
@@ -14,7 +14,7 @@ abbrev pub before : {A : Type 0} → List A → List Piece → List Piece
 before [] s = []
 before (v ∷ vs) s = s
 
-module _ {A : Type 0} (g : A → Written) (s : List Piece) where
+module _ {A : Type 0} (g : A → NodeText) (s : List Piece) where
   abbrev pub row : List A → List Piece
   row xs = chain s (map g xs)
 
@@ -28,7 +28,7 @@ class_rows f [] = refl
 class_rows f (c ∷ cs) = ap (λ r. written_name f (name_class_view c) ∷ r) (class_rows f cs)
 
 -- one more operand, behind what stands between
-pub writes_row_more : {A : Type 0} (g : A → Written) (s : List Piece) (xs : List A) (x : A) {a b c d : Writer} → Writes (row g s xs) a b → Writes (before xs s) b c → Writes (operand (g x)) c d → Writes (row g s (xs ++ x ∷ [])) a d
+pub writes_row_more : {A : Type 0} (g : A → NodeText) (s : List Piece) (xs : List A) (x : A) {a b c d : Writer} → Writes (row g s xs) a b → Writes (before xs s) b c → Writes (operand (g x)) c d → Writes (row g s (xs ++ x ∷ [])) a d
 writes_row_more g s xs x h j k = writes_as (sym (row_more g s xs x)) (writes_then (row g s xs) (before xs s ++ operand (g x)) h (writes_then (before xs s) (operand (g x)) j k))
 
 pub before_none : {A : Type 0} (xs : List A) (i : ℕ) (s : List Piece) {a : Writer} → i ≡ 0 → Writes (before (take i xs) s) a a

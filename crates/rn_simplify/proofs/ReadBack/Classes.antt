@@ -20,17 +20,17 @@ use Rattle.rn_syntax.specs.Tokens.{symbol_rows}
 use Rattle.rn_syntax.specs.declared.token.Operator.TheVariants as o
 use Rattle.rn_syntax.proofs.TokenKinds.PieceTokens.{terms, behind, terms-append, prefixed_term, any_term}
 use Rattle.rn_syntax.proofs.Basics.EmptyLists.{both_nil}
-use Rattle.rn_simplify.specs.Spelling.{space, symbol, any_of, infix_of, Prefixes, namespace_prefix, closed, chained, Written, written, operand, primary, parenthesized, chain, written_name, written_names}
+use Rattle.rn_simplify.specs.Spelling.{space, symbol, any_of, infix_of, Prefixes, namespace_prefix, closed, chained, NodeText, node_text, operand, primary, in_parentheses, chain, written_name, written_names}
 use Rattle.rn_simplify.specs.Printable.{IsClass, every, every_but, all_of, all_of_but, local, full, either, AreClasses, last, more}
 use Rattle.rn_simplify.proofs.ReadBack.Words.{Reads, space_breaks, minus_free, bar_free, parenthesized_sound, word_sound, word_term}
-use Rattle.rn_simplify.proofs.ReadBack.Bound.{IsBoundTo, FitsClass, FitClasses}
+use Rattle.rn_simplify.proofs.ReadBack.NeededBindings.{IsBoundTo, FitsClass, FitClasses}
 
 module _ (f : Prefixes) (ds : List Declaration) where
   abbrev pub Bound : Text → Type 0
   Bound u = IsBoundTo ds (namespace_prefix f u) u
 
   -- what is written is read as the name class, in each of the three places where a class may stand
-  pub record ReadsClass (w : Written) (n : NameTree) : Type 0 where
+  pub record ReadsClass (w : NodeText) (n : NameTree) : Type 0 where
     pub sound : Sound w.pieces
     pub operand_sound : Sound (operand w)
     pub primary_sound : Sound (primary w)
@@ -41,14 +41,14 @@ module _ (f : Prefixes) (ds : List Declaration) where
   plain : {ts rest : Tokens} {c : NameClass} → IsClassCore ts c rest → IsClassPrimary ts c rest
   plain h = g.primary g.bare h g.none
 
-  inside : (ps : List Piece) {Q : NameClass → Type 0} → Reads IsNameClass ps Q → Reads IsClassPrimary (parenthesized ps) Q
+  inside : (ps : List Piece) {Q : NameClass → Type 0} → Reads IsNameClass ps Q → Reads IsClassPrimary (in_parentheses ps) Q
   unfolding symbol_rows
   inside ps h i rest =
       let j = i + width (symbol (codes "(")) in
       let r = h j (terms (behind j ps) (symbol (codes ")") ∷ []) rest) in
       (r.0, plain (subst (λ l. IsClassCore (t.left_paren # i ∷ l) r.0 rest) (sym (terms-append j ps (symbol (codes ")") ∷ []) rest)) (g.parens r.1)), r.2)
 
-  closed_class : {ps : List Piece} {n : NameTree} → Sound ps → Reads IsClassCore ps (FitsClass ds n) → ReadsClass (written closed ps) n
+  closed_class : {ps : List Piece} {n : NameTree} → Sound ps → Reads IsClassCore ps (FitsClass ds n) → ReadsClass (node_text closed ps) n
   closed_class s h = record {
     sound = s;
     operand_sound = s;
@@ -58,7 +58,7 @@ module _ (f : Prefixes) (ds : List Declaration) where
     as_primary = λ i rest. let r = h i rest in (r.0, plain r.1, r.2);
   }
 
-  chained_class : {ps : List Piece} {n : NameTree} → Sound ps → Reads IsNameClass ps (FitsClass ds n) → ReadsClass (written chained ps) n
+  chained_class : {ps : List Piece} {n : NameTree} → Sound ps → Reads IsNameClass ps (FitsClass ds n) → ReadsClass (node_text chained ps) n
   chained_class {ps = ps} s h = record {
     sound = s;
     operand_sound = parenthesized_sound s;
@@ -73,7 +73,7 @@ module _ (f : Prefixes) (ds : List Declaration) where
   star_sound = symbol_sound (codes "*") refl refl
 
   -- `*` or `p:*`, `-`, and a class
-  but_reads : (ps : List Piece) (w : Written) (n : NameTree) {Q : NameClass → Type 0} (a : ℕ → s.AnyName)
+  but_reads : (ps : List Piece) (w : NodeText) (n : NameTree) {Q : NameClass → Type 0} (a : ℕ → s.AnyName)
       → ((i : ℕ) (ts : Tokens) → (x : _) × (terms i ps ts ≡ x ∷ ts) × g.IsAnyName x (a i)) → ((i : ℕ) (c : NameClass) → FitsClass ds n c → Q (s.all_but (a i) c)) → ReadsClass w n
       → Reads IsNameClass (ps ++ (infix_of (codes "-") ++ primary w)) Q
   unfolding symbol_rows

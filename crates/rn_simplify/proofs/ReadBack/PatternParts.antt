@@ -18,7 +18,7 @@ use Rattle.rn_syntax.specs.declared.token.Operator.TheVariants as o
 use Rattle.rn_syntax.specs.declared.token.Postfix.{Postfix}
 use Rattle.rn_syntax.specs.declared.token.Postfix.TheVariants as pf
 use Rattle.rn_syntax.proofs.TokenKinds.PieceTokens.{terms, behind, terms-append}
-use Rattle.rn_simplify.specs.Spelling.{space, symbol, keyword, infix_of, comma, parenthesized}
+use Rattle.rn_simplify.specs.Spelling.{space, symbol, keyword, infix_of, comma, in_parentheses}
 use Rattle.rn_simplify.proofs.ReadBack.Words.{Reads, space_breaks, bar_free, ampersand_free, comma_free}
 
 -- ---- what stands between operands
@@ -91,7 +91,7 @@ plus_sound h = sound_then h (postfix_breaks 43 refl) (symbol_sound (codes "+") r
 pub plain : {ts rest : Tokens} {q : Pattern} → IsCore ts q rest → IsPrimary ts q rest
 plain h = g.primary g.bare h g.none
 
-pub inside : (ps : List Piece) {Q : Pattern → Type 0} → Reads IsPattern ps Q → Reads IsPrimary (parenthesized ps) Q
+pub inside : (ps : List Piece) {Q : Pattern → Type 0} → Reads IsPattern ps Q → Reads IsPrimary (in_parentheses ps) Q
 unfolding symbol_rows
 inside ps h i rest =
     let j = i + width (symbol (codes "(")) in

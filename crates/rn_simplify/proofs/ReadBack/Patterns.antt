@@ -24,32 +24,32 @@ use Rattle.rn_syntax.specs.declared.token.Postfix.TheVariants as pf
 use Rattle.rn_syntax.proofs.TokenKinds.PieceTokens.{before, terms, behind, terms-append}
 use Rattle.rn_syntax.proofs.Basics.EmptyLists.{both_nil}
 use Rattle.rn_assemble.specs.Resolve.{default_of, resolved_class}
-use Rattle.rn_simplify.specs.Spelling.{space, symbol, keyword, type_piece, infix_of, comma, literal, Prefixes, closed, postfixed, chained, Written, written, operand, primary, parenthesized, braced, chain, optional_one, optional, chain_or_one, written_choice, written_interleave, written_name, datum_pieces, value_pieces, written_tree, written_trees}
+use Rattle.rn_simplify.specs.Spelling.{space, symbol, keyword, type_piece, infix_of, comma, literal, Prefixes, closed, postfixed, chained, NodeText, node_text, operand, primary, in_parentheses, in_braces, chain, optional_member, optional, mixed_pieces, written_choice, written_interleave, written_name, datum_pieces, value_pieces, written_tree, written_trees}
 use Rattle.rn_simplify.specs.Printable as w
 use Rattle.rn_simplify.specs.Printable.{IsPrintable, ArePrintable, is_empty, is_text, is_repetition}
 use Rattle.rn_assemble.specs.Texts.{string_type, token_type, library_type, needs_context, IsType, IsData, IsXml}
 use Rattle.rn_simplify.proofs.ReadBack.Words.{Reads, space_breaks, space_free, minus_free, parenthesized_sound, braced_sound, identifier_sound, identifier_term, literal_sound, literal_reads}
-use Rattle.rn_simplify.proofs.ReadBack.Bound.{FitsClass, Clean, Fits, FitAll}
+use Rattle.rn_simplify.proofs.ReadBack.NeededBindings.{FitsClass, Clean, Fits, FitAll}
 use Rattle.rn_simplify.proofs.ReadBack.Classes.{Bound, class_reads}
 use Rattle.rn_simplify.proofs.ReadBack.Types.{Library, inside_at, braced_terms, type_term, type_sound, DataTerm, data_term, data_sound}
 use Rattle.rn_simplify.proofs.ReadBack.PatternParts.{IsSeparator, bar, ampersand, comma_between, element_sound, attribute_sound, list_sound, mixed_sound, empty_sound, not_allowed_sound, text_sound, question_sound, star_sound, plus_sound, plain, inside, marked, question_is, star_is, plus_is}
 
 -- ---- what a node above knows of a pattern
 
-either_way : (P : Written → Type 0) (b : Bool) (x y : Written) → P x → P y → P (cond b x y)
+either_way : (P : NodeText → Type 0) (b : Bool) (x y : NodeText) → P x → P y → P (cond b x y)
 either_way P true x y h k = h
 either_way P false x y h k = k
 
-record NoFlags (w : Written) : Type 0 where
+record NoFlags (w : NodeText) : Type 0 where
   empty : w.is_empty ≡ false
   text : w.is_text ≡ false
   repeated : w.repeated ≡ None
 
-choice_flags : (ws : List Written) → NoFlags (written_choice ws)
+choice_flags : (ws : List NodeText) → NoFlags (written_choice ws)
 choice_flags [] = record { empty = refl; text = refl; repeated = refl }
 choice_flags (w ∷ ws) = either_way NoFlags w.is_empty _ _ (record { empty = refl; text = refl; repeated = refl }) (record { empty = refl; text = refl; repeated = refl })
 
-interleave_flags : (ws : List Written) → NoFlags (written_interleave ws)
+interleave_flags : (ws : List NodeText) → NoFlags (written_interleave ws)
 interleave_flags [] = record { empty = refl; text = refl; repeated = refl }
 interleave_flags (w ∷ ws) = either_way NoFlags w.is_text _ _ (record { empty = refl; text = refl; repeated = refl }) (record { empty = refl; text = refl; repeated = refl })
 
@@ -88,7 +88,7 @@ opened_is _ = (refl, refl)
 
 module _ (f : Prefixes) (ds : List Declaration) (no_default : default_of [] ds ≡ []) where
   -- what is written is read as the pattern, in each of the three places where a pattern may stand
-  pub record ReadsTree (w : Written) (p : Tree) : Type 0 where
+  pub record ReadsTree (w : NodeText) (p : Tree) : Type 0 where
     pub sound : Sound w.pieces
     pub operand_sound : Sound (operand w)
     pub primary_sound : Sound (primary w)
@@ -118,7 +118,7 @@ module _ (f : Prefixes) (ds : List Declaration) (no_default : default_of [] ds �
         as_primary = inside ps whole;
       }
 
-  chained_tree : (ps : List Piece) {p : Tree} → Sound ps → Reads IsPattern ps (Fits ds p) → ReadsTree (written chained ps) p
+  chained_tree : (ps : List Piece) {p : Tree} → Sound ps → Reads IsPattern ps (Fits ds p) → ReadsTree (node_text chained ps) p
   chained_tree ps s h = record {
     sound = s;
     operand_sound = parenthesized_sound s;
@@ -208,7 +208,7 @@ module _ (f : Prefixes) (ds : List Declaration) (no_default : default_of [] ds �
   -- a keyword and a pattern in braces
   braced_reads : (c : List ℕ) (ps : List Piece) (of : Pattern → Pattern) {Q R : Pattern → Type 0}
       → ((i j l : ℕ) (ts rest : Tokens) (q : Pattern) → IsPattern ts q (t.right_brace # l ∷ rest) → IsCore (before (keyword c).part i c (t.left_brace # j ∷ ts)) (of q) rest)
-      → ((q : Pattern) → Q q → R (of q)) → Reads IsPattern ps Q → Reads IsCore (keyword c ∷ braced ps) R
+      → ((q : Pattern) → Q q → R (of q)) → Reads IsPattern ps Q → Reads IsCore (keyword c ∷ in_braces ps) R
   braced_reads c ps of core fits h i rest =
       let j = i + width (keyword c) in
       let l = behind (inside_at j) ps + width space in
@@ -218,16 +218,16 @@ module _ (f : Prefixes) (ds : List Declaration) (no_default : default_of [] ds �
   -- a keyword, a name class and a pattern in braces
   named_reads : (c : List ℕ) (ns ps : List Piece) (of : s.NameClass → Pattern → Pattern) {M : s.NameClass → Type 0} {Q R : Pattern → Type 0}
       → ((i j l : ℕ) (ts body rest : Tokens) (n : s.NameClass) (q : Pattern) → g.IsNameClass ts n (t.left_brace # j ∷ body) → IsPattern body q (t.right_brace # l ∷ rest) → IsCore (before (keyword c).part i c ts) (of n q) rest)
-      → ((n : s.NameClass) (q : Pattern) → M n → Q q → R (of n q)) → Reads g.IsNameClass ns M → Reads IsPattern ps Q → Reads IsCore (keyword c ∷ space ∷ (ns ++ braced ps)) R
+      → ((n : s.NameClass) (q : Pattern) → M n → Q q → R (of n q)) → Reads g.IsNameClass ns M → Reads IsPattern ps Q → Reads IsCore (keyword c ∷ space ∷ (ns ++ in_braces ps)) R
   named_reads c ns ps of core fits k h i rest =
       let m = i + width (keyword c) + width space in
       let j = behind m ns in
       let l = behind (inside_at j) ps + width space in
       let a = h (inside_at j) (t.right_brace # l ∷ rest) in
       let b = k m (t.left_brace # (j + width space) ∷ terms (inside_at j) ps (t.right_brace # l ∷ rest)) in
-      (of b.0 a.0, subst (λ ts. IsCore (before (keyword c).part i c ts) (of b.0 a.0) rest) (sym (terms-append m ns (braced ps) rest ∙ ap (terms m ns) (braced_terms j ps rest))) (core i (j + width space) l _ _ rest b.0 a.0 b.1 a.1), fits b.0 a.0 b.2 a.2)
+      (of b.0 a.0, subst (λ ts. IsCore (before (keyword c).part i c ts) (of b.0 a.0) rest) (sym (terms-append m ns (in_braces ps) rest ∙ ap (terms m ns) (braced_terms j ps rest))) (core i (j + width space) l _ _ rest b.0 a.0 b.1 a.1), fits b.0 a.0 b.2 a.2)
 
-  named_sound : (c : List ℕ) {ns ps : List Piece} → Sound (keyword c ∷ []) → Sound ns → Sound ps → Sound (keyword c ∷ space ∷ (ns ++ braced ps))
+  named_sound : (c : List ℕ) {ns ps : List Piece} → Sound (keyword c ∷ []) → Sound ns → Sound ps → Sound (keyword c ∷ space ∷ (ns ++ in_braces ps))
   named_sound c k n h = sound_then k (space_breaks _) (free_then space_free (sound_then n (space_breaks _) (braced_sound h)))
 
   -- operands in a row, behind the first separator
@@ -292,7 +292,7 @@ module _ (f : Prefixes) (ds : List Declaration) (no_default : default_of [] ds �
   value_reads {u = u} token_type c e = λ i rest. (s.value None u, g.value (literal_reads e i rest), record { resolves = refl; clean = (refl, refl, refl, refl); allowed = λ k. refl })
   value_reads (library_type b n) c e = typed (library_type b n) c e
 
-  but_sound : {l x : Text} {es : r.Parameters} (w' : Written) → IsData (Library f ds) l x es → Sound (primary w') → Sound (datum_pieces f l x es ++ (infix_of (codes "-") ++ primary w'))
+  but_sound : {l x : Text} {es : r.Parameters} (w' : NodeText) → IsData (Library f ds) l x es → Sound (primary w') → Sound (datum_pieces f l x es ++ (infix_of (codes "-") ++ primary w'))
   but_sound w' d h = sound_then (data_sound f ds d) (space_breaks _) (free_then minus_free h)
 
   but_reads : {l x : Text} {es : r.Parameters} {p : Tree} → IsData (Library f ds) l x es → IsExcept p → ReadsTree (written_tree f p) p → Reads IsPattern (datum_pieces f l x es ++ (infix_of (codes "-") ++ primary (written_tree f p))) (Fits ds (r.datum_but l x es p))
@@ -313,11 +313,11 @@ module _ (f : Prefixes) (ds : List Declaration) (no_default : default_of [] ds �
   ArePrinted = ArePrintable (Bound f ds) (Bound f ds) (Library f ds)
 
   -- a choice that doesn't begin with Empty, and an interleave that doesn't begin with Text
-  choice_plain : (p : Tree) (ws : List Written) → is_empty p ≡ false → written_choice (written_tree f p ∷ ws) ≡ written chained (chain (infix_of (codes "|")) (written_tree f p ∷ ws))
-  choice_plain p ws e = ap (λ b. cond b (written postfixed (optional ws)) (written chained (chain (infix_of (codes "|")) (written_tree f p ∷ ws)))) ((flags f p).empty ∙ e)
+  choice_plain : (p : Tree) (ws : List NodeText) → is_empty p ≡ false → written_choice (written_tree f p ∷ ws) ≡ node_text chained (chain (infix_of (codes "|")) (written_tree f p ∷ ws))
+  choice_plain p ws e = ap (λ b. cond b (node_text postfixed (optional ws)) (node_text chained (chain (infix_of (codes "|")) (written_tree f p ∷ ws)))) ((flags f p).empty ∙ e)
 
-  interleave_plain : (p : Tree) (ws : List Written) → is_text p ≡ false → written_interleave (written_tree f p ∷ ws) ≡ written chained (chain (infix_of (codes "&")) (written_tree f p ∷ ws))
-  interleave_plain p ws e = ap (λ b. cond b (written closed (keyword (codes "mixed") ∷ braced (chain_or_one (infix_of (codes "&")) ws))) (written chained (chain (infix_of (codes "&")) (written_tree f p ∷ ws)))) ((flags f p).text ∙ e)
+  interleave_plain : (p : Tree) (ws : List NodeText) → is_text p ≡ false → written_interleave (written_tree f p ∷ ws) ≡ node_text chained (chain (infix_of (codes "&")) (written_tree f p ∷ ws))
+  interleave_plain p ws e = ap (λ b. cond b (node_text closed (keyword (codes "mixed") ∷ in_braces (mixed_pieces (infix_of (codes "&")) ws))) (node_text chained (chain (infix_of (codes "&")) (written_tree f p ∷ ws)))) ((flags f p).text ∙ e)
 
   mutual
     unfolding keyword_rows
@@ -364,15 +364,15 @@ module _ (f : Prefixes) (ds : List Declaration) (no_default : default_of [] ds �
         (chained_tree _ (chain_sound bar a b) (with_fits (chain (infix_of (codes "|")) (written_trees f (more_trees p (more_trees q ps)))) (λ x k. fits_choice e k) (chain_reads bar a b)))
     tree_reads (w.maybe {p = p} e h) =
         let a = tree_reads h in
-        let single : optional_one (written_tree f p).repeated (written_tree f p) ≡ primary (written_tree f p) ++ symbol (codes "?") ∷ [] = ap (λ o. optional_one o (written_tree f p)) ((flags f p).repeated e) in
-        subst (λ ps. ReadsTree (written postfixed ps) (r.choice (more_trees r.empty (more_trees p no_trees)))) (sym single)
+        let single : optional_member (written_tree f p).repeated (written_tree f p) ≡ primary (written_tree f p) ++ symbol (codes "?") ∷ [] = ap (λ o. optional_member o (written_tree f p)) ((flags f p).repeated e) in
+        subst (λ ps. ReadsTree (node_text postfixed ps) (r.choice (more_trees r.empty (more_trees p no_trees)))) (sym single)
         (postfixed_tree _ None (question_sound a.primary_sound) (marked (primary (written_tree f p)) 63 pf.Question question_is (λ q e. fits_maybe e) a.as_primary))
     tree_reads (w.any_number {p = p} h) = let a = tree_reads h in postfixed_tree _ None (star_sound a.primary_sound) (marked (primary (written_tree f p)) 42 pf.Star star_is (λ q e. fits_any_number e) a.as_primary)
     tree_reads (w.maybe_several {p = p} {q = q} {ps = ps} h rs) =
         let a = tree_reads h in
         let b = trees_read bar rs in
         let all = chain (infix_of (codes "|")) (written_trees f (more_trees p (more_trees q ps))) in
-        postfixed_tree _ None (question_sound (parenthesized_sound (chain_sound bar a b))) (marked (parenthesized all) 63 pf.Question question_is (λ q e. fits_maybe_several e) (inside all (chain_reads bar a b)))
+        postfixed_tree _ None (question_sound (parenthesized_sound (chain_sound bar a b))) (marked (in_parentheses all) 63 pf.Question question_is (λ q e. fits_maybe_several e) (inside all (chain_reads bar a b)))
 
     pub trees_read : {op : Operator} {sep : List Piece} → IsSeparator op sep → {ps : Trees} → ArePrinted ps → AreRead op sep ps
     trees_read e (w.last h) = last_read (tree_reads h)

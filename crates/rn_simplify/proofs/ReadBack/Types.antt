@@ -21,16 +21,16 @@ use Rattle.rn_syntax.specs.declared.token.Method.TheVariants as m
 use Rattle.rn_text.specs.declared.keywords.Keyword.TheVariants as k
 use Rattle.rn_syntax.proofs.TokenKinds.PieceTokens.{before, terms, behind, terms-append, prefixed_term}
 use Rattle.rn_assemble.specs.Resolve.{type_library, type_name}
-use Rattle.rn_simplify.specs.Spelling.{space, symbol, word, literal, braced, Prefixes, library_prefix, type_piece, params_pieces, datum_pieces}
+use Rattle.rn_simplify.specs.Spelling.{space, symbol, word, literal, in_braces, Prefixes, library_prefix, type_piece, params_pieces, datum_pieces}
 use Rattle.rn_assemble.specs.Texts.{IsName, AreParams, IsType, string_type, token_type, library_type, IsData, bare, with_params, needs_context}
 use Rattle.rn_simplify.proofs.ReadBack.Words.{space_breaks, space_free, equals_free, braced_sound, word_sound, word_term, literal_sound, literal_reads}
-use Rattle.rn_simplify.proofs.ReadBack.Bound.{IsLibrary}
+use Rattle.rn_simplify.proofs.ReadBack.NeededBindings.{IsLibrary}
 
 -- where braces and what is in them stand
 abbrev pub inside_at : ℕ → ℕ
 inside_at i = i + width space + width (symbol (codes "{")) + width space
 
-pub braced_terms : (i : ℕ) (ps : List Piece) (rest : Tokens) → terms i (braced ps) rest ≡ t.left_brace # (i + width space) ∷ terms (inside_at i) ps (t.right_brace # (behind (inside_at i) ps + width space) ∷ rest)
+pub braced_terms : (i : ℕ) (ps : List Piece) (rest : Tokens) → terms i (in_braces ps) rest ≡ t.left_brace # (i + width space) ∷ terms (inside_at i) ps (t.right_brace # (behind (inside_at i) ps + width space) ∷ rest)
 unfolding symbol_rows
 braced_terms i ps rest = ap (λ l. t.left_brace # (i + width space) ∷ l) (terms-append (inside_at i) ps (space ∷ symbol (codes "}") ∷ []) rest)
 
@@ -130,7 +130,7 @@ module _ (f : Prefixes) (ds : List Declaration) where
         terminal = y.terminal;
         behind_it = t.left_brace # (j + width space) ∷ terms (inside_at j) (params_pieces (e ∷ es)) (t.right_brace # (behind (inside_at j) (params_pieces (e ∷ es)) + width space) ∷ rest);
         datatype = y.datatype;
-        is = y.is (terms j (braced (params_pieces (e ∷ es))) rest) ∙ ap (λ l. y.terminal # i ∷ l) (braced_terms j (params_pieces (e ∷ es)) rest);
+        is = y.is (terms j (in_braces (params_pieces (e ∷ es))) rest) ∙ ap (λ l. y.terminal # i ∷ l) (braced_terms j (params_pieces (e ∷ es)) rest);
         is_datatype = y.is_datatype;
         params = g.braces (params_read (e ∷ es) h (inside_at j) _ rest);
         library = y.library;

@@ -21,7 +21,7 @@ use Rattle.rn_syntax.proofs.TokenKinds.PieceTokens.{terms, behind, terms-append,
 use Rattle.rn_syntax.proofs.Basics.EmptyLists.{both_nil}
 use Rattle.rn_assemble.specs.Combine.{joined_grammar, plain_start, plain_definition, components_of, AreDistinct}
 use Rattle.rn_assemble.specs.Resolve.{default_of}
-use Rattle.rn_simplify.specs.Spelling.{keyword, Prefixes, prefixes, namespace_entries, library_entries, bindings, default_line, definition_line, definition_lines, spelled, spelling}
+use Rattle.rn_simplify.specs.Spelling.{keyword, Prefixes, prefixes, namespace_entries, library_entries, bindings, default_line, definition_line, definition_lines, spelling_pieces, spelling}
 use Rattle.rn_simplify.specs.ReadBack.{IsReadBack}
 use Rattle.rn_simplify.proofs.ReadBack.Lines.{IsEntry, namespaces_from, libraries_from, bindings_free, namespaces_read, libraries_read, default_free, default_reads, declarations_then, Printable, IsDefinition, opened_component, definitions_free, start_free, grammar_reads}
 use Rattle.rn_assemble.proofs.Combined.Joined.{joined_is, mapped_distinct}
@@ -55,7 +55,7 @@ datatypes_keyword : is_keyword (codes "datatypes") ≡ true
 unfolding is_keyword keywords
 datatypes_keyword = refl
 
-spelled_free : (n : Grammar) → IsDeclared n → Free (spelled n)
+spelled_free : (n : Grammar) → IsDeclared n → Free (spelling_pieces n)
 spelled_free n h =
     free_free default_free (free_free (bindings_free (codes "namespace") (namespace_entries n) (keyword_sound _ namespace_keyword) h.namespaces)
     (free_free (bindings_free (codes "datatypes") (library_entries n) (keyword_sound _ datatypes_keyword) h.libraries)
@@ -66,29 +66,29 @@ is_read_back n h =
     let f = prefixes n in
     let ds = declarations_of n in
     let free = spelled_free n h in
-    let text : chars (spelling n) ≡ text_of (spelled n) = chars-encodes (text_of (spelled n)) (scalars_of (text_of (spelled n)) free.xml) in
+    let text : chars (spelling n) ≡ text_of (spelling_pieces n) = chars-encodes (text_of (spelling_pieces n)) (scalars_of (text_of (spelling_pieces n)) free.xml) in
     let i = behind 0 default_line in
     let j = behind i (bindings (codes "namespace") (namespace_entries n)) in
     let k = behind j (bindings (codes "datatypes") (library_entries n)) in
     let body = definition_line f (keyword (codes "start")) n.start ++ definition_lines f n.definitions in
     let items = grammar_reads f ds refl n.start n.definitions h.start h.definitions k in
     let rest = terms k body [] in
-    let lines : terms 0 (spelled n) [] ≡ terms 0 default_line (terms i (bindings (codes "namespace") (namespace_entries n)) (terms j (bindings (codes "datatypes") (library_entries n)) rest)) =
+    let lines : terms 0 (spelling_pieces n) [] ≡ terms 0 default_line (terms i (bindings (codes "namespace") (namespace_entries n)) (terms j (bindings (codes "datatypes") (library_entries n)) rest)) =
     terms-append 0 default_line (bindings (codes "namespace") (namespace_entries n) ++ (bindings (codes "datatypes") (library_entries n) ++ body)) []
     ∙ ap (terms 0 default_line) (terms-append i (bindings (codes "namespace") (namespace_entries n)) (bindings (codes "datatypes") (library_entries n) ++ body) []
     ∙ ap (terms i (bindings (codes "namespace") (namespace_entries n))) (terms-append j (bindings (codes "datatypes") (library_entries n)) body [])) in
     let m : Module = record { declarations = ds; items = items_of items.0 } in
-    let parsed : IsModule (terms 0 (spelled n) []) m =
+    let parsed : IsModule (terms 0 (spelling_pieces n) []) m =
     subst (λ ts. IsModule ts m) (sym lines)
     (g.items (g.more (default_reads _) (declarations_then (namespaces_read (namespace_entries n) h.namespaces i _) (libraries_read (library_entries n) h.libraries j rest))) items.1) in
     let components : module_components (λ wanted inherited. []) [] m ≡ components_of (opened_grammar n) = items.2.components ∙ ap (λ l. plain_start (opened n.start) ∷ l) (components_are f ds refl n.definitions) in
     record {
-      utf8 = (text_of (spelled n), (scalars_of (text_of (spelled n)) free.xml, refl));
-      tokens = lexemes 0 (spelled n);
-      has_tokens = subst (λ cs. HasTokens cs (lexemes 0 (spelled n))) (sym text) (record { xml = free.xml; pieces = spelled n; cut = subst (λ t. IsCut t (spelled n) []) (append-nil (text_of (spelled n))) (free.before []); are = refl });
+      utf8 = (text_of (spelling_pieces n), (scalars_of (text_of (spelling_pieces n)) free.xml, refl));
+      tokens = lexemes 0 (spelling_pieces n);
+      has_tokens = subst (λ cs. HasTokens cs (lexemes 0 (spelling_pieces n))) (sym text) (record { xml = free.xml; pieces = spelling_pieces n; cut = subst (λ t. IsCut t (spelling_pieces n) []) (append-nil (text_of (spelling_pieces n))) (free.before []); are = refl });
       shallow = refl;
       tree = m;
-      has_tree = subst (λ ts. IsModule ts m) (terms-are 0 (spelled n) free.xml) parsed;
+      has_tree = subst (λ ts. IsModule ts m) (terms-are 0 (spelling_pieces n) free.xml) parsed;
       no_prefix = both_nil _ _ h.clean items.2.clean.0;
       no_builtin = items.2.clean.1;
       no_context = items.2.clean.2;

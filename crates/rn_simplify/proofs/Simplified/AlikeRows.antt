@@ -5,9 +5,9 @@ use Rattle.std.proofs.lemmas.List.{length-map}
 use Rattle.std.specs.Prelude.{Contains, Decides}
 use Rattle.rn_pattern.specs.Matching.{Grammar}
 use Rattle.rn_pattern.specs.Graph.{AllBelow, IsGraph, Reached, at_first, along, is_marked, row, rows_of}
-use Rattle.rn_simplify.specs.Numbered.{graph_of, start_of}
-use Rattle.rn_simplify.specs.Referred.{references}
-use Rattle.rn_simplify.specs.inside.References.{AreRows}
+use Rattle.rn_simplify.specs.inside.DefinitionNumbers.{graph_of, start_of}
+use Rattle.rn_simplify.specs.inside.ReferredNames.{references}
+use Rattle.rn_simplify.specs.inside.ReferenceNumbers.{AreRows}
 use Rattle.rn_pattern.specs.Canonical.{HaveSameMembers}
 use Rattle.rn_assemble.specs.declared.references.Reach.TheVariants.{Everywhere}
 use Rattle.rn_simplify.proofs.Simplified.ReferenceGraph.{numbers_below, row_within, rows_graph, rows_size}

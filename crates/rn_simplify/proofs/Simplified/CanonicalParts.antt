@@ -6,7 +6,7 @@ use Rattle.rn_pattern.specs.Reached.{IsCanonicalOf, IsPruned}
 use Rattle.rn_pattern.specs.Tree.{Tree}
 use Rattle.rn_text.specs.Texts.{Text}
 use Rattle.rn_simplify.specs.Settling.{IsSettling}
-use Rattle.rn_simplify.proofs.Simplified.Normalised.{formed_is}
+use Rattle.rn_simplify.proofs.Simplified.FormedGrammar.{formed_is}
 use Rattle.rn_simplify.proofs.Simplified.RankOrder.{normal_is}
 
 -- what is reached of the forms of a grammar's bodies is its canonical grammar

@@ -15,7 +15,7 @@ use Rattle.rn_pattern.specs.declared.tree.Pattern.TheVariants as variant
 use Rattle.rn_pattern.proofs.Forms.CanonicalForm.{canonical_all_are}
 use Rattle.rn_pattern.proofs.Forms.ListsWithin.{choice_within, group_within, interleave_within}
 use Rattle.rn_pattern.proofs.Ordered.PatternKinds.{choice_seen, group_seen, interleave_seen}
-use Rattle.rn_simplify.specs.inside.Parts.{list_step, parts, parts_of}
+use Rattle.rn_simplify.specs.inside.ListParts.{members_step, parts, parts_of}
 use Rattle.rn_simplify.specs.declared.list_kind.ListKind.{ListKind}
 
 -- the parts of a list of the kind are those of its members
@@ -30,7 +30,7 @@ module _ (kind : ListKind) (p : Pattern) (v : Vec (Rc Pattern Global) Global) (x
   choice_parts e f = (λ i. parts (e i) (trees_of (map shared_view (h i)))) ∙ sym ((λ i. parts_of (e i) (pattern_view (f i))) ∙ ap (parts_of ListKind.Choice) (choice_seen v))
 
 -- a canonical list within a list of its kind comes to the same as its members do
-within : (kind : ListKind) (front ps rest : List Tree) → AllByRecursion IsCanonicalPattern ps → list_step kind (front ++ (list_step kind ps ∷ rest)) ≡ list_step kind (front ++ (ps ++ rest))
+within : (kind : ListKind) (front ps rest : List Tree) → AllByRecursion IsCanonicalPattern ps → members_step kind (front ++ (members_step kind ps ∷ rest)) ≡ members_step kind (front ++ (ps ++ rest))
 within ListKind.Group = group_within
 within ListKind.Interleave = interleave_within
 within ListKind.Choice = choice_within
@@ -40,7 +40,7 @@ module _ (s : Text → Tree) (forms : (x : Text) → IsCanonicalPattern (s x)) w
   formed = map (canonical s)
 
   mutual
-    one_part : (kind : ListKind) (p : Tree) (front rest : List Tree) → list_step kind (front ++ (formed (parts_of kind p) ++ rest)) ≡ list_step kind (front ++ (canonical s p ∷ rest))
+    one_part : (kind : ListKind) (p : Tree) (front rest : List Tree) → members_step kind (front ++ (formed (parts_of kind p) ++ rest)) ≡ members_step kind (front ++ (canonical s p ∷ rest))
     one_part ListKind.Group (group ps) front rest =
         parts_between ListKind.Group ps front rest ∙ sym (within ListKind.Group front (canonical_all s ps) rest (canonical_all_are AnyName s forms ps))
     one_part ListKind.Interleave (interleave ps) front rest =
@@ -51,20 +51,20 @@ module _ (s : Text → Tree) (forms : (x : Text) → IsCanonicalPattern (s x)) w
     one_part ListKind.Interleave p front rest = refl
     one_part ListKind.Choice p front rest = refl
 
-    parts_between : (kind : ListKind) (ps : Trees) (front rest : List Tree) → list_step kind (front ++ (formed (parts kind ps) ++ rest)) ≡ list_step kind (front ++ (canonical_all s ps ++ rest))
+    parts_between : (kind : ListKind) (ps : Trees) (front rest : List Tree) → members_step kind (front ++ (formed (parts kind ps) ++ rest)) ≡ members_step kind (front ++ (canonical_all s ps ++ rest))
     parts_between kind no_trees front rest = refl
     parts_between kind (more_trees p ps) front rest =
         let c = canonical s p in
         let behind = formed (parts kind ps) ++ rest in
-        ap (λ xs. list_step kind (front ++ xs)) (ap (λ xs. xs ++ rest) (map-append (canonical s) (parts_of kind p) (parts kind ps)) ∙ append_assoc (formed (parts_of kind p)) (formed (parts kind ps)) rest)
+        ap (λ xs. members_step kind (front ++ xs)) (ap (λ xs. xs ++ rest) (map-append (canonical s) (parts_of kind p) (parts kind ps)) ∙ append_assoc (formed (parts_of kind p)) (formed (parts kind ps)) rest)
         ∙ one_part kind p front behind
-        ∙ ap (list_step kind) (sym (append_assoc front (c ∷ []) behind))
+        ∙ ap (members_step kind) (sym (append_assoc front (c ∷ []) behind))
         ∙ parts_between kind ps (front ++ c ∷ []) rest
-        ∙ ap (list_step kind) (append_assoc front (c ∷ []) (canonical_all s ps ++ rest))
+        ∙ ap (members_step kind) (append_assoc front (c ∷ []) (canonical_all s ps ++ rest))
 
-  pub parts_same : (kind : ListKind) (ps : Trees) → list_step kind (formed (parts kind ps)) ≡ list_step kind (canonical_all s ps)
+  pub parts_same : (kind : ListKind) (ps : Trees) → members_step kind (formed (parts kind ps)) ≡ members_step kind (canonical_all s ps)
   parts_same kind ps =
-      ap (list_step kind) (sym (append-nil (formed (parts kind ps)))) ∙ parts_between kind ps [] [] ∙ ap (list_step kind) (append-nil (canonical_all s ps))
+      ap (members_step kind) (sym (append-nil (formed (parts kind ps)))) ∙ parts_between kind ps [] [] ∙ ap (members_step kind) (append-nil (canonical_all s ps))
 
 -- the parts of one more member
 parts_push : (kind : ListKind) (ps : List Tree) (p : Tree) → parts kind (trees_of (ps ++ p ∷ [])) ≡ parts kind (trees_of ps) ++ parts_of kind p

@@ -17,7 +17,7 @@ use Rattle.rn_pattern.specs.declared.tree.Pattern.{Pattern}
 use Rattle.rn_pattern.proofs.Ordered.InOrder.{contains_front, contains_behind}
 use Rattle.rn_pattern.specs.Graph.{is_marked, row, rows_of}
 use Rattle.rn_assemble.specs.GrammarView.{definitions_view}
-use Rattle.rn_simplify.specs.inside.References.{AreRows}
+use Rattle.rn_simplify.specs.inside.ReferenceNumbers.{AreRows}
 use Rattle.rn_pattern.specs.Canonical.{HaveSameMembers}
 use Rattle.rn_simplify.proofs.Simplified.ReferenceGraph.{nothing}
 use Rattle.rn_simplify.proofs.Simplified.ReferredIn.{contains_none}

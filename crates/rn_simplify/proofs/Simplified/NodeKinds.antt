@@ -11,9 +11,8 @@ use Rattle.rn_pattern.specs.View.{excepted_view, parameters_view}
 use Rattle.rn_pattern.specs.declared.node.Node.{Node}
 use Rattle.rn_pattern.specs.declared.tree.NameClass.{NameClass}
 use Rattle.rn_pattern.specs.declared.tree.Pattern.{Pattern}
-use Rattle.rn_simplify.specs.inside.NodeKinds.{datum_over, node_content}
-use Rattle.rn_simplify.specs.inside.Sizes.{tree_size, ids_size, except_trees}
-use Rattle.rn_simplify.proofs.Simplified.NodeSizes.{members_size}
+use Rattle.rn_simplify.specs.inside.NodeKinds.{datum_over, except_trees, node_content}
+use Rattle.rn_simplify.proofs.Simplified.NodeSizes.{tree_size, ids_size, members_size}
 
 module _ {I : Type 0} (n : Node I) (v : Vec I Global) where
   pub members_in : (n ≡ Node.Group v) ⊎ ((n ≡ Node.Interleave v) ⊎ (n ≡ Node.Choice v)) → node_members n ≡ v.items

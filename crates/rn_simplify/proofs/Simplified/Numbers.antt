@@ -13,8 +13,8 @@ use Rattle.rn_pattern.specs.declared.tree.Pattern.{Pattern}
 use Rattle.rn_pattern.specs.declared.tree.Pattern.TheVariants as variant
 use Rattle.rn_pattern.proofs.Ordered.PatternKinds.{group_seen, interleave_seen, choice_seen}
 use Rattle.rn_assemble.specs.GrammarView.{definitions_view}
-use Rattle.rn_simplify.specs.Numbered.{number_of, numbers_of}
-use Rattle.rn_simplify.specs.Referred.{Reach, references, all_references}
+use Rattle.rn_simplify.specs.inside.DefinitionNumbers.{number_of, numbers_of}
+use Rattle.rn_simplify.specs.inside.ReferredNames.{Reach, references, all_references}
 
 front_is : (es : List (String Global × Pattern)) (x : Text) → prefix_len (λ (k : String Global). not (bytes_eq x (string_bytes k))) (map (λ (e : String Global × Pattern). e.0) es) ≡ prefix_len (λ y. not (bytes_eq x y)) (map (λ (d : Text × Tree). d.0) (definitions_view es))
 front_is [] x = refl

@@ -24,10 +24,10 @@ use Rattle.rn_pattern.specs.declared.tree.Pattern.{Pattern}
 use Rattle.rn_pattern.proofs.Ordered.InOrder.{contains_front, contains_behind, contains_cases}
 use Rattle.rn_pattern.specs.Graph.{is_marked}
 use Rattle.rn_assemble.specs.GrammarView.{definitions_view}
-use Rattle.rn_simplify.specs.inside.Marked.{marked}
-use Rattle.rn_simplify.specs.Numbered.{MarksReached, numbers_of, rows_by}
-use Rattle.rn_simplify.specs.Referred.{Reach, references}
-use Rattle.rn_simplify.proofs.ReadBack.Ordered.{equal_is}
+use Rattle.rn_simplify.specs.inside.MarkedElements.{marked_elements}
+use Rattle.rn_simplify.specs.inside.DefinitionNumbers.{MarksReached, numbers_of, rows_by}
+use Rattle.rn_simplify.specs.inside.ReferredNames.{Reach, references}
+use Rattle.rn_pattern.proofs.Ordered.Orders.{text_same}
 use Rattle.rn_simplify.proofs.Simplified.ReferredIn.{contains_none}
 use Rattle.rn_simplify.proofs.Simplified.ReferenceGraph.{nothing, is_at, number_some, body_is, reached_number, number_reached}
 
@@ -39,11 +39,11 @@ module _ {X : Type 0} where
   marked_behind : (b : Bool) (bs : List Bool) (y : X) (xs : List X) (x : X) → MarkedAt bs xs x → MarkedAt (b ∷ bs) (y ∷ xs) x
   marked_behind b bs y xs x (k, m, l, e) = (suc k, m, omega (arith, l), e)
 
-  in_marked_at : (b : Bool) (bs : List Bool) (y : X) (xs : List X) (x : X) → (Contains (marked bs xs) x → MarkedAt bs xs x) → Contains (cond b (y ∷ marked bs xs) (marked bs xs)) x → MarkedAt (b ∷ bs) (y ∷ xs) x
-  in_marked_at true bs y xs x r c = ⊎_elim (λ e. (0, refl, omega arith, e)) (λ d. marked_behind true bs y xs x (r d)) (contains_cases y x (marked bs xs) c)
+  in_marked_at : (b : Bool) (bs : List Bool) (y : X) (xs : List X) (x : X) → (Contains (marked_elements bs xs) x → MarkedAt bs xs x) → Contains (cond b (y ∷ marked_elements bs xs) (marked_elements bs xs)) x → MarkedAt (b ∷ bs) (y ∷ xs) x
+  in_marked_at true bs y xs x r c = ⊎_elim (λ e. (0, refl, omega arith, e)) (λ d. marked_behind true bs y xs x (r d)) (contains_cases y x (marked_elements bs xs) c)
   in_marked_at false bs y xs x r c = marked_behind false bs y xs x (r c)
 
-  pub in_marked : (bs : List Bool) (xs : List X) (x : X) → Contains (marked bs xs) x → MarkedAt bs xs x
+  pub in_marked : (bs : List Bool) (xs : List X) (x : X) → Contains (marked_elements bs xs) x → MarkedAt bs xs x
   in_marked [] xs x c = absurd (contains_none x c)
   in_marked (b ∷ bs) [] x c = absurd (contains_none x c)
   in_marked (b ∷ bs) (y ∷ xs) x c = in_marked_at b bs y xs x (in_marked bs xs x) c
@@ -56,47 +56,47 @@ module _ {X : Type 0} where
   behind_marked true y x ys c = contains_behind y x ys c
   behind_marked false y x ys c = c
 
-  pub marked_in : (bs : List Bool) (xs : List X) (x : X) (k : ℕ) → is_marked bs k ≡ true → k < length xs → get_or xs k x ≡ x → Contains (marked bs xs) x
+  pub marked_in : (bs : List Bool) (xs : List X) (x : X) (k : ℕ) → is_marked bs k ≡ true → k < length xs → get_or xs k x ≡ x → Contains (marked_elements bs xs) x
   marked_in [] xs x k m l e = absurd (false≢true m)
   marked_in (b ∷ bs) [] x k m l e = absurd (omega (arith, l))
-  marked_in (b ∷ bs) (y ∷ xs) x zero m l e = front_marked b y x (marked bs xs) m e
-  marked_in (b ∷ bs) (y ∷ xs) x (suc k) m l e = behind_marked b y x (marked bs xs) (marked_in bs xs x k m (omega (arith, l)) e)
+  marked_in (b ∷ bs) (y ∷ xs) x zero m l e = front_marked b y x (marked_elements bs xs) m e
+  marked_in (b ∷ bs) (y ∷ xs) x (suc k) m l e = behind_marked b y x (marked_elements bs xs) (marked_in bs xs x k m (omega (arith, l)) e)
 
   module _ {Y : Type 0} (f : X → Y) where
     map_at : (b : Bool) (x : X) (xs : List X) (ys : List Y) → map f xs ≡ ys → map f (cond b (x ∷ xs) xs) ≡ cond b (f x ∷ ys) ys
     map_at true x xs ys e = ap (λ zs. f x ∷ zs) e
     map_at false x xs ys e = e
 
-    pub map-marked : (bs : List Bool) (xs : List X) → map f (marked bs xs) ≡ marked bs (map f xs)
-    map-marked [] xs = refl
-    map-marked (b ∷ bs) [] = refl
-    map-marked (b ∷ bs) (x ∷ xs) = map_at b x (marked bs xs) (marked bs (map f xs)) (map-marked bs xs)
+    pub map-marked_elements : (bs : List Bool) (xs : List X) → map f (marked_elements bs xs) ≡ marked_elements bs (map f xs)
+    map-marked_elements [] xs = refl
+    map-marked_elements (b ∷ bs) [] = refl
+    map-marked_elements (b ∷ bs) (x ∷ xs) = map_at b x (marked_elements bs xs) (marked_elements bs (map f xs)) (map-marked_elements bs xs)
 
 -- texts that differ still do where some are left out
 all_at : (Q : Text → Type 0) (b : Bool) (x : Text) (xs : List Text) → Q x → AllByRecursion Q xs → AllByRecursion Q (cond b (x ∷ xs) xs)
 all_at Q true x xs h k = (h, k)
 all_at Q false x xs h k = k
 
-all_marked : (Q : Text → Type 0) (bs : List Bool) (xs : List Text) → AllByRecursion Q xs → AllByRecursion Q (marked bs xs)
+all_marked : (Q : Text → Type 0) (bs : List Bool) (xs : List Text) → AllByRecursion Q xs → AllByRecursion Q (marked_elements bs xs)
 all_marked Q [] xs h = tt
 all_marked Q (b ∷ bs) [] h = tt
-all_marked Q (b ∷ bs) (x ∷ xs) h = all_at Q b x (marked bs xs) h.0 (all_marked Q bs xs h.1)
+all_marked Q (b ∷ bs) (x ∷ xs) h = all_at Q b x (marked_elements bs xs) h.0 (all_marked Q bs xs h.1)
 
 distinct_at : (b : Bool) (x : Text) (ys : List Text) → AllByRecursion (λ y. bytes_eq x y ≡ false) ys → IsDistinct bytes_eq ys → IsDistinct bytes_eq (cond b (x ∷ ys) ys)
 unfolding IsDistinct
 distinct_at true x ys h k = (h, k)
 distinct_at false x ys h k = k
 
-distinct_marked : (bs : List Bool) (xs : List Text) → IsDistinct bytes_eq xs → IsDistinct bytes_eq (marked bs xs)
+distinct_marked : (bs : List Bool) (xs : List Text) → IsDistinct bytes_eq xs → IsDistinct bytes_eq (marked_elements bs xs)
 unfolding IsDistinct
 distinct_marked [] xs h = tt
 distinct_marked (b ∷ bs) [] h = tt
-distinct_marked (b ∷ bs) (x ∷ xs) h = distinct_at b x (marked bs xs) (all_marked (λ y. bytes_eq x y ≡ false) bs xs h.0) (distinct_marked bs xs h.1)
+distinct_marked (b ∷ bs) (x ∷ xs) h = distinct_at b x (marked_elements bs xs) (all_marked (λ y. bytes_eq x y ≡ false) bs xs h.0) (distinct_marked bs xs h.1)
 
 -- texts that neither fall nor are equal rise
 rises_at : (x y : Text) (o : Ordering) → text_cmp x y ≡ o → is_lt (text_cmp y x) ≡ false → bytes_eq x y ≡ false → o ≡ Less
 rises_at x y Less e f g = refl
-rises_at x y Equal e f g = absurd (false≢true (sym g ∙ (bytes_eq-Decides x y).1 (equal_is x y e)))
+rises_at x y Equal e f g = absurd (false≢true (sym g ∙ (bytes_eq-Decides x y).1 (text_same x y e)))
 rises_at x y Greater e f g = absurd (false≢true (sym f ∙ ap is_lt (nat_list_cmp_total.antisymm y x ∙ ap ordering_reverse e)))
 
 abbrev pub names : List (String Global × Pattern) → List Text
@@ -135,22 +135,22 @@ pub numbers_same : (ds es : List (Text × Tree)) (xs : List Text) → map (λ (d
 numbers_same ds es xs e = λ i. filter_map (λ x. position (bytes_eq x) (sym e i)) xs
 
 -- the pruned grammar: N has those of F that have a mark, in the order of their names
-module _ (F : Grammar) (forms kept : List (String Global × Pattern)) (marks : List Bool) (whole : definitions_view forms ≡ F.definitions) (moved : IsPermutation (marked marks forms) kept)
+module _ (F : Grammar) (forms kept : List (String Global × Pattern)) (marks : List Bool) (whole : definitions_view forms ≡ F.definitions) (moved : IsPermutation (marked_elements marks forms) kept)
     (exact : MarksReached F marks) where
-  shown : definitions_view (marked marks forms) ≡ marked marks F.definitions
-  shown = map-marked (λ (e : String Global × Pattern). (string_bytes e.0, pattern_view e.1)) marks forms ∙ ap (marked marks) whole
+  shown : definitions_view (marked_elements marks forms) ≡ marked_elements marks F.definitions
+  shown = map-marked_elements (λ (e : String Global × Pattern). (string_bytes e.0, pattern_view e.1)) marks forms ∙ ap (marked_elements marks) whole
 
-  moved_view : IsPermutation (marked marks F.definitions) (definitions_view kept)
-  moved_view = subst (λ ds. IsPermutation ds (definitions_view kept)) shown (IsPermutation-map {X = Text × Tree} (λ (e : String Global × Pattern). (string_bytes e.0, pattern_view e.1)) (marked marks forms) kept moved)
+  moved_view : IsPermutation (marked_elements marks F.definitions) (definitions_view kept)
+  moved_view = subst (λ ds. IsPermutation ds (definitions_view kept)) shown (IsPermutation-map {X = Text × Tree} (λ (e : String Global × Pattern). (string_bytes e.0, pattern_view e.1)) (marked_elements marks forms) kept moved)
 
   pub kept_distinct : IsDistinct bytes_eq (map (λ (d : Text × Tree). d.0) F.definitions) → IsDistinct bytes_eq (names kept)
   kept_distinct d =
-      let some = subst (IsDistinct bytes_eq) (sym (map-marked (λ (d : Text × Tree). d.0) marks F.definitions)) (distinct_marked marks (map (λ (d : Text × Tree). d.0) F.definitions) d) in
-      IsDistinct-IsPermutation bytes_eq nat_list_eq_equiv.symm (map (λ (d : Text × Tree). d.0) (marked marks F.definitions)) (names kept) (IsPermutation-map (λ (d : Text × Tree). d.0) (marked marks F.definitions) (definitions_view kept) moved_view) some
+      let some = subst (IsDistinct bytes_eq) (sym (map-marked_elements (λ (d : Text × Tree). d.0) marks F.definitions)) (distinct_marked marks (map (λ (d : Text × Tree). d.0) F.definitions) d) in
+      IsDistinct-IsPermutation bytes_eq nat_list_eq_equiv.symm (map (λ (d : Text × Tree). d.0) (marked_elements marks F.definitions)) (names kept) (IsPermutation-map (λ (d : Text × Tree). d.0) (marked_elements marks F.definitions) (definitions_view kept) moved_view) some
 
   into : (x : Text) (p : Tree) → Contains (definitions_view kept) (x, p) → IsReached F x × (definition_of F x ≡ Some p)
   into x p c =
-      let (k, m, l, e) = in_marked marks F.definitions (x, p) (Contains-permutation (definitions_view kept) (marked marks F.definitions) (x, p) (IsPermutation-sym (marked marks F.definitions) (definitions_view kept) moved_view) c) in
+      let (k, m, l, e) = in_marked marks F.definitions (x, p) (Contains-permutation (definitions_view kept) (marked_elements marks F.definitions) (x, p) (IsPermutation-sym (marked_elements marks F.definitions) (definitions_view kept) moved_view) c) in
       let (y, n, r) = number_reached F k ((exact k).0 m) in
       let at = is_at F.definitions y k n in
       let here : get_or F.definitions k nothing ≡ (x, p) = get_or_default F.definitions k nothing (x, p) l ∙ e in
@@ -163,7 +163,7 @@ module _ (F : Grammar) (forms kept : List (String Global × Pattern)) (marks : L
       let at = is_at F.definitions x k n in
       let body = body_is F.definitions x k p n e in
       let here : get_or F.definitions k (x, p) ≡ (x, p) = get_or_default F.definitions k (x, p) nothing at.within ∙ (λ i. (at.name i, body i)) in
-      Contains-permutation (marked marks F.definitions) (definitions_view kept) (x, p) moved_view (marked_in marks F.definitions (x, p) k ((exact k).1 (reached_number F x k r n)) at.within here)
+      Contains-permutation (marked_elements marks F.definitions) (definitions_view kept) (x, p) moved_view (marked_in marks F.definitions (x, p) k ((exact k).1 (reached_number F x k r n)) at.within here)
 
   pub pruned_is : IsStrictlySortedBy text_cmp (names kept) → IsPruned F (record { start = F.start; definitions = definitions_view kept })
   pruned_is up = record { start = refl; definitions = λ x p. (into x p, λ h. out_of x p h.0 h.1); in_order = up }

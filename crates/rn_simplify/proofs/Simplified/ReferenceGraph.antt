@@ -12,8 +12,8 @@ use Rattle.rn_text.specs.Texts.{Text}
 use Rattle.rn_pattern.specs.Matching.{Grammar}
 use Rattle.rn_pattern.specs.Reached.{IsReached, by_start, by_definition}
 use Rattle.rn_pattern.specs.Graph.{AllBelow, IsGraph, Reached, at_first, along, row}
-use Rattle.rn_simplify.specs.Numbered.{graph_of, number_of, numbers_of, rows_by, start_of}
-use Rattle.rn_simplify.specs.Referred.{Reach, references}
+use Rattle.rn_simplify.specs.inside.DefinitionNumbers.{graph_of, number_of, numbers_of, rows_by, start_of}
+use Rattle.rn_simplify.specs.inside.ReferredNames.{Reach, references}
 use Rattle.rn_assemble.specs.declared.references.Reach.TheVariants.{Everywhere}
 use Rattle.rn_simplify.proofs.Simplified.ReferredIn.{contains_none, refers_in, in_refers, mapped_in, source_of}
 

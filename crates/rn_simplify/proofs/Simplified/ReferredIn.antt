@@ -8,7 +8,7 @@ use Rattle.rn_text.specs.Texts.{Text}
 use Rattle.rn_pattern.specs.Reached.{RefersTo, SomeRefersTo}
 use Rattle.rn_pattern.specs.References.{RefersOutside, SomeRefersOutside}
 use Rattle.rn_pattern.proofs.Ordered.InOrder.{contains_behind, contains_front, contains_cases}
-use Rattle.rn_simplify.specs.Referred.{references, all_references}
+use Rattle.rn_simplify.specs.inside.ReferredNames.{references, all_references}
 use Rattle.rn_assemble.specs.declared.references.Reach.TheVariants.{Everywhere, OutsideElements}
 
 pub contains_none : {X : Type 0} (x : X) → Contains [] x → ⊥

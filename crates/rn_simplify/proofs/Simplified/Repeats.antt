@@ -22,15 +22,15 @@ use Rattle.rn_pattern.proofs.Ordered.PatternKinds.{choice_seen, interleave_seen}
 use Rattle.rn_pattern.proofs.Ordered.SortedMembers.{sorted_once_members}
 use Rattle.rn_pattern.proofs.Ordered.TotalOrder.{tree_cmp_total}
 use Rattle.rn_assemble.specs.Firsts.{joined_members}
-use Rattle.rn_simplify.specs.Numbered.{number_of, numbers_of}
-use Rattle.rn_simplify.specs.Referred.{Reach, references, all_references}
-use Rattle.rn_simplify.specs.inside.References.{AreReferences}
+use Rattle.rn_simplify.specs.inside.DefinitionNumbers.{number_of, numbers_of}
+use Rattle.rn_simplify.specs.inside.ReferredNames.{Reach, references, all_references}
+use Rattle.rn_simplify.specs.inside.ReferenceNumbers.{AreReferences}
 use Rattle.rn_simplify.specs.inside.Repeats.{AreSameButRepeats, choices, interleaves}
-use Rattle.rn_simplify.specs.inside.Worth.{both, either, evaluated, evaluated_all, evaluated_any}
+use Rattle.rn_simplify.specs.inside.FormKinds.{both, either, tree_kind, group_kind, choice_kind}
 use Rattle.rn_assemble.specs.declared.references.Reach.TheVariants.{Everywhere, OutsideElements}
-use Rattle.rn_simplify.specs.declared.references.References.{References}
-use Rattle.rn_simplify.specs.declared.worth.Worth.{Worth}
-use Rattle.rn_simplify.proofs.Simplified.Evaluated.{around_twice, both_assoc, either_assoc, either_twice}
+use Rattle.rn_simplify.specs.declared.reference_numbers.References.{References}
+use Rattle.rn_simplify.specs.declared.form_kind.FormKind.{FormKind}
+use Rattle.rn_simplify.proofs.Simplified.FormKinds.{around_twice, both_assoc, either_assoc, either_twice}
 use Rattle.rn_simplify.proofs.Simplified.ReferredIn.{contains_none, mapped_in, source_of}
 
 -- ---- lists that hold the same
@@ -165,39 +165,39 @@ references_alike ds p q found same are =
     let alike = λ (s : Reach). numbers_alike ds (references s p) (references s q) (references_same s p q same) in
     record { everywhere = same_then _ _ _ are.everywhere (alike Everywhere); outside = same_then _ _ _ are.outside (alike OutsideElements) }
 
--- ---- what a list is worth
+-- ---- the kind of the form of a list
 
-both_swapped : (a b : Worth) → both a b ≡ both b a
-both_swapped Worth.NotAllowed Worth.NotAllowed = refl
-both_swapped Worth.NotAllowed Worth.Empty = refl
-both_swapped Worth.NotAllowed Worth.Other = refl
-both_swapped Worth.Empty Worth.NotAllowed = refl
-both_swapped Worth.Empty Worth.Empty = refl
-both_swapped Worth.Empty Worth.Other = refl
-both_swapped Worth.Other Worth.NotAllowed = refl
-both_swapped Worth.Other Worth.Empty = refl
-both_swapped Worth.Other Worth.Other = refl
+both_swapped : (a b : FormKind) → both a b ≡ both b a
+both_swapped FormKind.NotAllowed FormKind.NotAllowed = refl
+both_swapped FormKind.NotAllowed FormKind.Empty = refl
+both_swapped FormKind.NotAllowed FormKind.Other = refl
+both_swapped FormKind.Empty FormKind.NotAllowed = refl
+both_swapped FormKind.Empty FormKind.Empty = refl
+both_swapped FormKind.Empty FormKind.Other = refl
+both_swapped FormKind.Other FormKind.NotAllowed = refl
+both_swapped FormKind.Other FormKind.Empty = refl
+both_swapped FormKind.Other FormKind.Other = refl
 
-either_swapped : (a b : Worth) → either a b ≡ either b a
-either_swapped Worth.NotAllowed Worth.NotAllowed = refl
-either_swapped Worth.NotAllowed Worth.Empty = refl
-either_swapped Worth.NotAllowed Worth.Other = refl
-either_swapped Worth.Empty Worth.NotAllowed = refl
-either_swapped Worth.Empty Worth.Empty = refl
-either_swapped Worth.Empty Worth.Other = refl
-either_swapped Worth.Other Worth.NotAllowed = refl
-either_swapped Worth.Other Worth.Empty = refl
-either_swapped Worth.Other Worth.Other = refl
+either_swapped : (a b : FormKind) → either a b ≡ either b a
+either_swapped FormKind.NotAllowed FormKind.NotAllowed = refl
+either_swapped FormKind.NotAllowed FormKind.Empty = refl
+either_swapped FormKind.NotAllowed FormKind.Other = refl
+either_swapped FormKind.Empty FormKind.NotAllowed = refl
+either_swapped FormKind.Empty FormKind.Empty = refl
+either_swapped FormKind.Empty FormKind.Other = refl
+either_swapped FormKind.Other FormKind.NotAllowed = refl
+either_swapped FormKind.Other FormKind.Empty = refl
+either_swapped FormKind.Other FormKind.Other = refl
 
-both_twice : (a b : Worth) → both a (both a b) ≡ both a b
-both_twice Worth.NotAllowed b = refl
-both_twice Worth.Empty b = refl
-both_twice Worth.Other b = around_twice b
+both_twice : (a b : FormKind) → both a (both a b) ≡ both a b
+both_twice FormKind.NotAllowed b = refl
+both_twice FormKind.Empty b = refl
+both_twice FormKind.Other b = around_twice b
 
 -- a list by an operation for which order and repeats don't count
-module _ (op : Worth → Worth → Worth) (assoc : (a b c : Worth) → op a (op b c) ≡ op (op a b) c) (swapped : (a b : Worth) → op a b ≡ op b a) (twice : (a b : Worth) → op a (op a b) ≡ op a b) (f : Tree → Worth)
-    (none : Worth) (none_is : (w : Worth) → op none w ≡ w) where
-  abbrev folded : List Tree → Worth
+module _ (op : FormKind → FormKind → FormKind) (assoc : (a b c : FormKind) → op a (op b c) ≡ op (op a b) c) (swapped : (a b : FormKind) → op a b ≡ op b a) (twice : (a b : FormKind) → op a (op a b) ≡ op a b) (f : Tree → FormKind)
+    (none : FormKind) (none_is : (w : FormKind) → op none w ≡ w) where
+  abbrev folded : List Tree → FormKind
   folded [] = none
   folded (p ∷ ps) = op (f p) (folded ps)
 
@@ -216,20 +216,20 @@ module _ (op : Worth → Worth → Worth) (assoc : (a b c : Worth) → op a (op 
   folded_same : (ps qs : List Tree) → HaveSameMembers ps qs → folded ps ≡ folded qs
   folded_same ps qs h = sym (op_all qs ps (λ p. (h p).1)) ∙ swapped (folded qs) (folded ps) ∙ op_all ps qs (λ p. (h p).0)
 
-module _ (named : Text → Worth) where
-  all_folded : (ps : Trees) → evaluated_all named ps ≡ folded both both_assoc both_swapped both_twice (evaluated named) Worth.Empty (λ w. refl) (list_of ps)
+module _ (named : Text → FormKind) where
+  all_folded : (ps : Trees) → group_kind named ps ≡ folded both both_assoc both_swapped both_twice (tree_kind named) FormKind.Empty (λ w. refl) (list_of ps)
   all_folded no_trees = refl
-  all_folded (more_trees p ps) = ap (both (evaluated named p)) (all_folded ps)
+  all_folded (more_trees p ps) = ap (both (tree_kind named p)) (all_folded ps)
 
-  any_folded : (ps : Trees) → evaluated_any named ps ≡ folded either either_assoc either_swapped either_twice (evaluated named) Worth.NotAllowed (λ w. refl) (list_of ps)
+  any_folded : (ps : Trees) → choice_kind named ps ≡ folded either either_assoc either_swapped either_twice (tree_kind named) FormKind.NotAllowed (λ w. refl) (list_of ps)
   any_folded no_trees = refl
-  any_folded (more_trees p ps) = ap (either (evaluated named p)) (any_folded ps)
+  any_folded (more_trees p ps) = ap (either (tree_kind named p)) (any_folded ps)
 
-  pub evaluated_same : (p q : Tree) → AreSameButRepeats p q → evaluated named p ≡ evaluated named q
+  pub evaluated_same : (p q : Tree) → AreSameButRepeats p q → tree_kind named p ≡ tree_kind named q
   evaluated_same p q (choices {ps = ps} {qs = qs} h) =
-      any_folded ps ∙ folded_same either either_assoc either_swapped either_twice (evaluated named) Worth.NotAllowed (λ w. refl) (list_of ps) (list_of qs) h ∙ sym (any_folded qs)
+      any_folded ps ∙ folded_same either either_assoc either_swapped either_twice (tree_kind named) FormKind.NotAllowed (λ w. refl) (list_of ps) (list_of qs) h ∙ sym (any_folded qs)
   evaluated_same p q (interleaves {ps = ps} {qs = qs} h) =
-      all_folded ps ∙ folded_same both both_assoc both_swapped both_twice (evaluated named) Worth.Empty (λ w. refl) (list_of ps) (list_of qs) h ∙ sym (all_folded qs)
+      all_folded ps ∙ folded_same both both_assoc both_swapped both_twice (tree_kind named) FormKind.Empty (λ w. refl) (list_of ps) (list_of qs) h ∙ sym (all_folded qs)
 
 -- ---- canonical forms
 

@@ -12,20 +12,20 @@ use Rattle.rn_pattern.specs.CanonicalShape.{IsCanonicalPattern}
 use Rattle.rn_pattern.specs.References.{RefersOutside}
 use Rattle.rn_pattern.proofs.Matches.Ranked.{stand_in_same}
 use Rattle.rn_pattern.proofs.Forms.Settled.{canonical_firm}
-use Rattle.rn_simplify.specs.Numbered.{AreSettled, number_of}
-use Rattle.rn_simplify.specs.Settling.{IsInOrder}
-use Rattle.rn_simplify.specs.inside.Worth.{settled_by, stand_in, worth_of}
-use Rattle.rn_simplify.specs.declared.worth.Worth.{Worth}
-use Rattle.rn_simplify.proofs.Simplified.Evaluated.{settled_canonical, stand_in_is}
+use Rattle.rn_simplify.specs.inside.DefinitionNumbers.{AreSettled, number_of}
+use Rattle.rn_simplify.specs.inside.SettlingOrder.{IsInOrder}
+use Rattle.rn_simplify.specs.inside.FormKinds.{becomes_by, stand_in, kind_of}
+use Rattle.rn_simplify.specs.declared.form_kind.FormKind.{FormKind}
+use Rattle.rn_simplify.proofs.Simplified.FormKinds.{settled_canonical, stand_in_is}
 use Rattle.rn_simplify.proofs.Simplified.ReferenceGraph.{nothing, is_at, body_is}
 use Rattle.rn_simplify.proofs.Simplified.SettlingOrder.{taken_at, before_taken}
 
--- patterns whose references outside elements become the same are worth the same
-worth_same : (s t : Text → Tree) → ((x : Text) → IsCanonicalPattern (s x)) → ((x : Text) → IsCanonicalPattern (t x)) → (x : Text) (p : Tree) → ((y : Text) → RefersOutside y p → s y ≡ t y) → ref_unless_settled x (canonical s p) ≡ ref_unless_settled x (canonical t p)
-worth_same s t f g x p h = stand_in_same x (canonical s p) (canonical t p) (canonical_firm s t f p (λ y k _. sym (h y k))) (canonical_firm t s g p (λ y k _. h y k))
+-- patterns whose references outside elements become the same have forms of one kind
+kind_same : (s t : Text → Tree) → ((x : Text) → IsCanonicalPattern (s x)) → ((x : Text) → IsCanonicalPattern (t x)) → (x : Text) (p : Tree) → ((y : Text) → RefersOutside y p → s y ≡ t y) → ref_unless_settled x (canonical s p) ≡ ref_unless_settled x (canonical t p)
+kind_same s t f g x p h = stand_in_same x (canonical s p) (canonical t p) (canonical_firm s t f p (λ y k _. sym (h y k))) (canonical_firm t s g p (λ y k _. h y k))
 
-module _ (ds : List (Text × Tree)) (order : List ℕ) (worth worth' : List Worth) (ordered : IsInOrder ds order) (size : length worth ≡ length ds) (i : ℕ) (l : i < length order)
-    (more : worth' ≡ set worth (get_or order i 0) (worth_of (canonical (settled_by ds worth) (get_or ds (get_or order i 0) nothing).1))) where
+module _ (ds : List (Text × Tree)) (order : List ℕ) (kinds kinds' : List FormKind) (ordered : IsInOrder ds order) (size : length kinds ≡ length ds) (i : ℕ) (l : i < length order)
+    (more : kinds' ≡ set kinds (get_or order i 0) (kind_of (canonical (becomes_by ds kinds) (get_or ds (get_or order i 0) nothing).1))) where
   abbrev n : ℕ
   n = get_or order i 0
 
@@ -33,14 +33,14 @@ module _ (ds : List (Text × Tree)) (order : List ℕ) (worth worth' : List Wort
   p = (get_or ds n nothing).1
 
   abbrev t : Text → Tree
-  t = settled_by ds worth
+  t = becomes_by ds kinds
 
   abbrev t' : Text → Tree
-  t' = settled_by ds worth'
+  t' = becomes_by ds kinds'
 
-  same_at : (m : Option ℕ) → ¬ (m ≡ Some n) → option_map_or (λ j. get_or worth' j Worth.Other) m Worth.Other ≡ option_map_or (λ j. get_or worth j Worth.Other) m Worth.Other
+  same_at : (m : Option ℕ) → ¬ (m ≡ Some n) → option_map_or (λ j. get_or kinds' j FormKind.Other) m FormKind.Other ≡ option_map_or (λ j. get_or kinds j FormKind.Other) m FormKind.Other
   same_at None ne = refl
-  same_at (Some j) ne = ap (λ w. get_or w j Worth.Other) more ∙ get_or-set_other worth n j (worth_of (canonical t p)) Worth.Other (λ e. ne (ap (λ m. Some m) e))
+  same_at (Some j) ne = ap (λ w. get_or w j FormKind.Other) more ∙ get_or-set_other kinds n j (kind_of (canonical t p)) FormKind.Other (λ e. ne (ap (λ m. Some m) e))
 
   other : (x : Text) → ¬ (number_of ds x ≡ Some n) → t' x ≡ t x
   other x ne = ap (λ w. stand_in w x) (same_at (number_of ds x) ne)
@@ -48,12 +48,12 @@ module _ (ds : List (Text × Tree)) (order : List ℕ) (worth worth' : List Wort
   this : (x : Text) → number_of ds x ≡ Some n → t' x ≡ ref_unless_settled x (canonical t p)
   this x e =
       let within = (is_at ds x n e).within in
-      let there : get_or worth' n Worth.Other ≡ worth_of (canonical t p) =
-      ap (λ w. get_or w n Worth.Other) more ∙ get_or-set_same worth n (worth_of (canonical t p)) Worth.Other (omega (arith, within, size)) in
-      ap (λ m. stand_in (option_map_or (λ j. get_or worth' j Worth.Other) m Worth.Other) x) e ∙ ap (λ w. stand_in w x) there ∙ stand_in_is x (canonical t p)
+      let there : get_or kinds' n FormKind.Other ≡ kind_of (canonical t p) =
+      ap (λ w. get_or w n FormKind.Other) more ∙ get_or-set_same kinds n (kind_of (canonical t p)) FormKind.Other (omega (arith, within, size)) in
+      ap (λ m. stand_in (option_map_or (λ j. get_or kinds' j FormKind.Other) m FormKind.Other) x) e ∙ ap (λ w. stand_in w x) there ∙ stand_in_is x (canonical t p)
 
   still : (x : Text) (q : Tree) → ((y : Text) → RefersOutside y q → ¬ (number_of ds y ≡ Some n)) → ref_unless_settled x (canonical t q) ≡ ref_unless_settled x (canonical t' q)
-  still x q h = worth_same t t' (settled_canonical ds worth) (settled_canonical ds worth') x q (λ y r. sym (other y (h y r)))
+  still x q h = kind_same t t' (settled_canonical ds kinds) (settled_canonical ds kinds') x q (λ y r. sym (other y (h y r)))
 
   apart : Contains (take i order) n → ⊥
   apart = ordered.once i l

@@ -19,12 +19,12 @@ use Rattle.rn_pattern.specs.References.{RefersOutside, Reaches, by_one, by_more,
 use Rattle.rn_pattern.specs.Graph.{AllBelow, IsGraph, is_marked, row, rows_of}
 use Rattle.rn_pattern.specs.Ranks.{Leads, by_edge, and_edge, rank_of, IsRanking}
 use Rattle.rn_assemble.specs.WellFormed.{IsWellFormed}
-use Rattle.rn_simplify.specs.inside.Marked.{ArePlaces}
-use Rattle.rn_simplify.specs.Numbered.{MarksReached, number_of, numbers_of, rows_by}
-use Rattle.rn_simplify.specs.Referred.{references}
-use Rattle.rn_simplify.specs.inside.References.{AreRows}
+use Rattle.rn_simplify.specs.inside.MarkedElements.{ArePlaces}
+use Rattle.rn_simplify.specs.inside.DefinitionNumbers.{MarksReached, number_of, numbers_of, rows_by}
+use Rattle.rn_simplify.specs.inside.ReferredNames.{references}
+use Rattle.rn_simplify.specs.inside.ReferenceNumbers.{AreRows}
 use Rattle.rn_pattern.specs.Canonical.{HaveSameMembers}
-use Rattle.rn_simplify.specs.Settling.{IsSettlingOrder}
+use Rattle.rn_simplify.specs.inside.SettlingOrder.{IsSettlingOrder}
 use Rattle.rn_assemble.specs.declared.references.Reach.TheVariants.{OutsideElements}
 use Rattle.rn_simplify.proofs.Simplified.Forms.{found_in}
 use Rattle.rn_simplify.proofs.Simplified.RankOrder.{outside_refers}
@@ -50,15 +50,15 @@ taken_at xs i j v l h e = (j, omega (arith, length-take-le i xs l, h), get_or-ta
 pub before_taken : (xs : List ℕ) (i v : ℕ) → i ≤ length xs → Contains (take i xs) v → (j : ℕ) × (j < i) × (get_or xs j v ≡ v)
 before_taken xs i v l (j, h, e) = let m : j < i = omega (arith, length-take-le i xs l, h) in (j, m, sym (get_or-take i xs j v m) ∙ e)
 
-module _ (G : Grammar) (marks : List Bool) (outs : List (List ℕ)) (marked : MarksReached G marks) where
+module _ (G : Grammar) (marks : List Bool) (outs : List (List ℕ)) (marked_elements : MarksReached G marks) where
   abbrev ds : List (Text × Tree)
   ds = G.definitions
 
   marked_name : (k : ℕ) → is_marked marks k ≡ true → (x : Text) × (number_of ds x ≡ Some k) × IsReached G x
-  marked_name k m = number_reached G k ((marked k).0 m)
+  marked_name k m = number_reached G k ((marked_elements k).0 m)
 
   name_marked : (x : Text) (k : ℕ) → IsReached G x → number_of ds x ≡ Some k → is_marked marks k ≡ true
-  name_marked x k r e = (marked k).1 (reached_number G x k r e)
+  name_marked x k r e = (marked_elements k).1 (reached_number G x k r e)
 
   same_name : (x y : Text) (k : ℕ) → number_of ds x ≡ Some k → number_of ds y ≡ Some k → x ≡ y
   same_name x y k e f = sym (is_at ds x k e).name ∙ (is_at ds y k f).name

@@ -13,7 +13,7 @@ use Rattle.rn_pattern.specs.Matching.{Grammar}
 use Rattle.rn_pattern.specs.View.{pattern_view}
 use Rattle.rn_pattern.specs.declared.tree.Pattern.{Pattern}
 use Rattle.rn_simplify.specs.declared.writer.Writer.{Writer}
-use Rattle.rn_simplify.specs.Spelling.{Prefixes, prefixes, binding, bindings, default_line, definition_line, definition_lines, has_wide_empty, identifier, infix_of, keyword, library_entries, line_end, literal, namespace_prefix, space, spelled, word, written_tree}
+use Rattle.rn_simplify.specs.Spelling.{Prefixes, prefixes, binding, bindings, default_line, definition_line, definition_lines, has_empty_ns_name, identifier, infix_of, keyword, library_entries, line_end, literal, namespace_prefix, space, spelling_pieces, word, written_tree}
 use Rattle.rn_simplify.specs.inside.Writes.{bound_to, declaration_lines, defined_as, empty_entries, entries, none, Writes, WritesBytes}
 use Rattle.rn_simplify.specs.NormalView.{definitions_view}
 use Rattle.rn_simplify.proofs.Texts.Writing.{writes_then, writes_pieces, writes_as}
@@ -96,20 +96,20 @@ bindings-append w (e ∷ es) fs = ap (λ ps. binding w e.0 e.1 ++ ps) (bindings-
 regrouped : (d e n l s : List Piece) → (d ++ (e ++ (n ++ l))) ++ s ≡ d ++ ((e ++ n) ++ (l ++ s))
 regrouped d e n l s = simp append_assoc
 
-lines_are : (g : Grammar) → declaration_lines (prefixes g) (has_wide_empty g) ++ (definition_line (prefixes g) (keyword (codes "start")) g.start ++ definition_lines (prefixes g) g.definitions) ≡ spelled g
+lines_are : (g : Grammar) → declaration_lines (prefixes g) (has_empty_ns_name g) ++ (definition_line (prefixes g) (keyword (codes "start")) g.start ++ definition_lines (prefixes g) g.definitions) ≡ spelling_pieces g
 lines_are g =
     let f = prefixes g in
-    let none = empty_entries (has_wide_empty g) in
+    let none = empty_entries (has_empty_ns_name g) in
     let namespaces = entries (namespace_prefix f) f.namespaces in
     let libraries = bindings (codes "datatypes") (library_entries g) in
     let rest = definition_line f (keyword (codes "start")) g.start ++ definition_lines f g.definitions in
     regrouped default_line (bindings (codes "namespace") none) (bindings (codes "namespace") namespaces) libraries rest
     ∙ ap (λ ps. default_line ++ (ps ++ (libraries ++ rest))) (sym (bindings-append (codes "namespace") none namespaces))
 
-pub writes_lines : (g : Grammar) (f : Prefixes) (wide : Bool) {a b c d : Writer} → f ≡ prefixes g → wide ≡ has_wide_empty g → Writes (declaration_lines f wide) a b → Writes (definition_line f (keyword (codes "start")) g.start) b c → Writes (definition_lines f g.definitions) c d → Writes (spelled g) a d
-writes_lines g f wide {a} {b} {c} {d} e w h j k =
+pub writes_lines : (g : Grammar) (f : Prefixes) (has_empty : Bool) {a b c d : Writer} → f ≡ prefixes g → has_empty ≡ has_empty_ns_name g → Writes (declaration_lines f has_empty) a b → Writes (definition_line f (keyword (codes "start")) g.start) b c → Writes (definition_lines f g.definitions) c d → Writes (spelling_pieces g) a d
+writes_lines g f has_empty {a} {b} {c} {d} e w h j k =
     let start = definition_line f (keyword (codes "start")) g.start in
     let lines = definition_lines f g.definitions in
-    let same : declaration_lines f wide ++ (start ++ lines) ≡ spelled g =
+    let same : declaration_lines f has_empty ++ (start ++ lines) ≡ spelling_pieces g =
     (λ i. declaration_lines (e i) (w i) ++ (definition_line (e i) (keyword (codes "start")) g.start ++ definition_lines (e i) g.definitions)) ∙ lines_are g in
-    writes_as same (writes_then (declaration_lines f wide) (start ++ lines) h (writes_then start lines j k))
+    writes_as same (writes_then (declaration_lines f has_empty) (start ++ lines) h (writes_then start lines j k))

@@ -8,7 +8,7 @@ use Rattle.rn_pattern.specs.declared.tree.Pattern.{Pattern}
 use Rattle.rn_pattern.specs.declared.tree.Pattern.TheOpen.{Pattern-F}
 use Rattle.rn_pattern.specs.declared.tree.Pattern.TheFolds.{fold-roll-Pattern}
 use Rattle.rn_pattern.specs.declared.tree.Pattern.TheVariants as p
-use Rattle.rn_simplify.specs.Spelling.{Prefixes, written, chained, chain, comma, written_tree, written_trees, written_choice, written_interleave}
+use Rattle.rn_simplify.specs.Spelling.{Prefixes, node_text, chained, chain, comma, written_tree, written_trees, written_choice, written_interleave}
 use Rattle.rn_pattern.specs.View.{pattern_step, pattern_view}
 use Rattle.rn_simplify.specs.inside.Writes.{rows_of}
 
@@ -22,8 +22,8 @@ rows_behind f zero ps = refl
 rows_behind f (suc k) [] = refl
 rows_behind f (suc k) (p ∷ ps) = rows_behind f k ps
 
-pub group_rows : (f : Prefixes) (v : Vec (Rc Pattern Global) Global) → written_tree f (pattern_view (p.Group v)) ≡ written chained (chain comma (rows_of f v.items))
-group_rows f v = ap (λ q. written_tree f (pattern_view q)) (sym (p.rolls-Group v)) ∙ ap (written_tree f) (fold-roll-Pattern Tree pattern_step (Pattern-F.Group v)) ∙ ap (λ ws. written chained (chain comma ws)) (rows_through f _ (λ r. refl) v.items)
+pub group_rows : (f : Prefixes) (v : Vec (Rc Pattern Global) Global) → written_tree f (pattern_view (p.Group v)) ≡ node_text chained (chain comma (rows_of f v.items))
+group_rows f v = ap (λ q. written_tree f (pattern_view q)) (sym (p.rolls-Group v)) ∙ ap (written_tree f) (fold-roll-Pattern Tree pattern_step (Pattern-F.Group v)) ∙ ap (λ ws. node_text chained (chain comma ws)) (rows_through f _ (λ r. refl) v.items)
 
 pub interleave_rows : (f : Prefixes) (v : Vec (Rc Pattern Global) Global) → written_tree f (pattern_view (p.Interleave v)) ≡ written_interleave (rows_of f v.items)
 interleave_rows f v = ap (λ q. written_tree f (pattern_view q)) (sym (p.rolls-Interleave v)) ∙ ap (written_tree f) (fold-roll-Pattern Tree pattern_step (Pattern-F.Interleave v)) ∙ ap written_interleave (rows_through f _ (λ r. refl) v.items)

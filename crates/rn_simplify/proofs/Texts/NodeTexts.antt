@@ -19,7 +19,7 @@ use Rattle.rn_pattern.specs.declared.tree.Pattern.TheOpen.{Pattern-F}
 use Rattle.rn_pattern.specs.declared.tree.Pattern.TheViews.{out-Pattern, roll-Pattern, the_lemmas}
 use Rattle.rn_pattern.specs.declared.tree.Pattern.TheFolds.{fold-roll-Pattern}
 use Rattle.rn_simplify.specs.declared.writer.Writer.{Writer}
-use Rattle.rn_simplify.specs.Spelling.{Prefixes, Written, symbol, keyword, space, infix_of, braced, parenthesized, primary, operand, chain, chain_or_one, optional, optional_one, written_name, written_tree, written_choice, written_interleave}
+use Rattle.rn_simplify.specs.Spelling.{Prefixes, NodeText, symbol, keyword, space, infix_of, in_braces, in_parentheses, primary, operand, chain, mixed_pieces, optional, optional_member, written_name, written_tree, written_choice, written_interleave}
 use Rattle.rn_pattern.specs.View.{pattern_step, pattern_view}
 use Rattle.rn_simplify.specs.inside.Writes.{data_text, rows_of, begins, none, opening, closing, Writes, WritesBytes}
 use Rattle.rn_simplify.proofs.Texts.Writing.{writes_nil, writes_as, writes_then, writes_pieces}
@@ -77,8 +77,8 @@ writes_datum f d (Some p) {a} {b} {c} h k =
     let e = ap pattern_view (sym (pat.rolls-Datum d (Some p))) ∙ fold-roll-Pattern Tree pattern_step (Pattern-F.Datum d (Some p)) in
     subst (λ t. Writes (written_tree f t).pieces a c) (sym e) (writes_then (data_text f d.value) (infix_of (codes "-") ++ primary (written_tree f (pattern_view p.value))) h k)
 
-pub writes_list : (f : Prefixes) (p : Tree) {a b c : Writer} → WritesBytes (codes "list") none a b → Writes (braced (written_tree f p).pieces) b c → Writes (written_tree f (tree.list p)).pieces a c
-writes_list f p h k = writes_then (keyword (codes "list") ∷ []) (braced (written_tree f p).pieces) (writes_list_word h) k
+pub writes_list : (f : Prefixes) (p : Tree) {a b c : Writer} → WritesBytes (codes "list") none a b → Writes (in_braces (written_tree f p).pieces) b c → Writes (written_tree f (tree.list p)).pieces a c
+writes_list f p h k = writes_then (keyword (codes "list") ∷ []) (in_braces (written_tree f p).pieces) (writes_list_word h) k
 
 -- the keyword and the name class of an element or an attribute
 pub writes_head : (f : Prefixes) (k : Text) (n : NameTree) {a b c d : Writer} → IsUtf8 k → WritesBytes k none a b → WritesBytes (32 ∷ []) none b c → Writes (written_name f n).pieces c d → Writes (keyword (chars k) ∷ space ∷ (written_name f n).pieces) a d
@@ -86,53 +86,53 @@ writes_head f k n u h j l =
     writes_then (keyword (chars k) ∷ []) (space ∷ (written_name f n).pieces) (writes_part (Token Keyword) (chars k) k refl (encodes-chars k u) h)
     (writes_then (space ∷ []) (written_name f n).pieces (space_written j) l)
 
-pub writes_attribute : (f : Prefixes) (n : NameTree) (p : Tree) {a b c : Writer} → Writes (keyword (chars (codes "attribute")) ∷ space ∷ (written_name f n).pieces) a b → Writes (braced (written_tree f p).pieces) b c → Writes (written_tree f (tree.attribute n p)).pieces a c
+pub writes_attribute : (f : Prefixes) (n : NameTree) (p : Tree) {a b c : Writer} → Writes (keyword (chars (codes "attribute")) ∷ space ∷ (written_name f n).pieces) a b → Writes (in_braces (written_tree f p).pieces) b c → Writes (written_tree f (tree.attribute n p)).pieces a c
 unfolding lib.Utf8.encode chars
-writes_attribute f n p h k = writes_then (keyword (codes "attribute") ∷ space ∷ (written_name f n).pieces) (braced (written_tree f p).pieces) h k
+writes_attribute f n p h k = writes_then (keyword (codes "attribute") ∷ space ∷ (written_name f n).pieces) (in_braces (written_tree f p).pieces) h k
 
-pub writes_element : (f : Prefixes) (n : NameTree) (p : Tree) {a b c : Writer} → Writes (keyword (chars (codes "element")) ∷ space ∷ (written_name f n).pieces) a b → Writes (braced (written_tree f p).pieces) b c → Writes (written_tree f (tree.element n p)).pieces a c
+pub writes_element : (f : Prefixes) (n : NameTree) (p : Tree) {a b c : Writer} → Writes (keyword (chars (codes "element")) ∷ space ∷ (written_name f n).pieces) a b → Writes (in_braces (written_tree f p).pieces) b c → Writes (written_tree f (tree.element n p)).pieces a c
 unfolding lib.Utf8.encode chars
-writes_element f n p h k = writes_then (keyword (codes "element") ∷ space ∷ (written_name f n).pieces) (braced (written_tree f p).pieces) h k
+writes_element f n p h k = writes_then (keyword (codes "element") ∷ space ∷ (written_name f n).pieces) (in_braces (written_tree f p).pieces) h k
 
 pub writes_one_or_more : (f : Prefixes) (p : Tree) {a b c : Writer} → Writes (primary (written_tree f p)) a b → WritesBytes (codes "+") none b c → Writes (written_tree f (tree.one_or_more p)).pieces a c
 writes_one_or_more f p h k = writes_then (primary (written_tree f p)) (symbol (codes "+") ∷ []) h (writes_plus k)
 
 -- ---- a choice with empty
 
-pub writes_repeated : (f : Prefixes) (p : Tree) {a b c : Writer} → Writes (primary (written_tree f p)) a b → WritesBytes (codes "*") none b c → Writes (optional_one (written_tree f (tree.one_or_more p)).repeated (written_tree f (tree.one_or_more p))) a c
+pub writes_repeated : (f : Prefixes) (p : Tree) {a b c : Writer} → Writes (primary (written_tree f p)) a b → WritesBytes (codes "*") none b c → Writes (optional_member (written_tree f (tree.one_or_more p)).repeated (written_tree f (tree.one_or_more p))) a c
 writes_repeated f p h k = writes_then (primary (written_tree f p)) (symbol (codes "*") ∷ []) h (writes_star k)
 
-pub writes_maybe : (w : Written) {a b c : Writer} → w.repeated ≡ None → Writes (primary w) a b → WritesBytes (codes "?") none b c → Writes (optional_one w.repeated w) a c
-writes_maybe w {a = a} {c = c} e h k = subst (λ r. Writes (optional_one r w) a c) (sym e) (writes_then (primary w) (symbol (codes "?") ∷ []) h (writes_question k))
+pub writes_maybe : (w : NodeText) {a b c : Writer} → w.repeated ≡ None → Writes (primary w) a b → WritesBytes (codes "?") none b c → Writes (optional_member w.repeated w) a c
+writes_maybe w {a = a} {c = c} e h k = subst (λ r. Writes (optional_member r w) a c) (sym e) (writes_then (primary w) (symbol (codes "?") ∷ []) h (writes_question k))
 
 pub writes_no_other : (f : Prefixes) (ps : List (Rc Pattern Global)) {a b : Writer} → length ps ≡ 1 → WritesBytes (codes "empty") none a b → Writes (optional (rows_of f (drop 1 ps))) a b
 writes_no_other f [] e h = absurd (omega (arith, e))
 writes_no_other f (p ∷ []) e h = writes_empty h
 writes_no_other f (p ∷ q ∷ ps) e h = absurd (omega (arith, e))
 
-pub writes_one_other : (f : Prefixes) (ps : List (Rc Pattern Global)) (p : Rc Pattern Global) {a b : Writer} → length ps ≡ 2 → p ≡ get_or ps 1 p → Writes (optional_one (written_tree f (pattern_view p.value)).repeated (written_tree f (pattern_view p.value))) a b → Writes (optional (rows_of f (drop 1 ps))) a b
+pub writes_one_other : (f : Prefixes) (ps : List (Rc Pattern Global)) (p : Rc Pattern Global) {a b : Writer} → length ps ≡ 2 → p ≡ get_or ps 1 p → Writes (optional_member (written_tree f (pattern_view p.value)).repeated (written_tree f (pattern_view p.value))) a b → Writes (optional (rows_of f (drop 1 ps))) a b
 writes_one_other f [] p e i h = absurd (omega (arith, e))
 writes_one_other f (q ∷ []) p e i h = absurd (omega (arith, e))
-writes_one_other f (q ∷ r ∷ []) p {a} {b} e i h = subst (λ (x : Rc Pattern Global). Writes (optional_one (written_tree f (pattern_view x.value)).repeated (written_tree f (pattern_view x.value))) a b) i h
+writes_one_other f (q ∷ r ∷ []) p {a} {b} e i h = subst (λ (x : Rc Pattern Global). Writes (optional_member (written_tree f (pattern_view x.value)).repeated (written_tree f (pattern_view x.value))) a b) i h
 writes_one_other f (q ∷ r ∷ t ∷ ps) p e i h = absurd (omega (arith, e))
 
 pub writes_others : (f : Prefixes) (ps : List (Rc Pattern Global)) {a b c d e : Writer} → 0 < length ps → length ps ≢ 1 → length ps ≢ 2 → WritesBytes (codes "(") opening a b → Writes (chain (infix_of (codes "|")) (rows_of f (drop 1 ps))) b c → WritesBytes (codes ")") closing c d → WritesBytes (codes "?") none d e → Writes (optional (rows_of f (drop 1 ps))) a e
 writes_others f [] g i j h k l m = absurd (omega (arith, g))
 writes_others f (w ∷ []) g i j h k l m = absurd (i refl)
 writes_others f (w ∷ v ∷ []) g i j h k l m = absurd (j refl)
-writes_others f (w ∷ v ∷ u ∷ ws) g i j h k l m = writes_then (parenthesized (chain (infix_of (codes "|")) (rows_of f (v ∷ u ∷ ws)))) (symbol (codes "?") ∷ []) (writes_parenthesized _ h k l) (writes_question m)
+writes_others f (w ∷ v ∷ u ∷ ws) g i j h k l m = writes_then (in_parentheses (chain (infix_of (codes "|")) (rows_of f (v ∷ u ∷ ws)))) (symbol (codes "?") ∷ []) (writes_parenthesized _ h k l) (writes_question m)
 
 -- ---- choices and interleaves, by their first members
 
-pub writes_no_choice : (ws : List Written) {a b : Writer} → nat_eq (length ws) 0 ≡ true → WritesBytes (codes "notAllowed") none a b → Writes (written_choice ws).pieces a b
+pub writes_no_choice : (ws : List NodeText) {a b : Writer} → nat_eq (length ws) 0 ≡ true → WritesBytes (codes "notAllowed") none a b → Writes (written_choice ws).pieces a b
 writes_no_choice [] e h = writes_not_allowed h
 writes_no_choice (w ∷ ws) e h = absurd (let y = eqb-suc-zero (length ws) in cc)
 
-choice_of_empty : (b : Bool) (v w : Written) {a c : Writer} → b ≡ true → Writes v.pieces a c → Writes (cond b v w).pieces a c
+choice_of_empty : (b : Bool) (v w : NodeText) {a c : Writer} → b ≡ true → Writes v.pieces a c → Writes (cond b v w).pieces a c
 choice_of_empty true v w e h = h
 choice_of_empty false v w e h = absurd cc
 
-choice_of_none : (b : Bool) (v w : Written) {a c : Writer} → b ≡ false → Writes w.pieces a c → Writes (cond b v w).pieces a c
+choice_of_none : (b : Bool) (v w : NodeText) {a c : Writer} → b ≡ false → Writes w.pieces a c → Writes (cond b v w).pieces a c
 choice_of_none true v w e h = absurd cc
 choice_of_none false v w e h = h
 
@@ -140,29 +140,29 @@ pub writes_optional : (f : Prefixes) (ps : List (Rc Pattern Global)) {a b : Writ
 writes_optional f [] e h = absurd cc
 writes_optional f (p ∷ ps) e h = choice_of_empty (written_tree f (pattern_view p.value)).is_empty _ _ e h
 
-pub writes_choice : (ws : List Written) {a b : Writer} → nat_eq (length ws) 0 ≡ false → begins (λ w. w.is_empty) ws ≡ false → Writes (chain (infix_of (codes "|")) ws) a b → Writes (written_choice ws).pieces a b
+pub writes_choice : (ws : List NodeText) {a b : Writer} → nat_eq (length ws) 0 ≡ false → begins (λ w. w.is_empty) ws ≡ false → Writes (chain (infix_of (codes "|")) ws) a b → Writes (written_choice ws).pieces a b
 writes_choice [] i e h = absurd cc
 writes_choice (w ∷ ws) i e h = choice_of_none w.is_empty _ _ e h
 
-pub writes_no_interleave : (ws : List Written) {a b : Writer} → nat_eq (length ws) 0 ≡ true → WritesBytes (codes "empty") none a b → Writes (written_interleave ws).pieces a b
+pub writes_no_interleave : (ws : List NodeText) {a b : Writer} → nat_eq (length ws) 0 ≡ true → WritesBytes (codes "empty") none a b → Writes (written_interleave ws).pieces a b
 writes_no_interleave [] e h = writes_empty h
 writes_no_interleave (w ∷ ws) e h = absurd (let y = eqb-suc-zero (length ws) in cc)
 
-pub writes_mixed : (f : Prefixes) (ps : List (Rc Pattern Global)) {a b c d e : Writer} → begins (λ w. w.is_text) (rows_of f ps) ≡ true → WritesBytes (codes "mixed") none a b → WritesBytes (codes " { ") opening b c → Writes (chain_or_one (infix_of (codes "&")) (rows_of f (drop 1 ps))) c d → WritesBytes (codes " }") closing d e → Writes (written_interleave (rows_of f ps)).pieces a e
+pub writes_mixed : (f : Prefixes) (ps : List (Rc Pattern Global)) {a b c d e : Writer} → begins (λ w. w.is_text) (rows_of f ps) ≡ true → WritesBytes (codes "mixed") none a b → WritesBytes (codes " { ") opening b c → Writes (mixed_pieces (infix_of (codes "&")) (rows_of f (drop 1 ps))) c d → WritesBytes (codes " }") closing d e → Writes (written_interleave (rows_of f ps)).pieces a e
 writes_mixed f [] i h j k l = absurd cc
-writes_mixed f (p ∷ ps) i h j k l = choice_of_empty (written_tree f (pattern_view p.value)).is_text _ _ i (writes_then (keyword (codes "mixed") ∷ []) (braced (chain_or_one (infix_of (codes "&")) (rows_of f ps))) (writes_mixed_word h) (writes_braced _ j k l))
+writes_mixed f (p ∷ ps) i h j k l = choice_of_empty (written_tree f (pattern_view p.value)).is_text _ _ i (writes_then (keyword (codes "mixed") ∷ []) (in_braces (mixed_pieces (infix_of (codes "&")) (rows_of f ps))) (writes_mixed_word h) (writes_braced _ j k l))
 
-pub writes_interleave : (ws : List Written) {a b : Writer} → nat_eq (length ws) 0 ≡ false → begins (λ w. w.is_text) ws ≡ false → Writes (chain (infix_of (codes "&")) ws) a b → Writes (written_interleave ws).pieces a b
+pub writes_interleave : (ws : List NodeText) {a b : Writer} → nat_eq (length ws) 0 ≡ false → begins (λ w. w.is_text) ws ≡ false → Writes (chain (infix_of (codes "&")) ws) a b → Writes (written_interleave ws).pieces a b
 writes_interleave [] i e h = absurd cc
 writes_interleave (w ∷ ws) i e h = choice_of_none w.is_text _ _ e h
 
-pub writes_one_mixed : (f : Prefixes) (ps : List (Rc Pattern Global)) (p : Rc Pattern Global) {a b : Writer} → length ps ≡ 2 → p ≡ get_or ps 1 p → Writes (written_tree f (pattern_view p.value)).pieces a b → Writes (chain_or_one (infix_of (codes "&")) (rows_of f (drop 1 ps))) a b
+pub writes_one_mixed : (f : Prefixes) (ps : List (Rc Pattern Global)) (p : Rc Pattern Global) {a b : Writer} → length ps ≡ 2 → p ≡ get_or ps 1 p → Writes (written_tree f (pattern_view p.value)).pieces a b → Writes (mixed_pieces (infix_of (codes "&")) (rows_of f (drop 1 ps))) a b
 writes_one_mixed f [] p e i h = absurd (omega (arith, e))
 writes_one_mixed f (q ∷ []) p e i h = absurd (omega (arith, e))
 writes_one_mixed f (q ∷ r ∷ []) p {a} {b} e i h = subst (λ (x : Rc Pattern Global). Writes (written_tree f (pattern_view x.value)).pieces a b) i h
 writes_one_mixed f (q ∷ r ∷ t ∷ ps) p e i h = absurd (omega (arith, e))
 
-pub writes_several_mixed : (f : Prefixes) (ps : List (Rc Pattern Global)) {a b : Writer} → length ps ≢ 2 → Writes (chain (infix_of (codes "&")) (rows_of f (drop 1 ps))) a b → Writes (chain_or_one (infix_of (codes "&")) (rows_of f (drop 1 ps))) a b
+pub writes_several_mixed : (f : Prefixes) (ps : List (Rc Pattern Global)) {a b : Writer} → length ps ≢ 2 → Writes (chain (infix_of (codes "&")) (rows_of f (drop 1 ps))) a b → Writes (mixed_pieces (infix_of (codes "&")) (rows_of f (drop 1 ps))) a b
 writes_several_mixed f [] e h = h
 writes_several_mixed f (p ∷ []) e h = h
 writes_several_mixed f (p ∷ q ∷ []) e h = absurd (e refl)
@@ -201,15 +201,15 @@ chain_ends f s ps k i {a} {b} l h = subst (λ y. Writes (chain s (rows_of f y)) 
 
 -- ---- what is no repetition
 
-by_cond : (b : Bool) (v w : Written) → v.repeated ≡ None → w.repeated ≡ None → (cond b v w).repeated ≡ None
+by_cond : (b : Bool) (v w : NodeText) → v.repeated ≡ None → w.repeated ≡ None → (cond b v w).repeated ≡ None
 by_cond true v w e h = e
 by_cond false v w e h = h
 
-choice_not_repeated : (ws : List Written) → (written_choice ws).repeated ≡ None
+choice_not_repeated : (ws : List NodeText) → (written_choice ws).repeated ≡ None
 choice_not_repeated [] = refl
 choice_not_repeated (w ∷ ws) = by_cond w.is_empty _ _ refl refl
 
-interleave_not_repeated : (ws : List Written) → (written_interleave ws).repeated ≡ None
+interleave_not_repeated : (ws : List NodeText) → (written_interleave ws).repeated ≡ None
 interleave_not_repeated [] = refl
 interleave_not_repeated (w ∷ ws) = by_cond w.is_text _ _ refl refl
 

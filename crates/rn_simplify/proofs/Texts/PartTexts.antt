@@ -12,10 +12,10 @@ use Rattle.rn_text.specs.Parts.{Piece}
 use Rattle.rn_pattern.specs.Tree.{NameTree, any_name, any_name_but, ns_name, ns_name_but, name, name_choice}
 use Rattle.rn_text.specs.Texts.{Text}
 use Rattle.rn_simplify.specs.declared.writer.Writer.{Writer}
-use Rattle.rn_simplify.specs.Spelling.{Prefixes, Written, closed, postfixed, chained, space, symbol, keyword, word, identifier, prefixed, any_of, name_piece, type_piece, namespace_prefix, library_prefix, place, infix_of, comma, parenthesized, braced, operand, primary, operand_in, primary_in, written_name}
+use Rattle.rn_simplify.specs.Spelling.{Prefixes, NodeText, closed, postfixed, chained, space, symbol, keyword, word, identifier, prefixed_piece, any_of, name_piece, type_piece, namespace_prefix, library_prefix, place, infix_of, comma, in_parentheses, in_braces, operand, primary, operand_in, primary_in, written_name}
 use Rattle.rn_simplify.specs.inside.Writes.{bytes_of, bracket_of, depth_after, depth_behind, opening, closing, none, Writes, WritesBytes}
 use Rattle.rn_syntax.specs.Places.{xml_uri, xsd_uri}
-use Rattle.rn_simplify.proofs.ReadBack.Numbered.{numbered_bytes}
+use Rattle.rn_simplify.proofs.ReadBack.NumberedPrefixes.{numbered_bytes}
 use Rattle.rn_simplify.proofs.Texts.Writing.{writes_then, writes_pieces, writes_as, bytes_then}
 
 -- ---- one part
@@ -54,7 +54,7 @@ pub writes_identifier : (l : Text) {a b : Writer} → IsUtf8 l → WritesBytes (
 writes_identifier l u h = writes_part _ _ _ (identifier_kind (is_keyword (chars l)) _) (identifier_bytes (is_keyword (chars l)) l u) h
 
 -- a name behind a prefix
-pub writes_prefixed : (p : List ℕ) (l : Text) {a b c d : Writer} → IsUtf8 l → WritesBytes (encode_utf8_all p) none a b → WritesBytes (58 ∷ []) none b c → WritesBytes l none c d → Writes (prefixed p (chars l) ∷ []) a d
+pub writes_prefixed : (p : List ℕ) (l : Text) {a b c d : Writer} → IsUtf8 l → WritesBytes (encode_utf8_all p) none a b → WritesBytes (58 ∷ []) none b c → WritesBytes l none c d → Writes (prefixed_piece p (chars l) ∷ []) a d
 unfolding lib.Utf8.encode chars
 writes_prefixed p l u h j k =
     writes_part (Token Prefixed) (p ++ 58 ∷ chars l) _ refl (encodes-append p (58 ∷ chars l) ∙ ap (λ t. encode_utf8_all p ++ (58 ∷ t)) (encodes-chars l u))
@@ -108,13 +108,13 @@ one_then n = kept_then (nat_lt n 256) (n + 1)
     kept_then true n = refl
     kept_then false n = refl
 
-pub writes_parenthesized : (ps : List Piece) {a b c d : Writer} → WritesBytes (codes "(") opening a b → Writes ps b c → WritesBytes (codes ")") closing c d → Writes (parenthesized ps) a d
+pub writes_parenthesized : (ps : List Piece) {a b c d : Writer} → WritesBytes (codes "(") opening a b → Writes ps b c → WritesBytes (codes ")") closing c d → Writes (in_parentheses ps) a d
 unfolding lib.Utf8.encode chars
 writes_parenthesized ps h j k =
     writes_then (symbol (codes "(") ∷ []) (ps ++ symbol (codes ")") ∷ []) (writes_pieces (symbol (codes "(") ∷ []) refl one h)
     (writes_then ps (symbol (codes ")") ∷ []) j (writes_pieces (symbol (codes ")") ∷ []) refl (λ n. refl) k))
 
-pub writes_braced : (ps : List Piece) {a b c d : Writer} → WritesBytes (codes " { ") opening a b → Writes ps b c → WritesBytes (codes " }") closing c d → Writes (braced ps) a d
+pub writes_braced : (ps : List Piece) {a b c d : Writer} → WritesBytes (codes " { ") opening a b → Writes ps b c → WritesBytes (codes " }") closing c d → Writes (in_braces ps) a d
 unfolding lib.Utf8.encode chars
 writes_braced ps h j k =
     writes_then (space ∷ symbol (codes "{") ∷ space ∷ []) (ps ++ space ∷ symbol (codes "}") ∷ []) (writes_pieces _ refl one_then h)
@@ -122,22 +122,22 @@ writes_braced ps h j k =
 
 -- ---- operands
 
-pub operand_chained : (w : Written) → chained ≡ w.shape → operand w ≡ parenthesized w.pieces
+pub operand_chained : (w : NodeText) → chained ≡ w.shape → operand w ≡ in_parentheses w.pieces
 operand_chained w e = ap (λ s. operand_in s w.pieces) (sym e)
 
-pub operand_closed : (w : Written) → closed ≡ w.shape → operand w ≡ w.pieces
+pub operand_closed : (w : NodeText) → closed ≡ w.shape → operand w ≡ w.pieces
 operand_closed w e = ap (λ s. operand_in s w.pieces) (sym e)
 
-pub operand_postfixed : (w : Written) → postfixed ≡ w.shape → operand w ≡ w.pieces
+pub operand_postfixed : (w : NodeText) → postfixed ≡ w.shape → operand w ≡ w.pieces
 operand_postfixed w e = ap (λ s. operand_in s w.pieces) (sym e)
 
-pub primary_chained : (w : Written) → chained ≡ w.shape → primary w ≡ parenthesized w.pieces
+pub primary_chained : (w : NodeText) → chained ≡ w.shape → primary w ≡ in_parentheses w.pieces
 primary_chained w e = ap (λ s. primary_in s w.pieces) (sym e)
 
-pub primary_postfixed : (w : Written) → postfixed ≡ w.shape → primary w ≡ parenthesized w.pieces
+pub primary_postfixed : (w : NodeText) → postfixed ≡ w.shape → primary w ≡ in_parentheses w.pieces
 primary_postfixed w e = ap (λ s. primary_in s w.pieces) (sym e)
 
-pub primary_closed : (w : Written) → closed ≡ w.shape → primary w ≡ w.pieces
+pub primary_closed : (w : NodeText) → closed ≡ w.shape → primary w ≡ w.pieces
 primary_closed w e = ap (λ s. primary_in s w.pieces) (sym e)
 
 -- ---- name classes
@@ -210,7 +210,7 @@ xsd_bytes f l e = ap encode_utf8_all (xsd_by (bytes_eq l xsd_uri) _ e)
 other_library : (f : Prefixes) (l : Text) → bytes_eq l xsd_uri ≡ false → place l f.libraries < 2 ^ 64 → encode_utf8_all (library_prefix f l) ≡ codes "d" ++ decimal (place l f.libraries)
 other_library f l e h = ap encode_utf8_all (other_by (bytes_eq l xsd_uri) _ e) ∙ numbered_bytes 100 (place l f.libraries) refl h
 
-prefixed_type : (f : Prefixes) (l x : Text) {a b : Writer} → nat_eq (length l) 0 ≡ false → Writes (prefixed (library_prefix f l) (chars x) ∷ []) a b → Writes (type_piece f l x ∷ []) a b
+prefixed_type : (f : Prefixes) (l x : Text) {a b : Writer} → nat_eq (length l) 0 ≡ false → Writes (prefixed_piece (library_prefix f l) (chars x) ∷ []) a b → Writes (type_piece f l x ∷ []) a b
 prefixed_type f [] x e h = absurd cc
 prefixed_type f (c ∷ l) x e h = h
 

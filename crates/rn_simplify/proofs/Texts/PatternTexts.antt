@@ -11,7 +11,7 @@ use Rattle.rn_pattern.specs.Tree.{Parameters}
 use Rattle.rn_text.specs.Texts.{Text}
 use Rattle.rn_simplify.specs.declared.writer.Writer.{Writer}
 use Rattle.rn_simplify.specs.Spelling as s
-use Rattle.rn_simplify.specs.Spelling.{Prefixes, literal, segment, infix_of, space, word, type_piece, value_pieces, datum_pieces, param_pieces, params_pieces, braced}
+use Rattle.rn_simplify.specs.Spelling.{Prefixes, literal, segment, infix_of, space, word, type_piece, value_pieces, datum_pieces, param_pieces, params_pieces, in_braces}
 use Rattle.rn_simplify.specs.inside.Writes.{depth_after, none, opening, closing, Writes, WritesBytes}
 use Rattle.rn_simplify.proofs.Texts.Writing.{writes_nil, writes_then, writes_pieces, writes_as}
 use Rattle.rn_simplify.proofs.Texts.PartTexts.{writes_word, writes_braced}
@@ -89,4 +89,4 @@ writes_bare_data f l x (p ∷ ps) e h = absurd (let y = eqb-suc-zero (length ps)
 
 pub writes_data : (f : Prefixes) (l x : Text) (ps : Parameters) {a b c d z : Writer} → nat_eq (length ps) 0 ≡ false → Writes (type_piece f l x ∷ []) a b → WritesBytes (codes " { ") opening b c → Writes (params_pieces ps) c d → WritesBytes (codes " }") closing d z → Writes (datum_pieces f l x ps) a z
 writes_data f l x [] e h j k m = absurd cc
-writes_data f l x (p ∷ ps) e h j k m = writes_then (type_piece f l x ∷ []) (braced (params_pieces (p ∷ ps))) h (writes_braced (params_pieces (p ∷ ps)) j k m)
+writes_data f l x (p ∷ ps) e h j k m = writes_then (type_piece f l x ∷ []) (in_braces (params_pieces (p ∷ ps))) h (writes_braced (params_pieces (p ∷ ps)) j k m)

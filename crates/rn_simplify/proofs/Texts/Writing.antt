@@ -8,7 +8,7 @@ use Rattle.rn_text.proofs.Cutting.SoundPieces.{text_of-append}
 use Rattle.rn_simplify.specs.declared.writer.Writer.{Writer}
 use Rattle.rn_simplify.specs.declared.writer.Stop.{Stop}
 use Rattle.rn_simplify.specs.declared.writer.Stop.TheVariants.{TooLarge}
-use Rattle.rn_simplify.specs.inside.Writes.{bytes_of, most_bytes, bracket_of, depth_behind, depth_after, depth_of, Bracket, Appends, Writes, WritesBytes, none}
+use Rattle.rn_simplify.specs.inside.Writes.{bytes_of, max_text, bracket_of, depth_behind, depth_after, depth_of, Bracket, Appends, Writes, WritesBytes, none}
 
 pub bytes_of-append : (ps qs : List Piece) → bytes_of (ps ++ qs) ≡ bytes_of ps ++ bytes_of qs
 bytes_of-append ps qs = ap encode_utf8_all (text_of-append ps qs) ∙ encodes-append (text_of ps) (text_of qs)
@@ -21,7 +21,7 @@ pub depth_after-append : (ps qs : List Piece) (n : ℕ) → depth_after (ps ++ q
 depth_after-append [] qs n = refl
 depth_after-append (p ∷ ps) qs n = depth_through ps qs (depth_after-append ps qs) (depth_behind (bracket_of p.part p.spelling) n)
 
-longer : (a b c : List ℕ) → most_bytes < length (a ++ b) → most_bytes < length (a ++ (b ++ c))
+longer : (a b c : List ℕ) → max_text < length (a ++ b) → max_text < length (a ++ (b ++ c))
 longer a b c h = omega (arith, length-append a b, length-append a (b ++ c), length-append b c)
 
 pub writes_nil : (w : Writer) → Writes [] w w
@@ -45,16 +45,16 @@ appends_then ps qs {a} {b} {c} h k = record {
   depth = k.depth ∙ ap (option_and_then (depth_after qs)) h.depth ∙ sym (depth_through ps qs (depth_after-append ps qs) (depth_of a));
 }
 
-too_large_then : (ps qs : List Piece) {a b c : Writer} → Writes ps a b → Writes qs b c → a.stopped ≡ None → c.stopped ≡ Some TooLarge → (b.stopped ≡ None) ⊎ ((s : Stop) × (b.stopped ≡ Some s)) → most_bytes < length (string_bytes a.text ++ bytes_of (ps ++ qs))
+too_large_then : (ps qs : List Piece) {a b c : Writer} → Writes ps a b → Writes qs b c → a.stopped ≡ None → c.stopped ≡ Some TooLarge → (b.stopped ≡ None) ⊎ ((s : Stop) × (b.stopped ≡ Some s)) → max_text < length (string_bytes a.text ++ bytes_of (ps ++ qs))
 too_large_then ps qs {a} {b} {c} h k n e (inl m) =
     let l = k.too_large m e in
     let t : string_bytes a.text ++ bytes_of (ps ++ qs) ≡ string_bytes b.text ++ bytes_of qs =
     ap (λ t. string_bytes a.text ++ t) (bytes_of-append ps qs) ∙ sym (append_assoc (string_bytes a.text) (bytes_of ps) (bytes_of qs)) ∙ ap (λ t. t ++ bytes_of qs) (sym (h.appends m).text) in
-    subst (λ x. most_bytes < length x) (sym t) l
+    subst (λ x. max_text < length x) (sym t) l
 too_large_then ps qs {a} {b} {c} h k n e (inr m) =
     let same : Some m.0 ≡ Some TooLarge = sym (k.stays m.0 m.1) ∙ e in
     let stopped : b.stopped ≡ Some TooLarge = m.1 ∙ same in
-    subst (λ t. most_bytes < length (string_bytes a.text ++ t)) (sym (bytes_of-append ps qs)) (longer (string_bytes a.text) (bytes_of ps) (bytes_of qs) (h.too_large n stopped))
+    subst (λ t. max_text < length (string_bytes a.text ++ t)) (sym (bytes_of-append ps qs)) (longer (string_bytes a.text) (bytes_of ps) (bytes_of qs) (h.too_large n stopped))
 
 going : {ps : List Piece} {b c : Writer} → Writes ps b c → c.stopped ≡ None → (b.stopped ≡ None) ⊎ ((s : Stop) × (b.stopped ≡ Some s)) → b.stopped ≡ None
 going k e (inl m) = m
@@ -83,24 +83,24 @@ writes_pieces ps {bs} {k} {a} {b} e f h = record {
   stays = h.stays;
   appends = λ n. record { text = h.text n ∙ ap (λ t. string_bytes a.text ++ t) (sym e); depth = h.depth n ∙ same_depth ps k (depth_of a) f };
   within = h.within;
-  too_large = λ n l. subst (λ t. most_bytes < length (string_bytes a.text ++ t)) (sym e) (h.too_large n l);
+  too_large = λ n l. subst (λ t. max_text < length (string_bytes a.text ++ t)) (sym e) (h.too_large n l);
 }
 
 -- a text that was appended to, before it is looked at how long it has become
-pub too_long : (bs : List ℕ) (a b : Writer) → string_bytes b.text ≡ string_bytes a.text ++ bs → a.stopped ≡ None → b.stopped ≡ Some TooLarge → most_bytes < length (string_bytes b.text) → WritesBytes bs none a b
+pub too_long : (bs : List ℕ) (a b : Writer) → string_bytes b.text ≡ string_bytes a.text ++ bs → a.stopped ≡ None → b.stopped ≡ Some TooLarge → max_text < length (string_bytes b.text) → WritesBytes bs none a b
 too_long bs a b e n s l = record {
   stays = λ t h. cc;
   text = λ h. absurd cc;
   depth = λ h. absurd cc;
   within = λ h i. absurd cc;
-  too_large = λ h i. subst (λ t. most_bytes < length t) e l;
+  too_large = λ h i. subst (λ t. max_text < length t) e l;
 }
 
 nothing_opened : (o : Option ℕ) → o ≡ option_and_then (depth_behind none) o
 nothing_opened None = refl
 nothing_opened (Some n) = refl
 
-pub still_fits : (bs : List ℕ) (a b : Writer) → string_bytes b.text ≡ string_bytes a.text ++ bs → a.stopped ≡ None → b.stopped ≡ None → depth_of b ≡ depth_of a → length (string_bytes b.text) ≤ most_bytes → WritesBytes bs none a b
+pub still_fits : (bs : List ℕ) (a b : Writer) → string_bytes b.text ≡ string_bytes a.text ++ bs → a.stopped ≡ None → b.stopped ≡ None → depth_of b ≡ depth_of a → length (string_bytes b.text) ≤ max_text → WritesBytes bs none a b
 still_fits bs a b e n s d l = record {
   stays = λ t h. cc;
   text = λ h. e;
@@ -109,8 +109,8 @@ still_fits bs a b e n s d l = record {
   too_large = λ h i. absurd cc;
 }
 
-bytes_too_large : (xs ys : List ℕ) {a b c : Writer} → WritesBytes xs none a b → WritesBytes ys none b c → a.stopped ≡ None → c.stopped ≡ Some TooLarge → (b.stopped ≡ None) ⊎ ((s : Stop) × (b.stopped ≡ Some s)) → most_bytes < length (string_bytes a.text ++ (xs ++ ys))
-bytes_too_large xs ys {a} {b} {c} h k n e (inl m) = subst (λ t. most_bytes < length t) (ap (λ t. t ++ ys) (h.text m) ∙ append_assoc (string_bytes a.text) xs ys) (k.too_large m e)
+bytes_too_large : (xs ys : List ℕ) {a b c : Writer} → WritesBytes xs none a b → WritesBytes ys none b c → a.stopped ≡ None → c.stopped ≡ Some TooLarge → (b.stopped ≡ None) ⊎ ((s : Stop) × (b.stopped ≡ Some s)) → max_text < length (string_bytes a.text ++ (xs ++ ys))
+bytes_too_large xs ys {a} {b} {c} h k n e (inl m) = subst (λ t. max_text < length t) (ap (λ t. t ++ ys) (h.text m) ∙ append_assoc (string_bytes a.text) xs ys) (k.too_large m e)
 bytes_too_large xs ys {a} {b} {c} h k n e (inr m) =
     let same : Some m.0 ≡ Some TooLarge = sym (k.stays m.0 m.1) ∙ e in
     longer (string_bytes a.text) xs ys (h.too_large n (m.1 ∙ same))

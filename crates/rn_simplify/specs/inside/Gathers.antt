@@ -25,57 +25,57 @@ is_other known u = not (bytes_eq u []) && not (bytes_eq u known)
 -- namespaces, those of `p:*` alone, and libraries
 pub record Mentioned : Type 0 where
   pub namespaces : List Text
-  pub wide : List Text
+  pub ns_names : List Text
   pub libraries : List Text
 
 abbrev pub nothing : Mentioned
-nothing = record { namespaces = []; wide = []; libraries = [] }
+nothing = record { namespaces = []; ns_names = []; libraries = [] }
 
 abbrev pub both : Mentioned → Mentioned → Mentioned
-both m n = record { namespaces = m.namespaces ++ n.namespaces; wide = m.wide ++ n.wide; libraries = m.libraries ++ n.libraries }
+both m n = record { namespaces = m.namespaces ++ n.namespaces; ns_names = m.ns_names ++ n.ns_names; libraries = m.libraries ++ n.libraries }
 
 abbrev pub by_name : NameTree → Mentioned
-by_name c = record { namespaces = name_uris false c; wide = name_uris true c; libraries = [] }
+by_name c = record { namespaces = name_uris false c; ns_names = name_uris true c; libraries = [] }
 
 abbrev pub by_names : NameTrees → Mentioned
-by_names cs = record { namespaces = names_uris false cs; wide = names_uris true cs; libraries = [] }
+by_names cs = record { namespaces = names_uris false cs; ns_names = names_uris true cs; libraries = [] }
 
-abbrev pub by_any_of : Text → Mentioned
-by_any_of u = record { namespaces = u ∷ []; wide = u ∷ []; libraries = [] }
+abbrev pub by_ns_name : Text → Mentioned
+by_ns_name u = record { namespaces = u ∷ []; ns_names = u ∷ []; libraries = [] }
 
 abbrev pub by_library : Text → Mentioned
-by_library l = record { namespaces = []; wide = []; libraries = l ∷ [] }
+by_library l = record { namespaces = []; ns_names = []; libraries = l ∷ [] }
 
 abbrev pub by_tree : Tree → Mentioned
 by_tree p = record {
   namespaces = mentions (name_uris false) (λ l. []) p;
-  wide = mentions (name_uris true) (λ l. []) p;
+  ns_names = mentions (name_uris true) (λ l. []) p;
   libraries = mentions (λ c. []) (λ l. l ∷ []) p;
 }
 
 abbrev pub by_trees : Trees → Mentioned
 by_trees ps = record {
   namespaces = mentions_all (name_uris false) (λ l. []) ps;
-  wide = mentions_all (name_uris true) (λ l. []) ps;
+  ns_names = mentions_all (name_uris true) (λ l. []) ps;
   libraries = mentions_all (λ c. []) (λ l. l ∷ []) ps;
 }
 
 abbrev pub by_definitions : List (Text × Tree) → Mentioned
 by_definitions ds = record {
   namespaces = flat_map (λ (d : Text × Tree). mentions (name_uris false) (λ l. []) d.1) ds;
-  wide = flat_map (λ (d : Text × Tree). mentions (name_uris true) (λ l. []) d.1) ds;
+  ns_names = flat_map (λ (d : Text × Tree). mentions (name_uris true) (λ l. []) d.1) ds;
   libraries = flat_map (λ (d : Text × Tree). mentions (λ c. []) (λ l. l ∷ []) d.1) ds;
 }
 
 abbrev pub by_grammar : Grammar → Mentioned
 by_grammar g = record {
   namespaces = grammar_mentions (name_uris false) (λ l. []) g;
-  wide = grammar_mentions (name_uris true) (λ l. []) g;
+  ns_names = grammar_mentions (name_uris true) (λ l. []) g;
   libraries = grammar_mentions (λ c. []) (λ l. l ∷ []) g;
 }
 
 -- these are gathered, in addition to what was
 pub record Gathers (m : Mentioned) (a b : Mentions) : Type 0 where
   pub namespaces : GathersTexts m.namespaces a.namespaces b.namespaces
-  pub wide : b.any_of_none ≡ (a.any_of_none || list_any (bytes_eq []) m.wide)
+  pub ns_names : b.has_empty_ns_name ≡ (a.has_empty_ns_name || list_any (bytes_eq []) m.ns_names)
   pub libraries : GathersTexts m.libraries a.libraries b.libraries

@@ -33,3 +33,8 @@ has_members n = false
 abbrev pub datum_over : Text → Text → Parameters → Trees → Tree
 datum_over l x ps no_trees = tree.datum l x ps
 datum_over l x ps (more_trees p none) = tree.datum_but l x ps p
+
+-- the pattern of an except, if there is one
+abbrev pub except_trees : {I : Type 0} → (I → Tree) → Option I → Trees
+except_trees at None = no_trees
+except_trees at (Some i) = more_trees (at i) no_trees

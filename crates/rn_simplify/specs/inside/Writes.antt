@@ -17,14 +17,15 @@ use Rattle.rn_simplify.specs.declared.shapes.Shape.{Shape}
 use Rattle.rn_simplify.specs.declared.shapes.Shape.TheVariants.{Closed, Postfixed, Chained}
 use Rattle.rn_simplify.specs.declared.declared_prefixes.Prefixes as code
 use Rattle.rn_simplify.specs.Spelling as s
-use Rattle.rn_simplify.specs.Spelling.{closed, postfixed, chained, Written, written_tree, bindings, datum_pieces, default_line, infix_of, literal, line_end, library_prefix, namespace_prefix, value_pieces}
+use Rattle.rn_simplify.specs.Spelling.{closed, postfixed, chained, NodeText, written_tree, bindings, datum_pieces, default_line, infix_of, literal, line_end, library_prefix, namespace_prefix, value_pieces}
 use Rattle.std.specs.declared.rc.Rc.{Rc}
 use Rattle.std.specs.declared.alloc.Global.{Global}
 use Rattle.rn_pattern.specs.declared.tree.Data.{Data}
 use Rattle.rn_pattern.specs.declared.tree.Pattern.{Pattern}
 use Rattle.rn_pattern.specs.declared.tree.Value.{Value}
 use Rattle.rn_pattern.specs.View.{parameters_view, pattern_view}
-pub use Rattle.rn_simplify.specs.Limits.{most_bytes, most_open}
+pub use Rattle.rn_modset.specs.Limits.{max_text}
+use Rattle.rn_syntax.specs.Places.{max_open}
 
 -- the pieces in bytes
 abbrev pub bytes_of : List Piece → Text
@@ -51,7 +52,7 @@ bracket_of p s = none
 
 -- the brackets that are open behind one; None: too many were open at once
 abbrev pub depth_behind : Bracket → ℕ → Option ℕ
-depth_behind opening n = cond (nat_lt n most_open) (Some (n + 1)) None
+depth_behind opening n = cond (nat_lt n max_open) (Some (n + 1)) None
 depth_behind closing n = Some (n - 1)
 depth_behind none n = Some n
 
@@ -70,14 +71,14 @@ pub record Appends (ps : List Piece) (a b : Writer) : Type 0 where
 
 -- the text has no more bytes than it may have
 abbrev pub IsWithin : Writer → Type 0
-IsWithin w = length (string_bytes w.text) ≤ most_bytes
+IsWithin w = length (string_bytes w.text) ≤ max_text
 
 -- the pieces are appended, unless the writer is stopped
 pub record Writes (ps : List Piece) (a b : Writer) : Type 0 where
   pub stays : (s : Stop) → a.stopped ≡ Some s → b.stopped ≡ Some s
   pub appends : b.stopped ≡ None → Appends ps a b
   pub within : b.stopped ≡ None → IsWithin a → IsWithin b
-  pub too_large : a.stopped ≡ None → b.stopped ≡ Some TooLarge → most_bytes < length (string_bytes a.text ++ bytes_of ps)
+  pub too_large : a.stopped ≡ None → b.stopped ≡ Some TooLarge → max_text < length (string_bytes a.text ++ bytes_of ps)
 
 -- the bytes are appended, and a bracket or none is opened or closed, unless the writer is stopped
 pub record WritesBytes (bs : Text) (k : Bracket) (a b : Writer) : Type 0 where
@@ -85,7 +86,7 @@ pub record WritesBytes (bs : Text) (k : Bracket) (a b : Writer) : Type 0 where
   pub text : b.stopped ≡ None → string_bytes b.text ≡ string_bytes a.text ++ bs
   pub depth : b.stopped ≡ None → depth_of b ≡ option_and_then (depth_behind k) (depth_of a)
   pub within : b.stopped ≡ None → IsWithin a → IsWithin b
-  pub too_large : a.stopped ≡ None → b.stopped ≡ Some TooLarge → most_bytes < length (string_bytes a.text ++ bs)
+  pub too_large : a.stopped ≡ None → b.stopped ≡ Some TooLarge → max_text < length (string_bytes a.text ++ bs)
 
 abbrev pub shape_view : Shape → s.Shape
 shape_view Closed = closed
@@ -104,11 +105,11 @@ abbrev pub data_text : s.Prefixes → Data → List Piece
 data_text f d = datum_pieces f (rc_str_bytes d.library) (string_bytes d.type_name) (parameters_view d.params.items)
 
 -- the members of a list as they are written
-abbrev pub rows_of : s.Prefixes → List (Rc Pattern Global) → List Written
+abbrev pub rows_of : s.Prefixes → List (Rc Pattern Global) → List NodeText
 rows_of f ps = map (λ (p : Rc Pattern Global). written_tree f (pattern_view p.value)) ps
 
 -- the first of them passes
-abbrev pub begins : (Written → Bool) → List Written → Bool
+abbrev pub begins : (NodeText → Bool) → List NodeText → Bool
 begins p [] = false
 begins p (w ∷ ws) = p w
 
@@ -117,13 +118,13 @@ abbrev pub entries : (Text → List ℕ) → List Text → List (List ℕ × Tex
 entries prefix us = map (λ (u : Text). (prefix u, u)) us
 
 abbrev pub empty_entries : Bool → List (List ℕ × Text)
-empty_entries wide = cond wide ((codes "n0", []) ∷ []) []
+empty_entries has_empty = cond has_empty ((codes "n0", []) ∷ []) []
 
--- the lines of declarations; wide: the empty namespace has a prefix
-abbrev pub declaration_lines : s.Prefixes → (wide : Bool) → List Piece
-declaration_lines f wide =
+-- the lines of declarations; has_empty: the empty namespace has a prefix
+abbrev pub declaration_lines : s.Prefixes → (has_empty : Bool) → List Piece
+declaration_lines f has_empty =
     default_line
-    ++ (bindings (codes "namespace") (empty_entries wide)
+    ++ (bindings (codes "namespace") (empty_entries has_empty)
     ++ (bindings (codes "namespace") (entries (namespace_prefix f) f.namespaces)
     ++ bindings (codes "datatypes") (entries (library_prefix f) f.libraries)))
 
@@ -136,7 +137,7 @@ defined_as f p = infix_of (codes "=") ++ ((written_tree f p).pieces ++ line_end 
 
 -- what stops a writer behind an append: there was no memory for it, or the text has become too large; else what stopped it before
 abbrev pub stop_behind : (appended : Bool) → Writer → Option Stop
-stop_behind appended w = cond appended (cond (nat_lt most_bytes (length (string_bytes w.text))) (Some TooLarge) w.stopped) (Some Memory)
+stop_behind appended w = cond appended (cond (nat_lt max_text (length (string_bytes w.text))) (Some TooLarge) w.stopped) (Some Memory)
 
 -- why the writer has no text
 abbrev pub IsHindrance : Writer → Refusal → Type 0

@@ -5,7 +5,7 @@ use Rattle.rn_pattern.specs.declared.tree.NameClass.{NameClass}
 use Rattle.rn_pattern.specs.declared.tree.NameClass.TheFolds.{fold_out-NameClass, fold-roll-NameClass}
 use Rattle.rn_pattern.specs.declared.tree.NameClass.TheViews.{the_lemmas}
 use Rattle.rn_pattern.specs.Tree.{NameTree, any_name, any_name_but, ns_name_but}
-use Rattle.rn_simplify.specs.Spelling.{Written, written_name, infix_of, chain}
+use Rattle.rn_simplify.specs.Spelling.{NodeText, written_name, infix_of, chain}
 use Rattle.rn_pattern.specs.View.{name_class_view, name_class_step}
 use Rattle.rn_simplify.specs.inside.Writes.{prefixes_view, Writes}
 use Rattle.rn_simplify.proofs.Texts.Writing.{writes_nil, writes_as}
@@ -34,7 +34,7 @@ write_class-returns-in-NsName-default-Some t c =
     let u = c.deref-in-NsName-default-Some.result.now in
     let n = name_class_view c.deref-in-NsName-default-Some-2.result.now in
     let e : name_class_view c.args.class.now ≡ ns_name_but u n = search (rules, the_lemmas, fold_out-NameClass NameTree name_class_step, fold-roll-NameClass NameTree name_class_step) in
-    subst (λ m. Writes (written_name f m).pieces c.args.writer.now c.write_class_operand-in-NsName-default-Some.new.writer) (sym e) (writes_ns_but f u n c.write_any_of-in-NsName-default-Some.ensures c.put-in-NsName-default-Some.ensures c.write_class_operand-in-NsName-default-Some.ensures)
+    subst (λ m. Writes (written_name f m).pieces c.args.writer.now c.write_class_operand-in-NsName-default-Some.new.writer) (sym e) (writes_ns_but f u n c.write_ns_name-in-NsName-default-Some.ensures c.put-in-NsName-default-Some.ensures c.write_class_operand-in-NsName-default-Some.ensures)
 
 pub write_class_operand-returns-in-Chained : goal.write_class_operand-returns-in-Chained
 write_class_operand-returns-in-Chained t c =
@@ -48,7 +48,7 @@ write_class_choice-loop-i-init t c = writes_nil c.args.writer.now
 pub write_class_choice-loop-i-preserved : goal.write_class_choice-loop-i-preserved
 write_class_choice-loop-i-preserved t c =
     let f = prefixes_view c.args.prefixes.now in
-    let g : NameClass → Written = λ m. written_name f (name_class_view m) in
+    let g : NameClass → NodeText = λ m. written_name f (name_class_view m) in
     let s = infix_of (codes "|") in
     let xs = c.args.members.now in
     let x = c.index-members-i.result in
@@ -63,7 +63,7 @@ write_class_choice-loop-i-preserved t c =
 pub write_class_choice-returns : goal.write_class_choice-returns
 write_class_choice-returns t c =
     let f = prefixes_view c.args.prefixes.now in
-    let g : NameClass → Written = λ m. written_name f (name_class_view m) in
+    let g : NameClass → NodeText = λ m. written_name f (name_class_view m) in
     let s = infix_of (codes "|") in
     let xs = c.args.members.now in
     let e : take c.loop-i.i xs ≡ xs = take_all c.loop-i.i xs c.loop-i-test.false in

@@ -3,24 +3,24 @@ use Rattle.std.proofs.lemmas.List.{take_all}
 use Rattle.std.proofs.lemmas.List.Elements.{Contains-get_or}
 use Rattle.rn_assemble.specs.GrammarView.{definitions_view, grammar_view}
 use Rattle.rn_pattern.specs.Canonical.{canonical}
-use Rattle.rn_simplify.specs.Numbered.{AreSettled}
-use Rattle.rn_simplify.specs.inside.Worth.{settled_by, worth_of}
+use Rattle.rn_simplify.specs.inside.DefinitionNumbers.{AreSettled}
+use Rattle.rn_simplify.specs.inside.FormKinds.{becomes_by, kind_of}
 use Rattle.rn_simplify.proofs.Simplified.Numbers.{size_of_view}
 use Rattle.rn_simplify.proofs.Simplified.ReferenceGraph.{nothing}
 use Rattle.rn_simplify.proofs.Simplified.SettledMore.{settled_more, settled_none}
 use Rattle.rn_simplify.proofs.evaluation.settle.Goals as goal
 
 pub invariant_of-settled : goal.invariant_of-settled
-invariant_of-settled c = record { sized = omega (arith, c.in_ok-worth.ensures.len, c.len.ensures.len, c.in_ok-worth.worth.ok.0) }
+invariant_of-settled c = record { sized = omega (arith, c.in_ok-kinds.ensures.len, c.len.ensures.len, c.in_ok-kinds.kinds.ok.0) }
 
-pub settle_one-requires-clause-within : goal.settle_one-requires-clause-within
-settle_one-requires-clause-within c =
+pub settle_definition-requires-clause-within : goal.settle_definition-requires-clause-within
+settle_definition-requires-clause-within c =
     let order = c.args.order.now in
     let i = c.loop-number.number-index in
     omega (arith, c.requires (get_or order i 0) (Contains-get_or order i 0 c.loop-number-test.true), ap length c.loop-number.invariant.names, size_of_view c.loop-number.settled.names.now.entries)
 
-pub settle_one-requires-clause-of : goal.settle_one-requires-clause-of
-settle_one-requires-clause-of c = c.loop-number.invariant.names
+pub settle_definition-requires-clause-of : goal.settle_definition-requires-clause-of
+settle_definition-requires-clause-of c = c.loop-number.invariant.names
 
 pub loop-number-init : goal.loop-number-init
 loop-number-init c = record {
@@ -35,20 +35,20 @@ loop-number-preserved c =
     let order = c.args.order.now in
     let i = c.loop-number.number-index in
     let n = get_or order i 0 in
-    let worth = c.loop-number.settled.worth.items in
-    let worth' = c.settle_one.new.settled.worth.items in
-    let size : length worth ≡ length ds = omega (arith, c.loop-number.settled.sized, ap length inv.names, size_of_view c.loop-number.settled.names.now.entries) in
-    let one : worth' ≡ set worth n (worth_of (canonical (settled_by ds worth) (get_or ds n nothing).1)) =
-    subst (λ es. worth' ≡ set worth n (worth_of (canonical (settled_by es worth) (get_or es n nothing).1))) inv.names (c.in_ok-settle_one.ensures.settled nothing) in
+    let kinds = c.loop-number.settled.kinds.items in
+    let kinds' = c.settle_definition.new.settled.kinds.items in
+    let size : length kinds ≡ length ds = omega (arith, c.loop-number.settled.sized, ap length inv.names, size_of_view c.loop-number.settled.names.now.entries) in
+    let one : kinds' ≡ set kinds n (kind_of (canonical (becomes_by ds kinds) (get_or ds n nothing).1)) =
+    subst (λ es. kinds' ≡ set kinds n (kind_of (canonical (becomes_by es kinds) (get_or es n nothing).1))) inv.names (c.in_ok-settle_definition.ensures.settled nothing) in
     record {
-      names = ap definitions_view c.settle_one.ensures.names ∙ inv.names;
-      settled = λ ordered. settled_more ds order worth worth' ordered size i c.loop-number-test.true one (inv.settled ordered);
+      names = ap definitions_view c.settle_definition.ensures.names ∙ inv.names;
+      settled = λ ordered. settled_more ds order kinds kinds' ordered size i c.loop-number-test.true one (inv.settled ordered);
     }
 
 pub returns-clause-settled : goal.returns-clause-settled
 returns-clause-settled c = λ o.
     let ds = (grammar_view c.args.grammar.now).definitions in
-    let t = settled_by ds c.loop-number.settled.worth.items in
+    let t = becomes_by ds c.loop-number.settled.kinds.items in
     subst (λ (ns : List ℕ). AreSettled ds ns t) (take_all c.loop-number.number-index c.args.order.now (omega arith)) (c.loop-number.invariant.settled o)
 
 pub returns-clause-names : goal.returns-clause-names

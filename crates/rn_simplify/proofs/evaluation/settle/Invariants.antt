@@ -1,13 +1,13 @@
 use Rattle.std.proofs.Common.{◌≡◌, take}
 use Rattle.rn_assemble.specs.GrammarView.{definitions_view, grammar_view}
-use Rattle.rn_simplify.specs.Numbered.{AreSettled}
-use Rattle.rn_simplify.specs.Settling.{IsInOrder}
-use Rattle.rn_simplify.specs.inside.Worth.{settled_by}
+use Rattle.rn_simplify.specs.inside.DefinitionNumbers.{AreSettled}
+use Rattle.rn_simplify.specs.inside.SettlingOrder.{IsInOrder}
+use Rattle.rn_simplify.specs.inside.FormKinds.{becomes_by}
 use Rattle.rn_simplify.proofs.evaluation.settle.Given as goal
 
 abbrev pub invariant-loop-number : goal.invariant-loop-number
 invariant-loop-number l = record {
   names : definitions_view l.settled.names.now.entries ≡ (grammar_view l.grammar).definitions;
   settled : IsInOrder (grammar_view l.grammar).definitions l.order
-      → AreSettled (grammar_view l.grammar).definitions (take l.number-index l.order) (settled_by (grammar_view l.grammar).definitions l.settled.worth.items);
+      → AreSettled (grammar_view l.grammar).definitions (take l.number-index l.order) (becomes_by (grammar_view l.grammar).definitions l.settled.kinds.items);
 }

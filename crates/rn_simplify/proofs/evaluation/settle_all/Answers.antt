@@ -4,11 +4,11 @@ use Rattle.std.proofs.lemmas.Result.{IfOk-weaker}
 use Rattle.rn_pattern.specs.Tree.{Tree}
 use Rattle.rn_text.specs.Texts.{Text}
 use Rattle.rn_assemble.specs.GrammarView.{definitions_view, grammar_view}
-use Rattle.rn_simplify.specs.Numbered.{AreSettled}
-use Rattle.rn_simplify.specs.Settling.{IsInOrder}
-use Rattle.rn_simplify.specs.inside.Worth.{settled_by}
-use Rattle.rn_simplify.proofs.Simplified.Evaluated.{settled_canonical}
-use Rattle.rn_simplify.proofs.Simplified.Normalised.{both_hold, settling_is}
+use Rattle.rn_simplify.specs.inside.DefinitionNumbers.{AreSettled}
+use Rattle.rn_simplify.specs.inside.SettlingOrder.{IsInOrder}
+use Rattle.rn_simplify.specs.inside.FormKinds.{becomes_by}
+use Rattle.rn_simplify.proofs.Simplified.FormKinds.{settled_canonical}
+use Rattle.rn_simplify.proofs.Simplified.FormedGrammar.{both_hold, settling_is}
 use Rattle.rn_simplify.proofs.evaluation.settle_all.Goals as goal
 
 pub settle-requires : goal.settle-requires
@@ -27,10 +27,10 @@ returns-clause-exact c =
     let w = c.args.grammar.now.well_formed in
     let o = c.in_ok-order.ensures.order in
     let es = definitions_view s.names.now.entries in
-    let worth = s.worth.items in
+    let kinds = s.kinds.items in
     let ordered : IsInOrder G.definitions c.deref.result.now = subst (IsInOrder G.definitions) (sym c.deref.ensures.value) o.in_order in
-    let settled : AreSettled G.definitions order (settled_by G.definitions worth) =
-    subst (λ (ns : List ℕ). AreSettled G.definitions ns (settled_by G.definitions worth)) c.deref.ensures.value (h.1 ordered) in
-    let here : AreSettled G.definitions order (settled_by es worth) = subst (λ (fs : List (Text × Tree)). AreSettled G.definitions order (settled_by fs worth)) (sym h.0) settled in
-    (o.rank, settling_is G (settled_by es worth) order w o (settled_canonical es worth) here))
+    let settled : AreSettled G.definitions order (becomes_by G.definitions kinds) =
+    subst (λ (ns : List ℕ). AreSettled G.definitions ns (becomes_by G.definitions kinds)) c.deref.ensures.value (h.1 ordered) in
+    let here : AreSettled G.definitions order (becomes_by es kinds) = subst (λ (fs : List (Text × Tree)). AreSettled G.definitions order (becomes_by fs kinds)) (sym h.0) settled in
+    (o.rank, settling_is G (becomes_by es kinds) order w o (settled_canonical es kinds) here))
     (both_hold c.settle.result _ _ ensures.names ensures.settled)

@@ -1,6 +1,6 @@
 use Rattle.std.proofs.Common.{arith}
 use Rattle.rn_simplify.proofs.ReadBack.Writable.{normal_writable}
-use Rattle.rn_simplify.proofs.ReadBack.Spelled.{spellable}
+use Rattle.rn_simplify.proofs.ReadBack.SpellableGrammars.{spellable}
 use Rattle.rn_simplify.proofs.ReadBack.Binding.{spelling_reads_back}
 use Rattle.rn_simplify.proofs.laws.canonical_texts_are_read_back.Goals as goal
 

@@ -1,5 +1,5 @@
 use Rattle.std.proofs.Common.{refl, sym}
-use Rattle.rn_simplify.proofs.Texts.Gathered.{gathers_new, gathers_held}
+use Rattle.rn_simplify.proofs.Texts.GatheredTexts.{gathers_new, gathers_held}
 use Rattle.rn_simplify.proofs.mentions.insert.Goals as goal
 
 pub returns-in_ok-insert : goal.returns-in_ok-insert

@@ -4,24 +4,20 @@ use Rattle.rn_text.specs.Texts.{Text}
 use Rattle.rn_pattern.specs.View.{pattern_view}
 use Rattle.rn_assemble.specs.Firsts.{AreFirsts, joined_members}
 use Rattle.rn_assemble.specs.GrammarView.{definitions_view, grammar_view}
-use Rattle.rn_simplify.specs.inside.Worth.{becomes}
+use Rattle.rn_simplify.specs.inside.FormKinds.{becomes}
 use Rattle.rn_simplify.proofs.Simplified.CanonicalParts.{canonical_of}
-use Rattle.rn_simplify.proofs.Simplified.Known.{then_kept}
-use Rattle.rn_simplify.proofs.Simplified.Normalised.{names_formed}
+use Rattle.rn_simplify.proofs.Simplified.FormedGrammar.{names_formed}
 use Rattle.rn_simplify.proofs.normalising.canonical_parts.Goals as goal
 
-pub returns-clause-canonical : goal.returns-clause-canonical
-returns-clause-canonical g c =
+pub returns : goal.returns
+returns c =
     let (rank, settling) = c.in_ok-settled.ensures.exact in
     let fs = definitions_view c.in_ok-forms.forms.items in
     let vs = definitions_view c.in_ok-defs.defs.items in
-    canonical_of (grammar_view c.args.grammar.now) (becomes c.in_ok-settled.settled) rank _ fs vs _ (pattern_view c.in_ok-start.start) settling c.in_ok-settled.ensures.names c.start.ensures c.in_ok-start.ensures.made c.in_ok-forms.ensures.made c.in_ok-defs.ensures
+    canonical_of (grammar_view c.args.grammar.now) (becomes c.in_ok-settled.settled) rank _ fs vs _ (pattern_view c.in_ok-start.start) settling c.in_ok-settled.ensures.names c.start.ensures c.in_ok-start.ensures c.in_ok-forms.ensures.made c.in_ok-defs.ensures
 
 pub body_form-requires : goal.body_form-requires
-body_form-requires g c = subst (λ (p : Tree). AreFirsts c.start_firsts.result.now (joined_members p)) (sym c.start.ensures) c.start_firsts.ensures
+body_form-requires c = subst (λ (p : Tree). AreFirsts c.start_firsts.result.now (joined_members p)) (sym c.start.ensures) c.start_firsts.ensures
 
 pub prune_forms-requires-clause-named : goal.prune_forms-requires-clause-named
-prune_forms-requires-clause-named g c = ap (map (λ (d : Text × Tree). d.0)) c.in_ok-forms.ensures.made ∙ names_formed (becomes c.in_ok-settled.settled) _
-
-pub returns-clause-kept : goal.returns-clause-kept
-returns-clause-kept g c = then_kept g.P.Patterns.knows g.P.Patterns.tree_of c.args.store.now c.body_form.new.store c.definition_forms.new.store c.body_form.ensures.kept c.definition_forms.ensures.kept
+prune_forms-requires-clause-named c = ap (map (λ (d : Text × Tree). d.0)) c.in_ok-forms.ensures.made ∙ names_formed (becomes c.in_ok-settled.settled) _

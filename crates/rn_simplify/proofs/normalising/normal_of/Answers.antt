@@ -1,7 +1,7 @@
 use Rattle.rn_pattern.proofs.Matches.Pruned.{canonical_grammar_valid}
 use Rattle.rn_assemble.specs.GrammarView.{grammar_view}
-use Rattle.rn_simplify.specs.Sources.{parts_view}
-use Rattle.rn_simplify.proofs.Texts.Sources.{has_source}
+use Rattle.rn_simplify.specs.NormalParts.{parts_view}
+use Rattle.rn_simplify.proofs.Texts.NormalSource.{has_source}
 use Rattle.rn_simplify.proofs.Simplified.WellFormed.{normal_well_formed}
 use Rattle.rn_simplify.proofs.normalising.normal_of.Goals as goal
 

@@ -5,7 +5,7 @@ use Rattle.rn_pattern.specs.Tree as tree
 use Rattle.rn_pattern.specs.Tree.{Tree}
 use Rattle.rn_pattern.specs.declared.tree.Pattern.TheFolds.{fold_out-Pattern, fold-roll-Pattern}
 use Rattle.rn_pattern.specs.declared.tree.Pattern.TheViews.{the_lemmas}
-use Rattle.rn_simplify.specs.Spelling.{chain, comma, infix_of, operand, optional_one, primary, written_choice, written_interleave, written_tree}
+use Rattle.rn_simplify.specs.Spelling.{chain, comma, infix_of, operand, optional_member, primary, written_choice, written_interleave, written_tree}
 use Rattle.rn_pattern.specs.View.{name_class_view, pattern_step, pattern_view}
 use Rattle.rn_simplify.specs.inside.Writes.{bytes_of, data_text, depth_after, prefixes_view, rows_of, Writes}
 use Rattle.rn_simplify.proofs.Texts.Writing.{writes_as, writes_pieces}
@@ -40,11 +40,11 @@ comma_depth : (n : ℕ) → depth_after comma n ≡ Some n
 unfolding lib.Utf8.encode chars
 comma_depth n = refl
 
-pub write_braced-returns : goal.write_braced-returns
-write_braced-returns t c = writes_braced _ c.open_bracket.ensures c.write_pattern.ensures c.close_bracket.ensures
+pub write_in_braces-returns : goal.write_in_braces-returns
+write_in_braces-returns t c = writes_braced _ c.open_bracket.ensures c.write_pattern.ensures c.close_bracket.ensures
 
-pub write_parenthesized-returns : goal.write_parenthesized-returns
-write_parenthesized-returns t c = writes_parenthesized _ c.open_bracket.ensures c.write_pattern.ensures c.close_bracket.ensures
+pub write_in_parentheses-returns : goal.write_in_parentheses-returns
+write_in_parentheses-returns t c = writes_parenthesized _ c.open_bracket.ensures c.write_pattern.ensures c.close_bracket.ensures
 
 pub write_choice-returns-then-is_empty : goal.write_choice-returns-then-is_empty
 write_choice-returns-then-is_empty t c =
@@ -100,22 +100,22 @@ pub write_optional-returns-then-members-eq2 : goal.write_optional-returns-then-m
 write_optional-returns-then-members-eq2 t c =
     let f = prefixes_view c.args.prefixes.now in
     writes_one_other f c.args.members.now c.index-members-1.result c.if-members-eq2.true c.index-members-1.is
-    (subst (λ p. Writes (optional_one (written_tree f (pattern_view p)).repeated (written_tree f (pattern_view p))) c.args.writer.now c.write_optional_one.new.writer) c.deref.ensures c.write_optional_one.ensures)
+    (subst (λ p. Writes (optional_member (written_tree f (pattern_view p)).repeated (written_tree f (pattern_view p))) c.args.writer.now c.write_optional_member.new.writer) c.deref.ensures c.write_optional_member.ensures)
 
 pub write_optional-returns-else-members-eq2 : goal.write_optional-returns-else-members-eq2
 write_optional-returns-else-members-eq2 t c =
     let f = prefixes_view c.args.prefixes.now in
     writes_others f c.args.members.now c.requires c.if-members-eq1.false c.if-members-eq2.false c.open_bracket.ensures (c.write_chain.ensures (infix_of (codes "|")) bar_bytes bar_depth) c.close_bracket.ensures c.put-else-members-eq2.ensures
 
-pub write_optional_one-returns-in-OneOrMore : goal.write_optional_one-returns-in-OneOrMore
-write_optional_one-returns-in-OneOrMore t c =
+pub write_optional_member-returns-in-OneOrMore : goal.write_optional_member-returns-in-OneOrMore
+write_optional_member-returns-in-OneOrMore t c =
     let f = prefixes_view c.args.prefixes.now in
     let p = pattern_view c.deref.result.now in
     let e : pattern_view c.args.other.now ≡ tree.one_or_more p = search (rules, the_lemmas, fold_out-Pattern Tree pattern_step, fold-roll-Pattern Tree pattern_step) in
-    subst (λ q. Writes (optional_one (written_tree f q).repeated (written_tree f q)) c.args.writer.now c.put.new.self) (sym e) (writes_repeated f p c.write_primary.ensures c.put.ensures)
+    subst (λ q. Writes (optional_member (written_tree f q).repeated (written_tree f q)) c.args.writer.now c.put.new.self) (sym e) (writes_repeated f p c.write_primary.ensures c.put.ensures)
 
-pub write_optional_one-returns-in_default : goal.write_optional_one-returns-in_default
-write_optional_one-returns-in_default t c =
+pub write_optional_member-returns-in_default : goal.write_optional_member-returns-in_default
+write_optional_member-returns-in_default t c =
     let f = prefixes_view c.args.prefixes.now in
     let e : (written_tree f (pattern_view c.args.other.now)).repeated ≡ None = not_repeated f c.args.other.now c.in_default.not-OneOrMore in
     writes_maybe (written_tree f (pattern_view c.args.other.now)) e c.write_primary-in_default.ensures c.put-in_default.ensures
@@ -164,7 +164,7 @@ write_pattern-returns-in-List t c =
     let f = prefixes_view c.args.prefixes.now in
     let p = pattern_view c.deref-in-List.result.now in
     let e : pattern_view c.args.pattern.now ≡ tree.list p = search (rules, the_lemmas, fold_out-Pattern Tree pattern_step, fold-roll-Pattern Tree pattern_step) in
-    subst (λ q. Writes (written_tree f q).pieces c.args.writer.now c.write_braced.new.writer) (sym e) (writes_list f p c.put-in-List.ensures c.write_braced.ensures)
+    subst (λ q. Writes (written_tree f q).pieces c.args.writer.now c.write_in_braces.new.writer) (sym e) (writes_list f p c.put-in-List.ensures c.write_in_braces.ensures)
 
 pub write_pattern-returns-in-Attribute : goal.write_pattern-returns-in-Attribute
 write_pattern-returns-in-Attribute t c =
@@ -172,7 +172,7 @@ write_pattern-returns-in-Attribute t c =
     let n = name_class_view c.deref-in-Attribute.result.now in
     let p = pattern_view c.deref-in-Attribute-2.result.now in
     let e : pattern_view c.args.pattern.now ≡ tree.attribute n p = search (rules, the_lemmas, fold_out-Pattern Tree pattern_step, fold-roll-Pattern Tree pattern_step) in
-    subst (λ q. Writes (written_tree f q).pieces c.args.writer.now c.write_braced-in-Attribute.new.writer) (sym e) (writes_attribute f n p c.write_head.ensures c.write_braced-in-Attribute.ensures)
+    subst (λ q. Writes (written_tree f q).pieces c.args.writer.now c.write_in_braces-in-Attribute.new.writer) (sym e) (writes_attribute f n p c.write_head.ensures c.write_in_braces-in-Attribute.ensures)
 
 pub write_pattern-returns-in-Element : goal.write_pattern-returns-in-Element
 write_pattern-returns-in-Element t c =
@@ -180,7 +180,7 @@ write_pattern-returns-in-Element t c =
     let n = name_class_view c.deref-in-Element.result.now in
     let p = pattern_view c.deref-in-Element-2.result.now in
     let e : pattern_view c.args.pattern.now ≡ tree.element n p = search (rules, the_lemmas, fold_out-Pattern Tree pattern_step, fold-roll-Pattern Tree pattern_step) in
-    subst (λ q. Writes (written_tree f q).pieces c.args.writer.now c.write_braced-in-Element.new.writer) (sym e) (writes_element f n p c.write_head-in-Element.ensures c.write_braced-in-Element.ensures)
+    subst (λ q. Writes (written_tree f q).pieces c.args.writer.now c.write_in_braces-in-Element.new.writer) (sym e) (writes_element f n p c.write_head-in-Element.ensures c.write_in_braces-in-Element.ensures)
 
 pub write_pattern-returns-in-OneOrMore : goal.write_pattern-returns-in-OneOrMore
 write_pattern-returns-in-OneOrMore t c =

@@ -2,10 +2,10 @@ use Rattle.std.proofs.Common.{sym, subst}
 use Rattle.std.specs.Prelude.{string_bytes}
 use Rattle.rn_simplify.specs.NormalView.{definitions_view, normal_view}
 use Rattle.rn_simplify.specs.Spelling.{definition_lines}
-use Rattle.rn_simplify.specs.Printed.{IsPrinted, IsUnprinted}
+use Rattle.rn_simplify.specs.Printing.{IsPrinted, IsUnprinted}
 use Rattle.rn_simplify.specs.ReadBack.{IsReadBack}
 use Rattle.rn_simplify.specs.inside.Writes.{IsHindrance, prefixes_view, Writes}
-use Rattle.rn_simplify.proofs.Texts.Answered.{if_ok, if_err, printed, unprinted}
+use Rattle.rn_simplify.proofs.Texts.FinishedText.{if_ok, if_err, printed, unprinted}
 use Rattle.rn_simplify.proofs.Texts.LineTexts.{writes_lines}
 use Rattle.rn_simplify.proofs.Texts.SourceTexts.{read_back}
 use Rattle.rn_simplify.proofs.printing.print.Goals as goal

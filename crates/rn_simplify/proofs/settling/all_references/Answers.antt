@@ -1,8 +1,8 @@
 use Rattle.std.proofs.Common.{◌<◌, length, ap, sym, subst, arith}
 use Rattle.rn_assemble.specs.GrammarView.{grammar_view}
 use Rattle.rn_pattern.specs.Graph.{row}
-use Rattle.rn_simplify.specs.Numbered.{graph_of, rows_by}
-use Rattle.rn_simplify.specs.inside.References.{AreRows}
+use Rattle.rn_simplify.specs.inside.DefinitionNumbers.{graph_of, rows_by}
+use Rattle.rn_simplify.specs.inside.ReferenceNumbers.{AreRows}
 use Rattle.rn_pattern.specs.Canonical.{HaveSameMembers}
 use Rattle.rn_assemble.specs.declared.references.Reach.TheVariants.{Everywhere, OutsideElements}
 use Rattle.rn_simplify.proofs.Simplified.Marks.{no_rows, more_rows}

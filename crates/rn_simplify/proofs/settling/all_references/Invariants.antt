@@ -1,7 +1,7 @@
 use Rattle.rn_assemble.specs.GrammarView.{grammar_view}
 use Rattle.rn_pattern.specs.Graph.{row}
-use Rattle.rn_simplify.specs.Numbered.{graph_of, rows_by}
-use Rattle.rn_simplify.specs.inside.References.{AreRows}
+use Rattle.rn_simplify.specs.inside.DefinitionNumbers.{graph_of, rows_by}
+use Rattle.rn_simplify.specs.inside.ReferenceNumbers.{AreRows}
 use Rattle.rn_assemble.specs.declared.references.Reach.TheVariants.{OutsideElements}
 use Rattle.rn_simplify.proofs.settling.all_references.Given as goal
 

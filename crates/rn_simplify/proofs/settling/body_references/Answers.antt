@@ -3,7 +3,7 @@ use Rattle.std.proofs.lemmas.Result.{IfOk-weaker}
 use Rattle.std.specs.Prelude.{IfSome}
 use Rattle.rn_assemble.specs.GrammarView.{definitions_view}
 use Rattle.rn_pattern.specs.View.{pattern_view}
-use Rattle.rn_simplify.specs.inside.References.{AreReferences}
+use Rattle.rn_simplify.specs.inside.ReferenceNumbers.{AreReferences}
 use Rattle.rn_simplify.specs.inside.Repeats.{AreSameButRepeats}
 use Rattle.rn_simplify.proofs.Simplified.Repeats.{references_alike}
 use Rattle.rn_simplify.proofs.settling.body_references.Goals as goal

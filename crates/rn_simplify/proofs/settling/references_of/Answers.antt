@@ -2,7 +2,7 @@ use Rattle.std.proofs.Common.{length, get_or, ap, sym, ◌∙◌, subst, arith}
 use Rattle.std.proofs.lemmas.Result.{IfOk-weaker}
 use Rattle.rn_assemble.specs.Firsts.{AreFirsts, joined_members}
 use Rattle.rn_assemble.specs.GrammarView.{definitions_view}
-use Rattle.rn_simplify.specs.inside.References.{AreReferences}
+use Rattle.rn_simplify.specs.inside.ReferenceNumbers.{AreReferences}
 use Rattle.rn_simplify.proofs.Simplified.Numbers.{size_of_view}
 use Rattle.rn_simplify.proofs.Simplified.ReferenceGraph.{nothing}
 use Rattle.rn_simplify.proofs.settling.references_of.Goals as goal

@@ -4,9 +4,9 @@ use Rattle.std.proofs.lemmas.List.Sorted.{IsNonDecreasingBy-from_sort_by_key}
 use Rattle.rn_pattern.specs.Graph.{row, rows_of}
 use Rattle.rn_pattern.specs.Ranks.{rank_of}
 use Rattle.rn_assemble.specs.GrammarView.{grammar_view}
-use Rattle.rn_simplify.specs.Numbered.{graph_of}
-use Rattle.rn_simplify.specs.inside.Marked.{ArePlaces}
-use Rattle.rn_simplify.specs.inside.References.{AreRows}
+use Rattle.rn_simplify.specs.inside.DefinitionNumbers.{graph_of}
+use Rattle.rn_simplify.specs.inside.MarkedElements.{ArePlaces}
+use Rattle.rn_simplify.specs.inside.ReferenceNumbers.{AreRows}
 use Rattle.rn_simplify.proofs.Simplified.SettlingOrder.{places_below, outs_graph, no_leads, settling_order_is, outside_size, outside_rows}
 use Rattle.rn_simplify.proofs.settling.settling_order.Goals as goal
 

@@ -1,7 +1,7 @@
 use Rattle.std.proofs.Common.{sym, subst}
 use Rattle.rn_assemble.specs.Firsts.{AreFirsts, joined_members}
 use Rattle.rn_assemble.specs.GrammarView.{definitions_view, grammar_view}
-use Rattle.rn_simplify.specs.inside.References.{AreReferences}
+use Rattle.rn_simplify.specs.inside.ReferenceNumbers.{AreReferences}
 use Rattle.rn_simplify.proofs.settling.start_references.Goals as goal
 
 pub body_references-requires : goal.body_references-requires

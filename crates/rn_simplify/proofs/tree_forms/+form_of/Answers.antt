@@ -10,9 +10,9 @@ use Rattle.rn_pattern.specs.View.{pattern_view, shared_view}
 use Rattle.rn_pattern.proofs.Ordered.PatternKinds.{group_seen, interleave_seen, choice_seen}
 use Rattle.rn_pattern.specs.declared.tree.Pattern.{Pattern}
 use Rattle.rn_simplify.specs.inside.Contents.{form_or}
-use Rattle.rn_simplify.specs.inside.Parts.{list_step, parts, parts_of}
-use Rattle.rn_simplify.specs.inside.Worth.{becomes, settled_by}
-use Rattle.rn_simplify.proofs.Simplified.Evaluated.{settled_canonical}
+use Rattle.rn_simplify.specs.inside.ListParts.{members_step, parts, parts_of}
+use Rattle.rn_simplify.specs.inside.FormKinds.{becomes, becomes_by}
+use Rattle.rn_simplify.proofs.Simplified.FormKinds.{settled_canonical}
 use Rattle.rn_simplify.proofs.Simplified.ListParts.{choice_parts, group_parts, interleave_parts, parts_more, parts_same}
 use Rattle.rn_simplify.proofs.tree_forms.+form_of.Goals as goal
 use Rattle.rn_simplify.proofs.tree_forms.+form_of.Goals.{push_parts-then-not-branch+in_ok-made+in_ok-push_form, push_parts-else-not-branch}
@@ -40,14 +40,14 @@ form_of-returns-in_ok-list_form-in-Choice t c =
 pub list_form-returns : goal.list_form-returns
 list_form-returns t c =
     let ds = definitions_view c.args.settled.now.names.now.entries in
-    let worth = c.args.settled.now.worth.items in
-    let s = settled_by ds worth in
+    let kinds = c.args.settled.now.kinds.items in
+    let s = becomes_by ds kinds in
     let kind = c.args.kind in
     let ps = trees_of (map shared_view c.args.members.now) in
     let parts_are : map shared_view c.push_parts.new.forms.items ≡ map (canonical s) (parts kind ps) =
     c.in_ok-push_parts.ensures ∙ ap (λ xs. map shared_view xs ++ map (canonical s) (parts kind ps)) c.in_ok-forms.ensures.items in
     subst (λ (u : Tree). IfOk c.tree_over.result (λ p. pattern_view p ≡ u))
-    (ap (list_step kind) parts_are ∙ parts_same s (settled_canonical ds worth) kind ps)
+    (ap (members_step kind) parts_are ∙ parts_same s (settled_canonical ds kinds) kind ps)
     c.tree_over.ensures
 
 pub push_parts-loop-member-init : goal.push_parts-loop-member-init

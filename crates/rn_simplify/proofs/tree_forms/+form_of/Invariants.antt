@@ -2,8 +2,8 @@ use Rattle.std.proofs.Common.{◌≡◌, ◌++◌, map, take}
 use Rattle.rn_pattern.specs.Canonical.{canonical}
 use Rattle.rn_pattern.specs.Tree.{trees_of}
 use Rattle.rn_pattern.specs.View.{shared_view}
-use Rattle.rn_simplify.specs.inside.Parts.{parts}
-use Rattle.rn_simplify.specs.inside.Worth.{becomes}
+use Rattle.rn_simplify.specs.inside.ListParts.{parts}
+use Rattle.rn_simplify.specs.inside.FormKinds.{becomes}
 use Rattle.rn_simplify.proofs.tree_forms.+form_of.Given as goal
 
 abbrev pub invariant-push_parts-loop-member : goal.invariant-push_parts-loop-member

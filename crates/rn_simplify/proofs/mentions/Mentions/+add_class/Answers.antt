@@ -5,18 +5,18 @@ use Rattle.rn_pattern.specs.Tree.{NameTree, ns_name_but, name_trees_of}
 use Rattle.rn_pattern.specs.declared.tree.NameClass.TheFolds.{fold_out-NameClass, fold-roll-NameClass}
 use Rattle.rn_pattern.specs.declared.tree.NameClass.TheViews.{the_lemmas}
 use Rattle.rn_pattern.specs.View.{name_class_view, name_class_step}
-use Rattle.rn_simplify.specs.inside.Gathers.{Gathers, by_any_of, by_name, by_names}
-use Rattle.rn_simplify.proofs.Texts.Gathered.{gathers_nothing, gathers_unless, gathers_one_name}
+use Rattle.rn_simplify.specs.inside.Gathers.{Gathers, by_ns_name, by_name, by_names}
+use Rattle.rn_simplify.proofs.Texts.GatheredTexts.{gathers_nothing, gathers_unless, gathers_one_name}
 use Rattle.rn_simplify.proofs.mentions.Mentions.+add_class.Goals as goal
 
-pub add_class-returns-in_ok-add_any_of-in-NsName-default-Some : goal.add_class-returns-in_ok-add_any_of-in-NsName-default-Some
-add_class-returns-in_ok-add_any_of-in-NsName-default-Some t c =
+pub add_class-returns-in_ok-add_ns_name-in-NsName-default-Some : goal.add_class-returns-in_ok-add_ns_name-in-NsName-default-Some
+add_class-returns-in_ok-add_ns_name-in-NsName-default-Some t c =
     let u = c.deref-in-NsName-default-Some.result.now in
     let n = name_class_view c.deref-in-NsName-default-Some-2.result.now in
     let r = c.add_class-in-NsName-default-Some.result in
     let e : name_class_view c.args.class.now ≡ ns_name_but u n = search (rules, the_lemmas, fold_out-NameClass NameTree name_class_step, fold-roll-NameClass NameTree name_class_step) in
     subst (λ m. OnOk r (Gathers (by_name m) c.args.self.now c.add_class-in-NsName-default-Some.new.self)) (sym e)
-    (gathers_unless r (by_any_of u) (by_name n) c.add_class-in-NsName-default-Some.new.self c.in_ok-add_any_of-in-NsName-default-Some.ensures c.add_class-in-NsName-default-Some.ensures)
+    (gathers_unless r (by_ns_name u) (by_name n) c.add_class-in-NsName-default-Some.new.self c.in_ok-add_ns_name-in-NsName-default-Some.ensures c.add_class-in-NsName-default-Some.ensures)
 
 pub add_classes-loop-member-init : goal.add_classes-loop-member-init
 add_classes-loop-member-init t c = gathers_nothing c.args.self.now

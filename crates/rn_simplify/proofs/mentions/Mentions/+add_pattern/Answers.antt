@@ -6,7 +6,7 @@ use Rattle.rn_pattern.specs.Tree.{trees_of}
 use Rattle.rn_pattern.specs.declared.tree.Data.{Data}
 use Rattle.rn_pattern.specs.View.{name_class_view, pattern_view, shared_view}
 use Rattle.rn_simplify.specs.inside.Gathers.{Gathers, both, by_library, by_name, by_tree, by_trees}
-use Rattle.rn_simplify.proofs.Texts.Gathered.{gathers_unless, gathers_one_tree, in_list, named, with_library}
+use Rattle.rn_simplify.proofs.Texts.GatheredTexts.{gathers_unless, gathers_one_tree, in_list, named, with_library}
 use Rattle.rn_simplify.proofs.mentions.Mentions.+add_pattern.Goals as goal
 
 pub add_pattern-returns-in-Some : goal.add_pattern-returns-in-Some

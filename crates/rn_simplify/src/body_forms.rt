@@ -1,0 +1,61 @@
+// Canonical forms of bodies, each made by itself, so that no store grows with the grammar.
+ghost use Rattle.std.specs.Prelude.{◌≡◌, IfOk, bytes_eq, map};
+ghost use Rattle.std.specs.List.{IsDistinct};
+ghost use Rattle.rn_assemble.specs.GrammarView.{definitions_view, grammar_view};
+ghost use Rattle.rn_pattern.specs.Canonical as form;
+ghost use Rattle.rn_pattern.specs.Tree.{Tree};
+ghost use Rattle.rn_text.specs.Texts.{Text};
+ghost use Rattle.rn_pattern.specs.View.{pattern_view};
+ghost use Rattle.rn_simplify.specs.inside.FormKinds.{becomes};
+ghost use Rattle.rn_simplify.specs.inside.Repeats.{AreFirstsOf};
+
+use crate::normalising::stored_body_form;
+use crate::settled_definitions::SettledDefinitions;
+use crate::settling::{body_of, name_of};
+use crate::tree_forms::tree_form;
+use rn_assemble::Grammar;
+use rn_pattern::{Interned, Pattern};
+use std::alloc::{AllocError, Global};
+
+/// The canonical form of a body. One with a member that stands in its list before is made in a store of its own, where
+/// members that are alike have one id.
+pub(crate) fn body_form(
+    alloc: Global,
+    settled: &SettledDefinitions<'_>,
+    body: &Pattern,
+    firsts: &[u32],
+) -> Result<Pattern, AllocError>
+    requires { AreFirstsOf firsts.now body.now }
+    ensures { IfOk result (λ p. pattern_view p ≡ form.canonical (becomes settled.now)
+        (pattern_view body.now)) }
+{
+    if firsts.is_empty() {
+        return tree_form(alloc, settled, body);
+    }
+    let mut store = Interned::with_seed(alloc, *settled.names.hasher());
+    stored_body_form(alloc, &mut store, settled, body, firsts)
+}
+
+/// The canonical forms of the definitions, in their order.
+pub(crate) fn definition_forms(
+    alloc: Global,
+    settled: &SettledDefinitions<'_>,
+    grammar: &Grammar,
+) -> Result<Vec<(String, Pattern)>, AllocError>
+    requires { definitions_view settled.now.names.now.entries
+        ≡ (grammar_view grammar.now).definitions }
+    ensures made { IfOk result (λ v. definitions_view v.items
+        ≡ map (λ (d : Text × Tree). (d.0, form.canonical (becomes settled.now) d.1))
+        (definitions_view settled.now.names.now.entries)) }
+    ensures distinct { IfOk result
+        (λ v. IsDistinct bytes_eq (map (λ d. d.0) (definitions_view v.items))) }
+{
+    let mut forms = Vec::with_capacity(alloc, settled.names.len())?;
+    for number in 0..settled.names.len() {
+        let name = name_of(settled.names, number).clone()?;
+        let body = body_of(settled.names, number);
+        let form = body_form(alloc, settled, body, grammar.firsts(number))?;
+        forms.push((name, form))?;
+    }
+    Ok(forms)
+}

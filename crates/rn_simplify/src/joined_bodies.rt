@@ -1,0 +1,127 @@
+// The canonical form of a body, each of whose members is brought into its form once (RELAX NG, 4.17, 4.20 and 4.21).
+ghost use Rattle.std.specs.Prelude.{◌≡◌, ◌<◌, All, IfOk, IsTrue, length, map, slice_index_or, take};
+ghost use Rattle.rn_pattern.specs.Canonical as form;
+ghost use Rattle.rn_pattern.specs.Canonical.{canonical_all, choice_step, interleave_step};
+ghost use Rattle.rn_pattern.specs.Store.{KeepsIds, StandsFor};
+ghost use Rattle.rn_pattern.specs.Tree.{Tree, trees_of};
+ghost use Rattle.rn_pattern.specs.View.{pattern_view, shared_view};
+ghost use Rattle.rn_simplify.specs.inside.FormKinds.{becomes};
+ghost use Rattle.rn_simplify.specs.inside.Repeats.{AreFirstsAmong, AreFirstsOf};
+
+use crate::list_kind::ListKind;
+use crate::repeated_members::{distinct_members, first_of};
+use crate::settled_definitions::SettledDefinitions;
+use crate::stored_forms::{canonical_form, list_form};
+use rn_pattern::{Pattern, Patterns};
+use std::alloc::{AllocError, Global};
+use std::rc::Rc;
+
+/// The id of the canonical form of a body, by the first places of the members that components are joined to.
+pub(crate) fn canonical_body<P: Patterns>(
+    alloc: Global,
+    store: &mut P,
+    settled: &SettledDefinitions<'_>,
+    body: &Pattern,
+    firsts: &[u32],
+) -> Result<P::Id, AllocError>
+    requires { AreFirstsOf firsts.now body.now }
+    ensures made { IfOk result (StandsFor (P.knows store.new) (P.tree_of store.new)
+        (form.canonical (becomes settled.now) (pattern_view body.now))) }
+    ensures kept { KeepsIds P.knows P.tree_of store.old store.new }
+{
+    if firsts.is_empty() {
+        return canonical_form(alloc, store, settled, body);
+    }
+    match body {
+        Pattern::Choice(members) => choice_form(alloc, store, settled, members, firsts),
+        Pattern::Interleave(members) => interleave_form(alloc, store, settled, members, firsts),
+        _ => canonical_form(alloc, store, settled, body),
+    }
+}
+
+/// The id of the canonical form of a choice of the members. Those that stand before fall away.
+fn choice_form<P: Patterns>(
+    alloc: Global,
+    store: &mut P,
+    settled: &SettledDefinitions<'_>,
+    members: &[Rc<Pattern>],
+    firsts: &[u32],
+) -> Result<P::Id, AllocError>
+    requires { AreFirstsAmong firsts.now members.now }
+    ensures made { IfOk result (StandsFor (P.knows store.new) (P.tree_of store.new)
+        (choice_step (canonical_all (becomes settled.now)
+        (trees_of (map shared_view members.now))))) }
+    ensures kept { KeepsIds P.knows P.tree_of store.old store.new }
+{
+    let members = distinct_members(alloc, members, firsts)?;
+    list_form(alloc, store, settled, ListKind::Choice, &members)
+}
+
+/// The id of the canonical form of an interleave of the members.
+fn interleave_form<P: Patterns>(
+    alloc: Global,
+    store: &mut P,
+    settled: &SettledDefinitions<'_>,
+    members: &[Rc<Pattern>],
+    firsts: &[u32],
+) -> Result<P::Id, AllocError>
+    requires { AreFirstsAmong firsts.now members.now }
+    ensures made { IfOk result (StandsFor (P.knows store.new) (P.tree_of store.new)
+        (interleave_step (canonical_all (becomes settled.now)
+        (trees_of (map shared_view members.now))))) }
+    ensures kept { KeepsIds P.knows P.tree_of store.old store.new }
+{
+    let ids = member_ids(alloc, store, settled, members, firsts)?;
+    store.ileave(&ids)
+}
+
+/// The ids of the canonical forms of the members, in their order.
+fn member_ids<P: Patterns>(
+    alloc: Global,
+    store: &mut P,
+    settled: &SettledDefinitions<'_>,
+    members: &[Rc<Pattern>],
+    firsts: &[u32],
+) -> Result<Vec<P::Id>, AllocError>
+    requires { AreFirstsAmong firsts.now members.now }
+    ensures known { IfOk result (λ ids. All (λ i. IsTrue (P.knows store.new i)) ids.items) }
+    ensures made { IfOk result (λ ids. map (P.tree_of store.new) ids.items
+        ≡ map (form.canonical (becomes settled.now)) (map shared_view members.now)) }
+    ensures kept { KeepsIds P.knows P.tree_of store.old store.new }
+{
+    let mut ids = Vec::with_capacity(alloc, members.len())?;
+    for index in 0..members.len() {
+        let id = id_at(alloc, store, settled, members, firsts, &ids, index)?;
+        ids.push(id)?;
+    }
+    Ok(ids)
+}
+
+/// The id of the canonical form of the member at the index, by the ids of those before it: where it stands there, its id
+/// is taken.
+fn id_at<P: Patterns>(
+    alloc: Global,
+    store: &mut P,
+    settled: &SettledDefinitions<'_>,
+    members: &[Rc<Pattern>],
+    firsts: &[u32],
+    ids: &[P::Id],
+    index: usize,
+) -> Result<P::Id, AllocError>
+    requires firsts { AreFirstsAmong firsts.now members.now }
+    requires within { index < length members.now }
+    requires known { All (λ i. IsTrue (P.knows store.old i)) ids.now }
+    requires before { map (P.tree_of store.old) ids.now ≡ map (form.canonical (becomes settled.now))
+        (map shared_view (take index members.now)) }
+    ensures made { IfOk result (λ id. (p : Tree) → StandsFor (P.knows store.new)
+        (P.tree_of store.new) (form.canonical (becomes settled.now)
+        (slice_index_or (map shared_view members.now) index p)) id) }
+    ensures kept { KeepsIds P.knows P.tree_of store.old store.new }
+{
+    let first = first_of(firsts, index);
+    if first < index {
+        Ok(ids[first])
+    } else {
+        canonical_form(alloc, store, settled, &members[index])
+    }
+}

@@ -1,0 +1,223 @@
+// The canonical form of a pattern, built in a store (RELAX NG, 4.20 and 4.21).
+ghost use Rattle.std.specs.Prelude.{◌≡◌, ◌++◌, ◌∷◌, [], All, IfOk, IsSome, IsTrue, OnOk, Some, map};
+ghost use Rattle.std.specs.Option.{option_map};
+ghost use Rattle.rn_pattern.specs.Canonical as form;
+ghost use Rattle.rn_pattern.specs.Canonical.{canonical_all};
+ghost use Rattle.rn_pattern.specs.Store.{KeepsIds, StandsFor};
+ghost use Rattle.rn_pattern.specs.Tree.{Tree, trees_of};
+ghost use Rattle.rn_text.specs.Texts.{Text};
+ghost use Rattle.rn_pattern.specs.View.{pattern_view, shared_view};
+ghost use Rattle.rn_simplify.specs.inside.Contents.{content_of, is_leaf};
+ghost use Rattle.rn_simplify.specs.inside.ListParts.{members_step, parts, parts_of};
+ghost use Rattle.rn_simplify.specs.inside.FormKinds.{becomes};
+
+use crate::form_kind::FormKind;
+use crate::list_kind::ListKind;
+use crate::settled_definitions::SettledDefinitions;
+use rn_pattern::{Pattern, Patterns};
+use std::alloc::{AllocError, Global};
+use std::rc::Rc;
+
+/// What a reference becomes: notAllowed or empty if that is the form of its definition, else itself.
+fn reference_form<P: Patterns>(
+    store: &mut P,
+    settled: &SettledDefinitions<'_>,
+    name: &str,
+) -> Result<P::Id, AllocError>
+    ensures made { IfOk result (StandsFor (P.knows store.new) (P.tree_of store.new)
+        (becomes settled.now name.now)) }
+    ensures kept { KeepsIds P.knows P.tree_of store.old store.new }
+{
+    match settled.kind_of(name) {
+        FormKind::NotAllowed => store.not_allowed(),
+        FormKind::Empty => store.empty(),
+        FormKind::Other => store.reference(name),
+    }
+}
+
+/// The id of the pattern's canonical form.
+#[cycle(canonical_form)]
+pub(crate) fn canonical_form<P: Patterns>(
+    alloc: Global,
+    store: &mut P,
+    settled: &SettledDefinitions<'_>,
+    pattern: &Pattern,
+) -> Result<P::Id, AllocError>
+    ensures made { IfOk result (StandsFor (P.knows store.new) (P.tree_of store.new)
+        (form.canonical (becomes settled.now) (pattern_view pattern.now))) }
+    ensures kept { KeepsIds P.knows P.tree_of store.old store.new }
+{
+    match pattern {
+        Pattern::NotAllowed
+        | Pattern::Empty
+        | Pattern::Text
+        | Pattern::Ref(_)
+        | Pattern::Value(_) => leaf_form(store, settled, pattern),
+        Pattern::Datum(data, None) => {
+            store.datum(&data.library, &data.type_name, &data.params, None)
+        }
+        Pattern::Datum(data, Some(except)) => {
+            let except = canonical_form(alloc, store, settled, except)?;
+            store.datum(&data.library, &data.type_name, &data.params, Some(except))
+        }
+        Pattern::List(content)
+        | Pattern::Attribute(_, content)
+        | Pattern::Element(_, content)
+        | Pattern::OneOrMore(content) => {
+            let content = canonical_form(alloc, store, settled, content)?;
+            form_over_content(store, pattern, content)
+        }
+        Pattern::Group(members) => list_form(alloc, store, settled, ListKind::Group, members),
+        Pattern::Interleave(members) => list_form(
+            alloc,
+            store,
+            settled,
+            ListKind::Interleave,
+            members,
+        ),
+        Pattern::Choice(members) => list_form(alloc, store, settled, ListKind::Choice, members),
+    }
+}
+
+/// The id of the canonical form of a pattern that has no other pattern in it and is no datatype.
+fn leaf_form<P: Patterns>(
+    store: &mut P,
+    settled: &SettledDefinitions<'_>,
+    pattern: &Pattern,
+) -> Result<P::Id, AllocError>
+    requires { IsTrue (is_leaf (pattern_view pattern.now)) }
+    ensures made { IfOk result (StandsFor (P.knows store.new) (P.tree_of store.new)
+        (form.canonical (becomes settled.now) (pattern_view pattern.now))) }
+    ensures kept { KeepsIds P.knows P.tree_of store.old store.new }
+{
+    match pattern {
+        Pattern::NotAllowed => store.not_allowed(),
+        Pattern::Empty => store.empty(),
+        Pattern::Text => store.text(),
+        Pattern::Ref(name) => reference_form(store, settled, name),
+        Pattern::Value(value) => store.value(&value.library, &value.type_name, &value.text),
+        _ => unreachable!(),
+    }
+}
+
+/// The id of the canonical form of a list of the members. All parts of it are put in order at once, however deep lists of
+/// its kind are within one another.
+#[cycle(canonical_form)]
+pub(crate) fn list_form<P: Patterns>(
+    alloc: Global,
+    store: &mut P,
+    settled: &SettledDefinitions<'_>,
+    kind: ListKind,
+    members: &[Rc<Pattern>],
+) -> Result<P::Id, AllocError>
+    ensures made { IfOk result (StandsFor (P.knows store.new) (P.tree_of store.new)
+        (members_step kind (canonical_all (becomes settled.now)
+        (trees_of (map shared_view members.now))))) }
+    ensures kept { KeepsIds P.knows P.tree_of store.old store.new }
+{
+    let mut ids = Vec::with_capacity(alloc, members.len())?;
+    push_parts(alloc, store, settled, kind, members, &mut ids)?;
+    kind.form_over(store, &ids)
+}
+
+/// Adds the ids of the canonical forms of the parts of a list of the members.
+#[cycle(canonical_form)]
+fn push_parts<P: Patterns>(
+    alloc: Global,
+    store: &mut P,
+    settled: &SettledDefinitions<'_>,
+    kind: ListKind,
+    members: &[Rc<Pattern>],
+    ids: &mut Vec<P::Id>,
+) -> Result<(), AllocError>
+    requires { All (λ i. IsTrue (P.knows store.old i)) ids.old.items }
+    ensures known { OnOk result (All (λ i. IsTrue (P.knows store.new i)) ids.new.items) }
+    ensures made { OnOk result (map (P.tree_of store.new) ids.new.items
+        ≡ map (P.tree_of store.old) ids.old.items ++ map (form.canonical (becomes settled.now))
+        (parts kind (trees_of (map shared_view members.now)))) }
+    ensures kept { KeepsIds P.knows P.tree_of store.old store.new }
+{
+    for member in members {
+        push_part(alloc, store, settled, kind, member, ids)?;
+    }
+    Ok(())
+}
+
+/// Adds the ids of the canonical forms of the parts that a member of a list is: those of a list of the same kind, of any
+/// other pattern itself.
+#[cycle(canonical_form)]
+fn push_part<P: Patterns>(
+    alloc: Global,
+    store: &mut P,
+    settled: &SettledDefinitions<'_>,
+    kind: ListKind,
+    pattern: &Pattern,
+    ids: &mut Vec<P::Id>,
+) -> Result<(), AllocError>
+    requires { All (λ i. IsTrue (P.knows store.old i)) ids.old.items }
+    ensures known { OnOk result (All (λ i. IsTrue (P.knows store.new i)) ids.new.items) }
+    ensures made { OnOk result (map (P.tree_of store.new) ids.new.items
+        ≡ map (P.tree_of store.old) ids.old.items ++ map (form.canonical (becomes settled.now))
+        (parts_of kind (pattern_view pattern.now))) }
+    ensures kept { KeepsIds P.knows P.tree_of store.old store.new }
+{
+    match kind {
+        ListKind::Group => match pattern {
+            Pattern::Group(members) => push_parts(alloc, store, settled, kind, members, ids),
+            _ => push_whole(alloc, store, settled, pattern, ids),
+        },
+        ListKind::Interleave => match pattern {
+            Pattern::Interleave(members) => push_parts(alloc, store, settled, kind, members, ids),
+            _ => push_whole(alloc, store, settled, pattern, ids),
+        },
+        ListKind::Choice => match pattern {
+            Pattern::Choice(members) => push_parts(alloc, store, settled, kind, members, ids),
+            _ => push_whole(alloc, store, settled, pattern, ids),
+        },
+    }
+}
+
+/// Adds the id of the canonical form of a pattern.
+#[cycle(canonical_form)]
+fn push_whole<P: Patterns>(
+    alloc: Global,
+    store: &mut P,
+    settled: &SettledDefinitions<'_>,
+    pattern: &Pattern,
+    ids: &mut Vec<P::Id>,
+) -> Result<(), AllocError>
+    requires { All (λ i. IsTrue (P.knows store.old i)) ids.old.items }
+    ensures known { OnOk result (All (λ i. IsTrue (P.knows store.new i)) ids.new.items) }
+    ensures made { OnOk result (map (P.tree_of store.new) ids.new.items
+        ≡ map (P.tree_of store.old) ids.old.items
+        ++ form.canonical (becomes settled.now) (pattern_view pattern.now) ∷ []) }
+    ensures kept { KeepsIds P.knows P.tree_of store.old store.new }
+{
+    let id = canonical_form(alloc, store, settled, pattern)?;
+    ids.push(id)?;
+    Ok(())
+}
+
+/// The id of the canonical form of a pattern with a content, by the id of the content's.
+fn form_over_content<P: Patterns>(
+    store: &mut P,
+    pattern: &Pattern,
+    content: P::Id,
+) -> Result<P::Id, AllocError>
+    requires known { IsTrue (P.knows store.old content) }
+    requires has_content { IsSome (content_of (pattern_view pattern.now)) }
+    ensures made { (settled : Text → Tree)
+        → option_map (form.canonical settled) (content_of (pattern_view pattern.now))
+        ≡ Some (P.tree_of store.old content)
+        → IfOk result (StandsFor (P.knows store.new) (P.tree_of store.new)
+        (form.canonical settled (pattern_view pattern.now))) }
+    ensures kept { KeepsIds P.knows P.tree_of store.old store.new }
+{
+    match pattern {
+        Pattern::List(_) => store.list(content),
+        Pattern::Attribute(class, _) => store.attribute(class, content),
+        Pattern::Element(class, _) => store.element(class, content),
+        Pattern::OneOrMore(_) => store.one_or_more(content),
+        _ => unreachable!(),
+    }
+}
