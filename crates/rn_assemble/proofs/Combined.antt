@@ -1,6 +1,6 @@
 -- What components are joined to, and what expanding them comes to.
 pub mod Depth
 pub mod Combinations
-pub mod JoinedKept
+pub mod JoinedProperties
 pub mod Joined
 pub mod OneModule

@@ -7,14 +7,14 @@ pub mod Expansions
 pub mod Spliced
 pub mod Overriding
 pub mod ModuleLookups
-pub mod Going
+pub mod ModuleExpansion
 pub mod SameKeys
 pub mod Rooted
 pub mod Lacking
 pub mod NotedLacks
 pub mod IncludedLacks
 pub mod OwnLacks
-pub mod Steps
+pub mod LongerPaths
 pub mod Inclusions
 pub mod Entries
 pub mod WantedNumbers

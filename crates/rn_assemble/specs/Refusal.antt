@@ -18,7 +18,7 @@ use Rattle.rn_syntax.specs.Faults.{kind_rank, kind_places}
 use Rattle.rn_syntax.specs.declared.fault.FaultKind.{FaultKind}
 use Rattle.rn_syntax.specs.declared.fault.FaultKind.TheVariants as kind
 use Rattle.rn_assemble.specs.Components.{Key, start_key, Component, NamedModule, has_key, all_components, components, handed_on, modules_named, Includes, instance_limit, instances, roots, set_components}
-use Rattle.rn_assemble.specs.Combine.{IsPlainTwice, IsMixed, joined, joined_grammar}
+use Rattle.rn_assemble.specs.Combine.{IsPlainTwice, IsMixed, joined_pattern, joined_grammar}
 use Rattle.rn_assemble.specs.Least.{IsLeast, key_cmp}
 
 -- modules by their names; a name that is wanted and not there; what is combined by its key
@@ -98,7 +98,7 @@ Lacks modules x k = (m : NamedModule) × Contains (modules_named x modules) m ×
 
 -- what is joined under the key breaks the restrictions on name classes (4.16)
 abbrev pub BreaksNameRules : List Component → Key → Type 0
-BreaksNameRules cs k = (has_key k cs ≡ true) × ¬ KeepsNameRules (joined cs k)
+BreaksNameRules cs k = (has_key k cs ≡ true) × ¬ KeepsNameRules (joined_pattern cs k)
 
 -- the grammar of the modules
 abbrev pub grammar_of : List NamedModule → Grammar
@@ -126,7 +126,7 @@ IsFirstFor modules r = StandsFor modules r × ((q : Refusal) → rank q < rank r
 -- the effective modules of the set with the trees of their texts, in the order of their names; no text has a fault
 pub record AreModules (s : List Member) (modules : List NamedModule) : Type 0 where
   pub texts : List Module
-  pub effective : AreEffective s texts
+  pub are_effective : AreEffective s texts
   pub faultless : (x : Text) → ¬ IsFaulty texts x
   pub trees : AllZip (λ (x : Module) (m : NamedModule). (m.name ≡ x.0) × IsModuleOf x.1 m.tree) texts modules
 

@@ -9,8 +9,8 @@ use Rattle.rn_assemble.specs.declared.refusal.Key as code_key
 use Rattle.rn_assemble.specs.declared.refusal.Key.TheVariants as k
 use Rattle.rn_assemble.specs.declared.refusal.Refusal as code
 use Rattle.rn_assemble.specs.declared.refusal.Refusal.TheVariants as r
-use Rattle.rn_assemble.specs.Components.{Key, start_key, name_key, NamedModule}
-use Rattle.rn_assemble.specs.Refusal.{Refusal, conflict, faulty, missing, cycle, too_many_instances, override, plain_twice, mixed_methods, no_start, undefined, recursive, name_class, IsFirst, IsFirstFor}
+use Rattle.rn_assemble.specs.Components.{Key, start_key, name_key}
+use Rattle.rn_assemble.specs.Refusal.{Refusal, conflict, faulty, missing, cycle, too_many_instances, override, plain_twice, mixed_methods, no_start, undefined, recursive, name_class, IsFirst}
 
 abbrev pub key_view : code_key.Key → Key
 key_view k.Start = start_key
@@ -50,10 +50,6 @@ faulty_or other None = other
 -- the refusal as a set has it
 abbrev pub refusal_view : code.Refusal → Option Refusal
 refusal_view q = faulty_or (other_view q) (fault_of q)
-
--- the first refusal that stands for the modules, or want of memory
-abbrev pub IsFirstOfModules : List NamedModule → code.Refusal → Type 0
-IsFirstOfModules modules q = MatchOption (refusal_view q) (q ≡ r.Memory) (IsFirstFor modules)
 
 -- the first refusal that stands for the set, or want of memory
 abbrev pub IsFirstRefusal : List Member → code.Refusal → Type 0

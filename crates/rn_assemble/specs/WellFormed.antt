@@ -6,7 +6,7 @@ use Rattle.rn_pattern.specs.Matching.{Grammar, definition_of}
 use Rattle.rn_pattern.specs.Excepts.{HasExcepts}
 use Rattle.rn_pattern.specs.NameRules.{KeepsNameRules}
 use Rattle.rn_pattern.specs.References.{IsUndefined, IsRecursive}
-use Rattle.rn_assemble.specs.Texts.{IsName, IsWritable}
+use Rattle.rn_assemble.specs.WritableTexts.{IsName, IsWritable}
 
 -- every reference is defined, no name that is reached is a loop, and each pattern keeps the restrictions on excepts and on name classes
 pub record IsWellFormed (G : Grammar) : Type 0 where

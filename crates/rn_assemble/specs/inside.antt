@@ -1,6 +1,5 @@
 -- What contracts of private functions speak of: numbers that stand for names, and how modules, components and references lie
--- in the code. No public contract cites it.
-pub mod Shared
+-- in the code. No public contract cites it. Lemmas stand here too that a ghost field's `by` cites.
 pub mod Bound
 pub mod Checked
 pub mod Contained
@@ -13,10 +12,13 @@ pub mod Keyed
 pub mod Lacking
 pub mod Listed
 pub mod Methods
+pub mod ModuleTexts
 pub mod Noting
+pub mod OneProof
 pub mod Patterns
-pub mod Reading
 pub mod Referred
+pub mod SetFaults
+pub mod Shared
 pub mod Sound
 pub mod Tied
 pub mod Views

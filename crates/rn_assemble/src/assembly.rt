@@ -1,9 +1,8 @@
 // From a set to its grammar.
 ghost use Rattle.std.specs.Prelude.{MatchResult};
 ghost use Rattle.std.specs.List.{AllByRecursion};
-ghost use Rattle.std.specs.List.Sorted.{IsStrictlySortedBy};
-ghost use Rattle.rn_text.specs.Texts.{Text, text_cmp};
-ghost use Rattle.rn_assemble.specs.inside.Checked.{AreExpanded, IsGrammarOf, IsLacking};
+ghost use Rattle.rn_text.specs.Texts.{Text};
+ghost use Rattle.rn_assemble.specs.inside.Checked.{AreExpanded, IsGrammarOf, IsLacking, IsFirstOfModules};
 ghost use Rattle.rn_assemble.specs.Components as specs;
 ghost use Rattle.rn_assemble.specs.inside.Contained.{AreFlat};
 ghost use Rattle.rn_assemble.specs.GrammarView.{grammar_view};
@@ -11,9 +10,9 @@ ghost use Rattle.rn_assemble.specs.JoinedView.{joined_view};
 ghost use Rattle.rn_assemble.specs.inside.Lacking.{IsLeastLack};
 ghost use Rattle.rn_assemble.specs.inside.Methods.{CanCombine, IsUncombined};
 ghost use Rattle.rn_assemble.specs.Refusal.{IsAssembled, Lacks};
-ghost use Rattle.rn_assemble.specs.Refused.{IsFirstOfModules, IsFirstRefusal};
+ghost use Rattle.rn_assemble.specs.Refused.{IsFirstRefusal};
 ghost use Rattle.rn_assemble.specs.inside.Sound.{HasSoundReferences, IsUnsound};
-ghost use Rattle.rn_assemble.specs.inside.Views.{module_names, modules_view, names_of};
+ghost use Rattle.rn_assemble.specs.inside.Views.{AreInOrder, modules_view, names_of};
 ghost use Rattle.rn_assemble.specs.inside.Listed.{OfKeys};
 
 use crate::components::{Components, Lack, components_of};
@@ -24,7 +23,7 @@ use crate::inclusion::included_roots;
 use crate::joined_grammar::Joined;
 use crate::keys::{Keys, START};
 use crate::known_uris::KnownUris;
-use crate::modules::{NamedModule, read_modules};
+use crate::named_modules::{NamedModule, read_modules};
 use crate::references::{least_recursive, references_of};
 use crate::refusal::Refusal;
 use crate::seeds::seed_of;
@@ -51,7 +50,7 @@ fn assemble_modules<'s>(
     modules: &[NamedModule<'s>],
     seed: &Seed,
 ) -> Result<Joined, Refusal>
-    requires in_order { IsStrictlySortedBy text_cmp (module_names modules.now) }
+    requires in_order { AreInOrder modules.now }
     requires flat { AllByRecursion (λ (m : specs.NamedModule). AreFlat m.tree.items)
         (modules_view modules.now) }
     ensures { MatchResult result (λ g. IsGrammarOf (modules_view modules.now) (joined_view g))

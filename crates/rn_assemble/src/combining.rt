@@ -1,5 +1,5 @@
 // Definitions of one key combined (RELAX NG 2001, 4.17).
-ghost use Rattle.std.specs.Prelude.{◌≡◌, ◌+◌, ◌<◌, List, Decides, length, map, option_map, IfOk, IsSomeAnd, MatchResult};
+ghost use Rattle.std.specs.Prelude.{◌≡◌, ◌↔◌, ◌+◌, ◌<◌, List, IsTrue, length, map, option_map, IfOk, IsSomeAnd, MatchResult};
 ghost use Rattle.std.specs.List.Sorted.{IsStrictlySortedBy};
 ghost use Rattle.rn_pattern.specs.Tree.{trees_of};
 ghost use Rattle.rn_text.specs.Texts.{Text, text_cmp};
@@ -51,7 +51,7 @@ impl<'c, 't, 's> Components<'c, 't, 's> {
     fn is_plain_twice(&self, key: usize) -> bool
         ensures { (names : List Text) (live : List Live) → Lists names self.now live
             → IsStrictlySortedBy text_cmp names → key < length names + 1
-            → Decides result (spec.IsPlainTwice (key_at names key) (components_in live)) }
+            → (IsTrue result ↔ spec.IsPlainTwice (key_at names key) (components_in live)) }
     {
         let mut is_plain = false;
         for place in self.of_key(key) {
@@ -150,7 +150,7 @@ fn list_by_method(
     members: Vec<Rc<Pattern>>,
 ) -> Result<Box<Pattern>, AllocError>
     ensures { AtKey components.now key (λ k cs. IfOk result (λ p. boxed_view p
-        ≡ spec.combined k cs (trees_of (map shared_view members.items)))) }
+        ≡ spec.method_node k cs (trees_of (map shared_view members.items)))) }
 {
     if components.uses(key, Method::Interleave) {
         box_pattern(alloc, interleave(members))

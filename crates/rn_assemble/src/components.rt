@@ -16,7 +16,7 @@ ghost use Rattle.rn_assemble.specs.inside.Views.{IsNumbered, inclusion_view, wri
 
 use crate::contents::{Component, Contents, Include};
 use crate::context::Context;
-use crate::inclusion::INSTANCE_LIMIT;
+use crate::instances::INSTANCE_LIMIT;
 use crate::known_uris::KnownUris;
 use std::alloc::{AllocError, Global};
 use std::rc::RcStr;
@@ -157,7 +157,7 @@ fn expand_include<'c, 't, 's>(
     ensures expands { OfIncluding contents.now components.old content.now include.now
         (λ modules names live ds. context.entry.bindings.now ≡ content.now.bindings
         → IfOk result (λ _. Expands names contents.now components.old components.new live
-        (specs.overridden (brought_in depth modules
+        (specs.without_overridden (brought_in depth modules
         (rc_str_bytes context.entry.inherited.now) ds include.now)
         (resolved_between names content.now (rc_str_bytes context.entry.inherited.now) ds
         include.now.from include.now.to)))) }

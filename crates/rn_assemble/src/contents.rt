@@ -3,16 +3,16 @@ ghost use Rattle.std.specs.Prelude.{◌≡◌, ◌+◌, ◌<◌, ◌∷◌, [], 
 ghost use Rattle.std.specs.List.Sorted.{IsStrictlySortedBy};
 ghost use Rattle.rn_text.specs.Texts.{text_cmp};
 ghost use Rattle.rn_syntax.specs.View.{item_view, items_view, pattern_view, prefix_view};
-ghost use Rattle.rn_assemble.specs.inside.Contained.{item_inclusions, inclusions, item_written, written};
+ghost use Rattle.rn_assemble.specs.inside.Contained.{item_inclusions, inclusions, item_written_components, written_components};
 ghost use Rattle.rn_assemble.specs.inside.Keyed.{AreAmong, AreNames, defines, item_defines, key_at};
 ghost use Rattle.rn_assemble.specs.inside.Listed.{AreContents, IsContents};
-ghost use Rattle.rn_assemble.specs.inside.Views.{AddsComponents, AddsIncludes, module_names, modules_view, named_module_view, names_of};
+ghost use Rattle.rn_assemble.specs.inside.Views.{AreInOrder, AddsComponents, AddsIncludes, modules_view, named_module_view, names_of};
 
 use crate::declared_uris::DeclaredUris;
 use crate::inclusion::module_named;
 use crate::keys::{Keys, START};
 use crate::known_uris::KnownUris;
-use crate::modules::NamedModule;
+use crate::named_modules::NamedModule;
 use rn_syntax::{Item, Method, Pat, Prefix};
 use std::alloc::{AllocError, Global};
 
@@ -49,7 +49,7 @@ pub(crate) fn contents_of<'t, 's>(
     keys: &Keys<'s>,
     known: &KnownUris,
 ) -> Result<Vec<Contents<'t, 's>>, AllocError>
-    requires modules_in_order { IsStrictlySortedBy text_cmp (module_names modules.now) }
+    requires modules_in_order { AreInOrder modules.now }
     requires names { AreNames (modules_view modules.now) (names_of keys.now) }
     ensures { IfOk result (λ all. AreContents (modules_view modules.now)
         (names_of keys.now) all.items) }
@@ -72,7 +72,7 @@ fn contents_of_module<'t, 's>(
     requires keys_in_order { IsStrictlySortedBy text_cmp (names_of keys.now) }
     requires defined { AreAmong (names_of keys.now)
         (defines (items_view «module».now.tree.items.items)) }
-    requires modules_in_order { IsStrictlySortedBy text_cmp (module_names modules.now) }
+    requires modules_in_order { AreInOrder modules.now }
     ensures { IfOk result (λ c. IsContents (modules_view modules.now) (names_of keys.now)
         (named_module_view «module».now) c) }
 {
@@ -94,13 +94,14 @@ fn gather<'t, 's>(
     items: &'t [Item<'s>],
 ) -> Result<(), AllocError>
     requires keys_in_order { IsStrictlySortedBy text_cmp (names_of keys.now) }
-    requires modules_in_order { IsStrictlySortedBy text_cmp (module_names modules.now) }
+    requires modules_in_order { AreInOrder modules.now }
     ensures bindings { contents.new.bindings ≡ contents.old.bindings }
     ensures components { AreAmong (names_of keys.now) (defines (items_view items.now))
         → IfOk result (λ _. AddsComponents keys.now contents.old contents.new
-        (written (items_view items.now))) }
+        (written_components (items_view items.now))) }
     ensures more { IfOk result (λ _. length contents.new.components.items
-        ≡ length contents.old.components.items + length (written (items_view items.now))) }
+        ≡ length contents.old.components.items
+        + length (written_components (items_view items.now))) }
     ensures includes { IfOk result (λ _. AddsIncludes contents.old contents.new
         (inclusions (modules_view modules.now) (length contents.old.components.items)
         (items_view items.now))) }
@@ -120,13 +121,14 @@ fn gather_item<'t, 's>(
     item: &'t Item<'s>,
 ) -> Result<(), AllocError>
     requires keys_in_order { IsStrictlySortedBy text_cmp (names_of keys.now) }
-    requires modules_in_order { IsStrictlySortedBy text_cmp (module_names modules.now) }
+    requires modules_in_order { AreInOrder modules.now }
     ensures bindings { contents.new.bindings ≡ contents.old.bindings }
     ensures components { AreAmong (names_of keys.now) (item_defines (item_view item.now))
         → IfOk result (λ _. AddsComponents keys.now contents.old contents.new
-        (item_written (item_view item.now))) }
+        (item_written_components (item_view item.now))) }
     ensures more { IfOk result (λ _. length contents.new.components.items
-        ≡ length contents.old.components.items + length (item_written (item_view item.now))) }
+        ≡ length contents.old.components.items
+        + length (item_written_components (item_view item.now))) }
     ensures includes { IfOk result (λ _. AddsIncludes contents.old contents.new
         (item_inclusions (modules_view modules.now) (length contents.old.components.items)
         (item_view item.now))) }

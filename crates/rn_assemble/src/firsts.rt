@@ -1,6 +1,6 @@
 // Components of a key whose bodies stand in its list before.
 ghost use Rattle.std.specs.Prelude.{◌≡◌, ℕ, slice_get, IfOk, Some};
-ghost use Rattle.rn_assemble.specs.Combine.{joined};
+ghost use Rattle.rn_assemble.specs.Combine.{joined_pattern};
 ghost use Rattle.rn_assemble.specs.Firsts.{joined_members};
 ghost use Rattle.rn_assemble.specs.inside.Tied.{AreTied, IsFirst, body_of};
 ghost use Rattle.rn_assemble.specs.inside.Listed.{AtKey};
@@ -16,7 +16,7 @@ impl Components<'_, '_, '_> {
     /// twice, or where an index takes more than 32 bits. What was met of other keys does no harm.
     pub fn firsts(&self, alloc: Global, key: usize, met: &mut Met) -> Result<Vec<u32>, AllocError>
         ensures { AtKey self.now key (λ k cs.
-            IfOk result (λ firsts. AreTied firsts.items (joined_members (joined cs k)))) }
+            IfOk result (λ firsts. AreTied firsts.items (joined_members (joined_pattern cs k)))) }
     {
         let places = self.of_key(key);
         if places.len() < 2 {

@@ -1,6 +1,6 @@
 // The grammar of a set.
 ghost use Rattle.rn_assemble.specs.JoinedView.{joined_view};
-ghost use Rattle.rn_assemble.specs.OneProof.{IsWellFormed-prop};
+ghost use Rattle.rn_assemble.specs.inside.OneProof.{IsWellFormed-prop};
 ghost use Rattle.rn_assemble.specs.WellFormed.{IsWellFormed, HasWritableTexts};
 
 use crate::joined_grammar::{Definitions, Joined};

@@ -1,18 +1,17 @@
 // Which modules include which, and what stands against it.
 ghost use Rattle.std.specs.Prelude.{◌≡◌, ◌<◌, ◌==◌, ◌||◌, ◌↔◌, ℕ, length, vec_len, option_map, sum_by, IfOk, IfSome, IsTrue, MatchResult};
 ghost use Rattle.std.specs.List.{concat, filter_map, list_any};
-ghost use Rattle.std.specs.List.Sorted.{IsStrictlySortedBy};
 ghost use Rattle.rn_text.specs.Texts.{text_cmp};
 ghost use Rattle.rn_pattern.specs.Graph.{AllBelow, IsGraph, is_marked, rows_of};
 ghost use Rattle.rn_assemble.specs.inside.Contained.{place_in};
 ghost use Rattle.rn_assemble.specs.inside.Included.{AreIncluded};
 ghost use Rattle.rn_assemble.specs.inside.Inclusions.{AreInclusions, IsLeastAmong, IsMissing, entries};
 ghost use Rattle.rn_assemble.specs.inside.Instances.{instances_of};
-ghost use Rattle.rn_assemble.specs.Refused.{IsFirstOfModules};
-ghost use Rattle.rn_assemble.specs.inside.Views.{module_names, modules_view, texts_of};
+ghost use Rattle.rn_assemble.specs.inside.Checked.{IsFirstOfModules};
+ghost use Rattle.rn_assemble.specs.inside.Views.{AreInOrder, modules_view, texts_of};
 
-use crate::instances::instances_up_to;
-use crate::modules::NamedModule;
+use crate::instances::{INSTANCE_LIMIT, instances_up_to};
+use crate::named_modules::NamedModule;
 use crate::references::lesser_name;
 use crate::refusal::Refusal;
 use rn_pattern::graph::row_at;
@@ -21,16 +20,13 @@ use rn_syntax::includes;
 use std::alloc::{AllocError, Global};
 use std::cmp::Ordering;
 
-/// The most instances of modules that a set has.
-pub(crate) const INSTANCE_LIMIT: usize = 512;
-
 /// The modules that no module includes. Or the first refusal that stands, of `Missing`, `Cycle` and `Instances`; `Memory`
 /// stands for want of memory alone.
 pub(crate) fn included_roots(
     alloc: Global,
     modules: &[NamedModule<'_>],
 ) -> Result<Vec<usize>, Refusal>
-    requires { IsStrictlySortedBy text_cmp (module_names modules.now) }
+    requires { AreInOrder modules.now }
     ensures { MatchResult result (λ roots. AreIncluded (modules_view modules.now) roots.items)
         (IsFirstOfModules (modules_view modules.now)) }
 {
@@ -51,7 +47,7 @@ pub(crate) fn included_roots(
 /// The number of the module of that name.
 pub(crate) fn module_named(modules: &[NamedModule<'_>], name: &str) -> Option<usize>
     ensures within { IfSome result (λ m. m < length modules.now) }
-    ensures place { IsStrictlySortedBy text_cmp (module_names modules.now)
+    ensures place { AreInOrder modules.now
         → result ≡ place_in (modules_view modules.now) name.now }
 {
     let compare = |module: &NamedModule<'_>| -> Ordering
@@ -63,7 +59,7 @@ pub(crate) fn module_named(modules: &[NamedModule<'_>], name: &str) -> Option<us
 /// For each module, the modules that its includes name. `Missing` names the least module with an include of none, and
 /// the least literal of such an include.
 fn inclusions(alloc: Global, modules: &[NamedModule<'_>]) -> Result<Vec<Vec<usize>>, Refusal>
-    requires { IsStrictlySortedBy text_cmp (module_names modules.now) }
+    requires { AreInOrder modules.now }
     ensures { MatchResult result
         (λ rows. AreInclusions (modules_view modules.now) (rows_of rows.items))
         (IsFirstOfModules (modules_view modules.now)) }
@@ -84,7 +80,7 @@ fn inclusions(alloc: Global, modules: &[NamedModule<'_>]) -> Result<Vec<Vec<usiz
 
 /// The least of the literals that names no module.
 fn least_missing<'m>(modules: &[NamedModule<'_>], wanted: &[&'m str]) -> Option<&'m str>
-    requires { IsStrictlySortedBy text_cmp (module_names modules.now) }
+    requires { AreInOrder modules.now }
     ensures { IsLeastAmong (IsMissing (modules_view modules.now)) (texts_of wanted.now)
         (option_map (λ s. s.now) result) }
 {
@@ -103,7 +99,7 @@ fn included_modules(
     modules: &[NamedModule<'_>],
     wanted: &[&str],
 ) -> Result<Vec<usize>, AllocError>
-    requires { IsStrictlySortedBy text_cmp (module_names modules.now) }
+    requires { AreInOrder modules.now }
     ensures { IfOk result (λ row. row.items
         ≡ filter_map (place_in (modules_view modules.now)) (texts_of wanted.now)) }
 {

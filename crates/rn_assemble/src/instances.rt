@@ -1,13 +1,16 @@
 // The number of instances of a module, counted no further than a limit.
-
 ghost use Rattle.std.specs.Prelude.{◌≡◌, ℕ, ◌<◌, ◌≤◌, length, min};
 ghost use Rattle.rn_pattern.specs.Graph.{IsGraph, rows_of};
 ghost use Rattle.rn_assemble.specs.inside.Instances.{instances_of};
 
 use rn_pattern::graph::row_at;
 
+/// The most instances of modules that a set may have: each root counts one, and so does each include that is followed from
+/// there, however often its module comes. A set with more is refused as `Refusal::Instances`.
+pub const INSTANCE_LIMIT: usize = 512;
+
 /// How many instances a module has, but at most `most`.
-pub fn instances_up_to(edges: &[Vec<usize>], node: usize, most: usize) -> usize
+pub(crate) fn instances_up_to(edges: &[Vec<usize>], node: usize, most: usize) -> usize
     requires graph { IsGraph (rows_of edges.now) }
     requires within { node < length edges.now }
     ensures up_to { result ≤ most }

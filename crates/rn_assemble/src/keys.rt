@@ -6,7 +6,7 @@ ghost use Rattle.rn_assemble.specs.inside.Keyed.{item_defines, defines, AreNames
 ghost use Rattle.rn_assemble.specs.inside.Views.{modules_view, names_of, texts_of};
 ghost use Rattle.rn_assemble.specs.Refused.{key_view};
 
-use crate::modules::NamedModule;
+use crate::named_modules::NamedModule;
 use crate::refusal::Key;
 use indexmap::IndexSet;
 use rn_pattern::Seed;

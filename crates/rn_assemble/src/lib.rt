@@ -15,7 +15,7 @@ mod instances;
 mod joined_grammar;
 mod keys;
 mod known_uris;
-mod modules;
+mod named_modules;
 mod nodes;
 mod references;
 pub mod refusal;
@@ -24,6 +24,7 @@ mod seeds;
 
 pub use assembly::assemble;
 pub use grammar::Grammar;
+pub use instances::INSTANCE_LIMIT;
 pub use joined_grammar::Definitions;
 pub use references::Reach;
 pub use refusal::{Key, Refusal};

@@ -10,6 +10,7 @@ use rn_pattern::{Data, Pattern, Value};
 use std::alloc::{AllocError, Global};
 use std::rc::{Rc, RcStr};
 
+/// A text of the caller's own.
 pub(crate) fn copy_text(alloc: Global, text: &str) -> Result<String, AllocError>
     ensures { IfOk result (λ s. string_bytes s ≡ text.now) }
 {
@@ -44,6 +45,7 @@ pub(crate) fn share_pattern(alloc: Global, pattern: Box<Pattern>) -> Result<Rc<P
     new_shared(alloc, Box::into_inner(pattern))
 }
 
+/// A value of a datatype: the URI of its library, its name there, and the value's text.
 pub(crate) fn typed_value(
     alloc: Global,
     library: &RcStr,
@@ -113,14 +115,17 @@ pub(crate) fn reference(alloc: Global, name: &str) -> Result<Pattern, AllocError
     Ok(Pattern::Ref(copy_text(alloc, name)?))
 }
 
+/// The two patterns as the members of a list.
 fn pair_members(
     alloc: Global,
-    first: Rc<Pattern>,
-    second: Rc<Pattern>,
+    first: Pattern,
+    second: Pattern,
 ) -> Result<Vec<Rc<Pattern>>, AllocError>
     ensures { IfOk result (λ v. trees_of (map shared_view v.items)
-        ≡ pair (shared_view first) (shared_view second)) }
+        ≡ pair (pattern_view first) (pattern_view second)) }
 {
+    let first = new_shared(alloc, first)?;
+    let second = new_shared(alloc, second)?;
     let mut members = Vec::with_capacity(alloc, 2)?;
     members.push(first)?;
     members.push(second)?;
@@ -150,9 +155,7 @@ pub(crate) fn optional_pattern(alloc: Global, content: Pattern) -> Result<Patter
     ensures { IfOk result (λ p. pattern_view p
         ≡ tree.choice (pair (pattern_view content) tree.empty)) }
 {
-    let content = new_shared(alloc, content)?;
-    let empty = new_shared(alloc, Pattern::Empty)?;
-    Ok(choice(pair_members(alloc, content, empty)?))
+    Ok(choice(pair_members(alloc, content, Pattern::Empty)?))
 }
 
 /// The interleave of the pattern and text.
@@ -160,7 +163,5 @@ pub(crate) fn mixed_pattern(alloc: Global, content: Pattern) -> Result<Pattern, 
     ensures { IfOk result (λ p. pattern_view p
         ≡ tree.interleave (pair (pattern_view content) tree.text)) }
 {
-    let content = new_shared(alloc, content)?;
-    let text = new_shared(alloc, Pattern::Text)?;
-    Ok(interleave(pair_members(alloc, content, text)?))
+    Ok(interleave(pair_members(alloc, content, Pattern::Text)?))
 }

@@ -26,7 +26,9 @@ use std::alloc::{AllocError, Global};
 /// Which references of a pattern are meant (RELAX NG 2001, 4.18 and 4.19).
 #[derive(Clone, Copy, PartialEq, Eq)]
 pub enum Reach {
+    /// All references, those in elements too (4.18).
     Everywhere,
+    /// Those alone that no element stands around (4.19).
     OutsideElements,
 }
 

@@ -2,6 +2,7 @@
 ghost use Rattle.std.specs.Prelude.{◌≡◌, MatchOption, Some, None, string_bytes};
 ghost use Rattle.rn_assemble.specs.Refused.{fault_of};
 
+use crate::instances::INSTANCE_LIMIT;
 use rn_modset::SetFault;
 use rn_syntax::FaultKind;
 use std::alloc::{AllocError, AllocFailed};
@@ -17,73 +18,117 @@ pub enum Key {
 }
 
 /// Why a set has no schema, in the order in which it is tested: the first that stands is answered (sections of RELAX NG
-/// 2001). Modules and names are compared by bytes; start stands before all names.
+/// 2001). `module` is the name of the module that is at fault, `name` that of a definition. Modules and names are compared
+/// by bytes; start stands before all names.
 #[derive(Debug, Drop, PartialEq, Eq, Error)]
 pub enum Refusal {
     /// The least module of which two contributions of the highest revision differ.
     #[error("the highest revision of a module has two contents")]
-    Conflict { module: String, revision: u64 },
+    Conflict {
+        /// The module's name.
+        module: String,
+        /// Its highest revision.
+        revision: u64,
+    },
     /// The text of the least faulty module is not UTF-8.
     #[error("a module's text is not UTF-8")]
-    Encoding { module: String },
+    Encoding {
+        module: String,
+    },
     /// The text of the least faulty module holds what XML does not allow, or what is no token, white space or comment.
     #[error("a module's text has no tokens")]
-    Lexical { module: String },
-    /// The text of the least faulty module has more than 256 brackets open at once.
+    Lexical {
+        module: String,
+    },
+    /// The text of the least faulty module has more than [`rn_syntax::MAX_OPEN`] brackets open at once.
     #[error("a module has too many brackets open at once")]
-    Deep { module: String },
+    Deep {
+        module: String,
+    },
     /// The text of the least faulty module is no module of the compact syntax.
     #[error("a module's tokens are no module")]
-    Syntax { module: String },
+    Syntax {
+        module: String,
+    },
     /// The least faulty module has a prefix without a declaration, or one declared twice or against its meaning, or a second
     /// default namespace.
     #[error("a module has a prefix that is unbound or bound wrongly")]
-    Prefix { module: String },
+    Prefix {
+        module: String,
+    },
     /// The least faulty module has a datatype of the empty library other than `string` and `token`, or one of these with a
     /// parameter.
     #[error("a module names no built-in datatype")]
-    Builtin { module: String },
+    Builtin {
+        module: String,
+    },
     /// The least faulty module has a value of `QName` or `NOTATION` of the XML Schema library.
     #[error("a module has a value that looks at namespace bindings")]
-    ContextValue { module: String },
+    ContextValue {
+        module: String,
+    },
     /// The least faulty module excepts from data something else than values, data, choices of them and `notAllowed`
     /// (RELAX NG 2001, 7.1.4).
     #[error("a module has a pattern that may not be excepted")]
-    Except { module: String },
+    Except {
+        module: String,
+    },
     /// The least module that includes a name under which no module is effective, and the least such name (4.7).
     #[error("a module includes one that is not effective")]
-    Missing { module: String, wanted: String },
+    Missing {
+        /// The name of the module with the include.
+        module: String,
+        /// The name that the include gives.
+        wanted: String,
+    },
     /// The least module that includes itself through one include or more (4.7).
     #[error("a module includes itself")]
-    Cycle { module: String },
-    /// All roots together have more than 512 instances of modules.
-    #[error("there are more than 512 instances of modules")]
+    Cycle {
+        module: String,
+    },
+    /// All roots together have more than [`INSTANCE_LIMIT`] instances of modules.
+    #[error("there are more than {} instances of modules", INSTANCE_LIMIT)]
     Instances,
     /// The least module with an include that defines what the included module lacks, and the least such key (4.7).
     #[error("an include overrides what is not there")]
-    Override { module: String, key: Key },
+    Override {
+        /// The name of the module with the include.
+        module: String,
+        /// What the include defines.
+        key: Key,
+    },
     /// The least key with two definitions by `=` (4.17).
     #[error("a name is plainly defined twice")]
-    PlainTwice { key: Key },
+    PlainTwice {
+        key: Key,
+    },
     /// The least key with definitions by `|=` and by `&=` (4.17).
     #[error("a name is combined by both methods")]
-    MixedMethods { key: Key },
+    MixedMethods {
+        key: Key,
+    },
     /// Nothing defines the start (4.18).
     #[error("there is no start")]
     NoStart,
     /// The least name that is referred to, in reach of the start or not, and not defined (4.18).
     #[error("a name is referred to and not defined")]
-    Undefined { name: String },
+    Undefined {
+        name: String,
+    },
     /// The least name in reach of the start that comes back to itself outside elements (4.19).
     #[error("a definition refers to itself outside elements")]
-    Recursive { name: String },
+    Recursive {
+        name: String,
+    },
     /// The least key whose pattern has a name class that breaks the restrictions (4.16).
     #[error("a name class breaks the restrictions")]
-    NameClass { key: Key },
-    /// The printed text would have more than 4,194,304 bytes.
+    NameClass {
+        key: Key,
+    },
+    /// The printed text would have more bytes than a module's text may have ([`rn_modset::MAX_TEXT`]).
     #[error("the printed text would be too long")]
     OutputTooLarge,
-    /// The printed text would have more than 256 brackets open at once.
+    /// The printed text would have more than [`rn_syntax::MAX_OPEN`] brackets open at once.
     #[error("the printed text would have too many brackets open at once")]
     OutputTooDeep,
     /// A request for memory was refused.
@@ -148,7 +193,7 @@ impl<T: Drop> From<AllocFailed<T>> for Refusal {
 }
 
 impl From<SetFault> for Refusal {
-    ghost use Rattle.rn_assemble.specs.Answers.{refusal_of};
+    ghost use Rattle.rn_assemble.specs.inside.SetFaults.{refusal_of};
 
     ghost from_gives = { λ fault r. r ≡ refusal_of fault };
 

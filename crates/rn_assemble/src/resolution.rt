@@ -28,7 +28,7 @@ fn name<'t>(
     name: &'t Name<'_>,
 ) -> Result<NameClass, AllocError>
     ensures { InContext context.entry (λ inherited ds. IfOk result (λ c. name_class_view c
-        ≡ resolve.named inherited ds (rc_str_bytes own.now) (seen.name_view name.now))) }
+        ≡ resolve.resolved_name inherited ds (rc_str_bytes own.now) (seen.name_view name.now))) }
 {
     match name {
         Name::Local(local) => Ok(NameClass::Name(own.clone()?, copy_text(alloc, local)?)),
@@ -46,7 +46,7 @@ fn every_name<'t>(
     any: &'t AnyName<'_>,
 ) -> Result<NameClass, AllocError>
     ensures { InContext context.entry (λ inherited ds. IfOk result (λ c. name_class_view c
-        ≡ resolve.every inherited ds (seen.any_view any.now))) }
+        ≡ resolve.every_name inherited ds (seen.any_view any.now))) }
 {
     match any {
         AnyName::Any => Ok(NameClass::AnyName(None)),
@@ -65,7 +65,7 @@ fn every_name_but<'t>(
     except: NameClass,
 ) -> Result<NameClass, AllocError>
     ensures { InContext context.entry (λ inherited ds. IfOk result (λ c. name_class_view c
-        ≡ resolve.every_but inherited ds (seen.any_view any.now) (name_class_view except))) }
+        ≡ resolve.every_name_but inherited ds (seen.any_view any.now) (name_class_view except))) }
 {
     let except = Box::new(alloc, except)?;
     match any {
@@ -252,7 +252,7 @@ fn attribute<'t>(
 fn chain(operator: Operator, members: Vec<Rc<Pattern>>) -> Pattern
     ensures { (inherited : Text) (ds : List source.Declaration)
         → pattern_view result
-        ≡ resolve.chained inherited ds operator (trees_of (map shared_view members.items)) }
+        ≡ resolve.operator_node inherited ds operator (trees_of (map shared_view members.items)) }
 {
     match operator {
         Operator::Comma => group(members),
@@ -281,7 +281,7 @@ pub(crate) fn pattern<'t>(
     written: &'t Pat<'_>,
 ) -> Result<Box<Pattern>, AllocError>
     ensures { InContext context.entry (λ inherited ds. IfOk result (λ p. boxed_view p
-        ≡ resolve.resolved inherited ds (seen.pattern_view written.now))) }
+        ≡ resolve.resolved_pattern inherited ds (seen.pattern_view written.now))) }
 {
     new_box(alloc, resolve_pattern(alloc, context, written)?)
 }
@@ -294,7 +294,7 @@ fn resolve_pattern<'t>(
     written: &'t Pat<'_>,
 ) -> Result<Pattern, AllocError>
     ensures { InContext context.entry (λ inherited ds. IfOk result (λ p. pattern_view p
-        ≡ resolve.resolved inherited ds (seen.pattern_view written.now))) }
+        ≡ resolve.resolved_pattern inherited ds (seen.pattern_view written.now))) }
 {
     match written {
         Pat::Element(class, content) => {
@@ -336,7 +336,7 @@ fn patterns<'t>(
 ) -> Result<Vec<Rc<Pattern>>, AllocError>
     ensures { InContext context.entry (λ inherited ds. IfOk result
         (λ v. trees_of (map shared_view v.items)
-        ≡ resolve.resolved_all inherited ds (seen.patterns_view written.now))) }
+        ≡ resolve.resolved_patterns inherited ds (seen.patterns_view written.now))) }
 {
     let mut members = Vec::with_capacity(alloc, written.len())?;
     for member in written {

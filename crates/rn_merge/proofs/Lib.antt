@@ -1,14 +1,3 @@
-mod Moved
-mod Unions
-mod Checked
-mod Verdicts
-mod Refused
-mod Brought
-mod Clashes
 mod Runs
-mod Alone
-mod Schemas
-mod Calls
-mod Places
-mod Entries
-mod EverySet
+mod Texts
+mod Verdicts

@@ -13,14 +13,14 @@ use Rattle.rn_syntax.specs.Faults.{kind_name}
 use Rattle.rn_assemble.specs.declared.refusal.Key.{Key}
 use Rattle.rn_assemble.specs.declared.refusal.Refusal.{Refusal}
 use Rattle.rn_assemble.specs.Refused.{fault_of}
-use Rattle.rn_merge.specs.declared.texts.Place.{Place}
-use Rattle.rn_merge.specs.Texts.{kind_and_place}
+use Rattle.rn_merge.specs.declared.text_faults.Place.{Place}
+use Rattle.rn_merge.specs.TextFaults.{kind_and_place}
 use Rattle.rn_merge.specs.declared.words.ProgramFault.{ProgramFault}
 use Rattle.rn_modset.specs.declared.faults.AddFault.TheVariants as adding
 use Rattle.rn_modset.specs.declared.faults.BundleFault.TheVariants as reading
 use Rattle.rn_assemble.specs.declared.refusal.Key.TheVariants.{Start, Define}
 use Rattle.rn_assemble.specs.declared.refusal.Refusal.TheVariants as refusing
-use Rattle.rn_merge.specs.declared.texts.Place.TheVariants as placing
+use Rattle.rn_merge.specs.declared.text_faults.Place.TheVariants as placing
 use Rattle.rn_merge.specs.declared.words.ProgramFault.TheVariants as failing
 
 -- a definition's name (RELAX NG Compact Syntax, appendix A, identifier)
@@ -81,11 +81,6 @@ refusal_fields refusal = fault_fields (fault_of refusal)
 -- one space between the name and each field
 abbrev pub refusal_line : Refusal → List ℕ
 refusal_line r = spaced (refusal_name r ∷ refusal_fields r)
-
--- fields behind a name, each after one space
-abbrev pub behind : List (List ℕ) → List ℕ
-behind [] = []
-behind (w ∷ ws) = 32 ∷ spaced (w ∷ ws)
 
 -- ---- contributions
 

@@ -7,12 +7,8 @@ use Rattle.rn_modset.specs.Sets.{union}
 use Rattle.rn_modset.specs.Grammar.{IsBundle}
 use Rattle.rn_modset.specs.Faults.{HasBundleFault}
 use Rattle.rn_modset.specs.Limits.{max_contributions}
-use Rattle.rn_modset.specs.declared.faults.AddFault.{AddFault}
-use Rattle.rn_modset.specs.declared.faults.AddFault.TheVariants as adding
 use Rattle.rn_modset.specs.declared.faults.BundleFault.{BundleFault}
 use Rattle.rn_modset.specs.declared.faults.BundleFault.TheVariants as reading
-use Rattle.rn_assemble.specs.declared.refusal.Refusal as code
-use Rattle.rn_assemble.specs.declared.refusal.Refusal.TheVariants as r
 use Rattle.rn_simplify.specs.Verdict.{IsVerdict}
 use Rattle.rn_merge.specs.declared.run.RunFault.{RunFault}
 use Rattle.rn_merge.specs.declared.run.RunFault.TheVariants.{Bundle, Full, Memory, Write}
@@ -76,11 +72,6 @@ HasNoUnion bundles Full = IsTooMany bundles
 HasNoUnion bundles Memory = Unit {0}
 HasNoUnion bundles Write = ⊥
 
--- why a set was not joined
-abbrev pub join_fault : AddFault → RunFault
-join_fault adding.Memory = Memory
-join_fault _ = Full
-
 -- what came of a run: the bundles have a union, and its schema was written, all of it; or there is a refusal, which is the
 -- first of the union, or its schema would be too long or too deep; or they have no union; or there is a schema, of which
 -- the sink took a front and then failed
@@ -95,8 +86,3 @@ abbrev pub LeavesSink : Result Status RunFault → Type 0 → Type 0
 LeavesSink (Ok Done) kept = Unit {0}
 LeavesSink (Err Write) kept = Unit {0}
 LeavesSink result kept = kept
-
--- what a run comes to whose merge is refused: want of memory is no refusal of the modules
-abbrev pub refused_as : code.Refusal → Result Status RunFault
-refused_as r.Memory = Err Memory
-refused_as q = Ok (Refused q)

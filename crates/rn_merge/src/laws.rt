@@ -48,7 +48,7 @@ pub fn one_answer()
 pub fn contributions_alone_make_the_union()
     ensures held { (bundles : List (List ℕ)) (s : List Member) → IsUnion bundles s
         → (m : Member) → Contains s m ↔ Brings bundles m }
-    ensures one { (bundles others : List (List ℕ)) (s t : List Member)
+    ensures one_union { (bundles others : List (List ℕ)) (s t : List Member)
         → IsUnion bundles s → IsUnion others t → BringSame bundles others → s ≡ t }
     ensures never_full { (bundles others : List (List ℕ)) (s : List Member) (fault : RunFault)
         → IsUnion bundles s → BringSame bundles others → HasNoUnion others fault
@@ -64,7 +64,7 @@ pub fn contributions_alone_make_the_union()
 /// tell one verdict: they wrote the same text, or answered the same refusal; and where the one is
 /// done, the other is not `Full`. The same bundles, in any order and however often, bring the same.
 pub fn runs_tell_one_verdict()
-    ensures one { (bundles others : List (List ℕ)) (old new before after : Option (List ℕ))
+    ensures one_verdict { (bundles others : List (List ℕ)) (old new before after : Option (List ℕ))
         (failed broken : Bool) (status other : Status)
         → IsRun bundles old new failed (Ok status) → IsRun others before after broken (Ok other)
         → BringSame bundles others

@@ -5,8 +5,8 @@ pub mod laws;
 pub mod lines;
 pub mod run;
 pub mod streams;
+pub mod text_faults;
 pub mod text_laws;
-pub mod texts;
 pub mod verdict;
 pub mod words;
 
@@ -15,6 +15,6 @@ pub use run::{RunFault, Status, read_bundles, run_print};
 pub use streams::{
     Failed, Input, MAX_INPUT, Output, ReadFault, Sink, Source, read_input, write_output,
 };
-pub use texts::{Place, check};
+pub use text_faults::{Place, check};
 pub use verdict::merge;
 pub use words::{Job, ProgramFault, STANDARD_INPUT, plan};

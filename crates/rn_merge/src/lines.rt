@@ -1,9 +1,10 @@
 // The lines and statuses of the program. No line has a line end.
 ghost use Rattle.std.specs.Prelude.{◌≡◌, ◌++◌, ◌∷◌, [], ℕ, List, IfOk, OnOk, string_bytes};
 ghost use Rattle.rn_modset.specs.Contributions.{member};
-ghost use Rattle.rn_merge.specs.Lines.{identifier, key_text, refusal_name, refusal_fields, refusal_line, behind, list_line, add_line, bundle_line, place_line, fault_line, status};
+ghost use Rattle.rn_merge.specs.Lines.{identifier, key_text, refusal_name, refusal_fields, refusal_line, list_line, add_line, bundle_line, place_line, fault_line, status};
+ghost use Rattle.rn_merge.specs.inside.Fields.{spaced_fields};
 
-use crate::texts::Place;
+use crate::text_faults::Place;
 use crate::words::ProgramFault;
 use rn_assemble::{Key, Refusal};
 use rn_modset::{AddFault, BundleFault, Contribution, hex_digest};
@@ -50,7 +51,8 @@ fn refusal_name(refusal: &Refusal) -> &'static str
 /// Appends the fields of a refusal, each after one space.
 fn push_fields(line: &mut String, refusal: &Refusal) -> Result<(), AllocError>
     ensures { OnOk result
-        (string_bytes line.new ≡ string_bytes line.old ++ behind (refusal_fields refusal.now)) }
+        (string_bytes line.new ≡ string_bytes line.old
+        ++ spaced_fields (refusal_fields refusal.now)) }
 {
     match refusal {
         Refusal::Conflict { module, revision } => {

@@ -1,6 +1,7 @@
 // From bundles to the printed schema.
 ghost use Rattle.std.specs.Prelude.{◌≡◌, false, IfOk, IfErr};
-ghost use Rattle.rn_merge.specs.Runs.{bundles_view, IsUnion, HasNoUnion, IsRun, LeavesSink, refused_as};
+ghost use Rattle.rn_merge.specs.Runs.{bundles_view, IsUnion, HasNoUnion, IsRun, LeavesSink};
+ghost use Rattle.rn_merge.specs.inside.Outcomes.{refusal_outcome};
 
 use crate::streams::{Sink, write_output};
 use crate::verdict::merge;
@@ -13,7 +14,9 @@ use thiserror::Error;
 /// is never `Memory`.
 #[derive(Debug, Drop, PartialEq, Eq)]
 pub enum Status {
+    /// All of the text was written.
     Done,
+    /// The union has no schema; nothing was written.
     Refused(Refusal),
 }
 
@@ -22,8 +25,13 @@ pub enum Status {
 pub enum RunFault {
     /// The bytes of this number are no bundle.
     #[error("bundle {index}: {fault}")]
-    Bundle { index: usize, fault: BundleFault },
-    /// The union has more than 1,024 contributions.
+    Bundle {
+        /// How many bundles come before it.
+        index: usize,
+        /// Why its bytes are no bundle.
+        fault: BundleFault,
+    },
+    /// The union has more than [`rn_modset::MAX_CONTRIBUTIONS`] contributions.
     #[error("the union is full")]
     Full,
     /// A request for memory was refused.
@@ -35,7 +43,7 @@ pub enum RunFault {
 }
 
 impl From<AddFault> for RunFault {
-    ghost use Rattle.rn_merge.specs.Runs.{join_fault};
+    ghost use Rattle.rn_merge.specs.inside.Outcomes.{join_fault};
 
     ghost from_gives = { λ fault r. r ≡ join_fault fault };
 
@@ -48,8 +56,8 @@ impl From<AddFault> for RunFault {
 }
 
 /// The union of the sets of which these are the bundles. `Bundle` where the first that is no bundle
-/// comes before the union has more than 1,024 contributions, else `Full` where it has; `Memory`
-/// where a request for memory was refused before.
+/// comes before the union has more than [`rn_modset::MAX_CONTRIBUTIONS`] contributions, else `Full`
+/// where it has; `Memory` where a request for memory was refused before.
 pub fn read_bundles(alloc: Global, bundles: &[Vec<u8>]) -> Result<ModuleSet, RunFault>
     ensures ok { IfOk result (IsUnion (bundles_view bundles.now)) }
     ensures err { IfErr result (HasNoUnion (bundles_view bundles.now)) }
@@ -85,7 +93,7 @@ pub fn run_print<W: Sink>(
     let union = read_bundles(alloc, bundles)?;
     let text = match merge(alloc, &union) {
         Ok(text) => text,
-        Err(refusal) => return refused(refusal),
+        Err(refusal) => return refusal_outcome(refusal),
     };
     match write_output(out, text.as_bytes()) {
         Ok(()) => Ok(Status::Done),
@@ -95,8 +103,8 @@ pub fn run_print<W: Sink>(
 
 /// What a run comes to where `merge` refuses the union: want of memory is no refusal of the
 /// modules.
-fn refused(refusal: Refusal) -> Result<Status, RunFault>
-    ensures { result ≡ refused_as refusal }
+fn refusal_outcome(refusal: Refusal) -> Result<Status, RunFault>
+    ensures { result ≡ refusal_outcome refusal }
 {
     match refusal {
         Refusal::Memory => Err(RunFault::Memory),

@@ -33,8 +33,10 @@ pub trait Source {
     // The bytes that are left, where the type tells them.
     ghost remaining: { Self → Option (List ℕ) } = { λ _. None };
 
+    // Whether a pull has failed.
     ghost has_failed: { Self → Bool };
 
+    // Whether a pull has found the end.
     ghost has_ended: { Self → Bool };
 
     /// Puts the next bytes at the front of `into`, and answers how many. None into a place that is
@@ -59,6 +61,7 @@ pub trait Sink {
     // The bytes that were taken, where the type tells them.
     ghost contents: { Self → Option (List ℕ) } = { λ _. None };
 
+    // Whether a push has failed.
     ghost has_failed: { Self → Bool };
 
     /// Takes bytes from the front of `piece`, and answers how many. A sink that fails takes none;

@@ -3,9 +3,9 @@ ghost use Rattle.std.specs.Prelude.{◌≡◌, ◌≢◌, ℕ, List, Some, IfSom
 ghost use Rattle.rn_syntax.specs.declared.fault.FaultKind.{FaultKind};
 ghost use Rattle.rn_assemble.specs.Refusal.{HasTextFault, IsFirstFault};
 ghost use Rattle.rn_merge.specs.Kinds.{kind_of};
-ghost use Rattle.rn_merge.specs.Texts.{HasPlace, IsGood};
+ghost use Rattle.rn_merge.specs.TextFaults.{HasPlace, IsGood};
 
-use crate::texts::Place;
+use crate::text_faults::Place;
 
 /// A module text has at most one fault with one place, want of memory aside, and none where it is
 /// good. That it is not good and has no fault either is impossible.
@@ -14,7 +14,7 @@ pub fn texts_are_good_or_have_one_place()
         → ¬ ((¬ IsGood text) × ((place : Place) → HasPlace text place → place ≡ Place.Memory)) }
     ensures not_both { (text : List ℕ) (place : Place)
         → IsGood text → HasPlace text place → place ≡ Place.Memory }
-    ensures one { (text : List ℕ) (place other : Place)
+    ensures one_place { (text : List ℕ) (place other : Place)
         → HasPlace text place → HasPlace text other
         → place ≢ Place.Memory → other ≢ Place.Memory → place ≡ other }
 {}

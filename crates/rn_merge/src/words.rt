@@ -3,7 +3,7 @@ ghost use Rattle.std.specs.Prelude.{◌≡◌, List, IfOk, map, string_bytes};
 ghost use Rattle.rn_merge.specs.Words.{AreFiles, NamesFiles};
 
 use crate::run::RunFault;
-use crate::texts::Place;
+use crate::text_faults::Place;
 use clap::error::ErrorKind;
 use clap::{Arg, ArgAction, ArgMatches, Command};
 use rn_assemble::Refusal;
@@ -32,29 +32,38 @@ const COMMANDS: [(&str, &[&str]); 6] = [
 pub enum Job {
     /// Write the bundle of one module text.
     Pack {
+        /// The module's name, of which nothing is tested yet.
         name: String,
+        /// The revision in which the module has this text.
         revision: u64,
+        /// The file with the text.
         file: String,
     },
     /// Write the bundle of one withdrawal.
     Withdraw {
+        /// The module's name, as for `Pack`.
         name: String,
+        /// The revision that withdraws the module.
         revision: u64,
     },
     /// Write the bundle of the union of bundles.
     Join {
+        /// The files with the bundles, one or more.
         files: Vec<String>,
     },
     /// Write a line for each contribution of the union of bundles.
     List {
+        /// As for `Join`.
         files: Vec<String>,
     },
     /// Write the schema of the union of bundles.
     Print {
+        /// As for `Join`; standard input alone where there are no words.
         files: Vec<String>,
     },
     /// Test one module text.
     Check {
+        /// The file with the text.
         file: String,
     },
 }
@@ -111,7 +120,7 @@ impl From<AllocError> for ProgramFault {
 impl From<clap::Error> for ProgramFault {
     ghost use Rattle.std.specs.Prelude.{◌≡◌};
     ghost use Rattle.clap.specs.Words.{kind_of};
-    ghost use Rattle.rn_merge.specs.Words.{parse_fault};
+    ghost use Rattle.rn_merge.specs.inside.Outcomes.{parse_fault};
 
     ghost from_gives = { λ error fault. fault ≡ parse_fault (kind_of error) };
 
@@ -125,7 +134,7 @@ impl From<clap::Error> for ProgramFault {
 
 impl From<RunFault> for ProgramFault {
     ghost use Rattle.std.specs.Prelude.{◌≡◌};
-    ghost use Rattle.rn_merge.specs.Words.{run_fault};
+    ghost use Rattle.rn_merge.specs.inside.Outcomes.{run_fault};
 
     ghost from_gives = { λ fault r. r ≡ run_fault fault };
 

@@ -21,7 +21,7 @@ use Rattle.rn_syntax.specs.declared.fault.FaultKind.{FaultKind}
 use Rattle.rn_syntax.specs.declared.fault.FaultKind.TheVariants as kind
 use Rattle.rn_syntax.proofs.FaultPlaces.FaultKinds.{no_places}
 use Rattle.rn_assemble.specs.Components.{NamedModule}
-use Rattle.rn_assemble.specs.Combine.{joined_grammar, read}
+use Rattle.rn_assemble.specs.Combine.{joined_grammar, module_grammar}
 use Rattle.rn_assemble.specs.WellFormed.{IsWellFormed}
 use Rattle.rn_assemble.specs.Refusal.{Refusal, conflict, faulty, IsModuleOf, HasTextFault, StandsFor, AreModules, Stands, IsAssembled, grammar_of}
 use Rattle.rn_assemble.proofs.Refusals.NoRefusal.{assembled_well_formed}
@@ -69,7 +69,7 @@ module _ (one_tree : (ts : Tokens) (m n : t.Module) → HasTree ts m → HasTree
         are_modules : AreModules s printed
         are_modules = record {
           texts = texts;
-          effective = a;
+          are_effective = a;
           faultless = λ y (text, c, (f, h)). faultless_at y text c f h;
           trees = ((refl, is_module), tt);
         }
@@ -84,7 +84,7 @@ module _ (one_tree : (ts : Tokens) (m n : t.Module) → HasTree ts m → HasTree
               faultless_at y text (subst (λ (l : List effective.Module). Contains {X = Text × Text} l (y, text)) (one_effective s ys texts b a) inside) f first.0
           no_refusal q h = of_modules q h
 
-          same_grammar : grammar_of printed ≡ read r.tree
+          same_grammar : grammar_of printed ≡ module_grammar r.tree
           same_grammar = ap joined_grammar (one_module x r.tree r.no_includes)
 
           assembled : IsAssembled s (grammar_of printed)

@@ -8,7 +8,7 @@ use Rattle.rn_pattern.specs.Reached.{IsCanonicalOf}
 use Rattle.rn_modset.specs.Contributions.{Member}
 use Rattle.rn_syntax.specs.declared.fault.FaultKind.{FaultKind}
 use Rattle.rn_assemble.specs.Components.{NamedModule, set_components}
-use Rattle.rn_assemble.specs.Combine.{IsCombination, read}
+use Rattle.rn_assemble.specs.Combine.{IsCombination, module_grammar}
 use Rattle.rn_assemble.specs.Refusal.{Refusal, AreModules, HasTextFault, StandsFor, grammar_of}
 use Rattle.rn_assemble.specs.WellFormed.{IsWellFormed}
 use Rattle.rn_simplify.specs.Spelling.{spelling}
@@ -26,9 +26,9 @@ pub record IsReadAgain (s : List Member) (text : Text) : Type 0 where
   pub text_is : text ≡ spelling normal
   pub no_fault : (f : FaultKind) → ¬ HasTextFault text f
   pub read_back : IsReadBack normal
-  pub joined_documents : (T : Table) (doc : Item) → IsValid (grammar_of modules) T doc ↔ IsValid (read read_back.tree) T doc
-  pub same_documents : (C : Grammar) → IsCombination (set_components modules) C → (T : Table) (doc : Item) → IsValid C T doc ↔ IsValid (read read_back.tree) T doc
-  pub same_normal : IsCanonicalOf (read read_back.tree) normal
-  pub no_other : (M : Grammar) → IsCanonicalOf (read read_back.tree) M → M ≡ normal
-  pub well_formed : IsWellFormed (read read_back.tree)
+  pub joined_documents : (T : Table) (doc : Item) → IsValid (grammar_of modules) T doc ↔ IsValid (module_grammar read_back.tree) T doc
+  pub same_documents : (C : Grammar) → IsCombination (set_components modules) C → (T : Table) (doc : Item) → IsValid C T doc ↔ IsValid (module_grammar read_back.tree) T doc
+  pub same_normal : IsCanonicalOf (module_grammar read_back.tree) normal
+  pub no_other : (M : Grammar) → IsCanonicalOf (module_grammar read_back.tree) M → M ≡ normal
+  pub well_formed : IsWellFormed (module_grammar read_back.tree)
   pub no_refusal : (name : Text) (q : Refusal) → ¬ StandsFor (record { name = name; tree = read_back.tree } ∷ []) q

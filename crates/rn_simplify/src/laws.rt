@@ -13,7 +13,7 @@ ghost use Rattle.rn_modset.specs.Contributions.{Member};
 ghost use Rattle.rn_modset.specs.Modules.{AreEffective};
 ghost use Rattle.rn_syntax.specs.Places.{except_places};
 ghost use Rattle.rn_assemble.specs.Components.{Component, NamedModule, set_components};
-ghost use Rattle.rn_assemble.specs.Combine.{IsCombination, joined_grammar, read};
+ghost use Rattle.rn_assemble.specs.Combine.{IsCombination, joined_grammar, module_grammar};
 ghost use Rattle.rn_assemble.specs.WellFormed.{IsWellFormed, HasWritableTexts};
 ghost use Rattle.rn_assemble.specs.Refusal.{Refusal, StandsFor};
 ghost use Rattle.rn_modset.specs.Limits.{max_text};
@@ -89,22 +89,22 @@ pub fn combinations_are_read_back()
     ensures components { (cs : List Component) (C N : Grammar)
         → AllByRecursion (λ (c : Component). HasExcepts c.body) cs → IsCombination cs C
         → IsCanonicalOf (joined_grammar cs) N → (r : IsReadBack N) (T : Table) (doc : Item)
-        → IsValid C T doc ↔ IsValid (read r.tree) T doc }
+        → IsValid C T doc ↔ IsValid (module_grammar r.tree) T doc }
     ensures modules { (modules : List NamedModule) (C N : Grammar)
         → AllByRecursion (λ (m : NamedModule). except_places m.tree ≡ []) modules
         → IsCombination (set_components modules) C
         → IsCanonicalOf (joined_grammar (set_components modules)) N
         → (r : IsReadBack N) (T : Table) (doc : Item) → IsValid C T doc
-        ↔ IsValid (read r.tree) T doc }
+        ↔ IsValid (module_grammar r.tree) T doc }
 {}
 
 /// What is read back of a canonical text has the canonical grammar that was printed, and no other; and none of the
 /// refusals of modules stands for it, under any name of the module.
 pub fn what_is_read_back_stays()
     ensures same { (G N : Grammar) → IsCanonicalOf G N → (r : IsReadBack N)
-        → IsCanonicalOf (read r.tree) N }
+        → IsCanonicalOf (module_grammar r.tree) N }
     ensures no_other { (G N M : Grammar) → IsCanonicalOf G N → (r : IsReadBack N)
-        → IsCanonicalOf (read r.tree) M → M ≡ N }
+        → IsCanonicalOf (module_grammar r.tree) M → M ≡ N }
     ensures no_refusal { (G N : Grammar) → IsCanonicalOf G N → IsWellFormed G
         → (r : IsReadBack N) (name : Text) (q : Refusal)
         → ¬ StandsFor (record { name = name; tree = r.tree } ∷ []) q }

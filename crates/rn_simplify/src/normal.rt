@@ -1,5 +1,5 @@
 // The canonical grammar.
-ghost use Rattle.rn_assemble.specs.OneProof.{IsWellFormed-prop};
+ghost use Rattle.rn_assemble.specs.inside.OneProof.{IsWellFormed-prop};
 ghost use Rattle.rn_assemble.specs.WellFormed.{IsWellFormed};
 ghost use Rattle.rn_simplify.specs.NormalParts.{HasSource, parts_view};
 

@@ -3,7 +3,7 @@ use crate::sites::{Site, View, key_of};
 use std::alloc::{AllocError, Global};
 
 /// The most instances that a set may have; further ones are not looked at.
-pub const MAX_INSTANCES: usize = 512;
+pub const MAX_INSTANCES: usize = rn_assemble::INSTANCE_LIMIT;
 
 /// An instance of a module.
 #[derive(Clone, Copy, Debug, PartialEq, Eq)]

@@ -2,7 +2,7 @@
 ghost use Rattle.std.specs.Prelude.{◌≡◌, false};
 ghost use Rattle.rnc_merge.specs.Jobs.{LeavesSink};
 
-use crate::files::{read_file, read_files};
+use crate::inputs::{read_file, read_files};
 use rn_merge::{
     Job, ProgramFault, Sink, Status, check, list_line, read_bundles, run_print, write_output,
 };

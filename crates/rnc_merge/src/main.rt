@@ -2,7 +2,7 @@
 //! out.
 #![tactic(auto)]
 
-mod files;
+mod inputs;
 mod jobs;
 
 use crate::jobs::perform;

@@ -10,9 +10,9 @@ use Rattle.rn_text.specs.Texts.{Text, text_cmp}
 use Rattle.rn_assemble.specs.declared.components.Components.{Components}
 use Rattle.rn_assemble.specs.declared.components.Lack.{Lack}
 use Rattle.rn_assemble.specs.declared.joined_grammar.Joined.{Joined}
-use Rattle.rn_assemble.specs.declared.modules.NamedModule as code_module
+use Rattle.rn_assemble.specs.declared.named_modules.NamedModule as code_module
 use Rattle.rn_assemble.specs.declared.refusal.Refusal as code
-use Rattle.rn_assemble.specs.inside.Checked.{AreExpanded, IsGrammarOf}
+use Rattle.rn_assemble.specs.inside.Checked.{AreExpanded, IsGrammarOf, IsFirstOfModules}
 use Rattle.rn_assemble.specs.Components.{Component, Key, NamedModule, components, has_key, roots, set_components, start_key}
 use Rattle.rn_assemble.specs.inside.Contained.{AreFlat}
 use Rattle.rn_assemble.specs.inside.Expanded.{IsListed, name_at}
@@ -25,7 +25,6 @@ use Rattle.rn_assemble.specs.Least.{IsLeast, key_cmp}
 use Rattle.rn_assemble.specs.inside.Listed.{Live, Lists, components_in}
 use Rattle.rn_assemble.specs.inside.Methods.{CanCombine}
 use Rattle.rn_assemble.specs.Refusal.{Lacks, StandsFor, override}
-use Rattle.rn_assemble.specs.Refused.{IsFirstOfModules}
 use Rattle.rn_assemble.specs.inside.Sound.{HasSoundReferences}
 use Rattle.rn_assemble.specs.inside.Views.{named_module_view, modules_view}
 use Rattle.rn_assemble.proofs.Answering.FirstRefusal.{NoneBelow, none_included, none_lacking, none_combined, none_sound, misnamed_first, joined_grammar_of}

@@ -7,7 +7,7 @@ use Rattle.rn_pattern.specs.References.{IsUndefined, IsRecursive}
 use Rattle.rn_assemble.specs.declared.joined_grammar.Joined.{Joined}
 use Rattle.rn_assemble.specs.declared.refusal.Refusal as code
 use Rattle.rn_assemble.specs.declared.refusal.Refusal.TheVariants as r
-use Rattle.rn_assemble.specs.inside.Checked.{IsGrammarOf, IsLacking}
+use Rattle.rn_assemble.specs.inside.Checked.{IsGrammarOf, IsLacking, IsFirstOfModules}
 use Rattle.rn_assemble.specs.Combine.{IsMixed, IsPlainTwice}
 use Rattle.rn_assemble.specs.Components.{Key, NamedModule, has_key, set_components, start_key}
 use Rattle.rn_assemble.specs.JoinedView.{joined_view}
@@ -15,7 +15,6 @@ use Rattle.rn_assemble.specs.inside.Included.{AreIncluded}
 use Rattle.rn_assemble.specs.inside.Joining.{IsJoinedGrammar, IsMisnamed}
 use Rattle.rn_assemble.specs.inside.Methods.{CanCombine, IsUncombined}
 use Rattle.rn_assemble.specs.Refusal.{Refusal, conflict, faulty, missing, cycle, too_many_instances, override, plain_twice, mixed_methods, no_start, undefined, recursive, name_class, rank, Lacks, StandsFor, grammar_of}
-use Rattle.rn_assemble.specs.Refused.{IsFirstOfModules}
 use Rattle.rn_assemble.specs.inside.Sound.{HasSoundReferences, IsUnsound}
 
 module _ (modules : List NamedModule) where

@@ -8,11 +8,11 @@ use Rattle.rn_pattern.proofs.Ordered.InOrder.{contains_cases, contained_each, te
 use Rattle.rn_modset.specs.Contributions.{Member}
 use Rattle.rn_modset.specs.Modules.{Module, AreEffective, NamesRise, module_cmp, module_of, modules_of}
 use Rattle.rn_syntax.specs.declared.fault.FaultKind.{FaultKind}
-use Rattle.rn_assemble.specs.declared.modules.NamedModule as code_module
+use Rattle.rn_assemble.specs.declared.named_modules.NamedModule as code_module
 use Rattle.rn_assemble.specs.declared.refusal.Refusal as code
 use Rattle.rn_assemble.specs.Components.{NamedModule}
 use Rattle.rn_assemble.specs.Least.{IsLeast}
-use Rattle.rn_assemble.specs.inside.Reading.{IsRead, IsFaultOf}
+use Rattle.rn_assemble.specs.inside.ModuleTexts.{IsRead, IsFaultOf}
 use Rattle.rn_assemble.specs.Refusal.{Refusal, conflict, faulty, rank, HasTextFault, IsFirstFault, IsFaulty, IsModuleOf, AreModules, Stands, IsFirst}
 use Rattle.rn_assemble.specs.Refused.{IsFirstRefusal, refusal_view}
 use Rattle.rn_assemble.specs.inside.Views.{module_names, named_module_view, modules_view}
@@ -45,7 +45,7 @@ none_faulty texts all x (text, inside, (f, has)) = contained_each HasFaultlessTe
 are_modules : (s : List Member) (texts : List Module) (modules : List NamedModule) → AreEffective s texts → AllZip IsReadFrom texts modules → AreModules s modules
 are_modules s texts modules effective read = record {
   texts = texts;
-  effective = effective;
+  are_effective = effective;
   faultless = none_faulty texts (all_faultless texts modules read);
   trees = all_modules texts modules read;
 }

@@ -7,17 +7,17 @@ use Rattle.rn_modset.specs.Modules.{Module}
 use Rattle.rn_syntax.proofs.OneReading.OneTree.{one_tree}
 use Rattle.rn_assemble.specs.declared.refusal.Refusal as code
 use Rattle.rn_assemble.specs.declared.refusal.Refusal.TheVariants as r
-use Rattle.rn_assemble.specs.inside.Checked.{IsGrammarOf}
+use Rattle.rn_assemble.specs.inside.Checked.{IsGrammarOf, IsFirstOfModules}
 use Rattle.rn_assemble.specs.Components.{NamedModule}
 use Rattle.rn_assemble.specs.Refusal.{Refusal, conflict, faulty, AreModules, IsAssembled, IsFaulty, IsFirst, IsFirstFor, Stands, StandsFor}
-use Rattle.rn_assemble.specs.Refused.{refusal_view, IsFirstOfModules, IsFirstRefusal}
+use Rattle.rn_assemble.specs.Refused.{refusal_view, IsFirstRefusal}
 use Rattle.rn_assemble.proofs.Refusals.NoRefusal.{stands}
 use Rattle.rn_assemble.proofs.Refusals.OneSet.{one_effective, one_modules}
 
 module _ (s : List Member) (modules : List NamedModule) (a : AreModules s modules) where
   stands_back : (q : Refusal) → Stands s q → StandsFor modules q
-  stands_back (conflict x v) h = a.effective.agreed x v h.0
-  stands_back (faulty f x) h = absurd (a.faultless x (subst (λ (ts : List Module). IsFaulty ts x) (one_effective s h.0 a.texts h.1 a.effective) h.2.holds))
+  stands_back (conflict x v) h = a.are_effective.agreed x v h.0
+  stands_back (faulty f x) h = absurd (a.faultless x (subst (λ (ts : List Module). IsFaulty ts x) (one_effective s h.0 a.texts h.1 a.are_effective) h.2.holds))
   stands_back q h = subst (λ (l : List NamedModule). StandsFor l q) (one_modules one_tree s h.0 modules h.1 a) h.2
 
   first_at : (o : Option Refusal) (A : Type 0) → MatchOption o A (IsFirstFor modules) → MatchOption o A (IsFirst s)

@@ -11,7 +11,7 @@ use Rattle.rn_pattern.specs.Document.{Attribute, Item}
 use Rattle.rn_pattern.specs.Datatype.{Table}
 use Rattle.rn_pattern.specs.Matching.{Matches, Grammar, definition_of, MatchesWithin, IsValid, Meaning}
 use Rattle.rn_assemble.specs.Components.{Key, start_key, name_key, Component, same_key}
-use Rattle.rn_assemble.specs.Combine.{of_key, bodies, combined, PairedUp, alone, paired, Combines, IsCombination, join, joined, first_of, defined_names, joined_grammar}
+use Rattle.rn_assemble.specs.Combine.{of_key, bodies, method_node, PairedUp, alone, paired, Combines, IsCombination, joined_tree, joined_pattern, first_of, defined_names, joined_grammar}
 use Rattle.rn_pattern.proofs.Matches.Compositions.{Content, Matching}
 use Rattle.rn_pattern.proofs.Matches.Pairings.{paired_choice, paired_interleave, some_permuted, side_permuted}
 use Rattle.rn_pattern.proofs.Matches.StepsKeep.{list_of-trees_of, SomeOf, some_of_trees, trees_of_some}
@@ -22,7 +22,7 @@ use Rattle.rn_pattern.proofs.Matches.OpenedKeeps.{one_or_choice, one_or_interlea
 -- by the number of its parts
 abbrev pub some_joined : (Trees → Tree) → List Tree → Option Tree
 some_joined over [] = None
-some_joined over (p ∷ ps) = Some (join over (p ∷ ps))
+some_joined over (p ∷ ps) = Some (joined_tree over (p ∷ ps))
 
 abbrev pub is_some : List Tree → Bool
 is_some [] = false
@@ -63,31 +63,31 @@ pub named : (x : Text) (cs : List Component) → list_any (bytes_eq x) (defined_
 named x [] = refl
 named x (c ∷ cs) = named_by c.key x (defined_names cs) c (of_key (name_key x) cs) (named x cs)
 
-some_at : (over : Trees → Tree) (ps : List Tree) → cond (is_some ps) (Some (join over ps)) None ≡ some_joined over ps
+some_at : (over : Trees → Tree) (ps : List Tree) → cond (is_some ps) (Some (joined_tree over ps)) None ≡ some_joined over ps
 some_at over [] = refl
 some_at over (p ∷ ps) = refl
 
-pub joined_definition : (cs : List Component) (x : Text) → definition_of (joined_grammar cs) x ≡ some_joined (combined (name_key x) cs) (bodies (name_key x) cs)
+pub joined_definition : (cs : List Component) (x : Text) → definition_of (joined_grammar cs) x ≡ some_joined (method_node (name_key x) cs) (bodies (name_key x) cs)
 joined_definition cs x =
-    lookup_name x (λ y. joined cs (name_key y)) (defined_names cs) ∙ ap (λ b. cond b (Some (joined cs (name_key x))) None) (named x cs) ∙ some_at (combined (name_key x) cs) (bodies (name_key x) cs)
+    lookup_name x (λ y. joined_pattern cs (name_key y)) (defined_names cs) ∙ ap (λ b. cond b (Some (joined_pattern cs (name_key x))) None) (named x cs) ∙ some_at (method_node (name_key x) cs) (bodies (name_key x) cs)
 
 module _ (T : Table) (μ : Meaning) where
   abbrev M : Tree → Content → Type 0
   M = Matching T μ
 
-  join_choice : (ps : List Tree) (a : List Attribute) (m : List Item) → Matches T μ a m (join choice ps) ↔ SomeOf T μ a m ps
+  join_choice : (ps : List Tree) (a : List Attribute) (m : List Item) → Matches T μ a m (joined_tree choice ps) ↔ SomeOf T μ a m ps
   join_choice ps a m = (
     λ h. subst (λ (x : List Tree). SomeOf T μ a m x) (list_of-trees_of ps) (some_of_trees T μ a m (trees_of ps) ((one_or_choice T μ (trees_of ps) a m).0 h)),
     λ h. (one_or_choice T μ (trees_of ps) a m).1 (trees_of_some T μ a m (trees_of ps) (subst (λ (x : List Tree). SomeOf T μ a m x) (sym (list_of-trees_of ps)) h)),
   )
 
-  join_interleave : (ps : List Tree) (s : Content) → M (join interleave ps) s ↔ Side T μ ps s
+  join_interleave : (ps : List Tree) (s : Content) → M (joined_tree interleave ps) s ↔ Side T μ ps s
   join_interleave ps s = (
     λ h. subst (λ (x : List Tree). Side T μ x s) (list_of-trees_of ps) ((one_or_interleave T μ (trees_of ps) s).0 h),
     λ h. (one_or_interleave T μ (trees_of ps) s).1 (subst (λ (x : List Tree). Side T μ x s) (sym (list_of-trees_of ps)) h),
   )
 
-  combined_at : (b : Bool) (ps qs : List Tree) (p : Tree) → IsPermutation ps qs → PairedUp (λ ts. cond b (interleave ts) (choice ts)) ps p → Alike T μ μ p (join (λ ts. cond b (interleave ts) (choice ts)) qs)
+  combined_at : (b : Bool) (ps qs : List Tree) (p : Tree) → IsPermutation ps qs → PairedUp (λ ts. cond b (interleave ts) (choice ts)) ps p → Alike T μ μ p (joined_tree (λ ts. cond b (interleave ts) (choice ts)) qs)
   combined_at true ps qs p e v a m = (
     λ h. (join_interleave qs (a, m)).1 ((side_permuted T μ ps qs (a, m) e).0 ((paired_interleave T μ ps p v (a, m)).0 h)),
     λ h. (paired_interleave T μ ps p v (a, m)).1 ((side_permuted T μ ps qs (a, m) e).1 ((join_interleave qs (a, m)).0 h)),
@@ -98,7 +98,7 @@ module _ (T : Table) (μ : Meaning) where
   )
 
   -- what combines the components of a key matches what the joined node does
-  pub combined_alike : (cs : List Component) (k : Key) (p : Tree) → Combines cs k p → Alike T μ μ p (joined cs k)
+  pub combined_alike : (cs : List Component) (k : Key) (p : Tree) → Combines cs k p → Alike T μ μ p (joined_pattern cs k)
   combined_alike cs k p (ps, e, v) = combined_at _ ps (bodies k cs) p e v
 
 paired_some : (over : Trees → Tree) (ps : List Tree) (p : Tree) → PairedUp over ps p → is_some ps ≡ true
@@ -115,12 +115,12 @@ same_length [] (q ∷ qs) h = absurd (omega (arith, h))
 same_length (p ∷ ps) [] h = absurd (omega (arith, h))
 same_length (p ∷ ps) (q ∷ qs) h = refl
 
-some_there : (over : Trees → Tree) (ps : List Tree) → is_some ps ≡ true → some_joined over ps ≡ Some (join over ps)
+some_there : (over : Trees → Tree) (ps : List Tree) → is_some ps ≡ true → some_joined over ps ≡ Some (joined_tree over ps)
 some_there over [] h = absurd (false≢true h)
 some_there over (p ∷ ps) h = refl
 
-combines_some : (cs : List Component) (k : Key) (p : Tree) → Combines cs k p → some_joined (combined k cs) (bodies k cs) ≡ Some (joined cs k)
-combines_some cs k p (ps, e, v) = some_there (combined k cs) (bodies k cs) (sym (same_length ps (bodies k cs) (sym (length_permutation ps (bodies k cs) e))) ∙ paired_some (combined k cs) ps p v)
+combines_some : (cs : List Component) (k : Key) (p : Tree) → Combines cs k p → some_joined (method_node k cs) (bodies k cs) ≡ Some (joined_pattern cs k)
+combines_some cs k p (ps, e, v) = some_there (method_node k cs) (bodies k cs) (sym (same_length ps (bodies k cs) (sym (length_permutation ps (bodies k cs) e))) ∙ paired_some (method_node k cs) ps p v)
 
 module _ (T : Table) (cs : List Component) (C : Grammar) (c : IsCombination cs C) where
   abbrev J : Grammar
@@ -128,11 +128,11 @@ module _ (T : Table) (cs : List Component) (C : Grammar) (c : IsCombination cs C
 
   combined_definition : (n : ℕ) (x : Text) (a : List Attribute) (m : List Item) (o : Option Tree) → MatchOption o (bodies (name_key x) cs ≡ []) (λ p. Combines cs (name_key x) p)
       → ((y : Text) (b : List Attribute) (k : List Item) → MatchesWithin n C T y b k ↔ MatchesWithin n J T y b k)
-      → IsSomeAnd o (λ p. Matches T (MatchesWithin n C T) a m p) ↔ IsSomeAnd (some_joined (combined (name_key x) cs) (bodies (name_key x) cs)) (λ p. Matches T (MatchesWithin n J T) a m p)
-  combined_definition n x a m None e ih = (λ h. absurd h, λ h. subst (λ (ps : List Tree). IsSomeAnd (some_joined (combined (name_key x) cs) ps) (λ p. Matches T (MatchesWithin n J T) a m p)) e h)
+      → IsSomeAnd o (λ p. Matches T (MatchesWithin n C T) a m p) ↔ IsSomeAnd (some_joined (method_node (name_key x) cs) (bodies (name_key x) cs)) (λ p. Matches T (MatchesWithin n J T) a m p)
+  combined_definition n x a m None e ih = (λ h. absurd h, λ h. subst (λ (ps : List Tree). IsSomeAnd (some_joined (method_node (name_key x) cs) ps) (λ p. Matches T (MatchesWithin n J T) a m p)) e h)
   combined_definition n x a m (Some p) e ih =
-      let same = alike_then T (MatchesWithin n C T) (MatchesWithin n J T) p (joined cs (name_key x)) (joined cs (name_key x)) (combined_alike T (MatchesWithin n C T) cs (name_key x) p e)
-      (refers_alike T (MatchesWithin n C T) (MatchesWithin n J T) (joined cs (name_key x)) (λ y _. ih y)) in
+      let same = alike_then T (MatchesWithin n C T) (MatchesWithin n J T) p (joined_pattern cs (name_key x)) (joined_pattern cs (name_key x)) (combined_alike T (MatchesWithin n C T) cs (name_key x) p e)
+      (refers_alike T (MatchesWithin n C T) (MatchesWithin n J T) (joined_pattern cs (name_key x)) (λ y _. ih y)) in
       subst (λ (o : Option Tree). Matches T (MatchesWithin n C T) a m p ↔ IsSomeAnd o (λ q. Matches T (MatchesWithin n J T) a m q)) (sym (combines_some cs (name_key x) p e)) (same a m)
 
   pub combined_within : (n : ℕ) (x : Text) (a : List Attribute) (m : List Item) → MatchesWithin n C T x a m ↔ MatchesWithin n J T x a m

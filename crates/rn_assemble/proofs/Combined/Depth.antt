@@ -7,7 +7,7 @@ use Rattle.rn_text.specs.Texts.{Text}
 use Rattle.rn_pattern.proofs.Ordered.Ascending.{each_front, each_behind}
 use Rattle.rn_syntax.specs.Tree as t
 use Rattle.rn_syntax.specs.Tree.{Declaration, Item, Items, item_includes, includes}
-use Rattle.rn_assemble.specs.Components.{Component, NamedModule, item_components, all_components, module_components, overridden, handed_on, modules_named, components_within, instances_within}
+use Rattle.rn_assemble.specs.Components.{Component, NamedModule, item_components, all_components, module_components, without_overridden, handed_on, modules_named, components_within, instances_within}
 
 -- the components of items depend on those of their includes alone
 module _ (f g : Text → Text → List Component) where
@@ -23,7 +23,7 @@ module _ (f g : Text → Text → List Component) where
       item-agree (t.include w h xs) a =
           let own = items-agree xs a.1 in
           let from = a.0 (handed_on u ds h) in
-          λ i. overridden (from i) (own i) ++ own i
+          λ i. without_overridden (from i) (own i) ++ own i
 
       items-agree : (xs : Items) → AllByRecursion Agree (includes xs) → all_components f u ds xs ≡ all_components g u ds xs
       items-agree t.no_items a = refl

@@ -7,7 +7,7 @@ use Rattle.rn_pattern.specs.Tree.{Tree}
 use Rattle.rn_text.specs.Texts.{Text, text_cmp}
 use Rattle.rn_syntax.specs.declared.token.Method.TheVariants as m
 use Rattle.rn_assemble.specs.Components.{Component, start_key, name_key, Key}
-use Rattle.rn_assemble.specs.Combine.{of_key, IsPlainTwice, IsMixed, uses, is_plain, is_choice, is_interleave, joined, combined, join, defined_names, joined_grammar, plain_start, plain_definition, components_of, Differ, AreDistinct}
+use Rattle.rn_assemble.specs.Combine.{of_key, IsPlainTwice, IsMixed, uses, is_plain, is_choice, is_interleave, joined_pattern, method_node, joined_tree, defined_names, joined_grammar, plain_start, plain_definition, components_of, Differ, AreDistinct}
 use Rattle.std.specs.List.Sorted.{IsStrictlySortedBy}
 use Rattle.std.proofs.lemmas.Bool.{false≢true}
 use Rattle.std.proofs.lemmas.Cmp.{nat_list_cmp_total, tied_itself}
@@ -76,11 +76,11 @@ joined_is G h =
     let p = G.start in
     let ds = G.definitions in
     let all = components_of G in
-    let start : joined all start_key ≡ p = ap (λ l. join (combined start_key all) (map (λ (c : Component). c.body) (plain_start p ∷ l))) (no_start ds) in
-    let definitions : map (λ (x : Text). (x, joined all (name_key x))) (defined_names all) ≡ ds =
-    ap (map (λ (x : Text). (x, joined all (name_key x)))) (defined ds h) ∙ map_map (λ x. (x, joined all (name_key x))) ds
-    ∙ map_same (λ d. (d.0, joined all (name_key d.0))) (λ d. d) ds
-    (mapped (IsOnly ds) (λ d. (d.0, joined all (name_key d.0)) ≡ d) (λ d k. ap (λ l. (d.0, join (combined (name_key d.0) all) (map (λ (c : Component). c.body) l))) k) ds (each_only ds h))
+    let start : joined_pattern all start_key ≡ p = ap (λ l. joined_tree (method_node start_key all) (map (λ (c : Component). c.body) (plain_start p ∷ l))) (no_start ds) in
+    let definitions : map (λ (x : Text). (x, joined_pattern all (name_key x))) (defined_names all) ≡ ds =
+    ap (map (λ (x : Text). (x, joined_pattern all (name_key x)))) (defined ds h) ∙ map_map (λ x. (x, joined_pattern all (name_key x))) ds
+    ∙ map_same (λ d. (d.0, joined_pattern all (name_key d.0))) (λ d. d) ds
+    (mapped (IsOnly ds) (λ d. (d.0, joined_pattern all (name_key d.0)) ≡ d) (λ d k. ap (λ l. (d.0, joined_tree (method_node (name_key d.0) all) (map (λ (c : Component). c.body) l))) k) ds (each_only ds h))
     ∙ map_id ds in
     λ i. record { start = start i; definitions = definitions i }
 
@@ -125,7 +125,7 @@ differ_at false x y e n = e
 not_same : (x y : Text) → text_cmp x y ≡ Less → ¬ (x ≡ y)
 not_same x y h e = let k : Equal ≡ Less = sym (tied_itself nat_list_cmp_total x) ∙ ap (text_cmp x) e ∙ h in cc
 
-differ : (x y : Text) → ¬ (x ≡ y) → bytes_eq x y ≡ false
+pub differ : (x y : Text) → ¬ (x ≡ y) → bytes_eq x y ≡ false
 differ x y n = differ_at (bytes_eq x y) x y refl n
 
 differ_above : (d : Text × Tree) (ds : List (Text × Tree)) → AllByRecursion (λ y. text_cmp d.0 y ≡ Less) (map (λ e. e.0) ds) → AllByRecursion (Differ d) ds

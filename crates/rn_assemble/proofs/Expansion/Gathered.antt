@@ -4,7 +4,7 @@ use Rattle.std.specs.List.{AllByRecursion, AllZip}
 use Rattle.std.specs.Prelude.{flat_map}
 use Rattle.std.proofs.lemmas.List.Elements.{Contains-append_left, Contains-append_right}
 use Rattle.rn_pattern.proofs.Ordered.InOrder.{contains_cases, each_contained}
-use Rattle.rn_assemble.specs.declared.modules.NamedModule as code_module
+use Rattle.rn_assemble.specs.declared.named_modules.NamedModule as code_module
 use Rattle.std.proofs.lemmas.List.{length-map, get_or-map, take_more}
 use Rattle.rn_text.specs.Texts.{Text}
 use Rattle.rn_pattern.proofs.Ordered.Ascending.{each_front, each_behind}
@@ -12,10 +12,11 @@ use Rattle.rn_syntax.specs.declared.tree.Item.{Item}
 use Rattle.rn_syntax.specs.Tree as t
 use Rattle.rn_syntax.specs.View.{item_view, items_view}
 use Rattle.rn_assemble.specs.Components.{NamedModule}
-use Rattle.rn_assemble.specs.inside.Contained.{Written, Inclusion, inclusions, item_inclusions, written, item_written}
+use Rattle.rn_assemble.specs.inside.Contained.{Written, Inclusion, inclusions, item_inclusions, written_components, item_written_components}
 use Rattle.rn_assemble.specs.declared.contents.Component.{Component}
 use Rattle.rn_assemble.specs.inside.Views.{Adds, written_view, named_module_view, modules_view}
 use Rattle.rn_assemble.specs.inside.Keyed.{AreNames, defines, item_defines}
+use Rattle.rn_assemble.proofs.Referring.FoundReferences.{flat_contains}
 
 -- the item at a place, and those behind it
 pub items_at : (xs : List Item) (i : ℕ) (x : Item) → i < length xs → x ≡ get_or xs i x → items_view (drop i xs) ≡ t.item (item_view x) (items_view (drop (i + 1) xs))
@@ -37,11 +38,11 @@ adds_more names cs ds es us vs a b = record {
   numbered = λ h. b.numbered (a.numbered h);
 }
 
-pub written_to : (xs : List Item) (i : ℕ) (x : Item) → i < length xs → x ≡ get_or xs i x → written (items_view (drop i xs)) ≡ item_written (item_view x) ++ written (items_view (drop (i + 1) xs))
-written_to xs i x l e = ap written (items_at xs i x l e)
+pub written_to : (xs : List Item) (i : ℕ) (x : Item) → i < length xs → x ≡ get_or xs i x → written_components (items_view (drop i xs)) ≡ item_written_components (item_view x) ++ written_components (items_view (drop (i + 1) xs))
+written_to xs i x l e = ap written_components (items_at xs i x l e)
 
 module _ (modules : List NamedModule) where
-  pub inclusions_more : (xs : List Item) (i : ℕ) (x : Item) → i < length xs → x ≡ get_or xs i x → (m n : ℕ) → n ≡ m + length (item_written (item_view x)) → (us vs ws : List Inclusion)
+  pub inclusions_more : (xs : List Item) (i : ℕ) (x : Item) → i < length xs → x ≡ get_or xs i x → (m n : ℕ) → n ≡ m + length (item_written_components (item_view x)) → (us vs ws : List Inclusion)
       → us ++ inclusions modules m (items_view (drop i xs)) ≡ ws → vs ≡ us ++ item_inclusions modules m (item_view x) → vs ++ inclusions modules n (items_view (drop (i + 1) xs)) ≡ ws
   inclusions_more xs i x l e m n s us vs ws h k =
       ap (λ a. a ++ inclusions modules n (items_view (drop (i + 1) xs))) k ∙ append_assoc us (item_inclusions modules m (item_view x)) (inclusions modules n (items_view (drop (i + 1) xs)))
@@ -49,17 +50,10 @@ module _ (modules : List NamedModule) where
       ∙ sym (ap (λ a. us ++ inclusions modules m a) (items_at xs i x l e)) ∙ h
 
 -- each module's contents
-contains_flat : {X Y : Type 0} (f : X → List Y) (xs : List X) (x : X) (y : Y) → Contains xs x → Contains (f x) y → Contains (flat_map f xs) y
-contains_flat f [] x y (k, l, e) d = absurd (omega (arith, l))
-contains_flat f (z ∷ zs) x y c d = elim (contains_cases z x zs c) [
-  | inl e ↦ Contains-append_left (f z) (flat_map f zs) y (subst (λ w. Contains (f w) y) (sym e) d)
-  | inr k ↦ Contains-append_right (f z) (flat_map f zs) y (contains_flat f zs x y k d)
-]
-
 pub defined_each : (ms : List code_module.NamedModule) (names : List Text) (i : ℕ) (m : code_module.NamedModule) → AreNames (modules_view ms) names → i < length ms → m ≡ get_or ms i m → AllByRecursion (Contains names) (defines (items_view m.tree.items.items))
 defined_each ms names i m a l e =
     let at : Contains (modules_view ms) (named_module_view m) = (i, omega (arith, l, length-map ms named_module_view), get_or-map named_module_view ms i m (named_module_view m) l ∙ ap named_module_view (sym e)) in
-    each_contained (Contains names) (defines (items_view m.tree.items.items)) (λ x k. (a.defined x).1 (contains_flat (λ (n : NamedModule). defines n.tree.items) (modules_view ms) (named_module_view m) x at k))
+    each_contained (Contains names) (defines (items_view m.tree.items.items)) (λ x k. (a.defined x).1 (flat_contains (λ (n : NamedModule). defines n.tree.items) (modules_view ms) (named_module_view m) x at k))
 
 pub zip_seen : {X Y C : Type 0} (f : X → Y) (R : Y → C → Type 0) (xs : List X) (cs : List C) → AllZip (λ x c. R (f x) c) xs cs → AllZip R (map f xs) cs
 zip_seen f R [] [] h = h

@@ -16,15 +16,15 @@ use Rattle.rn_assemble.specs.declared.contents.Component as code
 use Rattle.rn_assemble.specs.declared.components.Lack.{Lack}
 use Rattle.rn_assemble.specs.declared.contents.Contents.{Contents}
 use Rattle.rn_assemble.specs.Components.{Component, Key, NamedModule, components_within, handed_on, has_key, modules_named, same_key}
-use Rattle.rn_assemble.specs.inside.Contained.{AreFlat, Inclusion, IsFlat, Written, inclusions, item_inclusions, item_written, place_in, written}
+use Rattle.rn_assemble.specs.inside.Contained.{AreFlat, Inclusion, IsFlat, Written, inclusions, item_inclusions, item_written_components, place_in, written_components}
 use Rattle.rn_assemble.specs.inside.Expanded.{included_in, name_at}
 use Rattle.rn_assemble.specs.inside.Keyed.{key_at}
-use Rattle.rn_assemble.specs.inside.Lacking.{LacksWithin, handed, item_handed}
+use Rattle.rn_assemble.specs.inside.Lacking.{LacksWithin, handed_namespaces, item_handed_namespaces}
 use Rattle.rn_assemble.specs.inside.Listed.{AreContents, IsContents, resolved_component}
 use Rattle.rn_assemble.specs.inside.Noting.{AtNumbers, IncludedLacks, InclusionLacks, Notes}
 use Rattle.rn_assemble.specs.Refusal.{item_lacks, items_lack}
 use Rattle.rn_assemble.specs.inside.Views.{IsNumbered, inclusion_view, written_view}
-use Rattle.rn_assemble.proofs.Expansion.Going.{each_drop, each_take}
+use Rattle.rn_assemble.proofs.Expansion.ModuleExpansion.{each_drop, each_take}
 use Rattle.rn_assemble.proofs.Expansion.ModuleLookups.{included_agrees, none_named, place_name}
 use Rattle.rn_assemble.proofs.Expansion.NotedLacks.{IsKeyNumber, IsModuleName, SomeLacks, notes_to}
 use Rattle.rn_assemble.proofs.Referring.Numbers.{same_key-Decides}
@@ -49,31 +49,31 @@ module _ (modules : List NamedModule) (f : Text → Text → List Component) (at
   lacks_by ws k i = has_key k (res (slice_range ws i.first i.end)) && not (has_key k (at i.module_at (handed_on u ds i.inherit)))
 
   mutual
-    item_lacks_by : (ws : List Written) (k : Key) (x : Item) (n : ℕ) → IsFlat x → n + length (item_written x) ≤ length ws → slice_range ws n (n + length (item_written x)) ≡ item_written x
+    item_lacks_by : (ws : List Written) (k : Key) (x : Item) (n : ℕ) → IsFlat x → n + length (item_written_components x) ≤ length ws → slice_range ws n (n + length (item_written_components x)) ≡ item_written_components x
         → list_any (lacks_by ws k) (item_inclusions modules n x) ≡ item_lacks f u ds x k
     item_lacks_by ws k (t.define x m p) n fl l e = refl
     item_lacks_by ws k (t.start m p) n fl l e = refl
     item_lacks_by ws k (t.div xs) n fl l e = items_lack_by ws k xs n fl l e
     item_lacks_by ws k (t.include w h xs) n fl l e =
         let v = handed_on u ds h in
-        let i : Inclusion = record { module_at = place_in modules w; inherit = h; first = n; end = n + length (written xs) } in
+        let i : Inclusion = record { module_at = place_in modules w; inherit = h; first = n; end = n + length (written_components xs) } in
         ap (λ (is : List Inclusion). list_any (lacks_by ws k) (is ++ i ∷ [])) (items_none modules n xs fl) ∙ or-false (lacks_by ws k i)
         ∙ (λ j. has_key k (res (e j)) && not (has_key k (agree w v j)))
         ∙ ap (λ (cs : List Component). has_key k cs && not (has_key k (f w v))) (sym (items_plain modules f at agree u ds xs fl))
 
-    items_lack_by : (ws : List Written) (k : Key) (xs : Items) (n : ℕ) → AreFlat xs → n + length (written xs) ≤ length ws → slice_range ws n (n + length (written xs)) ≡ written xs
+    items_lack_by : (ws : List Written) (k : Key) (xs : Items) (n : ℕ) → AreFlat xs → n + length (written_components xs) ≤ length ws → slice_range ws n (n + length (written_components xs)) ≡ written_components xs
         → list_any (lacks_by ws k) (inclusions modules n xs) ≡ items_lack f u ds xs k
     items_lack_by ws k t.no_items n fl l e = refl
     items_lack_by ws k (t.item x xs) n fl l e =
-        let m = n + length (item_written x) in
-        let size = length-append (item_written x) (written xs) in
-        let parts = range_parts ws (item_written x) (written xs) n l e in
+        let m = n + length (item_written_components x) in
+        let size = length-append (item_written_components x) (written_components xs) in
+        let parts = range_parts ws (item_written_components x) (written_components xs) n l e in
         let first = item_lacks_by ws k x n fl.0 (omega (arith, l, size)) parts.0 in
         let rest = items_lack_by ws k xs m fl.1 (omega (arith, l, size)) parts.1 in
         list_any-append (lacks_by ws k) (item_inclusions modules n x) (inclusions modules m xs) ∙ (λ j. first j || rest j)
 
-  items_lack_is : (k : Key) (xs : Items) → AreFlat xs → list_any (lacks_by (written xs) k) (inclusions modules 0 xs) ≡ items_lack f u ds xs k
-  items_lack_is k xs fl = items_lack_by (written xs) k xs 0 fl (omega arith) (whole_range (written xs))
+  items_lack_is : (k : Key) (xs : Items) → AreFlat xs → list_any (lacks_by (written_components xs) k) (inclusions modules 0 xs) ≡ items_lack f u ds xs k
+  items_lack_is k xs fl = items_lack_by (written_components xs) k xs 0 fl (omega arith) (whole_range (written_components xs))
 
 -- which modules are included, by name and by place, and the namespace that is handed on
 module _ (modules : List NamedModule) (u : Text) (ds : List Declaration) where
@@ -84,13 +84,13 @@ module _ (modules : List NamedModule) (u : Text) (ds : List Declaration) where
   included_at i = (i.module_at, handed_on u ds i.inherit)
 
   mutual
-    none_handed_item : (x : Item) → item_includes x ≡ [] → item_handed u ds x ≡ []
+    none_handed_item : (x : Item) → item_includes x ≡ [] → item_handed_namespaces u ds x ≡ []
     none_handed_item (t.define x m p) e = refl
     none_handed_item (t.start m p) e = refl
     none_handed_item (t.div xs) e = none_handed xs e
     none_handed_item (t.include w h xs) e = cc
 
-    none_handed : (xs : Items) → includes xs ≡ [] → handed u ds xs ≡ []
+    none_handed : (xs : Items) → includes xs ≡ [] → handed_namespaces u ds xs ≡ []
     none_handed t.no_items e = refl
     none_handed (t.item x xs) e =
         let first = none_handed_item x (no_includes_front (item_includes x) (includes xs) e) in
@@ -98,21 +98,21 @@ module _ (modules : List NamedModule) (u : Text) (ds : List Declaration) where
         λ i. first i ++ rest i
 
   mutual
-    item_handed_by : (n : ℕ) (x : Item) → IsFlat x → map wanted_at (item_handed u ds x) ≡ map included_at (item_inclusions modules n x)
+    item_handed_by : (n : ℕ) (x : Item) → IsFlat x → map wanted_at (item_handed_namespaces u ds x) ≡ map included_at (item_inclusions modules n x)
     item_handed_by n (t.define x m p) fl = refl
     item_handed_by n (t.start m p) fl = refl
     item_handed_by n (t.div xs) fl = handed_by n xs fl
     item_handed_by n (t.include w h xs) fl =
-        let i : Inclusion = record { module_at = place_in modules w; inherit = h; first = n; end = n + length (written xs) } in
+        let i : Inclusion = record { module_at = place_in modules w; inherit = h; first = n; end = n + length (written_components xs) } in
         ap (λ (ws : List (Text × Text)). wanted_at (w, handed_on u ds h) ∷ map wanted_at ws) (none_handed xs fl) ∙ sym (ap (λ (is : List Inclusion). map included_at (is ++ i ∷ [])) (items_none modules n xs fl))
 
-    handed_by : (n : ℕ) (xs : Items) → AreFlat xs → map wanted_at (handed u ds xs) ≡ map included_at (inclusions modules n xs)
+    handed_by : (n : ℕ) (xs : Items) → AreFlat xs → map wanted_at (handed_namespaces u ds xs) ≡ map included_at (inclusions modules n xs)
     handed_by n t.no_items fl = refl
     handed_by n (t.item x xs) fl =
-        let m = n + length (item_written x) in
+        let m = n + length (item_written_components x) in
         let first = item_handed_by n x fl.0 in
         let rest = handed_by m xs fl.1 in
-        map-append wanted_at (item_handed u ds x) (handed u ds xs) ∙ (λ j. first j ++ rest j) ∙ sym (map-append included_at (item_inclusions modules n x) (inclusions modules m xs))
+        map-append wanted_at (item_handed_namespaces u ds x) (handed_namespaces u ds xs) ∙ (λ j. first j ++ rest j) ∙ sym (map-append included_at (item_inclusions modules n x) (inclusions modules m xs))
 
 -- a module that is not there lacks nothing
 nothing_lacked : (depth : ℕ) (modules : List NamedModule) (w v y : Text) (k : Key) → modules_named w modules ≡ [] → ¬ LacksWithin depth modules w v y k
@@ -135,7 +135,7 @@ module _ (depth : ℕ) (modules : List NamedModule) (x u : Text) (m : NamedModul
   is = inclusions modules 0 m.tree.items
 
   abbrev Brought : Inclusion → Type 0
-  Brought i = InclusionLacks depth modules x u m.tree.declarations (written m.tree.items) i y k
+  Brought i = InclusionLacks depth modules x u m.tree.declarations (written_components m.tree.items) i y k
 
   abbrev Within : Option ℕ × Text → Type 0
   Within w = IncludedLacks depth modules w.0 w.1 y k
@@ -143,10 +143,10 @@ module _ (depth : ℕ) (modules : List NamedModule) (x u : Text) (m : NamedModul
   -- in a module, by its own includes or within
   abbrev InModule : NamedModule → Type 0
   InModule n = ((x ≡ y) × (items_lack (components_within depth modules) u n.tree.declarations n.tree.items k ≡ true))
-      ⊎ ((w : Text × Text) × Contains {X = Text × Text} (handed u n.tree.declarations n.tree.items) w × LacksWithin depth modules w.0 w.1 y k)
+      ⊎ ((w : Text × Text) × Contains {X = Text × Text} (handed_namespaces u n.tree.declarations n.tree.items) w × LacksWithin depth modules w.0 w.1 y k)
 
   abbrev test : Inclusion → Bool
-  test = lacks_by modules (components_within depth modules) (included_in depth modules) (included_agrees depth modules) u m.tree.declarations (written m.tree.items) k
+  test = lacks_by modules (components_within depth modules) (included_in depth modules) (included_agrees depth modules) u m.tree.declarations (written_components m.tree.items) k
 
   own_is : list_any test is ≡ items_lack (components_within depth modules) u m.tree.declarations m.tree.items k
   own_is = items_lack_is modules (components_within depth modules) (included_in depth modules) (included_agrees depth modules) u m.tree.declarations k m.tree.items flat
@@ -154,7 +154,7 @@ module _ (depth : ℕ) (modules : List NamedModule) (x u : Text) (m : NamedModul
   to_brought : InModule m → Any Brought is
   to_brought (inl (s, e)) = let a = Any-from_list_any test is (own_is ∙ e) in (a.0, a.1, a.2, a.3, inl (s, a.4))
   to_brought (inr (w, c, h)) =
-      let at : Any Within (map (wanted_at modules u m.tree.declarations) (handed u m.tree.declarations m.tree.items)) = any_map (wanted_at modules u m.tree.declarations) Within (handed u m.tree.declarations m.tree.items) (c.0, w, c.1, c.2, lacked_at depth modules w.0 w.1 y k (place_in modules w.0) refl h) in
+      let at : Any Within (map (wanted_at modules u m.tree.declarations) (handed_namespaces u m.tree.declarations m.tree.items)) = any_map (wanted_at modules u m.tree.declarations) Within (handed_namespaces u m.tree.declarations m.tree.items) (c.0, w, c.1, c.2, lacked_at depth modules w.0 w.1 y k (place_in modules w.0) refl h) in
       let a = any_unmap (included_at modules u m.tree.declarations) Within is (subst (λ (ws : List (Option ℕ × Text)). Any Within ws) (handed_by modules u m.tree.declarations 0 m.tree.items flat) at) in
       (a.0, a.1, a.2, a.3, inr a.4)
 
@@ -162,16 +162,16 @@ module _ (depth : ℕ) (modules : List NamedModule) (x u : Text) (m : NamedModul
   from_brought (j, i, l, e, inl (s, b)) = inl (s, sym own_is ∙ list_any-from_Any test is (j, i, l, e, b))
   from_brought (j, i, l, e, inr h) =
       let at : Any Within (map (included_at modules u m.tree.declarations) is) = any_map (included_at modules u m.tree.declarations) Within is (j, i, l, e, h) in
-      let a = any_unmap (wanted_at modules u m.tree.declarations) Within (handed u m.tree.declarations m.tree.items) (subst (λ (ws : List (Option ℕ × Text)). Any Within ws) (sym (handed_by modules u m.tree.declarations 0 m.tree.items flat)) at) in
+      let a = any_unmap (wanted_at modules u m.tree.declarations) Within (handed_namespaces u m.tree.declarations m.tree.items) (subst (λ (ws : List (Option ℕ × Text)). Any Within ws) (sym (handed_by modules u m.tree.declarations 0 m.tree.items flat)) at) in
       inr (a.1, (a.0, a.2, a.3), lacked_from depth modules a.1.0 a.1.1 y k (place_in modules a.1.0) refl a.4)
 
-  pub lacks_brought : LacksWithin (suc depth) modules x u y k → SomeLacks (InclusionLacks depth modules x u m.tree.declarations (written m.tree.items)) is y k
+  pub lacks_brought : LacksWithin (suc depth) modules x u y k → SomeLacks (InclusionLacks depth modules x u m.tree.declarations (written_components m.tree.items)) is y k
   lacks_brought h =
       let only : (m ≡ h.0) ⊎ Contains [] h.0 = contains_cases m h.0 [] (subst (λ (ms : List NamedModule). Contains ms h.0) named h.1) in
       let a = to_brought (⊎_elim (λ s. subst InModule (sym s) h.2) (λ c. absurd (omega (arith, c.1))) only) in
       (a.1, (a.0, a.2, a.3), a.4)
 
-  pub brought_lacks : SomeLacks (InclusionLacks depth modules x u m.tree.declarations (written m.tree.items)) is y k → LacksWithin (suc depth) modules x u y k
+  pub brought_lacks : SomeLacks (InclusionLacks depth modules x u m.tree.declarations (written_components m.tree.items)) is y k → LacksWithin (suc depth) modules x u y k
   brought_lacks (i, c, h) = (m, subst (λ (ms : List NamedModule). Contains ms m) (sym named) (contains_front m []), from_brought (c.0, i, c.1, c.2, h))
 
 -- what the includes of a module's contents brought is what the module lacks
@@ -180,7 +180,7 @@ pub module_noted : (depth : ℕ) (modules : List NamedModule) (names : List Text
     → Notes (AtNumbers modules names (LacksWithin (suc depth) modules x u)) old new
 module_noted depth modules names x u m content old new named flat is h =
     let By : List Written → List Inclusion → Text → Key → Type 0 = λ ws js. SomeLacks (InclusionLacks depth modules x u m.tree.declarations ws) js in
-    let ws = written m.tree.items in
+    let ws = written_components m.tree.items in
     let js = inclusions modules 0 m.tree.items in
     let here : Notes (AtNumbers modules names (By ws js)) old new = subst (λ (ks : List Inclusion). Notes (AtNumbers modules names (By ws ks)) old new) is.includes
     (subst (λ (vs : List Written). Notes (AtNumbers modules names (By vs (map inclusion_view content.includes.items))) old new) is.components h) in
@@ -213,7 +213,7 @@ module _ (modules : List NamedModule) (names : List Text) (contents : List Conte
   key_number : (depth : ℕ) (u : Text) (m : NamedModule) (k : Key) → Contains modules m → items_lack (components_within depth modules) u m.tree.declarations m.tree.items k ≡ true → IsKeyNumber names k
   key_number depth u m k c e =
       let r = paired (IsContents modules names) modules contents m are c in
-      let ws = written m.tree.items in
+      let ws = written_components m.tree.items in
       let fl = contained_each (λ (n : NamedModule). AreFlat n.tree.items) modules flat m c in
       let a = Any-from_list_any (lacks_by modules (components_within depth modules) (included_in depth modules) (included_agrees depth modules) u m.tree.declarations ws k) (inclusions modules 0 m.tree.items) (items_lack_is modules (components_within depth modules) (included_in depth modules) (included_agrees depth modules) u m.tree.declarations k m.tree.items fl ∙ e) in
       let i = a.1 in

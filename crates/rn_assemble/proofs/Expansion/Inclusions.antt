@@ -27,7 +27,7 @@ use Rattle.rn_assemble.specs.Refusal.{Wants}
 use Rattle.rn_assemble.proofs.Expansion.ModuleLookups.{none_named, one_named, place_name, place_within}
 use Rattle.rn_assemble.proofs.Referring.Named.{mapped, unmapped}
 use Rattle.rn_assemble.proofs.Referring.Numbers.{not_itself}
-use Rattle.rn_assemble.proofs.Expansion.Steps.{lead_first, reach_last}
+use Rattle.rn_assemble.proofs.Expansion.LongerPaths.{lead_first, reach_last}
 
 -- sums of values that agree
 pub sum_through : {X Y : Type 0} (f : X → ℕ) (g : Y → ℕ) (v : X → Y) (xs : List X) → ((x : X) → Contains xs x → f x ≡ g (v x)) → sum_by f xs ≡ sum_by g (map v xs)

@@ -16,7 +16,7 @@ use Rattle.rn_assemble.specs.Components.{Key, NamedModule, Includes, components_
 use Rattle.rn_assemble.specs.inside.Contained.{AreFlat}
 use Rattle.rn_assemble.specs.inside.Expanded.{name_at}
 use Rattle.rn_assemble.specs.inside.Included.{AreIncluded}
-use Rattle.rn_assemble.specs.inside.Lacking.{LacksFrom, LacksWithin, handed, item_handed}
+use Rattle.rn_assemble.specs.inside.Lacking.{LacksFrom, LacksWithin, handed_namespaces, item_handed_namespaces}
 use Rattle.rn_assemble.specs.Refusal.{Lacks, items_lack}
 use Rattle.rn_assemble.proofs.Combined.Depth.{few, wanted}
 use Rattle.rn_assemble.proofs.Referring.FoundReferences.{flat_contains, map_contained, map_contains}
@@ -26,21 +26,21 @@ use Rattle.rn_assemble.proofs.Expansion.SameKeys.{HaveSameKeys, items_lack_same,
 -- what is handed on goes to the includes
 module _ (u : Text) (ds : List Declaration) where
   mutual
-    item_handed_names : (x : Item) → map (λ (w : Text × Text). w.0) (item_handed u ds x) ≡ item_includes x
+    item_handed_names : (x : Item) → map (λ (w : Text × Text). w.0) (item_handed_namespaces u ds x) ≡ item_includes x
     item_handed_names (t.define n m p) = refl
     item_handed_names (t.start m p) = refl
     item_handed_names (t.div xs) = handed_names xs
     item_handed_names (t.include w h xs) = ap (λ l. w ∷ l) (handed_names xs)
 
-    handed_names : (xs : Items) → map (λ (w : Text × Text). w.0) (handed u ds xs) ≡ includes xs
+    handed_names : (xs : Items) → map (λ (w : Text × Text). w.0) (handed_namespaces u ds xs) ≡ includes xs
     handed_names t.no_items = refl
-    handed_names (t.item x xs) = map-append (λ (w : Text × Text). w.0) (item_handed u ds x) (handed u ds xs) ∙ (λ i. item_handed_names x i ++ handed_names xs i)
+    handed_names (t.item x xs) = map-append (λ (w : Text × Text). w.0) (item_handed_namespaces u ds x) (handed_namespaces u ds xs) ∙ (λ i. item_handed_names x i ++ handed_names xs i)
 
-  handed_in : (xs : Items) (w : Text × Text) → Contains (handed u ds xs) w → Contains (includes xs) w.0
-  handed_in xs w c = subst (λ l. Contains l w.0) (handed_names xs) (map_contains (λ (v : Text × Text). v.0) (handed u ds xs) w c)
+  handed_in : (xs : Items) (w : Text × Text) → Contains (handed_namespaces u ds xs) w → Contains (includes xs) w.0
+  handed_in xs w c = subst (λ l. Contains l w.0) (handed_names xs) (map_contains (λ (v : Text × Text). v.0) (handed_namespaces u ds xs) w c)
 
-  handed_to : (xs : Items) (y : Text) → Contains (includes xs) y → (w : Text × Text) × Contains {X = Text × Text} (handed u ds xs) w × (w.0 ≡ y)
-  handed_to xs y c = map_contained (λ (v : Text × Text). v.0) (handed u ds xs) y (subst (λ l. Contains l y) (sym (handed_names xs)) c)
+  handed_to : (xs : Items) (y : Text) → Contains (includes xs) y → (w : Text × Text) × Contains {X = Text × Text} (handed_namespaces u ds xs) w × (w.0 ≡ y)
+  handed_to xs y c = map_contained (λ (v : Text × Text). v.0) (handed_namespaces u ds xs) y (subst (λ l. Contains l y) (sym (handed_names xs)) c)
 
 module _ (modules : List NamedModule) (total : ℕ) where
   -- the module lacks the key, where includes are followed so deep

@@ -13,10 +13,7 @@ use Rattle.rn_pattern.proofs.Ordered.Ascending.{each_join, each_front, each_behi
 use Rattle.rn_assemble.specs.declared.components.Body.{Body}
 use Rattle.rn_assemble.specs.Components.{Component}
 use Rattle.rn_assemble.specs.inside.Listed.{IsBody, IsLive, Live, ListsBy, Rises, places_of}
-
-pub each_to : {X : Type 0} (P Q : X → Type 0) → ((x : X) → P x → Q x) → (xs : List X) → AllByRecursion P xs → AllByRecursion Q xs
-each_to P Q f [] h = tt
-each_to P Q f (x ∷ xs) h = (f x h.0, each_to P Q f xs h.1)
+pub use Rattle.rn_assemble.proofs.Combined.Joined.{mapped as each_to}
 
 each_filtered_at : {X : Type 0} (P : X → Type 0) (b : Bool) (x : X) (ys : List X) → P x → AllByRecursion P ys → AllByRecursion P (cond b (x ∷ ys) ys)
 each_filtered_at P true x ys h k = (h, k)

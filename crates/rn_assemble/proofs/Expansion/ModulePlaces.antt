@@ -8,10 +8,11 @@ use Rattle.std.proofs.lemmas.List.Elements.{Contains-get_or}
 use Rattle.std.proofs.lemmas.Slice.Eq.{bytes_eq-Decides}
 use Rattle.std.proofs.lemmas.Cmp.{nat_list_cmp_total, tied_itself}
 use Rattle.rn_text.specs.Texts.{Text, text_cmp}
-use Rattle.rn_assemble.specs.declared.modules.NamedModule.{NamedModule}
+use Rattle.rn_assemble.specs.declared.named_modules.NamedModule.{NamedModule}
 use Rattle.rn_assemble.specs.Components as s
 use Rattle.rn_assemble.specs.inside.Contained.{place_in}
 use Rattle.rn_assemble.specs.inside.Views.{module_names, modules_view}
+pub use Rattle.rn_assemble.proofs.Combined.Joined.{differ as differs}
 use Rattle.rn_assemble.proofs.Referring.Named.{place_of, mapped, rise_at}
 
 none_from : (p : NamedModule → Bool) (n : ℕ) (ys : List NamedModule) → ((k : ℕ) (d : NamedModule) → k < length ys → p (get_or ys k d) ≡ false) → position_from p n ys ≡ None
@@ -31,13 +32,6 @@ found_at p i ys l h k = found_from p 0 i ys l h k ∙ (let e : 0 + i ≡ i = ome
 seen_from : (t : Text) (n : ℕ) (xs : List NamedModule) → position_from (λ (m : s.NamedModule). bytes_eq t m.name) n (modules_view xs) ≡ position_from (λ (m : NamedModule). bytes_eq t m.name.now) n xs
 seen_from t n [] = refl
 seen_from t n (x ∷ xs) = ap (λ o. cond (bytes_eq t x.name.now) (Some n) o) (seen_from t (n + 1) xs)
-
-differs_at : (b : Bool) (x y : Text) → bytes_eq x y ≡ b → ¬ (x ≡ y) → bytes_eq x y ≡ false
-differs_at true x y e n = absurd (n ((bytes_eq-Decides x y).0 e))
-differs_at false x y e n = e
-
-pub differs : (x y : Text) → ¬ (x ≡ y) → bytes_eq x y ≡ false
-differs x y n = differs_at (bytes_eq x y) x y refl n
 
 pub place_found : (xs : List NamedModule) (t : Text) (r : Result ℕ ℕ) → IsStrictlySortedBy text_cmp (module_names xs) → IsBinarySearchResult (λ (y : NamedModule). text_cmp y.name.now t) xs r → IsSearchInRange r (length xs) → result_ok r ≡ place_in (modules_view xs) t
 place_found xs t (Ok i) o h l =

@@ -13,7 +13,7 @@ use Rattle.rn_text.specs.Texts.{Text, text_cmp}
 use Rattle.rn_syntax.specs.Tree.{Declaration}
 use Rattle.rn_assemble.specs.declared.contents.Component as code
 use Rattle.rn_assemble.specs.declared.components.Body.{Body}
-use Rattle.rn_assemble.specs.Components.{Component, same_key, has_key, overridden}
+use Rattle.rn_assemble.specs.Components.{Component, same_key, has_key, without_overridden}
 use Rattle.rn_assemble.specs.inside.Keyed.{key_at}
 use Rattle.rn_assemble.specs.inside.Views.{IsNumbered, written_view}
 use Rattle.rn_assemble.specs.inside.Listed.{IsBody, IsLive, Live, components_in, resolved_component}
@@ -72,8 +72,8 @@ module _ (names : List Text) (o : IsStrictlySortedBy text_cmp names) where
     kept_at false c e es xs h s = ap (λ l. e.component ∷ l) s ∙ ap (λ d. cond (not d) (e.component ∷ xs) xs) h
 
     -- what is left of the live components are those that are not overridden
-    pub left_is : (bodies : List Body) (list : List ℕ) (cs : List code.Component) → AllByRecursion (IsNumbered names) cs → (es : List Live) → AllByRecursion (IsLive names bodies list) es → components_in (left_by cs es) ≡ overridden (components_in es) (res cs)
+    pub left_is : (bodies : List Body) (list : List ℕ) (cs : List code.Component) → AllByRecursion (IsNumbered names) cs → (es : List Live) → AllByRecursion (IsLive names bodies list) es → components_in (left_by cs es) ≡ without_overridden (components_in es) (res cs)
     left_is bodies list cs n [] h = refl
     left_is bodies list cs n (e ∷ es) h =
-        kept_at (list_any (λ (c : code.Component). e.key == c.key) cs) (has_key e.component.key (res cs)) e (left_by cs es) (overridden (components_in es) (res cs))
+        kept_at (list_any (λ (c : code.Component). e.key == c.key) cs) (has_key e.component.key (res cs)) e (left_by cs es) (without_overridden (components_in es) (res cs))
         (same_any e.key cs (numbered_live names bodies list e h.0) n ∙ ap (λ j. has_key j (res cs)) (sym (key_of_live bodies list e h.0))) (left_is bodies list cs n es h.1)

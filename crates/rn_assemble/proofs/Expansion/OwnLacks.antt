@@ -25,7 +25,7 @@ use Rattle.rn_assemble.specs.inside.Noting.{AtNumbers, IncludedLacks, InclusionL
 use Rattle.rn_assemble.specs.inside.Views.{IsNumbered, written_view}
 use Rattle.rn_assemble.proofs.Expansion.Expansions.{any_push}
 use Rattle.rn_assemble.proofs.Referring.FoundReferences.{all_keyed}
-use Rattle.rn_assemble.proofs.Expansion.Going.{each_drop, each_take}
+use Rattle.rn_assemble.proofs.Expansion.ModuleExpansion.{each_drop, each_take}
 use Rattle.rn_assemble.proofs.Joining.KeyedBodies.{of_key_at}
 use Rattle.rn_assemble.proofs.Referring.LeastKeys.{has_none, has_some}
 use Rattle.rn_assemble.proofs.Expansion.LiveLists.{above, high_at, low_at, places_each, places_join}

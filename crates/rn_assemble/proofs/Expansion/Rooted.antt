@@ -14,7 +14,7 @@ use Rattle.rn_assemble.specs.Components.{NamedModule, Includes, modules_named, r
 use Rattle.rn_syntax.specs.Tree.{includes}
 use Rattle.rn_assemble.proofs.Combined.Depth.{wanted}
 use Rattle.rn_assemble.proofs.Referring.FoundReferences.{flat_contains, flat_contained, map_contains}
-use Rattle.rn_assemble.proofs.Expansion.Steps.{reach_last}
+use Rattle.rn_assemble.proofs.Expansion.LongerPaths.{reach_last}
 
 module _ {X : Type 0} where
   -- what passes a test, in what a filter keeps

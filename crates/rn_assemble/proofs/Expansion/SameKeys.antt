@@ -9,7 +9,7 @@ use Rattle.rn_pattern.proofs.Ordered.Ascending.{each_front, each_behind}
 use Rattle.rn_pattern.proofs.Ordered.InOrder.{each_contained}
 use Rattle.rn_syntax.specs.Tree as t
 use Rattle.rn_syntax.specs.Tree.{Declaration, Item, Items, item_includes, includes}
-use Rattle.rn_assemble.specs.Components.{Key, Component, NamedModule, same_key, has_key, overridden, handed_on, item_components, all_components, module_components, modules_named, components_within, instances_within}
+use Rattle.rn_assemble.specs.Components.{Key, Component, NamedModule, same_key, has_key, without_overridden, handed_on, item_components, all_components, module_components, modules_named, components_within, instances_within}
 use Rattle.rn_assemble.specs.Refusal.{item_lacks, items_lack}
 use Rattle.rn_assemble.proofs.Combined.Depth.{components_enough, wanted}
 use Rattle.rn_assemble.proofs.Referring.Numbers.{same_key-Decides}
@@ -26,15 +26,15 @@ kept_key true false k c rest more free e s h = h ∙ ap (λ x. more && x) (sym (
 kept_key false true k c rest more free e s h = ap (λ x. x || has_key k rest) e ∙ h
 kept_key false false k c rest more free e s h = h
 
-keys_overridden : (k : Key) (cs own : List Component) → has_key k (overridden cs own) ≡ (has_key k cs && not (has_key k own))
+keys_overridden : (k : Key) (cs own : List Component) → has_key k (without_overridden cs own) ≡ (has_key k cs && not (has_key k own))
 keys_overridden k [] own = refl
 keys_overridden k (c ∷ cs) own =
-    kept_key (same_key k c.key) (not (has_key c.key own)) k c (overridden cs own) (has_key k cs) (not (has_key k own)) refl
+    kept_key (same_key k c.key) (not (has_key c.key own)) k c (without_overridden cs own) (has_key k cs) (not (has_key k own)) refl
     (λ e. ap (λ j. not (has_key j own)) (sym ((same_key-Decides k c.key).0 e))) (keys_overridden k cs own)
 
-keys_spliced : (k : Key) (cs own ds mine : List Component) → has_key k cs ≡ has_key k ds → has_key k own ≡ has_key k mine → has_key k (overridden cs own ++ own) ≡ has_key k (overridden ds mine ++ mine)
+keys_spliced : (k : Key) (cs own ds mine : List Component) → has_key k cs ≡ has_key k ds → has_key k own ≡ has_key k mine → has_key k (without_overridden cs own ++ own) ≡ has_key k (without_overridden ds mine ++ mine)
 keys_spliced k cs own ds mine e f =
-    keys_joined k (overridden cs own) own (overridden ds mine) mine (keys_overridden k cs own ∙ (λ i. e i && not (f i)) ∙ sym (keys_overridden k ds mine)) f
+    keys_joined k (without_overridden cs own) own (without_overridden ds mine) mine (keys_overridden k cs own ∙ (λ i. e i && not (f i)) ∙ sym (keys_overridden k ds mine)) f
 
 module _ (f g : Text → Text → List Component) where
   abbrev pub HaveSameKeys : Text → Type 0

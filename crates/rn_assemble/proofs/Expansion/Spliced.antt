@@ -5,9 +5,10 @@ use Rattle.std.proofs.lemmas.List.{map-append, length-append, take_rest, drop_at
 use Rattle.rn_text.specs.Texts.{Text}
 use Rattle.rn_syntax.specs.Tree as t
 use Rattle.rn_syntax.specs.Tree.{Declaration, Item, Items, item_includes, includes}
-use Rattle.rn_assemble.specs.Components.{Component, NamedModule, all_components, item_components, overridden, handed_on}
-use Rattle.rn_assemble.specs.inside.Contained.{AreFlat, IsFlat, Inclusion, Written, inclusions, item_inclusions, item_written, place_in, written}
+use Rattle.rn_assemble.specs.Components.{Component, NamedModule, all_components, item_components, without_overridden, handed_on}
+use Rattle.rn_assemble.specs.inside.Contained.{AreFlat, IsFlat, Inclusion, Written, inclusions, item_inclusions, item_written_components, place_in, written_components}
 use Rattle.rn_assemble.specs.inside.Listed.{resolved_component}
+use Rattle.rn_assemble.proofs.Expansion.Expansions.{range_none}
 
 -- no include before a place, and each include's own components behind it
 abbrev pub Ordered : ℕ → ℕ → List Inclusion → Type 0
@@ -38,9 +39,6 @@ range_both ws a b c l m =
     let d : a + (b - a) ≡ b = omega (arith, l) in
     ap (λ n. take n (drop a ws)) e ∙ take_both (b - a) (c - b) (drop a ws) ∙ ap (λ t. take (b - a) (drop a ws) ++ take (c - b) t) (drop-drop (b - a) a ws ∙ ap (λ n. drop n ws) d)
 
-nothing : {X : Type 0} (ws : List X) (a : ℕ) → slice_range ws a a ≡ []
-nothing ws a = let e : a - a ≡ 0 = omega arith in ap (λ n. take n (drop a ws)) e
-
 range_size : {X : Type 0} (ws : List X) (a b : ℕ) → b ≤ length ws → length (slice_range ws a b) ≡ b - a
 range_size ws a b l = length-take-le (b - a) (drop a ws) (omega (arith, l, length-drop a ws))
 
@@ -67,7 +65,7 @@ module _ (at : Option ℕ → Text → List Component) (u : Text) (ds : List Dec
   -- what is left from a place on
   abbrev pub spliced : List Written → List Inclusion → ℕ → List Component
   spliced ws [] n = map (resolved_component u ds) (slice_range ws n (length ws))
-  spliced ws (i ∷ is) n = map (resolved_component u ds) (slice_range ws n i.first) ++ (overridden (at i.module_at (handed_on u ds i.inherit)) (map (resolved_component u ds) (slice_range ws i.first i.end)) ++ spliced ws is i.first)
+  spliced ws (i ∷ is) n = map (resolved_component u ds) (slice_range ws n i.first) ++ (without_overridden (at i.module_at (handed_on u ds i.inherit)) (map (resolved_component u ds) (slice_range ws i.first i.end)) ++ spliced ws is i.first)
 
 module _ (modules : List NamedModule) where
   -- where there is no include
@@ -82,7 +80,7 @@ module _ (modules : List NamedModule) where
     items_none n t.no_items e = refl
     items_none n (t.item x xs) e =
         let first = item_none n x (no_includes_front (item_includes x) (includes xs) e) in
-        let rest = items_none (n + length (item_written x)) xs (no_includes_behind (item_includes x) (includes xs) e) in
+        let rest = items_none (n + length (item_written_components x)) xs (no_includes_behind (item_includes x) (includes xs) e) in
         λ i. first i ++ rest i
 
   ordered_from : (end m n : ℕ) (js : List Inclusion) → m ≤ n → Ordered end n js → Ordered end m js
@@ -90,26 +88,26 @@ module _ (modules : List NamedModule) where
   ordered_from end m n (j ∷ js) l h = (omega (arith, l, h.0), h.1, h.2, h.3)
 
   mutual
-    item_ordered : (end n : ℕ) (x : Item) (js : List Inclusion) → IsFlat x → n + length (item_written x) ≤ end → Ordered end (n + length (item_written x)) js → Ordered end n (item_inclusions modules n x ++ js)
+    item_ordered : (end n : ℕ) (x : Item) (js : List Inclusion) → IsFlat x → n + length (item_written_components x) ≤ end → Ordered end (n + length (item_written_components x)) js → Ordered end n (item_inclusions modules n x ++ js)
     item_ordered end n (t.define x m p) js f l h = ordered_from end n (n + 1) js (omega arith) h
     item_ordered end n (t.start m p) js f l h = ordered_from end n (n + 1) js (omega arith) h
     item_ordered end n (t.div xs) js f l h = items_ordered end n xs js f l h
     item_ordered end n (t.include w u xs) js f l h =
-        let i : Inclusion = record { module_at = place_in modules w; inherit = u; first = n; end = n + length (written xs) } in
-        subst (λ is. Ordered end n ((is ++ i ∷ []) ++ js)) (sym (items_none n xs f)) (omega arith, omega arith, l, ordered_from end n (n + length (written xs)) js (omega arith) h)
+        let i : Inclusion = record { module_at = place_in modules w; inherit = u; first = n; end = n + length (written_components xs) } in
+        subst (λ is. Ordered end n ((is ++ i ∷ []) ++ js)) (sym (items_none n xs f)) (omega arith, omega arith, l, ordered_from end n (n + length (written_components xs)) js (omega arith) h)
 
-    items_ordered : (end n : ℕ) (xs : Items) (js : List Inclusion) → AreFlat xs → n + length (written xs) ≤ end → Ordered end (n + length (written xs)) js → Ordered end n (inclusions modules n xs ++ js)
+    items_ordered : (end n : ℕ) (xs : Items) (js : List Inclusion) → AreFlat xs → n + length (written_components xs) ≤ end → Ordered end (n + length (written_components xs)) js → Ordered end n (inclusions modules n xs ++ js)
     items_ordered end n t.no_items js f l h = ordered_from end n (n + 0) js (omega arith) h
     items_ordered end n (t.item x xs) js f l h =
-        let size = length-append (item_written x) (written xs) in
-        let m = n + length (item_written x) in
-        let e : n + length (item_written x ++ written xs) ≡ m + length (written xs) = omega (arith, size) in
+        let size = length-append (item_written_components x) (written_components xs) in
+        let m = n + length (item_written_components x) in
+        let e : n + length (item_written_components x ++ written_components xs) ≡ m + length (written_components xs) = omega (arith, size) in
         subst (λ is. Ordered end n is) (sym (append_assoc (item_inclusions modules n x) (inclusions modules m xs) js))
         (item_ordered end n x (inclusions modules m xs ++ js) f.0 (omega (arith, l, size)) (items_ordered end m xs js f.1 (omega (arith, l, size)) (subst (λ k. Ordered end k js) e h)))
 
-  pub inclusions_ordered : (xs : Items) → AreFlat xs → Ordered (length (written xs)) 0 (inclusions modules 0 xs)
+  pub inclusions_ordered : (xs : Items) → AreFlat xs → Ordered (length (written_components xs)) 0 (inclusions modules 0 xs)
   inclusions_ordered xs f =
-      let n = length (written xs) in
+      let n = length (written_components xs) in
       subst (λ is. Ordered n 0 is) (append-nil (inclusions modules 0 xs)) (items_ordered n 0 xs [] f (omega arith) (omega arith))
 
   module _ (f : Text → Text → List Component) (at : Option ℕ → Text → List Component) (agree : (w v : Text) → at (place_in modules w) v ≡ f w v) (u : Text) (ds : List Declaration) where
@@ -119,61 +117,61 @@ module _ (modules : List NamedModule) where
     skips : (ws : List Written) (js : List Inclusion) (n m : ℕ) → n ≤ m → m ≤ length ws → Ordered (length ws) m js → spliced at u ds ws js n ≡ res (slice_range ws n m) ++ spliced at u ds ws js m
     skips ws [] n m l k o = ap res (range_both ws n m (length ws) l k) ∙ map-append (resolved_component u ds) (slice_range ws n m) (slice_range ws m (length ws))
     skips ws (j ∷ js) n m l k o =
-        let rest = overridden (at j.module_at (handed_on u ds j.inherit)) (res (slice_range ws j.first j.end)) ++ spliced at u ds ws js j.first in
+        let rest = without_overridden (at j.module_at (handed_on u ds j.inherit)) (res (slice_range ws j.first j.end)) ++ spliced at u ds ws js j.first in
         ap (λ l. l ++ rest) (ap res (range_both ws n m j.first l o.0) ∙ map-append (resolved_component u ds) (slice_range ws n m) (slice_range ws m j.first)) ∙ append_assoc (res (slice_range ws n m)) (res (slice_range ws m j.first)) rest
 
     -- own items, among which there is no include
     mutual
-      item_plain : (x : Item) → item_includes x ≡ [] → item_components f u ds x ≡ res (item_written x)
+      item_plain : (x : Item) → item_includes x ≡ [] → item_components f u ds x ≡ res (item_written_components x)
       item_plain (t.define x m p) e = refl
       item_plain (t.start m p) e = refl
       item_plain (t.div xs) e = items_plain xs e
       item_plain (t.include w h xs) e = cc
 
-      pub items_plain : (xs : Items) → includes xs ≡ [] → all_components f u ds xs ≡ res (written xs)
+      pub items_plain : (xs : Items) → includes xs ≡ [] → all_components f u ds xs ≡ res (written_components xs)
       items_plain t.no_items e = refl
       items_plain (t.item x xs) e =
           let first = item_plain x (no_includes_front (item_includes x) (includes xs) e) in
           let rest = items_plain xs (no_includes_behind (item_includes x) (includes xs) e) in
-          (λ i. first i ++ rest i) ∙ sym (map-append (resolved_component u ds) (item_written x) (written xs))
+          (λ i. first i ++ rest i) ∙ sym (map-append (resolved_component u ds) (item_written_components x) (written_components xs))
 
     one_more : (ws : List Written) (js : List Inclusion) (n : ℕ) (w : Written) → n + 1 ≤ length ws → slice_range ws n (n + 1) ≡ w ∷ [] → Ordered (length ws) (n + 1) js → spliced at u ds ws js n ≡ res (w ∷ []) ++ spliced at u ds ws js (n + 1)
     one_more ws js n w l e o = skips ws js n (n + 1) (omega arith) l o ∙ ap (λ vs. res vs ++ spliced at u ds ws js (n + 1)) e
 
     mutual
-      item_spliced : (ws : List Written) (x : Item) (js : List Inclusion) (n : ℕ) → IsFlat x → n + length (item_written x) ≤ length ws → slice_range ws n (n + length (item_written x)) ≡ item_written x → Ordered (length ws) (n + length (item_written x)) js
-          → spliced at u ds ws (item_inclusions modules n x ++ js) n ≡ item_components f u ds x ++ spliced at u ds ws js (n + length (item_written x))
+      item_spliced : (ws : List Written) (x : Item) (js : List Inclusion) (n : ℕ) → IsFlat x → n + length (item_written_components x) ≤ length ws → slice_range ws n (n + length (item_written_components x)) ≡ item_written_components x → Ordered (length ws) (n + length (item_written_components x)) js
+          → spliced at u ds ws (item_inclusions modules n x ++ js) n ≡ item_components f u ds x ++ spliced at u ds ws js (n + length (item_written_components x))
       item_spliced ws (t.define x m p) js n fl l e o = one_more ws js n _ l e o
       item_spliced ws (t.start m p) js n fl l e o = one_more ws js n _ l e o
       item_spliced ws (t.div xs) js n fl l e o = items_spliced ws xs js n fl l e o
       item_spliced ws (t.include w h xs) js n fl l e o =
-          let k = n + length (written xs) in
+          let k = n + length (written_components xs) in
           let v = handed_on u ds h in
           let i : Inclusion = record { module_at = place_in modules w; inherit = h; first = n; end = k } in
-          let own : all_components f u ds xs ≡ res (written xs) = items_plain xs fl in
-          let whole = (λ j. spliced at u ds ws ((items_none n xs fl j ++ i ∷ []) ++ js) n) ∙ ap (λ r. res r ++ (overridden (at (place_in modules w) v) (res (slice_range ws n k)) ++ spliced at u ds ws js n)) (nothing ws n) in
-          whole ∙ (λ j. overridden (agree w v j) (res (e j)) ++ spliced at u ds ws js n) ∙ ap (λ r. overridden (f w v) (res (written xs)) ++ r) (skips ws js n k (omega arith) l o ∙ ap (λ r. res r ++ spliced at u ds ws js k) e)
-          ∙ sym (append_assoc (overridden (f w v) (res (written xs))) (res (written xs)) (spliced at u ds ws js k)) ∙ (λ j. (overridden (f w v) (sym own j) ++ sym own j) ++ spliced at u ds ws js k)
+          let own : all_components f u ds xs ≡ res (written_components xs) = items_plain xs fl in
+          let whole = (λ j. spliced at u ds ws ((items_none n xs fl j ++ i ∷ []) ++ js) n) ∙ ap (λ r. res r ++ (without_overridden (at (place_in modules w) v) (res (slice_range ws n k)) ++ spliced at u ds ws js n)) (range_none ws n) in
+          whole ∙ (λ j. without_overridden (agree w v j) (res (e j)) ++ spliced at u ds ws js n) ∙ ap (λ r. without_overridden (f w v) (res (written_components xs)) ++ r) (skips ws js n k (omega arith) l o ∙ ap (λ r. res r ++ spliced at u ds ws js k) e)
+          ∙ sym (append_assoc (without_overridden (f w v) (res (written_components xs))) (res (written_components xs)) (spliced at u ds ws js k)) ∙ (λ j. (without_overridden (f w v) (sym own j) ++ sym own j) ++ spliced at u ds ws js k)
 
-      items_spliced : (ws : List Written) (xs : Items) (js : List Inclusion) (n : ℕ) → AreFlat xs → n + length (written xs) ≤ length ws → slice_range ws n (n + length (written xs)) ≡ written xs → Ordered (length ws) (n + length (written xs)) js
-          → spliced at u ds ws (inclusions modules n xs ++ js) n ≡ all_components f u ds xs ++ spliced at u ds ws js (n + length (written xs))
+      items_spliced : (ws : List Written) (xs : Items) (js : List Inclusion) (n : ℕ) → AreFlat xs → n + length (written_components xs) ≤ length ws → slice_range ws n (n + length (written_components xs)) ≡ written_components xs → Ordered (length ws) (n + length (written_components xs)) js
+          → spliced at u ds ws (inclusions modules n xs ++ js) n ≡ all_components f u ds xs ++ spliced at u ds ws js (n + length (written_components xs))
       items_spliced ws t.no_items js n fl l e o = let z : n ≡ n + 0 = omega arith in ap (spliced at u ds ws js) z
       items_spliced ws (t.item x xs) js n fl l e o =
-          let m = n + length (item_written x) in
-          let size = length-append (item_written x) (written xs) in
-          let end : n + length (item_written x ++ written xs) ≡ m + length (written xs) = omega (arith, size) in
-          let parts = range_parts ws (item_written x) (written xs) n l e in
+          let m = n + length (item_written_components x) in
+          let size = length-append (item_written_components x) (written_components xs) in
+          let end : n + length (item_written_components x ++ written_components xs) ≡ m + length (written_components xs) = omega (arith, size) in
+          let parts = range_parts ws (item_written_components x) (written_components xs) n l e in
           let ordered = subst (λ k. Ordered (length ws) k js) end o in
           let first = item_spliced ws x (inclusions modules m xs ++ js) n fl.0 (omega (arith, l, size)) parts.0 (items_ordered (length ws) m xs js fl.1 (omega (arith, l, size)) ordered) in
           let rest = items_spliced ws xs js m fl.1 (omega (arith, l, size)) parts.1 ordered in
           ap (λ is. spliced at u ds ws is n) (append_assoc (item_inclusions modules n x) (inclusions modules m xs) js) ∙ first ∙ ap (λ r. item_components f u ds x ++ r) (rest ∙ ap (λ k. all_components f u ds xs ++ spliced at u ds ws js k) (sym end))
-          ∙ sym (append_assoc (item_components f u ds x) (all_components f u ds xs) (spliced at u ds ws js (n + length (item_written x ++ written xs))))
+          ∙ sym (append_assoc (item_components f u ds x) (all_components f u ds xs) (spliced at u ds ws js (n + length (item_written_components x ++ written_components xs))))
 
     -- a whole module
-    pub spliced_is : (xs : Items) → AreFlat xs → spliced at u ds (written xs) (inclusions modules 0 xs) 0 ≡ all_components f u ds xs
+    pub spliced_is : (xs : Items) → AreFlat xs → spliced at u ds (written_components xs) (inclusions modules 0 xs) 0 ≡ all_components f u ds xs
     spliced_is xs fl =
-        let ws = written xs in
+        let ws = written_components xs in
         let n : 0 + length ws ≡ length ws = omega arith in
-        let none : spliced at u ds ws [] (0 + length ws) ≡ [] = ap (λ k. spliced at u ds ws [] k) n ∙ ap res (nothing ws (length ws)) in
+        let none : spliced at u ds ws [] (0 + length ws) ≡ [] = ap (λ k. spliced at u ds ws [] k) n ∙ ap res (range_none ws (length ws)) in
         ap (λ is. spliced at u ds ws is 0) (sym (append-nil (inclusions modules 0 xs))) ∙ items_spliced ws xs [] 0 fl (omega arith) (whole_range ws) (omega arith)
         ∙ ap (λ r. all_components f u ds xs ++ r) none ∙ append-nil (all_components f u ds xs)

@@ -12,7 +12,7 @@ use Rattle.rn_text.specs.Texts.{Text}
 use Rattle.rn_pattern.specs.View.{pattern_view, boxed_view}
 use Rattle.rn_pattern.specs.declared.tree.Pattern.{Pattern}
 use Rattle.rn_assemble.specs.declared.components.Body.{Body}
-use Rattle.rn_assemble.specs.Combine.{defined_names, joined, joined_grammar}
+use Rattle.rn_assemble.specs.Combine.{defined_names, joined_pattern, joined_grammar}
 use Rattle.rn_assemble.specs.Components.{Component, Key, has_key, name_key, same_key, start_key}
 use Rattle.rn_assemble.specs.DefinitionsView.{definitions_view}
 use Rattle.rn_assemble.specs.Firsts.{joined_members}
@@ -74,7 +74,7 @@ module _ (names : List Text) (live : List Live) (rises : Rises 0 live) where
   done p = components_in (before p live)
 
   abbrev definition : Text → Text × Tree
-  definition x = (x, joined cs (name_key x))
+  definition x = (x, joined_pattern cs (name_key x))
 
   -- the names of the components before the place are defined, with the first places of their members, and the other patterns are left
   pub record Defining (patterns : List (Option (Box Pattern Global))) (entries : List (String Global × Pattern)) (rows : List (List ℕ)) (p : ℕ) : Type 0 where
@@ -117,30 +117,30 @@ module _ (names : List Text) (live : List Live) (rises : Rises 0 live) where
         }
   ]
 
-  pattern_is : (patterns : List (Option (Box Pattern Global))) (entries : List (String Global × Pattern)) (rows : List (List ℕ)) (p n : ℕ) → IsFirstAt names live p (Some n) → Defining patterns entries rows p → tree_at patterns n ≡ Some (joined cs (key_at names n))
+  pattern_is : (patterns : List (Option (Box Pattern Global))) (entries : List (String Global × Pattern)) (rows : List (List ℕ)) (p n : ℕ) → IsFirstAt names live p (Some n) → Defining patterns entries rows p → tree_at patterns n ≡ Some (joined_pattern cs (key_at names n))
   pattern_is patterns entries rows p n f h =
-      h.left n f.0 f.1 f.3 ∙ ap (λ b. cond b (Some (joined cs (key_at names n))) None) (key_there (key_at names n) live f.2.0 f.2.1 f.2.3)
+      h.left n f.0 f.1 f.3 ∙ ap (λ b. cond b (Some (joined_pattern cs (key_at names n))) None) (key_there (key_at names n) live f.2.0 f.2.1 f.2.3)
 
   -- the pattern of a name that begins at the place is there
   pub pattern_there : (patterns : List (Option (Box Pattern Global))) (entries : List (String Global × Pattern)) (rows : List (List ℕ)) (p n : ℕ) → IsFirstAt names live p (Some n) → Defining patterns entries rows p → get_or patterns n None ≡ None → ⊥
   pattern_there patterns entries rows p n f h none =
       let is = pattern_is patterns entries rows p n f h in
-      let wrong : None ≡ Some (joined cs (key_at names n)) = sym (ap (option_map boxed_view) none) ∙ is in cc
+      let wrong : None ≡ Some (joined_pattern cs (key_at names n)) = sym (ap (option_map boxed_view) none) ∙ is in cc
 
   -- a name begins there, and its definition is added
   pub defining_more : (patterns : List (Option (Box Pattern Global))) (entries entries' : List (String Global × Pattern)) (rows : List (List ℕ)) (v : List ℕ) (p n : ℕ) (s : Text) (q : Box Pattern Global) → IsFirstAt names live p (Some n) → Defining patterns entries rows p
       → get_or patterns n None ≡ Some q → s ≡ get_or names (n - 1) [] → (list_any (bytes_eq s) (map (λ (d : Text × Tree). d.0) (definitions_view entries)) ≡ false → definitions_view entries' ≡ definitions_view entries ++ (s, boxed_view q) ∷ [])
-      → AreTied v (joined_members (joined cs (key_at names n))) → Defining (set patterns n None) entries' (rows ++ v ∷ []) (p + 1)
+      → AreTied v (joined_members (joined_pattern cs (key_at names n))) → Defining (set patterns n None) entries' (rows ++ v ∷ []) (p + 1)
   defining_more patterns entries entries' rows v p n s q f h is name added tied =
       let x = get_or names (n - 1) [] in
       let key = number_name names n f.0 in
       let more = one_more p f.2.0 f.2.1 f.2.2 in
       let absent : has_key (name_key x) (done p) ≡ false = ap (λ k. has_key k (done p)) (sym key) ∙ f.3 in
       let new : list_any (bytes_eq s) (map (λ (d : Text × Tree). d.0) (definitions_view entries)) ≡ false =
-      (λ i. list_any (bytes_eq (name i)) (map (λ (d : Text × Tree). d.0) (h.made i))) ∙ ap (list_any (bytes_eq x)) (names_mapped (λ y. joined cs (name_key y)) (defined_names (done p))) ∙ not_among x (done p) absent in
-      let tree : Some (boxed_view q) ≡ Some (joined cs (key_at names n)) = sym (ap (option_map boxed_view) is) ∙ pattern_is patterns entries rows p n f h in
-      let here : boxed_view q ≡ joined cs (key_at names n) = cc in
-      let body : boxed_view q ≡ joined cs (name_key x) = here ∙ ap (joined cs) key in
+      (λ i. list_any (bytes_eq (name i)) (map (λ (d : Text × Tree). d.0) (h.made i))) ∙ ap (list_any (bytes_eq x)) (names_mapped (λ y. joined_pattern cs (name_key y)) (defined_names (done p))) ∙ not_among x (done p) absent in
+      let tree : Some (boxed_view q) ≡ Some (joined_pattern cs (key_at names n)) = sym (ap (option_map boxed_view) is) ∙ pattern_is patterns entries rows p n f h in
+      let here : boxed_view q ≡ joined_pattern cs (key_at names n) = cc in
+      let body : boxed_view q ≡ joined_pattern cs (name_key x) = here ∙ ap (joined_pattern cs) key in
       record {
         made = added new ∙ (λ i. h.made i ++ (name i, body i) ∷ []) ∙ sym (map-append definition (defined_names (done p)) (x ∷ []))
             ∙ ap (map definition) (sym (ap defined_names more ∙ defined_new (done p) f.2.0.component x (f.2.3 ∙ key) absent));
@@ -162,8 +162,8 @@ pub places_within : (names : List Text) (bodies : List Body) (list : List ℕ) (
 places_within names bodies list rows live p h l = each_to (IsLive names bodies list) (λ (e : Live). e.place < p) (λ e k. omega (arith, k.within, l)) live h.are
 
 -- the pattern of the start, and those that are left without it
-pub start_there : (names : List Text) (cs : List Component) (patterns : List (Option (Box Pattern Global))) → AreCombined names cs patterns → has_key start_key cs ≡ true → tree_at patterns 0 ≡ Some (joined cs start_key)
-start_there names cs patterns h t = h.are 0 (omega arith) ∙ ap (λ b. cond b (Some (joined cs start_key)) None) t
+pub start_there : (names : List Text) (cs : List Component) (patterns : List (Option (Box Pattern Global))) → AreCombined names cs patterns → has_key start_key cs ≡ true → tree_at patterns 0 ≡ Some (joined_pattern cs start_key)
+start_there names cs patterns h t = h.are 0 (omega arith) ∙ ap (λ b. cond b (Some (joined_pattern cs start_key)) None) t
 
 pub others_left : (names : List Text) (cs : List Component) (patterns left : List (Option (Box Pattern Global))) → AreCombined names cs patterns → left ≡ set patterns 0 None → HavePatterns names cs [] left
 others_left names cs patterns left h e = λ n above l none.

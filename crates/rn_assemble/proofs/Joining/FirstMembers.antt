@@ -16,7 +16,7 @@ use Rattle.rn_pattern.proofs.Matches.StepsKeep.{list_of-trees_of}
 use Rattle.rn_pattern.proofs.Ordered.Orders.{tree_same}
 use Rattle.rn_pattern.proofs.Ordered.TotalOrder.{tree_cmp_total}
 use Rattle.rn_assemble.specs.declared.components.Body.{Body}
-use Rattle.rn_assemble.specs.Combine.{bodies, is_interleave, joined, of_key, uses}
+use Rattle.rn_assemble.specs.Combine.{bodies, is_interleave, joined_pattern, of_key, uses}
 use Rattle.rn_assemble.specs.Components.{Component}
 use Rattle.rn_assemble.specs.Firsts.{AreFirsts, joined_members}
 use Rattle.rn_assemble.specs.inside.Tied.{AreTied, HaveTied, IsFirst, body_of}
@@ -90,18 +90,18 @@ module _ (names : List Text) (bs : List Body) (list : List ℕ) (rows : List (Li
       one_body names a.its.body b.it.key a.it.key b.it.component a.it.component (subst (λ (c : Body). IsBody names c b.it.key b.it.component) body b.its.made) a.its.made
 
   -- members whose components have the same body are tied
-  pub bodies_tied : (firsts : List ℕ) → 1 < length places → ((i j : ℕ) → slice_get firsts i ≡ Some j → IsFirst list places i j) → AreTied firsts (joined_members (joined cs (key_at names key)))
+  pub bodies_tied : (firsts : List ℕ) → 1 < length places → ((i j : ℕ) → slice_get firsts i ≡ Some j → IsFirst list places i j) → AreTied firsts (joined_members (joined_pattern cs (key_at names key)))
   bodies_tied firsts more first i j p at is =
       let size = row_size names bs list rows live h o key k in
       let count = length-map parts (λ (c : Component). c.body) in
-      let all : joined_members (joined cs (key_at names key)) ≡ trees = members_are (uses is_interleave (key_at names key) cs) trees (omega (arith, more, size, count)) in
+      let all : joined_members (joined_pattern cs (key_at names key)) ≡ trees = members_are (uses is_interleave (key_at names key) cs) trees (omega (arith, more, size, count)) in
       let here : slice_get trees i ≡ Some p = ap (λ ms. slice_get ms i) (sym all) ∙ is in
       let l : i < length places = omega (arith, within trees i p here, size, count) in
       let f = first i j at in
       let a = part i l in
       let b = part j (omega (arith, l, f.0)) in
       let own : p ≡ a.it.component.body = sym (get_or_from_slice_get trees i p p here) ∙ a.tree p in
-      let tree : get_or (joined_members (joined cs (key_at names key))) j p ≡ p = ap (λ ms. get_or ms j p) all ∙ b.tree p ∙ same_tree i j a b f.1 ∙ sym own in
+      let tree : get_or (joined_members (joined_pattern cs (key_at names key))) j p ≡ p = ap (λ ms. get_or ms j p) all ∙ b.tree p ∙ same_tree i j a b f.1 ∙ sym own in
       (f.0, ap (λ q. tree_cmp q p) tree ∙ tied_itself tree_cmp_total p)
 
 -- ---- one more

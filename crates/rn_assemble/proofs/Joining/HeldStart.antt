@@ -5,7 +5,7 @@ use Rattle.std.specs.declared.alloc.Global.{Global}
 use Rattle.rn_pattern.specs.Tree.{Tree}
 use Rattle.rn_text.specs.Texts.{Text}
 use Rattle.rn_pattern.specs.declared.tree.Pattern.{Pattern}
-use Rattle.rn_assemble.specs.Combine.{joined}
+use Rattle.rn_assemble.specs.Combine.{joined_pattern}
 use Rattle.rn_assemble.specs.Components.{Component, has_key, start_key}
 use Rattle.rn_assemble.specs.inside.Patterns.{AreCombined}
 use Rattle.rn_pattern.specs.View.{boxed_view}
@@ -17,4 +17,4 @@ some_viewed (Some q) p e = refl
 
 pub start_held : (names : List Text) (cs : List Component) (patterns : List (Option (Box Pattern Global))) → AreCombined names cs patterns → has_key start_key cs ≡ true
     → (o : Option (Box Pattern Global)) → o ≡ get_or patterns 0 None → IsSome o
-start_held names cs patterns h t o e = some_viewed o (joined cs start_key) (ap (option_map boxed_view) e ∙ start_there names cs patterns h t)
+start_held names cs patterns h t o e = some_viewed o (joined_pattern cs start_key) (ap (option_map boxed_view) e ∙ start_there names cs patterns h t)

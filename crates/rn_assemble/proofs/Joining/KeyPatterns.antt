@@ -20,7 +20,7 @@ use Rattle.rn_assemble.specs.declared.refusal.Key as code
 use Rattle.rn_assemble.specs.declared.refusal.Refusal.{Refusal}
 use Rattle.rn_assemble.specs.declared.refusal.Refusal.TheVariants as r
 use Rattle.rn_assemble.specs.Components.{Component, Key, has_key, same_key}
-use Rattle.rn_assemble.specs.Combine.{bodies, combined, is_interleave, join, joined, of_key, uses}
+use Rattle.rn_assemble.specs.Combine.{bodies, method_node, is_interleave, joined_tree, joined_pattern, of_key, uses}
 use Rattle.rn_assemble.specs.inside.Joining.{IsMisnamed}
 use Rattle.rn_assemble.specs.inside.Keyed.{key_at}
 use Rattle.rn_assemble.specs.Least.{IsLeast, key_cmp}
@@ -104,36 +104,36 @@ module _ (cs : List Component) (k : Key) where
   pub no_pattern : length parts ≡ 0 → (None ≡ pattern_of cs k) × ¬ BreaksNameRules cs k
   no_pattern l =
       let none = has_none k cs l in
-      (sym (ap (λ b. cond b (Some (joined cs k)) None) none), λ b. absurd (false≢true (sym none ∙ b.0)))
+      (sym (ap (λ b. cond b (Some (joined_pattern cs k)) None) none), λ b. absurd (false≢true (sym none ∙ b.0)))
 
-  some_pattern : (p : Tree) → 0 < length parts → p ≡ joined cs k → AllByRecursion (λ (c : Component). KeepsNameRules c.body) parts → (Some p ≡ pattern_of cs k) × ¬ BreaksNameRules cs k
+  some_pattern : (p : Tree) → 0 < length parts → p ≡ joined_pattern cs k → AllByRecursion (λ (c : Component). KeepsNameRules c.body) parts → (Some p ≡ pattern_of cs k) × ¬ BreaksNameRules cs k
   some_pattern p l e h = (
-    ap Some e ∙ sym (ap (λ b. cond b (Some (joined cs k)) None) (has_some k cs l)),
+    ap Some e ∙ sym (ap (λ b. cond b (Some (joined_pattern cs k)) None) (has_some k cs l)),
     λ b. b.1 (keeps_join (uses is_interleave k cs) (bodies k cs) (all_keep parts h)),
   )
 
-  one_joined : (node : Trees → Tree) (ds : List Component) (c : Component) → length ds ≡ 1 → ((d : Component) → get_or ds 0 d ≡ c) → (join node (map (λ (d : Component). d.body) ds) ≡ c.body) × (ds ≡ c ∷ [])
+  one_joined : (node : Trees → Tree) (ds : List Component) (c : Component) → length ds ≡ 1 → ((d : Component) → get_or ds 0 d ≡ c) → (joined_tree node (map (λ (d : Component). d.body) ds) ≡ c.body) × (ds ≡ c ∷ [])
   one_joined node [] c l is = absurd (omega (arith, l))
   one_joined node (d ∷ []) c l is = (ap (λ (e : Component). e.body) (is d), ap (λ e. e ∷ []) (is d))
   one_joined node (d ∷ e ∷ ds) c l is = absurd (omega (arith, l))
 
   one_pattern : (p : Tree) (c : Component) → length parts ≡ 1 → ((d : Component) → get_or parts 0 d ≡ c) → IsSound c p → (Some p ≡ pattern_of cs k) × ¬ BreaksNameRules cs k
   one_pattern p c l is s =
-      let one = one_joined (combined k cs) parts c l is in
+      let one = one_joined (method_node k cs) parts c l is in
       some_pattern p (omega (arith, l)) (s.0 ∙ sym one.0) (subst (AllByRecursion (λ (d : Component). KeepsNameRules d.body)) (sym one.1) (s.1, tt))
 
   pub one_found : (p : Option (Box Pattern Global)) (c : Component) → length parts ≡ 1 → ((d : Component) → get_or parts 0 d ≡ c) → IsSomeAnd p (λ q. IsSound c (boxed_view q)) → (option_map boxed_view p ≡ pattern_of cs k) × ¬ BreaksNameRules cs k
   one_found None c l is s = absurd s
   one_found (Some q) c l is s = one_pattern (boxed_view q) c l is s
 
-  more_joined : (node : Trees → Tree) (ps : List Tree) → 1 < length ps → node (trees_of ps) ≡ join node ps
+  more_joined : (node : Trees → Tree) (ps : List Tree) → 1 < length ps → node (trees_of ps) ≡ joined_tree node ps
   more_joined node [] l = absurd (omega (arith, l))
   more_joined node (p ∷ []) l = absurd (omega (arith, l))
   more_joined node (p ∷ q ∷ ps) l = refl
 
-  pub more_pattern : (p : Tree) (ts : List Tree) → 1 < length parts → AreSound parts ts → p ≡ combined k cs (trees_of ts) → (Some p ≡ pattern_of cs k) × ¬ BreaksNameRules cs k
+  pub more_pattern : (p : Tree) (ts : List Tree) → 1 < length parts → AreSound parts ts → p ≡ method_node k cs (trees_of ts) → (Some p ≡ pattern_of cs k) × ¬ BreaksNameRules cs k
   more_pattern p ts l s e =
-      some_pattern p (omega (arith, l)) (e ∙ ap (λ us. combined k cs (trees_of us)) s.0 ∙ more_joined (combined k cs) (bodies k cs) (omega (arith, l, length-map parts (λ (d : Component). d.body)))) s.1
+      some_pattern p (omega (arith, l)) (e ∙ ap (λ us. method_node k cs (trees_of us)) s.0 ∙ more_joined (method_node k cs) (bodies k cs) (omega (arith, l, length-map parts (λ (d : Component). d.body)))) s.1
 
 -- ---- refusals
 

@@ -15,7 +15,7 @@ use Rattle.rn_syntax.specs.declared.tree.Pat.{Pat, fold-roll-Pat}
 use Rattle.rn_syntax.specs.declared.tree.Pat.TheOpen.{Pat-F}
 use Rattle.rn_syntax.specs.declared.tree.Pat.TheVariants.{rolls-Repeated, rolls-Chain}
 use Rattle.rn_syntax.specs.declared.tree.Pat.TheViews as written
-use Rattle.rn_assemble.specs.Resolve.{resolved_class, resolved_classes, resolved, resolved_all}
+use Rattle.rn_assemble.specs.Resolve.{resolved_class, resolved_classes, resolved_pattern, resolved_patterns}
 
 -- the images of one element more
 pub mapped_more : {A B C : Type 0} (f : A → C) (g : B → C) (xs : List A) (k : ℕ) (x : A) (ys ys' : List B) (y : B)
@@ -28,9 +28,9 @@ pub classes_resolved : (inherited : Text) (ds : List Declaration) (own : Text) (
 classes_resolved inherited ds own [] = refl
 classes_resolved inherited ds own (c ∷ cs) = ap (more_names (resolved_class inherited ds own (class_view c))) (classes_resolved inherited ds own cs)
 
-pub patterns_resolved : (inherited : Text) (ds : List Declaration) (ps : List Pat) → trees_of (map (λ p. resolved inherited ds (pattern_view p)) ps) ≡ resolved_all inherited ds (patterns_view ps)
+pub patterns_resolved : (inherited : Text) (ds : List Declaration) (ps : List Pat) → trees_of (map (λ p. resolved_pattern inherited ds (pattern_view p)) ps) ≡ resolved_patterns inherited ds (patterns_view ps)
 patterns_resolved inherited ds [] = refl
-patterns_resolved inherited ds (p ∷ ps) = ap (more_trees (resolved inherited ds (pattern_view p))) (patterns_resolved inherited ds ps)
+patterns_resolved inherited ds (p ∷ ps) = ap (more_trees (resolved_pattern inherited ds (pattern_view p))) (patterns_resolved inherited ds ps)
 
 -- trees of single nodes
 pub repeated_seen : (r : Postfix) (p : Box Pat Global) → pattern_view (written.Repeated r p) ≡ t.repeated r (pattern_view p.value)

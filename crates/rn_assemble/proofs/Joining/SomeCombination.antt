@@ -8,7 +8,7 @@ use Rattle.rn_text.specs.Texts.{Text}
 use Rattle.rn_pattern.specs.Matching.{Grammar, definition_of}
 use Rattle.rn_pattern.specs.Opened.{pair}
 use Rattle.rn_assemble.specs.Components.{Key, start_key, name_key, Component, has_key, same_key}
-use Rattle.rn_assemble.specs.Combine.{of_key, bodies, combined, PairedUp, alone, paired, Combines, IsCombination, defined_names}
+use Rattle.rn_assemble.specs.Combine.{of_key, bodies, method_node, PairedUp, alone, paired, Combines, IsCombination, defined_names}
 use Rattle.rn_assemble.proofs.Combined.Combinations.{is_some, lookup_name, named}
 
 -- the leaves put together from the front
@@ -42,13 +42,13 @@ keyed k (c ∷ cs) = keyed_at (same_key k c.key) c (of_key k cs) (has_key k cs) 
 
 module _ (cs : List Component) where
   abbrev put_together : Key → Tree
-  put_together k = all_paired (combined k cs) (bodies k cs)
+  put_together k = all_paired (method_node k cs) (bodies k cs)
 
   abbrev together : Grammar
   together = record { start = put_together start_key; definitions = map (λ (x : Text). (x, put_together (name_key x))) (defined_names cs) }
 
   combines_all : (k : Key) → is_some (bodies k cs) ≡ true → Combines cs k (put_together k)
-  combines_all k h = all_paired_up (combined k cs) (bodies k cs) h
+  combines_all k h = all_paired_up (method_node k cs) (bodies k cs) h
 
   together_at : (x : Text) (b : Bool) → is_some (bodies (name_key x) cs) ≡ b → MatchOption (cond b (Some (put_together (name_key x))) None) (bodies (name_key x) cs ≡ []) (λ p. Combines cs (name_key x) p)
   together_at x true e = combines_all (name_key x) e

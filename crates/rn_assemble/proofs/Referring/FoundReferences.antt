@@ -17,9 +17,9 @@ use Rattle.rn_pattern.specs.Graph.{row}
 use Rattle.rn_pattern.proofs.Ordered.InOrder.{contains_behind, contains_front, contains_cases}
 use Rattle.rn_syntax.specs.Tree.{Declaration, Pattern}
 use Rattle.rn_syntax.specs.View.{pattern_view}
-use Rattle.rn_assemble.specs.Resolve.{resolved}
+use Rattle.rn_assemble.specs.Resolve.{resolved_pattern}
 use Rattle.rn_assemble.specs.Components.{Key, name_key, same_key, Component}
-use Rattle.rn_assemble.specs.Combine.{bodies, of_key, combined, joined, joined_grammar}
+use Rattle.rn_assemble.specs.Combine.{bodies, of_key, method_node, joined_pattern, joined_grammar}
 use Rattle.rn_assemble.specs.inside.Keyed.{IsNumber, key_at}
 use Rattle.rn_assemble.specs.inside.Listed.{Live, IsBody, IsLive, ListsBy, components_in}
 use Rattle.rn_assemble.specs.inside.Referred.{AreBodiesAt, names_within, references, references_at, within}
@@ -27,6 +27,7 @@ use Rattle.rn_assemble.specs.declared.references.Reach.{Reach}
 use Rattle.rn_assemble.specs.declared.references.Reach.TheVariants.{OutsideElements}
 use Rattle.rn_assemble.specs.declared.components.Body.{Body}
 use Rattle.rn_assemble.proofs.Combined.Combinations.{some_joined, joined_definition}
+use Rattle.rn_assemble.proofs.Expansion.LiveLists.{each_filtered}
 use Rattle.rn_assemble.proofs.Referring.Numbers.{key_text, same_key-Decides}
 use Rattle.rn_assemble.proofs.Joining.KeyedBodies.{IsKeyed, of_key_at}
 
@@ -48,14 +49,6 @@ pub flat_contained : {X Y : Type 0} (f : X → List Y) (xs : List X) (y : Y) →
 flat_contained f [] y c = absurd (omega (arith, c.1))
 flat_contained f (x ∷ xs) y c = ⊎_elim (λ d. (x, contains_front x xs, d)) (λ k. let r = flat_contained f xs y k in (r.0, contains_behind x r.0 xs r.1, r.2)) (Contains-append_cases (f x) (flat_map f xs) y c)
 
-kept_each_at : {X : Type 0} (P : X → Type 0) (b : Bool) (x : X) (xs : List X) → P x → AllByRecursion P xs → AllByRecursion P (cond b (x ∷ xs) xs)
-kept_each_at P true x xs h k = (h, k)
-kept_each_at P false x xs h k = k
-
-kept_each : {X : Type 0} (P : X → Type 0) (test : X → Bool) (xs : List X) → AllByRecursion P xs → AllByRecursion P (filter test xs)
-kept_each P test [] h = tt
-kept_each P test (x ∷ xs) h = kept_each_at P (test x) x (filter test xs) h.0 (kept_each P test xs h.1)
-
 at_each : {X : Type 0} (P : X → Type 0) (xs : List X) → AllByRecursion P xs → (x : X) → Contains xs x → P x
 at_each P [] h x c = absurd (omega (arith, c.1))
 at_each P (y ∷ xs) h x c = ⊎_elim (λ e. subst P e h.0) (λ k. at_each P xs h.1 x k) (contains_cases y x xs c)
@@ -64,9 +57,6 @@ got : {X : Type 0} (xs : List X) (n : ℕ) → n < length xs → (d : X) → sli
 got [] n h d = absurd (omega arith)
 got (x ∷ xs) zero h d = refl
 got (x ∷ xs) (suc n) h d = got xs n (omega arith) d
-
-some_same : {A : Type 0} (x y : A) → Some x ≡ Some y → x ≡ y
-some_same x y e = cc
 
 -- ---- the names that bodies refer to
 
@@ -135,11 +125,11 @@ module _ (names : List Text) (bs : List Body) (list : List ℕ) where
     row_is k h = lists.places k (omega (arith, h, lists.size))
 
     live_at : (k : ℕ) (e : Live) → Contains (of_number k) e → IsLive names bs list e
-    live_at k e c = at_each (IsLive names bs list) (of_number k) (kept_each (IsLive names bs list) (λ (f : Live). eqb f.key k) live lists.are) e c
+    live_at k e c = at_each (IsLive names bs list) (of_number k) (each_filtered (IsLive names bs list) (λ (f : Live). eqb f.key k) live lists.are) e c
 
     -- names: what a written pattern refers to; R: what a resolved one does
-    module _ (f : Pattern → List Text) (R : Text → Tree → Type 0) (same : (i : Text) (ds : List Declaration) (y : Text) (p : Pattern) → Contains (f p) y ↔ R y (resolved i ds p))
-        (of_joined : (y : Text) (k : Key) → R y (joined cs k) → (p : Tree) × Contains (bodies k cs) p × R y p) (to_joined : (y : Text) (k : Key) (p : Tree) → Contains (bodies k cs) p → R y p → R y (joined cs k)) where
+    module _ (f : Pattern → List Text) (R : Text → Tree → Type 0) (same : (i : Text) (ds : List Declaration) (y : Text) (p : Pattern) → Contains (f p) y ↔ R y (resolved_pattern i ds p))
+        (of_joined : (y : Text) (k : Key) → R y (joined_pattern cs k) → (p : Tree) × Contains (bodies k cs) p × R y p) (to_joined : (y : Text) (k : Key) (p : Tree) → Contains (bodies k cs) p → R y p → R y (joined_pattern cs k)) where
       at_number : (n : ℕ) (b : Body) (y : Text) → slice_get bs n ≡ Some b → Contains (names_at f bs n) y ↔ Contains (f (pattern_view b.component.body.now)) y
       at_number n b y e = let is = ap (λ o. option_map_or (λ (c : Body). f (pattern_view c.component.body.now)) o []) e in (subst (λ xs. Contains xs y) is, subst (λ xs. Contains xs y) (sym is))
 
@@ -152,21 +142,22 @@ module _ (names : List Text) (bs : List Body) (list : List ℕ) where
           let r = same i ds y (pattern_view s.body.component.body.now) in
           ((λ c. subst (R y) (sym is) (r.0 (n.0 c))), λ h. n.1 (r.1 (subst (R y) is h)))
 
-      pub names_are : (k : ℕ) (ns : List ℕ) → k < suc (length names) → AreBodiesAt (length bs) list (row rows k) ns → (y : Text) → Contains (flat_map (names_at f bs) ns) y ↔ R y (joined cs (key_at names k))
+      pub names_are : (k : ℕ) (ns : List ℕ) → k < suc (length names) → AreBodiesAt (length bs) list (row rows k) ns → (y : Text) → Contains (flat_map (names_at f bs) ns) y ↔ R y (joined_pattern cs (key_at names k))
       names_are k ns h a y = (into, back)
         where
-          into : Contains (flat_map (names_at f bs) ns) y → R y (joined cs (key_at names k))
+          into : Contains (flat_map (names_at f bs) ns) y → R y (joined_pattern cs (key_at names k))
           into c =
               let n = flat_contained (names_at f bs) ns y c in
               let p = a.only n.0 n.1 in
               let e = map_contained (λ (e : Live). e.place) (of_number k) p.0 (subst (λ xs. Contains xs p.0) (row_is k h) p.1) in
               let s = shown e.0 (live_at k e.0 e.1) in
-              let number : s.number ≡ n.0 = some_same s.number n.0 (sym s.at ∙ ap (slice_get list) e.2 ∙ p.2) in
+              let same : Some s.number ≡ Some n.0 = sym s.at ∙ ap (slice_get list) e.2 ∙ p.2 in
+              let number : s.number ≡ n.0 = cc in
               to_joined y (key_at names k) e.0.component.body
               (subst (λ ps. Contains ps e.0.component.body) (sym (bodies_are k h)) (map_contains (λ (c : Component). c.body) (components_in (of_number k)) e.0.component (map_contains (λ (e : Live). e.component) (of_number k) e.0 e.1)))
               ((body_refers e.0 s y).0 (subst (λ m. Contains (names_at f bs m) y) (sym number) n.2))
 
-          back : R y (joined cs (key_at names k)) → Contains (flat_map (names_at f bs) ns) y
+          back : R y (joined_pattern cs (key_at names k)) → Contains (flat_map (names_at f bs) ns) y
           back r =
               let p = of_joined y (key_at names k) r in
               let c = map_contained (λ (c : Component). c.body) (components_in (of_number k)) p.0 (subst (λ ps. Contains ps p.0) (bodies_are k h) p.1) in
@@ -202,10 +193,10 @@ module _ (names : List Text) (bs : List Body) (list : List ℕ) where
     at_some over (p ∷ ps) h = refl
 
     pub has_bodies : (x : Text) → IsDefined x → 0 < length (bodies (name_key x) cs)
-    has_bodies x h = some_at (combined (name_key x) cs) (bodies (name_key x) cs) (subst (λ (o : Option Tree). IsSome o) (joined_definition cs x) h)
+    has_bodies x h = some_at (method_node (name_key x) cs) (bodies (name_key x) cs) (subst (λ (o : Option Tree). IsSome o) (joined_definition cs x) h)
 
     bodies_defined : (x : Text) → 0 < length (bodies (name_key x) cs) → IsDefined x
-    bodies_defined x h = subst (λ (o : Option Tree). IsSome o) (sym (joined_definition cs x)) (at_some (combined (name_key x) cs) (bodies (name_key x) cs) h)
+    bodies_defined x h = subst (λ (o : Option Tree). IsSome o) (sym (joined_definition cs x)) (at_some (method_node (name_key x) cs) (bodies (name_key x) cs) h)
 
     same_count : (x : Text) (n : ℕ) → IsNumber names x n → length (row rows n) ≡ length (bodies (name_key x) cs)
     same_count x n i =

@@ -17,7 +17,7 @@ use Rattle.rn_pattern.specs.Graph.{row, rows_of}
 use Rattle.rn_pattern.proofs.Graphs.FirstLoop.{source_within}
 use Rattle.rn_pattern.proofs.Graphs.Rows.{row_before, row_behind}
 use Rattle.rn_assemble.specs.Components.{name_key, Component}
-use Rattle.rn_assemble.specs.Combine.{bodies, joined, joined_grammar, defined_names}
+use Rattle.rn_assemble.specs.Combine.{bodies, joined_pattern, joined_grammar, defined_names}
 use Rattle.rn_assemble.specs.inside.Keyed.{IsNumber, key_at}
 use Rattle.rn_assemble.specs.Least.{IsLeast}
 use Rattle.rn_assemble.specs.inside.Listed.{Live, ListsBy, components_in}
@@ -31,10 +31,10 @@ use Rattle.rn_assemble.proofs.Referring.FoundReferences.{map_contained, has_live
 
 -- the row of a key has the numbers of the names among those that are referred to
 pub record RowOf (R : Text → Tree → Type 0) (names : List Text) (cs : List Component) (k : ℕ) (r : List ℕ) : Type 0 where
-  pub only : (m : ℕ) → Contains r m → (x : Text) × IsNumber names x m × R x (joined cs (key_at names k))
-  pub all : (x : Text) → R x (joined cs (key_at names k)) → Contains names x → (m : ℕ) × IsNumber names x m × Contains r m
+  pub only : (m : ℕ) → Contains r m → (x : Text) × IsNumber names x m × R x (joined_pattern cs (key_at names k))
+  pub all : (x : Text) → R x (joined_pattern cs (key_at names k)) → Contains names x → (m : ℕ) × IsNumber names x m × Contains r m
 
-pub row_of : (R : Text → Tree → Type 0) (names texts : List Text) (cs : List Component) (k : ℕ) (r : List ℕ) → AreNumbers names texts r → ((y : Text) → Contains texts y ↔ R y (joined cs (key_at names k))) → RowOf R names cs k r
+pub row_of : (R : Text → Tree → Type 0) (names texts : List Text) (cs : List Component) (k : ℕ) (r : List ℕ) → AreNumbers names texts r → ((y : Text) → Contains texts y ↔ R y (joined_pattern cs (key_at names k))) → RowOf R names cs k r
 row_of R names texts cs k r a h = record {
   only = λ m c. let x = a.only m c in (x.0, x.2, (h x.0).0 x.1);
   all = λ x q n. a.all x ((h x).1 q) n;
@@ -45,7 +45,7 @@ pub record Gathered (names : List Text) (cs : List Component) (all outer : List 
   pub anywhere : (k : ℕ) → k < key → RowOf RefersTo names cs k (row (rows_of all) k)
   pub outside : (k : ℕ) → k < key → RowOf RefersOutside names cs k (row (rows_of outer) k)
   pub before : List Text
-  pub are : (y : Text) → Contains before y ↔ ((k : ℕ) × (k < key) × RefersTo y (joined cs (key_at names k)))
+  pub are : (y : Text) → Contains before y ↔ ((k : ℕ) × (k < key) × RefersTo y (joined_pattern cs (key_at names k)))
   pub least : IsLeastOf (joined_grammar cs) before undefined
 
 pub gathered_begins : (names : List Text) (cs : List Component) → Gathered names cs [] [] 0 None
@@ -66,7 +66,7 @@ rows_more R names cs es fs v key l e h here =
 
 pub gathered_more : (names : List Text) (cs : List Component) (all outer all' outer' : List (Vec ℕ Global)) (v w : Vec ℕ Global) (key : ℕ) (u u' : Option Text) (texts : List Text)
     → Gathered names cs all outer key u → length all ≡ key → length outer ≡ key → all' ≡ all ++ v ∷ [] → outer' ≡ outer ++ w ∷ []
-    → RowOf RefersTo names cs key v.items → RowOf RefersOutside names cs key w.items → ((y : Text) → Contains texts y ↔ RefersTo y (joined cs (key_at names key)))
+    → RowOf RefersTo names cs key v.items → RowOf RefersOutside names cs key w.items → ((y : Text) → Contains texts y ↔ RefersTo y (joined_pattern cs (key_at names key)))
     → ((before : List Text) → IsLeastOf (joined_grammar cs) before u → IsLeastOf (joined_grammar cs) (before ++ texts) u') → Gathered names cs all' outer' (key + 1) u'
 gathered_more names cs all outer all' outer' v w key u u' texts g la lo ea eo rv rw t more = record {
   anywhere = rows_more RefersTo names cs all all' v key la ea g.anywhere rv;
@@ -76,11 +76,15 @@ gathered_more names cs all outer all' outer' v w key u u' texts g la lo ea eo rv
     (λ c. ⊎_elim (λ b. let k = (g.are y).0 b in (k.0, omega (arith, k.1), k.2)) (λ x. (key, omega arith, (t y).0 x)) (Contains-append_cases g.before texts y c)),
     λ k. elim (cases_lt k.0 key) [
       | inl lt ↦ Contains-append_left g.before texts y ((g.are y).1 (k.0, lt, k.2))
-      | inr ge ↦ let same : k.0 ≡ key = omega (arith, ge, k.1) in Contains-append_right g.before texts y ((t y).1 (subst (λ n. RefersTo y (joined cs (key_at names n))) same k.2))
+      | inr ge ↦ let same : k.0 ≡ key = omega (arith, ge, k.1) in Contains-append_right g.before texts y ((t y).1 (subst (λ n. RefersTo y (joined_pattern cs (key_at names n))) same k.2))
     ],
   );
   least = more g.before g.least;
 }
+
+pub some_definition : (G : Grammar) (x y : Text) (o : Option Tree) → definition_of G y ≡ o → IsSomeAnd o (RefersTo x) → (p : Tree) × (definition_of G y ≡ Some p) × RefersTo x p
+some_definition G x y None e h = absurd h
+some_definition G x y (Some p) e h = (p, e, h)
 
 module _ (names : List Text) (bs : List Body) (list : List ℕ) (rows : List (List ℕ)) (live : List Live) (lists : ListsBy names bs list rows live) (sorted : IsStrictlySortedBy text_cmp names) where
   abbrev cs : List Component
@@ -95,25 +99,21 @@ module _ (names : List Text) (bs : List Body) (list : List ℕ) (rows : List (Li
   some_member : (ps : List Tree) (p : Tree) → Contains ps p → 0 < length ps
   some_member ps p c = omega (arith, c.1)
 
-  referred_at : (x : Text) → IsReferred x → (k : ℕ) × (k < suc (length names)) × RefersTo x (joined cs (key_at names k))
+  referred_at : (x : Text) → IsReferred x → (k : ℕ) × (k < suc (length names)) × RefersTo x (joined_pattern cs (key_at names k))
   referred_at x (inl h) = (0, omega arith, h)
   referred_at x (inr (y, p, c, h)) =
-      let d = map_contained (λ (z : Text). (z, joined cs (name_key z))) (defined_names cs) (y, p) c in
-      let is : p ≡ joined cs (name_key d.0) = sym (ap (λ (e : Text × Tree). e.1) d.2) in
-      let r : RefersTo x (joined cs (name_key d.0)) = subst (RefersTo x) is h in
+      let d = map_contained (λ (z : Text). (z, joined_pattern cs (name_key z))) (defined_names cs) (y, p) c in
+      let is : p ≡ joined_pattern cs (name_key d.0) = sym (ap (λ (e : Text × Tree). e.1) d.2) in
+      let r : RefersTo x (joined_pattern cs (name_key d.0)) = subst (RefersTo x) is h in
       let b = refers_of_joined x cs (name_key d.0) r in
       let e = has_live names bs list rows live lists sorted d.0 (some_member (bodies (name_key d.0) cs) b.0 b.1) in
-      (e.0.key, e.1.0, subst (λ k. RefersTo x (joined cs k)) (sym (sym e.1.1 ∙ e.2)) r)
+      (e.0.key, e.1.0, subst (λ k. RefersTo x (joined_pattern cs k)) (sym (sym e.1.1 ∙ e.2)) r)
 
-  some_definition : (x y : Text) (o : Option Tree) → definition_of G y ≡ o → IsSomeAnd o (RefersTo x) → (p : Tree) × (definition_of G y ≡ Some p) × RefersTo x p
-  some_definition x y None e h = absurd h
-  some_definition x y (Some p) e h = (p, e, h)
-
-  at_referred : (x : Text) (k : ℕ) → RefersTo x (joined cs (key_at names k)) → IsReferred x
+  at_referred : (x : Text) (k : ℕ) → RefersTo x (joined_pattern cs (key_at names k)) → IsReferred x
   at_referred x zero h = inl h
   at_referred x (suc i) h =
       let y = get_or names i [] in
-      let d = some_definition x y (definition_of G y) refl (refers_in_definition x cs y h) in
+      let d = some_definition G x y (definition_of G y) refl (refers_in_definition x cs y h) in
       inr (y, d.0, Contains-from_lookup (λ a b k. (bytes_decides a b).0 k) y d.0 G.definitions d.1, d.2)
 
   module _ (all outer : List (Vec ℕ Global)) (la : length all ≡ suc (length names)) (lo : length outer ≡ suc (length names)) where
@@ -127,7 +127,7 @@ module _ (names : List Text) (bs : List Body) (list : List ℕ) (rows : List (Li
       outside = record {
         size = so;
         only = λ k m c. (g.outside k (omega (arith, source_within (rows_of outer) k m c, so))).only m c;
-        all = λ k x h r. (g.outside k h).all x r (named k x h (outside_anywhere x (joined cs (key_at names k)) r));
+        all = λ k x h r. (g.outside k h).all x r (named k x h (outside_anywhere x (joined_pattern cs (key_at names k)) r));
       };
       defined = λ x u. let k = referred_at x u.0 in not_none (definition_of G x) (g.least x ((g.are x).1 k)) u.1;
     }
@@ -138,7 +138,7 @@ module _ (names : List Text) (bs : List Body) (list : List ℕ) (rows : List (Li
         so : length (rows_of outer) ≡ suc (length names)
         so = length-map outer (λ (v : Vec ℕ Global). v.items) ∙ lo
 
-        named : (k : ℕ) (x : Text) → k < suc (length names) → RefersTo x (joined cs (key_at names k)) → Contains names x
+        named : (k : ℕ) (x : Text) → k < suc (length names) → RefersTo x (joined_pattern cs (key_at names k)) → Contains names x
         named k x h r = defined_name names bs list rows live lists sorted x (g.least x ((g.are x).1 (k, h, r)))
 
   pub gathered_some : (all outer : List (Vec ℕ Global)) (x : Text) → Gathered names cs all outer (suc (length names)) (Some x) → IsLeast text_cmp (IsUndefined G) x
@@ -150,12 +150,12 @@ module _ (names : List Text) (bs : List Body) (list : List ℕ) (rows : List (Li
       }
 
   -- the names that the bodies of a key refer to
-  pub names_anywhere : (k : ℕ) (ns : List ℕ) (texts : List Text) → k < suc (length names) → AreBodiesAt (length bs) list (row rows k) ns → texts ≡ names_within Everywhere (flat_map (references_at bs) ns) → (y : Text) → Contains texts y ↔ RefersTo y (joined cs (key_at names k))
+  pub names_anywhere : (k : ℕ) (ns : List ℕ) (texts : List Text) → k < suc (length names) → AreBodiesAt (length bs) list (row rows k) ns → texts ≡ names_within Everywhere (flat_map (references_at bs) ns) → (y : Text) → Contains texts y ↔ RefersTo y (joined_pattern cs (key_at names k))
   names_anywhere k ns texts h a t y =
-      subst (λ ts. Contains ts y ↔ RefersTo y (joined cs (key_at names k))) (sym (t ∙ names_of_bodies Everywhere bs ns))
+      subst (λ ts. Contains ts y ↔ RefersTo y (joined_pattern cs (key_at names k))) (sym (t ∙ names_of_bodies Everywhere bs ns))
       (names_are names bs list rows live lists sorted (named_in Everywhere) RefersTo (λ i ds z p. referred i ds z OutsideElements p) (λ z j. refers_of_joined z cs j) (λ z j p. refers_to_joined z cs j p) k ns h a y)
 
-  pub names_outside : (k : ℕ) (ns : List ℕ) (texts : List Text) → k < suc (length names) → AreBodiesAt (length bs) list (row rows k) ns → texts ≡ names_within OutsideElements (flat_map (references_at bs) ns) → (y : Text) → Contains texts y ↔ RefersOutside y (joined cs (key_at names k))
+  pub names_outside : (k : ℕ) (ns : List ℕ) (texts : List Text) → k < suc (length names) → AreBodiesAt (length bs) list (row rows k) ns → texts ≡ names_within OutsideElements (flat_map (references_at bs) ns) → (y : Text) → Contains texts y ↔ RefersOutside y (joined_pattern cs (key_at names k))
   names_outside k ns texts h a t y =
-      subst (λ ts. Contains ts y ↔ RefersOutside y (joined cs (key_at names k))) (sym (t ∙ names_of_bodies OutsideElements bs ns))
+      subst (λ ts. Contains ts y ↔ RefersOutside y (joined_pattern cs (key_at names k))) (sym (t ∙ names_of_bodies OutsideElements bs ns))
       (names_are names bs list rows live lists sorted (named_in OutsideElements) RefersOutside referred_outside (λ z j. outside_of_joined z cs j) (λ z j p. outside_to_joined z cs j p) k ns h a y)

@@ -9,7 +9,7 @@ use Rattle.rn_pattern.specs.Reached.{RefersTo, SomeRefersTo}
 use Rattle.rn_pattern.specs.References.{RefersOutside, SomeRefersOutside}
 use Rattle.rn_pattern.proofs.Ordered.InOrder.{contains_behind, contains_front, contains_cases}
 use Rattle.rn_assemble.specs.Components.{Key, name_key, Component}
-use Rattle.rn_assemble.specs.Combine.{bodies, combined, uses, is_interleave, join, joined, joined_grammar}
+use Rattle.rn_assemble.specs.Combine.{bodies, method_node, uses, is_interleave, joined_tree, joined_pattern, joined_grammar}
 use Rattle.rn_assemble.proofs.Combined.Combinations.{some_joined, joined_definition}
 
 module _ (R : Tree → Type 0) (S : Trees → Type 0) (none : S no_trees → ⊥) (split : (p : Tree) (ps : Trees) → S (more_trees p ps) → R p ⊎ S ps) (some : (p : Tree) (ps : Trees) → R p ⊎ S ps → S (more_trees p ps))
@@ -31,65 +31,65 @@ module _ (R : Tree → Type 0) (S : Trees → Type 0) (none : S no_trees → ⊥
   to_node true ps s = to_interleave ps s
   to_node false ps s = to_choice ps s
 
-  of_join : (b : Bool) (ps : List Tree) → R (join (λ ts. cond b (interleave ts) (choice ts)) ps) → S (trees_of ps)
+  of_join : (b : Bool) (ps : List Tree) → R (joined_tree (λ ts. cond b (interleave ts) (choice ts)) ps) → S (trees_of ps)
   of_join b [] r = of_node b no_trees r
   of_join b (p ∷ []) r = some p no_trees (inl r)
   of_join b (p ∷ q ∷ ps) r = of_node b (trees_of (p ∷ q ∷ ps)) r
 
-  to_join : (b : Bool) (ps : List Tree) → S (trees_of ps) → R (join (λ ts. cond b (interleave ts) (choice ts)) ps)
+  to_join : (b : Bool) (ps : List Tree) → S (trees_of ps) → R (joined_tree (λ ts. cond b (interleave ts) (choice ts)) ps)
   to_join b [] s = to_node b no_trees s
   to_join b (p ∷ []) s = ⊎_elim (λ r. r) (λ n. absurd (none n)) (split p no_trees s)
   to_join b (p ∷ q ∷ ps) s = to_node b (trees_of (p ∷ q ∷ ps)) s
 
-  pub of_joined : (cs : List Component) (k : Key) → R (joined cs k) → (p : Tree) × Contains (bodies k cs) p × R p
+  pub of_joined : (cs : List Component) (k : Key) → R (joined_pattern cs k) → (p : Tree) × Contains (bodies k cs) p × R p
   of_joined cs k r = member (bodies k cs) (of_join (uses is_interleave k cs) (bodies k cs) r)
 
-  pub to_joined : (cs : List Component) (k : Key) (p : Tree) → Contains (bodies k cs) p → R p → R (joined cs k)
+  pub to_joined : (cs : List Component) (k : Key) (p : Tree) → Contains (bodies k cs) p → R p → R (joined_pattern cs k)
   to_joined cs k p c r = to_join (uses is_interleave k cs) (bodies k cs) (members (bodies k cs) p c r)
 
   -- the definition of a name is what is joined of its components, if there are any
-  some_of : (cs : List Component) (k : Key) (o : Option Tree) → some_joined (combined k cs) (bodies k cs) ≡ o → IsSomeAnd o R → R (joined cs k)
-  some_of cs k o e h = at (combined k cs) (bodies k cs) (subst (λ o. IsSomeAnd o R) (sym e) h)
+  some_of : (cs : List Component) (k : Key) (o : Option Tree) → some_joined (method_node k cs) (bodies k cs) ≡ o → IsSomeAnd o R → R (joined_pattern cs k)
+  some_of cs k o e h = at (method_node k cs) (bodies k cs) (subst (λ o. IsSomeAnd o R) (sym e) h)
     where
-      at : (over : Trees → Tree) (ps : List Tree) → IsSomeAnd (some_joined over ps) R → R (join over ps)
+      at : (over : Trees → Tree) (ps : List Tree) → IsSomeAnd (some_joined over ps) R → R (joined_tree over ps)
       at over [] h = absurd h
       at over (p ∷ ps) h = h
 
-  pub definition_refers : (cs : List Component) (x : Text) → IsSomeAnd (definition_of (joined_grammar cs) x) R → R (joined cs (name_key x))
+  pub definition_refers : (cs : List Component) (x : Text) → IsSomeAnd (definition_of (joined_grammar cs) x) R → R (joined_pattern cs (name_key x))
   definition_refers cs x h = some_of cs (name_key x) (definition_of (joined_grammar cs) x) (sym (joined_definition cs x)) h
 
-  pub refers_definition : (cs : List Component) (x : Text) → R (joined cs (name_key x)) → IsSomeAnd (definition_of (joined_grammar cs) x) R
-  refers_definition cs x r = subst (λ o. IsSomeAnd o R) (sym (joined_definition cs x)) (at (combined (name_key x) cs) (bodies (name_key x) cs) (of_joined cs (name_key x) r) r)
+  pub refers_definition : (cs : List Component) (x : Text) → R (joined_pattern cs (name_key x)) → IsSomeAnd (definition_of (joined_grammar cs) x) R
+  refers_definition cs x r = subst (λ o. IsSomeAnd o R) (sym (joined_definition cs x)) (at (method_node (name_key x) cs) (bodies (name_key x) cs) (of_joined cs (name_key x) r) r)
     where
-      at : (over : Trees → Tree) (ps : List Tree) → (p : Tree) × Contains ps p × R p → R (join over ps) → IsSomeAnd (some_joined over ps) R
+      at : (over : Trees → Tree) (ps : List Tree) → (p : Tree) × Contains ps p × R p → R (joined_tree over ps) → IsSomeAnd (some_joined over ps) R
       at over [] m r = absurd (omega (arith, m.1.1))
       at over (p ∷ ps) m r = r
 
 -- ---- references anywhere, and outside elements
 
 module _ (x : Text) where
-  pub refers_of_joined : (cs : List Component) (k : Key) → RefersTo x (joined cs k) → (p : Tree) × Contains (bodies k cs) p × RefersTo x p
+  pub refers_of_joined : (cs : List Component) (k : Key) → RefersTo x (joined_pattern cs k) → (p : Tree) × Contains (bodies k cs) p × RefersTo x p
   refers_of_joined = of_joined (RefersTo x) (SomeRefersTo x) (λ h. h) (λ _ _ h. h) (λ _ _ h. h) (λ _ h. h) (λ _ h. h) (λ _ h. h) (λ _ h. h)
 
-  pub refers_to_joined : (cs : List Component) (k : Key) (p : Tree) → Contains (bodies k cs) p → RefersTo x p → RefersTo x (joined cs k)
+  pub refers_to_joined : (cs : List Component) (k : Key) (p : Tree) → Contains (bodies k cs) p → RefersTo x p → RefersTo x (joined_pattern cs k)
   refers_to_joined = to_joined (RefersTo x) (SomeRefersTo x) (λ h. h) (λ _ _ h. h) (λ _ _ h. h) (λ _ h. h) (λ _ h. h) (λ _ h. h) (λ _ h. h)
 
-  pub refers_in_definition : (cs : List Component) (y : Text) → RefersTo x (joined cs (name_key y)) → IsSomeAnd (definition_of (joined_grammar cs) y) (RefersTo x)
+  pub refers_in_definition : (cs : List Component) (y : Text) → RefersTo x (joined_pattern cs (name_key y)) → IsSomeAnd (definition_of (joined_grammar cs) y) (RefersTo x)
   refers_in_definition = refers_definition (RefersTo x) (SomeRefersTo x) (λ h. h) (λ _ _ h. h) (λ _ _ h. h) (λ _ h. h) (λ _ h. h) (λ _ h. h) (λ _ h. h)
 
-  pub definition_refers_to : (cs : List Component) (y : Text) → IsSomeAnd (definition_of (joined_grammar cs) y) (RefersTo x) → RefersTo x (joined cs (name_key y))
+  pub definition_refers_to : (cs : List Component) (y : Text) → IsSomeAnd (definition_of (joined_grammar cs) y) (RefersTo x) → RefersTo x (joined_pattern cs (name_key y))
   definition_refers_to = definition_refers (RefersTo x) (SomeRefersTo x) (λ h. h) (λ _ _ h. h) (λ _ _ h. h) (λ _ h. h) (λ _ h. h) (λ _ h. h) (λ _ h. h)
 
-  pub outside_of_joined : (cs : List Component) (k : Key) → RefersOutside x (joined cs k) → (p : Tree) × Contains (bodies k cs) p × RefersOutside x p
+  pub outside_of_joined : (cs : List Component) (k : Key) → RefersOutside x (joined_pattern cs k) → (p : Tree) × Contains (bodies k cs) p × RefersOutside x p
   outside_of_joined = of_joined (RefersOutside x) (SomeRefersOutside x) (λ h. h) (λ _ _ h. h) (λ _ _ h. h) (λ _ h. h) (λ _ h. h) (λ _ h. h) (λ _ h. h)
 
-  pub outside_to_joined : (cs : List Component) (k : Key) (p : Tree) → Contains (bodies k cs) p → RefersOutside x p → RefersOutside x (joined cs k)
+  pub outside_to_joined : (cs : List Component) (k : Key) (p : Tree) → Contains (bodies k cs) p → RefersOutside x p → RefersOutside x (joined_pattern cs k)
   outside_to_joined = to_joined (RefersOutside x) (SomeRefersOutside x) (λ h. h) (λ _ _ h. h) (λ _ _ h. h) (λ _ h. h) (λ _ h. h) (λ _ h. h) (λ _ h. h)
 
-  pub outside_in_definition : (cs : List Component) (y : Text) → RefersOutside x (joined cs (name_key y)) → IsSomeAnd (definition_of (joined_grammar cs) y) (RefersOutside x)
+  pub outside_in_definition : (cs : List Component) (y : Text) → RefersOutside x (joined_pattern cs (name_key y)) → IsSomeAnd (definition_of (joined_grammar cs) y) (RefersOutside x)
   outside_in_definition = refers_definition (RefersOutside x) (SomeRefersOutside x) (λ h. h) (λ _ _ h. h) (λ _ _ h. h) (λ _ h. h) (λ _ h. h) (λ _ h. h) (λ _ h. h)
 
-  pub definition_refers_outside : (cs : List Component) (y : Text) → IsSomeAnd (definition_of (joined_grammar cs) y) (RefersOutside x) → RefersOutside x (joined cs (name_key y))
+  pub definition_refers_outside : (cs : List Component) (y : Text) → IsSomeAnd (definition_of (joined_grammar cs) y) (RefersOutside x) → RefersOutside x (joined_pattern cs (name_key y))
   definition_refers_outside = definition_refers (RefersOutside x) (SomeRefersOutside x) (λ h. h) (λ _ _ h. h) (λ _ _ h. h) (λ _ h. h) (λ _ h. h) (λ _ h. h) (λ _ h. h)
 
 mutual

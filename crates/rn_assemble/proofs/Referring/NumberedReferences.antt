@@ -13,11 +13,12 @@ use Rattle.rn_pattern.specs.Graph.{row, is_marked, Reached, at_first, along}
 use Rattle.rn_pattern.specs.Ranks.{Leads, by_edge, and_edge, HasNoLoop, IsFirstLoop}
 use Rattle.rn_pattern.proofs.Graphs.FirstLoop.{source_within}
 use Rattle.rn_assemble.specs.Components.{name_key, Component}
-use Rattle.rn_assemble.specs.Combine.{joined, joined_grammar}
+use Rattle.rn_assemble.specs.Combine.{joined_pattern, joined_grammar}
 use Rattle.rn_assemble.specs.inside.Keyed.{IsNumber, key_at}
 use Rattle.rn_assemble.specs.inside.Referred.{AreAllReferences, IsLeastRecursive}
 use Rattle.rn_assemble.proofs.Referring.Numbers.{same_name, names_rise, not_itself, same_number}
-use Rattle.rn_assemble.proofs.Expansion.Steps.{lead_first, reach_last}
+use Rattle.rn_assemble.proofs.Expansion.LongerPaths.{lead_first, reach_last}
+use Rattle.rn_assemble.proofs.Referring.GatheredReferences.{some_definition}
 use Rattle.rn_assemble.proofs.Referring.JoinedReferences.{refers_in_definition, definition_refers_to, outside_in_definition, definition_refers_outside, outside_anywhere}
 
 module _ (names : List Text) (sorted : IsStrictlySortedBy text_cmp names) (cs : List Component) (all outer : List (List ℕ)) (refs : AreAllReferences names cs all outer) where
@@ -25,7 +26,7 @@ module _ (names : List Text) (sorted : IsStrictlySortedBy text_cmp names) (cs : 
   G = joined_grammar cs
 
   -- what a reached name is joined of
-  body_of : (y : Text) (p : Tree) (x : Text) → definition_of G y ≡ Some p → RefersTo x p → RefersTo x (joined cs (name_key y))
+  body_of : (y : Text) (p : Tree) (x : Text) → definition_of G y ≡ Some p → RefersTo x p → RefersTo x (joined_pattern cs (name_key y))
   body_of y p x e h = definition_refers_to x cs y (subst (λ o. IsSomeAnd o (RefersTo x)) (sym e) h)
 
   abbrev Found : Text → Type 0
@@ -35,37 +36,33 @@ module _ (names : List Text) (sorted : IsStrictlySortedBy text_cmp names) (cs : 
   found x (by_start h) = let m = refs.anywhere.all 0 x (omega arith) h in (m.0, m.1, at_first m.2)
   found x (by_definition {y = y} p r e h) =
       let n = found y r in
-      let m = refs.anywhere.all n.0 x n.1.within (subst (λ k. RefersTo x (joined cs k)) (sym n.1.is) (body_of y p x e h)) in
+      let m = refs.anywhere.all n.0 x n.1.within (subst (λ k. RefersTo x (joined_pattern cs k)) (sym n.1.is) (body_of y p x e h)) in
       (m.0, m.1, along n.2 m.2)
-
-  some_definition : (x y : Text) (o : Option Tree) → definition_of G y ≡ o → IsSomeAnd o (RefersTo x) → (p : Tree) × (definition_of G y ≡ Some p) × RefersTo x p
-  some_definition x y None e h = absurd h
-  some_definition x y (Some p) e h = (p, e, h)
 
   pub reached : (n : ℕ) → Reached all (row all 0) n → (x : Text) × IsNumber names x n × IsReached G x
   reached n (at_first c) = let x = refs.anywhere.only 0 n c in (x.0, x.1, by_start x.2)
   reached m (along {x = n} {y = k} r c) =
       let y = reached n r in
       let x = refs.anywhere.only n m c in
-      let d = some_definition x.0 y.0 (definition_of G y.0) refl (refers_in_definition x.0 cs y.0 (subst (λ k. RefersTo x.0 (joined cs k)) y.1.is x.2)) in
+      let d = some_definition G x.0 y.0 (definition_of G y.0) refl (refers_in_definition x.0 cs y.0 (subst (λ k. RefersTo x.0 (joined_pattern cs k)) y.1.is x.2)) in
       (x.0, x.1, by_definition d.0 y.2 d.1 d.2)
 
   -- references outside elements are references
   pub inner : (k m : ℕ) → k < suc (length names) → Contains (row outer k) m → Contains (row all k) m
   inner k m h c =
       let x = refs.outside.only k m c in
-      let n = refs.anywhere.all k x.0 h (outside_anywhere x.0 (joined cs (key_at names k)) x.2) in
+      let n = refs.anywhere.all k x.0 h (outside_anywhere x.0 (joined_pattern cs (key_at names k)) x.2) in
       subst (Contains (row all k)) (same_number names sorted x.0 n.0 m n.1 x.1) n.2
 
   -- ---- steps outside elements
 
   step : (a b : Text) (n : ℕ) → IsNumber names a n → IsSomeAnd (definition_of G a) (RefersOutside b) → (m : ℕ) × IsNumber names b m × Contains (row outer n) m
-  step a b n i h = refs.outside.all n b i.within (subst (λ k. RefersOutside b (joined cs k)) (sym i.is) (definition_refers_outside b cs a h))
+  step a b n i h = refs.outside.all n b i.within (subst (λ k. RefersOutside b (joined_pattern cs k)) (sym i.is) (definition_refers_outside b cs a h))
 
   back : (a : Text) (n m : ℕ) → IsNumber names a n → Contains (row outer n) m → (b : Text) × IsNumber names b m × IsSomeAnd (definition_of G a) (RefersOutside b)
   back a n m i c =
       let b = refs.outside.only n m c in
-      (b.0, b.1, outside_in_definition b.0 cs a (subst (λ k. RefersOutside b.0 (joined cs k)) i.is b.2))
+      (b.0, b.1, outside_in_definition b.0 cs a (subst (λ k. RefersOutside b.0 (joined_pattern cs k)) i.is b.2))
 
   pub leads : (a b : Text) (n : ℕ) → IsNumber names a n → LeadsTo G a b → (m : ℕ) × IsNumber names b m × Leads outer n m
   leads a b n i (by_one s) = let m = step a b n i s in (m.0, m.1, by_edge m.2)

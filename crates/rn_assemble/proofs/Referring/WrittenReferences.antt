@@ -11,7 +11,7 @@ use Rattle.rn_syntax.specs.declared.token.Operator.TheVariants as o
 use Rattle.rn_syntax.specs.declared.token.Postfix.TheVariants as postfix
 use Rattle.rn_syntax.specs.Tree as t
 use Rattle.rn_syntax.specs.Tree.{Declaration, Pattern, Patterns}
-use Rattle.rn_assemble.specs.Resolve.{resolved, resolved_all}
+use Rattle.rn_assemble.specs.Resolve.{resolved_pattern, resolved_patterns}
 use Rattle.rn_assemble.specs.inside.Referred.{references, all_references, names_within, within}
 use Rattle.rn_assemble.specs.declared.references.Reach.{Reach}
 use Rattle.rn_assemble.specs.declared.references.Reach.TheVariants.{Everywhere, OutsideElements}
@@ -57,7 +57,7 @@ mutual
 
 module _ (i : Text) (ds : List Declaration) (y : Text) where
   mutual
-    pub referred : (r : Reach) (p : Pattern) → Contains (names_within Everywhere (references r p)) y ↔ RefersTo y (resolved i ds p)
+    pub referred : (r : Reach) (p : Pattern) → Contains (names_within Everywhere (references r p)) y ↔ RefersTo y (resolved_pattern i ds p)
     referred r (t.element c p) = referred Everywhere p
     referred r (t.attribute c p) = referred r p
     referred r (t.list p) = referred r p
@@ -77,12 +77,12 @@ module _ (i : Text) (ds : List Declaration) (y : Text) where
     referred r (t.chain o.Ampersand ps) = all_referred r ps
     referred r (t.chain o.Bar ps) = all_referred r ps
 
-    all_referred : (r : Reach) (ps : Patterns) → Contains (names_within Everywhere (all_references r ps)) y ↔ SomeRefersTo y (resolved_all i ds ps)
+    all_referred : (r : Reach) (ps : Patterns) → Contains (names_within Everywhere (all_references r ps)) y ↔ SomeRefersTo y (resolved_patterns i ds ps)
     all_referred r t.no_patterns = none y
     all_referred r (t.pattern p ps) = either Everywhere (references r p) (all_references r ps) y _ _ (referred r p) (all_referred r ps)
 
   mutual
-    pub referred_outside : (p : Pattern) → Contains (names_within OutsideElements (references OutsideElements p)) y ↔ RefersOutside y (resolved i ds p)
+    pub referred_outside : (p : Pattern) → Contains (names_within OutsideElements (references OutsideElements p)) y ↔ RefersOutside y (resolved_pattern i ds p)
     referred_outside (t.element c p) = subst (λ ns. Contains ns y ↔ ⊥) (sym (none_outside p)) (none y)
     referred_outside (t.attribute c p) = referred_outside p
     referred_outside (t.list p) = referred_outside p
@@ -102,6 +102,6 @@ module _ (i : Text) (ds : List Declaration) (y : Text) where
     referred_outside (t.chain o.Ampersand ps) = all_referred_outside ps
     referred_outside (t.chain o.Bar ps) = all_referred_outside ps
 
-    all_referred_outside : (ps : Patterns) → Contains (names_within OutsideElements (all_references OutsideElements ps)) y ↔ SomeRefersOutside y (resolved_all i ds ps)
+    all_referred_outside : (ps : Patterns) → Contains (names_within OutsideElements (all_references OutsideElements ps)) y ↔ SomeRefersOutside y (resolved_patterns i ds ps)
     all_referred_outside t.no_patterns = none y
     all_referred_outside (t.pattern p ps) = either OutsideElements (references OutsideElements p) (all_references OutsideElements ps) y _ _ (referred_outside p) (all_referred_outside ps)

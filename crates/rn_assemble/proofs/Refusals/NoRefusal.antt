@@ -17,13 +17,13 @@ use Rattle.rn_pattern.proofs.Ordered.InOrder.{each_contained, contained_each}
 use Rattle.rn_modset.specs.Contributions.{Member}
 use Rattle.rn_syntax.specs.Places.{except_places}
 use Rattle.rn_assemble.specs.Components.{Key, start_key, name_key, same_key, Component, NamedModule, has_key, set_components}
-use Rattle.rn_assemble.specs.Combine.{of_key, bodies, combined, join, joined}
+use Rattle.rn_assemble.specs.Combine.{of_key, bodies, method_node, joined_tree, joined_pattern}
 use Rattle.rn_assemble.specs.Refusal.{Refusal, conflict, faulty, no_start, undefined, recursive, name_class, BreaksNameRules, StandsFor, Stands, AreModules, grammar_of}
 use Rattle.rn_assemble.specs.WellFormed.{IsWellFormed}
 use Rattle.rn_assemble.proofs.Combined.Combinations.{some_joined, joined_definition}
 use Rattle.rn_assemble.proofs.WellFormed.ComponentExcepts.{set_excepts}
 use Rattle.rn_assemble.proofs.WellFormed.GoodComponents.{IsFaultless, modules_faultless}
-use Rattle.rn_assemble.proofs.Combined.JoinedKept.{joined_excepts, joined_definition_excepts}
+use Rattle.rn_assemble.proofs.Combined.JoinedProperties.{joined_excepts, joined_definition_excepts}
 use Rattle.rn_assemble.proofs.Refusals.NoLeast.{no_text, no_key}
 
 -- ---- what is not refuted of the restrictions on name classes holds
@@ -202,16 +202,16 @@ module _ (modules : List NamedModule) (none : (q : Refusal) → ¬ StandsFor mod
   abbrev cs : List Component
   cs = set_components modules
 
-  keeps : (k : Key) → has_key k cs ≡ true → KeepsNameRules (joined cs k)
-  keeps k h = rules_stable (joined cs k) (λ n. no_key (BreaksNameRules cs) (keys_of cs) (λ l b. of_key_in (Contains (keys_of cs)) l cs (all_in (keys_of cs)) b.0) (λ l s. none (name_class l) s) k (h, n))
+  keeps : (k : Key) → has_key k cs ≡ true → KeepsNameRules (joined_pattern cs k)
+  keeps k h = rules_stable (joined_pattern cs k) (λ n. no_key (BreaksNameRules cs) (keys_of cs) (λ l b. of_key_in (Contains (keys_of cs)) l cs (all_in (keys_of cs)) b.0) (λ l s. none (name_class l) s) k (h, n))
 
-  start_keeps : KeepsNameRules (joined cs start_key)
+  start_keeps : KeepsNameRules (joined_pattern cs start_key)
   start_keeps = ⊎_elim (λ e. keeps start_key e) (λ e. absurd (none no_start e)) (cases_Bool (has_key start_key cs))
 
-  some_keeps : (x : Text) (ps : List Tree) → bodies (name_key x) cs ≡ ps → IfSome (some_joined (combined (name_key x) cs) ps) KeepsNameRules
+  some_keeps : (x : Text) (ps : List Tree) → bodies (name_key x) cs ≡ ps → IfSome (some_joined (method_node (name_key x) cs) ps) KeepsNameRules
   some_keeps x [] e = tt
   some_keeps x (p ∷ ps) e =
-      subst (λ (qs : List Tree). KeepsNameRules (join (combined (name_key x) cs) qs)) e
+      subst (λ (qs : List Tree). KeepsNameRules (joined_tree (method_node (name_key x) cs) qs)) e
       (⊎_elim (λ h. keeps (name_key x) h) (λ h. absurd (let nothing : [] ≡ p ∷ ps = sym (keyless (name_key x) cs h) ∙ e in cc)) (cases_Bool (has_key (name_key x) cs)))
 
   module _ (faultless : AllByRecursion (λ (m : NamedModule). except_places m.tree ≡ []) modules) where

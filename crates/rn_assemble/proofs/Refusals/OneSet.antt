@@ -74,7 +74,7 @@ module _ (one_tree : (ts : Tokens) (m n : t.Module) → HasTree ts m → HasTree
     -- the set has one list of modules
     pub one_modules : (ms ns : List NamedModule) → AreModules s ms → AreModules s ns → ms ≡ ns
     one_modules ms ns a b =
-        let same : a.texts ≡ b.texts = one_effective s a.texts b.texts a.effective b.effective in
+        let same : a.texts ≡ b.texts = one_effective s a.texts b.texts a.are_effective b.are_effective in
         modules b.texts ms ns (subst (λ (xs : List Module). AllZip (λ (x : Module) (m : NamedModule). (m.name ≡ x.0) × IsModuleOf x.1 m.tree) xs ms) same a.trees) b.trees
 
     abbrev OfModules : Refusal → Type 0

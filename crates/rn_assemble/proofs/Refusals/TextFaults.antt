@@ -24,7 +24,7 @@ use Rattle.rn_assemble.specs.declared.refusal.Refusal as code
 use Rattle.rn_assemble.specs.declared.refusal.Refusal.TheVariants as r
 use Rattle.rn_assemble.specs.Refusal.{faulty, HasTextFault, IsFirstFault, IsModuleOf, TokensAre}
 use Rattle.rn_assemble.specs.Refused.{fault_of, faulty_or, other_view}
-use Rattle.rn_assemble.specs.inside.Reading.{IsFaultOf, IsRead}
+use Rattle.rn_assemble.specs.inside.ModuleTexts.{IsFaultOf, IsRead}
 use Rattle.rn_assemble.proofs.Refusals.OneSet.{one_module_of}
 
 none_there : (is : List ℕ) → first is ≡ None → is ≡ []

@@ -12,8 +12,8 @@ use Rattle.rn_syntax.specs.Tree as t
 use Rattle.rn_syntax.specs.Tree.{Pattern, Patterns, Declaration, Item, Items}
 use Rattle.rn_syntax.specs.Places.{place_if, pattern_places, patterns_places, item_places, items_places, is_allowed, are_allowed, except_places}
 use Rattle.rn_syntax.proofs.Basics.EmptyLists.{nil_parts}
-use Rattle.rn_assemble.specs.Resolve.{resolved, resolved_all}
-use Rattle.rn_assemble.specs.Components.{Component, NamedModule, has_key, overridden, handed_on, item_components, all_components, module_components, modules_named, components_within, components, instance_limit, roots, set_components}
+use Rattle.rn_assemble.specs.Resolve.{resolved_pattern, resolved_patterns}
+use Rattle.rn_assemble.specs.Components.{Component, NamedModule, has_key, handed_on, item_components, all_components, module_components, modules_named, components_within, components, instance_limit, roots, set_components, without_overridden}
 
 -- where excepts in a pattern are at fault
 abbrev pub places : Pattern → List ℕ
@@ -38,7 +38,7 @@ both_true false b e = absurd (false≢true e)
 
 module _ (inherited : Text) (ds : List Declaration) where
   mutual
-    resolved_except : (p : Pattern) → is_allowed p ≡ true → places p ≡ [] → IsExcept (resolved inherited ds p)
+    resolved_except : (p : Pattern) → is_allowed p ≡ true → places p ≡ [] → IsExcept (resolved_pattern inherited ds p)
     resolved_except t.not_allowed e h = tt
     resolved_except (t.value None s) e h = tt
     resolved_except (t.value (Some d) s) e h = tt
@@ -47,7 +47,7 @@ module _ (inherited : Text) (ds : List Declaration) where
     resolved_except (t.chain o.Bar ps) e h = resolved_excepts ps e h
     resolved_except p e h = absurd (false≢true e)
 
-    resolved_excepts : (ps : Patterns) → are_allowed ps ≡ true → all_places ps ≡ [] → AreExcepts (resolved_all inherited ds ps)
+    resolved_excepts : (ps : Patterns) → are_allowed ps ≡ true → all_places ps ≡ [] → AreExcepts (resolved_patterns inherited ds ps)
     resolved_excepts t.no_patterns e h = tt
     resolved_excepts (t.pattern p ps) e h =
         let allowed = both_true (is_allowed p) (are_allowed ps) e in
@@ -55,7 +55,7 @@ module _ (inherited : Text) (ds : List Declaration) where
         (resolved_except p allowed.0 both.0, resolved_excepts ps allowed.1 both.1)
 
   mutual
-    pub resolved_has : (p : Pattern) → places p ≡ [] → HasExcepts (resolved inherited ds p)
+    pub resolved_has : (p : Pattern) → places p ≡ [] → HasExcepts (resolved_pattern inherited ds p)
     resolved_has (t.element c p) h = resolved_has p h
     resolved_has (t.attribute c p) h = resolved_has p h
     resolved_has (t.list p) h = resolved_has p h
@@ -75,7 +75,7 @@ module _ (inherited : Text) (ds : List Declaration) where
     resolved_has (t.chain o.Ampersand ps) h = resolved_have ps h
     resolved_has (t.chain o.Bar ps) h = resolved_have ps h
 
-    resolved_have : (ps : Patterns) → all_places ps ≡ [] → HaveExcepts (resolved_all inherited ds ps)
+    resolved_have : (ps : Patterns) → all_places ps ≡ [] → HaveExcepts (resolved_patterns inherited ds ps)
     resolved_have t.no_patterns h = tt
     resolved_have (t.pattern p ps) h = let both = nil_parts (places p) (all_places ps) h in (resolved_has p both.0, resolved_have ps both.1)
 
@@ -100,7 +100,7 @@ module _ (included : Text → Text → List Component) (good : (x u : Text) → 
     item_good (t.include wanted inherit xs) h =
         let own = all_components included inherited ds xs in
         let from = included wanted (handed_on inherited ds inherit) in
-        each_join Good (overridden from own) own (each_kept Good (λ c. not (has_key c.key own)) from (good wanted (handed_on inherited ds inherit))) (items_good xs h)
+        each_join Good (without_overridden from own) own (each_kept Good (λ c. not (has_key c.key own)) from (good wanted (handed_on inherited ds inherit))) (items_good xs h)
 
     items_good : (xs : Items) → in_items xs ≡ [] → AllByRecursion Good (all_components included inherited ds xs)
     items_good t.no_items h = tt
@@ -112,6 +112,10 @@ module _ (included : Text → Text → List Component) (good : (x u : Text) → 
 abbrev Allowed : NamedModule → Type 0
 Allowed m = except_places m.tree ≡ []
 
+pub all_true : (rs : List NamedModule) → AllByRecursion (λ _. ⊤) rs
+all_true [] = tt
+all_true (r ∷ rs) = (tt, all_true rs)
+
 module _ (modules : List NamedModule) (allowed : AllByRecursion Allowed modules) where
   within_good : (depth : ℕ) (x u : Text) → AllByRecursion Good (components_within depth modules x u)
   within_good zero x u = tt
@@ -122,7 +126,3 @@ module _ (modules : List NamedModule) (allowed : AllByRecursion Allowed modules)
   -- the components of the set
   pub set_excepts : AllByRecursion (λ (c : Component). HasExcepts c.body) (set_components modules)
   set_excepts = each_flat Good (λ _. ⊤) (λ (r : NamedModule). components modules r.name []) (λ r h. within_good (suc instance_limit) r.name []) (roots modules) (all_true (roots modules))
-    where
-      all_true : (rs : List NamedModule) → AllByRecursion (λ _. ⊤) rs
-      all_true [] = tt
-      all_true (r ∷ rs) = (tt, all_true rs)

@@ -16,14 +16,15 @@ use Rattle.rn_syntax.specs.Places.{class_places, unbound_type, wrong_builtin, co
 use Rattle.rn_syntax.specs.Faults.{kind_places}
 use Rattle.rn_syntax.proofs.Basics.EmptyLists.{nil_parts}
 use Rattle.rn_syntax.proofs.FaultPlaces.FaultKinds.{each_empty}
-use Rattle.rn_assemble.specs.Texts.{IsXml}
-use Rattle.rn_assemble.specs.Components.{Component, NamedModule, has_key, overridden, handed_on, item_components, all_components, module_components, modules_named, components_within, components, instance_limit, roots, set_components}
+use Rattle.rn_assemble.specs.Components.{Component, NamedModule, has_key, handed_on, item_components, all_components, module_components, modules_named, components_within, components, instance_limit, roots, set_components, without_overridden}
+use Rattle.rn_assemble.specs.WritableTexts.{IsXml}
 use Rattle.rn_assemble.specs.Refusal.{IsModuleOf, HasTextFault, AreModules, grammar_of}
 use Rattle.rn_assemble.specs.WellFormed.{HasWritableTexts}
 use Rattle.rn_assemble.proofs.WellFormed.ComponentExcepts.{in_item, in_items, resolved_has, each_kept}
 use Rattle.rn_assemble.proofs.WellFormed.GoodTrees.{IsGoodItem, AreGoodItems, AreGoodDeclarations, IsGoodModule, module_good}
 use Rattle.rn_assemble.proofs.WellFormed.GoodPatterns.{default_xml, namespace_xml, has_none, resolved_writable}
-use Rattle.rn_assemble.proofs.Combined.JoinedKept.{IsWritableComponent, joined_writable}
+use Rattle.rn_assemble.proofs.WellFormed.ComponentExcepts.{all_true}
+use Rattle.rn_assemble.proofs.Combined.JoinedProperties.{IsWritableComponent, joined_writable}
 use Rattle.rn_assemble.proofs.WellFormed.Terminals.{xml_nothing, tokens_good}
 
 module _ (ds : List Declaration) where
@@ -63,7 +64,7 @@ module _ (included : Text → Text → List Component) (good : (y u : Text) → 
         let own = all_components included inherited ds xs in
         let from = included wanted (handed_on inherited ds inherit) in
         let prefixes = nil_parts (inherit_places ds inherit) (prefix_items ds xs) u in
-        each_join IsWritableComponent (overridden from own) own (each_kept IsWritableComponent (λ c. not (has_key c.key own)) from (good wanted (handed_on inherited ds inherit) (handed_xml inherited ds x d inherit))) (items_writable xs g prefixes.1 b k e)
+        each_join IsWritableComponent (without_overridden from own) own (each_kept IsWritableComponent (λ c. not (has_key c.key own)) from (good wanted (handed_on inherited ds inherit) (handed_xml inherited ds x d inherit))) (items_writable xs g prefixes.1 b k e)
 
     items_writable : (xs : Items) → AreGoodItems xs → prefix_items ds xs ≡ [] → builtin_items ds xs ≡ [] → context_items ds xs ≡ [] → in_items xs ≡ [] → AllByRecursion IsWritableComponent (all_components included inherited ds xs)
     items_writable t.no_items g u b k e = tt
@@ -90,10 +91,6 @@ module _ (modules : List NamedModule) (faultless : AllByRecursion (λ (m : Named
       (λ m f. items_writable (components_within depth modules) (within_writable depth) u m.tree.declarations h f.good.declarations m.tree.items f.good.items
       (nil_parts (declarations_places [] m.tree.declarations) (prefix_items m.tree.declarations m.tree.items) f.bound).1 f.builtin_types f.no_context f.excepts)
       (modules_named x modules) (each_kept (λ (m : NamedModule). IsFaultless m.tree) (λ m. bytes_eq x m.name) modules faultless)
-
-  all_true : (rs : List NamedModule) → AllByRecursion (λ _. ⊤) rs
-  all_true [] = tt
-  all_true (r ∷ rs) = (tt, all_true rs)
 
   set_writable : AllByRecursion IsWritableComponent (set_components modules)
   set_writable = each_flat IsWritableComponent (λ _. ⊤) (λ (r : NamedModule). components modules r.name []) (λ r h. within_writable (suc instance_limit) r.name [] xml_nothing) (roots modules) (all_true (roots modules))

@@ -16,8 +16,8 @@ use Rattle.rn_syntax.specs.Tree.{Name, Datatype, Params, AnyName, NameClass, Nam
 use Rattle.rn_syntax.specs.Places.{xml_uri, xsd_uri, declared_namespace, declared_library, library_of, place_if, has_any, is_library, unbound_type, wrong_builtin, context_value, pattern_places, patterns_places}
 use Rattle.rn_syntax.proofs.TokenKinds.PieceTokens.{ascii}
 use Rattle.rn_syntax.proofs.Basics.EmptyLists.{nil_parts}
-use Rattle.rn_assemble.specs.Texts.{IsName, IsXml, AreParams, needs_context, IsType, string_type, token_type, library_type, IsData, bare, with_params, Free, IsWritableName, AreWritableNames, IsWritable, AreWritable}
-use Rattle.rn_assemble.specs.Resolve.{uri_text, declared_text, default_of, namespace_of, every, every_but, resolved_class, resolved_classes, type_library, type_name, resolved, resolved_all}
+use Rattle.rn_assemble.specs.Resolve.{uri_text, declared_text, default_of, namespace_of, resolved_class, resolved_classes, type_library, type_name, every_name, every_name_but, resolved_pattern, resolved_patterns}
+use Rattle.rn_assemble.specs.WritableTexts.{IsName, IsXml, AreParams, needs_context, IsType, string_type, token_type, library_type, IsData, bare, with_params, Free, IsWritableName, AreWritableNames, IsWritable, AreWritable}
 use Rattle.rn_assemble.proofs.WellFormed.Terminals.{xml_is, xml_nothing}
 use Rattle.rn_assemble.proofs.WellFormed.GoodTrees.{IsGoodUri, IsGoodName, IsGoodClass, AreGoodClasses, IsGoodDatatype, IsGoodPattern, AreGoodPatterns, AreGoodDeclarations}
 
@@ -98,11 +98,11 @@ module _ (inherited : Text) (ds : List Declaration) (x : IsXml inherited) (d : A
   named_writable own e (t.local l) h = (e, h)
   named_writable own e (t.prefixed p l i) h = (namespace_xml p, h)
 
-  every_writable : (a : AnyName) → IsWritableName (every inherited ds a)
+  every_writable : (a : AnyName) → IsWritableName (every_name inherited ds a)
   every_writable t.any = tt
   every_writable (t.any_of p i) = namespace_xml p
 
-  every_but_writable : (a : AnyName) (c : NameTree) → IsWritableName c → IsWritableName (every_but inherited ds a c)
+  every_but_writable : (a : AnyName) (c : NameTree) → IsWritableName c → IsWritableName (every_name_but inherited ds a c)
   every_but_writable t.any c h = h
   every_but_writable (t.any_of p i) c h = (namespace_xml p, h)
 
@@ -248,7 +248,7 @@ module _ (inherited : Text) (ds : List Declaration) (x : IsXml inherited) (good 
   own_xml = default_xml inherited ds x good
 
   mutual
-    pub resolved_writable : (p : Pattern) → IsGoodPattern p → Bound p → Builtin p → NoContext p → HasExcepts (resolved inherited ds p) → IsWritable (resolved inherited ds p)
+    pub resolved_writable : (p : Pattern) → IsGoodPattern p → Bound p → Builtin p → NoContext p → HasExcepts (resolved_pattern inherited ds p) → IsWritable (resolved_pattern inherited ds p)
     resolved_writable (t.element c p) g u b k h = (class_writable inherited ds x good (default_of inherited ds) own_xml c g.0, resolved_writable p g.1 u.1 b.1 k.1 h)
     resolved_writable (t.attribute c p) g u b k h = (class_writable inherited ds x good [] xml_nothing c g.0, resolved_writable p g.1 u.1 b.1 k.1 h)
     resolved_writable (t.list p) g u b k h = resolved_writable p g u b k h
@@ -261,7 +261,7 @@ module _ (inherited : Text) (ds : List Declaration) (x : IsXml inherited) (good 
     resolved_writable (t.value (Some y) s) g u b k h = (type_xml inherited ds x good y, type_of ds (data_good ds inherited true y [] u b g.0 tt), context_good ds inherited y u k, g.1)
     resolved_writable (t.datum y ps) g u b k h = (type_xml inherited ds x good y, data_good ds inherited false y ps u b g.0 g.1)
     resolved_writable (t.datum_but y ps i p) g u b k h =
-        (type_xml inherited ds x good y, data_good ds inherited false y ps u.0 b.0 g.0 g.1, h, resolved_writable p g.2 u.1 b.1 k.1 (except_has (resolved inherited ds p) h))
+        (type_xml inherited ds x good y, data_good ds inherited false y ps u.0 b.0 g.0 g.1, h, resolved_writable p g.2 u.1 b.1 k.1 (except_has (resolved_pattern inherited ds p) h))
     resolved_writable (t.repeated r.Question p) g u b k h = (resolved_writable p g u b k h.0, (tt, tt))
     resolved_writable (t.repeated r.Star p) g u b k h = (resolved_writable p g u b k h.0, (tt, tt))
     resolved_writable (t.repeated r.Plus p) g u b k h = resolved_writable p g u b k h
@@ -269,6 +269,6 @@ module _ (inherited : Text) (ds : List Declaration) (x : IsXml inherited) (good 
     resolved_writable (t.chain o.Ampersand ps) g u b k h = all_resolved_writable ps g u b k h
     resolved_writable (t.chain o.Bar ps) g u b k h = all_resolved_writable ps g u b k h
 
-    all_resolved_writable : (ps : Patterns) → AreGoodPatterns ps → AllBound ps → AllBuiltin ps → AllNoContext ps → HaveExcepts (resolved_all inherited ds ps) → AreWritable (resolved_all inherited ds ps)
+    all_resolved_writable : (ps : Patterns) → AreGoodPatterns ps → AllBound ps → AllBuiltin ps → AllNoContext ps → HaveExcepts (resolved_patterns inherited ds ps) → AreWritable (resolved_patterns inherited ds ps)
     all_resolved_writable t.no_patterns g u b k h = tt
     all_resolved_writable (t.pattern p ps) g u b k h = (resolved_writable p g.0 u.0 b.0 k.0 h.0, all_resolved_writable ps g.1 u.1 b.1 k.1 h.1)

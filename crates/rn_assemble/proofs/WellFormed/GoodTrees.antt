@@ -14,7 +14,7 @@ use Rattle.rn_syntax.specs.Tree.{Name, Datatype, Params, AnyName, NameClass, Nam
 use Rattle.rn_syntax.specs.Grammar as g
 use Rattle.rn_syntax.specs.Grammar.{Tokens, IsWord, IsLiteral, Closed, IsAnnotation, MayHaveAnnotation, AreFollows, IsDatatype, MayHaveParams, IsAnyName, IsNameClass, AreMoreClasses, IsClassOperand, IsClassPrimary, IsClassCore, IsPattern, AreMore, IsOperand, IsPrimary, IsCore, IsUri, IsDeclaration, AreDeclarations, IsComponent, IsNote, AreInnerItems, MayInherit, MayHaveOverrides, AreItems, IsModule}
 use Rattle.rn_syntax.proofs.TokenKinds.PieceTokens.{ascii}
-use Rattle.rn_assemble.specs.Texts.{IsName, IsXml, AreParams}
+use Rattle.rn_assemble.specs.WritableTexts.{IsName, IsXml, AreParams}
 use Rattle.rn_assemble.proofs.WellFormed.Terminals.{IsGoodTerminal, IsGoodPlaced, AreGood, name_is, xml_append}
 
 -- ---- good trees

@@ -24,7 +24,7 @@ use Rattle.rn_syntax.specs.Terminal.{Terminal, Placed, ◌#◌}
 use Rattle.rn_syntax.specs.Grammar.{Tokens}
 use Rattle.rn_syntax.specs.Tokens.{spelled_in, keyword_row, keyword_rows, symbol_rows, terminal_of, terminals}
 use Rattle.rn_syntax.proofs.TokenKinds.PieceTokens.{before, terms, terms-are, scalars_of}
-use Rattle.rn_assemble.specs.Texts.{IsName, IsXml}
+use Rattle.rn_assemble.specs.WritableTexts.{IsName, IsXml}
 
 -- ---- names and texts in bytes
 

@@ -1,5 +1,5 @@
 -- What is known of modules whose includes were followed, and what is found of their components.
-use Rattle.std.specs.Prelude.{ℕ, ◌≡◌, List, ⊤}
+use Rattle.std.specs.Prelude.{ℕ, ◌≡◌, List, MatchOption, ⊤}
 use Rattle.std.specs.List.Sorted.{IsStrictlySortedBy}
 use Rattle.std.specs.String.{string_bytes}
 use Rattle.rn_text.specs.Texts.{Text, text_cmp}
@@ -11,8 +11,8 @@ use Rattle.rn_assemble.specs.Components.{NamedModule, set_components}
 use Rattle.rn_assemble.specs.inside.Expanded.{IsListed}
 use Rattle.rn_assemble.specs.inside.Included.{AreIncluded}
 use Rattle.rn_assemble.specs.inside.Lacking.{IsLeastLack}
-use Rattle.rn_assemble.specs.Refusal.{Refusal, override, Lacks, StandsFor, grammar_of}
-use Rattle.rn_assemble.specs.Refused.{key_view}
+use Rattle.rn_assemble.specs.Refusal.{Refusal, override, IsFirstFor, Lacks, StandsFor, grammar_of}
+use Rattle.rn_assemble.specs.Refused.{key_view, refusal_view}
 
 -- no include refuses the modules, and these are their components, by the numbers of these names, and their least override of what isn't there
 pub record AreExpanded (modules : List NamedModule) (names : List Text) (x : Components) : Type 0 where
@@ -21,6 +21,10 @@ pub record AreExpanded (modules : List NamedModule) (names : List Text) (x : Com
   pub in_order : IsStrictlySortedBy text_cmp names
   pub listed : IsListed names x (set_components modules)
   pub lack : IsLeastLack modules names (Lacks modules) x.lack
+
+-- the first refusal that stands for the modules, or want of memory
+abbrev pub IsFirstOfModules : List NamedModule → code.Refusal → Type 0
+IsFirstOfModules modules q = MatchOption (refusal_view q) (q ≡ r.Memory) (IsFirstFor modules)
 
 -- the least override of what isn't there, or want of memory
 abbrev pub IsLacking : List NamedModule → code.Refusal → Type 0

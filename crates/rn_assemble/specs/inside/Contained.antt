@@ -25,15 +25,15 @@ abbrev pub place_in : List NamedModule → Text → Option ℕ
 place_in modules x = position_from (λ (m : NamedModule). bytes_eq x m.name) 0 modules
 
 abbrev mutual
-  pub item_written : Item → List Written
-  item_written (t.define x m p) = record { key = name_key x; method = m; pattern = p } ∷ []
-  item_written (t.start m p) = record { key = start_key; method = m; pattern = p } ∷ []
-  item_written (t.div xs) = written xs
-  item_written (t.include wanted inherit xs) = written xs
+  pub item_written_components : Item → List Written
+  item_written_components (t.define x m p) = record { key = name_key x; method = m; pattern = p } ∷ []
+  item_written_components (t.start m p) = record { key = start_key; method = m; pattern = p } ∷ []
+  item_written_components (t.div xs) = written_components xs
+  item_written_components (t.include wanted inherit xs) = written_components xs
 
-  pub written : Items → List Written
-  written t.no_items = []
-  written (t.item x xs) = item_written x ++ written xs
+  pub written_components : Items → List Written
+  written_components t.no_items = []
+  written_components (t.item x xs) = item_written_components x ++ written_components xs
 
 -- the includes, where the first component has that place
 module _ (modules : List NamedModule) where
@@ -42,11 +42,11 @@ module _ (modules : List NamedModule) where
     item_inclusions n (t.define x m p) = []
     item_inclusions n (t.start m p) = []
     item_inclusions n (t.div xs) = inclusions n xs
-    item_inclusions n (t.include wanted inherit xs) = inclusions n xs ++ record { module_at = place_in modules wanted; inherit = inherit; first = n; end = n + length (written xs) } ∷ []
+    item_inclusions n (t.include wanted inherit xs) = inclusions n xs ++ record { module_at = place_in modules wanted; inherit = inherit; first = n; end = n + length (written_components xs) } ∷ []
 
     pub inclusions : ℕ → Items → List Inclusion
     inclusions n t.no_items = []
-    inclusions n (t.item x xs) = item_inclusions n x ++ inclusions (n + length (item_written x)) xs
+    inclusions n (t.item x xs) = item_inclusions n x ++ inclusions (n + length (item_written_components x)) xs
 
 -- no include is among an include's own items
 abbrev mutual

@@ -13,22 +13,22 @@ use Rattle.rn_assemble.specs.Refusal.{items_lack}
 -- each include of the items: the name that it wants, and the namespace that it hands on
 module _ (inherited : Text) (ds : List Declaration) where
   abbrev mutual
-    pub item_handed : Item → List (Text × Text)
-    item_handed (t.define x m p) = []
-    item_handed (t.start m p) = []
-    item_handed (t.div xs) = handed xs
-    item_handed (t.include wanted inherit xs) = (wanted, handed_on inherited ds inherit) ∷ handed xs
+    pub item_handed_namespaces : Item → List (Text × Text)
+    item_handed_namespaces (t.define x m p) = []
+    item_handed_namespaces (t.start m p) = []
+    item_handed_namespaces (t.div xs) = handed_namespaces xs
+    item_handed_namespaces (t.include wanted inherit xs) = (wanted, handed_on inherited ds inherit) ∷ handed_namespaces xs
 
-    pub handed : Items → List (Text × Text)
-    handed t.no_items = []
-    handed (t.item x xs) = item_handed x ++ handed xs
+    pub handed_namespaces : Items → List (Text × Text)
+    handed_namespaces t.no_items = []
+    handed_namespaces (t.item x xs) = item_handed_namespaces x ++ handed_namespaces xs
 
 -- the module x under a namespace, or a module that it includes, fewer than depth times one inside the other, is called y and lacks a key that an include of it defines
 abbrev pub LacksWithin : (depth : ℕ) → List NamedModule → (x inherited y : Text) → Key → Type 0
 LacksWithin zero modules x inherited y k = ⊥
 LacksWithin (suc depth) modules x inherited y k = (m : NamedModule) × Contains (modules_named x modules) m
     × (((x ≡ y) × (items_lack (components_within depth modules) inherited m.tree.declarations m.tree.items k ≡ true))
-    ⊎ ((w : Text × Text) × Contains {X = Text × Text} (handed inherited m.tree.declarations m.tree.items) w × LacksWithin depth modules w.0 w.1 y k))
+    ⊎ ((w : Text × Text) × Contains {X = Text × Text} (handed_namespaces inherited m.tree.declarations m.tree.items) w × LacksWithin depth modules w.0 w.1 y k))
 
 -- one of the modules of these numbers, under no namespace, or one that it includes, lacks the key
 abbrev pub LacksFrom : List NamedModule → List ℕ → Text → Key → Type 0

@@ -10,17 +10,17 @@ use Rattle.rn_assemble.specs.declared.contents.Contents.{Contents}
 use Rattle.rn_assemble.specs.declared.components.Body.{Body}
 use Rattle.rn_assemble.specs.declared.components.Components.{Components}
 use Rattle.rn_assemble.specs.declared.keys.Keys.{Keys}
-use Rattle.rn_assemble.specs.Resolve.{resolved}
+use Rattle.rn_assemble.specs.Resolve.{resolved_pattern}
 use Rattle.rn_assemble.specs.inside.Bound.{BindsAs}
 use Rattle.rn_assemble.specs.Components.{Component, Key, NamedModule}
-use Rattle.rn_assemble.specs.inside.Contained.{Written, written, inclusions}
+use Rattle.rn_assemble.specs.inside.Contained.{Written, written_components, inclusions}
 use Rattle.rn_assemble.specs.inside.Keyed.{key_at}
 use Rattle.rn_assemble.specs.inside.Views.{IsNumbered, inclusion_view, names_of, written_view}
 
 -- the contents are those of the module
 pub record IsContents (modules : List NamedModule) (names : List Text) (m : NamedModule) (c : Contents) : Type 0 where
   pub bindings : BindsAs c.bindings m.tree.declarations
-  pub components : map (written_view names) c.components.items ≡ written m.tree.items
+  pub components : map (written_view names) c.components.items ≡ written_components m.tree.items
   pub numbered : AllByRecursion (IsNumbered names) c.components.items
   pub includes : map inclusion_view c.includes.items ≡ inclusions modules 0 m.tree.items
 
@@ -29,7 +29,7 @@ AreContents modules names contents = AllZip (IsContents modules names) modules c
 
 -- a written component with its names resolved
 abbrev pub resolved_component : Text → List Declaration → Written → Component
-resolved_component inherited ds w = record { key = w.key; method = w.method; body = resolved inherited ds w.pattern }
+resolved_component inherited ds w = record { key = w.key; method = w.method; body = resolved_pattern inherited ds w.pattern }
 
 -- the components of the numbers from one to another, with their names resolved
 abbrev pub resolved_between : List Text → Contents → Text → List Declaration → (from to : ℕ) → List Component

@@ -14,7 +14,7 @@ use Rattle.rn_assemble.specs.declared.keys.Keys.{Keys}
 use Rattle.rn_assemble.specs.declared.refusal.Refusal.{Refusal}
 use Rattle.rn_assemble.specs.declared.refusal.Refusal.TheVariants as r
 use Rattle.rn_assemble.specs.Components.{Component, Key, has_key, start_key}
-use Rattle.rn_assemble.specs.Combine.{joined}
+use Rattle.rn_assemble.specs.Combine.{joined_pattern}
 use Rattle.rn_assemble.specs.inside.Keyed.{key_at}
 use Rattle.rn_assemble.specs.inside.Listed.{IsBody, Live, components_in}
 use Rattle.rn_assemble.specs.Refusal.{BreaksNameRules}
@@ -58,7 +58,7 @@ AreSharedBy keys x shared = AreShared (names_of keys) x.bodies.items shared
 
 -- the pattern of a key's components, where it has some
 abbrev pub pattern_of : List Component → Key → Option Tree
-pattern_of cs k = if has_key k cs then Some (joined cs k) else None
+pattern_of cs k = if has_key k cs then Some (joined_pattern cs k) else None
 
 -- the tree at a number, where there is one
 abbrev pub tree_at : List (Option (Box Pattern Global)) → ℕ → Option Tree

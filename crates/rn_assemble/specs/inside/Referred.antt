@@ -16,7 +16,7 @@ use Rattle.rn_syntax.specs.Tree as t
 use Rattle.rn_syntax.specs.Tree.{Pattern, Patterns}
 use Rattle.rn_pattern.specs.Graph.{row}
 use Rattle.rn_assemble.specs.Components.{Component}
-use Rattle.rn_assemble.specs.Combine.{joined, joined_grammar}
+use Rattle.rn_assemble.specs.Combine.{joined_pattern, joined_grammar}
 use Rattle.rn_assemble.specs.inside.Keyed.{IsNumber, key_at}
 use Rattle.rn_assemble.specs.Least.{IsLeast}
 use Rattle.rn_assemble.specs.inside.Listed.{Live, Lists, components_in}
@@ -62,8 +62,8 @@ names_within meant rs = flat_map (λ (r : Text × Reach). within meant r.1 r.0) 
 -- the row of each key has the numbers of the names to which what is joined under it refers, in the sense of R
 pub record AreReferences (R : Text → Tree → Type 0) (names : List Text) (cs : List Component) (rows : List (List ℕ)) : Type 0 where
   pub size : length rows ≡ suc (length names)
-  pub only : (k m : ℕ) → Contains (row rows k) m → (x : Text) × IsNumber names x m × R x (joined cs (key_at names k))
-  pub all : (k : ℕ) (x : Text) → k < suc (length names) → R x (joined cs (key_at names k)) → (m : ℕ) × IsNumber names x m × Contains (row rows k) m
+  pub only : (k m : ℕ) → Contains (row rows k) m → (x : Text) × IsNumber names x m × R x (joined_pattern cs (key_at names k))
+  pub all : (k : ℕ) (x : Text) → k < suc (length names) → R x (joined_pattern cs (key_at names k)) → (m : ℕ) × IsNumber names x m × Contains (row rows k) m
 
 -- both kinds of references, where each name that is referred to is defined
 pub record AreAllReferences (names : List Text) (cs : List Component) (all outer : List (List ℕ)) : Type 0 where

@@ -1,10 +1,11 @@
 -- What values of the code stand for.
 use Rattle.std.specs.Prelude.{ℕ, suc, ◌<◌, ◌≡◌, List, ◌++◌, length, map}
 use Rattle.std.specs.List.{AllByRecursion}
+use Rattle.std.specs.List.Sorted.{IsStrictlySortedBy}
 use Rattle.std.specs.Borrow.{Bor}
-use Rattle.rn_text.specs.Texts.{Text}
+use Rattle.rn_text.specs.Texts.{Text, text_cmp}
 use Rattle.rn_syntax.specs.View.{module_view, pattern_view, prefix_view}
-use Rattle.rn_assemble.specs.declared.modules.NamedModule as code_module
+use Rattle.rn_assemble.specs.declared.named_modules.NamedModule as code_module
 use Rattle.rn_assemble.specs.declared.keys.Keys.{Keys}
 use Rattle.rn_assemble.specs.declared.contents.Component as code_component
 use Rattle.rn_assemble.specs.declared.contents.Contents.{Contents}
@@ -28,6 +29,10 @@ modules_view modules = map named_module_view modules
 
 abbrev pub module_names : List code_module.NamedModule → List Text
 module_names modules = map (λ (m : code_module.NamedModule). m.name.now) modules
+
+-- the modules come in the order of their names, each name once
+abbrev pub AreInOrder : List code_module.NamedModule → Type 0
+AreInOrder modules = IsStrictlySortedBy text_cmp (module_names modules)
 
 abbrev pub written_view : List Text → code_component.Component → Written
 written_view names c = record { key = key_at names c.key; method = c.method; pattern = pattern_view c.body.now }

@@ -19,7 +19,7 @@ use Rattle.rn_assemble.specs.Resolve.{declared_text}
 use Rattle.std.specs.declared.cmp.Ordering.TheVariants.{Less}
 use Rattle.rn_simplify.specs.Spelling.{Prefixes, prefixes, place, namespace_prefix, library_prefix, namespace_entries, library_entries, has_empty_ns_name, name_uris, mentions, grammar_mentions, bindings, default_line}
 use Rattle.rn_simplify.specs.Printable.{IsPrintable}
-use Rattle.rn_assemble.specs.Texts.{IsXml, IsName, Free}
+use Rattle.rn_assemble.specs.WritableTexts.{IsXml, IsName, Free}
 use Rattle.rn_simplify.specs.Spellable.{IsSpellable}
 use Rattle.rn_simplify.specs.ReadBack.{IsReadBack}
 use Rattle.rn_simplify.proofs.ReadBack.NeededBindings.{IsBoundTo, IsLibrary}

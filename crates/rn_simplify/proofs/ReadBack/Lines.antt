@@ -27,7 +27,7 @@ use Rattle.rn_assemble.specs.Resolve.{default_of}
 use Rattle.rn_assemble.specs.Components.{Component, start_key, name_key, all_components}
 use Rattle.rn_simplify.specs.Spelling.{space, line_end, symbol, keyword, word, identifier, literal, Prefixes, binding, bindings, default_line, definition_line, definition_lines, written_tree}
 use Rattle.rn_simplify.specs.Printable.{IsPrintable}
-use Rattle.rn_assemble.specs.Texts.{IsName, IsXml}
+use Rattle.rn_assemble.specs.WritableTexts.{IsName, IsXml}
 use Rattle.rn_simplify.proofs.ReadBack.Words.{space_breaks, space_free, end_free, equals_free, spelled_word_sound, spelled_word_term, identifier_sound, identifier_term, literal_sound, literal_reads}
 use Rattle.rn_simplify.proofs.ReadBack.Classes.{Bound}
 use Rattle.rn_simplify.proofs.ReadBack.Types.{Library}

@@ -8,7 +8,7 @@ use Rattle.rn_text.specs.Texts.{Text}
 use Rattle.rn_simplify.specs.Spelling.{name_uris, names_uris, mentions, mentions_all}
 use Rattle.rn_simplify.specs.Printable as w
 use Rattle.rn_simplify.specs.Printable.{IsClass, AreClasses, IsPrintable, ArePrintable, every, every_but, all_of, all_of_but, local, full, either}
-use Rattle.rn_assemble.specs.Texts.{IsType, IsData, string_type, token_type, library_type, bare, with_params, Free}
+use Rattle.rn_assemble.specs.WritableTexts.{IsType, IsData, string_type, token_type, library_type, bare, with_params, Free}
 
 pub all_first : (Q : Text → Type 0) (xs ys : List Text) → AllByRecursion Q (xs ++ ys) → AllByRecursion Q xs
 all_first Q [] ys a = tt

@@ -27,7 +27,7 @@ use Rattle.rn_assemble.specs.Resolve.{default_of, resolved_class}
 use Rattle.rn_simplify.specs.Spelling.{space, symbol, keyword, type_piece, infix_of, comma, literal, Prefixes, closed, postfixed, chained, NodeText, node_text, operand, primary, in_parentheses, in_braces, chain, optional_member, optional, mixed_pieces, written_choice, written_interleave, written_name, datum_pieces, value_pieces, written_tree, written_trees}
 use Rattle.rn_simplify.specs.Printable as w
 use Rattle.rn_simplify.specs.Printable.{IsPrintable, ArePrintable, is_empty, is_text, is_repetition}
-use Rattle.rn_assemble.specs.Texts.{string_type, token_type, library_type, needs_context, IsType, IsData, IsXml}
+use Rattle.rn_assemble.specs.WritableTexts.{string_type, token_type, library_type, needs_context, IsType, IsData, IsXml}
 use Rattle.rn_simplify.proofs.ReadBack.Words.{Reads, space_breaks, space_free, minus_free, parenthesized_sound, braced_sound, identifier_sound, identifier_term, literal_sound, literal_reads}
 use Rattle.rn_simplify.proofs.ReadBack.NeededBindings.{FitsClass, Clean, Fits, FitAll}
 use Rattle.rn_simplify.proofs.ReadBack.Classes.{Bound, class_reads}

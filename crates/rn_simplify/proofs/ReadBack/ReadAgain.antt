@@ -20,12 +20,12 @@ use Rattle.rn_syntax.specs.Tree as t
 use Rattle.rn_syntax.specs.Tree.{Declaration, Module, item_includes, includes}
 use Rattle.rn_syntax.proofs.Basics.EmptyLists.{nil_parts}
 use Rattle.rn_assemble.specs.Components.{Key, start_key, name_key, same_key, Component, NamedModule, has_key, Includes, components, instances, instances_within, roots, set_components}
-use Rattle.rn_assemble.specs.Combine.{of_key, bodies, combined, IsPlainTwice, IsMixed, IsCombination, join, joined, joined_grammar, read, components_of, AreDistinct}
+use Rattle.rn_assemble.specs.Combine.{of_key, bodies, method_node, IsPlainTwice, IsMixed, IsCombination, joined_tree, joined_pattern, joined_grammar, module_grammar, components_of, AreDistinct}
 use Rattle.rn_assemble.specs.WellFormed.{IsWellFormed}
 use Rattle.rn_assemble.specs.Refusal.{Refusal, conflict, faulty, missing, cycle, too_many_instances, override, plain_twice, mixed_methods, no_start, undefined, recursive, name_class, item_lacks, items_lack, Lacks, StandsFor, grammar_of}
 use Rattle.rn_assemble.proofs.Combined.Combinations.{combined_valid, some_joined, joined_definition}
 use Rattle.rn_assemble.proofs.Combined.Joined.{plain_once, not_mixed, sorted_distinct, mapped_distinct}
-use Rattle.rn_assemble.proofs.Combined.JoinedKept.{joined_excepts, joined_definition_excepts}
+use Rattle.rn_assemble.proofs.Combined.JoinedProperties.{joined_excepts, joined_definition_excepts}
 use Rattle.rn_assemble.proofs.Combined.OneModule.{one_module}
 use Rattle.rn_simplify.specs.ReadBack.{IsReadBack}
 use Rattle.rn_pattern.proofs.Matches.Pruned.{canonical_grammar_valid}
@@ -45,11 +45,11 @@ combination_valid cs C N e c n T doc =
     (λ v. third.0 (second.0 (first.0 v)), λ v. first.1 (second.1 (third.1 v)))
 
 module _ (N : Grammar) (r : IsReadBack N) where
-  pub combination_read : (cs : List Component) (C : Grammar) → AllByRecursion (λ (c : Component). HasExcepts c.body) cs → IsCombination cs C → IsCanonicalOf (joined_grammar cs) N → (T : Table) (doc : Item) → IsValid C T doc ↔ IsValid (read r.tree) T doc
+  pub combination_read : (cs : List Component) (C : Grammar) → AllByRecursion (λ (c : Component). HasExcepts c.body) cs → IsCombination cs C → IsCanonicalOf (joined_grammar cs) N → (T : Table) (doc : Item) → IsValid C T doc ↔ IsValid (module_grammar r.tree) T doc
   combination_read cs C e c n T doc = subst (λ R. IsValid C T doc ↔ IsValid R T doc) (sym r.same) (combination_valid cs C N e c n T doc)
 
   -- and so has the grammar itself
-  pub joined_read : (G : Grammar) → IsCanonicalOf G N → IsWellFormed G → (T : Table) (doc : Item) → IsValid G T doc ↔ IsValid (read r.tree) T doc
+  pub joined_read : (G : Grammar) → IsCanonicalOf G N → IsWellFormed G → (T : Table) (doc : Item) → IsValid G T doc ↔ IsValid (module_grammar r.tree) T doc
   joined_read G c w T doc =
       let first = normal_valid G N c w T doc in
       let second = opened_valid N T doc in
@@ -57,13 +57,13 @@ module _ (N : Grammar) (r : IsReadBack N) where
 
   module _ (G : Grammar) (c : IsCanonicalOf G N) where
     -- what is read back has the canonical grammar that was printed, and no other
-    pub read_canonical : IsCanonicalOf (read r.tree) N
+    pub read_canonical : IsCanonicalOf (module_grammar r.tree) N
     read_canonical = subst (λ R. IsCanonicalOf R N) (sym r.same) (fixed_point G N c)
 
-    pub read_only : (M : Grammar) → IsCanonicalOf (read r.tree) M → M ≡ N
-    read_only M m = one_canonical (read r.tree) M N m read_canonical
+    pub read_only : (M : Grammar) → IsCanonicalOf (module_grammar r.tree) M → M ≡ N
+    read_only M m = one_canonical (module_grammar r.tree) M N m read_canonical
 
-    pub read_well_formed : IsWellFormed G → IsWellFormed (read r.tree)
+    pub read_well_formed : IsWellFormed G → IsWellFormed (module_grammar r.tree)
     read_well_formed w = subst IsWellFormed (sym r.same) (opened_well_formed N (normal_well_formed G N c w))
 
 -- items without includes override nothing
@@ -88,12 +88,12 @@ no_bodies : (k : Key) (cs : List Component) → bodies k cs ≡ [] → has_key k
 no_bodies k [] e = refl
 no_bodies k (c ∷ cs) e = has_key_at (same_key k c.key) k c cs (no_bodies k cs) e
 
-keeps_at : (k : Key) (cs : List Component) (ps : List Tree) → bodies k cs ≡ ps → has_key k cs ≡ true → IfSome (some_joined (combined k cs) ps) KeepsNameRules → KeepsNameRules (joined cs k)
+keeps_at : (k : Key) (cs : List Component) (ps : List Tree) → bodies k cs ≡ ps → has_key k cs ≡ true → IfSome (some_joined (method_node k cs) ps) KeepsNameRules → KeepsNameRules (joined_pattern cs k)
 keeps_at k cs [] e h n = absurd (false≢true (sym (no_bodies k cs e) ∙ h))
-keeps_at k cs (p ∷ ps) e h n = subst (λ (qs : List Tree). KeepsNameRules (join (combined k cs) qs)) (sym e) n
+keeps_at k cs (p ∷ ps) e h n = subst (λ (qs : List Tree). KeepsNameRules (joined_tree (method_node k cs) qs)) (sym e) n
 
 -- each key of what is joined to a well-formed grammar keeps the restrictions on name classes
-keeps_rules : (cs : List Component) → IsWellFormed (joined_grammar cs) → (k : Key) → has_key k cs ≡ true → KeepsNameRules (joined cs k)
+keeps_rules : (cs : List Component) → IsWellFormed (joined_grammar cs) → (k : Key) → has_key k cs ≡ true → KeepsNameRules (joined_pattern cs k)
 keeps_rules cs w start_key h = w.start_names
 keeps_rules cs w (name_key y) h = keeps_at (name_key y) cs (bodies (name_key y) cs) refl h (subst (λ (o : Option Tree). IfSome o KeepsNameRules) (joined_definition cs y) (w.names y))
 

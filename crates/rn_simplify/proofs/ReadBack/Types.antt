@@ -22,7 +22,7 @@ use Rattle.rn_text.specs.declared.keywords.Keyword.TheVariants as k
 use Rattle.rn_syntax.proofs.TokenKinds.PieceTokens.{before, terms, behind, terms-append, prefixed_term}
 use Rattle.rn_assemble.specs.Resolve.{type_library, type_name}
 use Rattle.rn_simplify.specs.Spelling.{space, symbol, word, literal, in_braces, Prefixes, library_prefix, type_piece, params_pieces, datum_pieces}
-use Rattle.rn_assemble.specs.Texts.{IsName, AreParams, IsType, string_type, token_type, library_type, IsData, bare, with_params, needs_context}
+use Rattle.rn_assemble.specs.WritableTexts.{IsName, AreParams, IsType, string_type, token_type, library_type, IsData, bare, with_params, needs_context}
 use Rattle.rn_simplify.proofs.ReadBack.Words.{space_breaks, space_free, equals_free, braced_sound, word_sound, word_term, literal_sound, literal_reads}
 use Rattle.rn_simplify.proofs.ReadBack.NeededBindings.{IsLibrary}
 

@@ -12,7 +12,7 @@ use Rattle.rn_pattern.specs.Opened.{opened_grammar}
 use Rattle.rn_pattern.proofs.Ordered.Ascending.{each_flat, each_sorted_once}
 use Rattle.rn_pattern.proofs.Forms.KeptByForms.{IsKept, opened_kept}
 use Rattle.rn_pattern.proofs.Forms.KeptRules.{canonical_except, opened_except}
-use Rattle.rn_assemble.specs.Texts.{IsWritableName, AreWritableNames, IsWritable, AreWritable}
+use Rattle.rn_assemble.specs.WritableTexts.{IsWritableName, AreWritableNames, IsWritable, AreWritable}
 use Rattle.rn_assemble.specs.WellFormed.{HasWritableTexts}
 use Rattle.rn_simplify.proofs.Simplified.Forms.{found_in, form_source}
 use Rattle.rn_simplify.proofs.Simplified.Promises.{normal_start_kept, normal_kept, opened_definitions_kept, opened_entry}

@@ -19,7 +19,7 @@ use Rattle.rn_assemble.specs.inside.Expanded.{CanExpand, CanInclude, Expands, Is
 use Rattle.rn_assemble.specs.inside.Noting.{AtNumbers, IncludedLacks, InclusionLacks, IsOwnLack, Notes}
 use Rattle.rn_assemble.specs.inside.Views.{inclusion_view, written_view}
 use Rattle.rn_assemble.proofs.Expansion.Expansions.{live_below}
-use Rattle.rn_assemble.proofs.Expansion.Going.{Going, going_none, going_more, finishes, overrides, expands_none, lists_same, contexts_same, zip_size, if_ok_always, if_ok_to}
+use Rattle.rn_assemble.proofs.Expansion.ModuleExpansion.{Going, going_none, going_more, finishes, overrides, expands_none, lists_same, contexts_same, zip_size, if_ok_always, if_ok_to}
 use Rattle.rn_assemble.proofs.Expansion.IncludedLacks.{module_noted}
 use Rattle.rn_assemble.proofs.Expansion.ModuleLookups.{module_at, expanded_is}
 use Rattle.rn_assemble.proofs.Expansion.NotedLacks.{SomeLacks, notes_none, some_none, some_more}

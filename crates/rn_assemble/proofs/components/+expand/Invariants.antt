@@ -8,7 +8,7 @@ use Rattle.rn_assemble.specs.inside.Listed.{IsContents, Live}
 use Rattle.rn_assemble.specs.inside.Expanded.{CanExpand, name_at}
 use Rattle.rn_assemble.specs.inside.Noting.{AtNumbers, InclusionLacks, Notes}
 use Rattle.rn_assemble.specs.inside.Views.{inclusion_view, written_view}
-use Rattle.rn_assemble.proofs.Expansion.Going.{Going}
+use Rattle.rn_assemble.proofs.Expansion.ModuleExpansion.{Going}
 use Rattle.rn_assemble.proofs.Expansion.NotedLacks.{SomeLacks}
 use Rattle.rn_assemble.proofs.components.+expand.Given as goal
 

@@ -1,7 +1,7 @@
 use Rattle.std.proofs.Common.{◌+◌, List, sym, subst, take, arith}
 use Rattle.std.proofs.lemmas.List.{take_all}
 use Rattle.std.specs.List.{AllZip}
-use Rattle.rn_assemble.specs.declared.modules.NamedModule.{NamedModule}
+use Rattle.rn_assemble.specs.declared.named_modules.NamedModule.{NamedModule}
 use Rattle.rn_assemble.specs.declared.contents.Contents.{Contents}
 use Rattle.rn_assemble.specs.inside.Listed.{IsContents}
 use Rattle.rn_assemble.specs.inside.Views.{names_of, named_module_view, modules_view}

@@ -1,6 +1,6 @@
 use Rattle.std.proofs.Common.{take}
 use Rattle.std.specs.List.{AllZip}
-use Rattle.rn_assemble.specs.declared.modules.NamedModule.{NamedModule}
+use Rattle.rn_assemble.specs.declared.named_modules.NamedModule.{NamedModule}
 use Rattle.rn_assemble.specs.declared.contents.Contents.{Contents}
 use Rattle.rn_assemble.specs.inside.Listed.{IsContents}
 use Rattle.rn_assemble.specs.inside.Views.{names_of, named_module_view, modules_view}

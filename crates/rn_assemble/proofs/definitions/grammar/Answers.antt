@@ -1,7 +1,7 @@
 use Rattle.std.proofs.Common.{◌≡◌, Some, sym, ap, ◌∙◌, subst, arith}
 use Rattle.std.specs.Prelude.{option_map}
 use Rattle.rn_pattern.specs.View.{pattern_view, boxed_view}
-use Rattle.rn_assemble.specs.Combine.{joined}
+use Rattle.rn_assemble.specs.Combine.{joined_pattern}
 use Rattle.rn_assemble.specs.Components.{start_key}
 use Rattle.rn_assemble.specs.Firsts.{joined_members}
 use Rattle.rn_assemble.specs.inside.Tied.{AreTied}
@@ -23,8 +23,8 @@ invariant_of-result c =
     let cs = components_in live in
     let patterns = c.in_ok-patterns.patterns.items in
     let made = c.in_ok-patterns.ensures live h o in
-    let held : Some (boxed_view c.unwrap-start.result) ≡ Some (joined cs start_key) = ap (option_map boxed_view) (sym c.unwrap-start.ensures ∙ c.take.ensures.taken) ∙ start_there names cs patterns made t in
-    let start : boxed_view c.unwrap-start.result ≡ joined cs start_key = cc in
+    let held : Some (boxed_view c.unwrap-start.result) ≡ Some (joined_pattern cs start_key) = ap (option_map boxed_view) (sym c.unwrap-start.ensures ∙ c.take.ensures.taken) ∙ start_there names cs patterns made t in
+    let start : boxed_view c.unwrap-start.result ≡ joined_pattern cs start_key = cc in
     let firsts = c.in_ok-start_firsts.start_firsts.items in
     record {
       start_tied = subst (λ p. AreTied firsts (joined_members p)) (sym start ∙ ap pattern_view (sym c.into_inner.ensures)) (c.in_ok-start_firsts.ensures names live h o (omega arith));

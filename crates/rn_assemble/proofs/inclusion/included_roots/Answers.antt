@@ -7,7 +7,7 @@ use Rattle.std.proofs.lemmas.List.{length-map}
 use Rattle.rn_pattern.specs.Graph.{AllBelow, rows_of}
 use Rattle.rn_pattern.specs.Ranks.{HasNoLoop, IsFirstLoop}
 use Rattle.rn_pattern.proofs.Graphs.Rows.{below_still}
-use Rattle.rn_assemble.specs.declared.modules.NamedModule.{NamedModule}
+use Rattle.rn_assemble.specs.declared.named_modules.NamedModule.{NamedModule}
 use Rattle.rn_assemble.specs.Components.{instance_limit}
 use Rattle.rn_assemble.specs.inside.Included.{AreIncluded}
 use Rattle.rn_assemble.specs.inside.Inclusions.{entries}

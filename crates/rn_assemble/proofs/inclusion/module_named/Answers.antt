@@ -1,7 +1,7 @@
 use Rattle.std.proofs.Common.{◌∙◌, rules}
 use Rattle.std.proofs.lemmas.Fn.{always_returns_same}
 use Rattle.rn_text.specs.Texts.{text_cmp}
-use Rattle.rn_assemble.specs.declared.modules.NamedModule.{NamedModule}
+use Rattle.rn_assemble.specs.declared.named_modules.NamedModule.{NamedModule}
 use Rattle.rn_assemble.proofs.Expansion.ModulePlaces.{place_found}
 use Rattle.rn_assemble.proofs.inclusion.module_named.Goals as goal
 

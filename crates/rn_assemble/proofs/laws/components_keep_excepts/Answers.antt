@@ -1,6 +1,6 @@
 use Rattle.rn_assemble.specs.Components.{start_key}
 use Rattle.rn_assemble.proofs.WellFormed.ComponentExcepts.{set_excepts}
-use Rattle.rn_assemble.proofs.Combined.JoinedKept.{joined_excepts, joined_definition_excepts}
+use Rattle.rn_assemble.proofs.Combined.JoinedProperties.{joined_excepts, joined_definition_excepts}
 use Rattle.rn_assemble.proofs.laws.components_keep_excepts.Goals as goal
 
 pub returns-clause-components : goal.returns-clause-components

@@ -7,13 +7,13 @@ use Rattle.rn_pattern.specs.View as resolved_view
 use Rattle.rn_pattern.specs.View.{shared_view}
 use Rattle.rn_syntax.specs.declared.tree.Pat.{Pat}
 use Rattle.rn_syntax.specs.View.{pattern_view, patterns_view}
-use Rattle.rn_assemble.specs.Resolve.{resolved, resolved_all, repetition, chained}
+use Rattle.rn_assemble.specs.Resolve.{resolved_pattern, resolved_patterns, repetition, operator_node}
 use Rattle.rn_assemble.proofs.Joining.Resolved.{patterns_resolved, repeated_seen, chain_seen}
 use Rattle.rn_assemble.proofs.resolution.+pattern.Goals as goal
 
 pub patterns-returns : goal.patterns-returns
 patterns-returns t c = λ ds b.
-    let f = λ (k : Pat). resolved (rc_str_bytes c.args.context.inherited.now) ds (pattern_view k) in
+    let f = λ (k : Pat). resolved_pattern (rc_str_bytes c.args.context.inherited.now) ds (pattern_view k) in
     ap trees_of (c.loop-member.invariant ds b ∙ ap (map f) (take_all c.loop-member.member-index c.args.written.now (omega arith)))
     ∙ patterns_resolved (rc_str_bytes c.args.context.inherited.now) ds c.args.written.now
 
@@ -21,8 +21,8 @@ pub resolve_pattern-returns-in_ok-content-in-Repeated : goal.resolve_pattern-ret
 resolve_pattern-returns-in_ok-content-in-Repeated t c = λ ds b.
     let i = (rc_str_bytes c.args.context.inherited.now) in
     let r = c.in-Repeated.postfix in
-    let seen = ap (λ p. resolved i ds (pattern_view p)) c.in-Repeated.is ∙ ap (resolved i ds) (repeated_seen r c.in-Repeated.content) in
-    let inner = c.in_ok-content-in-Repeated.ensures ds b ∙ ap (λ p. resolved i ds (pattern_view p)) c.deref-in-Repeated.ensures in
+    let seen = ap (λ p. resolved_pattern i ds (pattern_view p)) c.in-Repeated.is ∙ ap (resolved_pattern i ds) (repeated_seen r c.in-Repeated.content) in
+    let inner = c.in_ok-content-in-Repeated.ensures ds b ∙ ap (λ p. resolved_pattern i ds (pattern_view p)) c.deref-in-Repeated.ensures in
     IfOk-weaker c.repetition.result (λ p. resolved_view.pattern_view p ≡ repetition i ds r (resolved_view.pattern_view c.in_ok-content-in-Repeated.content)) _
     (λ p h. h ∙ ap (repetition i ds r) inner ∙ sym seen) (c.repetition.ensures i ds)
 
@@ -30,6 +30,6 @@ pub resolve_pattern-returns-in_ok-members-in-Chain : goal.resolve_pattern-return
 resolve_pattern-returns-in_ok-members-in-Chain t c = λ ds b.
     let i = (rc_str_bytes c.args.context.inherited.now) in
     let o = c.in-Chain.operator in
-    let seen = ap (λ p. resolved i ds (pattern_view p)) c.in-Chain.is ∙ ap (resolved i ds) (chain_seen o c.in-Chain.members) in
-    let inner = c.in_ok-members-in-Chain.ensures ds b ∙ ap (λ ps. resolved_all i ds (patterns_view ps)) c.deref-in-Chain.ensures.value in
-    c.chain.ensures i ds ∙ ap (chained i ds o) inner ∙ sym seen
+    let seen = ap (λ p. resolved_pattern i ds (pattern_view p)) c.in-Chain.is ∙ ap (resolved_pattern i ds) (chain_seen o c.in-Chain.members) in
+    let inner = c.in_ok-members-in-Chain.ensures ds b ∙ ap (λ ps. resolved_patterns i ds (patterns_view ps)) c.deref-in-Chain.ensures.value in
+    c.chain.ensures i ds ∙ ap (operator_node i ds o) inner ∙ sym seen

@@ -1,11 +1,11 @@
-use Rattle.rn_merge.proofs.Brought.{brought, held, one_union, same_union, never_full, no_fault}
+use Rattle.rn_merge.proofs.Runs.BroughtContributions.{brought, held, one_union, same_union, never_full, no_fault}
 use Rattle.rn_merge.proofs.laws.contributions_alone_make_the_union.Goals as goal
 
 pub returns-clause-held : goal.returns-clause-held
 returns-clause-held c = λ bundles s h m. (brought bundles s h m, held bundles s h m)
 
-pub returns-clause-one : goal.returns-clause-one
-returns-clause-one c = one_union
+pub returns-clause-one_union : goal.returns-clause-one_union
+returns-clause-one_union c = one_union
 
 pub returns-clause-never_full : goal.returns-clause-never_full
 returns-clause-never_full c = never_full

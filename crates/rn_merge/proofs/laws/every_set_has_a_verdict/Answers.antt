@@ -1,4 +1,4 @@
-use Rattle.rn_merge.proofs.EverySet.{never_no_verdict, never_unassembled, never_uncanonical, no_refusal}
+use Rattle.rn_merge.proofs.Verdicts.EverySet.{never_no_verdict, never_unassembled, never_uncanonical, no_refusal}
 use Rattle.rn_merge.proofs.laws.every_set_has_a_verdict.Goals as goal
 
 pub returns-clause-verdict : goal.returns-clause-verdict

@@ -1,5 +1,5 @@
-use Rattle.rn_merge.proofs.Calls.{one_left, one_answer_of_calls}
-use Rattle.rn_merge.proofs.Verdicts.{one_answer}
+use Rattle.rn_merge.proofs.Runs.Calls.{one_left, one_answer_of_calls}
+use Rattle.rn_merge.proofs.Verdicts.SetVerdict.{one_answer}
 use Rattle.rn_merge.proofs.laws.one_answer.Goals as goal
 
 pub returns-clause-set : goal.returns-clause-set

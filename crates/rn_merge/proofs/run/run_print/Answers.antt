@@ -2,8 +2,8 @@ use Rattle.std.proofs.Common.{◌≡◌, refl, string_bytes, subst, sym}
 use Rattle.std.specs.Io.KnownBytes.{Appends}
 use Rattle.rn_merge.specs.Runs.{bundles_view, IsRun, LeavesSink}
 use Rattle.rn_merge.specs.Streams.{AppendsFront}
-use Rattle.rn_merge.proofs.Refused.{refused_run, refused_leaves}
-use Rattle.rn_merge.proofs.Schemas.{schema}
+use Rattle.rn_merge.proofs.Runs.RefusedRuns.{refused_run, refused_leaves}
+use Rattle.rn_merge.proofs.Verdicts.Schemas.{schema}
 use Rattle.rn_merge.proofs.run.run_print.Goals as goal
 
 pub returns-clause-run : goal.returns-clause-run
@@ -18,12 +18,12 @@ returns-clause-run g c = (
 
 pub returns-in-Err-clause-run : goal.returns-in-Err-clause-run
 returns-in-Err-clause-run g c =
-    subst (IsRun (bundles_view c.args.bundles.now) _ _ _) (sym c.refused.ensures) (refused_run _ _ _ _ c.in_ok-union.union c.in-Err.refusal c.in_ok-union.ensures.ok c.in-Err.ensures.verdict c.in-Err.ensures.first)
+    subst (IsRun (bundles_view c.args.bundles.now) _ _ _) (sym c.refusal_outcome.ensures) (refused_run _ _ _ _ c.in_ok-union.union c.in-Err.refusal c.in_ok-union.ensures.ok c.in-Err.ensures.verdict c.in-Err.ensures.first)
 
 pub returns-in-Err-clause-kept : goal.returns-in-Err-clause-kept
 returns-in-Err-clause-kept g c =
     let Kept = c.args.out.now ≡ c.args.out.now in
-    subst (λ r. LeavesSink r Kept) (sym c.refused.ensures) (refused_leaves c.in-Err.refusal Kept refl)
+    subst (λ r. LeavesSink r Kept) (sym c.refusal_outcome.ensures) (refused_leaves c.in-Err.refusal Kept refl)
 
 pub returns-in-Ok-write_output-clause-run : goal.returns-in-Ok-write_output-clause-run
 returns-in-Ok-write_output-clause-run g c = (

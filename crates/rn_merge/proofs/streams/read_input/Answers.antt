@@ -1,5 +1,5 @@
 use Rattle.std.proofs.Common.{rules}
-use Rattle.rn_merge.proofs.Moved.{gives_more}
+use Rattle.rn_merge.proofs.Runs.MovedBytes.{gives_more}
 use Rattle.rn_merge.proofs.streams.read_input.Goals as goal
 
 pub returns-then-given-limit-clause-err : goal.returns-then-given-limit-clause-err

@@ -1,6 +1,6 @@
 use Rattle.std.proofs.Common.{◌++◌, rules, take}
 use Rattle.std.proofs.KnownBytes.{Appends-trans}
-use Rattle.rn_merge.proofs.Moved.{front_grows}
+use Rattle.rn_merge.proofs.Runs.MovedBytes.{front_grows}
 use Rattle.rn_merge.proofs.streams.write_output.Goals as goal
 
 pub loop-rest-preserved : goal.loop-rest-preserved

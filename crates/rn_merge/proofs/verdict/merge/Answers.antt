@@ -1,8 +1,8 @@
 use Rattle.std.proofs.lemmas.Result.{IfOk-weaker}
 use Rattle.rn_assemble.specs.GrammarView.{grammar_view}
 use Rattle.rn_simplify.specs.NormalView.{normal_view}
-use Rattle.rn_merge.proofs.Schemas.{answered_refusal, lacking, printed_refusal, printed_schema}
-use Rattle.rn_merge.proofs.Verdicts.{answered_first, answered}
+use Rattle.rn_merge.proofs.Verdicts.Schemas.{answered_refusal, lacking, printed_refusal, printed_schema}
+use Rattle.rn_merge.proofs.Verdicts.SetVerdict.{answered_first, answered}
 use Rattle.rn_merge.proofs.verdict.merge.Goals as goal
 
 pub returns-in_err-grammar-clause-verdict : goal.returns-in_err-grammar-clause-verdict

@@ -2,7 +2,7 @@ use Rattle.std.proofs.Common.{◌≡◌, ◌<◌, ℕ, List, length, sym, subst,
 use Rattle.std.specs.Prelude.{slice_get, Some}
 use Rattle.std.proofs.lemmas.Result.{IfOk-weaker}
 use Rattle.rn_pattern.specs.Graph.{rows_of}
-use Rattle.rn_assemble.specs.Combine.{joined}
+use Rattle.rn_assemble.specs.Combine.{joined_pattern}
 use Rattle.rn_assemble.specs.Firsts.{joined_members}
 use Rattle.rn_assemble.specs.inside.Tied.{AreTied, IsFirst}
 use Rattle.rn_assemble.specs.inside.Keyed.{key_at}
@@ -11,7 +11,7 @@ use Rattle.rn_assemble.proofs.Joining.FirstMembers.{bodies_tied, none_tied}
 use Rattle.rn_assemble.proofs.components.Components.firsts.Goals as goal
 
 pub returns-then-places-lt2 : goal.returns-then-places-lt2
-returns-then-places-lt2 c = λ names live h o k. subst (λ fs. AreTied fs (joined_members (joined (components_in live) (key_at names c.args.key)))) (sym c.new.ensures.items) (none_tied _)
+returns-then-places-lt2 c = λ names live h o k. subst (λ fs. AreTied fs (joined_members (joined_pattern (components_in live) (key_at names c.args.key)))) (sym c.new.ensures.items) (none_tied _)
 
 pub returns : goal.returns
 returns c = λ names live h o k.

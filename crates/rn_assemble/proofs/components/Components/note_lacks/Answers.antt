@@ -7,7 +7,7 @@ use Rattle.rn_assemble.specs.inside.Listed.{components_in}
 use Rattle.rn_assemble.specs.inside.Noting.{IsOwnLack, Notes}
 use Rattle.rn_assemble.specs.inside.Views.{IsNumbered}
 use Rattle.rn_assemble.proofs.Expansion.Expansions.{range_none, range_more}
-use Rattle.rn_assemble.proofs.Expansion.Going.{lists_same}
+use Rattle.rn_assemble.proofs.Expansion.ModuleExpansion.{lists_same}
 use Rattle.rn_assemble.proofs.Expansion.OwnLacks.{own_none, own_met, own_passed}
 use Rattle.rn_assemble.proofs.components.Components.note_lacks.Goals as goal
 use Rattle.rn_assemble.proofs.components.Components.note_lacks.Goals.{in-Some+then-not-has_since, in-Some+else-not-has_since, in_default}

@@ -8,7 +8,7 @@ use Rattle.indexmap.specs.IndexSet.{insert_all, insert_key}
 use Rattle.rn_text.specs.Texts.{Text}
 use Rattle.rn_syntax.specs.View.{items_view}
 use Rattle.rn_assemble.specs.Components.{NamedModule}
-use Rattle.rn_assemble.specs.declared.modules.NamedModule as code_module
+use Rattle.rn_assemble.specs.declared.named_modules.NamedModule as code_module
 use Rattle.rn_assemble.specs.inside.Keyed.{defines}
 use Rattle.rn_assemble.specs.inside.Views.{texts_of, named_module_view, modules_view}
 use Rattle.rn_assemble.proofs.Referring.KeyNames.{from_all, in_all, reordered, sorted_once}

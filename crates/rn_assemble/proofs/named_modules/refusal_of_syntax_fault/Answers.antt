@@ -1,7 +1,7 @@
 use Rattle.std.proofs.Common.{IfSome, ◌∙◌, sym, subst}
 use Rattle.rn_assemble.specs.Refusal.{IsFirstFault}
 use Rattle.rn_assemble.proofs.Refusals.TextFaults.{first_of_tokens, of_refusal}
-use Rattle.rn_assemble.proofs.modules.no_module.Goals as goal
+use Rattle.rn_assemble.proofs.named_modules.refusal_of_syntax_fault.Goals as goal
 
 pub returns-in-Some : goal.returns-in-Some
 returns-in-Some c = λ text tokens utf8 has h.

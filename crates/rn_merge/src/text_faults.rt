@@ -1,6 +1,6 @@
 // The fault of one module text.
 ghost use Rattle.std.specs.Prelude.{◌≡◌, OnOk, IfErr};
-ghost use Rattle.rn_merge.specs.Texts.{IsGood, HasPlace, kind_and_place, place_of};
+ghost use Rattle.rn_merge.specs.TextFaults.{IsGood, HasPlace, kind_and_place, place_of};
 
 use rn_syntax::{FaultKind, SyntaxFault, parse};
 use rn_text::{TextFault, tokens};
@@ -18,7 +18,7 @@ pub enum Place {
     /// be read.
     #[error("Lexical {at}")]
     Lexical { at: usize },
-    /// The first of `{`, `(` and `[` that makes 257 open at once.
+    /// The first of `{`, `(` and `[` that makes more than [`rn_syntax::MAX_OPEN`] open at once.
     #[error("Deep {at}")]
     Deep { at: usize },
     /// The first token with which the tokens so far begin no module; where all of them begin one
@@ -82,7 +82,7 @@ impl Place {
 }
 
 impl From<TextFault> for Place {
-    ghost use Rattle.rn_merge.specs.Texts.{text_place};
+    ghost use Rattle.rn_merge.specs.inside.Outcomes.{text_place};
 
     ghost from_gives = { λ fault place. place ≡ text_place fault };
 
@@ -96,7 +96,7 @@ impl From<TextFault> for Place {
 }
 
 impl From<SyntaxFault> for Place {
-    ghost use Rattle.rn_merge.specs.Texts.{syntax_place};
+    ghost use Rattle.rn_merge.specs.TextFaults.{syntax_place};
 
     ghost from_gives = { λ fault place. place ≡ syntax_place fault };
 

@@ -1,4 +1,4 @@
--- One step more, before others or behind them.
+-- A path of edges, or of steps, with one more before it or behind it.
 use Rattle.std.proofs.Common.{ℕ, List, Contains}
 use Rattle.rn_text.specs.Texts.{Text}
 use Rattle.rn_pattern.specs.References.{Reaches, by_one, by_more}

@@ -11,7 +11,8 @@ use Rattle.rn_modset.specs.Grammar.{IsBundle}
 use Rattle.rn_modset.specs.declared.faults.AddFault.{AddFault}
 use Rattle.rn_modset.specs.declared.faults.AddFault.TheVariants as adding
 use Rattle.rn_merge.specs.declared.run.RunFault.{RunFault}
-use Rattle.rn_merge.specs.Runs.{unions, AreBundles, IsUnionBefore, HasNoUnion, join_fault}
+use Rattle.rn_merge.specs.Runs.{unions, AreBundles, IsUnionBefore, HasNoUnion}
+use Rattle.rn_merge.specs.inside.Outcomes.{join_fault}
 
 -- the last set is joined last
 pub unions_of_more : (s : List Member) (ts : List (List Member)) (t : List Member) → unions s (ts ++ t ∷ []) ≡ union (unions s ts) t

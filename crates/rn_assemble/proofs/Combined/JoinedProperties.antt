@@ -8,8 +8,8 @@ use Rattle.rn_pattern.specs.Matching.{definition_of}
 use Rattle.rn_pattern.specs.Excepts.{HasExcepts, HaveExcepts}
 use Rattle.rn_pattern.proofs.Ordered.InOrder.{contained_each}
 use Rattle.rn_assemble.specs.Components.{Key, start_key, name_key, Component, same_key}
-use Rattle.rn_assemble.specs.Combine.{of_key, bodies, combined, join, joined, first_of, defined_names, joined_grammar}
-use Rattle.rn_assemble.specs.Texts.{IsName, IsWritable, AreWritable}
+use Rattle.rn_assemble.specs.Combine.{of_key, bodies, method_node, joined_tree, joined_pattern, first_of, defined_names, joined_grammar}
+use Rattle.rn_assemble.specs.WritableTexts.{IsName, IsWritable, AreWritable}
 use Rattle.rn_assemble.specs.WellFormed.{HasWritableTexts}
 use Rattle.rn_assemble.proofs.Combined.Combinations.{some_joined, joined_definition}
 
@@ -18,7 +18,7 @@ module _ (Q : Tree → Type 0) (of_choice : (ps : List Tree) → AllByRecursion 
   node_kept true ps h = of_interleave ps h
   node_kept false ps h = of_choice ps h
 
-  join_kept : (b : Bool) (ps : List Tree) → AllByRecursion Q ps → Q (join (λ ts. cond b (interleave ts) (choice ts)) ps)
+  join_kept : (b : Bool) (ps : List Tree) → AllByRecursion Q ps → Q (joined_tree (λ ts. cond b (interleave ts) (choice ts)) ps)
   join_kept b [] h = node_kept b [] h
   join_kept b (p ∷ []) h = h.0
   join_kept b (p ∷ q ∷ ps) h = node_kept b (p ∷ q ∷ ps) h
@@ -31,15 +31,15 @@ module _ (Q : Tree → Type 0) (of_choice : (ps : List Tree) → AllByRecursion 
   bodies_kept k [] h = tt
   bodies_kept k (c ∷ cs) h = body_kept_at (same_key k c.key) c (of_key k cs) h.0 (bodies_kept k cs h.1)
 
-  pub joined_kept : (cs : List Component) (k : Key) → AllByRecursion (λ (c : Component). Q c.body) cs → Q (joined cs k)
+  pub joined_kept : (cs : List Component) (k : Key) → AllByRecursion (λ (c : Component). Q c.body) cs → Q (joined_pattern cs k)
   joined_kept cs k h = join_kept _ (bodies k cs) (bodies_kept k cs h)
 
-  some_kept : (over : Trees → Tree) (ps : List Tree) → Q (join over ps) → IfSome (some_joined over ps) Q
+  some_kept : (over : Trees → Tree) (ps : List Tree) → Q (joined_tree over ps) → IfSome (some_joined over ps) Q
   some_kept over [] h = tt
   some_kept over (p ∷ ps) h = h
 
   pub joined_definition_kept : (cs : List Component) (x : Text) → AllByRecursion (λ (c : Component). Q c.body) cs → IfSome (definition_of (joined_grammar cs) x) Q
-  joined_definition_kept cs x h = subst (λ (o : Option Tree). IfSome o Q) (sym (joined_definition cs x)) (some_kept (combined (name_key x) cs) (bodies (name_key x) cs) (joined_kept cs (name_key x) h))
+  joined_definition_kept cs x h = subst (λ (o : Option Tree). IfSome o Q) (sym (joined_definition cs x)) (some_kept (method_node (name_key x) cs) (bodies (name_key x) cs) (joined_kept cs (name_key x) h))
 
 -- ---- excepts
 
@@ -47,7 +47,7 @@ all_have : (ps : List Tree) → AllByRecursion HasExcepts ps → HaveExcepts (tr
 all_have [] h = tt
 all_have (p ∷ ps) h = (h.0, all_have ps h.1)
 
-pub joined_excepts : (cs : List Component) (k : Key) → AllByRecursion (λ (c : Component). HasExcepts c.body) cs → HasExcepts (joined cs k)
+pub joined_excepts : (cs : List Component) (k : Key) → AllByRecursion (λ (c : Component). HasExcepts c.body) cs → HasExcepts (joined_pattern cs k)
 joined_excepts = joined_kept HasExcepts all_have all_have
 
 pub joined_definition_excepts : (cs : List Component) (x : Text) → AllByRecursion (λ (c : Component). HasExcepts c.body) cs → IfSome (definition_of (joined_grammar cs) x) HasExcepts
@@ -97,5 +97,5 @@ pub joined_writable : (cs : List Component) → AllByRecursion IsWritableCompone
 joined_writable cs h = record {
   start = joined_kept IsWritable all_writable all_writable cs start_key (bodies_writable cs h);
   definitions = λ x. joined_definition_kept IsWritable all_writable all_writable cs x (bodies_writable cs h);
-  names = λ x p c. contained_each (λ (d : Text × Tree). IsName d.0) (joined_grammar cs).definitions (entries_named (λ x. joined cs (name_key x)) (defined_names cs) (defined_are_names cs h)) (x, p) c;
+  names = λ x p c. contained_each (λ (d : Text × Tree). IsName d.0) (joined_grammar cs).definitions (entries_named (λ x. joined_pattern cs (name_key x)) (defined_names cs) (defined_are_names cs h)) (x, p) c;
 }

@@ -15,9 +15,9 @@ use Rattle.rn_simplify.proofs.PrintedAgain.{printed_again}
 use Rattle.rn_simplify.proofs.PrintedSets.{printed_read}
 use Rattle.rn_merge.specs.Schemas.{IsSchema, RefusesFirst}
 use Rattle.rn_merge.specs.Verdicts.{Answer, IsAnswer, IsRefusedAs}
-use Rattle.rn_merge.proofs.Alone.{effective_alone}
-use Rattle.rn_merge.proofs.Clashes.{plain_once, one_method}
-use Rattle.rn_merge.proofs.Verdicts.{answered, unrefused}
+use Rattle.rn_merge.proofs.Verdicts.LoneContributions.{effective_alone}
+use Rattle.rn_merge.proofs.Verdicts.Clashes.{plain_once, one_method}
+use Rattle.rn_merge.proofs.Verdicts.SetVerdict.{answered, unrefused}
 
 pub schema : (s : List Member) (text : Text) → IsVerdict s (prints text) → IsSchema s text
 schema s text h =

@@ -1,17 +1,16 @@
 // The effective modules of a set, read.
 ghost use Rattle.std.specs.Prelude.{IfErr, IfOk, List, MatchResult, map};
-ghost use Rattle.std.specs.List.Sorted.{IsStrictlySortedBy};
 ghost use Rattle.std.specs.Str.{IsUtf8, chars};
 ghost use Rattle.std.specs.String.{string_bytes};
 ghost use Rattle.rn_text.specs.Tokens.{HasFault, HasTokens, lexeme_of};
 ghost use Rattle.rn_text.specs.declared.source.Token as source;
-ghost use Rattle.rn_text.specs.Texts.{Text, text_cmp};
+ghost use Rattle.rn_text.specs.Texts.{Text};
 ghost use Rattle.rn_syntax.specs.Faults.{IsFault};
 ghost use Rattle.rn_syntax.specs.View.{module_view};
-ghost use Rattle.rn_assemble.specs.inside.Reading.{IsFaultOf, IsRead};
+ghost use Rattle.rn_assemble.specs.inside.ModuleTexts.{IsFaultOf, IsRead};
 ghost use Rattle.rn_assemble.specs.Refusal.{AreModules};
 ghost use Rattle.rn_assemble.specs.Refused.{IsFirstRefusal};
-ghost use Rattle.rn_assemble.specs.inside.Views.{module_names, modules_view};
+ghost use Rattle.rn_assemble.specs.inside.Views.{AreInOrder, modules_view};
 
 use crate::refusal::Refusal;
 use rn_modset::ModuleSet;
@@ -33,37 +32,36 @@ pub(crate) fn read_modules<'a>(
     set: &'a ModuleSet,
 ) -> Result<Vec<NamedModule<'a>>, Refusal>
     ensures ok { IfOk result (λ modules. AreModules set.now (modules_view modules.items)) }
-    ensures in_order { IfOk result (λ modules.
-        IsStrictlySortedBy text_cmp (module_names modules.items)) }
+    ensures in_order { IfOk result (λ modules. AreInOrder modules.items) }
     ensures err { IfErr result (IsFirstRefusal set.now) }
 {
-    let effective = set.effective(alloc)?;
+    let effective_modules = set.effective(alloc)?;
     let mut modules = Vec::new(alloc);
-    for module in effective.iter() {
+    for module in effective_modules.iter() {
         let (name, text) = *module;
-        let tree = read(alloc, name, text)?;
+        let tree = read_module(alloc, name, text)?;
         modules.push(NamedModule { name, tree })?;
     }
     Ok(modules)
 }
 
 /// The tree of a module's text, or the refusal of its first fault. Its tokens are given up here.
-fn read<'a>(alloc: Global, name: &str, text: &'a [u8]) -> Result<Module<'a>, Refusal>
+fn read_module<'a>(alloc: Global, name: &str, text: &'a [u8]) -> Result<Module<'a>, Refusal>
     ensures { MatchResult result (λ tree. IsRead text.now (module_view tree))
         (IsFaultOf name.now text.now) }
 {
     let tokens = match tokens(alloc, text) {
         Ok(tokens) => tokens,
-        Err(fault) => return Err(unreadable(String::from_str(alloc, name)?, fault)),
+        Err(fault) => return Err(refusal_of_text_fault(String::from_str(alloc, name)?, fault)),
     };
     match parse(alloc, tokens.as_slice()) {
         Ok(tree) => Ok(tree),
-        Err(fault) => Err(no_module(String::from_str(alloc, name)?, fault)),
+        Err(fault) => Err(refusal_of_syntax_fault(String::from_str(alloc, name)?, fault)),
     }
 }
 
 /// The refusal of a module whose text has no tokens.
-fn unreadable(module: String, fault: TextFault) -> Refusal
+fn refusal_of_text_fault(module: String, fault: TextFault) -> Refusal
     ensures { (text : Text) → HasFault text fault → IsFaultOf (string_bytes «module») text result }
 {
     match fault {
@@ -74,7 +72,7 @@ fn unreadable(module: String, fault: TextFault) -> Refusal
 }
 
 /// The refusal of a module whose tokens are none, or which has a fault.
-fn no_module(module: String, fault: SyntaxFault) -> Refusal
+fn refusal_of_syntax_fault(module: String, fault: SyntaxFault) -> Refusal
     ensures { (text : Text) (tokens : List source.Token) → IsUtf8 text
         → HasTokens (chars text) (map lexeme_of tokens) → IsFault tokens fault
         → IsFaultOf (string_bytes «module») text result }

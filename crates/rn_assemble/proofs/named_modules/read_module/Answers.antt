@@ -5,7 +5,7 @@ use Rattle.rn_text.specs.declared.source.Token.{Token}
 use Rattle.rn_syntax.specs.View.{module_view}
 use Rattle.rn_syntax.proofs.TokenKinds.SourceTokens.{tokens_are_spelled}
 use Rattle.rn_assemble.proofs.Refusals.TextFaults.{faultless}
-use Rattle.rn_assemble.proofs.modules.read.Goals as goal
+use Rattle.rn_assemble.proofs.named_modules.read_module.Goals as goal
 
 pub returns-in-Ok-parse : goal.returns-in-Ok-parse
 returns-in-Ok-parse c =

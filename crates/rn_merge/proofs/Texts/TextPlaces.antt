@@ -25,11 +25,12 @@ use Rattle.rn_syntax.proofs.FaultPlaces.OneFault as parsed
 use Rattle.rn_assemble.specs.Refusal.{HasTextFault, IsFirstFault}
 use Rattle.rn_assemble.proofs.Refusals.OneSet.{first_fault}
 use Rattle.rn_assemble.proofs.Refusals.TextFaults.{faultless, first_lexical, first_of_tokens}
-use Rattle.rn_merge.specs.declared.texts.Place.{Place}
-use Rattle.rn_merge.specs.declared.texts.Place.TheVariants.{Encoding, Lexical, Memory}
-use Rattle.rn_merge.specs.Texts.{AreTokensOf, IsGood, HasSyntaxFault, HasPlace, kind_and_place, text_place, syntax_place}
+use Rattle.rn_merge.specs.declared.text_faults.Place.{Place}
+use Rattle.rn_merge.specs.declared.text_faults.Place.TheVariants.{Encoding, Lexical, Memory}
+use Rattle.rn_merge.specs.TextFaults.{AreTokensOf, IsGood, HasSyntaxFault, HasPlace, kind_and_place, syntax_place}
+use Rattle.rn_merge.specs.inside.Outcomes.{text_place}
 use Rattle.rn_merge.specs.Kinds.{kind_alone, kind_of}
-use Rattle.rn_merge.proofs.Checked.{tokens_of, placed}
+use Rattle.rn_merge.proofs.Texts.TokenFaults.{tokens_of, placed}
 
 -- ---- tokens of a text, as those of a source
 
@@ -105,8 +106,8 @@ one_side text place other (inl a) (inl b) = a.is ∙ ap text_place (told.one_fau
 one_side text place other (inl a) (inr b) = absurd (not_of_bytes text place b.tokens b.are a)
 one_side text place other (inr a) (inl b) = absurd (not_of_bytes text other a.tokens a.are b)
 one_side text place other (inr a) (inr b) =
-    let there = moved b.tokens a.tokens b.are.spelled (same_tokens text b.tokens a.tokens b.are a.are) b.fault b.has in
-    a.is ∙ ap syntax_place (parsed.one_fault a.tokens a.are.spelled a.fault b.fault a.has there a.some b.some) ∙ sym b.is
+    let there = moved b.tokens a.tokens b.are.are_spelled (same_tokens text b.tokens a.tokens b.are a.are) b.fault b.has in
+    a.is ∙ ap syntax_place (parsed.one_fault a.tokens a.are.are_spelled a.fault b.fault a.has there a.some b.some) ∙ sym b.is
 
 pub one_place : (text : List ℕ) (place other : Place) → HasPlace text place → HasPlace text other → place ≢ Memory → other ≢ Memory → place ≡ other
 one_place text place other x y p q = one_side text place other (of_side text place x p) (of_side text other y q)
@@ -118,7 +119,7 @@ memory_by place h = absurd (h (λ e. cc))
 good_side : (text : List ℕ) (place : Place) → IsGood text → OfBytes text place ⊎ OfTokens text place → ⊥
 good_side text place (xs, m, t, d, tree, none) (inl b) = not_of_bytes text place xs t b
 good_side text place (xs, m, t, d, tree, none) (inr b) =
-    b.some (parsed.no_fault xs t.spelled m b.fault d tree none (moved b.tokens xs b.are.spelled (same_tokens text b.tokens xs b.are t) b.fault b.has))
+    b.some (parsed.no_fault xs t.are_spelled m b.fault d tree none (moved b.tokens xs b.are.are_spelled (same_tokens text b.tokens xs b.are t) b.fault b.has))
 
 pub not_both : (text : List ℕ) (place : Place) → IsGood text → HasPlace text place → place ≡ Memory
 not_both text place good h = memory_by place (λ n. good_side text place good (of_side text place h n))
@@ -141,7 +142,7 @@ bytes_placed text r.Memory h = tt
 
 module _ (text : List ℕ) (bad : ¬ IsGood text) (none : (place : Place) → HasPlace text place → place ≡ Memory) where
   never_tokens : (xs : List Token) → AreTokensOf text xs → ⊥
-  never_tokens xs t = parsed.never_neither xs t.spelled (λ m sound. bad (xs, m, t, sound.0, sound.1, sound.2))
+  never_tokens xs t = parsed.never_neither xs t.are_spelled (λ m sound. bad (xs, m, t, sound.0, sound.1, sound.2))
       (λ e h. syntax_memory e (none (syntax_place e) (placed text xs e t h)))
 
   never_source : (ls : List Lexeme) → IsUtf8 text → HasTokens (chars text) ls → ⊥

@@ -10,8 +10,8 @@ use Rattle.rn_modset.proofs.Unions.UnionLaws.{call_laws}
 use Rattle.rn_assemble.specs.declared.refusal.Refusal.TheVariants as r
 use Rattle.rn_merge.specs.Laws.{IsLeftBy, Bring, BringAlike}
 use Rattle.rn_merge.specs.Verdicts.{Answer, answer_view, IsAnswer}
-use Rattle.rn_merge.proofs.Brought.{same_truth}
-use Rattle.rn_merge.proofs.Verdicts.{one_answer}
+use Rattle.rn_merge.proofs.Runs.BroughtContributions.{same_truth}
+use Rattle.rn_merge.proofs.Verdicts.SetVerdict.{one_answer}
 
 in_brought : (calls : List Call) (m : Member) → In m (flat_map brought calls) → (call : Call) × In call calls × In m (brought call)
 in_brought [] m h = absurd h

@@ -3,7 +3,6 @@ use Rattle.std.specs.Prelude.{◌≡◌, ℕ, List, Option, Some, None, map}
 use Rattle.std.specs.Str.{IsUtf8, chars}
 use Rattle.rn_text.specs.Tokens.{HasTokens, HasFault, lexeme_of}
 use Rattle.rn_text.specs.declared.source.Token.{Token}
-use Rattle.rn_text.specs.declared.source.TextFault.{TextFault}
 use Rattle.rn_text.specs.declared.source.TextFault.TheVariants as reading
 use Rattle.rn_syntax.specs.declared.fault.FaultKind.{FaultKind}
 use Rattle.rn_syntax.specs.declared.fault.FaultKind.TheVariants as kind
@@ -15,14 +14,14 @@ use Rattle.rn_syntax.specs.Places.{deep}
 use Rattle.rn_syntax.specs.Spelled.{AreSpelled}
 use Rattle.rn_syntax.specs.Tokens.{terminals}
 use Rattle.rn_syntax.specs.Tree.{Module}
-use Rattle.rn_merge.specs.declared.texts.Place.{Place}
-use Rattle.rn_merge.specs.declared.texts.Place.TheVariants.{Encoding, Lexical, Deep, Syntax, Prefix, Builtin, ContextValue, Except, Memory}
+use Rattle.rn_merge.specs.declared.text_faults.Place.{Place}
+use Rattle.rn_merge.specs.declared.text_faults.Place.TheVariants.{Encoding, Lexical, Deep, Syntax, Prefix, Builtin, ContextValue, Except, Memory}
 
 -- the tokens of the text, each spelled as its kind says
 pub record AreTokensOf (text : List ℕ) (tokens : List Token) : Type 0 where
   pub utf8 : IsUtf8 text
   pub are : HasTokens (chars text) (map lexeme_of tokens)
-  pub spelled : AreSpelled tokens
+  pub are_spelled : AreSpelled tokens
 
 -- the text is a module, in which no fault stands
 abbrev pub IsGood : List ℕ → Type 0
@@ -52,12 +51,6 @@ kind_and_place (Builtin at) = Some (kind.Builtin, at)
 kind_and_place (ContextValue at) = Some (kind.ContextValue, at)
 kind_and_place (Except at) = Some (kind.Except, at)
 kind_and_place Memory = None
-
--- the place of a fault of the bytes or the tokens
-abbrev pub text_place : TextFault → Place
-text_place (reading.Encoding at) = Encoding at
-text_place (reading.Lexical at) = Lexical at
-text_place reading.Memory = Memory
 
 abbrev pub place_or_memory : Option (FaultKind × ℕ) → Place
 place_or_memory (Some k) = place_of k.0 k.1

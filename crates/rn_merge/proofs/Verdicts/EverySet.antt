@@ -21,8 +21,8 @@ use Rattle.rn_assemble.proofs.Refusals.NoLeast.{no_text}
 use Rattle.rn_simplify.specs.Spelling.{spelling}
 use Rattle.rn_simplify.specs.ReadBack.{is_too_deep}
 use Rattle.rn_simplify.specs.Verdict.{Verdict, prints, refused, too_large, too_deep, IsCanonicalOfSet, IsVerdict}
-use Rattle.rn_merge.proofs.Places.{faultless_good}
-use Rattle.rn_merge.proofs.Entries.{no_first, in_map, names_sorted, never_no_entries}
+use Rattle.rn_merge.proofs.Texts.TextPlaces.{faultless_good}
+use Rattle.rn_merge.proofs.Verdicts.NameEntries.{no_first, in_map, names_sorted, never_no_entries}
 
 -- ---- a set without refusal has a grammar
 
@@ -79,7 +79,7 @@ module _ (s : List Member) where
     never_modules lacks = never_texts (λ texts a.
         let good = faultless texts a in
         never_trees texts (λ x i f has. good x.0 (x.1, contains_from_in texts x i, (f, has))) (λ modules trees.
-        lacks modules (record { texts = texts; effective = a; faultless = good; trees = trees })))
+        lacks modules (record { texts = texts; are_effective = a; faultless = good; trees = trees })))
 
     pub never_unassembled : ((g : Grammar) → ¬ IsAssembled s g) → ⊥
     never_unassembled lacks = never_modules (λ modules are. lacks (grammar_of modules) (none, (modules, are, refl)))

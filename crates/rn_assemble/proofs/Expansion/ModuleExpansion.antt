@@ -13,8 +13,8 @@ use Rattle.rn_assemble.specs.declared.contents.Contents.{Contents}
 use Rattle.rn_assemble.specs.declared.contents.Include.{Include}
 use Rattle.rn_assemble.specs.declared.components.Body.{Body}
 use Rattle.rn_assemble.specs.declared.components.Components.{Components}
-use Rattle.rn_assemble.specs.Components.{Component, NamedModule, components_within, handed_on, module_components, overridden}
-use Rattle.rn_assemble.specs.inside.Contained.{AreFlat, Inclusion, inclusions, item_inclusions, Written, written}
+use Rattle.rn_assemble.specs.Components.{Component, NamedModule, components_within, handed_on, module_components, without_overridden}
+use Rattle.rn_assemble.specs.inside.Contained.{AreFlat, Inclusion, inclusions, item_inclusions, Written, written_components}
 use Rattle.rn_assemble.specs.inside.Listed.{IsContents, IsLive, Live, Lists, ListsBy, resolved_component}
 use Rattle.rn_assemble.specs.inside.Views.{IsNumbered, inclusion_view, written_view}
 use Rattle.rn_assemble.specs.inside.Expanded.{AddsLive, ContextHolds, ContextsHold, Enters, Expands, KeepsBodies, KeepsLists, StartsAt, included_in, left_by}
@@ -61,7 +61,7 @@ module _ (modules : List NamedModule) (names : List Text) (contents : List Conte
   -- at the beginning
   pub going_none : (old now : Components) → IsContents modules names m content → AreFlat m.tree.items → Lists names old live → KeepsLists old now → Enters contents old now first content u → Going modules names contents content old now live m u depth first 0 content.includes.items
   going_none old now is flat lists kept entered =
-      let size : length content.components.items ≡ length (written m.tree.items) = sym (length-map content.components.items (written_view names)) ∙ ap length is.components in
+      let size : length content.components.items ≡ length (written_components m.tree.items) = sym (length-map content.components.items (written_view names)) ∙ ap length is.components in
       let more = lists_more_bodies names old.bodies.items entered.grows.0 old.list.items (rows_of old.places.items) live lists in
       let in_bodies : ListsBy names now.bodies.items old.list.items (rows_of old.places.items) live = subst (λ (bs : List Body). ListsBy names bs old.list.items (rows_of old.places.items) live) (sym entered.grows.1) more in
       let in_list : ListsBy names now.bodies.items now.list.items (rows_of old.places.items) live = subst (λ v. ListsBy names now.bodies.items v.items (rows_of old.places.items) live) (sym kept.list) in_bodies in
@@ -74,17 +74,17 @@ module _ (modules : List NamedModule) (names : List Text) (contents : List Conte
         contexts = entered.contexts;
         starts = entered.starts;
         grows = entered.grows;
-        ordered = subst (λ k. Ordered k 0 (map inclusion_view content.includes.items)) (sym size) (subst (λ l. Ordered (length (written m.tree.items)) 0 l) (sym is.includes) (inclusions_ordered modules m.tree.items flat));
+        ordered = subst (λ k. Ordered k 0 (map inclusion_view content.includes.items)) (sym size) (subst (λ l. Ordered (length (written_components m.tree.items)) 0 l) (sym is.includes) (inclusions_ordered modules m.tree.items flat));
         within = subst (λ l. AllByRecursion (IsWithin modules) l) (sym is.includes) (items_within modules 0 m.tree.items);
       }
 
   -- one include more
   pub going_more : (old now mid new : Components) (n : ℕ) (i : Include) (rest : List Include) (g : Going modules names contents content old now live m u depth first n (i ∷ rest))
       → (a : AddsLive names now mid (live ++ g.adds.added) (res (slice_range ws n i.from))) → KeepsBodies now mid
-      → Expands names contents mid new ((live ++ g.adds.added) ++ a.added) (overridden (included_in depth modules i.«module» (handed_on u m.tree.declarations (inclusion_view i).inherit)) (res (slice_range ws i.from i.to)))
+      → Expands names contents mid new ((live ++ g.adds.added) ++ a.added) (without_overridden (included_in depth modules i.«module» (handed_on u m.tree.declarations (inclusion_view i).inherit)) (res (slice_range ws i.from i.to)))
       → Going modules names contents content old new live m u depth first i.from rest
   going_more old now mid new n i rest g a kept e =
-      let part = overridden (included_in depth modules i.«module» (handed_on u m.tree.declarations (inclusion_view i).inherit)) (res (slice_range ws i.from i.to)) in
+      let part = without_overridden (included_in depth modules i.«module» (handed_on u m.tree.declarations (inclusion_view i).inherit)) (res (slice_range ws i.from i.to)) in
       let after = spliced (included_in depth modules) u m.tree.declarations ws (map inclusion_view rest) i.from in
       let all = adds_both names now mid new (live ++ g.adds.added) (res (slice_range ws n i.from)) part a e.adds in
       let bodies : new.bodies.items ≡ now.bodies.items ++ e.grows.0 = e.grows.1 ∙ ap (λ v. v.items ++ e.grows.0) kept.bodies in
@@ -129,7 +129,7 @@ expands_none names contents x live h k = record { adds = adds_none names x live 
 pub overrides : (names : List Text) (contents : List Contents) (content : Contents) (u : Text) (ds : List Declaration) (old mid now new : Components) (live : List Live) (cs : List Component) (a b : ℕ) (e : Expands names contents old mid live cs)
     → IsStrictlySortedBy text_cmp names → AllByRecursion (IsNumbered names) content.components.items → KeepsBodies mid now → now.list ≡ mid.list → now.places ≡ mid.places → KeepsBodies now new → new.list ≡ now.list
     → Lists names new (live ++ left_by (slice_range content.components.items a b) e.adds.added)
-    → Expands names contents old new live (overridden cs (map (resolved_component u ds) (slice_range (map (written_view names) content.components.items) a b)))
+    → Expands names contents old new live (without_overridden cs (map (resolved_component u ds) (slice_range (map (written_view names) content.components.items) a b)))
 overrides names contents content u ds old mid now new live cs a b e o numbered noted list places kept same taken =
     let own = slice_range content.components.items a b in
     let added = e.adds.added in
@@ -143,7 +143,7 @@ overrides names contents content u ds old mid now new live cs a b e o numbered n
         rises = rises_filtered _ (length old.list.items) added e.adds.rises;
         longer = omega (arith, size, e.adds.longer);
         are = left_is names o u ds mid.bodies.items mid.list.items own (each_take (IsNumbered names) (b - a) (drop a content.components.items) (each_drop (IsNumbered names) a content.components.items numbered)) added behind
-            ∙ (λ i. overridden (e.adds.are i) (map (resolved_component u ds) (sym (range_map (written_view names) a b content.components.items) i)));
+            ∙ (λ i. without_overridden (e.adds.are i) (map (resolved_component u ds) (sym (range_map (written_view names) a b content.components.items) i)));
       };
       contexts = contexts_same contents now new kept (contexts_same contents mid now noted e.contexts);
       grows = (e.grows.0, ap (λ v. v.items) (kept.bodies ∙ noted.bodies) ∙ e.grows.1);

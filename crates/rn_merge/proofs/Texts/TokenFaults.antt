@@ -7,11 +7,11 @@ use Rattle.rn_syntax.specs.declared.fault.SyntaxFault.{SyntaxFault}
 use Rattle.rn_syntax.specs.declared.fault.SyntaxFault.TheVariants as parsing
 use Rattle.rn_syntax.specs.Faults.{IsFault}
 use Rattle.rn_syntax.proofs.TokenKinds.SourceTokens.{tokens_are_spelled}
-use Rattle.rn_merge.specs.declared.texts.Place.{Place}
-use Rattle.rn_merge.specs.Texts.{AreTokensOf, HasPlace, syntax_place}
+use Rattle.rn_merge.specs.declared.text_faults.Place.{Place}
+use Rattle.rn_merge.specs.TextFaults.{AreTokensOf, HasPlace, syntax_place}
 
 pub tokens_of : (text : List ℕ) (tokens : List Token) → IsUtf8 text × HasTokens (chars text) (map lexeme_of tokens) → AreTokensOf text tokens
-tokens_of text tokens h = record { utf8 = h.0; are = h.1; spelled = tokens_are_spelled (chars text) tokens h.1 }
+tokens_of text tokens h = record { utf8 = h.0; are = h.1; are_spelled = tokens_are_spelled (chars text) tokens h.1 }
 
 pub placed : (text : List ℕ) (tokens : List Token) (fault : SyntaxFault) → AreTokensOf text tokens → IsFault tokens fault → HasPlace text (syntax_place fault)
 placed text tokens parsing.Memory t h = tt

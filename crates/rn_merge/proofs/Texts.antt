@@ -1,0 +1,3 @@
+-- The fault of a module text and its place.
+pub mod TokenFaults
+pub mod TextPlaces
