@@ -20,3 +20,4 @@ pub mod Entries
 pub mod WantedNumbers
 pub mod FirstIncludes
 pub mod EntryMarks
+pub mod RunNumbers

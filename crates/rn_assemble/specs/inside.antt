@@ -19,6 +19,7 @@ pub mod Patterns
 pub mod Referred
 pub mod SetFaults
 pub mod Shared
+pub mod Runs
 pub mod Sound
 pub mod Tied
 pub mod Views

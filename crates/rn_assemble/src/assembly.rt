@@ -128,7 +128,7 @@ fn check_methods(
             key: keys.key(alloc, key)?,
         });
     }
-    if components.of_key(START).is_empty() {
+    if components.count_of(START) == 0 {
         return Err(Refusal::NoStart);
     }
     Ok(())

@@ -1,6 +1,7 @@
 // Definitions of one key combined (RELAX NG 2001, 4.17).
 ghost use Rattle.std.specs.Prelude.{◌≡◌, ◌↔◌, ◌+◌, ◌<◌, List, IsTrue, length, map, option_map, IfOk, IsSomeAnd, MatchResult};
 ghost use Rattle.std.specs.List.Sorted.{IsStrictlySortedBy};
+ghost use Rattle.rn_pattern.specs.Graph.{row};
 ghost use Rattle.rn_pattern.specs.Tree.{trees_of};
 ghost use Rattle.rn_text.specs.Texts.{Text, text_cmp};
 ghost use Rattle.rn_pattern.specs.View.{shared_view, boxed_view};
@@ -10,10 +11,11 @@ ghost use Rattle.rn_assemble.specs.inside.Keyed.{key_at};
 ghost use Rattle.rn_assemble.specs.inside.Patterns.{AreCombined, AreSharedBy, AreSound, IsMisnamedAt, IsMisnamedBy, IsSound, MayHold, pattern_of};
 ghost use Rattle.rn_assemble.specs.Refusal.{BreaksNameRules};
 ghost use Rattle.rn_assemble.specs.inside.Views.{names_of};
+ghost use Rattle.rn_assemble.specs.inside.Tied.{body_of};
 ghost use Rattle.rn_assemble.specs.inside.Methods.{IsLeastNumber, is_method};
-ghost use Rattle.rn_assemble.specs.inside.Listed.{AtKey, AtPlace, Lists, Live, OfBody, OfKeys, components_in};
+ghost use Rattle.rn_assemble.specs.inside.Listed.{AtKey, Lists, Live, OfBody, OfKeys, WithBody, components_in};
 
-use crate::components::{Body, Components};
+use crate::components::{Body, Components, Near};
 use crate::keys::Keys;
 use crate::nodes::{box_pattern, choice, interleave, share_pattern};
 use crate::refusal::Refusal;
@@ -25,11 +27,13 @@ use std::alloc::{AllocError, Global};
 use std::rc::Rc;
 
 impl<'c, 't, 's> Components<'c, 't, 's> {
-    /// The method of the component at that place.
-    fn method(&self, place: usize) -> Option<Method>
-        ensures { (names : List Text) → AtPlace names self.now place (λ c. result ≡ Some c.method) }
+    /// The method of a key's component, by its index among those of the key.
+    fn method(&self, key: usize, index: usize, near: &mut Near) -> Option<Method>
+        ensures { (names : List Text) → WithBody names self.now
+            (body_of self.now.list (row self.now.places.items key) index)
+            (λ c. result ≡ Some c.method) }
     {
-        let body = self.body(self.body_at(place)?)?;
+        let body = self.body(self.body_of(key, index, near)?)?;
         Some(body.component.method)
     }
 
@@ -39,8 +43,9 @@ impl<'c, 't, 's> Components<'c, 't, 's> {
             → IsStrictlySortedBy text_cmp names → key < length names + 1
             → result ≡ spec.uses (is_method method) (key_at names key) (components_in live) }
     {
-        for place in self.of_key(key) {
-            if self.method(*place) == Some(method) {
+        let mut near = Near::default();
+        for index in 0..self.count_of(key) {
+            if self.method(key, index, &mut near) == Some(method) {
                 return true;
             }
         }
@@ -53,9 +58,10 @@ impl<'c, 't, 's> Components<'c, 't, 's> {
             → IsStrictlySortedBy text_cmp names → key < length names + 1
             → (IsTrue result ↔ spec.IsPlainTwice (key_at names key) (components_in live)) }
     {
+        let mut near = Near::default();
         let mut is_plain = false;
-        for place in self.of_key(key) {
-            if self.method(*place) == Some(Method::Plain) {
+        for index in 0..self.count_of(key) {
+            if self.method(key, index, &mut near) == Some(Method::Plain) {
                 if is_plain {
                     return true;
                 }
@@ -132,14 +138,15 @@ fn combine_key(
         → MatchResult result (λ p. (option_map boxed_view p ≡ pattern_of cs (key_at names key))
         × ¬ BreaksNameRules cs (key_at names key)) (IsMisnamedAt cs (key_at names key))) }
 {
-    match components.of_key(key) {
-        [] => Ok(None),
-        [place] => component_pattern(alloc, keys, components, *place),
-        _ => {
-            let members = member_patterns(alloc, keys, components, shared, key)?;
-            Ok(Some(list_by_method(alloc, components, key, members)?))
-        }
+    let count = components.count_of(key);
+    if count == 0 {
+        return Ok(None);
     }
+    if count == 1 {
+        return component_pattern(alloc, keys, components, key);
+    }
+    let members = member_patterns(alloc, keys, components, shared, key)?;
+    Ok(Some(list_by_method(alloc, components, key, members)?))
 }
 
 /// The list of the members, by the key's method.
@@ -159,18 +166,19 @@ fn list_by_method(
     }
 }
 
-/// The pattern of the component at a place.
+/// The pattern of the key's first component.
 fn component_pattern(
     alloc: Global,
     keys: &Keys<'_>,
     components: &Components<'_, '_, '_>,
-    place: usize,
+    key: usize,
 ) -> Result<Option<Box<Pattern>>, Refusal>
-    ensures { AtPlace (names_of keys.now) components.now place
+    ensures { WithBody (names_of keys.now) components.now
+        (body_of components.now.list (row components.now.places.items key) 0)
         (λ c. MatchResult result (λ p. IsSomeAnd p (λ q. IsSound c (boxed_view q)))
         (IsMisnamedBy c)) }
 {
-    let Some(number) = components.body_at(place) else {
+    let Some(number) = components.body_of(key, 0, &mut Near::default()) else {
         return Ok(None);
     };
     let Some(body) = components.body(number) else {
@@ -196,33 +204,35 @@ fn member_patterns(
         → MatchResult result (λ members. AreSound (spec.of_key (key_at names key) cs)
         (map shared_view members.items)) (IsMisnamedAt cs (key_at names key))) }
 {
-    let places = components.of_key(key);
-    let mut members = Vec::with_capacity(alloc, places.len())?;
-    for place in places {
-        if let Some(pattern) = member_pattern(alloc, keys, components, shared, *place)? {
+    let count = components.count_of(key);
+    let mut members = Vec::with_capacity(alloc, count)?;
+    let mut near = Near::default();
+    for index in 0..count {
+        let number = components.body_of(key, index, &mut near);
+        if let Some(pattern) = member_pattern(alloc, keys, components, shared, number)? {
             members.push(pattern)?;
         }
     }
     Ok(members)
 }
 
-/// The pattern of the component at a place, shared by all components of its body.
+/// The pattern of the component with a body, shared by all components of it.
 fn member_pattern(
     alloc: Global,
     keys: &Keys<'_>,
     components: &Components<'_, '_, '_>,
     shared: &mut Shared,
-    place: usize,
+    found: Option<usize>,
 ) -> Result<Option<Rc<Pattern>>, Refusal>
     requires { length shared.old.items ≡ length components.now.bodies.items }
     ensures size { length shared.new.items ≡ length shared.old.items }
     ensures kept { AreSharedBy keys.now components.now shared.old.items
         → AreSharedBy keys.now components.now shared.new.items }
-    ensures exact { AtPlace (names_of keys.now) components.now place
+    ensures exact { WithBody (names_of keys.now) components.now found
         (λ c. AreSharedBy keys.now components.now shared.old.items
         → MatchResult result (λ p. IsSomeAnd p (λ q. IsSound c (shared_view q))) (IsMisnamedBy c)) }
 {
-    let Some(number) = components.body_at(place) else {
+    let Some(number) = found else {
         return Ok(None);
     };
     let Some(body) = components.body(number) else {

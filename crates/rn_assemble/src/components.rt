@@ -1,10 +1,10 @@
 // The components of a set: includes replaced by what they include, without what they override.
-ghost use Rattle.std.specs.Prelude.{◌≡◌, IsTrue, ℕ, suc, ◌+◌, ◌<◌, ◌≤◌, ◌==◌, not, List, [], ◌∷◌, ◌++◌, map, flat_map, filter, length, vec_len, slice_get, slice_index_or, Contains, IfOk, IfSome, option_copied};
+ghost use Rattle.std.specs.Prelude.{◌≡◌, IsTrue, ℕ, suc, ◌+◌, ◌-◌, ◌<◌, ◌≤◌, ◌==◌, not, List, [], ◌∷◌, ◌++◌, map, flat_map, filter, length, vec_len, slice_get, slice_index_or, Contains, IfOk, IfSome, option_copied};
 ghost use Rattle.std.specs.List.{AllByRecursion};
 ghost use Rattle.std.specs.Rc.{rc_str_bytes};
 ghost use Rattle.std.specs.List.Sorted.{IsStrictlySortedBy};
 ghost use Rattle.rn_text.specs.Texts.{Text, text_cmp};
-ghost use Rattle.rn_pattern.specs.Graph.{row, rows_of};
+ghost use Rattle.rn_pattern.specs.Graph.{row};
 ghost use Rattle.rn_syntax.specs.Tree.{Declaration};
 ghost use Rattle.rn_assemble.specs.Components as specs;
 ghost use Rattle.rn_assemble.specs.inside.Expanded.{AddsLive, CanAdd, ContextsHold, Enters, Expands, IsItem, IsListed, KeepsBodies, KeepsLists, OfExpanding, OfIncluding, OfRoots, brought_in, left_by, name_at, own_components};
@@ -12,12 +12,14 @@ ghost use Rattle.rn_assemble.specs.inside.Keyed.{key_at};
 ghost use Rattle.rn_assemble.specs.inside.Lacking.{IsLeastLack, LacksFrom, LacksWithin};
 ghost use Rattle.rn_assemble.specs.inside.Listed.{AreBefore, IsBody, Lists, Live, Rises, components_in, resolved_between};
 ghost use Rattle.rn_assemble.specs.inside.Noting.{AtNumbers, InclusionLacks, IsOwnLack, Notes};
+ghost use Rattle.rn_assemble.specs.inside.Tied.{body_of};
 ghost use Rattle.rn_assemble.specs.inside.Views.{IsNumbered, inclusion_view, written_view};
 
 use crate::contents::{Component, Contents, Include};
 use crate::context::Context;
 use crate::instances::INSTANCE_LIMIT;
 use crate::known_uris::KnownUris;
+use crate::runs::Runs;
 use std::alloc::{AllocError, Global};
 use std::rc::RcStr;
 
@@ -53,6 +55,13 @@ pub(crate) struct Lack {
     pub key: usize,
 }
 
+/// The runs that were read last: of a key's places, and of the bodies at places. A reader looks there first.
+#[derive(Clone, Copy, Default)]
+pub(crate) struct Near {
+    place: usize,
+    body: usize,
+}
+
 /// The components of a set in their order. Each is kept as the number of its body, which many of them share.
 #[derive(Drop)]
 pub(crate) struct Components<'c, 't, 's> {
@@ -60,9 +69,9 @@ pub(crate) struct Components<'c, 't, 's> {
     contexts: Vec<MetContext<'c>>,
     bodies: Vec<Body<'c, 't, 's>>,
     /// The body of each component, also of those that an include has overridden.
-    list: Vec<usize>,
+    list: Runs,
     /// Of each key, the places of its components, without the overridden ones.
-    places: Vec<Vec<usize>>,
+    places: Vec<Runs>,
     /// The least override of what isn't there.
     pub lack: Option<Lack>,
 }
@@ -189,12 +198,12 @@ impl<'c, 't, 's> Components<'c, 't, 's> {
     {
         let mut places = Vec::new(alloc);
         for _ in 0..keys {
-            places.push(Vec::new(alloc))?;
+            places.push(Runs::new(alloc))?;
         }
         Ok(Components {
             contexts: Vec::new(alloc),
             bodies: Vec::new(alloc),
-            list: Vec::new(alloc),
+            list: Runs::new(alloc),
             places,
             lack: None,
         })
@@ -300,12 +309,11 @@ impl<'c, 't, 's> Components<'c, 't, 's> {
             → ((d : Body) → IsBody names (slice_index_or self.old.bodies.items body d) key c)
             → IfOk result (λ _. Lists names self.new
             (live ++ record {
-              place = length self.old.list.items;
+              place = length self.old.list;
               key = key;
               component = c;
             } ∷ [])) }
-        ensures longer { IfOk result (λ _. length self.new.list.items
-            ≡ length self.old.list.items + 1) }
+        ensures longer { IfOk result (λ _. length self.new.list ≡ length self.old.list + 1) }
     {
         let place = self.list.len();
         self.list.push(body)?;
@@ -364,14 +372,37 @@ impl<'c, 't, 's> Components<'c, 't, 's> {
         }
     }
 
-    /// The places of the components of a key.
-    pub fn of_key(&self, key: usize) -> &[usize]
-        ensures { result.now ≡ row (rows_of self.now.places.items) key }
+    /// How many components a key has.
+    pub fn count_of(&self, key: usize) -> usize
+        ensures { result ≡ length (row self.now.places.items key) }
     {
         match self.places.get(key) {
-            Some(places) => places.as_slice(),
-            None => &[],
+            Some(places) => places.len(),
+            None => 0,
         }
+    }
+
+    /// The place of the first component of a key.
+    pub fn first_of(&self, key: usize) -> Option<usize>
+        ensures { result ≡ slice_get (row self.now.places.items key) 0 }
+    {
+        self.places.get(key)?.get(0, &mut 0)
+    }
+
+    /// The number of the body of a key's component, by its index among those of the key.
+    pub fn body_of(&self, key: usize, index: usize, near: &mut Near) -> Option<usize>
+        ensures { result ≡ body_of self.now.list (row self.now.places.items key) index }
+    {
+        let place = self.places.get(key)?.get(index, &mut near.place)?;
+        self.body_at(place, &mut near.body)
+    }
+
+    /// The place of the last component of a key.
+    fn last_of(&self, key: usize) -> Option<usize>
+        ensures { result ≡ slice_get (row self.now.places.items key)
+            (length (row self.now.places.items key) - 1) }
+    {
+        self.places.get(key)?.last()
     }
 
     /// Whether a component of the key was added since a place.
@@ -381,8 +412,8 @@ impl<'c, 't, 's> Components<'c, 't, 's> {
             → AreBefore before live → Rises before added → key < suc (length names)
             → result ≡ specs.has_key (key_at names key) (components_in added) }
     {
-        match self.of_key(key).last() {
-            Some(place) => before <= *place,
+        match self.last_of(key) {
+            Some(place) => before <= place,
             None => false,
         }
     }
@@ -403,7 +434,7 @@ impl<'c, 't, 's> Components<'c, 't, 's> {
 
     /// How many places there are.
     pub fn count(&self) -> usize
-        ensures { result ≡ vec_len self.now.list }
+        ensures { result ≡ length self.now.list }
     {
         self.list.len()
     }
@@ -422,11 +453,11 @@ impl<'c, 't, 's> Components<'c, 't, 's> {
         self.bodies.get(number)
     }
 
-    /// The number of the body of the component at that place.
-    pub fn body_at(&self, place: usize) -> Option<usize>
-        ensures { result ≡ slice_get self.now.list.items place }
+    /// The number of the body of the component at that place. `near` is that of the list's run that was read last.
+    pub fn body_at(&self, place: usize, near: &mut usize) -> Option<usize>
+        ensures { result ≡ slice_get self.now.list place }
     {
-        self.list.get(place).copied()
+        self.list.get(place, near)
     }
 
     /// Keeps the least lack.
@@ -444,12 +475,12 @@ impl<'c, 't, 's> Components<'c, 't, 's> {
 }
 
 /// Takes out the places from a place on, at the end of a list that rises.
-fn pop_since(places: &mut Vec<usize>, before: usize)
-    ensures { (xs ys : List ℕ) → places.old.items ≡ xs ++ ys → AllByRecursion (λ x. x < before) xs
-        → AllByRecursion (λ y. before ≤ y) ys → places.new.items ≡ xs }
+fn pop_since(places: &mut Runs, before: usize)
+    ensures { (xs ys : List ℕ) → places.old ≡ xs ++ ys → AllByRecursion (λ x. x < before) xs
+        → AllByRecursion (λ y. before ≤ y) ys → places.new ≡ xs }
 {
     while let Some(place) = places.last() {
-        if *place < before {
+        if place < before {
             break;
         }
         places.pop();

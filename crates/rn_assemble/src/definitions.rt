@@ -66,8 +66,9 @@ fn definitions(
 {
     let mut defs = IndexMap::with_hasher(alloc, *seed);
     let mut firsts = Vec::new(alloc);
+    let mut near = 0;
     for place in 0..components.count() {
-        if let Some(key) = components.first_at(place) {
+        if let Some(key) = components.first_at(place, &mut near) {
             if let Some(pattern) = take(patterns, key) {
                 define(alloc, &mut defs, keys.name(key), pattern)?;
                 firsts.push(components.firsts(alloc, key, met)?)?;
@@ -108,12 +109,12 @@ fn take(patterns: &mut Vec<Option<Box<Pattern>>>, key: usize) -> Option<Box<Patt
 
 impl<'c, 't, 's> Components<'c, 't, 's> {
     /// The number of the name whose first component is at that place.
-    fn first_at(&self, place: usize) -> Option<usize>
+    fn first_at(&self, place: usize, near: &mut usize) -> Option<usize>
         ensures { (names : List Text) (live : List Live) → Lists names self.now live
             → IsStrictlySortedBy text_cmp names → IsFirstAt names live place result }
     {
-        let key = self.body(self.body_at(place)?)?.component.key;
-        let first = *self.of_key(key).first()?;
+        let key = self.body(self.body_at(place, near)?)?.component.key;
+        let first = self.first_of(key)?;
         if key != START && first == place {
             Some(key)
         } else {

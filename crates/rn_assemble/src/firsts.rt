@@ -1,15 +1,23 @@
 // Components of a key whose bodies stand in its list before.
 ghost use Rattle.std.specs.Prelude.{◌≡◌, ℕ, slice_get, IfOk, Some};
 ghost use Rattle.rn_assemble.specs.Combine.{joined_pattern};
+ghost use Rattle.rn_pattern.specs.Graph.{row};
 ghost use Rattle.rn_assemble.specs.Firsts.{joined_members};
-ghost use Rattle.rn_assemble.specs.inside.Tied.{AreTied, IsFirst, body_of};
+ghost use Rattle.rn_assemble.specs.inside.Tied.{AreTied, IsFirst};
 ghost use Rattle.rn_assemble.specs.inside.Listed.{AtKey};
 
-use crate::components::Components;
+use crate::components::{Components, Near};
 use std::alloc::{AllocError, Global};
 
 /// By the number of a body, the index in its key's list at which it was met last.
 pub(crate) type Met = Vec<usize>;
+
+/// What was read last, at the indices in turn and at those of first components.
+#[derive(Clone, Copy, Default)]
+struct NearFirsts {
+    index: Near,
+    first: Near,
+}
 
 impl Components<'_, '_, '_> {
     /// For each component of the key, the index in its list of the first with the same body. None, where no body stands
@@ -18,28 +26,30 @@ impl Components<'_, '_, '_> {
         ensures { AtKey self.now key (λ k cs.
             IfOk result (λ firsts. AreTied firsts.items (joined_members (joined_pattern cs k)))) }
     {
-        let places = self.of_key(key);
-        if places.len() < 2 {
+        let count = self.count_of(key);
+        if count < 2 {
             return Ok(Vec::new(alloc));
         }
-        self.first_indices(alloc, places, met)
+        self.first_indices(alloc, key, met)
     }
 
-    /// The index of the first place with the same body, for each of the places. None, where no body stands twice, or
+    /// The index of the first component with the same body, for each of the key's. None, where no body stands twice, or
     /// where an index takes more than 32 bits.
     fn first_indices(
         &self,
         alloc: Global,
-        places: &[usize],
+        key: usize,
         met: &mut Met,
     ) -> Result<Vec<u32>, AllocError>
         ensures { IfOk result (λ firsts. (i j : ℕ) → slice_get firsts.items i ≡ Some j
-            → IsFirst self.now.list.items places.now i j) }
+            → IsFirst self.now.list (row self.now.places.items key) i j) }
     {
-        let mut firsts = Vec::with_capacity(alloc, places.len())?;
+        let count = self.count_of(key);
+        let mut firsts = Vec::with_capacity(alloc, count)?;
         let mut is_repeated = false;
-        for index in 0..places.len() {
-            let first = self.first_index(places, index, met);
+        let mut near = NearFirsts::default();
+        for index in 0..count {
+            let first = self.first_index(key, index, met, &mut near);
             is_repeated |= first < index;
             let Ok(first) = u32::try_from(first) else {
                 return Ok(Vec::new(alloc));
@@ -53,28 +63,21 @@ impl Components<'_, '_, '_> {
         }
     }
 
-    /// The index of the first of the places with the body of the one at this index.
-    fn first_index(&self, places: &[usize], index: usize, met: &mut Met) -> usize
-        ensures { IsFirst self.now.list.items places.now index result }
+    /// The index of the first of the key's components with the body of the one at this index.
+    fn first_index(&self, key: usize, index: usize, met: &mut Met, near: &mut NearFirsts) -> usize
+        ensures { IsFirst self.now.list (row self.now.places.items key) index result }
     {
-        let Some(body) = self.body_of(places, index) else {
+        let Some(body) = self.body_of(key, index, &mut near.index) else {
             return index;
         };
         if body >= met.len() {
             return index;
         }
         let first = met[body];
-        if first < index && self.body_of(places, first) == Some(body) {
+        if first < index && self.body_of(key, first, &mut near.first) == Some(body) {
             return first;
         }
         met[body] = index;
         index
-    }
-
-    /// The number of the body of the component whose place is at the index.
-    fn body_of(&self, places: &[usize], index: usize) -> Option<usize>
-        ensures { result ≡ body_of self.now.list.items places.now index }
-    {
-        self.body_at(*places.get(index)?)
     }
 }

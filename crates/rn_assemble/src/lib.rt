@@ -20,6 +20,7 @@ mod nodes;
 mod references;
 pub mod refusal;
 mod resolution;
+mod runs;
 mod seeds;
 
 pub use assembly::assemble;

@@ -15,7 +15,7 @@ ghost use Rattle.rn_pattern.specs.Matching.{definition_of};
 ghost use Rattle.rn_pattern.specs.Graph.{AllBelow, IsGraph, is_marked, row, rows_of};
 ghost use Rattle.rn_assemble.specs.inside.Listed.{Lists, Live, OfKeys, components_in};
 
-use crate::components::Components;
+use crate::components::{Components, Near};
 use crate::keys::{Keys, START};
 use crate::refusal::Refusal;
 use rn_pattern::graph::{reached_nodes, row_at};
@@ -113,29 +113,25 @@ fn bodies_of(
     ensures size { vec_len looked.new ≡ vec_len looked.old }
     ensures fresh { OnOk result (IsFresh (key + 1) looked.new.items) }
     ensures found { IfOk result (λ bodies. AreBodiesAt (length looked.old.items)
-        components.now.list.items (row (rows_of components.now.places.items) key) bodies.items) }
+        components.now.list (row components.now.places.items key) bodies.items) }
 {
     let mut bodies = Vec::new(alloc);
-    for place in components.of_key(key) {
-        if let Some(number) = look(components, *place, key, looked) {
+    let mut near = Near::default();
+    for index in 0..components.count_of(key) {
+        let body = components.body_of(key, index, &mut near);
+        if let Some(number) = look(body, key, looked) {
             bodies.push(number)?;
         }
     }
     Ok(bodies)
 }
 
-/// The body at a place, if it was not looked at under the key.
-fn look(
-    components: &Components<'_, '_, '_>,
-    place: usize,
-    key: usize,
-    looked: &mut Vec<Option<usize>>,
-) -> Option<usize>
+/// The body, if there is one and it was not looked at under the key.
+fn look(body: Option<usize>, key: usize, looked: &mut Vec<Option<usize>>) -> Option<usize>
     ensures size { vec_len looked.new ≡ vec_len looked.old }
-    ensures looked { IsLooked components.now.list.items place key looked.old.items looked.new.items
-        result }
+    ensures looked { IsLooked body key looked.old.items looked.new.items result }
 {
-    let number = components.body_at(place)?;
+    let number = body?;
     if number >= looked.len() || looked[number] == Some(key) {
         return None;
     }
@@ -280,7 +276,7 @@ fn has_components(components: &Components<'_, '_, '_>, key: Option<usize>) -> bo
         → result ≡ is_some (definition_of (joined_grammar (components_in live)) x) }
 {
     match key {
-        Some(key) => !components.of_key(key).is_empty(),
+        Some(key) => components.count_of(key) > 0,
         None => false,
     }
 }

@@ -107,17 +107,17 @@ module _ (names : List Text) where
       }
 
   -- components added behind
-  pub live_below : (x : Components) (live : List Live) → Lists names x live → AllByRecursion (λ (e : Live). e.place < length x.list.items) live
-  live_below x live h = each_to (IsLive names x.bodies.items x.list.items) (λ (e : Live). e.place < length x.list.items) (λ e k. k.within) live h.are
+  pub live_below : (x : Components) (live : List Live) → Lists names x live → AllByRecursion (λ (e : Live). e.place < length x.list) live
+  live_below x live h = each_to (IsLive names x.bodies.items x.list) (λ (e : Live). e.place < length x.list) (λ e k. k.within) live h.are
 
   pub adds_none : (x : Components) (live : List Live) → Lists names x live → AddsLive names x x live []
   adds_none x live h = record { added = []; lists = subst (λ es. Lists names x es) (sym (append-nil live)) h; rises = tt; longer = omega arith; are = refl }
 
-  pub adds_one : (old mid new : Components) (live : List Live) (cs : List Component) (h : AddsLive names old mid live cs) (e : Live) → Lists names new ((live ++ h.added) ++ e ∷ []) → e.place ≡ length mid.list.items → length mid.list.items ≤ length new.list.items → AddsLive names old new live (cs ++ e.component ∷ [])
+  pub adds_one : (old mid new : Components) (live : List Live) (cs : List Component) (h : AddsLive names old mid live cs) (e : Live) → Lists names new ((live ++ h.added) ++ e ∷ []) → e.place ≡ length mid.list → length mid.list ≤ length new.list → AddsLive names old new live (cs ++ e.component ∷ [])
   adds_one old mid new live cs h e lists at longer = record {
     added = h.added ++ e ∷ [];
     lists = subst (λ es. Lists names new es) (append_assoc live h.added (e ∷ [])) lists;
-    rises = rises_join (length old.list.items) (length mid.list.items) h.added (e ∷ []) h.longer h.rises (each_behind (λ (d : Live). d.place < length mid.list.items) live h.added (live_below mid (live ++ h.added) h.lists)) (omega (arith, at), tt);
+    rises = rises_join (length old.list) (length mid.list) h.added (e ∷ []) h.longer h.rises (each_behind (λ (d : Live). d.place < length mid.list) live h.added (live_below mid (live ++ h.added) h.lists)) (omega (arith, at), tt);
     longer = omega (arith, h.longer, longer);
     are = map-append (λ (d : Live). d.component) h.added (e ∷ []) ∙ ap (λ l. l ++ e.component ∷ []) h.are;
   }
@@ -127,7 +127,7 @@ module _ (names : List Text) where
   adds_both old mid new live cs ds h k = record {
     added = h.added ++ k.added;
     lists = subst (λ es. Lists names new es) (append_assoc live h.added k.added) k.lists;
-    rises = rises_join (length old.list.items) (length mid.list.items) h.added k.added h.longer h.rises (each_behind (λ (d : Live). d.place < length mid.list.items) live h.added (live_below mid (live ++ h.added) h.lists)) k.rises;
+    rises = rises_join (length old.list) (length mid.list) h.added k.added h.longer h.rises (each_behind (λ (d : Live). d.place < length mid.list) live h.added (live_below mid (live ++ h.added) h.lists)) k.rises;
     longer = omega (arith, h.longer, k.longer);
     are = map-append (λ (d : Live). d.component) h.added k.added ∙ (λ i. h.are i ++ k.are i);
   }

@@ -1,19 +1,20 @@
 -- Lists of live components: one more behind, and those of a key taken out behind a place.
-use Rattle.std.proofs.Common.{◌≡◌, ◌≢◌, ℕ, zero, suc, ◌-◌, ◌<◌, ◌≤◌, Bool, true, false, cond, inl, inr, List, [], ◌∷◌, ◌++◌, length, get_or, set, take, map, filter, Vec, refl, sym, ap, ◌∙◌, subst, arith, append-nil}
-use Rattle.std.specs.Prelude.{not, ◌==◌}
+use Rattle.std.proofs.Common.{◌≡◌, ◌≢◌, ℕ, zero, suc, ◌-◌, ◌<◌, ◌≤◌, Bool, true, false, cond, inl, inr, List, [], ◌∷◌, ◌++◌, length, get_or, set, take, map, filter, None, Some, refl, sym, ap, ◌∙◌, subst, arith, append-nil}
+use Rattle.std.specs.Prelude.{not, ◌==◌, option_and_then, slice_get}
 use Rattle.std.specs.List.{AllByRecursion}
-use Rattle.std.specs.declared.alloc.Global.{Global}
-use Rattle.std.proofs.lemmas.List.{length-map, map-append, map-set, length-set, length_push, length-append, get_or-set_same, get_or-set_other, get_or_append_left, get_or-append_right, get_or-take, get_or_push, take_at, take-take, length-take-le, get_or-map}
+use Rattle.std.proofs.lemmas.List.{map-append, length-set, length_push, length-append, get_or-set_same, get_or-set_other, get_or_append_left, get_or-append_right, get_or-take, get_or_push, take_at, take-take, length-take-le, get_or_default}
 use Rattle.std.proofs.lemmas.List.Elements.{filter-append, All-from_recursion}
 use Rattle.std.proofs.lemmas.Bool.{cases_lt, cases_eq}
 use Rattle.std.proofs.lemmas.Bool.Decides.{eqb_tells}
 use Rattle.rn_text.specs.Texts.{Text}
-use Rattle.rn_pattern.specs.Graph.{row, rows_of}
+use Rattle.std.proofs.lemmas.Option.{get_or_from_slice_get, slice_get-get_or, slice_get_cases}
+use Rattle.rn_pattern.specs.Graph.{row}
 use Rattle.rn_pattern.proofs.Ordered.Ascending.{each_join, each_front, each_behind}
 use Rattle.rn_assemble.specs.declared.components.Body.{Body}
 use Rattle.rn_assemble.specs.Components.{Component}
 use Rattle.rn_assemble.specs.inside.Listed.{IsBody, IsLive, Live, ListsBy, Rises, places_of}
 pub use Rattle.rn_assemble.proofs.Combined.Joined.{mapped as each_to}
+use Rattle.rn_assemble.specs.inside.Tied.{body_of}
 
 each_filtered_at : {X : Type 0} (P : X → Type 0) (b : Bool) (x : X) (ys : List X) → P x → AllByRecursion P ys → AllByRecursion P (cond b (x ∷ ys) ys)
 each_filtered_at P true x ys h k = (h, k)
@@ -103,30 +104,45 @@ pub record RowSet (rows now : List (List ℕ)) (key : ℕ) (r : List ℕ) : Type
   pub at : row now key ≡ r
   pub others : (k : ℕ) → k ≢ key → row now k ≡ row rows k
 
-pub row_set : (ps : List (Vec ℕ Global)) (k : ℕ) (v : Vec ℕ Global) → k < length ps → RowSet (rows_of ps) (rows_of (set ps k v)) k v.items
-row_set ps k v l =
-    let is = map-set (λ (w : Vec ℕ Global). w.items) ps k v in
-    record {
-      size = ap length is ∙ length-set (rows_of ps) k v.items;
-      at = ap (λ rs. row rs k) is ∙ get_or-set_same (rows_of ps) k v.items [] (omega (arith, l, length-map ps (λ (w : Vec ℕ Global). w.items)));
-      others = λ j n. ap (λ rs. row rs j) is ∙ get_or-set_other (rows_of ps) k j v.items [] n;
-    }
+pub row_set : (rows : List (List ℕ)) (k : ℕ) (r : List ℕ) → k < length rows → RowSet rows (set rows k r) k r
+row_set rows k r l = record {
+  size = length-set rows k r;
+  at = get_or-set_same rows k r [] l;
+  others = λ j n. get_or-set_other rows k j r [] n;
+}
 
-pub row_read : (ps : List (Vec ℕ Global)) (k : ℕ) (v : Vec ℕ Global) → k < length ps → v ≡ get_or ps k v → v.items ≡ row (rows_of ps) k
-row_read ps k v l e = ap (λ (w : Vec ℕ Global). w.items) e ∙ sym (get_or-map (λ (w : Vec ℕ Global). w.items) ps k v [] l)
+pub row_read : (rows : List (List ℕ)) (k : ℕ) (r : List ℕ) → k < length rows → r ≡ get_or rows k r → r ≡ row rows k
+row_read rows k r l e = e ∙ get_or_default rows k r [] l
 
-pub row_changed : (ps : List (Vec ℕ Global)) (k : ℕ) (v w : Vec ℕ Global) (r : List ℕ) → k < length ps → w.items ≡ r → RowSet (rows_of ps) (rows_of (set ps k w)) k r
-row_changed ps k v w r l e = subst (λ q. RowSet (rows_of ps) (rows_of (set ps k w)) k q) e (row_set ps k w l)
+pub row_changed : (rows : List (List ℕ)) (k : ℕ) (now r : List ℕ) → k < length rows → now ≡ r → RowSet rows (set rows k now) k r
+row_changed rows k now r l e = subst (λ q. RowSet rows (set rows k now) k q) e (row_set rows k now l)
 
 -- rows without places
-pub empty_push : (ps : List (Vec ℕ Global)) (v : Vec ℕ Global) → ((k : ℕ) → row (rows_of ps) k ≡ []) → v.items ≡ [] → (k : ℕ) → row (rows_of (ps ++ v ∷ [])) k ≡ []
-empty_push [] v h e zero = e
-empty_push [] v h e (suc k) = refl
-empty_push (p ∷ ps) v h e zero = h 0
-empty_push (p ∷ ps) v h e (suc k) = empty_push ps v (λ j. h (suc j)) e k
+pub empty_push : (rows : List (List ℕ)) (r : List ℕ) → ((k : ℕ) → row rows k ≡ []) → r ≡ [] → (k : ℕ) → row (rows ++ r ∷ []) k ≡ []
+empty_push [] r h e zero = e
+empty_push [] r h e (suc k) = refl
+empty_push (p ∷ rows) r h e zero = h 0
+empty_push (p ∷ rows) r h e (suc k) = empty_push rows r (λ j. h (suc j)) e k
 
-pub lists_none : (names : List Text) (ps : List (Vec ℕ Global)) → length ps ≡ suc (length names) → ((k : ℕ) → row (rows_of ps) k ≡ []) → ListsBy names [] [] (rows_of ps) []
-lists_none names ps l h = record { size = length-map ps (λ (v : Vec ℕ Global). v.items) ∙ l; are = tt; rises = tt; places = λ k m. h k }
+pub lists_none : (names : List Text) (rows : List (List ℕ)) → length rows ≡ suc (length names) → ((k : ℕ) → row rows k ≡ []) → ListsBy names [] [] rows []
+lists_none names rows l h = record { size = l; are = tt; rises = tt; places = λ k m. h k }
+
+-- the last of a list
+pub last_there : (xs : List ℕ) (x : ℕ) → Some x ≡ slice_get xs (length xs - 1) → (0 < length xs) × (get_or xs (length xs - 1) 0 ≡ x)
+last_there xs x e = elim ((slice_get_cases xs (length xs - 1)).1) [
+  | inl t ↦ (omega (arith, t.1), get_or_from_slice_get xs (length xs - 1) x 0 (sym e))
+  | inr t ↦ let wrong : Some x ≡ None = e ∙ t.1 in cc
+]
+
+pub last_none : (xs : List ℕ) → None ≡ slice_get xs (length xs - 1) → length xs ≡ 0
+last_none xs e = elim (cases_lt 0 (length xs)) [
+  | inl l ↦ let wrong : None ≡ Some (get_or xs (length xs - 1) 0) = e ∙ slice_get-get_or xs (length xs - 1) 0 (omega (arith, l)) in cc
+  | inr l ↦ omega (arith, l)
+]
+
+-- the body at the place at an index
+pub row_body : (list row : List ℕ) (i p : ℕ) → i < length row → p ≡ get_or row i 0 → slice_get list p ≡ body_of list row i
+row_body list row i p l e = ap (slice_get list) e ∙ sym (ap (option_and_then (slice_get list)) (slice_get-get_or row i 0 l))
 
 module _ (names : List Text) where
   live_still : (bodies more : List Body) (list behind : List ℕ) (e : Live) → IsLive names bodies list e → IsLive names (bodies ++ more) (list ++ behind) e

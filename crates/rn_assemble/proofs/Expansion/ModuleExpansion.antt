@@ -6,7 +6,6 @@ use Rattle.std.proofs.lemmas.List.{length-map}
 use Rattle.rn_text.specs.Texts.{Text, text_cmp}
 use Rattle.rn_pattern.proofs.Ordered.Ascending.{each_join, each_behind}
 use Rattle.std.specs.List.Sorted.{IsStrictlySortedBy}
-use Rattle.rn_pattern.specs.Graph.{rows_of}
 use Rattle.rn_syntax.specs.Tree as t
 use Rattle.rn_syntax.specs.Tree.{Declaration}
 use Rattle.rn_assemble.specs.declared.contents.Contents.{Contents}
@@ -62,11 +61,11 @@ module _ (modules : List NamedModule) (names : List Text) (contents : List Conte
   pub going_none : (old now : Components) → IsContents modules names m content → AreFlat m.tree.items → Lists names old live → KeepsLists old now → Enters contents old now first content u → Going modules names contents content old now live m u depth first 0 content.includes.items
   going_none old now is flat lists kept entered =
       let size : length content.components.items ≡ length (written_components m.tree.items) = sym (length-map content.components.items (written_view names)) ∙ ap length is.components in
-      let more = lists_more_bodies names old.bodies.items entered.grows.0 old.list.items (rows_of old.places.items) live lists in
-      let in_bodies : ListsBy names now.bodies.items old.list.items (rows_of old.places.items) live = subst (λ (bs : List Body). ListsBy names bs old.list.items (rows_of old.places.items) live) (sym entered.grows.1) more in
-      let in_list : ListsBy names now.bodies.items now.list.items (rows_of old.places.items) live = subst (λ v. ListsBy names now.bodies.items v.items (rows_of old.places.items) live) (sym kept.list) in_bodies in
-      let here : Lists names now live = subst (λ v. ListsBy names now.bodies.items now.list.items (rows_of v.items) live) (sym kept.places) in_list in
-      let same : length now.list.items ≡ length old.list.items = ap (λ v. length v.items) kept.list in
+      let more = lists_more_bodies names old.bodies.items entered.grows.0 old.list old.places.items live lists in
+      let in_bodies : ListsBy names now.bodies.items old.list old.places.items live = subst (λ (bs : List Body). ListsBy names bs old.list old.places.items live) (sym entered.grows.1) more in
+      let in_list : ListsBy names now.bodies.items now.list old.places.items live = subst (λ v. ListsBy names now.bodies.items v old.places.items live) (sym kept.list) in_bodies in
+      let here : Lists names now live = subst (λ v. ListsBy names now.bodies.items now.list v.items live) (sym kept.places) in_list in
+      let same : length now.list ≡ length old.list = ap length kept.list in
       record {
         done = [];
         adds = record { added = []; lists = subst (λ es. Lists names now es) (sym (append-nil live)) here; rises = tt; longer = omega (arith, same); are = refl };
@@ -112,9 +111,9 @@ each_take P (suc n) (x ∷ xs) h = (h.0, each_take P n xs h.1)
 -- the same lists
 pub lists_same : (names : List Text) (old new : Components) (live : List Live) → KeepsBodies old new → new.list ≡ old.list → new.places ≡ old.places → Lists names old live → Lists names new live
 lists_same names old new live kept list places h =
-    let in_bodies : ListsBy names new.bodies.items old.list.items (rows_of old.places.items) live = subst (λ v. ListsBy names v.items old.list.items (rows_of old.places.items) live) (sym kept.bodies) h in
-    let in_list : ListsBy names new.bodies.items new.list.items (rows_of old.places.items) live = subst (λ v. ListsBy names new.bodies.items v.items (rows_of old.places.items) live) (sym list) in_bodies in
-    subst (λ v. ListsBy names new.bodies.items new.list.items (rows_of v.items) live) (sym places) in_list
+    let in_bodies : ListsBy names new.bodies.items old.list old.places.items live = subst (λ v. ListsBy names v.items old.list old.places.items live) (sym kept.bodies) h in
+    let in_list : ListsBy names new.bodies.items new.list old.places.items live = subst (λ v. ListsBy names new.bodies.items v old.places.items live) (sym list) in_bodies in
+    subst (λ v. ListsBy names new.bodies.items new.list v.items live) (sym places) in_list
 
 pub contexts_same : (contents : List Contents) (old new : Components) → KeepsBodies old new → ContextsHold contents old → ContextsHold contents new
 contexts_same contents old new kept h =
@@ -134,15 +133,15 @@ overrides names contents content u ds old mid now new live cs a b e o numbered n
     let own = slice_range content.components.items a b in
     let added = e.adds.added in
     let all = e.adds.lists.are in
-    let behind = each_behind (IsLive names mid.bodies.items mid.list.items) live added all in
-    let size : length new.list.items ≡ length mid.list.items = ap (λ v. length v.items) (same ∙ list) in
+    let behind = each_behind (IsLive names mid.bodies.items mid.list) live added all in
+    let size : length new.list ≡ length mid.list = ap length (same ∙ list) in
     record {
       adds = record {
         added = left_by own added;
         lists = taken;
-        rises = rises_filtered _ (length old.list.items) added e.adds.rises;
+        rises = rises_filtered _ (length old.list) added e.adds.rises;
         longer = omega (arith, size, e.adds.longer);
-        are = left_is names o u ds mid.bodies.items mid.list.items own (each_take (IsNumbered names) (b - a) (drop a content.components.items) (each_drop (IsNumbered names) a content.components.items numbered)) added behind
+        are = left_is names o u ds mid.bodies.items mid.list own (each_take (IsNumbered names) (b - a) (drop a content.components.items) (each_drop (IsNumbered names) a content.components.items numbered)) added behind
             ∙ (λ i. without_overridden (e.adds.are i) (map (resolved_component u ds) (sym (range_map (written_view names) a b content.components.items) i)));
       };
       contexts = contexts_same contents now new kept (contexts_same contents mid now noted e.contexts);

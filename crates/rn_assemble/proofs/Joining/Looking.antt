@@ -5,6 +5,8 @@ use Rattle.std.proofs.lemmas.Bool.{cases_eq, cases_lt}
 use Rattle.std.proofs.lemmas.List.{length-set, get_or-set_same, get_or-set_other, get_or_default, get_or-replicate, length-replicate, get_or_past}
 use Rattle.std.proofs.lemmas.List.Elements.{Contains-append_left, Contains-push, Contains-push_cases, Contains-get_or}
 use Rattle.rn_assemble.specs.inside.Referred.{AreBodiesAt, IsFresh, IsLooked, looked_under}
+use Rattle.rn_assemble.specs.inside.Tied.{body_of}
+use Rattle.rn_assemble.proofs.Expansion.LiveLists.{row_body}
 
 some_same : {A : Type 0} (x y : A) → Some x ≡ Some y → x ≡ y
 some_same x y e = cc
@@ -27,29 +29,29 @@ module _ (list row : List ℕ) (key : ℕ) (old : List (Option ℕ)) where
     others = λ n j e. inr e;
   }
 
-  pub looking_on : (looked looked' : List (Option ℕ)) (i place : ℕ) (bodies bodies' : List ℕ) → place ≡ get_or row i 0 → Looking list row key old looked i bodies → IsLooked list place key looked looked' None → bodies' ≡ bodies → Looking list row key old looked' (i + 1) bodies'
-  looking_on looked looked' i place bodies bodies' here l w e =
+  pub looking_on : (looked looked' : List (Option ℕ)) (i : ℕ) (bodies bodies' : List ℕ) → i < length row → Looking list row key old looked i bodies → IsLooked (body_of list row i) key looked looked' None → bodies' ≡ bodies → Looking list row key old looked' (i + 1) bodies'
+  looking_on looked looked' i bodies bodies' here l w e =
       subst (λ bs. Looking list row key old looked' (i + 1) bs) (sym e) (subst (λ ls. Looking list row key old ls (i + 1) bodies) (sym w.0) (record {
         size = l.size;
         only = l.only;
         marked = l.marked;
         all = below_more (λ k. (n : ℕ) → slice_get list (get_or row k 0) ≡ Some n → n < length old → Contains bodies n) i l.all
-            (λ n is h. l.marked n (w.1 n (ap (slice_get list) here ∙ is) (omega (arith, h, l.size))));
+            (λ n is h. l.marked n (w.1 n (sym (row_body list row i (get_or row i 0) here refl) ∙ is) (omega (arith, h, l.size))));
         others = l.others;
       }))
 
-  pub looking_at : (looked looked' : List (Option ℕ)) (i place m : ℕ) (bodies bodies' : List ℕ) → i < length row → place ≡ get_or row i 0 → Looking list row key old looked i bodies → IsLooked list place key looked looked' (Some m) → bodies' ≡ bodies ++ m ∷ [] → Looking list row key old looked' (i + 1) bodies'
-  looking_at looked looked' i place m bodies bodies' h here l w e =
+  pub looking_at : (looked looked' : List (Option ℕ)) (i m : ℕ) (bodies bodies' : List ℕ) → i < length row → Looking list row key old looked i bodies → IsLooked (body_of list row i) key looked looked' (Some m) → bodies' ≡ bodies ++ m ∷ [] → Looking list row key old looked' (i + 1) bodies'
+  looking_at looked looked' i m bodies bodies' h l w e =
       subst (λ bs. Looking list row key old looked' (i + 1) bs) (sym e) (subst (λ ls. Looking list row key old ls (i + 1) (bodies ++ m ∷ [])) (sym w.2) (record {
         size = length-set looked m (Some key) ∙ l.size;
-        only = λ n c. ⊎_elim (λ k. l.only n k) (λ is. (get_or row i 0, Contains-get_or row i 0 h, ap (slice_get list) (sym here) ∙ w.0 ∙ ap Some is)) (Contains-push_cases bodies m n c);
+        only = λ n c. ⊎_elim (λ k. l.only n k) (λ is. (get_or row i 0, Contains-get_or row i 0 h, row_body list row i (get_or row i 0) h refl ∙ w.0 ∙ ap Some is)) (Contains-push_cases bodies m n c);
         marked = λ n is. elim (cases_eq n m) [
           | inl same ↦ subst (Contains (bodies ++ m ∷ [])) (sym same) (Contains-push bodies m)
           | inr other ↦ Contains-append_left bodies (m ∷ []) n (l.marked n (sym (get_or-set_other looked m n (Some key) None other) ∙ is))
         ];
         all = below_more (λ k. (n : ℕ) → slice_get list (get_or row k 0) ≡ Some n → n < length old → Contains (bodies ++ m ∷ []) n) i
             (λ k lt n is b. Contains-append_left bodies (m ∷ []) n (l.all k lt n is b))
-            (λ n is b. subst (Contains (bodies ++ m ∷ [])) (some_same m n (sym w.0 ∙ ap (slice_get list) here ∙ is)) (Contains-push bodies m));
+            (λ n is b. subst (Contains (bodies ++ m ∷ [])) (some_same m n (sym w.0 ∙ sym (row_body list row i (get_or row i 0) h refl) ∙ is)) (Contains-push bodies m));
         others = λ n j is. elim (cases_eq n m) [
           | inl same ↦ inl (some_same j key (sym is ∙ ap (looked_under (set looked m (Some key))) same ∙ get_or-set_same looked m (Some key) None w.1))
           | inr other ↦ l.others n j (sym (get_or-set_other looked m n (Some key) None other) ∙ is)

@@ -1,5 +1,5 @@
 -- The references of keys, by the names that their bodies refer to.
-use Rattle.std.proofs.Common.{◌≡◌, ⊎_elim, ℕ, zero, suc, ◌<◌, Bool, true, false, cond, List, [], ◌∷◌, ◌++◌, length, get_or, map, flat_map, filter, Option, Some, None, refl, sym, ap, ◌∙◌, subst, arith, Contains, eqb}
+use Rattle.std.proofs.Common.{◌≡◌, ⊎_elim, ℕ, zero, suc, ◌<◌, Bool, true, false, cond, List, [], ◌∷◌, ◌++◌, length, get_or, map, flat_map, filter, Option, Some, None, refl, sym, ap, ◌∙◌, subst, arith, Contains, eqb, ltb}
 use Rattle.std.specs.Rc.{rc_str_bytes}
 use Rattle.std.specs.Prelude.{◌↔◌, Decides, IsSome, slice_get}
 use Rattle.std.specs.List.{AllByRecursion}
@@ -7,8 +7,7 @@ use Rattle.std.specs.List.Sorted.{IsStrictlySortedBy}
 use Rattle.std.specs.Option.{option_map_or}
 use Rattle.std.proofs.lemmas.Grind.{flat_map-append}
 use Rattle.std.proofs.lemmas.List.Elements.{Contains-append_left, Contains-append_right, Contains-append_cases}
-use Rattle.std.specs.Prelude.{not}
-use Rattle.std.proofs.lemmas.Bool.{eqb-true, eqb-false, false≢true}
+use Rattle.std.proofs.lemmas.Bool.{ltb-true, ltb-false, false≢true}
 use Rattle.std.proofs.lemmas.List.{length-map, get_or_default}
 use Rattle.rn_pattern.specs.Tree.{Tree, Trees}
 use Rattle.rn_text.specs.Texts.{Text, text_cmp}
@@ -206,15 +205,15 @@ module _ (names : List Text) (bs : List Body) (list : List ℕ) where
         ap length (row_is n i.within) ∙ length-map (of_number n) f ∙ sym (length-map (of_number n) g) ∙ sym (length-map (components_in (of_number n)) b)
         ∙ sym (ap length (bodies_are n i.within)) ∙ ap (λ k. length (bodies k cs)) i.is
 
-    pub number_defined : (x : Text) (n : ℕ) (xs : List ℕ) (r : Bool) → IsNumber names x n → xs ≡ row rows n → r ≡ eqb (length xs) 0 → Decides (not r) (IsDefined x)
-    number_defined x n xs r i e t = at r refl
+    pub number_defined : (x : Text) (n size : ℕ) → IsNumber names x n → size ≡ length (row rows n) → Decides (ltb 0 size) (IsDefined x)
+    number_defined x n size i e = at (ltb 0 size) refl
       where
-        count : length xs ≡ length (bodies (name_key x) cs)
-        count = ap length e ∙ same_count x n i
+        count : size ≡ length (bodies (name_key x) cs)
+        count = e ∙ same_count x n i
 
-        at : (b : Bool) → r ≡ b → Decides (not b) (IsDefined x)
-        at true is = ((λ f. absurd (false≢true f)), (λ d. absurd (omega (arith, eqb-true (length xs) 0 (sym t ∙ is), has_bodies x d, count))))
-        at false is = ((λ _. bodies_defined x (omega (arith, eqb-false (length xs) 0 (sym t ∙ is), count))), (λ _. refl))
+        at : (b : Bool) → ltb 0 size ≡ b → Decides b (IsDefined x)
+        at true is = ((λ _. bodies_defined x (omega (arith, ltb-true 0 size is, count))), (λ _. refl))
+        at false is = ((λ f. absurd (false≢true f)), (λ d. absurd (omega (arith, ltb-false 0 size is, has_bodies x d, count))))
 
     name_contained : (k : ℕ) (x : Text) → k < suc (length names) → key_at names k ≡ name_key x → Contains names x
     name_contained zero x h e = cc

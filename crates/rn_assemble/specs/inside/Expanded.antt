@@ -41,8 +41,8 @@ pub record StartsAt (bodies : List Body) (first : ℕ) (content : Contents) (inh
 pub record AddsLive (names : List Text) (old new : Components) (live : List Live) (cs : List Component) : Type 0 where
   pub added : List Live
   pub lists : Lists names new (live ++ added)
-  pub rises : Rises (length old.list.items) added
-  pub longer : length old.list.items ≤ length new.list.items
+  pub rises : Rises (length old.list) added
+  pub longer : length old.list ≤ length new.list
   pub are : components_in added ≡ cs
 
 -- the components of the numbers from one to another can be added

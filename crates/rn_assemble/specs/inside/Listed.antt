@@ -1,10 +1,10 @@
 -- How the modules' contents and the components of a set lie in the code.
-use Rattle.std.specs.Prelude.{ℕ, suc, ◌+◌, ◌<◌, ◌≤◌, ◌≡◌, ◌==◌, List, [], ◌∷◌, length, map, filter, slice_index_or, slice_range, Contains, ⊤}
+use Rattle.std.specs.Prelude.{ℕ, suc, ◌+◌, ◌<◌, ◌≤◌, ◌≡◌, ◌==◌, List, [], ◌∷◌, length, map, filter, slice_get, slice_index_or, slice_range, Option, Contains, ⊤}
 use Rattle.std.specs.Rc.{rc_str_bytes}
 use Rattle.std.specs.List.{AllByRecursion, AllZip}
 use Rattle.std.specs.List.Sorted.{IsStrictlySortedBy}
 use Rattle.rn_text.specs.Texts.{Text, text_cmp}
-use Rattle.rn_pattern.specs.Graph.{row, rows_of}
+use Rattle.rn_pattern.specs.Graph.{row}
 use Rattle.rn_syntax.specs.Tree.{Declaration}
 use Rattle.rn_assemble.specs.declared.contents.Contents.{Contents}
 use Rattle.rn_assemble.specs.declared.components.Body.{Body}
@@ -76,7 +76,7 @@ pub record ListsBy (names : List Text) (bodies : List Body) (list : List ℕ) (r
   pub places : (key : ℕ) → key < length rows → row rows key ≡ places_of key live
 
 abbrev pub Lists : List Text → Components → List Live → Type 0
-Lists names x live = ListsBy names x.bodies.items x.list.items (rows_of x.places.items) live
+Lists names x live = ListsBy names x.bodies.items x.list x.places.items live
 
 abbrev pub components_in : List Live → List Component
 components_in live = map (λ (e : Live). e.component) live
@@ -87,9 +87,9 @@ components_in live = map (λ (e : Live). e.component) live
 abbrev pub OfBody : List Text → Body → (Component → Type 0) → Type 0
 OfBody names b P = (key : ℕ) (c : Component) → IsBody names b key c → P c
 
--- P holds of the live component at the place
-abbrev pub AtPlace : List Text → Components → ℕ → (Component → Type 0) → Type 0
-AtPlace names x place P = (live : List Live) (e : Live) → Lists names x live → Contains live e → e.place ≡ place → P e.component
+-- P holds of each live component whose body has the number
+abbrev pub WithBody : List Text → Components → Option ℕ → (Component → Type 0) → Type 0
+WithBody names x number P = (live : List Live) (e : Live) → Lists names x live → Contains live e → slice_get x.list e.place ≡ number → P e.component
 
 -- P holds of the key of that number and the live components
 abbrev pub AtKey : Components → ℕ → (Key → List Component → Type 0) → Type 0

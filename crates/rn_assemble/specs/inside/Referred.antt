@@ -108,10 +108,10 @@ looked_under looked n = slice_index_or looked n None
 abbrev pub IsFresh : ℕ → List (Option ℕ) → Type 0
 IsFresh key looked = (n j : ℕ) → key ≤ j → looked_under looked n ≢ Some j
 
--- the body at the place was looked at under the key before, or it is now
-abbrev pub IsLooked : List ℕ → ℕ → ℕ → (old new : List (Option ℕ)) → Option ℕ → Type 0
-IsLooked list place key old new None = (new ≡ old) × ((n : ℕ) → slice_get list place ≡ Some n → n < length old → looked_under old n ≡ Some key)
-IsLooked list place key old new (Some n) = (slice_get list place ≡ Some n) × (n < length old) × (new ≡ slice_set old n (Some key))
+-- the body was looked at under the key before, or it is now
+abbrev pub IsLooked : Option ℕ → ℕ → (old new : List (Option ℕ)) → Option ℕ → Type 0
+IsLooked body key old new None = (new ≡ old) × ((n : ℕ) → body ≡ Some n → n < length old → looked_under old n ≡ Some key)
+IsLooked body key old new (Some n) = (body ≡ Some n) × (n < length old) × (new ≡ slice_set old n (Some key))
 
 abbrev pub lesser_text : Option Text → Text → Text
 lesser_text None x = x

@@ -1,7 +1,5 @@
-use Rattle.std.proofs.Common.{◌≡◌, ◌<◌, ℕ, List, length, sym, ap, ◌∙◌, subst, arith, inl, inr}
-use Rattle.std.proofs.lemmas.Bool.{false≢true}
-use Rattle.std.proofs.lemmas.Bool.Decides.{eqb_tells}
-use Rattle.rn_pattern.specs.Graph.{rows_of}
+use Rattle.std.proofs.Common.{◌≡◌, ◌<◌, length, sym, subst, arith}
+use Rattle.rn_pattern.specs.Graph.{row}
 use Rattle.rn_assemble.specs.Combine.{IsPlainTwice, IsMixed}
 use Rattle.rn_assemble.specs.Components.{Key}
 use Rattle.rn_assemble.specs.Least.{IsLeast, key_cmp}
@@ -17,7 +15,7 @@ returns-in-Some c = λ live h o.
     let P : Key → Type 0 = λ j. IsPlainTwice j (components_in live) in
     let least = c.in-Some.ensures names live h o (omega (arith, c.len.ensures)) in
     let key_is = c.in_ok-key.ensures (omega (arith, least.0)) in
-    subst (λ k. IsLeast key_cmp P k) (sym key_is) (least_key names o P (plain_has names x.bodies.items x.list.items (rows_of x.places.items) live h) c.in-Some.key least)
+    subst (λ k. IsLeast key_cmp P k) (sym key_is) (least_key names o P (plain_has names x.bodies.items x.list x.places.items live h) c.in-Some.key least)
 
 pub returns-in-Some-least_mixed : goal.returns-in-Some-least_mixed
 returns-in-Some-least_mixed c = λ live h o.
@@ -27,20 +25,20 @@ returns-in-Some-least_mixed c = λ live h o.
     let none = c.in_default.ensures names live h o (omega (arith, c.len.ensures)) in
     let least = c.in-Some-least_mixed.ensures names live h o (omega (arith, c.len-2.ensures)) in
     let key_is = c.in_ok-key-2.ensures (omega (arith, least.0)) in (
-      subst (λ k. IsLeast key_cmp P k) (sym key_is) (least_key names o P (mixed_has names x.bodies.items x.list.items (rows_of x.places.items) live h) c.in-Some-least_mixed.key least),
-      no_key names o (λ j. IsPlainTwice j (components_in live)) (plain_has names x.bodies.items x.list.items (rows_of x.places.items) live h) none,
+      subst (λ k. IsLeast key_cmp P k) (sym key_is) (least_key names o P (mixed_has names x.bodies.items x.list x.places.items live h) c.in-Some-least_mixed.key least),
+      no_key names o (λ j. IsPlainTwice j (components_in live)) (plain_has names x.bodies.items x.list x.places.items live h) none,
     )
 
-pub returns-then-is_empty : goal.returns-then-is_empty
-returns-then-is_empty c = λ live h o.
+pub returns-then-count_of-eq0 : goal.returns-then-count_of-eq0
+returns-then-count_of-eq0 c = λ live h o.
     let x = c.args.components.now in
     let names = names_of c.args.keys.now in
     let none = c.in_default.ensures names live h o (omega (arith, c.len.ensures)) in
     let no_mixed = c.in_default-least_mixed.ensures names live h o (omega (arith, c.len-2.ensures)) in
-    let empty : length c.of_key.result.now ≡ 0 = elim (eqb_tells (length c.of_key.result.now) 0) [ inl t ↦ t.1 | inr t ↦ absurd (false≢true (sym t.0 ∙ sym c.is_empty.ensures ∙ c.if-is_empty.true)) ] in (
-      no_start names x.bodies.items x.list.items (rows_of x.places.items) live h o (ap (λ (l : List ℕ). length l) (sym c.of_key.ensures) ∙ empty),
-      no_key names o (λ j. IsPlainTwice j (components_in live)) (plain_has names x.bodies.items x.list.items (rows_of x.places.items) live h) none,
-      no_key names o (λ j. IsMixed j (components_in live)) (mixed_has names x.bodies.items x.list.items (rows_of x.places.items) live h) no_mixed,
+    let empty : length (row x.places.items 0) ≡ 0 = omega (arith, c.count_of.ensures, c.if-count_of-eq0.true) in (
+      no_start names x.bodies.items x.list x.places.items live h o empty,
+      no_key names o (λ j. IsPlainTwice j (components_in live)) (plain_has names x.bodies.items x.list x.places.items live h) none,
+      no_key names o (λ j. IsMixed j (components_in live)) (mixed_has names x.bodies.items x.list x.places.items live h) no_mixed,
     )
 
 pub returns : goal.returns
@@ -49,9 +47,9 @@ returns c = λ live h o.
     let names = names_of c.args.keys.now in
     let none = c.in_default.ensures names live h o (omega (arith, c.len.ensures)) in
     let no_mixed = c.in_default-least_mixed.ensures names live h o (omega (arith, c.len-2.ensures)) in
-    let some : 0 < length c.of_key.result.now = elim (eqb_tells (length c.of_key.result.now) 0) [ inl t ↦ absurd (false≢true (sym c.if-is_empty.false ∙ c.is_empty.ensures ∙ t.0)) | inr t ↦ omega (arith, t.1) ] in
+    let some : 0 < length (row x.places.items 0) = omega (arith, c.count_of.ensures, c.if-count_of-eq0.false) in
     record {
-      plain_once = no_key names o (λ j. IsPlainTwice j (components_in live)) (plain_has names x.bodies.items x.list.items (rows_of x.places.items) live h) none;
-      one_method = no_key names o (λ j. IsMixed j (components_in live)) (mixed_has names x.bodies.items x.list.items (rows_of x.places.items) live h) no_mixed;
-      start = start_there names x.bodies.items x.list.items (rows_of x.places.items) live h o (subst (λ (l : List ℕ). 0 < length l) c.of_key.ensures some);
+      plain_once = no_key names o (λ j. IsPlainTwice j (components_in live)) (plain_has names x.bodies.items x.list x.places.items live h) none;
+      one_method = no_key names o (λ j. IsMixed j (components_in live)) (mixed_has names x.bodies.items x.list x.places.items live h) no_mixed;
+      start = start_there names x.bodies.items x.list x.places.items live h o some;
     }

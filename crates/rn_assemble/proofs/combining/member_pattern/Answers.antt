@@ -1,8 +1,7 @@
-use Rattle.std.proofs.Common.{sym, ap, ◌∙◌}
-use Rattle.std.specs.Prelude.{IsSomeAnd, slice_get}
+use Rattle.std.proofs.Common.{sym, ◌∙◌}
+use Rattle.std.specs.Prelude.{IsSomeAnd}
 use Rattle.rn_pattern.specs.NameRules.{KeepsNameRules}
 use Rattle.rn_pattern.specs.View.{shared_view}
-use Rattle.rn_pattern.specs.Graph.{rows_of}
 use Rattle.rn_assemble.specs.inside.Patterns.{IsMisnamedAs, IsSound}
 use Rattle.rn_assemble.specs.inside.Views.{names_of}
 use Rattle.rn_assemble.proofs.Joining.KeyPatterns.{refused_by}
@@ -19,7 +18,7 @@ returns-in_err-share_body-clause-exact c = λ live e h k p s.
     let x = c.args.components.now in
     let names = names_of c.args.keys.now in
     let body = sym c.in-Some-body.ensures in
-    let is = live_body names x.bodies.items x.list.items (rows_of x.places.items) live e c.in-Some.number c.in-Some-body.body.now h k (ap (slice_get x.list.items) p ∙ sym c.in-Some.ensures) body in
+    let is = live_body names x.bodies.items x.list x.places.items live e c.in-Some.number c.in-Some-body.body.now h k (p ∙ c.in-Some.is) body in
     let held = shared_held names x.bodies.items c.args.shared.now.items c.in-Some.number c.in-Some-body.body.now c.index_mut.result.now s body c.index_mut.ensures.value e.key e.component is in
     refused_by (λ o. IsSomeAnd o (λ q. IsSound e.component (shared_view q))) (IsMisnamedAs e.component.key (¬ KeepsNameRules e.component.body)) c.from_residual.result c.in_err-share_body.field-0.0 c.from_residual.ensures.1 (c.in_err-share_body.ensures.exact e.key e.component is held)
 
@@ -32,6 +31,6 @@ returns-clause-exact c = λ live e h k p s.
     let x = c.args.components.now in
     let names = names_of c.args.keys.now in
     let body = sym c.in-Some-body.ensures in
-    let is = live_body names x.bodies.items x.list.items (rows_of x.places.items) live e c.in-Some.number c.in-Some-body.body.now h k (ap (slice_get x.list.items) p ∙ sym c.in-Some.ensures) body in
+    let is = live_body names x.bodies.items x.list x.places.items live e c.in-Some.number c.in-Some-body.body.now h k (p ∙ c.in-Some.is) body in
     let held = shared_held names x.bodies.items c.args.shared.now.items c.in-Some.number c.in-Some-body.body.now c.index_mut.result.now s body c.index_mut.ensures.value e.key e.component is in
     c.in_ok-share_body.ensures.exact e.key e.component is held

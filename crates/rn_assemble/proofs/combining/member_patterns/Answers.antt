@@ -1,8 +1,8 @@
-use Rattle.std.proofs.Common.{◌+◌, ◌<◌, ◌≤◌, ℕ, List, length, get_or, map, take, sym, ap, ◌∙◌, subst, arith}
+use Rattle.std.proofs.Common.{◌+◌, ◌<◌, ◌≤◌, length, map, take, sym, ◌∙◌, subst, arith}
 use Rattle.std.specs.Prelude.{IsSomeAnd}
 use Rattle.rn_pattern.specs.NameRules.{KeepsNameRules}
 use Rattle.rn_pattern.specs.View.{shared_view}
-use Rattle.rn_pattern.specs.Graph.{rows_of}
+use Rattle.rn_pattern.specs.Graph as graph
 use Rattle.rn_assemble.specs.Combine.{of_key}
 use Rattle.rn_assemble.specs.inside.Keyed.{key_at}
 use Rattle.rn_assemble.specs.inside.Listed.{components_in}
@@ -10,6 +10,7 @@ use Rattle.rn_assemble.specs.inside.Patterns.{AreSound, IsMisnamedAs, IsSound}
 use Rattle.rn_assemble.specs.Refusal.{BreaksNameRules}
 use Rattle.rn_assemble.specs.inside.Views.{names_of}
 use Rattle.rn_assemble.proofs.Joining.KeyPatterns.{breaks_at, misnamed_for, part_of_key, refused_by, sound_all, sound_more}
+use Rattle.rn_assemble.proofs.Expansion.LiveLists.{row_body}
 use Rattle.rn_assemble.proofs.Joining.UsedMethods.{at_row, row_size}
 use Rattle.rn_assemble.proofs.combining.member_patterns.Goals as goal
 use Rattle.rn_assemble.proofs.combining.member_patterns.Goals.{in-Some+in_ok-push, in_default}
@@ -20,30 +21,32 @@ returns-in_err-pattern-clause-exact c = λ live h o k s.
     let names = names_of c.args.keys.now in
     let key = key_at names c.args.key in
     let cs = components_in live in
-    let i = c.loop-place.place-index in
-    let row_now = c.of_key-places.ensures in
-    let r = at_row names x.bodies.items x.list.items (rows_of x.places.items) live h o c.args.key (omega (arith, k)) i (subst (λ (l : List ℕ). i < length l) row_now c.loop-place-test.true) in
-    let found = c.in_err-pattern.ensures.exact live r.0 h r.1 (r.2 ∙ ap (λ (l : List ℕ). get_or l i 0) (sym row_now)) (c.loop-place.invariant.kept s) in
+    let i = c.loop-index.index in
+    let row = graph.row x.places.items c.args.key in
+    let below : i < length row = omega (arith, c.loop-index-test.true, c.count_of-count.ensures) in
+    let r = at_row names x.bodies.items x.list x.places.items live h o c.args.key (omega (arith, k)) i below in
+    let found = c.in_err-pattern.ensures.exact live r.0 h r.1 (row_body x.list row i r.0.place below r.2 ∙ sym c.body_of-number.ensures) (c.loop-index.invariant.kept s) in
     refused_by (λ members. AreSound (of_key key cs) (map shared_view members.items)) (IsMisnamedAs key (BreaksNameRules cs key)) c.from_residual-in_err-pattern.result c.in_err-pattern.field-0.0 c.from_residual-in_err-pattern.ensures.1
     (misnamed_for r.0.component.key key (¬ KeepsNameRules r.0.component.body) (BreaksNameRules cs key) c.in_err-pattern.field-0.0 (part_of_key cs key i r.0.component r.3 r.4) (breaks_at cs key i r.0.component r.3 r.4) found)
 
-pub loop-place-preserved : goal.loop-place-preserved
-loop-place-preserved c = record {
-  size = c.member_pattern.ensures.size ∙ c.loop-place.invariant.size;
-  kept = λ s. c.member_pattern.ensures.kept (c.loop-place.invariant.kept s);
+pub loop-index-preserved : goal.loop-index-preserved
+loop-index-preserved c = record {
+  size = c.member_pattern.ensures.size ∙ c.loop-index.invariant.size;
+  kept = λ s. c.member_pattern.ensures.kept (c.loop-index.invariant.kept s);
   members = λ live h o k s.
       let x = c.args.components.now in
       let names = names_of c.args.keys.now in
       let key = key_at names c.args.key in
       let cs = components_in live in
-      let i = c.loop-place.place-index in
-      let row_now = c.of_key-places.ensures in
-      let r = at_row names x.bodies.items x.list.items (rows_of x.places.items) live h o c.args.key (omega (arith, k)) i (subst (λ (l : List ℕ). i < length l) row_now c.loop-place-test.true) in
-      let found = c.in_ok-pattern.ensures.exact live r.0 h r.1 (r.2 ∙ ap (λ (l : List ℕ). get_or l i 0) (sym row_now)) (c.loop-place.invariant.kept s) in
+      let i = c.loop-index.index in
+      let row = graph.row x.places.items c.args.key in
+      let below : i < length row = omega (arith, c.loop-index-test.true, c.count_of-count.ensures) in
+      let r = at_row names x.bodies.items x.list x.places.items live h o c.args.key (omega (arith, k)) i below in
+      let found = c.in_ok-pattern.ensures.exact live r.0 h r.1 (row_body x.list row i r.0.place below r.2 ∙ sym c.body_of-number.ensures) (c.loop-index.invariant.kept s) in
       elim c.match-branch-3.branch [
         | in-Some+in_ok-push w ↦
             let sound = subst (λ p. IsSomeAnd p (λ q. IsSound r.0.component (shared_view q))) w.in-Some.is found in
-            let more = sound_more cs key c.loop-place.members.items w.push.new.self.items i w.in-Some.pattern r.0.component r.3 r.4 sound w.in_ok-push.ensures.items (c.loop-place.invariant.members live h o k s) in
+            let more = sound_more cs key c.loop-index.members.items w.push.new.self.items i w.in-Some.pattern r.0.component r.3 r.4 sound w.in_ok-push.ensures.items (c.loop-index.invariant.members live h o k s) in
             subst (λ ms. AreSound (take (i + 1) (of_key key cs)) (map shared_view ms.items)) (sym w.members-is) more
         | in_default w ↦ absurd (subst (λ p. IsSomeAnd p (λ q. IsSound r.0.component (shared_view q))) w.in_default.is found)
       ];
@@ -55,6 +58,6 @@ returns-clause-exact c = λ live h o k s.
     let names = names_of c.args.keys.now in
     let key = key_at names c.args.key in
     let cs = components_in live in
-    let size = row_size names x.bodies.items x.list.items (rows_of x.places.items) live h o c.args.key (omega (arith, k)) in
-    let past : length (of_key key cs) ≤ c.loop-place.place-index = omega (arith, c.loop-place-test.false, ap (λ (l : List ℕ). length l) c.of_key-places.ensures, size) in
-    sound_all cs key (map shared_view c.loop-place.members.items) c.loop-place.place-index past (c.loop-place.invariant.members live h o k s)
+    let size = row_size names x.bodies.items x.list x.places.items live h o c.args.key (omega (arith, k)) in
+    let past : length (of_key key cs) ≤ c.loop-index.index = omega (arith, c.loop-index-test.false, c.count_of-count.ensures, size) in
+    sound_all cs key (map shared_view c.loop-index.members.items) c.loop-index.index past (c.loop-index.invariant.members live h o k s)

@@ -10,10 +10,10 @@ use Rattle.rn_assemble.specs.inside.Patterns.{AreShared, AreSound}
 use Rattle.rn_assemble.specs.inside.Views.{names_of}
 use Rattle.rn_assemble.proofs.combining.member_patterns.Given as goal
 
-abbrev pub invariant-loop-place : goal.invariant-loop-place
-invariant-loop-place l = record {
+abbrev pub invariant-loop-index : goal.invariant-loop-index
+invariant-loop-index l = record {
   size : length l.shared.items ≡ length l.components.bodies.items;
   kept : AreShared (names_of l.keys) l.components.bodies.items l.fn.shared.items → AreShared (names_of l.keys) l.components.bodies.items l.shared.items;
   members : (live : List Live) → Lists (names_of l.keys) l.components live → IsStrictlySortedBy text_cmp (names_of l.keys) → l.key < length (names_of l.keys) + 1
-      → AreShared (names_of l.keys) l.components.bodies.items l.fn.shared.items → AreSound (take l.place-index (of_key (key_at (names_of l.keys) l.key) (components_in live))) (map shared_view l.members.items);
+      → AreShared (names_of l.keys) l.components.bodies.items l.fn.shared.items → AreSound (take l.index (of_key (key_at (names_of l.keys) l.key) (components_in live))) (map shared_view l.members.items);
 }

@@ -134,7 +134,7 @@ expand_include-returns t c =
     let noted = c.note_lacks.new.self in
     let taken = c.take_out.new.self in
     let n = c.note_lacks.ensures in
-    let before : length old.list.items ≡ c.len-before.result = sym (c.len-before.ensures ∙ old.list.ok.0) in
+    let before : length old.list ≡ c.len-before.result = sym c.len-before.ensures in
     let included : (modules : List specs.NamedModule) (names : List Text) (live : List Live) (ds : List Declaration) → CanExpand modules names contents old live → CanInclude modules names content include ds → c.args.context.bindings.now ≡ content.bindings
     → Expands names contents old mid live (included_in c.args.depth modules include.«module» (specs.handed_on u ds (prefix_view include.inherit))) =
     λ modules names live ds k i same.

@@ -47,6 +47,6 @@ pub returns : goal.returns
 returns c = λ live h o p.
     let names = names_of c.args.keys.now in
     let x = c.args.components.now in
-    let past : length x.list.items ≤ c.loop-place.place = omega (arith, c.loop-place-test.false, c.count-place-end.ensures, x.list.ok.0) in
+    let past : length x.list ≤ c.loop-place.place = omega (arith, c.loop-place-test.false, c.count-place-end.ensures) in
     defining_ends names live h.rises c.loop-place.patterns.items c.loop-place.defs.entries (rows_of c.loop-place.firsts.items) c.loop-place.place
-    (places_within names x.bodies.items x.list.items (rows_of x.places.items) live c.loop-place.place h past) (c.loop-place.invariant live h o p)
+    (places_within names x.bodies.items x.list x.places.items live c.loop-place.place h past) (c.loop-place.invariant live h o p)

@@ -3,7 +3,7 @@ use Rattle.std.proofs.Common.{◌≡◌, ◌<◌, suc, flat_map, map, length, ap
 use Rattle.std.proofs.lemmas.List.{length_push}
 use Rattle.rn_pattern.specs.Reached.{RefersTo}
 use Rattle.rn_pattern.specs.References.{RefersOutside}
-use Rattle.rn_pattern.specs.Graph.{row, rows_of}
+use Rattle.rn_pattern.specs.Graph.{row}
 use Rattle.rn_pattern.proofs.Graphs.Rows.{rows_pushed, is_graph, no_rows}
 use Rattle.rn_assemble.specs.inside.Listed.{components_in}
 use Rattle.rn_assemble.specs.inside.Referred.{AreBodiesAt, names_within, reference_view, references_at}
@@ -37,8 +37,8 @@ loop-key-preserved c = record {
       let cs = components_in live in
       let k = c.loop-key.key in
       let bs = c.args.components.now.bodies.items in
-      let list = c.args.components.now.list.items in
-      let rows = rows_of c.args.components.now.places.items in
+      let list = c.args.components.now.list in
+      let rows = c.args.components.now.places.items in
       let h : k < suc (length names) = omega (arith, c.loop-key-test.true, c.len-key-end.ensures) in
       let size : length c.loop-key.looked.items ≡ length bs = omega (arith, c.loop-key.invariant.looked, c.args.components.now.bodies.ok) in
       let found = subst (λ n. AreBodiesAt n list (row rows k) c.in_ok-bodies.bodies.items) size c.in_ok-bodies.ensures.found in
