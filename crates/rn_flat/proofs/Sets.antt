@@ -5,7 +5,7 @@ use Rattle.std.proofs.lemmas.List.{map-append}
 use Rattle.rn_modset.specs.Sets.{union, with_member}
 use Rattle.rn_modset.proofs.Unions.UnionMembers.{union_push}
 use Rattle.rn_lift.specs.declared.lifted.LiftedModule.{LiftedModule}
-use Rattle.rn_flat.specs.Modules.{lifted_member, set_of_modules}
+use Rattle.rn_flat.specs.ModuleSets.{lifted_member, set_of_modules}
 
 -- with the next module it is the set of one more
 pub next_set : (modules : List LiftedModule) (i : ℕ) (m : LiftedModule) → i < length modules

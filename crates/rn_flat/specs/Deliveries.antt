@@ -3,15 +3,10 @@ use Rattle.std.specs.Prelude.{◌≡◌, ℕ, Bool, true, false, List, Option, S
 use Rattle.std.specs.Io.KnownBytes.{Appends}
 use Rattle.rn_merge.specs.Streams.{AppendsFront}
 use Rattle.rn_flat.specs.declared.flat_fault.FlatFault.{FlatFault}
-use Rattle.rn_flat.specs.declared.flat_fault.FlatFault.TheVariants.{Usage, Refused, Unread, Unwritten, Memory}
+use Rattle.rn_flat.specs.declared.flat_fault.FlatFault.TheVariants.{Unwritten}
 
 -- standard output takes all bytes; or it takes a front of them, and then fails
 abbrev pub IsWritten : {T : Type 0} → Option (List ℕ) → Option (List ℕ) → Bool → List ℕ → Result T FlatFault → Type 0
 IsWritten old new failed bytes (Ok x) = Appends old new bytes × (failed ≡ false)
 IsWritten old new failed bytes (Err (Unwritten lines)) = AppendsFront old new bytes × (failed ≡ true)
 IsWritten old new failed bytes (Err fault) = ⊥
-
--- the fault is one of an output
-abbrev pub IsUnwritten : FlatFault → Type 0
-IsUnwritten (Unwritten lines) = Unit {0}
-IsUnwritten fault = ⊥

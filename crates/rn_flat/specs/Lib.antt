@@ -1,5 +1,6 @@
 pub mod Comparisons
 pub mod Deliveries
 pub mod Faults
-pub mod Modules
+pub mod ModuleSets
 pub mod Runs
+pub mod inside

@@ -8,7 +8,7 @@ use Rattle.rn_flat.specs.declared.words.Product.{Product}
 use Rattle.rn_flat.specs.declared.words.Product.TheVariants.{Schema, Bundle, List as Listing, Graph}
 use Rattle.rn_flat.specs.declared.words.Task.{Task}
 use Rattle.rn_flat.specs.declared.words.Task.TheVariants.{Write, Check}
-use Rattle.rn_flat.specs.Modules.{set_of_modules}
+use Rattle.rn_flat.specs.ModuleSets.{set_of_modules}
 
 -- the text is the schema of the set of these modules, each in revision 1
 abbrev pub IsSchemaOf : List LiftedModule → List ℕ → Type 0

@@ -2,7 +2,7 @@
 ghost use Rattle.std.specs.Prelude.{◌≡◌, false, IfOk};
 ghost use Rattle.rn_simplify.specs.Verdict.{prints, IsVerdict};
 ghost use Rattle.rn_flat.specs.Faults.{LeavesOutput};
-ghost use Rattle.rn_flat.specs.Modules.{IsSetOf};
+ghost use Rattle.rn_flat.specs.ModuleSets.{IsSetOf};
 ghost use Rattle.rn_flat.specs.Runs.{Delivers, IsProduct, IsSchema, IsSchemaOf};
 
 use crate::compare::check_file;

@@ -2,7 +2,7 @@
 ghost use Rattle.std.specs.Prelude.{◌≡◌, IfOk, OnOk};
 ghost use Rattle.rn_modset.specs.Contributions.{member};
 ghost use Rattle.rn_modset.specs.Sets.{with_member};
-ghost use Rattle.rn_flat.specs.Modules.{IsSetOf, lifted_member};
+ghost use Rattle.rn_flat.specs.ModuleSets.{IsSetOf, lifted_member};
 
 use rn_lift::LiftedModule;
 use rn_modset::{AddFault, Contribution, ModuleSet};

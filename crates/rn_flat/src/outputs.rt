@@ -1,6 +1,7 @@
 // Where a product goes.
 ghost use Rattle.std.specs.Prelude.{◌≡◌, ℕ, List, OnErr, OnOk, false};
-ghost use Rattle.rn_flat.specs.Deliveries.{IsWritten, IsUnwritten};
+ghost use Rattle.rn_flat.specs.Deliveries.{IsWritten};
+ghost use Rattle.rn_flat.specs.inside.Outputs.{IsUnwritten};
 
 use crate::flat_fault::FlatFault;
 use rn_merge::{Failed, Sink, write_output};

@@ -5,7 +5,7 @@ use Rattle.std.specs.List.{flat_map}
 use Rattle.std.proofs.lemmas.List.{append-nil, nil_from_length, take_more}
 use Rattle.std.proofs.lemmas.Str.{chars-nil, chars_past_char}
 use Rattle.rn_tell.specs.Messages.{AreMessageTexts, IsMessageText}
-use Rattle.rn_tell.specs.Printed.{printed, printed_character}
+use Rattle.rn_tell.specs.PrintedCharacters.{printed, printed_character}
 use Rattle.rn_tell.specs.declared.report.Colours.{Colours}
 use Rattle.rn_tell.specs.declared.report.Message.{Message}
 use Rattle.rn_tell.specs.declared.report.Page.{Page}

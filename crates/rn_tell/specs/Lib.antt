@@ -1,3 +1,4 @@
 pub mod Limits
-pub mod Printed
+pub mod PrintedCharacters
 pub mod Messages
+pub mod inside

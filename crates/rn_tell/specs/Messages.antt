@@ -2,7 +2,7 @@
 use Rattle.std.specs.Prelude.{◌≡◌, ℕ, ◌≤◌, List, [], ◌∷◌, ◌++◌, Option, Some, None, codes, decimal, nat_lt, slice_get, string_bytes, vec_len, if◌then◌else◌}
 use Rattle.rn_files.specs.Lines.{IsPosition}
 use Rattle.rn_tell.specs.Limits.{max_told}
-use Rattle.rn_tell.specs.Printed.{head, printed}
+use Rattle.rn_tell.specs.PrintedCharacters.{head, printed}
 use Rattle.rn_tell.specs.declared.report.Colours.{Colours}
 use Rattle.rn_tell.specs.declared.report.Grade.TheVariants.{Error, Note}
 use Rattle.rn_tell.specs.declared.report.Message.{Message}
@@ -21,18 +21,14 @@ IsPlaceAt (Some page) at place = IsPlaceIn page.path.now page.text.now at place
 IsPlaceAt None at place = place ≡ codes "rnc-flat"
 
 -- the place of a message among these files
-abbrev pub IsPlace : List Page → Option Spot → List ℕ → Type 0
-IsPlace pages (Some spot) place = IsPlaceAt (slice_get pages spot.file) spot.at place
-IsPlace pages None place = place ≡ codes "rnc-flat"
+abbrev pub IsMessagePlace : List Page → Option Spot → List ℕ → Type 0
+IsMessagePlace pages (Some spot) place = IsPlaceAt (slice_get pages spot.file) spot.at place
+IsMessagePlace pages None place = place ≡ codes "rnc-flat"
 
 -- the lines of a message: its place, the sentence, and then more of the file
 abbrev pub IsMessageText : List Page → Colours → Message → List ℕ → Type 0
-IsMessageText pages colours message lines = (place rest : List ℕ) × IsPlace pages message.spot place
+IsMessageText pages colours message lines = (place rest : List ℕ) × IsMessagePlace pages message.spot place
     × (lines ≡ head colours place Error ++ (printed (string_bytes message.sentence) ++ (10 ∷ rest)))
-
--- a text and then the lines of a message
-abbrev pub AreMore : List Page → Colours → Message → (before after : List ℕ) → Type 0
-AreMore pages colours message before after = (lines : List ℕ) × IsMessageText pages colours message lines × (after ≡ before ++ lines)
 
 -- the lines of the messages, in their order
 abbrev pub AreMessageTexts : List Page → Colours → List Message → List ℕ → Type 0

@@ -1,5 +1,7 @@
 // The fault of a text as a sentence.
+use rn_files::Grouped;
 use rn_merge::Place;
+use rn_outline::MAX_OPEN;
 use rn_text::{Token, tokens};
 use std::alloc::{AllocError, Global};
 
@@ -9,11 +11,24 @@ pub const ENCODING: &str = "the file is not UTF-8 from here on";
 /// Of what is no token, white space or comment.
 pub const LEXICAL: &str = "nothing that the compact syntax has begins like this";
 
-/// Of a bracket too many.
-pub const DEEP: &str = "more than 256 brackets are open here";
-
 /// Of a request for memory that was refused.
 pub const MEMORY: &str = "out of memory";
+
+/// A sentence that names a limit.
+pub fn limit_sentence(
+    alloc: Global,
+    before: &str,
+    limit: usize,
+    behind: &str,
+) -> Result<String, AllocError> {
+    let limit = Grouped(limit);
+    format!(in alloc; "{before} {limit} {behind}")
+}
+
+/// The sentence on a bracket too many.
+pub fn deep_sentence(alloc: Global) -> Result<String, AllocError> {
+    limit_sentence(alloc, "more than", MAX_OPEN, "brackets are open here")
+}
 
 /// The byte where a text is at fault; the first one where memory did not suffice.
 pub fn place_at(place: &Place) -> usize {
@@ -33,9 +48,9 @@ pub fn is_of_meaning(place: &Place) -> bool {
 pub fn check_sentence(alloc: Global, text: &str, place: &Place) -> Result<String, AllocError> {
     let sentence = match place {
         Place::Syntax { at } => return unexpected_token(alloc, text, *at),
+        Place::Deep { .. } => return deep_sentence(alloc),
         Place::Encoding { .. } => ENCODING,
         Place::Lexical { .. } => LEXICAL,
-        Place::Deep { .. } => DEEP,
         Place::Prefix { .. } =>
             "this prefix is not declared, or is declared twice or against its meaning",
         Place::Builtin { .. } =>

@@ -1,10 +1,12 @@
 // The faults of reading, lifting and gathering, as messages.
-use crate::check_sentences::{DEEP, ENCODING, LEXICAL, MEMORY, unexpected_token};
+use crate::check_sentences::{
+    ENCODING, LEXICAL, MEMORY, deep_sentence, limit_sentence, unexpected_token,
+};
 use crate::report::{Message, Page, Spot};
-use rn_files::{FaultKind, FaultPlace, SourceFault};
-use rn_lift::Lifted;
-use rn_modset::AddFault;
-use rn_plan::{LiftFault, LiftFaultKind};
+use rn_files::{FaultKind, FaultPlace, MAX_SOURCES, SourceFault};
+use rn_lift::{Lifted, MAX_EXCEPTS};
+use rn_modset::{AddFault, MAX_CONTRIBUTIONS, MAX_NAME, MAX_TEXT};
+use rn_plan::{LiftFault, LiftFaultKind, MAX_PLACES};
 use std::alloc::{AllocError, Global};
 
 /// Where a fault of reading is told; nowhere where it is about a word or a folder.
@@ -53,15 +55,26 @@ fn reading_sentence(
         FaultKind::Reference(fault) => return format!(in alloc; "{fault}"),
         FaultKind::Syntax => return unexpected_at(alloc, pages, fault.place),
         FaultKind::Loop(files) => return loop_sentence(alloc, pages, files.as_slice()),
+        FaultKind::Deep => return deep_sentence(alloc),
+        FaultKind::Count => return limit_sentence(
+            alloc,
+            "there are more than",
+            MAX_SOURCES,
+            "files",
+        ),
+        FaultKind::Name => return file_name_sentence(alloc),
         FaultKind::Encoding => ENCODING,
         FaultKind::Lexical => LEXICAL,
-        FaultKind::Deep => DEEP,
-        FaultKind::Count => "there are more than 1,024 files",
         FaultKind::Outside => "the file is not below the root folder",
-        FaultKind::Name => "the name of the file, below the root folder, is longer than 200 bytes",
         FaultKind::Twice => "another file has the same name",
     };
     String::from_str(alloc, sentence)
+}
+
+/// The sentence on a file whose module's name is too long.
+fn file_name_sentence(alloc: Global) -> Result<String, AllocError> {
+    let before = "the name of the file, below the root folder, is longer than";
+    limit_sentence(alloc, before, MAX_NAME, "bytes")
 }
 
 /// What can't stand at a place of a file.
@@ -122,7 +135,24 @@ pub fn lift_spot(fault: &LiftFault) -> Option<Spot> {
 
 /// The message of a fault of lifting.
 pub fn lift_message(alloc: Global, fault: &LiftFault) -> Result<Message, AllocError> {
-    let sentence = match fault.kind {
+    Ok(Message {
+        spot: lift_spot(fault),
+        sentence: lift_sentence(alloc, fault.kind)?,
+    })
+}
+
+fn lift_sentence(alloc: Global, kind: LiftFaultKind) -> Result<String, AllocError> {
+    let sentence = match kind {
+        LiftFaultKind::Long => {
+            let before = "what is excepted by names becomes longer than";
+            return limit_sentence(alloc, before, MAX_EXCEPTS, "bytes");
+        }
+        LiftFaultKind::Many => return limit_sentence(
+            alloc,
+            "the files become more than",
+            MAX_PLACES,
+            "modules",
+        ),
         LiftFaultKind::IncludedPattern => {
             "the file is a pattern, and only a grammar can be included; external takes a pattern"
         }
@@ -133,16 +163,11 @@ pub fn lift_message(alloc: Global, fault: &LiftFault) -> Result<Message, AllocEr
         LiftFaultKind::Prefix => "this prefix is not declared",
         LiftFaultKind::NoFile => "no file is known that this means",
         LiftFaultKind::Undefined => "this is not defined",
-        LiftFaultKind::Long => "what is excepted by names becomes longer than 4,194,304 bytes",
-        LiftFaultKind::Many => "the files become more than 65,536 modules",
         LiftFaultKind::Outline => "what was read here is not what the file holds",
         LiftFaultKind::Unsound => "the names that were made for the files are not free",
         LiftFaultKind::Memory => MEMORY,
     };
-    Ok(Message {
-        spot: lift_spot(fault),
-        sentence: String::from_str(alloc, sentence)?,
-    })
+    String::from_str(alloc, sentence)
 }
 
 /// The message of a module, by its number, that can't be added to the set. Refused only for want of memory.
@@ -152,16 +177,34 @@ pub fn set_message(
     module: usize,
     fault: &AddFault,
 ) -> Result<Message, AllocError> {
-    let sentence = match fault {
-        AddFault::BadName => "the name of a module is longer than 200 bytes",
-        AddFault::TooLong => "the text of a module is longer than 4,194,304 bytes",
-        AddFault::Full => "there are more than 1,024 modules",
-        AddFault::Memory => MEMORY,
-    };
     Ok(Message {
         spot: start_of(lifted, module),
-        sentence: String::from_str(alloc, sentence)?,
+        sentence: set_sentence(alloc, fault)?,
     })
+}
+
+fn set_sentence(alloc: Global, fault: &AddFault) -> Result<String, AllocError> {
+    match fault {
+        AddFault::BadName => limit_sentence(
+            alloc,
+            "the name of a module is longer than",
+            MAX_NAME,
+            "bytes",
+        ),
+        AddFault::TooLong => limit_sentence(
+            alloc,
+            "the text of a module is longer than",
+            MAX_TEXT,
+            "bytes",
+        ),
+        AddFault::Full => limit_sentence(
+            alloc,
+            "there are more than",
+            MAX_CONTRIBUTIONS,
+            "modules",
+        ),
+        AddFault::Memory => String::from_str(alloc, MEMORY),
+    }
 }
 
 /// Where a module begins in the files.

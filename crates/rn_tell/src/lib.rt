@@ -11,6 +11,7 @@ mod defined;
 mod fault_messages;
 mod further_refusals;
 mod gathered;
+mod general_sentences;
 mod loop_sites;
 mod report;
 mod sentences;

@@ -1,8 +1,9 @@
 // Messages with their places, and how they are shown.
 ghost use Rattle.std.specs.Prelude.{◌≡◌, ◌<◌, ◌++◌, IfOk, IsFalse, OnOk, slice_get, string_bytes, vec_len};
 ghost use Rattle.rn_tell.specs.Limits.{max_told};
-ghost use Rattle.rn_tell.specs.Messages.{AreLines, AreMore, IsFew, IsPlace, IsPlaceAt, IsPlaceIn, note};
-ghost use Rattle.rn_tell.specs.Printed.{colour, head, painted, printable, printed, word};
+ghost use Rattle.rn_tell.specs.Messages.{AreLines, IsFew, IsMessagePlace, IsPlaceAt, IsPlaceIn, note};
+ghost use Rattle.rn_tell.specs.inside.Messages.{AddsMessage};
+ghost use Rattle.rn_tell.specs.PrintedCharacters.{colour, head, painted, printable, printed, word};
 
 use rn_files::{Attempt, SourceFile, line_of, position};
 use std::alloc::{AllocError, Global};
@@ -154,7 +155,7 @@ fn push_message(
     message: &Message,
     colours: Colours,
 ) -> Result<(), AllocError>
-    ensures { OnOk result (AreMore pages.now colours message.now
+    ensures { OnOk result (AddsMessage pages.now colours message.now
         (string_bytes lines.old) (string_bytes lines.new)) }
 {
     let place = place_text(alloc, pages, message.spot)?;
@@ -200,7 +201,7 @@ pub fn place_text(
     pages: &[Page<'_>],
     spot: Option<Spot>,
 ) -> Result<String, AllocError>
-    ensures { IfOk result (λ place. IsPlace pages.now spot (string_bytes place)) }
+    ensures { IfOk result (λ place. IsMessagePlace pages.now spot (string_bytes place)) }
 {
     match spot {
         Some(spot) => spot_text(alloc, pages, spot),

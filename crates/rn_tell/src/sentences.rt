@@ -6,6 +6,7 @@ use crate::brought::{Component, Instance, components, instances, parting_include
 use crate::defined::{Defined, taking_part};
 use crate::further_refusals::{Found, Kind, has_method, refusals_behind};
 use crate::gathered::texts_told;
+use crate::general_sentences::general_sentence;
 use crate::loop_sites::{first_use, loop_of, loop_of_includes};
 use crate::report::{MAX_TOLD, Message, Page, Spot, Told, place_text, source_pages};
 use crate::sites::{Site, View, include_around, include_of, key_of, key_text, view_of};
@@ -98,7 +99,7 @@ fn place_refusal(telling: &Telling<'_>, refusal: &Refusal) -> Result<Placed, All
         Refusal::Undefined { name } => undefined_name(telling, name.as_str()),
         Refusal::Recursive { name } => recursive_name(telling, name.as_str()),
         Refusal::NameClass { key } => name_class(telling, key_text(key)),
-        _ => general_sentence(telling.alloc, refusal),
+        _ => Ok((None, general_sentence(telling.alloc, refusal)?)),
     }
 }
 
@@ -107,7 +108,7 @@ fn place_found(telling: &Telling<'_>, found: Found<'_>) -> Result<Placed, AllocE
         Kind::Override => unfounded_override(telling, found.module, found.key),
         Kind::PlainTwice => plain_twice(telling, found.key),
         Kind::MixedMethods => mixed_methods(telling, found.key),
-        Kind::NoStart => general_sentence(telling.alloc, &Refusal::NoStart),
+        Kind::NoStart => Ok((None, general_sentence(telling.alloc, &Refusal::NoStart)?)),
         Kind::Undefined => undefined_name(telling, found.key),
     }
 }
@@ -387,18 +388,4 @@ fn name_class(telling: &Telling<'_>, key: &str) -> Result<Placed, AllocError> {
 fn unplaced_sentence(telling: &Telling<'_>, key: &str, what: &str) -> Result<Placed, AllocError> {
     let name = spelled_key(telling, key);
     Ok((None, format!(in telling.alloc; "`{name}` {what}")?))
-}
-
-/// The sentences on all files together.
-fn general_sentence(alloc: Global, refusal: &Refusal) -> Result<Placed, AllocError> {
-    let sentence = match refusal {
-        Refusal::NoStart => "none of the files defines start",
-        Refusal::Instances =>
-            "the files are included more than 512 times in all, each inclusion of a file counted with those in it",
-        Refusal::OutputTooLarge => "the flat schema would have more than 4,194,304 bytes",
-        Refusal::OutputTooDeep => "the flat schema would have more than 256 brackets open at once",
-        Refusal::Memory => "out of memory",
-        _ => return Ok((None, format!(in alloc; "{refusal}")?)),
-    };
-    Ok((None, String::from_str(alloc, sentence)?))
 }

@@ -1,5 +1,5 @@
 use Rattle.std.proofs.Common.{◌≡◌, take}
-use Rattle.rn_flat.specs.Modules.{set_of_modules}
+use Rattle.rn_flat.specs.ModuleSets.{set_of_modules}
 use Rattle.rn_flat.proofs.module_set.set_of.Given as goal
 
 -- the set is that of the modules so far

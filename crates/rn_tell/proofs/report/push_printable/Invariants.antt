@@ -1,6 +1,6 @@
 use Rattle.std.proofs.Common.{◌≡◌, ◌++◌, IsUtf8, string_bytes}
 use Rattle.std.specs.Str.Iter.{chars_rest}
-use Rattle.rn_tell.specs.Printed.{printed}
+use Rattle.rn_tell.specs.PrintedCharacters.{printed}
 use Rattle.rn_tell.proofs.report.push_printable.Given as goal
 
 -- what is printed so far, and what is left

@@ -1,0 +1,10 @@
+-- A message behind others.
+use Rattle.std.specs.Prelude.{◌≡◌, ℕ, List, ◌++◌}
+use Rattle.rn_tell.specs.Messages.{IsMessageText}
+use Rattle.rn_tell.specs.declared.report.Colours.{Colours}
+use Rattle.rn_tell.specs.declared.report.Message.{Message}
+use Rattle.rn_tell.specs.declared.report.Page.{Page}
+
+-- a text and then the lines of a message
+abbrev pub AddsMessage : List Page → Colours → Message → (before after : List ℕ) → Type 0
+AddsMessage pages colours message before after = (lines : List ℕ) × IsMessageText pages colours message lines × (after ≡ before ++ lines)

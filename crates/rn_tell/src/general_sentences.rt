@@ -1,0 +1,39 @@
+// The sentences on refusals that are about all files together.
+use crate::brought::MAX_INSTANCES;
+use crate::check_sentences::{MEMORY, limit_sentence};
+use rn_assemble::Refusal;
+use rn_modset::MAX_TEXT;
+use rn_outline::MAX_OPEN;
+use std::alloc::{AllocError, Global};
+
+/// The sentence on a refusal that has no place; of another one, what is said of its kind.
+pub fn general_sentence(alloc: Global, refusal: &Refusal) -> Result<String, AllocError> {
+    match refusal {
+        Refusal::NoStart => String::from_str(alloc, "none of the files defines start"),
+        Refusal::Instances => instances_sentence(alloc),
+        Refusal::OutputTooLarge => limit_sentence(
+            alloc,
+            "the flat schema would have more than",
+            MAX_TEXT,
+            "bytes",
+        ),
+        Refusal::OutputTooDeep => deep_output_sentence(alloc),
+        Refusal::Memory => String::from_str(alloc, MEMORY),
+        _ => format!(in alloc; "{refusal}"),
+    }
+}
+
+fn instances_sentence(alloc: Global) -> Result<String, AllocError> {
+    let behind = "times in all, each inclusion of a file counted with those in it";
+    limit_sentence(
+        alloc,
+        "the files are included more than",
+        MAX_INSTANCES,
+        behind,
+    )
+}
+
+fn deep_output_sentence(alloc: Global) -> Result<String, AllocError> {
+    let before = "the flat schema would have more than";
+    limit_sentence(alloc, before, MAX_OPEN, "brackets open at once")
+}
