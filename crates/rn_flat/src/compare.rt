@@ -4,7 +4,7 @@ ghost use Rattle.rn_flat.specs.Comparisons.{DifferFirst};
 
 use crate::flat_fault::{FlatFault, refusal_fault};
 use rn_files::{FileFault, Files, line_of};
-use rn_tell::{Colours, Message, Page, SHOWN, Spot, Told, push_printable};
+use rn_tell::{Colours, Message, Messages, Page, SHOWN, Spot, push_printable};
 use std::alloc::{AllocError, Global};
 
 /// The first byte at which two texts differ, if they do: the end of the shorter one, where it is the front of the other.
@@ -76,7 +76,7 @@ fn differs(
         text: found.as_str(),
     };
     let pages = [page];
-    let told = Told::of_message(alloc, message)?;
+    let told = Messages::of_message(alloc, message)?;
     refusal_fault(alloc, &pages, &told, colours)
 }
 

@@ -2,7 +2,7 @@
 ghost use Rattle.std.specs.Prelude.{◌≡◌};
 ghost use Rattle.rn_flat.specs.Faults.{status};
 
-use rn_tell::{Colours, Page, Told, told_lines};
+use rn_tell::{Colours, Messages, Page, message_lines};
 use std::alloc::{AllocError, AllocFailed, Global};
 
 /// Why the program does not do its work, with the lines that say so.
@@ -69,9 +69,9 @@ pub fn status(fault: &FlatFault) -> u8
 pub fn refusal_fault(
     alloc: Global,
     pages: &[Page<'_>],
-    told: &Told,
+    told: &Messages,
     colours: Colours,
 ) -> Result<FlatFault, AllocError> {
-    let lines = told_lines(alloc, pages, told, colours)?;
+    let lines = message_lines(alloc, pages, told, colours)?;
     Ok(FlatFault::Refused(lines))
 }

@@ -18,7 +18,7 @@ use rn_lift::{Lifted, lift};
 use rn_merge::{Sink, merge};
 use rn_modset::{AddFault, ModuleSet, write_bundle};
 use rn_plan::{LiftFaultKind, Lifting};
-use rn_tell::{Colours, Told, lift_told, refusal_told, set_message, source_pages};
+use rn_tell::{Colours, Messages, lift_messages, refusal_messages, set_message, source_pages};
 use std::alloc::{AllocError, Global};
 
 /// Reads the files of a job with all that they reach, makes what is asked for, and writes or compares it. Nothing is written
@@ -114,17 +114,17 @@ fn lift_files(alloc: Global, sources: &Sources, colours: Colours) -> Result<Lift
         Err(fault) if fault.kind == LiftFaultKind::Memory => Err(FlatFault::Memory),
         Err(fault) => {
             let files = sources.files.as_slice();
-            let told = lift_told(alloc, files, &fault)?;
-            Err(told_of(alloc, files, &told, colours)?)
+            let told = lift_messages(alloc, files, &fault)?;
+            Err(fault_with_messages(alloc, files, &told, colours)?)
         }
     }
 }
 
 /// The files are refused, with what is told of them.
-fn told_of(
+fn fault_with_messages(
     alloc: Global,
     files: &[SourceFile],
-    told: &Told,
+    told: &Messages,
     colours: Colours,
 ) -> Result<FlatFault, AllocError> {
     let pages = source_pages(alloc, files)?;
@@ -145,8 +145,8 @@ fn module_set(
         Err(fault) if fault.fault == AddFault::Memory => Err(FlatFault::Memory),
         Err(fault) => {
             let message = set_message(alloc, lifted, fault.module, &fault.fault)?;
-            let told = Told::of_message(alloc, message)?;
-            Err(told_of(alloc, files, &told, colours)?)
+            let told = Messages::of_message(alloc, message)?;
+            Err(fault_with_messages(alloc, files, &told, colours)?)
         }
     }
 }
@@ -165,8 +165,8 @@ fn schema(
         Ok(text) => Ok(text),
         Err(Refusal::Memory) => Err(FlatFault::Memory),
         Err(refusal) => {
-            let told = refusal_told(alloc, files, lifted, &refusal)?;
-            Err(told_of(alloc, files, &told, colours)?)
+            let told = refusal_messages(alloc, files, lifted, &refusal)?;
+            Err(fault_with_messages(alloc, files, &told, colours)?)
         }
     }
 }

@@ -1,7 +1,7 @@
 // What is wrong with the files that are read.
 use crate::flat_fault::FlatFault;
 use rn_files::{Asked, ReadFault, Reading};
-use rn_tell::{Colours, attempt_pages, is_unread, reading_told, told_lines};
+use rn_tell::{Colours, attempt_pages, is_unread, message_lines, reading_messages};
 use std::alloc::{AllocError, Global};
 
 /// The fault of reading.
@@ -27,9 +27,9 @@ fn reading_lines(
     reading: &Reading,
     colours: Colours,
 ) -> Result<FlatFault, AllocError> {
-    let told = reading_told(alloc, asked.files, reading)?;
+    let told = reading_messages(alloc, asked.files, reading)?;
     let pages = attempt_pages(alloc, reading.files.as_slice())?;
-    let lines = told_lines(alloc, pages.as_slice(), &told, colours)?;
+    let lines = message_lines(alloc, pages.as_slice(), &told, colours)?;
     if reading.faults.iter().any(is_unread) {
         Ok(FlatFault::Unread(lines))
     } else {

@@ -8,7 +8,7 @@ use Rattle.rn_tell.specs.declared.report.Grade.TheVariants.{Error, Note}
 use Rattle.rn_tell.specs.declared.report.Message.{Message}
 use Rattle.rn_tell.specs.declared.report.Page.{Page}
 use Rattle.rn_tell.specs.declared.report.Spot.{Spot}
-use Rattle.rn_tell.specs.declared.report.Told.{Told}
+use Rattle.rn_tell.specs.declared.report.Messages.{Messages}
 
 -- FILE:LINE:COLUMN of a byte of a text in the file with this path
 abbrev pub IsPlaceIn : (path text : List ℕ) → ℕ → List ℕ → Type 0
@@ -41,10 +41,10 @@ abbrev pub note : Colours → ℕ → List ℕ
 note colours count = if nat_lt 0 count then head colours (codes "rnc-flat") Note ++ (codes "there are more faults, which are not told: " ++ (decimal count ++ (10 ∷ []))) else []
 
 -- all lines: those of the messages, and the note
-abbrev pub AreLines : List Page → Colours → Told → List ℕ → Type 0
+abbrev pub AreLines : List Page → Colours → Messages → List ℕ → Type 0
 AreLines pages colours told lines = (messages : List ℕ) × AreMessageTexts pages colours told.messages.items messages
     × (lines ≡ messages ++ note colours told.further)
 
 -- no more messages are told than may be
-abbrev pub IsFew : Told → Type 0
+abbrev pub IsFew : Messages → Type 0
 IsFew told = vec_len told.messages ≤ max_told

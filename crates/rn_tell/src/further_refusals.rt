@@ -23,7 +23,7 @@ pub enum Kind {
 
 /// A refusal that was found.
 #[derive(Clone, Copy, Debug, PartialEq, Eq, PartialOrd, Ord)]
-pub struct Found<'v> {
+pub struct FurtherRefusal<'v> {
     /// Its kind.
     pub kind: Kind,
     /// Of `Override` the module whose include is at fault, else nothing.
@@ -33,8 +33,8 @@ pub struct Found<'v> {
 }
 
 /// A refusal of a key, whichever module it is in.
-fn of_key(kind: Kind, key: &str) -> Found<'_> {
-    Found {
+fn of_key(kind: Kind, key: &str) -> FurtherRefusal<'_> {
+    FurtherRefusal {
         kind,
         module: "",
         key,
@@ -42,9 +42,9 @@ fn of_key(kind: Kind, key: &str) -> Found<'_> {
 }
 
 /// The refusal, where it is of such a kind.
-fn found_of(refusal: &Refusal) -> Option<Found<'_>> {
+fn found_of(refusal: &Refusal) -> Option<FurtherRefusal<'_>> {
     match refusal {
-        Refusal::Override { module, key } => Some(Found {
+        Refusal::Override { module, key } => Some(FurtherRefusal {
             kind: Kind::Override,
             module: module.as_str(),
             key: key_text(key),
@@ -63,7 +63,7 @@ pub fn refusals_behind<'v>(
     view: &'v View<'_>,
     defined: &[Defined<'v>],
     refusal: &Refusal,
-) -> Result<Vec<Found<'v>>, AllocError> {
+) -> Result<Vec<FurtherRefusal<'v>>, AllocError> {
     let mut found = Vec::new(alloc);
     let Some(first) = found_of(refusal) else {
         return Ok(found);
@@ -81,7 +81,7 @@ pub fn refusals_behind<'v>(
 fn push_unfounded<'v>(
     alloc: Global,
     view: &'v View<'_>,
-    found: &mut Vec<Found<'v>>,
+    found: &mut Vec<FurtherRefusal<'v>>,
 ) -> Result<(), AllocError> {
     for room in 0..view.rooms.len() {
         push_unfounded_in(alloc, view, room, found)?;
@@ -94,7 +94,7 @@ fn push_unfounded_in<'v>(
     alloc: Global,
     view: &'v View<'_>,
     room: usize,
-    found: &mut Vec<Found<'v>>,
+    found: &mut Vec<FurtherRefusal<'v>>,
 ) -> Result<(), AllocError> {
     for part in 0..view.parts(room).len() {
         push_lacking(alloc, view, Site { room, part }, found)?;
@@ -107,7 +107,7 @@ fn push_lacking<'v>(
     alloc: Global,
     view: &'v View<'_>,
     include: Site,
-    found: &mut Vec<Found<'v>>,
+    found: &mut Vec<FurtherRefusal<'v>>,
 ) -> Result<(), AllocError> {
     let overridden = view.overridden_keys(include);
     let Some(target) = view.included_module(include) else {
@@ -119,7 +119,7 @@ fn push_lacking<'v>(
     let provided = provided_keys(alloc, view, target)?;
     for (_, key) in overridden {
         if provided.binary_search(&key.as_str()).is_err() {
-            found.push(Found {
+            found.push(FurtherRefusal {
                 kind: Kind::Override,
                 module: view.name(include.room),
                 key: key.as_str(),
@@ -133,7 +133,7 @@ fn push_lacking<'v>(
 fn push_combined<'v>(
     view: &View<'_>,
     defined: &[Defined<'v>],
-    found: &mut Vec<Found<'v>>,
+    found: &mut Vec<FurtherRefusal<'v>>,
 ) -> Result<(), AllocError> {
     if group_of(defined, "").is_empty() {
         found.push(of_key(Kind::NoStart, ""))?;
@@ -153,7 +153,7 @@ fn push_group<'v>(
     view: &View<'_>,
     group: &[Defined<'v>],
     key: &'v str,
-    found: &mut Vec<Found<'v>>,
+    found: &mut Vec<FurtherRefusal<'v>>,
 ) -> Result<(), AllocError> {
     if is_plain_twice(view, group) {
         found.push(of_key(Kind::PlainTwice, key))?;
@@ -190,7 +190,7 @@ fn push_undefined<'v>(
     alloc: Global,
     view: &'v View<'_>,
     defined: &[Defined<'v>],
-    found: &mut Vec<Found<'v>>,
+    found: &mut Vec<FurtherRefusal<'v>>,
 ) -> Result<(), AllocError> {
     for one in defined {
         push_undefined_in(alloc, view, defined, one.site, found)?;
@@ -204,7 +204,7 @@ fn push_undefined_in<'v>(
     view: &'v View<'_>,
     defined: &[Defined<'v>],
     site: Site,
-    found: &mut Vec<Found<'v>>,
+    found: &mut Vec<FurtherRefusal<'v>>,
 ) -> Result<(), AllocError> {
     for (name, _) in uses(alloc, view, site)? {
         if group_of(defined, name).is_empty() {

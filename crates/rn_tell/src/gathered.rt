@@ -5,7 +5,7 @@ ghost use Rattle.rn_tell.specs.Messages.{IsFew};
 
 use crate::check_sentences::{check_sentence, is_of_meaning, place_at};
 use crate::fault_messages::{lift_message, lift_spot, reading_message, reading_spot};
-use crate::report::{Message, Page, Spot, Told, attempt_pages, source_pages};
+use crate::report::{Message, Messages, Page, Spot, attempt_pages, source_pages};
 use rn_files::{Reading, SourceFault, SourceFile};
 use rn_lift::LiftedModule;
 use rn_merge::{Place, check};
@@ -35,7 +35,11 @@ fn spot_of(fault: &Fault<'_>) -> Option<Spot> {
 }
 
 /// What is told of reading that failed: its faults, and those of what the texts mean.
-pub fn reading_told(alloc: Global, words: &[String], reading: &Reading) -> Result<Told, AllocError>
+pub fn reading_messages(
+    alloc: Global,
+    words: &[String],
+    reading: &Reading,
+) -> Result<Messages, AllocError>
     ensures { IfOk result IsFew }
 {
     let pages = attempt_pages(alloc, reading.files.as_slice())?;
@@ -44,17 +48,21 @@ pub fn reading_told(alloc: Global, words: &[String], reading: &Reading) -> Resul
         faults.push(Fault::Reading(fault))?;
     }
     gather_meanings(alloc, pages.as_slice(), &mut faults)?;
-    told_in_order(alloc, words, pages.as_slice(), faults.as_slice())
+    messages_in_order(alloc, words, pages.as_slice(), faults.as_slice())
 }
 
 /// What is told of lifting that failed: its fault, and those of what the texts mean.
-pub fn lift_told(alloc: Global, files: &[SourceFile], fault: &LiftFault) -> Result<Told, AllocError>
+pub fn lift_messages(
+    alloc: Global,
+    files: &[SourceFile],
+    fault: &LiftFault,
+) -> Result<Messages, AllocError>
     ensures { IfOk result IsFew }
 {
     let pages = source_pages(alloc, files)?;
     let mut faults = vec![in alloc; Fault::Lift(fault)]?;
     gather_meanings(alloc, pages.as_slice(), &mut faults)?;
-    told_in_order(alloc, &[], pages.as_slice(), faults.as_slice())
+    messages_in_order(alloc, &[], pages.as_slice(), faults.as_slice())
 }
 
 /// Adds the faults of what the texts mean.
@@ -83,15 +91,15 @@ fn fault_of(alloc: Global, text: &str) -> Result<Option<Place>, AllocError> {
 }
 
 /// Messages of the first faults in order.
-fn told_in_order(
+fn messages_in_order(
     alloc: Global,
     words: &[String],
     pages: &[Page<'_>],
     faults: &[Fault<'_>],
-) -> Result<Told, AllocError>
+) -> Result<Messages, AllocError>
     ensures { IfOk result IsFew }
 {
-    let mut told = Told::new(alloc);
+    let mut told = Messages::new(alloc);
     for number in telling_order(alloc, pages, faults)? {
         if told.is_full() {
             told.further = told.further.saturating_add(1);
@@ -162,11 +170,11 @@ fn message(
 
 /// What is told of modules whose texts are at fault, in the order of their names: the first one is the one that is refused.
 /// What comes from one place of a file is told once. Nothing where no text is at fault.
-pub fn texts_told(alloc: Global, modules: &[LiftedModule]) -> Result<Told, AllocError>
+pub fn text_messages(alloc: Global, modules: &[LiftedModule]) -> Result<Messages, AllocError>
     ensures { IfOk result IsFew }
 {
     let mut seen = BTreeSet::new(alloc);
-    let mut told = Told::new(alloc);
+    let mut told = Messages::new(alloc);
     for module in modules {
         if let Some(place) = fault_of(alloc, module.text.as_str())? {
             let origin = module.origin(place_at(&place));
@@ -181,7 +189,7 @@ pub fn texts_told(alloc: Global, modules: &[LiftedModule]) -> Result<Told, Alloc
 /// Adds the message of the fault of a module's text, or counts it.
 fn tell_text(
     alloc: Global,
-    told: &mut Told,
+    told: &mut Messages,
     module: &LiftedModule,
     origin: Option<(usize, usize)>,
     place: &Place,

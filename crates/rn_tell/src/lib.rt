@@ -1,6 +1,6 @@
 //! What is wrong with files, as sentences with their places: the faults of reading and lifting, and each refusal of a set.
 //!
-//! All faults are found, and [`MAX_TOLD`] of them told; a [`Message`] is a sentence at a byte of a file, and [`told_lines`] makes
+//! All faults are found, and [`MAX_TOLD`] of them told; a [`Message`] is a sentence at a byte of a file, and [`message_lines`] makes
 //! lines of messages, with the line of the file and a caret. Places come from what the modules are made of: a module is read
 //! again, and each place in it leads back to the file that it comes from.
 #![tactic(auto)]
@@ -18,9 +18,9 @@ mod sentences;
 mod sites;
 
 pub use fault_messages::{is_unread, set_message};
-pub use gathered::{lift_told, reading_told};
+pub use gathered::{lift_messages, reading_messages};
 pub use report::{
-    Colours, MAX_TOLD, Message, Page, SHOWN, Spot, Told, attempt_pages, push_printable,
-    source_pages, told_lines,
+    Colours, MAX_TOLD, Message, Messages, Page, SHOWN, Spot, attempt_pages, message_lines,
+    push_printable, source_pages,
 };
-pub use sentences::refusal_told;
+pub use sentences::refusal_messages;

@@ -46,29 +46,29 @@ pub struct Message {
 
 /// What is told.
 #[derive(Debug, Drop)]
-pub struct Told {
+pub struct Messages {
     /// At most [`MAX_TOLD`], in the order in which they are printed.
     pub messages: Vec<Message>,
     /// How many faults there are more.
     pub further: usize,
 }
 
-impl Told {
+impl Messages {
     /// Nothing.
-    pub fn new(alloc: Global) -> Told
+    pub fn new(alloc: Global) -> Messages
         ensures { vec_len result.messages ≡ 0 }
     {
-        Told {
+        Messages {
             messages: Vec::new(alloc),
             further: 0,
         }
     }
 
     /// One message. Refused only for want of memory.
-    pub fn of_message(alloc: Global, message: Message) -> Result<Told, AllocError>
+    pub fn of_message(alloc: Global, message: Message) -> Result<Messages, AllocError>
         ensures { IfOk result IsFew }
     {
-        let mut told = Told::new(alloc);
+        let mut told = Messages::new(alloc);
         told.messages.push(message)?;
         Ok(told)
     }
@@ -130,10 +130,10 @@ pub enum Colours {
 /// What is told, as lines: for each message `FILE:LINE:COLUMN: error: SENTENCE`, the line of the file, and a caret below the
 /// place; then a note that says how many faults are not told. A character that would control a terminal is shown as `?`. Of
 /// a line of more than [`SHOWN`] characters a part is shown.
-pub fn told_lines(
+pub fn message_lines(
     alloc: Global,
     pages: &[Page<'_>],
-    told: &Told,
+    told: &Messages,
     colours: Colours,
 ) -> Result<String, AllocError>
     ensures { IfOk result (λ lines. AreLines pages.now colours told.now (string_bytes lines)) }

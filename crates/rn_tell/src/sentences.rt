@@ -4,11 +4,11 @@ ghost use Rattle.rn_tell.specs.Messages.{IsFew};
 
 use crate::brought::{Component, Instance, components, instances, parting_includes, provided_keys};
 use crate::defined::{Defined, taking_part};
-use crate::further_refusals::{Found, Kind, has_method, refusals_behind};
-use crate::gathered::texts_told;
+use crate::further_refusals::{FurtherRefusal, Kind, has_method, refusals_behind};
+use crate::gathered::text_messages;
 use crate::general_sentences::general_sentence;
 use crate::loop_sites::{first_use, loop_of, loop_of_includes};
-use crate::report::{MAX_TOLD, Message, Page, Spot, Told, place_text, source_pages};
+use crate::report::{MAX_TOLD, Message, Messages, Page, Spot, place_text, source_pages};
 use crate::sites::{Site, View, include_around, include_of, key_of, key_text, view_of};
 use rn_assemble::Refusal;
 use rn_files::SourceFile;
@@ -33,15 +33,15 @@ type Placed = (Option<Spot>, String);
 /// What is told of modules that are refused. Where texts are at fault, it is the fault of each text; else the refusal, at the
 /// first place that it speaks of, and then those that would be answered once it is mended, of the kinds of which all can be
 /// found.
-pub fn refusal_told(
+pub fn refusal_messages(
     alloc: Global,
     files: &[SourceFile],
     lifted: &Lifted,
     refusal: &Refusal,
-) -> Result<Told, AllocError>
+) -> Result<Messages, AllocError>
     ensures { IfOk result IsFew }
 {
-    let told = texts_told(alloc, lifted.modules.as_slice())?;
+    let told = text_messages(alloc, lifted.modules.as_slice())?;
     if !told.messages.is_empty() {
         return Ok(told);
     }
@@ -61,10 +61,17 @@ pub fn refusal_told(
 }
 
 /// The messages of a refusal and of those behind it.
-fn tell(telling: &Telling<'_>, refusal: &Refusal, others: &[Found<'_>]) -> Result<Told, AllocError>
+fn tell(
+    telling: &Telling<'_>,
+    refusal: &Refusal,
+    others: &[FurtherRefusal<'_>],
+) -> Result<Messages, AllocError>
     ensures { IfOk result IsFew }
 {
-    let mut told = Told::of_message(telling.alloc, message_of(place_refusal(telling, refusal)?))?;
+    let mut told = Messages::of_message(
+        telling.alloc,
+        message_of(place_refusal(telling, refusal)?),
+    )?;
     for found in others {
         if told.is_full() {
             told.further = told.further.saturating_add(1);
@@ -103,7 +110,7 @@ fn place_refusal(telling: &Telling<'_>, refusal: &Refusal) -> Result<Placed, All
     }
 }
 
-fn place_found(telling: &Telling<'_>, found: Found<'_>) -> Result<Placed, AllocError> {
+fn place_found(telling: &Telling<'_>, found: FurtherRefusal<'_>) -> Result<Placed, AllocError> {
     match found.kind {
         Kind::Override => unfounded_override(telling, found.module, found.key),
         Kind::PlainTwice => plain_twice(telling, found.key),

@@ -1,6 +1,6 @@
 use Rattle.std.proofs.Common.{take, string_bytes}
 use Rattle.rn_tell.specs.Messages.{AreMessageTexts}
-use Rattle.rn_tell.proofs.report.told_lines.Given as goal
+use Rattle.rn_tell.proofs.report.message_lines.Given as goal
 
 -- the lines of the messages so far
 abbrev pub invariant-loop-message : goal.invariant-loop-message

@@ -1,5 +1,5 @@
 use Rattle.rn_tell.proofs.Texts.{next_text}
-use Rattle.rn_tell.proofs.report.told_lines.Goals as goal
+use Rattle.rn_tell.proofs.report.message_lines.Goals as goal
 
 pub loop-message-preserved : goal.loop-message-preserved
 loop-message-preserved c =
