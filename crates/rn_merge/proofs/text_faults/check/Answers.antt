@@ -17,4 +17,4 @@ pub returns-clause-ok : goal.returns-clause-ok
 returns-clause-ok c =
     let h = subst (λ (l : List Token). IsUtf8 c.args.text.now × HasTokens (chars c.args.text.now) (map lexeme_of l)) (sym c.as_slice.ensures.value) c.in_ok-tokens.ensures in
     let t = tokens_of c.args.text.now c.as_slice.result.now h in
-    (c.as_slice.result.now, module_view c.in_ok-parse.field-0, t, c.in_ok-parse.ensures.shallow, c.in_ok-parse.ensures.tree t.spelled, c.in_ok-parse.ensures.sound)
+    (c.as_slice.result.now, module_view c.in_ok-parse.field-0, t, c.in_ok-parse.ensures.shallow, c.in_ok-parse.ensures.tree t.are_spelled, c.in_ok-parse.ensures.sound)
