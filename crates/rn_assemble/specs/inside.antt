@@ -4,6 +4,7 @@ pub mod Bound
 pub mod Checked
 pub mod Contained
 pub mod Expanded
+pub mod Held
 pub mod Included
 pub mod Inclusions
 pub mod Instances

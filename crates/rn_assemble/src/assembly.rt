@@ -15,14 +15,15 @@ ghost use Rattle.rn_assemble.specs.inside.Sound.{HasSoundReferences, IsUnsound};
 ghost use Rattle.rn_assemble.specs.inside.Views.{AreInOrder, modules_view, names_of};
 ghost use Rattle.rn_assemble.specs.inside.Listed.{OfKeys};
 
-use crate::components::{Components, Lack, components_of};
+use crate::components::{Components, Lack};
 use crate::contents::contents_of;
 use crate::definitions::grammar;
+use crate::expanding::components_of;
 use crate::grammar::Grammar;
 use crate::inclusion::included_roots;
 use crate::joined_grammar::Joined;
 use crate::keys::{Keys, START};
-use crate::known_uris::KnownUris;
+use crate::known::Known;
 use crate::named_modules::{NamedModule, read_modules};
 use crate::references::{least_recursive, references_of};
 use crate::refusal::Refusal;
@@ -58,7 +59,7 @@ fn assemble_modules<'s>(
 {
     let roots = included_roots(alloc, modules)?;
     let keys = Keys::new(alloc, modules, seed)?;
-    let known = KnownUris::new(alloc)?;
+    let known = Known::new(alloc)?;
     let contents = contents_of(alloc, modules, &keys, &known)?;
     let components = components_of(
         alloc,

@@ -1,24 +1,18 @@
-// The components of a set: includes replaced by what they include, without what they override.
-ghost use Rattle.std.specs.Prelude.{◌≡◌, IsTrue, ℕ, suc, ◌+◌, ◌-◌, ◌<◌, ◌≤◌, ◌==◌, not, List, [], ◌∷◌, ◌++◌, map, flat_map, filter, length, vec_len, slice_get, slice_index_or, Contains, IfOk, IfSome, option_copied};
+// The components of a set: bodies, which of them stand in the list, and where those of each key stand.
+ghost use Rattle.std.specs.Prelude.{◌≡◌, IsTrue, ℕ, ◌+◌, ◌-◌, ◌<◌, ◌≤◌, ◌==◌, not, List, [], ◌∷◌, ◌++◌, map, filter, length, vec_len, slice_get, slice_index_or, Contains, IfOk, IfSome, option_copied};
 ghost use Rattle.std.specs.List.{AllByRecursion};
 ghost use Rattle.std.specs.Rc.{rc_str_bytes};
-ghost use Rattle.std.specs.List.Sorted.{IsStrictlySortedBy};
-ghost use Rattle.rn_text.specs.Texts.{Text, text_cmp};
+ghost use Rattle.rn_text.specs.Texts.{Text};
 ghost use Rattle.rn_pattern.specs.Graph.{row};
 ghost use Rattle.rn_syntax.specs.Tree.{Declaration};
 ghost use Rattle.rn_assemble.specs.Components as specs;
-ghost use Rattle.rn_assemble.specs.inside.Expanded.{AddsLive, CanAdd, ContextsHold, Enters, Expands, IsItem, IsListed, KeepsBodies, KeepsLists, OfExpanding, OfIncluding, OfRoots, brought_in, left_by, name_at, own_components};
-ghost use Rattle.rn_assemble.specs.inside.Keyed.{key_at};
-ghost use Rattle.rn_assemble.specs.inside.Lacking.{IsLeastLack, LacksFrom, LacksWithin};
-ghost use Rattle.rn_assemble.specs.inside.Listed.{AreBefore, IsBody, Lists, Live, Rises, components_in, resolved_between};
-ghost use Rattle.rn_assemble.specs.inside.Noting.{AtNumbers, InclusionLacks, IsOwnLack, Notes};
+ghost use Rattle.rn_assemble.specs.inside.Expanded.{AddsLive, CanAdd, ContextsHold, Enters, IsItem, KeepsBodies, KeepsLists};
+ghost use Rattle.rn_assemble.specs.inside.Listed.{AreBefore, IsBody, Lists, Live, Rises, resolved_between};
 ghost use Rattle.rn_assemble.specs.inside.Tied.{body_of};
-ghost use Rattle.rn_assemble.specs.inside.Views.{IsNumbered, inclusion_view, written_view};
 
-use crate::contents::{Component, Contents, Include};
+use crate::contents::{Component, Contents};
 use crate::context::Context;
-use crate::instances::INSTANCE_LIMIT;
-use crate::known_uris::KnownUris;
+use crate::numbers::Numbers;
 use crate::runs::Runs;
 use std::alloc::{AllocError, Global};
 use std::rc::RcStr;
@@ -71,134 +65,22 @@ pub(crate) struct Components<'c, 't, 's> {
     /// The body of each component, also of those that an include has overridden.
     list: Runs,
     /// Of each key, the places of its components, without the overridden ones.
-    places: Vec<Runs>,
+    places: Vec<Numbers>,
     /// The least override of what isn't there.
     pub lack: Option<Lack>,
 }
 
-/// The components of these modules, in turn, under the empty namespace.
-pub(crate) fn components_of<'c, 't, 's>(
-    alloc: Global,
-    contents: &'c [Contents<'t, 's>],
-    known: &'c KnownUris,
-    roots: &[usize],
-    keys: usize,
-) -> Result<Components<'c, 't, 's>, AllocError>
-    ensures listed { OfRoots contents.now keys roots.now
-        (λ modules names. IfOk result (λ components. IsListed names components
-        (flat_map (λ r. specs.components modules (name_at modules r) []) roots.now))) }
-    ensures lacks { OfRoots contents.now keys roots.now
-        (λ modules names. IfOk result (λ components. IsLeastLack modules names
-        (LacksFrom modules roots.now) components.lack)) }
-{
-    let mut components = Components::new(alloc, keys)?;
-    for root in roots {
-        expand(
-            &mut components,
-            contents,
-            *root,
-            &known.none,
-            INSTANCE_LIMIT + 1,
-        )?;
-    }
-    Ok(components)
-}
-
-/// Adds the components of a module, with includes followed fewer than `depth` times one inside the other.
-#[cycle(expand)]
-fn expand<'c, 't, 's>(
-    components: &mut Components<'c, 't, 's>,
-    contents: &'c [Contents<'t, 's>],
-    module: usize,
-    inherited: &'c RcStr,
-    depth: usize,
-) -> Result<(), AllocError>
-    ensures expands { OfExpanding contents.now components.old
-        (λ modules names live. «module» < length modules
-        → IfOk result (λ _. Expands names contents.now components.old components.new live
-        (specs.components_within depth modules (name_at modules «module»)
-        (rc_str_bytes inherited.now)))) }
-    ensures lacks { OfExpanding contents.now components.old
-        (λ modules names live. «module» < length modules
-        → IfOk result (λ _. Notes (AtNumbers modules names
-        (LacksWithin depth modules (name_at modules «module») (rc_str_bytes inherited.now)))
-        components.old.lack components.new.lack)) }
-{
-    if depth == 0 {
-        return Ok(());
-    }
-    let Some(content) = contents.get(module) else {
-        return Ok(());
-    };
-    let context = Context {
-        bindings: &content.bindings,
-        inherited,
-    };
-    let first = components.enter(content, module, context)?;
-    let mut next = 0;
-    'includes: for include in &content.includes {
-        components.add(content, first, next, include.from)?;
-        expand_include(
-            components,
-            contents,
-            content,
-            module,
-            context,
-            include,
-            depth - 1,
-        )?;
-        next = include.from;
-    }
-    components.add(content, first, next, content.components.len())
-}
-
-/// Adds the components of an included module without those that the include's own components override.
-#[cycle(expand)]
-fn expand_include<'c, 't, 's>(
-    components: &mut Components<'c, 't, 's>,
-    contents: &'c [Contents<'t, 's>],
-    content: &Contents<'t, 's>,
-    module: usize,
-    context: Context<'c, 't>,
-    include: &Include<'t>,
-    depth: usize,
-) -> Result<(), AllocError>
-    ensures expands { OfIncluding contents.now components.old content.now include.now
-        (λ modules names live ds. context.entry.bindings.now ≡ content.now.bindings
-        → IfOk result (λ _. Expands names contents.now components.old components.new live
-        (specs.without_overridden (brought_in depth modules
-        (rc_str_bytes context.entry.inherited.now) ds include.now)
-        (resolved_between names content.now (rc_str_bytes context.entry.inherited.now) ds
-        include.now.from include.now.to)))) }
-    ensures lacks { OfIncluding contents.now components.old content.now include.now
-        (λ modules names live ds. context.entry.bindings.now ≡ content.now.bindings
-        → «module» < length modules → IfOk result (λ _. Notes (AtNumbers modules names
-        (InclusionLacks depth modules (name_at modules «module»)
-        (rc_str_bytes context.entry.inherited.now) ds
-        (map (written_view names) content.now.components.items) (inclusion_view include.now)))
-        components.old.lack components.new.lack)) }
-{
-    let before = components.list.len();
-    if let Some(included) = include.module {
-        let inherited = context.handed_on(include.inherit);
-        expand(components, contents, included, inherited, depth)?;
-    }
-    components.note_lacks(before, module, content, include);
-    components.take_out(before, content, include);
-    Ok(())
-}
-
 impl<'c, 't, 's> Components<'c, 't, 's> {
     /// No components, of that many keys.
-    fn new(alloc: Global, keys: usize) -> Result<Components<'c, 't, 's>, AllocError>
+    pub fn new(alloc: Global, keys: usize) -> Result<Components<'c, 't, 's>, AllocError>
         ensures contexts { IfOk result (λ components. components.contexts.items ≡ []) }
         ensures lists { (names : List Text) → keys ≡ length names + 1
             → IfOk result (λ components. Lists names components []) }
         ensures lack { IfOk result (λ components. components.lack ≡ None) }
     {
-        let mut places = Vec::new(alloc);
+        let mut places = Vec::with_capacity(alloc, keys)?;
         for _ in 0..keys {
-            places.push(Runs::new(alloc))?;
+            places.push(Numbers::new(alloc))?;
         }
         Ok(Components {
             contexts: Vec::new(alloc),
@@ -210,7 +92,7 @@ impl<'c, 't, 's> Components<'c, 't, 's> {
     }
 
     /// The number of the first body of a module in this context. The bodies are made when it is met first.
-    fn enter(
+    pub fn enter(
         &mut self,
         content: &'c Contents<'t, 's>,
         module: usize,
@@ -273,7 +155,7 @@ impl<'c, 't, 's> Components<'c, 't, 's> {
     }
 
     /// Adds the components of those numbers.
-    fn add(
+    pub fn add(
         &mut self,
         content: &Contents<'t, 's>,
         first: usize,
@@ -323,55 +205,6 @@ impl<'c, 't, 's> Components<'c, 't, 's> {
         Ok(())
     }
 
-    /// Notes the keys of the include's own components of which no component was added since a place.
-    fn note_lacks(
-        &mut self,
-        before: usize,
-        module: usize,
-        content: &Contents<'t, 's>,
-        include: &Include<'t>,
-    )
-        ensures kept { KeepsBodies self.old self.new }
-        ensures list { self.new.list ≡ self.old.list }
-        ensures places { self.new.places ≡ self.old.places }
-        ensures noted { (names : List Text) (live added : List Live)
-            → Lists names self.old (live ++ added) → IsStrictlySortedBy text_cmp names
-            → AreBefore before live → Rises before added
-            → AllByRecursion (IsNumbered names) content.now.components.items
-            → include.now.from ≤ include.now.to
-            → include.now.to ≤ length content.now.components.items
-            → Notes (IsOwnLack names «module» (own_components content.now include.now)
-            (components_in added)) self.old.lack self.new.lack }
-    {
-        for number in include.from..include.to {
-            if let Some(component) = content.components.get(number) {
-                let key = component.key;
-                if !self.has_since(before, key) {
-                    self.note_lack(Lack { module, key });
-                }
-            }
-        }
-    }
-
-    /// Takes out the components added since a place whose keys the include's own components have.
-    fn take_out(&mut self, before: usize, content: &Contents<'t, 's>, include: &Include<'t>)
-        ensures kept { KeepsBodies self.old self.new }
-        ensures list { self.new.list ≡ self.old.list }
-        ensures lack { self.new.lack ≡ self.old.lack }
-        ensures taken { (names : List Text) (live added : List Live)
-            → Lists names self.old (live ++ added) → AreBefore before live → Rises before added
-            → include.now.from ≤ include.now.to
-            → include.now.to ≤ length content.now.components.items
-            → Lists names self.new
-            (live ++ left_by (own_components content.now include.now) added) }
-    {
-        for number in include.from..include.to {
-            if let Some(component) = content.components.get(number) {
-                self.take_out_since(before, component.key);
-            }
-        }
-    }
-
     /// How many components a key has.
     pub fn count_of(&self, key: usize) -> usize
         ensures { result ≡ length (row self.now.places.items key) }
@@ -398,28 +231,15 @@ impl<'c, 't, 's> Components<'c, 't, 's> {
     }
 
     /// The place of the last component of a key.
-    fn last_of(&self, key: usize) -> Option<usize>
+    pub fn last_of(&self, key: usize) -> Option<usize>
         ensures { result ≡ slice_get (row self.now.places.items key)
             (length (row self.now.places.items key) - 1) }
     {
         self.places.get(key)?.last()
     }
 
-    /// Whether a component of the key was added since a place.
-    fn has_since(&self, before: usize, key: usize) -> bool
-        ensures { (names : List Text) (live added : List Live)
-            → Lists names self.now (live ++ added) → IsStrictlySortedBy text_cmp names
-            → AreBefore before live → Rises before added → key < suc (length names)
-            → result ≡ specs.has_key (key_at names key) (components_in added) }
-    {
-        match self.last_of(key) {
-            Some(place) => before <= place,
-            None => false,
-        }
-    }
-
     /// Takes out the components of a key that were added since a place.
-    fn take_out_since(&mut self, before: usize, key: usize)
+    pub fn take_out_since(&mut self, before: usize, key: usize)
         ensures kept { KeepsBodies self.old self.new }
         ensures list { self.new.list ≡ self.old.list }
         ensures lack { self.new.lack ≡ self.old.lack }
@@ -459,23 +279,10 @@ impl<'c, 't, 's> Components<'c, 't, 's> {
     {
         self.list.get(place, near)
     }
-
-    /// Keeps the least lack.
-    fn note_lack(&mut self, lack: Lack)
-        ensures kept { KeepsBodies self.old self.new }
-        ensures list { self.new.list ≡ self.old.list }
-        ensures places { self.new.places ≡ self.old.places }
-        ensures noted { Notes (λ l. l ≡ lack) self.old.lack self.new.lack }
-    {
-        match &self.lack {
-            Some(held) if *held <= lack => {}
-            _ => self.lack = Some(lack),
-        }
-    }
 }
 
 /// Takes out the places from a place on, at the end of a list that rises.
-fn pop_since(places: &mut Runs, before: usize)
+fn pop_since(places: &mut Numbers, before: usize)
     ensures { (xs ys : List ℕ) → places.old ≡ xs ++ ys → AllByRecursion (λ x. x < before) xs
         → AllByRecursion (λ y. before ≤ y) ys → places.new ≡ xs }
 {

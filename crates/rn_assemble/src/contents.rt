@@ -11,7 +11,7 @@ ghost use Rattle.rn_assemble.specs.inside.Views.{AreInOrder, AddsComponents, Add
 use crate::declared_uris::DeclaredUris;
 use crate::inclusion::module_named;
 use crate::keys::{Keys, START};
-use crate::known_uris::KnownUris;
+use crate::known::Known;
 use crate::named_modules::NamedModule;
 use rn_syntax::{Item, Method, Pat, Prefix};
 use std::alloc::{AllocError, Global};
@@ -47,7 +47,7 @@ pub(crate) fn contents_of<'t, 's>(
     alloc: Global,
     modules: &'t [NamedModule<'s>],
     keys: &Keys<'s>,
-    known: &KnownUris,
+    known: &Known,
 ) -> Result<Vec<Contents<'t, 's>>, AllocError>
     requires modules_in_order { AreInOrder modules.now }
     requires names { AreNames (modules_view modules.now) (names_of keys.now) }
@@ -66,7 +66,7 @@ fn contents_of_module<'t, 's>(
     alloc: Global,
     modules: &[NamedModule<'s>],
     keys: &Keys<'s>,
-    known: &KnownUris,
+    known: &Known,
     module: &'t NamedModule<'s>,
 ) -> Result<Contents<'t, 's>, AllocError>
     requires keys_in_order { IsStrictlySortedBy text_cmp (names_of keys.now) }
@@ -140,15 +140,11 @@ fn gather_item<'t, 's>(
         }
         Item::Start { method, body } => push_component(contents, keys, START, *method, body),
         Item::Div(items) => gather(contents, modules, keys, items),
-        Item::Include {
-            wanted,
-            inherit,
-            items,
-        } => {
+        Item::Include(include) => {
             let from = contents.components.len();
-            gather(contents, modules, keys, items)?;
-            let module = module_named(modules, wanted);
-            push_include(contents, module, *inherit, from)
+            gather(contents, modules, keys, &include.items)?;
+            let module = module_named(modules, &include.wanted);
+            push_include(contents, module, include.inherit, from)
         }
     }
 }

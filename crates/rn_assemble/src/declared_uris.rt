@@ -6,7 +6,7 @@ ghost use Rattle.rn_syntax.specs.Places.{uri_of};
 ghost use Rattle.rn_syntax.specs.View.{declaration_view, uri_view};
 ghost use Rattle.rn_assemble.specs.inside.Shared.{shared_uri};
 
-use crate::known_uris::KnownUris;
+use crate::known::Known;
 use rn_syntax::{Bindings, Declaration, Uri};
 use std::alloc::{AllocError, Global};
 use std::rc::RcStr;
@@ -23,7 +23,7 @@ pub(crate) enum SharedUri {
 pub(crate) struct DeclaredUris<'t> {
     pub numbers: Bindings<'t, 't>,
     pub uris: Vec<SharedUri>,
-    pub known: KnownUris,
+    pub known: Known,
     ghost uris_are: { map shared_uri uris.items ≡ map uri_of (bound numbers) },
 }
 
@@ -35,7 +35,7 @@ impl<'t> DeclaredUris<'t> {
     pub fn new(
         alloc: Global,
         declarations: &'t [Declaration<'t>],
-        known: &KnownUris,
+        known: &Known,
     ) -> Result<DeclaredUris<'t>, AllocError>
         ensures { IfOk result (λ b. BindsAs b (map declaration_view declarations.now)) }
     {

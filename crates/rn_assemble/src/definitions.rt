@@ -2,13 +2,12 @@
 ghost use Rattle.std.specs.Prelude.{◌≡◌, ◌∷◌, ◌++◌, List, [], None, false, true, bytes_eq, map, slice_index_or, slice_set, IfOk, MatchResult, OnOk};
 ghost use Rattle.std.specs.List.{list_any};
 ghost use Rattle.std.specs.List.Sorted.{IsStrictlySortedBy};
-ghost use Rattle.rn_pattern.specs.Graph.{rows_of};
 ghost use Rattle.rn_pattern.specs.Tree.{Tree};
 ghost use Rattle.rn_text.specs.Texts.{Text, text_cmp};
 ghost use Rattle.rn_assemble.specs.Combine.{joined_grammar};
 ghost use Rattle.rn_assemble.specs.Components.{has_key, start_key};
 ghost use Rattle.rn_assemble.specs.DefinitionsView.{definitions_view};
-ghost use Rattle.rn_assemble.specs.inside.Tied.{HaveTied};
+ghost use Rattle.rn_assemble.specs.inside.Tied.{HaveTied, firsts_of};
 ghost use Rattle.rn_assemble.specs.inside.Joining.{HasStart, IsJoinedGrammar, IsMisnamed};
 ghost use Rattle.rn_assemble.specs.inside.Listed.{Lists, Live, OfKeys};
 ghost use Rattle.rn_assemble.specs.inside.Patterns.{HavePatterns, IsFirstAt};
@@ -61,7 +60,7 @@ fn definitions(
 ) -> Result<(Definitions, Vec<Vec<u32>>), AllocError>
     ensures { OfKeys keys.now components.now
         (λ names cs. HavePatterns names cs [] patterns.old.items
-        → IfOk result (λ made. HaveTied (rows_of made.1.items) (definitions_view made.0.entries)
+        → IfOk result (λ made. HaveTied (firsts_of made.1.items) (definitions_view made.0.entries)
         × (definitions_view made.0.entries ≡ (joined_grammar cs).definitions))) }
 {
     let mut defs = IndexMap::with_hasher(alloc, *seed);

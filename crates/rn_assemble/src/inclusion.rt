@@ -14,7 +14,7 @@ use crate::instances::{INSTANCE_LIMIT, instances_up_to};
 use crate::named_modules::NamedModule;
 use crate::references::lesser_name;
 use crate::refusal::Refusal;
-use rn_pattern::graph::row_at;
+use rn_pattern::Rows;
 use rn_pattern::ranks::least_looped;
 use rn_syntax::includes;
 use std::alloc::{AllocError, Global};
@@ -30,15 +30,14 @@ pub(crate) fn included_roots(
     ensures { MatchResult result (λ roots. AreIncluded (modules_view modules.now) roots.items)
         (IsFirstOfModules (modules_view modules.now)) }
 {
-    let inclusions = inclusions(alloc, modules)?;
-    let rows = inclusions.as_slice();
-    if let Some(module) = least_looped(alloc, rows)? {
+    let rows = inclusions(alloc, modules)?;
+    if let Some(module) = least_looped(alloc, &rows)? {
         return Err(Refusal::Cycle {
             module: String::from_str(alloc, modules[module].name)?,
         });
     }
-    let roots = roots(alloc, rows)?;
-    if has_too_many_instances(rows, roots.as_slice()) {
+    let roots = roots(alloc, &rows)?;
+    if has_too_many_instances(&rows, roots.as_slice()) {
         return Err(Refusal::Instances);
     }
     Ok(roots)
@@ -58,13 +57,13 @@ pub(crate) fn module_named(modules: &[NamedModule<'_>], name: &str) -> Option<us
 
 /// For each module, the modules that its includes name. `Missing` names the least module with an include of none, and
 /// the least literal of such an include.
-fn inclusions(alloc: Global, modules: &[NamedModule<'_>]) -> Result<Vec<Vec<usize>>, Refusal>
+fn inclusions(alloc: Global, modules: &[NamedModule<'_>]) -> Result<Rows, Refusal>
     requires { AreInOrder modules.now }
     ensures { MatchResult result
-        (λ rows. AreInclusions (modules_view modules.now) (rows_of rows.items))
+        (λ rows. AreInclusions (modules_view modules.now) (rows_of rows))
         (IsFirstOfModules (modules_view modules.now)) }
 {
-    let mut rows = Vec::new(alloc);
+    let mut rows = Rows::new(alloc);
     for module in modules {
         let wanted = includes(alloc, &module.tree)?;
         if let Some(literal) = least_missing(modules, wanted.as_slice()) {
@@ -73,7 +72,8 @@ fn inclusions(alloc: Global, modules: &[NamedModule<'_>]) -> Result<Vec<Vec<usiz
                 wanted: String::from_str(alloc, literal)?,
             });
         }
-        rows.push(included_modules(alloc, modules, wanted.as_slice())?)?;
+        let included = included_modules(alloc, modules, wanted.as_slice())?;
+        rows.push_row(&included)?;
     }
     Ok(rows)
 }
@@ -113,7 +113,7 @@ fn included_modules(
 }
 
 /// The modules that no module includes.
-fn roots(alloc: Global, rows: &[Vec<usize>]) -> Result<Vec<usize>, AllocError>
+fn roots(alloc: Global, rows: &Rows) -> Result<Vec<usize>, AllocError>
     requires { IsGraph (rows_of rows.now) }
     ensures { IfOk result (λ roots. roots.items ≡ entries (rows_of rows.now)) }
 {
@@ -129,15 +129,15 @@ fn roots(alloc: Global, rows: &[Vec<usize>]) -> Result<Vec<usize>, AllocError>
 }
 
 /// For each module, whether some module includes it.
-fn included_marks(alloc: Global, rows: &[Vec<usize>]) -> Result<Vec<bool>, AllocError>
+fn included_marks(alloc: Global, rows: &Rows) -> Result<Vec<bool>, AllocError>
     requires { IsGraph (rows_of rows.now) }
-    ensures size { IfOk result (λ marks. vec_len marks ≡ length rows.now) }
+    ensures size { IfOk result (λ marks. vec_len marks ≡ length (rows_of rows.now)) }
     ensures exact { IfOk result (λ marks. (x : ℕ)
         → is_marked marks.items x ≡ list_any (λ y. x == y) (concat (rows_of rows.now))) }
 {
     let mut marks = vec![in alloc; false; rows.len()]?;
     for includer in 0..rows.len() {
-        mark_row(&mut marks, row_at(rows, includer));
+        mark_row(&mut marks, rows.row(includer));
     }
     Ok(marks)
 }
@@ -155,9 +155,9 @@ fn mark_row(included: &mut Vec<bool>, row: &[usize])
 }
 
 /// Whether the roots have more instances than a set may have. The count stops there.
-fn has_too_many_instances(rows: &[Vec<usize>], roots: &[usize]) -> bool
+fn has_too_many_instances(rows: &Rows, roots: &[usize]) -> bool
     requires graph { IsGraph (rows_of rows.now) }
-    requires within { AllBelow (length rows.now) roots.now }
+    requires within { AllBelow (length (rows_of rows.now)) roots.now }
     ensures { (depth : ℕ) → INSTANCE_LIMIT < depth
         → (IsTrue result
         ↔ (INSTANCE_LIMIT < sum_by (instances_of depth (rows_of rows.now)) roots.now)) }

@@ -1,9 +1,8 @@
 // The grammar to which components are joined.
-ghost use Rattle.rn_pattern.specs.Graph.{rows_of};
 ghost use Rattle.rn_pattern.specs.View.{pattern_view};
 ghost use Rattle.rn_assemble.specs.DefinitionsView.{definitions_view};
 ghost use Rattle.rn_assemble.specs.Firsts.{joined_members};
-ghost use Rattle.rn_assemble.specs.inside.Tied.{AreTied, HaveTied, AreTied-prop, HaveTied-prop};
+ghost use Rattle.rn_assemble.specs.inside.Tied.{AreTied, HaveTied, AreTied-prop, HaveTied-prop, firsts_of};
 
 use indexmap::IndexMap;
 use rn_pattern::{Pattern, Seed};
@@ -22,5 +21,5 @@ pub(crate) struct Joined {
     /// The same for each definition.
     pub firsts: Vec<Vec<u32>>,
     ghost start_tied: { AreTied start_firsts.items (joined_members (pattern_view start)) } by { AreTied-prop start_firsts.items (joined_members (pattern_view start)) },
-    ghost tied: { HaveTied (rows_of firsts.items) (definitions_view defs.entries) } by { HaveTied-prop (rows_of firsts.items) (definitions_view defs.entries) },
+    ghost tied: { HaveTied (firsts_of firsts.items) (definitions_view defs.entries) } by { HaveTied-prop (firsts_of firsts.items) (definitions_view defs.entries) },
 }

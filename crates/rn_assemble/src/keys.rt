@@ -119,6 +119,7 @@ fn insert_item_names<'s>(
             Ok(())
         }
         Item::Start { .. } => Ok(()),
-        Item::Div(items) | Item::Include { items, .. } => insert_names(items, names),
+        Item::Div(items) => insert_names(items, names),
+        Item::Include(include) => insert_names(&include.items, names),
     }
 }

@@ -6,6 +6,7 @@ ghost use Rattle.rn_pattern.specs.Tree as tree;
 ghost use Rattle.rn_pattern.specs.Tree.{trees_of};
 ghost use Rattle.rn_pattern.specs.View.{parameters_view, pattern_view, shared_view, boxed_view};
 
+use crate::known::Known;
 use rn_pattern::{Data, Pattern, Value};
 use std::alloc::{AllocError, Global};
 use std::rc::{Rc, RcStr};
@@ -115,17 +116,30 @@ pub(crate) fn reference(alloc: Global, name: &str) -> Result<Pattern, AllocError
     Ok(Pattern::Ref(copy_text(alloc, name)?))
 }
 
+/// The pattern, to be a member of a list. All that are `empty` share one, and so do all that are `text`.
+pub(crate) fn new_member(
+    alloc: Global,
+    known: &Known,
+    pattern: Pattern,
+) -> Result<Rc<Pattern>, AllocError>
+    ensures { IfOk result (λ p. shared_view p ≡ pattern_view pattern) }
+{
+    match pattern {
+        Pattern::Empty => known.empty(),
+        Pattern::Text => known.text(),
+        other => new_shared(alloc, other),
+    }
+}
+
 /// The two patterns as the members of a list.
 fn pair_members(
     alloc: Global,
-    first: Pattern,
-    second: Pattern,
+    first: Rc<Pattern>,
+    second: Rc<Pattern>,
 ) -> Result<Vec<Rc<Pattern>>, AllocError>
     ensures { IfOk result (λ v. trees_of (map shared_view v.items)
-        ≡ pair (pattern_view first) (pattern_view second)) }
+        ≡ pair (shared_view first) (shared_view second)) }
 {
-    let first = new_shared(alloc, first)?;
-    let second = new_shared(alloc, second)?;
     let mut members = Vec::with_capacity(alloc, 2)?;
     members.push(first)?;
     members.push(second)?;
@@ -151,17 +165,29 @@ pub(crate) fn choice(members: Vec<Rc<Pattern>>) -> Pattern
 }
 
 /// The choice of the pattern and empty.
-pub(crate) fn optional_pattern(alloc: Global, content: Pattern) -> Result<Pattern, AllocError>
+pub(crate) fn optional_pattern(
+    alloc: Global,
+    known: &Known,
+    content: Pattern,
+) -> Result<Pattern, AllocError>
     ensures { IfOk result (λ p. pattern_view p
         ≡ tree.choice (pair (pattern_view content) tree.empty)) }
 {
-    Ok(choice(pair_members(alloc, content, Pattern::Empty)?))
+    let content = new_member(alloc, known, content)?;
+    let empty = known.empty()?;
+    Ok(choice(pair_members(alloc, content, empty)?))
 }
 
 /// The interleave of the pattern and text.
-pub(crate) fn mixed_pattern(alloc: Global, content: Pattern) -> Result<Pattern, AllocError>
+pub(crate) fn mixed_pattern(
+    alloc: Global,
+    known: &Known,
+    content: Pattern,
+) -> Result<Pattern, AllocError>
     ensures { IfOk result (λ p. pattern_view p
         ≡ tree.interleave (pair (pattern_view content) tree.text)) }
 {
-    Ok(interleave(pair_members(alloc, content, Pattern::Text)?))
+    let content = new_member(alloc, known, content)?;
+    let text = known.text()?;
+    Ok(interleave(pair_members(alloc, content, text)?))
 }

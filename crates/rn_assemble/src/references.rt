@@ -1,5 +1,5 @@
 // References, what is reached by them, and loops.
-ghost use Rattle.std.specs.Prelude.{◌≡◌, ℕ, ◌+◌, ◌<◌, List, [], ◌∷◌, length, if◌then◌else◌, ◌++◌, vec_len, map, option_map, is_some, MatchResult, IfOk, IfSome, OnOk};
+ghost use Rattle.std.specs.Prelude.{◌≡◌, ◌+◌, ◌<◌, List, [], ◌∷◌, length, ◌++◌, vec_len, map, option_map, is_some, MatchResult, IfOk, OnOk};
 ghost use Rattle.std.specs.List.Sorted.{IsStrictlySortedBy};
 ghost use Rattle.rn_text.specs.Texts.{Text, text_cmp};
 ghost use Rattle.rn_pattern.specs.References.{IsUndefined};
@@ -12,13 +12,14 @@ ghost use Rattle.rn_assemble.specs.inside.Keyed.{IsFound};
 ghost use Rattle.rn_assemble.specs.inside.Referred.{AreAllReferences, AreBodiesAt, AreNumbers, IsFresh, IsLeastRecursive, IsLeastUndefined, IsLooked, KeepsLeast, all_references, lesser_text, names_within, number_within, reference_view, references, references_in};
 ghost use Rattle.rn_assemble.specs.inside.Views.{names_of};
 ghost use Rattle.rn_pattern.specs.Matching.{definition_of};
-ghost use Rattle.rn_pattern.specs.Graph.{AllBelow, IsGraph, is_marked, row, rows_of};
+ghost use Rattle.rn_pattern.specs.Graph.{AllBelow, IsGraph, row, rows_of};
 ghost use Rattle.rn_assemble.specs.inside.Listed.{Lists, Live, OfKeys, components_in};
 
 use crate::components::{Components, Near};
 use crate::keys::{Keys, START};
 use crate::refusal::Refusal;
-use rn_pattern::graph::{reached_nodes, row_at};
+use rn_pattern::Rows;
+use rn_pattern::graph::{marked_rows, reached_nodes};
 use rn_pattern::ranks::least_looped;
 use rn_syntax::Pat;
 use std::alloc::{AllocError, Global};
@@ -42,8 +43,8 @@ struct Reference<'s> {
 /// Of each key, the keys that its components refer to, and those that they refer to outside elements.
 #[derive(Drop)]
 pub(crate) struct References {
-    all: Vec<Vec<usize>>,
-    outer: Vec<Vec<usize>>,
+    all: Rows,
+    outer: Rows,
 }
 
 /// The keys that a key's components refer to, and those that they refer to outside elements.
@@ -59,19 +60,20 @@ pub(crate) fn references_of<'s>(
     keys: &Keys<'s>,
     components: &Components<'_, '_, 's>,
 ) -> Result<References, Refusal>
-    ensures all { IfOk result (λ r. IsGraph (rows_of r.all.items)) }
-    ensures all_size { IfOk result (λ r. vec_len r.all ≡ length (names_of keys.now) + 1) }
-    ensures outer { IfOk result (λ r. IsGraph (rows_of r.outer.items)) }
-    ensures outer_size { IfOk result (λ r. vec_len r.outer ≡ length (names_of keys.now) + 1) }
+    ensures all { IfOk result (λ r. IsGraph (rows_of r.all)) }
+    ensures all_size { IfOk result (λ r. length (rows_of r.all) ≡ length (names_of keys.now) + 1) }
+    ensures outer { IfOk result (λ r. IsGraph (rows_of r.outer)) }
+    ensures outer_size { IfOk result (λ r. length (rows_of r.outer)
+        ≡ length (names_of keys.now) + 1) }
     ensures found { OfKeys keys.now components.now
         (λ names cs. MatchResult result
-        (λ r. AreAllReferences names cs (rows_of r.all.items) (rows_of r.outer.items))
+        (λ r. AreAllReferences names cs (rows_of r.all) (rows_of r.outer))
         (IsLeastUndefined cs)) }
 {
     let mut looked: Vec<Option<usize>> = vec![in alloc; None; components.count_bodies()]?;
     let mut undefined = None;
-    let mut all = Vec::new(alloc);
-    let mut outer = Vec::new(alloc);
+    let mut all = Rows::with_capacity(alloc, keys.len())?;
+    let mut outer = Rows::with_capacity(alloc, keys.len())?;
     for key in 0..keys.len() {
         let bodies = bodies_of(alloc, components, key, &mut looked)?;
         let references = references_in(alloc, components, bodies.as_slice())?;
@@ -82,8 +84,8 @@ pub(crate) fn references_of<'s>(
             references.as_slice(),
             &mut undefined,
         )?;
-        all.push(row.all)?;
-        outer.push(row.outer)?;
+        all.push_row(&row.all)?;
+        outer.push_row(&row.outer)?;
     }
     match undefined {
         Some(name) => Err(undefined_name(alloc, name)),
@@ -296,47 +298,17 @@ pub(crate) fn least_recursive(
     alloc: Global,
     references: &References,
 ) -> Result<Option<usize>, AllocError>
-    requires all { IsGraph (rows_of references.now.all.items) }
-    requires some { 0 < vec_len references.now.all }
-    requires outer { IsGraph (rows_of references.now.outer.items) }
-    requires size { vec_len references.now.outer ≡ vec_len references.now.all }
+    requires all { IsGraph (rows_of references.now.all) }
+    requires some { 0 < length (rows_of references.now.all) }
+    requires outer { IsGraph (rows_of references.now.outer) }
+    requires size { length (rows_of references.now.outer)
+        ≡ length (rows_of references.now.all) }
     ensures { (names : List Text) (cs : List Component) → IsStrictlySortedBy text_cmp names
-        → AreAllReferences names cs (rows_of references.now.all.items)
-        (rows_of references.now.outer.items) → IfOk result (IsLeastRecursive names cs) }
+        → AreAllReferences names cs (rows_of references.now.all)
+        (rows_of references.now.outer) → IfOk result (IsLeastRecursive names cs) }
 {
-    let first = row_at(references.all.as_slice(), START);
-    let reached = reached_nodes(alloc, references.all.as_slice(), first)?;
-    let outer = marked_rows(alloc, references.outer.as_slice(), reached.as_slice())?;
-    least_looped(alloc, outer.as_slice())
-}
-
-/// The edges from marked nodes alone.
-fn marked_rows(
-    alloc: Global,
-    edges: &[Vec<usize>],
-    marks: &[bool],
-) -> Result<Vec<Vec<usize>>, AllocError>
-    requires graph { IsGraph (rows_of edges.now) }
-    requires size { length marks.now ≡ length edges.now }
-    ensures graph { IfOk result (λ rows. IsGraph (rows_of rows.items)) }
-    ensures kept { IfOk result (λ rows. (node : ℕ) → row (rows_of rows.items) node
-        ≡ (if is_marked marks.now node then row (rows_of edges.now) node else [])) }
-{
-    let mut rows = Vec::with_capacity(alloc, edges.len())?;
-    for node in 0..edges.len() {
-        let row = kept_row(alloc, &edges[node], marks[node])?;
-        rows.push(row)?;
-    }
-    Ok(rows)
-}
-
-/// The row, or an empty one.
-fn kept_row(alloc: Global, row: &Vec<usize>, is_kept: bool) -> Result<Vec<usize>, AllocError>
-    ensures { IfOk result (λ v. v.items ≡ (if is_kept then row.now.items else [])) }
-{
-    if is_kept {
-        row.clone()
-    } else {
-        Ok(Vec::new(alloc))
-    }
+    let first = references.all.row(START);
+    let reached = reached_nodes(alloc, &references.all, first)?;
+    let outer = marked_rows(alloc, &references.outer, reached.as_slice())?;
+    least_looped(alloc, &outer)
 }

@@ -12,8 +12,9 @@ ghost use Rattle.rn_assemble.specs.inside.Bound.{InContext};
 ghost use Rattle.rn_assemble.specs.Resolve as resolve;
 
 use crate::context::Context;
+use crate::known::Known;
 use crate::nodes::{
-    choice, copy_text, group, interleave, list, mixed_pattern, new_box, new_shared, one_or_more,
+    choice, copy_text, group, interleave, list, mixed_pattern, new_box, new_member, one_or_more,
     optional_pattern, reference, typed_datum, typed_value,
 };
 use rn_pattern::{NameClass, Pattern};
@@ -261,14 +262,19 @@ fn chain(operator: Operator, members: Vec<Rc<Pattern>>) -> Pattern
     }
 }
 
-fn repetition(alloc: Global, postfix: Postfix, content: Pattern) -> Result<Pattern, AllocError>
+fn repetition(
+    alloc: Global,
+    known: &Known,
+    postfix: Postfix,
+    content: Pattern,
+) -> Result<Pattern, AllocError>
     ensures { (inherited : Text) (ds : List source.Declaration)
         → IfOk result (λ p. pattern_view p
         ≡ resolve.repetition inherited ds postfix (pattern_view content)) }
 {
     match postfix {
-        Postfix::Question => optional_pattern(alloc, content),
-        Postfix::Star => optional_pattern(alloc, one_or_more(alloc, content)?),
+        Postfix::Question => optional_pattern(alloc, known, content),
+        Postfix::Star => optional_pattern(alloc, known, one_or_more(alloc, content)?),
         Postfix::Plus => one_or_more(alloc, content),
     }
 }
@@ -306,7 +312,10 @@ fn resolve_pattern<'t>(
             attribute(alloc, context, class, content)
         }
         Pat::List(content) => Ok(list(pattern(alloc, context, content)?)),
-        Pat::Mixed(content) => mixed_pattern(alloc, resolve_pattern(alloc, context, content)?),
+        Pat::Mixed(content) => {
+            let content = resolve_pattern(alloc, context, content)?;
+            mixed_pattern(alloc, &context.bindings.known, content)
+        }
         Pat::Empty => Ok(Pattern::Empty),
         Pat::NotAllowed => Ok(Pattern::NotAllowed),
         Pat::Text => Ok(Pattern::Text),
@@ -319,7 +328,7 @@ fn resolve_pattern<'t>(
         }
         Pat::Repeated(postfix, content) => {
             let content = resolve_pattern(alloc, context, content)?;
-            repetition(alloc, *postfix, content)
+            repetition(alloc, &context.bindings.known, *postfix, content)
         }
         Pat::Chain(operator, members) => {
             let members = patterns(alloc, context, members)?;
@@ -341,7 +350,7 @@ fn patterns<'t>(
     let mut members = Vec::with_capacity(alloc, written.len())?;
     for member in written {
         let pattern = resolve_pattern(alloc, context, member)?;
-        members.push(new_shared(alloc, pattern)?)?;
+        members.push(new_member(alloc, &context.bindings.known, pattern)?)?;
     }
     Ok(members)
 }

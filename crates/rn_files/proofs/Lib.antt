@@ -1,6 +1,6 @@
 mod LineCuts
 mod NameFacts
-mod Graphs
+mod FileGraphs
 mod PathFacts
 mod UriFacts
 mod MapFacts

@@ -9,8 +9,8 @@ use Rattle.std.proofs.lemmas.Str.{IsCharBoundary-start, IsCharBoundary-after_asc
 use Rattle.std.specs.Str.{IsUtf8, IsCharBoundary}
 use Rattle.std.specs.Prelude.{◌-◌}
 use Rattle.std.proofs.lemmas.Bool.{cond_both}
-use Rattle.rn_files.specs.Lines.{closes, onto, lines}
-use Rattle.rn_files.specs.inside.Lines.{ClosesAt}
+use Rattle.rn_files.specs.TextLines.{closes, onto, lines}
+use Rattle.rn_files.specs.inside.TextLines.{ClosesAt}
 
 pub onto_onto : (x y : List ℕ) (ls : List (List ℕ)) → onto x (onto y ls) ≡ onto (x ++ y) ls
 onto_onto x y [] = refl

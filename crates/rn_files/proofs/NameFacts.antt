@@ -10,7 +10,7 @@ use Rattle.percent_encoding.specs.Percent.{percent_decode, percent_encode_byte}
 use Rattle.percent_encoding.proofs.PercentLemmas.{IsEscapeByte, All-percent_encode_byte, percent_decode-nil, percent_decode_not_percent, percent_decode-percent_encode_byte}
 use Rattle.rn_modset.specs.Contributions.{is_name_byte, is_module_name}
 use Rattle.rn_modset.specs.Limits.{max_name}
-use Rattle.rn_files.specs.ModuleNames.{IsByte, is_plain, escaped, name_of}
+use Rattle.rn_files.specs.ModuleNames.{IsByte, is_plain, plain_or_escaped, name_of}
 
 plain_is_no_percent : (b : ℕ) → is_plain b ≡ true → b ≡ 37 → is_plain 37 ≡ true
 plain_is_no_percent b h e = ap is_plain (sym e) ∙ h
@@ -43,7 +43,7 @@ plain_is_named b h = grind (arith, nat_tests)
 all_named : (bs : List ℕ) → All IsNamed (name_of bs)
 all_named [] = All-nil IsNamed
 all_named (b ∷ bs) =
-    All-append IsNamed (escaped b) (name_of bs)
+    All-append IsNamed (plain_or_escaped b) (name_of bs)
     (cond_both (is_plain b) (b ∷ []) (percent_encode_byte b) (λ x. All IsNamed x)
     (λ plain. All-cons IsNamed b [] (plain_is_named b plain) (All-nil IsNamed))
     (λ other. All-weaker IsEscapeByte IsNamed escape_is_named (percent_encode_byte b) (All-percent_encode_byte b)))

@@ -29,5 +29,5 @@ is_allowed b =
     && not (b == 34 || b == 60 || b == 62 || b == 92 || b == 94 || b == 96 || b == 123 || b == 124 || b == 125)
 
 -- the reference with each byte escaped that is not allowed
-abbrev pub escaped : List ℕ → List ℕ
-escaped reference = flat_map (kept_or_escaped is_allowed) reference
+abbrev pub escaped_reference : List ℕ → List ℕ
+escaped_reference reference = flat_map (kept_or_escaped is_allowed) reference

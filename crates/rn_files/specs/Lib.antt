@@ -1,9 +1,9 @@
-pub mod Lines
+pub mod TextLines
 pub mod ModuleNames
 pub mod Sources
 pub mod Paths
 pub mod Escapes
 pub mod Uris
 pub mod UriReferences
-pub mod Memory
+pub mod MemoryFiles
 pub mod inside

@@ -13,8 +13,8 @@ abbrev pub is_plain : ℕ → Bool
 is_plain b = is_name_byte b && not (b == 37)
 
 -- the byte, or `%` and its two hexadecimal digits in upper case
-abbrev pub escaped : ℕ → List ℕ
-escaped b = byte_or_escape (is_plain b) b
+abbrev pub plain_or_escaped : ℕ → List ℕ
+plain_or_escaped b = byte_or_escape (is_plain b) b
 
 abbrev pub name_of : List ℕ → List ℕ
-name_of path = flat_map escaped path
+name_of path = flat_map plain_or_escaped path

@@ -40,12 +40,12 @@ outer (s ∷ t ∷ more) = take (length more + 1) (s ∷ t ∷ more)
 
 -- where a segment leads from a folder: `.` stays (5.2.4, 2A and 2B), `..` leads to the folder around it (2C; before all others
 -- it falls, 2A), and another one leads into what it names (2E)
-abbrev pub entered : List Segment → Segment → List Segment
-entered folder s = if is_here s then folder else if is_up s then outer folder else folder ++ (s ∷ [])
+abbrev pub entered_folder : List Segment → Segment → List Segment
+entered_folder folder s = if is_here s then folder else if is_up s then outer folder else folder ++ (s ∷ [])
 
 -- where segments lead, one after the other
-abbrev pub walked : List Segment → List Segment
-walked ss = fold entered [] ss
+abbrev pub walked_folder : List Segment → List Segment
+walked_folder ss = fold entered_folder [] ss
 
 -- the last segment is a dot segment
 abbrev pub ends_in_dots : List Segment → Bool
@@ -54,7 +54,7 @@ ends_in_dots ss = is_dots (slice_index_or ss (length ss - 1) [])
 -- what the segments lead to, without dot segments (5.2.4). Where the last one is a dot segment, the path ends in a slash (2B and
 -- 2C put it back), and is empty where nothing comes before the slash (2D)
 abbrev pub without_dots : List Segment → List Segment
-without_dots ss = if ends_in_dots ss then walked ss ++ ([] ∷ []) else walked ss
+without_dots ss = if ends_in_dots ss then walked_folder ss ++ ([] ∷ []) else walked_folder ss
 
 abbrev pub remove_dot_segments : List ℕ → List ℕ
 remove_dot_segments path = path_of (without_dots (segments path))

@@ -1,8 +1,8 @@
 -- What references in files stand for (RFC 3986, 5.2; XLink 1.0, 5.4; RELAX NG 4.5).
 use Rattle.std.specs.Prelude.{ℕ, ◌==◌, not, List, length, Option, Some, None, if◌then◌else◌}
 use Rattle.std.specs.List.{list_any}
-use Rattle.rn_files.specs.Escapes.{escaped, has_escapes}
-use Rattle.rn_files.specs.Uris.{parts_of, recomposed, target}
+use Rattle.rn_files.specs.Escapes.{escaped_reference, has_escapes}
+use Rattle.rn_files.specs.Uris.{parts_of, recomposed_uri, target}
 use Rattle.rn_files.specs.declared.uri_references.ReferenceFault.{ReferenceFault}
 use Rattle.rn_files.specs.declared.uri_references.ReferenceFault.TheVariants.{Empty, Fragment, Query, Escape}
 
@@ -16,5 +16,5 @@ fault_of reference =
     else None
 
 -- the URI that a reference without fault stands for in a file with the URI `base`
-abbrev pub resolved : List ℕ → List ℕ → List ℕ
-resolved base reference = recomposed (target (parts_of base) (parts_of (escaped reference)))
+abbrev pub resolved_uri : List ℕ → List ℕ → List ℕ
+resolved_uri base reference = recomposed_uri (target (parts_of base) (parts_of (escaped_reference reference)))

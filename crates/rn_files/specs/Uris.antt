@@ -65,8 +65,8 @@ authority_text None = []
 authority_text (Some authority) = codes "//" ++ authority
 
 -- the parts put together (5.3)
-abbrev pub recomposed : UriParts → List ℕ
-recomposed p = scheme_text p.scheme ++ authority_text p.authority ++ p.path
+abbrev pub recomposed_uri : UriParts → List ℕ
+recomposed_uri p = scheme_text p.scheme ++ authority_text p.authority ++ p.path
 
 -- the folder of the base's path: all segments but the last, or the root where the base has an authority and an empty path
 abbrev pub folder_of : UriParts → List Segment
@@ -75,8 +75,8 @@ folder_of base =
     else take (length (segments base.path) - 1) (segments base.path)
 
 -- the reference's path behind that folder (5.2.3)
-abbrev pub merged : UriParts → List ℕ → List Segment
-merged base path = folder_of base ++ segments path
+abbrev pub merged_paths : UriParts → List ℕ → List Segment
+merged_paths base path = folder_of base ++ segments path
 
 -- the reference has a scheme or an authority of its own
 abbrev pub has_own : UriParts → Bool
@@ -84,13 +84,13 @@ has_own r = is_some r.scheme || is_some r.authority
 
 -- the path of the target before its dot segments are removed. (5.2.2; there the reference may also have no part at all, and
 -- then the path is the base's. Such a reference is empty, and is refused here.)
-abbrev pub dotted : UriParts → UriParts → List Segment
-dotted base r = if has_own r || slice_index r.path 0 == 47 then segments r.path else merged base r.path
+abbrev pub dotted_segments : UriParts → UriParts → List Segment
+dotted_segments base r = if has_own r || slice_index r.path 0 == 47 then segments r.path else merged_paths base r.path
 
 -- the target of a reference that is not empty (5.2.2)
 abbrev pub target : UriParts → UriParts → UriParts
 target base r = record {
   scheme = option_or r.scheme base.scheme;
   authority = if has_own r then r.authority else base.authority;
-  path = path_of (without_dots (dotted base r));
+  path = path_of (without_dots (dotted_segments base r));
 }

@@ -1,8 +1,8 @@
 -- What contracts of private functions speak of. No public contract cites it.
-pub mod Lines
+pub mod TextLines
 pub mod FileUris
 pub mod Uris
-pub mod References
+pub mod UriReferences
 pub mod Maps
 pub mod Sources
 pub mod Following

@@ -1,10 +1,10 @@
 // Files that come back to themselves.
-ghost use Rattle.std.specs.Prelude.{◌≡◌, length, IfNone, IfOk};
-ghost use Rattle.std.specs.List.{list_all};
+ghost use Rattle.std.specs.Prelude.{◌≡◌, IfNone, IfOk};
 ghost use Rattle.rn_pattern.specs.Graph.{IsGraph, rows_of};
 ghost use Rattle.rn_pattern.specs.Ranks.{HasNoLoop};
 ghost use Rattle.rn_files.specs.inside.Sources.{are_below};
 
+use rn_pattern::Rows;
 use rn_pattern::ranks::least_looped;
 use std::alloc::{AllocError, Global};
 
@@ -47,20 +47,17 @@ fn reach(
 }
 
 /// A shortest loop through a file: it, and those that lead back to it, in order.
-fn loop_through(
-    alloc: Global,
-    edges: &[Vec<usize>],
-    first: usize,
-) -> Result<Vec<usize>, AllocError> {
+fn loop_through(alloc: Global, edges: &Rows, first: usize) -> Result<Vec<usize>, AllocError> {
     let mut reached_from: Vec<Option<usize>> = vec![in alloc; None; edges.len()]?;
     let mut order = vec![in alloc; first]?;
     for next in 0..edges.len() {
         let Some(file) = order.get(next).copied() else {
             break;
         };
-        let Some(row) = edges.get(file) else {
+        if file >= edges.len() {
             break;
-        };
+        }
+        let row = edges.row(file);
         if row.contains(&first) {
             return trace(alloc, reached_from.as_slice(), first, file);
         }
@@ -78,16 +75,8 @@ pub fn are_below(numbers: &[usize], count: usize) -> bool
     numbers.iter().all(|number| *number < count)
 }
 
-/// Whether each edge leads to one of the nodes.
-pub fn is_graph(edges: &[Vec<usize>]) -> bool
-    ensures { result ≡ list_all (λ v. are_below (length edges.now) v.items) edges.now }
-{
-    let count = edges.len();
-    edges.iter().all(|row| are_below(row.as_slice(), count))
-}
-
 /// The files of a loop along references, in order, through the first file that comes back to itself; none where no file does.
-pub fn first_loop(alloc: Global, edges: &[Vec<usize>]) -> Result<Option<Vec<usize>>, AllocError>
+pub fn first_loop(alloc: Global, edges: &Rows) -> Result<Option<Vec<usize>>, AllocError>
     requires { IsGraph (rows_of edges.now) }
     ensures { IfOk result (λ found. IfNone found (HasNoLoop (rows_of edges.now))) }
 {

@@ -2,7 +2,7 @@
 ghost use Rattle.std.specs.Prelude.{◌≡◌, ◌++◌, ◌<◌, ◌∷◌, [], true, IfOk, IsTrue, OnOk, string_bytes, if◌then◌else◌};
 ghost use Rattle.std.specs.List.{flat_map};
 ghost use Rattle.percent_encoding.specs.Percent.{percent_encode_byte};
-ghost use Rattle.rn_files.specs.Escapes.{begins_with_digits, byte_or_escape, escaped, has_escapes, is_allowed};
+ghost use Rattle.rn_files.specs.Escapes.{begins_with_digits, byte_or_escape, escaped_reference, has_escapes, is_allowed};
 ghost use Rattle.rn_files.specs.inside.FileUris.{file_uri, is_path_byte};
 
 use percent_encoding::percent_encode_byte;
@@ -70,7 +70,7 @@ pub fn push_byte(out: &mut String, byte: u8, is_kept: bool) -> Result<(), AllocE
 
 /// The reference with each byte escaped that no URI holds (XLink, section 5.4).
 pub fn escape(alloc: Global, reference: &str) -> Result<String, AllocError>
-    ensures { IfOk result (λ text. string_bytes text ≡ escaped reference.now) }
+    ensures { IfOk result (λ text. string_bytes text ≡ escaped_reference reference.now) }
 {
     let mut out = String::new(alloc);
     for byte in reference.as_bytes() {

@@ -11,16 +11,16 @@ pub const MAX_TEXT: usize = rn_modset::MAX_TEXT;
 
 /// What was read of a file.
 #[derive(Drop)]
-pub struct Text {
+pub struct FileText {
     /// The text, or as much of it as is UTF-8.
     pub text: String,
     /// Its outline, or what is wrong with it.
-    pub outline: Result<Outline, TextWrong>,
+    pub outline: Result<Outline, FileTextFault>,
 }
 
 /// What is wrong with a text.
 #[derive(Drop)]
-pub struct TextWrong {
+pub struct FileTextFault {
     /// The byte of the text.
     pub at: usize,
     /// What is wrong there.
@@ -36,14 +36,14 @@ fn front(bytes: &[u8], at: usize) -> &str {
 }
 
 /// The outline of a text.
-fn outline_of(alloc: Global, text: &str) -> Result<Result<Outline, TextWrong>, AllocError> {
+fn outline_of(alloc: Global, text: &str) -> Result<Result<Outline, FileTextFault>, AllocError> {
     let tokens = match tokens(alloc, text.as_bytes()) {
         Ok(tokens) => tokens,
-        Err(TextFault::Encoding { at }) => return Ok(Err(TextWrong {
+        Err(TextFault::Encoding { at }) => return Ok(Err(FileTextFault {
             at,
             kind: FaultKind::Encoding,
         })),
-        Err(TextFault::Lexical { at }) => return Ok(Err(TextWrong {
+        Err(TextFault::Lexical { at }) => return Ok(Err(FileTextFault {
             at,
             kind: FaultKind::Lexical,
         })),
@@ -51,11 +51,11 @@ fn outline_of(alloc: Global, text: &str) -> Result<Result<Outline, TextWrong>, A
     };
     match read_outline(alloc, text, tokens.as_slice()) {
         Ok(outline) => Ok(Ok(outline)),
-        Err(OutlineFault::Syntax { at }) => Ok(Err(TextWrong {
+        Err(OutlineFault::Syntax { at }) => Ok(Err(FileTextFault {
             at,
             kind: FaultKind::Syntax,
         })),
-        Err(OutlineFault::Deep { at }) => Ok(Err(TextWrong {
+        Err(OutlineFault::Deep { at }) => Ok(Err(FileTextFault {
             at,
             kind: FaultKind::Deep,
         })),
@@ -64,11 +64,11 @@ fn outline_of(alloc: Global, text: &str) -> Result<Result<Outline, TextWrong>, A
 }
 
 /// The text that the bytes are, and its outline.
-pub fn text_of(alloc: Global, bytes: &[u8]) -> Result<Text, AllocError>
+pub fn text_of(alloc: Global, bytes: &[u8]) -> Result<FileText, AllocError>
     ensures { IfOk result (λ read. OnOk read.outline (string_bytes read.text ≡ bytes.now)) }
 {
     match str::from_utf8(bytes) {
-        Ok(text) => Ok(Text {
+        Ok(text) => Ok(FileText {
             text: String::from_str(alloc, text)?,
             outline: outline_of(alloc, text)?,
         }),
@@ -77,12 +77,12 @@ pub fn text_of(alloc: Global, bytes: &[u8]) -> Result<Text, AllocError>
 }
 
 /// What is read of bytes that are no UTF-8 from this one on.
-fn unread_text(alloc: Global, bytes: &[u8], at: usize) -> Result<Text, AllocError>
+fn unread_text(alloc: Global, bytes: &[u8], at: usize) -> Result<FileText, AllocError>
     ensures { IfOk result (λ read. IsErr read.outline) }
 {
-    Ok(Text {
+    Ok(FileText {
         text: String::from_str(alloc, front(bytes, at))?,
-        outline: Err(TextWrong {
+        outline: Err(FileTextFault {
             at,
             kind: FaultKind::Encoding,
         }),

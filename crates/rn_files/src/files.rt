@@ -2,7 +2,7 @@
 ghost use Rattle.std.specs.Prelude.{ℕ, List, IfOk, string_bytes};
 
 use crate::file_texts::MAX_TEXT;
-use crate::grouped::Grouped;
+use rn_outline::Grouped;
 use std::alloc::Global;
 use thiserror::Error;
 

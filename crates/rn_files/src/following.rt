@@ -3,18 +3,18 @@ ghost use Rattle.std.specs.Prelude.{◌≡◌, ◌<◌, ◌≤◌, All, IfOk, If
 ghost use Rattle.rn_modset.specs.Limits.{max_text};
 ghost use Rattle.rn_files.specs.inside.Following.{IsFollowed, LeadsTo};
 ghost use Rattle.rn_files.specs.inside.Maps.{IsLocation};
-ghost use Rattle.rn_files.specs.inside.References.{StandsFor};
-ghost use Rattle.rn_files.specs.Sources.{is_link};
+ghost use Rattle.rn_files.specs.inside.UriReferences.{StandsFor};
+ghost use Rattle.rn_outline.specs.Links.{is_link};
 
 use crate::escapes::file_uri;
-use crate::file_texts::{MAX_TEXT, Text, text_of};
+use crate::file_texts::{FileText, MAX_TEXT, text_of};
 use crate::files::{FileFault, Files};
 use crate::maps::{Location, Map, locate};
 use crate::paths::remove_dot_segments;
 use crate::root_folder::RootFolder;
 use crate::source_faults::{FaultKind, FaultPlace};
 use crate::uri_references::resolve_below;
-use crate::walk::{Followed, Found, MAX_SOURCES, Origin, Walk};
+use crate::walk::{Followed, FoundFile, MAX_SOURCES, Origin, Walk};
 use rn_outline::{Outline, Part, PartKind};
 use std::alloc::{AllocError, Global};
 
@@ -34,7 +34,7 @@ pub struct Ways<'a> {
 
 /// The literal of a part that names another file, and the byte where it begins.
 pub fn link_of(part: &Part) -> Option<(&str, usize)>
-    ensures { is_some result ≡ is_link part.now.kind }
+    ensures { is_some result ≡ is_link part.now }
 {
     match &part.kind {
         PartKind::External {
@@ -81,7 +81,7 @@ fn word_uri(alloc: Global, current: &str, word: &str) -> Result<String, AllocErr
 fn enter_found(
     ways: &Ways<'_>,
     walk: &mut Walk,
-    found: Found,
+    found: FoundFile,
     place: FaultPlace,
 ) -> Result<Option<usize>, AllocError>
     ensures { vec_len walk.old.entries ≤ vec_len walk.new.entries }
@@ -115,7 +115,7 @@ fn enter_word<F: Files>(
     let Some(path) = walk.note_answer(place, real)? else {
         return Ok(None);
     };
-    let found = Found {
+    let found = FoundFile {
         path,
         shown: String::from_str(alloc, word)?,
         uri: word_uri(alloc, ways.current, word)?,
@@ -219,7 +219,7 @@ fn find_link<F: Files>(
     base: &str,
     literal: &str,
     place: FaultPlace,
-) -> Result<Option<Found>, AllocError>
+) -> Result<Option<FoundFile>, AllocError>
     ensures grows { vec_len walk.old.entries ≤ vec_len walk.new.entries }
     ensures led { IfOk result (λ found. IfSome found (λ file.
         LeadsTo (F.leads files.now) ways.now.maps.now base.now literal.now
@@ -236,7 +236,7 @@ fn find_link<F: Files>(
     };
     let shown = String::from_str(alloc, shown_path(ways.current, path.as_str()))?;
     let origin = origin_of(&leads);
-    Ok(Some(Found {
+    Ok(Some(FoundFile {
         path,
         shown,
         uri,
@@ -299,7 +299,7 @@ fn follow_text<F: Files>(
     requires given { F.gives files.now (string_bytes path) bytes.now }
     ensures { IfOk result (IsFollowed (F.gives files.now)) }
 {
-    let Text { text, outline } = text_of(alloc, bytes)?;
+    let FileText { text, outline } = text_of(alloc, bytes)?;
     match outline {
         Ok(outline) => {
             let base = walk.entries[file].found.uri.clone()?;

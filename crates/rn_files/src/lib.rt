@@ -12,7 +12,6 @@ mod escapes;
 mod file_texts;
 mod files;
 mod following;
-mod grouped;
 pub mod laws;
 mod line_breaks;
 mod maps;
@@ -31,7 +30,6 @@ mod walk;
 
 pub use file_texts::MAX_TEXT;
 pub use files::{FileFault, Files};
-pub use grouped::Grouped;
 pub use line_breaks::Position;
 pub use maps::Map;
 pub use memory_files::MemoryFiles;

@@ -1,7 +1,7 @@
 // Lines of a text.
 ghost use Rattle.std.specs.Prelude.{◌≡◌, ◌+◌, ◌-◌, ◌<◌, ◌≤◌, ◌∷◌, [], length, slice_index, take, drop, MatchOption};
-ghost use Rattle.rn_files.specs.Lines.{closes, lines, StandsIn};
-ghost use Rattle.rn_files.specs.inside.Lines.{ClosesAt};
+ghost use Rattle.rn_files.specs.TextLines.{closes, lines, StandsIn};
+ghost use Rattle.rn_files.specs.inside.TextLines.{ClosesAt};
 
 /// Where a byte of a text stands.
 #[derive(Clone, Copy, Debug, PartialEq, Eq)]

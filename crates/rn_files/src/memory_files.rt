@@ -3,7 +3,7 @@ ghost use Rattle.std.specs.Prelude.{◌≡◌, string_bytes};
 ghost use Rattle.std.specs.BTreeMap.{get_by_text};
 ghost use Rattle.std.specs.List.{before_last};
 ghost use Rattle.rn_files.specs.Paths.{is_slash};
-ghost use Rattle.rn_files.specs.Memory.{IsFileOf};
+ghost use Rattle.rn_files.specs.MemoryFiles.{IsFileOf};
 
 use crate::file_texts::MAX_TEXT;
 use crate::files::{FileFault, Files};
@@ -27,7 +27,7 @@ pub struct MemoryFiles {
     entries: BTreeMap<String, MemoryEntry>,
 }
 
-/// Want of memory.
+/// The fault that stands for a refused request for memory.
 fn no_memory(_: AllocError) -> FileFault {
     FileFault::Memory
 }

@@ -1,8 +1,8 @@
 // Paths of URIs, as lists of segments (RFC 3986, sections 3.3 and 5.2.4).
 ghost use Rattle.std.specs.Prelude.{◌≡◌, ◌==◌, ◌++◌, ◌∷◌, map, IfOk, MatchBool, OnOk, string_bytes};
 ghost use Rattle.std.specs.List.{flat_map};
-ghost use Rattle.rn_files.specs.Paths.{ends_in_dots, entered, is_here, is_up, outer, path_of, remove_dot_segments, segments, walked, without_dots};
-ghost use Rattle.rn_files.specs.inside.References.{LeadAbove, finds_none, is_top};
+ghost use Rattle.rn_files.specs.Paths.{ends_in_dots, entered_folder, is_here, is_up, outer, path_of, remove_dot_segments, segments, walked_folder, without_dots};
+ghost use Rattle.rn_files.specs.inside.UriReferences.{LeadAbove, finds_none, is_top};
 
 use std::alloc::{AllocError, Global};
 
@@ -41,7 +41,7 @@ fn leave(folder: &mut Vec<&str>)
 /// Goes on from a folder by a segment.
 fn enter<'p>(folder: &mut Vec<&'p str>, segment: &'p str) -> Result<(), AllocError>
     ensures { OnOk result (map (λ s. s.now) folder.new.items
-        ≡ entered (map (λ s. s.now) folder.old.items) segment.now) }
+        ≡ entered_folder (map (λ s. s.now) folder.old.items) segment.now) }
 {
     if is_here(segment) {
         return Ok(());
@@ -57,7 +57,7 @@ fn enter<'p>(folder: &mut Vec<&'p str>, segment: &'p str) -> Result<(), AllocErr
 /// Where the segments lead, one after the other.
 fn walk_segments<'p>(alloc: Global, segments: &[&'p str]) -> Result<Vec<&'p str>, AllocError>
     ensures { IfOk result (λ folder. map (λ s. s.now) folder.items
-        ≡ walked (map (λ s. s.now) segments.now)) }
+        ≡ walked_folder (map (λ s. s.now) segments.now)) }
 {
     let mut folder = Vec::new(alloc);
     for segment in segments {

@@ -2,7 +2,7 @@
 ghost use Rattle.std.specs.Prelude.{◌≡◌, ◌<◌, ◌≤◌, length, count_by, slice_index, drop, take_while};
 ghost use Rattle.std.specs.List.{prefix_len};
 ghost use Rattle.std.specs.Str.{IsCharBoundary};
-ghost use Rattle.rn_files.specs.Lines.{IsLineOf, IsPosition, begins_character, is_inside};
+ghost use Rattle.rn_files.specs.TextLines.{IsLineOf, IsPosition, begins_character, is_inside};
 
 use crate::line_breaks::{Position, line_at};
 

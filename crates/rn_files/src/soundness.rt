@@ -3,32 +3,36 @@ ghost use Rattle.std.specs.Prelude.{◌≡◌, ◌==◌, true, IfNone, IfOk, len
 ghost use Rattle.std.specs.List.{list_all};
 ghost use Rattle.rn_modset.specs.Contributions.{is_module_name};
 ghost use Rattle.rn_pattern.specs.Graph.{rows_of};
-ghost use Rattle.rn_files.specs.Sources.{IsSound, count_links, targets_of};
-ghost use Rattle.rn_files.specs.inside.Sources.{differ_in_name, have_own_names};
+ghost use Rattle.rn_files.specs.Sources.{IsSound, count_links, edges_of};
+ghost use Rattle.rn_files.specs.inside.Sources.{are_below, differ_in_name, have_own_names};
 
-use crate::cycles::{are_below, first_loop, is_graph};
+use crate::cycles::{are_below, first_loop};
 use crate::following::link_of;
 use crate::source_faults::{FaultKind, FaultPlace, SourceFault};
 use crate::sources::{SourceFile, Sources};
 use rn_modset::is_module_name;
+use rn_pattern::Rows;
 use std::alloc::{AllocError, Global};
 
-/// The numbers of the files that a file's includes and externals mean.
-fn copied_targets(alloc: Global, source: &SourceFile) -> Result<Vec<usize>, AllocError>
-    ensures { IfOk result (λ v. v.items ≡ source.now.targets.items) }
-{
-    Vec::from_slice(alloc, source.targets.as_slice())
-}
-
 /// For each file, the numbers of those that its includes and externals mean.
-fn edges_of(alloc: Global, files: &[SourceFile]) -> Result<Vec<Vec<usize>>, AllocError>
-    ensures { IfOk result (λ edges. rows_of edges.items ≡ targets_of files.now) }
+fn file_graph(alloc: Global, files: &[SourceFile]) -> Result<Rows, AllocError>
+    ensures { IfOk result (λ edges. rows_of edges ≡ edges_of files.now) }
 {
-    let mut edges = Vec::new(alloc);
+    let mut edges = Rows::with_capacity(alloc, files.len())?;
     for source in files {
-        edges.push(copied_targets(alloc, source)?)?;
+        edges.push_row(source.targets.as_slice())?;
     }
     Ok(edges)
+}
+
+/// Whether each include and external of all files means one of them.
+fn is_graph(files: &[SourceFile]) -> bool
+    ensures { result ≡ list_all (λ f. are_below (length files.now) f.targets.items) files.now }
+{
+    let count = files.len();
+    files
+        .iter()
+        .all(|source| are_below(source.targets.as_slice(), count))
 }
 
 /// Whether the names of all files are those of modules.
@@ -125,9 +129,7 @@ pub fn fault_of(alloc: Global, sources: &Sources) -> Result<Option<SourceFault>,
     ensures { IfOk result (λ fault. IfNone fault (IsSound sources.now)) }
 {
     let files = sources.files.as_slice();
-    let edges = edges_of(alloc, files)?;
-    let rows = edges.as_slice();
-    if !is_graph(rows) {
+    if !is_graph(files) {
         return Ok(Some(stray_fault()));
     }
     if !are_below(sources.roots.as_slice(), files.len()) {
@@ -142,7 +144,8 @@ pub fn fault_of(alloc: Global, sources: &Sources) -> Result<Option<SourceFault>,
     if !have_own_names(files) {
         return Ok(Some(stray_fault()));
     }
-    match first_loop(alloc, rows)? {
+    let edges = file_graph(alloc, files)?;
+    match first_loop(alloc, &edges)? {
         Some(looped) => Ok(Some(closed_loop(files, looped))),
         None => Ok(None),
     }

@@ -10,7 +10,7 @@ use crate::root_folder::{RootFolder, common_folder};
 use crate::soundness::fault_of;
 use crate::source_faults::{FaultKind, FaultPlace, SourceFault};
 use crate::sources::{Asked, Attempt, SourceFile, Sources};
-use crate::walk::{Entry, Followed, Found, Origin, Walk};
+use crate::walk::{Entry, Followed, FoundFile, Origin, Walk};
 use rn_modset::is_module_name;
 use std::alloc::{AllocError, Global};
 use std::collections::BTreeSet;
@@ -141,7 +141,7 @@ fn refusal(
     let mut files = Vec::new(alloc);
     for ((entry, followed), name) in entries.into_iter().zip(followed).zip(names) {
         let Entry { found, .. } = entry;
-        let Found { shown, .. } = found;
+        let FoundFile { shown, .. } = found;
         let Followed { text, .. } = followed;
         files.push(Attempt { name, shown, text })?;
     }
@@ -159,7 +159,7 @@ fn source<F: Files>(
     ensures { IfSome result (IsTextAt (F.gives _files.now)) }
 {
     let Entry { found, .. } = entry;
-    let Found { shown, uri, .. } = found;
+    let FoundFile { shown, uri, .. } = found;
     let Followed {
         path,
         text,
@@ -234,7 +234,7 @@ fn check_sources(alloc: Global, sources: Sources) -> Result<Sources, ReadFault>
 /// What is asked for, once it was found: the numbers of the files, each once, and the root folder, if one is given; and what
 /// was read of all files.
 #[derive(Drop)]
-struct FoundFiles {
+struct FollowedFiles {
     roots: Vec<usize>,
     folder: Option<RootFolder>,
     followed: Vec<Followed>,
@@ -246,11 +246,11 @@ fn find_files<F: Files>(
     files: &F,
     asked: &Asked<'_>,
     walk: &mut Walk,
-) -> Result<FoundFiles, AllocError>
+) -> Result<FollowedFiles, AllocError>
     ensures { IfOk result (λ found. All (IsFollowed (F.gives files.now)) found.followed.items) }
 {
     let Some(current) = walk.note_answer(FaultPlace::Current, files.real_path(alloc, "."))? else {
-        return Ok(FoundFiles {
+        return Ok(FollowedFiles {
             roots: Vec::new(alloc),
             folder: None,
             followed: Vec::new(alloc),
@@ -265,7 +265,7 @@ fn find_files<F: Files>(
     };
     let roots = enter_words(alloc, files, &ways, walk, asked.files)?;
     let followed = follow_all(alloc, files, &ways, walk)?;
-    Ok(FoundFiles {
+    Ok(FollowedFiles {
         roots,
         folder,
         followed,
@@ -310,7 +310,7 @@ pub fn read_sources<F: Files>(
     ensures texts { IfOk result (λ s. All (IsTextAt (F.gives files.now)) s.files.items) }
 {
     let mut walk = Walk::new(alloc);
-    let FoundFiles {
+    let FollowedFiles {
         roots,
         folder,
         followed,

@@ -1,12 +1,12 @@
 // References, resolved against the URI of their file (RFC 3986, section 5.2).
 ghost use Rattle.std.specs.Prelude.{◌≡◌, ◌⊎◌, ◌++◌, [], Err, IfErr, IfNone, IfOk, IfSome, MatchBool, ◌==◌, length, map, string_bytes};
 ghost use Rattle.std.specs.List.{list_any};
-ghost use Rattle.rn_files.specs.Escapes.{escaped};
+ghost use Rattle.rn_files.specs.Escapes.{escaped_reference};
 ghost use Rattle.rn_files.specs.Paths.{path_of, without_dots};
-ghost use Rattle.rn_files.specs.inside.References.{LeadAbove, StandsFor, dotted};
-ghost use Rattle.rn_files.specs.UriReferences.{fault_of, resolved};
+ghost use Rattle.rn_files.specs.inside.UriReferences.{LeadAbove, StandsFor, target_segments};
+ghost use Rattle.rn_files.specs.UriReferences.{fault_of, resolved_uri};
 ghost use Rattle.rn_files.specs.Uris as uris;
-ghost use Rattle.rn_files.specs.inside.Uris.{seen};
+ghost use Rattle.rn_files.specs.inside.Uris.{parts_view};
 
 use crate::escapes::{escape, has_escapes};
 use crate::paths::{joined_path, lead_above, segments, without_dots};
@@ -52,7 +52,7 @@ pub enum ReferenceFault {
     Memory,
 }
 
-/// Want of memory.
+/// The fault that stands for a refused request for memory.
 pub fn no_memory(_: AllocError) -> ReferenceFault
     ensures { result ≡ ReferenceFault.Memory }
 {
@@ -61,7 +61,7 @@ pub fn no_memory(_: AllocError) -> ReferenceFault
 
 /// The folder of the base's path: all segments but the last. Of a base with an authority and an empty path it is the root.
 fn folder_of<'p>(alloc: Global, base: &Parts<'p>) -> Result<Vec<&'p str>, AllocError>
-    ensures { IfOk result (λ v. map (λ s. s.now) v.items ≡ uris.folder_of (seen base.now)) }
+    ensures { IfOk result (λ v. map (λ s. s.now) v.items ≡ uris.folder_of (parts_view base.now)) }
 {
     if base.authority.is_some() && base.path.is_empty() {
         return Ok(vec![in alloc; ""]?);
@@ -78,7 +78,7 @@ fn merge_paths<'p>(
     path: &'p str,
 ) -> Result<Vec<&'p str>, AllocError>
     ensures { IfOk result (λ v. map (λ s. s.now) v.items
-        ≡ uris.merged (seen base.now) path.now) }
+        ≡ uris.merged_paths (parts_view base.now) path.now) }
 {
     let mut merged = folder_of(alloc, base)?;
     let behind = segments(alloc, path)?;
@@ -88,7 +88,7 @@ fn merge_paths<'p>(
 
 /// Whether the reference has a scheme or an authority of its own.
 fn has_own(reference: &Parts<'_>) -> bool
-    ensures { result ≡ uris.has_own (seen reference.now) }
+    ensures { result ≡ uris.has_own (parts_view reference.now) }
 {
     reference.scheme.is_some() || reference.authority.is_some()
 }
@@ -100,7 +100,7 @@ fn dotted_path<'p>(
     reference: &Parts<'p>,
 ) -> Result<Vec<&'p str>, AllocError>
     ensures { IfOk result (λ v. map (λ s. s.now) v.items
-        ≡ uris.dotted (seen base.now) (seen reference.now)) }
+        ≡ uris.dotted_segments (parts_view base.now) (parts_view reference.now)) }
 {
     if has_own(reference) || reference.path.starts_with('/') {
         segments(alloc, reference.path)
@@ -120,8 +120,8 @@ fn target_path(alloc: Global, dotted: &[&str]) -> Result<String, AllocError>
 
 /// The parts of the target, but for its path.
 fn target_parts<'p>(base: &Parts<'p>, reference: &Parts<'p>, path: &'p str) -> Parts<'p>
-    ensures { path.now ≡ (uris.target (seen base.now) (seen reference.now)).path
-        → seen result ≡ uris.target (seen base.now) (seen reference.now) }
+    ensures { path.now ≡ (uris.target (parts_view base.now) (parts_view reference.now)).path
+        → parts_view result ≡ uris.target (parts_view base.now) (parts_view reference.now) }
 {
     Parts {
         scheme: reference.scheme.or(base.scheme),
@@ -137,7 +137,7 @@ fn target_parts<'p>(base: &Parts<'p>, reference: &Parts<'p>, path: &'p str) -> P
 /// The target of a reference that is not empty (RFC 3986, section 5.2.2).
 fn target(alloc: Global, base: &Parts<'_>, reference: &Parts<'_>) -> Result<String, AllocError>
     ensures { IfOk result (λ uri. string_bytes uri
-        ≡ uris.recomposed (uris.target (seen base.now) (seen reference.now))) }
+        ≡ uris.recomposed_uri (uris.target (parts_view base.now) (parts_view reference.now))) }
 {
     let dotted = dotted_path(alloc, base, reference)?;
     let path = target_path(alloc, dotted.as_slice())?;
@@ -171,7 +171,7 @@ fn fault_of(reference: &str) -> Option<ReferenceFault>
 
 /// The URI that a reference without fault stands for.
 fn resolved_uri(alloc: Global, base: &str, reference: &str) -> Result<String, AllocError>
-    ensures { IfOk result (λ uri. string_bytes uri ≡ resolved base.now reference.now) }
+    ensures { IfOk result (λ uri. string_bytes uri ≡ resolved_uri base.now reference.now) }
 {
     let text = escape(alloc, reference)?;
     target(alloc, &split(base), &split(text.as_str()))
@@ -179,8 +179,9 @@ fn resolved_uri(alloc: Global, base: &str, reference: &str) -> Result<String, Al
 
 /// Whether a `..` of a reference without fault leads above the root of its path.
 fn leads_above(alloc: Global, base: &str, reference: &str) -> Result<bool, AllocError>
-    ensures { IfOk result (λ above. MatchBool above (LeadAbove (dotted base.now reference.now))
-        (¬ (LeadAbove (dotted base.now reference.now)))) }
+    ensures { IfOk result (λ above. MatchBool above
+        (LeadAbove (target_segments base.now reference.now))
+        (¬ (LeadAbove (target_segments base.now reference.now)))) }
 {
     let text = escape(alloc, reference)?;
     let dotted = dotted_path(alloc, &split(base), &split(text.as_str()))?;
@@ -194,7 +195,7 @@ fn leads_above(alloc: Global, base: &str, reference: &str) -> Result<bool, Alloc
 /// first of these. Else the only error is `Memory`.
 pub fn resolve(alloc: Global, base: &str, reference: &str) -> Result<String, ReferenceFault>
     ensures fault { IfSome (fault_of reference.now) (λ fault. result ≡ Err fault) }
-    ensures uri { IfOk result (λ uri. string_bytes uri ≡ resolved base.now reference.now) }
+    ensures uri { IfOk result (λ uri. string_bytes uri ≡ resolved_uri base.now reference.now) }
     ensures memory { IfNone (fault_of reference.now)
         (IfErr result (λ fault. fault ≡ ReferenceFault.Memory)) }
 {
@@ -210,7 +211,7 @@ pub fn resolve_below(alloc: Global, base: &str, reference: &str) -> Result<Strin
     ensures uri { IfOk result (λ uri. StandsFor base.now reference.now (string_bytes uri)) }
     ensures above { IfNone (fault_of reference.now) (IfErr result (λ fault.
         (fault ≡ ReferenceFault.Memory)
-        ⊎ ((fault ≡ ReferenceFault.Above) × LeadAbove (dotted base.now reference.now)))) }
+        ⊎ ((fault ≡ ReferenceFault.Above) × LeadAbove (target_segments base.now reference.now)))) }
 {
     if let Some(fault) = fault_of(reference) {
         return Err(fault);

@@ -3,8 +3,8 @@ ghost use Rattle.std.specs.Prelude.{◌≡◌, ◌++◌, IfOk, OnOk, drop, strin
 ghost use Rattle.std.specs.List.{before_first, list_all};
 ghost use Rattle.std.specs.Option.{option_copied};
 ghost use Rattle.rn_files.specs.Paths.{is_slash};
-ghost use Rattle.rn_files.specs.Uris.{authority_of, authority_text, behind_authority, behind_scheme, behind_slashes, from_slash, is_scheme, is_scheme_byte, parts_of, recomposed, scheme_of, scheme_text};
-ghost use Rattle.rn_files.specs.inside.Uris.{seen};
+ghost use Rattle.rn_files.specs.Uris.{authority_of, authority_text, behind_authority, behind_scheme, behind_slashes, from_slash, is_scheme, is_scheme_byte, parts_of, recomposed_uri, scheme_of, scheme_text};
+ghost use Rattle.rn_files.specs.inside.Uris.{parts_view};
 
 use std::alloc::{AllocError, Global};
 
@@ -92,7 +92,7 @@ fn split_authority(text: &str) -> (Option<&str>, &str)
 
 /// The parts of a URI or of a reference without query and fragment.
 pub fn split(text: &str) -> Parts<'_>
-    ensures { seen result ≡ parts_of text.now }
+    ensures { parts_view result ≡ parts_of text.now }
 {
     let (scheme, rest) = split_scheme(text);
     let (authority, path) = split_authority(rest);
@@ -129,7 +129,7 @@ fn push_authority(out: &mut String, authority: Option<&str>) -> Result<(), Alloc
 
 /// The text of parts (RFC 3986, section 5.3).
 pub fn recompose(alloc: Global, parts: &Parts<'_>) -> Result<String, AllocError>
-    ensures { IfOk result (λ text. string_bytes text ≡ recomposed (seen parts.now)) }
+    ensures { IfOk result (λ text. string_bytes text ≡ recomposed_uri (parts_view parts.now)) }
 {
     let mut out = String::new(alloc);
     push_scheme(&mut out, parts.scheme)?;

@@ -22,9 +22,9 @@ pub enum Origin {
     Map,
 }
 
-/// A file that was found.
+/// A file to which a word or a reference led; it may not be read yet.
 #[derive(Drop)]
-pub struct Found {
+pub struct FoundFile {
     /// Its real path, or `-`.
     pub path: String,
     /// The file as it is told to people.
@@ -39,7 +39,7 @@ pub struct Found {
 #[derive(Drop)]
 pub struct Entry {
     /// The file.
-    pub found: Found,
+    pub found: FoundFile,
     /// Where it was named first.
     pub place: FaultPlace,
 }
@@ -69,7 +69,7 @@ pub struct Walk {
 }
 
 impl Walk {
-    /// No files.
+    /// A walk that found no files yet.
     pub fn new(alloc: Global) -> Walk {
         Walk {
             entries: Vec::new(alloc),
@@ -125,7 +125,11 @@ impl Walk {
     }
 
     /// The number of a file that was found at a place; none where it would be one too many, which is a fault.
-    pub fn enter(&mut self, found: Found, place: FaultPlace) -> Result<Option<usize>, AllocError>
+    pub fn enter(
+        &mut self,
+        found: FoundFile,
+        place: FaultPlace,
+    ) -> Result<Option<usize>, AllocError>
         ensures { vec_len self.old.entries ≤ vec_len self.new.entries }
     {
         if let Some(number) = self.numbers.get(found.path.as_str()) {
@@ -139,7 +143,7 @@ impl Walk {
     }
 
     /// Puts a file behind the others.
-    fn add(&mut self, found: Found, place: FaultPlace) -> Result<Option<usize>, AllocError>
+    fn add(&mut self, found: FoundFile, place: FaultPlace) -> Result<Option<usize>, AllocError>
         ensures { vec_len self.old.entries ≤ vec_len self.new.entries }
     {
         let number = self.entries.len();

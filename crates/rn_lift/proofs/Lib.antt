@@ -1,3 +1,3 @@
 mod OneMore
-mod Modules
+mod LiftedModules
 mod StandIns

@@ -7,17 +7,17 @@ use Rattle.rn_outline.specs.declared.file_parts.PartKind.{PartKind}
 use Rattle.rn_outline.specs.declared.file_parts.PartKind.TheVariants.{Define, Start, Reference}
 use Rattle.rn_outline.specs.declared.file_parts.Span.{Span}
 use Rattle.rn_plan.specs.declared.given.Lifting.{Lifting}
-use Rattle.rn_lift.specs.Edits.{AreInTurn, edited}
-use Rattle.rn_lift.specs.Lifts.{bringing}
+use Rattle.rn_lift.specs.Edits.{AreInTurn, edited_bytes}
+use Rattle.rn_lift.specs.Lifts.{bringing_bytes}
 use Rattle.rn_lift.specs.StandIns.{IsEdit, Modules, Scopes, Stays}
 use Rattle.rn_lift.specs.declared.edits.Edit.{Edit}
 use Rattle.rn_lift.specs.declared.lifted.Basis.{Basis}
 use Rattle.rn_lift.specs.declared.lifted.LiftedModule.{LiftedModule}
 
 -- a text that begins with this one, and goes on with these bytes of a source, but for what is edited
-pub record IsWritten (front source : List ℕ) (from to : ℕ) (edits : List Edit) (text : List ℕ) : Type 0 where
+pub record IsEditedBehind (front source : List ℕ) (from to : ℕ) (edits : List Edit) (text : List ℕ) : Type 0 where
   pub in_turn : AreInTurn from to edits
-  pub is_text : text ≡ front ++ edited source from to edits
+  pub is_text : text ≡ front ++ edited_bytes source from to edits
 
 -- the declarations of a file, and further ones
 abbrev pub front : Lifting → List ℕ → List ℕ
@@ -41,8 +41,8 @@ pub record IsModuleOf (modules : Modules) (scopes : Scopes) (start : List ℕ) (
   pub are_edits : All (IsEdit modules scopes start b file.outline.now.parts.items named) edits
   pub others_stay : b.grammar ≡ 0 → OthersStay b file.outline.now.parts.items edits
   pub added_for : list_any (λ p. p.in_except) file.outline.now.parts.items ≡ false → added ≡ []
-  pub whole : IsWhole b added → IsWritten [] file.text.now 0 (length file.text.now) edits text
-  pub headed : (IsWhole b added → ⊥) → IsWritten (front file added) file.text.now inside.from inside.to edits text
+  pub whole : IsWhole b added → IsEditedBehind [] file.text.now 0 (length file.text.now) edits text
+  pub headed : (IsWhole b added → ⊥) → IsEditedBehind (front file added) file.text.now inside.from inside.to edits text
   pub of_file : b.grammar ≡ 0 → inside ≡ record { from = file.outline.now.body.from; to = length file.text.now }
 
 -- no other text stands in the place of a part like this in the scope of the roots
@@ -70,7 +70,7 @@ HasModule ms name b = (m : LiftedModule) × Contains ms m × (string_bytes m.nam
 -- a module of which this is all: it brings in a module of this name, and hands a namespace to it
 pub record BringsIn (name : List ℕ) (m : LiftedModule) : Type 0 where
   pub namespace : List ℕ
-  pub is_text : string_bytes m.text ≡ bringing namespace name
+  pub is_text : string_bytes m.text ≡ bringing_bytes namespace name
   pub has_no_basis : m.basis ≡ None
 
 -- a scope that is not that of the roots: its number, its stem, and its first module, which one of these modules brings in

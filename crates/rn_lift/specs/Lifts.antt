@@ -6,8 +6,8 @@ use Rattle.rn_text.specs.Literals.{literal_bytes}
 use Rattle.rn_lift.specs.declared.lifted.LiftedModule.{LiftedModule}
 
 -- a text that includes a module, and hands a namespace to it
-abbrev pub bringing : List ℕ → List ℕ → List ℕ
-bringing namespace included = codes "namespace handed = " ++ (literal_bytes namespace ++ (codes "\ninclude " ++ (literal_bytes included ++ codes " inherit = handed\n")))
+abbrev pub bringing_bytes : List ℕ → List ℕ → List ℕ
+bringing_bytes namespace included = codes "namespace handed = " ++ (literal_bytes namespace ++ (codes "\ninclude " ++ (literal_bytes included ++ codes " inherit = handed\n")))
 
 -- one name is below another, byte by byte
 abbrev pub IsBelow : LiftedModule → LiftedModule → Type 0

@@ -1,8 +1,8 @@
 // The bodies of definitions that an except may hold, cut into what is copied and what is replaced.
 ghost use Rattle.std.specs.Prelude.{◌<◌, length, IfOk};
-ghost use Rattle.rn_outline.specs.Cursor.{Advanced};
+ghost use Rattle.rn_text.specs.Reading.{Advanced};
 
-use rn_outline::{Part, PartKind, Span, note_end};
+use rn_outline::{Part, PartKind, Span, annotation_end};
 use rn_plan::Units;
 use rn_text::{Kind, Token, tokens};
 use std::alloc::{AllocError, Global};
@@ -128,7 +128,7 @@ impl Cutter {
         requires { at < length tokens.now }
         ensures { IfOk result (λ r. Advanced at r (length tokens.now)) }
     {
-        if let Some(end) = note_end(tokens, at) {
+        if let Some(end) = annotation_end(tokens, at) {
             return Ok(end);
         }
         let token = &tokens[at];

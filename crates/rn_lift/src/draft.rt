@@ -1,6 +1,6 @@
 // The text of a module while it is made, with the origin of each byte.
 ghost use Rattle.std.specs.Prelude.{◌≡◌, ◌≤◌, ◌++◌, [], length, slice_range, IfOk, OnOk, Some, string_bytes};
-ghost use Rattle.rn_lift.specs.Edits.{AreInTurn, edited};
+ghost use Rattle.rn_lift.specs.Edits.{AreInTurn, edited_bytes};
 
 use crate::edits::Edit;
 use crate::lifted::{Basis, LiftedModule, Piece};
@@ -104,7 +104,7 @@ impl<'a> Draft<'a> {
     /// the place of what they replace.
     pub(crate) fn apply(&mut self, edits: &[Edit], from: usize, to: usize) -> Result<(), LiftFault>
         ensures text { OnOk result (string_bytes self.new.text ≡ string_bytes self.old.text
-            ++ edited self.old.source.now from to edits.now) }
+            ++ edited_bytes self.old.source.now from to edits.now) }
         ensures in_turn { OnOk result (AreInTurn from to edits.now) }
     {
         let mut at = from;

@@ -4,7 +4,7 @@ ghost use Rattle.rn_lift.specs.LiftedModules.{OthersStay};
 ghost use Rattle.rn_lift.specs.inside.Planned.{AddsEdit, IsEditOf, StaysAt};
 
 use crate::excepts::Spliced;
-use crate::writing::{View, unsound_fault};
+use crate::module_texts::{PlaceView, unsound_fault};
 use rn_outline::Span;
 use rn_plan::{LiftFault, Unit};
 use std::alloc::Global;
@@ -21,7 +21,7 @@ pub(crate) struct Edit {
 /// What is put in the place of parts of a unit, or of their names.
 pub(crate) fn edits_of(
     alloc: Global,
-    view: &View<'_, '_>,
+    view: &PlaceView<'_, '_>,
     unit: &Unit,
     spliced: &Spliced,
 ) -> Result<Vec<Edit>, LiftFault>
@@ -42,7 +42,7 @@ pub(crate) fn edits_of(
 /// The same, of a file's own grammar: all parts of the file are looked through.
 fn edits_of_file(
     alloc: Global,
-    view: &View<'_, '_>,
+    view: &PlaceView<'_, '_>,
     spliced: &Spliced,
 ) -> Result<Vec<Edit>, LiftFault>
     ensures edits { IfOk result (λ v. All (IsEditOf view.now) v.items) }
@@ -61,7 +61,7 @@ fn edits_of_file(
 /// Adds what is put in the place of the part of this number, if something is.
 fn add_edit(
     alloc: Global,
-    view: &View<'_, '_>,
+    view: &PlaceView<'_, '_>,
     edits: &mut Vec<Edit>,
     number: usize,
     spliced: &Spliced,
@@ -79,7 +79,7 @@ fn add_edit(
 /// What is put in the place of the part of this number, or of its name.
 fn edit_of(
     alloc: Global,
-    view: &View<'_, '_>,
+    view: &PlaceView<'_, '_>,
     number: usize,
     spliced: &Spliced,
 ) -> Result<Option<Edit>, LiftFault>

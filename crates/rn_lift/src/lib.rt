@@ -8,9 +8,9 @@ mod edits;
 mod excepts;
 pub mod lifted;
 pub mod lifting;
+mod module_texts;
 mod prefixes;
 mod scope_definitions;
-mod writing;
 
 pub use excepts::MAX_EXCEPTS;
 pub use lifted::{Basis, Lifted, LiftedModule, Piece};

@@ -1,15 +1,15 @@
 // From files to modules.
 ghost use Rattle.std.specs.Prelude.{◌≡◌, ◌<◌, ◌⊎◌, ℕ, All, Contains, IfOk, IsPermutation, IsTrue, None, OnOk, drop, string_bytes, vec_len};
-ghost use Rattle.rn_lift.specs.Lifts.{AreRising, bringing};
+ghost use Rattle.rn_lift.specs.Lifts.{AreRising, bringing_bytes};
 ghost use Rattle.rn_lift.specs.LiftedModules.{AreMadeOfFiles, BringsIn, KeepsText};
-ghost use Rattle.rn_lift.specs.inside.Planned.{HasPlace, IsBrought, IsMadeOfPlace};
+ghost use Rattle.rn_lift.specs.inside.Planned.{HasPlace, IsBrought, IsModuleOfSomePlace};
 ghost use Rattle.rn_lift.specs.declared.lifted.LiftedModule.{LiftedModule};
-ghost use Rattle.rn_plan.specs.Free.{AreFree};
-ghost use Rattle.rn_plan.specs.Entries.{entry_of};
+ghost use Rattle.rn_plan.specs.FreeNames.{AreFree};
+ghost use Rattle.rn_plan.specs.ScopeEntries.{entry_of};
 
 use crate::excepts::Excepts;
 use crate::lifted::{Lifted, LiftedModule, Piece};
-use crate::writing::module_at;
+use crate::module_texts::module_at;
 use rn_plan::{LiftFault, LiftFaultKind, Lifting, Names, Plan, Scope, Units, make_plan};
 use rn_text::write_literal;
 use std::alloc::{AllocError, Global};
@@ -39,7 +39,7 @@ fn bringing_module(alloc: Global, plan: &Plan, scope: &Scope) -> Result<LiftedMo
 
 /// A text that includes a module, and hands a namespace to it.
 fn bringing_text(alloc: Global, namespace: &str, included: &str) -> Result<String, AllocError>
-    ensures { IfOk result (λ t. string_bytes t ≡ bringing namespace.now included.now) }
+    ensures { IfOk result (λ t. string_bytes t ≡ bringing_bytes namespace.now included.now) }
 {
     let mut text = String::from_str(alloc, "namespace handed = ")?;
     write_literal(&mut text, namespace)?;
@@ -55,7 +55,7 @@ fn place_modules(
     units: &Units<'_>,
     plan: &Plan,
 ) -> Result<Vec<LiftedModule>, LiftFault>
-    ensures made { IfOk result (λ v. All (IsMadeOfPlace units.now plan.now) v.items) }
+    ensures made { IfOk result (λ v. All (IsModuleOfSomePlace units.now plan.now) v.items) }
     ensures each { IfOk result (λ v. (k : ℕ) → k < vec_len plan.now.places
         → HasPlace units.now plan.now v.items k) }
 {

@@ -1,7 +1,8 @@
-// Limits that two crates have, of which neither stands on the other.
+// Limits that two crates have, of which neither stands on the other, and how sentences show them.
 use rn_lift::MAX_EXCEPTS;
 use rn_modset::MAX_TEXT;
-use rn_outline::{OutlineFault, read_outline};
+use rn_outline::{Grouped, OutlineFault, read_outline};
+use rn_plan::LiftFaultKind;
 use rn_syntax::{MAX_OPEN, SyntaxFault, parse};
 use rn_text::tokens;
 use std::alloc::{AllocError, Global};
@@ -49,4 +50,29 @@ fn files_and_modules_may_be_as_deep(rt: HostRuntime) {
 #[test]
 fn excepts_may_be_as_long_as_a_text(rt: HostRuntime) {
     assert_eq!(&rt; MAX_EXCEPTS, MAX_TEXT);
+}
+
+// Whether a number is shown like this.
+fn is_shown(rt: &(impl Abort + AllocGlobal), number: usize, wanted: &str) -> bool {
+    let number = Grouped(number);
+    let shown = format!(in rt.alloc(); "{number}").expect(rt, "no memory");
+    shown.as_str() == wanted
+}
+
+#[test]
+fn numbers_are_shown_in_threes(rt: HostRuntime) {
+    assert!(&rt; is_shown(&rt, 0, "0"));
+    assert!(&rt; is_shown(&rt, 999, "999"));
+    assert!(&rt; is_shown(&rt, 1_000, "1,000"));
+    assert!(&rt; is_shown(&rt, 65_536, "65,536"));
+    assert!(&rt; is_shown(&rt, 4_000_004, "4,000,004"));
+    assert!(&rt; is_shown(&rt, 1_000_000_000, "1,000,000,000"));
+    assert!(&rt; is_shown(&rt, usize::MAX, "18,446,744,073,709,551,615"));
+}
+
+#[test]
+fn the_sentence_on_modules_shows_its_limit_so(rt: HostRuntime) {
+    let kind = LiftFaultKind::Many;
+    let sentence = format!(in rt.alloc(); "{kind}").expect(&rt, "no memory");
+    assert_eq!(&rt; sentence.as_str(), "more than 65,536 modules");
 }

@@ -72,13 +72,19 @@ HasNoUnion bundles Full = IsTooMany bundles
 HasNoUnion bundles Memory = Unit {0}
 HasNoUnion bundles Write = ⊥
 
--- what came of a run: the bundles have a union, and its schema was written, all of it; or there is a refusal, which is the
--- first of the union, or its schema would be too long or too deep; or they have no union; or there is a schema, of which
--- the sink took a front and then failed
+-- what printing a set comes to: its schema was written, all of it; or there is a refusal, which is the first of the set, or its
+-- schema would be too long or too deep; or there is a schema, of which the sink took a front and then failed
+abbrev pub IsPrinting : List Member → Option (List ℕ) → Option (List ℕ) → Bool → Result Status RunFault → Type 0
+IsPrinting s old new failed (Ok Done) = (text : List ℕ) × IsSchema s text × Appends old new text × (failed ≡ false)
+IsPrinting s old new failed (Ok (Refused refusal)) = IsSomeAnd (verdict_view refusal) (IsVerdict s) × RefusesFirst s refusal
+IsPrinting s old new failed (Err Write) = (text : List ℕ) × IsSchema s text × AppendsFront old new text × (failed ≡ true)
+IsPrinting s old new failed (Err Memory) = Unit {0}
+IsPrinting s old new failed (Err fault) = ⊥
+
+-- what came of a run: the bundles have a union, and it was printed; or they have none
 abbrev pub IsRun : List (List ℕ) → Option (List ℕ) → Option (List ℕ) → Bool → Result Status RunFault → Type 0
-IsRun bundles old new failed (Ok Done) = (s : List Member) × (text : List ℕ) × IsUnion bundles s × IsSchema s text × Appends old new text × (failed ≡ false)
-IsRun bundles old new failed (Ok (Refused refusal)) = (s : List Member) × IsUnion bundles s × IsSomeAnd (verdict_view refusal) (IsVerdict s) × RefusesFirst s refusal
-IsRun bundles old new failed (Err Write) = (s : List Member) × (text : List ℕ) × IsUnion bundles s × IsSchema s text × AppendsFront old new text × (failed ≡ true)
+IsRun bundles old new failed (Ok status) = (s : List Member) × IsUnion bundles s × IsPrinting s old new failed (Ok status)
+IsRun bundles old new failed (Err Write) = (s : List Member) × IsUnion bundles s × IsPrinting s old new failed (Err Write)
 IsRun bundles old new failed (Err fault) = HasNoUnion bundles fault
 
 -- a run that comes to no text leaves the sink as it was

@@ -1,6 +1,6 @@
-// From bundles to the printed schema.
+// From bundles and sets to the printed schema.
 ghost use Rattle.std.specs.Prelude.{◌≡◌, false, IfOk, IfErr};
-ghost use Rattle.rn_merge.specs.Runs.{bundles_view, IsUnion, HasNoUnion, IsRun, LeavesSink};
+ghost use Rattle.rn_merge.specs.Runs.{bundles_view, IsUnion, HasNoUnion, IsPrinting, IsRun, LeavesSink};
 ghost use Rattle.rn_merge.specs.inside.Outcomes.{refusal_outcome};
 
 use crate::streams::{Sink, write_output};
@@ -74,12 +74,30 @@ pub fn read_bundles(alloc: Global, bundles: &[Vec<u8>]) -> Result<ModuleSet, Run
     Ok(union)
 }
 
-/// Writes the schema of the union of the bundles to a sink that has not failed, or answers the
-/// refusal that is the verdict of the union, of modules the first that stands. What is written has
-/// all that `merge` promises of a text. `Bundle` and `Full` where the bundles have no union, as
-/// [`read_bundles`] says them; `Memory` where a request for memory was refused; `Write` where the
-/// sink has failed, which then took a front of the text. In all other cases but `Done` nothing is
-/// written, and the sink is what it was.
+/// Writes the schema of a set to a sink that has not failed, or answers the refusal that is the
+/// set's verdict, of modules the first that stands. What is written has all that `merge` promises
+/// of a text. `Memory` where a request for memory was refused; `Write` where the sink has failed,
+/// which then took a front of the text. In all other cases but `Done` nothing is written, and the
+/// sink is what it was.
+pub fn print_set<W: Sink>(alloc: Global, set: &ModuleSet, out: &mut W) -> Result<Status, RunFault>
+    requires { W.has_failed out.old ≡ false }
+    ensures printing { IsPrinting set.now (W.contents out.old) (W.contents out.new)
+        (W.has_failed out.new) result }
+    ensures kept { LeavesSink result (out.new ≡ out.old) }
+{
+    let text = match merge(alloc, set) {
+        Ok(text) => text,
+        Err(refusal) => return refusal_outcome(refusal),
+    };
+    match write_output(out, text.as_bytes()) {
+        Ok(()) => Ok(Status::Done),
+        Err(_) => Err(RunFault::Write),
+    }
+}
+
+/// Writes the schema of the union of the bundles to a sink that has not failed, as [`print_set`]
+/// writes that of a set. `Bundle` and `Full` where the bundles have no union, as [`read_bundles`]
+/// says them. In all cases but `Done` and `Write` nothing is written, and the sink is what it was.
 pub fn run_print<W: Sink>(
     alloc: Global,
     bundles: &[Vec<u8>],
@@ -91,14 +109,7 @@ pub fn run_print<W: Sink>(
     ensures kept { LeavesSink result (out.new ≡ out.old) }
 {
     let union = read_bundles(alloc, bundles)?;
-    let text = match merge(alloc, &union) {
-        Ok(text) => text,
-        Err(refusal) => return refusal_outcome(refusal),
-    };
-    match write_output(out, text.as_bytes()) {
-        Ok(()) => Ok(Status::Done),
-        Err(_) => Err(RunFault::Write),
-    }
+    print_set(alloc, &union, out)
 }
 
 /// What a run comes to where `merge` refuses the union: want of memory is no refusal of the

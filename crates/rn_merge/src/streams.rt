@@ -207,6 +207,7 @@ pub fn read_input<S: Source>(
             Err(Failed) => return Err(ReadFault::Read),
         };
         if given == 0 {
+            bytes.shrink_to_fit();
             return Ok(bytes);
         }
         if given > limit - bytes.len() {

@@ -1,4 +1,4 @@
-pub mod Cursor
+pub mod GroupedDigits
 pub mod Links
 pub mod Outlines
 pub mod Spans

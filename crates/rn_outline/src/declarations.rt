@@ -1,7 +1,6 @@
 // Declarations of prefixes (compact syntax, section 2, decl).
 ghost use Rattle.std.specs.Prelude.{◌<◌, ◌≤◌, length, IfOk, IfSome};
-ghost use Rattle.rn_outline.specs.Cursor.{Advanced};
-ghost use Rattle.rn_outline.specs.inside.Cursor.{Passed};
+ghost use Rattle.rn_text.specs.Reading.{Advanced, Passed};
 
 use crate::file_parts::{Declaration, DeclarationKind, Span, Uri};
 use crate::outline_fault::Stop;

@@ -1,10 +1,10 @@
 // Items of grammars and of includes (compact syntax, section 2, grammarContent and includeContent).
 ghost use Rattle.std.specs.Prelude.{◌<◌, ◌≤◌, ◌+◌, length};
-ghost use Rattle.rn_outline.specs.inside.Cursor.{GoesOn};
+ghost use Rattle.rn_text.specs.Reading.{GoesPast};
 
 use crate::file_parts::{Method, PartKind};
 use crate::outline_fault::Stop;
-use crate::reader::{Frame, Mode, Reader};
+use crate::outline_reader::{Frame, Mode, Reader};
 use crate::signs::{Sign, Word, end, sign_at, span};
 use crate::skips::{annotation, inherit, left_brace, literal_at};
 use rn_text::Token;
@@ -12,7 +12,7 @@ use rn_text::Token;
 /// Reads the front of an item, or the end of the items.
 pub(crate) fn item(reader: &mut Reader, tokens: &[Token<'_>], at: usize) -> Result<usize, Stop>
     requires { at ≤ length tokens.now }
-    ensures { GoesOn at (length tokens.now) result }
+    ensures { GoesPast at (length tokens.now) result }
 {
     match sign_at(tokens, at) {
         Sign::LeftBracket => annotation(tokens, at),
@@ -36,7 +36,7 @@ pub(crate) fn item(reader: &mut Reader, tokens: &[Token<'_>], at: usize) -> Resu
 /// A definition, or an annotation element.
 fn named_item(reader: &mut Reader, tokens: &[Token<'_>], at: usize) -> Result<usize, Stop>
     requires { at < length tokens.now }
-    ensures { GoesOn at (length tokens.now) result }
+    ensures { GoesPast at (length tokens.now) result }
 {
     match sign_at(tokens, at + 1) {
         Sign::LeftBracket => annotation(tokens, at + 1),
@@ -65,7 +65,7 @@ fn define(reader: &mut Reader, tokens: &[Token<'_>], at: usize, method: Method) 
 
 fn start(reader: &mut Reader, tokens: &[Token<'_>], at: usize) -> Result<usize, Stop>
     requires { at < length tokens.now }
-    ensures { GoesOn at (length tokens.now) result }
+    ensures { GoesPast at (length tokens.now) result }
 {
     let Sign::Assign(method) = sign_at(tokens, at + 1) else {
         return Err(Stop::Stuck(at + 1));
@@ -85,7 +85,7 @@ fn start(reader: &mut Reader, tokens: &[Token<'_>], at: usize) -> Result<usize, 
 
 fn include(reader: &mut Reader, tokens: &[Token<'_>], at: usize) -> Result<usize, Stop>
     requires { at < length tokens.now }
-    ensures { GoesOn at (length tokens.now) result }
+    ensures { GoesPast at (length tokens.now) result }
 {
     if reader.within.is_some() {
         return Err(Stop::Stuck(at));
@@ -136,7 +136,7 @@ fn close(reader: &mut Reader, end: usize) -> Option<()> {
 /// Ends the definition that is read before a token, and reads on.
 pub(crate) fn next_item(reader: &mut Reader, tokens: &[Token<'_>], at: usize) -> Result<usize, Stop>
     requires { at ≤ length tokens.now }
-    ensures { GoesOn at (length tokens.now) result }
+    ensures { GoesPast at (length tokens.now) result }
 {
     reader.end_body(end(tokens, at));
     item(reader, tokens, at)

@@ -3,21 +3,23 @@
 //! 4.7, 4.18, 4.19). Nothing of an outline is borrowed, so it is kept beside its text.
 #![tactic(auto)]
 
+pub mod annotations;
 mod declarations;
 pub mod file_parts;
+mod grouped;
 mod items;
-pub mod notes;
 mod operands;
 pub mod outline;
 pub mod outline_fault;
-mod reader;
+mod outline_reader;
 mod signs;
 mod skips;
 
+pub use annotations::annotation_end;
 pub use file_parts::{
     Declaration, DeclarationKind, Method, Outline, Part, PartKind, Shape, Span, Uri, is_link,
     name_in,
 };
-pub use notes::note_end;
+pub use grouped::Grouped;
 pub use outline::{MAX_OPEN, read_outline};
 pub use outline_fault::OutlineFault;

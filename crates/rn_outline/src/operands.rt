@@ -1,11 +1,11 @@
 // Operands of patterns, and what stands behind them (compact syntax, section 2, pattern).
 ghost use Rattle.std.specs.Prelude.{◌≡◌, ◌<◌, ◌≤◌, length, IfOk};
-ghost use Rattle.rn_outline.specs.inside.Cursor.{GoesOn, MayGoOn, Passed};
+ghost use Rattle.rn_text.specs.Reading.{GoesPast, MayGoPast, Passed};
 
 use crate::file_parts::{PartKind, Span};
 use crate::items::next_item;
 use crate::outline_fault::Stop;
-use crate::reader::{Frame, Mode, Reader};
+use crate::outline_reader::{Frame, Mode, Reader};
 use crate::signs::{Sign, Word, end, sign_at, span};
 use crate::skips::{
     annotation, follow, ident, inherit, left_brace, literal_at, name_class, params, segments,
@@ -15,7 +15,7 @@ use rn_text::Token;
 /// Reads an operand, or its front up to the bracket behind which more patterns stand.
 pub(crate) fn operand(reader: &mut Reader, tokens: &[Token<'_>], at: usize) -> Result<usize, Stop>
     requires { at ≤ length tokens.now }
-    ensures { GoesOn at (length tokens.now) result }
+    ensures { GoesPast at (length tokens.now) result }
 {
     match sign_at(tokens, at) {
         Sign::LeftBracket => annotation(tokens, at),
@@ -43,7 +43,7 @@ pub(crate) fn operand(reader: &mut Reader, tokens: &[Token<'_>], at: usize) -> R
 /// The same, where it begins with this keyword.
 fn keyword(reader: &mut Reader, tokens: &[Token<'_>], at: usize, word: Word) -> Result<usize, Stop>
     requires { at < length tokens.now }
-    ensures { GoesOn at (length tokens.now) result }
+    ensures { GoesPast at (length tokens.now) result }
 {
     match word {
         Word::Datatype => datatype(reader, tokens, at + 1),
@@ -83,7 +83,7 @@ fn content(reader: &mut Reader, inside: usize) -> Result<usize, Stop>
 /// What may stand behind the name of a datatype: a literal makes it a value; parameters and an except may follow.
 fn datatype(reader: &mut Reader, tokens: &[Token<'_>], at: usize) -> Result<usize, Stop>
     requires { at ≤ length tokens.now }
-    ensures { MayGoOn at (length tokens.now) result }
+    ensures { MayGoPast at (length tokens.now) result }
 {
     match sign_at(tokens, at) {
         Sign::Segment => {
@@ -117,7 +117,7 @@ fn except(reader: &mut Reader, tokens: &[Token<'_>], at: usize) -> usize
 
 fn parent(reader: &mut Reader, tokens: &[Token<'_>], at: usize) -> Result<usize, Stop>
     requires { at < length tokens.now }
-    ensures { GoesOn at (length tokens.now) result }
+    ensures { GoesPast at (length tokens.now) result }
 {
     let end = ident(tokens, at + 1)?;
     let name = span(tokens, at + 1, end);
@@ -128,7 +128,7 @@ fn parent(reader: &mut Reader, tokens: &[Token<'_>], at: usize) -> Result<usize,
 
 fn external(reader: &mut Reader, tokens: &[Token<'_>], at: usize) -> Result<usize, Stop>
     requires { at < length tokens.now }
-    ensures { GoesOn at (length tokens.now) result }
+    ensures { GoesPast at (length tokens.now) result }
 {
     let (literal, literal_at, behind) = literal_at(reader.alloc, tokens, at + 1)?;
     let (inherit, end) = inherit(tokens, behind)?;
@@ -145,7 +145,7 @@ fn external(reader: &mut Reader, tokens: &[Token<'_>], at: usize) -> Result<usiz
 /// Opens a nested grammar.
 fn grammar(reader: &mut Reader, tokens: &[Token<'_>], at: usize) -> Result<usize, Stop>
     requires { at < length tokens.now }
-    ensures { GoesOn at (length tokens.now) result }
+    ensures { GoesPast at (length tokens.now) result }
 {
     let inside = left_brace(tokens, at + 1)?;
     let number = reader.grammars;
@@ -180,7 +180,7 @@ pub(crate) fn behind_operand(
     at: usize,
 ) -> Result<usize, Stop>
     requires { at ≤ length tokens.now }
-    ensures { GoesOn at (length tokens.now) result }
+    ensures { GoesPast at (length tokens.now) result }
 {
     match sign_at(tokens, at) {
         Sign::Follow => follow(tokens, at + 1),
@@ -204,7 +204,7 @@ pub(crate) fn behind_operand(
 /// Reads the end of a pattern.
 fn pattern_end(reader: &mut Reader, tokens: &[Token<'_>], at: usize) -> Result<usize, Stop>
     requires { at ≤ length tokens.now }
-    ensures { GoesOn at (length tokens.now) result }
+    ensures { GoesPast at (length tokens.now) result }
 {
     match (reader.top(), sign_at(tokens, at)) {
         (Some(Frame::Parens { .. }), Sign::RightParen) | (Some(Frame::Content), Sign::RightBrace) =>

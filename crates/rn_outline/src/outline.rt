@@ -1,6 +1,6 @@
 // The outline of a text.
 ghost use Rattle.std.specs.Prelude.{◌<◌, ◌≤◌, ◌+◌, length, IfOk, IfSome, IsTrue};
-ghost use Rattle.rn_outline.specs.inside.Cursor.{GoesOn, MayGoOn};
+ghost use Rattle.rn_text.specs.Reading.{GoesPast, MayGoPast};
 ghost use Rattle.rn_outline.specs.Outlines.{IsOutline};
 ghost use Rattle.rn_outline.specs.Spans.{AreApart, AreInOrder};
 
@@ -9,7 +9,7 @@ use crate::file_parts::{Method, Outline, Part, PartKind, Shape, Span};
 use crate::items::item;
 use crate::operands::{behind_operand, operand};
 use crate::outline_fault::{OutlineFault, Stop};
-use crate::reader::{Frame, Mode, Reader};
+use crate::outline_reader::{Frame, Mode, Reader};
 use crate::signs::{Sign, Word, begin, end, sign_at, span};
 use crate::skips::{annotation, follow, left_brace, word};
 use rn_text::Token;
@@ -42,7 +42,7 @@ fn bracket_too_deep(tokens: &[Token<'_>]) -> Option<usize> {
 /// What stands behind the annotations that come.
 fn skip_annotations(tokens: &[Token<'_>], mut at: usize) -> Result<usize, Stop>
     requires { at ≤ length tokens.now }
-    ensures { MayGoOn at (length tokens.now) result }
+    ensures { MayGoPast at (length tokens.now) result }
 {
     'annotations: while let Sign::LeftBracket = sign_at(tokens, at) {
         at = annotation(tokens, at)?;
@@ -135,7 +135,7 @@ fn begin_pattern(reader: &mut Reader, at: Span) -> Result<(), Stop> {
 /// Reads on at a token.
 fn step(reader: &mut Reader, tokens: &[Token<'_>], at: usize) -> Result<usize, Stop>
     requires { at ≤ length tokens.now }
-    ensures { GoesOn at (length tokens.now) result }
+    ensures { GoesPast at (length tokens.now) result }
 {
     match reader.mode {
         Mode::Item => item(reader, tokens, at),

@@ -1,6 +1,6 @@
 // What the reader of outlines sees of tokens.
 ghost use Rattle.std.specs.Prelude.{length};
-ghost use Rattle.rn_outline.specs.inside.Cursor.{IsInside};
+ghost use Rattle.rn_outline.specs.inside.Signs.{IsInside};
 
 use crate::file_parts::{Method, Span};
 use rn_text::{Keyword, Kind, Token, keyword_of};

@@ -1,7 +1,6 @@
 // Runs of tokens that hold no part: annotations, literals, parameters, name classes.
 ghost use Rattle.std.specs.Prelude.{◌<◌, ◌≤◌, length, IfOk, IsTrue};
-ghost use Rattle.rn_outline.specs.Cursor.{Advanced};
-ghost use Rattle.rn_outline.specs.inside.Cursor.{GoesOn, MayGoOn, Passed};
+ghost use Rattle.rn_text.specs.Reading.{Advanced, GoesPast, MayGoPast, Passed};
 
 use crate::file_parts::{Method, Span};
 use crate::outline_fault::Stop;
@@ -12,7 +11,7 @@ use std::alloc::Global;
 /// What stands behind a `[`, up to its `]`.
 fn closed_brackets(tokens: &[Token<'_>], mut at: usize) -> Result<usize, Stop>
     requires { at ≤ length tokens.now }
-    ensures { GoesOn at (length tokens.now) result }
+    ensures { GoesPast at (length tokens.now) result }
 {
     let mut depth: usize = 0;
     'closed: loop {
@@ -38,7 +37,7 @@ fn closed_brackets(tokens: &[Token<'_>], mut at: usize) -> Result<usize, Stop>
 /// What stands behind `[ .. ]` (compact syntax, section 2, annotations).
 pub(crate) fn annotation(tokens: &[Token<'_>], at: usize) -> Result<usize, Stop>
     requires { at ≤ length tokens.now }
-    ensures { GoesOn at (length tokens.now) result }
+    ensures { GoesPast at (length tokens.now) result }
 {
     match sign_at(tokens, at) {
         Sign::LeftBracket => closed_brackets(tokens, at + 1),
@@ -49,7 +48,7 @@ pub(crate) fn annotation(tokens: &[Token<'_>], at: usize) -> Result<usize, Stop>
 /// What stands behind an annotation, if one comes.
 pub(crate) fn skip_annotation(tokens: &[Token<'_>], at: usize) -> Result<usize, Stop>
     requires { at ≤ length tokens.now }
-    ensures { MayGoOn at (length tokens.now) result }
+    ensures { MayGoPast at (length tokens.now) result }
 {
     match sign_at(tokens, at) {
         Sign::LeftBracket => closed_brackets(tokens, at + 1),
@@ -60,7 +59,7 @@ pub(crate) fn skip_annotation(tokens: &[Token<'_>], at: usize) -> Result<usize, 
 /// What stands behind a name and `[ .. ]`, behind `>>`.
 pub(crate) fn follow(tokens: &[Token<'_>], at: usize) -> Result<usize, Stop>
     requires { at ≤ length tokens.now }
-    ensures { GoesOn at (length tokens.now) result }
+    ensures { GoesPast at (length tokens.now) result }
 {
     match sign_at(tokens, at) {
         Sign::Ident | Sign::Word(_) | Sign::Prefixed => annotation(tokens, at + 1),
@@ -71,7 +70,7 @@ pub(crate) fn follow(tokens: &[Token<'_>], at: usize) -> Result<usize, Stop>
 /// What stands behind the `{` of an element or an attribute, whose name class comes (compact syntax, section 2, nameClass).
 pub(crate) fn name_class(tokens: &[Token<'_>], mut at: usize) -> Result<usize, Stop>
     requires { at ≤ length tokens.now }
-    ensures { GoesOn at (length tokens.now) result }
+    ensures { GoesPast at (length tokens.now) result }
 {
     let mut depth: usize = 0;
     let mut is_read = false;
@@ -114,7 +113,7 @@ fn is_right_brace(tokens: &[Token<'_>], at: usize) -> bool
 /// What stands behind a word, `=` and a literal.
 fn param(tokens: &[Token<'_>], at: usize) -> Result<usize, Stop>
     requires { at ≤ length tokens.now }
-    ensures { GoesOn at (length tokens.now) result }
+    ensures { GoesPast at (length tokens.now) result }
 {
     let body = skip_annotation(tokens, at)?;
     let equals = word(tokens, body)?;
@@ -125,7 +124,7 @@ fn param(tokens: &[Token<'_>], at: usize) -> Result<usize, Stop>
 /// What stands behind the parameters of a datatype, behind their `{`.
 pub(crate) fn params(tokens: &[Token<'_>], mut at: usize) -> Result<usize, Stop>
     requires { at ≤ length tokens.now }
-    ensures { GoesOn at (length tokens.now) result }
+    ensures { GoesPast at (length tokens.now) result }
 {
     'params: while !is_right_brace(tokens, at) {
         at = param(tokens, at)?;
@@ -136,7 +135,7 @@ pub(crate) fn params(tokens: &[Token<'_>], mut at: usize) -> Result<usize, Stop>
 /// What stands behind a name or a keyword.
 pub(crate) fn word(tokens: &[Token<'_>], at: usize) -> Result<usize, Stop>
     requires { at ≤ length tokens.now }
-    ensures { GoesOn at (length tokens.now) result }
+    ensures { GoesPast at (length tokens.now) result }
 {
     match sign_at(tokens, at) {
         Sign::Ident | Sign::Word(_) => Ok(at + 1),
@@ -147,7 +146,7 @@ pub(crate) fn word(tokens: &[Token<'_>], at: usize) -> Result<usize, Stop>
 /// What stands behind a name that is no keyword.
 pub(crate) fn ident(tokens: &[Token<'_>], at: usize) -> Result<usize, Stop>
     requires { at ≤ length tokens.now }
-    ensures { GoesOn at (length tokens.now) result }
+    ensures { GoesPast at (length tokens.now) result }
 {
     match sign_at(tokens, at) {
         Sign::Ident => Ok(at + 1),
@@ -158,7 +157,7 @@ pub(crate) fn ident(tokens: &[Token<'_>], at: usize) -> Result<usize, Stop>
 /// What stands behind `=`.
 pub(crate) fn plain_assign(tokens: &[Token<'_>], at: usize) -> Result<usize, Stop>
     requires { at ≤ length tokens.now }
-    ensures { GoesOn at (length tokens.now) result }
+    ensures { GoesPast at (length tokens.now) result }
 {
     match sign_at(tokens, at) {
         Sign::Assign(method) => match method {
@@ -172,7 +171,7 @@ pub(crate) fn plain_assign(tokens: &[Token<'_>], at: usize) -> Result<usize, Sto
 /// What stands behind `{`.
 pub(crate) fn left_brace(tokens: &[Token<'_>], at: usize) -> Result<usize, Stop>
     requires { at ≤ length tokens.now }
-    ensures { GoesOn at (length tokens.now) result }
+    ensures { GoesPast at (length tokens.now) result }
 {
     match sign_at(tokens, at) {
         Sign::LeftBrace => Ok(at + 1),
@@ -183,7 +182,7 @@ pub(crate) fn left_brace(tokens: &[Token<'_>], at: usize) -> Result<usize, Stop>
 /// What stands behind a segment.
 fn segment(tokens: &[Token<'_>], at: usize) -> Result<usize, Stop>
     requires { at ≤ length tokens.now }
-    ensures { GoesOn at (length tokens.now) result }
+    ensures { GoesPast at (length tokens.now) result }
 {
     match sign_at(tokens, at) {
         Sign::Segment => Ok(at + 1),
@@ -194,7 +193,7 @@ fn segment(tokens: &[Token<'_>], at: usize) -> Result<usize, Stop>
 /// What stands behind a literal: segments with `~` between each two (compact syntax, section 2, literal).
 pub(crate) fn segments(tokens: &[Token<'_>], at: usize) -> Result<usize, Stop>
     requires { at ≤ length tokens.now }
-    ensures { GoesOn at (length tokens.now) result }
+    ensures { GoesPast at (length tokens.now) result }
 {
     let mut end = segment(tokens, at)?;
     'segments: while let Sign::Tilde = sign_at(tokens, end) {

@@ -9,4 +9,5 @@ pub mod SortedBy
 pub mod SortedMembers
 pub mod Equal
 pub mod Stepwise
+pub mod ByHeads
 pub mod PatternKinds

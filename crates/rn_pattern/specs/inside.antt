@@ -7,7 +7,7 @@ pub mod Lists
 pub mod Reduced
 pub mod NameParts
 pub mod Hashing
-pub mod Compared
 pub mod Count
 pub mod Marking
+pub mod RowEnds
 pub mod Searching

@@ -4,6 +4,7 @@ ghost use Rattle.std.specs.Prelude.{◌≡◌, ℕ, ◌+◌, ◌<◌, ◌≤◌,
 ghost use Rattle.rn_pattern.specs.Graph.{AllBelow, row, IsGraph, is_marked, Reached, rows_of};
 ghost use Rattle.rn_pattern.specs.inside.Marking.{Agrees, Marks};
 
+use crate::rows::Rows;
 use std::alloc::{AllocError, Global};
 
 /// Marks a node, and lists it if it was not marked before.
@@ -33,24 +34,12 @@ fn mark_all(seen: &mut Vec<bool>, order: &mut Vec<usize>, row: &[usize]) -> Resu
     Ok(())
 }
 
-/// The nodes that the edges of a node lead to.
-pub fn row_at(edges: &[Vec<usize>], node: usize) -> &[usize]
-    requires { node < length edges.now }
-    ensures { result.now ≡ row (rows_of edges.now) node }
-{
-    &edges[node]
-}
-
 /// For each node, whether it is one of the first or is reached from them. The only error is want of memory; the edges and the
 /// first nodes are what they were.
-pub fn reached_nodes(
-    alloc: Global,
-    edges: &[Vec<usize>],
-    first: &[usize],
-) -> Result<Vec<bool>, AllocError>
+pub fn reached_nodes(alloc: Global, edges: &Rows, first: &[usize]) -> Result<Vec<bool>, AllocError>
     requires graph { IsGraph (rows_of edges.now) }
-    requires first_within { AllBelow (length edges.now) first.now }
-    ensures size { IfOk result (λ seen. length seen.items ≡ length edges.now) }
+    requires first_within { AllBelow (length (rows_of edges.now)) first.now }
+    ensures size { IfOk result (λ seen. length seen.items ≡ length (rows_of edges.now)) }
     ensures exact { IfOk result (λ seen. (x : ℕ)
         → (is_marked seen.items x ≡ true) ↔ Reached (rows_of edges.now) first.now x) }
 {
@@ -59,9 +48,31 @@ pub fn reached_nodes(
     mark_all(&mut seen, &mut order, first)?;
     let mut next = 0;
     while next < order.len() {
-        let row = row_at(edges, order[next]);
+        let row = edges.row(order[next]);
         mark_all(&mut seen, &mut order, row)?;
         next += 1;
     }
     Ok(seen)
+}
+
+/// The edges from marked nodes alone: the rows of the others are empty. The only error is want of memory; the edges are what
+/// they were.
+pub fn marked_rows(alloc: Global, edges: &Rows, marks: &[bool]) -> Result<Rows, AllocError>
+    requires { length marks.now ≡ length (rows_of edges.now) }
+    ensures size { IfOk result (λ rows. length (rows_of rows) ≡ length (rows_of edges.now)) }
+    ensures kept { IfOk result (λ rows. (node : ℕ) → row (rows_of rows) node
+        ≡ (if is_marked marks.now node then row (rows_of edges.now) node else [])) }
+{
+    let mut rows = Rows::with_capacity(alloc, edges.len())?;
+    for node in 0..edges.len() {
+        rows.push_row(kept_row(edges.row(node), marks[node]))?;
+    }
+    Ok(rows)
+}
+
+/// The row, or an empty one.
+fn kept_row(row: &[usize], is_kept: bool) -> &[usize]
+    ensures { result.now ≡ (if is_kept then row.now else []) }
+{
+    if is_kept { row } else { &[] }
 }

@@ -7,8 +7,9 @@ ghost use Rattle.rn_pattern.specs.inside.PartViews.{name_classes_view};
 ghost use Rattle.rn_pattern.specs.inside.Hashing.{node_eq_equiv, node_eq_writes};
 ghost use Rattle.std.specs.Cmp.{partial_equiv_from_equiv};
 
+use crate::heads::compare_heads;
 use crate::node::{Node, NodeId};
-use crate::node_parts::{compare_heads, kind, parts_of};
+use crate::node_parts::{kind, parts_of};
 use crate::tree::NameClass;
 use std::cmp::Ordering;
 use std::hash::{Hash, Hasher};
@@ -21,7 +22,7 @@ impl PartialEq for Node<NodeId> {
     fn eq(&self, other: &Node<NodeId>) -> bool {
         let x = parts_of(self);
         let y = parts_of(other);
-        match compare_heads(x, y) {
+        match compare_heads(x.heads, y.heads) {
             Ordering::Equal => x.members == y.members,
             _ => false,
         }

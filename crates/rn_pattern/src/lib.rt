@@ -10,7 +10,7 @@
 //!
 //! [`laws`] has what is proved of canonical patterns; [`examples`] has documents that are valid and documents that are not.
 //! [`name_classes`] has the restrictions on name classes (4.16). [`graph`] and [`ranks`] walk graphs whose nodes are numbers:
-//! definitions and what they refer to, modules and what they include.
+//! definitions and what they refer to, modules and what they include. The edges of a graph are [`Rows`].
 #![tactic(auto)]
 
 mod canonical;
@@ -18,6 +18,7 @@ mod connector;
 mod copies;
 pub mod graph;
 mod hashing;
+mod heads;
 pub mod interned;
 mod name_class;
 pub mod name_classes;
@@ -28,6 +29,7 @@ mod order;
 pub mod pattern_store;
 pub mod plain;
 pub mod ranks;
+pub mod rows;
 mod search;
 pub mod seed;
 pub mod steps;
@@ -38,6 +40,7 @@ pub use interned::Interned;
 pub use node::{Node, NodeId};
 pub use pattern_store::Patterns;
 pub use plain::Plain;
+pub use rows::Rows;
 pub use seed::Seed;
 pub use tree::{Data, NameClass, Pattern, Value};
 

@@ -6,8 +6,9 @@ ghost use Rattle.rn_pattern.specs.Order.{tree_cmp};
 ghost use Rattle.rn_pattern.specs.inside.Shown.{ShowsTree, part_texts};
 ghost use Rattle.rn_pattern.specs.Store.{node_view};
 
+use crate::heads::compare_heads;
 use crate::node::{Node, NodeId};
-use crate::node_parts::{Parts, bare_parts, compare_heads, parts_of};
+use crate::node_parts::{Parts, bare_parts, parts_of};
 use std::cmp::Ordering;
 
 /// The nodes of a store in the order of their ids, borrowed.
@@ -33,9 +34,9 @@ impl<'a> NodeTable<'a> {
 
     /// The parts of the pattern at a place, of `notAllowed` where there is none.
     fn parts(&self, id: NodeId) -> Parts<'a>
-        ensures { ShowsTree (tree_in self.now) (tree_in self.now id) id.0 result.kind
-            (part_texts result) result.parameters.now
-            (option_copied result.class) result.members.now }
+        ensures { ShowsTree (tree_in self.now) (tree_in self.now id) id.0 result.heads.kind
+            (part_texts result.heads) result.heads.parameters.now
+            (option_copied result.heads.class) result.members.now }
     {
         if id.0 < self.nodes.len() {
             parts_of(self.get(id))
@@ -65,7 +66,7 @@ impl<'a> NodeTable<'a> {
         }
         let x = self.parts(a);
         let y = self.parts(b);
-        match compare_heads(x, y) {
+        match compare_heads(x.heads, y.heads) {
             Ordering::Equal => {}
             order => return order,
         }

@@ -1,11 +1,12 @@
 // The order of name classes and of patterns: by kind, then by the parts from left to right.
 ghost use Rattle.std.specs.Prelude.{◌≡◌};
-ghost use Rattle.rn_pattern.specs.inside.Compared.{data_cmp, value_cmp};
 ghost use Rattle.rn_pattern.specs.Order.{name_cmp, name_rank, names_cmp, rank, tree_cmp, trees_cmp};
 ghost use Rattle.rn_pattern.specs.View.{excepted_view, name_class_view, pattern_view};
 ghost use Rattle.rn_pattern.specs.inside.PartViews.{except_view, name_classes_view, patterns_view};
+ghost use Rattle.rn_pattern.specs.inside.Shown.{names_in, parameters_in, part_class, part_parameters, part_texts, texts_in};
 
-use crate::tree::{Data, NameClass, Pattern, Value};
+use crate::heads::{Heads, bare_heads, compare_heads};
+use crate::tree::{NameClass, Pattern};
 use std::cmp::Ordering;
 use std::rc::Rc;
 
@@ -100,6 +101,36 @@ impl Pattern {
         }
     }
 
+    /// What the order compares first.
+    fn heads(&self) -> Heads<'_>
+        ensures kind { result.kind ≡ rank (pattern_view self.now) }
+        ensures texts { part_texts result ≡ texts_in (pattern_view self.now) }
+        ensures parameters { part_parameters result ≡ parameters_in (pattern_view self.now) }
+        ensures class { part_class result ≡ names_in (pattern_view self.now) }
+    {
+        let bare = bare_heads(self.rank());
+        match self {
+            Pattern::Ref(first) => Heads { first, ..bare },
+            Pattern::Value(value) => Heads {
+                first: &value.library,
+                second: &value.type_name,
+                third: &value.text,
+                ..bare
+            },
+            Pattern::Datum(data, _) => Heads {
+                first: &data.library,
+                second: &data.type_name,
+                parameters: &data.params,
+                ..bare
+            },
+            Pattern::Attribute(class, _) | Pattern::Element(class, _) => Heads {
+                class: Some(class),
+                ..bare
+            },
+            _ => bare,
+        }
+    }
+
     /// The order of patterns: notAllowed, empty, text, ref, value, data, list, attribute, element, oneOrMore, group,
     /// interleave, choice; within a kind by the fields from left to right. Texts are compared by bytes; no except stands
     /// before an except, and a list before each longer one that it begins.
@@ -107,56 +138,21 @@ impl Pattern {
     pub fn cmp(&self, other: &Pattern) -> Ordering
         ensures { result ≡ tree_cmp (pattern_view self.now) (pattern_view other.now) }
     {
+        match compare_heads(self.heads(), other.heads()) {
+            Ordering::Equal => {}
+            order => return order,
+        }
         match (self, other) {
-            (Pattern::Ref(x), Pattern::Ref(y)) => x.cmp(y),
-            (Pattern::Value(v), Pattern::Value(w)) => compare_values(v, w),
-            (Pattern::Datum(d, p), Pattern::Datum(e, q)) => match compare_data(d, e) {
-                Ordering::Equal => compare_excepted(p, q),
-                order => order,
-            },
+            (Pattern::Datum(_, p), Pattern::Datum(_, q)) => compare_excepted(p, q),
             (Pattern::List(p), Pattern::List(q)) => p.cmp(q),
-            (Pattern::Attribute(c, p), Pattern::Attribute(d, q)) => match c.cmp(d) {
-                Ordering::Equal => p.cmp(q),
-                order => order,
-            },
-            (Pattern::Element(c, p), Pattern::Element(d, q)) => match c.cmp(d) {
-                Ordering::Equal => p.cmp(q),
-                order => order,
-            },
+            (Pattern::Attribute(_, p), Pattern::Attribute(_, q)) => p.cmp(q),
+            (Pattern::Element(_, p), Pattern::Element(_, q)) => p.cmp(q),
             (Pattern::OneOrMore(p), Pattern::OneOrMore(q)) => p.cmp(q),
             (Pattern::Group(ps), Pattern::Group(qs)) => compare_patterns(ps, qs),
             (Pattern::Interleave(ps), Pattern::Interleave(qs)) => compare_patterns(ps, qs),
             (Pattern::Choice(ps), Pattern::Choice(qs)) => compare_patterns(ps, qs),
-            _ => self.rank().cmp(&other.rank()),
+            _ => Ordering::Equal,
         }
-    }
-}
-
-/// By the library, the type and the text.
-fn compare_values(v: &Value, w: &Value) -> Ordering
-    ensures { result ≡ value_cmp v.now w.now }
-{
-    match v.library.cmp(&w.library) {
-        Ordering::Equal => {}
-        order => return order,
-    }
-    match v.type_name.cmp(&w.type_name) {
-        Ordering::Equal => v.text.cmp(&w.text),
-        order => order,
-    }
-}
-
-/// By the library, the type and the parameters.
-fn compare_data(d: &Data, e: &Data) -> Ordering
-    ensures { result ≡ data_cmp d.now e.now }
-{
-    match d.library.cmp(&e.library) {
-        Ordering::Equal => {}
-        order => return order,
-    }
-    match d.type_name.cmp(&e.type_name) {
-        Ordering::Equal => d.params.cmp(&e.params),
-        order => order,
     }
 }
 

@@ -4,6 +4,7 @@ ghost use Rattle.std.specs.Prelude.{◌<◌, length, IfOk, IfSome, MatchOption};
 ghost use Rattle.rn_pattern.specs.Graph.{IsGraph, rows_of};
 ghost use Rattle.rn_pattern.specs.Ranks.{IsOrdered, HasNoLoop, IsFirstLoop};
 
+use crate::rows::Rows;
 use crate::search::search_all;
 use std::alloc::{AllocError, Global};
 
@@ -18,7 +19,7 @@ pub enum Order {
 
 /// A rank for each node, below the number of nodes, by which each edge leads to a lower one; or a node on a loop. The only
 /// error is want of memory; the edges are what they were.
-pub fn ranks(alloc: Global, edges: &[Vec<usize>]) -> Result<Order, AllocError>
+pub fn ranks(alloc: Global, edges: &Rows) -> Result<Order, AllocError>
     requires graph { IsGraph (rows_of edges.now) }
     ensures { IfOk result (λ o. IsOrdered (rows_of edges.now) o) }
 {
@@ -31,9 +32,9 @@ pub fn ranks(alloc: Global, edges: &[Vec<usize>]) -> Result<Order, AllocError>
 
 /// The least node that comes back to itself along one edge or more, if there is one. The only error is want of memory; the
 /// edges are what they were.
-pub fn least_looped(alloc: Global, edges: &[Vec<usize>]) -> Result<Option<usize>, AllocError>
+pub fn least_looped(alloc: Global, edges: &Rows) -> Result<Option<usize>, AllocError>
     requires { IsGraph (rows_of edges.now) }
-    ensures within { IfOk result (λ node. IfSome node (λ x. x < length edges.now)) }
+    ensures within { IfOk result (λ node. IfSome node (λ x. x < length (rows_of edges.now))) }
     ensures least { IfOk result (λ node. MatchOption node (HasNoLoop (rows_of edges.now))
         (IsFirstLoop (rows_of edges.now))) }
 {

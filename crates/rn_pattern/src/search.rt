@@ -5,7 +5,7 @@ ghost use Rattle.rn_pattern.specs.Graph.{row, IsGraph, rows_of};
 ghost use Rattle.rn_pattern.specs.Ranks.{HasNoLoop, IsFirstLoop, IsRanking};
 ghost use Rattle.rn_pattern.specs.inside.Searching.{EndsWith, IsNext, edges_left, Grouping, GroupsOn, IsLeastLooped, IsClosed, IsSettled, IsStage, IsAtWork, IsJoined, AllLead, LeadsBack, Rises, left_at, next_at, node_at, place_of, work};
 
-use crate::graph::row_at;
+use crate::rows::Rows;
 use std::alloc::{AllocError, Global};
 
 /// How far a node is.
@@ -43,19 +43,21 @@ pub(crate) struct Search {
 }
 
 /// For each node, how many edges it has.
-fn lengths(alloc: Global, edges: &[Vec<usize>]) -> Result<Vec<usize>, AllocError>
+fn lengths(alloc: Global, edges: &Rows) -> Result<Vec<usize>, AllocError>
     ensures { IfOk result (λ lengths. lengths.items ≡ map (λ row. length row) (rows_of edges.now)) }
 {
     let mut lengths = Vec::with_capacity(alloc, edges.len())?;
-    lengths.extend(edges.iter().map(|row| row.len()))?;
+    for node in 0..edges.len() {
+        lengths.push(edges.row(node).len())?;
+    }
     Ok(lengths)
 }
 
 /// The node that the next edge to look at leads to from a node, if there is one. Of each node so many edges are left; they are
 /// taken from the end.
-fn next_of(left: &[usize], edges: &[Vec<usize>], node: usize) -> Option<usize>
+fn next_of(left: &[usize], edges: &Rows, node: usize) -> Option<usize>
     requires graph { IsGraph (rows_of edges.now) }
-    requires within { node < length edges.now }
+    requires within { node < length (rows_of edges.now) }
     requires counted { node < length left.now }
     requires at_most { edges_left left.now node ≤ length (row (rows_of edges.now) node) }
     ensures { IsNext (rows_of edges.now) left.now node result }
@@ -64,11 +66,11 @@ fn next_of(left: &[usize], edges: &[Vec<usize>], node: usize) -> Option<usize>
     if left == 0 {
         return None;
     }
-    Some(row_at(edges, node)[left - 1])
+    Some(edges.row(node)[left - 1])
 }
 
 /// A search that has not begun.
-fn begin(alloc: Global, edges: &[Vec<usize>]) -> Result<Search, AllocError>
+fn begin(alloc: Global, edges: &Rows) -> Result<Search, AllocError>
     ensures grouping { IfOk result (λ s. Grouping (rows_of edges.now) s) }
     ensures empty { IfOk result (λ s. s.stack.items ≡ []) }
 {
@@ -85,9 +87,9 @@ fn begin(alloc: Global, edges: &[Vec<usize>]) -> Result<Search, AllocError>
 }
 
 /// Puts a new node on the stack, as a group of its own.
-fn enter(search: &mut Search, edges: &[Vec<usize>], node: usize) -> Result<(), AllocError>
+fn enter(search: &mut Search, edges: &Rows, node: usize) -> Result<(), AllocError>
     requires grouping { Grouping (rows_of edges.now) search.old }
-    requires within { node < length edges.now }
+    requires within { node < length (rows_of edges.now) }
     requires new { place_of search.old.places.items node ≡ None }
     requires all_lead { AllLead (rows_of edges.now) search.old.stack.items node }
     ensures goes_on { OnOk result (GroupsOn (rows_of edges.now) search.old search.new) }
@@ -103,7 +105,7 @@ fn enter(search: &mut Search, edges: &[Vec<usize>], node: usize) -> Result<(), A
 }
 
 /// Leaves an edge of the node at the place, which leads to a closed node or into the node's own group, or to one behind it.
-fn pass(search: &mut Search, edges: &[Vec<usize>], place: usize)
+fn pass(search: &mut Search, edges: &Rows, place: usize)
     requires grouping { Grouping (rows_of edges.now) search.old }
     requires within { place < vec_len search.old.stack }
     requires some_left { 0 < left_at search.old place }
@@ -127,7 +129,7 @@ fn join_bounds(bounds: &mut Vec<usize>, place: usize)
 }
 
 /// Joins the groups that an edge between the places closes to a loop, and leaves the edge.
-fn merge_groups(search: &mut Search, edges: &[Vec<usize>], place: usize, other: usize)
+fn merge_groups(search: &mut Search, edges: &Rows, place: usize, other: usize)
     requires grouping { Grouping (rows_of edges.now) search.old }
     requires within { place < vec_len search.old.stack }
     requires other_within { other < vec_len search.old.stack }
@@ -144,7 +146,7 @@ fn merge_groups(search: &mut Search, edges: &[Vec<usize>], place: usize, other: 
 }
 
 /// Leaves the last node of the path, which has no edge left.
-fn leave(search: &mut Search, edges: &[Vec<usize>], place: usize)
+fn leave(search: &mut Search, edges: &Rows, place: usize)
     requires grouping { Grouping (rows_of edges.now) search.old }
     requires last { EndsWith search.old.path.items place }
     requires all_looked { left_at search.old place ≡ 0 }
@@ -168,14 +170,14 @@ fn least_of(nodes: &[usize]) -> usize
 }
 
 /// Whether the nodes of a group come back to themselves.
-fn is_looped(edges: &[Vec<usize>], group: &[usize]) -> bool
+fn is_looped(edges: &Rows, group: &[usize]) -> bool
     requires some { 0 < length group.now }
-    requires within { node_at group.now 0 < length edges.now }
+    requires within { node_at group.now 0 < length (rows_of edges.now) }
     ensures { MatchBool result
         ((1 < length group.now) ⊎ LeadsBack (rows_of edges.now) (node_at group.now 0))
         ((length group.now ≡ 1) × (LeadsBack (rows_of edges.now) (node_at group.now 0) → ⊥)) }
 {
-    group.len() > 1 || row_at(edges, group[0]).contains(&group[0])
+    group.len() > 1 || edges.row(group[0]).contains(&group[0])
 }
 
 /// The lesser of two nodes, or the one that there is.
@@ -189,18 +191,18 @@ fn lesser_node(held: Option<usize>, other: usize) -> usize
 }
 
 /// The nodes of the last group.
-fn last_group<'s>(search: &'s Search, edges: &[Vec<usize>], begin: usize) -> &'s [usize]
+fn last_group<'s>(search: &'s Search, edges: &Rows, begin: usize) -> &'s [usize]
     requires grouping { Grouping (rows_of edges.now) search.now }
     requires within { begin < vec_len search.now.stack }
     ensures is { result.now ≡ drop begin search.now.stack.items }
     ensures some { 0 < length result.now }
-    ensures within { node_at result.now 0 < length edges.now }
+    ensures within { node_at result.now 0 < length (rows_of edges.now) }
 {
     &search.stack[begin..]
 }
 
 /// The least node of the closed groups and of the last one that comes back to itself.
-fn least_with(search: &Search, edges: &[Vec<usize>], begin: usize) -> Option<usize>
+fn least_with(search: &Search, edges: &Rows, begin: usize) -> Option<usize>
     requires grouping { Grouping (rows_of edges.now) search.now }
     requires last { EndsWith search.now.bounds.items begin }
     requires all_looked { (p : ℕ) → Contains search.now.path.items p → p < begin }
@@ -216,7 +218,7 @@ fn least_with(search: &Search, edges: &[Vec<usize>], begin: usize) -> Option<usi
 }
 
 /// Closes the last group, of which no edge is left, and ranks it.
-fn close(search: &mut Search, edges: &[Vec<usize>], begin: usize)
+fn close(search: &mut Search, edges: &Rows, begin: usize)
     requires grouping { Grouping (rows_of edges.now) search.old }
     requires last { EndsWith search.old.bounds.items begin }
     requires all_looked { (p : ℕ) → Contains search.old.path.items p → p < begin }
@@ -232,7 +234,7 @@ fn close(search: &mut Search, edges: &[Vec<usize>], begin: usize)
 }
 
 /// The place at which the last group begins.
-fn last_bound(search: &Search, edges: &[Vec<usize>]) -> usize
+fn last_bound(search: &Search, edges: &Rows) -> usize
     requires grouping { Grouping (rows_of edges.now) search.now }
     requires some { 0 < vec_len search.now.bounds }
     ensures { EndsWith search.now.bounds.items result }
@@ -252,19 +254,19 @@ fn place_at_work(search: &Search, begin: usize) -> Option<usize>
 }
 
 /// The node at the place.
-fn node_of(search: &Search, edges: &[Vec<usize>], place: usize) -> usize
+fn node_of(search: &Search, edges: &Rows, place: usize) -> usize
     requires grouping { Grouping (rows_of edges.now) search.now }
     requires within { place < vec_len search.now.stack }
     ensures is { result ≡ node_at search.now.stack.items place }
-    ensures within { result < length edges.now }
+    ensures within { result < length (rows_of edges.now) }
 {
     search.stack[place]
 }
 
 /// How far the node is.
-fn stage_of(search: &Search, edges: &[Vec<usize>], node: usize) -> Stage
+fn stage_of(search: &Search, edges: &Rows, node: usize) -> Stage
     requires grouping { Grouping (rows_of edges.now) search.now }
-    requires within { node < length edges.now }
+    requires within { node < length (rows_of edges.now) }
     ensures { IsStage search.now.places.items search.now.stack.items node result }
 {
     let Some(place) = search.places[node] else {
@@ -278,7 +280,7 @@ fn stage_of(search: &Search, edges: &[Vec<usize>], node: usize) -> Stage
 }
 
 /// One step of the search.
-fn step(search: &mut Search, edges: &[Vec<usize>]) -> Result<(), AllocError>
+fn step(search: &mut Search, edges: &Rows) -> Result<(), AllocError>
     requires graph { IsGraph (rows_of edges.now) }
     requires grouping { Grouping (rows_of edges.now) search.old }
     requires some { 0 < vec_len search.old.bounds }
@@ -303,7 +305,7 @@ fn step(search: &mut Search, edges: &[Vec<usize>]) -> Result<(), AllocError>
 }
 
 /// Searches until each group is closed.
-fn run(search: &mut Search, edges: &[Vec<usize>]) -> Result<(), AllocError>
+fn run(search: &mut Search, edges: &Rows) -> Result<(), AllocError>
     requires graph { IsGraph (rows_of edges.now) }
     requires grouping { Grouping (rows_of edges.now) search.old }
     ensures goes_on { OnOk result (GroupsOn (rows_of edges.now) search.old search.new) }
@@ -316,9 +318,9 @@ fn run(search: &mut Search, edges: &[Vec<usize>]) -> Result<(), AllocError>
 }
 
 /// Searches all that the root leads to, if it was not met yet.
-fn visit(search: &mut Search, edges: &[Vec<usize>], root: usize) -> Result<(), AllocError>
+fn visit(search: &mut Search, edges: &Rows, root: usize) -> Result<(), AllocError>
     requires graph { IsGraph (rows_of edges.now) }
-    requires within { root < length edges.now }
+    requires within { root < length (rows_of edges.now) }
     requires grouping { Grouping (rows_of edges.now) search.old }
     requires empty { search.old.stack.items ≡ [] }
     ensures goes_on { OnOk result (GroupsOn (rows_of edges.now) search.old search.new) }
@@ -334,7 +336,7 @@ fn visit(search: &mut Search, edges: &[Vec<usize>], root: usize) -> Result<(), A
 
 /// Searches along all edges. Then the least node that comes back to itself is known, and where there is none, each edge
 /// leads to a lower rank.
-pub(crate) fn search_all(alloc: Global, edges: &[Vec<usize>]) -> Result<Search, AllocError>
+pub(crate) fn search_all(alloc: Global, edges: &Rows) -> Result<Search, AllocError>
     requires { IsGraph (rows_of edges.now) }
     ensures least { IfOk result (λ s. MatchOption s.least (HasNoLoop (rows_of edges.now))
         (IsFirstLoop (rows_of edges.now))) }

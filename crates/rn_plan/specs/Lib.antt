@@ -1,4 +1,4 @@
-pub mod Files
-pub mod Free
+pub mod UnitFiles
+pub mod FreeNames
 pub mod NameSets
-pub mod Entries
+pub mod ScopeEntries

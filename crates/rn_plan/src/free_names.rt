@@ -2,8 +2,8 @@
 ghost use Rattle.std.specs.Prelude.{◌≡◌, ◌<◌, false, length, slice_index, take, IfOk, IfSome, IsTrue, IsFalse, option_copied, string_bytes};
 ghost use Rattle.std.specs.BTreeSet.{contains_text};
 ghost use Rattle.std.specs.List.{AllByRecursion};
-ghost use Rattle.rn_plan.specs.Free.{AreFree, FileIsFree, IsFreeName, IsNoOwn, PartIsFree, name_span, unquoted};
-ghost use Rattle.rn_plan.specs.Files.{files_of};
+ghost use Rattle.rn_plan.specs.FreeNames.{AreFree, FileIsFree, IsFreeName, IsNoOwn, PartIsFree, name_span, unquoted_name};
+ghost use Rattle.rn_plan.specs.UnitFiles.{files_of};
 
 use crate::given::Given;
 use crate::own_names::{Names, Taken};
@@ -74,7 +74,7 @@ fn name_span(kind: &PartKind) -> Option<Span>
 
 /// A name without the backslash of a quoted one.
 fn unquoted_name(token: &str) -> &str
-    ensures { result.now ≡ unquoted token.now }
+    ensures { result.now ≡ unquoted_name token.now }
 {
     if let Some(name) = token.strip_prefix('\\') {
         return name;

@@ -1,9 +1,9 @@
 // Files that are to be lifted.
 ghost use Rattle.std.specs.Prelude.{◌≡◌, IfOk};
 ghost use Rattle.rn_outline.specs.Links.{behind_first, first_of, targets_of};
-ghost use Rattle.rn_plan.specs.Files.{HasTargets, target_of};
+ghost use Rattle.rn_plan.specs.UnitFiles.{HasTargets, target_of};
 
-use crate::bound::Bound;
+use crate::bindings::Bindings;
 use rn_outline::{Outline, Part, is_link};
 use std::alloc::{AllocError, Global};
 
@@ -28,7 +28,7 @@ pub struct Given<'a> {
     pub file: Lifting<'a>,
     /// For each part of the outline, the number of the file that it names, if it names one.
     pub targets: Vec<Option<usize>>,
-    pub(crate) bound: Bound,
+    pub(crate) bindings: Bindings,
     pub(crate) first: usize,
 }
 
@@ -42,7 +42,7 @@ impl<'a> Given<'a> {
         Ok(Given {
             file,
             targets: targets_of(alloc, outline.parts.as_slice(), file.targets)?,
-            bound: Bound::of(alloc, file.text, outline)?,
+            bindings: Bindings::of(alloc, file.text, outline)?,
             first,
         })
     }
@@ -57,15 +57,15 @@ impl<'a> Given<'a> {
         }
     }
 
-    /// The part of this number.
+    /// The part of this number in the outline, if there is one.
     pub fn part(&self, number: usize) -> Option<&'a Part> {
         let outline = self.file.outline;
         outline.parts.get(number)
     }
 
-    /// The datatype library of a prefix.
+    /// The datatype library that a prefix is bound to: by the first declaration of it, or as `xsd`.
     pub fn library(&self, prefix: &str) -> Option<&'a str> {
-        self.bound.library(self.file.outline, prefix)
+        self.bindings.library(self.file.outline, prefix)
     }
 }
 

@@ -3,7 +3,7 @@
 //! (RELAX NG 2001, 4.6, 4.7, 4.8, 4.18).
 #![tactic(auto)]
 
-mod bound;
+mod bindings;
 mod free_names;
 pub mod given;
 pub mod lift_fault;

@@ -1,6 +1,7 @@
 // Why files can't be lifted.
 
 use crate::plan::MAX_PLACES;
+use rn_outline::Grouped;
 use std::alloc::{AllocError, AllocFailed};
 use thiserror::Error;
 
@@ -43,7 +44,7 @@ pub enum LiftFaultKind {
     #[error("too long definitions are excepted")]
     Long,
     /// The files would make more than [`MAX_PLACES`] modules.
-    #[error("more than {most} modules", most = MAX_PLACES)]
+    #[error("more than {most} modules", most = Grouped(MAX_PLACES))]
     Many,
     /// The outline is not that of the text: a name or a literal lies not in it, or before another
     /// one that stands before it in the outline.

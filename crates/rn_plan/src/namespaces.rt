@@ -1,6 +1,6 @@
 // Namespaces that are handed on, by numbers.
 
-use crate::bound::Namespace;
+use crate::bindings::Namespace;
 use crate::given::Given;
 use rn_outline::{Span, name_in};
 use std::alloc::{AllocError, Global};
@@ -23,7 +23,7 @@ impl Namespaces {
         Ok(namespaces)
     }
 
-    /// The number of a namespace.
+    /// The number of a namespace. It gets one here, if it has none yet.
     pub(crate) fn number(&mut self, alloc: Global, uri: &str) -> Result<usize, AllocError> {
         if let Some(number) = self.numbers.get(uri) {
             return Ok(*number);
@@ -34,7 +34,7 @@ impl Namespaces {
         Ok(number)
     }
 
-    /// The namespace of a number.
+    /// The namespace that has a number; the empty one, if none has it.
     pub(crate) fn uri(&self, number: usize) -> &str {
         match self.uris.get(number) {
             Some(uri) => uri.as_str(),
@@ -66,9 +66,9 @@ impl Namespaces {
     ) -> Result<Option<usize>, AllocError> {
         let outline = given.file.outline;
         let namespace = match inherit {
-            None => Some(given.bound.default_namespace(outline)),
+            None => Some(given.bindings.default_namespace(outline)),
             Some(prefix) => given
-                .bound
+                .bindings
                 .namespace(outline, name_in(given.file.text, prefix)),
         };
         match namespace {

@@ -1,7 +1,7 @@
 // Which modules there will be.
 ghost use Rattle.std.specs.Prelude.{IfOk, string_bytes};
-ghost use Rattle.rn_plan.specs.Files.{files_of};
-ghost use Rattle.rn_plan.specs.Free.{AreFree};
+ghost use Rattle.rn_plan.specs.UnitFiles.{files_of};
+ghost use Rattle.rn_plan.specs.FreeNames.{AreFree};
 
 use crate::free_names::are_free;
 use crate::lift_fault::{LiftFault, LiftFaultKind};

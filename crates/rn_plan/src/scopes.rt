@@ -1,6 +1,6 @@
 // Scopes, and the places of units in them.
 ghost use Rattle.std.specs.Prelude.{◌≡◌};
-ghost use Rattle.rn_plan.specs.Entries.{entry_of};
+ghost use Rattle.rn_plan.specs.ScopeEntries.{entry_of};
 
 use crate::namespaces::Namespaces;
 use crate::own_names::Names;

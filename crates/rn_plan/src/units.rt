@@ -1,6 +1,6 @@
 // Grammars: those of the files, and nested ones, each with the parts that belong to it.
 ghost use Rattle.std.specs.Prelude.{◌≡◌, [], ◌∷◌, ◌++◌, All, IfOk, OnOk};
-ghost use Rattle.rn_plan.specs.Files.{HasTargets, files_of};
+ghost use Rattle.rn_plan.specs.UnitFiles.{HasTargets, files_of};
 
 use crate::given::{Given, Lifting};
 use crate::own_names::written_name;
@@ -256,7 +256,7 @@ fn is_pattern(outline: &Outline) -> bool {
     outline.shape == Shape::Pattern
 }
 
-/// Whether the node of a number is marked.
+/// Whether the node of a number is marked. Where there is no such node, none is.
 pub(crate) fn is_marked(marks: &[bool], number: usize) -> bool {
     marks.get(number).copied().unwrap_or(false)
 }

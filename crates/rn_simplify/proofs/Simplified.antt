@@ -9,6 +9,7 @@ pub mod ReferenceGraph
 pub mod ReferredIn
 pub mod Numbers
 pub mod Marks
+pub mod NumberedNames
 pub mod StoreIds
 pub mod PrunedForms
 pub mod AlikeRows

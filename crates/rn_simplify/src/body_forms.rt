@@ -22,6 +22,7 @@ use std::alloc::{AllocError, Global};
 pub(crate) fn body_form(
     alloc: Global,
     settled: &SettledDefinitions<'_>,
+    likely: &[usize],
     body: &Pattern,
     firsts: &[u32],
 ) -> Result<Pattern, AllocError>
@@ -30,7 +31,7 @@ pub(crate) fn body_form(
         (pattern_view body.now)) }
 {
     if firsts.is_empty() {
-        return tree_form(alloc, settled, body);
+        return tree_form(alloc, settled, likely, body);
     }
     let mut store = Interned::with_seed(alloc, *settled.names.hasher());
     stored_body_form(alloc, &mut store, settled, body, firsts)
@@ -54,7 +55,8 @@ pub(crate) fn definition_forms(
     for number in 0..settled.names.len() {
         let name = name_of(settled.names, number).clone()?;
         let body = body_of(settled.names, number);
-        let form = body_form(alloc, settled, body, grammar.firsts(number))?;
+        let likely = settled.likely(number);
+        let form = body_form(alloc, settled, likely, body, grammar.firsts(number))?;
         forms.push((name, form))?;
     }
     Ok(forms)

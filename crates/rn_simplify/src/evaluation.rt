@@ -17,7 +17,7 @@ use crate::repeated_members::without_repeats;
 use crate::settled_definitions::SettledDefinitions;
 use crate::settling::{body_of, settling_order};
 use rn_assemble::Grammar;
-use rn_pattern::Pattern;
+use rn_pattern::{Pattern, Rows};
 use std::alloc::{AllocError, Global};
 use std::rc::Rc;
 
@@ -32,7 +32,8 @@ pub(crate) fn settle_all(
         (becomes s) rank) }
 {
     let order = settling_order(alloc, grammar)?;
-    settle(alloc, grammar, &order)
+    let references = order.references;
+    settle(alloc, grammar, &order.numbers, references)
 }
 
 /// What the references to the definitions become, settled in an order in which each definition comes after those that it
@@ -41,6 +42,7 @@ fn settle<'g>(
     alloc: Global,
     grammar: &'g Grammar,
     order: &[usize],
+    references: Rows,
 ) -> Result<SettledDefinitions<'g>, AllocError>
     requires { AllBelow (length (grammar_view grammar.now).definitions) order.now }
     ensures names { IfOk result (λ s. definitions_view s.names.now.entries
@@ -51,7 +53,11 @@ fn settle<'g>(
 {
     let names = grammar.defs();
     let kinds = vec![in alloc; FormKind::Other; names.len()]?;
-    let mut settled = SettledDefinitions { names, kinds };
+    let mut settled = SettledDefinitions {
+        names,
+        kinds,
+        references,
+    };
     for number in order {
         settle_definition(alloc, grammar, *number, &mut settled)?;
     }
@@ -74,7 +80,8 @@ fn settle_definition(
         (slice_index_or (definitions_view settled.old.names.now.entries) number d).1))) }
 {
     let body = body_of(settled.names, number);
-    let kind = evaluate_body(alloc, settled, body, grammar.firsts(number))?;
+    let likely = settled.likely(number);
+    let kind = evaluate_body(alloc, settled, likely, body, grammar.firsts(number))?;
     settled.kinds[number] = kind;
     Ok(())
 }
@@ -83,6 +90,7 @@ fn settle_definition(
 fn evaluate_body(
     alloc: Global,
     settled: &SettledDefinitions<'_>,
+    likely: &[usize],
     body: &Pattern,
     firsts: &[u32],
 ) -> Result<FormKind, AllocError>
@@ -90,26 +98,30 @@ fn evaluate_body(
     ensures { IfOk result (λ w. w ≡ tree_kind (kind_in settled.now) (pattern_view body.now)) }
 {
     match without_repeats(alloc, body, firsts)? {
-        Some(distinct) => Ok(evaluate_pattern(settled, &distinct)),
-        None => Ok(evaluate_pattern(settled, body)),
+        Some(distinct) => Ok(evaluate_pattern(settled, likely, &distinct)),
+        None => Ok(evaluate_pattern(settled, likely, body)),
     }
 }
 
 /// The kind of the canonical form of a pattern. The contents of elements aren't looked at.
 #[cycle(evaluate_pattern)]
-fn evaluate_pattern(settled: &SettledDefinitions<'_>, pattern: &Pattern) -> FormKind
+fn evaluate_pattern(
+    settled: &SettledDefinitions<'_>,
+    likely: &[usize],
+    pattern: &Pattern,
+) -> FormKind
     ensures { result ≡ tree_kind (kind_in settled.now) (pattern_view pattern.now) }
 {
     match pattern {
         Pattern::NotAllowed => FormKind::NotAllowed,
         Pattern::Empty => FormKind::Empty,
-        Pattern::Ref(name) => settled.kind_of(name),
-        Pattern::List(content) => evaluate_pattern(settled, content).around(),
-        Pattern::Attribute(_, content) => evaluate_pattern(settled, content).around(),
-        Pattern::OneOrMore(content) => evaluate_pattern(settled, content),
-        Pattern::Group(members) => evaluate_all(settled, members),
-        Pattern::Interleave(members) => evaluate_all(settled, members),
-        Pattern::Choice(members) => evaluate_any(settled, members),
+        Pattern::Ref(name) => settled.kind_of(likely, name),
+        Pattern::List(content) => evaluate_pattern(settled, likely, content).around(),
+        Pattern::Attribute(_, content) => evaluate_pattern(settled, likely, content).around(),
+        Pattern::OneOrMore(content) => evaluate_pattern(settled, likely, content),
+        Pattern::Group(members) => evaluate_all(settled, likely, members),
+        Pattern::Interleave(members) => evaluate_all(settled, likely, members),
+        Pattern::Choice(members) => evaluate_any(settled, likely, members),
         Pattern::Text | Pattern::Value(_) | Pattern::Datum(_, _) | Pattern::Element(_, _) =>
             FormKind::Other,
     }
@@ -117,26 +129,34 @@ fn evaluate_pattern(settled: &SettledDefinitions<'_>, pattern: &Pattern) -> Form
 
 /// The kind of the form of a group or an interleave of the members.
 #[cycle(evaluate_pattern)]
-fn evaluate_all(settled: &SettledDefinitions<'_>, members: &[Rc<Pattern>]) -> FormKind
+fn evaluate_all(
+    settled: &SettledDefinitions<'_>,
+    likely: &[usize],
+    members: &[Rc<Pattern>],
+) -> FormKind
     ensures { result ≡ group_kind (kind_in settled.now)
         (trees_of (map shared_view members.now)) }
 {
     let mut kind = FormKind::Empty;
     for member in members {
-        kind = kind.both(evaluate_pattern(settled, member));
+        kind = kind.both(evaluate_pattern(settled, likely, member));
     }
     kind
 }
 
 /// The kind of the form of a choice of the members.
 #[cycle(evaluate_pattern)]
-fn evaluate_any(settled: &SettledDefinitions<'_>, members: &[Rc<Pattern>]) -> FormKind
+fn evaluate_any(
+    settled: &SettledDefinitions<'_>,
+    likely: &[usize],
+    members: &[Rc<Pattern>],
+) -> FormKind
     ensures { result ≡ choice_kind (kind_in settled.now)
         (trees_of (map shared_view members.now)) }
 {
     let mut kind = FormKind::NotAllowed;
     for member in members {
-        kind = kind.either(evaluate_pattern(settled, member));
+        kind = kind.either(evaluate_pattern(settled, likely, member));
     }
     kind
 }

@@ -9,6 +9,7 @@ mod body_forms;
 mod boxes;
 mod class_text;
 mod declared_prefixes;
+mod definition_numbers;
 mod evaluation;
 mod form_kind;
 mod joined_bodies;

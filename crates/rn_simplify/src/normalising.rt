@@ -87,7 +87,7 @@ fn stored_parts<P: Patterns>(
         grammar.start_firsts(),
     )?;
     let forms = stored_definition_forms(alloc, store, &settled, grammar)?;
-    let defs = prune_forms(alloc, settled.names, &start, forms)?;
+    let defs = prune_forms(alloc, &settled, &start, forms)?;
     Ok((start, defs))
 }
 
@@ -97,9 +97,15 @@ fn canonical_parts(alloc: Global, grammar: &Grammar) -> Result<Parts, AllocError
         (parts_view parts.0 parts.1.items)) }
 {
     let settled = settle_all(alloc, grammar)?;
-    let start = body_form(alloc, &settled, grammar.start(), grammar.start_firsts())?;
+    let start = body_form(
+        alloc,
+        &settled,
+        &[],
+        grammar.start(),
+        grammar.start_firsts(),
+    )?;
     let forms = definition_forms(alloc, &settled, grammar)?;
-    let defs = prune_forms(alloc, settled.names, &start, forms)?;
+    let defs = prune_forms(alloc, &settled, &start, forms)?;
     Ok((start, defs))
 }
 

@@ -11,27 +11,27 @@ ghost use Rattle.rn_simplify.specs.inside.DefinitionNumbers.{MarksReached, rows_
 ghost use Rattle.rn_assemble.specs.declared.references.Reach.TheVariants.{Everywhere};
 
 use crate::reference_numbers::referred_numbers;
-use rn_assemble::Definitions;
-use rn_pattern::Pattern;
+use crate::settled_definitions::SettledDefinitions;
 use rn_pattern::graph::reached_nodes;
+use rn_pattern::{Pattern, Rows};
 use std::alloc::{AllocError, Global};
 
 /// The forms that the start reaches, in the order of their names. The forms have the names of the definitions, in their
 /// order.
 pub(crate) fn prune_forms(
     alloc: Global,
-    names: &Definitions,
+    settled: &SettledDefinitions<'_>,
     start: &Pattern,
     mut forms: Vec<(String, Pattern)>,
 ) -> Result<Vec<(String, Pattern)>, AllocError>
     requires named { map (λ d. d.0) (definitions_view forms.items)
-        ≡ map (λ d. d.0) (definitions_view names.now.entries) }
+        ≡ map (λ d. d.0) (definitions_view settled.now.names.now.entries) }
     requires distinct { IsDistinct bytes_eq (map (λ d. d.0) (definitions_view forms.items)) }
     ensures { IfOk result (λ v. IsPruned
         (record { start = pattern_view start.now; definitions = definitions_view forms.items })
         (record { start = pattern_view start.now; definitions = definitions_view v.items })) }
 {
-    let is_reached = reached_forms(alloc, names, start, &forms)?;
+    let is_reached = reached_forms(alloc, settled, start, &forms)?;
     keep_marked(&mut forms, &is_reached);
     forms.sort_by(|a: &(String, Pattern), b: &(String, Pattern)| a.0.cmp(&b.0))?;
     Ok(forms)
@@ -40,12 +40,12 @@ pub(crate) fn prune_forms(
 /// For each form, whether the start reaches it.
 fn reached_forms(
     alloc: Global,
-    names: &Definitions,
+    settled: &SettledDefinitions<'_>,
     start: &Pattern,
     forms: &[(String, Pattern)],
 ) -> Result<Vec<bool>, AllocError>
     requires { map (λ d. d.0) (definitions_view forms.now)
-        ≡ map (λ d. d.0) (definitions_view names.now.entries) }
+        ≡ map (λ d. d.0) (definitions_view settled.now.names.now.entries) }
     ensures size { IfOk result (λ marks. length marks.items ≡ length forms.now) }
     ensures reached { IfOk result
         (λ marks. MarksReached (record {
@@ -53,23 +53,26 @@ fn reached_forms(
           definitions = definitions_view forms.now;
         }) marks.items) }
 {
-    let rows = rows_of_forms(alloc, names, forms)?;
-    let first = referred_numbers(alloc, names, start)?;
+    let rows = rows_of_forms(alloc, settled, forms)?;
+    let first = referred_numbers(alloc, settled.names, &[], start)?;
     reached_nodes(alloc, &rows, &first)
 }
 
 /// The references of each form.
 fn rows_of_forms(
     alloc: Global,
-    names: &Definitions,
+    settled: &SettledDefinitions<'_>,
     forms: &[(String, Pattern)],
-) -> Result<Vec<Vec<usize>>, AllocError>
-    ensures { IfOk result (λ v. rows_of v.items
-        ≡ rows_by Everywhere (definitions_view names.now.entries) (definitions_view forms.now)) }
+) -> Result<Rows, AllocError>
+    ensures { IfOk result (λ rows. rows_of rows
+        ≡ rows_by Everywhere (definitions_view settled.now.names.now.entries)
+        (definitions_view forms.now)) }
 {
-    let mut rows = Vec::new(alloc);
+    let mut rows = Rows::with_capacity(alloc, forms.len())?;
     for (_, form) in forms {
-        rows.push(referred_numbers(alloc, names, form)?)?;
+        let likely = settled.likely(rows.len());
+        let row = referred_numbers(alloc, settled.names, likely, form)?;
+        rows.push_row(&row)?;
     }
     Ok(rows)
 }

@@ -8,6 +8,7 @@ ghost use Rattle.rn_simplify.specs.inside.ReferredNames.{all_references, referen
 ghost use Rattle.rn_simplify.specs.inside.ReferenceNumbers.{AreReferences};
 ghost use Rattle.rn_assemble.specs.declared.references.Reach.TheVariants.{Everywhere, OutsideElements};
 
+use crate::definition_numbers::find_number;
 use rn_assemble::{Definitions, Reach};
 use rn_pattern::Pattern;
 use std::alloc::{AllocError, Global};
@@ -35,15 +36,17 @@ impl References {
             everywhere: Vec::new(alloc),
             outside: Vec::new(alloc),
         };
-        found.add(names, pattern, Reach::OutsideElements)?;
+        found.add(names, &[], pattern, Reach::OutsideElements)?;
         Ok(found)
     }
 
-    /// Adds the references of a pattern; those outside elements are noted where `reach` is outside elements too.
+    /// Adds the references of a pattern; those outside elements are noted where `reach` is outside elements too. The likely
+    /// numbers are tried first.
     #[cycle(add)]
     fn add(
         &mut self,
         names: &Definitions,
+        likely: &[usize],
         pattern: &Pattern,
         reach: Reach,
     ) -> Result<(), AllocError>
@@ -58,13 +61,13 @@ impl References {
             → OnOk result (self.new.outside.items ≡ self.old.outside.items) }
     {
         match pattern {
-            Pattern::Ref(name) => self.add_name(names, name, reach),
-            Pattern::Datum(_, Some(content)) => self.add(names, content, reach),
+            Pattern::Ref(name) => self.add_name(names, likely, name, reach),
+            Pattern::Datum(_, Some(content)) => self.add(names, likely, content, reach),
             Pattern::List(content) | Pattern::Attribute(_, content) | Pattern::OneOrMore(content) =>
-                { self.add(names, content, reach) }
-            Pattern::Element(_, content) => self.add(names, content, Reach::Everywhere),
+                { self.add(names, likely, content, reach) }
+            Pattern::Element(_, content) => self.add(names, likely, content, Reach::Everywhere),
             Pattern::Group(members) | Pattern::Interleave(members) | Pattern::Choice(members) => {
-                self.add_all(names, members, reach)
+                self.add_all(names, likely, members, reach)
             }
             Pattern::NotAllowed
             | Pattern::Empty
@@ -78,6 +81,7 @@ impl References {
     fn add_all(
         &mut self,
         names: &Definitions,
+        likely: &[usize],
         members: &[Rc<Pattern>],
         reach: Reach,
     ) -> Result<(), AllocError>
@@ -92,12 +96,18 @@ impl References {
             → OnOk result (self.new.outside.items ≡ self.old.outside.items) }
     {
         for member in members {
-            self.add(names, member, reach)?;
+            self.add(names, likely, member, reach)?;
         }
         Ok(())
     }
 
-    fn add_name(&mut self, names: &Definitions, name: &str, reach: Reach) -> Result<(), AllocError>
+    fn add_name(
+        &mut self,
+        names: &Definitions,
+        likely: &[usize],
+        name: &str,
+        reach: Reach,
+    ) -> Result<(), AllocError>
         ensures everywhere { OnOk result (self.new.everywhere.items ≡ self.old.everywhere.items
             ++ numbers_of (definitions_view names.now.entries) (name.now ∷ [])) }
         ensures outside { reach ≡ OutsideElements
@@ -106,7 +116,7 @@ impl References {
         ensures inside { reach ≡ Everywhere
             → OnOk result (self.new.outside.items ≡ self.old.outside.items) }
     {
-        match names.get_index_of(name) {
+        match find_number(names, likely, name) {
             Some(number) => self.add_number(number, reach),
             None => Ok(()),
         }
@@ -129,10 +139,11 @@ impl References {
     }
 }
 
-/// The definitions that a pattern refers to, in elements and outside.
+/// The definitions that a pattern refers to, in elements and outside. The likely numbers are tried first.
 pub(crate) fn referred_numbers(
     alloc: Global,
     names: &Definitions,
+    likely: &[usize],
     pattern: &Pattern,
 ) -> Result<Vec<usize>, AllocError>
     ensures { IfOk result (λ v. v.items ≡ numbers_of (definitions_view names.now.entries)
@@ -142,6 +153,6 @@ pub(crate) fn referred_numbers(
         everywhere: Vec::new(alloc),
         outside: Vec::new(alloc),
     };
-    found.add(names, pattern, Reach::Everywhere)?;
+    found.add(names, likely, pattern, Reach::Everywhere)?;
     Ok(found.everywhere)
 }

@@ -1,8 +1,10 @@
 // What the references to the definitions of a grammar become.
 ghost use Rattle.std.specs.Prelude.{◌≡◌, length};
 
+use crate::definition_numbers::find_number;
 use crate::form_kind::FormKind;
 use rn_assemble::Definitions;
+use rn_pattern::Rows;
 
 /// What the references to the definitions of a grammar become.
 #[derive(Drop)]
@@ -10,17 +12,30 @@ pub(crate) struct SettledDefinitions<'g> {
     pub(crate) names: &'g Definitions,
     /// The kind of the form of each definition, by its number.
     pub(crate) kinds: Vec<FormKind>,
+    /// The numbers of the definitions that each one refers to, as they were found for the order of settling. No answer rests on
+    /// them.
+    pub(crate) references: Rows,
     ghost sized: { length kinds.items ≡ length names.now.entries },
 }
 
 impl SettledDefinitions<'_> {
     ghost use Rattle.rn_simplify.specs.inside.FormKinds.{kind_in};
 
-    /// The kind of the form of the definition of a name. The reference to a name without one stays.
-    pub(crate) fn kind_of(&self, name: &str) -> FormKind
+    /// The numbers of the definitions that the body with a number is likely to refer to.
+    pub(crate) fn likely(&self, number: usize) -> &[usize] {
+        if number < self.references.len() {
+            self.references.row(number)
+        } else {
+            &[]
+        }
+    }
+
+    /// The kind of the form of the definition of a name. The likely numbers are tried first. The reference to a name without
+    /// a definition stays.
+    pub(crate) fn kind_of(&self, likely: &[usize], name: &str) -> FormKind
         ensures { result ≡ kind_in self.now name.now }
     {
-        match self.names.get_index_of(name) {
+        match find_number(self.names, likely, name) {
             Some(number) => self.kinds[number],
             None => FormKind::Other,
         }

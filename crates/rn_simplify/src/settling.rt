@@ -1,6 +1,6 @@
 // The definitions of a grammar in an order in which each comes after those that it refers to outside elements (RELAX NG, 4.19).
-ghost use Rattle.std.specs.Prelude.{◌≡◌, ◌<◌, [], ℕ, IfOk, length, if◌then◌else◌, slice_index_or, string_bytes};
-ghost use Rattle.rn_pattern.specs.Graph.{AllBelow, IsGraph, is_marked, row, rows_of};
+ghost use Rattle.std.specs.Prelude.{◌≡◌, ◌<◌, IfOk, length, slice_index_or, string_bytes};
+ghost use Rattle.rn_pattern.specs.Graph.{AllBelow, IsGraph, row, rows_of};
 ghost use Rattle.rn_pattern.specs.Ranks.{HasNoLoop, IsRanking};
 ghost use Rattle.rn_assemble.specs.GrammarView.{definitions_view, grammar_view};
 ghost use Rattle.rn_pattern.specs.Tree.{Tree};
@@ -17,9 +17,9 @@ ghost use Rattle.rn_simplify.specs.inside.Repeats.{AreFirstsOf};
 use crate::reference_numbers::References;
 use crate::repeated_members::without_repeats;
 use rn_assemble::{Definitions, Grammar};
-use rn_pattern::Pattern;
-use rn_pattern::graph::reached_nodes;
+use rn_pattern::graph::{marked_rows, reached_nodes};
 use rn_pattern::ranks::{Order, ranks};
+use rn_pattern::{Pattern, Rows};
 use std::alloc::{AllocError, Global};
 
 /// The name of the definition with a number.
@@ -72,44 +72,31 @@ fn references_of(alloc: Global, grammar: &Grammar, number: usize) -> Result<Refe
 
 /// The references of all definitions, each by its number.
 #[derive(Drop)]
-struct Rows {
-    everywhere: Vec<Vec<usize>>,
-    outside: Vec<Vec<usize>>,
+struct ReferenceRows {
+    everywhere: Rows,
+    outside: Rows,
 }
 
 /// The references of the definitions.
-fn all_references(alloc: Global, grammar: &Grammar) -> Result<Rows, AllocError>
+fn all_references(alloc: Global, grammar: &Grammar) -> Result<ReferenceRows, AllocError>
     ensures everywhere { IfOk result (λ rows. AreRows (row (graph_of (grammar_view grammar.now)))
-        (length (grammar_view grammar.now).definitions) rows.everywhere.items) }
+        (length (grammar_view grammar.now).definitions) (rows_of rows.everywhere)) }
     ensures outside { IfOk result (λ rows. AreRows (row (rows_by OutsideElements
         (grammar_view grammar.now).definitions (grammar_view grammar.now).definitions))
-        (length (grammar_view grammar.now).definitions) rows.outside.items) }
+        (length (grammar_view grammar.now).definitions) (rows_of rows.outside)) }
 {
-    let mut everywhere = Vec::new(alloc);
-    let mut outside = Vec::new(alloc);
-    for number in 0..grammar.defs().len() {
+    let count = grammar.defs().len();
+    let mut everywhere = Rows::with_capacity(alloc, count)?;
+    let mut outside = Rows::with_capacity(alloc, count)?;
+    for number in 0..count {
         let found = references_of(alloc, grammar, number)?;
-        everywhere.push(found.everywhere)?;
-        outside.push(found.outside)?;
+        everywhere.push_row(&found.everywhere)?;
+        outside.push_row(&found.outside)?;
     }
-    Ok(Rows {
+    Ok(ReferenceRows {
         everywhere,
         outside,
     })
-}
-
-/// Empties the rows that have no mark.
-fn clear_unmarked(rows: &mut Vec<Vec<usize>>, marks: &[bool])
-    requires { length marks.now ≡ length rows.old.items }
-    ensures size { length rows.new.items ≡ length rows.old.items }
-    ensures rows { (k : ℕ) → k < length rows.old.items → row (rows_of rows.new.items) k
-        ≡ (if is_marked marks.now k then row (rows_of rows.old.items) k else []) }
-{
-    for number in 0..marks.len() {
-        if !marks[number] {
-            rows[number].clear();
-        }
-    }
 }
 
 /// The places that have a mark.
@@ -138,10 +125,10 @@ fn start_references(alloc: Global, grammar: &Grammar) -> Result<Vec<usize>, Allo
 fn reached_definitions(
     alloc: Global,
     grammar: &Grammar,
-    rows: &[Vec<usize>],
+    rows: &Rows,
 ) -> Result<Vec<bool>, AllocError>
     requires { AreRows (row (graph_of (grammar_view grammar.now)))
-        (length (grammar_view grammar.now).definitions) rows.now }
+        (length (grammar_view grammar.now).definitions) (rows_of rows.now) }
     ensures size { IfOk result (λ v. length v.items
         ≡ length (grammar_view grammar.now).definitions) }
     ensures exact { IfOk result (λ v. MarksReached (grammar_view grammar.now) v.items) }
@@ -151,7 +138,7 @@ fn reached_definitions(
 }
 
 /// Ranks by which each row refers to lower ones, where no row leads back to itself.
-fn ranks_of(alloc: Global, rows: &[Vec<usize>]) -> Result<Vec<usize>, AllocError>
+fn ranks_of(alloc: Global, rows: &Rows) -> Result<Vec<usize>, AllocError>
     requires graph { IsGraph (rows_of rows.now) }
     requires loop_free { HasNoLoop (rows_of rows.now) }
     ensures { IfOk result (λ v. IsRanking (rows_of rows.now) v.items) }
@@ -162,16 +149,49 @@ fn ranks_of(alloc: Global, rows: &[Vec<usize>]) -> Result<Vec<usize>, AllocError
     }
 }
 
+/// The order in which definitions can be settled.
+#[derive(Drop)]
+pub(crate) struct SettlingOrder {
+    /// The numbers of the definitions that the start reaches, in this order.
+    pub(crate) numbers: Vec<usize>,
+    /// The numbers that each of all definitions refers to. They are only where to look first, so no clause speaks of them: a
+    /// wrong row costs time, and no answer rests on it.
+    pub(crate) references: Rows,
+}
+
+/// The order in which the definitions that the start reaches can be settled, and the references that were found for it.
+pub(crate) fn settling_order(alloc: Global, grammar: &Grammar) -> Result<SettlingOrder, AllocError>
+    ensures within { IfOk result (λ s. AllBelow
+        (length (grammar_view grammar.now).definitions) s.numbers.items) }
+    ensures order { IfOk result
+        (λ s. IsSettlingOrder (grammar_view grammar.now) s.numbers.items) }
+{
+    let rows = all_references(alloc, grammar)?;
+    let numbers = reached_in_order(alloc, grammar, &rows)?;
+    Ok(SettlingOrder {
+        numbers,
+        references: rows.everywhere,
+    })
+}
+
 /// The numbers of the definitions that the start reaches, in the order in which they can be settled.
-pub(crate) fn settling_order(alloc: Global, grammar: &Grammar) -> Result<Vec<usize>, AllocError>
+fn reached_in_order(
+    alloc: Global,
+    grammar: &Grammar,
+    rows: &ReferenceRows,
+) -> Result<Vec<usize>, AllocError>
+    requires everywhere { AreRows (row (graph_of (grammar_view grammar.now)))
+        (length (grammar_view grammar.now).definitions) (rows_of rows.now.everywhere) }
+    requires outside { AreRows (row (rows_by OutsideElements
+        (grammar_view grammar.now).definitions (grammar_view grammar.now).definitions))
+        (length (grammar_view grammar.now).definitions) (rows_of rows.now.outside) }
     ensures within { IfOk result (λ v. AllBelow
         (length (grammar_view grammar.now).definitions) v.items) }
     ensures order { IfOk result (λ v. IsSettlingOrder (grammar_view grammar.now) v.items) }
 {
-    let mut rows = all_references(alloc, grammar)?;
     let is_reached = reached_definitions(alloc, grammar, &rows.everywhere)?;
-    clear_unmarked(&mut rows.outside, &is_reached);
-    let ranks = ranks_of(alloc, &rows.outside)?;
+    let outside = marked_rows(alloc, &rows.outside, &is_reached)?;
+    let ranks = ranks_of(alloc, &outside)?;
     let mut order = marked_places(alloc, &is_reached)?;
     order.sort_by_key(|number: &usize| ranks.get(*number).copied().unwrap_or(0))?;
     Ok(order)

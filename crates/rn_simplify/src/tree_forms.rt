@@ -24,12 +24,13 @@ use std::rc::Rc;
 pub(crate) fn tree_form(
     alloc: Global,
     settled: &SettledDefinitions<'_>,
+    likely: &[usize],
     pattern: &Pattern,
 ) -> Result<Pattern, AllocError>
     ensures { IfOk result (λ p. pattern_view p ≡ form.canonical (becomes settled.now)
         (pattern_view pattern.now)) }
 {
-    let made = form_of(alloc, settled, pattern)?;
+    let made = form_of(alloc, settled, likely, pattern)?;
     form_or_copy(alloc, made, pattern)
 }
 
@@ -52,6 +53,7 @@ fn form_or_copy(
 fn form_of(
     alloc: Global,
     settled: &SettledDefinitions<'_>,
+    likely: &[usize],
     pattern: &Pattern,
 ) -> Result<Option<Pattern>, AllocError>
     ensures { IfOk result (λ made. form_or made (pattern_view pattern.now)
@@ -62,10 +64,10 @@ fn form_of(
         | Pattern::Empty
         | Pattern::Text
         | Pattern::Ref(_)
-        | Pattern::Value(_) => Ok(leaf_form(settled, pattern)),
+        | Pattern::Value(_) => Ok(leaf_form(settled, likely, pattern)),
         Pattern::Datum(_, None) => Ok(None),
         Pattern::Datum(data, Some(except)) => {
-            let made = form_of(alloc, settled, except)?;
+            let made = form_of(alloc, settled, likely, except)?;
             let except = form_or_copy(alloc, made, except)?;
             let form = datum_over(alloc, data, Some(new_box(alloc, except)?))?;
             Ok(Some(form))
@@ -74,26 +76,26 @@ fn form_of(
         | Pattern::Attribute(_, content)
         | Pattern::Element(_, content)
         | Pattern::OneOrMore(content) => {
-            let made = form_of(alloc, settled, content)?;
+            let made = form_of(alloc, settled, likely, content)?;
             form_by_content(alloc, pattern, made, content)
         }
         Pattern::Group(members) => {
-            Ok(Some(list_form(alloc, settled, ListKind::Group, members)?))
+            Ok(Some(list_form(alloc, settled, likely, ListKind::Group, members)?))
         }
         Pattern::Interleave(members) => {
-            Ok(Some(list_form(alloc, settled, ListKind::Interleave, members)?))
+            Ok(Some(list_form(alloc, settled, likely, ListKind::Interleave, members)?))
         }
         Pattern::Choice(members) => {
-            Ok(Some(list_form(alloc, settled, ListKind::Choice, members)?))
+            Ok(Some(list_form(alloc, settled, likely, ListKind::Choice, members)?))
         }
     }
 }
 
 /// What a reference becomes: notAllowed or empty if that is the form of its definition. It stays itself else.
-fn reference_form(settled: &SettledDefinitions<'_>, name: &str) -> Option<Pattern>
+fn reference_form(settled: &SettledDefinitions<'_>, likely: &[usize], name: &str) -> Option<Pattern>
     ensures { form_or result (ref name.now) ≡ becomes settled.now name.now }
 {
-    match settled.kind_of(name) {
+    match settled.kind_of(likely, name) {
         FormKind::NotAllowed => Some(Pattern::NotAllowed),
         FormKind::Empty => Some(Pattern::Empty),
         FormKind::Other => None,
@@ -102,13 +104,17 @@ fn reference_form(settled: &SettledDefinitions<'_>, name: &str) -> Option<Patter
 
 /// The canonical form of a pattern that has no other pattern in it and is no datatype, or `None` where that is the pattern
 /// itself.
-fn leaf_form(settled: &SettledDefinitions<'_>, pattern: &Pattern) -> Option<Pattern>
+fn leaf_form(
+    settled: &SettledDefinitions<'_>,
+    likely: &[usize],
+    pattern: &Pattern,
+) -> Option<Pattern>
     requires { IsTrue (is_leaf (pattern_view pattern.now)) }
     ensures { form_or result (pattern_view pattern.now)
         ≡ form.canonical (becomes settled.now) (pattern_view pattern.now) }
 {
     match pattern {
-        Pattern::Ref(name) => reference_form(settled, name),
+        Pattern::Ref(name) => reference_form(settled, likely, name),
         _ => None,
     }
 }
@@ -206,6 +212,7 @@ fn form_over_content(
 fn list_form(
     alloc: Global,
     settled: &SettledDefinitions<'_>,
+    likely: &[usize],
     kind: ListKind,
     members: &[Rc<Pattern>],
 ) -> Result<Pattern, AllocError>
@@ -213,7 +220,7 @@ fn list_form(
         (becomes settled.now) (trees_of (map shared_view members.now)))) }
 {
     let mut forms = Vec::with_capacity(alloc, members.len())?;
-    push_parts(alloc, settled, kind, members, &mut forms)?;
+    push_parts(alloc, settled, likely, kind, members, &mut forms)?;
     kind.tree_over(alloc, forms)
 }
 
@@ -222,6 +229,7 @@ fn list_form(
 fn push_parts(
     alloc: Global,
     settled: &SettledDefinitions<'_>,
+    likely: &[usize],
     kind: ListKind,
     members: &[Rc<Pattern>],
     forms: &mut Vec<Rc<Pattern>>,
@@ -231,8 +239,8 @@ fn push_parts(
         (parts kind (trees_of (map shared_view members.now)))) }
 {
     for member in members {
-        if !push_inner(alloc, settled, kind, member, forms)? {
-            let made = form_of(alloc, settled, member)?;
+        if !push_inner(alloc, settled, likely, kind, member, forms)? {
+            let made = form_of(alloc, settled, likely, member)?;
             push_form(alloc, made, member, forms)?;
         }
     }
@@ -245,6 +253,7 @@ fn push_parts(
 fn push_inner(
     alloc: Global,
     settled: &SettledDefinitions<'_>,
+    likely: &[usize],
     kind: ListKind,
     pattern: &Pattern,
     forms: &mut Vec<Rc<Pattern>>,
@@ -257,21 +266,21 @@ fn push_inner(
     match kind {
         ListKind::Group => match pattern {
             Pattern::Group(members) => {
-                push_parts(alloc, settled, kind, members, forms)?;
+                push_parts(alloc, settled, likely, kind, members, forms)?;
                 Ok(true)
             }
             _ => Ok(false),
         },
         ListKind::Interleave => match pattern {
             Pattern::Interleave(members) => {
-                push_parts(alloc, settled, kind, members, forms)?;
+                push_parts(alloc, settled, likely, kind, members, forms)?;
                 Ok(true)
             }
             _ => Ok(false),
         },
         ListKind::Choice => match pattern {
             Pattern::Choice(members) => {
-                push_parts(alloc, settled, kind, members, forms)?;
+                push_parts(alloc, settled, likely, kind, members, forms)?;
                 Ok(true)
             }
             _ => Ok(false),

@@ -20,7 +20,7 @@ use Rattle.rn_syntax.specs.declared.tree.Uri.TheVariants as u
 use Rattle.rn_syntax.specs.declared.tree.Declaration as code_declaration
 use Rattle.rn_syntax.specs.declared.tree.Declaration.TheVariants as e
 use Rattle.rn_syntax.specs.declared.tree.Item as code_item
-use Rattle.rn_syntax.specs.declared.tree.Item.TheOpen.{Item-F}
+use Rattle.rn_syntax.specs.declared.tree.Item.TheOpen.{Item-F, Include-F}
 use Rattle.rn_syntax.specs.declared.tree.Module as code_module
 use Rattle.rn_syntax.specs.Tree as t
 use Rattle.rn_syntax.specs.Tree.{Name, AnyName, NameClass, Datatype, Params, Pattern, Uri, Declaration, Item, Items, Module, classes_of, patterns_of, items_of}
@@ -106,14 +106,17 @@ declaration_view (e.Default i p x) = t.default i (prefix_view p) (uri_view x)
 declaration_view (e.Datatypes p s) = t.datatypes p.name.now p.at (cow_str_bytes s)
 
 -- one level, with each item inside already seen as its tree
-abbrev pub item_step : Item-F Item → Item
+abbrev pub include_step : Include-F Item Item → Item
+include_step i = t.include (cow_str_bytes i.wanted) (prefix_view i.inherit) (items_of i.items.items)
+
+abbrev pub item_step : Item-F Item Item → Item
 item_step (Item-F.Define x w p) = t.define x.now w (boxed_view p)
 item_step (Item-F.Start w p) = t.start w (boxed_view p)
 item_step (Item-F.Div xs) = t.div (items_of xs.items)
-item_step (Item-F.Include s p xs) = t.include (cow_str_bytes s) (prefix_view p) (items_of xs.items)
+item_step (Item-F.Include i) = i.value
 
 abbrev pub item_view : code_item.Item → Item
-item_view = code_item.fold-Item Item item_step
+item_view = code_item.fold-Item Item Item item_step include_step
 
 abbrev pub items_view : List code_item.Item → Items
 items_view xs = items_of (map item_view xs)

@@ -2,6 +2,7 @@
 ghost use Rattle.std.specs.Prelude.{◌≡◌};
 ghost use Rattle.rn_syntax.specs.Faults.{kind_and_place, kind_name};
 
+use crate::brackets::MAX_OPEN;
 use std::alloc::{AllocError, AllocFailed};
 use thiserror::Error;
 
@@ -13,7 +14,7 @@ pub enum FaultKind {
     Encoding,
     /// A character that XML lacks, or what begins no token.
     Lexical,
-    /// Brackets, more than [`MAX_OPEN`](crate::MAX_OPEN) of them open at once.
+    /// Brackets, more than [`MAX_OPEN`] of them open at once.
     Deep,
     /// Tokens that are no module.
     Syntax,
@@ -49,8 +50,8 @@ impl FaultKind {
 /// counts bytes from the start of the text.
 #[derive(Debug, Drop, PartialEq, Eq, Error)]
 pub enum SyntaxFault {
-    /// The first of `{`, `(` and `[` that makes more than [`MAX_OPEN`](crate::MAX_OPEN) open at once.
-    #[error("more than 256 brackets are open at {at}")]
+    /// The first of `{`, `(` and `[` that makes more than [`MAX_OPEN`] open at once.
+    #[error("more than {most} brackets are open at {at}", most = MAX_OPEN)]
     Deep { at: usize },
     /// The first token with which the tokens so far begin no module; where all of them begin one and are none, the end of
     /// the last token.

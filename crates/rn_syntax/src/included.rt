@@ -38,9 +38,9 @@ fn push_item_includes<'m>(item: &'m Item<'_>, found: &mut Vec<&'m str>) -> Resul
     match item {
         Item::Define { .. } | Item::Start { .. } => Ok(()),
         Item::Div(items) => push_includes(items, found),
-        Item::Include { wanted, items, .. } => {
-            found.push(wanted.as_str())?;
-            push_includes(items, found)
+        Item::Include(include) => {
+            found.push(include.wanted.as_str())?;
+            push_includes(&include.items, found)
         }
     }
 }

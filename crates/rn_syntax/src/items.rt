@@ -1,10 +1,11 @@
 // The items of a grammar, and those of an include (compact syntax, section 2, grammarContent and includeContent).
-ghost use Rattle.std.specs.Prelude.{◌≡◌, ◌≤◌, ◌<◌, length, map, IsTrue};
+ghost use Rattle.std.specs.Prelude.{◌≡◌, ◌≤◌, ◌<◌, length, map, IfOk, IsTrue};
 ghost use Rattle.std.specs.Cow.{cow_str_bytes};
 ghost use Rattle.rn_syntax.specs.inside.Follow.{Anything, Starts, begins_item, behind_pattern, first_terminal, is_end, no_brace, no_inherit};
 ghost use Rattle.rn_syntax.specs.Grammar.{AreInnerItems, AreItems, IsComponent, MayInherit, MayHaveOverrides};
 ghost use Rattle.rn_syntax.specs.inside.Including.{AreItemsBehind, IsDivEnd, IsIncludeEnd, IsInnerItem, IsInnerDivEnd, IsItem, opens_inner, opens_item};
-ghost use Rattle.rn_syntax.specs.inside.Reading.{GoesOn, MayGoOn, Reads, rest};
+ghost use Rattle.rn_text.specs.Reading.{GoesOn, MayGoOn};
+ghost use Rattle.rn_syntax.specs.inside.Reading.{Reads, rest};
 ghost use Rattle.rn_syntax.specs.Tree as tree;
 ghost use Rattle.rn_syntax.specs.View.{boxed_view, item_view, items_view, prefix_view};
 
@@ -15,9 +16,9 @@ use crate::literals::literal;
 use crate::patterns::pattern;
 use crate::terminals::{Terminal, assign, equals, is_keyword, left_brace, next, right_brace};
 use crate::token::Method;
-use crate::tree::{Item, Pat, Prefix};
+use crate::tree::{Include, Item, Pat, Prefix};
 use rn_text::{Keyword, Token};
-use std::alloc::Global;
+use std::alloc::{AllocError, Global};
 use std::borrow::CowStr;
 
 fn define<'a>(name: &'a str, method: Method, body: Box<Pat<'a>>) -> Item<'a>
@@ -38,15 +39,24 @@ fn division(items: Vec<Item<'_>>) -> Item<'_>
     Item::Div(items)
 }
 
-fn inclusion<'a>(wanted: CowStr<'a>, inherit: Option<Prefix<'a>>, items: Vec<Item<'a>>) -> Item<'a>
-    ensures { item_view result ≡ tree.include (cow_str_bytes wanted.entry)
-        (prefix_view inherit.entry) (items_view items.entry.items) }
+fn inclusion<'a>(
+    alloc: Global,
+    wanted: CowStr<'a>,
+    inherit: Option<Prefix<'a>>,
+    items: Vec<Item<'a>>,
+) -> Result<Item<'a>, AllocError>
+    ensures { IfOk result (λ item. item_view item ≡ tree.include (cow_str_bytes wanted.entry)
+        (prefix_view inherit.entry) (items_view items.entry.items)) }
 {
-    Item::Include {
-        wanted,
-        inherit,
-        items,
-    }
+    let include = Box::new(
+        alloc,
+        Include {
+            wanted,
+            inherit,
+            items,
+        },
+    )?;
+    Ok(Item::Include(include))
 }
 
 /// Whether an item begins here, or a note.
@@ -174,7 +184,8 @@ fn include<'a>(alloc: Global, tokens: &[Token<'a>], at: usize) -> Result<(Item<'
     let (wanted, behind) = literal(alloc, tokens, at)?;
     let (inherit, own) = inherit(tokens, behind)?;
     let (items, end) = overrides(alloc, tokens, own)?;
-    Ok((inclusion(wanted, inherit, items), end))
+    let include = inclusion(alloc, wanted, inherit, items)?;
+    Ok((include, end))
 }
 
 /// `[ "inherit" "=" word ]`

@@ -2,7 +2,8 @@
 ghost use Rattle.std.specs.Prelude.{◌≡◌, ◌≤◌, ◌<◌, ◌+◌, ◌++◌, ◌∷◌, [], length, map, false, IfSome, OnOk, MatchOption};
 ghost use Rattle.rn_syntax.specs.inside.Follow.{Starts, Anything, begins_any, behind_class, behind_name, first_terminal};
 ghost use Rattle.rn_syntax.specs.Grammar.{IsAnyName, IsClassCore, IsClassOperand, IsClassPrimary, IsNameClass};
-ghost use Rattle.rn_syntax.specs.inside.Reading.{GoesOn, Makes, MayGoOn, Reads, rest};
+ghost use Rattle.rn_text.specs.Reading.{GoesOn, MayGoOn};
+ghost use Rattle.rn_syntax.specs.inside.Reading.{Makes, Reads, rest};
 ghost use Rattle.rn_syntax.specs.inside.Sequence.{IsAnyClassEnd, IsClassEnd, IsHere};
 ghost use Rattle.rn_syntax.specs.Tree as tree;
 ghost use Rattle.rn_syntax.specs.View.{any_view, boxed_class_view, class_view, classes_view, name_view};
@@ -121,9 +122,27 @@ fn any_class<'a>(
     all(alloc, any, end)
 }
 
-/// `ncoperand = ncprimary | [ann] ( "*" | AnyOf ) "-" ncprimary`
+/// `ncoperand = ncprimary | [ann] ( "*" | AnyOf ) "-" ncprimary`. Most are words, which are asked for first.
 #[cycle(name_class)]
 fn class_operand<'a>(
+    alloc: Global,
+    tokens: &[Token<'a>],
+    at: usize,
+) -> Result<(Box<Nc<'a>>, usize), Fault>
+    requires { at ≤ length tokens.now }
+    ensures inside { GoesOn at (length tokens.now) result }
+    ensures reads { Reads IsClassOperand
+        (Starts behind_name) boxed_class_view tokens.now at result }
+{
+    match next(tokens, at) {
+        Terminal::Ident(_) | Terminal::Keyword(_) => class_end(alloc, tokens, at),
+        _ => any_class_operand(alloc, tokens, at),
+    }
+}
+
+/// An operand of a name class, whatever it begins with: an annotation, `*` and `AnyOf` are looked for first.
+#[cycle(name_class)]
+fn any_class_operand<'a>(
     alloc: Global,
     tokens: &[Token<'a>],
     at: usize,

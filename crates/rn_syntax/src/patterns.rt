@@ -2,8 +2,9 @@
 ghost use Rattle.std.specs.Prelude.{◌≡◌, ◌≤◌, ◌<◌, false, length, IsTrue};
 ghost use Rattle.rn_syntax.specs.inside.Follow.{Anything, Starts, begins_datatype, behind_core, behind_operand, behind_pattern, behind_primary, first_terminal};
 ghost use Rattle.rn_syntax.specs.Grammar.{IsCore, IsOperand, IsPattern, IsPrimary};
-ghost use Rattle.rn_syntax.specs.inside.Parts.{BehindCore, BehindDatatype, BehindParams, BehindPrimary, IsDataEnd, IsTypedValue, IsBraced, IsNamed};
-ghost use Rattle.rn_syntax.specs.inside.Reading.{GoesOn, MayGoOn, Reads, rest};
+ghost use Rattle.rn_syntax.specs.inside.Parts.{BehindCore, BehindDatatype, BehindParams, BehindPostfix, BehindPrimary, IsDataEnd, IsTypedValue, IsBraced, IsNamed};
+ghost use Rattle.rn_text.specs.Reading.{GoesOn, MayGoOn};
+ghost use Rattle.rn_syntax.specs.inside.Reading.{Reads, rest};
 ghost use Rattle.rn_syntax.specs.Terminal as terminal;
 ghost use Rattle.rn_syntax.specs.Tree as tree;
 ghost use Rattle.rn_syntax.specs.View.{boxed_class_view, boxed_view, datatype_view, params_view};
@@ -18,6 +19,7 @@ use crate::fault::Fault;
 use crate::literals::literal;
 use crate::names::name_class;
 use crate::terminals::{Terminal, is_operator, left_brace, next, place, right_brace, right_paren};
+use crate::token::Postfix;
 use crate::tree::{Datatype, Nc, Param, Pat};
 use rn_text::{Keyword, Token};
 use std::alloc::Global;
@@ -39,17 +41,51 @@ pub(crate) fn pattern<'a>(
     };
     let mut members = Vec::with_capacity(alloc, 2)?;
     push_member(&mut members, first)?;
-    'chain: while is_operator(tokens, end, operator) {
+    'chain: loop {
         let (member, behind) = operand(alloc, tokens, end + 1)?;
         push_member(&mut members, member)?;
         end = behind;
+        if !is_operator(tokens, end, operator) {
+            return chain(alloc, operator, members, end);
+        }
     }
-    chain(alloc, operator, members, end)
 }
 
-/// `operand = primary [ postfix follow* ] | except`
+/// `operand = primary [ postfix follow* ] | except`. Most are references, elements, attributes and parentheses, so their first
+/// tokens are asked for before annotations and datatypes.
 #[cycle(pattern)]
 fn operand<'a>(
+    alloc: Global,
+    tokens: &[Token<'a>],
+    at: usize,
+) -> Result<(Box<Pat<'a>>, usize), Fault>
+    requires { at ≤ length tokens.now }
+    ensures inside { GoesOn at (length tokens.now) result }
+    ensures reads { Reads IsOperand (Starts behind_operand) boxed_view tokens.now at result }
+{
+    match next(tokens, at) {
+        Terminal::Ident(name) => {
+            let (core, end) = reference(alloc, name, at + 1)?;
+            behind_core(alloc, tokens, end, core)
+        }
+        Terminal::Keyword(keyword) => match keyword {
+            Keyword::String | Keyword::Token => any_operand(alloc, tokens, at),
+            _ => {
+                let (core, end) = keyword_core(alloc, tokens, at, keyword)?;
+                behind_core(alloc, tokens, end, core)
+            }
+        },
+        Terminal::LeftParen => {
+            let (core, end) = untyped_core(alloc, tokens, at)?;
+            behind_core(alloc, tokens, end, core)
+        }
+        _ => any_operand(alloc, tokens, at),
+    }
+}
+
+/// An operand, whatever it begins with: an annotation and a datatype are looked for first.
+#[cycle(pattern)]
+fn any_operand<'a>(
     alloc: Global,
     tokens: &[Token<'a>],
     at: usize,
@@ -78,8 +114,14 @@ fn behind_core<'a>(
     ensures reads { Reads (BehindCore (boxed_view core.entry))
         (Starts behind_operand) boxed_view tokens.now at result }
 {
-    let behind = skip_follows(tokens, at)?;
-    behind_primary(alloc, tokens, behind, core)
+    match next(tokens, at) {
+        Terminal::Follow => {
+            let behind = skip_follows(tokens, at)?;
+            behind_primary(alloc, tokens, behind, core)
+        }
+        Terminal::Postfix(postfix) => behind_postfix(alloc, tokens, at + 1, postfix, core),
+        _ => Ok((core, at)),
+    }
 }
 
 /// `[ postfix follow* ]`, behind the primary of an operand
@@ -94,10 +136,26 @@ fn behind_primary<'a>(
     ensures reads { Reads (BehindPrimary (boxed_view primary.entry))
         (Starts behind_operand) boxed_view tokens.now at result }
 {
-    let Terminal::Postfix(postfix) = next(tokens, at) else {
-        return Ok((primary, at));
-    };
-    let behind = skip_follows(tokens, at + 1)?;
+    match next(tokens, at) {
+        Terminal::Postfix(postfix) => behind_postfix(alloc, tokens, at + 1, postfix, primary),
+        _ => Ok((primary, at)),
+    }
+}
+
+/// `follow*`, behind the postfix of an operand
+fn behind_postfix<'a>(
+    alloc: Global,
+    tokens: &[Token<'a>],
+    at: usize,
+    postfix: Postfix,
+    primary: Box<Pat<'a>>,
+) -> Result<(Box<Pat<'a>>, usize), Fault>
+    requires { at ≤ length tokens.now }
+    ensures inside { MayGoOn at (length tokens.now) result }
+    ensures reads { Reads (BehindPostfix postfix (boxed_view primary.entry))
+        (Starts behind_operand) boxed_view tokens.now at result }
+{
+    let behind = skip_follows(tokens, at)?;
     repeated(alloc, postfix, primary, behind)
 }
 

@@ -92,9 +92,9 @@ fn item_place(rule: Rule, bindings: &Bindings<'_, '_>, item: &Item<'_>) -> Optio
     match item {
         Item::Define { body, .. } | Item::Start { body, .. } => pattern_place(rule, bindings, body),
         Item::Div(items) => items_place(rule, bindings, items),
-        Item::Include { inherit, items, .. } => {
-            match rule.inherit(bindings, *inherit) {
-                None => items_place(rule, bindings, items),
+        Item::Include(include) => {
+            match rule.inherit(bindings, include.inherit) {
+                None => items_place(rule, bindings, &include.items),
                 wrong => wrong,
             }
         }

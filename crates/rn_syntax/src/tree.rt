@@ -133,7 +133,9 @@ pub enum Declaration<'a> {
     Datatypes(Prefix<'a>, CowStr<'a>),
 }
 
-/// What a grammar is made of (RELAX NG Compact Syntax, 2, grammarContent).
+/// What a grammar is made of (RELAX NG Compact Syntax, 2, grammarContent). Most are definitions, so an include, which is
+/// large, is in a box.
+#[cycle(item)]
 #[derive(Drop)]
 pub enum Item<'a> {
     /// A definition.
@@ -155,14 +157,19 @@ pub enum Item<'a> {
     /// `div { .. }`, with its items in the order of the text.
     Div(Vec<Item<'a>>),
     /// `include ".." inherit = .. { .. }`
-    Include {
-        /// The literal, which names a module.
-        wanted: CowStr<'a>,
-        /// The word behind `inherit =`, where it is written.
-        inherit: Option<Prefix<'a>>,
-        /// The overrides, in the order of the text.
-        items: Vec<Item<'a>>,
-    },
+    Include(Box<Include<'a>>),
+}
+
+/// An include: another module, and what is overridden in it.
+#[cycle(item)]
+#[derive(Drop)]
+pub struct Include<'a> {
+    /// The literal, which names a module.
+    pub wanted: CowStr<'a>,
+    /// The word behind `inherit =`, where it is written.
+    pub inherit: Option<Prefix<'a>>,
+    /// The overrides, in the order of the text.
+    pub items: Vec<Item<'a>>,
 }
 
 /// A module.

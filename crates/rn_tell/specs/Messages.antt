@@ -1,6 +1,6 @@
 -- Messages: where they are told, and their lines.
 use Rattle.std.specs.Prelude.{◌≡◌, ℕ, ◌≤◌, List, [], ◌∷◌, ◌++◌, Option, Some, None, codes, decimal, nat_lt, slice_get, string_bytes, vec_len, if◌then◌else◌}
-use Rattle.rn_files.specs.Lines.{IsPosition}
+use Rattle.rn_files.specs.TextLines.{IsPosition}
 use Rattle.rn_tell.specs.Limits.{max_told}
 use Rattle.rn_tell.specs.PrintedCharacters.{head, printed}
 use Rattle.rn_tell.specs.declared.report.Colours.{Colours}

@@ -1,7 +1,6 @@
 // The fault of a text as a sentence.
-use rn_files::Grouped;
 use rn_merge::Place;
-use rn_outline::MAX_OPEN;
+use rn_outline::{Grouped, MAX_OPEN};
 use rn_text::{Token, tokens};
 use std::alloc::{AllocError, Global};
 

@@ -2,8 +2,6 @@
 pub mod Cuts
 pub mod FirstParts
 pub mod NameTokens
-pub mod SegmentEnds
 pub mod DelimitedFronts
 pub mod BeforeBreaks
-pub mod SpelledTokens
 pub mod SoundPieces

@@ -1,8 +1,10 @@
 // The tokens of a source.
 ghost use Rattle.std.specs.Prelude.{◌≡◌, ℕ, List, map, MatchResult};
+ghost use Rattle.std.specs.List.{list_all};
 ghost use Rattle.std.specs.Str.{chars, IsUtf8};
 ghost use Rattle.rn_text.specs.Characters.{is_xml_char};
 ghost use Rattle.rn_text.specs.Segments.{after_run};
+ghost use Rattle.rn_text.specs.inside.Ascii.{is_ascii_and};
 ghost use Rattle.rn_text.specs.Tokens.{HasTokens, HasFault, Lexeme, lexeme_of, unmarked};
 
 use crate::characters::{is_xml_char, split_first};
@@ -44,10 +46,32 @@ pub enum TextFault {
     Memory,
 }
 
+/// Whether the byte is an ASCII character of XML.
+#[tactic(auto, unfolding(crate::specs::Characters::is_xml_char))]
+fn is_ascii_xml_char(b: u8) -> bool
+    ensures { result ≡ is_ascii_and is_xml_char b }
+{
+    matches!(b, b'\t' | b'\n' | b'\r' | b' '..=127)
+}
+
+/// Whether all bytes are ASCII characters of XML. No byte ends the loop, so many are tested at once.
+fn are_ascii_xml_chars(bytes: &[u8]) -> bool
+    ensures { result ≡ list_all (is_ascii_and is_xml_char) bytes.now }
+{
+    let mut all = true;
+    for b in bytes {
+        all &= is_ascii_xml_char(*b);
+    }
+    all
+}
+
 /// What follows the longest front of XML characters.
 fn after_xml(text: &str) -> &str
     ensures { chars result.now ≡ after_run is_xml_char (chars text.now) }
 {
+    if are_ascii_xml_chars(text.as_bytes()) {
+        return "";
+    }
     text.trim_start_matches(is_xml_char)
 }
 

@@ -76,20 +76,12 @@ fn include_literals(rt: HostRuntime) {
 
 /// Whether the literal of the only include of a module is a slice of its text.
 fn has_borrowed(module: &Module) -> Option<bool> {
-    match module.items.as_slice() {
-        [
-            Item::Include {
-                wanted: CowStr::Borrowed(_),
-                ..
-            },
-        ] => Some(true),
-        [
-            Item::Include {
-                wanted: CowStr::Owned(_),
-                ..
-            },
-        ] => Some(false),
-        _ => None,
+    let [Item::Include(include)] = module.items.as_slice() else {
+        return None;
+    };
+    match include.wanted {
+        CowStr::Borrowed(_) => Some(true),
+        CowStr::Owned(_) => Some(false),
     }
 }
 

@@ -4,7 +4,7 @@ ghost use Rattle.rnc_merge.specs.Jobs.{LeavesSink};
 
 use crate::inputs::{read_file, read_files};
 use rn_merge::{
-    Job, ProgramFault, Sink, Status, check, list_line, read_bundles, run_print, write_output,
+    Job, ProgramFault, Sink, Status, check, list_line, print_set, read_bundles, write_output,
 };
 use rn_modset::{Contribution, ModuleSet, write_bundle};
 use std::alloc::Global;
@@ -35,11 +35,7 @@ pub fn perform<W: Sink>(rt: &HostRuntime, job: Job, out: &mut W) -> Result<(), P
             read_files(rt, files.as_slice())?.as_slice(),
             out,
         ),
-        Job::Print { files } => print(
-            rt.alloc(),
-            read_files(rt, files.as_slice())?.as_slice(),
-            out,
-        ),
+        Job::Print { files } => print(rt.alloc(), read_files(rt, files.as_slice())?, out),
         Job::Check { file } => {
             let text = read_file(rt, 0, file.as_str())?;
             check(rt.alloc(), text.as_slice()).map_err(ProgramFault::Check)
@@ -93,12 +89,14 @@ fn list<W: Sink>(alloc: Global, bundles: &[Vec<u8>], out: &mut W) -> Result<(), 
     write(lines.as_bytes(), out)
 }
 
-/// Writes the schema of the union of bundles.
-fn print<W: Sink>(alloc: Global, bundles: &[Vec<u8>], out: &mut W) -> Result<(), ProgramFault>
+/// Writes the schema of the union of bundles, whose memory is free again before it is made.
+fn print<W: Sink>(alloc: Global, bundles: Vec<Vec<u8>>, out: &mut W) -> Result<(), ProgramFault>
     requires { W.has_failed out.old ≡ false }
     ensures { LeavesSink result (out.new ≡ out.old) }
 {
-    match run_print(alloc, bundles, out)? {
+    let union = read_bundles(alloc, bundles.as_slice())?;
+    drop(bundles);
+    match print_set(alloc, &union, out)? {
         Status::Done => Ok(()),
         Status::Refused(refusal) => Err(ProgramFault::Refused(refusal)),
     }

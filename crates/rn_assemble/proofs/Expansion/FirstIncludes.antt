@@ -1,12 +1,11 @@
 -- The rows of modules, one after the other, and the first refusal of an include.
-use Rattle.std.proofs.Common.{◌≡◌, ⊎_elim, ℕ, suc, ◌+◌, ◌<◌, List, [], ◌∷◌, ◌++◌, length, get_or, map, Vec, Some, None, refl, sym, ap, ◌∙◌, subst, arith, below_more, Less}
+use Rattle.std.proofs.Common.{◌≡◌, ⊎_elim, ℕ, suc, ◌+◌, ◌<◌, List, [], ◌∷◌, ◌++◌, length, get_or, map, Some, None, refl, sym, ap, ◌∙◌, subst, arith, below_more, Less}
 use Rattle.std.specs.Prelude.{Contains, sum_by}
 use Rattle.std.specs.List.Sorted.{IsStrictlySortedBy}
-use Rattle.std.specs.declared.alloc.Global.{Global}
 use Rattle.std.proofs.lemmas.Bool.{cases_order}
 use Rattle.std.proofs.lemmas.List.{get_or-map, length-map, length_push}
 use Rattle.rn_text.specs.Texts.{Text, text_cmp}
-use Rattle.rn_pattern.specs.Graph.{AllBelow, row, rows_of}
+use Rattle.rn_pattern.specs.Graph.{AllBelow, row}
 use Rattle.rn_pattern.specs.Ranks.{HasNoLoop, IsFirstLoop}
 use Rattle.rn_pattern.proofs.Ordered.InOrder.{text_no_less}
 use Rattle.rn_pattern.proofs.Graphs.Rows.{AreRows, is_graph, no_rows, row_before, row_behind, rows_pushed}
@@ -26,18 +25,15 @@ use Rattle.rn_assemble.proofs.Referring.Named.{unmapped}
 use Rattle.rn_assemble.proofs.Referring.Numbers.{not_itself}
 use Rattle.rn_assemble.proofs.Expansion.WantedNumbers.{found_all, names_rise, numbers}
 
-pub rows_are : (modules : List NamedModule) (rows edges : List (Vec ℕ Global)) → edges ≡ rows → AreInclusions modules (rows_of rows) → AreInclusions modules (rows_of edges)
-rows_are modules rows edges e h = subst (λ es. AreInclusions modules (rows_of es)) (sym e) h
-
 module _ (xs : List code.NamedModule) where
   abbrev ms : List NamedModule
   ms = modules_view xs
 
   -- the rows of the modules before a place
-  pub record AreBegun (k : ℕ) (rows : List (Vec ℕ Global)) : Type 0 where
+  pub record AreBegun (k : ℕ) (rows : List (List ℕ)) : Type 0 where
     pub long : length rows ≡ k
-    pub below : AreRows (length xs) (rows_of rows)
-    pub named : (i : ℕ) → i < k → map (name_at ms) (row (rows_of rows) i) ≡ included_by ms (name_at ms i)
+    pub below : AreRows (length xs) rows
+    pub named : (i : ℕ) → i < k → map (name_at ms) (row rows i) ≡ included_by ms (name_at ms i)
 
   module _ (in_order : IsStrictlySortedBy text_cmp (module_names xs)) where
     size : length ms ≡ length xs
@@ -56,32 +52,32 @@ module _ (xs : List code.NamedModule) where
     included_seen : (i : ℕ) (s : code.NamedModule) → i < length xs → s ≡ get_or xs i s → included_by ms (name_at ms i) ≡ includes (module_view s.tree).items
     included_seen i s l e = included_at ms o i (named_module_view s) (omega (arith, l, size)) ∙ ap (λ (m : NamedModule). includes m.tree.items) (view_at i s l e)
 
-    pub begins : (rows : List (Vec ℕ Global)) → rows ≡ [] → AreBegun 0 rows
+    pub begins : (rows : List (List ℕ)) → rows ≡ [] → AreBegun 0 rows
     begins rows e = subst (AreBegun 0) (sym e) (record { long = refl; below = no_rows (length xs); named = λ i l. absurd (omega (arith, l)) })
 
-    pub goes_on : (k : ℕ) (rows rows' : List (Vec ℕ Global)) (v : Vec ℕ Global) (s : code.NamedModule) (texts : List Text) → k < length xs → s ≡ get_or xs k s → AreBegun k rows → rows' ≡ rows ++ v ∷ []
-        → texts ≡ includes (module_view s.tree).items → IsLeastAmong (IsMissing ms) texts None → v.items ≡ numbers ms texts → AreBegun (k + 1) rows'
+    pub goes_on : (k : ℕ) (rows rows' : List (List ℕ)) (v : List ℕ) (s : code.NamedModule) (texts : List Text) → k < length xs → s ≡ get_or xs k s → AreBegun k rows → rows' ≡ rows ++ v ∷ []
+        → texts ≡ includes (module_view s.tree).items → IsLeastAmong (IsMissing ms) texts None → v ≡ numbers ms texts → AreBegun (k + 1) rows'
     goes_on k rows rows' v s texts l at b e are none is =
         let found = found_all ms texts none in
-        let last : row (rows_of rows') k ≡ v.items = ap (row (rows_of rows')) (sym b.long) ∙ row_behind rows rows' v e in
+        let last : row rows' k ≡ v = ap (row rows') (sym b.long) ∙ row_behind rows rows' v e in
         record {
           long = omega (arith, ap length e, length_push rows v, b.long);
           below = rows_pushed (length xs) rows rows' v b.below (subst (AllBelow (length xs)) (sym is) (subst (λ n. AllBelow n (numbers ms texts)) size found.0)) e;
-          named = below_more (λ i. map (name_at ms) (row (rows_of rows') i) ≡ included_by ms (name_at ms i)) k
+          named = below_more (λ i. map (name_at ms) (row rows' i) ≡ included_by ms (name_at ms i)) k
               (λ i lt. ap (map (name_at ms)) (row_before rows rows' v i e (omega (arith, lt, b.long))) ∙ b.named i lt)
               (ap (map (name_at ms)) (last ∙ is) ∙ found.1 ∙ are ∙ sym (included_seen k s l at));
         }
 
-    pub ends : (k : ℕ) (rows : List (Vec ℕ Global)) → k ≡ length xs → AreBegun k rows → AreInclusions ms (rows_of rows)
+    pub ends : (k : ℕ) (rows : List (List ℕ)) → k ≡ length xs → AreBegun k rows → AreInclusions ms rows
     ends k rows e b = record {
-      size = length-map rows (λ (v : Vec ℕ Global). v.items) ∙ b.long ∙ e ∙ sym size;
+      size = b.long ∙ e ∙ sym size;
       graph = is_graph (length xs) rows b.below (b.long ∙ e);
       named = λ i l. b.named i (omega (arith, l, size, e));
     }
 
     -- ---- an include of no module
 
-    module _ (k : ℕ) (rows : List (Vec ℕ Global)) (s : code.NamedModule) (texts : List Text) (w : Text) (l : k < length xs) (at : s ≡ get_or xs k s) (b : AreBegun k rows) (are : texts ≡ includes (module_view s.tree).items) (h : IsLeastAmong (IsMissing ms) texts (Some w)) where
+    module _ (k : ℕ) (rows : List (List ℕ)) (s : code.NamedModule) (texts : List Text) (w : Text) (l : k < length xs) (at : s ≡ get_or xs k s) (b : AreBegun k rows) (are : texts ≡ includes (module_view s.tree).items) (h : IsLeastAmong (IsMissing ms) texts (Some w)) where
       x : name_at ms k ≡ s.name.now
       x = name_seen k s l at
 
@@ -97,8 +93,8 @@ module _ (xs : List code.NamedModule) where
       -- no module before wants one that is missing
       before : (i : ℕ) (y v : Text) → i < k → name_at ms i ≡ y → ¬ Wants ms y v
       before i y v lt e q =
-          let among : Contains (map (name_at ms) (row (rows_of rows) i)) v = subst (λ zs. Contains zs v) (sym (b.named i lt ∙ ap (included_by ms) e)) (include_stands ms y v q.0) in
-          let j = unmapped (name_at ms) (row (rows_of rows) i) v among in
+          let among : Contains (map (name_at ms) (row rows i)) v = subst (λ zs. Contains zs v) (sym (b.named i lt ∙ ap (included_by ms) e)) (include_stands ms y v q.0) in
+          let j = unmapped (name_at ms) (row rows i) v among in
           not_missing ms o j.0 v (omega (arith, b.below i j.0 j.1, size)) j.2 q.1
 
       least : (y v : Text) → Wants ms y v → ¬ (text_cmp y s.name.now ≡ Less)

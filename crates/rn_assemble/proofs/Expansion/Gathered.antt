@@ -1,9 +1,7 @@
 -- Items that are gathered one after the other.
-use Rattle.std.proofs.Common.{◌≡◌, ℕ, ◌+◌, ◌<◌, List, ◌∷◌, ◌++◌, length, get_or, take, drop, map, drop-cons, sym, ap, ◌∙◌, subst, [], append_assoc, append-nil, Contains, add-one, inl, inr, arith}
+use Rattle.std.proofs.Common.{◌≡◌, ℕ, ◌+◌, ◌<◌, List, ◌∷◌, ◌++◌, length, get_or, take, drop, map, drop-cons, sym, ap, ◌∙◌, subst, [], append_assoc, append-nil, Contains, add-one, arith}
 use Rattle.std.specs.List.{AllByRecursion, AllZip}
-use Rattle.std.specs.Prelude.{flat_map}
-use Rattle.std.proofs.lemmas.List.Elements.{Contains-append_left, Contains-append_right}
-use Rattle.rn_pattern.proofs.Ordered.InOrder.{contains_cases, each_contained}
+use Rattle.rn_pattern.proofs.Ordered.InOrder.{each_contained}
 use Rattle.rn_assemble.specs.declared.named_modules.NamedModule as code_module
 use Rattle.std.proofs.lemmas.List.{length-map, get_or-map, take_more}
 use Rattle.rn_text.specs.Texts.{Text}

@@ -8,7 +8,7 @@ use Rattle.std.proofs.lemmas.List.{length_push, get_or_append_left, get_or_defau
 use Rattle.std.proofs.Math.Seq.{take-append_seam}
 use Rattle.std.proofs.lemmas.Option.{slice_get-get_or, slice_get_past}
 use Rattle.rn_assemble.specs.declared.runs.Run.{Run}
-use Rattle.rn_assemble.specs.inside.Runs.{AreRuns, ContinuesWith, HasIndex, HaveIndex, LastBeginsAt, number_at, numbers}
+use Rattle.rn_assemble.specs.inside.Runs.{AreRuns, ContinuesWith, HasIndex, HaveIndex, LastBeginsAt, number_at, numbers, run_from}
 
 pub length-numbers : (rs : List Run) (n : ℕ) → length (numbers rs n) ≡ n
 length-numbers rs zero = refl
@@ -103,6 +103,22 @@ last_at rs r d = get_or_push rs r d (length rs) refl
 
 back_own : (rs : List Run) (r : Run) → number_at 0 (rs ++ r ∷ []) r.first ≡ r.start
 back_own rs r = back 0 rs r r.first (omega arith) ∙ omega arith
+
+-- ---- one run alone
+
+pub run_number : (s i : ℕ) → number_at 0 (run_from s) i ≡ s + i
+run_number s i = back 0 [] (record { first = 0; start = s }) i (omega arith) ∙ omega arith
+
+pub is_one_run : (s n : ℕ) → 0 < n → s + n ≤ 2 ^ 64 → AreRuns (run_from s) n
+is_one_run s n l f = record {
+  some = λ _. omega arith;
+  begins = λ d _. refl;
+  rises = λ j k d l m. absurd (omega (arith, l, m));
+  within = λ k d m. let q : 0 ≡ k = omega (arith, m) in subst (λ p. (get_or (run_from s) p d).first < n) q l;
+  fits = λ i l. subst (λ x. x < 2 ^ 64) (sym (run_number s i)) (omega (arith, l, f));
+}
+
+-- ---- one run behind others
 
 module _ (rs : List Run) (n m : ℕ) (r : Run) (e : r.first ≡ n) (s : m ≡ n + 1) where
   begins_more : (ss : List Run) → AreRuns ss n → (d : Run) → (get_or (ss ++ r ∷ []) 0 d).first ≡ 0

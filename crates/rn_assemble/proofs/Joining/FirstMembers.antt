@@ -6,7 +6,7 @@ use Rattle.std.proofs.lemmas.Cmp.{tied_itself}
 use Rattle.std.proofs.lemmas.List.{length-map, length_push, get_or-map, get_or_append_left, get_or_push}
 use Rattle.std.proofs.lemmas.Option.{get_or_from_slice_get, slice_get-get_or}
 use Rattle.std.specs.declared.alloc.Global.{Global}
-use Rattle.rn_pattern.specs.Graph.{row, rows_of}
+use Rattle.rn_pattern.specs.Graph.{row}
 use Rattle.rn_pattern.specs.Opened.{one_or_node}
 use Rattle.rn_pattern.specs.Order.{tree_cmp}
 use Rattle.rn_pattern.specs.Tree.{Tree, interleave, choice, trees_of}
@@ -19,7 +19,7 @@ use Rattle.rn_assemble.specs.declared.components.Body.{Body}
 use Rattle.rn_assemble.specs.Combine.{bodies, is_interleave, joined_pattern, of_key, uses}
 use Rattle.rn_assemble.specs.Components.{Component}
 use Rattle.rn_assemble.specs.Firsts.{AreFirsts, joined_members}
-use Rattle.rn_assemble.specs.inside.Tied.{AreTied, HaveTied, IsFirst, body_of}
+use Rattle.rn_assemble.specs.inside.Tied.{AreTied, HaveTied, IsFirst, body_of, firsts_of}
 use Rattle.rn_assemble.specs.inside.Keyed.{key_at}
 use Rattle.rn_assemble.specs.inside.Listed.{IsBody, IsLive, Live, ListsBy, components_in}
 use Rattle.rn_assemble.proofs.Referring.FoundReferences.{Shown, shown}
@@ -39,7 +39,7 @@ members_are b (p ∷ []) l = absurd (omega (arith, l))
 members_are b (p ∷ q ∷ ps) l = node_members b (p ∷ q ∷ ps)
 
 -- the row of a vector that is there
-pub row_there : (fs : List (Vec ℕ Global)) (n : ℕ) (v : Vec ℕ Global) → v ≡ get_or fs n v → n < length fs → row (rows_of fs) n ≡ v.items
+pub row_there : (fs : List (Vec ℕ Global)) (n : ℕ) (v : Vec ℕ Global) → v ≡ get_or fs n v → n < length fs → row (firsts_of fs) n ≡ v.items
 row_there fs n v e l = get_or-map (λ (w : Vec ℕ Global). w.items) fs n v [] l ∙ ap (λ (w : Vec ℕ Global). w.items) (sym e)
 
 pub none_tied : (members : List Tree) → AreTied [] members

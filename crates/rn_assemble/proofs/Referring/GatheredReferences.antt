@@ -1,11 +1,9 @@
 -- The references of all keys, gathered key by key.
-use Rattle.std.proofs.Common.{◌≡◌, ◌⊎◌, inl, inr, ⊎_elim, ℕ, zero, suc, ◌+◌, ◌<◌, List, [], ◌∷◌, ◌++◌, length, get_or, flat_map, Option, Some, None, refl, sym, ap, ◌∙◌, subst, arith, Contains, Vec, below_more}
+use Rattle.std.proofs.Common.{◌≡◌, ◌⊎◌, inl, inr, ⊎_elim, ℕ, zero, suc, ◌+◌, ◌<◌, List, [], ◌∷◌, ◌++◌, length, get_or, flat_map, Option, Some, None, refl, sym, ap, ◌∙◌, subst, arith, Contains, below_more}
 use Rattle.std.specs.Prelude.{◌↔◌, IsSomeAnd}
 use Rattle.std.specs.List.Sorted.{IsStrictlySortedBy}
 use Rattle.std.specs.Cmp.Lexicographic.{bytes_decides}
-use Rattle.std.specs.declared.alloc.Global.{Global}
 use Rattle.std.proofs.lemmas.Bool.{cases_lt}
-use Rattle.std.proofs.lemmas.List.{length-map}
 use Rattle.std.proofs.lemmas.List.Elements.{Contains-append_left, Contains-append_right, Contains-append_cases}
 use Rattle.std.proofs.lemmas.Map.Views.{Contains-from_lookup}
 use Rattle.rn_pattern.specs.Tree.{Tree}
@@ -13,7 +11,7 @@ use Rattle.rn_text.specs.Texts.{Text, text_cmp}
 use Rattle.rn_pattern.specs.Matching.{Grammar, definition_of}
 use Rattle.rn_pattern.specs.Reached.{RefersTo}
 use Rattle.rn_pattern.specs.References.{RefersOutside, IsUndefined}
-use Rattle.rn_pattern.specs.Graph.{row, rows_of}
+use Rattle.rn_pattern.specs.Graph.{row}
 use Rattle.rn_pattern.proofs.Graphs.FirstLoop.{source_within}
 use Rattle.rn_pattern.proofs.Graphs.Rows.{row_before, row_behind}
 use Rattle.rn_assemble.specs.Components.{name_key, Component}
@@ -41,9 +39,9 @@ row_of R names texts cs k r a h = record {
 }
 
 -- the keys before this one
-pub record Gathered (names : List Text) (cs : List Component) (all outer : List (Vec ℕ Global)) (key : ℕ) (undefined : Option Text) : Type 0 where
-  pub anywhere : (k : ℕ) → k < key → RowOf RefersTo names cs k (row (rows_of all) k)
-  pub outside : (k : ℕ) → k < key → RowOf RefersOutside names cs k (row (rows_of outer) k)
+pub record Gathered (names : List Text) (cs : List Component) (all outer : List (List ℕ)) (key : ℕ) (undefined : Option Text) : Type 0 where
+  pub anywhere : (k : ℕ) → k < key → RowOf RefersTo names cs k (row all k)
+  pub outside : (k : ℕ) → k < key → RowOf RefersOutside names cs k (row outer k)
   pub before : List Text
   pub are : (y : Text) → Contains before y ↔ ((k : ℕ) × (k < key) × RefersTo y (joined_pattern cs (key_at names k)))
   pub least : IsLeastOf (joined_grammar cs) before undefined
@@ -57,16 +55,16 @@ gathered_begins names cs = record {
   least = λ x c. absurd (omega (arith, c.1));
 }
 
-rows_more : (R : Text → Tree → Type 0) (names : List Text) (cs : List Component) (es fs : List (Vec ℕ Global)) (v : Vec ℕ Global) (key : ℕ) → length es ≡ key → fs ≡ es ++ v ∷ [] → ((k : ℕ) → k < key → RowOf R names cs k (row (rows_of es) k)) → RowOf R names cs key v.items
-    → (k : ℕ) → k < key + 1 → RowOf R names cs k (row (rows_of fs) k)
+rows_more : (R : Text → Tree → Type 0) (names : List Text) (cs : List Component) (es fs : List (List ℕ)) (v : List ℕ) (key : ℕ) → length es ≡ key → fs ≡ es ++ v ∷ [] → ((k : ℕ) → k < key → RowOf R names cs k (row es k)) → RowOf R names cs key v
+    → (k : ℕ) → k < key + 1 → RowOf R names cs k (row fs k)
 rows_more R names cs es fs v key l e h here =
-    below_more (λ k. RowOf R names cs k (row (rows_of fs) k)) key
+    below_more (λ k. RowOf R names cs k (row fs k)) key
     (λ k lt. subst (RowOf R names cs k) (sym (row_before es fs v k e (omega (arith, lt, l)))) (h k lt))
-    (subst (RowOf R names cs key) (sym (ap (row (rows_of fs)) (sym l) ∙ row_behind es fs v e)) here)
+    (subst (RowOf R names cs key) (sym (ap (row fs) (sym l) ∙ row_behind es fs v e)) here)
 
-pub gathered_more : (names : List Text) (cs : List Component) (all outer all' outer' : List (Vec ℕ Global)) (v w : Vec ℕ Global) (key : ℕ) (u u' : Option Text) (texts : List Text)
+pub gathered_more : (names : List Text) (cs : List Component) (all outer all' outer' : List (List ℕ)) (v w : List ℕ) (key : ℕ) (u u' : Option Text) (texts : List Text)
     → Gathered names cs all outer key u → length all ≡ key → length outer ≡ key → all' ≡ all ++ v ∷ [] → outer' ≡ outer ++ w ∷ []
-    → RowOf RefersTo names cs key v.items → RowOf RefersOutside names cs key w.items → ((y : Text) → Contains texts y ↔ RefersTo y (joined_pattern cs (key_at names key)))
+    → RowOf RefersTo names cs key v → RowOf RefersOutside names cs key w → ((y : Text) → Contains texts y ↔ RefersTo y (joined_pattern cs (key_at names key)))
     → ((before : List Text) → IsLeastOf (joined_grammar cs) before u → IsLeastOf (joined_grammar cs) (before ++ texts) u') → Gathered names cs all' outer' (key + 1) u'
 gathered_more names cs all outer all' outer' v w key u u' texts g la lo ea eo rv rw t more = record {
   anywhere = rows_more RefersTo names cs all all' v key la ea g.anywhere rv;
@@ -116,32 +114,26 @@ module _ (names : List Text) (bs : List Body) (list : List ℕ) (rows : List (Li
       let d = some_definition G x y (definition_of G y) refl (refers_in_definition x cs y h) in
       inr (y, d.0, Contains-from_lookup (λ a b k. (bytes_decides a b).0 k) y d.0 G.definitions d.1, d.2)
 
-  module _ (all outer : List (Vec ℕ Global)) (la : length all ≡ suc (length names)) (lo : length outer ≡ suc (length names)) where
-    pub gathered_none : Gathered names cs all outer (suc (length names)) None → AreAllReferences names cs (rows_of all) (rows_of outer)
+  module _ (all outer : List (List ℕ)) (la : length all ≡ suc (length names)) (lo : length outer ≡ suc (length names)) where
+    pub gathered_none : Gathered names cs all outer (suc (length names)) None → AreAllReferences names cs all outer
     gathered_none g = record {
       anywhere = record {
-        size = sa;
-        only = λ k m c. (g.anywhere k (omega (arith, source_within (rows_of all) k m c, sa))).only m c;
+        size = la;
+        only = λ k m c. (g.anywhere k (omega (arith, source_within all k m c, la))).only m c;
         all = λ k x h r. (g.anywhere k h).all x r (named k x h r);
       };
       outside = record {
-        size = so;
-        only = λ k m c. (g.outside k (omega (arith, source_within (rows_of outer) k m c, so))).only m c;
+        size = lo;
+        only = λ k m c. (g.outside k (omega (arith, source_within outer k m c, lo))).only m c;
         all = λ k x h r. (g.outside k h).all x r (named k x h (outside_anywhere x (joined_pattern cs (key_at names k)) r));
       };
       defined = λ x u. let k = referred_at x u.0 in not_none (definition_of G x) (g.least x ((g.are x).1 k)) u.1;
     }
       where
-        sa : length (rows_of all) ≡ suc (length names)
-        sa = length-map all (λ (v : Vec ℕ Global). v.items) ∙ la
-
-        so : length (rows_of outer) ≡ suc (length names)
-        so = length-map outer (λ (v : Vec ℕ Global). v.items) ∙ lo
-
         named : (k : ℕ) (x : Text) → k < suc (length names) → RefersTo x (joined_pattern cs (key_at names k)) → Contains names x
         named k x h r = defined_name names bs list rows live lists sorted x (g.least x ((g.are x).1 (k, h, r)))
 
-  pub gathered_some : (all outer : List (Vec ℕ Global)) (x : Text) → Gathered names cs all outer (suc (length names)) (Some x) → IsLeast text_cmp (IsUndefined G) x
+  pub gathered_some : (all outer : List (List ℕ)) (x : Text) → Gathered names cs all outer (suc (length names)) (Some x) → IsLeast text_cmp (IsUndefined G) x
   gathered_some all outer x g =
       let k = (g.are x).0 g.least.0 in
       record {

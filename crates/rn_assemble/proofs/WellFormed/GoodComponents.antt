@@ -11,7 +11,7 @@ use Rattle.rn_modset.specs.Modules as effective
 use Rattle.rn_syntax.specs.declared.fault.FaultKind.{FaultKind}
 use Rattle.rn_syntax.specs.declared.fault.FaultKind.TheVariants as kind
 use Rattle.rn_syntax.specs.Tree as t
-use Rattle.rn_syntax.specs.Tree.{Declaration, Item, Items, Module, NameClass}
+use Rattle.rn_syntax.specs.Tree.{Declaration, Item, Items, Module}
 use Rattle.rn_syntax.specs.Places.{class_places, unbound_type, wrong_builtin, context_value, inherit_places, declarations_places, item_places, items_places, prefix_places, builtin_places, context_places, except_places}
 use Rattle.rn_syntax.specs.Faults.{kind_places}
 use Rattle.rn_syntax.proofs.Basics.EmptyLists.{nil_parts}

@@ -10,9 +10,9 @@ use Rattle.rn_syntax.specs.declared.token.Operator.{Operator}
 use Rattle.rn_text.specs.Keywords.{spelling}
 use Rattle.rn_syntax.specs.Terminal.{Terminal, Placed}
 use Rattle.rn_syntax.specs.Tree as t
-use Rattle.rn_syntax.specs.Tree.{Name, Datatype, Params, AnyName, NameClass, NameClasses, Pattern, Patterns, Uri, Declaration, Item, Items, Module, patterns_of, classes_of, items_of}
+use Rattle.rn_syntax.specs.Tree.{Name, Datatype, Params, NameClass, NameClasses, Pattern, Patterns, Uri, Declaration, Item, Items, Module, patterns_of, classes_of, items_of}
 use Rattle.rn_syntax.specs.Grammar as g
-use Rattle.rn_syntax.specs.Grammar.{Tokens, IsWord, IsLiteral, Closed, IsAnnotation, MayHaveAnnotation, AreFollows, IsDatatype, MayHaveParams, IsAnyName, IsNameClass, AreMoreClasses, IsClassOperand, IsClassPrimary, IsClassCore, IsPattern, AreMore, IsOperand, IsPrimary, IsCore, IsUri, IsDeclaration, AreDeclarations, IsComponent, IsNote, AreInnerItems, MayInherit, MayHaveOverrides, AreItems, IsModule}
+use Rattle.rn_syntax.specs.Grammar.{Tokens, IsWord, IsLiteral, Closed, IsAnnotation, MayHaveAnnotation, AreFollows, IsDatatype, MayHaveParams, IsNameClass, AreMoreClasses, IsClassOperand, IsClassPrimary, IsClassCore, IsPattern, AreMore, IsOperand, IsPrimary, IsCore, IsUri, AreDeclarations, IsComponent, IsNote, AreInnerItems, MayInherit, MayHaveOverrides, AreItems, IsModule}
 use Rattle.rn_syntax.proofs.TokenKinds.PieceTokens.{ascii}
 use Rattle.rn_assemble.specs.WritableTexts.{IsName, IsXml, AreParams}
 use Rattle.rn_assemble.proofs.WellFormed.Terminals.{IsGoodTerminal, IsGoodPlaced, AreGood, name_is, xml_append}

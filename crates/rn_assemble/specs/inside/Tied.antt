@@ -1,5 +1,6 @@
 -- Members of a joined list that the code finds to be the same: first places, and the bodies that tell them (RELAX NG 2001, 4.17).
-use Rattle.std.specs.Prelude.{ℕ, ◌≡◌, ◌≤◌, ◌<◌, List, length, slice_get, slice_index_or, Option, option_and_then}
+use Rattle.std.specs.Prelude.{ℕ, ◌≡◌, ◌≤◌, ◌<◌, List, length, slice_get, slice_index_or, map, Option, option_and_then, Vec}
+use Rattle.std.specs.declared.alloc.Global.{Global}
 use Rattle.std.specs.Coded.{×_prop, Π_prop, le_prop}
 use Rattle.std.specs.Ordering.{Ordering-set}
 use Rattle.std.specs.declared.cmp.Ordering.TheVariants.{Equal}
@@ -12,6 +13,10 @@ use Rattle.rn_assemble.specs.Firsts.{AreFirstsBy, joined_members}
 -- the same by the order of patterns, which tells different ones apart
 abbrev pub AreTied : List ℕ → List Tree → Type 0
 AreTied = AreFirstsBy (λ p q. tree_cmp p q ≡ Equal)
+
+-- the lists of first places
+abbrev pub firsts_of : List (Vec ℕ Global) → List (List ℕ)
+firsts_of vs = map (λ (v : Vec ℕ Global). v.items) vs
 
 -- the first places of the members of each definition
 abbrev pub HaveTied : List (List ℕ) → List (Text × Tree) → Type 0

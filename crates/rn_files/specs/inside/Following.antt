@@ -1,7 +1,7 @@
 -- What was read of files, and which files references lead to.
 use Rattle.std.specs.Prelude.{ℕ, Bool, List, IfSome, string_bytes}
 use Rattle.rn_files.specs.inside.Maps.{IsLocation}
-use Rattle.rn_files.specs.inside.References.{StandsFor}
+use Rattle.rn_files.specs.inside.UriReferences.{StandsFor}
 use Rattle.rn_files.specs.declared.maps.Map.{Map}
 use Rattle.rn_files.specs.declared.walk.Followed.{Followed}
 

@@ -4,5 +4,5 @@ use Rattle.rn_files.specs.Uris.{UriParts}
 use Rattle.rn_files.specs.declared.uris.Parts.{Parts}
 
 -- the parts that these are
-abbrev pub seen : Parts → UriParts
-seen p = record { scheme = option_copied p.scheme; authority = option_copied p.authority; path = p.path.now }
+abbrev pub parts_view : Parts → UriParts
+parts_view p = record { scheme = option_copied p.scheme; authority = option_copied p.authority; path = p.path.now }

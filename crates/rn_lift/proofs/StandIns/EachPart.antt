@@ -5,7 +5,7 @@ use Rattle.std.proofs.lemmas.List.Elements.{All-push}
 use Rattle.rn_lift.specs.inside.Planned.{AddsEdit, IsCovered, IsEditOf, StaysAt}
 use Rattle.rn_lift.specs.StandIns.{Stays}
 use Rattle.rn_lift.specs.declared.edits.Edit.{Edit}
-use Rattle.rn_lift.specs.declared.writing.View.{View}
+use Rattle.rn_lift.specs.declared.module_texts.PlaceView.{PlaceView}
 use Rattle.rn_lift.proofs.OneMore.{below_next, last_there, still_there}
 
 abbrev parts_of : List Edit → List ℕ
@@ -20,11 +20,11 @@ either A B C f (inl a) = inl a
 either A B C f (inr b) = inr (f b)
 
 -- nothing is added for a part that stays
-pub none_added : (v : View) (number : ℕ) (es : List Edit) → StaysAt v number → AddsEdit v number es es
+pub none_added : (v : PlaceView) (number : ℕ) (es : List Edit) → StaysAt v number → AddsEdit v number es es
 none_added v number es h = record { are_edits = λ a. a; kept = λ n k. k; covered = λ p e g. inl (h p e g) }
 
 -- an edit is added
-pub one_added : (v : View) (number : ℕ) (es new : List Edit) (e : Edit) → new ≡ es ++ e ∷ [] → IsEditOf v e → e.part ≡ number → AddsEdit v number es new
+pub one_added : (v : PlaceView) (number : ℕ) (es new : List Edit) (e : Edit) → new ≡ es ++ e ∷ [] → IsEditOf v e → e.part ≡ number → AddsEdit v number es new
 one_added v number es new e q i s = subst (λ (l : List Edit). AddsEdit v number es l) (sym q) (record {
   are_edits = λ a. All-push (IsEditOf v) es e a i;
   kept = λ n k p f g. either (Stays v.basis.scope p) (Contains (parts_of es) n) (Contains (parts_of (es ++ e ∷ [])) n) (still_there (parts_of es) (parts_of (es ++ e ∷ [])) e.part n (parts_push es e)) (k p f g);
@@ -32,5 +32,5 @@ one_added v number es new e q i s = subst (λ (l : List Edit). AddsEdit v number
 })
 
 -- the parts so far, and one more
-pub more : (v : View) (es new : List Edit) (i : ℕ) → AddsEdit v i es new → ((n : ℕ) → n < i → IsCovered v es n) → (n : ℕ) → n < i + 1 → IsCovered v new n
+pub more : (v : PlaceView) (es new : List Edit) (i : ℕ) → AddsEdit v i es new → ((n : ℕ) → n < i → IsCovered v es n) → (n : ℕ) → n < i + 1 → IsCovered v new n
 more v es new i a h = below_next (IsCovered v new) i (λ m k. a.kept m (h m k)) a.covered

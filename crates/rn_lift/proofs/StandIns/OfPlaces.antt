@@ -3,13 +3,13 @@ use Rattle.std.proofs.Common.{◌≡◌, ℕ, ◌<◌, List, [], ◌∷◌, ◌+
 use Rattle.std.specs.Prelude.{slice_get, string_bytes}
 use Rattle.std.proofs.lemmas.Option.{slice_get_read}
 use Rattle.rn_text.specs.Literals.{literal_bytes}
-use Rattle.rn_plan.specs.Entries.{module_of}
+use Rattle.rn_plan.specs.ScopeEntries.{module_of}
 use Rattle.rn_plan.specs.declared.scopes.PlacedUnit.{PlacedUnit}
 use Rattle.rn_plan.specs.declared.scopes.Scope.{Scope}
 use Rattle.rn_lift.specs.inside.Planned.{IsPlaceOf, IsPlanned, IsPlannedScope, IsScopeOf}
 use Rattle.rn_lift.specs.StandIns.{IsIncluded, IsLifted}
 use Rattle.rn_lift.specs.declared.lifted.Basis.{Basis}
-use Rattle.rn_lift.specs.declared.writing.View.{View}
+use Rattle.rn_lift.specs.declared.module_texts.PlaceView.{PlaceView}
 
 -- what was read at an index
 pub read : {X : Type 0} (l xs : List X) (i : ℕ) (x : X) → l ≡ xs → i < length l → x ≡ get_or l i x → slice_get xs i ≡ Some x
@@ -25,7 +25,7 @@ basis_at file g h s t e f =
     i ∙ j
 
 -- the module of a place is planned
-planned : (v : View) (scope : ℕ) (named : Option ℕ) (grammar : ℕ) (place : PlacedUnit) → (p : IsPlaceOf v scope named grammar place) → IsPlanned v.units.now v.plan.now (string_bytes place.module) (record { file = p.unit.file; grammar = grammar; scope = scope })
+planned : (v : PlaceView) (scope : ℕ) (named : Option ℕ) (grammar : ℕ) (place : PlacedUnit) → (p : IsPlaceOf v scope named grammar place) → IsPlanned v.units.now v.plan.now (string_bytes place.module) (record { file = p.unit.file; grammar = grammar; scope = scope })
 planned v scope named grammar place p = record {
   number = p.number;
   place = place;
@@ -37,7 +37,7 @@ planned v scope named grammar place p = record {
 }
 
 -- the literal of its name stands for an include
-pub included : (v : View) (scope : ℕ) (named : Option ℕ) (place : PlacedUnit) (text : List ℕ) → IsPlaceOf v scope named 0 place → text ≡ literal_bytes (string_bytes place.module) → IsIncluded (IsPlanned v.units.now v.plan.now) scope named text
+pub included : (v : PlaceView) (scope : ℕ) (named : Option ℕ) (place : PlacedUnit) (text : List ℕ) → IsPlaceOf v scope named 0 place → text ≡ literal_bytes (string_bytes place.module) → IsIncluded (IsPlanned v.units.now v.plan.now) scope named text
 included v scope named place text p e = record {
   file = p.unit.file;
   is_named = p.is_named;
@@ -47,7 +47,7 @@ included v scope named place text p e = record {
 }
 
 -- a reference to the start of a scope stands for what is lifted into it
-pub lifted : (v : View) (named : Option ℕ) (grammar : ℕ) (scope : Scope) (text : List ℕ) → IsScopeOf v named grammar scope → text ≡ (string_bytes scope.stem ++ (46 ∷ string_bytes v.plan.now.names.start)) ++ (32 ∷ []) → IsLifted (IsPlanned v.units.now v.plan.now) (IsPlannedScope v.plan.now) (string_bytes v.plan.now.names.start) named grammar text
+pub lifted : (v : PlaceView) (named : Option ℕ) (grammar : ℕ) (scope : Scope) (text : List ℕ) → IsScopeOf v named grammar scope → text ≡ (string_bytes scope.stem ++ (46 ∷ string_bytes v.plan.now.names.start)) ++ (32 ∷ []) → IsLifted (IsPlanned v.units.now v.plan.now) (IsPlannedScope v.plan.now) (string_bytes v.plan.now.names.start) named grammar text
 lifted v named grammar scope text p e = record {
   file = p.is_place.unit.file;
   is_named = p.is_place.is_named;

@@ -1,19 +1,17 @@
--- The members one by one.
-use Rattle.std.proofs.Common.{◌≡◌, ◌+◌, ◌≤◌, ◌<◌, length, map, sym, ◌∙◌, arith}
-use Rattle.rn_pattern.specs.Order.{tree_cmp}
+-- The heads, and then the members one by one.
+use Rattle.std.proofs.Common.{◌≡◌, ◌+◌, ◌≤◌, ◌<◌, length, map, sym, ap, ◌∙◌, arith}
+use Rattle.rn_pattern.specs.Order.{rank, tree_cmp, trees_cmp}
 use Rattle.rn_pattern.specs.View.{pattern_view, shared_view}
 use Rattle.rn_pattern.proofs.Ordered.Stepwise.{trees_cmp-trees_of, rest_longer, rest_shorter, rest_level, rest_settled, rest_tied}
-use Rattle.std.proofs.Common.{nat_cmp, ap}
-use Rattle.std.specs.Prelude.{string_bytes}
-use Rattle.std.specs.Rc.{rc_str_bytes}
-use Rattle.rn_pattern.specs.Tree.{trees_of}
-use Rattle.rn_pattern.specs.Order.{rank, parameters_cmp, trees_cmp}
-use Rattle.rn_text.specs.Texts.{text_cmp}
-use Rattle.rn_pattern.specs.View.{parameters_view, excepted_view}
-use Rattle.rn_pattern.specs.inside.Compared.{data_cmp}
-use Rattle.rn_pattern.proofs.Ordered.PatternKinds.{ranks_apart, plain_order, group_seen, interleave_seen, choice_seen, datum_seen, datum_order, heads_tied, heads_settled, not_ref, rank_ref, not_value, rank_value, not_datum, rank_datum, not_list, rank_list, not_attribute, rank_attribute, not_element, rank_element, not_oneormore, rank_oneormore, not_group, rank_group, not_interleave, rank_interleave, not_choice, rank_choice}
+use Rattle.rn_pattern.specs.inside.Shown.{ShowsHeads, part_texts, part_parameters, part_class, texts_in, parameters_in, names_in, members_in}
+use Rattle.rn_pattern.specs.declared.heads.Heads.{Heads}
+use Rattle.rn_pattern.specs.Tree.{Tree, trees_of}
+use Rattle.rn_pattern.proofs.Ordered.ByHeads.{heads_settled, heads_tied, same_kind}
+use Rattle.rn_pattern.proofs.Ordered.PatternKinds.{group_seen, interleave_seen, choice_seen, datum_excepted, no_members_tied, not_datum, not_list, not_attribute, not_element, not_oneormore, not_group, not_interleave, not_choice}
 use Rattle.rn_pattern.proofs.+compare_patterns.Goals as goal
-use Rattle.rn_pattern.proofs.+compare_patterns.Goals.{tree::Pattern::cmp-in_default-via-in-Ref+in_default, tree::Pattern::cmp-in_default-via-in-Value+in_default, tree::Pattern::cmp-in_default-via-in-Datum+in_default, tree::Pattern::cmp-in_default-via-in-List+in_default, tree::Pattern::cmp-in_default-via-in-Attribute+in_default, tree::Pattern::cmp-in_default-via-in-Element+in_default, tree::Pattern::cmp-in_default-via-in-OneOrMore+in_default, tree::Pattern::cmp-in_default-via-in-Group+in_default, tree::Pattern::cmp-in_default-via-in-Interleave+in_default, tree::Pattern::cmp-in_default-via-in-Choice+in_default, tree::Pattern::cmp-in_default-via-in_default}
+
+shows : {t : Tree} {x : Heads} → x.kind ≡ rank t → part_texts x ≡ texts_in t → part_parameters x ≡ parameters_in t → part_class x ≡ names_in t → ShowsHeads t x
+shows a b c d = record { kinds = a; texts_are = b; parameters_are = c; class_is = d }
 
 pub order::compare_patterns-returns-then-k-qs : goal.order::compare_patterns-returns-then-k-qs
 order::compare_patterns-returns-then-k-qs t c =
@@ -67,52 +65,35 @@ tree::Pattern::cmp-returns-in-Choice-Choice t c =
     ∙ (λ i. trees_cmp (trees_of (map shared_view (c.deref-in-Choice-Choice.ensures.value i))) (trees_of (map shared_view (c.deref-in-Choice-Choice-2.ensures.value i))))
     ∙ sym (λ i. tree_cmp (x i) (y i))
 
-pub tree::Pattern::cmp-returns-in-Equal : goal.tree::Pattern::cmp-returns-in-Equal
-tree::Pattern::cmp-returns-in-Equal t c =
-    let d = c.in-Datum-Datum.d.value in
-    let e = c.in-Datum-Datum.e.value in
-    let K = text_cmp (rc_str_bytes d.library) (rc_str_bytes e.library) in
-    let X = text_cmp (string_bytes d.type_name) (string_bytes e.type_name) in
-    let S = parameters_cmp (parameters_view d.params.items) (parameters_view e.params.items) in
-    let M = trees_cmp (excepted_view c.in-Datum-Datum.p) (excepted_view c.in-Datum-Datum.q) in
-    let heads : c.compare_data.result ≡ data_cmp d e = c.compare_data.ensures ∙ (λ i. data_cmp (c.deref-in-Datum-Datum.ensures i) (c.deref-in-Datum-Datum-2.ensures i)) in
-    let x = ap pattern_view c.in-Datum-Datum.is-0 ∙ datum_seen c.in-Datum-Datum.d c.in-Datum-Datum.p in
-    let y = ap pattern_view c.in-Datum-Datum.is-1 ∙ datum_seen c.in-Datum-Datum.e c.in-Datum-Datum.q in
-    let whole = (λ i. tree_cmp (x i) (y i)) ∙ datum_order (rc_str_bytes d.library) (rc_str_bytes e.library) (string_bytes d.type_name) (string_bytes e.type_name) (parameters_view d.params.items) (parameters_view e.params.items) c.in-Datum-Datum.p c.in-Datum-Datum.q in
-    c.compare_excepted.ensures ∙ sym (whole ∙ heads_tied K X S M c.compare_data.result heads c.in-Equal.is)
-
-pub tree::Pattern::cmp-returns-in_default-compare_data : goal.tree::Pattern::cmp-returns-in_default-compare_data
-tree::Pattern::cmp-returns-in_default-compare_data t c =
-    let d = c.in-Datum-Datum.d.value in
-    let e = c.in-Datum-Datum.e.value in
-    let K = text_cmp (rc_str_bytes d.library) (rc_str_bytes e.library) in
-    let X = text_cmp (string_bytes d.type_name) (string_bytes e.type_name) in
-    let S = parameters_cmp (parameters_view d.params.items) (parameters_view e.params.items) in
-    let M = trees_cmp (excepted_view c.in-Datum-Datum.p) (excepted_view c.in-Datum-Datum.q) in
-    let heads : c.compare_data.result ≡ data_cmp d e = c.compare_data.ensures ∙ (λ i. data_cmp (c.deref-in-Datum-Datum.ensures i) (c.deref-in-Datum-Datum-2.ensures i)) in
-    let x = ap pattern_view c.in-Datum-Datum.is-0 ∙ datum_seen c.in-Datum-Datum.d c.in-Datum-Datum.p in
-    let y = ap pattern_view c.in-Datum-Datum.is-1 ∙ datum_seen c.in-Datum-Datum.e c.in-Datum-Datum.q in
-    let whole = (λ i. tree_cmp (x i) (y i)) ∙ datum_order (rc_str_bytes d.library) (rc_str_bytes e.library) (string_bytes d.type_name) (string_bytes e.type_name) (parameters_view d.params.items) (parameters_view e.params.items) c.in-Datum-Datum.p c.in-Datum-Datum.q in
-    sym (whole ∙ heads_settled K X S M c.compare_data.result heads c.in_default-compare_data.not-Equal)
-
 pub tree::Pattern::cmp-returns-in_default : goal.tree::Pattern::cmp-returns-in_default
 tree::Pattern::cmp-returns-in_default t c =
+    let P = pattern_view c.args.self.now in
+    let Q = pattern_view c.args.other.now in
+    let x : ShowsHeads P c.heads.result = shows c.heads.ensures.kind c.heads.ensures.texts c.heads.ensures.parameters c.heads.ensures.class in
+    let y : ShowsHeads Q c.heads-2.result = shows c.heads-2.ensures.kind c.heads-2.ensures.texts c.heads-2.ensures.parameters c.heads-2.ensures.class in
+    heads_settled P Q c.heads.result c.heads-2.result x y c.compare_heads.result c.compare_heads.ensures c.in_default.not-Equal
+
+pub tree::Pattern::cmp-returns-in-Datum-Datum : goal.tree::Pattern::cmp-returns-in-Datum-Datum
+tree::Pattern::cmp-returns-in-Datum-Datum t c =
+    let P = pattern_view c.args.self.now in
+    let Q = pattern_view c.args.other.now in
+    let x : ShowsHeads P c.heads.result = shows c.heads.ensures.kind c.heads.ensures.texts c.heads.ensures.parameters c.heads.ensures.class in
+    let y : ShowsHeads Q c.heads-2.result = shows c.heads-2.ensures.kind c.heads-2.ensures.texts c.heads-2.ensures.parameters c.heads-2.ensures.class in
+    let p = ap (λ n. members_in (pattern_view n)) c.in-Datum-Datum.is-0 ∙ datum_excepted c.in-Datum-Datum.field-0-0 c.in-Datum-Datum.p in
+    let q = ap (λ n. members_in (pattern_view n)) c.in-Datum-Datum.is-1 ∙ datum_excepted c.in-Datum-Datum.field-0-1 c.in-Datum-Datum.q in
+    c.compare_excepted.ensures ∙ sym (heads_tied P Q c.heads.result c.heads-2.result x y c.compare_heads.result c.compare_heads.ensures c.in-Equal.is ∙ (λ i. trees_cmp (p i) (q i)))
+
+pub tree::Pattern::cmp-returns-in_default-2-9 : goal.tree::Pattern::cmp-returns-in_default-2-9
+tree::Pattern::cmp-returns-in_default-2-9 t c =
     let self = c.args.self.now in
-    let other = c.args.other.now in
-    let by_rank = c.cmp-in_default.ensures ∙ (λ i. nat_cmp (c.rank.ensures i) (c.rank-in_default.ensures i)) in
-    elim c.in_default.branch [
-      | tree::Pattern::cmp-in_default-via-in-Ref+in_default w ↦ by_rank ∙ ranks_apart (pattern_view self) (pattern_view other) (λ e. not_ref other w.in_default.not-Ref-1 (sym e ∙ ap (λ n. rank (pattern_view n)) w.in_default.is-0 ∙ rank_ref w.in_default.field-0-0))
-      | tree::Pattern::cmp-in_default-via-in-Value+in_default w ↦ by_rank ∙ ranks_apart (pattern_view self) (pattern_view other) (λ e. not_value other w.in_default.not-Value-1 (sym e ∙ ap (λ n. rank (pattern_view n)) w.in_default.is-0 ∙ rank_value w.in_default.field-0-0))
-      | tree::Pattern::cmp-in_default-via-in-Datum+in_default w ↦ by_rank ∙ ranks_apart (pattern_view self) (pattern_view other) (λ e. not_datum other w.in_default.not-Datum-1 (sym e ∙ ap (λ n. rank (pattern_view n)) w.in_default.is-0 ∙ rank_datum w.in_default.field-0-0 w.in_default.field-1-0))
-      | tree::Pattern::cmp-in_default-via-in-List+in_default w ↦ by_rank ∙ ranks_apart (pattern_view self) (pattern_view other) (λ e. not_list other w.in_default.not-List-1 (sym e ∙ ap (λ n. rank (pattern_view n)) w.in_default.is-0 ∙ rank_list w.in_default.field-0-0))
-      | tree::Pattern::cmp-in_default-via-in-Attribute+in_default w ↦ by_rank ∙ ranks_apart (pattern_view self) (pattern_view other) (λ e. not_attribute other w.in_default.not-Attribute-1 (sym e ∙ ap (λ n. rank (pattern_view n)) w.in_default.is-0 ∙ rank_attribute w.in_default.field-0-0 w.in_default.field-1-0))
-      | tree::Pattern::cmp-in_default-via-in-Element+in_default w ↦ by_rank ∙ ranks_apart (pattern_view self) (pattern_view other) (λ e. not_element other w.in_default.not-Element-1 (sym e ∙ ap (λ n. rank (pattern_view n)) w.in_default.is-0 ∙ rank_element w.in_default.field-0-0 w.in_default.field-1-0))
-      | tree::Pattern::cmp-in_default-via-in-OneOrMore+in_default w ↦ by_rank ∙ ranks_apart (pattern_view self) (pattern_view other) (λ e. not_oneormore other w.in_default.not-OneOrMore-1 (sym e ∙ ap (λ n. rank (pattern_view n)) w.in_default.is-0 ∙ rank_oneormore w.in_default.field-0-0))
-      | tree::Pattern::cmp-in_default-via-in-Group+in_default w ↦ by_rank ∙ ranks_apart (pattern_view self) (pattern_view other) (λ e. not_group other w.in_default.not-Group-1 (sym e ∙ ap (λ n. rank (pattern_view n)) w.in_default.is-0 ∙ rank_group w.in_default.field-0-0))
-      | tree::Pattern::cmp-in_default-via-in-Interleave+in_default w ↦ by_rank ∙ ranks_apart (pattern_view self) (pattern_view other) (λ e. not_interleave other w.in_default.not-Interleave-1 (sym e ∙ ap (λ n. rank (pattern_view n)) w.in_default.is-0 ∙ rank_interleave w.in_default.field-0-0))
-      | tree::Pattern::cmp-in_default-via-in-Choice+in_default w ↦ by_rank ∙ ranks_apart (pattern_view self) (pattern_view other) (λ e. not_choice other w.in_default.not-Choice-1 (sym e ∙ ap (λ n. rank (pattern_view n)) w.in_default.is-0 ∙ rank_choice w.in_default.field-0-0))
-      | tree::Pattern::cmp-in_default-via-in_default w ↦ by_rank ∙ plain_order (pattern_view self) (pattern_view other) (not_ref self w.in_default.not-Ref-0) (not_value self w.in_default.not-Value-0) (not_datum self w.in_default.not-Datum-0) (not_list self w.in_default.not-List-0) (not_attribute self w.in_default.not-Attribute-0) (not_element self w.in_default.not-Element-0) (not_oneormore self w.in_default.not-OneOrMore-0) (not_group self w.in_default.not-Group-0) (not_interleave self w.in_default.not-Interleave-0) (not_choice self w.in_default.not-Choice-0)
-    ]
+    let P = pattern_view c.args.self.now in
+    let Q = pattern_view c.args.other.now in
+    let x : ShowsHeads P c.heads.result = shows c.heads.ensures.kind c.heads.ensures.texts c.heads.ensures.parameters c.heads.ensures.class in
+    let y : ShowsHeads Q c.heads-2.result = shows c.heads-2.ensures.kind c.heads-2.ensures.texts c.heads-2.ensures.parameters c.heads-2.ensures.class in
+    let kinds = same_kind P Q c.heads.result c.heads-2.result x y c.compare_heads.result c.compare_heads.ensures c.in-Equal.is in
+    let none = c.in_default-2 in
+    no_members_tied P Q kinds (not_datum self none.not-Datum-0) (not_list self none.not-List-0) (not_attribute self none.not-Attribute-0) (not_element self none.not-Element-0) (not_oneormore self none.not-OneOrMore-0) (not_group self none.not-Group-0) (not_interleave self none.not-Interleave-0) (not_choice self none.not-Choice-0)
+    ∙ sym (heads_tied P Q c.heads.result c.heads-2.result x y c.compare_heads.result c.compare_heads.ensures c.in-Equal.is)
 
 pub order::compare_patterns-loop-k-preserved : goal.order::compare_patterns-loop-k-preserved
 order::compare_patterns-loop-k-preserved t c =

@@ -11,7 +11,7 @@ use Rattle.rn_pattern.proofs.Ordered.Orders.{then_first, then_second, list_same,
 use Rattle.rn_pattern.proofs.Ordered.TotalOrder.{parameters_total, name_cmp_total}
 
 abbrev pub heads : NodeParts → NodeParts → Ordering
-heads x y = ordering_then (nat_cmp x.0 y.0) (ordering_then (slice_cmp text_cmp x.1 y.1) (ordering_then (parameters_cmp x.2 y.2) (names_cmp x.3 y.3)))
+heads x y = ordering_then (nat_cmp x.0 y.0) (ordering_then (names_cmp x.3 y.3) (ordering_then (slice_cmp text_cmp x.1 y.1) (parameters_cmp x.2 y.2)))
 
 -- the same heads, and then the same ids
 pub eq_by_places : (x y : NodeParts) → heads x y ≡ Equal → same_parts x y ≡ pointwise nat_eq x.4 y.4
@@ -20,12 +20,12 @@ eq_by_places x y h =
     let p : Ordering = parameters_cmp x.2 y.2 in
     let t : Ordering = slice_cmp text_cmp x.1 y.1 in
     let k : Ordering = nat_cmp x.0 y.0 in
-    let e = then_second k (ordering_then t (ordering_then p c)) h in
-    let f = then_second t (ordering_then p c) e in
-    let kinds : x.0 ≡ y.0 = ranked x.0 y.0 Equal (sym (then_first k (ordering_then t (ordering_then p c)) h)) in
-    let texts : x.1 ≡ y.1 = list_same text_cmp text_same x.1 y.1 (then_first t (ordering_then p c) e) in
-    let params : x.2 ≡ y.2 = parameters_same x.2 y.2 (then_first p c f) in
-    let names : x.3 ≡ y.3 = names_same x.3 y.3 (then_second p c f) in
+    let e = then_second k (ordering_then c (ordering_then t p)) h in
+    let f = then_second c (ordering_then t p) e in
+    let kinds : x.0 ≡ y.0 = ranked x.0 y.0 Equal (sym (then_first k (ordering_then c (ordering_then t p)) h)) in
+    let names : x.3 ≡ y.3 = names_same x.3 y.3 (then_first c (ordering_then t p) e) in
+    let texts : x.1 ≡ y.1 = list_same text_cmp text_same x.1 y.1 (then_first t p f) in
+    let params : x.2 ≡ y.2 = parameters_same x.2 y.2 (then_second t p f) in
     λ i. (number_decides x.0 y.0).1 kinds i && ((pointwise_decides text_decides x.1 y.1).1 texts i && ((pointwise_decides parameter_decides x.2 y.2).1 params i && ((names_decides x.3 y.3).1 names i && pointwise nat_eq x.4 y.4)))
 
 not_true : (b : Bool) → ¬ (b ≡ true) → false ≡ b
@@ -33,7 +33,7 @@ not_true true h = absurd (h refl)
 not_true false h = refl
 
 pub heads_itself : (x : NodeParts) → heads x x ≡ Equal
-heads_itself x = λ i. ordering_then (tied_itself nat_cmp_total x.0 i) (ordering_then (tied_itself (lists_total nat_list_cmp_total) x.1 i) (ordering_then (tied_itself parameters_total x.2 i) (tied_itself name_cmp_total (name_choice x.3) i)))
+heads_itself x = λ i. ordering_then (tied_itself nat_cmp_total x.0 i) (ordering_then (tied_itself name_cmp_total (name_choice x.3) i) (ordering_then (tied_itself (lists_total nat_list_cmp_total) x.1 i) (tied_itself parameters_total x.2 i)))
 
 pub not_eq : (x y : NodeParts) → ¬ (heads x y ≡ Equal) → false ≡ same_parts x y
 not_eq x y h = not_true (same_parts x y) (λ e. h (ap (heads x) (sym ((parts_decides x y).0 e)) ∙ heads_itself x))

@@ -1,26 +1,21 @@
--- The trees of patterns, and their order where the kinds differ.
-use Rattle.std.proofs.Common.{◌≡◌, List, [], ◌∷◌, map, Option, Some, None, refl, sym, ap, ◌∙◌, arith, Ordering, Equal, nat_cmp}
-use Rattle.std.specs.Prelude.{Box, String, string_bytes, Vec}
-use Rattle.std.specs.Ordering.{ordering_then}
+-- The trees of patterns, and the kinds of those that are known not to be of one.
+use Rattle.std.proofs.Common.{◌≡◌, List, [], ◌∷◌, map, Option, Some, None, refl, sym, ap, ◌∙◌, arith, Equal}
+use Rattle.std.specs.Prelude.{Box, string_bytes, Vec}
 use Rattle.std.specs.declared.alloc.Global.{Global}
 use Rattle.std.specs.declared.rc.Rc.{Rc}
 use Rattle.std.specs.Rc.{rc_str_bytes}
-use Rattle.std.proofs.lemmas.Cmp.{ranked}
 use Rattle.rn_pattern.specs.Tree as tree
 use Rattle.rn_pattern.specs.Tree.{Parameters, Tree, Trees, no_trees, more_trees, trees_of}
-use Rattle.rn_text.specs.Texts.{Text, text_cmp}
-use Rattle.rn_pattern.specs.Order.{rank, parameters_cmp, tree_cmp, trees_cmp}
+use Rattle.rn_text.specs.Texts.{Text}
+use Rattle.rn_pattern.specs.Order.{rank, trees_cmp}
 use Rattle.rn_pattern.specs.View.{pattern_step, pattern_view, shared_view, parameters_view, excepted_view}
 use Rattle.rn_pattern.specs.declared.tree.Data.{Data}
 use Rattle.rn_pattern.specs.declared.tree.NameClass.{NameClass}
 use Rattle.rn_pattern.specs.declared.tree.Pattern.{Pattern, fold-roll-Pattern, map-Pattern}
-use Rattle.rn_pattern.specs.declared.tree.Value.{Value}
 use Rattle.rn_pattern.specs.declared.tree.Pattern.TheOpen.{Pattern-F}
 use Rattle.rn_pattern.specs.declared.tree.Pattern.TheVariants as variant
 use Rattle.rn_pattern.specs.declared.tree.Pattern.TheViews as pattern
-use Rattle.rn_pattern.proofs.Ordered.TotalOrder.{then_assoc, tree_cmp-by_parts}
-use Rattle.rn_pattern.proofs.Ordered.Orders.{then-Equal}
-use Rattle.rn_pattern.proofs.Ordered.Stepwise.{then_settled, then_tied}
+use Rattle.rn_pattern.specs.inside.Shown.{members_in}
 
 shared_by : (ps : List (Rc Pattern Global)) → map (λ (r : Rc Tree Global). r.value) (map (λ (p : Rc Pattern Global). record { ptr = p.ptr; value = pattern_view p.value }) ps) ≡ map shared_view ps
 shared_by [] = refl
@@ -43,50 +38,15 @@ pub datum_seen : (d : Box Data Global) (p : Option (Box Pattern Global)) → pat
 datum_seen d None = ap pattern_view (sym (variant.rolls-Datum d None)) ∙ fold-roll-Pattern Tree pattern_step (Pattern-F.Datum d None)
 datum_seen d (Some p) = ap pattern_view (sym (variant.rolls-Datum d (Some p))) ∙ fold-roll-Pattern Tree pattern_step (Pattern-F.Datum d (Some p))
 
-pub datum_order : (k l x y : Text) (s t : Parameters) (p q : Option (Box Pattern Global)) → tree_cmp (datum_of k x s (excepted_view p)) (datum_of l y t (excepted_view q)) ≡ ordering_then (text_cmp k l) (ordering_then (text_cmp x y) (ordering_then (parameters_cmp s t) (trees_cmp (excepted_view p) (excepted_view q))))
-datum_order k l x y s t None None = simp then-Equal
-datum_order k l x y s t None (Some q) = refl
-datum_order k l x y s t (Some p) None = refl
-datum_order k l x y s t (Some p) (Some q) = simp then-Equal
+datum_members : (k x : Text) (s : Parameters) (p : Option (Box Pattern Global)) → members_in (datum_of k x s (excepted_view p)) ≡ excepted_view p
+datum_members k x s None = refl
+datum_members k x s (Some p) = refl
 
-heads_first : (K X S M r : Ordering) → r ≡ ordering_then K (ordering_then X S) → ordering_then K (ordering_then X (ordering_then S M)) ≡ ordering_then r M
-heads_first K X S M r e = sym (ap (λ o. ordering_then o M) e ∙ then_assoc K (ordering_then X S) M ∙ ap (ordering_then K) (then_assoc X S M))
-
-pub heads_tied : (K X S M r : Ordering) → r ≡ ordering_then K (ordering_then X S) → r ≡ Equal → ordering_then K (ordering_then X (ordering_then S M)) ≡ M
-heads_tied K X S M r e h = heads_first K X S M r e ∙ then_tied r M h
-
-pub heads_settled : (K X S M r : Ordering) → r ≡ ordering_then K (ordering_then X S) → ¬ (r ≡ Equal) → ordering_then K (ordering_then X (ordering_then S M)) ≡ r
-heads_settled K X S M r e h = heads_first K X S M r e ∙ then_settled r M h
-
-pub ranks_apart : (p q : Tree) → ¬ (rank p ≡ rank q) → nat_cmp (rank p) (rank q) ≡ tree_cmp p q
-ranks_apart p q h = sym (tree_cmp-by_parts p q ∙ then_settled (nat_cmp (rank p) (rank q)) _ (λ e. h (ranked (rank p) (rank q) Equal (sym e))))
+pub datum_excepted : (d : Box Data Global) (p : Option (Box Pattern Global)) → members_in (pattern_view (pattern.Datum d p)) ≡ excepted_view p
+datum_excepted d p = ap members_in (datum_seen d p) ∙ datum_members (rc_str_bytes d.value.library) (string_bytes d.value.type_name) (parameters_view d.value.params.items) p
 
 by_view : (x : Pattern-F Pattern) → rank (pattern_view (pattern.roll-Pattern x)) ≡ rank (pattern_step (map-Pattern Pattern Tree pattern_view x))
 by_view x = ap rank (fold-roll-Pattern Tree pattern_step x)
-
-layer_ref : (x : Pattern-F Pattern) → ((a : String Global) → x ≡ Pattern-F.Ref a → ⊥) → ¬ (rank (pattern_step (map-Pattern Pattern Tree pattern_view x)) ≡ 3)
-layer_ref (Pattern-F.Ref a) h f = h a refl
-layer_ref (Pattern-F.Datum d None) h f = absurd (omega (arith, f))
-layer_ref (Pattern-F.Datum d (Some q)) h f = absurd (omega (arith, f))
-layer_ref x h f = absurd (omega (arith, f))
-
-pub not_ref : (q : Pattern) → ((a : String Global) → q ≡ variant.Ref a → ⊥) → ¬ (rank (pattern_view q) ≡ 3)
-not_ref q h f =
-    let x = pattern.out-Pattern q in
-    let whole : pattern.roll-Pattern x ≡ q = pattern.roll-out-Pattern q in
-    layer_ref x (λ a k. h a (sym whole ∙ ap pattern.roll-Pattern k ∙ variant.rolls-Ref a)) (sym (by_view x) ∙ ap (λ n. rank (pattern_view n)) whole ∙ f)
-
-layer_value : (x : Pattern-F Pattern) → ((a : Box Value Global) → x ≡ Pattern-F.Value a → ⊥) → ¬ (rank (pattern_step (map-Pattern Pattern Tree pattern_view x)) ≡ 4)
-layer_value (Pattern-F.Value a) h f = h a refl
-layer_value (Pattern-F.Datum d None) h f = absurd (omega (arith, f))
-layer_value (Pattern-F.Datum d (Some q)) h f = absurd (omega (arith, f))
-layer_value x h f = absurd (omega (arith, f))
-
-pub not_value : (q : Pattern) → ((a : Box Value Global) → q ≡ variant.Value a → ⊥) → ¬ (rank (pattern_view q) ≡ 4)
-not_value q h f =
-    let x = pattern.out-Pattern q in
-    let whole : pattern.roll-Pattern x ≡ q = pattern.roll-out-Pattern q in
-    layer_value x (λ a k. h a (sym whole ∙ ap pattern.roll-Pattern k ∙ variant.rolls-Value a)) (sym (by_view x) ∙ ap (λ n. rank (pattern_view n)) whole ∙ f)
 
 layer_datum : (x : Pattern-F Pattern) → ((a : Box Data Global) (e : Option (Box Pattern Global)) → x ≡ Pattern-F.Datum a e → ⊥) → ¬ (rank (pattern_step (map-Pattern Pattern Tree pattern_view x)) ≡ 5)
 layer_datum (Pattern-F.Datum a None) h f = h a None refl
@@ -183,53 +143,25 @@ not_choice q h f =
     let whole : pattern.roll-Pattern x ≡ q = pattern.roll-out-Pattern q in
     layer_choice x (λ a k. h a (sym whole ∙ ap pattern.roll-Pattern k ∙ variant.rolls-Choice a)) (sym (by_view x) ∙ ap (λ n. rank (pattern_view n)) whole ∙ f)
 
-pub rank_ref : (a : String Global) → rank (pattern_view (variant.Ref a)) ≡ 3
-rank_ref a = ap (λ n. rank (pattern_view n)) (sym (variant.rolls-Ref a)) ∙ by_view (Pattern-F.Ref a)
+no_members : (p : Tree) → ¬ (rank p ≡ 5) → ¬ (rank p ≡ 6) → ¬ (rank p ≡ 7) → ¬ (rank p ≡ 8) → ¬ (rank p ≡ 9) → ¬ (rank p ≡ 10) → ¬ (rank p ≡ 11) → ¬ (rank p ≡ 12) → members_in p ≡ no_trees
+no_members tree.not_allowed n5 n6 n7 n8 n9 n10 n11 n12 = refl
+no_members tree.empty n5 n6 n7 n8 n9 n10 n11 n12 = refl
+no_members tree.text n5 n6 n7 n8 n9 n10 n11 n12 = refl
+no_members (tree.ref x) n5 n6 n7 n8 n9 n10 n11 n12 = refl
+no_members (tree.value k x t) n5 n6 n7 n8 n9 n10 n11 n12 = refl
+no_members (tree.datum k x s) n5 n6 n7 n8 n9 n10 n11 n12 = refl
+no_members (tree.datum_but k x s p) n5 n6 n7 n8 n9 n10 n11 n12 = absurd (n5 refl)
+no_members (tree.list p) n5 n6 n7 n8 n9 n10 n11 n12 = absurd (n6 refl)
+no_members (tree.attribute c p) n5 n6 n7 n8 n9 n10 n11 n12 = absurd (n7 refl)
+no_members (tree.element c p) n5 n6 n7 n8 n9 n10 n11 n12 = absurd (n8 refl)
+no_members (tree.one_or_more p) n5 n6 n7 n8 n9 n10 n11 n12 = absurd (n9 refl)
+no_members (tree.group ps) n5 n6 n7 n8 n9 n10 n11 n12 = absurd (n10 refl)
+no_members (tree.interleave ps) n5 n6 n7 n8 n9 n10 n11 n12 = absurd (n11 refl)
+no_members (tree.choice ps) n5 n6 n7 n8 n9 n10 n11 n12 = absurd (n12 refl)
 
-pub rank_value : (a : Box Value Global) → rank (pattern_view (variant.Value a)) ≡ 4
-rank_value a = ap (λ n. rank (pattern_view n)) (sym (variant.rolls-Value a)) ∙ by_view (Pattern-F.Value a)
-
-pub rank_datum : (a : Box Data Global) (e : Option (Box Pattern Global)) → rank (pattern_view (variant.Datum a e)) ≡ 5
-rank_datum a None = ap rank (datum_seen a None)
-rank_datum a (Some e) = ap rank (datum_seen a (Some e))
-
-pub rank_list : (a : Box Pattern Global) → rank (pattern_view (variant.List a)) ≡ 6
-rank_list a = ap (λ n. rank (pattern_view n)) (sym (variant.rolls-List a)) ∙ by_view (Pattern-F.List a)
-
-pub rank_attribute : (a : Box NameClass Global) (b : Box Pattern Global) → rank (pattern_view (variant.Attribute a b)) ≡ 7
-rank_attribute a b = ap (λ n. rank (pattern_view n)) (sym (variant.rolls-Attribute a b)) ∙ by_view (Pattern-F.Attribute a b)
-
-pub rank_element : (a : Box NameClass Global) (b : Box Pattern Global) → rank (pattern_view (variant.Element a b)) ≡ 8
-rank_element a b = ap (λ n. rank (pattern_view n)) (sym (variant.rolls-Element a b)) ∙ by_view (Pattern-F.Element a b)
-
-pub rank_oneormore : (a : Box Pattern Global) → rank (pattern_view (variant.OneOrMore a)) ≡ 9
-rank_oneormore a = ap (λ n. rank (pattern_view n)) (sym (variant.rolls-OneOrMore a)) ∙ by_view (Pattern-F.OneOrMore a)
-
-pub rank_group : (a : Vec (Rc Pattern Global) Global) → rank (pattern_view (variant.Group a)) ≡ 10
-rank_group a = ap (λ n. rank (pattern_view n)) (sym (variant.rolls-Group a)) ∙ by_view (Pattern-F.Group a)
-
-pub rank_interleave : (a : Vec (Rc Pattern Global) Global) → rank (pattern_view (variant.Interleave a)) ≡ 11
-rank_interleave a = ap (λ n. rank (pattern_view n)) (sym (variant.rolls-Interleave a)) ∙ by_view (Pattern-F.Interleave a)
-
-pub rank_choice : (a : Vec (Rc Pattern Global) Global) → rank (pattern_view (variant.Choice a)) ≡ 12
-rank_choice a = ap (λ n. rank (pattern_view n)) (sym (variant.rolls-Choice a)) ∙ by_view (Pattern-F.Choice a)
-
--- of two patterns of the first three kinds the kinds are all
-pub plain_order : (p q : Tree) → ¬ (rank p ≡ 3) → ¬ (rank p ≡ 4) → ¬ (rank p ≡ 5) → ¬ (rank p ≡ 6) → ¬ (rank p ≡ 7) → ¬ (rank p ≡ 8) → ¬ (rank p ≡ 9) → ¬ (rank p ≡ 10) → ¬ (rank p ≡ 11) → ¬ (rank p ≡ 12) → nat_cmp (rank p) (rank q) ≡ tree_cmp p q
-plain_order tree.not_allowed tree.not_allowed n3 n4 n5 n6 n7 n8 n9 n10 n11 n12 = refl
-plain_order tree.empty tree.empty n3 n4 n5 n6 n7 n8 n9 n10 n11 n12 = refl
-plain_order tree.text tree.text n3 n4 n5 n6 n7 n8 n9 n10 n11 n12 = refl
-plain_order tree.not_allowed q n3 n4 n5 n6 n7 n8 n9 n10 n11 n12 = refl
-plain_order tree.empty q n3 n4 n5 n6 n7 n8 n9 n10 n11 n12 = refl
-plain_order tree.text q n3 n4 n5 n6 n7 n8 n9 n10 n11 n12 = refl
-plain_order (tree.ref x) q n3 n4 n5 n6 n7 n8 n9 n10 n11 n12 = absurd (n3 refl)
-plain_order (tree.value k x t) q n3 n4 n5 n6 n7 n8 n9 n10 n11 n12 = absurd (n4 refl)
-plain_order (tree.datum k x s) q n3 n4 n5 n6 n7 n8 n9 n10 n11 n12 = absurd (n5 refl)
-plain_order (tree.datum_but k x s p) q n3 n4 n5 n6 n7 n8 n9 n10 n11 n12 = absurd (n5 refl)
-plain_order (tree.list p) q n3 n4 n5 n6 n7 n8 n9 n10 n11 n12 = absurd (n6 refl)
-plain_order (tree.attribute c p) q n3 n4 n5 n6 n7 n8 n9 n10 n11 n12 = absurd (n7 refl)
-plain_order (tree.element c p) q n3 n4 n5 n6 n7 n8 n9 n10 n11 n12 = absurd (n8 refl)
-plain_order (tree.one_or_more p) q n3 n4 n5 n6 n7 n8 n9 n10 n11 n12 = absurd (n9 refl)
-plain_order (tree.group ps) q n3 n4 n5 n6 n7 n8 n9 n10 n11 n12 = absurd (n10 refl)
-plain_order (tree.interleave ps) q n3 n4 n5 n6 n7 n8 n9 n10 n11 n12 = absurd (n11 refl)
-plain_order (tree.choice ps) q n3 n4 n5 n6 n7 n8 n9 n10 n11 n12 = absurd (n12 refl)
+-- of two patterns of one kind without members
+pub no_members_tied : (p q : Tree) → rank p ≡ rank q → ¬ (rank p ≡ 5) → ¬ (rank p ≡ 6) → ¬ (rank p ≡ 7) → ¬ (rank p ≡ 8) → ¬ (rank p ≡ 9) → ¬ (rank p ≡ 10) → ¬ (rank p ≡ 11) → ¬ (rank p ≡ 12) → Equal ≡ trees_cmp (members_in p) (members_in q)
+no_members_tied p q e n5 n6 n7 n8 n9 n10 n11 n12 =
+    let none = no_members p n5 n6 n7 n8 n9 n10 n11 n12 in
+    let none' = no_members q (λ f. n5 (e ∙ f)) (λ f. n6 (e ∙ f)) (λ f. n7 (e ∙ f)) (λ f. n8 (e ∙ f)) (λ f. n9 (e ∙ f)) (λ f. n10 (e ∙ f)) (λ f. n11 (e ∙ f)) (λ f. n12 (e ∙ f)) in
+    λ i. trees_cmp ((sym none) i) ((sym none') i)

@@ -16,8 +16,8 @@ use Rattle.rn_pattern.specs.inside.Stored.{NamesBelow, node_rank, node_texts, no
 use Rattle.rn_pattern.specs.inside.Shown.{texts_in, parameters_in, names_in, members_in, class_view, ShowsTree}
 use Rattle.rn_pattern.specs.declared.node.Node.{Node}
 use Rattle.rn_pattern.specs.declared.node.NodeId.{NodeId}
-use Rattle.rn_pattern.proofs.Ordered.TotalOrder.{then_assoc, tree_cmp-by_parts}
-use Rattle.rn_pattern.proofs.Ordered.Orders.{then-Equal}
+use Rattle.rn_pattern.proofs.Ordered.ByHeads.{by_heads}
+use Rattle.rn_pattern.proofs.Ordered.Orders.{then-Equal, then_first, then_second}
 use Rattle.rn_pattern.proofs.Ordered.Stepwise.{then_settled, then_tied, trees_cmp-trees_of}
 
 abbrev pub Shows : (NodeId → Tree) → ℕ → Node NodeId → Type 0
@@ -53,12 +53,9 @@ shows_parts at t place n kind texts parameters class members h e a b c d f =
       below = subst (λ (is : List NodeId). All (λ (j : NodeId). j.0 < place) is) (sym f) shown.below;
     }
 
-then_four : (r t p n m : Ordering) → ordering_then (ordering_then r (ordering_then t (ordering_then p n))) m ≡ ordering_then r (ordering_then t (ordering_then p (ordering_then n m)))
-then_four r t p n m = then_assoc r (ordering_then t (ordering_then p n)) m ∙ ap (ordering_then r) (then_assoc t (ordering_then p n) m ∙ ap (ordering_then t) (then_assoc p n m))
-
 module _ (at : NodeId → Tree) (p q : Tree) (i j k l : ℕ) (xs ys : List (List ℕ)) (ps qs : List (String Global × String Global)) (c d : Option NameClass) (ms ns : List NodeId) (x : ShowsTree at p i k xs ps c ms) (y : ShowsTree at q j l ys qs d ns) where
   abbrev pub heads : Ordering
-  heads = ordering_then (nat_cmp k l) (ordering_then (slice_cmp text_cmp xs ys) (ordering_then (parameters_cmp (parameters_view ps) (parameters_view qs)) (names_cmp (class_view c) (class_view d))))
+  heads = ordering_then (nat_cmp k l) (ordering_then (names_cmp (class_view c) (class_view d)) (ordering_then (slice_cmp text_cmp xs ys) (parameters_cmp (parameters_view ps) (parameters_view qs))))
 
   abbrev pub members : Ordering
   members = slice_cmp tree_cmp (map at ms) (map at ns)
@@ -66,10 +63,8 @@ module _ (at : NodeId → Tree) (p q : Tree) (i j k l : ℕ) (xs ys : List (List
   -- the order is that of the heads, and then that of the members
   pub tree_cmp-by_heads : tree_cmp p q ≡ ordering_then heads members
   tree_cmp-by_heads =
-      tree_cmp-by_parts p q
-      ∙ (λ z. ordering_then (nat_cmp ((sym x.kinds) z) ((sym y.kinds) z)) (ordering_then (slice_cmp text_cmp ((sym x.texts_are) z) ((sym y.texts_are) z)) (ordering_then (parameters_cmp ((sym x.parameters_are) z) ((sym y.parameters_are) z)) (ordering_then (names_cmp ((sym x.class_is) z) ((sym y.class_is) z)) (trees_cmp ((sym x.members_are) z) ((sym y.members_are) z))))))
-      ∙ ap (λ t. ordering_then (nat_cmp k l) (ordering_then (slice_cmp text_cmp xs ys) (ordering_then (parameters_cmp (parameters_view ps) (parameters_view qs)) (ordering_then (names_cmp (class_view c) (class_view d)) t)))) (trees_cmp-trees_of (map at ms) (map at ns))
-      ∙ sym (then_four (nat_cmp k l) (slice_cmp text_cmp xs ys) (parameters_cmp (parameters_view ps) (parameters_view qs)) (names_cmp (class_view c) (class_view d)) members)
+      by_heads p q k l xs ys (parameters_view ps) (parameters_view qs) (class_view c) (class_view d) x.kinds y.kinds x.texts_are y.texts_are x.parameters_are y.parameters_are x.class_is y.class_is
+      ∙ ap (λ t. ordering_then heads t) ((λ z. trees_cmp ((sym x.members_are) z) ((sym y.members_are) z)) ∙ trees_cmp-trees_of (map at ms) (map at ns))
 
   pub tree_cmp-settled : (r : Ordering) → r ≡ heads → ¬ (r ≡ Equal) → r ≡ tree_cmp p q
   tree_cmp-settled r e h = e ∙ sym (tree_cmp-by_heads ∙ then_settled heads members (λ f. h (e ∙ f)))
@@ -83,9 +78,10 @@ parameters_cmp-view [] (y ∷ ys) = refl
 parameters_cmp-view (x ∷ xs) [] = refl
 parameters_cmp-view (x ∷ xs) (y ∷ ys) = ap (ordering_then (ordering_then (string_cmp x.0 y.0) (string_cmp x.1 y.1))) (parameters_cmp-view xs ys)
 
-heads_joined : (k f s t p c : Ordering) → ordering_then (ordering_then (ordering_then (ordering_then (ordering_then k f) s) t) p) c ≡ ordering_then k (ordering_then (ordering_then f (ordering_then s (ordering_then t Equal))) (ordering_then p c))
-heads_joined k f s t p c = simp (then-Equal, then_assoc)
-
-pub heads_by : (k f s t p c a b d e r : Ordering) → a ≡ ordering_then k f → b ≡ ordering_then a s → d ≡ ordering_then b t → e ≡ ordering_then d p → r ≡ ordering_then e c → r ≡ ordering_then k (ordering_then (ordering_then f (ordering_then s (ordering_then t Equal))) (ordering_then p c))
-heads_by k f s t p c a b d e r x y z v w =
-    w ∙ ap (λ o. ordering_then o c) (v ∙ ap (λ o. ordering_then o p) (z ∙ ap (λ o. ordering_then o t) (y ∙ ap (λ o. ordering_then o s) x))) ∙ heads_joined k f s t p c
+-- where the kinds, the name classes and the first texts are equal
+pub heads_by : (k c f s t p a b r : Ordering) → a ≡ ordering_then k c → a ≡ Equal → f ≡ Equal → b ≡ ordering_then s t → r ≡ ordering_then b p → r ≡ ordering_then k (ordering_then c (ordering_then (ordering_then f (ordering_then s (ordering_then t Equal))) p))
+heads_by k c f s t p a b r ea h first eb er =
+    let kinds : k ≡ Equal = then_first k c (sym ea ∙ h) in
+    let names : c ≡ Equal = then_second k c (sym ea ∙ h) in
+    er ∙ ap (λ o. ordering_then o p) (eb ∙ ap (λ o. ordering_then s o) (sym (then-Equal t)))
+    ∙ sym (λ i. ordering_then (kinds i) (ordering_then (names i) (ordering_then (ordering_then (first i) (ordering_then s (ordering_then t Equal))) p)))

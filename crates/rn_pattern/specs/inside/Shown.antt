@@ -10,7 +10,7 @@ use Rattle.rn_pattern.specs.Order.{names_cmp, parameters_cmp, rank}
 use Rattle.rn_pattern.specs.View.{name_class_view, parameters_view}
 use Rattle.rn_pattern.specs.declared.tree.NameClass.{NameClass}
 use Rattle.rn_pattern.specs.declared.node.NodeId.{NodeId}
-use Rattle.rn_pattern.specs.declared.node_parts.Parts.{Parts}
+use Rattle.rn_pattern.specs.declared.heads.Heads.{Heads}
 
 -- three texts, empty where there are fewer
 abbrev pub texts_in : Tree → List Text
@@ -45,21 +45,28 @@ abbrev pub class_view : Option NameClass → NameTrees
 class_view None = no_names
 class_view (Some c) = more_names (name_class_view c) no_names
 
--- the three texts, the parameters and the name class of the parts
-abbrev pub part_texts : Parts → List Text
+-- the three texts, the parameters and the name class of the heads
+abbrev pub part_texts : Heads → List Text
 part_texts x = x.first.now ∷ x.second.now ∷ x.third.now ∷ []
 
-abbrev pub part_parameters : Parts → Parameters
+abbrev pub part_parameters : Heads → Parameters
 part_parameters x = parameters_view x.parameters.now
 
-abbrev pub part_class : Parts → NameTrees
+abbrev pub part_class : Heads → NameTrees
 part_class x = class_view (option_copied x.class)
 
--- the order by all parts but the members: the kind, the texts, the parameters, the name class
-abbrev pub heads_cmp : Parts → Parts → Ordering
+-- the order by all parts but the members: the kind, the name class, the texts, the parameters
+abbrev pub heads_cmp : Heads → Heads → Ordering
 heads_cmp x y = ordering_then (nat_cmp x.kind y.kind)
-    (ordering_then (slice_cmp text_cmp (part_texts x) (part_texts y))
-    (ordering_then (parameters_cmp (part_parameters x) (part_parameters y)) (names_cmp (part_class x) (part_class y))))
+    (ordering_then (names_cmp (part_class x) (part_class y))
+    (ordering_then (slice_cmp text_cmp (part_texts x) (part_texts y)) (parameters_cmp (part_parameters x) (part_parameters y))))
+
+-- these are the heads of t
+pub record ShowsHeads (t : Tree) (x : Heads) : Type 0 where
+  pub kinds : x.kind ≡ rank t
+  pub texts_are : part_texts x ≡ texts_in t
+  pub parameters_are : part_parameters x ≡ parameters_in t
+  pub class_is : part_class x ≡ names_in t
 
 -- these are the parts of t, whose members stand below the place
 pub record ShowsTree (at : NodeId → Tree) (t : Tree) (place kind : ℕ) (texts : List Text) (parameters : List (String Global × String Global)) (class : Option NameClass) (members : List NodeId) : Type 0 where

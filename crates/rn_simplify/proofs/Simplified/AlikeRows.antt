@@ -1,10 +1,8 @@
 -- Graphs whose rows hold the same: the same is reached in them.
-use Rattle.std.proofs.Common.{◌≡◌, ◌<◌, ℕ, Bool, List, length, refl, sym, ◌∙◌, subst, arith, Vec}
-use Rattle.std.specs.declared.alloc.Global.{Global}
-use Rattle.std.proofs.lemmas.List.{length-map}
+use Rattle.std.proofs.Common.{◌≡◌, ◌<◌, ℕ, Bool, List, length, refl, sym, subst, arith}
 use Rattle.std.specs.Prelude.{Contains, Decides}
 use Rattle.rn_pattern.specs.Matching.{Grammar}
-use Rattle.rn_pattern.specs.Graph.{AllBelow, IsGraph, Reached, at_first, along, is_marked, row, rows_of}
+use Rattle.rn_pattern.specs.Graph.{AllBelow, IsGraph, Reached, at_first, along, is_marked, row}
 use Rattle.rn_simplify.specs.inside.DefinitionNumbers.{graph_of, start_of}
 use Rattle.rn_simplify.specs.inside.ReferredNames.{references}
 use Rattle.rn_simplify.specs.inside.ReferenceNumbers.{AreRows}
@@ -38,19 +36,16 @@ module _ (G : Grammar) (rows : List (List ℕ)) (first : List ℕ) (size : lengt
   alike_reached marks k d =
       (λ e. reached_too rows (graph_of G) first (start_of G) edge_there (λ y. (first_same y).0) k (d.0 e), λ r. d.1 (reached_too (graph_of G) rows (start_of G) first edge_here (λ y. (first_same y).1) k r))
 
--- rows and first nodes as the code holds them
-module _ (G : Grammar) (rows : List (Vec ℕ Global)) (first held : List ℕ) (first_is : held ≡ first) (are : AreRows (row (graph_of G)) (length G.definitions) rows) (first_same : HaveSameMembers first (start_of G)) where
-  shown_size : length (rows_of rows) ≡ length G.definitions
-  shown_size = length-map rows (λ (v : Vec ℕ Global). v.items) ∙ are.size
-
+-- rows of a grammar, and first nodes as the code holds them
+module _ (G : Grammar) (rows : List (List ℕ)) (first held : List ℕ) (first_is : held ≡ first) (are : AreRows (row (graph_of G)) (length G.definitions) rows) (first_same : HaveSameMembers first (start_of G)) where
   held_same : HaveSameMembers held (start_of G)
   held_same = subst (λ l. HaveSameMembers l (start_of G)) (sym first_is) first_same
 
-  pub shown_graph : IsGraph (rows_of rows)
-  shown_graph = alike_graph G (rows_of rows) held shown_size are.each held_same
+  pub shown_graph : IsGraph rows
+  shown_graph = alike_graph G rows held are.size are.each held_same
 
   pub held_within : AllBelow (length rows) held
-  held_within y c = let l = alike_first G (rows_of rows) held shown_size are.each held_same y c in omega (arith, l, length-map rows (λ (v : Vec ℕ Global). v.items))
+  held_within = alike_first G rows held are.size are.each held_same
 
-  pub shown_reached : (marks : List Bool) (k : ℕ) → Decides (is_marked marks k) (Reached (rows_of rows) held k) → Decides (is_marked marks k) (Reached (graph_of G) (start_of G) k)
-  shown_reached marks k d = alike_reached G (rows_of rows) held shown_size are.each held_same marks k d
+  pub shown_reached : (marks : List Bool) (k : ℕ) → Decides (is_marked marks k) (Reached rows held k) → Decides (is_marked marks k) (Reached (graph_of G) (start_of G) k)
+  shown_reached = alike_reached G rows held are.size are.each held_same

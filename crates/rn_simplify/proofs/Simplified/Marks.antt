@@ -1,5 +1,5 @@
 -- Places that have a mark, entries of a map and rows, one after the other.
-use Rattle.std.proofs.Common.{◌≡◌, ⊎_elim, ◌+◌, ◌<◌, ◌≤◌, ℕ, Bool, true, false, ◌||◌, nat_eq, List, [], ◌∷◌, ◌++◌, length, map, take, get_or, set, cond, refl, sym, ap, ◌∙◌, subst, arith, below_more, Vec}
+use Rattle.std.proofs.Common.{◌≡◌, ⊎_elim, ◌+◌, ◌<◌, ℕ, Bool, true, false, ◌||◌, nat_eq, List, [], ◌∷◌, ◌++◌, length, map, take, get_or, refl, sym, ap, ◌∙◌, subst, arith, below_more}
 use Rattle.std.specs.Prelude.{Contains, String, string_bytes, bytes_eq}
 use Rattle.std.specs.String.{string_eq}
 use Rattle.std.specs.List.{AllByRecursion, IsDistinct, list_any}
@@ -7,7 +7,7 @@ use Rattle.std.specs.declared.alloc.Global.{Global}
 use Rattle.std.proofs.lemmas.Bool.{false≢true}
 use Rattle.std.proofs.lemmas.Cmp.{nat_eq_equiv}
 use Rattle.std.proofs.lemmas.Bool.Decides.{Decides-eqb}
-use Rattle.std.proofs.lemmas.List.{take_more, map-append, length-map, length-set, length_push, get_or_push, get_or_append_left, get_or-set_same, get_or-set_other}
+use Rattle.std.proofs.lemmas.List.{take_more, map-append, length_push, get_or_push, get_or_append_left}
 use Rattle.std.proofs.lemmas.List.Elements.{Contains-append_left, Contains-push, Contains-push_cases}
 use Rattle.std.proofs.lemmas.Map.Keys.{IsDistinct-push}
 use Rattle.rn_pattern.specs.Tree.{Tree}
@@ -15,7 +15,7 @@ use Rattle.rn_text.specs.Texts.{Text}
 use Rattle.rn_pattern.specs.View.{pattern_view}
 use Rattle.rn_pattern.specs.declared.tree.Pattern.{Pattern}
 use Rattle.rn_pattern.proofs.Ordered.InOrder.{contains_front, contains_behind}
-use Rattle.rn_pattern.specs.Graph.{is_marked, row, rows_of}
+use Rattle.rn_pattern.specs.Graph.{is_marked, row}
 use Rattle.rn_assemble.specs.GrammarView.{definitions_view}
 use Rattle.rn_simplify.specs.inside.ReferenceNumbers.{AreRows}
 use Rattle.rn_pattern.specs.Canonical.{HaveSameMembers}
@@ -76,42 +76,13 @@ distinct_names (e ∷ es) h = (apart_names e.0 es h.0, distinct_names es h.1)
 
 -- rows, each by its place: they hold the same as those that are wanted
 module _ (wanted : ℕ → List ℕ) where
-  pub no_rows : (rows : List (Vec ℕ Global)) → rows ≡ [] → AreRows wanted 0 rows
+  pub no_rows : (rows : List (List ℕ)) → rows ≡ [] → AreRows wanted 0 rows
   no_rows rows e = record { size = ap length e; each = λ k l. absurd (omega (arith, l)) }
 
-  pub more_rows : (n : ℕ) (rows new : List (Vec ℕ Global)) (v : Vec ℕ Global) → new ≡ rows ++ v ∷ [] → HaveSameMembers v.items (wanted n) → AreRows wanted n rows → AreRows wanted (n + 1) new
-  more_rows n rows new v e h a =
-      let whole : rows_of (rows ++ v ∷ []) ≡ rows_of rows ++ v.items ∷ [] = map-append (λ (w : Vec ℕ Global). w.items) rows (v ∷ []) in
-      let long : length (rows_of rows) ≡ n = length-map rows (λ (w : Vec ℕ Global). w.items) ∙ a.size in
-      subst (AreRows wanted (n + 1)) (sym e) (record {
-        size = length_push rows v ∙ ap (λ m. m + 1) a.size;
-        each = below_more (λ k. HaveSameMembers (row (rows_of (rows ++ v ∷ [])) k) (wanted k)) n
-            (λ k l. subst (λ r. HaveSameMembers r (wanted k)) (sym (ap (λ rs. row rs k) whole ∙ get_or_append_left (rows_of rows) (v.items ∷ []) [] k (omega (arith, l, long)))) (a.each k l))
-            (subst (λ r. HaveSameMembers r (wanted n)) (sym (ap (λ rs. row rs n) whole ∙ get_or_push (rows_of rows) v.items [] n long)) h);
-      })
-
--- rows of which those below n are emptied where there is no mark
-module _ (marks : List Bool) (old : List (List ℕ)) where
-  pub record AreCleared (n : ℕ) (rows : List (List ℕ)) : Type 0 where
-    pub size : length rows ≡ length old
-    pub done : (k : ℕ) → k < n → row rows k ≡ cond (is_marked marks k) (row old k) []
-    pub left : (k : ℕ) → n ≤ k → row rows k ≡ row old k
-
-  pub none_cleared : AreCleared 0 old
-  none_cleared = record { size = refl; done = λ k l. absurd (omega (arith, l)); left = λ k l. refl }
-
-  pub marked_kept : (n : ℕ) (rows : List (List ℕ)) → is_marked marks n ≡ true → AreCleared n rows → AreCleared (n + 1) rows
-  marked_kept n rows m a = record {
-    size = a.size;
-    done = below_more (λ k. row rows k ≡ cond (is_marked marks k) (row old k) []) n a.done (a.left n (omega arith) ∙ sym (ap (λ b. cond b (row old n) []) m));
-    left = λ k l. a.left k (omega (arith, l));
-  }
-
-  pub unmarked_cleared : (n : ℕ) (rows new : List (List ℕ)) → is_marked marks n ≡ false → n < length rows → new ≡ set rows n [] → AreCleared n rows → AreCleared (n + 1) new
-  unmarked_cleared n rows new m within e a = subst (AreCleared (n + 1)) (sym e) (record {
-    size = length-set rows n [] ∙ a.size;
-    done = below_more (λ k. row (set rows n []) k ≡ cond (is_marked marks k) (row old k) []) n
-        (λ k l. get_or-set_other rows n k [] [] (λ s. absurd (omega (arith, l, s))) ∙ a.done k l)
-        (get_or-set_same rows n [] [] within ∙ sym (ap (λ b. cond b (row old n) []) m));
-    left = λ k l. get_or-set_other rows n k [] [] (λ s. absurd (omega (arith, l, s))) ∙ a.left k (omega (arith, l));
+  pub more_rows : (n : ℕ) (rows new : List (List ℕ)) (xs : List ℕ) → new ≡ rows ++ xs ∷ [] → HaveSameMembers xs (wanted n) → AreRows wanted n rows → AreRows wanted (n + 1) new
+  more_rows n rows new xs e h a = subst (AreRows wanted (n + 1)) (sym e) (record {
+    size = length_push rows xs ∙ ap (λ m. m + 1) a.size;
+    each = below_more (λ k. HaveSameMembers (row (rows ++ xs ∷ []) k) (wanted k)) n
+        (λ k l. subst (λ r. HaveSameMembers r (wanted k)) (sym (get_or_append_left rows (xs ∷ []) [] k (omega (arith, l, a.size)))) (a.each k l))
+        (subst (λ r. HaveSameMembers r (wanted n)) (sym (get_or_push rows xs [] n a.size)) h);
   })

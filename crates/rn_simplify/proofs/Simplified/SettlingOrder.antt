@@ -1,14 +1,13 @@
 -- Definitions that are reached, sorted by ranks along references outside elements, can be settled in that order.
-use Rattle.std.proofs.Common.{◌≡◌, ◌⊎◌, inl, inr, ◌<◌, ◌≤◌, ℕ, Bool, true, false, cond, nat_eq, List, [], length, take, get_or, Option, Some, None, refl, sym, ap, ◌∙◌, subst, arith, Vec}
+use Rattle.std.proofs.Common.{◌≡◌, ◌⊎◌, inl, inr, ◌<◌, ◌≤◌, ℕ, Bool, true, false, cond, nat_eq, List, [], length, take, get_or, Option, Some, None, refl, sym, ap, ◌∙◌, subst, arith}
 use Rattle.std.specs.Prelude.{bytes_eq, Contains, IsSomeAnd, IsPermutation}
-use Rattle.std.specs.declared.alloc.Global.{Global}
 use Rattle.std.specs.Option.{option_map_or}
 use Rattle.std.specs.List.Sorted.{IsNonDecreasingBy}
 use Rattle.std.specs.Map.{lookup}
 use Rattle.std.proofs.lemmas.Bool.{cases_lt, false≢true}
 use Rattle.std.proofs.lemmas.Bool.Decides.{Decides-eqb}
 use Rattle.std.proofs.lemmas.Cmp.{nat_eq_equiv}
-use Rattle.std.proofs.lemmas.List.{get_or-take, get_or_default, length-map, length-take-le}
+use Rattle.std.proofs.lemmas.List.{get_or-take, get_or_default, length-take-le}
 use Rattle.std.proofs.lemmas.List.Sorted.{Contains-permutation, IsPermutation-sym}
 use Rattle.std.proofs.lemmas.Map.Keys.{apart_from_distinct, IsDistinct-IsPermutation}
 use Rattle.rn_pattern.specs.Tree.{Tree}
@@ -16,7 +15,7 @@ use Rattle.rn_text.specs.Texts.{Text}
 use Rattle.rn_pattern.specs.Matching.{Grammar, definition_of}
 use Rattle.rn_pattern.specs.Reached.{RefersTo, IsReached, by_start, by_definition}
 use Rattle.rn_pattern.specs.References.{RefersOutside, Reaches, by_one, by_more, LeadsTo}
-use Rattle.rn_pattern.specs.Graph.{AllBelow, IsGraph, is_marked, row, rows_of}
+use Rattle.rn_pattern.specs.Graph.{AllBelow, IsGraph, is_marked, row}
 use Rattle.rn_pattern.specs.Ranks.{Leads, by_edge, and_edge, rank_of, IsRanking}
 use Rattle.rn_assemble.specs.WellFormed.{IsWellFormed}
 use Rattle.rn_simplify.specs.inside.MarkedElements.{ArePlaces}
@@ -183,16 +182,13 @@ by_mark : (b : Bool) (xs ys : List ℕ) → HaveSameMembers xs ys → HaveSameMe
 by_mark true xs ys h x = h x
 by_mark false xs ys h x = (λ c. c, λ c. c)
 
--- rows of the references outside elements, emptied where there is no mark, as the code holds them
-module _ (ds : List (Text × Tree)) (shown marks : List Bool) (rows cleared outs : List (Vec ℕ Global)) (f : shown ≡ marks) (g : outs ≡ cleared) (are : AreRows (row (rows_by OutsideElements ds ds)) (length ds) rows) where
-  pub outside_size : length cleared ≡ length rows → length (rows_of outs) ≡ length ds
-  outside_size h = length-map outs (λ (v : Vec ℕ Global). v.items) ∙ ap length g ∙ h ∙ are.size
-
-  pub outside_rows : ((k : ℕ) → k < length rows → row (rows_of cleared) k ≡ cond (is_marked shown k) (row (rows_of rows) k) [])
-      → (k : ℕ) → k < length ds → HaveSameMembers (row (rows_of outs) k) (cond (is_marked marks k) (numbers_of ds (references OutsideElements (get_or ds k nothing).1)) [])
+-- rows of the references outside elements, emptied where there is no mark
+module _ (ds : List (Text × Tree)) (shown marks : List Bool) (rows outs : List (List ℕ)) (f : shown ≡ marks) (are : AreRows (row (rows_by OutsideElements ds ds)) (length ds) rows) where
+  pub outside_rows : ((k : ℕ) → row outs k ≡ cond (is_marked shown k) (row rows k) [])
+      → (k : ℕ) → k < length ds → HaveSameMembers (row outs k) (cond (is_marked marks k) (numbers_of ds (references OutsideElements (get_or ds k nothing).1)) [])
   outside_rows h k l =
       let wanted = numbers_of ds (references OutsideElements (get_or ds k nothing).1) in
-      let here : HaveSameMembers (row (rows_of rows) k) wanted = subst (HaveSameMembers (row (rows_of rows) k)) (row_is OutsideElements ds ds k l) (are.each k l) in
+      let here : HaveSameMembers (row rows k) wanted = subst (HaveSameMembers (row rows k)) (row_is OutsideElements ds ds k l) (are.each k l) in
       subst (λ r. HaveSameMembers r (cond (is_marked marks k) wanted []))
-      (sym (ap (λ vs. row (rows_of vs) k) g ∙ h k (omega (arith, l, are.size)) ∙ ap (λ ms. cond (is_marked ms k) (row (rows_of rows) k) []) f))
-      (by_mark (is_marked marks k) (row (rows_of rows) k) wanted here)
+      (sym (h k ∙ ap (λ ms. cond (is_marked ms k) (row rows k) []) f))
+      (by_mark (is_marked marks k) (row rows k) wanted here)

@@ -1,7 +1,6 @@
 -- References as the code lists them: of a pattern, and row by row of all definitions. A list may hold a number more than once, or less often than the pattern.
-use Rattle.std.specs.Prelude.{◌≡◌, ℕ, ◌<◌, List, length, Vec}
-use Rattle.std.specs.declared.alloc.Global.{Global}
-use Rattle.rn_pattern.specs.Graph.{row, rows_of}
+use Rattle.std.specs.Prelude.{◌≡◌, ℕ, ◌<◌, List, length}
+use Rattle.rn_pattern.specs.Graph.{row}
 use Rattle.rn_pattern.specs.Tree.{Tree}
 use Rattle.rn_text.specs.Texts.{Text}
 use Rattle.rn_simplify.specs.inside.DefinitionNumbers.{numbers_of}
@@ -16,6 +15,6 @@ pub record AreReferences (ds : List (Text × Tree)) (p : Tree) (found : Referenc
   pub outside : HaveSameMembers found.outside.items (numbers_of ds (references OutsideElements p))
 
 -- n rows, each of which holds the same as the one that is wanted in its place
-pub record AreRows (wanted : ℕ → List ℕ) (n : ℕ) (rows : List (Vec ℕ Global)) : Type 0 where
+pub record AreRows (wanted : ℕ → List ℕ) (n : ℕ) (rows : List (List ℕ)) : Type 0 where
   pub size : length rows ≡ n
-  pub each : (k : ℕ) → k < n → HaveSameMembers (row (rows_of rows) k) (wanted k)
+  pub each : (k : ℕ) → k < n → HaveSameMembers (row rows k) (wanted k)

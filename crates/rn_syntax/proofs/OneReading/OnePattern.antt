@@ -6,10 +6,10 @@ use Rattle.rn_syntax.specs.declared.token.Operator.{Operator}
 use Rattle.rn_syntax.specs.declared.token.Postfix.{Postfix}
 use Rattle.rn_syntax.specs.Terminal.{Terminal, Placed, ◌#◌, ident, keyword, prefixed, segment, operator, postfix, minus, tilde, follow, left_brace, right_brace, left_paren, left_bracket}
 use Rattle.rn_syntax.specs.Tree as t
-use Rattle.rn_syntax.specs.Tree.{Datatype, Params, AnyName, NameClass, Pattern, Uri, Declaration, Item, Module, patterns_of, classes_of, items_of}
+use Rattle.rn_syntax.specs.Tree.{Datatype, Params, Pattern, patterns_of}
 use Rattle.rn_syntax.specs.Grammar as g
 use Rattle.rn_syntax.specs.inside.Follow.{Starts, no_bracket, no_follow, no_tilde, behind_primary, behind_operand, behind_pattern, first_terminal, no_brace, behind_core}
-use Rattle.rn_syntax.specs.Grammar.{Tokens, IsWord, IsLiteral, Closed, IsAnnotation, MayHaveAnnotation, AreFollows, IsDatatype, AreParams, MayHaveParams, IsAnyName, IsNameClass, AreMoreClasses, IsClassOperand, IsClassPrimary, IsClassCore, IsPattern, AreMore, IsOperand, IsPrimary, IsCore, IsUri, IsDeclaration, AreDeclarations, IsComponent, IsNote, AreInnerItems, MayInherit, MayHaveOverrides, AreItems}
+use Rattle.rn_syntax.specs.Grammar.{Tokens, IsLiteral, MayHaveAnnotation, AreFollows, IsDatatype, MayHaveParams, IsPattern, AreMore, IsOperand, IsPrimary, IsCore}
 use Rattle.rn_syntax.proofs.OneReading.OneClass.{literal_one, may_one, follows_one, datatype_one, starts_to, first_placed, tail, may_params_one, minus_stays, class_one}
 
 pub to_operand : (x : Terminal) → behind_pattern x ≡ true → behind_operand x ≡ true

@@ -4,10 +4,10 @@ use Rattle.std.proofs.lemmas.Bool.{false≢true}
 use Rattle.rn_text.specs.declared.keywords.Keyword.TheVariants as k
 use Rattle.rn_syntax.specs.Terminal.{Terminal, ◌#◌, ident, keyword, prefixed, tilde, left_brace, right_brace, left_bracket}
 use Rattle.rn_syntax.specs.Tree as t
-use Rattle.rn_syntax.specs.Tree.{Datatype, Params, AnyName, NameClass, Pattern, Uri, Declaration, Item, Module, patterns_of, classes_of, items_of}
+use Rattle.rn_syntax.specs.Tree.{Uri, Declaration, Item, Module, items_of}
 use Rattle.rn_syntax.specs.Grammar as g
 use Rattle.rn_syntax.specs.inside.Follow.{Starts, no_bracket, no_tilde, behind_pattern, first_terminal, no_brace, begins_item, is_end, no_inherit, no_declaration}
-use Rattle.rn_syntax.specs.Grammar.{Tokens, IsWord, IsLiteral, Closed, IsAnnotation, MayHaveAnnotation, AreFollows, IsDatatype, AreParams, MayHaveParams, IsAnyName, IsNameClass, AreMoreClasses, IsClassOperand, IsClassPrimary, IsClassCore, IsPattern, AreMore, IsOperand, IsPrimary, IsCore, IsUri, IsDeclaration, AreDeclarations, IsComponent, IsNote, AreInnerItems, MayInherit, MayHaveOverrides, AreItems}
+use Rattle.rn_syntax.specs.Grammar.{Tokens, IsLiteral, MayHaveAnnotation, IsUri, IsDeclaration, AreDeclarations, IsComponent, IsNote, AreInnerItems, MayInherit, MayHaveOverrides, AreItems}
 use Rattle.rn_syntax.specs.Fault.{HasTree}
 use Rattle.rn_syntax.proofs.OneReading.OneClass.{literal_one, annotation_one, may_one, word_one, starts_to, tail, word_is}
 use Rattle.rn_syntax.proofs.OneReading.OnePattern.{literal_kind, pattern_one}

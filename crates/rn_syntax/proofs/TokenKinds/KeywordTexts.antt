@@ -10,7 +10,6 @@ use Rattle.rn_text.specs.declared.parts.Kind.TheVariants.{Name, Keyword, Quoted,
 use Rattle.rn_text.specs.declared.source.Token.{Token}
 use Rattle.rn_text.specs.declared.keywords.Keyword as code
 use Rattle.rn_text.specs.Keywords.{spelling}
-use Rattle.rn_syntax.specs.Terminal as t
 use Rattle.rn_syntax.specs.Terminal.{Terminal, keyword}
 use Rattle.rn_syntax.specs.Tokens.{terminal_of, spelled_in, keyword_rows, symbol_rows}
 use Rattle.rn_syntax.specs.inside.Reading.{rest}

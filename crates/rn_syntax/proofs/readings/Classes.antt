@@ -1,5 +1,5 @@
 -- Name classes, part by part.
-use Rattle.std.proofs.Common.{◌≡◌, ℕ, Bool, true, false, List, [], ◌∷◌, ◌++◌, refl, ap, sym, ◌∙◌, subst, unwrap_or, Box, Global, Result, Ok, Err}
+use Rattle.std.proofs.Common.{◌≡◌, ◌⊎◌, inl, inr, ℕ, Bool, true, false, List, [], ◌∷◌, ◌++◌, refl, ap, sym, ◌∙◌, subst, unwrap_or, Box, Global, Result, Ok, Err}
 use Rattle.std.proofs.lemmas.Bool.{false≢true}
 use Rattle.rn_syntax.specs.declared.token.Operator.TheVariants as o
 use Rattle.rn_syntax.specs.declared.terminals.Terminal as code
@@ -209,6 +209,12 @@ any_begins us g.all = refl
 any_begins us g.of = refl
 
 -- another core
+-- what begins with a word begins neither an annotation nor any name
+pub word_first : (y : code.Terminal) (now behind : Tokens) → ((n : _) × (y ≡ c.Ident n)) ⊎ ((w : _) × (y ≡ c.Keyword w)) → IsNext now (seen y) behind
+    → (no_bracket (first_terminal now) ≡ true) × (begins_any (first_terminal now) ≡ false)
+word_first y now behind (inl (n, e)) h = let f = subst (λ (z : code.Terminal). IsNext now (seen z) behind) e h in (ap (λ ts. no_bracket (first_terminal ts)) f.1, ap (λ ts. begins_any (first_terminal ts)) f.1)
+word_first y now behind (inr (w, e)) h = let f = subst (λ (z : code.Terminal). IsNext now (seen z) behind) e h in (ap (λ ts. no_bracket (first_terminal ts)) f.1, ap (λ ts. begins_any (first_terminal ts)) f.1)
+
 pub operand_plain : {now : Tokens} → begins_any (first_terminal now) ≡ false → Upto OperandEnd IsClassEnd (Starts behind_name) now now
 operand_plain h = upto_at (λ t z r d. plain_end d) (λ t a z r d g. from (ap begins_any (first_alike a) ∙ h) d)
   where

@@ -5,9 +5,9 @@ use Rattle.rn_text.specs.declared.keywords.Keyword.TheVariants as k
 use Rattle.rn_text.specs.declared.source.Token.{Token}
 use Rattle.rn_syntax.specs.Terminal.{Placed, ◌#◌, ident, keyword, left_brace, right_brace}
 use Rattle.rn_syntax.specs.Tree as tree
-use Rattle.rn_syntax.specs.Tree.{Datatype, Params, NameClass, Pattern}
+use Rattle.rn_syntax.specs.Tree.{NameClass, Pattern}
 use Rattle.rn_syntax.specs.Grammar as g
-use Rattle.rn_syntax.specs.Grammar.{Tokens, IsLiteral, IsDatatype, MayHaveParams, IsNameClass, IsPattern, IsCore}
+use Rattle.rn_syntax.specs.Grammar.{Tokens, IsNameClass, IsPattern, IsCore}
 use Rattle.rn_syntax.specs.inside.Follow.{Starts, Anything, first_terminal, behind_core, behind_class, behind_pattern}
 use Rattle.rn_syntax.specs.inside.Sequence.{Then, both, Gives, gives, IsToken, token}
 use Rattle.rn_syntax.specs.inside.Parts.{IsBraced, IsNamed}

@@ -9,11 +9,11 @@ use Rattle.rn_syntax.specs.declared.token.Method.TheVariants as m
 use Rattle.rn_syntax.specs.declared.terminals.Terminal as code
 use Rattle.rn_syntax.specs.declared.terminals.Terminal.TheVariants as c
 use Rattle.rn_syntax.specs.Terminal as x
-use Rattle.rn_syntax.specs.Terminal.{Terminal, Placed, ◌#◌, ident, keyword, prefixed, assign, segment, left_brace, right_brace, left_bracket}
+use Rattle.rn_syntax.specs.Terminal.{Terminal, ◌#◌, ident, keyword, prefixed, assign, left_brace, right_brace, left_bracket}
 use Rattle.rn_syntax.specs.Tree as t
 use Rattle.rn_syntax.specs.Tree.{Item, Pattern, items_of}
 use Rattle.rn_syntax.specs.Grammar as g
-use Rattle.rn_syntax.specs.Grammar.{Tokens, IsLiteral, IsPattern, IsComponent, AreItems, AreInnerItems, MayInherit, MayHaveOverrides}
+use Rattle.rn_syntax.specs.Grammar.{Tokens, IsPattern, IsComponent, AreItems, AreInnerItems}
 use Rattle.rn_syntax.specs.inside.Follow.{Starts, Anything, first_terminal, no_bracket, begins_item, behind_pattern, is_end}
 use Rattle.rn_syntax.specs.inside.Sequence.{Then, both, Gives, gives, IsToken, token, IsOf, of, IsAssign, by_method, is_note}
 use Rattle.rn_syntax.specs.inside.Including as i

@@ -6,7 +6,7 @@ use Rattle.rn_syntax.specs.declared.token.Method.TheVariants as m
 use Rattle.rn_syntax.specs.declared.terminals.Terminal as code
 use Rattle.rn_syntax.specs.declared.terminals.Terminal.TheVariants as c
 use Rattle.rn_syntax.specs.Terminal as x
-use Rattle.rn_syntax.specs.Terminal.{Terminal, ◌#◌, ident, keyword, assign, segment, left_brace, right_brace}
+use Rattle.rn_syntax.specs.Terminal.{◌#◌, ident, keyword, assign, left_brace}
 use Rattle.rn_syntax.specs.Tree as t
 use Rattle.rn_syntax.specs.Tree.{Item, items_of}
 use Rattle.rn_syntax.specs.Grammar as g

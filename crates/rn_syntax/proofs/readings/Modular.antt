@@ -8,7 +8,7 @@ use Rattle.rn_text.specs.declared.keywords.Keyword.TheVariants as k
 use Rattle.rn_syntax.specs.declared.terminals.Terminal as code
 use Rattle.rn_syntax.specs.declared.terminals.Terminal.TheVariants as c
 use Rattle.rn_syntax.specs.Terminal as x
-use Rattle.rn_syntax.specs.Terminal.{Terminal, Placed, ◌#◌, keyword, left_brace, right_brace, left_bracket}
+use Rattle.rn_syntax.specs.Terminal.{Placed, ◌#◌, keyword, left_brace, right_brace, left_bracket}
 use Rattle.rn_syntax.specs.Tree.{Declaration, Item, Module, items_of}
 use Rattle.rn_syntax.specs.Grammar as g
 use Rattle.rn_syntax.specs.Grammar.{Tokens, IsAnnotation, MayHaveAnnotation, AreFollows, AreItems, AreDeclarations, IsModule}

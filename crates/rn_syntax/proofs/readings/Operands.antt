@@ -9,16 +9,17 @@ use Rattle.rn_syntax.specs.Terminal.{Terminal, Placed, ◌#◌, segment, postfix
 use Rattle.rn_syntax.specs.Tree as tree
 use Rattle.rn_syntax.specs.Tree.{Datatype, Params, Pattern}
 use Rattle.rn_syntax.specs.Grammar as g
-use Rattle.rn_syntax.specs.Grammar.{Tokens, AreFollows, MayHaveAnnotation, IsLiteral, IsDatatype, MayHaveParams, IsOperand, IsPrimary, IsCore}
+use Rattle.rn_syntax.specs.Grammar.{Tokens, AreFollows, IsLiteral, MayHaveParams, IsPrimary}
 use Rattle.rn_syntax.specs.inside.Follow.{Starts, first_terminal, no_follow, no_tilde, no_brace, behind_core, behind_primary, behind_operand}
 use Rattle.rn_syntax.specs.inside.Sequence.{Then, both, Gives, gives}
 use Rattle.rn_syntax.specs.inside.Parts as part
-use Rattle.rn_syntax.specs.inside.Parts.{BehindCore, BehindPrimary, IsTypedValue, IsDataEnd, BehindDatatype, BehindParams}
+use Rattle.rn_syntax.specs.inside.Parts.{BehindCore, BehindPostfix, BehindPrimary, IsTypedValue, IsDataEnd, BehindDatatype, BehindParams}
 use Rattle.rn_syntax.specs.inside.Reading.{Took, Stuck, Bare, seen, IsNext, rest}
 use Rattle.rn_syntax.proofs.OneReading.OneClass.{starts_to, minus_stays}
 use Rattle.rn_syntax.proofs.OneReading.OnePattern.{to_primary, primary_to_follow, core_to_tilde, core_to_brace, follows_core}
 use Rattle.rn_syntax.proofs.readings.Compose.{Upto, Fits, Can, upto_at, upto_token, upto_then, took_upto, stuck_upto, reads, stuck_in, took_gives, first_alike, alike_token}
 use Rattle.rn_syntax.proofs.readings.Next.{first_next}
+use Rattle.rn_syntax.proofs.readings.Skipping.{none_here, no_follows}
 
 -- ---- words
 
@@ -61,24 +62,21 @@ abbrev pub is_postfix : Terminal → Bool
 is_postfix (postfix s) = true
 is_postfix x = false
 
-postfix_at : (p : Pattern) (s : Postfix) {i : ℕ} {now next : Tokens} → now ≡ postfix s # i ∷ next
-    → Upto (BehindPrimary p) (Then Follows (λ u. Gives (tree.repeated s p))) (Starts behind_operand) now next
+pub postfix_at : (p : Pattern) (s : Postfix) {i : ℕ} {now next : Tokens} → now ≡ postfix s # i ∷ next → Upto (BehindPrimary p) (BehindPostfix s p) (Starts behind_operand) now next
 postfix_at p s {i = i} e = upto_token e (λ t z r d. to d) (λ t z r d w. from d w)
   where
-    to : {t r : Tokens} {z : Pattern} → Then Follows (λ u. Gives (tree.repeated s p)) t z r → BehindPrimary p (postfix s # i ∷ t) z r
+    to : {t r : Tokens} {z : Pattern} → BehindPostfix s p t z r → BehindPrimary p (postfix s # i ∷ t) z r
     to (both f gives) = part.repeated f
 
-    from : {t r : Tokens} {z : Pattern} → BehindPrimary p (postfix s # i ∷ t) z r → Starts behind_operand r → Then Follows (λ u. Gives (tree.repeated s p)) t z r
+    from : {t r : Tokens} {z : Pattern} → BehindPrimary p (postfix s # i ∷ t) z r → Starts behind_operand r → BehindPostfix s p t z r
     from (part.repeated f) w = both f gives
     from part.alone w = absurd (false≢true w)
 
-pub repeated_took : (p : Pattern) (s : Postfix) {i : ℕ} {now next rest : Tokens} → now ≡ postfix s # i ∷ next → Took Follows (Starts no_follow) next tt rest
-    → Took (BehindPrimary p) (Starts behind_operand) now (tree.repeated s p) rest
-repeated_took p s {rest = rest} e h = took_upto (upto_then (postfix_at p s e) (reads (fits_given (λ u. tree.repeated s p) operand_follow) h)) (took_gives (tree.repeated s p) rest)
+pub repeated_took : (p : Pattern) (s : Postfix) {now rest : Tokens} → Took Follows (Starts no_follow) now tt rest → Took (BehindPostfix s p) (Starts behind_operand) now (tree.repeated s p) rest
+repeated_took p s {rest = rest} h = took_upto (reads (fits_given (λ u. tree.repeated s p) operand_follow) h) (took_gives (tree.repeated s p) rest)
 
-pub repeated_stuck : (p : Pattern) (s : Postfix) {i : ℕ} {now next bad : Tokens} → now ≡ postfix s # i ∷ next → Stuck Follows (Starts no_follow) next bad
-    → Stuck (BehindPrimary p) (Starts behind_operand) now bad
-repeated_stuck p s e h = stuck_upto (postfix_at p s e) (stuck_in (fits_given (λ u. tree.repeated s p) operand_follow) (can_given (λ u. tree.repeated s p)) h)
+pub repeated_stuck : (p : Pattern) (s : Postfix) {now bad : Tokens} → Stuck Follows (Starts no_follow) now bad → Stuck (BehindPostfix s p) (Starts behind_operand) now bad
+repeated_stuck p s h = stuck_in (fits_given (λ u. tree.repeated s p) operand_follow) (can_given (λ u. tree.repeated s p)) h
 
 not_postfix : (x : code.Terminal) → ((s : Postfix) → x ≡ c.Postfix s → ⊥) → is_postfix (unwrap_or (seen x) other) ≡ false
 not_postfix (c.Postfix s) h = absurd (h s refl)
@@ -129,6 +127,13 @@ follows_read p h = reads (fits_behind p) h
 
 pub follows_stuck : (p : Pattern) {now bad : Tokens} → Stuck Follows (Starts no_follow) now bad → Stuck (BehindCore p) (Starts behind_operand) now bad
 follows_stuck p h = stuck_in (fits_behind p) (can_behind p) h
+
+pub core_postfix : (p : Pattern) (s : Postfix) {i : ℕ} {now next : Tokens} → now ≡ postfix s # i ∷ next → Upto (BehindCore p) (BehindPostfix s p) (Starts behind_operand) now next
+core_postfix p s {now = now} e = upto_then (follows_read p (none_here now (ap (λ ts. no_follow (first_terminal ts)) e))) (postfix_at p s e)
+
+pub core_alone : (p : Pattern) (now behind : Tokens) (x : code.Terminal) → IsNext now (seen x) behind → (x ≡ c.Follow → ⊥) → ((s : Postfix) → x ≡ c.Postfix s → ⊥)
+    → Took (BehindCore p) (Starts behind_operand) now p now
+core_alone p now behind x e f h = took_upto (follows_read p (no_follows now behind x e f)) (alone_took p now behind x e h)
 
 -- ---- behind a datatype
 

@@ -5,10 +5,10 @@ use Rattle.rn_syntax.specs.declared.token.Method.TheVariants as m
 use Rattle.rn_syntax.specs.declared.terminals.Terminal as code
 use Rattle.rn_syntax.specs.declared.terminals.Terminal.TheVariants as c
 use Rattle.rn_syntax.specs.Terminal as t
-use Rattle.rn_syntax.specs.Terminal.{Terminal, Placed, ◌#◌, ident, keyword, assign, segment, left_brace, right_brace}
+use Rattle.rn_syntax.specs.Terminal.{Terminal, Placed, ◌#◌, ident, assign, segment, left_brace, right_brace}
 use Rattle.rn_syntax.specs.Tree.{Params}
 use Rattle.rn_syntax.specs.Grammar as g
-use Rattle.rn_syntax.specs.Grammar.{Tokens, MayHaveAnnotation, IsLiteral, IsDatatype, AreParams, MayHaveParams}
+use Rattle.rn_syntax.specs.Grammar.{Tokens, MayHaveAnnotation, IsLiteral, AreParams, MayHaveParams}
 use Rattle.rn_syntax.specs.inside.Follow.{Starts, Anything, first_terminal, is_end, no_bracket, no_tilde, no_brace}
 use Rattle.rn_syntax.specs.inside.Sequence.{Then, both, Gives, gives, IsToken, token, IsOf, of, IsWordAt, word_at, IsHere, IsParam}
 use Rattle.rn_syntax.specs.inside.Reading.{Took, Stuck, Bare, seen, IsNext}

@@ -1,19 +1,20 @@
 -- An operand or a primary, from its annotation on.
 use Rattle.std.proofs.Common.{◌≡◌, ℕ, true, false, List, [], ◌∷◌, Some, refl, ap, sym, ◌∙◌, subst}
 use Rattle.std.proofs.lemmas.Bool.{false≢true}
-use Rattle.rn_syntax.specs.Terminal.{Placed, ◌#◌, ident, minus}
+use Rattle.rn_syntax.specs.Terminal.{Terminal, Placed, ◌#◌, ident, minus}
 use Rattle.rn_syntax.specs.Tree as tree
 use Rattle.rn_syntax.specs.Tree.{Datatype, Params, Pattern}
 use Rattle.rn_syntax.specs.Grammar as g
-use Rattle.rn_syntax.specs.Grammar.{Tokens, AreFollows, MayHaveAnnotation, IsLiteral, IsDatatype, MayHaveParams, IsOperand, IsPrimary, IsCore}
+use Rattle.rn_syntax.specs.Grammar.{Tokens, MayHaveAnnotation, IsLiteral, IsDatatype, MayHaveParams, IsOperand, IsPrimary, IsCore}
 use Rattle.rn_syntax.specs.inside.Follow.{Starts, first_terminal, no_bracket, no_follow, behind_core, behind_primary, behind_operand, begins_datatype}
 use Rattle.rn_syntax.specs.inside.Sequence.{Then, both, Gives, gives, IsHere}
 use Rattle.rn_syntax.specs.inside.Parts as part
-use Rattle.rn_syntax.specs.inside.Parts.{BehindCore, BehindPrimary, IsDataEnd, BehindDatatype}
+use Rattle.rn_syntax.specs.inside.Parts.{BehindCore, IsDataEnd, BehindDatatype}
 use Rattle.rn_syntax.specs.inside.Reading.{Took, Stuck, Bare}
 use Rattle.rn_syntax.proofs.OneReading.OneClass.{datatype_one}
 use Rattle.rn_syntax.proofs.OneReading.OnePattern.{core_front, datatype_front, follows_core}
 use Rattle.rn_syntax.proofs.readings.Compose.{Upto, Fits, Can, CanBe, upto_at, upto_token, upto_then, took_upto, stuck_upto, reads, stuck_in, took_gives, first_alike, can_then}
+use Rattle.rn_syntax.proofs.readings.Skipping.{bare_here}
 use Rattle.rn_syntax.proofs.readings.Operands.{Follows, fits_given, can_given, fits_ends, can_ends, primary_follow}
 
 abbrev Annotates : Tokens → Unit {0} → Tokens → Type 0
@@ -130,6 +131,11 @@ operand_core a e = upto_then (operand_body a) (upto_at (λ t z r d. to d) (λ t 
     from : {t r : Tokens} {z : Pattern} → begins_datatype (first_terminal t) ≡ false → Bared t z r → Plain t z r
     from e (plain c m) = both c m
     from e (except {mid = mid} n m q) = absurd (false≢true (sym e ∙ datatype_begins mid n))
+
+-- what begins with this terminal begins neither an annotation nor a datatype
+pub operand_first : {x : Terminal} {i : ℕ} {now next : Tokens} → now ≡ x # i ∷ next → no_bracket x ≡ true → begins_datatype x ≡ false
+    → Took Annotates (Starts no_bracket) now tt now × (begins_datatype (first_terminal now) ≡ false)
+operand_first {now = now} e b d = (bare_here now (ap (λ ts. no_bracket (first_terminal ts)) e ∙ b), ap (λ ts. begins_datatype (first_terminal ts)) e ∙ d)
 
 same_core : (r : Tokens) → Starts behind_core r → Starts behind_core r
 same_core r w = w

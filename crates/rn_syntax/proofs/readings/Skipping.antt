@@ -5,7 +5,7 @@ use Rattle.rn_syntax.specs.declared.terminals.Terminal as code
 use Rattle.rn_syntax.specs.declared.terminals.Terminal.TheVariants as c
 use Rattle.rn_text.specs.declared.keywords.Keyword.{Keyword}
 use Rattle.rn_syntax.specs.Terminal as t
-use Rattle.rn_syntax.specs.Terminal.{Terminal, Placed, ◌#◌, left_bracket, right_bracket, follow, is_bracket}
+use Rattle.rn_syntax.specs.Terminal.{Terminal, ◌#◌, left_bracket, right_bracket, follow, is_bracket}
 use Rattle.rn_syntax.specs.Grammar as g
 use Rattle.rn_syntax.specs.Grammar.{Tokens, Closed, IsAnnotation, MayHaveAnnotation, AreFollows, IsFollowName}
 use Rattle.rn_syntax.specs.inside.Follow.{Starts, Anything, first_terminal, no_bracket, no_follow}
@@ -164,13 +164,16 @@ bare_from h g.bare = refl
 bare_from h (g.annotated (g.bracketed d)) = absurd (false≢true h)
 
 -- nothing is skipped
-pub bare : (now behind : Tokens) (x : code.Terminal) → IsNext now (seen x) behind → (x ≡ c.LeftBracket → ⊥) → Took (Bare MayHaveAnnotation) (Starts no_bracket) now tt now
-bare now behind x e h = record {
+pub bare_here : (now : Tokens) → no_bracket (first_terminal now) ≡ true → Took (Bare MayHaveAnnotation) (Starts no_bracket) now tt now
+bare_here now h = record {
   front = [];
   cut = refl;
   derives = λ more. g.bare;
-  only = λ t a u r d f. (refl, bare_from (ap no_bracket (first_alike a) ∙ first_no_bracket now behind x e h) d);
+  only = λ t a u r d f. (refl, bare_from (ap no_bracket (first_alike a) ∙ h) d);
 }
+
+pub bare : (now behind : Tokens) (x : code.Terminal) → IsNext now (seen x) behind → (x ≡ c.LeftBracket → ⊥) → Took (Bare MayHaveAnnotation) (Starts no_bracket) now tt now
+bare now behind x e h = bare_here now (first_no_bracket now behind x e h)
 
 -- ---- what follows a core
 
@@ -239,10 +242,13 @@ none_from h g.none = refl
 none_from h (g.more n a m) = absurd (false≢true h)
 
 -- none comes
-pub no_follows : (now behind : Tokens) (x : code.Terminal) → IsNext now (seen x) behind → (x ≡ c.Follow → ⊥) → Took (Bare AreFollows) (Starts no_follow) now tt now
-no_follows now behind x e h = record {
+pub none_here : (now : Tokens) → no_follow (first_terminal now) ≡ true → Took (Bare AreFollows) (Starts no_follow) now tt now
+none_here now h = record {
   front = [];
   cut = refl;
   derives = λ more. g.none;
-  only = λ t a u r d f. (refl, none_from (ap no_follow (first_alike a) ∙ ap no_follow (first_next now behind (seen x) e) ∙ not_follow x h) d);
+  only = λ t a u r d f. (refl, none_from (ap no_follow (first_alike a) ∙ h) d);
 }
+
+pub no_follows : (now behind : Tokens) (x : code.Terminal) → IsNext now (seen x) behind → (x ≡ c.Follow → ⊥) → Took (Bare AreFollows) (Starts no_follow) now tt now
+no_follows now behind x e h = none_here now (ap no_follow (first_next now behind (seen x) e) ∙ not_follow x h)

@@ -152,6 +152,11 @@ not_keyword k.String h1 h2 h3 h4 h5 h6 h7 e = absurd (false≢true (sym e))
 not_keyword k.Token h1 h2 h3 h4 h5 h6 h7 e = absurd (false≢true (sym e))
 not_keyword w h1 h2 h3 h4 h5 h6 h7 e = refl
 
+pub no_datatype : (w : Keyword) → (w ≡ k.String → ⊥) → (w ≡ k.Token → ⊥) → begins_datatype (keyword w) ≡ false
+no_datatype k.String h l = absurd (h refl)
+no_datatype k.Token h l = absurd (l refl)
+no_datatype w h l = refl
+
 pub no_keyword_core : {now : Tokens} (w : Keyword) → first_terminal now ≡ keyword w → (w ≡ k.Element → ⊥) → (w ≡ k.Attribute → ⊥) → (w ≡ k.List → ⊥) → (w ≡ k.Mixed → ⊥) → (w ≡ k.Empty → ⊥) → (w ≡ k.NotAllowed → ⊥) → (w ≡ k.Text → ⊥)
     → begins_datatype (first_terminal now) ≡ false → Stuck IsCore (Starts behind_core) now now
 no_keyword_core w here h1 h2 h3 h4 h5 h6 h7 e = none_here (ap begins_core here ∙ not_keyword w h1 h2 h3 h4 h5 h6 h7 (sym (ap begins_datatype here) ∙ e))

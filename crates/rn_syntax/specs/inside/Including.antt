@@ -4,7 +4,7 @@ use Rattle.std.specs.Prelude.{◌≡◌, ℕ, List, ◌∷◌, ◌++◌, Option,
 use Rattle.rn_text.specs.declared.keywords.Keyword.TheVariants as k
 use Rattle.rn_syntax.specs.Terminal.{Terminal, ◌#◌, ident, keyword, prefixed, left_brace, right_brace, left_bracket}
 use Rattle.rn_syntax.specs.Tree as t
-use Rattle.rn_syntax.specs.Tree.{Declaration, Item, Module, Pattern, items_of}
+use Rattle.rn_syntax.specs.Tree.{Item, items_of}
 use Rattle.rn_syntax.specs.Grammar.{Tokens, IsLiteral, IsComponent, AreItems, AreInnerItems, MayInherit, MayHaveOverrides}
 use Rattle.rn_syntax.specs.inside.Sequence.{Then, Gives, IsToken}
 

@@ -8,6 +8,10 @@ use Rattle.rn_syntax.specs.Grammar.{Tokens, AreFollows, IsLiteral, MayHaveParams
 use Rattle.rn_syntax.specs.inside.Sequence.{Then, Gives, IsToken}
 use Rattle.rn_syntax.specs.inside.Reading.{Bare}
 
+-- follow*, behind the postfix of an operand
+abbrev pub BehindPostfix : Postfix → Pattern → Tokens → Pattern → Tokens → Type 0
+BehindPostfix s p = Then (Bare AreFollows) (λ (u : Unit {0}). Gives (tree.repeated s p))
+
 -- [ postfix follow* ], behind the primary of an operand
 pub data BehindPrimary (p : Pattern) : Tokens → Pattern → Tokens → Type 0 where
   alone : {ts : Tokens} → BehindPrimary p ts p ts

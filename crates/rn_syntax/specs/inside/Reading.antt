@@ -1,5 +1,5 @@
--- What readers of tokens see, how far they come, and what their answers say of the grammar.
-use Rattle.std.specs.Prelude.{◌≡◌, ℕ, List, [], ◌∷◌, ◌++◌, Option, Some, None, Result, Ok, Err, IfOk, Bool, true, not, ◌&&◌, ◌==◌, map, drop, ◌+◌, ◌≤◌, ◌<◌}
+-- What readers of tokens see, and what their answers say of the grammar.
+use Rattle.std.specs.Prelude.{◌≡◌, ℕ, List, [], ◌∷◌, ◌++◌, Option, Some, None, Result, Ok, Err, Bool, true, not, ◌&&◌, ◌==◌, map, drop, ◌+◌, ◌<◌}
 use Rattle.std.specs.Str.{chars, encode_utf8_all}
 use Rattle.rn_text.specs.Characters.{is_name_char}
 use Rattle.rn_text.specs.declared.source.Token.{Token}
@@ -21,30 +21,6 @@ use Rattle.rn_syntax.specs.declared.terminals.Terminal.TheVariants as c
 abbrev pub IsInside : code.Terminal → ℕ → ℕ → Type 0
 IsInside c.End at len = Unit {0}
 IsInside _ at len = at < len
-
--- from one index to another, or to the same
-pub record Passed (at behind len : ℕ) : Type 0 where
-  pub further : at ≤ behind
-  pub inside : behind ≤ len
-
--- from one index to a later one
-pub record Advanced (at behind len : ℕ) : Type 0 where
-  pub further : at < behind
-  pub inside : behind ≤ len
-
--- a reader that answers, with the index of what comes next, went on by a token or more; or by any number
-abbrev pub GoesOn : {B E : Type 0} → ℕ → ℕ → Result (B × ℕ) E → Type 0
-GoesOn at len result = IfOk result (λ r. Advanced at r.1 len)
-
-abbrev pub MayGoOn : {B E : Type 0} → ℕ → ℕ → Result (B × ℕ) E → Type 0
-MayGoOn at len result = IfOk result (λ r. Passed at r.1 len)
-
--- the same of one that answers the index alone
-abbrev pub GoesPast : {E : Type 0} → ℕ → ℕ → Result ℕ E → Type 0
-GoesPast at len result = IfOk result (λ behind. Advanced at behind len)
-
-abbrev pub MayGoPast : {E : Type 0} → ℕ → ℕ → Result ℕ E → Type 0
-MayGoPast at len result = IfOk result (λ behind. Passed at behind len)
 
 -- a character that neither an escape nor a line end of two characters begins with
 abbrev pub is_plain : ℕ → Bool

@@ -1,23 +1,26 @@
 -- A spelled token before a break is the first part.
 pub use Rattle.rn_text.specs.Parts.{breaks, is_break}
 use Rattle.std.proofs.lemmas.Bool.Decides.{nat_tests}
-use Rattle.std.proofs.Common.{◌≡◌, ℕ, ◌≤◌, Bool, true, false, cond, List, [], ◌∷◌, ◌++◌, length, drop, refl, sym, ap, ◌∙◌, subst, arith, append_assoc, ⊎_elim, ne_eqb, eq-eqb}
-use Rattle.std.specs.Prelude.{◌==◌, ◌&&◌, not}
+use Rattle.std.proofs.Common.{◌≡◌, ℕ, Bool, true, false, List, [], ◌∷◌, ◌++◌, length, refl, sym, ap, ◌∙◌, subst, arith, append_assoc, ⊎_elim, ne_eqb, eq-eqb, ◌+◌, append-nil, length-append, eqb-true}
+use Rattle.std.specs.Prelude.{◌==◌, ◌&&◌, not, codes}
 use Rattle.std.specs.List.{list_all, list_any}
-use Rattle.std.proofs.lemmas.Bool.{cases_Bool, cond-false, and_parts, and_from, and_left, and_right, not-true}
+use Rattle.std.proofs.lemmas.Bool.{cases_Bool, and_parts, and_right, not-true}
 use Rattle.rn_text.specs.declared.parts.Part.{Part}
-use Rattle.rn_text.specs.declared.parts.Part.TheVariants.{Space, Comment, Token}
+use Rattle.rn_text.specs.declared.parts.Part.TheVariants.{Token}
 use Rattle.rn_text.specs.declared.parts.Kind.{Kind}
 use Rattle.rn_text.specs.declared.parts.Kind.TheVariants.{Name, Keyword, Quoted, Prefixed, AnyOf, Segment, Symbol}
-use Rattle.rn_text.specs.Characters.{is_name_start, is_name_char, is_ncname}
-use Rattle.rn_text.specs.Segments.{after_run, begins_with, is_x, is_delimiter, is_segment, opens_threefold, three_of, ends_at_one, ends_at_three, escapes_hold}
-use Rattle.rn_text.specs.Parts.{IsFirstPart, spells, symbols, is_symbol}
+use Rattle.rn_text.specs.Characters.{is_name_start, is_name_char, is_ncname, is_keyword}
+use Rattle.rn_text.specs.Segments.{after_run, begins_with, is_x, is_delimiter, is_delimited, is_segment, opens_threefold, escapes_hold, escape_front}
+use Rattle.rn_text.specs.Parts.{IsFirstPart, spells, symbols, is_symbol, IsSpelled, is_prefixed, ends_token}
 use Rattle.rn_text.specs.inside.PartEnds.{IsNoPrefix}
-use Rattle.rn_text.proofs.Words.Runs.{after_run_passes, after_run_stops}
-use Rattle.rn_text.proofs.Cutting.SegmentEnds.{one_unique, three_grows}
-use Rattle.rn_text.proofs.Cutting.FirstParts.{letter, quote, class_of, class_quote, only_class, one_of, symbol_first, symbol_short, single_symbol, pair_symbol}
-use Rattle.rn_text.proofs.Cutting.NameTokens.{name_chars, run_ends, name_first, any_first, prefixed_first, quoted_first, colon_is_none}
+use Rattle.rn_text.proofs.Words.Runs.{after_run_passes, after_run_stops, run_split}
+use Rattle.rn_text.proofs.Cutting.DelimitedFronts.{segment_first, delimiter_at, escapes_within}
+use Rattle.rn_text.proofs.Cutting.FirstParts.{letter, class_of, one_of, symbol_first, symbol_short, single_symbol, pair_symbol, keyword_is_name}
+use Rattle.rn_text.proofs.Cutting.NameTokens.{name_chars, run_ends, name_first, any_first, prefixed_first, quoted_first, colon_is_none, colon_of}
 use Rattle.rn_text.proofs.Words.Basics.{true_is_false, cons_first}
+use Rattle.std.specs.Str.{bytes_eq}
+use Rattle.std.proofs.lemmas.Slice.Eq.{bytes_eq-Decides}
+use Rattle.rn_text.proofs.Quoting.SegmentContents.{within_brace}
 
 -- what each of the characters passes, passes one of them
 one_char : (p : ℕ → Bool) (ds : List ℕ) (c : ℕ) → list_all p ds ≡ true → list_any (λ d. d == c) ds ≡ true → p c ≡ true
@@ -130,55 +133,68 @@ symbol_before (c ∷ d ∷ []) b rest is e = let plain = symbol_plain c (d ∷ [
 symbol_before (c ∷ d ∷ x ∷ xs) b rest is e = absurd (omega (arith, symbol_short c (d ∷ x ∷ xs) is))
 
 -- a simple segment stays one before a break
-pub simple_stays : (s : List ℕ) (b : ℕ) (rest : List ℕ) → is_segment s ≡ true → opens_threefold s ≡ false → is_break b ≡ true → opens_threefold (s ++ b ∷ rest) ≡ false
+simple_stays : (s : List ℕ) (b : ℕ) (rest : List ℕ) → is_segment s ≡ true → opens_threefold s ≡ false → is_break b ≡ true → opens_threefold (s ++ b ∷ rest) ≡ false
 simple_stays [] b rest is simple e = cc
-simple_stays (q ∷ []) b rest is simple e =
-    let inner = and_parts (is_delimiter q) (cond (three_of q (q ∷ [])) false false) (and_parts (is_delimiter q && cond (three_of q (q ∷ [])) false false) (escapes_hold q []) is).0 in
-    absurd (true_is_false (cond (three_of q (q ∷ [])) false false) inner.1 (never (three_of q (q ∷ []))))
-  where
-    never : (t : Bool) → cond t false false ≡ false
-    never true = refl
-    never false = refl
-simple_stays (q ∷ x ∷ []) b rest is simple e = ⊎_elim
-    (λ d. and_right (is_delimiter q) _ (and_right (q == q) _ (and_right (x == q) _ (ne_eqb b q (λ same. true_is_false (is_delimiter q) d (sym (ap is_delimiter same) ∙ break_no_delimiter b e))))))
-    (λ d. and_left (is_delimiter q) _ d)
-    (cases_Bool (is_delimiter q))
-simple_stays (q ∷ x ∷ y ∷ ys) b rest is simple e = simple
+simple_stays (q ∷ []) b rest is simple e = grind (arith, nat_tests)
+simple_stays (q ∷ x ∷ []) b rest is simple e = grind (arith, nat_tests, ne_eqb, break_no_delimiter)
+simple_stays (q ∷ x ∷ y ∷ ys) b rest is simple e = grind (arith, nat_tests)
 
--- a segment in one delimiter on each side
-pub segment_before : (s : List ℕ) (b : ℕ) (rest : List ℕ) → is_segment s ≡ true → opens_threefold s ≡ false → is_break b ≡ true → IsFirstPart (s ++ b ∷ rest) (Token Segment) s (b ∷ rest)
-segment_before [] b rest is simple e = cc
-segment_before (q ∷ cs) b rest is simple e =
-    let stays = simple_stays (q ∷ cs) b rest is simple e in
-    let parts = and_parts (is_delimiter q && cond (three_of q (q ∷ cs)) (ends_at_three q (drop 2 cs)) (ends_at_one q cs)) (escapes_hold q cs) is in
-    let outer = and_parts (is_delimiter q) _ parts.0 in
+-- a segment before a break
+pub segment_before : (s : List ℕ) (b : ℕ) (rest : List ℕ) → is_segment s ≡ true → is_break b ≡ true → IsFirstPart (s ++ b ∷ rest) (Token Segment) s (b ∷ rest)
+segment_before [] b rest is e = cc
+segment_before (d ∷ cs) b rest is e =
+    let both = and_parts (is_delimited (d ∷ cs)) (escapes_hold d cs) is in
+    let q = delimiter_at d cs both.0 in
+    segment_first (d ∷ cs ++ b ∷ rest) d (cs ++ b ∷ rest) (d ∷ cs) (b ∷ rest) refl q (record { split = refl; is = both.0; threefold = opens }) (escapes_within d cs q ∙ both.1)
+  where
+    opens : opens_threefold (d ∷ cs ++ b ∷ rest) ≡ true → opens_threefold (d ∷ cs) ≡ true
+    opens t = ⊎_elim
+        (λ three. three)
+        (λ simple. let h : true ≡ false = sym t ∙ simple_stays (d ∷ cs) b rest is simple e in cc)
+        (cases_Bool (opens_threefold (d ∷ cs)))
+
+-- a name, a colon, and what passes
+prefix_parts : (p : List ℕ → Bool) (s : List ℕ) → is_prefixed p s ≡ true → (name : List ℕ) × (local : List ℕ) × (s ≡ name ++ 58 ∷ local) × (is_ncname name ≡ true) × (p local ≡ true)
+prefix_parts p s h1 = grind (arith, nat_tests, colon_of, run_split)
+
+pub spelled_is : (k : Kind) (s : List ℕ) → spells (Token k) s ≡ true → IsSpelled k s
+spelled_is Name s e = let both = and_parts (is_ncname s) (not (is_keyword s)) e in (both.0, not-true (is_keyword s) both.1)
+spelled_is Keyword s e = e
+spelled_is Quoted [] e = cc
+spelled_is Quoted (c ∷ cs) e = let both = and_parts (c == 92) (is_ncname cs) e in (cs, ap (λ x. x ∷ cs) (eqb-true c 92 both.0), both.1)
+spelled_is Prefixed s e = prefix_parts is_ncname s e
+spelled_is AnyOf s e =
+    let parts = prefix_parts (bytes_eq (codes "*")) s e in
+    let star : parts.1 ≡ 42 ∷ [] = sym ((bytes_eq-Decides (codes "*") parts.1).0 parts.4) in
+    (parts.0, parts.2 ∙ ap (λ l. parts.0 ++ 58 ∷ l) star, parts.3)
+spelled_is Segment s e = e
+spelled_is Symbol s e = e
+
+-- a token before a break
+before_break : (k : Kind) (s : List ℕ) (b : ℕ) (rest : List ℕ) → spells (Token k) s ≡ true → is_break b ≡ true → IsFirstPart (s ++ b ∷ rest) (Token k) s (b ∷ rest)
+before_break Name s b rest e ends = name_before Name s b rest refl (and_parts (is_ncname s) (not (is_keyword s)) e).0 e ends
+before_break Keyword s b rest e ends = name_before Keyword s b rest refl (keyword_is_name s e) e ends
+before_break Quoted s b rest e ends = grind (arith, nat_tests, spelled_is, quoted_before)
+before_break Prefixed s b rest e ends =
+    let parts = spelled_is Prefixed s e in
+    subst (λ l. IsFirstPart (l ++ b ∷ rest) (Token Prefixed) l (b ∷ rest)) (sym parts.2) (prefixed_before parts.0 parts.1 b rest parts.3 parts.4 ends)
+before_break AnyOf s b rest e ends =
+    let parts = spelled_is AnyOf s e in
+    subst (λ l. IsFirstPart (l ++ b ∷ rest) (Token AnyOf) l (b ∷ rest)) (sym parts.1) (any_before parts.0 (b ∷ rest) parts.2)
+before_break Segment s b rest e ends = segment_before s b rest e ends
+before_break Symbol s b rest e ends = symbol_before s b rest e ends
+
+-- and one that ends the text
+begins_no_escape : (s more : List ℕ) → escape_front (s ++ more) ≡ false → escape_front s ≡ false
+begins_no_escape s more h1 = grind (arith, nat_tests, within_brace)
+
+pub at_end : (k : Kind) (s : List ℕ) → spells (Token k) s ≡ true → IsFirstPart s (Token k) s []
+at_end k s e =
+    let before = before_break k s 32 [] e refl in
     record {
-      begins = record { split = refl; spelled = is; threefold = λ h. absurd (true_is_false _ h stays); no_escape = and_left _ _ (and_left _ _ (no_backslash q outer.0)) };
-      longest = only_class quote q (cs ++ b ∷ rest) _ (class_quote q outer.0) (bound outer.0 (ends (q ∷ cs) q cs outer.0 simple refl is) stays);
+      begins = record { split = append-nil s; spelled = e; threefold = λ t. t; no_escape = begins_no_escape s (32 ∷ []) before.begins.no_escape };
+      longest = λ part other rest begins. let n : length other + length rest ≡ length s = sym (length-append other rest) ∙ ap length begins.split in omega (arith, n);
     }
-  where
-    no_backslash : (q : ℕ) → is_delimiter q ≡ true → (q == 92) ≡ false
-    no_backslash q d = ne_eqb q 92 (λ is. true_is_false (is_delimiter q) d (ap is_delimiter is))
 
-    ends : (t : List ℕ) (q : ℕ) (cs : List ℕ) → is_delimiter q ≡ true → opens_threefold (q ∷ cs) ≡ false → t ≡ q ∷ cs → is_segment (q ∷ cs) ≡ true → ends_at_one q cs ≡ true
-    ends t q cs d simple same h =
-        let three : three_of q (q ∷ cs) ≡ false = sym (ap (λ x. x && three_of q (q ∷ cs)) d) ∙ simple in
-        let inner = (and_parts (is_delimiter q) _ (and_parts (is_delimiter q && cond (three_of q (q ∷ cs)) (ends_at_three q (drop 2 cs)) (ends_at_one q cs)) (escapes_hold q cs) h).0).1 in
-        sym (cond-false _ _ _ three) ∙ inner
-
-    bound : is_delimiter q ≡ true → ends_at_one q cs ≡ true → opens_threefold (q ∷ cs ++ b ∷ rest) ≡ false → (part : Part) (tail after : List ℕ) → class_of part ≡ quote → tail ++ after ≡ cs ++ b ∷ rest → spells part (q ∷ tail) ≡ true → length (q ∷ tail) ≤ length (q ∷ cs)
-    bound d one stays Space tail after k split h = cc
-    bound d one stays Comment tail after k split h = cc
-    bound d one stays (Token Name) tail after k split h = cc
-    bound d one stays (Token Keyword) tail after k split h = cc
-    bound d one stays (Token Quoted) tail after k split h = cc
-    bound d one stays (Token Prefixed) tail after k split h = cc
-    bound d one stays (Token AnyOf) tail after k split h = cc
-    bound d one stays (Token Symbol) tail after k split h = cc
-    bound d one stays (Token Segment) tail after k split h =
-        let simple : opens_threefold (q ∷ tail) ≡ false = ⊎_elim
-        (λ t. absurd (true_is_false _ (and_from (is_delimiter q) _ d (three_grows q (q ∷ tail) after (and_parts (is_delimiter q) _ t).1)) (ap (λ l. opens_threefold (q ∷ l)) split ∙ stays)))
-        (λ f. f)
-        (cases_Bool (opens_threefold (q ∷ tail))) in
-        let same = one_unique q tail cs after (b ∷ rest) split (ends (q ∷ tail) q tail d simple refl h) one in
-        omega (arith, same)
+pub before_end : (k : Kind) (s rest : List ℕ) → spells (Token k) s ≡ true → ends_token rest ≡ true → IsFirstPart (s ++ rest) (Token k) s rest
+before_end k s rest h1 h2 = grind (arith, nat_tests, append-nil, at_end, before_break)

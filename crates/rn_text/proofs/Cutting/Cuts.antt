@@ -1,18 +1,16 @@
 -- A text that is cut up to some place.
 use Rattle.std.proofs.lemmas.Bool.Decides.{nat_tests}
-use Rattle.std.proofs.Common.{◌≡◌, ℕ, ◌+◌, ◌-◌, ◌<◌, ◌≤◌, Bool, true, false, List, [], ◌∷◌, ◌++◌, length, refl, sym, ap, ◌∙◌, subst, arith, append_assoc, append-nil, length-append, length-take-le, ⊎_elim, eqb-true}
+use Rattle.std.proofs.Common.{◌≡◌, ℕ, ◌+◌, ◌-◌, ◌<◌, ◌≤◌, Bool, true, false, List, [], ◌∷◌, ◌++◌, length, refl, sym, ap, ◌∙◌, subst, arith, append_assoc, append-nil, length-append, length-take-le, ⊎_elim, eqb-true, take}
 use Rattle.std.proofs.lemmas.Bool.{cases_Bool, cond-true, cond-false}
 use Rattle.std.specs.Prelude.{map, ◌==◌, encode_utf8}
-use Rattle.std.specs.List.{flat_map}
+use Rattle.std.specs.List.{flat_map, list_all}
 use Rattle.std.specs.Str.{IsUtf8, IsCharBoundary, chars, encode_utf8_all}
-use Rattle.std.specs.List.{list_all}
 use Rattle.rn_text.specs.declared.parts.Part.TheVariants.{Token}
 use Rattle.rn_text.specs.declared.parts.Kind.{Kind}
 use Rattle.rn_text.specs.declared.source.Token.{Token as SourceToken}
 use Rattle.rn_text.specs.Characters.{is_xml_char, is_keyword, keywords}
 use Rattle.rn_text.specs.Segments.{is_empty, after_run, run_of}
 use Rattle.rn_text.proofs.Words.Runs.{cut_before, is_empty_chars, all_pass, run_split, run_passes, stop_fails}
-use Rattle.std.proofs.Common.{take}
 use Rattle.std.proofs.lemmas.Str.{encodes-append, length-encode}
 use Rattle.std.proofs.lemmas.List.{flat_map_more}
 use Rattle.rn_text.specs.declared.parts.Part.{Part}
@@ -44,10 +42,6 @@ lexemes_push : (place : ℕ) (ps : List Piece) (p : Piece) → lexemes place (ps
 lexemes_push place [] p = append-nil (lexeme_at place p.part (encode_utf8_all p.spelling)) ∙ ap (λ n. lexeme_at n p.part (encode_utf8_all p.spelling)) (omega arith)
 lexemes_push place (q ∷ ps) p = grind (arith, nat_tests, append-nil, append_assoc, length_spelled, lexemes_push (place + width q) ps p)
 
--- nothing is read yet
-pub cut_start : (cs : List ℕ) → (front : List ℕ) → cs ≡ front ++ unmarked cs → length (encode_utf8_all front) ≡ unmarked_start cs → CutSoFar cs [] (unmarked cs)
-cut_start cs front split place = record { pieces = []; cut = refl; are = refl; front = front; split = split; place = omega arith }
-
 -- one more part is read, which begins at this place
 pub cut_more : (cs rest after : List ℕ) (found : List Lexeme) (part : Part) (spelling : List ℕ) (place : ℕ) → (so_far : CutSoFar cs found rest) → IsFirstPart rest part spelling after → place ≡ length (encode_utf8_all so_far.front)
     → CutSoFar cs (found ++ lexeme_at place part (encode_utf8_all spelling)) after
@@ -68,28 +62,30 @@ cut_more cs rest after found part spelling place so_far first at =
       place = front_wider ∙ omega (arith, wider, so_far.place);
     }
 
+-- where a run ends, in bytes
+pub run_cut : (p : ℕ → Bool) (text rest : List ℕ) → IsUtf8 text → IsUtf8 rest → chars rest ≡ after_run p (chars text)
+    → (length rest ≤ length text) × IsCharBoundary text (length text - length rest) × (take (length text - length rest) text ≡ encode_utf8_all (run_of p (chars text)))
+run_cut p text rest t r e = cut_before text rest (run_of p (chars text)) t r (sym (run_split p (chars text)) ∙ ap (λ l. run_of p (chars text) ++ l) (sym e))
+
 -- where something follows the characters of XML, the first of it is none
+pub leaves_at : (cs : List ℕ) (c : ℕ) (rest : List ℕ) → after_run is_xml_char cs ≡ c ∷ rest → LeavesXmlAt cs (length (encode_utf8_all (run_of is_xml_char cs)))
+leaves_at cs c rest e = record {
+  front = run_of is_xml_char cs;
+  wrong = c;
+  rest = rest;
+  split = ap (λ l. run_of is_xml_char cs ++ l) (sym e) ∙ run_split is_xml_char cs;
+  front_is_xml = run_passes is_xml_char cs;
+  wrong_is_not = stop_fails is_xml_char cs c rest e;
+  is = refl;
+}
+
 pub leaves_xml : (text wrong : List ℕ) → IsUtf8 text → IsUtf8 wrong → chars wrong ≡ after_run is_xml_char (chars text) → (length wrong == 0) ≡ false → LeavesXmlAt (chars text) (length text - length wrong)
 leaves_xml text wrong t w e more = first (chars wrong) refl
   where
-    split : chars text ≡ run_of is_xml_char (chars text) ++ chars wrong
-    split = sym (run_split is_xml_char (chars text)) ∙ ap (λ l. run_of is_xml_char (chars text) ++ l) (sym e)
-
     first : (cs : List ℕ) → chars wrong ≡ cs → LeavesXmlAt (chars text) (length text - length wrong)
     first [] none = let empty : true ≡ false = sym (ap is_empty none) ∙ sym (is_empty_chars wrong w) ∙ more in cc
-    first (c ∷ cs) is = let cut = cut_before text wrong (run_of is_xml_char (chars text)) t w split in record {
-      front = run_of is_xml_char (chars text);
-      wrong = c;
-      rest = cs;
-      split = ap (λ l. run_of is_xml_char (chars text) ++ l) (sym is) ∙ sym split;
-      front_is_xml = run_passes is_xml_char (chars text);
-      wrong_is_not = stop_fails is_xml_char (chars text) c cs (sym e ∙ is);
-      is = omega (arith, cut.0, ap length cut.2, length-take-le (length text - length wrong) text (omega arith));
-    }
-
--- what follows a run is no longer than the text
-pub run_shorter : (p : ℕ → Bool) (text rest : List ℕ) → IsUtf8 text → IsUtf8 rest → chars rest ≡ after_run p (chars text) → length rest ≤ length text
-run_shorter p text rest t r e = (cut_before text rest (run_of p (chars text)) t r (sym (run_split p (chars text)) ∙ ap (λ l. run_of p (chars text) ++ l) (sym e))).0
+    first (c ∷ cs) is = let cut = run_cut is_xml_char text wrong t w e in
+        subst (LeavesXmlAt (chars text)) (omega (arith, cut.0, ap length cut.2, length-take-le (length text - length wrong) text (omega arith))) (leaves_at (chars text) c cs (sym e ∙ is))
 
 -- where nothing follows them, all are of XML
 pub all_xml : (text wrong : List ℕ) → IsUtf8 wrong → chars wrong ≡ after_run is_xml_char (chars text) → (length wrong == 0) ≡ true → list_all is_xml_char (chars text) ≡ true
@@ -124,7 +120,7 @@ mark_front (c ∷ cs) = ⊎_elim
 
 -- before the first part, behind it
 pub cut_from_start : (cs : List ℕ) → CutSoFar cs [] (unmarked cs)
-cut_from_start cs = let mark = mark_front cs in cut_start cs mark.0 mark.1 mark.2
+cut_from_start cs = let mark = mark_front cs in record { pieces = []; cut = refl; are = refl; front = mark.0; split = mark.1; place = omega (arith, mark.2) }
 
 -- no part begins the rest
 pub stops_here : (text rest : List ℕ) (found : List Lexeme) → IsUtf8 text → IsUtf8 rest → CutSoFar (chars text) found (chars rest) → list_all is_xml_char (chars text) ≡ true
@@ -153,8 +149,3 @@ lexemes_more (x ∷ xs) t = ap (λ l. lexeme_of x ∷ l) (lexemes_more xs t)
 -- a token by its parts
 pub same_lexeme : (k : Kind) (b b' : List ℕ) (s e : ℕ) → b' ≡ b → e ≡ s + length b → record { kind = k; text = b'; start = s; end = e } ∷ [] ≡ lexeme_at s (Token k) b
 same_lexeme k b b' s e same ends = λ i. record { kind = k; text = same i; start = s; end = ends i } ∷ []
-
--- where a run ends, in bytes
-pub run_cut : (p : ℕ → Bool) (text rest : List ℕ) → IsUtf8 text → IsUtf8 rest → chars rest ≡ after_run p (chars text)
-    → (length rest ≤ length text) × IsCharBoundary text (length text - length rest) × (take (length text - length rest) text ≡ encode_utf8_all (run_of p (chars text)))
-run_cut p text rest t r e = cut_before text rest (run_of p (chars text)) t r (sym (run_split p (chars text)) ∙ ap (λ l. run_of p (chars text) ++ l) (sym e))

@@ -1,20 +1,87 @@
 -- Segments at the front of a text.
 use Rattle.std.proofs.lemmas.Bool.Decides.{nat_tests}
-use Rattle.std.proofs.Common.{◌≡◌, ℕ, true, false, cond, List, [], ◌∷◌, ◌++◌, length, drop, sym, ap, ◌∙◌, subst, arith, ⊎_elim, ne_eqb, Some, None}
+use Rattle.std.proofs.Common.{◌≡◌, ℕ, true, false, cond, List, [], ◌∷◌, ◌++◌, length, drop, sym, ap, ◌∙◌, subst, arith, ⊎_elim, ne_eqb, Some, None, Bool, refl, append_assoc, eq-eqb}
 use Rattle.std.specs.Prelude.{◌==◌, ◌&&◌, not, Option, MatchOption}
-use Rattle.std.proofs.lemmas.Bool.{cases_Bool, cond-true, cond-false, and_parts, and_left}
+use Rattle.std.proofs.lemmas.Bool.{cases_Bool, cond-true, cond-false, and_parts, and_left, and_from}
 use Rattle.rn_text.specs.declared.parts.Part.{Part}
 use Rattle.rn_text.specs.declared.parts.Part.TheVariants.{Token}
 use Rattle.rn_text.specs.declared.parts.Kind.TheVariants.{Segment}
-use Rattle.rn_text.specs.Segments.{is_delimiter, is_delimited, is_segment, opens_threefold, three_of, ends_at_one, ends_at_three, escapes_hold, escape_front, is_whole_escape, escaped_char}
+use Rattle.rn_text.specs.Segments.{is_delimiter, is_delimited, is_segment, opens_threefold, three_of, ends_at_one, ends_at_three, escapes_hold, escape_front, is_whole_escape, escaped_char, is_line_end}
 use Rattle.rn_text.specs.Parts.{BeginsWith, IsFirstPart, spells}
 use Rattle.rn_text.specs.inside.PartEnds.{IsDelimitedFront, IsNeverDelimited}
 use Rattle.rn_text.specs.Tokens.{BeginsNoPart}
 use Rattle.rn_text.proofs.Words.Runs.{same_test}
-use Rattle.rn_text.proofs.Cutting.SegmentEnds.{one_unique, three_grows}
 use Rattle.rn_text.proofs.Cutting.FirstParts.{quote, class_of, class_quote, front_of}
 use Rattle.rn_text.proofs.TokenLists.OneTokenList.{same_front}
-use Rattle.rn_text.proofs.Words.Basics.{cons_first, cons_rest}
+use Rattle.rn_text.proofs.Words.Basics.{cons_first, cons_rest, none_of}
+
+-- a front of the text that the test passes goes over what was searched, and on into the rest
+pub record Searched (test : List ℕ → Bool) (text rest : List ℕ) : Type 0 where
+  pub front : List ℕ
+  pub split : front ++ rest ≡ text
+  pub through : (found after : List ℕ) → found ++ after ≡ text → test found ≡ true → (more : List ℕ) × (more ++ after ≡ rest) × (test more ≡ true)
+  pub back : (more after : List ℕ) → more ++ after ≡ rest → test more ≡ true → test (front ++ more) ≡ true
+
+pub search_start : (test : List ℕ → Bool) (text : List ℕ) → Searched test text text
+search_start test text = record { front = []; split = refl; through = λ found after split e. (found, split, e); back = λ more after split e. e }
+
+-- one more character is passed, which tells the test nothing
+pub search_step : (test : List ℕ → Bool) (text : List ℕ) (c : ℕ) (cs : List ℕ) → test [] ≡ false → ((more after : List ℕ) → more ++ after ≡ cs → test (c ∷ more) ≡ test more)
+    → Searched test text (c ∷ cs) → Searched test text cs
+search_step test text c cs empty same s =
+    record {
+      front = s.front ++ c ∷ [];
+      split = append_assoc s.front (c ∷ []) cs ∙ s.split;
+      through = λ found after split e. let h = s.through found after split e in on h.0 after h.1 h.2;
+      back = λ more after split e. ap test (append_assoc s.front (c ∷ []) more) ∙ s.back (c ∷ more) after (ap (λ l. c ∷ l) split) (same more after split ∙ e);
+    }
+  where
+    on : (more after : List ℕ) → more ++ after ≡ c ∷ cs → test more ≡ true → (tail : List ℕ) × (tail ++ after ≡ cs) × (test tail ≡ true)
+    on [] after split e = let h : false ≡ true = sym empty ∙ e in cc
+    on (d ∷ ds) after split e =
+        let first : d ≡ c = cc in
+        let rest : ds ++ after ≡ cs = cc in
+        (ds, rest, sym (same ds after rest) ∙ ap (λ x. test (x ∷ ds)) (sym first) ∙ e)
+
+pub search_found : (test : List ℕ → Bool) (text rest more after : List ℕ) → Searched test text rest → more ++ after ≡ rest → test more ≡ true → (found : List ℕ) × (found ++ after ≡ text) × (test found ≡ true)
+search_found test text rest more after s split e = (s.front ++ more, append_assoc s.front more after ∙ ap (λ l. s.front ++ l) split ∙ s.split, s.back more after split e)
+
+pub search_none : (test : List ℕ → Bool) (text rest : List ℕ) → Searched test text rest → ((more after : List ℕ) → more ++ after ≡ rest → test more ≡ true → ⊥) → (found after : List ℕ) → found ++ after ≡ text → test found ≡ true → ⊥
+search_none test text rest s none found after split e = let h = s.through found after split e in none h.0 after h.1 h.2
+
+-- in an empty rest nothing is found
+pub none_left : (test : List ℕ → Bool) (rest : List ℕ) → test [] ≡ false → rest ≡ [] → (more after : List ℕ) → more ++ after ≡ rest → test more ≡ true → ⊥
+none_left test rest empty is [] after split e = let h : false ≡ true = sym empty ∙ e in cc
+none_left test rest empty is (c ∷ cs) after split e = let h : c ∷ (cs ++ after) ≡ [] = split ∙ is in cc
+
+-- the end of a simple segment: a character that is neither a delimiter nor a line end
+pub one_step : (d c : ℕ) (more : List ℕ) → (c == d) ≡ false → is_line_end c ≡ false → ends_at_one d (c ∷ more) ≡ ends_at_one d more
+one_step d c more other inside = cond-false _ _ _ other ∙ ap (λ b. not b && ends_at_one d more) inside
+
+-- a line end
+pub one_none : (d c : ℕ) (cs : List ℕ) → (c == d) ≡ false → is_line_end c ≡ true → (more after : List ℕ) → more ++ after ≡ c ∷ cs → ends_at_one d more ≡ true → ⊥
+one_none d c cs other line [] after split e = cc
+one_none d c cs other line (x ∷ xs) after split e = grind (arith, nat_tests)
+
+-- the delimiter
+pub one_here : (d c : ℕ) → c ≡ d → ends_at_one d (c ∷ []) ≡ true
+one_here d c e = cond-true _ _ _ (eq-eqb c d e)
+
+-- three of a character at a front are three at the text
+pub three_grows : (d : ℕ) (more after : List ℕ) → three_of d more ≡ true → three_of d (more ++ after) ≡ true
+three_grows d more after h1 = grind (arith, nat_tests)
+
+pub three_step : (d c : ℕ) (cs more after : List ℕ) → three_of d (c ∷ cs) ≡ false → more ++ after ≡ cs → ends_at_three d (c ∷ more) ≡ ends_at_three d more
+three_step d c cs more after h1 h2 = grind (arith, nat_tests, three_grows)
+
+pub three_here : (d : ℕ) → ends_at_three d (d ∷ d ∷ d ∷ []) ≡ true
+three_here d = let same : (d == d) ≡ true = eq-eqb d d refl in cond-true _ _ _ (and_from _ _ same (and_from _ _ same same))
+
+-- fronts of one text that end at their first delimiter are as long
+pub one_unique : (d : ℕ) (f g after rest : List ℕ) → f ++ after ≡ g ++ rest → ends_at_one d f ≡ true → ends_at_one d g ≡ true → length f ≡ length g
+one_unique d [] g after rest split ef eg = cc
+one_unique d (x ∷ xs) [] after rest split ef eg = cc
+one_unique d (x ∷ xs) (y ∷ ys) after rest split ef eg = grind (arith, nat_tests, none_of, one_unique d xs ys after rest)
 
 only_segment : (part : Part) → class_of part ≡ quote → part ≡ Token Segment
 only_segment part h1 = grind (arith, nat_tests)
@@ -38,18 +105,7 @@ only_three d l h1 h2 = grind (arith, nat_tests)
 three_unique : (d : ℕ) (f g after rest : List ℕ) → f ++ after ≡ g ++ rest → ends_at_three d f ≡ true → ends_at_three d g ≡ true → length f ≡ length g
 three_unique d [] g after rest split ef eg = cc
 three_unique d (x ∷ xs) [] after rest split ef eg = cc
-three_unique d (x ∷ xs) (y ∷ ys) after rest split ef eg = ⊎_elim
-    (λ t. let whole : three_of d ((y ∷ ys) ++ rest) ≡ true = ap (three_of d) (sym split) ∙ three_grows d (x ∷ xs) after t in
-    let other = three_shrinks d (y ∷ ys) rest whole eg in
-    omega (arith, only_three d (x ∷ xs) t ef, only_three d (y ∷ ys) other eg))
-    (λ f. let other : three_of d (y ∷ ys) ≡ false = ⊎_elim
-    (λ t. let whole : three_of d ((x ∷ xs) ++ after) ≡ true = ap (three_of d) split ∙ three_grows d (y ∷ ys) rest t in
-    let h : true ≡ false = sym (three_shrinks d (x ∷ xs) after whole ef) ∙ f in cc)
-    (λ no. no)
-    (cases_Bool (three_of d (y ∷ ys))) in
-    let ih = three_unique d xs ys after rest (cons_rest split) (sym (cond-false _ _ _ f) ∙ ef) (sym (cond-false _ _ _ other) ∙ eg) in
-    omega arith)
-    (cases_Bool (three_of d (x ∷ xs)))
+three_unique d (x ∷ xs) (y ∷ ys) after rest split ef eg = grind (arith, nat_tests, three_grows, three_shrinks, only_three, three_unique d xs ys after rest)
 
 -- what closes a segment, by its form
 module _ (d : ℕ) (cs : List ℕ) (is : is_delimited (d ∷ cs) ≡ true) where

@@ -1,7 +1,7 @@
 -- Which parts may begin a text, by its first character.
 use Rattle.std.proofs.lemmas.Bool.Decides.{nat_tests}
 use Rattle.std.proofs.Common.{◌≡◌, ℕ, ◌≤◌, Bool, true, false, cond, List, [], ◌∷◌, ◌++◌, length, refl, sym, ap, ◌∙◌, subst, arith, ⊎_elim, eqb-true, ne_eqb, eq-eqb}
-use Rattle.std.specs.Prelude.{◌==◌, not}
+use Rattle.std.specs.Prelude.{◌==◌, ◌&&◌, not}
 use Rattle.std.specs.List.{list_all, list_any}
 use Rattle.std.specs.Str.{bytes_eq}
 use Rattle.std.proofs.lemmas.Bool.{cond-true, and_parts, and_from, and_left, or_from, or_cases}
@@ -17,7 +17,6 @@ use Rattle.rn_text.specs.Texts.{is_white}
 use Rattle.rn_text.specs.Tokens.{BeginsNoPart}
 use Rattle.rn_text.proofs.Words.Runs.{run_split, run_passes}
 use Rattle.rn_text.proofs.Cutting.Cuts.{no_empty_part}
-use Rattle.rn_text.proofs.Words.Basics.{cons_first, cons_rest}
 
 -- what a first character tells
 pub data Class : Type 0 where
@@ -72,21 +71,20 @@ pub keyword_is_name : (cs : List ℕ) → is_keyword cs ≡ true → is_ncname c
 unfolding is_keyword keywords is_name_start is_name_char
 keyword_is_name cs e = one_of is_ncname keywords cs refl e
 
-is_other : Class → Bool
-is_other white = false
-is_other hash = false
-is_other quote = false
-is_other backslash = false
-is_other letter = false
-is_other other = true
+-- the class of a character that is none of the others
+pub class_other : (c : ℕ) → is_white c ≡ false → (c == 35) ≡ false → is_delimiter c ≡ false → (c == 92) ≡ false → is_name_start c ≡ false → class c ≡ other
+class_other c w h d b l = λ i. cond (w i) white (cond (h i) hash (cond (d i) quote (cond (b i) backslash (cond (l i) letter other))))
 
-other_is : (k : Class) → is_other k ≡ true → k ≡ other
-unfolding is_other
-other_is k h1 = grind (arith, nat_tests)
+is_plain : ℕ → Bool
+is_plain c = not (is_white c) && not (c == 35) && not (is_delimiter c) && not (c == 92) && not (is_name_start c)
+
+plain_class : (c : ℕ) → is_plain c ≡ true → class c ≡ other
+unfolding is_plain
+plain_class c h1 = grind (arith, nat_tests, class_other)
 
 symbol_start : (c : ℕ) (cs : List ℕ) → is_symbol (c ∷ cs) ≡ true → class c ≡ other
-unfolding symbols is_name_start is_other
-symbol_start c cs e = other_is (class c) (one_of (λ s. begins_with (λ d. is_other (class d)) s) symbols (c ∷ cs) refl e)
+unfolding symbols is_name_start is_plain
+symbol_start c cs e = plain_class c (one_of (begins_with is_plain) symbols (c ∷ cs) refl e)
 
 run_start : (c : ℕ) (cs : List ℕ) → is_ncname (run_of is_name_char (c ∷ cs)) ≡ true → is_name_start c ≡ true
 run_start c cs h1 = grind (arith, nat_tests)
@@ -118,11 +116,8 @@ pub record Front (c : ℕ) (cs : List ℕ) (part : Part) (front after : List ℕ
   pub same_class : class c ≡ class_of part
 
 pub front_of : (c : ℕ) (cs : List ℕ) (part : Part) (front after : List ℕ) → BeginsWith (c ∷ cs) part front after → Front c cs part front after
-front_of c cs part [] after begins = absurd (no_empty_part part begins.spelled)
-front_of c cs part (d ∷ ds) after begins =
-    let same : d ≡ c = cons_first begins.split in
-    let spelled : spells part (c ∷ ds) ≡ true = ap (λ x. spells part (x ∷ ds)) (sym same) ∙ begins.spelled in
-    record { tail = ds; is = ap (λ x. x ∷ ds) same; split = cons_rest begins.split; spelled = spelled; same_class = part_class part c ds spelled }
+front_of c cs part [] after begins = grind (arith, nat_tests, no_empty_part)
+front_of c cs part (d ∷ ds) after begins = grind (arith, nat_tests, part_class)
 
 -- no part begins the empty text
 pub none_in_nothing : BeginsNoPart []
@@ -219,10 +214,6 @@ symbol_first c cs tail after d b l =
       begins = record { split = ap (λ x. c ∷ x) l.split; spelled = l.is; threefold = λ e. absurd (plain.0 e); no_escape = plain.1 };
       longest = only_class other c cs _ (symbol_start c tail l.is) (symbol_bound c cs tail after l);
     }
-
--- the class of a character that is none of the others
-pub class_other : (c : ℕ) → is_white c ≡ false → (c == 35) ≡ false → is_delimiter c ≡ false → (c == 92) ≡ false → is_name_start c ≡ false → class c ≡ other
-class_other c w h d b l = λ i. cond (w i) white (cond (h i) hash (cond (d i) quote (cond (b i) backslash (cond (l i) letter other))))
 
 only_symbol : (part : Part) → class_of part ≡ other → part ≡ Token Symbol
 only_symbol part h1 = grind (arith, nat_tests)

@@ -1,12 +1,11 @@
 -- Tokens that begin with a name.
 use Rattle.std.proofs.lemmas.Bool.Decides.{nat_tests}
-use Rattle.std.proofs.Common.{◌≡◌, ℕ, ◌+◌, ◌-◌, ◌≤◌, Bool, true, false, List, [], ◌∷◌, ◌++◌, length, drop, refl, sym, ap, ◌∙◌, subst, arith, append_assoc, length-append, ⊎_elim}
+use Rattle.std.proofs.Common.{◌≡◌, ℕ, ◌+◌, ◌-◌, ◌≤◌, Bool, true, false, List, [], ◌∷◌, ◌++◌, length, drop, refl, sym, ap, ◌∙◌, subst, arith, append_assoc, length-append, ⊎_elim, take}
 use Rattle.std.specs.Prelude.{◌==◌, ◌&&◌, codes, Option, MatchOption, is_some}
 use Rattle.std.specs.List.{list_all}
 use Rattle.std.specs.Str.{bytes_eq, IsUtf8, IsCharBoundary, chars, encode_utf8_all}
-use Rattle.std.proofs.Common.{take}
 use Rattle.std.proofs.lemmas.Str.{encodes_same, encodes-chars}
-use Rattle.std.proofs.lemmas.Bool.{cases_Bool, cond-true, cond-false, and_parts, and_from, or_from, or_left}
+use Rattle.std.proofs.lemmas.Bool.{cond-true, cond-false, and_parts, and_from, or_from, or_left}
 use Rattle.std.proofs.lemmas.Slice.Eq.{bytes_eq-Decides}
 use Rattle.rn_text.specs.declared.parts.Part.{Part}
 use Rattle.rn_text.specs.declared.parts.Part.TheVariants.{Space, Comment, Token}
@@ -37,16 +36,8 @@ name_chars cs h1 = grind (arith, nat_tests, start_is_char)
 
 -- a run that stops within a front stops there in the text
 pub run_within : (p : ℕ → Bool) (front after : List ℕ) → is_empty (after_run p front) ≡ false → (run_of p (front ++ after) ≡ run_of p front) × (after_run p (front ++ after) ≡ after_run p front ++ after)
-run_within p [] after e = absurd (cc_ e)
-  where
-    cc_ : true ≡ false → ⊥
-    cc_ h = cc
-run_within p (c ∷ cs) after e = ⊎_elim
-    (λ passes.
-    let ih = run_within p cs after (ap is_empty (sym (after_run_passes p c cs passes)) ∙ e) in
-    (cond-true _ _ _ passes ∙ ap (λ l. c ∷ l) ih.0 ∙ sym (cond-true _ _ _ passes), after_run_passes p c (cs ++ after) passes ∙ ih.1 ∙ ap (λ l. l ++ after) (sym (after_run_passes p c cs passes))))
-    (λ stops. (cond-false _ _ _ stops ∙ sym (cond-false _ _ _ stops), after_run_stops p c (cs ++ after) stops ∙ ap (λ l. l ++ after) (sym (after_run_stops p c cs stops))))
-    (cases_Bool (p c))
+run_within p [] after e = grind (arith, nat_tests)
+run_within p (c ∷ cs) after e = grind (arith, nat_tests, after_run_passes, after_run_stops, run_within p cs after)
 
 -- a list that begins with a colon
 pub record Colon (cs : List ℕ) : Type 0 where
@@ -162,10 +153,6 @@ pub star_starts_none : is_name_start 42 ≡ false
 unfolding is_name_start
 star_starts_none = refl
 
-star_is_none : is_name_start 42 ≡ true → ⊥
-unfolding is_name_start
-star_is_none e = cc
-
 pub any_first : (c : ℕ) (cs after : List ℕ) → is_name_start c ≡ true → after_run is_name_char (c ∷ cs) ≡ 58 ∷ 42 ∷ after
     → IsFirstPart (c ∷ cs) (Token AnyOf) (run_of is_name_char (c ∷ cs) ++ 58 ∷ 42 ∷ []) after
 any_first c cs after start follows =
@@ -173,10 +160,7 @@ any_first c cs after start follows =
   where
     no_name : (other rest : List ℕ) → is_ncname other ≡ true → other ++ rest ≡ 42 ∷ after → length other ≤ 1
     no_name [] rest e split = omega arith
-    no_name (x ∷ xs) rest e split = absurd (star x (and_parts _ _ e).0 (cons_first split))
-      where
-        star : (x : ℕ) → is_name_start x ≡ true → x ≡ 42 → ⊥
-        star x starts is = star_is_none (ap is_name_start (sym is) ∙ starts)
+    no_name (x ∷ xs) rest e split = let h : true ≡ false = sym (and_parts (is_name_start x) _ e).0 ∙ ap is_name_start (cons_first split) ∙ star_starts_none in cc
 
 pub prefixed_first : (c : ℕ) (cs : List ℕ) (x : ℕ) (xs : List ℕ) → is_name_start c ≡ true → is_name_start x ≡ true → after_run is_name_char (c ∷ cs) ≡ 58 ∷ x ∷ xs
     → IsFirstPart (c ∷ cs) (Token Prefixed) (run_of is_name_char (c ∷ cs) ++ 58 ∷ x ∷ run_of is_name_char xs) (after_run is_name_char xs)

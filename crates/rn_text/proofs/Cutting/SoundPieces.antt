@@ -1,7 +1,6 @@
 -- Pieces that are the parts of their text, whatever stands behind, or before a break.
-use Rattle.std.proofs.Common.{arith}
+use Rattle.std.proofs.Common.{arith, ◌≡◌, ℕ, true, false, List, [], ◌∷◌, ◌++◌, refl, sym, ap, ◌∙◌, subst, append_assoc, append-nil}
 use Rattle.std.proofs.lemmas.Bool.Decides.{nat_tests}
-use Rattle.std.proofs.Common.{◌≡◌, ℕ, true, false, List, [], ◌∷◌, ◌++◌, refl, sym, ap, ◌∙◌, subst, append_assoc, append-nil}
 use Rattle.std.specs.Prelude.{not}
 use Rattle.std.specs.List.{list_all}
 use Rattle.std.proofs.lemmas.Bool.{and_from}
@@ -14,7 +13,7 @@ use Rattle.rn_text.specs.Texts.{is_white}
 use Rattle.rn_text.proofs.Cutting.FirstParts.{white_first, keyword_is_name}
 use Rattle.rn_text.proofs.Cutting.BeforeBreaks.{is_break, is_solo, name_before, prefixed_before, any_before, quoted_before, symbol_before, solo_before, segment_before}
 use Rattle.rn_text.proofs.Quoting.SegmentTexts.{Together}
-use Rattle.rn_text.proofs.Quoting.QuotedRuns.{quoted_simple, quoted_segment, quoted_xml, all_append}
+use Rattle.rn_text.proofs.Quoting.QuotedRuns.{quoted_segment, quoted_xml, all_append}
 use Rattle.rn_text.proofs.Words.XmlNames.{ncname_xml}
 
 -- the pieces are the parts of their text before a break, and their characters are of XML
@@ -112,4 +111,4 @@ unfolding is_xml_char
 any_free p x = one_free (record { part = Token AnyOf; spelling = p ++ 58 ∷ 42 ∷ [] }) (all_append is_xml_char p (58 ∷ 42 ∷ []) (ncname_xml p x) refl) (λ rest. any_before p rest x)
 
 pub segment_sound : (s : List ℕ) → Together s → list_all is_xml_char s ≡ true → Sound (record { part = Token Segment; spelling = quoted s } ∷ [])
-segment_sound s t x = one_sound (record { part = Token Segment; spelling = quoted s }) (quoted_xml s x) (λ b rest e. segment_before (quoted s) b rest (quoted_segment s t) (quoted_simple s t) e)
+segment_sound s t x = one_sound (record { part = Token Segment; spelling = quoted s }) (quoted_xml s x) (λ b rest e. segment_before (quoted s) b rest (quoted_segment s t) e)

@@ -1,7 +1,6 @@
 -- The tokens of a written literal, and their texts.
-use Rattle.std.proofs.Common.{arith}
+use Rattle.std.proofs.Common.{arith, ◌≡◌, ℕ, true, false, List, [], ◌∷◌, ◌++◌, refl, sym, ap, ◌∙◌, subst, append-nil, lit<}
 use Rattle.std.proofs.lemmas.Bool.Decides.{nat_tests}
-use Rattle.std.proofs.Common.{◌≡◌, ℕ, true, false, List, [], ◌∷◌, ◌++◌, refl, sym, ap, ◌∙◌, subst, append-nil, lit<}
 use Rattle.std.specs.Prelude.{◌==◌, codes, encode_utf8}
 use Rattle.std.specs.List.{list_all, flat_map, AllByRecursion}
 use Rattle.std.specs.Str.{chars, encode_utf8_all, IsUtf8}
@@ -15,10 +14,9 @@ use Rattle.rn_text.specs.Literals.{literal_bytes, quoted, joined, segments, lite
 use Rattle.rn_text.specs.Parts.{Piece, IsCut, symbols}
 use Rattle.rn_text.specs.Tokens.{Lexeme, HasTokens, SegmentsHaveText, lexemes, unmarked, unmarked_start}
 use Rattle.rn_text.proofs.Cutting.FirstParts.{white_first}
-use Rattle.rn_text.proofs.Cutting.BeforeBreaks.{solo_before}
+use Rattle.rn_text.proofs.Cutting.BeforeBreaks.{solo_before, at_end, before_end}
 use Rattle.rn_text.proofs.Quoting.SegmentTexts.{Together, quoted_text, segments_together, segments_join}
 use Rattle.rn_text.proofs.Quoting.QuotedRuns.{quoted_segment, quoted_xml, all_append}
-use Rattle.rn_text.proofs.Cutting.SpelledTokens.{at_end, before_end}
 use Rattle.rn_text.proofs.TokenLists.CutLexemes.{xml_scalars, all_parts}
 
 abbrev segment : List ℕ → Piece

@@ -2,7 +2,7 @@
 use Rattle.std.proofs.lemmas.Bool.Decides.{nat_tests}
 use Rattle.std.proofs.Common.{◌≡◌, ◌≢◌, ℕ, ◌-◌, ◌<◌, Bool, true, false, cond, List, [], ◌∷◌, ◌++◌, length, drop, take, refl, sym, ap, ◌∙◌, subst, arith, append_assoc, append-nil, length-append, ⊎_elim, eqb-true, eq-eqb, zero, suc, Some, None}
 use Rattle.std.specs.Prelude.{◌==◌, ◌&&◌, Option, MatchOption, encode_utf8}
-use Rattle.std.proofs.Math.Seq.{take-append_seam}
+use Rattle.std.proofs.Math.Seq.{take-append_seam, drop-append_seam}
 use Rattle.std.proofs.lemmas.Bool.{false_from_ne_true, cases_Bool, cond-true, cond-false, and_parts, and_from, and_right}
 use Rattle.std.specs.Char.{is_ascii_hexdigit}
 use Rattle.std.specs.Str.{encode_utf8_all}
@@ -56,14 +56,14 @@ between_one d middle simple =
     let n : length (d ∷ inner) - 2 ≡ length middle = omega (arith, length-append middle (d ∷ [])) in
     cond-false _ _ _ simple ∙ ap (λ k. take k inner) n ∙ take-append_seam middle (d ∷ [])
 
+-- three at the end, one by one
+three_split : (front : List ℕ) (c : ℕ) → front ++ c ∷ c ∷ c ∷ [] ≡ ((front ++ c ∷ []) ++ c ∷ []) ++ c ∷ []
+three_split front c = sym (append_assoc (front ++ c ∷ []) (c ∷ []) (c ∷ []) ∙ append_assoc front (c ∷ []) (c ∷ c ∷ []))
+
 pub last_three : {T : Type 0} (now : T → List ℕ) (text one two : List ℕ) (c : ℕ) (r : Option T) → text ≡ one ++ c ∷ [] → one ≡ two ++ c ∷ []
     → MatchOption r ((front : List ℕ) → two ≢ front ++ c ∷ []) (λ x. two ≡ now x ++ c ∷ []) → MatchOption r ((front : List ℕ) → text ≢ front ++ c ∷ c ∷ c ∷ []) (λ x. text ≡ now x ++ c ∷ c ∷ c ∷ [])
-last_three now text one two c None e f h = λ front is.
-    let three : front ++ c ∷ c ∷ c ∷ [] ≡ (front ++ c ∷ c ∷ []) ++ c ∷ [] = sym (append_assoc front (c ∷ c ∷ []) (c ∷ [])) in
-    let behind : one ≡ front ++ c ∷ c ∷ [] = last_same one (front ++ c ∷ c ∷ []) c (sym e ∙ is ∙ three) in
-    h front (last_same two (front ++ c ∷ []) c (sym f ∙ behind ∙ sym (append_assoc front (c ∷ []) (c ∷ []))))
-last_three now text one two c (Some x) e f h =
-    e ∙ ap (λ l. l ++ c ∷ []) (f ∙ ap (λ l. l ++ c ∷ []) h) ∙ ap (λ l. l ++ c ∷ []) (append_assoc (now x) (c ∷ []) (c ∷ [])) ∙ append_assoc (now x) (c ∷ c ∷ []) (c ∷ [])
+last_three now text one two c None e f h = λ front is. h front (last_same two (front ++ c ∷ []) c (sym f ∙ last_same one ((front ++ c ∷ []) ++ c ∷ []) c (sym e ∙ is ∙ three_split front c)))
+last_three now text one two c (Some x) e f h = e ∙ ap (λ l. l ++ c ∷ []) (f ∙ ap (λ l. l ++ c ∷ []) h) ∙ sym (three_split (now x) c)
 
 pub found_three : {T : Type 0} (now : T → List ℕ) (d : ℕ) (text opened : List ℕ) (r : Option T) → is_delimiter d ≡ true → text ≡ d ∷ d ∷ d ∷ opened
     → MatchOption r ((front : List ℕ) → opened ≢ front ++ d ∷ d ∷ d ∷ []) (λ x. opened ≡ now x ++ d ∷ d ∷ d ∷ [])
@@ -77,17 +77,13 @@ pub found_one : {T : Type 0} (now : T → List ℕ) (d : ℕ) (text opened : Lis
     → MatchOption r (is_delimited text ≡ false) (λ x. now x ≡ between_delimiters text)
 found_one now d text opened None is single h = ap is_delimited is ∙ false_from_ne_true (is_delimited (d ∷ opened))
     (λ e. let ends = ends_with_one d opened (closed_one d opened e (and_right (is_delimiter d) _ (ap (three_of d) (sym is) ∙ single))) in h ends.0 ends.1)
-found_one now d text opened (Some x) is single h =
-    let whole : text ≡ d ∷ (now x ++ d ∷ []) = is ∙ ap (λ l. d ∷ l) h in
-    sym (ap between_delimiters whole ∙ between_one d (now x) (and_right (is_delimiter d) _ (ap (three_of d) (sym whole) ∙ single)))
+found_one now d text opened (Some x) is single h = grind (arith, nat_tests, between_one)
 
--- one by one
 pub three_none : (text : List ℕ) (c : ℕ) → ((front : List ℕ) → text ≢ front ++ c ∷ []) → (front : List ℕ) → text ≢ front ++ c ∷ c ∷ c ∷ []
-three_none text c none front e = none (front ++ c ∷ c ∷ []) (e ∙ sym (append_assoc front (c ∷ c ∷ []) (c ∷ [])))
+three_none text c none front e = none ((front ++ c ∷ []) ++ c ∷ []) (e ∙ three_split front c)
 
 pub three_none_behind : (text one : List ℕ) (c : ℕ) → text ≡ one ++ c ∷ [] → ((front : List ℕ) → one ≢ front ++ c ∷ []) → (front : List ℕ) → text ≢ front ++ c ∷ c ∷ c ∷ []
-three_none_behind text one c is none front e =
-    none (front ++ c ∷ []) (last_same one (front ++ c ∷ c ∷ []) c (sym is ∙ e ∙ sym (append_assoc front (c ∷ c ∷ []) (c ∷ []))) ∙ sym (append_assoc front (c ∷ []) (c ∷ [])))
+three_none_behind text one c is none front e = none (front ++ c ∷ []) (last_same one ((front ++ c ∷ []) ++ c ∷ []) c (sym is ∙ e ∙ three_split front c))
 
 -- ---- the first character of a text
 
@@ -112,10 +108,6 @@ escape_ends c cs =
     let end = after_run is_ascii_hexdigit digits in
     then_ends cs brace (drop 1 end) (run_is_end is_x cs) (then_ends brace digits (drop 1 end) (one_less brace) (then_ends digits end (drop 1 end) (run_is_end is_ascii_hexdigit digits) (one_less end)))
 
-pub drop_front : (front rest : List ℕ) → drop (length front) (front ++ rest) ≡ rest
-drop_front [] rest = refl
-drop_front (c ∷ cs) rest = drop_front cs rest
-
 text_skip : (n : ℕ) (cs : List ℕ) → text_after n cs ≡ text_after 0 (drop n cs)
 text_skip zero cs = refl
 text_skip (suc n) [] = refl
@@ -125,7 +117,7 @@ behind_escape : (c : ℕ) (cs : List ℕ) → text_after (length cs - length (af
 behind_escape c cs =
     let ends = escape_ends c cs in
     let n : length cs - length (after_escape (c ∷ cs)) ≡ length ends.0 = omega (arith, ap length ends.1, length-append ends.0 (after_escape (c ∷ cs))) in
-    text_skip (length cs - length (after_escape (c ∷ cs))) cs ∙ ap (λ k. text_after 0 (drop k cs)) n ∙ ap (λ l. text_after 0 (drop (length ends.0) l)) (sym ends.1) ∙ ap (text_after 0) (drop_front ends.0 (after_escape (c ∷ cs)))
+    text_skip (length cs - length (after_escape (c ∷ cs))) cs ∙ ap (λ k. text_after 0 (drop k cs)) n ∙ ap (λ l. text_after 0 (drop (length ends.0) l)) (sym ends.1) ∙ ap (text_after 0) (drop-append_seam ends.0 (after_escape (c ∷ cs)))
 
 -- an escape
 pub escape_stands : (text : List ℕ) (c : ℕ) (rest : List ℕ) → escape_front text ≡ true → c ≡ escaped_char text → rest ≡ after_escape text → StandsFor text c rest

@@ -1,10 +1,10 @@
 -- The tokens of a written literal read back to its text.
 use Rattle.std.proofs.lemmas.Bool.Decides.{nat_tests}
-use Rattle.std.proofs.Common.{◌≡◌, ℕ, ◌-◌, true, false, cond, List, [], ◌∷◌, ◌++◌, length, take, refl, sym, ap, ◌∙◌, subst, arith, length-append, append_assoc, ⊎_elim, eqb-true}
-use Rattle.std.specs.Prelude.{not, codes, ◌==◌}
+use Rattle.std.proofs.Common.{◌≡◌, ℕ, ◌-◌, true, false, List, [], ◌∷◌, ◌++◌, length, take, refl, sym, ap, ◌∙◌, subst, arith, length-append, append_assoc, ⊎_elim, eqb-true, inl, inr}
+use Rattle.std.specs.Prelude.{codes, ◌==◌}
 use Rattle.std.specs.List.{flat_map, onto_first, AllByRecursion}
 use Rattle.std.proofs.Math.Seq.{take-append_seam}
-use Rattle.rn_text.proofs.Quoting.WrittenLiterals.{shape}
+use Rattle.rn_text.proofs.Quoting.WrittenLiterals.{segments_apart, segments_joined, shape}
 use Rattle.std.specs.Char.{is_ascii_hexdigit}
 use Rattle.std.specs.Str.Parse.{digits_value}
 use Rattle.std.proofs.lemmas.Bool.{cases_Bool, cond-false, and_left, and_right}
@@ -13,37 +13,14 @@ use Rattle.rn_text.specs.Segments.{segment_text, text_after, opens_threefold, is
 use Rattle.rn_text.specs.Literals.{are_parted, segments, written, delimiter_for, quoted, literal_of}
 
 -- small cases, by computing
-check_row_quote : segment_text (codes "'\\xx{41}'") ≡ codes "A"
+segment_cases : (segment_text (codes "'\\xx{41}'") ≡ codes "A") × (segment_text (codes "\"\"\"a\"b" ++ 10 ∷ codes "c\"\"\"") ≡ codes "a\"b" ++ 10 ∷ codes "c")
+    × (is_segment (codes "\"\\x{0}\"") ≡ false) × (is_segment (codes "\"\\x{22}\"") ≡ false) × (is_segment (codes "'\\x{22}'") ≡ true)
 unfolding is_xml_char
-check_row_quote = refl
+segment_cases = (refl, refl, refl, refl, refl)
 
-check_literal_backslash : literal_of (codes "a\\xx") ≡ codes "\"a\\\" ~ \"xx\""
+literal_cases : (literal_of (codes "a\\xx") ≡ codes "\"a\\\" ~ \"xx\"") × (literal_of (codes "\"\"a") ≡ codes "'\"\"' ~ \"a\"") × (literal_of [] ≡ codes "\"\"")
 unfolding literal_of
-check_literal_backslash = refl
-
-check_literal_quotes : literal_of (codes "\"\"a") ≡ codes "'\"\"' ~ \"a\""
-unfolding literal_of
-check_literal_quotes = refl
-
-check_literal_empty : literal_of [] ≡ codes "\"\""
-unfolding literal_of
-check_literal_empty = refl
-
-check_zero_escape : is_segment (codes "\"\\x{0}\"") ≡ false
-unfolding is_xml_char
-check_zero_escape = refl
-
-check_own_delimiter : is_segment (codes "\"\\x{22}\"") ≡ false
-unfolding is_xml_char
-check_own_delimiter = refl
-
-check_other_delimiter : is_segment (codes "'\\x{22}'") ≡ true
-unfolding is_xml_char
-check_other_delimiter = refl
-
-check_threefold : segment_text (codes "\"\"\"a\"b" ++ 10 ∷ codes "c\"\"\"") ≡ codes "a\"b" ++ 10 ∷ codes "c"
-unfolding is_xml_char
-check_threefold = refl
+literal_cases = (refl, refl, refl)
 
 -- no neighbours are parted
 abbrev pub Together : List ℕ → Type 0
@@ -66,31 +43,29 @@ escape_read digit rest h1 = grind (arith, nat_tests)
 pub later : (c : ℕ) (ds : List ℕ) → Together (c ∷ ds) → Together ds
 later c ds h1 = grind (arith, nat_tests)
 
+-- a character of a segment begins no escape, and reads as itself
+plain_front : (c : ℕ) (ds : List ℕ) → Together (c ∷ ds) → escape_front (c ∷ flat_map written ds) ≡ false
+plain_front c ds h1 = grind (arith, nat_tests, not_x)
+
+abbrev ReadsBack : List ℕ → ℕ → Type 0
+ReadsBack rest c = text_after 0 (written c ++ rest) ≡ c ∷ text_after 0 rest
+
+written_back : (c : ℕ) (rest : List ℕ) → escape_front (c ∷ rest) ≡ false → ReadsBack rest c
+written_back c rest e = elim (cases_Bool (c == 9)) [
+  | inl tab ↦ subst (ReadsBack rest) (sym (eqb-true c 9 tab)) (escape_read 57 rest refl)
+  | inr no_tab ↦ elim (cases_Bool (c == 10)) [
+    | inl feed ↦ subst (ReadsBack rest) (sym (eqb-true c 10 feed)) (escape_read 65 rest refl)
+    | inr no_feed ↦ elim (cases_Bool (c == 13)) [
+      | inl return ↦ subst (ReadsBack rest) (sym (eqb-true c 13 return)) (escape_read 68 rest refl)
+      | inr plain ↦ ap (λ l. text_after 0 (l ++ rest)) (plain_written c no_tab no_feed plain) ∙ cond-false _ _ _ e ∙ cond-false _ _ _ plain
+    ]
+  ]
+]
+
 -- what is written for a segment reads as the segment
 pub text_back : (cs : List ℕ) → Together cs → text_after 0 (flat_map written cs) ≡ cs
 text_back [] t = refl
-text_back (c ∷ cs) t = let ih = text_back cs (later c cs t) in ⊎_elim
-    (λ tab. ap (λ x. text_after 0 (written x ++ flat_map written cs)) (eqb-true c 9 tab) ∙ escape_read 57 (flat_map written cs) refl ∙ ap (λ l. 9 ∷ l) ih ∙ ap (λ x. x ∷ cs) (sym (eqb-true c 9 tab)))
-    (λ no_tab. ⊎_elim
-    (λ feed. ap (λ x. text_after 0 (written x ++ flat_map written cs)) (eqb-true c 10 feed) ∙ escape_read 65 (flat_map written cs) refl ∙ ap (λ l. 10 ∷ l) ih ∙ ap (λ x. x ∷ cs) (sym (eqb-true c 10 feed)))
-    (λ no_feed. ⊎_elim
-    (λ return. ap (λ x. text_after 0 (written x ++ flat_map written cs)) (eqb-true c 13 return) ∙ escape_read 68 (flat_map written cs) refl ∙ ap (λ l. 13 ∷ l) ih ∙ ap (λ x. x ∷ cs) (sym (eqb-true c 13 return)))
-    (λ no_return. ap (λ l. text_after 0 (l ++ flat_map written cs)) (plain_written c no_tab no_feed no_return)
-    ∙ cond-false _ _ _ (no_escape cs t) ∙ cond-false _ _ _ no_return ∙ ap (λ l. c ∷ l) ih)
-    (cases_Bool (c == 13)))
-    (cases_Bool (c == 10)))
-    (cases_Bool (c == 9))
-  where
-    no_escape : (ds : List ℕ) → Together (c ∷ ds) → escape_front (c ∷ flat_map written ds) ≡ false
-    no_escape [] h = and_left _ _ (and_right _ _ refl)
-    no_escape (d ∷ ds) h = ⊎_elim
-        (λ slash. ⊎_elim
-        (λ x. let parted : are_parted c d ≡ true = ap (λ y. are_parted y d) (eqb-true c 92 slash) ∙ ap (are_parted 92) (eqb-true d 120 x) in
-        let no : true ≡ false = sym parted ∙ h.0 in cc)
-        (λ no_x. and_left _ _ (and_right _ _ (not_x d (flat_map written ds) no_x)))
-        (cases_Bool (d == 120)))
-        (λ no_slash. and_left _ _ (and_left _ _ no_slash))
-        (cases_Bool (c == 92))
+text_back (c ∷ cs) t = written_back c (flat_map written cs) (plain_front c cs t) ∙ ap (λ l. c ∷ l) (text_back cs (later c cs t))
 
 -- a written character doesn't begin with its segment's delimiter
 pub no_delimiter : (c : ℕ) (rest : List ℕ) → begins_with (λ e. e == delimiter_for c) (written c ++ rest) ≡ false
@@ -111,25 +86,17 @@ quoted_text (c ∷ cs) t =
 pub segments_together : (cs : List ℕ) → AllByRecursion Together (segments cs)
 segments_together [] = tt
 segments_together (c ∷ []) = (tt, tt)
-segments_together (c ∷ d ∷ cs) =
-    let next = shape d cs in
-    let ih = segments_together (d ∷ cs) in
-    let there : AllByRecursion Together ((d ∷ next.first) ∷ next.more) = subst (AllByRecursion Together) next.is ih in
-    ⊎_elim
-    (λ parted. subst (AllByRecursion Together) (sym (ap (λ b. cond (not b) (onto_first c (segments (d ∷ cs))) ((c ∷ []) ∷ segments (d ∷ cs))) parted)) (tt, ih))
-    (λ together. subst (AllByRecursion Together) (sym (ap (λ b. cond (not b) (onto_first c (segments (d ∷ cs))) ((c ∷ []) ∷ segments (d ∷ cs))) together ∙ ap (onto_first c) next.is))
-    ((together, there.0), there.1))
+segments_together (c ∷ d ∷ cs) = let next = shape d cs in let ih = segments_together (d ∷ cs) in ⊎_elim
+    (λ parted. subst (AllByRecursion Together) (sym (segments_apart c d cs parted)) (tt, ih))
+    (λ together. let there = subst (AllByRecursion Together) next.is ih in
+    subst (AllByRecursion Together) (sym (segments_joined c d cs together ∙ ap (onto_first c) next.is)) ((together, there.0), there.1))
     (cases_Bool (are_parted c d))
 
 -- the segments of a text are the text
 pub segments_join : (cs : List ℕ) → flat_map (λ s. s) (segments cs) ≡ cs
 segments_join [] = refl
 segments_join (c ∷ []) = refl
-segments_join (c ∷ d ∷ cs) =
-    let next = shape d cs in
-    let ih = segments_join (d ∷ cs) in
-    ⊎_elim
-    (λ parted. ap (λ b. flat_map (λ s. s) (cond (not b) (onto_first c (segments (d ∷ cs))) ((c ∷ []) ∷ segments (d ∷ cs)))) parted ∙ ap (λ l. c ∷ l) ih)
-    (λ together. ap (λ b. flat_map (λ s. s) (cond (not b) (onto_first c (segments (d ∷ cs))) ((c ∷ []) ∷ segments (d ∷ cs)))) together
-    ∙ ap (λ l. flat_map (λ s. s) (onto_first c l)) next.is ∙ ap (λ l. c ∷ l) (sym (ap (flat_map (λ s. s)) next.is) ∙ ih))
+segments_join (c ∷ d ∷ cs) = let next = shape d cs in let ih = segments_join (d ∷ cs) in ⊎_elim
+    (λ parted. ap (flat_map (λ s. s)) (segments_apart c d cs parted) ∙ ap (λ l. c ∷ l) ih)
+    (λ together. ap (flat_map (λ s. s)) (segments_joined c d cs together ∙ ap (onto_first c) next.is) ∙ ap (λ l. c ∷ l) (sym (ap (flat_map (λ s. s)) next.is) ∙ ih))
     (cases_Bool (are_parted c d))

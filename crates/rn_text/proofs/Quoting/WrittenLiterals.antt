@@ -1,16 +1,12 @@
 -- A literal, written character by character.
 use Rattle.std.proofs.lemmas.Bool.Decides.{nat_tests}
-use Rattle.std.proofs.Common.{◌≡◌, ℕ, true, false, cond, List, [], ◌∷◌, ◌++◌, refl, sym, ap, ◌∙◌, subst, append_assoc, append-nil, ⊎_elim}
-use Rattle.std.specs.Prelude.{not, codes}
+use Rattle.std.proofs.Common.{◌≡◌, ℕ, true, false, cond, List, [], ◌∷◌, ◌++◌, refl, sym, ap, ◌∙◌, append_assoc, append-nil, ⊎_elim, length, length-append, arith, is_ok, lit<}
+use Rattle.std.specs.Prelude.{not, codes, encode_utf8, Result, OnOk}
 use Rattle.std.specs.List.{onto_first}
-use Rattle.std.specs.Prelude.{encode_utf8, Result, OnOk}
-use Rattle.std.specs.Str.{IsUtf8, IsCharBoundary}
-use Rattle.std.proofs.lemmas.Str.{IsCharBoundary-from_take}
+use Rattle.std.specs.Str.{IsUtf8, IsCharBoundary, chars, encode_utf8_all}
+use Rattle.std.proofs.lemmas.Str.{IsCharBoundary-from_take, encodes-append, encode_ascii}
 use Rattle.std.proofs.Math.Seq.{take-append_seam}
-use Rattle.std.proofs.Common.{length, take, length-append, arith, ◌+◌, is_ok, lit<}
-use Rattle.std.specs.Str.{chars, encode_utf8_all}
-use Rattle.std.proofs.lemmas.Str.{encodes-append, encode_ascii}
-use Rattle.std.proofs.lemmas.Bool.{cases_Bool, cond-true, cond-false}
+use Rattle.std.proofs.lemmas.Bool.{cases_Bool, cond-false}
 use Rattle.rn_text.specs.Literals.{are_parted, segments, written, delimiter_for, joined, literal_of, literal_bytes}
 use Rattle.rn_text.specs.inside.Writing.{between}
 
@@ -18,6 +14,13 @@ use Rattle.rn_text.specs.inside.Writing.{between}
 abbrev pub tail_of : ℕ → List ℕ → List ℕ
 tail_of c [] = delimiter_for c ∷ []
 tail_of c (d ∷ cs) = between c d ++ (written d ++ tail_of d cs)
+
+-- the next character begins a segment of its own, or goes on with this one
+pub segments_apart : (c d : ℕ) (cs : List ℕ) → are_parted c d ≡ true → segments (c ∷ d ∷ cs) ≡ (c ∷ []) ∷ segments (d ∷ cs)
+segments_apart c d cs e = ap (λ b. cond (not b) (onto_first c (segments (d ∷ cs))) ((c ∷ []) ∷ segments (d ∷ cs))) e
+
+pub segments_joined : (c d : ℕ) (cs : List ℕ) → are_parted c d ≡ false → segments (c ∷ d ∷ cs) ≡ onto_first c (segments (d ∷ cs))
+segments_joined c d cs e = ap (λ b. cond (not b) (onto_first c (segments (d ∷ cs))) ((c ∷ []) ∷ segments (d ∷ cs))) e
 
 -- the first segment begins with the first character
 pub record Shape (c : ℕ) (cs : List ℕ) : Type 0 where
@@ -27,11 +30,9 @@ pub record Shape (c : ℕ) (cs : List ℕ) : Type 0 where
 
 pub shape : (c : ℕ) (cs : List ℕ) → Shape c cs
 shape c [] = record { first = []; more = []; is = refl }
-shape c (d ∷ cs) =
-    let next = shape d cs in
-    ⊎_elim
-    (λ parted. record { first = []; more = segments (d ∷ cs); is = ap (λ b. cond (not b) (onto_first c (segments (d ∷ cs))) ((c ∷ []) ∷ segments (d ∷ cs))) parted })
-    (λ together. record { first = d ∷ next.first; more = next.more; is = ap (λ b. cond (not b) (onto_first c (segments (d ∷ cs))) ((c ∷ []) ∷ segments (d ∷ cs))) together ∙ ap (onto_first c) next.is })
+shape c (d ∷ cs) = let next = shape d cs in ⊎_elim
+    (λ parted. record { first = []; more = segments (d ∷ cs); is = segments_apart c d cs parted })
+    (λ together. record { first = d ∷ next.first; more = next.more; is = segments_joined c d cs together ∙ ap (onto_first c) next.is })
     (cases_Bool (are_parted c d))
 
 -- characters of one segment have one delimiter
@@ -50,20 +51,13 @@ literal_from c (d ∷ cs) =
     let next = shape d cs in
     let ih : joined ((d ∷ next.first) ∷ next.more) ≡ delimiter_for d ∷ (written d ++ tail_of d cs) = ap joined (sym next.is) ∙ literal_from d cs in
     ⊎_elim
-    (λ parted.
-    let cut : segments (c ∷ d ∷ cs) ≡ (c ∷ []) ∷ (d ∷ next.first) ∷ next.more = ap (λ b. cond (not b) (onto_first c (segments (d ∷ cs))) ((c ∷ []) ∷ segments (d ∷ cs))) parted ∙ ap (λ l. (c ∷ []) ∷ l) next.is in
-    let gap : between c d ≡ delimiter_for c ∷ (codes " ~ " ++ delimiter_for d ∷ []) = cond-true _ _ _ parted in
-    ap joined cut
-    ∙ ap (λ l. (delimiter_for c ∷ ((written c ++ []) ++ delimiter_for c ∷ [])) ++ (codes " ~ " ++ l)) ih
-    ∙ ap (λ l. delimiter_for c ∷ ((l ++ delimiter_for c ∷ []) ++ (codes " ~ " ++ (delimiter_for d ∷ (written d ++ tail_of d cs))))) (append-nil (written c))
-    ∙ ap (λ l. delimiter_for c ∷ l) (append_assoc (written c) (delimiter_for c ∷ []) (codes " ~ " ++ (delimiter_for d ∷ (written d ++ tail_of d cs))))
-    ∙ ap (λ g. delimiter_for c ∷ (written c ++ (g ++ (written d ++ tail_of d cs)))) (sym gap))
-    (λ together.
-    let cut : segments (c ∷ d ∷ cs) ≡ (c ∷ d ∷ next.first) ∷ next.more = ap (λ b. cond (not b) (onto_first c (segments (d ∷ cs))) ((c ∷ []) ∷ segments (d ∷ cs))) together ∙ ap (onto_first c) next.is in
-    let gap : between c d ≡ [] = cond-false _ _ _ together in
-    ap joined cut ∙ prepend c d next.first next.more (written d ++ tail_of d cs) (same_delimiter c d together) ih
-    ∙ ap (λ g. delimiter_for c ∷ (written c ++ (g ++ (written d ++ tail_of d cs)))) (sym gap))
+    (λ parted. ap joined (segments_apart c d cs parted ∙ ap (λ l. (c ∷ []) ∷ l) next.is) ∙ gap next.first next.more (written d ++ tail_of d cs) parted ih)
+    (λ together. ap joined (segments_joined c d cs together ∙ ap (onto_first c) next.is) ∙ prepend c d next.first next.more (written d ++ tail_of d cs) (same_delimiter c d together) ih
+    ∙ ap (λ g. delimiter_for c ∷ (written c ++ (g ++ (written d ++ tail_of d cs)))) (sym (cond-false _ _ _ together)))
     (cases_Bool (are_parted c d))
+  where
+    gap : (s : List ℕ) (ss : List (List ℕ)) (rest : List ℕ) → are_parted c d ≡ true → joined ((d ∷ s) ∷ ss) ≡ delimiter_for d ∷ rest → joined ((c ∷ []) ∷ (d ∷ s) ∷ ss) ≡ delimiter_for c ∷ (written c ++ (between c d ++ rest))
+    gap s ss rest h1 h2 = grind (arith, nat_tests, append_assoc, append-nil)
 
 -- bytes with a character's part of a literal behind them
 pub step_written : (out₁ out₂ out₃ target : List ℕ) (b w t : List ℕ) → out₂ ≡ out₁ ++ encode_utf8_all b → out₃ ≡ out₂ ++ encode_utf8_all w → out₁ ++ encode_utf8_all (b ++ (w ++ t)) ≡ target → out₃ ++ encode_utf8_all t ≡ target
@@ -111,17 +105,8 @@ tilde_bytes l = grind (arith, nat_tests, encode_ascii)
 -- the end of a segment and the start of another
 pub parted_written : (old out₁ out₂ : List ℕ) (c d : ℕ) → are_parted c d ≡ true → out₁ ≡ old ++ encode_utf8 (delimiter_for c) → out₂ ≡ out₁ ++ codes " ~ "
     → out₂ ++ encode_utf8 (delimiter_for d) ≡ old ++ encode_utf8_all (between c d)
-parted_written old out₁ out₂ c d parted e₁ e₂ =
-    let x = encode_utf8 (delimiter_for c) in
-    let y = encode_utf8 (delimiter_for d) in
-    let gap : between c d ≡ delimiter_for c ∷ (codes " ~ " ++ delimiter_for d ∷ []) = cond-true _ _ _ parted in
-    ap (λ l. l ++ y) (e₂ ∙ ap (λ l. l ++ codes " ~ ") e₁) ∙ append_assoc (old ++ x) (codes " ~ ") y ∙ append_assoc old x (codes " ~ " ++ y)
-    ∙ ap (λ l. old ++ (x ++ (codes " ~ " ++ l))) (sym (append-nil y)) ∙ ap (λ l. old ++ (x ++ l)) (sym (tilde_bytes (delimiter_for d ∷ [])))
-    ∙ ap (λ l. old ++ encode_utf8_all l) (sym gap)
+parted_written old out₁ out₂ c d h1 h2 h3 = grind (arith, nat_tests, append_assoc, append-nil, encode_ascii, tilde_bytes (delimiter_for d ∷ []))
 
 -- a text may be cut where a text ends that it begins with
 pub cut_behind : (old new more : List ℕ) (n : ℕ) → IsUtf8 old → IsUtf8 new → new ≡ old ++ more → n ≡ length old → IsCharBoundary new n
-cut_behind old new more n o u e at =
-    let longer : length new ≡ length old + length more = ap length e ∙ length-append old more in
-    let front : take n new ≡ old = ap (λ k. take k new) at ∙ ap (take (length old)) e ∙ take-append_seam old more in
-    IsCharBoundary-from_take new n u (omega arith) (subst IsUtf8 (sym front) o)
+cut_behind old new more n o u e at = grind (arith, nat_tests, length-append, take-append_seam, IsCharBoundary-from_take)

@@ -4,7 +4,8 @@ use Rattle.std.proofs.Common.{◌≡◌, ℕ, ◌+◌, ◌-◌, ◌<◌, ◌≤�
 use Rattle.std.specs.Prelude.{◌&&◌, encode_utf8}
 use Rattle.std.specs.List.{list_all, AllByRecursion}
 use Rattle.std.specs.Str.{IsUtf8, chars, encode_utf8_all, all_scalars}
-use Rattle.std.proofs.Math.Seq.{take-append_seam}
+use Rattle.std.proofs.Math.Seq.{take-append_seam, drop-append_seam}
+use Rattle.std.proofs.lemmas.List.Folds.{list_all-append}
 use Rattle.std.proofs.lemmas.Bool.{and_parts, and_from, lt-ltb}
 use Rattle.std.proofs.lemmas.Str.{chars-encodes, encodes-chars, encodes-append, len_utf8_bounds, length-encode}
 use Rattle.rn_text.specs.declared.parts.Part.{Part}
@@ -13,8 +14,7 @@ use Rattle.rn_text.specs.Characters.{is_xml_char}
 use Rattle.rn_text.specs.Parts.{Piece, IsCut, IsSpelled, spells}
 use Rattle.rn_text.specs.Tokens.{Lexeme, HasTokens, StandInOrder, unmarked, lexeme_at, lexemes, width}
 use Rattle.rn_text.proofs.Cutting.Cuts.{mark_front, no_empty_part}
-use Rattle.rn_text.proofs.Quoting.SegmentContents.{drop_front}
-use Rattle.rn_text.proofs.Cutting.SpelledTokens.{spelled_is}
+use Rattle.rn_text.proofs.Cutting.BeforeBreaks.{spelled_is}
 
 scalar_of : (c : ℕ) → is_xml_char c ≡ true → cond (ltb c 55296) true (leb 57344 c && ltb c 1114112) ≡ true
 unfolding is_xml_char
@@ -25,8 +25,7 @@ xml_scalars [] e = refl
 xml_scalars (c ∷ cs) e = let both = and_parts (is_xml_char c) (list_all is_xml_char cs) e in and_from (cond (ltb c 55296) true (leb 57344 c && ltb c 1114112)) (all_scalars cs) (scalar_of c both.0) (xml_scalars cs both.1)
 
 pub all_parts : (p : ℕ → Bool) (xs ys : List ℕ) → list_all p (xs ++ ys) ≡ true → (list_all p xs ≡ true) × (list_all p ys ≡ true)
-all_parts p [] ys e = (refl, e)
-all_parts p (x ∷ xs) ys e = let both = and_parts (p x) (list_all p (xs ++ ys)) e in let more = all_parts p xs ys both.1 in (and_from (p x) (list_all p xs) both.0 more.0, more.1)
+all_parts p xs ys e = and_parts (list_all p xs) (list_all p ys) (sym (list_all-append p xs ys) ∙ e)
 
 -- the text behind a mark
 pub unmarked_xml : (cs : List ℕ) → list_all is_xml_char cs ≡ true → list_all is_xml_char (unmarked cs) ≡ true
@@ -38,14 +37,7 @@ SpelledAll ts = AllByRecursion (λ t. IsSpelled t.kind (chars t.text)) ts
 
 spelled_pieces : (text rest : List ℕ) (ps : List Piece) (place : ℕ) → IsCut text ps rest → list_all is_xml_char text ≡ true → SpelledAll (lexemes place ps)
 spelled_pieces text rest [] place cut xml = tt
-spelled_pieces text rest (p ∷ ps) place (after, first, more) xml =
-    let parts = all_parts is_xml_char p.spelling after (ap (list_all is_xml_char) first.begins.split ∙ xml) in
-    one_more p.part p.spelling (lexemes (place + width p) ps) first.begins.spelled (xml_scalars p.spelling parts.0) (spelled_pieces after rest ps (place + width p) more parts.1)
-  where
-    one_more : (part : Part) (s : List ℕ) (ts : List Lexeme) → spells part s ≡ true → all_scalars s ≡ true → SpelledAll ts → SpelledAll (lexeme_at place part (encode_utf8_all s) ++ ts)
-    one_more Space s ts e scalars all = all
-    one_more Comment s ts e scalars all = all
-    one_more (Token k) s ts e scalars all = (subst (IsSpelled k) (sym (chars-encodes s scalars)) (spelled_is k s e), all)
+spelled_pieces text rest (p ∷ ps) place (after, first, more) xml = grind (arith, nat_tests, all_parts, xml_scalars, chars-encodes, spelled_is, spelled_pieces after rest ps (place + width p))
 
 pub tokens_spelled : (cs : List ℕ) (ts : List Lexeme) → HasTokens cs ts → AllByRecursion (λ t. IsSpelled t.kind (chars t.text)) ts
 tokens_spelled cs ts h = subst SpelledAll (sym h.are) (spelled_pieces (unmarked cs) [] h.pieces _ h.cut (unmarked_xml cs h.xml))
@@ -75,7 +67,7 @@ in_order src before text (p ∷ ps) from (after, first, more) split at =
           at,
           omega (arith, some),
           omega (arith, size),
-          sym (ap (λ n. take n (drop (length before) src)) wide ∙ ap (λ l. take (length bytes) (drop (length before) l)) whole ∙ ap (take (length bytes)) (drop_front before (bytes ++ encode_utf8_all after)) ∙ take-append_seam bytes (encode_utf8_all after)),
+          sym (ap (λ n. take n (drop (length before) src)) wide ∙ ap (λ l. take (length bytes) (drop (length before) l)) whole ∙ ap (take (length bytes)) (drop-append_seam before (bytes ++ encode_utf8_all after)) ∙ take-append_seam bytes (encode_utf8_all after)),
           rest (length before + length bytes) (omega arith),
         )
 

@@ -6,6 +6,8 @@ use Rattle.std.proofs.lemmas.Bool.{and_parts}
 use Rattle.rn_text.specs.Characters.{is_xml_char}
 use Rattle.rn_text.specs.Parts.{IsFirstPart, Piece, IsCut}
 use Rattle.rn_text.specs.Tokens.{Lexeme, HasTokens, BeginsNoPart, IsLexicalPlace}
+use Rattle.rn_text.proofs.Words.Basics.{true_is_false}
+use Rattle.rn_text.proofs.TokenLists.CutLexemes.{all_parts}
 use Rattle.rn_text.proofs.TokenLists.OneTokenList.{none_first, one_first_part}
 
 nothing_more : (text : List ℕ) → text ≡ [] → 0 < length text → ⊥
@@ -27,11 +29,9 @@ same_stop text a b (p ∷ ps) (q ∷ qs) (c, first, cut) (d, other_first, other_
 
 -- a character that is none of XML
 not_xml : (front rest cs : List ℕ) (wrong : ℕ) → front ++ wrong ∷ rest ≡ cs → is_xml_char wrong ≡ false → list_all is_xml_char cs ≡ true → ⊥
-not_xml front rest cs wrong split no_char xml = go front (ap (list_all is_xml_char) split ∙ xml)
-  where
-    go : (f : List ℕ) → list_all is_xml_char (f ++ wrong ∷ rest) ≡ true → ⊥
-    go [] e = let h : true ≡ false = sym (and_parts (is_xml_char wrong) (list_all is_xml_char rest) e).0 ∙ no_char in cc
-    go (x ∷ xs) e = go xs (and_parts (is_xml_char x) (list_all is_xml_char (xs ++ wrong ∷ rest)) e).1
+not_xml front rest cs wrong split no_char xml =
+    let both = all_parts is_xml_char front (wrong ∷ rest) (ap (list_all is_xml_char) split ∙ xml) in
+    true_is_false (is_xml_char wrong) (and_parts (is_xml_char wrong) (list_all is_xml_char rest) both.1).0 no_char
 
 -- the first of them
 same_wrong : (f g a b : List ℕ) (x y : ℕ) → f ++ x ∷ a ≡ g ++ y ∷ b → list_all is_xml_char f ≡ true → list_all is_xml_char g ≡ true → is_xml_char x ≡ false → is_xml_char y ≡ false → f ≡ g

@@ -1,6 +1,6 @@
 -- A text has one token list.
 use Rattle.std.proofs.lemmas.Bool.Decides.{nat_tests}
-use Rattle.std.proofs.Common.{◌≡◌, ℕ, true, false, cond, List, [], ◌∷◌, ◌++◌, length, drop, refl, sym, ap, ◌∙◌, subst, arith}
+use Rattle.std.proofs.Common.{◌≡◌, ℕ, Bool, true, false, cond, List, [], ◌∷◌, ◌++◌, length, drop, refl, sym, ap, ◌∙◌, subst, arith}
 use Rattle.std.specs.Prelude.{codes, not, ◌==◌, ◌&&◌}
 use Rattle.std.specs.Str.{bytes_eq}
 use Rattle.std.proofs.lemmas.Bool.{cond-true, cond-false, and_parts, not-true}
@@ -11,7 +11,7 @@ use Rattle.rn_text.specs.declared.parts.Kind.{Kind}
 use Rattle.rn_text.specs.declared.parts.Kind.TheVariants.{Name, Keyword, Quoted, Prefixed, AnyOf, Segment, Symbol}
 use Rattle.rn_text.specs.Characters.{is_name_start, is_name_char, is_ncname, is_keyword}
 use Rattle.rn_text.specs.Segments.{is_empty, after_run, run_of, begins_with}
-use Rattle.rn_text.specs.Parts.{IsFirstPart, spells, Piece, IsCut}
+use Rattle.rn_text.specs.Parts.{IsFirstPart, spells, is_prefixed, Piece, IsCut}
 use Rattle.rn_text.specs.Tokens.{Lexeme, HasTokens, lexemes, unmarked, unmarked_start}
 use Rattle.rn_text.proofs.Words.Runs.{all_pass}
 use Rattle.rn_text.proofs.Cutting.Cuts.{no_empty_part}
@@ -54,6 +54,10 @@ ncname_start l h1 = grind (arith, nat_tests)
 more_after : (cs : List ℕ) → begins_with (λ d. d == 58) cs ≡ true → is_empty cs ≡ false
 more_after cs h1 = grind (arith, nat_tests)
 
+prefix_rest : (p : List ℕ → Bool) (f : List ℕ) → is_prefixed p f ≡ true → (is_empty (after_run is_name_char f) ≡ false) × (p (drop 1 (after_run is_name_char f)) ≡ true)
+prefix_rest p f e = let both = and_parts (is_ncname (run_of is_name_char f) && begins_with (λ d. d == 58) (after_run is_name_char f)) (p (drop 1 (after_run is_name_char f))) e in
+    (more_after (after_run is_name_char f) (and_parts (is_ncname (run_of is_name_char f)) _ both.0).1, both.1)
+
 -- characters spell one part at most
 spelled_part : (part : Part) (c : ℕ) (cs : List ℕ) → spells part (c ∷ cs) ≡ true → part ≡ part_by (class_of part) (c ∷ cs)
 spelled_part Space c cs e = refl
@@ -64,16 +68,12 @@ spelled_part (Token Name) c cs e =
 spelled_part (Token Keyword) c cs e = ap Token (sym (cond-true _ _ _ (whole_name (c ∷ cs) (keyword_is_name (c ∷ cs) e)) ∙ cond-true _ _ _ e))
 spelled_part (Token Quoted) c cs e = refl
 spelled_part (Token Prefixed) c cs e =
-    let rest = after_run is_name_char (c ∷ cs) in
-    let outer = and_parts (is_ncname (run_of is_name_char (c ∷ cs)) && begins_with (λ d. d == 58) rest) (is_ncname (drop 1 rest)) e in
-    let inner = and_parts (is_ncname (run_of is_name_char (c ∷ cs))) (begins_with (λ d. d == 58) rest) outer.0 in
-    ap Token (sym (cond-false _ _ _ (more_after rest inner.1) ∙ cond-true _ _ _ (ncname_start (drop 1 rest) outer.1)))
+    let h = prefix_rest is_ncname (c ∷ cs) e in
+    ap Token (sym (cond-false _ _ _ h.0 ∙ cond-true _ _ _ (ncname_start (drop 1 (after_run is_name_char (c ∷ cs))) h.1)))
 spelled_part (Token AnyOf) c cs e =
-    let rest = after_run is_name_char (c ∷ cs) in
-    let outer = and_parts (is_ncname (run_of is_name_char (c ∷ cs)) && begins_with (λ d. d == 58) rest) (bytes_eq (codes "*") (drop 1 rest)) e in
-    let inner = and_parts (is_ncname (run_of is_name_char (c ∷ cs))) (begins_with (λ d. d == 58) rest) outer.0 in
-    let star : drop 1 rest ≡ 42 ∷ [] = sym ((bytes_eq-Decides (codes "*") (drop 1 rest)).0 outer.1) in
-    ap Token (sym (cond-false _ _ _ (more_after rest inner.1) ∙ cond-false _ _ _ (ap (begins_with is_name_start) star ∙ star_starts_none)))
+    let h = prefix_rest (bytes_eq (codes "*")) (c ∷ cs) e in
+    let star = sym ((bytes_eq-Decides (codes "*") (drop 1 (after_run is_name_char (c ∷ cs)))).0 h.1) in
+    ap Token (sym (cond-false _ _ _ h.0 ∙ cond-false _ _ _ (ap (begins_with is_name_start) star ∙ star_starts_none)))
 spelled_part (Token Segment) c cs e = refl
 spelled_part (Token Symbol) c cs e = refl
 

@@ -1,9 +1,9 @@
 -- A source has tokens or a fault: each can be looked for.
 use Rattle.std.proofs.lemmas.Bool.Decides.{nat_tests}
-use Rattle.std.proofs.Common.{◌≡◌, ◌≢◌, ℕ, zero, suc, ◌+◌, ◌<◌, ◌≤◌, ◌⊎◌, inl, inr, Bool, true, false, List, [], ◌∷◌, length, take, drop, refl, sym, ap, ◌∙◌, arith, length-append, length-take-le}
+use Rattle.std.proofs.Common.{◌≡◌, ◌≢◌, ℕ, zero, suc, ◌<◌, ◌≤◌, ◌⊎◌, inl, inr, Bool, true, false, List, [], ◌∷◌, length, take, drop, refl, sym, ap, ◌∙◌, subst, arith, length-append, length-take-le}
 use Rattle.std.specs.Prelude.{not, ◌&&◌, ◌||◌}
-use Rattle.std.specs.List.{list_all, list_any, flat_map}
-use Rattle.std.specs.Str.{IsUtf8, IsValidUpTo, is_utf8, chars, encode_utf8_all}
+use Rattle.std.specs.List.{list_all, list_any}
+use Rattle.std.specs.Str.{IsUtf8, IsValidUpTo, is_utf8, chars}
 use Rattle.std.proofs.Math.Seq.{take-append_seam}
 use Rattle.std.proofs.lemmas.Bool.{not-true, and_parts, and_from, cases_Bool, cases_lt, or_cases}
 use Rattle.std.proofs.lemmas.List.{take_all, take-append-drop}
@@ -14,10 +14,11 @@ use Rattle.rn_text.specs.declared.parts.Kind.TheVariants.{Name, Keyword, Quoted,
 use Rattle.rn_text.specs.declared.source.TextFault.{TextFault}
 use Rattle.rn_text.specs.declared.source.TextFault.TheVariants.{Encoding, Lexical, Memory}
 use Rattle.rn_text.specs.Characters.{is_xml_char}
-use Rattle.rn_text.specs.Segments.{opens_threefold, escape_front}
+use Rattle.rn_text.specs.Segments.{is_empty, after_run, opens_threefold, escape_front}
 use Rattle.rn_text.specs.Parts.{spells, BeginsWith, IsFirstPart, Piece, IsCut}
-use Rattle.rn_text.specs.Tokens.{Lexeme, HasTokens, LeavesXmlAt, BeginsNoPart, IsLexicalPlace, HasFault, lexemes, unmarked, unmarked_start}
-use Rattle.rn_text.proofs.Cutting.Cuts.{part_shortens}
+use Rattle.rn_text.specs.Tokens.{Lexeme, HasTokens, BeginsNoPart, IsLexicalPlace, HasFault, lexemes, unmarked, unmarked_start}
+use Rattle.rn_text.proofs.Words.Runs.{all_pass}
+use Rattle.rn_text.proofs.Cutting.Cuts.{part_shortens, leaves_at}
 use Rattle.rn_text.proofs.TokenLists.OneFaultPlace.{list_or_place, one_place}
 use Rattle.rn_text.proofs.Words.Basics.{true_is_false}
 
@@ -28,25 +29,22 @@ record Greatest (p : ℕ → Bool) (n : ℕ) : Type 0 where
   passes : p at ≡ true
   last : (m : ℕ) → at < m → m ≤ n → p m ≡ false
 
-abbrev NonePasses : (ℕ → Bool) → ℕ → Type 0
-NonePasses p n = (m : ℕ) → m ≤ n → p m ≡ false
+same_or_above : (p : ℕ → Bool) (m k : ℕ) → p m ≡ false → m ≤ k → (m < k → p k ≡ false) → p k ≡ false
+same_or_above p m k e le above = elim (cases_lt m k) [ inl over ↦ above over | inr under ↦ let same : k ≡ m = omega (arith, le, under) in ap p same ∙ e ]
 
-greatest : (p : ℕ → Bool) (n : ℕ) → Greatest p n ⊎ NonePasses p n
-greatest p zero = elim (cases_Bool (p 0)) [
-  | inl e ↦ inl (record { at = 0; within = omega arith; passes = e; last = λ m above below. absurd (omega (arith, above, below)) })
-  | inr e ↦ inr (λ m below. let z : m ≡ 0 = omega (arith, below) in ap p z ∙ e)
+-- looked for from m down, above which none passes
+greatest : (p : ℕ → Bool) (n m : ℕ) → m ≤ n → ((k : ℕ) → m < k → k ≤ n → p k ≡ false) → Greatest p n ⊎ ((k : ℕ) → k ≤ n → p k ≡ false)
+greatest p n zero le above = elim (cases_Bool (p 0)) [
+  | inl e ↦ inl (record { at = 0; within = le; passes = e; last = above })
+  | inr e ↦ inr (λ k within. same_or_above p 0 k e (omega arith) (λ over. above k over within))
 ]
-greatest p (suc n) = elim (cases_Bool (p (suc n))) [
-  | inl e ↦ inl (record { at = suc n; within = omega arith; passes = e; last = λ m above below. absurd (omega (arith, above, below)) })
-  | inr e ↦ higher p n e (greatest p n)
+greatest p n (suc m) le above = elim (cases_Bool (p (suc m))) [
+  | inl e ↦ inl (record { at = suc m; within = le; passes = e; last = above })
+  | inr e ↦ greatest p n m (omega (arith, le)) (λ k over within. same_or_above p (suc m) k e (omega (arith, over)) (λ more. above k more within))
 ]
-  where
-    up : (p : ℕ → Bool) (n m : ℕ) → p (suc n) ≡ false → m ≤ suc n → (m ≤ n → p m ≡ false) → p m ≡ false
-    up p n m e le below = elim (cases_lt n m) [ inl above ↦ let same : m ≡ suc n = omega (arith, above, le) in ap p same ∙ e | inr under ↦ below under ]
 
-    higher : (p : ℕ → Bool) (n : ℕ) → p (suc n) ≡ false → Greatest p n ⊎ NonePasses p n → Greatest p (suc n) ⊎ NonePasses p (suc n)
-    higher p n e (inl g) = inl (record { at = g.at; within = omega (arith, g.within); passes = g.passes; last = λ m above le. up p n m e le (λ below. g.last m above below) })
-    higher p n e (inr none) = inr (λ m le. up p n m e le (λ below. none m below))
+greatest_of : (p : ℕ → Bool) (n : ℕ) → Greatest p n ⊎ ((k : ℕ) → k ≤ n → p k ≡ false)
+greatest_of p n = greatest p n n (omega arith) (λ k over within. absurd (omega (arith, over, within)))
 
 -- ---- parts
 
@@ -87,127 +85,67 @@ starts_by text p front after b =
 front_within : (text : List ℕ) (p : Part) (front after : List ℕ) → BeginsWith text p front after → length front ≤ length text
 front_within text p front after b = omega (arith, ap length b.split, length-append front after)
 
-record FirstOf (text : List ℕ) : Type 0 where
-  part : Part
-  front : List ℕ
-  after : List ℕ
-  is : IsFirstPart text part front after
-
-first_by : (text : List ℕ) → Greatest (starts text) (length text) → FirstOf text
-first_by text g =
-    let b = begins_by text g.at g.passes in
-    let wide : length (take g.at text) ≡ g.at = length-take-le g.at text g.within in
-    record {
-      part = b.0;
-      front = take g.at text;
-      after = drop g.at text;
-      is = record {
-        begins = b.1;
-        longest = λ other longer rest c. elim (cases_lt g.at (length longer)) [
-          | inl above ↦ absurd (true_is_false _ (starts_by text other longer rest c) (g.last (length longer) above (front_within text other longer rest c)))
-          | inr under ↦ omega (arith, under, wide)
-        ];
-      };
-    }
+abbrev FirstOf : List ℕ → Type 0
+FirstOf text = (part : Part) × (front : List ℕ) × (after : List ℕ) × IsFirstPart text part front after
 
 first_or_none : (text : List ℕ) → FirstOf text ⊎ BeginsNoPart text
-first_or_none text = elim (greatest (starts text) (length text)) [
-  | inl g ↦ inl (first_by text g)
+first_or_none text = elim (greatest_of (starts text) (length text)) [
+  | inl g ↦ inl (first g)
   | inr none ↦ inr (λ p front after b. true_is_false _ (starts_by text p front after b) (none (length front) (front_within text p front after b)))
 ]
+  where
+    first : Greatest (starts text) (length text) → FirstOf text
+    first g =
+        let b = begins_by text g.at g.passes in
+        let wide : length (take g.at text) ≡ g.at = length-take-le g.at text g.within in
+        let no_longer : (p : Part) (f a : List ℕ) → BeginsWith text p f a → length f ≤ length (take g.at text) = λ p f a c. elim (cases_lt g.at (length f)) [
+          | inl above ↦ absurd (true_is_false _ (starts_by text p f a c) (g.last (length f) above (front_within text p f a c)))
+          | inr under ↦ omega (arith, under, wide)
+        ] in
+        (b.0, take g.at text, drop g.at text, record { begins = b.1; longest = no_longer })
 
 -- the text is cut to its end, or to where no part begins
-record StuckCut (text : List ℕ) : Type 0 where
-  pieces : List Piece
-  rest : List ℕ
-  cut : IsCut text pieces rest
-  more : 0 < length rest
-  stuck : BeginsNoPart rest
-
 abbrev CutTold : List ℕ → Type 0
-CutTold text = ((ps : List Piece) × IsCut text ps []) ⊎ StuckCut text
-
-cut_after : (text : List ℕ) (f : FirstOf text) → CutTold f.after → CutTold text
-cut_after text f (inl c) = inl (record { part = f.part; spelling = f.front } ∷ c.0, (f.after, f.is, c.1))
-cut_after text f (inr s) = inr (record { pieces = record { part = f.part; spelling = f.front } ∷ s.pieces; rest = s.rest; cut = (f.after, f.is, s.cut); more = s.more; stuck = s.stuck })
+CutTold text = (pieces : List Piece) × (rest : List ℕ) × IsCut text pieces rest × ((rest ≡ []) ⊎ ((0 < length rest) × BeginsNoPart rest))
 
 cut_told : (n : ℕ) (text : List ℕ) → length text ≤ n → CutTold text
-cut_told n [] h = inl ([], refl)
+cut_told n [] h = ([], [], refl, inl refl)
 cut_told zero (c ∷ cs) h = absurd (omega (arith, h))
 cut_told (suc n) (c ∷ cs) h = elim (first_or_none (c ∷ cs)) [
-  | inl f ↦ cut_after (c ∷ cs) f (cut_told n f.after (omega (arith, h, part_shortens (c ∷ cs) f.part f.front f.after f.is.begins)))
-  | inr none ↦ inr (record { pieces = []; rest = c ∷ cs; cut = refl; more = omega arith; stuck = none })
+  | inl f ↦ let more = cut_told n f.2 (omega (arith, h, part_shortens (c ∷ cs) f.0 f.1 f.2 f.3.begins)) in (record { part = f.0; spelling = f.1 } ∷ more.0, more.1, (f.2, f.3, more.2), more.3)
+  | inr none ↦ ([], c ∷ cs, refl, inr (omega arith, none))
 ]
 
--- ---- characters
-
-abbrev XmlTold : List ℕ → Type 0
-XmlTold cs = (list_all is_xml_char cs ≡ true) ⊎ ((place : ℕ) × LeavesXmlAt cs place)
-
-xml_after : (c : ℕ) (cs : List ℕ) → is_xml_char c ≡ true → XmlTold cs → XmlTold (c ∷ cs)
-xml_after c cs e (inl all) = inl (and_from _ _ e all)
-xml_after c cs e (inr l) = inr (
-  length (encode_utf8_all (c ∷ l.1.front)),
-  record {
-    front = c ∷ l.1.front;
-    wrong = l.1.wrong;
-    rest = l.1.rest;
-    split = ap (λ t. c ∷ t) l.1.split;
-    front_is_xml = and_from _ _ e l.1.front_is_xml;
-    wrong_is_not = l.1.wrong_is_not;
-    is = refl;
-  },
-)
-
-xml_told : (cs : List ℕ) → XmlTold cs
-xml_told [] = inl refl
-xml_told (c ∷ cs) = elim (cases_Bool (is_xml_char c)) [
-  | inl e ↦ xml_after c cs e (xml_told cs)
-  | inr e ↦ inr (0, record { front = []; wrong = c; rest = cs; split = refl; front_is_xml = refl; wrong_is_not = e; is = refl })
-]
-
-abbrev TokensTold : List ℕ → Type 0
+abbrev pub TokensTold : List ℕ → Type 0
 TokensTold cs = ((tokens : List Lexeme) × HasTokens cs tokens) ⊎ ((place : ℕ) × IsLexicalPlace cs place)
 
 tokens_by : (cs : List ℕ) → list_all is_xml_char cs ≡ true → CutTold (unmarked cs) → TokensTold cs
-tokens_by cs xml (inl c) = inl (lexemes (unmarked_start cs) c.0, record { xml = xml; pieces = c.0; cut = c.1; are = refl })
-tokens_by cs xml (inr s) = inr (unmarked_start cs + length (encode_utf8_all (flat_map (λ p. p.spelling) s.pieces)), inr (record { xml = xml; pieces = s.pieces; rest = s.rest; cut = s.cut; more = s.more; stuck = s.stuck; is = refl }))
+tokens_by cs xml (ps, rest, cut, inl end) = inl (lexemes (unmarked_start cs) ps, record { xml = xml; pieces = ps; cut = subst (IsCut (unmarked cs) ps) end cut; are = refl })
+tokens_by cs xml (ps, rest, cut, inr h) = inr (_, inr (record { xml = xml; pieces = ps; rest = rest; cut = cut; more = h.0; stuck = h.1; is = refl }))
 
-pub tokens_or_place : (cs : List ℕ) → ((tokens : List Lexeme) × HasTokens cs tokens) ⊎ ((place : ℕ) × IsLexicalPlace cs place)
-tokens_or_place cs = elim (xml_told cs) [
-  | inl xml ↦ tokens_by cs xml (cut_told (length (unmarked cs)) (unmarked cs) (omega arith))
-  | inr l ↦ inr (l.0, inl l.1)
-]
+pub tokens_or_place : (cs : List ℕ) → TokensTold cs
+tokens_or_place cs = by (after_run is_xml_char cs) refl
+  where
+    by : (wrong : List ℕ) → after_run is_xml_char cs ≡ wrong → TokensTold cs
+    by [] e = tokens_by cs (sym (all_pass is_xml_char cs) ∙ ap is_empty e) (cut_told (length (unmarked cs)) (unmarked cs) (omega arith))
+    by (c ∷ ds) e = inr (_, inl (leaves_at cs c ds e))
 
 -- ---- bytes
 
-whole : (src : List ℕ) (m : ℕ) → length src ≤ m → take m src ≡ src
-whole src m h = take_all m src h
-
 not_whole : (src : List ℕ) (m : ℕ) → is_utf8 src ≡ false → is_utf8 (take m src) ≡ true → m < length src
-not_whole src m e passes = elim (cases_lt m (length src)) [ inl short ↦ short | inr over ↦ absurd (true_is_false _ passes (ap is_utf8 (whole src m over) ∙ e)) ]
-
-valid_front : (src : List ℕ) → is_utf8 src ≡ false → Greatest (λ n. is_utf8 (take n src)) (length src) → (place : ℕ) × IsValidUpTo src place
-valid_front src e g = (
-  g.at,
-  record {
-    short = not_whole src g.at e g.passes;
-    front = IsUtf8-from_is_utf8 (take g.at src) g.passes;
-    longest = λ m above u. let passes = is_utf8-from_IsUtf8 (take m src) u in true_is_false _ passes (g.last m above (omega (arith, not_whole src m e passes)));
-  },
-)
+not_whole src m e passes = elim (cases_lt m (length src)) [ inl short ↦ short | inr over ↦ absurd (true_is_false _ passes (ap is_utf8 (take_all m src over) ∙ e)) ]
 
 pub utf8_or_front : (src : List ℕ) → IsUtf8 src ⊎ ((¬ IsUtf8 src) × ((place : ℕ) × IsValidUpTo src place))
 utf8_or_front src = elim (cases_Bool (is_utf8 src)) [
   | inl e ↦ inl (IsUtf8-from_is_utf8 src e)
-  | inr e ↦ inr (
-    λ u. true_is_false _ (is_utf8-from_IsUtf8 src u) e,
-    elim (greatest (λ n. is_utf8 (take n src)) (length src)) [
-      | inl g ↦ valid_front src e g
-      | inr none ↦ absurd (true_is_false _ (is_utf8-from_IsUtf8 [] ([], (refl, refl))) (none 0 (omega arith)))
-    ],
-  )
+  | inr e ↦ inr (λ u. true_is_false _ (is_utf8-from_IsUtf8 src u) e, front e (greatest_of (λ n. is_utf8 (take n src)) (length src)))
 ]
+  where
+    front : is_utf8 src ≡ false → Greatest (λ n. is_utf8 (take n src)) (length src) ⊎ ((n : ℕ) → n ≤ length src → is_utf8 (take n src) ≡ false) → (place : ℕ) × IsValidUpTo src place
+    front e (inl g) =
+        let longest : (m : ℕ) → g.at < m → IsUtf8 (take m src) → ⊥ = λ m above u. let passes = is_utf8-from_IsUtf8 (take m src) u in true_is_false _ passes (g.last m above (omega (arith, not_whole src m e passes))) in
+        (g.at, record { short = not_whole src g.at e g.passes; front = IsUtf8-from_is_utf8 (take g.at src) g.passes; longest = longest })
+    front e (inr none) = absurd (true_is_false _ (is_utf8-from_IsUtf8 [] ([], (refl, refl))) (none 0 (omega arith)))
 
 pub source_told : (src : List ℕ) → ((tokens : List Lexeme) × IsUtf8 src × HasTokens (chars src) tokens) ⊎ ((fault : TextFault) × HasFault src fault × (fault ≢ Memory))
 source_told src = elim (utf8_or_front src) [
@@ -225,7 +163,7 @@ no_fault src tokens (Encoding at) u t f = absurd (f.0 u)
 no_fault src tokens (Lexical at) u t f = absurd (list_or_place (chars src) tokens at t f.1)
 no_fault src tokens Memory u t f = refl
 
-same_valid_front : (src : List ℕ) (m n : ℕ) → IsValidUpTo src m → IsValidUpTo src n → m ≡ n
+pub same_valid_front : (src : List ℕ) (m n : ℕ) → IsValidUpTo src m → IsValidUpTo src n → m ≡ n
 same_valid_front src m n x y = sym (utf8_valid_len-IsValidUpTo src m x) ∙ utf8_valid_len-IsValidUpTo src n y
 
 pub one_fault : (src : List ℕ) (f g : TextFault) → HasFault src f → HasFault src g → f ≢ Memory → g ≢ Memory → f ≡ g

@@ -1,7 +1,6 @@
 -- Keywords, and the bytes and characters that spell them.
-use Rattle.std.proofs.Common.{arith}
+use Rattle.std.proofs.Common.{arith, ◌≡◌, ◌≢◌, ℕ, true, false, List, [], ◌∷◌, refl, sym, ap, ◌∙◌, map, lit<, ltb-true}
 use Rattle.std.proofs.lemmas.Bool.Decides.{nat_tests}
-use Rattle.std.proofs.Common.{◌≡◌, ◌≢◌, ℕ, true, false, List, [], ◌∷◌, refl, sym, ap, ◌∙◌, map, lit<, ltb-true}
 use Rattle.std.specs.Prelude.{Option, Some, None, MatchOption, ◌||◌, nat_lt, zero, suc}
 use Rattle.std.specs.Option.{is_some}
 use Rattle.std.specs.List.{list_all, list_any}

@@ -5,8 +5,8 @@ use Rattle.std.specs.Prelude.{Option, MatchOption, IfSome, ◌==◌, ◌&&◌, e
 use denote.Param.Members.{Mut}
 use Rattle.std.specs.Fn.{AlwaysReturns, Called}
 use Rattle.std.proofs.lemmas.List.Sorted.{answers_always}
-use Rattle.std.proofs.Math.Seq.{take-append_seam}
-use Rattle.std.specs.Char.{IsScalar}
+use Rattle.std.proofs.Math.Seq.{take-append_seam, drop-append_seam}
+use Rattle.std.specs.Char.{IsScalar, is_ascii}
 use Rattle.std.specs.List.{list_all}
 use Rattle.std.proofs.lemmas.Bool.{and_parts, cases_Bool}
 use Rattle.std.specs.Str.{IsUtf8, IsAscii, chars, encode_utf8_all, all_scalars, IsCharBoundary}
@@ -14,7 +14,8 @@ use Rattle.std.specs.Str.Pattern.{IsTrimStartMatches, CutsPrefixes, FindsPrefixB
 use Rattle.std.proofs.lemmas.Str.Pattern.{strip_prefix_char, strip_suffix_char}
 use Rattle.std.proofs.lemmas.Str.{chars_past_char, IsUtf8-past_char, IsUtf8-take, chars-append, encodes-chars, encodes_same, scalars-chars, encodes-append, encode_ascii, chars-nil, chars-IsAscii, IsCharBoundary-at_seam, len_utf8_bounds}
 use Rattle.rn_text.specs.Segments.{is_empty, after_run, run_of, begins_with}
-use Rattle.rn_text.proofs.Words.Basics.{cons_first}
+use Rattle.rn_text.proofs.Words.Basics.{none_of}
+use Rattle.rn_text.specs.inside.Ascii.{is_ascii_and}
 
 -- a run and what follows it
 pub run_split : (p : ℕ → Bool) (cs : List ℕ) → run_of p cs ++ after_run p cs ≡ cs
@@ -71,9 +72,7 @@ pub starts_char_chars : (bs : List ℕ) (c : ℕ) (r : Option (Bor (List ℕ))) 
 starts_char_chars bs c None u small h =
     let lacks : (rest : List ℕ) → bs ≢ c ∷ rest = strip_prefix_char c bs None h small in
     not_first (chars bs) c (λ cs e. lacks (encode_utf8_all cs) (sym (encodes-chars bs u) ∙ ap encode_utf8_all e ∙ ap (λ l. l ++ encode_utf8_all cs) (encode_ascii c small)))
-starts_char_chars bs c (Some x) u small h =
-    let is : bs ≡ c ∷ x.now = strip_prefix_char c bs (Some x) h small in
-    chars_past_char bs x.now c u (is ∙ ap (λ l. l ++ x.now) (sym (encode_ascii c small)))
+starts_char_chars bs c (Some x) u small h = grind (arith, nat_tests, strip_prefix_char, chars_past_char, encode_ascii)
 
 -- `strip_suffix` at one
 pub ends_char_chars : (bs : List ℕ) (c : ℕ) (r : Option (Bor (List ℕ))) → IsUtf8 bs → c < 128
@@ -144,7 +143,42 @@ run_passes p (c ∷ cs) = grind (arith, nat_tests, run_passes p cs)
 
 pub stop_fails : (p : ℕ → Bool) (cs : List ℕ) (d : ℕ) (ds : List ℕ) → after_run p cs ≡ d ∷ ds → p d ≡ false
 stop_fails p [] d ds e = cc
-stop_fails p (c ∷ cs) d ds e = ⊎_elim
-    (λ passes. stop_fails p cs d ds (sym (after_run_passes p c cs passes) ∙ e))
-    (λ stops. let same : c ∷ cs ≡ d ∷ ds = sym (after_run_stops p c cs stops) ∙ e in ap p (sym (cons_first same)) ∙ stops)
-    (cases_Bool (p c))
+stop_fails p (c ∷ cs) d ds e = grind (arith, nat_tests, after_run_passes, after_run_stops, stop_fails p cs d ds)
+
+-- ---- runs of ASCII characters, which are their bytes
+
+ascii_small : (b : ℕ) → is_ascii b ≡ true → b < 128
+ascii_small b e = grind (arith, nat_tests)
+
+-- a run goes on behind its ASCII characters
+pub ascii_run : (p : ℕ → Bool) (bs : List ℕ) → IsUtf8 bs → IsUtf8 (after_run (is_ascii_and p) bs) × (after_run p (chars (after_run (is_ascii_and p) bs)) ≡ after_run p (chars bs))
+ascii_run p [] u = (u, refl)
+ascii_run p (b ∷ bs) u = ⊎_elim
+    (λ passes.
+    let both = and_parts (is_ascii b) (p b) passes in
+    let run = after_run_passes (is_ascii_and p) b bs passes in
+    let here : b ∷ bs ≡ encode_utf8 b ++ bs = ap (λ l. l ++ bs) (sym (encode_ascii b (ascii_small b both.0))) in
+    let more = ascii_run p bs (IsUtf8-past_char (b ∷ bs) bs b u here) in (
+      subst IsUtf8 (sym run) more.0,
+      ap (λ l. after_run p (chars l)) run ∙ more.1 ∙ sym (ap (after_run p) (chars_past_char (b ∷ bs) bs b u here) ∙ after_run_passes p b (chars bs) both.1),
+    ))
+    (λ stops. let run = after_run_stops (is_ascii_and p) b bs stops in (subst IsUtf8 (sym run) u, ap (λ l. after_run p (chars l)) run))
+    (cases_Bool (is_ascii_and p b))
+
+-- the text may be cut there
+pub ascii_cut : (p : ℕ → Bool) (bs rest : List ℕ) → IsUtf8 bs → rest ≡ after_run (is_ascii_and p) bs
+    → (length rest ≤ length bs) × IsCharBoundary bs (length bs - length rest) × (drop (length bs - length rest) bs ≡ rest)
+ascii_cut p bs rest u e =
+    let run = run_of (is_ascii_and p) bs in
+    let split : bs ≡ run ++ rest = sym (run_split (is_ascii_and p) bs) ∙ ap (λ l. run ++ l) (sym e) in
+    let at : length bs - length rest ≡ length run = omega (arith, ap length split, length-append run rest) in (
+      omega (arith, ap length split, length-append run rest),
+      subst (IsCharBoundary bs) (sym at) (IsCharBoundary-at_seam bs run rest split (subst IsUtf8 (sym e) (ascii_run p bs u).0)),
+      ap (λ n. drop n bs) at ∙ ap (drop (length run)) split ∙ drop-append_seam run rest,
+    )
+
+-- nothing follows where all are such characters
+pub ascii_all : (p : ℕ → Bool) (bs : List ℕ) → IsUtf8 bs → list_all (is_ascii_and p) bs ≡ true → chars [] ≡ after_run p (chars bs)
+ascii_all p bs u all =
+    let end : after_run (is_ascii_and p) bs ≡ [] = none_of _ (all_pass (is_ascii_and p) bs ∙ all) in
+    chars-nil ∙ ap (after_run p) (sym chars-nil) ∙ ap (λ l. after_run p (chars l)) (sym end) ∙ (ascii_run p bs u).1

@@ -1,5 +1,5 @@
 -- All declarations were gone through.
-use Rattle.std.proofs.Common.{◌≡◌, ap, sym, ◌∙◌, arith, map}
+use Rattle.std.proofs.Common.{ap, sym, ◌∙◌, arith, map}
 use Rattle.std.proofs.lemmas.List.{take_all}
 use Rattle.std.proofs.lemmas.Simd.{map-map}
 use Rattle.rn_syntax.specs.declared.tree.Declaration.{Declaration}

@@ -6,6 +6,6 @@ use Rattle.rn_assemble.proofs.inclusion.included_marks.Given as goal
 
 abbrev pub invariant-loop-includer : goal.invariant-loop-includer
 invariant-loop-includer l = record {
-  size : vec_len l.marks ≡ length l.rows;
+  size : vec_len l.marks ≡ length (rows_of l.rows);
   marked : (x : ℕ) → is_marked l.marks.items x ≡ list_any (λ y. eqb x y) (concat (take l.includer (rows_of l.rows)));
 }

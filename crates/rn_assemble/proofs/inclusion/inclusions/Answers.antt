@@ -1,6 +1,7 @@
 -- Module by module.
 use Rattle.std.proofs.Common.{ap, sym, ◌∙◌, subst, arith, None, Some}
 use Rattle.std.specs.String.{string_bytes}
+use Rattle.rn_pattern.specs.Graph.{rows_of}
 use Rattle.rn_syntax.specs.View.{module_view}
 use Rattle.rn_assemble.specs.inside.Inclusions.{IsLeastAmong, IsMissing}
 use Rattle.rn_assemble.specs.Refusal.{IsFirstFor, missing}
@@ -10,21 +11,21 @@ use Rattle.rn_assemble.proofs.Expansion.WantedNumbers.{literals, numbers}
 use Rattle.rn_assemble.proofs.inclusion.inclusions.Goals as goal
 
 pub loop-module-init : goal.loop-module-init
-loop-module-init c = begins c.args.modules.now c.requires _ c.new-rows.ensures.items
+loop-module-init c = begins c.args.modules.now c.requires _ c.new-rows.ensures.rows
 
 pub loop-module-preserved : goal.loop-module-preserved
 loop-module-preserved c =
     let ms = modules_view c.args.modules.now in
-    goes_on c.args.modules.now c.requires c.loop-module.module-index c.loop-module.rows.items c.push.new.self.items c.in_ok-included_modules.field-0 c.module-item.result (texts_of c.in_ok-wanted.wanted.items)
-    c.loop-module-test.true c.module-item.is c.loop-module.invariant c.in_ok-push.ensures.items
+    goes_on c.args.modules.now c.requires c.loop-module.module-index (rows_of c.loop-module.rows) (rows_of c.push_row.new.self) c.deref.result.now c.module-item.result (texts_of c.in_ok-wanted.wanted.items)
+    c.loop-module-test.true c.module-item.is c.loop-module.invariant c.in_ok-push_row.ensures.rows
     (c.in_ok-wanted.ensures ∙ literals (module_view c.module-item.result.tree).items)
     (subst (λ ws. IsLeastAmong (IsMissing ms) (texts_of ws) None) c.as_slice.ensures.value c.in_default.ensures)
-    (c.in_ok-included_modules.ensures ∙ ap (λ ws. numbers ms (texts_of ws)) c.as_slice-in-loop-module.ensures.value)
+    (c.deref.ensures.value ∙ c.in_ok-included.ensures ∙ ap (λ ws. numbers ms (texts_of ws)) c.as_slice-in-loop-module.ensures.value)
 
 pub returns-in-Some : goal.returns-in-Some
 returns-in-Some c =
     let ms = modules_view c.args.modules.now in
-    let first = first_missing c.args.modules.now c.requires c.loop-module.module-index c.loop-module.rows.items c.module-item.result (texts_of c.in_ok-wanted.wanted.items) c.in-Some.literal.now
+    let first = first_missing c.args.modules.now c.requires c.loop-module.module-index (rows_of c.loop-module.rows) c.module-item.result (texts_of c.in_ok-wanted.wanted.items) c.in-Some.literal.now
     c.loop-module-test.true c.module-item.is c.loop-module.invariant
     (c.in_ok-wanted.ensures ∙ literals (module_view c.module-item.result.tree).items)
     (subst (λ ws. IsLeastAmong (IsMissing ms) (texts_of ws) (Some c.in-Some.literal.now)) c.as_slice.ensures.value c.in-Some.ensures) in
@@ -32,4 +33,4 @@ returns-in-Some c =
     (subst (λ w. IsFirstFor ms (missing c.module-item.result.name.now w)) (sym c.in_ok-from_str-2.ensures.ok) first)
 
 pub returns : goal.returns
-returns c = ends c.args.modules.now c.requires c.loop-module.module-index c.loop-module.rows.items (omega (arith, c.loop-module-test.false, c.loop-module.auto.module-index-end)) c.loop-module.invariant
+returns c = ends c.args.modules.now c.requires c.loop-module.module-index (rows_of c.loop-module.rows) (omega (arith, c.loop-module-test.false, c.loop-module.auto.module-index-end)) c.loop-module.invariant

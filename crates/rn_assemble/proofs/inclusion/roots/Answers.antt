@@ -1,10 +1,8 @@
 -- The modules without a mark.
-use Rattle.std.proofs.Common.{◌≡◌, ℕ, List, Vec, length, arith, rules, subst, tests}
-use Rattle.std.specs.declared.alloc.Global.{Global}
+use Rattle.std.proofs.Common.{◌≡◌, ℕ, List, length, arith, rules, subst, tests}
 use Rattle.std.proofs.lemmas.Iterator.{YieldsList-from_slice}
 use Rattle.std.proofs.lemmas.Iterator.Adapters.{items_from_extend}
 use Rattle.std.proofs.lemmas.Iterator.Consumers.{YieldsList-at, YieldsList-from_enumerate, YieldsList-from_filter_map}
-use Rattle.std.proofs.lemmas.List.{length-map}
 use Rattle.rn_pattern.specs.Graph.{rows_of}
 use Rattle.rn_assemble.proofs.Expansion.EntryMarks.{number, unmarked_entries}
 use Rattle.rn_assemble.proofs.inclusion.roots.Goals as goal
@@ -13,7 +11,7 @@ pub returns : goal.returns
 returns c =
     let marks = c.in_ok-included.included.items in
     let rows = rows_of c.args.rows.now in
-    let size : length marks ≡ length rows = omega (arith, c.in_ok-included.ensures.size, c.in_ok-included.included.ok, length-map c.args.rows.now (λ (v : Vec ℕ Global). v.items)) in
+    let size : length marks ≡ length rows = omega (arith, c.in_ok-included.ensures.size, c.in_ok-included.included.ok) in
     let kept = items_from_extend c.extend.result c.extend.ensures.ran
     (YieldsList-from_filter_map _ number
     (YieldsList-at c.filter_map.ensures.source (YieldsList-from_enumerate (YieldsList-at c.enumerate.ensures.source (YieldsList-from_slice marks (cc))) (cc)))

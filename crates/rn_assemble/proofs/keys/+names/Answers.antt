@@ -6,7 +6,7 @@ use Rattle.std.proofs.lemmas.List.{at_drop_more, at_drop_all}
 use Rattle.std.proofs.lemmas.List.Sums.{fold-append}
 use Rattle.indexmap.specs.IndexSet.{insert_all, insert_key}
 use Rattle.rn_syntax.specs.Tree as t
-use Rattle.rn_syntax.specs.View.{item_step, item_view, items_view, pattern_view}
+use Rattle.rn_syntax.specs.View.{include_step, item_step, item_view, items_view, pattern_view}
 use Rattle.rn_syntax.specs.declared.tree.Item.{fold-roll-Item}
 use Rattle.rn_syntax.specs.declared.tree.Item.TheOpen.{Item-F}
 use Rattle.rn_syntax.specs.declared.tree.Item.TheVariants.{rolls-Define}
@@ -20,7 +20,7 @@ use Rattle.rn_assemble.proofs.keys.+names.Goals as goal
 
 -- a define as its tree
 define_seen : (x : Bor (List ℕ)) (m : Method) (p : Box Pat Global) → item_view (written.Define x m p) ≡ t.define x.now m (pattern_view p.value)
-define_seen x m p = ap item_view (sym (rolls-Define x m p)) ∙ fold-roll-Item t.Item item_step (Item-F.Define x m p)
+define_seen x m p = ap item_view (sym (rolls-Define x m p)) ∙ fold-roll-Item t.Item t.Item item_step include_step (Item-F.Define x m p)
 
 pub insert_item_names-returns-in_ok-insert-in-Define : goal.insert_item_names-returns-in_ok-insert-in-Define
 insert_item_names-returns-in_ok-insert-in-Define t c =

@@ -4,7 +4,6 @@ use Rattle.std.proofs.lemmas.List.{take_all}
 use Rattle.std.proofs.lemmas.Result.{IfOk-weaker}
 use Rattle.rn_pattern.specs.Tree.{trees_of}
 use Rattle.rn_pattern.specs.View as resolved_view
-use Rattle.rn_pattern.specs.View.{shared_view}
 use Rattle.rn_syntax.specs.declared.tree.Pat.{Pat}
 use Rattle.rn_syntax.specs.View.{pattern_view, patterns_view}
 use Rattle.rn_assemble.specs.Resolve.{resolved_pattern, resolved_patterns, repetition, operator_node}

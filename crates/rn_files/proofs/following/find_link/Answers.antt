@@ -1,7 +1,7 @@
 use Rattle.std.proofs.Common.{◌≡◌, Option, subst}
 use Rattle.std.specs.Prelude.{IfSome, Some, string_bytes}
 use Rattle.rn_files.specs.inside.Maps.{IsLocation}
-use Rattle.rn_files.specs.inside.References.{StandsFor}
+use Rattle.rn_files.specs.inside.UriReferences.{StandsFor}
 use Rattle.rn_files.proofs.following.find_link.Goals as goal
 
 if_some_at : {A : Type 0} (o : Option A) (x : A) (P : A → Type 0) → o ≡ Some x → IfSome o P → P x

@@ -1,5 +1,5 @@
 use Rattle.std.proofs.Common.{◌≡◌, take, drop}
-use Rattle.rn_files.specs.Lines.{lines, onto}
+use Rattle.rn_files.specs.TextLines.{lines, onto}
 use Rattle.rn_files.proofs.line_breaks.first_line.Given as goal
 
 abbrev pub invariant-loop-i : goal.invariant-loop-i

@@ -1,6 +1,6 @@
 use Rattle.std.proofs.Common.{◌≡◌, ℕ, ◌+◌, ◌-◌, ◌<◌, ◌≤◌, List, ◌++◌, length, drop, get_or}
 use Rattle.std.specs.List.{concat}
-use Rattle.rn_files.specs.Lines.{lines}
+use Rattle.rn_files.specs.TextLines.{lines}
 use Rattle.rn_files.proofs.line_breaks.line_at.Given as goal
 
 abbrev pub decreases-loop-length : goal.decreases-loop-length

@@ -1,6 +1,6 @@
 use Rattle.std.proofs.Common.{◌≡◌, false, get_or, arith, sym}
 use Rattle.std.proofs.lemmas.List.Sums.{prefix_len_is}
-use Rattle.rn_files.specs.Lines.{is_inside}
+use Rattle.rn_files.specs.TextLines.{is_inside}
 use Rattle.rn_files.proofs.positions.inside_length.Goals as goal
 
 pub returns-then-not-is_inside-clause-is : goal.returns-then-not-is_inside-clause-is

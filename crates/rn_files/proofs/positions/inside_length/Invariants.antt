@@ -1,5 +1,5 @@
 use Rattle.std.proofs.Common.{◌≡◌, ℕ, ◌<◌, true, get_or}
-use Rattle.rn_files.specs.Lines.{is_inside}
+use Rattle.rn_files.specs.TextLines.{is_inside}
 use Rattle.rn_files.proofs.positions.inside_length.Given as goal
 
 abbrev pub invariant-loop-i : goal.invariant-loop-i

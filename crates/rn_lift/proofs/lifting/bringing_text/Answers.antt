@@ -1,6 +1,6 @@
 use Rattle.std.specs.Prelude.{codes}
 use Rattle.rn_text.specs.Literals.{literal_bytes}
-use Rattle.rn_lift.proofs.Modules.BringingTexts.{four}
+use Rattle.rn_lift.proofs.LiftedModules.BringingTexts.{four}
 use Rattle.rn_lift.proofs.lifting.bringing_text.Goals as goal
 
 pub returns : goal.returns

@@ -1,7 +1,7 @@
 -- From what is planned to what is answered.
 use Rattle.std.proofs.Common.{arith}
-use Rattle.rn_lift.proofs.Modules.PlainFiles.{kept_ok}
-use Rattle.rn_lift.proofs.Modules.OfFiles.{made_ok}
+use Rattle.rn_lift.proofs.LiftedModules.PlainFiles.{kept_ok}
+use Rattle.rn_lift.proofs.LiftedModules.OfFiles.{made_ok}
 use Rattle.rn_lift.proofs.lifting.lift.Goals as goal
 
 of_files : goal.returns-clause-made

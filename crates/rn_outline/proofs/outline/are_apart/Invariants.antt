@@ -1,5 +1,5 @@
 -- If the marks that are left are apart, all are.
-use Rattle.std.proofs.Common.{◌-◌, length}
+use Rattle.std.proofs.Common.{length}
 use Rattle.rn_outline.specs.Spans.{AreApart}
 use Rattle.rn_outline.proofs.outline.are_apart.Given as goal
 

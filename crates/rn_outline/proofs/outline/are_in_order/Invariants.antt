@@ -1,5 +1,5 @@
 -- If the parts that are left are in order, all are.
-use Rattle.std.proofs.Common.{◌-◌, length}
+use Rattle.std.proofs.Common.{length}
 use Rattle.rn_outline.specs.Spans.{AreInOrder}
 use Rattle.rn_outline.proofs.outline.are_in_order.Given as goal
 

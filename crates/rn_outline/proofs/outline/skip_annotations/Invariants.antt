@@ -1,5 +1,5 @@
 -- The annotations so far were read.
-use Rattle.std.proofs.Common.{◌≤◌, ◌<◌, ◌-◌, length}
+use Rattle.std.proofs.Common.{◌≤◌, ◌-◌, length}
 use Rattle.rn_outline.proofs.outline.skip_annotations.Given as goal
 
 abbrev pub invariant-annotations : goal.invariant-annotations

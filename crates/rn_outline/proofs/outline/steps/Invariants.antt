@@ -1,5 +1,5 @@
 -- The tokens so far were read.
-use Rattle.std.proofs.Common.{◌≤◌, ◌<◌, ◌-◌, length}
+use Rattle.std.proofs.Common.{◌≤◌, ◌-◌, length}
 use Rattle.rn_outline.proofs.outline.steps.Given as goal
 
 abbrev pub invariant-steps : goal.invariant-steps

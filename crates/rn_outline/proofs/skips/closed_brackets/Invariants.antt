@@ -1,5 +1,5 @@
 -- As many brackets are open as were read at most.
-use Rattle.std.proofs.Common.{◌≤◌, ◌<◌, ◌-◌, length}
+use Rattle.std.proofs.Common.{◌≤◌, ◌-◌, length}
 use Rattle.rn_outline.proofs.skips.closed_brackets.Given as goal
 
 abbrev pub invariant-closed : goal.invariant-closed

@@ -1,5 +1,5 @@
 -- As many parentheses are open as were read at most.
-use Rattle.std.proofs.Common.{◌≤◌, ◌<◌, ◌-◌, length}
+use Rattle.std.proofs.Common.{◌≤◌, ◌-◌, length}
 use Rattle.rn_outline.proofs.skips.name_class.Given as goal
 
 abbrev pub invariant-class : goal.invariant-class

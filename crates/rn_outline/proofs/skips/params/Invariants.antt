@@ -1,5 +1,5 @@
 -- The parameters so far were read.
-use Rattle.std.proofs.Common.{◌≤◌, ◌<◌, ◌-◌, length}
+use Rattle.std.proofs.Common.{◌≤◌, ◌-◌, length}
 use Rattle.rn_outline.proofs.skips.params.Given as goal
 
 abbrev pub invariant-params : goal.invariant-params

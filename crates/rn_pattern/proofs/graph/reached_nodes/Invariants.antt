@@ -7,4 +7,4 @@ abbrev pub invariant-loop-next : goal.invariant-loop-next
 invariant-loop-next l = Searching (rows_of l.edges) l.first l.seen.items l.order.items l.next
 
 abbrev pub decreases-loop-next : goal.decreases-loop-next
-decreases-loop-next l = length l.edges - l.next
+decreases-loop-next l = length (rows_of l.edges) - l.next

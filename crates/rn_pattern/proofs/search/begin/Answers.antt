@@ -1,7 +1,5 @@
-use Rattle.std.proofs.Common.{◌∙◌, ap, ℕ, Vec, replicate, sym, rules}
+use Rattle.std.proofs.Common.{◌∙◌, ap, ℕ, replicate, rules}
 use Rattle.std.specs.Prelude.{None}
-use Rattle.std.proofs.lemmas.List.{length-map}
-use Rattle.std.specs.declared.alloc.Global.{Global}
 use Rattle.rn_pattern.specs.Graph.{rows_of}
 use Rattle.rn_pattern.proofs.Graphs.FirstLoop.{not_begun}
 use Rattle.rn_pattern.proofs.Searches.Ranking.{none_ranked}
@@ -10,9 +8,8 @@ use Rattle.rn_pattern.proofs.search.begin.Goals as goal
 pub returns-clause-grouping : goal.returns-clause-grouping
 returns-clause-grouping c =
     let rows = rows_of c.args.edges.now in
-    let size = sym (length-map c.args.edges.now (λ (v : Vec ℕ Global). v.items)) in
-    let none = c.in_ok-vec.ensures.items_if_clones_equal (λ y h. search rules) ∙ ap (λ (n : ℕ). replicate n None) size in
+    let none = c.in_ok-vec.ensures.items_if_clones_equal (λ y h. search rules) ∙ ap (λ (n : ℕ). replicate n None) c.len.ensures in
     record {
       groups = not_begun rows _ _ _ _ _ none c.in_ok-lengths.ensures c.new.ensures.items c.new-2.ensures.items c.new-3.ensures.items;
-      ranking = none_ranked rows _ _ _ none c.new.ensures.items (c.in_ok-vec-2.ensures.items_if_clones_equal (λ y h. h) ∙ ap (λ (n : ℕ). replicate n 0) size);
+      ranking = none_ranked rows _ _ _ none c.new.ensures.items (c.in_ok-vec-2.ensures.items_if_clones_equal (λ y h. h) ∙ ap (λ (n : ℕ). replicate n 0) c.len-2.ensures);
     }

@@ -1,6 +1,4 @@
-use Rattle.std.proofs.Common.{◌<◌, ℕ, Vec, length, arith}
-use Rattle.std.proofs.lemmas.List.{length-map}
-use Rattle.std.specs.declared.alloc.Global.{Global}
+use Rattle.std.proofs.Common.{◌<◌, length, arith}
 use Rattle.rn_pattern.specs.Graph.{rows_of}
 use Rattle.rn_pattern.proofs.Searches.Grouping.{entered_at, met_still}
 use Rattle.rn_pattern.proofs.Searches.Ranking.{entered_ranked}
@@ -9,7 +7,7 @@ use Rattle.rn_pattern.proofs.search.enter.Goals as goal
 pub returns-clause-goes_on : goal.returns-clause-goes_on
 returns-clause-goes_on c =
     let s = c.args.search.now in
-    let within : c.args.node < length (rows_of c.args.edges.now) = omega (arith, c.requires.within, length-map c.args.edges.now (λ (v : Vec ℕ Global). v.items)) in
+    let within : c.args.node < length (rows_of c.args.edges.now) = c.requires.within in
     record {
       grouping = record {
         groups = entered_at (rows_of c.args.edges.now) s.places.items s.left.items s.stack.items s.path.items s.bounds.items s.least c.requires.grouping.groups

@@ -1,13 +1,14 @@
-use Rattle.std.proofs.Common.{◌≡◌, ℕ, List, Vec, length, rules, subst}
-use Rattle.std.specs.declared.alloc.Global.{Global}
-use Rattle.std.proofs.lemmas.Iterator.{YieldsList-from_map, YieldsList-from_slice}
-use Rattle.std.proofs.lemmas.Iterator.Adapters.{items_from_extend}
-use Rattle.std.proofs.lemmas.Iterator.Consumers.{YieldsList-at}
-use Rattle.rn_pattern.proofs.Searches.EdgesLeft.{lengths_of}
+use Rattle.std.proofs.Common.{◌<◌, arith, length}
+use Rattle.rn_pattern.specs.Graph.{rows_of}
+use Rattle.rn_pattern.proofs.Searches.EdgesLeft.{length_more, lengths_all}
 use Rattle.rn_pattern.proofs.search.lengths.Goals as goal
+
+pub loop-node-preserved : goal.loop-node-preserved
+loop-node-preserved c =
+    let rows = rows_of c.args.edges.now in
+    let below : c.loop-node.node < length rows = omega arith in
+    length_more rows c.loop-node.node c.loop-node.lengths.items c.push.new.self.items c.row.result.now below c.loop-node.invariant c.row.ensures c.in_ok-push.ensures.items
 
 pub returns : goal.returns
 returns c =
-    let gives = items_from_extend c.extend.result c.extend.ensures.ran
-    (YieldsList-from_map _ (λ (v : Vec ℕ Global). length v.items) (YieldsList-at c.map.ensures.source (YieldsList-from_slice c.args.edges.now (cc))) c.map.ensures.closure (λ x r q k. search rules)) in
-    subst (λ (ns : List ℕ). c.extend.new.self.items ≡ ns) (lengths_of c.args.edges.now) (search rules)
+    lengths_all (rows_of c.args.edges.now) c.loop-node.node c.loop-node.lengths.items (omega arith) c.loop-node.invariant

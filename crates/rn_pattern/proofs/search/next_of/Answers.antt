@@ -5,5 +5,5 @@ use Rattle.rn_pattern.proofs.search.next_of.Goals as goal
 
 pub returns : goal.returns
 returns c =
-    next_is (rows_of c.args.edges.now) c.args.left.now c.row_at.result.now c.args.node (get_or c.args.left.now c.args.node 0) c.requires.graph
-    refl c.if-left-eq0.false c.row_at.ensures c.requires.at_most
+    next_is (rows_of c.args.edges.now) c.args.left.now c.row.result.now c.args.node (get_or c.args.left.now c.args.node 0) c.requires.graph
+    refl c.if-left-eq0.false c.row.ensures c.requires.at_most

@@ -1,6 +1,5 @@
-use Rattle.std.proofs.Common.{◌≡◌, ◌<◌, ℕ, Vec, arith, length}
-use Rattle.std.proofs.lemmas.List.{length-map, get_or_read}
-use Rattle.std.specs.declared.alloc.Global.{Global}
+use Rattle.std.proofs.Common.{◌≡◌, ◌<◌, arith, length}
+use Rattle.std.proofs.lemmas.List.{get_or_read}
 use Rattle.rn_pattern.specs.Graph.{rows_of}
 use Rattle.rn_pattern.specs.inside.Searching.{node_at}
 use Rattle.rn_pattern.proofs.Searches.Grouping.{node_below}
@@ -12,4 +11,4 @@ returns-clause-within c =
     let below : c.args.place < length s.stack.items = omega (arith, c.requires.within, s.stack.ok) in
     let is : c.index.result.now ≡ node_at s.stack.items c.args.place = get_or_read s.stack.items c.args.place c.index.result.now below c.index.ensures 0 in
     let b = node_below (rows_of c.args.edges.now) s.places.items s.left.items s.stack.items s.path.items s.bounds.items s.least c.requires.grouping.groups c.args.place below in
-    omega (arith, is, b, length-map c.args.edges.now (λ (v : Vec ℕ Global). v.items))
+    omega (arith, is, b)

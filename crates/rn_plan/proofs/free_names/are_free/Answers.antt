@@ -1,6 +1,6 @@
 use Rattle.std.proofs.Common.{string_bytes, arith}
 use Rattle.std.proofs.lemmas.List.Elements.{All-map}
-use Rattle.rn_plan.specs.Free.{FileIsFree}
+use Rattle.rn_plan.specs.FreeNames.{FileIsFree}
 use Rattle.rn_plan.specs.declared.given.Given.{Given}
 use Rattle.rn_plan.proofs.free_names.are_free.Goals as goal
 

@@ -1,6 +1,6 @@
 -- The names that the files so far write are free.
 use Rattle.std.proofs.Common.{ℕ, ◌<◌, get_or, string_bytes}
-use Rattle.rn_plan.specs.Free.{FileIsFree}
+use Rattle.rn_plan.specs.FreeNames.{FileIsFree}
 use Rattle.rn_plan.specs.declared.given.Given.{Given}
 use Rattle.rn_plan.proofs.free_names.are_free.Given as goal
 

@@ -1,7 +1,7 @@
 -- If the names of the parts that are left are free, all are.
 use Rattle.std.proofs.Common.{length, string_bytes}
 use Rattle.std.specs.List.{AllByRecursion}
-use Rattle.rn_plan.specs.Free.{FileIsFree, PartIsFree}
+use Rattle.rn_plan.specs.FreeNames.{FileIsFree, PartIsFree}
 use Rattle.rn_plan.proofs.free_names.is_free_file.Given as goal
 
 abbrev pub invariant-parts : goal.invariant-parts

@@ -20,7 +20,7 @@ returns-clause-names c = c.settle.ensures.names
 pub returns-clause-exact : goal.returns-clause-exact
 returns-clause-exact c =
     let G = grammar_view c.args.grammar.now in
-    let order = c.in_ok-order.order.items in
+    let order = c.in_ok-order.order.numbers.items in
     let ensures = c.settle.ensures in
     IfOk-weaker c.settle.result _ _
     (λ s h.

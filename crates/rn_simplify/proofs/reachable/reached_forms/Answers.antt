@@ -1,8 +1,6 @@
-use Rattle.std.proofs.Common.{◌≡◌, ℕ, List, Vec, length, sym, ap, ◌∙◌, refl, subst, arith}
-use Rattle.std.proofs.lemmas.List.{length-map}
+use Rattle.std.proofs.Common.{◌≡◌, ℕ, List, length, sym, ap, ◌∙◌, refl, subst, arith}
 use Rattle.std.proofs.lemmas.Result.{IfOk-weaker}
 use Rattle.std.specs.Prelude.{Contains, Decides}
-use Rattle.std.specs.declared.alloc.Global.{Global}
 use Rattle.rn_pattern.specs.Matching.{Grammar}
 use Rattle.rn_pattern.specs.View.{pattern_view}
 use Rattle.rn_pattern.specs.Graph.{IsGraph, Reached, is_marked, rows_of}
@@ -16,26 +14,26 @@ use Rattle.rn_simplify.proofs.reachable.reached_forms.Goals as goal
 
 pub reached_nodes-requires-clause-graph : goal.reached_nodes-requires-clause-graph
 reached_nodes-requires-clause-graph c =
-    let ds = definitions_view c.args.names.now.entries in
+    let ds = definitions_view c.args.settled.now.names.now.entries in
     let fs = definitions_view c.args.forms.now in
-    let graph : rows_of c.deref.result.now ≡ rows_by Everywhere fs fs = ap rows_of c.deref.ensures.value ∙ c.in_ok-rows.ensures ∙ rows_same Everywhere ds fs c.requires in
+    let graph : rows_of c.in_ok-rows.rows ≡ rows_by Everywhere fs fs = c.in_ok-rows.ensures ∙ rows_same Everywhere ds fs c.requires in
     subst IsGraph (sym graph) (rows_graph Everywhere fs fs refl)
 
 pub reached_nodes-requires-clause-first_within : goal.reached_nodes-requires-clause-first_within
 reached_nodes-requires-clause-first_within c = λ y k.
-    let ds = definitions_view c.args.names.now.entries in
+    let ds = definitions_view c.args.settled.now.names.now.entries in
     let fs = definitions_view c.args.forms.now in
     let names = references Everywhere (pattern_view c.args.start.now) in
-    let graph : rows_of c.deref.result.now ≡ rows_by Everywhere fs fs = ap rows_of c.deref.ensures.value ∙ c.in_ok-rows.ensures ∙ rows_same Everywhere ds fs c.requires in
-    let b = numbers_below fs names y (subst (λ (l : List ℕ). Contains l y) (c.deref-2.ensures.value ∙ c.in_ok-first.ensures ∙ numbers_same ds fs names c.requires) k) in
-    omega (arith, b, ap length graph, rows_size Everywhere fs fs, length-map c.deref.result.now (λ (v : Vec ℕ Global). v.items))
+    let graph : rows_of c.in_ok-rows.rows ≡ rows_by Everywhere fs fs = c.in_ok-rows.ensures ∙ rows_same Everywhere ds fs c.requires in
+    let b = numbers_below fs names y (subst (λ (l : List ℕ). Contains l y) (c.deref.ensures.value ∙ c.in_ok-first.ensures ∙ numbers_same ds fs names c.requires) k) in
+    omega (arith, b, ap length graph, rows_size Everywhere fs fs)
 
 pub returns-clause-reached : goal.returns-clause-reached
 returns-clause-reached c =
-    let ds = definitions_view c.args.names.now.entries in
+    let ds = definitions_view c.args.settled.now.names.now.entries in
     let fs = definitions_view c.args.forms.now in
     let F : Grammar = record { start = pattern_view c.args.start.now; definitions = fs } in
     let names = references Everywhere (pattern_view c.args.start.now) in
-    let graph : rows_of c.deref.result.now ≡ graph_of F = ap rows_of c.deref.ensures.value ∙ c.in_ok-rows.ensures ∙ rows_same Everywhere ds fs c.requires in
-    let first : c.deref-2.result.now ≡ start_of F = c.deref-2.ensures.value ∙ c.in_ok-first.ensures ∙ numbers_same ds fs names c.requires in
-    IfOk-weaker c.reached_nodes.result _ _ (λ marks exact k. subst (λ (l : List ℕ). Decides (is_marked marks.items k) (Reached (graph_of F) l k)) first (subst (λ (r : List (List ℕ)). Decides (is_marked marks.items k) (Reached r c.deref-2.result.now k)) graph (exact k))) c.reached_nodes.ensures.exact
+    let graph : rows_of c.in_ok-rows.rows ≡ graph_of F = c.in_ok-rows.ensures ∙ rows_same Everywhere ds fs c.requires in
+    let first : c.deref.result.now ≡ start_of F = c.deref.ensures.value ∙ c.in_ok-first.ensures ∙ numbers_same ds fs names c.requires in
+    IfOk-weaker c.reached_nodes.result _ _ (λ marks exact k. subst (λ (l : List ℕ). Decides (is_marked marks.items k) (Reached (graph_of F) l k)) first (subst (λ (r : List (List ℕ)). Decides (is_marked marks.items k) (Reached r c.deref.result.now k)) graph (exact k))) c.reached_nodes.ensures.exact

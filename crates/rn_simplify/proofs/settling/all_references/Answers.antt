@@ -1,6 +1,6 @@
 use Rattle.std.proofs.Common.{◌<◌, length, ap, sym, subst, arith}
 use Rattle.rn_assemble.specs.GrammarView.{grammar_view}
-use Rattle.rn_pattern.specs.Graph.{row}
+use Rattle.rn_pattern.specs.Graph.{row, rows_of}
 use Rattle.rn_simplify.specs.inside.DefinitionNumbers.{graph_of, rows_by}
 use Rattle.rn_simplify.specs.inside.ReferenceNumbers.{AreRows}
 use Rattle.rn_pattern.specs.Canonical.{HaveSameMembers}
@@ -15,8 +15,8 @@ references_of-requires c = omega (arith, ap length c.defs.ensures, size_of_view 
 
 pub loop-number-init : goal.loop-number-init
 loop-number-init c = record {
-  everywhere = no_rows (row (graph_of (grammar_view c.args.grammar.now))) c.new-everywhere.result.items c.new-everywhere.ensures.items;
-  outside = no_rows _ c.new-outside.result.items c.new-outside.ensures.items;
+  everywhere = no_rows (row (graph_of (grammar_view c.args.grammar.now))) (rows_of c.in_ok-everywhere.everywhere) c.in_ok-everywhere.ensures.rows;
+  outside = no_rows _ (rows_of c.in_ok-outside.outside) c.in_ok-outside.ensures.rows;
 }
 
 pub loop-number-preserved : goal.loop-number-preserved
@@ -26,20 +26,22 @@ loop-number-preserved c =
     let found = c.in_ok-found.found in
     let within : n < length ds = omega (arith, ap length c.defs.ensures, size_of_view c.defs.result.now.entries) in
     record {
-      everywhere = more_rows (row (graph_of (grammar_view c.args.grammar.now))) n c.loop-number.everywhere.items c.push.new.self.items found.everywhere c.in_ok-push.ensures.items
-          (subst (λ r. HaveSameMembers found.everywhere.items r) (sym (row_is Everywhere ds ds n within)) (c.in_ok-found.ensures nothing).everywhere)
+      everywhere = more_rows (row (graph_of (grammar_view c.args.grammar.now))) n (rows_of c.loop-number.everywhere) (rows_of c.push_row.new.self) c.deref.result.now c.in_ok-push_row.ensures.rows
+          (subst (λ xs. HaveSameMembers xs (row (rows_by Everywhere ds ds) n)) (sym c.deref.ensures.value)
+          (subst (λ r. HaveSameMembers found.everywhere.items r) (sym (row_is Everywhere ds ds n within)) (c.in_ok-found.ensures nothing).everywhere))
           c.loop-number.invariant.everywhere;
-      outside = more_rows (row (rows_by OutsideElements ds ds)) n c.loop-number.outside.items c.push-in-loop-number.new.self.items found.outside c.in_ok-push-2.ensures.items
-          (subst (λ r. HaveSameMembers found.outside.items r) (sym (row_is OutsideElements ds ds n within)) (c.in_ok-found.ensures nothing).outside)
+      outside = more_rows (row (rows_by OutsideElements ds ds)) n (rows_of c.loop-number.outside) (rows_of c.push_row-in-loop-number.new.self) c.deref-in-loop-number.result.now c.in_ok-push_row-2.ensures.rows
+          (subst (λ xs. HaveSameMembers xs (row (rows_by OutsideElements ds ds) n)) (sym c.deref-in-loop-number.ensures.value)
+          (subst (λ r. HaveSameMembers found.outside.items r) (sym (row_is OutsideElements ds ds n within)) (c.in_ok-found.ensures nothing).outside))
           c.loop-number.invariant.outside;
     }
 
 pub returns-clause-everywhere : goal.returns-clause-everywhere
 returns-clause-everywhere c =
     let G = grammar_view c.args.grammar.now in
-    subst (λ n. AreRows (row (graph_of G)) n c.loop-number.everywhere.items) (omega (arith, ap length c.defs.ensures, size_of_view c.defs.result.now.entries)) c.loop-number.invariant.everywhere
+    subst (λ n. AreRows (row (graph_of G)) n (rows_of c.loop-number.everywhere)) (omega (arith, ap length c.defs.ensures, size_of_view c.defs.result.now.entries)) c.loop-number.invariant.everywhere
 
 pub returns-clause-outside : goal.returns-clause-outside
 returns-clause-outside c =
     let ds = (grammar_view c.args.grammar.now).definitions in
-    subst (λ n. AreRows (row (rows_by OutsideElements ds ds)) n c.loop-number.outside.items) (omega (arith, ap length c.defs.ensures, size_of_view c.defs.result.now.entries)) c.loop-number.invariant.outside
+    subst (λ n. AreRows (row (rows_by OutsideElements ds ds)) n (rows_of c.loop-number.outside)) (omega (arith, ap length c.defs.ensures, size_of_view c.defs.result.now.entries)) c.loop-number.invariant.outside

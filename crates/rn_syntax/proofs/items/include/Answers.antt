@@ -20,4 +20,4 @@ returns-in_err-items-clause-reads c =
     rw (p.1, p.2) (on_fault c.args.tokens.now c.in_ok-inherit.own c.args.at _ (λ s bad k. own_stuck (c.in_ok-wanted.ensures.reads s) (c.in_ok-inherit.ensures.reads s) k) c.in_err-items.ensures.reads)
 
 pub returns-clause-reads : goal.returns-clause-reads
-returns-clause-reads c = λ s. took_same (sym c.inclusion.ensures) (include_took (c.in_ok-wanted.ensures.reads s) (c.in_ok-inherit.ensures.reads s) (c.in_ok-items.ensures.reads s))
+returns-clause-reads c = λ s. took_same (sym c.in_ok-include.ensures) (include_took (c.in_ok-wanted.ensures.reads s) (c.in_ok-inherit.ensures.reads s) (c.in_ok-items.ensures.reads s))

@@ -7,7 +7,8 @@ use Rattle.rn_syntax.proofs.readings.Chaining.{chain_read, chain_stuck, chain_en
 use Rattle.rn_syntax.specs.Terminal.{operator}
 use Rattle.rn_syntax.specs.declared.token.Operator.TheVariants as o
 use Rattle.rn_syntax.proofs.readings.Next.{terminal_at, next_two, place_is, word_at_keyword}
-use Rattle.rn_syntax.proofs.readings.Classes.{word_core, prefixed_core, parens_inner, parens_stuck, parens_took, no_core, followed_took, followed_stuck, end_core, end_stuck, primary_body, primary_stuck, any_at, operand_body, operand_stuck, operand_plain, operand_any, except_took, except_stuck, tail_plain, classes_chain, class_first, class_stuck, class_alone, so_far_same}
+use Rattle.rn_syntax.proofs.readings.Classes.{word_core, prefixed_core, parens_inner, parens_stuck, parens_took, no_core, followed_took, followed_stuck, end_core, end_stuck, primary_body, primary_stuck, any_at, operand_body, operand_stuck, operand_plain, operand_any, except_took, except_stuck, tail_plain, classes_chain, class_first, class_stuck, class_alone, so_far_same, word_first}
+use Rattle.rn_syntax.proofs.readings.Skipping.{bare_here}
 use Rattle.rn_syntax.proofs.names.+name_class.Goals as goal
 
 -- ---- cores
@@ -90,42 +91,50 @@ class_primary-returns-in-None-clause-reads t c =
 
 -- ---- operands
 
-pub class_operand-returns-in_err-body-clause-reads : goal.class_operand-returns-in_err-body-clause-reads
-class_operand-returns-in_err-body-clause-reads t c =
+pub any_class_operand-returns-in_err-body-clause-reads : goal.any_class_operand-returns-in_err-body-clause-reads
+any_class_operand-returns-in_err-body-clause-reads t c =
     let p = err_from_is_err_and c.from_residual.result c.from_residual.ensures.1 in
     rw (p.1, p.2) (on_fault c.args.tokens.now c.args.at c.args.at _ (λ s bad k. operand_stuck k) c.in_err-body.ensures.skips)
 
-pub class_operand-returns-in_default-clause-inside : goal.class_operand-returns-in_default-clause-inside
-class_operand-returns-in_default-clause-inside t c = advanced_on _ c.in_ok-body.body _ c.class_end.result c.in_ok-body.ensures.inside.further c.class_end.ensures.inside
+pub any_class_operand-returns-in_default-clause-inside : goal.any_class_operand-returns-in_default-clause-inside
+any_class_operand-returns-in_default-clause-inside t c = advanced_on _ c.in_ok-body.body _ c.class_end.result c.in_ok-body.ensures.inside.further c.class_end.ensures.inside
 
-pub class_operand-returns-in_default-clause-reads : goal.class_operand-returns-in_default-clause-reads
-class_operand-returns-in_default-clause-reads t c =
+pub any_class_operand-returns-in_default-clause-reads : goal.any_class_operand-returns-in_default-clause-reads
+any_class_operand-returns-in_default-clause-reads t c =
     reads_upto boxed_class_view c.args.tokens.now c.in_ok-body.body c.args.at _ (λ r g. g) (λ s. upto_then (operand_body (c.in_ok-body.ensures.skips s)) (operand_plain c.in_default.ensures.names)) c.class_end.ensures.reads
 
-pub class_operand-returns-in_default-next-clause-inside : goal.class_operand-returns-in_default-next-clause-inside
-class_operand-returns-in_default-next-clause-inside t c = passed_past _ (c.in_ok-body.body + 1) _ c.any_class.result (omega (arith, c.in_ok-body.ensures.inside.further)) c.any_class.ensures.inside
+pub any_class_operand-returns-in_default-next-clause-inside : goal.any_class_operand-returns-in_default-next-clause-inside
+any_class_operand-returns-in_default-next-clause-inside t c = passed_past _ (c.in_ok-body.body + 1) _ c.any_class.result (omega (arith, c.in_ok-body.ensures.inside.further)) c.any_class.ensures.inside
 
-pub class_operand-returns-in_default-next-clause-reads : goal.class_operand-returns-in_default-next-clause-reads
-class_operand-returns-in_default-next-clause-reads t c =
+pub any_class_operand-returns-in_default-next-clause-reads : goal.any_class_operand-returns-in_default-next-clause-reads
+any_class_operand-returns-in_default-next-clause-reads t c =
     reads_upto boxed_class_view c.args.tokens.now (c.in_ok-body.body + 1) c.args.at _ (λ r g. g)
     (λ s. upto_then (operand_body (c.in_ok-body.ensures.skips s)) (upto_then (operand_any c.in-Some.ensures.names) (tail_plain (any_view c.in-Some.any) _ _ c.next.result c.next.ensures.next c.in_default-next.not-Minus)))
     c.any_class.ensures.reads
 
-pub class_operand-returns-in_err-except-clause-reads : goal.class_operand-returns-in_err-except-clause-reads
-class_operand-returns-in_err-except-clause-reads t c =
+pub any_class_operand-returns-in_err-except-clause-reads : goal.any_class_operand-returns-in_err-except-clause-reads
+any_class_operand-returns-in_err-except-clause-reads t c =
     let n = c.in-Minus.ensures.next in
     let e = next_two c.args.tokens.now c.in_ok-body.body n.1 in
     let p = err_from_is_err_and c.from_residual-in_err-except.result c.from_residual-in_err-except.ensures.1 in
     rw (p.1, p.2) (on_fault c.args.tokens.now (c.in_ok-body.body + 2) c.args.at _ (λ s bad k. except_stuck (any_view c.in-Some.any) (upto_then (operand_body (c.in_ok-body.ensures.skips s)) (operand_any c.in-Some.ensures.names)) e k) c.in_err-except.ensures.reads)
 
-pub class_operand-returns-clause-inside : goal.class_operand-returns-clause-inside
-class_operand-returns-clause-inside t c = made_advanced boxed_class_view _ _ _ _ c.all_but.result c.all_but.ensures (record { further = omega (arith, c.in_ok-body.ensures.inside.further, c.in_ok-except.ensures.inside.further); inside = c.in_ok-except.ensures.inside.inside })
+pub any_class_operand-returns-clause-inside : goal.any_class_operand-returns-clause-inside
+any_class_operand-returns-clause-inside t c = made_advanced boxed_class_view _ _ _ _ c.all_but.result c.all_but.ensures (record { further = omega (arith, c.in_ok-body.ensures.inside.further, c.in_ok-except.ensures.inside.further); inside = c.in_ok-except.ensures.inside.inside })
 
-pub class_operand-returns-clause-reads : goal.class_operand-returns-clause-reads
-class_operand-returns-clause-reads t c =
+pub any_class_operand-returns-clause-reads : goal.any_class_operand-returns-clause-reads
+any_class_operand-returns-clause-reads t c =
     let n = c.in-Minus.ensures.next in
     let e = next_two c.args.tokens.now c.in_ok-body.body n.1 in
     made_reads boxed_class_view c.args.tokens.now c.args.at c.in_ok-except.end c.all_but.result c.all_but.ensures (λ s. except_took (any_view c.in-Some.any) (upto_then (operand_body (c.in_ok-body.ensures.skips s)) (operand_any c.in-Some.ensures.names)) e (c.in_ok-except.ensures.reads s))
+
+pub class_operand-class_end-requires : goal.class_operand-class_end-requires
+class_operand-class_end-requires t c = (omega (arith, c.decreases), (c.requires, (word_first c.next.result _ _ c.in-Ident.is c.next.ensures.next).1))
+
+pub class_operand-returns-in-Ident-clause-reads : goal.class_operand-returns-in-Ident-clause-reads
+class_operand-returns-in-Ident-clause-reads t c =
+    let w = word_first c.next.result _ _ c.in-Ident.is c.next.ensures.next in
+    reads_upto boxed_class_view c.args.tokens.now c.args.at c.args.at _ (λ r g. g) (λ s. upto_then (operand_body (bare_here _ w.0)) (operand_plain w.1)) c.class_end.ensures.reads
 
 -- ---- name classes
 

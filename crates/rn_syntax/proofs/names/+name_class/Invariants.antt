@@ -18,16 +18,19 @@ abbrev pub decreases-name_class-choice : goal.decreases-name_class-choice
 decreases-name_class-choice l = length l.tokens - l.end
 
 abbrev pub decreases-name_class : goal.decreases-name_class
-decreases-name_class l = 5 * (length l.tokens.now - l.at) + 4
+decreases-name_class l = 6 * (length l.tokens.now - l.at) + 5
 
 abbrev pub decreases-class_operand : goal.decreases-class_operand
-decreases-class_operand l = 5 * (length l.tokens.now - l.at) + 3
+decreases-class_operand l = 6 * (length l.tokens.now - l.at) + 4
+
+abbrev pub decreases-any_class_operand : goal.decreases-any_class_operand
+decreases-any_class_operand l = 6 * (length l.tokens.now - l.at) + 3
 
 abbrev pub decreases-class_primary : goal.decreases-class_primary
-decreases-class_primary l = 5 * (length l.tokens.now - l.at) + 3
+decreases-class_primary l = 6 * (length l.tokens.now - l.at) + 3
 
 abbrev pub decreases-class_end : goal.decreases-class_end
-decreases-class_end l = 5 * (length l.tokens.now - l.at) + 2
+decreases-class_end l = 6 * (length l.tokens.now - l.at) + 2
 
 abbrev pub decreases-class_core : goal.decreases-class_core
-decreases-class_core l = 5 * (length l.tokens.now - l.at) + 1
+decreases-class_core l = 6 * (length l.tokens.now - l.at) + 1

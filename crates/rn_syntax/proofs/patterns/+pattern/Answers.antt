@@ -11,9 +11,9 @@ use Rattle.rn_syntax.proofs.readings.Next.{terminal_at, place_is}
 use Rattle.rn_syntax.proofs.readings.Chaining.{chain_read, chain_stuck, chain_end}
 use Rattle.rn_syntax.proofs.readings.Chains.{operands_chain, pattern_stuck, pattern_alone, pattern_first, operands_same}
 use Rattle.rn_syntax.proofs.readings.Operands.{no_segment, text_stuck, text_read, params_stuck, params_read, datum_read, except_stuck, except_took, core_made}
-use Rattle.rn_syntax.proofs.readings.Primaries.{type_at, operand_stuck, operand_typed, operand_core_stuck, operand_core_read, primary_stuck, primary_core_stuck, primary_follows_stuck, primary_took}
+use Rattle.rn_syntax.proofs.readings.Primaries.{type_at, operand_stuck, operand_typed, operand_first, operand_core_stuck, operand_core_read, primary_stuck, primary_core_stuck, primary_follows_stuck, primary_took}
 use Rattle.rn_syntax.proofs.readings.Cores.{open_stuck, braces_inner, braces_close, braced_took, class_stuck, content_stuck, content_took, keyword_here, element_stuck, element_took, attribute_stuck, attribute_took, list_stuck, list_took, mixed_stuck, mixed_took, empty_took, not_allowed_took, text_took, ref_took}
-use Rattle.rn_syntax.proofs.readings.Unnamed.{literal_stuck, literal_took, inner_stuck, close_stuck, parens_took, no_core, no_keyword_core}
+use Rattle.rn_syntax.proofs.readings.Unnamed.{literal_stuck, literal_took, inner_stuck, close_stuck, parens_took, no_core, no_datatype, no_keyword_core}
 use Rattle.rn_syntax.proofs.patterns.+pattern.Goals as goal
 
 -- ---- braces
@@ -235,27 +235,81 @@ behind_params-returns-clause-reads t c =
     let ps = params_view c.args.params.items in
     made_reads boxed_view c.args.tokens.now c.args.at c.in_ok-except.end c.datum_but.result c.datum_but.ensures (λ s. took_same (sym (ap (λ i. tree.datum_but d ps i (boxed_view c.in_ok-except.except)) (place_is c.args.tokens.now n.1 c.place.ensures))) (except_took d ps n.1 (c.in_ok-except.ensures.reads s)))
 
-pub operand-returns-in_err-body-clause-reads : goal.operand-returns-in_err-body-clause-reads
-operand-returns-in_err-body-clause-reads t c =
+pub any_operand-returns-in_err-body-clause-reads : goal.any_operand-returns-in_err-body-clause-reads
+any_operand-returns-in_err-body-clause-reads t c =
     let p = err_from_is_err_and c.from_residual.result c.from_residual.ensures.1 in
     rw (p.1, p.2) (on_fault c.args.tokens.now c.args.at c.args.at _ (λ s bad k. operand_stuck k) c.in_err-body.ensures.skips)
 
-pub operand-returns-in-Some-clause-inside : goal.operand-returns-in-Some-clause-inside
-operand-returns-in-Some-clause-inside t c = passed_past _ (c.in_ok-body.body + 1) _ c.behind_datatype.result (omega (arith, c.in_ok-body.ensures.inside.further)) c.behind_datatype.ensures.inside
+pub any_operand-returns-in-Some-clause-inside : goal.any_operand-returns-in-Some-clause-inside
+any_operand-returns-in-Some-clause-inside t c = passed_past _ (c.in_ok-body.body + 1) _ c.behind_datatype.result (omega (arith, c.in_ok-body.ensures.inside.further)) c.behind_datatype.ensures.inside
 
-pub operand-returns-in-Some-clause-reads : goal.operand-returns-in-Some-clause-reads
-operand-returns-in-Some-clause-reads t c = reads_upto boxed_view c.args.tokens.now (c.in_ok-body.body + 1) c.args.at _ (λ r w. w) (λ s. operand_typed (c.in_ok-body.ensures.skips s) c.in-Some.ensures.names) c.behind_datatype.ensures.reads
+pub any_operand-returns-in-Some-clause-reads : goal.any_operand-returns-in-Some-clause-reads
+any_operand-returns-in-Some-clause-reads t c = reads_upto boxed_view c.args.tokens.now (c.in_ok-body.body + 1) c.args.at _ (λ r w. w) (λ s. operand_typed (c.in_ok-body.ensures.skips s) c.in-Some.ensures.names) c.behind_datatype.ensures.reads
 
-pub operand-returns-in_err-core-clause-reads : goal.operand-returns-in_err-core-clause-reads
-operand-returns-in_err-core-clause-reads t c =
+pub any_operand-returns-in_err-core-clause-reads : goal.any_operand-returns-in_err-core-clause-reads
+any_operand-returns-in_err-core-clause-reads t c =
     let p = err_from_is_err_and c.from_residual-in_err-core.result c.from_residual-in_err-core.ensures.1 in
     rw (p.1, p.2) (on_fault c.args.tokens.now c.in_ok-body.body c.args.at _ (λ s bad k. operand_core_stuck (c.in_ok-body.ensures.skips s) c.in_default.ensures.names k) c.in_err-core.ensures.reads)
 
-pub operand-returns-clause-inside : goal.operand-returns-clause-inside
-operand-returns-clause-inside t c = passed_past _ c.in_ok-core.end _ c.behind_core.result (omega (arith, c.in_ok-body.ensures.inside.further, c.in_ok-core.ensures.inside.further)) c.behind_core.ensures.inside
+pub any_operand-returns-clause-inside : goal.any_operand-returns-clause-inside
+any_operand-returns-clause-inside t c = passed_past _ c.in_ok-core.end _ c.behind_core.result (omega (arith, c.in_ok-body.ensures.inside.further, c.in_ok-core.ensures.inside.further)) c.behind_core.ensures.inside
 
-pub operand-returns-clause-reads : goal.operand-returns-clause-reads
-operand-returns-clause-reads t c = reads_upto boxed_view c.args.tokens.now c.in_ok-core.end c.args.at _ (λ r w. w) (λ s. operand_core_read (c.in_ok-body.ensures.skips s) c.in_default.ensures.names (c.in_ok-core.ensures.reads s)) c.behind_core.ensures.reads
+pub any_operand-returns-clause-reads : goal.any_operand-returns-clause-reads
+any_operand-returns-clause-reads t c = reads_upto boxed_view c.args.tokens.now c.in_ok-core.end c.args.at _ (λ r w. w) (λ s. operand_core_read (c.in_ok-body.ensures.skips s) c.in_default.ensures.names (c.in_ok-core.ensures.reads s)) c.behind_core.ensures.reads
+
+pub operand-returns-in_err-core-in-Ident-clause-reads : goal.operand-returns-in_err-core-in-Ident-clause-reads
+operand-returns-in_err-core-in-Ident-clause-reads t c =
+    let p = err_from_is_err_and c.from_residual.result c.from_residual.ensures.1 in
+    rw (p.1, p.2, c.in_err-core-in-Ident.ensures) tt
+
+pub operand-returns-in_ok-core-in-Ident-clause-inside : goal.operand-returns-in_ok-core-in-Ident-clause-inside
+operand-returns-in_ok-core-in-Ident-clause-inside t c = passed_past _ c.in_ok-core-in-Ident.end _ c.behind_core.result (omega (arith, c.in_ok-core-in-Ident.ensures.1)) c.behind_core.ensures.inside
+
+pub operand-returns-in_ok-core-in-Ident-clause-reads : goal.operand-returns-in_ok-core-in-Ident-clause-reads
+operand-returns-in_ok-core-in-Ident-clause-reads t c =
+    let here = c.in-Ident.ensures.next.1 in
+    let first = operand_first here refl refl in
+    reads_upto boxed_view c.args.tokens.now c.in_ok-core-in-Ident.end c.args.at _ (λ r w. w)
+    (λ s. core_made c.args.tokens.now c.in_ok-core-in-Ident.ensures (operand_core_read first.0 first.1 (ref_took here))) c.behind_core.ensures.reads
+
+pub operand-keyword_core-requires : goal.operand-keyword_core-requires
+operand-keyword_core-requires t c =
+    let here = c.in-Keyword.ensures.next.1 in
+    let first = operand_first here refl (no_datatype c.in-Keyword.keyword c.in_default-keyword.not-String c.in_default-keyword.not-Token) in
+    (omega (arith, c.decreases), (c.in-Keyword.ensures.inside, (ap first_terminal here, first.1)))
+
+pub operand-returns-in_err-core-in_default-keyword-clause-reads : goal.operand-returns-in_err-core-in_default-keyword-clause-reads
+operand-returns-in_err-core-in_default-keyword-clause-reads t c =
+    let first = operand_first c.in-Keyword.ensures.next.1 refl (no_datatype c.in-Keyword.keyword c.in_default-keyword.not-String c.in_default-keyword.not-Token) in
+    let p = err_from_is_err_and c.from_residual-in_err-core-in_default-keyword.result c.from_residual-in_err-core-in_default-keyword.ensures.1 in
+    rw (p.1, p.2) (on_fault c.args.tokens.now c.args.at c.args.at _ (λ s bad k. operand_core_stuck first.0 first.1 k) c.in_err-core-in_default-keyword.ensures.reads)
+
+pub operand-returns-in_ok-core-in_default-keyword-clause-inside : goal.operand-returns-in_ok-core-in_default-keyword-clause-inside
+operand-returns-in_ok-core-in_default-keyword-clause-inside t c = passed_past _ c.in_ok-core-in_default-keyword.end _ c.behind_core-in_default-keyword.result (omega (arith, c.in_ok-core-in_default-keyword.ensures.inside.further)) c.behind_core-in_default-keyword.ensures.inside
+
+pub operand-returns-in_ok-core-in_default-keyword-clause-reads : goal.operand-returns-in_ok-core-in_default-keyword-clause-reads
+operand-returns-in_ok-core-in_default-keyword-clause-reads t c =
+    let first = operand_first c.in-Keyword.ensures.next.1 refl (no_datatype c.in-Keyword.keyword c.in_default-keyword.not-String c.in_default-keyword.not-Token) in
+    reads_upto boxed_view c.args.tokens.now c.in_ok-core-in_default-keyword.end c.args.at _ (λ r w. w)
+    (λ s. operand_core_read first.0 first.1 (c.in_ok-core-in_default-keyword.ensures.reads s)) c.behind_core-in_default-keyword.ensures.reads
+
+pub operand-untyped_core-requires : goal.operand-untyped_core-requires
+operand-untyped_core-requires t c = (omega (arith, c.decreases), (c.requires, (operand_first c.in-LeftParen.ensures.next.1 refl refl).1))
+
+pub operand-returns-in_err-core-in-LeftParen-clause-reads : goal.operand-returns-in_err-core-in-LeftParen-clause-reads
+operand-returns-in_err-core-in-LeftParen-clause-reads t c =
+    let first = operand_first c.in-LeftParen.ensures.next.1 refl refl in
+    let p = err_from_is_err_and c.from_residual-in_err-core-in-LeftParen.result c.from_residual-in_err-core-in-LeftParen.ensures.1 in
+    rw (p.1, p.2) (on_fault c.args.tokens.now c.args.at c.args.at _ (λ s bad k. operand_core_stuck first.0 first.1 k) c.in_err-core-in-LeftParen.ensures.reads)
+
+pub operand-returns-in_ok-core-in-LeftParen-clause-inside : goal.operand-returns-in_ok-core-in-LeftParen-clause-inside
+operand-returns-in_ok-core-in-LeftParen-clause-inside t c = passed_past _ c.in_ok-core-in-LeftParen.end _ c.behind_core-in-LeftParen.result (omega (arith, c.in_ok-core-in-LeftParen.ensures.inside.further)) c.behind_core-in-LeftParen.ensures.inside
+
+pub operand-returns-in_ok-core-in-LeftParen-clause-reads : goal.operand-returns-in_ok-core-in-LeftParen-clause-reads
+operand-returns-in_ok-core-in-LeftParen-clause-reads t c =
+    let first = operand_first c.in-LeftParen.ensures.next.1 refl refl in
+    reads_upto boxed_view c.args.tokens.now c.in_ok-core-in-LeftParen.end c.args.at _ (λ r w. w)
+    (λ s. operand_core_read first.0 first.1 (c.in_ok-core-in-LeftParen.ensures.reads s)) c.behind_core-in-LeftParen.ensures.reads
 
 -- ---- patterns
 
@@ -273,7 +327,8 @@ pattern-returns-in_default-clause-reads t c = λ s. pattern_alone _ c.next.resul
 pub pattern-chain-init : goal.pattern-chain-init
 pattern-chain-init t c = record {
   further = c.in_ok-first.ensures.inside.further;
-  inside = c.in_ok-first.ensures.inside.inside;
+  inside = c.in-Operator.ensures.inside;
+  here = c.in-Operator.ensures.next;
   so_far = λ s.
       let here = ap first_terminal c.in-Operator.ensures.next.1 in
       operands_same c.in-Operator.operator _ _ (sym (c.in_ok-push_member.ensures ∙ ap (λ l. map pattern_view l ++ boxed_view c.in_ok-first.first ∷ []) c.in_ok-members.ensures.items))
@@ -281,23 +336,24 @@ pattern-chain-init t c = record {
 }
 
 pub pattern-chain-preserved : goal.pattern-chain-preserved
-pattern-chain-preserved t c =
-    let here = terminal_at c.args.tokens.now c.chain.end (operator c.in-Operator.operator) (c.chain-test.ensures.inside refl) c.chain-test.ensures.is in
-    record {
-      further = omega (arith, c.in_ok-member.ensures.inside.further);
-      inside = c.in_ok-member.ensures.inside.inside;
-      so_far = λ s. operands_same c.in-Operator.operator _ _ (sym c.in_ok-push_member-2.ensures)
-          (chain_read (operands_chain c.in-Operator.operator) _ _ _ (c.chain.invariant.so_far s) here.1 (c.in_ok-member.ensures.reads s));
-    }
+pattern-chain-preserved t c = record {
+  further = omega (arith, c.chain.invariant.further, c.in_ok-member.ensures.inside.further);
+  inside = c.if-not-is_operator.ensures.inside refl;
+  here = terminal_at c.args.tokens.now c.in_ok-member.behind (operator c.in-Operator.operator) (c.if-not-is_operator.ensures.inside refl) c.if-not-is_operator.ensures.is;
+  so_far = λ s. operands_same c.in-Operator.operator _ _ (sym c.in_ok-push_member-2.ensures)
+      (chain_read (operands_chain c.in-Operator.operator) _ _ _ (c.chain.invariant.so_far s) c.chain.invariant.here.1 (c.in_ok-member.ensures.reads s));
+}
 
 pub pattern-returns-in_err-member-clause-reads : goal.pattern-returns-in_err-member-clause-reads
 pattern-returns-in_err-member-clause-reads t c =
-    let here = terminal_at c.args.tokens.now c.chain.end (operator c.in-Operator.operator) (c.chain-test.ensures.inside refl) c.chain-test.ensures.is in
     let p = err_from_is_err_and c.from_residual-in_err-member.result c.from_residual-in_err-member.ensures.1 in
-    rw (p.1, p.2) (on_fault c.args.tokens.now (c.chain.end + 1) c.args.at _ (λ s bad k. chain_stuck (operands_chain c.in-Operator.operator) _ _ _ (c.chain.invariant.so_far s) here.1 k) c.in_err-member.ensures.reads)
+    rw (p.1, p.2) (on_fault c.args.tokens.now (c.chain.end + 1) c.args.at _ (λ s bad k. chain_stuck (operands_chain c.in-Operator.operator) _ _ _ (c.chain.invariant.so_far s) c.chain.invariant.here.1 k) c.in_err-member.ensures.reads)
 
-pub pattern-returns-clause-inside : goal.pattern-returns-clause-inside
-pattern-returns-clause-inside t c = made_advanced boxed_view _ _ _ _ c.chain-2.result c.chain-2.ensures (record { further = c.chain.invariant.further; inside = c.chain.invariant.inside })
+pub pattern-returns-then-not-is_operator-clause-inside : goal.pattern-returns-then-not-is_operator-clause-inside
+pattern-returns-then-not-is_operator-clause-inside t c = made_advanced boxed_view _ _ _ _ c.chain-then-not-is_operator.result c.chain-then-not-is_operator.ensures (record { further = omega (arith, c.chain.invariant.further, c.in_ok-member.ensures.inside.further); inside = c.in_ok-member.ensures.inside.inside })
 
-pub pattern-returns-clause-reads : goal.pattern-returns-clause-reads
-pattern-returns-clause-reads t c = made_reads boxed_view c.args.tokens.now c.args.at c.chain.end c.chain-2.result c.chain-2.ensures (λ s. chain_end (operands_chain c.in-Operator.operator) (map pattern_view c.chain.members.items) _ _ (c.chain.invariant.so_far s) c.chain-test.ensures.is)
+pub pattern-returns-then-not-is_operator-clause-reads : goal.pattern-returns-then-not-is_operator-clause-reads
+pattern-returns-then-not-is_operator-clause-reads t c = made_reads boxed_view c.args.tokens.now c.args.at c.in_ok-member.behind c.chain-then-not-is_operator.result c.chain-then-not-is_operator.ensures
+    (λ s. chain_end (operands_chain c.in-Operator.operator) _ _ _
+    (operands_same c.in-Operator.operator _ _ (sym c.in_ok-push_member-2.ensures) (chain_read (operands_chain c.in-Operator.operator) _ _ _ (c.chain.invariant.so_far s) c.chain.invariant.here.1 (c.in_ok-member.ensures.reads s)))
+    c.if-not-is_operator.ensures.is)

@@ -1,5 +1,6 @@
 -- Each call stands further on, or reads a smaller part of the production at the same token.
-use Rattle.std.proofs.Common.{◌<◌, ◌≤◌, ◌-◌, ◌+◌, ◌*◌, length, map}
+use Rattle.std.proofs.Common.{◌≡◌, ◌∷◌, ℕ, ◌<◌, ◌-◌, ◌+◌, ◌*◌, length, map}
+use Rattle.rn_syntax.specs.Terminal.{◌#◌, operator}
 use Rattle.rn_syntax.specs.inside.Reading.{rest}
 use Rattle.rn_syntax.specs.Spelled.{AreSpelled}
 use Rattle.rn_syntax.specs.View.{pattern_view}
@@ -10,7 +11,8 @@ use Rattle.rn_syntax.proofs.patterns.+pattern.Given as goal
 abbrev pub invariant-pattern-chain : goal.invariant-pattern-chain
 invariant-pattern-chain l = record {
   further : l.fn.at < l.end;
-  inside : l.end ≤ length l.tokens;
+  inside : l.end < length l.tokens;
+  here : (i : ℕ) × (rest l.tokens l.end ≡ operator l.operator # i ∷ rest l.tokens (l.end + 1));
   so_far : AreSpelled l.tokens → So_far (operands_chain l.operator) (map pattern_view l.members.items) (rest l.tokens l.fn.at) (rest l.tokens l.end);
 }
 
@@ -22,6 +24,9 @@ decreases-pattern l = 6 * (length l.tokens.now - l.at) + 5
 
 abbrev pub decreases-operand : goal.decreases-operand
 decreases-operand l = 6 * (length l.tokens.now - l.at) + 4
+
+abbrev pub decreases-any_operand : goal.decreases-any_operand
+decreases-any_operand l = 6 * (length l.tokens.now - l.at) + 3
 
 abbrev pub decreases-primary : goal.decreases-primary
 decreases-primary l = 6 * (length l.tokens.now - l.at) + 4

@@ -1,18 +1,12 @@
 -- A postfix repeats the primary; what else comes leaves it.
 use Rattle.std.proofs.Common.{◌+◌}
-use Rattle.std.proofs.lemmas.Result.{err_from_is_err_and}
 use Rattle.rn_syntax.specs.View.{boxed_view}
-use Rattle.rn_syntax.proofs.readings.Compose.{on_fault, made_reads}
-use Rattle.rn_syntax.proofs.readings.Operands.{alone_took, repeated_took, repeated_stuck}
+use Rattle.rn_syntax.proofs.readings.Compose.{reads_upto}
+use Rattle.rn_syntax.proofs.readings.Operands.{alone_took, postfix_at}
 use Rattle.rn_syntax.proofs.patterns.behind_primary.Goals as goal
+
+pub returns-in-Postfix-clause-reads : goal.returns-in-Postfix-clause-reads
+returns-in-Postfix-clause-reads c = reads_upto boxed_view c.args.tokens.now (c.args.at + 1) c.args.at _ (λ r w. w) (λ s. postfix_at (boxed_view c.args.primary) c.in-Postfix.postfix c.in-Postfix.ensures.next.1) c.behind_postfix.ensures.reads
 
 pub returns-in_default-clause-reads : goal.returns-in_default-clause-reads
 returns-in_default-clause-reads c = λ s. alone_took _ _ _ c.next.result c.next.ensures.next c.in_default.not-Postfix
-
-pub returns-in_err-behind-clause-reads : goal.returns-in_err-behind-clause-reads
-returns-in_err-behind-clause-reads c =
-    let p = err_from_is_err_and c.from_residual.result c.from_residual.ensures.1 in
-    rw (p.1, p.2) (on_fault c.args.tokens.now (c.args.at + 1) c.args.at _ (λ s bad k. repeated_stuck (boxed_view c.args.primary) c.in-Postfix.postfix c.in-Postfix.ensures.next.1 k) c.in_err-behind.ensures.skips)
-
-pub returns-clause-reads : goal.returns-clause-reads
-returns-clause-reads c = made_reads boxed_view c.args.tokens.now c.args.at c.in_ok-behind.behind c.repeated.result c.repeated.ensures (λ s. repeated_took _ _ c.in-Postfix.ensures.next.1 (c.in_ok-behind.ensures.skips s))

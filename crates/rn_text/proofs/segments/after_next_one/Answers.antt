@@ -1,7 +1,7 @@
 use Rattle.std.proofs.Common.{◌∷◌, [], sym, refl, subst, ne_eqb}
 use Rattle.std.specs.Str.{chars}
 use Rattle.rn_text.specs.Segments.{ends_at_one}
-use Rattle.rn_text.proofs.Cutting.SegmentEnds.{Searched, search_start, search_step, search_found, search_none, none_left, one_step, one_none, one_here}
+use Rattle.rn_text.proofs.Cutting.DelimitedFronts.{Searched, search_start, search_step, search_found, search_none, none_left, one_step, one_none, one_here}
 use Rattle.rn_text.proofs.segments.after_next_one.Goals as goal
 
 pub loop-c-init : goal.loop-c-init

@@ -1,6 +1,6 @@
 -- The files so far were added.
 use Rattle.std.proofs.Common.{◌≡◌, All, take}
-use Rattle.rn_plan.specs.Files.{HasTargets, files_of}
+use Rattle.rn_plan.specs.UnitFiles.{HasTargets, files_of}
 use Rattle.rn_plan.proofs.units.Units.of.Given as goal
 
 abbrev pub invariant-loop-file : goal.invariant-loop-file

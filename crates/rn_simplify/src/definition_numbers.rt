@@ -1,0 +1,49 @@
+// The number of a definition by its name.
+ghost use Rattle.std.specs.Prelude.{◌≡◌, ◌<◌, IfSome, IsTrue, Some, length};
+ghost use Rattle.rn_assemble.specs.GrammarView.{definitions_view};
+ghost use Rattle.rn_simplify.specs.inside.DefinitionNumbers.{number_of};
+
+use crate::settling::name_of;
+use rn_assemble::Definitions;
+
+/// The most numbers that are looked through one by one: of two names mostly the lengths or the last bytes differ, while a
+/// hash takes all bytes.
+const FEW_NUMBERS: usize = 8;
+
+/// The number of the definition of a name. The likely numbers are tried first, if they are few.
+pub(crate) fn find_number(names: &Definitions, likely: &[usize], name: &str) -> Option<usize>
+    ensures number { result ≡ number_of (definitions_view names.now.entries) name.now }
+    ensures within { IfSome result (λ k. k < length names.now.entries) }
+{
+    match find_among(names, likely, name) {
+        Some(number) => Some(number),
+        None => names.get_index_of(name),
+    }
+}
+
+/// The one of a few numbers whose definition has the name.
+fn find_among(names: &Definitions, likely: &[usize], name: &str) -> Option<usize>
+    ensures { IfSome result
+        (λ k. number_of (definitions_view names.now.entries) name.now ≡ Some k) }
+{
+    if likely.len() > FEW_NUMBERS {
+        return None;
+    }
+    for number in likely {
+        if is_named(names, *number, name) {
+            return Some(*number);
+        }
+    }
+    None
+}
+
+/// Whether there is a definition with the number, and it has the name.
+fn is_named(names: &Definitions, number: usize, name: &str) -> bool
+    ensures { IsTrue result
+        → number_of (definitions_view names.now.entries) name.now ≡ Some number }
+{
+    if number >= names.len() {
+        return false;
+    }
+    name_of(names, number).as_str() == name
+}
