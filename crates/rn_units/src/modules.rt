@@ -76,7 +76,10 @@ fn include_literals(rt: HostRuntime) {
 
 /// Whether the literal of the only include of a module is a slice of its text.
 fn has_borrowed(module: &Module) -> Option<bool> {
-    let [Item::Include(include)] = module.items.as_slice() else {
+    let [item] = module.items.as_slice() else {
+        return None;
+    };
+    let Item::Include(include) = item else {
         return None;
     };
     match include.wanted {
