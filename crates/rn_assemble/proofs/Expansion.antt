@@ -21,3 +21,4 @@ pub mod WantedNumbers
 pub mod FirstIncludes
 pub mod EntryMarks
 pub mod RunNumbers
+pub mod CountedBodies

@@ -9,6 +9,7 @@ pub mod UsedMethods
 pub mod KeyPatterns
 pub mod DefinedNames
 pub mod FirstPlaces
+pub mod DistinctNames
 pub mod Defining
 pub mod HeldStart
 pub mod SharedPatterns

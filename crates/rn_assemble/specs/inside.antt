@@ -1,7 +1,11 @@
 -- What contracts of private functions speak of: numbers that stand for names, and how modules, components and references lie
 -- in the code. No public contract cites it. Lemmas stand here too that a ghost field's `by` cites.
+pub mod Bodies
 pub mod Bound
 pub mod Checked
+pub mod Coded
+pub mod CombinedDefinitions
+pub mod CombinedView
 pub mod Contained
 pub mod Expanded
 pub mod Held

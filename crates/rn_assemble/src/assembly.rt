@@ -6,7 +6,7 @@ ghost use Rattle.rn_assemble.specs.inside.Checked.{AreExpanded, IsGrammarOf, IsL
 ghost use Rattle.rn_assemble.specs.Components as specs;
 ghost use Rattle.rn_assemble.specs.inside.Contained.{AreFlat};
 ghost use Rattle.rn_assemble.specs.GrammarView.{grammar_view};
-ghost use Rattle.rn_assemble.specs.JoinedView.{joined_view};
+ghost use Rattle.rn_assemble.specs.inside.CombinedView.{combined_view};
 ghost use Rattle.rn_assemble.specs.inside.Lacking.{IsLeastLack};
 ghost use Rattle.rn_assemble.specs.inside.Methods.{CanCombine, IsUncombined};
 ghost use Rattle.rn_assemble.specs.Refusal.{IsAssembled, Lacks};
@@ -15,13 +15,14 @@ ghost use Rattle.rn_assemble.specs.inside.Sound.{HasSoundReferences, IsUnsound};
 ghost use Rattle.rn_assemble.specs.inside.Views.{AreInOrder, modules_view, names_of};
 ghost use Rattle.rn_assemble.specs.inside.Listed.{OfKeys};
 
+use crate::combined_grammar::Combined;
 use crate::components::{Components, Lack};
 use crate::contents::contents_of;
-use crate::definitions::grammar;
+use crate::definitions::combined_grammar;
 use crate::expanding::components_of;
 use crate::grammar::Grammar;
 use crate::inclusion::included_roots;
-use crate::joined_grammar::Joined;
+use crate::joined_definitions::joined_grammar;
 use crate::keys::{Keys, START};
 use crate::known::Known;
 use crate::named_modules::{NamedModule, read_modules};
@@ -40,21 +41,31 @@ pub fn assemble(alloc: Global, set: &ModuleSet) -> Result<Grammar, Refusal>
     ensures { MatchResult result (λ g. IsAssembled set.now (grammar_view g))
         (IsFirstRefusal set.now) }
 {
-    let modules = read_modules(alloc, set)?;
-    let joined = assemble_modules(alloc, modules.as_slice(), &seed_of(set))?;
+    let seed = seed_of(set);
+    let combined = combine_set(alloc, set, &seed)?;
+    let joined = joined_grammar(alloc, combined, &seed)?;
     Ok(Grammar { joined })
 }
 
-/// The grammar of the modules, or the first refusal that stands for them.
-fn assemble_modules<'s>(
+/// The combined patterns of the set, or the first refusal that stands for it. The trees of the modules are given up.
+fn combine_set<'s>(alloc: Global, set: &'s ModuleSet, seed: &Seed) -> Result<Combined<'s>, Refusal>
+    ensures { MatchResult result (λ c. IsAssembled set.now (combined_view c))
+        (IsFirstRefusal set.now) }
+{
+    let modules = read_modules(alloc, set)?;
+    combine_modules(alloc, modules.as_slice(), seed)
+}
+
+/// The combined patterns of the modules, or the first refusal that stands for them.
+fn combine_modules<'s>(
     alloc: Global,
     modules: &[NamedModule<'s>],
     seed: &Seed,
-) -> Result<Joined, Refusal>
+) -> Result<Combined<'s>, Refusal>
     requires in_order { AreInOrder modules.now }
     requires flat { AllByRecursion (λ (m : specs.NamedModule). AreFlat m.tree.items)
         (modules_view modules.now) }
-    ensures { MatchResult result (λ g. IsGrammarOf (modules_view modules.now) (joined_view g))
+    ensures { MatchResult result (λ c. IsGrammarOf (modules_view modules.now) (combined_view c))
         (IsFirstOfModules (modules_view modules.now)) }
 {
     let roots = included_roots(alloc, modules)?;
@@ -68,25 +79,24 @@ fn assemble_modules<'s>(
         roots.as_slice(),
         keys.len(),
     )?;
-    join_components(alloc, modules, &keys, &components, seed)
+    combine_keys(alloc, modules, &keys, &components)
 }
 
-/// The grammar to which the components of the modules are joined, or the first refusal that stands for them.
-fn join_components<'s>(
+/// The combined patterns of the modules' components, or the first refusal that stands for them.
+fn combine_keys<'s>(
     alloc: Global,
     modules: &[NamedModule<'_>],
     keys: &Keys<'s>,
     components: &Components<'_, '_, 's>,
-    seed: &Seed,
-) -> Result<Joined, Refusal>
+) -> Result<Combined<'s>, Refusal>
     requires { AreExpanded (modules_view modules.now) (names_of keys.now) components.now }
-    ensures { MatchResult result (λ g. IsGrammarOf (modules_view modules.now) (joined_view g))
+    ensures { MatchResult result (λ c. IsGrammarOf (modules_view modules.now) (combined_view c))
         (IsFirstOfModules (modules_view modules.now)) }
 {
     check_overrides(alloc, modules, keys, components.lack)?;
     check_methods(alloc, keys, components)?;
     check_references(alloc, keys, components)?;
-    grammar(alloc, keys, components, seed)
+    combined_grammar(alloc, keys, components)
 }
 
 /// Refuses the least override of what isn't there.

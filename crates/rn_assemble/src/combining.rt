@@ -15,7 +15,8 @@ ghost use Rattle.rn_assemble.specs.inside.Tied.{body_of};
 ghost use Rattle.rn_assemble.specs.inside.Methods.{IsLeastNumber, is_method};
 ghost use Rattle.rn_assemble.specs.inside.Listed.{AtKey, Lists, Live, OfBody, OfKeys, WithBody, components_in};
 
-use crate::components::{Body, Components, Near};
+use crate::bodies::Body;
+use crate::components::{Components, Near};
 use crate::keys::Keys;
 use crate::nodes::{box_pattern, choice, interleave, share_pattern};
 use crate::refusal::Refusal;
@@ -33,19 +34,19 @@ impl<'c, 't, 's> Components<'c, 't, 's> {
             (body_of self.now.list (row self.now.places.items key) index)
             (λ c. result ≡ Some c.method) }
     {
-        let body = self.body(self.body_of(key, index, near)?)?;
+        let number = self.body_of(key, index, near)?;
+        let body = self.body(number, near)?;
         Some(body.component.method)
     }
 
     /// Whether some component of the key uses the method.
-    fn uses(&self, key: usize, method: Method) -> bool
+    fn uses(&self, key: usize, method: Method, near: &mut Near) -> bool
         ensures { (names : List Text) (live : List Live) → Lists names self.now live
             → IsStrictlySortedBy text_cmp names → key < length names + 1
             → result ≡ spec.uses (is_method method) (key_at names key) (components_in live) }
     {
-        let mut near = Near::default();
         for index in 0..self.count_of(key) {
-            if self.method(key, index, &mut near) == Some(method) {
+            if self.method(key, index, near) == Some(method) {
                 return true;
             }
         }
@@ -53,15 +54,14 @@ impl<'c, 't, 's> Components<'c, 't, 's> {
     }
 
     /// Whether two components of the key are plain.
-    fn is_plain_twice(&self, key: usize) -> bool
+    fn is_plain_twice(&self, key: usize, near: &mut Near) -> bool
         ensures { (names : List Text) (live : List Live) → Lists names self.now live
             → IsStrictlySortedBy text_cmp names → key < length names + 1
             → (IsTrue result ↔ spec.IsPlainTwice (key_at names key) (components_in live)) }
     {
-        let mut near = Near::default();
         let mut is_plain = false;
         for index in 0..self.count_of(key) {
-            if self.method(key, index, &mut near) == Some(Method::Plain) {
+            if self.method(key, index, near) == Some(Method::Plain) {
                 if is_plain {
                     return true;
                 }
@@ -77,8 +77,9 @@ impl<'c, 't, 's> Components<'c, 't, 's> {
             → IsStrictlySortedBy text_cmp names → keys ≡ length names + 1
             → IsLeastNumber names (λ k. spec.IsPlainTwice k (components_in live)) result }
     {
+        let mut near = Near::default();
         for key in 0..keys {
-            if self.is_plain_twice(key) {
+            if self.is_plain_twice(key, &mut near) {
                 return Some(key);
             }
         }
@@ -91,8 +92,11 @@ impl<'c, 't, 's> Components<'c, 't, 's> {
             → IsStrictlySortedBy text_cmp names → keys ≡ length names + 1
             → IsLeastNumber names (λ k. spec.IsMixed k (components_in live)) result }
     {
+        let mut near = Near::default();
         for key in 0..keys {
-            if self.uses(key, Method::Choice) && self.uses(key, Method::Interleave) {
+            if self.uses(key, Method::Choice, &mut near)
+                && self.uses(key, Method::Interleave, &mut near)
+            {
                 return Some(key);
             }
         }
@@ -115,8 +119,9 @@ pub(crate) fn combine_components(
 {
     let mut shared: Shared = vec![in alloc; None; components.count_bodies()]?;
     let mut patterns = Vec::with_capacity(alloc, keys.len())?;
+    let mut near = Near::default();
     for key in 0..keys.len() {
-        patterns.push(combine_key(alloc, keys, components, &mut shared, key)?)?;
+        patterns.push(combine_key(alloc, keys, components, &mut shared, key, &mut near)?)?;
     }
     Ok(patterns)
 }
@@ -128,8 +133,9 @@ fn combine_key(
     components: &Components<'_, '_, '_>,
     shared: &mut Shared,
     key: usize,
+    near: &mut Near,
 ) -> Result<Option<Box<Pattern>>, Refusal>
-    requires { length shared.old.items ≡ length components.now.bodies.items }
+    requires { length shared.old.items ≡ length components.now.bodies }
     ensures size { length shared.new.items ≡ length shared.old.items }
     ensures kept { AreSharedBy keys.now components.now shared.old.items
         → AreSharedBy keys.now components.now shared.new.items }
@@ -143,10 +149,10 @@ fn combine_key(
         return Ok(None);
     }
     if count == 1 {
-        return component_pattern(alloc, keys, components, key);
+        return component_pattern(alloc, keys, components, key, near);
     }
-    let members = member_patterns(alloc, keys, components, shared, key)?;
-    Ok(Some(list_by_method(alloc, components, key, members)?))
+    let members = member_patterns(alloc, keys, components, shared, key, near)?;
+    Ok(Some(list_by_method(alloc, components, key, members, near)?))
 }
 
 /// The list of the members, by the key's method.
@@ -155,11 +161,12 @@ fn list_by_method(
     components: &Components<'_, '_, '_>,
     key: usize,
     members: Vec<Rc<Pattern>>,
+    near: &mut Near,
 ) -> Result<Box<Pattern>, AllocError>
     ensures { AtKey components.now key (λ k cs. IfOk result (λ p. boxed_view p
         ≡ spec.method_node k cs (trees_of (map shared_view members.items)))) }
 {
-    if components.uses(key, Method::Interleave) {
+    if components.uses(key, Method::Interleave, near) {
         box_pattern(alloc, interleave(members))
     } else {
         box_pattern(alloc, choice(members))
@@ -172,19 +179,20 @@ fn component_pattern(
     keys: &Keys<'_>,
     components: &Components<'_, '_, '_>,
     key: usize,
+    near: &mut Near,
 ) -> Result<Option<Box<Pattern>>, Refusal>
     ensures { WithBody (names_of keys.now) components.now
         (body_of components.now.list (row components.now.places.items key) 0)
         (λ c. MatchResult result (λ p. IsSomeAnd p (λ q. IsSound c (boxed_view q)))
         (IsMisnamedBy c)) }
 {
-    let Some(number) = components.body_of(key, 0, &mut Near::default()) else {
+    let Some(number) = components.body_of(key, 0, near) else {
         return Ok(None);
     };
-    let Some(body) = components.body(number) else {
+    let Some(body) = components.body(number, near) else {
         return Ok(None);
     };
-    Ok(Some(resolve_body(alloc, keys, body)?))
+    Ok(Some(resolve_body(alloc, keys, &body)?))
 }
 
 /// The patterns of the key's components, each body resolved once.
@@ -194,8 +202,9 @@ fn member_patterns(
     components: &Components<'_, '_, '_>,
     shared: &mut Shared,
     key: usize,
+    near: &mut Near,
 ) -> Result<Vec<Rc<Pattern>>, Refusal>
-    requires { length shared.old.items ≡ length components.now.bodies.items }
+    requires { length shared.old.items ≡ length components.now.bodies }
     ensures size { length shared.new.items ≡ length shared.old.items }
     ensures kept { AreSharedBy keys.now components.now shared.old.items
         → AreSharedBy keys.now components.now shared.new.items }
@@ -206,10 +215,9 @@ fn member_patterns(
 {
     let count = components.count_of(key);
     let mut members = Vec::with_capacity(alloc, count)?;
-    let mut near = Near::default();
     for index in 0..count {
-        let number = components.body_of(key, index, &mut near);
-        if let Some(pattern) = member_pattern(alloc, keys, components, shared, number)? {
+        let number = components.body_of(key, index, near);
+        if let Some(pattern) = member_pattern(alloc, keys, components, shared, number, near)? {
             members.push(pattern)?;
         }
     }
@@ -223,8 +231,9 @@ fn member_pattern(
     components: &Components<'_, '_, '_>,
     shared: &mut Shared,
     found: Option<usize>,
+    near: &mut Near,
 ) -> Result<Option<Rc<Pattern>>, Refusal>
-    requires { length shared.old.items ≡ length components.now.bodies.items }
+    requires { length shared.old.items ≡ length components.now.bodies }
     ensures size { length shared.new.items ≡ length shared.old.items }
     ensures kept { AreSharedBy keys.now components.now shared.old.items
         → AreSharedBy keys.now components.now shared.new.items }
@@ -235,10 +244,10 @@ fn member_pattern(
     let Some(number) = found else {
         return Ok(None);
     };
-    let Some(body) = components.body(number) else {
+    let Some(body) = components.body(number, near) else {
         return Ok(None);
     };
-    Ok(Some(share_body(alloc, keys, body, &mut shared[number])?))
+    Ok(Some(share_body(alloc, keys, &body, &mut shared[number])?))
 }
 
 /// The pattern of the body, which is resolved where none is held.

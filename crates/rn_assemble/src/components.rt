@@ -1,5 +1,5 @@
 // The components of a set: bodies, which of them stand in the list, and where those of each key stand.
-ghost use Rattle.std.specs.Prelude.{◌≡◌, IsTrue, ℕ, ◌+◌, ◌-◌, ◌<◌, ◌≤◌, ◌==◌, not, List, [], ◌∷◌, ◌++◌, map, filter, length, vec_len, slice_get, slice_index_or, Contains, IfOk, IfSome, option_copied};
+ghost use Rattle.std.specs.Prelude.{◌≡◌, IsTrue, ℕ, ◌+◌, ◌-◌, ◌<◌, ◌≤◌, ◌==◌, not, List, [], ◌∷◌, ◌++◌, filter, length, slice_get, slice_index_or, Contains, IfOk, IfSome};
 ghost use Rattle.std.specs.List.{AllByRecursion};
 ghost use Rattle.std.specs.Rc.{rc_str_bytes};
 ghost use Rattle.rn_text.specs.Texts.{Text};
@@ -10,7 +10,8 @@ ghost use Rattle.rn_assemble.specs.inside.Expanded.{AddsLive, CanAdd, ContextsHo
 ghost use Rattle.rn_assemble.specs.inside.Listed.{AreBefore, IsBody, Lists, Live, Rises, resolved_between};
 ghost use Rattle.rn_assemble.specs.inside.Tied.{body_of};
 
-use crate::contents::{Component, Contents};
+use crate::bodies::{Bodies, Body};
+use crate::contents::Contents;
 use crate::context::Context;
 use crate::numbers::Numbers;
 use crate::runs::Runs;
@@ -35,13 +36,6 @@ impl MetContext<'_> {
     }
 }
 
-/// A component in a context.
-#[derive(Clone, Copy)]
-pub(crate) struct Body<'c, 't, 's> {
-    pub component: Component<'t, 's>,
-    pub context: Context<'c, 't>,
-}
-
 /// An include of a module that has no component of a key which the include's own components have.
 #[derive(Clone, Copy, PartialEq, Eq, PartialOrd, Ord)]
 pub(crate) struct Lack {
@@ -49,11 +43,13 @@ pub(crate) struct Lack {
     pub key: usize,
 }
 
-/// The runs that were read last: of a key's places, and of the bodies at places. A reader looks there first.
+/// What was read last: the runs of a key's places and of the bodies at places, and the context of a body. A reader looks
+/// there first.
 #[derive(Clone, Copy, Default)]
 pub(crate) struct Near {
     place: usize,
     body: usize,
+    context: usize,
 }
 
 /// The components of a set in their order. Each is kept as the number of its body, which many of them share.
@@ -61,7 +57,7 @@ pub(crate) struct Near {
 pub(crate) struct Components<'c, 't, 's> {
     /// The contexts that were met, no more than a set has instances.
     contexts: Vec<MetContext<'c>>,
-    bodies: Vec<Body<'c, 't, 's>>,
+    bodies: Bodies<'c, 't, 's>,
     /// The body of each component, also of those that an include has overridden.
     list: Runs,
     /// Of each key, the places of its components, without the overridden ones.
@@ -84,14 +80,14 @@ impl<'c, 't, 's> Components<'c, 't, 's> {
         }
         Ok(Components {
             contexts: Vec::new(alloc),
-            bodies: Vec::new(alloc),
+            bodies: Bodies::new(alloc),
             list: Runs::new(alloc),
             places,
             lack: None,
         })
     }
 
-    /// The number of the first body of a module in this context. The bodies are made when it is met first.
+    /// The number of the first body of a module in this context. The bodies are added when it is met first.
     pub fn enter(
         &mut self,
         content: &'c Contents<'t, 's>,
@@ -109,7 +105,7 @@ impl<'c, 't, 's> Components<'c, 't, 's> {
             return Ok(first);
         }
         let first = self.bodies.len();
-        self.make_bodies(content, context)?;
+        self.bodies.push_all(content, context)?;
         self.contexts.push(MetContext {
             module,
             inherited: context.inherited,
@@ -133,27 +129,6 @@ impl<'c, 't, 's> Components<'c, 't, 's> {
         None
     }
 
-    /// Adds the bodies of a module in a context.
-    fn make_bodies(
-        &mut self,
-        content: &'c Contents<'t, 's>,
-        context: Context<'c, 't>,
-    ) -> Result<(), AllocError>
-        ensures kept { KeepsLists self.old self.new }
-        ensures contexts { self.new.contexts ≡ self.old.contexts }
-        ensures made { IfOk result (λ _. self.new.bodies.items ≡ self.old.bodies.items
-            ++ map (λ c. record { component = c; context = context.entry })
-            content.now.components.items) }
-    {
-        for component in &content.components {
-            self.bodies.push(Body {
-                component: *component,
-                context,
-            })?;
-        }
-        Ok(())
-    }
-
     /// Adds the components of those numbers.
     pub fn add(
         &mut self,
@@ -170,14 +145,15 @@ impl<'c, 't, 's> Components<'c, 't, 's> {
             → IfOk result (λ _. AddsLive names self.old self.new live
             (resolved_between names content.now inherited ds from to)) }
     {
+        let count = self.count_bodies();
         for number in from..to {
             let Some(component) = content.components.get(number) else {
                 return Ok(());
             };
-            let Some(body) = first.checked_add(number) else {
+            if number >= count.saturating_sub(first) {
                 return Ok(());
-            };
-            self.place(component.key, body)?;
+            }
+            self.place(component.key, first + number)?;
         }
         Ok(())
     }
@@ -187,8 +163,8 @@ impl<'c, 't, 's> Components<'c, 't, 's> {
         ensures kept { KeepsBodies self.old self.new }
         ensures lack { self.new.lack ≡ self.old.lack }
         ensures placed { (names : List Text) (live : List Live) (c : specs.Component)
-            → Lists names self.old live → body < length self.old.bodies.items
-            → ((d : Body) → IsBody names (slice_index_or self.old.bodies.items body d) key c)
+            → Lists names self.old live → body < length self.old.bodies
+            → ((d : Body) → IsBody names (slice_index_or self.old.bodies body d) key c)
             → IfOk result (λ _. Lists names self.new
             (live ++ record {
               place = length self.old.list;
@@ -227,7 +203,7 @@ impl<'c, 't, 's> Components<'c, 't, 's> {
         ensures { result ≡ body_of self.now.list (row self.now.places.items key) index }
     {
         let place = self.places.get(key)?.get(index, &mut near.place)?;
-        self.body_at(place, &mut near.body)
+        self.body_at(place, near)
     }
 
     /// The place of the last component of a key.
@@ -261,23 +237,23 @@ impl<'c, 't, 's> Components<'c, 't, 's> {
 
     /// How many bodies there are.
     pub fn count_bodies(&self) -> usize
-        ensures { result ≡ vec_len self.now.bodies }
+        ensures { result ≡ length self.now.bodies }
     {
         self.bodies.len()
     }
 
     /// The body of that number.
-    pub fn body(&self, number: usize) -> Option<&Body<'c, 't, 's>>
-        ensures { option_copied result ≡ slice_get self.now.bodies.items number }
+    pub fn body(&self, number: usize, near: &mut Near) -> Option<Body<'c, 't, 's>>
+        ensures { result ≡ slice_get self.now.bodies number }
     {
-        self.bodies.get(number)
+        self.bodies.get(number, &mut near.context)
     }
 
-    /// The number of the body of the component at that place. `near` is that of the list's run that was read last.
-    pub fn body_at(&self, place: usize, near: &mut usize) -> Option<usize>
+    /// The number of the body of the component at that place.
+    pub fn body_at(&self, place: usize, near: &mut Near) -> Option<usize>
         ensures { result ≡ slice_get self.now.list place }
     {
-        self.list.get(place, near)
+        self.list.get(place, &mut near.body)
     }
 }
 

@@ -78,7 +78,7 @@ fn contents_of_module<'t, 's>(
 {
     let mut contents = Contents {
         bindings: DeclaredUris::new(alloc, module.tree.decls.as_slice(), known)?,
-        components: Vec::new(alloc),
+        components: Vec::with_capacity(alloc, module.tree.items.len())?,
         includes: Vec::new(alloc),
     };
     gather(&mut contents, modules, keys, &module.tree.items)?;

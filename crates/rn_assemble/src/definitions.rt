@@ -1,96 +1,95 @@
-// The grammar of components: the combined pattern of each key, by the names of the definitions.
-ghost use Rattle.std.specs.Prelude.{◌≡◌, ◌∷◌, ◌++◌, List, [], None, false, true, bytes_eq, map, slice_index_or, slice_set, IfOk, MatchResult, OnOk};
-ghost use Rattle.std.specs.List.{list_any};
+// The patterns of all keys, combined, with the names of the definitions.
+ghost use Rattle.std.specs.Prelude.{◌≡◌, ◌≤◌, List, [], None, true, length, slice_index_or, slice_set, IfOk, MatchResult};
 ghost use Rattle.std.specs.List.Sorted.{IsStrictlySortedBy};
-ghost use Rattle.rn_pattern.specs.Tree.{Tree};
 ghost use Rattle.rn_text.specs.Texts.{Text, text_cmp};
 ghost use Rattle.rn_assemble.specs.Combine.{joined_grammar};
 ghost use Rattle.rn_assemble.specs.Components.{has_key, start_key};
-ghost use Rattle.rn_assemble.specs.DefinitionsView.{definitions_view};
-ghost use Rattle.rn_assemble.specs.inside.Tied.{HaveTied, firsts_of};
-ghost use Rattle.rn_assemble.specs.inside.Joining.{HasStart, IsJoinedGrammar, IsMisnamed};
+ghost use Rattle.rn_assemble.specs.inside.CombinedDefinitions.{combined_definitions};
+ghost use Rattle.rn_assemble.specs.inside.Tied.{HasRow, HaveTied, firsts_of};
+ghost use Rattle.rn_assemble.specs.inside.Joining.{HasStart, IsCombinedGrammar, IsMisnamed};
 ghost use Rattle.rn_assemble.specs.inside.Listed.{Lists, Live, OfKeys};
 ghost use Rattle.rn_assemble.specs.inside.Patterns.{HavePatterns, IsFirstAt};
-ghost use Rattle.rn_pattern.specs.View.{boxed_view};
 ghost use Rattle.rn_assemble.specs.inside.Views.{names_of};
 
+use crate::combined_grammar::{Combined, Definition};
 use crate::combining::combine_components;
-use crate::components::Components;
+use crate::components::{Components, Near};
 use crate::firsts::Met;
-use crate::joined_grammar::{Definitions, Joined};
 use crate::keys::{Keys, START};
 use crate::refusal::Refusal;
-use indexmap::IndexMap;
-use rn_pattern::{Pattern, Seed};
+use rn_pattern::Pattern;
 use std::alloc::{AllocError, Global};
 
-/// The combined patterns, those of names in the order of each one's first component, in a map that hashes by the seed.
-pub(crate) fn grammar(
+/// The combined patterns of all keys, those of names in the order of each one's first component.
+pub(crate) fn combined_grammar<'s>(
     alloc: Global,
-    keys: &Keys<'_>,
+    keys: &Keys<'s>,
     components: &Components<'_, '_, '_>,
-    seed: &Seed,
-) -> Result<Joined, Refusal>
+) -> Result<Combined<'s>, Refusal>
     requires { HasStart (names_of keys.now) components.now }
     ensures { OfKeys keys.now components.now
         (λ names cs. has_key start_key cs ≡ true
-        → MatchResult result (IsJoinedGrammar cs) (IsMisnamed cs)) }
+        → MatchResult result (IsCombinedGrammar cs) (IsMisnamed cs)) }
 {
     let mut patterns = combine_components(alloc, keys, components)?;
     let start = take(&mut patterns, START).unwrap();
-    let mut met = vec![in alloc; 0; components.count_bodies()]?;
+    let mut met = components.nothing_met(alloc)?;
     let start_firsts = components.firsts(alloc, START, &mut met)?;
-    let (defs, firsts) = definitions(alloc, keys, components, seed, &mut patterns, &mut met)?;
-    Ok(Joined {
-        start: Box::into_inner(start),
-        defs,
+    let (definitions, firsts) = definitions(alloc, keys, components, &mut patterns, &mut met)?;
+    Ok(Combined {
+        start,
+        definitions,
         start_firsts,
         firsts,
     })
 }
 
 /// The definitions of all names that have components, which take their patterns, and the first places of their members.
-fn definitions(
+fn definitions<'s>(
     alloc: Global,
-    keys: &Keys<'_>,
+    keys: &Keys<'s>,
     components: &Components<'_, '_, '_>,
-    seed: &Seed,
     patterns: &mut Vec<Option<Box<Pattern>>>,
     met: &mut Met,
-) -> Result<(Definitions, Vec<Vec<u32>>), AllocError>
+) -> Result<(Vec<Definition<'s>>, Vec<Vec<u32>>), AllocError>
     ensures { OfKeys keys.now components.now
         (λ names cs. HavePatterns names cs [] patterns.old.items
-        → IfOk result (λ made. HaveTied (firsts_of made.1.items) (definitions_view made.0.entries)
-        × (definitions_view made.0.entries ≡ (joined_grammar cs).definitions))) }
+        → IfOk result (λ made. HaveTied (firsts_of made.1.items) (combined_definitions made.0.items)
+        × (combined_definitions made.0.items ≡ (joined_grammar cs).definitions))) }
 {
-    let mut defs = IndexMap::with_hasher(alloc, *seed);
+    let mut definitions = Vec::with_capacity(alloc, keys.len())?;
     let mut firsts = Vec::new(alloc);
-    let mut near = 0;
+    let mut near = Near::default();
     for place in 0..components.count() {
         if let Some(key) = components.first_at(place, &mut near) {
             if let Some(pattern) = take(patterns, key) {
-                define(alloc, &mut defs, keys.name(key), pattern)?;
-                firsts.push(components.firsts(alloc, key, met)?)?;
+                let found = components.firsts(alloc, key, met)?;
+                keep_row(alloc, &mut firsts, definitions.len(), found)?;
+                let name = keys.name(key);
+                definitions.push(Definition { name, pattern })?;
             }
         }
     }
-    Ok((defs, firsts))
+    Ok((definitions, firsts))
 }
 
-/// Adds the definition of a name, behind those of others.
-fn define(
+/// Keeps a row at its number, behind all others. An empty one takes no memory.
+fn keep_row(
     alloc: Global,
-    defs: &mut Definitions,
-    name: &str,
-    pattern: Box<Pattern>,
+    rows: &mut Vec<Vec<u32>>,
+    number: usize,
+    row: Vec<u32>,
 ) -> Result<(), AllocError>
-    ensures { OnOk result (list_any (bytes_eq name.now)
-        (map (λ (d : Text × Tree). d.0) (definitions_view defs.old.entries)) ≡ false
-        → definitions_view defs.new.entries
-        ≡ definitions_view defs.old.entries ++ (name.now, boxed_view pattern) ∷ []) }
+    ensures { length rows.old.items ≤ number → IfOk result (λ _. HasRow
+        (firsts_of rows.old.items) (firsts_of rows.new.items) number row.items) }
 {
-    let name = String::from_str(alloc, name)?;
-    defs.insert(name, Box::into_inner(pattern))?;
+    if row.is_empty() {
+        return Ok(());
+    }
+    for _ in rows.len()..number {
+        rows.push(Vec::new(alloc))?;
+    }
+    rows.push(row)?;
     Ok(())
 }
 
@@ -108,11 +107,12 @@ fn take(patterns: &mut Vec<Option<Box<Pattern>>>, key: usize) -> Option<Box<Patt
 
 impl<'c, 't, 's> Components<'c, 't, 's> {
     /// The number of the name whose first component is at that place.
-    fn first_at(&self, place: usize, near: &mut usize) -> Option<usize>
+    fn first_at(&self, place: usize, near: &mut Near) -> Option<usize>
         ensures { (names : List Text) (live : List Live) → Lists names self.now live
             → IsStrictlySortedBy text_cmp names → IsFirstAt names live place result }
     {
-        let key = self.body(self.body_at(place, near)?)?.component.key;
+        let body = self.body_at(place, near)?;
+        let key = self.body(body, near)?.component.key;
         let first = self.first_of(key)?;
         if key != START && first == place {
             Some(key)

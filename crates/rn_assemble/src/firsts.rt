@@ -20,6 +20,16 @@ struct NearFirsts {
 }
 
 impl Components<'_, '_, '_> {
+    /// Nothing is met: an index for each body, or none where no body can stand twice, since the list is no longer than that of
+    /// bodies.
+    pub fn nothing_met(&self, alloc: Global) -> Result<Met, AllocError> {
+        if self.count() > self.count_bodies() {
+            Ok(vec![in alloc; 0; self.count_bodies()]?)
+        } else {
+            Ok(Vec::new(alloc))
+        }
+    }
+
     /// For each component of the key, the index in its list of the first with the same body. None, where no body stands
     /// twice, or where an index takes more than 32 bits. What was met of other keys does no harm.
     pub fn firsts(&self, alloc: Global, key: usize, met: &mut Met) -> Result<Vec<u32>, AllocError>

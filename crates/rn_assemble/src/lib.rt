@@ -2,6 +2,8 @@
 #![tactic(auto)]
 
 pub mod assembly;
+mod bodies;
+mod combined_grammar;
 mod combining;
 mod components;
 mod contents;
@@ -13,6 +15,7 @@ mod firsts;
 pub mod grammar;
 mod inclusion;
 mod instances;
+mod joined_definitions;
 mod joined_grammar;
 mod keys;
 mod known;

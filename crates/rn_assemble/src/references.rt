@@ -74,9 +74,10 @@ pub(crate) fn references_of<'s>(
     let mut undefined = None;
     let mut all = Rows::with_capacity(alloc, keys.len())?;
     let mut outer = Rows::with_capacity(alloc, keys.len())?;
+    let mut near = Near::default();
     for key in 0..keys.len() {
-        let bodies = bodies_of(alloc, components, key, &mut looked)?;
-        let references = references_in(alloc, components, bodies.as_slice())?;
+        let bodies = bodies_of(alloc, components, key, &mut looked, &mut near)?;
+        let references = references_in(alloc, components, bodies.as_slice(), &mut near)?;
         let row = row_of(
             alloc,
             keys,
@@ -110,6 +111,7 @@ fn bodies_of(
     components: &Components<'_, '_, '_>,
     key: usize,
     looked: &mut Vec<Option<usize>>,
+    near: &mut Near,
 ) -> Result<Vec<usize>, AllocError>
     requires { IsFresh key looked.old.items }
     ensures size { vec_len looked.new ≡ vec_len looked.old }
@@ -118,9 +120,8 @@ fn bodies_of(
         components.now.list (row components.now.places.items key) bodies.items) }
 {
     let mut bodies = Vec::new(alloc);
-    let mut near = Near::default();
     for index in 0..components.count_of(key) {
-        let body = components.body_of(key, index, &mut near);
+        let body = components.body_of(key, index, near);
         if let Some(number) = look(body, key, looked) {
             bodies.push(number)?;
         }
@@ -146,13 +147,14 @@ fn references_in<'s>(
     alloc: Global,
     components: &Components<'_, '_, 's>,
     bodies: &[usize],
+    near: &mut Near,
 ) -> Result<Vec<Reference<'s>>, AllocError>
     ensures { IfOk result (λ found. map reference_view found.items
         ≡ references_in components.now bodies.now) }
 {
     let mut references = Vec::new(alloc);
     for number in bodies {
-        if let Some(body) = components.body(*number) {
+        if let Some(body) = components.body(*number, near) {
             refer(body.component.body, Reach::OutsideElements, &mut references)?;
         }
     }

@@ -1,3 +1,3 @@
-pub mod Sets
-pub mod Shared
+pub mod LiftedSets
+pub mod SharedFronts
 pub mod Schemas

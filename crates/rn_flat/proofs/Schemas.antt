@@ -1,7 +1,7 @@
 -- The schema of these modules is one of a set of modules.
 use Rattle.std.proofs.Common.{ℕ, List, Result, Ok, Err, IfOk}
 use Rattle.rn_lift.specs.declared.lifted.LiftedModule.{LiftedModule}
-use Rattle.rn_flat.specs.Runs.{IsSchema, IsSchemaOf}
+use Rattle.rn_flat.specs.JobResults.{IsSchema, IsSchemaOf}
 
 pub as_schema : {V E : Type 0} (r : Result V E) (items : V → List ℕ) (modules : List LiftedModule) → IfOk r (λ v. IsSchemaOf modules (items v))
     → IfOk r (λ v. IsSchema (items v))

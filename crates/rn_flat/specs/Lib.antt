@@ -1,6 +1,6 @@
 pub mod Comparisons
 pub mod Deliveries
-pub mod Faults
+pub mod FlatFaults
 pub mod ModuleSets
-pub mod Runs
+pub mod JobResults
 pub mod inside

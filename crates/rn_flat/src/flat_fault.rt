@@ -1,6 +1,6 @@
 // Why the program does not do its work.
 ghost use Rattle.std.specs.Prelude.{◌≡◌};
-ghost use Rattle.rn_flat.specs.Faults.{status};
+ghost use Rattle.rn_flat.specs.FlatFaults.{status};
 
 use rn_tell::{Colours, Messages, Page, message_lines};
 use std::alloc::{AllocError, AllocFailed, Global};

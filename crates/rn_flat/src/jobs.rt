@@ -1,16 +1,16 @@
 // What the program does.
 ghost use Rattle.std.specs.Prelude.{◌≡◌, false, IfOk};
 ghost use Rattle.rn_simplify.specs.Verdict.{prints, IsVerdict};
-ghost use Rattle.rn_flat.specs.Faults.{LeavesOutput};
+ghost use Rattle.rn_flat.specs.FlatFaults.{LeavesOutput};
 ghost use Rattle.rn_flat.specs.ModuleSets.{IsSetOf};
-ghost use Rattle.rn_flat.specs.Runs.{Delivers, IsProduct, IsSchema, IsSchemaOf};
+ghost use Rattle.rn_flat.specs.JobResults.{Delivers, IsProduct, IsSchema, IsSchemaOf};
 
 use crate::compare::check_file;
 use crate::flat_fault::{FlatFault, refusal_fault};
 use crate::module_set::set_of;
 use crate::outputs::{Outputs, write_file, write_standard};
 use crate::products::{graph_text, list_text};
-use crate::readings::reading_fault;
+use crate::reading_faults::reading_fault;
 use crate::words::{Job, Product, Task};
 use rn_assemble::Refusal;
 use rn_files::{Asked, Files, SourceFile, Sources, read_sources};

@@ -10,7 +10,7 @@ pub mod jobs;
 pub mod module_set;
 pub mod outputs;
 mod products;
-mod readings;
+mod reading_faults;
 pub mod words;
 
 pub use flat_fault::{FlatFault, fault_lines, status};

@@ -1,1 +1,1 @@
-mod Texts
+mod PrintedTexts

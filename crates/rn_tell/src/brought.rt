@@ -1,5 +1,5 @@
 // How modules come to a schema: instances of modules, one for each way of includes from a module that nobody includes.
-use crate::sites::{Site, View, key_of};
+use crate::sites::{Site, Sites, key_of};
 use std::alloc::{AllocError, Global};
 
 /// The most instances that a set may have; further ones are not looked at.
@@ -9,7 +9,7 @@ pub const MAX_INSTANCES: usize = rn_assemble::INSTANCE_LIMIT;
 #[derive(Clone, Copy, Debug, PartialEq, Eq)]
 pub struct Instance {
     /// The number of the module.
-    pub room: usize,
+    pub module: usize,
     /// The include that brings it: the number of the instance that has it, and of its part; `None` where nobody includes it.
     pub by: Option<(usize, usize)>,
 }
@@ -24,35 +24,35 @@ pub struct Component {
 }
 
 /// The instances of the modules, those that nobody includes first, and each before what it includes.
-pub fn instances(alloc: Global, view: &View<'_>) -> Result<Vec<Instance>, AllocError> {
-    let roots = roots(alloc, view)?;
-    instances_from(alloc, view, roots)
+pub fn instances(alloc: Global, sites: &Sites<'_>) -> Result<Vec<Instance>, AllocError> {
+    let roots = roots(alloc, sites)?;
+    instances_from(alloc, sites, roots)
 }
 
-fn roots(alloc: Global, view: &View<'_>) -> Result<Vec<Instance>, AllocError> {
-    let included = included_modules(alloc, view)?;
+fn roots(alloc: Global, sites: &Sites<'_>) -> Result<Vec<Instance>, AllocError> {
+    let included = included_modules(alloc, sites)?;
     let mut roots = Vec::new(alloc);
-    for (room, is_included) in included.iter().enumerate() {
+    for (module, is_included) in included.iter().enumerate() {
         if !*is_included {
-            roots.push(Instance { room, by: None })?;
+            roots.push(Instance { module, by: None })?;
         }
     }
     Ok(roots)
 }
 
 /// Of each module whether another one includes it.
-fn included_modules(alloc: Global, view: &View<'_>) -> Result<Vec<bool>, AllocError> {
-    let mut included = vec![in alloc; false; view.rooms.len()]?;
-    for room in 0..view.rooms.len() {
-        mark_included(view, room, &mut included);
+fn included_modules(alloc: Global, sites: &Sites<'_>) -> Result<Vec<bool>, AllocError> {
+    let mut included = vec![in alloc; false; sites.modules.len()]?;
+    for module in 0..sites.modules.len() {
+        mark_included(sites, module, &mut included);
     }
     Ok(included)
 }
 
 /// Marks what a module includes.
-fn mark_included(view: &View<'_>, room: usize, included: &mut Vec<bool>) {
-    for part in 0..view.parts(room).len() {
-        if let Some(target) = view.included_module(Site { room, part }) {
+fn mark_included(sites: &Sites<'_>, module: usize, included: &mut Vec<bool>) {
+    for part in 0..sites.parts(module).len() {
+        if let Some(target) = sites.included_module(Site { module, part }) {
             if let Some(mark) = included.get_mut(target) {
                 *mark = true;
             }
@@ -63,13 +63,13 @@ fn mark_included(view: &View<'_>, room: usize, included: &mut Vec<bool>) {
 /// These instances and all that they bring.
 fn instances_from(
     alloc: Global,
-    view: &View<'_>,
+    sites: &Sites<'_>,
     roots: Vec<Instance>,
 ) -> Result<Vec<Instance>, AllocError> {
     let mut instances = roots;
     for number in 0..MAX_INSTANCES {
         match instances.get(number).copied() {
-            Some(instance) => bring(view, number, instance.room, &mut instances)?,
+            Some(instance) => bring(sites, number, instance.module, &mut instances)?,
             None => break,
         }
     }
@@ -78,18 +78,18 @@ fn instances_from(
 
 /// Adds an instance for each include of the module.
 fn bring(
-    view: &View<'_>,
+    sites: &Sites<'_>,
     by: usize,
-    room: usize,
+    module: usize,
     instances: &mut Vec<Instance>,
 ) -> Result<(), AllocError> {
-    for part in 0..view.parts(room).len() {
+    for part in 0..sites.parts(module).len() {
         if instances.len() >= MAX_INSTANCES {
             break;
         }
-        if let Some(target) = view.included_module(Site { room, part }) {
+        if let Some(target) = sites.included_module(Site { module, part }) {
             instances.push(Instance {
-                room: target,
+                module: target,
                 by: Some((by, part)),
             })?;
         }
@@ -100,15 +100,15 @@ fn bring(
 /// For each module the numbers of its instances.
 pub fn instances_of(
     alloc: Global,
-    view: &View<'_>,
+    sites: &Sites<'_>,
     instances: &[Instance],
 ) -> Result<Vec<Vec<usize>>, AllocError> {
     let mut own = Vec::new(alloc);
-    for _ in 0..view.rooms.len() {
+    for _ in 0..sites.modules.len() {
         own.push(Vec::new(alloc))?;
     }
     for (number, instance) in instances.iter().enumerate() {
-        if let Some(numbers) = own.get_mut(instance.room) {
+        if let Some(numbers) = own.get_mut(instance.module) {
             numbers.push(number)?;
         }
     }
@@ -117,7 +117,7 @@ pub fn instances_of(
 
 /// Whether an include above the instance overrides the key, so that its definitions of it take no part (RELAX NG 2001,
 /// 4.7).
-pub fn is_hidden(view: &View<'_>, instances: &[Instance], number: usize, key: &str) -> bool {
+pub fn is_hidden(sites: &Sites<'_>, instances: &[Instance], number: usize, key: &str) -> bool {
     let mut by = way_up(instances, number);
     for _ in 0..MAX_INSTANCES {
         let Some((above, part)) = by else {
@@ -126,7 +126,7 @@ pub fn is_hidden(view: &View<'_>, instances: &[Instance], number: usize, key: &s
         let Some(instance) = instances.get(above) else {
             return false;
         };
-        if view.overrides(instance.room, part, key) {
+        if sites.overrides(instance.module, part, key) {
             return true;
         }
         by = instance.by;
@@ -142,14 +142,14 @@ fn way_up(instances: &[Instance], number: usize) -> Option<(usize, usize)> {
 /// The definitions of the key that take part in the schema.
 pub fn components(
     alloc: Global,
-    view: &View<'_>,
+    sites: &Sites<'_>,
     instances: &[Instance],
     key: &str,
 ) -> Result<Vec<Component>, AllocError> {
     let mut components = Vec::new(alloc);
     for (number, instance) in instances.iter().enumerate() {
-        if !is_hidden(view, instances, number, key) {
-            push_own(view, instance.room, number, key, &mut components)?;
+        if !is_hidden(sites, instances, number, key) {
+            push_own(sites, instance.module, number, key, &mut components)?;
         }
     }
     Ok(components)
@@ -157,17 +157,20 @@ pub fn components(
 
 /// Adds the definitions of the key in a module.
 fn push_own(
-    view: &View<'_>,
-    room: usize,
+    sites: &Sites<'_>,
+    module: usize,
     instance: usize,
     key: &str,
     components: &mut Vec<Component>,
 ) -> Result<(), AllocError> {
-    let text = view.text(room);
-    for (number, part) in view.parts(room).iter().enumerate() {
+    let text = sites.text(module);
+    for (number, part) in sites.parts(module).iter().enumerate() {
         if key_of(text, part) == Some(key) {
             components.push(Component {
-                site: Site { room, part: number },
+                site: Site {
+                    module,
+                    part: number,
+                },
                 instance,
             })?;
         }
@@ -178,13 +181,13 @@ fn push_own(
 /// The keys that the module, with what it includes, defines, in order.
 pub fn provided_keys<'v>(
     alloc: Global,
-    view: &'v View<'_>,
-    room: usize,
+    sites: &'v Sites<'_>,
+    module: usize,
 ) -> Result<Vec<&'v str>, AllocError> {
-    let root = vec![in alloc; Instance { room, by: None }]?;
+    let root = vec![in alloc; Instance { module, by: None }]?;
     let mut keys = Vec::new(alloc);
-    for instance in &instances_from(alloc, view, root)? {
-        push_keys(view, instance.room, &mut keys)?;
+    for instance in &instances_from(alloc, sites, root)? {
+        push_keys(sites, instance.module, &mut keys)?;
     }
     keys.sort()?;
     Ok(keys)
@@ -192,12 +195,12 @@ pub fn provided_keys<'v>(
 
 /// Adds the keys that a module defines itself.
 fn push_keys<'v>(
-    view: &'v View<'_>,
-    room: usize,
+    sites: &'v Sites<'_>,
+    module: usize,
     keys: &mut Vec<&'v str>,
 ) -> Result<(), AllocError> {
-    let text = view.text(room);
-    for part in view.parts(room) {
+    let text = sites.text(module);
+    for part in sites.parts(module) {
         if let Some(key) = key_of(text, part) {
             keys.push(key)?;
         }
@@ -223,6 +226,6 @@ pub fn parting_includes(instances: &[Instance], one: usize, other: usize) -> Opt
 
 /// The include of an instance, as a part of its module.
 fn site_of(instances: &[Instance], by: (usize, usize)) -> Option<Site> {
-    let room = instances.get(by.0)?.room;
-    Some(Site { room, part: by.1 })
+    let module = instances.get(by.0)?.module;
+    Some(Site { module, part: by.1 })
 }

@@ -1,6 +1,6 @@
 // The definitions that take part in a schema, by their keys.
 use crate::brought::{Instance, instances_of, is_hidden};
-use crate::sites::{Site, View, key_of, use_of};
+use crate::sites::{Site, Sites, key_of, use_of};
 use std::alloc::{AllocError, Global};
 
 /// A definition that takes part in the schema.
@@ -17,13 +17,13 @@ pub struct Defined<'v> {
 /// The definitions that take part in the schema, in the order of their keys.
 pub fn taking_part<'v>(
     alloc: Global,
-    view: &'v View<'_>,
+    sites: &'v Sites<'_>,
     instances: &[Instance],
 ) -> Result<Vec<Defined<'v>>, AllocError> {
-    let own = instances_of(alloc, view, instances)?;
+    let own = instances_of(alloc, sites, instances)?;
     let mut defined = Vec::new(alloc);
-    for (room, own) in own.iter().enumerate() {
-        push_taking_part(view, instances, room, own.as_slice(), &mut defined)?;
+    for (module, own) in own.iter().enumerate() {
+        push_taking_part(sites, instances, module, own.as_slice(), &mut defined)?;
     }
     defined.sort()?;
     Ok(defined)
@@ -31,22 +31,22 @@ pub fn taking_part<'v>(
 
 /// Adds the definitions of a module that take part, where it has these instances.
 fn push_taking_part<'v>(
-    view: &'v View<'_>,
+    sites: &'v Sites<'_>,
     instances: &[Instance],
-    room: usize,
+    module: usize,
     own: &[usize],
     defined: &mut Vec<Defined<'v>>,
 ) -> Result<(), AllocError> {
-    let text = view.text(room);
-    for (part, one) in view.parts(room).iter().enumerate() {
+    let text = sites.text(module);
+    for (part, one) in sites.parts(module).iter().enumerate() {
         if let Some(key) = key_of(text, one) {
             let mut seen = own
                 .iter()
-                .filter(|number| !is_hidden(view, instances, **number, key));
+                .filter(|number| !is_hidden(sites, instances, **number, key));
             if seen.next().is_some() {
                 defined.push(Defined {
                     key,
-                    site: Site { room, part },
+                    site: Site { module, part },
                     is_repeated: seen.next().is_some(),
                 })?;
             }
@@ -72,12 +72,12 @@ pub fn group_of<'d, 'v>(defined: &'d [Defined<'v>], key: &str) -> &'d [Defined<'
 /// The names that a definition refers to, and where each begins: those behind it, up to the next definition.
 pub fn uses<'v>(
     alloc: Global,
-    view: &'v View<'_>,
+    sites: &'v Sites<'_>,
     site: Site,
 ) -> Result<Vec<(&'v str, usize)>, AllocError> {
     let mut uses = Vec::new(alloc);
-    let text = view.text(site.room);
-    for part in view.parts(site.room).iter().skip(site.part).skip(1) {
+    let text = sites.text(site.module);
+    for part in sites.parts(site.module).iter().skip(site.part).skip(1) {
         if key_of(text, part).is_some() {
             break;
         }

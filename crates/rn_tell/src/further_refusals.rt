@@ -1,7 +1,7 @@
 // The refusals of modules of which all can be found, in the order in which they are tested.
 use crate::brought::provided_keys;
 use crate::defined::{Defined, group_of, uses};
-use crate::sites::{Site, View, key_text, method_of};
+use crate::sites::{Site, Sites, key_text, method_of};
 use rn_assemble::Refusal;
 use rn_outline::Method;
 use std::alloc::{AllocError, Global};
@@ -60,7 +60,7 @@ fn found_of(refusal: &Refusal) -> Option<FurtherRefusal<'_>> {
 /// The refusals that would be answered after this one, each once and in order; none behind a refusal of another kind.
 pub fn refusals_behind<'v>(
     alloc: Global,
-    view: &'v View<'_>,
+    sites: &'v Sites<'_>,
     defined: &[Defined<'v>],
     refusal: &Refusal,
 ) -> Result<Vec<FurtherRefusal<'v>>, AllocError> {
@@ -68,9 +68,9 @@ pub fn refusals_behind<'v>(
     let Some(first) = found_of(refusal) else {
         return Ok(found);
     };
-    push_unfounded(alloc, view, &mut found)?;
-    push_combined(view, defined, &mut found)?;
-    push_undefined(alloc, view, defined, &mut found)?;
+    push_unfounded(alloc, sites, &mut found)?;
+    push_combined(sites, defined, &mut found)?;
+    push_undefined(alloc, sites, defined, &mut found)?;
     found.sort()?;
     found.dedup();
     found.retain(|one| *one > first);
@@ -80,11 +80,11 @@ pub fn refusals_behind<'v>(
 /// Adds what includes override and the included modules lack.
 fn push_unfounded<'v>(
     alloc: Global,
-    view: &'v View<'_>,
+    sites: &'v Sites<'_>,
     found: &mut Vec<FurtherRefusal<'v>>,
 ) -> Result<(), AllocError> {
-    for room in 0..view.rooms.len() {
-        push_unfounded_in(alloc, view, room, found)?;
+    for module in 0..sites.modules.len() {
+        push_unfounded_in(alloc, sites, module, found)?;
     }
     Ok(())
 }
@@ -92,12 +92,12 @@ fn push_unfounded<'v>(
 /// Adds what the includes of a module override and the included modules lack.
 fn push_unfounded_in<'v>(
     alloc: Global,
-    view: &'v View<'_>,
-    room: usize,
+    sites: &'v Sites<'_>,
+    module: usize,
     found: &mut Vec<FurtherRefusal<'v>>,
 ) -> Result<(), AllocError> {
-    for part in 0..view.parts(room).len() {
-        push_lacking(alloc, view, Site { room, part }, found)?;
+    for part in 0..sites.parts(module).len() {
+        push_lacking(alloc, sites, Site { module, part }, found)?;
     }
     Ok(())
 }
@@ -105,23 +105,23 @@ fn push_unfounded_in<'v>(
 /// Adds what an include overrides and its module lacks.
 fn push_lacking<'v>(
     alloc: Global,
-    view: &'v View<'_>,
+    sites: &'v Sites<'_>,
     include: Site,
     found: &mut Vec<FurtherRefusal<'v>>,
 ) -> Result<(), AllocError> {
-    let overridden = view.overridden_keys(include);
-    let Some(target) = view.included_module(include) else {
+    let overridden = sites.overridden_keys(include);
+    let Some(target) = sites.included_module(include) else {
         return Ok(());
     };
     if overridden.is_empty() {
         return Ok(());
     }
-    let provided = provided_keys(alloc, view, target)?;
+    let provided = provided_keys(alloc, sites, target)?;
     for (_, key) in overridden {
         if provided.binary_search(&key.as_str()).is_err() {
             found.push(FurtherRefusal {
                 kind: Kind::Override,
-                module: view.name(include.room),
+                module: sites.name(include.module),
                 key: key.as_str(),
             })?;
         }
@@ -131,7 +131,7 @@ fn push_lacking<'v>(
 
 /// Adds the keys whose definitions can't be combined, and the start where it has none.
 fn push_combined<'v>(
-    view: &View<'_>,
+    sites: &Sites<'_>,
     defined: &[Defined<'v>],
     found: &mut Vec<FurtherRefusal<'v>>,
 ) -> Result<(), AllocError> {
@@ -141,7 +141,7 @@ fn push_combined<'v>(
     let mut before = None;
     for one in defined {
         if before != Some(one.key) {
-            push_group(view, group_of(defined, one.key), one.key, found)?;
+            push_group(sites, group_of(defined, one.key), one.key, found)?;
         }
         before = Some(one.key);
     }
@@ -150,35 +150,35 @@ fn push_combined<'v>(
 
 /// Adds a key whose definitions, which are these, can't be combined.
 fn push_group<'v>(
-    view: &View<'_>,
+    sites: &Sites<'_>,
     group: &[Defined<'v>],
     key: &'v str,
     found: &mut Vec<FurtherRefusal<'v>>,
 ) -> Result<(), AllocError> {
-    if is_plain_twice(view, group) {
+    if is_plain_twice(sites, group) {
         found.push(of_key(Kind::PlainTwice, key))?;
     }
-    if has_any(view, group, Method::Choice) && has_any(view, group, Method::Interleave) {
+    if has_any(sites, group, Method::Choice) && has_any(sites, group, Method::Interleave) {
         found.push(of_key(Kind::MixedMethods, key))?;
     }
     Ok(())
 }
 
 /// Whether the definition at a site is combined so.
-pub fn has_method(view: &View<'_>, site: Site, method: Method) -> bool {
-    view.part(site).and_then(method_of) == Some(method)
+pub fn has_method(sites: &Sites<'_>, site: Site, method: Method) -> bool {
+    sites.part(site).and_then(method_of) == Some(method)
 }
 
 /// Whether one of the definitions is combined so.
-fn has_any(view: &View<'_>, group: &[Defined<'_>], method: Method) -> bool {
-    group.iter().any(|one| has_method(view, one.site, method))
+fn has_any(sites: &Sites<'_>, group: &[Defined<'_>], method: Method) -> bool {
+    group.iter().any(|one| has_method(sites, one.site, method))
 }
 
 /// Whether two definitions are by `=`, or one that takes part more than once.
-fn is_plain_twice(view: &View<'_>, group: &[Defined<'_>]) -> bool {
+fn is_plain_twice(sites: &Sites<'_>, group: &[Defined<'_>]) -> bool {
     let mut plain = group
         .iter()
-        .filter(|one| has_method(view, one.site, Method::Plain));
+        .filter(|one| has_method(sites, one.site, Method::Plain));
     match (plain.next(), plain.next()) {
         (Some(one), None) => one.is_repeated,
         (first, _) => first.is_some(),
@@ -188,12 +188,12 @@ fn is_plain_twice(view: &View<'_>, group: &[Defined<'_>]) -> bool {
 /// Adds the names that are referred to and not defined.
 fn push_undefined<'v>(
     alloc: Global,
-    view: &'v View<'_>,
+    sites: &'v Sites<'_>,
     defined: &[Defined<'v>],
     found: &mut Vec<FurtherRefusal<'v>>,
 ) -> Result<(), AllocError> {
     for one in defined {
-        push_undefined_in(alloc, view, defined, one.site, found)?;
+        push_undefined_in(alloc, sites, defined, one.site, found)?;
     }
     Ok(())
 }
@@ -201,12 +201,12 @@ fn push_undefined<'v>(
 /// Adds the names that a definition refers to and nothing defines.
 fn push_undefined_in<'v>(
     alloc: Global,
-    view: &'v View<'_>,
+    sites: &'v Sites<'_>,
     defined: &[Defined<'v>],
     site: Site,
     found: &mut Vec<FurtherRefusal<'v>>,
 ) -> Result<(), AllocError> {
-    for (name, _) in uses(alloc, view, site)? {
+    for (name, _) in uses(alloc, sites, site)? {
         if group_of(defined, name).is_empty() {
             found.push(of_key(Kind::Undefined, name))?;
         }

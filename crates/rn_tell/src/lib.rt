@@ -9,8 +9,8 @@ mod brought;
 mod check_sentences;
 mod defined;
 mod fault_messages;
+mod file_messages;
 mod further_refusals;
-mod gathered;
 mod general_sentences;
 mod loop_sites;
 mod report;
@@ -18,7 +18,7 @@ mod sentences;
 mod sites;
 
 pub use fault_messages::{is_unread, set_message};
-pub use gathered::{lift_messages, reading_messages};
+pub use file_messages::{lift_messages, reading_messages};
 pub use report::{
     Colours, MAX_TOLD, Message, Messages, Page, SHOWN, Spot, attempt_pages, message_lines,
     push_printable, source_pages,

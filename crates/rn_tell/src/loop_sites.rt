@@ -1,17 +1,17 @@
 // Loops: of definitions that refer to each other outside elements, and of modules that include each other.
 use crate::defined::{Defined, range_of, uses};
-use crate::sites::{Site, View, is_use, key_of};
+use crate::sites::{Site, Sites, is_use, key_of};
 use std::alloc::{AllocError, Global};
 
 /// The names outside elements that a definition refers to.
 fn outside_uses<'v>(
     alloc: Global,
-    view: &'v View<'_>,
+    sites: &'v Sites<'_>,
     site: Site,
 ) -> Result<Vec<&'v str>, AllocError> {
     let mut outside = Vec::new(alloc);
-    for (name, at) in uses(alloc, view, site)? {
-        if view.is_outside(site.room, at) {
+    for (name, at) in uses(alloc, sites, site)? {
+        if sites.is_outside(site.module, at) {
             outside.push(name)?;
         }
     }
@@ -21,7 +21,7 @@ fn outside_uses<'v>(
 /// The definitions of a loop that comes back to the key, in order, the first one of the key. Nothing where there is none.
 pub fn loop_of(
     alloc: Global,
-    view: &View<'_>,
+    sites: &Sites<'_>,
     defined: &[Defined<'_>],
     key: &str,
 ) -> Result<Vec<Site>, AllocError> {
@@ -31,7 +31,7 @@ pub fn loop_of(
         let Some(number) = walk.queue.get(turn).copied() else {
             break;
         };
-        let uses = outside_uses(alloc, view, site_at(defined, number))?;
+        let uses = outside_uses(alloc, sites, site_at(defined, number))?;
         if uses.iter().any(|name| *name == key) {
             return walk.way(alloc, defined, number);
         }
@@ -46,7 +46,7 @@ pub fn loop_of(
 fn site_at(defined: &[Defined<'_>], number: usize) -> Site {
     match defined.get(number) {
         Some(one) => one.site,
-        None => Site { room: 0, part: 0 },
+        None => Site { module: 0, part: 0 },
     }
 }
 
@@ -114,17 +114,17 @@ impl Walk {
 /// The includes of a loop that comes back to the module, in order. Nothing where there is none.
 pub fn loop_of_includes(
     alloc: Global,
-    view: &View<'_>,
-    module: usize,
+    sites: &Sites<'_>,
+    wanted: usize,
 ) -> Result<Vec<Site>, AllocError> {
-    let mut before: Vec<Option<Site>> = vec![in alloc; None; view.rooms.len()]?;
-    let mut queue = vec![in alloc; module]?;
-    for turn in 0..view.rooms.len() {
-        let Some(room) = queue.get(turn).copied() else {
+    let mut before: Vec<Option<Site>> = vec![in alloc; None; sites.modules.len()]?;
+    let mut queue = vec![in alloc; wanted]?;
+    for turn in 0..sites.modules.len() {
+        let Some(module) = queue.get(turn).copied() else {
             break;
         };
-        if let Some(last) = go_on(view, room, module, &mut before, &mut queue)? {
-            return way_of_includes(alloc, before.as_slice(), last, module);
+        if let Some(last) = go_on(sites, module, wanted, &mut before, &mut queue)? {
+            return way_of_includes(alloc, before.as_slice(), last, wanted);
         }
     }
     Ok(Vec::new(alloc))
@@ -132,18 +132,18 @@ pub fn loop_of_includes(
 
 /// Takes what a module includes into the walk, and answers the include of the module that is looked for.
 fn go_on(
-    view: &View<'_>,
-    room: usize,
+    sites: &Sites<'_>,
     module: usize,
+    wanted: usize,
     before: &mut Vec<Option<Site>>,
     queue: &mut Vec<usize>,
 ) -> Result<Option<Site>, AllocError> {
-    for part in 0..view.parts(room).len() {
-        let site = Site { room, part };
-        let Some(target) = view.included_module(site) else {
+    for part in 0..sites.parts(module).len() {
+        let site = Site { module, part };
+        let Some(target) = sites.included_module(site) else {
             continue;
         };
-        if target == module {
+        if target == wanted {
             return Ok(Some(site));
         }
         if let Some(place) = before.get_mut(target) {
@@ -161,19 +161,19 @@ fn way_of_includes(
     alloc: Global,
     before: &[Option<Site>],
     last: Site,
-    module: usize,
+    wanted: usize,
 ) -> Result<Vec<Site>, AllocError> {
     let mut way = vec![in alloc; last]?;
-    let mut room = last.room;
+    let mut module = last.module;
     for _ in 0..before.len() {
-        if room == module {
+        if module == wanted {
             break;
         }
-        let Some(site) = before.get(room).copied().flatten() else {
+        let Some(site) = before.get(module).copied().flatten() else {
             break;
         };
         way.push(site)?;
-        room = site.room;
+        module = site.module;
     }
     way.reverse();
     Ok(way)
@@ -182,26 +182,26 @@ fn way_of_includes(
 /// The first use of a name in a definition that takes part.
 pub fn first_use(
     alloc: Global,
-    view: &View<'_>,
+    sites: &Sites<'_>,
     defined: &[Defined<'_>],
     name: &str,
 ) -> Result<Option<Site>, AllocError> {
-    let mut sites: Vec<Site> = defined.iter().map(|one| one.site).collect(alloc)?;
-    sites.sort()?;
-    for site in &sites {
-        if let Some(part) = use_in(view, *site, name) {
-            let room = site.room;
-            return Ok(Some(Site { room, part }));
+    let mut found: Vec<Site> = defined.iter().map(|one| one.site).collect(alloc)?;
+    found.sort()?;
+    for site in &found {
+        if let Some(part) = use_in(sites, *site, name) {
+            let module = site.module;
+            return Ok(Some(Site { module, part }));
         }
     }
     Ok(None)
 }
 
 /// The first use of the name in a definition.
-fn use_in(view: &View<'_>, definition: Site, name: &str) -> Option<usize> {
-    let Site { room, part } = definition;
-    let text = view.text(room);
-    for (number, part) in view.parts(room).iter().enumerate().skip(part).skip(1) {
+fn use_in(sites: &Sites<'_>, definition: Site, name: &str) -> Option<usize> {
+    let Site { module, part } = definition;
+    let text = sites.text(module);
+    for (number, part) in sites.parts(module).iter().enumerate().skip(part).skip(1) {
         if key_of(text, part).is_some() {
             return None;
         }

@@ -4,12 +4,12 @@ ghost use Rattle.rn_tell.specs.Messages.{IsFew};
 
 use crate::brought::{Component, Instance, components, instances, parting_includes, provided_keys};
 use crate::defined::{Defined, taking_part};
+use crate::file_messages::text_messages;
 use crate::further_refusals::{FurtherRefusal, Kind, has_method, refusals_behind};
-use crate::gathered::text_messages;
 use crate::general_sentences::general_sentence;
 use crate::loop_sites::{first_use, loop_of, loop_of_includes};
 use crate::report::{MAX_TOLD, Message, Messages, Page, Spot, place_text, source_pages};
-use crate::sites::{Site, View, include_around, include_of, key_of, key_text, view_of};
+use crate::sites::{Site, Sites, include_around, include_of, key_of, key_text, sites_of};
 use rn_assemble::Refusal;
 use rn_files::SourceFile;
 use rn_lift::Lifted;
@@ -22,7 +22,7 @@ use std::alloc::{AllocError, Global};
 struct Telling<'a> {
     alloc: Global,
     pages: &'a [Page<'a>],
-    view: &'a View<'a>,
+    sites: &'a Sites<'a>,
     instances: &'a [Instance],
     defined: &'a [Defined<'a>],
 }
@@ -46,14 +46,14 @@ pub fn refusal_messages(
         return Ok(told);
     }
     let pages = source_pages(alloc, files)?;
-    let view = view_of(alloc, lifted)?;
-    let instances = instances(alloc, &view)?;
-    let defined = taking_part(alloc, &view, instances.as_slice())?;
-    let others = refusals_behind(alloc, &view, defined.as_slice(), refusal)?;
+    let sites = sites_of(alloc, lifted)?;
+    let instances = instances(alloc, &sites)?;
+    let defined = taking_part(alloc, &sites, instances.as_slice())?;
+    let others = refusals_behind(alloc, &sites, defined.as_slice(), refusal)?;
     let telling = Telling {
         alloc,
         pages: pages.as_slice(),
-        view: &view,
+        sites: &sites,
         instances: instances.as_slice(),
         defined: defined.as_slice(),
     };
@@ -122,7 +122,7 @@ fn place_found(telling: &Telling<'_>, found: FurtherRefusal<'_>) -> Result<Place
 
 /// Where a site is, as `FILE:LINE:COLUMN`.
 fn place(telling: &Telling<'_>, site: Site) -> Result<String, AllocError> {
-    place_text(telling.alloc, telling.pages, telling.view.spot(site))
+    place_text(telling.alloc, telling.pages, telling.sites.spot(site))
 }
 
 /// A key as the file writes it.
@@ -130,13 +130,13 @@ fn spelled_key<'k>(telling: &Telling<'_>, key: &'k str) -> &'k str {
     if key.is_empty() {
         "start"
     } else {
-        telling.view.lifted.written_name(key)
+        telling.sites.lifted.written_name(key)
     }
 }
 
 /// The definitions of a key, as they come to the schema.
 fn components_of(telling: &Telling<'_>, key: &str) -> Result<Vec<Component>, AllocError> {
-    components(telling.alloc, telling.view, telling.instances, key)
+    components(telling.alloc, telling.sites, telling.instances, key)
 }
 
 /// Two definitions by `=`.
@@ -144,7 +144,7 @@ fn plain_twice(telling: &Telling<'_>, key: &str) -> Result<Placed, AllocError> {
     let found = components_of(telling, key)?;
     let mut plain = found
         .iter()
-        .filter(|one| has_method(telling.view, one.site, Method::Plain));
+        .filter(|one| has_method(telling.sites, one.site, Method::Plain));
     match (plain.next(), plain.next()) {
         (Some(first), Some(second)) if first.site == second.site => included_twice(
             telling, key, *first, *second,
@@ -155,7 +155,7 @@ fn plain_twice(telling: &Telling<'_>, key: &str) -> Result<Placed, AllocError> {
             let sentence = format!(in telling.alloc;
                 "`{name}` is defined here and in {other}, neither with |= nor &="
             )?;
-            Ok((telling.view.spot(first.site), sentence))
+            Ok((telling.sites.spot(first.site), sentence))
         }
         _ => unplaced_sentence(
             telling,
@@ -183,14 +183,14 @@ fn included_twice(
         }
         None => format!(in telling.alloc; "`{name}` is defined here with =, and comes twice")?,
     };
-    Ok((telling.view.spot(first.site), sentence))
+    Ok((telling.sites.spot(first.site), sentence))
 }
 
 /// The first definition of those by the method.
 fn first_by(telling: &Telling<'_>, found: &[Component], method: Method) -> Option<Site> {
     let one = found
         .iter()
-        .find(|one| has_method(telling.view, one.site, method))?;
+        .find(|one| has_method(telling.sites, one.site, method))?;
     Some(one.site)
 }
 
@@ -207,7 +207,7 @@ fn mixed_methods(telling: &Telling<'_>, key: &str) -> Result<Placed, AllocError>
     let sentence = format!(in telling.alloc;
         "`{name}` is combined by |= here, and by &= in {other}"
     )?;
-    Ok((telling.view.spot(choice), sentence))
+    Ok((telling.sites.spot(choice), sentence))
 }
 
 /// An include that overrides what the included file lacks.
@@ -225,11 +225,11 @@ fn unfounded_override(
         );
     };
     let place = place(telling, include)?;
-    let file = included_name(telling.view, include);
+    let file = included_name(telling.sites, include);
     let sentence = format!(in telling.alloc;
         "`{name}` replaces nothing: {file}, which is included in {place}, does not define it"
     )?;
-    Ok((telling.view.spot(site), sentence))
+    Ok((telling.sites.spot(site), sentence))
 }
 
 /// The first definition of the key in an include whose module lacks it, and the include.
@@ -238,16 +238,22 @@ fn first_unfounded(
     module: &str,
     key: &str,
 ) -> Result<Option<(Site, Site)>, AllocError> {
-    let Some(room) = telling.view.room_of(module) else {
+    let Some(module_number) = telling.sites.number_of(module) else {
         return Ok(None);
     };
-    let text = telling.view.text(room);
-    for (number, part) in telling.view.parts(room).iter().enumerate() {
+    let text = telling.sites.text(module_number);
+    for (number, part) in telling.sites.parts(module_number).iter().enumerate() {
         if key_of(text, part) != Some(key) {
             continue;
         }
-        if let Some(include) = lacking_include(telling, room, part, key)? {
-            return Ok(Some((Site { room, part: number }, include)));
+        if let Some(include) = lacking_include(telling, module_number, part, key)? {
+            return Ok(Some((
+                Site {
+                    module: module_number,
+                    part: number,
+                },
+                include,
+            )));
         }
     }
     Ok(None)
@@ -256,7 +262,7 @@ fn first_unfounded(
 /// The include of a definition that overrides what the included module, with what it includes, lacks.
 fn lacking_include(
     telling: &Telling<'_>,
-    room: usize,
+    module_number: usize,
     part: &Part,
     key: &str,
 ) -> Result<Option<Site>, AllocError> {
@@ -264,13 +270,13 @@ fn lacking_include(
         return Ok(None);
     };
     let site = Site {
-        room,
+        module: module_number,
         part: include,
     };
-    let Some(target) = telling.view.included_module(site) else {
+    let Some(target) = telling.sites.included_module(site) else {
         return Ok(None);
     };
-    let provided = provided_keys(telling.alloc, telling.view, target)?;
+    let provided = provided_keys(telling.alloc, telling.sites, target)?;
     Ok(match provided.binary_search(&key) {
         Ok(_) => None,
         Err(_) => Some(site),
@@ -278,8 +284,8 @@ fn lacking_include(
 }
 
 /// The name of the module that is included there.
-fn included_name<'v>(view: &'v View<'_>, include: Site) -> &'v str {
-    match view.part(include).and_then(include_of) {
+fn included_name<'v>(sites: &'v Sites<'_>, include: Site) -> &'v str {
+    match sites.part(include).and_then(include_of) {
         Some((name, _)) => name,
         None => "the file",
     }
@@ -292,16 +298,22 @@ fn missing_include(
     wanted: &str,
 ) -> Result<Placed, AllocError> {
     let sentence = format!(in telling.alloc; "there is no `{wanted}` to include")?;
-    let Some(room) = telling.view.room_of(module) else {
+    let Some(module_number) = telling.sites.number_of(module) else {
         return Ok((None, sentence));
     };
     let found = telling
-        .view
-        .parts(room)
+        .sites
+        .parts(module_number)
         .iter()
         .position(|part| is_include(part, wanted));
     match found {
-        Some(part) => Ok((telling.view.spot(Site { room, part }), sentence)),
+        Some(part) => Ok((
+            telling.sites.spot(Site {
+                module: module_number,
+                part,
+            }),
+            sentence,
+        )),
         None => Ok((None, sentence)),
     }
 }
@@ -317,39 +329,39 @@ fn is_include(part: &Part, wanted: &str) -> bool {
 /// A module that comes back to itself by includes.
 fn cycle(telling: &Telling<'_>, module: &str) -> Result<Placed, AllocError> {
     let mut sentence = format!(in telling.alloc; "{module} includes itself")?;
-    let Some(room) = telling.view.room_of(module) else {
+    let Some(module_number) = telling.sites.number_of(module) else {
         return Ok((None, sentence));
     };
-    let way = loop_of_includes(telling.alloc, telling.view, room)?;
+    let way = loop_of_includes(telling.alloc, telling.sites, module_number)?;
     for (number, include) in way.iter().copied().enumerate() {
         sentence.push_str(if number == 0 {
             ": it includes "
         } else {
             ", which includes "
         })?;
-        sentence.push_str(included_name(telling.view, include))?;
+        sentence.push_str(included_name(telling.sites, include))?;
         if number > 0 {
             sentence.push_str(" in ")?;
             sentence.push_str(place(telling, include)?.as_str())?;
         }
     }
     let first = way.first().copied();
-    Ok((first.and_then(|site| telling.view.spot(site)), sentence))
+    Ok((first.and_then(|site| telling.sites.spot(site)), sentence))
 }
 
 /// A name that nothing defines.
 fn undefined_name(telling: &Telling<'_>, name: &str) -> Result<Placed, AllocError> {
     let written = spelled_key(telling, name);
     let sentence = format!(in telling.alloc; "`{written}` is not defined")?;
-    let site = first_use(telling.alloc, telling.view, telling.defined, name)?;
-    Ok((site.and_then(|site| telling.view.spot(site)), sentence))
+    let site = first_use(telling.alloc, telling.sites, telling.defined, name)?;
+    Ok((site.and_then(|site| telling.sites.spot(site)), sentence))
 }
 
 /// A name that comes back to itself outside elements.
 fn recursive_name(telling: &Telling<'_>, name: &str) -> Result<Placed, AllocError> {
     let written = spelled_key(telling, name);
     let mut sentence = format!(in telling.alloc; "`{written}` refers to itself outside elements")?;
-    let way = loop_of(telling.alloc, telling.view, telling.defined, name)?;
+    let way = loop_of(telling.alloc, telling.sites, telling.defined, name)?;
     for (number, site) in way.iter().copied().enumerate().take(MAX_TOLD) {
         if number > 0 {
             sentence.push_str(if number == 1 { ": by `" } else { ", then `" })?;
@@ -360,7 +372,7 @@ fn recursive_name(telling: &Telling<'_>, name: &str) -> Result<Placed, AllocErro
     }
     push_others(telling.alloc, &mut sentence, way.len())?;
     let first = way.first().copied();
-    Ok((first.and_then(|site| telling.view.spot(site)), sentence))
+    Ok((first.and_then(|site| telling.sites.spot(site)), sentence))
 }
 
 /// Appends how many members of a loop are not told.
@@ -374,7 +386,7 @@ fn push_others(alloc: Global, sentence: &mut String, count: usize) -> Result<(),
 
 /// The key that is defined there, as the file writes it.
 fn name_at<'t>(telling: &Telling<'t>, site: Site) -> &'t str {
-    match telling.view.key(site) {
+    match telling.sites.key(site) {
         Some(key) => spelled_key(telling, key),
         None => "start",
     }
@@ -388,7 +400,7 @@ fn name_class(telling: &Telling<'_>, key: &str) -> Result<Placed, AllocError> {
     )?;
     let found = components_of(telling, key)?;
     let site = found.first().map(|one| one.site);
-    Ok((site.and_then(|site| telling.view.spot(site)), sentence))
+    Ok((site.and_then(|site| telling.sites.spot(site)), sentence))
 }
 
 /// The sentence on a key whose places are not found.

@@ -8,7 +8,7 @@ use std::alloc::{AllocError, Global};
 
 /// What a module is made of.
 #[derive(Debug, Drop)]
-pub struct Room {
+pub struct ModuleSites {
     /// Its definitions, references and includes, in the order of its text.
     pub parts: Vec<Part>,
     /// What its includes override, in order: the number of the part that is the include, and the key.
@@ -19,18 +19,18 @@ pub struct Room {
 
 /// The modules, and what each is made of.
 #[derive(Debug, Drop)]
-pub struct View<'a> {
+pub struct Sites<'a> {
     /// The modules.
     pub lifted: &'a Lifted,
     /// What each is made of, in their order.
-    pub rooms: Vec<Room>,
+    pub modules: Vec<ModuleSites>,
 }
 
 /// A part of a module.
 #[derive(Clone, Copy, Debug, PartialEq, Eq, PartialOrd, Ord)]
 pub struct Site {
     /// The number of the module.
-    pub room: usize,
+    pub module: usize,
     /// The number of the part among those of the module.
     pub part: usize,
 }
@@ -97,29 +97,29 @@ pub fn include_of(part: &Part) -> Option<(&str, usize)> {
 }
 
 /// The modules with what they are made of. A text that is none of the language is made of nothing.
-pub fn view_of(alloc: Global, lifted: &Lifted) -> Result<View<'_>, AllocError> {
-    let mut rooms = Vec::new(alloc);
+pub fn sites_of(alloc: Global, lifted: &Lifted) -> Result<Sites<'_>, AllocError> {
+    let mut modules = Vec::new(alloc);
     for module in lifted.modules.as_slice() {
-        rooms.push(made_room(alloc, module.text.as_str())?)?;
+        modules.push(module_sites(alloc, module.text.as_str())?)?;
     }
-    Ok(View { lifted, rooms })
+    Ok(Sites { lifted, modules })
 }
 
-fn made_room(alloc: Global, text: &str) -> Result<Room, AllocError> {
-    let mut room = Room {
+fn module_sites(alloc: Global, text: &str) -> Result<ModuleSites, AllocError> {
+    let mut sites = ModuleSites {
         parts: Vec::new(alloc),
         overrides: Vec::new(alloc),
         outside: Vec::new(alloc),
     };
     let Ok(tokens) = tokens(alloc, text.as_bytes()) else {
-        return Ok(room);
+        return Ok(sites);
     };
     if let Ok(outline) = read_outline(alloc, text, tokens.as_slice()) {
-        room.overrides = overrides(alloc, text, outline.parts.as_slice())?;
-        room.outside = outside_names(alloc, tokens.as_slice())?;
-        room.parts = outline.parts;
+        sites.overrides = overrides(alloc, text, outline.parts.as_slice())?;
+        sites.outside = outside_names(alloc, tokens.as_slice())?;
+        sites.parts = outline.parts;
     }
-    Ok(room)
+    Ok(sites)
 }
 
 /// What the includes override, in order.
@@ -209,9 +209,9 @@ impl Nesting {
     }
 }
 
-impl View<'_> {
+impl Sites<'_> {
     /// The number of the module of this name. The modules are in the order of their names.
-    pub fn room_of(&self, name: &str) -> Option<usize> {
+    pub fn number_of(&self, name: &str) -> Option<usize> {
         self.lifted
             .modules
             .binary_search_by(|module| module.name.as_str().cmp(&name))
@@ -219,24 +219,24 @@ impl View<'_> {
     }
 
     /// The name of a module.
-    pub fn name(&self, room: usize) -> &str {
-        match self.lifted.modules.get(room) {
+    pub fn name(&self, module: usize) -> &str {
+        match self.lifted.modules.get(module) {
             Some(module) => module.name.as_str(),
             None => "",
         }
     }
 
     /// The text of a module.
-    pub fn text(&self, room: usize) -> &str {
-        match self.lifted.modules.get(room) {
+    pub fn text(&self, module: usize) -> &str {
+        match self.lifted.modules.get(module) {
             Some(module) => module.text.as_str(),
             None => "",
         }
     }
 
     /// The parts of a module.
-    pub fn parts(&self, room: usize) -> &[Part] {
-        match self.rooms.get(room) {
+    pub fn parts(&self, module: usize) -> &[Part] {
+        match self.modules.get(module) {
             Some(held) => held.parts.as_slice(),
             None => &[],
         }
@@ -244,26 +244,26 @@ impl View<'_> {
 
     /// The part at a site.
     pub fn part(&self, site: Site) -> Option<&Part> {
-        self.parts(site.room).get(site.part)
+        self.parts(site.module).get(site.part)
     }
 
     /// The key that is defined at a site.
     pub fn key(&self, site: Site) -> Option<&str> {
         let part = self.part(site)?;
-        key_of(self.text(site.room), part)
+        key_of(self.text(site.module), part)
     }
 
     /// Whether a name that begins at the byte is outside elements.
-    pub fn is_outside(&self, room: usize, at: usize) -> bool {
-        match self.rooms.get(room) {
+    pub fn is_outside(&self, module: usize, at: usize) -> bool {
+        match self.modules.get(module) {
             Some(held) => held.outside.binary_search(&at).is_ok(),
             None => false,
         }
     }
 
     /// Whether the include overrides the key.
-    pub fn overrides(&self, room: usize, include: usize, key: &str) -> bool {
-        match self.rooms.get(room) {
+    pub fn overrides(&self, module: usize, include: usize, key: &str) -> bool {
+        match self.modules.get(module) {
             Some(held) => held
                 .overrides
                 .binary_search_by(|one| one.0.cmp(&include).then(one.1.as_str().cmp(&key)))
@@ -274,7 +274,7 @@ impl View<'_> {
 
     /// What the include overrides: with its number, each key.
     pub fn overridden_keys(&self, include: Site) -> &[(usize, String)] {
-        match self.rooms.get(include.room) {
+        match self.modules.get(include.module) {
             Some(held) => {
                 let all = held.overrides.as_slice();
                 let from = all.partition_point(|one| one.0 < include.part);
@@ -289,13 +289,13 @@ impl View<'_> {
     pub fn included_module(&self, site: Site) -> Option<usize> {
         let part = self.part(site)?;
         let (name, _) = include_of(part)?;
-        self.room_of(name)
+        self.number_of(name)
     }
 
     /// Where a definition, a reference or an include is in the files: its name or its literal.
     pub fn spot(&self, site: Site) -> Option<Spot> {
         let at = place_of(self.part(site)?);
-        let (file, at) = self.lifted.modules.get(site.room)?.origin(at)?;
+        let (file, at) = self.lifted.modules.get(site.module)?.origin(at)?;
         Some(Spot { file, at })
     }
 }

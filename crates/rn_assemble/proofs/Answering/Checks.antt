@@ -9,16 +9,16 @@ use Rattle.std.proofs.lemmas.Result.{MatchResult-weaker}
 use Rattle.rn_text.specs.Texts.{Text, text_cmp}
 use Rattle.rn_assemble.specs.declared.components.Components.{Components}
 use Rattle.rn_assemble.specs.declared.components.Lack.{Lack}
-use Rattle.rn_assemble.specs.declared.joined_grammar.Joined.{Joined}
+use Rattle.rn_assemble.specs.declared.combined_grammar.Combined.{Combined}
 use Rattle.rn_assemble.specs.declared.named_modules.NamedModule as code_module
 use Rattle.rn_assemble.specs.declared.refusal.Refusal as code
 use Rattle.rn_assemble.specs.inside.Checked.{AreExpanded, IsGrammarOf, IsFirstOfModules}
 use Rattle.rn_assemble.specs.Components.{Component, Key, NamedModule, components, has_key, roots, set_components, start_key}
 use Rattle.rn_assemble.specs.inside.Contained.{AreFlat}
 use Rattle.rn_assemble.specs.inside.Expanded.{IsListed, name_at}
-use Rattle.rn_assemble.specs.JoinedView.{joined_view}
+use Rattle.rn_assemble.specs.inside.CombinedView.{combined_view}
 use Rattle.rn_assemble.specs.inside.Included.{AreIncluded}
-use Rattle.rn_assemble.specs.inside.Joining.{HasStart, IsJoinedGrammar, IsMisnamed}
+use Rattle.rn_assemble.specs.inside.Joining.{HasStart, IsCombinedGrammar, IsMisnamed}
 use Rattle.rn_assemble.specs.inside.Keyed.{AreNames, key_at}
 use Rattle.rn_assemble.specs.inside.Lacking.{IsLeastLack, LacksFrom}
 use Rattle.rn_assemble.specs.Least.{IsLeast, key_cmp}
@@ -27,7 +27,7 @@ use Rattle.rn_assemble.specs.inside.Methods.{CanCombine}
 use Rattle.rn_assemble.specs.Refusal.{Lacks, StandsFor, override}
 use Rattle.rn_assemble.specs.inside.Sound.{HasSoundReferences}
 use Rattle.rn_assemble.specs.inside.Views.{named_module_view, modules_view}
-use Rattle.rn_assemble.proofs.Answering.FirstRefusal.{NoneBelow, none_included, none_lacking, none_combined, none_sound, misnamed_first, joined_grammar_of}
+use Rattle.rn_assemble.proofs.Answering.FirstRefusal.{NoneBelow, none_included, none_lacking, none_combined, none_sound, misnamed_first, combined_grammar_of}
 use Rattle.rn_assemble.proofs.Expansion.Lacking.{lacks_alike}
 
 -- the name of a module, by its place
@@ -92,8 +92,8 @@ module _ (modules : List NamedModule) (names : List Text) (x : Components) (h : 
         passed_references : NoneBelow modules 11
         passed_references = none_sound modules passed_methods sound
 
-        pub joined_or_first : (r : Result Joined code.Refusal)
-            → ((live : List Live) → Lists names x live → IsStrictlySortedBy text_cmp names → has_key start_key (components_in live) ≡ true → MatchResult r (IsJoinedGrammar (components_in live)) (IsMisnamed (components_in live)))
-            → MatchResult r (λ g. IsGrammarOf modules (joined_view g)) (IsFirstOfModules modules)
-        joined_or_first r f =
-            MatchResult-weaker r (at_set (λ cs. has_key start_key cs ≡ true → MatchResult r (IsJoinedGrammar cs) (IsMisnamed cs)) f can.start) (joined_grammar_of modules passed_references) (misnamed_first modules passed_references)
+        pub combined_or_first : (r : Result Combined code.Refusal)
+            → ((live : List Live) → Lists names x live → IsStrictlySortedBy text_cmp names → has_key start_key (components_in live) ≡ true → MatchResult r (IsCombinedGrammar (components_in live)) (IsMisnamed (components_in live)))
+            → MatchResult r (λ g. IsGrammarOf modules (combined_view g)) (IsFirstOfModules modules)
+        combined_or_first r f =
+            MatchResult-weaker r (at_set (λ cs. has_key start_key cs ≡ true → MatchResult r (IsCombinedGrammar cs) (IsMisnamed cs)) f can.start) (combined_grammar_of modules passed_references) (misnamed_first modules passed_references)

@@ -12,7 +12,7 @@ use Rattle.rn_syntax.specs.Tree.{Declaration}
 use Rattle.rn_assemble.specs.declared.context.Context.{Context}
 use Rattle.rn_assemble.specs.declared.contents.Component as code
 use Rattle.rn_assemble.specs.declared.contents.Contents.{Contents}
-use Rattle.rn_assemble.specs.declared.components.Body.{Body}
+use Rattle.rn_assemble.specs.declared.bodies.Body.{Body}
 use Rattle.rn_assemble.specs.declared.components.MetContext.{MetContext}
 use Rattle.rn_assemble.specs.declared.components.Components.{Components}
 use Rattle.rn_assemble.specs.inside.Bound.{BindsAs}
@@ -108,7 +108,7 @@ module _ (names : List Text) where
 
   -- components added behind
   pub live_below : (x : Components) (live : List Live) → Lists names x live → AllByRecursion (λ (e : Live). e.place < length x.list) live
-  live_below x live h = each_to (IsLive names x.bodies.items x.list) (λ (e : Live). e.place < length x.list) (λ e k. k.within) live h.are
+  live_below x live h = each_to (IsLive names x.bodies x.list) (λ (e : Live). e.place < length x.list) (λ e k. k.within) live h.are
 
   pub adds_none : (x : Components) (live : List Live) → Lists names x live → AddsLive names x x live []
   adds_none x live h = record { added = []; lists = subst (λ es. Lists names x es) (sym (append-nil live)) h; rises = tt; longer = omega arith; are = refl }

@@ -10,7 +10,7 @@ use Rattle.rn_text.specs.Texts.{Text}
 use Rattle.std.proofs.lemmas.Option.{get_or_from_slice_get, slice_get-get_or, slice_get_cases}
 use Rattle.rn_pattern.specs.Graph.{row}
 use Rattle.rn_pattern.proofs.Ordered.Ascending.{each_join, each_front, each_behind}
-use Rattle.rn_assemble.specs.declared.components.Body.{Body}
+use Rattle.rn_assemble.specs.declared.bodies.Body.{Body}
 use Rattle.rn_assemble.specs.Components.{Component}
 use Rattle.rn_assemble.specs.inside.Listed.{IsBody, IsLive, Live, ListsBy, Rises, places_of}
 pub use Rattle.rn_assemble.proofs.Combined.Joined.{mapped as each_to}

@@ -10,7 +10,7 @@ use Rattle.rn_syntax.specs.Tree as t
 use Rattle.rn_syntax.specs.Tree.{Declaration}
 use Rattle.rn_assemble.specs.declared.contents.Contents.{Contents}
 use Rattle.rn_assemble.specs.declared.contents.Include.{Include}
-use Rattle.rn_assemble.specs.declared.components.Body.{Body}
+use Rattle.rn_assemble.specs.declared.bodies.Body.{Body}
 use Rattle.rn_assemble.specs.declared.components.Components.{Components}
 use Rattle.rn_assemble.specs.Components.{Component, NamedModule, components_within, handed_on, module_components, without_overridden}
 use Rattle.rn_assemble.specs.inside.Contained.{AreFlat, Inclusion, inclusions, item_inclusions, Written, written_components}
@@ -45,8 +45,8 @@ pub record Going (modules : List NamedModule) (names : List Text) (contents : Li
   pub adds : AddsLive names old now live done
   pub left : done ++ spliced (included_in depth modules) u m.tree.declarations (map (written_view names) content.components.items) (map inclusion_view includes) n ≡ module_components (components_within depth modules) u m.tree
   pub contexts : ContextsHold contents now
-  pub starts : StartsAt now.bodies.items first content u
-  pub grows : (more : List Body) × (now.bodies.items ≡ old.bodies.items ++ more)
+  pub starts : StartsAt now.bodies first content u
+  pub grows : (more : List Body) × (now.bodies ≡ old.bodies ++ more)
   pub ordered : Ordered (length content.components.items) n (map inclusion_view includes)
   pub within : AllByRecursion (IsWithin modules) (map inclusion_view includes)
 
@@ -61,10 +61,10 @@ module _ (modules : List NamedModule) (names : List Text) (contents : List Conte
   pub going_none : (old now : Components) → IsContents modules names m content → AreFlat m.tree.items → Lists names old live → KeepsLists old now → Enters contents old now first content u → Going modules names contents content old now live m u depth first 0 content.includes.items
   going_none old now is flat lists kept entered =
       let size : length content.components.items ≡ length (written_components m.tree.items) = sym (length-map content.components.items (written_view names)) ∙ ap length is.components in
-      let more = lists_more_bodies names old.bodies.items entered.grows.0 old.list old.places.items live lists in
-      let in_bodies : ListsBy names now.bodies.items old.list old.places.items live = subst (λ (bs : List Body). ListsBy names bs old.list old.places.items live) (sym entered.grows.1) more in
-      let in_list : ListsBy names now.bodies.items now.list old.places.items live = subst (λ v. ListsBy names now.bodies.items v old.places.items live) (sym kept.list) in_bodies in
-      let here : Lists names now live = subst (λ v. ListsBy names now.bodies.items now.list v.items live) (sym kept.places) in_list in
+      let more = lists_more_bodies names old.bodies entered.grows.0 old.list old.places.items live lists in
+      let in_bodies : ListsBy names now.bodies old.list old.places.items live = subst (λ (bs : List Body). ListsBy names bs old.list old.places.items live) (sym entered.grows.1) more in
+      let in_list : ListsBy names now.bodies now.list old.places.items live = subst (λ v. ListsBy names now.bodies v old.places.items live) (sym kept.list) in_bodies in
+      let here : Lists names now live = subst (λ v. ListsBy names now.bodies now.list v.items live) (sym kept.places) in_list in
       let same : length now.list ≡ length old.list = ap length kept.list in
       record {
         done = [];
@@ -86,14 +86,14 @@ module _ (modules : List NamedModule) (names : List Text) (contents : List Conte
       let part = without_overridden (included_in depth modules i.«module» (handed_on u m.tree.declarations (inclusion_view i).inherit)) (res (slice_range ws i.from i.to)) in
       let after = spliced (included_in depth modules) u m.tree.declarations ws (map inclusion_view rest) i.from in
       let all = adds_both names now mid new (live ++ g.adds.added) (res (slice_range ws n i.from)) part a e.adds in
-      let bodies : new.bodies.items ≡ now.bodies.items ++ e.grows.0 = e.grows.1 ∙ ap (λ v. v.items ++ e.grows.0) kept.bodies in
+      let bodies : new.bodies ≡ now.bodies ++ e.grows.0 = e.grows.1 ∙ ap (λ bs. bs ++ e.grows.0) kept.bodies in
       record {
         done = g.done ++ (res (slice_range ws n i.from) ++ part);
         adds = adds_both names old now new live g.done (res (slice_range ws n i.from) ++ part) g.adds all;
         left = append_assoc g.done (res (slice_range ws n i.from) ++ part) after ∙ ap (λ l. g.done ++ l) (append_assoc (res (slice_range ws n i.from)) part after) ∙ g.left;
         contexts = e.contexts;
-        starts = subst (λ (bs : List Body). StartsAt bs first content u) (sym bodies) (starts_grown now.bodies.items e.grows.0 first content u g.starts);
-        grows = (g.grows.0 ++ e.grows.0, bodies ∙ ap (λ l. l ++ e.grows.0) g.grows.1 ∙ append_assoc old.bodies.items g.grows.0 e.grows.0);
+        starts = subst (λ (bs : List Body). StartsAt bs first content u) (sym bodies) (starts_grown now.bodies e.grows.0 first content u g.starts);
+        grows = (g.grows.0 ++ e.grows.0, bodies ∙ ap (λ l. l ++ e.grows.0) g.grows.1 ∙ append_assoc old.bodies g.grows.0 e.grows.0);
         ordered = g.ordered.3;
         within = g.within.1;
       }
@@ -111,18 +111,18 @@ each_take P (suc n) (x ∷ xs) h = (h.0, each_take P n xs h.1)
 -- the same lists
 pub lists_same : (names : List Text) (old new : Components) (live : List Live) → KeepsBodies old new → new.list ≡ old.list → new.places ≡ old.places → Lists names old live → Lists names new live
 lists_same names old new live kept list places h =
-    let in_bodies : ListsBy names new.bodies.items old.list old.places.items live = subst (λ v. ListsBy names v.items old.list old.places.items live) (sym kept.bodies) h in
-    let in_list : ListsBy names new.bodies.items new.list old.places.items live = subst (λ v. ListsBy names new.bodies.items v old.places.items live) (sym list) in_bodies in
-    subst (λ v. ListsBy names new.bodies.items new.list v.items live) (sym places) in_list
+    let in_bodies : ListsBy names new.bodies old.list old.places.items live = subst (λ (bs : List Body). ListsBy names bs old.list old.places.items live) (sym kept.bodies) h in
+    let in_list : ListsBy names new.bodies new.list old.places.items live = subst (λ v. ListsBy names new.bodies v old.places.items live) (sym list) in_bodies in
+    subst (λ v. ListsBy names new.bodies new.list v.items live) (sym places) in_list
 
 pub contexts_same : (contents : List Contents) (old new : Components) → KeepsBodies old new → ContextsHold contents old → ContextsHold contents new
 contexts_same contents old new kept h =
-    let in_bodies : AllByRecursion (ContextHolds contents new.bodies.items) old.contexts.items = subst (λ v. AllByRecursion (ContextHolds contents v.items) old.contexts.items) (sym kept.bodies) h in
-    subst (λ v. AllByRecursion (ContextHolds contents new.bodies.items) v.items) (sym kept.contexts) in_bodies
+    let in_bodies : AllByRecursion (ContextHolds contents new.bodies) old.contexts.items = subst (λ v. AllByRecursion (ContextHolds contents v) old.contexts.items) (sym kept.bodies) h in
+    subst (λ v. AllByRecursion (ContextHolds contents new.bodies) v.items) (sym kept.contexts) in_bodies
 
 -- nothing is included
 pub expands_none : (names : List Text) (contents : List Contents) (x : Components) (live : List Live) → Lists names x live → ContextsHold contents x → Expands names contents x x live []
-expands_none names contents x live h k = record { adds = adds_none names x live h; contexts = k; grows = ([], sym (append-nil x.bodies.items)) }
+expands_none names contents x live h k = record { adds = adds_none names x live h; contexts = k; grows = ([], sym (append-nil x.bodies)) }
 
 -- what was included, without what is overridden
 pub overrides : (names : List Text) (contents : List Contents) (content : Contents) (u : Text) (ds : List Declaration) (old mid now new : Components) (live : List Live) (cs : List Component) (a b : ℕ) (e : Expands names contents old mid live cs)
@@ -133,7 +133,7 @@ overrides names contents content u ds old mid now new live cs a b e o numbered n
     let own = slice_range content.components.items a b in
     let added = e.adds.added in
     let all = e.adds.lists.are in
-    let behind = each_behind (IsLive names mid.bodies.items mid.list) live added all in
+    let behind = each_behind (IsLive names mid.bodies mid.list) live added all in
     let size : length new.list ≡ length mid.list = ap length (same ∙ list) in
     record {
       adds = record {
@@ -141,11 +141,11 @@ overrides names contents content u ds old mid now new live cs a b e o numbered n
         lists = taken;
         rises = rises_filtered _ (length old.list) added e.adds.rises;
         longer = omega (arith, size, e.adds.longer);
-        are = left_is names o u ds mid.bodies.items mid.list own (each_take (IsNumbered names) (b - a) (drop a content.components.items) (each_drop (IsNumbered names) a content.components.items numbered)) added behind
+        are = left_is names o u ds mid.bodies mid.list own (each_take (IsNumbered names) (b - a) (drop a content.components.items) (each_drop (IsNumbered names) a content.components.items numbered)) added behind
             ∙ (λ i. without_overridden (e.adds.are i) (map (resolved_component u ds) (sym (range_map (written_view names) a b content.components.items) i)));
       };
       contexts = contexts_same contents now new kept (contexts_same contents mid now noted e.contexts);
-      grows = (e.grows.0, ap (λ v. v.items) (kept.bodies ∙ noted.bodies) ∙ e.grows.1);
+      grows = (e.grows.0, kept.bodies ∙ noted.bodies ∙ e.grows.1);
     }
 
 pub zip_size : {X C : Type 0} (R : X → C → Type 0) (xs : List X) (cs : List C) → AllZip R xs cs → length xs ≡ length cs
@@ -174,5 +174,5 @@ finishes modules names contents content live m u depth first old now new n end g
     record {
       adds = subst (λ l. AddsLive names old new live l) whole (adds_both names old now new live g.done last g.adds a);
       contexts = contexts_same contents now new kept g.contexts;
-      grows = (g.grows.0, ap (λ v. v.items) kept.bodies ∙ g.grows.1);
+      grows = (g.grows.0, kept.bodies ∙ g.grows.1);
     }

@@ -28,7 +28,7 @@ same_either_at : (b : Bool) (x y : Text) → bytes_eq y x ≡ b → bytes_eq x y
 same_either_at true x y e n = absurd (false≢true (sym n ∙ (bytes_eq-Decides x y).1 (sym ((bytes_eq-Decides y x).0 e))))
 same_either_at false x y e n = refl
 
-differs : (x y : Text) → bytes_eq x y ≡ false → bytes_eq y x ≡ false
+pub differs : (x y : Text) → bytes_eq x y ≡ false → bytes_eq y x ≡ false
 differs x y n = same_either_at (bytes_eq y x) x y refl n
 
 -- one more name behind the others

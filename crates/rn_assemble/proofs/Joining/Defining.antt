@@ -1,22 +1,21 @@
 -- The definitions of a grammar, made place by place.
 use Rattle.std.proofs.Common.{◌≡◌, ◌≢◌, ◌⊎◌, inl, inr, ℕ, zero, suc, ◌+◌, ◌-◌, ◌<◌, ◌≤◌, Bool, true, false, ◌||◌, cond, List, [], ◌∷◌, ◌++◌, length, get_or, set, map, Option, Some, None, refl, sym, ap, ◌∙◌, subst, arith, Contains}
-use Rattle.std.specs.Prelude.{Box, bytes_eq, option_map, String, string_bytes}
-use Rattle.std.specs.List.{AllByRecursion, list_any}
-use Rattle.std.specs.String.{string_eq}
+use Rattle.std.specs.Prelude.{Box, option_map}
+use Rattle.std.specs.List.{AllByRecursion}
 use Rattle.std.specs.declared.alloc.Global.{Global}
 use Rattle.std.proofs.lemmas.Bool.{cases_Bool, cases_eq, false≢true}
-use Rattle.std.proofs.lemmas.List.{get_or-set_other, length_push, map-append}
-use Rattle.indexmap.specs.IndexMap.{insert_entry}
+use Rattle.std.proofs.lemmas.List.{get_or-set_other, length-map, length_push, map-append}
 use Rattle.rn_pattern.specs.Tree.{Tree}
 use Rattle.rn_text.specs.Texts.{Text}
-use Rattle.rn_pattern.specs.View.{pattern_view, boxed_view}
+use Rattle.rn_pattern.specs.View.{boxed_view}
 use Rattle.rn_pattern.specs.declared.tree.Pattern.{Pattern}
-use Rattle.rn_assemble.specs.declared.components.Body.{Body}
+use Rattle.rn_assemble.specs.declared.bodies.Body.{Body}
+use Rattle.rn_assemble.specs.declared.combined_grammar.Definition.{Definition}
 use Rattle.rn_assemble.specs.Combine.{defined_names, joined_pattern, joined_grammar}
 use Rattle.rn_assemble.specs.Components.{Component, Key, has_key, name_key, same_key, start_key}
-use Rattle.rn_assemble.specs.DefinitionsView.{definitions_view}
+use Rattle.rn_assemble.specs.inside.CombinedDefinitions.{combined_definitions}
 use Rattle.rn_assemble.specs.Firsts.{joined_members}
-use Rattle.rn_assemble.specs.inside.Tied.{AreTied, HaveTied}
+use Rattle.rn_assemble.specs.inside.Tied.{AreTied, HasRow, HaveTied}
 use Rattle.rn_assemble.specs.inside.Keyed.{key_at}
 use Rattle.rn_assemble.specs.inside.Listed.{IsLive, Live, ListsBy, Rises, components_in}
 use Rattle.rn_assemble.specs.inside.Patterns.{AreCombined, HavePatterns, IsFirstAt, before, tree_at}
@@ -26,24 +25,6 @@ use Rattle.rn_assemble.proofs.Joining.FirstPlaces.{all_before, before_more, befo
 use Rattle.rn_assemble.proofs.Expansion.LiveLists.{each_to}
 use Rattle.rn_assemble.proofs.Referring.Numbers.{same_key-Decides}
 use Rattle.rn_assemble.proofs.Joining.UsedMethods.{any_front, any_last}
-
--- ---- a name that is new in a map
-
-some_other : (b c : Bool) → (b || c) ≡ false → (b ≡ false) × (c ≡ false)
-some_other true c e = absurd (false≢true (sym e))
-some_other false c e = (refl, e)
-
-inserted_at : (b : Bool) (d : String Global × Pattern) (es fs : List (String Global × Pattern)) (s : String Global) (p : Pattern) → b ≡ false → definitions_view fs ≡ definitions_view es ++ (string_bytes s, pattern_view p) ∷ []
-    → definitions_view (cond b ((d.0, p) ∷ es) (d ∷ fs)) ≡ definitions_view (d ∷ es) ++ (string_bytes s, pattern_view p) ∷ []
-inserted_at true d es fs s p e h = absurd (false≢true (sym e))
-inserted_at false d es fs s p e h = ap (λ ds. (string_bytes d.0, pattern_view d.1) ∷ ds) h
-
-pub inserted : (es : List (String Global × Pattern)) (s : String Global) (p : Pattern) → list_any (bytes_eq (string_bytes s)) (map (λ (d : Text × Tree). d.0) (definitions_view es)) ≡ false
-    → definitions_view (insert_entry string_eq es s p) ≡ definitions_view es ++ (string_bytes s, pattern_view p) ∷ []
-inserted [] s p n = refl
-inserted (d ∷ es) s p n =
-    let other = some_other (bytes_eq (string_bytes s) (string_bytes d.0)) (list_any (bytes_eq (string_bytes s)) (map (λ (e : Text × Tree). e.0) (definitions_view es))) n in
-    inserted_at (bytes_eq (string_bytes s) (string_bytes d.0)) d es (insert_entry string_eq es s p) s p other.0 (inserted es s p other.1)
 
 -- ---- keys among one component more
 
@@ -77,11 +58,11 @@ module _ (names : List Text) (live : List Live) (rises : Rises 0 live) where
   definition x = (x, joined_pattern cs (name_key x))
 
   -- the names of the components before the place are defined, with the first places of their members, and the other patterns are left
-  pub record Defining (patterns : List (Option (Box Pattern Global))) (entries : List (String Global × Pattern)) (rows : List (List ℕ)) (p : ℕ) : Type 0 where
-    pub made : definitions_view entries ≡ map definition (defined_names (done p))
+  pub record Defining (patterns : List (Option (Box Pattern Global))) (entries : List Definition) (rows : List (List ℕ)) (p : ℕ) : Type 0 where
+    pub made : combined_definitions entries ≡ map definition (defined_names (done p))
     pub left : HavePatterns names cs (done p) patterns
-    pub size : length rows ≡ length (definitions_view entries)
-    pub tied : HaveTied rows (definitions_view entries)
+    pub size : length rows ≤ length (combined_definitions entries)
+    pub tied : HaveTied rows (combined_definitions entries)
 
   pub defining_begins : (patterns : List (Option (Box Pattern Global))) → HavePatterns names cs [] patterns → Defining patterns [] [] 0
   defining_begins patterns h =
@@ -89,7 +70,7 @@ module _ (names : List Text) (live : List Live) (rises : Rises 0 live) where
       record {
         made = sym (ap (λ ds. map definition (defined_names ds)) none);
         left = subst (λ ds. HavePatterns names cs ds patterns) (sym none) h;
-        size = refl;
+        size = omega arith;
         tied = λ n d l. absurd (omega (arith, l));
       }
 
@@ -97,7 +78,7 @@ module _ (names : List Text) (live : List Live) (rises : Rises 0 live) where
   one_more p e c s = ap (λ es. components_in es) (before_more 0 p live e rises c s) ∙ map-append (λ (d : Live). d.component) (before p live) (e ∷ [])
 
   -- no name begins at the place
-  pub defining_same : (patterns : List (Option (Box Pattern Global))) (entries : List (String Global × Pattern)) (rows : List (List ℕ)) (p : ℕ) → IsFirstAt names live p None → Defining patterns entries rows p → Defining patterns entries rows (p + 1)
+  pub defining_same : (patterns : List (Option (Box Pattern Global))) (entries : List Definition) (rows : List (List ℕ)) (p : ℕ) → IsFirstAt names live p None → Defining patterns entries rows p → Defining patterns entries rows (p + 1)
   defining_same patterns entries rows p f h = elim (before_next p live) [
     | inl k ↦
         let more = one_more p k.0 k.1 k.2 in
@@ -117,32 +98,33 @@ module _ (names : List Text) (live : List Live) (rises : Rises 0 live) where
         }
   ]
 
-  pattern_is : (patterns : List (Option (Box Pattern Global))) (entries : List (String Global × Pattern)) (rows : List (List ℕ)) (p n : ℕ) → IsFirstAt names live p (Some n) → Defining patterns entries rows p → tree_at patterns n ≡ Some (joined_pattern cs (key_at names n))
+  pattern_is : (patterns : List (Option (Box Pattern Global))) (entries : List Definition) (rows : List (List ℕ)) (p n : ℕ) → IsFirstAt names live p (Some n) → Defining patterns entries rows p → tree_at patterns n ≡ Some (joined_pattern cs (key_at names n))
   pattern_is patterns entries rows p n f h =
       h.left n f.0 f.1 f.3 ∙ ap (λ b. cond b (Some (joined_pattern cs (key_at names n))) None) (key_there (key_at names n) live f.2.0 f.2.1 f.2.3)
 
   -- the pattern of a name that begins at the place is there
-  pub pattern_there : (patterns : List (Option (Box Pattern Global))) (entries : List (String Global × Pattern)) (rows : List (List ℕ)) (p n : ℕ) → IsFirstAt names live p (Some n) → Defining patterns entries rows p → get_or patterns n None ≡ None → ⊥
+  pub pattern_there : (patterns : List (Option (Box Pattern Global))) (entries : List Definition) (rows : List (List ℕ)) (p n : ℕ) → IsFirstAt names live p (Some n) → Defining patterns entries rows p → get_or patterns n None ≡ None → ⊥
   pattern_there patterns entries rows p n f h none =
       let is = pattern_is patterns entries rows p n f h in
       let wrong : None ≡ Some (joined_pattern cs (key_at names n)) = sym (ap (option_map boxed_view) none) ∙ is in cc
 
   -- a name begins there, and its definition is added
-  pub defining_more : (patterns : List (Option (Box Pattern Global))) (entries entries' : List (String Global × Pattern)) (rows : List (List ℕ)) (v : List ℕ) (p n : ℕ) (s : Text) (q : Box Pattern Global) → IsFirstAt names live p (Some n) → Defining patterns entries rows p
-      → get_or patterns n None ≡ Some q → s ≡ get_or names (n - 1) [] → (list_any (bytes_eq s) (map (λ (d : Text × Tree). d.0) (definitions_view entries)) ≡ false → definitions_view entries' ≡ definitions_view entries ++ (s, boxed_view q) ∷ [])
-      → AreTied v (joined_members (joined_pattern cs (key_at names n))) → Defining (set patterns n None) entries' (rows ++ v ∷ []) (p + 1)
-  defining_more patterns entries entries' rows v p n s q f h is name added tied =
+  pub defining_more : (patterns : List (Option (Box Pattern Global))) (entries : List Definition) (rows rows' : List (List ℕ)) (v : List ℕ) (p n : ℕ) (d : Definition) → IsFirstAt names live p (Some n) → Defining patterns entries rows p
+      → get_or patterns n None ≡ Some d.pattern → d.name.now ≡ get_or names (n - 1) [] → HasRow rows rows' (length entries) v
+      → AreTied v (joined_members (joined_pattern cs (key_at names n))) → Defining (set patterns n None) (entries ++ d ∷ []) rows' (p + 1)
+  defining_more patterns entries rows rows' v p n d f h is name has tied =
       let x = get_or names (n - 1) [] in
       let key = number_name names n f.0 in
       let more = one_more p f.2.0 f.2.1 f.2.2 in
       let absent : has_key (name_key x) (done p) ≡ false = ap (λ k. has_key k (done p)) (sym key) ∙ f.3 in
-      let new : list_any (bytes_eq s) (map (λ (d : Text × Tree). d.0) (definitions_view entries)) ≡ false =
-      (λ i. list_any (bytes_eq (name i)) (map (λ (d : Text × Tree). d.0) (h.made i))) ∙ ap (list_any (bytes_eq x)) (names_mapped (λ y. joined_pattern cs (name_key y)) (defined_names (done p))) ∙ not_among x (done p) absent in
-      let tree : Some (boxed_view q) ≡ Some (joined_pattern cs (key_at names n)) = sym (ap (option_map boxed_view) is) ∙ pattern_is patterns entries rows p n f h in
-      let here : boxed_view q ≡ joined_pattern cs (key_at names n) = cc in
-      let body : boxed_view q ≡ joined_pattern cs (name_key x) = here ∙ ap (joined_pattern cs) key in
+      let tree : Some (boxed_view d.pattern) ≡ Some (joined_pattern cs (key_at names n)) = sym (ap (option_map boxed_view) is) ∙ pattern_is patterns entries rows p n f h in
+      let here : boxed_view d.pattern ≡ joined_pattern cs (key_at names n) = cc in
+      let body : boxed_view d.pattern ≡ joined_pattern cs (name_key x) = here ∙ ap (joined_pattern cs) key in
+      let view : Definition → Text × Tree = λ (e : Definition). (e.name.now, boxed_view e.pattern) in
+      let added : combined_definitions (entries ++ d ∷ []) ≡ combined_definitions entries ++ view d ∷ [] = map-append view entries (d ∷ []) in
+      let size = length-map entries view in
       record {
-        made = added new ∙ (λ i. h.made i ++ (name i, body i) ∷ []) ∙ sym (map-append definition (defined_names (done p)) (x ∷ []))
+        made = added ∙ (λ i. h.made i ++ (name i, body i) ∷ []) ∙ sym (map-append definition (defined_names (done p)) (x ∷ []))
             ∙ ap (map definition) (sym (ap defined_names more ∙ defined_new (done p) f.2.0.component x (f.2.3 ∙ key) absent));
         left = λ m above l none.
             let before_it = ap (has_key (key_at names m)) (sym more) ∙ none in
@@ -150,12 +132,12 @@ module _ (names : List Text) (live : List Live) (rises : Rises 0 live) where
               | inl same ↦ absurd (false≢true (sym before_it ∙ last_key (key_at names m) (done p) f.2.0.component (f.2.3 ∙ ap (key_at names) (sym same))))
               | inr other ↦ ap (option_map boxed_view) (get_or-set_other patterns n m None None other) ∙ h.left m above l (fewer (key_at names m) (done p) (f.2.0.component ∷ []) before_it)
             ];
-        size = length_push rows v ∙ ap (λ n. n + 1) h.size ∙ sym (ap length (added new) ∙ length_push (definitions_view entries) (s, boxed_view q));
-        tied = subst (HaveTied (rows ++ v ∷ [])) (sym (added new)) (tied_more rows (definitions_view entries) v (s, boxed_view q) h.size h.tied (subst (λ t. AreTied v (joined_members t)) (sym here) tied));
+        size = omega (arith, has.within, length_push entries d, length-map (entries ++ d ∷ []) view);
+        tied = subst (HaveTied rows') (sym added) (tied_more rows rows' (combined_definitions entries) v (view d) (subst (λ k. HasRow rows rows' k v) (sym size) has) h.tied (subst (λ t. AreTied v (joined_members t)) (sym here) tied));
       }
 
   -- behind the last place all names are defined
-  pub defining_ends : (patterns : List (Option (Box Pattern Global))) (entries : List (String Global × Pattern)) (rows : List (List ℕ)) (p : ℕ) → AllByRecursion (λ (e : Live). e.place < p) live → Defining patterns entries rows p → HaveTied rows (definitions_view entries) × (definitions_view entries ≡ (joined_grammar cs).definitions)
+  pub defining_ends : (patterns : List (Option (Box Pattern Global))) (entries : List Definition) (rows : List (List ℕ)) (p : ℕ) → AllByRecursion (λ (e : Live). e.place < p) live → Defining patterns entries rows p → HaveTied rows (combined_definitions entries) × (combined_definitions entries ≡ (joined_grammar cs).definitions)
   defining_ends patterns entries rows p h d = (d.tied, d.made ∙ ap (λ es. map definition (defined_names (components_in es))) (all_before p live h))
 
 pub places_within : (names : List Text) (bodies : List Body) (list : List ℕ) (rows : List (List ℕ)) (live : List Live) (p : ℕ) → ListsBy names bodies list rows live → length list ≤ p → AllByRecursion (λ (e : Live). e.place < p) live

@@ -15,7 +15,7 @@ use Rattle.rn_text.specs.Texts.{Text, text_cmp}
 use Rattle.rn_pattern.specs.View.{shared_view, boxed_view}
 use Rattle.rn_pattern.specs.declared.tree.Pattern.{Pattern}
 use Rattle.rn_pattern.proofs.Ordered.Ascending.{each_join}
-use Rattle.rn_assemble.specs.declared.components.Body.{Body}
+use Rattle.rn_assemble.specs.declared.bodies.Body.{Body}
 use Rattle.rn_assemble.specs.declared.refusal.Key as code
 use Rattle.rn_assemble.specs.declared.refusal.Refusal.{Refusal}
 use Rattle.rn_assemble.specs.declared.refusal.Refusal.TheVariants as r

@@ -7,7 +7,7 @@ use Rattle.rn_assemble.specs.Components.{Component}
 use Rattle.rn_assemble.specs.inside.Bound.{binds_are}
 use Rattle.rn_assemble.specs.inside.Listed.{IsBody}
 use Rattle.rn_assemble.specs.Resolve.{resolved_pattern}
-use Rattle.rn_assemble.specs.declared.components.Body.{Body}
+use Rattle.rn_assemble.specs.declared.bodies.Body.{Body}
 
 pub one_body : (names : List Text) (b : Body) (key other : ℕ) (c d : Component) → IsBody names b key c → IsBody names b other d → c.body ≡ d.body
 one_body names b key other c d h k =

@@ -24,7 +24,7 @@ use Rattle.rn_assemble.specs.inside.Listed.{Live, IsBody, IsLive, ListsBy, compo
 use Rattle.rn_assemble.specs.inside.Referred.{AreBodiesAt, names_within, references, references_at, within}
 use Rattle.rn_assemble.specs.declared.references.Reach.{Reach}
 use Rattle.rn_assemble.specs.declared.references.Reach.TheVariants.{OutsideElements}
-use Rattle.rn_assemble.specs.declared.components.Body.{Body}
+use Rattle.rn_assemble.specs.declared.bodies.Body.{Body}
 use Rattle.rn_assemble.proofs.Combined.Combinations.{some_joined, joined_definition}
 use Rattle.rn_assemble.proofs.Expansion.LiveLists.{each_filtered}
 use Rattle.rn_assemble.proofs.Referring.Numbers.{key_text, same_key-Decides}

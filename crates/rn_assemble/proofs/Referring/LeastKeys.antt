@@ -9,7 +9,7 @@ use Rattle.std.proofs.lemmas.Map.Keys.{Less-from_sorted}
 use Rattle.rn_text.specs.Texts.{Text, text_cmp}
 use Rattle.rn_pattern.specs.Graph.{row}
 use Rattle.rn_pattern.proofs.Ordered.InOrder.{text_no_less}
-use Rattle.rn_assemble.specs.declared.components.Body.{Body}
+use Rattle.rn_assemble.specs.declared.bodies.Body.{Body}
 use Rattle.rn_assemble.specs.Components.{Component, Key, has_key, same_key, start_key}
 use Rattle.rn_assemble.specs.Combine.{IsMixed, IsPlainTwice, is_choice, is_interleave, is_plain, of_key}
 use Rattle.rn_assemble.specs.inside.Keyed.{key_at}

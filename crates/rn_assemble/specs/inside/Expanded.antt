@@ -7,7 +7,7 @@ use Rattle.rn_text.specs.Texts.{Text, text_cmp}
 use Rattle.rn_assemble.specs.declared.contents.Component as code
 use Rattle.rn_assemble.specs.declared.contents.Contents.{Contents}
 use Rattle.rn_assemble.specs.declared.contents.Include.{Include}
-use Rattle.rn_assemble.specs.declared.components.Body.{Body}
+use Rattle.rn_assemble.specs.declared.bodies.Body.{Body}
 use Rattle.rn_assemble.specs.declared.components.Components.{Components}
 use Rattle.rn_pattern.specs.Graph.{AllBelow}
 use Rattle.rn_syntax.specs.Tree.{Declaration}
@@ -49,7 +49,7 @@ pub record AddsLive (names : List Text) (old new : Components) (live : List Live
 pub record CanAdd (names : List Text) (x : Components) (live : List Live) (content : Contents) (first : ℕ) (inherited : Text) (ds : List Declaration) (from to : ℕ) : Type 0 where
   pub lists : Lists names x live
   pub binds : BindsAs content.bindings ds
-  pub starts : StartsAt x.bodies.items first content inherited
+  pub starts : StartsAt x.bodies first content inherited
   pub numbered : AllByRecursion (IsNumbered names) content.components.items
   pub ordered : from ≤ to
   pub within : to ≤ length content.components.items
@@ -64,13 +64,13 @@ abbrev pub ContextHolds : List Contents → List Body → MetContext → Type 0
 ContextHolds contents bodies q = (content : Contents) → IsItem contents q.module content → StartsAt bodies q.first content (rc_str_bytes q.inherited.now)
 
 abbrev pub ContextsHold : List Contents → Components → Type 0
-ContextsHold contents x = AllByRecursion (ContextHolds contents x.bodies.items) x.contexts.items
+ContextsHold contents x = AllByRecursion (ContextHolds contents x.bodies) x.contexts.items
 
 -- the bodies of the content are there
 pub record Enters (contents : List Contents) (old new : Components) (first : ℕ) (content : Contents) (inherited : Text) : Type 0 where
-  pub starts : StartsAt new.bodies.items first content inherited
+  pub starts : StartsAt new.bodies first content inherited
   pub contexts : ContextsHold contents new
-  pub grows : (more : List Body) × (new.bodies.items ≡ old.bodies.items ++ more)
+  pub grows : (more : List Body) × (new.bodies ≡ old.bodies ++ more)
 
 -- the include's own components
 abbrev pub own_components : Contents → Include → List code.Component
@@ -115,7 +115,7 @@ pub record CanInclude (modules : List NamedModule) (names : List Text) (content 
 pub record Expands (names : List Text) (contents : List Contents) (old new : Components) (live : List Live) (cs : List Component) : Type 0 where
   pub adds : AddsLive names old new live cs
   pub contexts : ContextsHold contents new
-  pub grows : (more : List Body) × (new.bodies.items ≡ old.bodies.items ++ more)
+  pub grows : (more : List Body) × (new.bodies ≡ old.bodies ++ more)
 
 -- modules and names in their order, and the contents of the modules
 pub record CanList (modules : List NamedModule) (names : List Text) (contents : List Contents) : Type 0 where

@@ -1,14 +1,14 @@
--- The grammar that components are joined to, and what stands against it (RELAX NG 4.16, 4.17).
+-- The grammar of combined patterns, and what stands against it (RELAX NG 4.16, 4.17).
 use Rattle.std.specs.Prelude.{◌≡◌, true, List, ⊤}
 use Rattle.std.specs.List.Sorted.{IsStrictlySortedBy}
 use Rattle.rn_text.specs.Texts.{Text, text_cmp}
 use Rattle.rn_assemble.specs.declared.components.Components.{Components}
-use Rattle.rn_assemble.specs.declared.joined_grammar.Joined.{Joined}
+use Rattle.rn_assemble.specs.declared.combined_grammar.Combined.{Combined}
 use Rattle.rn_assemble.specs.declared.refusal.Refusal.{Refusal}
 use Rattle.rn_assemble.specs.declared.refusal.Refusal.TheVariants as r
 use Rattle.rn_assemble.specs.Components.{Key, Component, has_key, start_key}
 use Rattle.rn_assemble.specs.Combine.{joined_grammar}
-use Rattle.rn_assemble.specs.JoinedView.{joined_view}
+use Rattle.rn_assemble.specs.inside.CombinedView.{combined_view}
 use Rattle.rn_assemble.specs.Least.{IsLeast, key_cmp}
 use Rattle.rn_assemble.specs.inside.Listed.{Live, Lists, components_in}
 use Rattle.rn_assemble.specs.Refusal.{BreaksNameRules}
@@ -19,8 +19,8 @@ abbrev pub HasStart : List Text → Components → Type 0
 HasStart names x = (live : List Live) × Lists names x live × IsStrictlySortedBy text_cmp names × (has_key start_key (components_in live) ≡ true)
 
 -- the components' grammar, in which no key breaks the restrictions on name classes
-pub record IsJoinedGrammar (cs : List Component) (g : Joined) : Type 0 where
-  pub is : joined_view g ≡ joined_grammar cs
+pub record IsCombinedGrammar (cs : List Component) (c : Combined) : Type 0 where
+  pub is : combined_view c ≡ joined_grammar cs
   pub keeps : (k : Key) → ¬ BreaksNameRules cs k
 
 -- the least key that breaks the restrictions on name classes, or want of memory

@@ -7,7 +7,7 @@ use Rattle.rn_text.specs.Texts.{Text, text_cmp}
 use Rattle.rn_pattern.specs.Graph.{row}
 use Rattle.rn_syntax.specs.Tree.{Declaration}
 use Rattle.rn_assemble.specs.declared.contents.Contents.{Contents}
-use Rattle.rn_assemble.specs.declared.components.Body.{Body}
+use Rattle.rn_assemble.specs.declared.bodies.Body.{Body}
 use Rattle.rn_assemble.specs.declared.components.Components.{Components}
 use Rattle.rn_assemble.specs.declared.keys.Keys.{Keys}
 use Rattle.rn_assemble.specs.Resolve.{resolved_pattern}
@@ -76,7 +76,7 @@ pub record ListsBy (names : List Text) (bodies : List Body) (list : List ℕ) (r
   pub places : (key : ℕ) → key < length rows → row rows key ≡ places_of key live
 
 abbrev pub Lists : List Text → Components → List Live → Type 0
-Lists names x live = ListsBy names x.bodies.items x.list x.places.items live
+Lists names x live = ListsBy names x.bodies x.list x.places.items live
 
 abbrev pub components_in : List Live → List Component
 components_in live = map (λ (e : Live). e.component) live

@@ -8,7 +8,7 @@ use Rattle.rn_pattern.specs.Tree.{Tree}
 use Rattle.rn_text.specs.Texts.{Text}
 use Rattle.rn_pattern.specs.View.{boxed_view, shared_view}
 use Rattle.rn_pattern.specs.declared.tree.Pattern.{Pattern}
-use Rattle.rn_assemble.specs.declared.components.Body.{Body}
+use Rattle.rn_assemble.specs.declared.bodies.Body.{Body}
 use Rattle.rn_assemble.specs.declared.components.Components.{Components}
 use Rattle.rn_assemble.specs.declared.keys.Keys.{Keys}
 use Rattle.rn_assemble.specs.declared.refusal.Refusal.{Refusal}
@@ -54,7 +54,7 @@ pub record AreShared (names : List Text) (bodies : List Body) (shared : List (Op
 
 -- the same of the bodies of these components
 abbrev pub AreSharedBy : Keys → Components → List (Option (Rc Pattern Global)) → Type 0
-AreSharedBy keys x shared = AreShared (names_of keys) x.bodies.items shared
+AreSharedBy keys x shared = AreShared (names_of keys) x.bodies shared
 
 -- the pattern of a key's components, where it has some
 abbrev pub pattern_of : List Component → Key → Option Tree

@@ -20,7 +20,7 @@ use Rattle.rn_assemble.specs.Combine.{joined_pattern, joined_grammar}
 use Rattle.rn_assemble.specs.inside.Keyed.{IsNumber, key_at}
 use Rattle.rn_assemble.specs.Least.{IsLeast}
 use Rattle.rn_assemble.specs.inside.Listed.{Live, Lists, components_in}
-use Rattle.rn_assemble.specs.declared.components.Body.{Body}
+use Rattle.rn_assemble.specs.declared.bodies.Body.{Body}
 use Rattle.rn_assemble.specs.declared.components.Components.{Components}
 use Rattle.rn_assemble.specs.declared.references.Reach.{Reach}
 use Rattle.rn_assemble.specs.declared.references.Reach.TheVariants.{Everywhere, OutsideElements}
@@ -88,7 +88,7 @@ references_at bodies n = option_map_or (λ (b : Body). references OutsideElement
 
 -- those of the bodies with these numbers
 abbrev pub references_in : Components → List ℕ → List (Text × Reach)
-references_in x numbers = flat_map (references_at x.bodies.items) numbers
+references_in x numbers = flat_map (references_at x.bodies) numbers
 
 -- the number of a name that is referred to, if it has one and the reach takes the reference in
 abbrev pub number_within : (meant narrowest : Reach) → Option ℕ → List ℕ

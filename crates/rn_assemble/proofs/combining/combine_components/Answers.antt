@@ -13,7 +13,7 @@ returns-in_err-combine_key c = λ live h o.
     let names = names_of c.args.keys.now in
     let within : c.loop-key.key < suc (length names) = omega (arith, c.loop-key-test.true, c.len-key-end.ensures) in
     refused_by (λ patterns. AreCombined names (components_in live) patterns.items) (IsMisnamed (components_in live)) c.from_residual-in_err-combine_key.result c.in_err-combine_key.field-0.0 c.from_residual-in_err-combine_key.ensures.1
-    (misnamed_first names x.bodies.items x.list x.places.items live h o c.loop-key.key c.in_err-combine_key.field-0.0 within (λ m l. (c.loop-key.invariant.patterns live h o m l).1)
+    (misnamed_first names x.bodies x.list x.places.items live h o c.loop-key.key c.in_err-combine_key.field-0.0 within (λ m l. (c.loop-key.invariant.patterns live h o m l).1)
     (c.in_err-combine_key.ensures.exact live h o (omega (arith, within)) c.loop-key.invariant.shared))
 
 pub loop-key-preserved : goal.loop-key-preserved
@@ -24,7 +24,7 @@ loop-key-preserved c = record {
       let x = c.args.components.now in
       let names = names_of c.args.keys.now in
       let within : c.loop-key.key < suc (length names) = omega (arith, c.loop-key-test.true, c.len-key-end.ensures) in
-      combined_more names x.bodies.items x.list x.places.items live h o c.loop-key.patterns.items c.push.new.self.items c.in_ok-combine_key.field-0 c.loop-key.key c.loop-key.invariant.size c.in_ok-push.ensures.items
+      combined_more names x.bodies x.list x.places.items live h o c.loop-key.patterns.items c.push.new.self.items c.in_ok-combine_key.field-0 c.loop-key.key c.loop-key.invariant.size c.in_ok-push.ensures.items
       (c.loop-key.invariant.patterns live h o) (c.in_ok-combine_key.ensures.exact live h o (omega (arith, within)) c.loop-key.invariant.shared);
 }
 
@@ -33,4 +33,4 @@ returns c = λ live h o.
     let x = c.args.components.now in
     let names = names_of c.args.keys.now in
     let past : suc (length names) ≤ c.loop-key.key = omega (arith, c.loop-key-test.false, c.len-key-end.ensures) in
-    combined_all names x.bodies.items x.list x.places.items live h o c.loop-key.patterns.items (λ n l. c.loop-key.invariant.patterns live h o n (omega (arith, l, past)))
+    combined_all names x.bodies x.list x.places.items live h o c.loop-key.patterns.items (λ n l. c.loop-key.invariant.patterns live h o n (omega (arith, l, past)))

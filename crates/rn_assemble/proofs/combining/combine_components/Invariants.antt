@@ -12,7 +12,7 @@ use Rattle.rn_assemble.proofs.combining.combine_components.Given as goal
 abbrev pub invariant-loop-key : goal.invariant-loop-key
 invariant-loop-key l = record {
   size : length l.patterns.items ≡ l.key;
-  shared : AreShared (names_of l.keys) l.components.bodies.items l.shared.items;
+  shared : AreShared (names_of l.keys) l.components.bodies l.shared.items;
   patterns : (live : List Live) → Lists (names_of l.keys) l.components live → IsStrictlySortedBy text_cmp (names_of l.keys)
       → (n : ℕ) → n < l.key → (tree_at l.patterns.items n ≡ pattern_of (components_in live) (key_at (names_of l.keys) n)) × ¬ BreaksNameRules (components_in live) (key_at (names_of l.keys) n);
 }

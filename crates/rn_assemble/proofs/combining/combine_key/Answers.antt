@@ -15,7 +15,7 @@ pub returns-then-count-eq0-clause-exact : goal.returns-then-count-eq0-clause-exa
 returns-then-count-eq0-clause-exact c = λ live h o k s.
     let x = c.args.components.now in
     let names = names_of c.args.keys.now in
-    let size = row_size names x.bodies.items x.list x.places.items live h o c.args.key (omega (arith, k)) in
+    let size = row_size names x.bodies x.list x.places.items live h o c.args.key (omega (arith, k)) in
     no_pattern (components_in live) (key_at names c.args.key) (omega (arith, c.if-count-eq0.true, c.count_of-count.ensures, size))
 
 pub returns-then-count-eq1-clause-exact : goal.returns-then-count-eq1-clause-exact
@@ -24,10 +24,10 @@ returns-then-count-eq1-clause-exact c = λ live h o k s.
     let names = names_of c.args.keys.now in
     let key = key_at names c.args.key in
     let cs = components_in live in
-    let size = row_size names x.bodies.items x.list x.places.items live h o c.args.key (omega (arith, k)) in
+    let size = row_size names x.bodies x.list x.places.items live h o c.args.key (omega (arith, k)) in
     let one : length (row x.places.items c.args.key) ≡ 1 = sym c.count_of-count.ensures ∙ c.if-count-eq1.true in
     let some : 0 < length (row x.places.items c.args.key) = omega (arith, one) in
-    let r = at_row names x.bodies.items x.list x.places.items live h o c.args.key (omega (arith, k)) 0 some in
+    let r = at_row names x.bodies x.list x.places.items live h o c.args.key (omega (arith, k)) 0 some in
     let found = c.component_pattern.ensures live r.0 h r.1 (row_body x.list (row x.places.items c.args.key) 0 r.0.place some r.2) in
     MatchResult-weaker c.component_pattern.result found
     (λ p f. one_found cs key p r.0.component (omega (arith, one, size)) r.4 f)
@@ -39,6 +39,6 @@ returns-clause-exact c = λ live h o k s.
     let names = names_of c.args.keys.now in
     let key = key_at names c.args.key in
     let cs = components_in live in
-    let size = row_size names x.bodies.items x.list x.places.items live h o c.args.key (omega (arith, k)) in
+    let size = row_size names x.bodies x.list x.places.items live h o c.args.key (omega (arith, k)) in
     let several = c.in_ok-members.ensures.exact live h o k s in
     more_pattern cs key _ _ (omega (arith, c.if-count-eq0.false, c.if-count-eq1.false, c.count_of-count.ensures, size)) several (c.in_ok-list_by_method.ensures names live h o k)

@@ -11,26 +11,26 @@ use Rattle.rn_assemble.proofs.combining.member_pattern.Goals as goal
 
 pub returns-in_err-share_body-clause-kept : goal.returns-in_err-share_body-clause-kept
 returns-in_err-share_body-clause-kept c = λ h.
-    shared_put (names_of c.args.keys.now) c.args.components.now.bodies.items c.args.shared.now.items c.in-Some.number c.in-Some-body.body.now c.index_mut.result.now h (sym c.in-Some-body.ensures) c.index_mut.ensures.value c.share_body.new.held c.share_body.ensures.kept
+    shared_put (names_of c.args.keys.now) c.args.components.now.bodies c.args.shared.now.items c.in-Some.number c.in-Some-body.body c.index_mut.result.now h (sym c.in-Some-body.ensures) c.index_mut.ensures.value c.share_body.new.held c.share_body.ensures.kept
 
 pub returns-in_err-share_body-clause-exact : goal.returns-in_err-share_body-clause-exact
 returns-in_err-share_body-clause-exact c = λ live e h k p s.
     let x = c.args.components.now in
     let names = names_of c.args.keys.now in
     let body = sym c.in-Some-body.ensures in
-    let is = live_body names x.bodies.items x.list x.places.items live e c.in-Some.number c.in-Some-body.body.now h k (p ∙ c.in-Some.is) body in
-    let held = shared_held names x.bodies.items c.args.shared.now.items c.in-Some.number c.in-Some-body.body.now c.index_mut.result.now s body c.index_mut.ensures.value e.key e.component is in
+    let is = live_body names x.bodies x.list x.places.items live e c.in-Some.number c.in-Some-body.body h k (p ∙ c.in-Some.is) body in
+    let held = shared_held names x.bodies c.args.shared.now.items c.in-Some.number c.in-Some-body.body c.index_mut.result.now s body c.index_mut.ensures.value e.key e.component is in
     refused_by (λ o. IsSomeAnd o (λ q. IsSound e.component (shared_view q))) (IsMisnamedAs e.component.key (¬ KeepsNameRules e.component.body)) c.from_residual.result c.in_err-share_body.field-0.0 c.from_residual.ensures.1 (c.in_err-share_body.ensures.exact e.key e.component is held)
 
 pub returns-clause-kept : goal.returns-clause-kept
 returns-clause-kept c = λ h.
-    shared_put (names_of c.args.keys.now) c.args.components.now.bodies.items c.args.shared.now.items c.in-Some.number c.in-Some-body.body.now c.index_mut.result.now h (sym c.in-Some-body.ensures) c.index_mut.ensures.value c.share_body.new.held c.share_body.ensures.kept
+    shared_put (names_of c.args.keys.now) c.args.components.now.bodies c.args.shared.now.items c.in-Some.number c.in-Some-body.body c.index_mut.result.now h (sym c.in-Some-body.ensures) c.index_mut.ensures.value c.share_body.new.held c.share_body.ensures.kept
 
 pub returns-clause-exact : goal.returns-clause-exact
 returns-clause-exact c = λ live e h k p s.
     let x = c.args.components.now in
     let names = names_of c.args.keys.now in
     let body = sym c.in-Some-body.ensures in
-    let is = live_body names x.bodies.items x.list x.places.items live e c.in-Some.number c.in-Some-body.body.now h k (p ∙ c.in-Some.is) body in
-    let held = shared_held names x.bodies.items c.args.shared.now.items c.in-Some.number c.in-Some-body.body.now c.index_mut.result.now s body c.index_mut.ensures.value e.key e.component is in
+    let is = live_body names x.bodies x.list x.places.items live e c.in-Some.number c.in-Some-body.body h k (p ∙ c.in-Some.is) body in
+    let held = shared_held names x.bodies c.args.shared.now.items c.in-Some.number c.in-Some-body.body c.index_mut.result.now s body c.index_mut.ensures.value e.key e.component is in
     c.in_ok-share_body.ensures.exact e.key e.component is held

@@ -24,7 +24,7 @@ returns-in_err-pattern-clause-exact c = λ live h o k s.
     let i = c.loop-index.index in
     let row = graph.row x.places.items c.args.key in
     let below : i < length row = omega (arith, c.loop-index-test.true, c.count_of-count.ensures) in
-    let r = at_row names x.bodies.items x.list x.places.items live h o c.args.key (omega (arith, k)) i below in
+    let r = at_row names x.bodies x.list x.places.items live h o c.args.key (omega (arith, k)) i below in
     let found = c.in_err-pattern.ensures.exact live r.0 h r.1 (row_body x.list row i r.0.place below r.2 ∙ sym c.body_of-number.ensures) (c.loop-index.invariant.kept s) in
     refused_by (λ members. AreSound (of_key key cs) (map shared_view members.items)) (IsMisnamedAs key (BreaksNameRules cs key)) c.from_residual-in_err-pattern.result c.in_err-pattern.field-0.0 c.from_residual-in_err-pattern.ensures.1
     (misnamed_for r.0.component.key key (¬ KeepsNameRules r.0.component.body) (BreaksNameRules cs key) c.in_err-pattern.field-0.0 (part_of_key cs key i r.0.component r.3 r.4) (breaks_at cs key i r.0.component r.3 r.4) found)
@@ -41,7 +41,7 @@ loop-index-preserved c = record {
       let i = c.loop-index.index in
       let row = graph.row x.places.items c.args.key in
       let below : i < length row = omega (arith, c.loop-index-test.true, c.count_of-count.ensures) in
-      let r = at_row names x.bodies.items x.list x.places.items live h o c.args.key (omega (arith, k)) i below in
+      let r = at_row names x.bodies x.list x.places.items live h o c.args.key (omega (arith, k)) i below in
       let found = c.in_ok-pattern.ensures.exact live r.0 h r.1 (row_body x.list row i r.0.place below r.2 ∙ sym c.body_of-number.ensures) (c.loop-index.invariant.kept s) in
       elim c.match-branch-3.branch [
         | in-Some+in_ok-push w ↦
@@ -58,6 +58,6 @@ returns-clause-exact c = λ live h o k s.
     let names = names_of c.args.keys.now in
     let key = key_at names c.args.key in
     let cs = components_in live in
-    let size = row_size names x.bodies.items x.list x.places.items live h o c.args.key (omega (arith, k)) in
+    let size = row_size names x.bodies x.list x.places.items live h o c.args.key (omega (arith, k)) in
     let past : length (of_key key cs) ≤ c.loop-index.index = omega (arith, c.loop-index-test.false, c.count_of-count.ensures, size) in
     sound_all cs key (map shared_view c.loop-index.members.items) c.loop-index.index past (c.loop-index.invariant.members live h o k s)

@@ -12,8 +12,8 @@ use Rattle.rn_assemble.proofs.combining.member_patterns.Given as goal
 
 abbrev pub invariant-loop-index : goal.invariant-loop-index
 invariant-loop-index l = record {
-  size : length l.shared.items ≡ length l.components.bodies.items;
-  kept : AreShared (names_of l.keys) l.components.bodies.items l.fn.shared.items → AreShared (names_of l.keys) l.components.bodies.items l.shared.items;
+  size : length l.shared.items ≡ length l.components.bodies;
+  kept : AreShared (names_of l.keys) l.components.bodies l.fn.shared.items → AreShared (names_of l.keys) l.components.bodies l.shared.items;
   members : (live : List Live) → Lists (names_of l.keys) l.components live → IsStrictlySortedBy text_cmp (names_of l.keys) → l.key < length (names_of l.keys) + 1
-      → AreShared (names_of l.keys) l.components.bodies.items l.fn.shared.items → AreSound (take l.index (of_key (key_at (names_of l.keys) l.key) (components_in live))) (map shared_view l.members.items);
+      → AreShared (names_of l.keys) l.components.bodies l.fn.shared.items → AreSound (take l.index (of_key (key_at (names_of l.keys) l.key) (components_in live))) (map shared_view l.members.items);
 }

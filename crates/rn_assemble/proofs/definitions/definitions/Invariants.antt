@@ -11,4 +11,4 @@ use Rattle.rn_assemble.proofs.definitions.definitions.Given as goal
 
 abbrev pub invariant-loop-place : goal.invariant-loop-place
 invariant-loop-place l = (live : List Live) → (h : Lists (names_of l.keys) l.components live) → IsStrictlySortedBy text_cmp (names_of l.keys) → HavePatterns (names_of l.keys) (components_in live) [] l.fn.patterns.items
-    → Defining (names_of l.keys) live h.rises l.patterns.items l.defs.entries (firsts_of l.firsts.items) l.place
+    → Defining (names_of l.keys) live h.rises l.patterns.items l.definitions.items (firsts_of l.firsts.items) l.place

@@ -4,4 +4,4 @@ use Rattle.rn_assemble.specs.inside.Referred.{reference_view, references_at}
 use Rattle.rn_assemble.proofs.references.references_in.Given as goal
 
 abbrev pub invariant-loop-number : goal.invariant-loop-number
-invariant-loop-number l = map reference_view l.references.items ≡ flat_map (references_at l.components.bodies.items) (take l.number-index l.bodies)
+invariant-loop-number l = map reference_view l.references.items ≡ flat_map (references_at l.components.bodies) (take l.number-index l.bodies)

@@ -36,11 +36,11 @@ loop-key-preserved c = record {
       let names = names_of c.args.keys.now in
       let cs = components_in live in
       let k = c.loop-key.key in
-      let bs = c.args.components.now.bodies.items in
+      let bs = c.args.components.now.bodies in
       let list = c.args.components.now.list in
       let rows = c.args.components.now.places.items in
       let h : k < suc (length names) = omega (arith, c.loop-key-test.true, c.len-key-end.ensures) in
-      let size : length c.loop-key.looked.items ≡ length bs = omega (arith, c.loop-key.invariant.looked, c.args.components.now.bodies.ok) in
+      let size : length c.loop-key.looked.items ≡ length bs = c.loop-key.invariant.looked in
       let found = subst (λ n. AreBodiesAt n list (row rows k) c.in_ok-bodies.bodies.items) size c.in_ok-bodies.ensures.found in
       let written : map reference_view c.as_slice-in-loop-key.result.now ≡ flat_map (references_at bs) c.in_ok-bodies.bodies.items =
       ap (map reference_view) c.as_slice-in-loop-key.ensures.value ∙ c.in_ok-references.ensures ∙ ap (flat_map (references_at bs)) c.as_slice.ensures.value in

@@ -1,5 +1,5 @@
 -- The keys before are done.
-use Rattle.std.proofs.Common.{◌≡◌, ◌+◌, List, length, option_map, vec_len}
+use Rattle.std.proofs.Common.{◌≡◌, ◌+◌, List, length, option_map}
 use Rattle.std.specs.List.Sorted.{IsStrictlySortedBy}
 use Rattle.rn_text.specs.Texts.{text_cmp}
 use Rattle.rn_pattern.specs.Graph.{rows_of}
@@ -16,7 +16,7 @@ invariant-loop-key l = record {
   all_size : length (rows_of l.all) ≡ l.key;
   outer : AreRows (length (names_of l.keys) + 1) (rows_of l.outer);
   outer_size : length (rows_of l.outer) ≡ l.key;
-  looked : length l.looked.items ≡ vec_len l.components.bodies;
+  looked : length l.looked.items ≡ length l.components.bodies;
   fresh : IsFresh l.key l.looked.items;
   gathered : (live : List Live) → Lists (names_of l.keys) l.components live → IsStrictlySortedBy text_cmp (names_of l.keys)
       → Gathered (names_of l.keys) (components_in live) (rows_of l.all) (rows_of l.outer) l.key (option_map (λ s. s.now) l.undefined);

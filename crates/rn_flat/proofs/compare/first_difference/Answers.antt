@@ -1,5 +1,5 @@
 use Rattle.std.proofs.Common.{◌≡◌, ◌<◌, ◌≤◌, length, take, refl, subst, arith}
-use Rattle.rn_flat.proofs.Shared.{shared_next, other_byte, other_end, same_texts}
+use Rattle.rn_flat.proofs.SharedFronts.{shared_next, other_byte, other_end, same_texts}
 use Rattle.rn_flat.proofs.compare.first_difference.Goals as goal
 
 pub loop-at-init : goal.loop-at-init

@@ -2,7 +2,7 @@ use Rattle.std.proofs.Common.{◌≡◌, ◌∙◌, ap, take}
 use Rattle.std.proofs.lemmas.List.{take_all}
 use Rattle.rn_modset.specs.Sets.{with_member}
 use Rattle.rn_flat.specs.ModuleSets.{lifted_member, set_of_modules}
-use Rattle.rn_flat.proofs.Sets.{next_set}
+use Rattle.rn_flat.proofs.LiftedSets.{next_set}
 use Rattle.rn_flat.proofs.module_set.set_of.Goals as goal
 
 pub loop-number-init : goal.loop-number-init

@@ -1,4 +1,4 @@
-use Rattle.rn_tell.proofs.Texts.{next_text}
+use Rattle.rn_tell.proofs.PrintedTexts.{next_text}
 use Rattle.rn_tell.proofs.report.message_lines.Goals as goal
 
 pub loop-message-preserved : goal.loop-message-preserved

@@ -1,6 +1,6 @@
 use Rattle.std.proofs.Common.{sym, ◌∙◌, append_assoc, append-nil}
 use Rattle.std.proofs.lemmas.Str.{IsUtf8-past_char}
-use Rattle.rn_tell.proofs.Texts.{printed_empty, printed_step}
+use Rattle.rn_tell.proofs.PrintedTexts.{printed_empty, printed_step}
 use Rattle.rn_tell.proofs.report.push_printable.Goals as goal
 
 pub loop-character-preserved : goal.loop-character-preserved

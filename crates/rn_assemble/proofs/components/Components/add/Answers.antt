@@ -1,7 +1,7 @@
 use Rattle.std.proofs.Common.{◌≡◌, ◌+◌, ◌<◌, List, length, get_or, map, refl, sym, ap, ◌∙◌, subst, arith}
 use Rattle.std.specs.Prelude.{slice_range}
 use Rattle.rn_assemble.specs.declared.contents.Component as code
-use Rattle.rn_assemble.specs.declared.components.Body.{Body}
+use Rattle.rn_assemble.specs.declared.bodies.Body.{Body}
 use Rattle.rn_assemble.specs.Components.{Component}
 use Rattle.rn_assemble.specs.inside.Expanded.{AddsLive}
 use Rattle.rn_assemble.specs.inside.Listed.{IsBody, resolved_component}
@@ -22,12 +22,11 @@ loop-number-preserved c =
           let d = c.in-Some.component.now in
           let at : d ≡ get_or cs n d = subst (λ (l : List code.Component). d ≡ get_or l n d) c.deref.ensures.value (c.in-Some.ensures.lookup.3.1 d) in
           let below : n < length cs = omega (arith, k.within, c.loop-number-test.true) in
-          let body : c.in-Some-checked_add.body ≡ c.args.first + n = c.in-Some-checked_add.ensures.1 in
-          let same : c.loop-number.self.bodies.items ≡ c.args.self.now.bodies.items = ap (λ v. v.items) i.kept.bodies in
+          let same : c.loop-number.self.bodies ≡ c.args.self.now.bodies = i.kept.bodies in
           let comp : Component = resolved_component u ds (written_view names d) in
-          let lists = c.in_ok-place.ensures.placed names _ comp h.lists (subst (λ (bs : List Body). c.in-Some-checked_add.body < length bs) (sym same) (omega (arith, body, below, k.starts.within)))
-          (λ b. subst (λ (bs : List Body). IsBody names (get_or bs c.in-Some-checked_add.body b) d.key comp) (sym same) (subst (λ m. IsBody names (get_or c.args.self.now.bodies.items m b) d.key comp) (sym body)
-          (body_is names c.args.self.now.bodies.items c.args.first c.args.content.now u ds k.binds k.starts k.numbered n d below at b))) in
+          let lists = c.in_ok-place.ensures.placed names _ comp h.lists (subst (λ (bs : List Body). c.args.first + n < length bs) (sym same) (omega (arith, below, k.starts.within)))
+          (λ b. subst (λ (bs : List Body). IsBody names (get_or bs (c.args.first + n) b) d.key comp) (sym same)
+          (body_is names c.args.self.now.bodies c.args.first c.args.content.now u ds k.binds k.starts k.numbered n d below at b)) in
           subst (λ ds. AddsLive names c.args.self.now c.place.new.self live ds) (sym (resolved_more names u ds cs c.args.from n d c.loop-number.auto.number below at))
           (adds_one names c.args.self.now c.loop-number.self c.place.new.self live _ h _ lists refl (omega (arith, c.in_ok-place.ensures.longer)));
     }

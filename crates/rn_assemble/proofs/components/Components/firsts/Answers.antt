@@ -17,5 +17,5 @@ returns c = λ names live h o k.
     let x = c.args.self.now in
     let more : 1 < length (row x.places.items c.args.key) = omega (arith, c.if-count-lt2.false, c.count_of-count.ensures) in
     IfOk-weaker c.first_indices.result _ _
-    (λ v f. bodies_tied names x.bodies.items x.list x.places.items live h o c.args.key (omega (arith, k)) v.items more f)
+    (λ v f. bodies_tied names x.bodies x.list x.places.items live h o c.args.key (omega (arith, k)) v.items more f)
     c.first_indices.ensures

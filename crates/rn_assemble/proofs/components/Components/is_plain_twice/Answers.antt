@@ -23,8 +23,8 @@ returns-then-is_plain c = λ names live h o k.
     let p : Component → Bool = λ d. is_plain d.method in
     let row = graph.row x.places.items c.args.key in
     let below : i < length row = omega (arith, c.loop-index-test.true, c.count_of-index-end.ensures) in
-    let all = parts names x.bodies.items x.list x.places.items live h o c.args.key (omega (arith, k)) in
-    let r = at_row names x.bodies.items x.list x.places.items live h o c.args.key (omega (arith, k)) i below in
+    let all = parts names x.bodies x.list x.places.items live h o c.args.key (omega (arith, k)) in
+    let r = at_row names x.bodies x.list x.places.items live h o c.args.key (omega (arith, k)) i below in
     let found = c.method.ensures names live r.0 h r.1 (row_body x.list row i r.0.place below r.2) in
     let tested : is_plain r.0.component.method ≡ true = sym (c.eq.ensures ∙ found_method c.method.result r.0.component.method Plain found) ∙ c.if-eq.true in
     let before : count_by p (take i all) ≡ 1 = c.loop-index.invariant.counted names live h o k ∙ ap (λ b. cond {A = ℕ} b 1 0) c.if-is_plain.true in
@@ -40,8 +40,8 @@ loop-index-preserved c = record {
       let p : Component → Bool = λ d. is_plain d.method in
       let row = graph.row x.places.items c.args.key in
       let below : i < length row = omega (arith, c.loop-index-test.true, c.count_of-index-end.ensures) in
-      let all = parts names x.bodies.items x.list x.places.items live h o c.args.key (omega (arith, k)) in
-      let r = at_row names x.bodies.items x.list x.places.items live h o c.args.key (omega (arith, k)) i below in
+      let all = parts names x.bodies x.list x.places.items live h o c.args.key (omega (arith, k)) in
+      let r = at_row names x.bodies x.list x.places.items live h o c.args.key (omega (arith, k)) i below in
       let found = c.method.ensures names live r.0 h r.1 (row_body x.list row i r.0.place below r.2) in
       let is = c.eq.ensures ∙ found_method c.method.result r.0.component.method Plain found in
       elim c.if-eq.branch [
@@ -61,8 +61,8 @@ pub returns : goal.returns
 returns c = λ names live h o k.
     let x = c.args.self.now in
     let p : Component → Bool = λ d. is_plain d.method in
-    let all = parts names x.bodies.items x.list x.places.items live h o c.args.key (omega (arith, k)) in
-    let size = row_size names x.bodies.items x.list x.places.items live h o c.args.key (omega (arith, k)) in
+    let all = parts names x.bodies x.list x.places.items live h o c.args.key (omega (arith, k)) in
+    let size = row_size names x.bodies x.list x.places.items live h o c.args.key (omega (arith, k)) in
     let past : length all ≤ c.loop-index.index = omega (arith, c.loop-index-test.false, c.count_of-index-end.ensures, size) in
     let count = ap (count_by p) (sym (take_all c.loop-index.index all past)) ∙ c.loop-index.invariant.counted names live h o k in
     (λ e. absurd (false≢true e), λ l. absurd (omega (arith, l, count, at_most_one c.loop-index.is_plain)))

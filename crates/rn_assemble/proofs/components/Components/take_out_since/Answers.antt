@@ -10,9 +10,9 @@ returns-then-key-len-clause-taken c = λ names live added h low high.
     let within : key < length x.places.items = omega (arith, c.if-key-len.true, c.len.ensures, x.places.ok.0) in
     let old = row_read x.places.items key c.index_mut.result.now within c.index_mut.ensures.value ∙ h.places key within ∙ places_join key live added in
     let new = c.pop_since.ensures (places_of key live) (places_of key added) old (places_each (λ p. p < c.args.before) key live low) (places_each (λ p. c.args.before ≤ p) key added (above c.args.before added high)) in
-    taken names x.bodies.items x.list x.places.items _ live added c.args.before key h low high (row_changed x.places.items key c.pop_since.new.places _ within new) within
+    taken names x.bodies x.list x.places.items _ live added c.args.before key h low high (row_changed x.places.items key c.pop_since.new.places _ within new) within
 
 pub returns-else-key-len-clause-taken : goal.returns-else-key-len-clause-taken
 returns-else-key-len-clause-taken c = λ names live added h low high.
     let x = c.args.self.now in
-    taken_none names x.bodies.items x.list x.places.items live added c.args.key h (omega (arith, c.if-key-len.false, c.len.ensures, x.places.ok.0))
+    taken_none names x.bodies x.list x.places.items live added c.args.key h (omega (arith, c.if-key-len.false, c.len.ensures, x.places.ok.0))

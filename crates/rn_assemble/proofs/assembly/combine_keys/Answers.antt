@@ -3,8 +3,8 @@ use Rattle.rn_assemble.specs.inside.Methods.{CanCombine, IsUncombined}
 use Rattle.rn_assemble.specs.inside.Sound.{HasSoundReferences, IsUnsound}
 use Rattle.rn_assemble.specs.inside.Views.{names_of, modules_view}
 use Rattle.rn_assemble.proofs.Answering.FirstRefusal.{uncombined_first, unsound_first}
-use Rattle.rn_assemble.proofs.Answering.Checks.{at_set, joined_or_first, passed_methods, passed_overrides, has_start}
-use Rattle.rn_assemble.proofs.assembly.join_components.Goals as goal
+use Rattle.rn_assemble.proofs.Answering.Checks.{at_set, combined_or_first, passed_methods, passed_overrides, has_start}
+use Rattle.rn_assemble.proofs.assembly.combine_keys.Goals as goal
 
 pub returns-in_err-check_methods : goal.returns-in_err-check_methods
 returns-in_err-check_methods c =
@@ -26,8 +26,8 @@ returns-in_err-check_references c =
     let passed = passed_methods modules names x c.requires c.in_ok-check_overrides.ensures (at_set modules names x c.requires CanCombine c.in_ok-check_methods.ensures) in
     rw (p.1, p.2) (unsound_first modules passed q (at_set modules names x c.requires (λ cs. IsUnsound cs q) c.in_err-check_references.ensures))
 
-pub grammar-requires : goal.grammar-requires
-grammar-requires c =
+pub combined_grammar-requires : goal.combined_grammar-requires
+combined_grammar-requires c =
     let modules = modules_view c.args.modules.now in
     let names = names_of c.args.keys.now in
     let x = c.args.components.now in
@@ -40,4 +40,4 @@ returns c =
     let x = c.args.components.now in
     let can = at_set modules names x c.requires CanCombine c.in_ok-check_methods.ensures in
     let sound = at_set modules names x c.requires HasSoundReferences c.in_ok-check_references.ensures in
-    joined_or_first modules names x c.requires c.in_ok-check_overrides.ensures can sound c.grammar.result c.grammar.ensures
+    combined_or_first modules names x c.requires c.in_ok-check_overrides.ensures can sound c.combined_grammar.result c.combined_grammar.ensures

@@ -6,10 +6,10 @@ use Rattle.rn_assemble.specs.inside.Listed.{AreContents}
 use Rattle.rn_assemble.specs.inside.Views.{names_of, modules_view}
 use Rattle.rn_assemble.proofs.Answering.Checks.{expanded}
 use Rattle.rn_assemble.proofs.Expansion.WantedNumbers.{names_rise}
-use Rattle.rn_assemble.proofs.assembly.assemble_modules.Goals as goal
+use Rattle.rn_assemble.proofs.assembly.combine_modules.Goals as goal
 
-pub join_components-requires : goal.join_components-requires
-join_components-requires c =
+pub combine_keys-requires : goal.combine_keys-requires
+combine_keys-requires c =
     let modules = modules_view c.args.modules.now in
     let keys = c.in_ok-keys.keys in
     let names = names_of keys in

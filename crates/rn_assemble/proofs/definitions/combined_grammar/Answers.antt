@@ -1,6 +1,6 @@
 use Rattle.std.proofs.Common.{◌≡◌, Some, sym, ap, ◌∙◌, subst, arith}
 use Rattle.std.specs.Prelude.{option_map}
-use Rattle.rn_pattern.specs.View.{pattern_view, boxed_view}
+use Rattle.rn_pattern.specs.View.{boxed_view}
 use Rattle.rn_assemble.specs.Combine.{joined_pattern}
 use Rattle.rn_assemble.specs.Components.{start_key}
 use Rattle.rn_assemble.specs.Firsts.{joined_members}
@@ -9,7 +9,7 @@ use Rattle.rn_assemble.specs.inside.Listed.{components_in}
 use Rattle.rn_assemble.specs.inside.Views.{names_of}
 use Rattle.rn_assemble.proofs.Joining.Defining.{others_left, start_there}
 use Rattle.rn_assemble.proofs.Joining.HeldStart.{start_held}
-use Rattle.rn_assemble.proofs.definitions.grammar.Goals as goal
+use Rattle.rn_assemble.proofs.definitions.combined_grammar.Goals as goal
 
 pub unwrap-start-requires : goal.unwrap-start-requires
 unwrap-start-requires c =
@@ -27,6 +27,6 @@ invariant_of-result c =
     let start : boxed_view c.unwrap-start.result ≡ joined_pattern cs start_key = cc in
     let firsts = c.in_ok-start_firsts.start_firsts.items in
     record {
-      start_tied = subst (λ p. AreTied firsts (joined_members p)) (sym start ∙ ap pattern_view (sym c.into_inner.ensures)) (c.in_ok-start_firsts.ensures names live h o (omega arith));
-      tied = (c.in_ok-defs.ensures live h o (others_left names cs patterns c.take.new.patterns.items made c.take.ensures.left)).0;
+      start_tied = subst (λ p. AreTied firsts (joined_members p)) (sym start) (c.in_ok-start_firsts.ensures names live h o (omega arith));
+      tied = (c.in_ok-definitions.ensures live h o (others_left names cs patterns c.take.new.patterns.items made c.take.ensures.left)).0;
     }

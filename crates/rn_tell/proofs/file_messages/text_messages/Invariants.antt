@@ -1,5 +1,5 @@
 use Rattle.rn_tell.specs.Messages.{IsFew}
-use Rattle.rn_tell.proofs.gathered.text_messages.Given as goal
+use Rattle.rn_tell.proofs.file_messages.text_messages.Given as goal
 
 -- no more is told so far than may be
 abbrev pub invariant-loop-module : goal.invariant-loop-module

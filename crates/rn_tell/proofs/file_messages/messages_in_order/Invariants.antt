@@ -1,5 +1,5 @@
 use Rattle.rn_tell.specs.Messages.{IsFew}
-use Rattle.rn_tell.proofs.gathered.messages_in_order.Given as goal
+use Rattle.rn_tell.proofs.file_messages.messages_in_order.Given as goal
 
 -- no more is told so far than may be
 abbrev pub invariant-loop-number : goal.invariant-loop-number

@@ -1,0 +1,30 @@
+// The combined patterns of a set, which stand without the trees of its modules.
+ghost use Rattle.rn_pattern.specs.View.{boxed_view};
+ghost use Rattle.rn_assemble.specs.Firsts.{joined_members};
+ghost use Rattle.rn_assemble.specs.inside.CombinedDefinitions.{combined_definitions};
+ghost use Rattle.rn_assemble.specs.inside.Tied.{AreTied, HaveTied, AreTied-prop, HaveTied-prop, firsts_of};
+
+use rn_pattern::Pattern;
+
+/// A name and its combined pattern.
+#[derive(Drop)]
+pub(crate) struct Definition<'s> {
+    /// The name, in the text of a module that defines it.
+    pub name: &'s str,
+    pub pattern: Box<Pattern>,
+}
+
+/// The patterns of a set's keys. Where a body stands several times in the list of a key, the first places tell which members
+/// are the same.
+#[derive(Drop)]
+pub(crate) struct Combined<'s> {
+    pub start: Box<Pattern>,
+    /// In the order of each name's first component.
+    pub definitions: Vec<Definition<'s>>,
+    /// For each member of the start, the first one with its body.
+    pub start_firsts: Vec<u32>,
+    /// The same for each definition.
+    pub firsts: Vec<Vec<u32>>,
+    ghost start_tied: { AreTied start_firsts.items (joined_members (boxed_view start)) } by { AreTied-prop start_firsts.items (joined_members (boxed_view start)) },
+    ghost tied: { HaveTied (firsts_of firsts.items) (combined_definitions definitions.items) } by { HaveTied-prop (firsts_of firsts.items) (combined_definitions definitions.items) },
+}
