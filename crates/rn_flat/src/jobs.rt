@@ -49,14 +49,14 @@ pub fn perform<F: Files, S: Outputs, W: Sink>(
     };
     match &job.task {
         Task::Write { product, output } => {
-            let text = product_text(alloc, &sources, *product, colours)?;
+            let text = product_text(alloc, sources, *product, colours)?;
             match output {
                 Some(path) => write_file(alloc, outputs, path.as_str(), text.as_slice()),
                 None => write_standard(alloc, out, text.as_slice()),
             }
         }
         Task::Check { file } => {
-            let text = product_text(alloc, &sources, Product::Schema, colours)?;
+            let text = product_text(alloc, sources, Product::Schema, colours)?;
             check_file(alloc, files, file.as_str(), text.as_slice(), colours)
         }
     }
@@ -65,30 +65,42 @@ pub fn perform<F: Files, S: Outputs, W: Sink>(
 /// What is asked for, made of the files.
 fn product_text(
     alloc: Global,
-    sources: &Sources,
+    sources: Sources,
     product: Product,
     colours: Colours,
 ) -> Result<Vec<u8>, FlatFault>
     ensures { IfOk result (λ text. IsProduct product text.items) }
 {
-    let files = sources.files.as_slice();
     match product {
         Product::Schema => schema_text(alloc, sources, colours),
-        Product::Bundle => bundle(alloc, sources, colours),
-        Product::List => {
-            let lifted = lift_files(alloc, sources, colours)?;
-            Ok(list_text(alloc, &lifted, files)?.into_bytes())
-        }
-        Product::Graph => Ok(graph_text(alloc, files)?.into_bytes()),
+        Product::Bundle => bundle(alloc, &sources, colours),
+        Product::List => list(alloc, &sources, colours),
+        Product::Graph => Ok(graph_text(alloc, sources.files.as_slice())?.into_bytes()),
     }
 }
 
+/// The list of the modules that the files become.
+fn list(alloc: Global, sources: &Sources, colours: Colours) -> Result<Vec<u8>, FlatFault> {
+    let lifted = lift_files(alloc, sources, colours)?;
+    Ok(list_text(alloc, &lifted, sources.files.as_slice())?.into_bytes())
+}
+
 /// The schema, made of the files.
-fn schema_text(alloc: Global, sources: &Sources, colours: Colours) -> Result<Vec<u8>, FlatFault>
+fn schema_text(alloc: Global, sources: Sources, colours: Colours) -> Result<Vec<u8>, FlatFault>
     ensures { IfOk result (λ text. IsSchema text.items) }
 {
-    let lifted = lift_files(alloc, sources, colours)?;
-    schema(alloc, &lifted, sources.files.as_slice(), colours)
+    let lifted = lift_files(alloc, &sources, colours)?;
+    let mut files = sources.files;
+    give_up_outlines(alloc, &mut files);
+    schema(alloc, &lifted, files.as_slice(), colours)
+}
+
+/// Gives up the outlines of lifted files: messages need their texts alone.
+fn give_up_outlines(alloc: Global, files: &mut Vec<SourceFile>) {
+    for number in 0..files.len() {
+        files[number].outline.parts = Vec::new(alloc);
+        files[number].targets = Vec::new(alloc);
+    }
 }
 
 /// The bundle of the modules, made of the files.
