@@ -1,5 +1,5 @@
 -- What comes of writing a product.
-use Rattle.std.specs.Prelude.{◌≡◌, ℕ, Bool, true, false, List, Option, Some, None, Result, Ok, Err}
+use Rattle.std.specs.Prelude.{◌≡◌, ℕ, Bool, true, false, List, Option, Result, Ok, Err}
 use Rattle.std.specs.Io.KnownBytes.{Appends}
 use Rattle.rn_merge.specs.Streams.{AppendsFront}
 use Rattle.rn_flat.specs.declared.flat_fault.FlatFault.{FlatFault}

@@ -1,5 +1,5 @@
 -- The set of the modules that the files become.
-use Rattle.std.specs.Prelude.{◌≡◌, ℕ, List, [], Some, map, string_bytes}
+use Rattle.std.specs.Prelude.{◌≡◌, List, [], Some, map, string_bytes}
 use Rattle.rn_modset.specs.Contributions.{Member}
 use Rattle.rn_modset.specs.Sets.{union}
 use Rattle.rn_lift.specs.declared.lifted.LiftedModule.{LiftedModule}

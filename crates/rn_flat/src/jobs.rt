@@ -1,8 +1,9 @@
 // What the program does.
-ghost use Rattle.std.specs.Prelude.{◌≡◌, false, IfOk};
+ghost use Rattle.std.specs.Prelude.{◌≡◌, false, map, IfOk};
 ghost use Rattle.rn_simplify.specs.Verdict.{prints, IsVerdict};
 ghost use Rattle.rn_flat.specs.FlatFaults.{LeavesOutput};
 ghost use Rattle.rn_flat.specs.ModuleSets.{IsSetOf};
+ghost use Rattle.rn_flat.specs.inside.ToldFiles.{told_of};
 ghost use Rattle.rn_flat.specs.JobResults.{Delivers, IsProduct, IsSchema, IsSchemaOf};
 
 use crate::compare::check_file;
@@ -95,12 +96,21 @@ fn schema_text(alloc: Global, sources: Sources, colours: Colours) -> Result<Vec<
     schema(alloc, &lifted, files.as_slice(), colours)
 }
 
-/// Gives up the outlines of lifted files: messages need their texts alone.
-fn give_up_outlines(alloc: Global, files: &mut Vec<SourceFile>) {
+/// Gives up the outlines of lifted files: messages need their names and texts alone.
+fn give_up_outlines(alloc: Global, files: &mut Vec<SourceFile>)
+    ensures { map told_of files.new.items ≡ map told_of files.old.items }
+{
     for number in 0..files.len() {
-        files[number].outline.parts = Vec::new(alloc);
-        files[number].targets = Vec::new(alloc);
+        give_up_outline(alloc, &mut files[number]);
     }
+}
+
+/// Gives up what a file was lifted by.
+fn give_up_outline(alloc: Global, file: &mut SourceFile)
+    ensures { told_of file.new ≡ told_of file.old }
+{
+    file.outline.parts = Vec::new(alloc);
+    file.targets = Vec::new(alloc);
 }
 
 /// The bundle of the modules, made of the files.
