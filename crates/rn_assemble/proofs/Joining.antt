@@ -3,7 +3,7 @@ pub mod SomeCombination
 pub mod Resolved
 pub mod Declared
 pub mod KeyedBodies
-pub mod KnownPatterns
+pub mod ConstantPatterns
 pub mod Looking
 pub mod UsedMethods
 pub mod KeyPatterns

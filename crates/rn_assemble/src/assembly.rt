@@ -17,6 +17,7 @@ ghost use Rattle.rn_assemble.specs.inside.Listed.{OfKeys};
 
 use crate::combined_grammar::Combined;
 use crate::components::{Components, Lack};
+use crate::constants::Constants;
 use crate::contents::contents_of;
 use crate::definitions::combined_grammar;
 use crate::expanding::components_of;
@@ -24,7 +25,6 @@ use crate::grammar::Grammar;
 use crate::inclusion::included_roots;
 use crate::joined_definitions::joined_grammar;
 use crate::keys::{Keys, START};
-use crate::known::Known;
 use crate::named_modules::{NamedModule, read_modules};
 use crate::references::{least_recursive, references_of};
 use crate::refusal::Refusal;
@@ -70,12 +70,12 @@ fn combine_modules<'s>(
 {
     let roots = included_roots(alloc, modules)?;
     let keys = Keys::new(alloc, modules, seed)?;
-    let known = Known::new(alloc)?;
-    let contents = contents_of(alloc, modules, &keys, &known)?;
+    let constants = Constants::new(alloc)?;
+    let contents = contents_of(alloc, modules, &keys, &constants)?;
     let components = components_of(
         alloc,
         contents.as_slice(),
-        &known,
+        &constants,
         roots.as_slice(),
         keys.len(),
     )?;

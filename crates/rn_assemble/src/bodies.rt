@@ -1,5 +1,5 @@
 // The components of modules in contexts, numbered on from context to context.
-ghost use Rattle.std.specs.Prelude.{◌≡◌, ◌+◌, ◌-◌, ◌<◌, ◌≤◌, ◌++◌, ℕ, [], IsTrue, IfErr, IfOk, MatchOption, length, slice_get};
+ghost use Rattle.std.specs.Prelude.{◌≡◌, ◌+◌, ◌-◌, ◌<◌, ◌≤◌, ◌++◌, [], IsTrue, IfErr, IfOk, MatchOption, length, slice_get};
 ghost use Rattle.rn_assemble.specs.inside.Bodies.{AreCounted, HasNumber, HaveNumber, bodies_in, bodies_of};
 
 use crate::contents::{Component, Contents};
@@ -51,7 +51,7 @@ impl<'c, 't, 's> ModuleBodies<'c, 't, 's> {
 /// 32 bytes. Contracts see the list of bodies.
 #[derive(Drop)]
 pub(crate) struct Bodies<'c, 't, 's> {
-    runs: Vec<ModuleBodies<'c, 't, 's>>,
+    contexts: Vec<ModuleBodies<'c, 't, 's>>,
     len: usize,
 }
 
@@ -67,9 +67,9 @@ impl<'c, 't, 's> Model for Bodies<'c, 't, 's> {
 
     ghost use Rattle.rn_assemble.specs.inside.Bodies.{AreCounted, bodies_in};
 
-    ghost view = { λ a. bodies_in a.runs.items };
+    ghost view = { λ a. bodies_in a.contexts.items };
 
-    ghost invariant = { λ a. AreCounted 0 a.runs.items a.len };
+    ghost invariant = { λ a. AreCounted 0 a.contexts.items a.len };
 }
 
 impl<'c, 't, 's> Bodies<'c, 't, 's> {
@@ -78,7 +78,7 @@ impl<'c, 't, 's> Bodies<'c, 't, 's> {
         ensures { result ≡ [] }
     {
         Bodies {
-            runs: Vec::new(alloc),
+            contexts: Vec::new(alloc),
             len: 0,
         }
     }
@@ -104,7 +104,7 @@ impl<'c, 't, 's> Bodies<'c, 't, 's> {
         let Some(len) = first.checked_add(content.components.len()) else {
             return Err(AllocError);
         };
-        self.runs.push(ModuleBodies {
+        self.contexts.push(ModuleBodies {
             content,
             context,
             first,
@@ -119,61 +119,61 @@ impl<'c, 't, 's> Bodies<'c, 't, 's> {
     pub fn get(&self, number: usize, near: &mut usize) -> Option<Body<'c, 't, 's>>
         ensures { result ≡ slice_get self.now number }
     {
-        let runs = self.runs.as_slice();
-        let place = place_of(runs, self.len, number, *near)?;
+        let contexts = self.contexts.as_slice();
+        let place = place_of(contexts, self.len, number, *near)?;
         *near = place;
-        runs[place].body(number)
+        contexts[place].body(number)
     }
 }
 
 /// The place of the context that has a number, if there is one. It is looked for first at a place.
 #[inline(always)]
 fn place_of(
-    runs: &[ModuleBodies<'_, '_, '_>],
+    contexts: &[ModuleBodies<'_, '_, '_>],
     len: usize,
     number: usize,
     near: usize,
 ) -> Option<usize>
-    requires { AreCounted 0 runs.now len }
-    ensures { MatchOption result (len ≤ number) (HasNumber runs.now number) }
+    requires { AreCounted 0 contexts.now len }
+    ensures { MatchOption result (len ≤ number) (HasNumber contexts.now number) }
 {
-    if has_number(runs, number, near) {
+    if has_number(contexts, number, near) {
         return Some(near);
     }
     if number >= len {
         return None;
     }
-    Some(place_elsewhere(runs, number, near))
+    Some(place_elsewhere(contexts, number, near))
 }
 
 /// The place of the context that has a number, looked for first behind a place.
 #[inline(never)]
-fn place_elsewhere(runs: &[ModuleBodies<'_, '_, '_>], number: usize, near: usize) -> usize
-    requires { HaveNumber runs.now number }
-    ensures { HasNumber runs.now number result }
+fn place_elsewhere(contexts: &[ModuleBodies<'_, '_, '_>], number: usize, near: usize) -> usize
+    requires { HaveNumber contexts.now number }
+    ensures { HasNumber contexts.now number result }
 {
     let next = near.saturating_add(1);
-    if has_number(runs, number, next) {
+    if has_number(contexts, number, next) {
         return next;
     }
-    last_from(runs, number)
+    last_from(contexts, number)
 }
 
 /// The place of the last context whose bodies begin at a number or before it.
-fn last_from(runs: &[ModuleBodies<'_, '_, '_>], number: usize) -> usize
-    requires { HaveNumber runs.now number }
-    ensures { HasNumber runs.now number result }
+fn last_from(contexts: &[ModuleBodies<'_, '_, '_>], number: usize) -> usize
+    requires { HaveNumber contexts.now number }
+    ensures { HasNumber contexts.now number result }
 {
-    runs.partition_point(|run| run.first <= number) - 1
+    contexts.partition_point(|context| context.first <= number) - 1
 }
 
 /// Whether there is a context at the place, and it has the number.
 #[inline(always)]
-fn has_number(runs: &[ModuleBodies<'_, '_, '_>], number: usize, place: usize) -> bool
-    ensures { IsTrue result → HasNumber runs.now number place }
+fn has_number(contexts: &[ModuleBodies<'_, '_, '_>], number: usize, place: usize) -> bool
+    ensures { IsTrue result → HasNumber contexts.now number place }
 {
-    match runs.get(place) {
-        Some(run) => run.has(number),
+    match contexts.get(place) {
+        Some(context) => context.has(number),
         None => false,
     }
 }

@@ -8,7 +8,7 @@ use rn_pattern::Pattern;
 
 /// A name and its combined pattern.
 #[derive(Drop)]
-pub(crate) struct Definition<'s> {
+pub(crate) struct CombinedDefinition<'s> {
     /// The name, in the text of a module that defines it.
     pub name: &'s str,
     pub pattern: Box<Pattern>,
@@ -20,7 +20,7 @@ pub(crate) struct Definition<'s> {
 pub(crate) struct Combined<'s> {
     pub start: Box<Pattern>,
     /// In the order of each name's first component.
-    pub definitions: Vec<Definition<'s>>,
+    pub definitions: Vec<CombinedDefinition<'s>>,
     /// For each member of the start, the first one with its body.
     pub start_firsts: Vec<u32>,
     /// The same for each definition.

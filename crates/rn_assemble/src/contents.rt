@@ -8,10 +8,10 @@ ghost use Rattle.rn_assemble.specs.inside.Keyed.{AreAmong, AreNames, defines, it
 ghost use Rattle.rn_assemble.specs.inside.Listed.{AreContents, IsContents};
 ghost use Rattle.rn_assemble.specs.inside.Views.{AreInOrder, AddsComponents, AddsIncludes, modules_view, named_module_view, names_of};
 
+use crate::constants::Constants;
 use crate::declared_uris::DeclaredUris;
 use crate::inclusion::module_named;
 use crate::keys::{Keys, START};
-use crate::known::Known;
 use crate::named_modules::NamedModule;
 use rn_syntax::{Item, Method, Pat, Prefix};
 use std::alloc::{AllocError, Global};
@@ -47,7 +47,7 @@ pub(crate) fn contents_of<'t, 's>(
     alloc: Global,
     modules: &'t [NamedModule<'s>],
     keys: &Keys<'s>,
-    known: &Known,
+    constants: &Constants,
 ) -> Result<Vec<Contents<'t, 's>>, AllocError>
     requires modules_in_order { AreInOrder modules.now }
     requires names { AreNames (modules_view modules.now) (names_of keys.now) }
@@ -56,7 +56,7 @@ pub(crate) fn contents_of<'t, 's>(
 {
     let mut all = Vec::new(alloc);
     for module in modules {
-        all.push(contents_of_module(alloc, modules, keys, known, module)?)?;
+        all.push(contents_of_module(alloc, modules, keys, constants, module)?)?;
     }
     Ok(all)
 }
@@ -66,7 +66,7 @@ fn contents_of_module<'t, 's>(
     alloc: Global,
     modules: &[NamedModule<'s>],
     keys: &Keys<'s>,
-    known: &Known,
+    constants: &Constants,
     module: &'t NamedModule<'s>,
 ) -> Result<Contents<'t, 's>, AllocError>
     requires keys_in_order { IsStrictlySortedBy text_cmp (names_of keys.now) }
@@ -77,7 +77,7 @@ fn contents_of_module<'t, 's>(
         (named_module_view «module».now) c) }
 {
     let mut contents = Contents {
-        bindings: DeclaredUris::new(alloc, module.tree.decls.as_slice(), known)?,
+        bindings: DeclaredUris::new(alloc, module.tree.decls.as_slice(), constants)?,
         components: Vec::with_capacity(alloc, module.tree.items.len())?,
         includes: Vec::new(alloc),
     };

@@ -51,11 +51,11 @@ impl<'c, 't> Context<'c, 't> {
             ≡ namespace_of inherited ds prefix.now) }
     {
         if prefix == "xml" {
-            return &self.bindings.known.xml;
+            return &self.bindings.constants.xml;
         }
         match self.bindings.numbers.namespace(prefix) {
             Some(number) => self.uri(number),
-            None => &self.bindings.known.none,
+            None => &self.bindings.constants.none,
         }
     }
 
@@ -66,11 +66,11 @@ impl<'c, 't> Context<'c, 't> {
             ≡ unwrap_or (places.library_of ds prefix.now) []) }
     {
         if prefix == "xsd" {
-            return &self.bindings.known.xsd;
+            return &self.bindings.constants.xsd;
         }
         match self.bindings.numbers.library(prefix) {
             Some(number) => self.uri(number),
-            None => &self.bindings.known.none,
+            None => &self.bindings.constants.none,
         }
     }
 

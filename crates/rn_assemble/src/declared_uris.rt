@@ -1,12 +1,11 @@
 // The URIs of a module's declarations. Each is copied once, and shared by all that is resolved by it.
 ghost use Rattle.std.specs.Prelude.{◌≡◌, map, IfOk};
-ghost use Rattle.std.specs.Rc.{rc_str_bytes};
 ghost use Rattle.rn_syntax.specs.Bound.{bound};
 ghost use Rattle.rn_syntax.specs.Places.{uri_of};
 ghost use Rattle.rn_syntax.specs.View.{declaration_view, uri_view};
 ghost use Rattle.rn_assemble.specs.inside.Shared.{shared_uri};
 
-use crate::known::Known;
+use crate::constants::Constants;
 use rn_syntax::{Bindings, Declaration, Uri};
 use std::alloc::{AllocError, Global};
 use std::rc::RcStr;
@@ -23,7 +22,7 @@ pub(crate) enum SharedUri {
 pub(crate) struct DeclaredUris<'t> {
     pub numbers: Bindings<'t, 't>,
     pub uris: Vec<SharedUri>,
-    pub known: Known,
+    pub constants: Constants,
     ghost uris_are: { map shared_uri uris.items ≡ map uri_of (bound numbers) },
 }
 
@@ -35,14 +34,14 @@ impl<'t> DeclaredUris<'t> {
     pub fn new(
         alloc: Global,
         declarations: &'t [Declaration<'t>],
-        known: &Known,
+        constants: &Constants,
     ) -> Result<DeclaredUris<'t>, AllocError>
         ensures { IfOk result (λ b. BindsAs b (map declaration_view declarations.now)) }
     {
         Ok(DeclaredUris {
             numbers: Bindings::new(alloc, declarations)?,
             uris: shared_uris(alloc, declarations)?,
-            known: known.share()?,
+            constants: constants.share()?,
         })
     }
 }

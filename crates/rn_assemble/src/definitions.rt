@@ -11,7 +11,7 @@ ghost use Rattle.rn_assemble.specs.inside.Listed.{Lists, Live, OfKeys};
 ghost use Rattle.rn_assemble.specs.inside.Patterns.{HavePatterns, IsFirstAt};
 ghost use Rattle.rn_assemble.specs.inside.Views.{names_of};
 
-use crate::combined_grammar::{Combined, Definition};
+use crate::combined_grammar::{Combined, CombinedDefinition};
 use crate::combining::combine_components;
 use crate::components::{Components, Near};
 use crate::firsts::Met;
@@ -51,7 +51,7 @@ fn definitions<'s>(
     components: &Components<'_, '_, '_>,
     patterns: &mut Vec<Option<Box<Pattern>>>,
     met: &mut Met,
-) -> Result<(Vec<Definition<'s>>, Vec<Vec<u32>>), AllocError>
+) -> Result<(Vec<CombinedDefinition<'s>>, Vec<Vec<u32>>), AllocError>
     ensures { OfKeys keys.now components.now
         (λ names cs. HavePatterns names cs [] patterns.old.items
         → IfOk result (λ made. HaveTied (firsts_of made.1.items) (combined_definitions made.0.items)
@@ -66,7 +66,7 @@ fn definitions<'s>(
                 let found = components.firsts(alloc, key, met)?;
                 keep_row(alloc, &mut firsts, definitions.len(), found)?;
                 let name = keys.name(key);
-                definitions.push(Definition { name, pattern })?;
+                definitions.push(CombinedDefinition { name, pattern })?;
             }
         }
     }

@@ -9,10 +9,10 @@ ghost use Rattle.rn_assemble.specs.inside.Noting.{AtNumbers, InclusionLacks, Not
 ghost use Rattle.rn_assemble.specs.inside.Views.{inclusion_view, written_view};
 
 use crate::components::Components;
+use crate::constants::Constants;
 use crate::contents::{Contents, Include};
 use crate::context::Context;
 use crate::instances::INSTANCE_LIMIT;
-use crate::known::Known;
 use std::alloc::{AllocError, Global};
 use std::rc::RcStr;
 
@@ -20,7 +20,7 @@ use std::rc::RcStr;
 pub(crate) fn components_of<'c, 't, 's>(
     alloc: Global,
     contents: &'c [Contents<'t, 's>],
-    known: &'c Known,
+    constants: &'c Constants,
     roots: &[usize],
     keys: usize,
 ) -> Result<Components<'c, 't, 's>, AllocError>
@@ -37,7 +37,7 @@ pub(crate) fn components_of<'c, 't, 's>(
             &mut components,
             contents,
             *root,
-            &known.none,
+            &constants.none,
             INSTANCE_LIMIT + 1,
         )?;
     }

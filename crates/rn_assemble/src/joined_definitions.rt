@@ -9,7 +9,7 @@ ghost use Rattle.rn_assemble.specs.DefinitionsView.{definitions_view};
 ghost use Rattle.rn_assemble.specs.JoinedView.{joined_view};
 ghost use Rattle.rn_assemble.specs.inside.CombinedView.{combined_view, combined_definitions};
 
-use crate::combined_grammar::{Combined, Definition};
+use crate::combined_grammar::{Combined, CombinedDefinition};
 use crate::joined_grammar::{Definitions, Joined};
 use indexmap::IndexMap;
 use rn_pattern::Seed;
@@ -42,7 +42,7 @@ pub(crate) fn joined_grammar(
 /// The definitions by their names, in the same order.
 fn definitions_of(
     alloc: Global,
-    definitions: Vec<Definition<'_>>,
+    definitions: Vec<CombinedDefinition<'_>>,
     seed: &Seed,
 ) -> Result<Definitions, AllocError>
     requires { AreDistinct (combined_definitions definitions.items) }
@@ -60,14 +60,14 @@ fn definitions_of(
 fn define(
     alloc: Global,
     defs: &mut Definitions,
-    definition: Definition<'_>,
+    definition: CombinedDefinition<'_>,
 ) -> Result<(), AllocError>
     ensures { OnOk result (list_any (bytes_eq definition.entry.name.now)
         (map (λ (d : Text × Tree). d.0) (definitions_view defs.old.entries)) ≡ false
         → definitions_view defs.new.entries ≡ definitions_view defs.old.entries
         ++ (definition.entry.name.now, boxed_view definition.entry.pattern) ∷ []) }
 {
-    let Definition { name, pattern } = definition;
+    let CombinedDefinition { name, pattern } = definition;
     let name = String::from_str(alloc, name)?;
     defs.insert(name, Box::into_inner(pattern))?;
     Ok(())

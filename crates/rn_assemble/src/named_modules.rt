@@ -16,7 +16,7 @@ use crate::refusal::Refusal;
 use rn_modset::ModuleSet;
 use rn_syntax::{Module, SyntaxFault, parse};
 use rn_text::{TextFault, tokens};
-use std::alloc::{AllocError, Global};
+use std::alloc::Global;
 
 /// An effective module: its name and its tree.
 #[derive(Drop)]

@@ -6,7 +6,7 @@ ghost use Rattle.rn_pattern.specs.Tree as tree;
 ghost use Rattle.rn_pattern.specs.Tree.{trees_of};
 ghost use Rattle.rn_pattern.specs.View.{parameters_view, pattern_view, shared_view, boxed_view};
 
-use crate::known::Known;
+use crate::constants::Constants;
 use rn_pattern::{Data, Pattern, Value};
 use std::alloc::{AllocError, Global};
 use std::rc::{Rc, RcStr};
@@ -119,14 +119,14 @@ pub(crate) fn reference(alloc: Global, name: &str) -> Result<Pattern, AllocError
 /// The pattern, to be a member of a list. All that are `empty` share one, and so do all that are `text`.
 pub(crate) fn new_member(
     alloc: Global,
-    known: &Known,
+    constants: &Constants,
     pattern: Pattern,
 ) -> Result<Rc<Pattern>, AllocError>
     ensures { IfOk result (λ p. shared_view p ≡ pattern_view pattern) }
 {
     match pattern {
-        Pattern::Empty => known.empty(),
-        Pattern::Text => known.text(),
+        Pattern::Empty => constants.empty(),
+        Pattern::Text => constants.text(),
         other => new_shared(alloc, other),
     }
 }
@@ -167,27 +167,27 @@ pub(crate) fn choice(members: Vec<Rc<Pattern>>) -> Pattern
 /// The choice of the pattern and empty.
 pub(crate) fn optional_pattern(
     alloc: Global,
-    known: &Known,
+    constants: &Constants,
     content: Pattern,
 ) -> Result<Pattern, AllocError>
     ensures { IfOk result (λ p. pattern_view p
         ≡ tree.choice (pair (pattern_view content) tree.empty)) }
 {
-    let content = new_member(alloc, known, content)?;
-    let empty = known.empty()?;
+    let content = new_member(alloc, constants, content)?;
+    let empty = constants.empty()?;
     Ok(choice(pair_members(alloc, content, empty)?))
 }
 
 /// The interleave of the pattern and text.
 pub(crate) fn mixed_pattern(
     alloc: Global,
-    known: &Known,
+    constants: &Constants,
     content: Pattern,
 ) -> Result<Pattern, AllocError>
     ensures { IfOk result (λ p. pattern_view p
         ≡ tree.interleave (pair (pattern_view content) tree.text)) }
 {
-    let content = new_member(alloc, known, content)?;
-    let text = known.text()?;
+    let content = new_member(alloc, constants, content)?;
+    let text = constants.text()?;
     Ok(interleave(pair_members(alloc, content, text)?))
 }

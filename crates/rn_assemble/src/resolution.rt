@@ -11,8 +11,8 @@ ghost use Rattle.rn_syntax.specs.View as seen;
 ghost use Rattle.rn_assemble.specs.inside.Bound.{InContext};
 ghost use Rattle.rn_assemble.specs.Resolve as resolve;
 
+use crate::constants::Constants;
 use crate::context::Context;
-use crate::known::Known;
 use crate::nodes::{
     choice, copy_text, group, interleave, list, mixed_pattern, new_box, new_member, one_or_more,
     optional_pattern, reference, typed_datum, typed_value,
@@ -131,7 +131,7 @@ fn library<'c>(context: Context<'c, '_>, datatype: &Datatype<'_>) -> &'c RcStr
         ≡ resolve.type_library inherited ds (seen.datatype_view datatype.now)) }
 {
     match datatype {
-        Datatype::String(_) | Datatype::Token(_) => &context.bindings.known.none,
+        Datatype::String(_) | Datatype::Token(_) => &context.bindings.constants.none,
         Datatype::Named(prefix, _) => context.library(prefix.name),
     }
 }
@@ -160,7 +160,7 @@ fn value<'t>(
     let text = value.text.as_str();
     match &value.datatype {
         Some(datatype) => typed_value(alloc, library(context, datatype), type_name(datatype), text),
-        None => typed_value(alloc, &context.bindings.known.none, "token", text),
+        None => typed_value(alloc, &context.bindings.constants.none, "token", text),
     }
 }
 
@@ -246,7 +246,7 @@ fn attribute<'t>(
         ≡ tree.attribute (resolve.resolved_class inherited ds [] (seen.class_view class.now))
         (boxed_view content))) }
 {
-    let class = name_class(alloc, context, &context.bindings.known.none, class)?;
+    let class = name_class(alloc, context, &context.bindings.constants.none, class)?;
     Ok(Pattern::Attribute(new_box(alloc, class)?, content))
 }
 
@@ -264,7 +264,7 @@ fn chain(operator: Operator, members: Vec<Rc<Pattern>>) -> Pattern
 
 fn repetition(
     alloc: Global,
-    known: &Known,
+    constants: &Constants,
     postfix: Postfix,
     content: Pattern,
 ) -> Result<Pattern, AllocError>
@@ -273,8 +273,8 @@ fn repetition(
         ≡ resolve.repetition inherited ds postfix (pattern_view content)) }
 {
     match postfix {
-        Postfix::Question => optional_pattern(alloc, known, content),
-        Postfix::Star => optional_pattern(alloc, known, one_or_more(alloc, content)?),
+        Postfix::Question => optional_pattern(alloc, constants, content),
+        Postfix::Star => optional_pattern(alloc, constants, one_or_more(alloc, content)?),
         Postfix::Plus => one_or_more(alloc, content),
     }
 }
@@ -314,7 +314,7 @@ fn resolve_pattern<'t>(
         Pat::List(content) => Ok(list(pattern(alloc, context, content)?)),
         Pat::Mixed(content) => {
             let content = resolve_pattern(alloc, context, content)?;
-            mixed_pattern(alloc, &context.bindings.known, content)
+            mixed_pattern(alloc, &context.bindings.constants, content)
         }
         Pat::Empty => Ok(Pattern::Empty),
         Pat::NotAllowed => Ok(Pattern::NotAllowed),
@@ -328,7 +328,7 @@ fn resolve_pattern<'t>(
         }
         Pat::Repeated(postfix, content) => {
             let content = resolve_pattern(alloc, context, content)?;
-            repetition(alloc, &context.bindings.known, *postfix, content)
+            repetition(alloc, &context.bindings.constants, *postfix, content)
         }
         Pat::Chain(operator, members) => {
             let members = patterns(alloc, context, members)?;
@@ -350,7 +350,7 @@ fn patterns<'t>(
     let mut members = Vec::with_capacity(alloc, written.len())?;
     for member in written {
         let pattern = resolve_pattern(alloc, context, member)?;
-        members.push(new_member(alloc, &context.bindings.known, pattern)?)?;
+        members.push(new_member(alloc, &context.bindings.constants, pattern)?)?;
     }
     Ok(members)
 }

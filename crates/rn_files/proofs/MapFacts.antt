@@ -1,5 +1,5 @@
 -- Facts on maps.
-use Rattle.std.proofs.Common.{◌≡◌, ℕ, ◌<◌, ◌≤◌, arith, cond, Bool, true, false, List, [], ◌∷◌, ◌++◌, length, drop, take, ap, refl, sym, subst, ◌∙◌, append_assoc}
+use Rattle.std.proofs.Common.{◌≡◌, ℕ, ◌<◌, ◌≤◌, arith, cond, true, false, List, [], ◌∷◌, ◌++◌, length, drop, take, ap, refl, sym, subst, ◌∙◌, append_assoc}
 use Rattle.std.specs.Borrow.{Bor}
 use Rattle.std.specs.List.{fold, starts_with}
 use Rattle.std.specs.Option.{option_copied, option_map}

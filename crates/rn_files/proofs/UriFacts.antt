@@ -1,5 +1,5 @@
 -- Facts on the parts of URIs.
-use Rattle.std.proofs.Common.{◌≡◌, ℕ, ◌+◌, ◌-◌, ◌<◌, ◌≤◌, Bool, not, arith, List, [], length, get_or, take, drop, ap, sym, ◌∙◌}
+use Rattle.std.proofs.Common.{◌≡◌, ℕ, ◌+◌, ◌-◌, ◌<◌, Bool, not, arith, List, [], length, get_or, take, ap, sym, ◌∙◌}
 use Rattle.std.specs.Prelude.{◌≢◌, slice_range}
 use Rattle.std.specs.List.{position_or_len, before_first, before_last, suffix_len}
 use Rattle.std.proofs.lemmas.Bool.{eq-eqb, ne_eqb}

@@ -1,6 +1,5 @@
 // Escapes in references and paths (RFC 3986, section 2.1).
-ghost use Rattle.std.specs.Prelude.{◌≡◌, ◌++◌, ◌<◌, ◌∷◌, [], true, IfOk, IsTrue, OnOk, string_bytes, if◌then◌else◌};
-ghost use Rattle.std.specs.List.{flat_map};
+ghost use Rattle.std.specs.Prelude.{◌≡◌, ◌++◌, ◌<◌, [], true, IfOk, IsTrue, OnOk, string_bytes};
 ghost use Rattle.percent_encoding.specs.Percent.{percent_encode_byte};
 ghost use Rattle.rn_files.specs.Escapes.{begins_with_digits, byte_or_escape, escaped_reference, has_escapes, is_allowed};
 ghost use Rattle.rn_files.specs.inside.FileUris.{file_uri, is_path_byte};

@@ -1,7 +1,6 @@
 // References, resolved against the URI of their file (RFC 3986, section 5.2).
-ghost use Rattle.std.specs.Prelude.{◌≡◌, ◌⊎◌, ◌++◌, [], Err, IfErr, IfNone, IfOk, IfSome, MatchBool, ◌==◌, length, map, string_bytes};
+ghost use Rattle.std.specs.Prelude.{◌≡◌, ◌⊎◌, [], Err, IfErr, IfNone, IfOk, IfSome, MatchBool, ◌==◌, map, string_bytes};
 ghost use Rattle.std.specs.List.{list_any};
-ghost use Rattle.rn_files.specs.Escapes.{escaped_reference};
 ghost use Rattle.rn_files.specs.Paths.{path_of, without_dots};
 ghost use Rattle.rn_files.specs.inside.UriReferences.{LeadAbove, StandsFor, target_segments};
 ghost use Rattle.rn_files.specs.UriReferences.{fault_of, resolved_uri};
@@ -10,7 +9,7 @@ ghost use Rattle.rn_files.specs.inside.Uris.{parts_view};
 
 use crate::escapes::{escape, has_escapes};
 use crate::paths::{joined_path, lead_above, segments, without_dots};
-use crate::uris::{Parts, recompose, split};
+use crate::uris::{SplitUri, recompose, split};
 use std::alloc::{AllocError, Global};
 use thiserror::Error;
 
@@ -60,7 +59,7 @@ pub fn no_memory(_: AllocError) -> ReferenceFault
 }
 
 /// The folder of the base's path: all segments but the last. Of a base with an authority and an empty path it is the root.
-fn folder_of<'p>(alloc: Global, base: &Parts<'p>) -> Result<Vec<&'p str>, AllocError>
+fn folder_of<'p>(alloc: Global, base: &SplitUri<'p>) -> Result<Vec<&'p str>, AllocError>
     ensures { IfOk result (λ v. map (λ s. s.now) v.items ≡ uris.folder_of (parts_view base.now)) }
 {
     if base.authority.is_some() && base.path.is_empty() {
@@ -74,7 +73,7 @@ fn folder_of<'p>(alloc: Global, base: &Parts<'p>) -> Result<Vec<&'p str>, AllocE
 /// The base's path up to its last slash, and then the reference's path (RFC 3986, section 5.2.3).
 fn merge_paths<'p>(
     alloc: Global,
-    base: &Parts<'p>,
+    base: &SplitUri<'p>,
     path: &'p str,
 ) -> Result<Vec<&'p str>, AllocError>
     ensures { IfOk result (λ v. map (λ s. s.now) v.items
@@ -87,7 +86,7 @@ fn merge_paths<'p>(
 }
 
 /// Whether the reference has a scheme or an authority of its own.
-fn has_own(reference: &Parts<'_>) -> bool
+fn has_own(reference: &SplitUri<'_>) -> bool
     ensures { result ≡ uris.has_own (parts_view reference.now) }
 {
     reference.scheme.is_some() || reference.authority.is_some()
@@ -96,8 +95,8 @@ fn has_own(reference: &Parts<'_>) -> bool
 /// The segments of the target's path, with its dot segments.
 fn dotted_path<'p>(
     alloc: Global,
-    base: &Parts<'p>,
-    reference: &Parts<'p>,
+    base: &SplitUri<'p>,
+    reference: &SplitUri<'p>,
 ) -> Result<Vec<&'p str>, AllocError>
     ensures { IfOk result (λ v. map (λ s. s.now) v.items
         ≡ uris.dotted_segments (parts_view base.now) (parts_view reference.now)) }
@@ -119,11 +118,11 @@ fn target_path(alloc: Global, dotted: &[&str]) -> Result<String, AllocError>
 }
 
 /// The parts of the target, but for its path.
-fn target_parts<'p>(base: &Parts<'p>, reference: &Parts<'p>, path: &'p str) -> Parts<'p>
+fn target_parts<'p>(base: &SplitUri<'p>, reference: &SplitUri<'p>, path: &'p str) -> SplitUri<'p>
     ensures { path.now ≡ (uris.target (parts_view base.now) (parts_view reference.now)).path
         → parts_view result ≡ uris.target (parts_view base.now) (parts_view reference.now) }
 {
-    Parts {
+    SplitUri {
         scheme: reference.scheme.or(base.scheme),
         authority: if has_own(reference) {
             reference.authority
@@ -135,7 +134,11 @@ fn target_parts<'p>(base: &Parts<'p>, reference: &Parts<'p>, path: &'p str) -> P
 }
 
 /// The target of a reference that is not empty (RFC 3986, section 5.2.2).
-fn target(alloc: Global, base: &Parts<'_>, reference: &Parts<'_>) -> Result<String, AllocError>
+fn target(
+    alloc: Global,
+    base: &SplitUri<'_>,
+    reference: &SplitUri<'_>,
+) -> Result<String, AllocError>
     ensures { IfOk result (λ uri. string_bytes uri
         ≡ uris.recomposed_uri (uris.target (parts_view base.now) (parts_view reference.now))) }
 {

@@ -1,5 +1,5 @@
 // Parts of URIs and of references (RFC 3986, sections 3 and 4).
-ghost use Rattle.std.specs.Prelude.{◌≡◌, ◌++◌, IfOk, OnOk, drop, string_bytes};
+ghost use Rattle.std.specs.Prelude.{◌≡◌, ◌++◌, IfOk, OnOk, string_bytes};
 ghost use Rattle.std.specs.List.{before_first, list_all};
 ghost use Rattle.std.specs.Option.{option_copied};
 ghost use Rattle.rn_files.specs.Paths.{is_slash};
@@ -10,7 +10,7 @@ use std::alloc::{AllocError, Global};
 
 /// A URI or a reference, cut into its parts (RFC 3986); it has neither a query nor a fragment.
 #[derive(Clone, Copy)]
-pub struct Parts<'a> {
+pub struct SplitUri<'a> {
     /// What stands before the colon (3.1).
     pub scheme: Option<&'a str>,
     /// What stands between two slashes and the next one (3.2); it may be empty.
@@ -91,12 +91,12 @@ fn split_authority(text: &str) -> (Option<&str>, &str)
 }
 
 /// The parts of a URI or of a reference without query and fragment.
-pub fn split(text: &str) -> Parts<'_>
+pub fn split(text: &str) -> SplitUri<'_>
     ensures { parts_view result ≡ parts_of text.now }
 {
     let (scheme, rest) = split_scheme(text);
     let (authority, path) = split_authority(rest);
-    Parts {
+    SplitUri {
         scheme,
         authority,
         path,
@@ -128,7 +128,7 @@ fn push_authority(out: &mut String, authority: Option<&str>) -> Result<(), Alloc
 }
 
 /// The text of parts (RFC 3986, section 5.3).
-pub fn recompose(alloc: Global, parts: &Parts<'_>) -> Result<String, AllocError>
+pub fn recompose(alloc: Global, parts: &SplitUri<'_>) -> Result<String, AllocError>
     ensures { IfOk result (λ text. string_bytes text ≡ recomposed_uri (parts_view parts.now)) }
 {
     let mut out = String::new(alloc);

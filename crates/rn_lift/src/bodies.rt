@@ -20,15 +20,15 @@ pub(crate) enum Chunk {
 }
 
 #[derive(Drop)]
-pub(crate) struct Bodies {
+pub(crate) struct BodyChunks {
     bodies: Vec<Vec<Chunk>>,
     /// By file and part.
     numbers: BTreeMap<(usize, usize), usize>,
 }
 
-impl Bodies {
+impl BodyChunks {
     pub(crate) fn new(alloc: Global) -> Self {
-        Bodies {
+        BodyChunks {
             bodies: Vec::new(alloc),
             numbers: BTreeMap::new(alloc),
         }

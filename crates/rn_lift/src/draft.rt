@@ -1,5 +1,5 @@
 // The text of a module while it is made, with the origin of each byte.
-ghost use Rattle.std.specs.Prelude.{◌≡◌, ◌≤◌, ◌++◌, [], length, slice_range, IfOk, OnOk, Some, string_bytes};
+ghost use Rattle.std.specs.Prelude.{◌≡◌, ◌≤◌, ◌++◌, [], slice_range, OnOk, Some, string_bytes};
 ghost use Rattle.rn_lift.specs.Edits.{AreInTurn, edited_bytes};
 
 use crate::edits::Edit;

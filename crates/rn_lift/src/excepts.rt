@@ -2,7 +2,7 @@
 ghost use Rattle.std.specs.Prelude.{◌≡◌, false, [], IfOk, string_bytes};
 ghost use Rattle.std.specs.List.{list_any};
 
-use crate::bodies::{Bodies, Chunk};
+use crate::bodies::{BodyChunks, Chunk};
 use crate::prefixes::Prefixes;
 use crate::scope_definitions::{Definition, Definitions, ScopedName};
 use rn_outline::{Method, Outline, Part, PartKind};
@@ -49,7 +49,7 @@ impl Spliced {
 #[derive(Drop)]
 pub(crate) struct Excepts {
     definitions: Definitions,
-    bodies: Bodies,
+    bodies: BodyChunks,
     /// How many bytes are left of the limit.
     left: usize,
 }
@@ -93,7 +93,7 @@ impl Excepts {
     pub(crate) fn new(alloc: Global, units: &Units<'_>, plan: &Plan) -> Result<Self, AllocError> {
         Ok(Excepts {
             definitions: Definitions::of(alloc, units, plan)?,
-            bodies: Bodies::new(alloc),
+            bodies: BodyChunks::new(alloc),
             left: MAX_EXCEPTS,
         })
     }

@@ -1,5 +1,5 @@
 // Outlines by example.
-use rn_outline::{Outline, OutlineFault, Part, PartKind, Span, read_outline};
+use rn_outline::{Outline, Part, PartKind, Span, read_outline};
 use rn_text::tokens;
 use std::alloc::{AllocError, Global};
 use std::process::Abort;

@@ -1,5 +1,5 @@
 // The lines and statuses of the program. No line has a line end.
-ghost use Rattle.std.specs.Prelude.{◌≡◌, ◌++◌, ◌∷◌, [], ℕ, List, IfOk, OnOk, string_bytes};
+ghost use Rattle.std.specs.Prelude.{◌≡◌, ◌++◌, ◌∷◌, IfOk, OnOk, string_bytes};
 ghost use Rattle.rn_modset.specs.Contributions.{member};
 ghost use Rattle.rn_merge.specs.Lines.{identifier, key_text, refusal_name, refusal_fields, refusal_line, list_line, add_line, bundle_line, place_line, fault_line, status};
 ghost use Rattle.rn_merge.specs.inside.Fields.{spaced_fields};

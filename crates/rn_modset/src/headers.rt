@@ -1,5 +1,5 @@
 // The header lines of a bundle's entries.
-ghost use Rattle.std.specs.Prelude.{◌≡◌, ◌++◌, ◌∷◌, Bool, true, false, codes, IsTrue, ◌↔◌, MatchOption, decimal};
+ghost use Rattle.std.specs.Prelude.{◌≡◌, ◌++◌, ◌∷◌, Bool, true, false, codes, IsTrue, ◌↔◌, MatchOption};
 ghost use Rattle.std.specs.List.{list_all};
 ghost use Rattle.rn_modset.specs.Contributions.{is_module_name};
 ghost use Rattle.rn_modset.specs.Bundles.{header_line};

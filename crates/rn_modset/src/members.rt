@@ -1,7 +1,6 @@
 // Contributions beside the digests of their texts.
 ghost use Rattle.std.specs.Prelude.{◌≡◌, ◌≤◌, ◌+◌, ◌++◌, ◌∷◌, [], ℕ, reverse, IfOk, IfErr, OnOk, IsOk, MatchOption, vec_len};
 ghost use Rattle.std.specs.List.{insert};
-ghost use Rattle.rn_modset.specs.Contributions.{members_of};
 ghost use Rattle.rn_modset.specs.Digests.{set_digest};
 ghost use Rattle.rn_modset.specs.inside.Digested.{members_in, IsDigested, AreDigested, HasRoom};
 

@@ -1,6 +1,6 @@
 // The union of two lists that rise, in time linear in both.
-ghost use Rattle.std.specs.Prelude.{◌≡◌, ◌≢◌, ◌+◌, ◌<◌, ◌≤◌, [], ℕ, length, true, false, IfOk, MatchOption, MatchBool, vec_len};
-ghost use Rattle.rn_modset.specs.Contributions.{Member, member, members_of, member_cmp};
+ghost use Rattle.std.specs.Prelude.{◌≡◌, ◌+◌, ◌<◌, ◌≤◌, [], length, true, false, IfOk, MatchOption, MatchBool, vec_len};
+ghost use Rattle.rn_modset.specs.Contributions.{member, members_of};
 ghost use Rattle.rn_modset.specs.Sets.{Rises, has, missing, union};
 ghost use Rattle.rn_modset.specs.inside.Merges.{IsNotBelow, KeepsFrom, AreApart, EndsAbove, TakesGreatest};
 ghost use Rattle.rn_modset.specs.inside.Digested.{members_in, IsDigested, AreDigested, HasRoom};

@@ -1,5 +1,4 @@
 // Why a text has no outline.
-ghost use Rattle.std.specs.Prelude.{◌≡◌};
 
 use crate::outline::MAX_OPEN;
 use std::alloc::{AllocError, AllocFailed};

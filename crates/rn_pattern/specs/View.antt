@@ -4,7 +4,7 @@ use Rattle.std.specs.declared.alloc.Global.{Global}
 use Rattle.std.specs.declared.rc.Rc.{Rc}
 use Rattle.std.specs.Rc.{rc_str_bytes}
 use Rattle.rn_pattern.specs.Tree as tree
-use Rattle.rn_pattern.specs.Tree.{Parameters, NameTree, NameTrees, no_names, more_names, Tree, Trees, no_trees, more_trees, name_trees_of, trees_of}
+use Rattle.rn_pattern.specs.Tree.{Parameters, NameTree, Tree, Trees, no_trees, more_trees, name_trees_of, trees_of}
 use Rattle.rn_pattern.specs.declared.tree.NameClass.{NameClass, fold-NameClass}
 use Rattle.rn_pattern.specs.declared.tree.NameClass.TheOpen.{NameClass-F}
 use Rattle.rn_pattern.specs.declared.tree.Pattern.{Pattern, fold-Pattern}

@@ -1,6 +1,5 @@
 // The three kinds of lists of patterns.
-ghost use Rattle.std.specs.Prelude.{◌≡◌, ◌∷◌, [], ℕ, ◌<◌, All, IfSome, List, MatchOption, map};
-ghost use Rattle.rn_pattern.specs.Canonical.{node_of};
+ghost use Rattle.std.specs.Prelude.{◌≡◌, ◌∷◌, [], ℕ, ◌<◌, All, IfSome, MatchOption, map};
 ghost use Rattle.rn_pattern.specs.inside.Lists.{members_by, neutral, over};
 ghost use Rattle.rn_pattern.specs.inside.Stored.{NamesBelow};
 ghost use Rattle.rn_pattern.specs.Store.{node_view};

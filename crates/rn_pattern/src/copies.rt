@@ -4,7 +4,7 @@ ghost use Rattle.std.specs.Option.{option_map};
 ghost use Rattle.std.specs.Rc.{rc_str_bytes};
 ghost use Rattle.rn_pattern.specs.Store.{datum_by};
 ghost use Rattle.rn_pattern.specs.View.{boxed_view, name_class_view, parameters_view, pattern_view};
-ghost use Rattle.rn_pattern.specs.inside.PartViews.{name_classes_view, value_view};
+ghost use Rattle.rn_pattern.specs.inside.PartViews.{value_view};
 
 use crate::tree::{Data, NameClass, Pattern, Value};
 use std::alloc::{AllocError, Global};

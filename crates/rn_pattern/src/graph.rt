@@ -1,6 +1,6 @@
 // Reachability in a graph whose nodes are numbers.
 
-ghost use Rattle.std.specs.Prelude.{◌≡◌, ℕ, ◌+◌, ◌<◌, ◌≤◌, ◌↔◌, true, ◌∷◌, ◌++◌, [], length, vec_len, take, IfOk, OnOk, if◌then◌else◌, slice_index_or, slice_set};
+ghost use Rattle.std.specs.Prelude.{◌≡◌, ℕ, ◌+◌, ◌<◌, ◌↔◌, true, ◌∷◌, [], length, vec_len, IfOk, OnOk, if◌then◌else◌};
 ghost use Rattle.rn_pattern.specs.Graph.{AllBelow, row, IsGraph, is_marked, Reached, rows_of};
 ghost use Rattle.rn_pattern.specs.inside.Marking.{Agrees, Marks};
 

@@ -1,6 +1,5 @@
 // Nodes as keys: when two are equal, and their hash.
 ghost use Rattle.std.specs.Prelude.{◌≡◌, fold};
-ghost use Rattle.std.specs.Hash as fed;
 ghost use Rattle.rn_pattern.specs.inside.Hashing.{name_writes, names_writes, node_eq, node_writes, parameters_writes, places_writes};
 ghost use Rattle.rn_pattern.specs.View.{name_class_view, parameters_view};
 ghost use Rattle.rn_pattern.specs.inside.PartViews.{name_classes_view};

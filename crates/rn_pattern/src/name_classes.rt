@@ -1,5 +1,5 @@
 // The restrictions on name classes (RELAX NG 2001, 4.16).
-ghost use Rattle.std.specs.Prelude.{◌≡◌, ◌≢◌, ◌↔◌, true, string_bytes, codes, []};
+ghost use Rattle.std.specs.Prelude.{◌≡◌, ◌≢◌, ◌↔◌, true, []};
 ghost use Rattle.rn_pattern.specs.NameRules.{HasNoAny, HaveNoAny, HasNamesAlone, HaveNamesAlone, HasNameExcepts, HaveNameExcepts, HasNoDeclaration, HaveNoDeclaration, IsNoDeclaration, KeepsNameRules, KeepNameRules, declarations};
 ghost use Rattle.rn_pattern.specs.View.{name_class_view, pattern_view};
 ghost use Rattle.rn_pattern.specs.inside.PartViews.{name_classes_view, patterns_view};

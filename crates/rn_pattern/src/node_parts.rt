@@ -10,7 +10,7 @@ use std::slice;
 
 /// The parts of a node: its heads and the ids in it.
 #[derive(Clone, Copy)]
-pub struct Parts<'a> {
+pub struct NodeParts<'a> {
     /// What the order compares first.
     pub heads: Heads<'a>,
     /// The ids in the node, in their order.
@@ -18,28 +18,28 @@ pub struct Parts<'a> {
 }
 
 /// The parts of a kind that has none but its place in the order.
-pub fn bare_parts<'a>(kind: u8) -> Parts<'a>
+pub fn bare_parts<'a>(kind: u8) -> NodeParts<'a>
     ensures kind { result.heads.kind ≡ kind }
     ensures texts { part_texts result.heads ≡ [] ∷ [] ∷ [] ∷ [] }
     ensures parameters { result.heads.parameters.now ≡ [] }
     ensures class { result.heads.class ≡ None }
     ensures members { result.members.now ≡ [] }
 {
-    Parts {
+    NodeParts {
         heads: bare_heads(kind),
         members: &[],
     }
 }
 
 /// The parts of the node, borrowed from it.
-pub fn parts_of(node: &Node<NodeId>) -> Parts<'_>
+pub fn parts_of(node: &Node<NodeId>) -> NodeParts<'_>
     ensures kind { result.heads.kind ≡ node_rank node.now }
     ensures texts { part_texts result.heads ≡ node_texts node.now }
     ensures parameters { result.heads.parameters.now ≡ node_parameters node.now }
     ensures class { option_copied result.heads.class ≡ node_class node.now }
     ensures members { result.members.now ≡ node_members node.now }
 {
-    Parts {
+    NodeParts {
         heads: heads_of(node),
         members: members_of(node),
     }

@@ -8,7 +8,7 @@ ghost use Rattle.rn_pattern.specs.Store.{node_view};
 
 use crate::heads::compare_heads;
 use crate::node::{Node, NodeId};
-use crate::node_parts::{Parts, bare_parts, parts_of};
+use crate::node_parts::{NodeParts, bare_parts, parts_of};
 use std::cmp::Ordering;
 
 /// The nodes of a store in the order of their ids, borrowed.
@@ -33,7 +33,7 @@ impl<'a> NodeTable<'a> {
     }
 
     /// The parts of the pattern at a place, of `notAllowed` where there is none.
-    fn parts(&self, id: NodeId) -> Parts<'a>
+    fn parts(&self, id: NodeId) -> NodeParts<'a>
         ensures { ShowsTree (tree_in self.now) (tree_in self.now id) id.0 result.heads.kind
             (part_texts result.heads) result.heads.parameters.now
             (option_copied result.heads.class) result.members.now }

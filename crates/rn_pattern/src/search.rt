@@ -1,6 +1,6 @@
 // One search along all edges of a graph (Gabow's path-based search for strongly connected groups): the least node that comes back to itself, and ranks.
 
-ghost use Rattle.std.specs.Prelude.{◌≡◌, ℕ, ◌-◌, ◌<◌, ◌≤◌, ◌≢◌, ◌⊎◌, [], Contains, length, vec_len, slice_index_or, take, drop, min, MatchBool, MatchOption, None, IfOk, OnOk, map};
+ghost use Rattle.std.specs.Prelude.{◌≡◌, ℕ, ◌-◌, ◌<◌, ◌≤◌, ◌≢◌, ◌⊎◌, [], Contains, length, vec_len, take, drop, min, MatchBool, MatchOption, None, IfOk, OnOk, map};
 ghost use Rattle.rn_pattern.specs.Graph.{row, IsGraph, rows_of};
 ghost use Rattle.rn_pattern.specs.Ranks.{HasNoLoop, IsFirstLoop, IsRanking};
 ghost use Rattle.rn_pattern.specs.inside.Searching.{EndsWith, IsNext, edges_left, Grouping, GroupsOn, IsLeastLooped, IsClosed, IsSettled, IsStage, IsAtWork, IsJoined, AllLead, LeadsBack, Rises, left_at, next_at, node_at, place_of, work};

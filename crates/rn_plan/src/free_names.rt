@@ -1,16 +1,13 @@
 // Whether the names that were made are free.
-ghost use Rattle.std.specs.Prelude.{◌≡◌, ◌<◌, false, length, slice_index, take, IfOk, IfSome, IsTrue, IsFalse, option_copied, string_bytes};
+ghost use Rattle.std.specs.Prelude.{◌≡◌, ◌<◌, false, length, slice_index, take, IsTrue, IsFalse, string_bytes};
 ghost use Rattle.std.specs.BTreeSet.{contains_text};
-ghost use Rattle.std.specs.List.{AllByRecursion};
 ghost use Rattle.rn_plan.specs.FreeNames.{AreFree, FileIsFree, IsFreeName, IsNoOwn, PartIsFree, name_span, unquoted_name};
 ghost use Rattle.rn_plan.specs.UnitFiles.{files_of};
 
 use crate::given::Given;
-use crate::own_names::{Names, Taken};
-use crate::scopes::Scope;
+use crate::own_names::Names;
 use crate::units::Units;
 use rn_outline::{Part, PartKind, Span};
-use std::alloc::{AllocError, Global};
 use std::collections::BTreeSet;
 
 /// Whether no name that the files write is one that was made for a scope, or for a start.

@@ -1,5 +1,5 @@
 // Files in memory, read with what they refer to.
-use crate::comparing::{expect_memory, expect_text, same_for};
+use crate::comparing::{expect_text, same_for};
 use rn_files::{Asked, Map, MemoryFiles, ReadFault, Reading, Sources, read_sources};
 use std::alloc::{AllocError, Global};
 

@@ -56,10 +56,10 @@ pub fn normalise_in<P: Patterns>(
 }
 
 /// A start, and definitions by their names.
-type Parts = (Pattern, Vec<(String, Pattern)>);
+type NormalParts = (Pattern, Vec<(String, Pattern)>);
 
 /// The canonical grammar of these parts, which are those of the grammar's.
-fn normal_of(grammar: &Grammar, parts: Parts) -> Normal
+fn normal_of(grammar: &Grammar, parts: NormalParts) -> Normal
     requires { IsCanonicalOf (grammar_view grammar.now) (parts_view parts.0 parts.1.items) }
     ensures canonical { IsCanonicalOf (grammar_view grammar.now) (normal_view result) }
     ensures documents { ValidAlike (grammar_view grammar.now) (normal_view result) }
@@ -73,7 +73,7 @@ fn stored_parts<P: Patterns>(
     alloc: Global,
     grammar: &Grammar,
     store: &mut P,
-) -> Result<Parts, AllocError>
+) -> Result<NormalParts, AllocError>
     ensures canonical { IfOk result (λ parts. IsCanonicalOf (grammar_view grammar.now)
         (parts_view parts.0 parts.1.items)) }
     ensures kept { KeepsIds P.knows P.tree_of store.old store.new }
@@ -92,7 +92,7 @@ fn stored_parts<P: Patterns>(
 }
 
 /// The canonical start and the canonical definitions that it reaches, each made by itself.
-fn canonical_parts(alloc: Global, grammar: &Grammar) -> Result<Parts, AllocError>
+fn canonical_parts(alloc: Global, grammar: &Grammar) -> Result<NormalParts, AllocError>
     ensures { IfOk result (λ parts. IsCanonicalOf (grammar_view grammar.now)
         (parts_view parts.0 parts.1.items)) }
 {

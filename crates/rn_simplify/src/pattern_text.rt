@@ -1,5 +1,5 @@
 // The text of a pattern (compact syntax, section 2, pattern).
-ghost use Rattle.std.specs.Prelude.{◌≡◌, ℕ, ◌<◌, ◌≤◌, drop, length, ◌∷◌, [], List, Some, map, codes, bytes_eq, chars, ◌&&◌, ◌++◌, MatchOption};
+ghost use Rattle.std.specs.Prelude.{◌≡◌, ℕ, ◌<◌, ◌≤◌, drop, length, ◌∷◌, [], List, Some, codes, bytes_eq, chars, ◌&&◌, ◌++◌, MatchOption};
 ghost use Rattle.rn_text.specs.Parts.{Piece};
 ghost use Rattle.rn_simplify.specs.Spelling.{in_braces, chain, mixed_pieces, infix_of, keyword, operand, optional, optional_member, params_pieces, in_parentheses, primary, space, written_choice, written_interleave, written_name, written_tree};
 ghost use Rattle.rn_pattern.specs.View.{name_class_view, parameters_view, pattern_view};

@@ -1,5 +1,5 @@
 // Members of a list to which components are joined that stand in it before (RELAX NG, 4.17).
-ghost use Rattle.std.specs.Prelude.{◌≡◌, ◌≤◌, ◌<◌, IfOk, IfSome, List, Some, length, map, slice_get, slice_index_or};
+ghost use Rattle.std.specs.Prelude.{◌≡◌, ◌≤◌, ◌<◌, IfOk, IfSome, List, Some, map, slice_get, slice_index_or};
 ghost use Rattle.rn_assemble.specs.Firsts.{AreFirsts};
 ghost use Rattle.rn_pattern.specs.Tree.{Tree};
 ghost use Rattle.rn_pattern.specs.View.{pattern_view, shared_view};

@@ -1,5 +1,5 @@
 // Annotations and notes, which leave nothing in the tree (compact syntax, section 2, annotations).
-ghost use Rattle.std.specs.Prelude.{◌≡◌, ◌≤◌, ◌<◌, length, IfSome, IsTrue};
+ghost use Rattle.std.specs.Prelude.{◌≡◌, ◌≤◌, ◌<◌, length, IsTrue};
 ghost use Rattle.rn_syntax.specs.inside.Follow.{Starts, Anything, no_bracket, no_follow};
 ghost use Rattle.rn_syntax.specs.Grammar.{Closed, IsAnnotation, MayHaveAnnotation, AreFollows};
 ghost use Rattle.rn_text.specs.Reading.{GoesPast, MayGoPast};

@@ -1,6 +1,5 @@
 // What the declarations of a module bind.
-ghost use Rattle.std.specs.Prelude.{◌≡◌, ◌<◌, ◌++◌, ◌∷◌, [], ℕ, List, length, Option, Some, None, is_some, MatchOption, ⊤, map, IfOk, option_map, drop, take, codes, ◌||◌, if◌then◌else◌};
-ghost use Rattle.std.specs.Cow.{cow_str_bytes};
+ghost use Rattle.std.specs.Prelude.{◌≡◌, ◌<◌, ◌++◌, ◌∷◌, [], ℕ, List, length, Option, Some, None, is_some, MatchOption, ⊤, map, IfOk, option_map, ◌||◌, if◌then◌else◌};
 ghost use Rattle.std.specs.BTreeMap as tree;
 ghost use Rattle.rn_text.specs.Texts.{text_cmp};
 ghost use Rattle.rn_syntax.specs.Tree.{literal};

@@ -1,5 +1,5 @@
 // Modules (compact syntax, section 2, topLevel).
-ghost use Rattle.std.specs.Prelude.{◌≡◌, ◌≤◌, ◌<◌, length, map, IfErr, IfOk};
+ghost use Rattle.std.specs.Prelude.{◌≤◌, ◌<◌, length, map, IfErr, IfOk};
 ghost use Rattle.rn_text.specs.Tokens.{lexeme_of};
 ghost use Rattle.rn_syntax.specs.Fault.{HasTree};
 ghost use Rattle.rn_syntax.specs.inside.Follow.{Starts, is_end};

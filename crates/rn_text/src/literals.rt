@@ -1,12 +1,10 @@
 // Literals: from segments to their text, and back.
-ghost use Rattle.std.specs.Prelude.{◌≡◌, ◌≢◌, ◌++◌, ◌∷◌, ◌<◌, ◌≤◌, ◌&&◌, ◌==◌, [], true, false, ℕ, List, length, IfOk, OnOk, OnErr, MatchOption};
+ghost use Rattle.std.specs.Prelude.{◌≡◌, ◌≢◌, ◌++◌, ◌∷◌, ◌<◌, ◌&&◌, ◌==◌, [], true, false, ℕ, List, IfOk, OnOk, OnErr, MatchOption};
 ghost use Rattle.std.specs.String.{string_bytes};
-ghost use Rattle.std.specs.Prelude.{map};
-ghost use Rattle.std.specs.List.{flat_map};
 ghost use Rattle.std.specs.Str.{chars, encode_utf8_all};
 ghost use Rattle.rn_text.specs.Texts.{AnswersUtf8, LeavesUtf8};
 ghost use Rattle.rn_text.specs.Segments.{segment_text, is_segment, is_delimiter, is_delimited, between_delimiters};
-ghost use Rattle.rn_text.specs.Literals.{written, are_parted, literal_bytes, delimiter_for, quoted, segments};
+ghost use Rattle.rn_text.specs.Literals.{written, are_parted, literal_bytes, delimiter_for};
 ghost use Rattle.rn_text.specs.inside.Writing.{StandsFor, between};
 
 use crate::characters::{after_char, split_first};

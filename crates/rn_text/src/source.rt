@@ -1,11 +1,11 @@
 // The tokens of a source.
-ghost use Rattle.std.specs.Prelude.{◌≡◌, ℕ, List, map, MatchResult};
+ghost use Rattle.std.specs.Prelude.{◌≡◌, map, MatchResult};
 ghost use Rattle.std.specs.List.{list_all};
 ghost use Rattle.std.specs.Str.{chars, IsUtf8};
 ghost use Rattle.rn_text.specs.Characters.{is_xml_char};
 ghost use Rattle.rn_text.specs.Segments.{after_run};
 ghost use Rattle.rn_text.specs.inside.Ascii.{is_ascii_and};
-ghost use Rattle.rn_text.specs.Tokens.{HasTokens, HasFault, Lexeme, lexeme_of, unmarked};
+ghost use Rattle.rn_text.specs.Tokens.{HasTokens, HasFault, lexeme_of, unmarked};
 
 use crate::characters::{is_xml_char, split_first};
 use crate::parts::{Kind, Part, split_part};

@@ -1,6 +1,6 @@
 // Tokens and literals by example, characters at the ends of their ranges, and long sources.
 use crate::samples::repeated;
-use rn_text::{Kind, TextFault, Token, is_keyword, is_ncname, literal, tokens, write_literal};
+use rn_text::{Kind, Token, is_keyword, is_ncname, literal, tokens, write_literal};
 use std::alloc::{AllocError, Global};
 use std::process::Abort;
 

@@ -1,5 +1,5 @@
 // Runs over bundles, with sources and sinks that fail at a known byte.
-ghost use Rattle.std.specs.Prelude.{◌≡◌, false, IfOk};
+ghost use Rattle.std.specs.Prelude.{◌≡◌, false};
 
 use crate::rows::{holds, same_bytes, written_set};
 use rn_assemble::Refusal;

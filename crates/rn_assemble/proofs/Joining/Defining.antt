@@ -1,5 +1,5 @@
 -- The definitions of a grammar, made place by place.
-use Rattle.std.proofs.Common.{◌≡◌, ◌≢◌, ◌⊎◌, inl, inr, ℕ, zero, suc, ◌+◌, ◌-◌, ◌<◌, ◌≤◌, Bool, true, false, ◌||◌, cond, List, [], ◌∷◌, ◌++◌, length, get_or, set, map, Option, Some, None, refl, sym, ap, ◌∙◌, subst, arith, Contains}
+use Rattle.std.proofs.Common.{◌≡◌, ◌≢◌, ◌⊎◌, inl, inr, ℕ, zero, suc, ◌+◌, ◌-◌, ◌<◌, ◌≤◌, true, false, cond, List, [], ◌∷◌, ◌++◌, length, get_or, set, map, Option, Some, None, refl, sym, ap, ◌∙◌, subst, arith, Contains}
 use Rattle.std.specs.Prelude.{Box, option_map}
 use Rattle.std.specs.List.{AllByRecursion}
 use Rattle.std.specs.declared.alloc.Global.{Global}
@@ -10,7 +10,7 @@ use Rattle.rn_text.specs.Texts.{Text}
 use Rattle.rn_pattern.specs.View.{boxed_view}
 use Rattle.rn_pattern.specs.declared.tree.Pattern.{Pattern}
 use Rattle.rn_assemble.specs.declared.bodies.Body.{Body}
-use Rattle.rn_assemble.specs.declared.combined_grammar.Definition.{Definition}
+use Rattle.rn_assemble.specs.declared.combined_grammar.CombinedDefinition.{CombinedDefinition}
 use Rattle.rn_assemble.specs.Combine.{defined_names, joined_pattern, joined_grammar}
 use Rattle.rn_assemble.specs.Components.{Component, Key, has_key, name_key, same_key, start_key}
 use Rattle.rn_assemble.specs.inside.CombinedDefinitions.{combined_definitions}
@@ -20,7 +20,7 @@ use Rattle.rn_assemble.specs.inside.Keyed.{key_at}
 use Rattle.rn_assemble.specs.inside.Listed.{IsLive, Live, ListsBy, Rises, components_in}
 use Rattle.rn_assemble.specs.inside.Patterns.{AreCombined, HavePatterns, IsFirstAt, before, tree_at}
 use Rattle.rn_assemble.proofs.Joining.FirstMembers.{tied_more}
-use Rattle.rn_assemble.proofs.Joining.DefinedNames.{defined_known, defined_new, defined_start, names_mapped, not_among}
+use Rattle.rn_assemble.proofs.Joining.DefinedNames.{defined_known, defined_new, defined_start}
 use Rattle.rn_assemble.proofs.Joining.FirstPlaces.{all_before, before_more, before_next, key_there, none_before}
 use Rattle.rn_assemble.proofs.Expansion.LiveLists.{each_to}
 use Rattle.rn_assemble.proofs.Referring.Numbers.{same_key-Decides}
@@ -58,7 +58,7 @@ module _ (names : List Text) (live : List Live) (rises : Rises 0 live) where
   definition x = (x, joined_pattern cs (name_key x))
 
   -- the names of the components before the place are defined, with the first places of their members, and the other patterns are left
-  pub record Defining (patterns : List (Option (Box Pattern Global))) (entries : List Definition) (rows : List (List ℕ)) (p : ℕ) : Type 0 where
+  pub record Defining (patterns : List (Option (Box Pattern Global))) (entries : List CombinedDefinition) (rows : List (List ℕ)) (p : ℕ) : Type 0 where
     pub made : combined_definitions entries ≡ map definition (defined_names (done p))
     pub left : HavePatterns names cs (done p) patterns
     pub size : length rows ≤ length (combined_definitions entries)
@@ -78,7 +78,7 @@ module _ (names : List Text) (live : List Live) (rises : Rises 0 live) where
   one_more p e c s = ap (λ es. components_in es) (before_more 0 p live e rises c s) ∙ map-append (λ (d : Live). d.component) (before p live) (e ∷ [])
 
   -- no name begins at the place
-  pub defining_same : (patterns : List (Option (Box Pattern Global))) (entries : List Definition) (rows : List (List ℕ)) (p : ℕ) → IsFirstAt names live p None → Defining patterns entries rows p → Defining patterns entries rows (p + 1)
+  pub defining_same : (patterns : List (Option (Box Pattern Global))) (entries : List CombinedDefinition) (rows : List (List ℕ)) (p : ℕ) → IsFirstAt names live p None → Defining patterns entries rows p → Defining patterns entries rows (p + 1)
   defining_same patterns entries rows p f h = elim (before_next p live) [
     | inl k ↦
         let more = one_more p k.0 k.1 k.2 in
@@ -98,18 +98,18 @@ module _ (names : List Text) (live : List Live) (rises : Rises 0 live) where
         }
   ]
 
-  pattern_is : (patterns : List (Option (Box Pattern Global))) (entries : List Definition) (rows : List (List ℕ)) (p n : ℕ) → IsFirstAt names live p (Some n) → Defining patterns entries rows p → tree_at patterns n ≡ Some (joined_pattern cs (key_at names n))
+  pattern_is : (patterns : List (Option (Box Pattern Global))) (entries : List CombinedDefinition) (rows : List (List ℕ)) (p n : ℕ) → IsFirstAt names live p (Some n) → Defining patterns entries rows p → tree_at patterns n ≡ Some (joined_pattern cs (key_at names n))
   pattern_is patterns entries rows p n f h =
       h.left n f.0 f.1 f.3 ∙ ap (λ b. cond b (Some (joined_pattern cs (key_at names n))) None) (key_there (key_at names n) live f.2.0 f.2.1 f.2.3)
 
   -- the pattern of a name that begins at the place is there
-  pub pattern_there : (patterns : List (Option (Box Pattern Global))) (entries : List Definition) (rows : List (List ℕ)) (p n : ℕ) → IsFirstAt names live p (Some n) → Defining patterns entries rows p → get_or patterns n None ≡ None → ⊥
+  pub pattern_there : (patterns : List (Option (Box Pattern Global))) (entries : List CombinedDefinition) (rows : List (List ℕ)) (p n : ℕ) → IsFirstAt names live p (Some n) → Defining patterns entries rows p → get_or patterns n None ≡ None → ⊥
   pattern_there patterns entries rows p n f h none =
       let is = pattern_is patterns entries rows p n f h in
       let wrong : None ≡ Some (joined_pattern cs (key_at names n)) = sym (ap (option_map boxed_view) none) ∙ is in cc
 
   -- a name begins there, and its definition is added
-  pub defining_more : (patterns : List (Option (Box Pattern Global))) (entries : List Definition) (rows rows' : List (List ℕ)) (v : List ℕ) (p n : ℕ) (d : Definition) → IsFirstAt names live p (Some n) → Defining patterns entries rows p
+  pub defining_more : (patterns : List (Option (Box Pattern Global))) (entries : List CombinedDefinition) (rows rows' : List (List ℕ)) (v : List ℕ) (p n : ℕ) (d : CombinedDefinition) → IsFirstAt names live p (Some n) → Defining patterns entries rows p
       → get_or patterns n None ≡ Some d.pattern → d.name.now ≡ get_or names (n - 1) [] → HasRow rows rows' (length entries) v
       → AreTied v (joined_members (joined_pattern cs (key_at names n))) → Defining (set patterns n None) (entries ++ d ∷ []) rows' (p + 1)
   defining_more patterns entries rows rows' v p n d f h is name has tied =
@@ -120,7 +120,7 @@ module _ (names : List Text) (live : List Live) (rises : Rises 0 live) where
       let tree : Some (boxed_view d.pattern) ≡ Some (joined_pattern cs (key_at names n)) = sym (ap (option_map boxed_view) is) ∙ pattern_is patterns entries rows p n f h in
       let here : boxed_view d.pattern ≡ joined_pattern cs (key_at names n) = cc in
       let body : boxed_view d.pattern ≡ joined_pattern cs (name_key x) = here ∙ ap (joined_pattern cs) key in
-      let view : Definition → Text × Tree = λ (e : Definition). (e.name.now, boxed_view e.pattern) in
+      let view : CombinedDefinition → Text × Tree = λ (e : CombinedDefinition). (e.name.now, boxed_view e.pattern) in
       let added : combined_definitions (entries ++ d ∷ []) ≡ combined_definitions entries ++ view d ∷ [] = map-append view entries (d ∷ []) in
       let size = length-map entries view in
       record {
@@ -137,7 +137,7 @@ module _ (names : List Text) (live : List Live) (rises : Rises 0 live) where
       }
 
   -- behind the last place all names are defined
-  pub defining_ends : (patterns : List (Option (Box Pattern Global))) (entries : List Definition) (rows : List (List ℕ)) (p : ℕ) → AllByRecursion (λ (e : Live). e.place < p) live → Defining patterns entries rows p → HaveTied rows (combined_definitions entries) × (combined_definitions entries ≡ (joined_grammar cs).definitions)
+  pub defining_ends : (patterns : List (Option (Box Pattern Global))) (entries : List CombinedDefinition) (rows : List (List ℕ)) (p : ℕ) → AllByRecursion (λ (e : Live). e.place < p) live → Defining patterns entries rows p → HaveTied rows (combined_definitions entries) × (combined_definitions entries ≡ (joined_grammar cs).definitions)
   defining_ends patterns entries rows p h d = (d.tied, d.made ∙ ap (λ es. map definition (defined_names (components_in es))) (all_before p live h))
 
 pub places_within : (names : List Text) (bodies : List Body) (list : List ℕ) (rows : List (List ℕ)) (live : List Live) (p : ℕ) → ListsBy names bodies list rows live → length list ≤ p → AllByRecursion (λ (e : Live). e.place < p) live

@@ -3,7 +3,7 @@ use Rattle.std.specs.Prelude.{List, map}
 use Rattle.rn_pattern.specs.Tree.{Tree}
 use Rattle.rn_text.specs.Texts.{Text}
 use Rattle.rn_pattern.specs.View.{boxed_view}
-use Rattle.rn_assemble.specs.declared.combined_grammar.Definition.{Definition}
+use Rattle.rn_assemble.specs.declared.combined_grammar.CombinedDefinition.{CombinedDefinition}
 
-abbrev pub combined_definitions : List Definition → List (Text × Tree)
-combined_definitions ds = map (λ (d : Definition). (d.name.now, boxed_view d.pattern)) ds
+abbrev pub combined_definitions : List CombinedDefinition → List (Text × Tree)
+combined_definitions ds = map (λ (d : CombinedDefinition). (d.name.now, boxed_view d.pattern)) ds

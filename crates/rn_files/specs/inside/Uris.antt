@@ -1,8 +1,8 @@
 -- The parts of a URI as the code has them.
 use Rattle.std.specs.Option.{option_copied}
 use Rattle.rn_files.specs.Uris.{UriParts}
-use Rattle.rn_files.specs.declared.uris.Parts.{Parts}
+use Rattle.rn_files.specs.declared.uris.SplitUri.{SplitUri}
 
 -- the parts that these are
-abbrev pub parts_view : Parts → UriParts
+abbrev pub parts_view : SplitUri → UriParts
 parts_view p = record { scheme = option_copied p.scheme; authority = option_copied p.authority; path = p.path.now }

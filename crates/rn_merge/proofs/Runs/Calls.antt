@@ -1,6 +1,6 @@
 -- Calls that bring the same contributions leave one set, and it has one answer.
-use Rattle.std.proofs.Common.{◌≡◌, ◌≢◌, Bool, true, List, [], ◌∷◌, ⊎_elim, inl, inr, refl, sym, subst, ◌∙◌}
-use Rattle.std.specs.Prelude.{Contains, Err}
+use Rattle.std.proofs.Common.{◌≡◌, ◌≢◌, true, List, [], ◌∷◌, ⊎_elim, inl, inr, refl, sym, subst, ◌∙◌}
+use Rattle.std.specs.Prelude.{Err}
 use Rattle.std.specs.List.{flat_map}
 use Rattle.rn_modset.specs.Contributions.{Member}
 use Rattle.rn_modset.specs.Sets.{has}

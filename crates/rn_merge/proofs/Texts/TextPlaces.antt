@@ -1,7 +1,6 @@
 -- A module text is good or has one place, and its place has the kind of the fault that refuses the module.
-use Rattle.std.proofs.Common.{◌≡◌, ◌≢◌, ℕ, ◌<◌, ◌⊎◌, inl, inr, List, [], ◌∷◌, map, Option, Some, None, IfSome, refl, sym, ap, subst, ◌∙◌, arith}
+use Rattle.std.proofs.Common.{◌≡◌, ◌≢◌, ℕ, ◌⊎◌, inl, inr, List, [], ◌∷◌, map, Option, Some, None, IfSome, refl, sym, ap, subst, ◌∙◌, arith}
 use Rattle.std.specs.Str.{IsUtf8, chars}
-use Rattle.std.proofs.lemmas.Bool.{cases_order}
 use Rattle.rn_text.specs.Tokens as lexed
 use Rattle.rn_text.specs.Tokens.{Lexeme, HasTokens, lexeme_of}
 use Rattle.rn_text.specs.declared.source.Token.{Token}
@@ -14,11 +13,10 @@ use Rattle.rn_syntax.specs.declared.fault.SyntaxFault.{SyntaxFault}
 use Rattle.rn_syntax.specs.declared.fault.SyntaxFault.TheVariants as s
 use Rattle.rn_syntax.specs.Terminal.{◌#◌}
 use Rattle.rn_syntax.specs.Grammar.{Tokens}
-use Rattle.rn_syntax.specs.Tree.{Module}
 use Rattle.rn_syntax.specs.Tokens.{terminals}
 use Rattle.rn_syntax.specs.Fault.{HasTree, Stops}
 use Rattle.rn_syntax.specs.Faults as parsing
-use Rattle.rn_syntax.specs.Faults.{HasNoFault, IsFault, IsFaultOfTree}
+use Rattle.rn_syntax.specs.Faults.{IsFault, IsFaultOfTree}
 use Rattle.rn_syntax.specs.Places.{deep}
 use Rattle.rn_syntax.specs.Spelled.{AreSpelled, BeginAt, last_end}
 use Rattle.rn_syntax.proofs.FaultPlaces.OneFault as parsed

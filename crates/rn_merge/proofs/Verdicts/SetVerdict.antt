@@ -1,23 +1,16 @@
 -- What `merge` answers is the verdict, where its parts keep their promises.
-use Rattle.std.proofs.Common.{◌≡◌, ◌≢◌, List, [], ◌∷◌, refl, sym, ap, subst, ◌∙◌}
+use Rattle.std.proofs.Common.{◌≡◌, ◌≢◌, List, refl, sym, ap, subst, ◌∙◌}
 use Rattle.std.specs.Prelude.{IfErr, IfOk, IsErrAnd, IsSomeAnd, MatchOption, Option, None, Some, Ok, Err, string_bytes}
-use Rattle.std.proofs.lemmas.Option.{MatchOption-at_some}
-use Rattle.rn_text.specs.Texts.{Text}
 use Rattle.rn_pattern.specs.Matching.{Grammar}
-use Rattle.rn_pattern.specs.Reached.{IsCanonicalOf}
 use Rattle.rn_modset.specs.Contributions.{Member}
-use Rattle.rn_modset.specs.Modules.{AreEffective}
 use Rattle.rn_syntax.proofs.OneReading.OneTree.{one_tree}
 use Rattle.rn_assemble.specs.declared.refusal.Refusal as code
 use Rattle.rn_assemble.specs.declared.refusal.Refusal.TheVariants as r
-use Rattle.rn_assemble.specs.Refusal.{Refusal, Stands, IsAssembled}
+use Rattle.rn_assemble.specs.Refusal.{Refusal, Stands}
 use Rattle.rn_assemble.specs.Refused.{IsFirstRefusal}
-use Rattle.rn_assemble.specs.WellFormed.{IsWellFormed}
-use Rattle.rn_assemble.proofs.Refusals.NoRefusal.{assembled_well_formed}
 use Rattle.rn_simplify.specs.Printing.{IsPrinted, IsUnprinted}
 use Rattle.rn_simplify.specs.Verdict.{Verdict, prints, refused, too_large, too_deep, IsCanonicalOfSet, IsVerdict}
 use Rattle.rn_simplify.proofs.OneVerdict.{one_verdict}
-use Rattle.rn_simplify.proofs.PrintedAgain.{printed_again}
 use Rattle.rn_merge.specs.Verdicts.{verdict_view, IsRefusedAs, Answer, answer_view, IsAnswer}
 
 -- ---- from the parts to the answer

@@ -5,7 +5,7 @@ use Rattle.std.specs.Rc.{rc_str_bytes}
 use Rattle.std.specs.declared.rc.RcStr.{RcStr}
 use Rattle.std.specs.declared.alloc.Global.{Global}
 use Rattle.rn_pattern.specs.Tree as tree
-use Rattle.rn_pattern.specs.Tree.{NameTree, name_list_of, name_trees_of}
+use Rattle.rn_pattern.specs.Tree.{NameTree, name_trees_of}
 use Rattle.rn_pattern.specs.Canonical.{names_within}
 use Rattle.rn_pattern.specs.View.{name_class_step, name_class_view}
 use Rattle.rn_pattern.specs.declared.tree.NameClass.{NameClass, fold-roll-NameClass, map-NameClass}

@@ -6,7 +6,7 @@ use Rattle.std.proofs.lemmas.Bool.{false≢true}
 use Rattle.std.proofs.lemmas.Map.Keys.{apart_from_distinct}
 use Rattle.std.proofs.lemmas.List.Elements.{All-head, All-tail}
 use Rattle.rn_pattern.specs.Tree as tree
-use Rattle.rn_pattern.specs.Tree.{Tree, Trees, list_of, trees_of}
+use Rattle.rn_pattern.specs.Tree.{Tree, list_of}
 use Rattle.rn_pattern.specs.Order.{rank}
 use Rattle.rn_pattern.specs.inside.Shown.{texts_in, parameters_in, names_in, members_in}
 use Rattle.rn_pattern.specs.Store.{AddsOnly, KeepsTrees, StandsFor, node_view}

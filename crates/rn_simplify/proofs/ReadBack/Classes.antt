@@ -12,7 +12,7 @@ use Rattle.rn_text.specs.Texts.{Text}
 use Rattle.rn_syntax.specs.Terminal as t
 use Rattle.rn_syntax.specs.Terminal.{◌#◌}
 use Rattle.rn_syntax.specs.Tree as s
-use Rattle.rn_syntax.specs.Tree.{NameClass, NameClasses, Declaration, classes_of}
+use Rattle.rn_syntax.specs.Tree.{NameClass, Declaration, classes_of}
 use Rattle.rn_syntax.specs.Grammar as g
 use Rattle.rn_syntax.specs.Grammar.{Tokens, IsNameClass, IsClassOperand, IsClassPrimary, IsClassCore, AreMoreClasses}
 use Rattle.rn_syntax.specs.Places.{place_if}

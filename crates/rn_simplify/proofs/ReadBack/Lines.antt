@@ -16,7 +16,7 @@ use Rattle.rn_syntax.specs.Terminal.{◌#◌}
 use Rattle.rn_syntax.specs.Tree as s
 use Rattle.rn_syntax.specs.Tree.{Declaration, Item, items_of, includes}
 use Rattle.rn_syntax.specs.Grammar as g
-use Rattle.rn_syntax.specs.Grammar.{Tokens, IsDeclaration, AreDeclarations, IsComponent, AreItems}
+use Rattle.rn_syntax.specs.Grammar.{Tokens, IsDeclaration, AreDeclarations, AreItems}
 use Rattle.rn_syntax.specs.Places.{items_places, class_places, unbound_type, wrong_builtin, context_value, inherit_places, place_if, is_allowed}
 use Rattle.rn_syntax.specs.Tokens.{symbol_rows, keyword_rows}
 use Rattle.rn_syntax.specs.declared.token.Method.TheVariants as m

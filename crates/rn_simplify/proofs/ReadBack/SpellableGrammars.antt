@@ -24,7 +24,7 @@ use Rattle.rn_simplify.proofs.ReadBack.Writable.{normal_writable}
 use Rattle.rn_pattern.specs.Reached.{IsCanonicalOf}
 use Rattle.rn_pattern.proofs.Ordered.InOrder.{each_contained}
 use Rattle.rn_assemble.specs.WritableTexts.{IsName, IsXml, Free, IsWritableName, AreWritableNames, IsWritable, AreWritable}
-use Rattle.rn_simplify.specs.Printable.{IsClass, AreClasses, every, every_but, all_of, all_of_but, local, full, either, IsPrintable, ArePrintable, is_empty, is_text, is_repetition}
+use Rattle.rn_simplify.specs.Printable.{IsClass, AreClasses, every, every_but, all_of, all_of_but, local, full, either, IsPrintable, ArePrintable}
 use Rattle.rn_simplify.specs.Printable as w
 
 -- ---- name classes

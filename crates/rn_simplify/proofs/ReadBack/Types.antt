@@ -10,7 +10,7 @@ use Rattle.rn_text.proofs.Cutting.SoundPieces.{Sound, no_pieces, free_sound, fre
 use Rattle.rn_pattern.specs.Tree.{Parameters}
 use Rattle.rn_text.specs.Texts.{Text}
 use Rattle.rn_syntax.specs.Terminal as t
-use Rattle.rn_syntax.specs.Terminal.{Placed, ◌#◌}
+use Rattle.rn_syntax.specs.Terminal.{◌#◌}
 use Rattle.rn_syntax.specs.Tree as s
 use Rattle.rn_syntax.specs.Tree.{Datatype, Declaration}
 use Rattle.rn_syntax.specs.Grammar as g

@@ -15,7 +15,7 @@ use Rattle.rn_pattern.specs.Opened.{opened, opened_grammar}
 use Rattle.rn_syntax.specs.Tree as s
 use Rattle.rn_syntax.specs.Tree.{Declaration, Module, items_of}
 use Rattle.rn_syntax.specs.Grammar as g
-use Rattle.rn_syntax.specs.Grammar.{Tokens, IsModule}
+use Rattle.rn_syntax.specs.Grammar.{IsModule}
 use Rattle.rn_syntax.specs.Places.{declarations_places}
 use Rattle.rn_syntax.proofs.TokenKinds.PieceTokens.{terms, behind, terms-append, terms-are, scalars_of}
 use Rattle.rn_syntax.proofs.Basics.EmptyLists.{both_nil}

@@ -1,9 +1,8 @@
 -- The texts of patterns, node by node.
 use Rattle.std.proofs.Common.{◌≡◌, ℕ, suc, ◌+◌, ◌<◌, List, [], ◌∷◌, ◌++◌, length, drop, get_or, refl, sym, ap, ◌∙◌, subst, cond, nat_eq, true, false, Bool, Option, Some, None, ◌≢◌, ◌-◌, ◌≤◌, arith, rules, take, length-drop, append-nil}
 use Rattle.std.proofs.Math.Dec.{eqb-suc-zero}
-use Rattle.std.specs.Prelude.{codes, string_bytes, Box, MatchOption, String}
+use Rattle.std.specs.Prelude.{codes, Box, MatchOption}
 use Rattle.std.specs.declared.rc.Rc.{Rc}
-use Rattle.std.specs.declared.vec.Vec.{Vec}
 use Rattle.std.specs.declared.alloc.Global.{Global}
 use Rattle.std.specs.Str.{chars, IsUtf8}
 use Rattle.std.proofs.lemmas.Str.{encodes-chars}

@@ -11,7 +11,7 @@ use Rattle.rn_pattern.specs.Tree.{Parameters}
 use Rattle.rn_text.specs.Texts.{Text}
 use Rattle.rn_simplify.specs.declared.writer.Writer.{Writer}
 use Rattle.rn_simplify.specs.Spelling as s
-use Rattle.rn_simplify.specs.Spelling.{Prefixes, literal, segment, infix_of, space, word, type_piece, value_pieces, datum_pieces, param_pieces, params_pieces, in_braces}
+use Rattle.rn_simplify.specs.Spelling.{Prefixes, literal, infix_of, space, word, type_piece, value_pieces, datum_pieces, param_pieces, params_pieces, in_braces}
 use Rattle.rn_simplify.specs.inside.Writes.{depth_after, none, opening, closing, Writes, WritesBytes}
 use Rattle.rn_simplify.proofs.Texts.Writing.{writes_nil, writes_then, writes_pieces, writes_as}
 use Rattle.rn_simplify.proofs.Texts.PartTexts.{writes_word, writes_braced}

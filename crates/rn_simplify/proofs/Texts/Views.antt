@@ -5,7 +5,7 @@ use Rattle.std.specs.Rc.{rc_str_bytes}
 use Rattle.std.specs.declared.rc.RcStr.{RcStr}
 use Rattle.std.specs.declared.alloc.Global.{Global}
 use Rattle.rn_pattern.specs.Tree as tree
-use Rattle.rn_pattern.specs.Tree.{NameTree, Tree, name_trees_of, trees_of}
+use Rattle.rn_pattern.specs.Tree.{NameTree}
 use Rattle.rn_pattern.specs.declared.tree.NameClass.{NameClass}
 use Rattle.rn_pattern.specs.declared.tree.NameClass.TheOpen.{NameClass-F}
 use Rattle.rn_pattern.specs.declared.tree.NameClass.TheFolds.{fold-roll-NameClass}

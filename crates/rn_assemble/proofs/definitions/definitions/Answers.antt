@@ -4,7 +4,7 @@ use Rattle.std.specs.declared.alloc.Global.{Global}
 use Rattle.rn_pattern.specs.Tree.{Tree}
 use Rattle.rn_pattern.specs.View.{boxed_view}
 use Rattle.rn_text.specs.Texts.{Text}
-use Rattle.rn_assemble.specs.declared.combined_grammar.Definition.{Definition}
+use Rattle.rn_assemble.specs.declared.combined_grammar.CombinedDefinition.{CombinedDefinition}
 use Rattle.rn_assemble.specs.inside.Patterns.{IsFirstAt}
 use Rattle.rn_assemble.specs.inside.Tied.{HasRow, firsts_of}
 use Rattle.rn_assemble.specs.inside.Views.{names_of}
@@ -31,8 +31,8 @@ loop-place-preserved c = λ live h o p.
           let f : IsFirstAt names live place (Some w.in-Some.key) = subst (IsFirstAt names live place) w.in-Some.is first in
           let name : w.name-name.result.now ≡ get_or names (w.in-Some.key - 1) [] = w.name-name.ensures f.0 (omega (arith, f.1)) in
           let tied = w.in_ok-found.ensures names live h o (omega (arith, f.1)) in
-          let d : Definition = record { name = w.name-name.result; pattern = w.in-Some-take.pattern } in
-          let view : Definition → Text × Tree = λ (e : Definition). (e.name.now, boxed_view e.pattern) in
+          let d : CombinedDefinition = record { name = w.name-name.result; pattern = w.in-Some-take.pattern } in
+          let view : CombinedDefinition → Text × Tree = λ (e : CombinedDefinition). (e.name.now, boxed_view e.pattern) in
           let size : length c.loop-place.firsts.items ≤ length entries = omega (arith, before.size, length-map entries view, length-map c.loop-place.firsts.items (λ (v : Vec ℕ Global). v.items)) in
           let has : HasRow rows (firsts_of w.keep_row.new.rows.items) (length entries) w.in_ok-found.found.items =
           subst (λ k. HasRow rows (firsts_of w.keep_row.new.rows.items) k w.in_ok-found.found.items) (w.len-in-Some-take.ensures ∙ c.loop-place.definitions.ok.0) (w.in_ok-keep_row.ensures (omega (arith, size, w.len-in-Some-take.ensures, c.loop-place.definitions.ok.0))) in

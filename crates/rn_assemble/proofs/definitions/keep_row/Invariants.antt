@@ -1,5 +1,5 @@
 -- The rows so far are as they were, with empty ones behind them.
-use Rattle.std.proofs.Common.{◌≡◌, ◌≤◌, ℕ, length}
+use Rattle.std.proofs.Common.{◌≡◌, ℕ, length}
 use Rattle.rn_pattern.specs.Graph.{row}
 use Rattle.rn_assemble.specs.inside.Tied.{firsts_of}
 use Rattle.rn_assemble.proofs.definitions.keep_row.Given as goal

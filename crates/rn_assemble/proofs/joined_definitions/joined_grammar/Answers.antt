@@ -1,4 +1,4 @@
-use Rattle.std.proofs.Common.{subst, sym, ap, ◌∙◌}
+use Rattle.std.proofs.Common.{subst, sym, ap}
 use Rattle.rn_pattern.specs.View.{pattern_view}
 use Rattle.rn_assemble.specs.Firsts.{joined_members}
 use Rattle.rn_assemble.specs.inside.Tied.{AreTied, HaveTied, firsts_of}

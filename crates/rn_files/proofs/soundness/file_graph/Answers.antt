@@ -1,4 +1,3 @@
-use Rattle.std.proofs.Common.{◌≡◌, refl}
 use Rattle.rn_pattern.specs.Graph.{rows_of}
 use Rattle.rn_files.proofs.FileGraphs.{one_row_more}
 use Rattle.rn_files.proofs.soundness.file_graph.Goals as goal

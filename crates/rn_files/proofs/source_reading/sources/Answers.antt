@@ -1,4 +1,4 @@
-use Rattle.std.proofs.Common.{All, List, [], ◌∷◌, ◌++◌, subst, sym}
+use Rattle.std.proofs.Common.{All, List, [], ◌∷◌, subst, sym}
 use Rattle.std.proofs.lemmas.List.Elements.{All-append, All-cons, All-nil}
 use Rattle.rn_files.specs.Sources.{IsTextAt}
 use Rattle.rn_files.specs.declared.sources.SourceFile.{SourceFile}

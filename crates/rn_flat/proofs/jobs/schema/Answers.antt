@@ -1,4 +1,4 @@
-use Rattle.std.proofs.Common.{◌≡◌, subst}
+use Rattle.std.proofs.Common.{subst}
 use Rattle.rn_simplify.specs.Verdict.{prints, IsVerdict}
 use Rattle.rn_flat.proofs.jobs.schema.Goals as goal
 

@@ -1,4 +1,4 @@
-use Rattle.std.proofs.Common.{◌≡◌, ◌∙◌, ap, take}
+use Rattle.std.proofs.Common.{◌∙◌, ap, take}
 use Rattle.std.proofs.lemmas.List.{take_all}
 use Rattle.rn_modset.specs.Sets.{with_member}
 use Rattle.rn_flat.specs.ModuleSets.{lifted_member, set_of_modules}

@@ -9,4 +9,4 @@ invariant_of-self-2 c =
     let n = c.self.inside.len in
     let r : ModuleBodies = record { content = c.args.content; context = c.args.context; first = n } in
     subst (λ (l : List ModuleBodies). AreCounted 0 l c.in-Some.len) (sym c.in_ok-push.ensures.items)
-    (counted_more 0 c.self.inside.runs.items n c.in-Some.len r c.self.invariant refl (omega (arith, c.in-Some.ensures.1, c.len.ensures, c.args.content.now.components.ok.0)))
+    (counted_more 0 c.self.inside.contexts.items n c.in-Some.len r c.self.invariant refl (omega (arith, c.in-Some.ensures.1, c.len.ensures, c.args.content.now.components.ok.0)))

@@ -1,6 +1,6 @@
 -- The canonical step keeps what is matched.
 use Rattle.rn_pattern.specs.Tree as tree
-use Rattle.rn_pattern.specs.Tree.{Tree, trees_of}
+use Rattle.rn_pattern.specs.Tree.{Tree}
 use Rattle.rn_pattern.specs.Canonical.{attribute_step, canonical_name}
 use Rattle.rn_pattern.specs.View.{name_class_view}
 use Rattle.rn_pattern.specs.inside.Stored.{knows, tree_at, trees_of_nodes}

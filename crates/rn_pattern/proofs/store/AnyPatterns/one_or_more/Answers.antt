@@ -1,6 +1,6 @@
 -- The canonical step keeps what is matched.
 use Rattle.rn_pattern.specs.Tree as tree
-use Rattle.rn_pattern.specs.Tree.{Tree, trees_of}
+use Rattle.rn_pattern.specs.Tree.{Tree}
 use Rattle.rn_pattern.specs.Canonical.{one_or_more_step}
 use Rattle.rn_pattern.specs.inside.Stored.{knows, tree_at, trees_of_nodes}
 use Rattle.rn_pattern.specs.inside.Reduced.{reduced_tree}

@@ -1,4 +1,4 @@
--- The patterns without content that are known by the order of patterns.
+-- The shared patterns without content, told by the order of patterns.
 use Rattle.std.proofs.Common.{◌≡◌}
 use Rattle.std.specs.declared.alloc.Global.{Global}
 use Rattle.std.specs.declared.cmp.Ordering.TheVariants.{Equal}

@@ -1,4 +1,4 @@
-// What is known without a declaration: URIs of names and types, and the patterns without content.
+// What every set has without a declaration: URIs of names and types, and the patterns without content.
 ghost use Rattle.std.specs.Prelude.{◌≡◌, [], IfOk};
 ghost use Rattle.std.specs.Rc.{rc_str_bytes};
 ghost use Rattle.std.specs.declared.cmp.Ordering.TheVariants.{Equal};
@@ -15,7 +15,7 @@ use std::rc::{Rc, RcStr};
 /// The URIs that names and types have without a declaration, and the patterns `empty` and `text`, made once for a set and
 /// shared.
 #[derive(Drop)]
-pub(crate) struct Known {
+pub(crate) struct Constants {
     /// No namespace, and the library of `string` and `token`.
     pub none: RcStr,
     /// The namespace of prefix `xml`.
@@ -31,10 +31,10 @@ pub(crate) struct Known {
     ghost text_is: { tree_cmp (shared_view text) tree.text ≡ Equal },
 }
 
-impl Known {
+impl Constants {
     /// The texts of these URIs, and these patterns.
-    pub fn new(alloc: Global) -> Result<Known, AllocError> {
-        Ok(Known {
+    pub fn new(alloc: Global) -> Result<Constants, AllocError> {
+        Ok(Constants {
             none: RcStr::from_str(alloc, "")?,
             xml: RcStr::from_str(alloc, XML_URI)?,
             xsd: RcStr::from_str(alloc, XSD_URI)?,
@@ -44,8 +44,8 @@ impl Known {
     }
 
     /// The same, shared.
-    pub fn share(&self) -> Result<Known, AllocError> {
-        Ok(Known {
+    pub fn share(&self) -> Result<Constants, AllocError> {
+        Ok(Constants {
             none: self.none.clone()?,
             xml: self.xml.clone()?,
             xsd: self.xsd.clone()?,
@@ -55,7 +55,7 @@ impl Known {
     }
 
     /// The pattern `empty`, shared.
-    #[tactic(auto, using(crate::proofs::Joining::KnownPatterns::is_empty))]
+    #[tactic(auto, using(crate::proofs::Joining::ConstantPatterns::is_empty))]
     pub fn empty(&self) -> Result<Rc<Pattern>, AllocError>
         ensures { IfOk result (λ p. shared_view p ≡ tree.empty) }
     {
@@ -63,7 +63,7 @@ impl Known {
     }
 
     /// The pattern `text`, shared.
-    #[tactic(auto, using(crate::proofs::Joining::KnownPatterns::is_text))]
+    #[tactic(auto, using(crate::proofs::Joining::ConstantPatterns::is_text))]
     pub fn text(&self) -> Result<Rc<Pattern>, AllocError>
         ensures { IfOk result (λ p. shared_view p ≡ tree.text) }
     {
