@@ -12,7 +12,7 @@ use Rattle.rn_modset.specs.Modules.{Module, IsFirstConflict, AreEffective}
 use Rattle.rn_syntax.specs.Tree as t
 use Rattle.rn_syntax.specs.Tree.{Declaration, Item, Items}
 use Rattle.rn_syntax.specs.Tokens.{terminals}
-use Rattle.rn_syntax.specs.Fault.{HasTree}
+use Rattle.rn_syntax.specs.Beginnings.{HasTree}
 use Rattle.rn_syntax.specs.Places.{deep}
 use Rattle.rn_syntax.specs.Faults.{kind_rank, kind_places}
 use Rattle.rn_syntax.specs.declared.fault.FaultKind.{FaultKind}

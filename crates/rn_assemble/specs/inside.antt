@@ -1,4 +1,4 @@
--- What contracts of private functions speak of: numbers that stand for names, and how modules, components and references lie
+-- What contracts of private functions and of conversions speak of: numbers that stand for names, and how modules, components and references lie
 -- in the code. No public contract cites it. Lemmas stand here too that a ghost field's `by` cites.
 pub mod Bodies
 pub mod Bound

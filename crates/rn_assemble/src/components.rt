@@ -129,7 +129,8 @@ impl<'c, 't, 's> Components<'c, 't, 's> {
         None
     }
 
-    /// Adds the components of those numbers.
+    /// Adds the module's components numbered from `from` up to, but not including, `to`; `first` is the number of its first
+    /// body in this context.
     pub fn add(
         &mut self,
         content: &Contents<'t, 's>,

@@ -9,7 +9,7 @@ ghost use Rattle.rn_assemble.specs.inside.Listed.{AtKey};
 use crate::components::{Components, Near};
 use std::alloc::{AllocError, Global};
 
-/// By the number of a body, the index in its key's list at which it was met last.
+/// By the number of a body, the index at which it was met first in the list of the last key that has it.
 pub(crate) type Met = Vec<usize>;
 
 /// What was read last, at the indices in turn and at those of first components.
@@ -30,8 +30,8 @@ impl Components<'_, '_, '_> {
         }
     }
 
-    /// For each component of the key, the index in its list of the first with the same body. None, where no body stands
-    /// twice, or where an index takes more than 32 bits. What was met of other keys does no harm.
+    /// For each component of the key, the index in its list of the first with the same body. It is empty where no body
+    /// stands twice, and where an index takes more than 32 bits. What was met of other keys does no harm.
     pub fn firsts(&self, alloc: Global, key: usize, met: &mut Met) -> Result<Vec<u32>, AllocError>
         ensures { AtKey self.now key (λ k cs.
             IfOk result (λ firsts. AreTied firsts.items (joined_members (joined_pattern cs k)))) }
@@ -43,8 +43,8 @@ impl Components<'_, '_, '_> {
         self.first_indices(alloc, key, met)
     }
 
-    /// The index of the first component with the same body, for each of the key's. None, where no body stands twice, or
-    /// where an index takes more than 32 bits.
+    /// The index of the first component with the same body, for each of the key's. It is empty where no body stands twice,
+    /// and where an index takes more than 32 bits.
     fn first_indices(
         &self,
         alloc: Global,

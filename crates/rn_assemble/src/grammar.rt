@@ -7,7 +7,7 @@ use crate::joined_grammar::{Definitions, Joined};
 use rn_pattern::Pattern;
 
 /// The combined definitions of a set, for which none of the refusals of a set stands. So every reference is defined, no
-/// loop is reached, excepts and name classes keep their restrictions (RELAX NG Specification, sections 4.16, 4.18, 4.19
+/// loop is reached, excepts and name classes keep their restrictions (RELAX NG 2001, 4.16, 4.18, 4.19
 /// and 7.1.4), and all names and texts can be written again.
 #[derive(Drop)]
 pub struct Grammar {
@@ -39,8 +39,8 @@ impl Grammar {
     }
 
     /// For each member of the start, where several components are joined to a list, the index of the first member that is
-    /// the same body. It is empty where no body stands twice, and for a start of one component. Whoever looks at members
-    /// one by one need not look at a body again, however many includes bring it in.
+    /// the same body. It is empty where no body stands twice, for a start of one component, and where an index takes more
+    /// than 32 bits. Whoever looks at members one by one need not look at a body again, however many includes bring it in.
     pub fn start_firsts(&self) -> &[u32]
         ensures { AreFirsts result.now (joined_members (grammar_view self.now).start) }
     {
@@ -49,7 +49,7 @@ impl Grammar {
 
     /// For each member of the definition of that number, in the order of `defs`, where several components are joined to a list,
     /// the index of the first member that is the same body. It is empty where no body stands twice, for a definition of one
-    /// component, and for other numbers.
+    /// component, where an index takes more than 32 bits, and for other numbers.
     pub fn firsts(&self, number: usize) -> &[u32]
         ensures { (d : Text × Tree) → number < length (grammar_view self.now).definitions
             → AreFirsts result.now

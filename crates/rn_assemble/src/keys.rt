@@ -46,7 +46,7 @@ impl<'s> Keys<'s> {
         self.names.len() + 1
     }
 
-    /// The number of a name that a module defines.
+    /// The number of a name that a module defines; of any other name, that of start.
     pub fn number(&self, name: &str) -> usize
         ensures { Contains (names_of self.now) name.now
             → IsNumber (names_of self.now) name.now result }

@@ -14,8 +14,8 @@ ghost use Rattle.rn_assemble.specs.WellFormed.{IsWellFormed, HasWritableTexts};
 ghost use Rattle.rn_assemble.specs.Refusal.{Refusal, Stands, IsFirst, IsFirstFor, IsAssembled, AreModules, grammar_of};
 
 /// Components may be combined in any pairs and in any order: each combination is valid for exactly the documents of the
-/// grammar in which each name's components are joined in one list, for every table of datatypes (RELAX NG Specification,
-/// sections 4.17 and 6).
+/// grammar in which each name's components are joined in one list, for every table of datatypes (RELAX NG 2001,
+/// 4.17 and 6).
 pub fn combinations_are_valid_alike()
     ensures { (cs : List Component) (C : Grammar) → IsCombination cs C → (T : Table) (doc : Item)
         → IsValid C T doc ↔ IsValid (joined_grammar cs) T doc }

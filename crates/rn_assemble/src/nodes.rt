@@ -18,7 +18,7 @@ pub(crate) fn copy_text(alloc: Global, text: &str) -> Result<String, AllocError>
     String::from_str(alloc, text)
 }
 
-/// A value in its box. It is of any type, since a pattern that a call may give back is dear to prove.
+/// A value in its box. It is of any type, since a pattern that a call may give back is costly to prove.
 pub(crate) fn new_box<T: Drop>(alloc: Global, value: T) -> Result<Box<T>, AllocError>
     ensures { IfOk result (λ b. b.value ≡ value) }
 {

@@ -18,8 +18,9 @@ pub enum Key {
 }
 
 /// Why a set has no schema, in the order in which it is tested: the first that stands is answered (sections of RELAX NG
-/// 2001). `module` is the name of the module that is at fault, `name` that of a definition. Modules and names are compared
-/// by bytes; start stands before all names.
+/// 2001). `Encoding` to `Except` are one test: the first module by name whose text has a fault is answered, with the first of
+/// these kinds that its text has. `module` is the name of the module that is at fault, `name` that of a definition. Modules
+/// and names are compared by bytes; start stands before all names.
 #[derive(Debug, Drop, PartialEq, Eq, Error)]
 pub enum Refusal {
     /// The least module of which two contributions of the highest revision differ.
@@ -30,44 +31,43 @@ pub enum Refusal {
         /// Its highest revision.
         revision: u64,
     },
-    /// The text of the least faulty module is not UTF-8.
+    /// That module's text is not UTF-8.
     #[error("a module's text is not UTF-8")]
     Encoding {
         module: String,
     },
-    /// The text of the least faulty module holds what XML does not allow, or what is no token, white space or comment.
-    #[error("a module's text has no tokens")]
+    /// That module's text holds what XML does not allow, or what is no token, white space or comment.
+    #[error("a module's text can't be cut into tokens")]
     Lexical {
         module: String,
     },
-    /// The text of the least faulty module has more than [`rn_syntax::MAX_OPEN`] brackets open at once.
+    /// That module's text has more than [`rn_syntax::MAX_OPEN`] brackets open at once.
     #[error("a module has too many brackets open at once")]
     Deep {
         module: String,
     },
-    /// The text of the least faulty module is no module of the compact syntax.
+    /// That module's text is no module of the compact syntax.
     #[error("a module's tokens are no module")]
     Syntax {
         module: String,
     },
-    /// The least faulty module has a prefix without a declaration, or one declared twice or against its meaning, or a second
-    /// default namespace.
-    #[error("a module has a prefix that is unbound or bound wrongly")]
+    /// That module has a prefix without a declaration, or one declared twice or against its meaning, or a second default
+    /// namespace.
+    #[error("a module has a prefix that is unbound or bound wrongly, or a second default namespace")]
     Prefix {
         module: String,
     },
-    /// The least faulty module has a datatype of the empty library other than `string` and `token`, or one of these with a
-    /// parameter.
-    #[error("a module names no built-in datatype")]
+    /// That module has a datatype of the empty library other than `string` and `token`, or one of these with a parameter.
+    #[error("a module has an unknown datatype of the empty library, or gives `string` or `token` a parameter")]
     Builtin {
         module: String,
     },
-    /// The least faulty module has a value of `QName` or `NOTATION` of the XML Schema library.
+    /// That module has a value of `QName` or `NOTATION` of the XML Schema library.
     #[error("a module has a value that looks at namespace bindings")]
     ContextValue {
         module: String,
     },
-    /// The least faulty module excepts from data something else than values, data, choices of them and `notAllowed`
+    /// That module excepts from data something else than values, data, choices of them and `notAllowed`
     /// (RELAX NG 2001, 7.1.4).
     #[error("a module has a pattern that may not be excepted")]
     Except {

@@ -41,11 +41,7 @@ fn name<'t>(
 }
 
 /// Every name, or every name of a namespace.
-fn every_name<'t>(
-    alloc: Global,
-    context: Context<'_, 't>,
-    any: &'t AnyName<'_>,
-) -> Result<NameClass, AllocError>
+fn every_name<'t>(context: Context<'_, 't>, any: &'t AnyName<'_>) -> Result<NameClass, AllocError>
     ensures { InContext context.entry (λ inherited ds. IfOk result (λ c. name_class_view c
         ≡ resolve.every_name inherited ds (seen.any_view any.now))) }
 {
@@ -98,7 +94,7 @@ pub(crate) fn name_class<'t>(
 {
     match class {
         Nc::Name(given) => name(alloc, context, own, given),
-        Nc::All(any) => every_name(alloc, context, any),
+        Nc::All(any) => every_name(context, any),
         Nc::AllBut(any, except) => {
             let except = name_class(alloc, context, own, except)?;
             every_name_but(alloc, context, any, except)
@@ -279,7 +275,7 @@ fn repetition(
     }
 }
 
-/// The pattern, in its box.
+/// A written pattern with its names resolved (RELAX NG 2001, 4.8 to 4.15), in a box.
 #[cycle(pattern)]
 pub(crate) fn pattern<'t>(
     alloc: Global,
@@ -292,7 +288,7 @@ pub(crate) fn pattern<'t>(
     new_box(alloc, resolve_pattern(alloc, context, written)?)
 }
 
-/// The pattern.
+/// A written pattern with its names resolved.
 #[cycle(pattern)]
 fn resolve_pattern<'t>(
     alloc: Global,

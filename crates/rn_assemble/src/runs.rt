@@ -150,14 +150,11 @@ fn number_in(runs: &[Run], len: usize, index: usize, place: usize) -> Option<usi
     Some(run.start + (index - run.first))
 }
 
-/// The place of the run that has an index, looked for first at a place and behind it.
+/// The place of the run that has an index, looked for first behind a place.
 fn run_of(runs: &[Run], index: usize, near: usize) -> usize
     requires { HaveIndex runs.now index }
     ensures { HasIndex runs.now index result }
 {
-    if has_index(runs, index, near) {
-        return near;
-    }
     let next = near.saturating_add(1);
     if has_index(runs, index, next) {
         return next;

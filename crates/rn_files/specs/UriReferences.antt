@@ -1,4 +1,4 @@
--- What references in files stand for (RFC 3986, 5.2; XLink 1.0, 5.4; RELAX NG 4.5).
+-- What references in files stand for (RFC 3986, 5.2; XLink 1.0, 5.4; RELAX NG 2001, 4.5).
 use Rattle.std.specs.Prelude.{ℕ, ◌==◌, not, List, length, Option, Some, None, if◌then◌else◌}
 use Rattle.std.specs.List.{list_any}
 use Rattle.rn_files.specs.Escapes.{escaped_reference, has_escapes}

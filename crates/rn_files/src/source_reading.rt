@@ -292,7 +292,7 @@ fn name_files(
 
 /// The files that are asked for and all that they refer to, each one read once.
 ///
-/// A literal of an include or an external is resolved against the URI of its file (RFC 3986, section 5.2; RELAX NG 4.5), and
+/// A literal of an include or an external is resolved against the URI of its file (RFC 3986, section 5.2; RELAX NG 2001, 4.5), and
 /// leads to a file below the folder of the longest map, or at the path of a `file` URI. One file is one source, however it
 /// is spelled; its URI is the first one that leads to it.
 ///

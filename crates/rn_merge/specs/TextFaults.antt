@@ -1,4 +1,4 @@
--- The fault of a module text and its place (RELAX NG Compact Syntax, 2 and appendix A).
+-- The fault of a module text and its place (RELAX NG Compact Syntax, 2, 3 and appendix A).
 use Rattle.std.specs.Prelude.{◌≡◌, ℕ, List, Option, Some, None, map}
 use Rattle.std.specs.Str.{IsUtf8, chars}
 use Rattle.rn_text.specs.Tokens.{HasTokens, HasFault, lexeme_of}
@@ -7,7 +7,7 @@ use Rattle.rn_text.specs.declared.source.TextFault.TheVariants as reading
 use Rattle.rn_syntax.specs.declared.fault.FaultKind.{FaultKind}
 use Rattle.rn_syntax.specs.declared.fault.FaultKind.TheVariants as kind
 use Rattle.rn_syntax.specs.declared.fault.SyntaxFault.{SyntaxFault}
-use Rattle.rn_syntax.specs.Fault.{HasTree}
+use Rattle.rn_syntax.specs.Beginnings.{HasTree}
 use Rattle.rn_syntax.specs.Faults as parsing
 use Rattle.rn_syntax.specs.Faults.{HasNoFault, IsFault}
 use Rattle.rn_syntax.specs.Places.{deep}

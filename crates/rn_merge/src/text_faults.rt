@@ -30,10 +30,10 @@ pub enum Place {
     #[error("Prefix {at}")]
     Prefix { at: usize },
     /// A datatype of the empty library other than `string` and `token`, or one of these with a
-    /// parameter.
+    /// parameter: the start of its name.
     #[error("Builtin {at}")]
     Builtin { at: usize },
-    /// A value of `QName` or `NOTATION` of the XML Schema library.
+    /// A value of `QName` or `NOTATION` of the XML Schema library: the start of that name.
     #[error("ContextValue {at}")]
     ContextValue { at: usize },
     /// The `-` behind which something else than values, data, choices of them and `notAllowed`
@@ -108,7 +108,7 @@ impl From<SyntaxFault> for Place {
     }
 }
 
-/// The first fault of a module text of any length (RELAX NG Compact Syntax, 2 and 3): of its bytes,
+/// The first fault of a module text of any length (RELAX NG Compact Syntax, 2, 3 and appendix A): of its bytes,
 /// its tokens, and then its grammar. `Memory` where a request for memory was refused before a fault
 /// was found.
 pub fn check(alloc: Global, text: &[u8]) -> Result<(), Place>

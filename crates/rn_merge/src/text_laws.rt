@@ -1,4 +1,4 @@
-// Laws of module texts. The functions have no bodies: their contracts are what is proved.
+// Laws of module texts. The functions have empty bodies: their contracts are what is proved.
 ghost use Rattle.std.specs.Prelude.{◌≡◌, ◌≢◌, ℕ, List, Some, IfSome};
 ghost use Rattle.rn_syntax.specs.declared.fault.FaultKind.{FaultKind};
 ghost use Rattle.rn_assemble.specs.Refusal.{HasTextFault, IsFirstFault};

@@ -14,7 +14,7 @@ use std::alloc::Global;
 /// `Memory` stands for want of memory alone.
 ///
 /// A text is read back as a module that is valid for exactly the documents of the set's
-/// definitions, combined in any pairs and any order (RELAX NG Specification, section 4.17). No
+/// definitions, combined in any pairs and any order (RELAX NG 2001, 4.17). No
 /// refusal stands for its set, so no name is defined plainly twice there, or combined by both
 /// methods. Merged as the one effective module of a set, or as a contribution alone, under any
 /// name, it is answered again.

@@ -7,7 +7,7 @@ use crate::text_faults::Place;
 use clap::error::ErrorKind;
 use clap::{Arg, ArgAction, ArgMatches, Command};
 use rn_assemble::Refusal;
-use rn_modset::{AddFault, BundleFault, number};
+use rn_modset::{AddFault, BundleFault, parse_decimal};
 use std::alloc::{AllocError, Global};
 use thiserror::Error;
 
@@ -74,10 +74,10 @@ pub enum ProgramFault {
     /// The words have the form of no command.
     #[error("usage")]
     Usage,
-    /// The word for the revision is none.
+    /// The word for the revision is no decimal number below 2^64 without sign and leading zeros.
     #[error("usage: REV")]
     Rev,
-    /// `-` is given twice.
+    /// `-` is given more than once.
     #[error("usage: -")]
     Dash,
     /// The file of this number can't be read.
@@ -186,7 +186,7 @@ fn command<'a>(alloc: Global, name: &'a str, words: &[&'a str]) -> Result<Comman
     Ok(command)
 }
 
-/// The word of a command at a place, which may be several files at the last.
+/// The argument of a command that is called `word`; `FILE..` takes one or more.
 fn argument<'a>(alloc: Global, word: &'a str) -> Arg<'a> {
     let argument = Arg::new(alloc, word).required(true);
     if word == FILES {
@@ -237,7 +237,7 @@ fn word(alloc: Global, words: &ArgMatches<'_>, place: &str) -> Result<String, Pr
 /// The word `REV` as a number: its decimal digits without sign and leading zeros, below 2^64.
 fn revision(words: &ArgMatches<'_>) -> Result<u64, ProgramFault> {
     match words.get_str("REV") {
-        Some(word) => number(word.as_bytes()).ok_or(ProgramFault::Rev),
+        Some(word) => parse_decimal(word.as_bytes()).ok_or(ProgramFault::Rev),
         None => Err(ProgramFault::Usage),
     }
 }

@@ -1,4 +1,4 @@
--- The limits of a set. Nothing else states these numbers: definitions and contracts cite them by name.
+-- The limits of a set. Definitions and contracts cite them by name; constants of the code have the same numbers, as is proved where they are used.
 use Rattle.std.specs.Prelude.{ℕ}
 
 -- the most bytes that a module's name has

@@ -7,7 +7,7 @@ ghost use Rattle.rn_modset.specs.Grammar.{IsDigest, is_lower_hex};
 ghost use Rattle.rn_modset.specs.inside.Headers.{header_view, MayStand, IsNoHeader, AreNoTextFields, IsNoWithdrawalField};
 
 use crate::contribution::MAX_TEXT;
-use crate::fields::{number, split_at_byte};
+use crate::fields::{parse_decimal, split_at_byte};
 use crate::names::is_module_name;
 
 /// What a header line says.
@@ -69,8 +69,8 @@ fn text_header<'a>(name: &'a str, fields: &'a [u8]) -> Option<HeaderLine<'a>>
 {
     let (revision, fields) = split_at_byte(fields, b' ')?;
     let (len, digest) = split_at_byte(fields, b' ')?;
-    let revision = number(revision)?;
-    let len = number(len)?;
+    let revision = parse_decimal(revision)?;
+    let len = parse_decimal(len)?;
     if len > MAX_TEXT as u64 || !is_digest(digest) {
         return None;
     }
@@ -89,7 +89,7 @@ fn withdrawal_header<'a>(name: &'a str, field: &'a [u8]) -> Option<HeaderLine<'a
         (λ h. (codes "withdrawn" ++ 32 ∷ (name.now ++ 32 ∷ field.now) ≡ header_line (header_view h))
         × MayStand true (header_view h)) }
 {
-    let revision = number(field)?;
+    let revision = parse_decimal(field)?;
     Some(HeaderLine::Withdrawal { name, revision })
 }
 

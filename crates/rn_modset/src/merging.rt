@@ -1,4 +1,4 @@
-// The union of two lists that rise, in time linear in both.
+// The union of two lists that rise, in time linear in the bytes of both.
 ghost use Rattle.std.specs.Prelude.{◌≡◌, ◌+◌, ◌<◌, ◌≤◌, [], length, true, false, IfOk, MatchOption, MatchBool, vec_len};
 ghost use Rattle.rn_modset.specs.Contributions.{member, members_of};
 ghost use Rattle.rn_modset.specs.Sets.{Rises, has, missing, union};

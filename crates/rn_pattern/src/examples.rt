@@ -1,5 +1,5 @@
 //! What the definitions mean, by examples: laws whose clauses are documents that are valid and documents that are not
-//! (RELAX NG Specification, section 6), items that are no documents (section 2), and name classes that may stand or not
+//! (RELAX NG 2001, 6), items that are no documents (section 2), and name classes that may stand or not
 //! (section 4.16). `Accepts` and `Rejects` also say that the example is a document.
 ghost use Rattle.std.specs.Prelude.{[], ◌∷◌, codes};
 ghost use Rattle.rn_pattern.specs.Tree.{any_name, any_name_but, ns_name, ns_name_but, name, attribute, element, empty, list, text};

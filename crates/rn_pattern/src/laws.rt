@@ -24,7 +24,7 @@ use crate::pattern_store::Patterns;
 use crate::plain::Plain;
 
 /// Each canonical step gives a pattern that matches exactly what the node over its parts matches, in every grammar, for
-/// every table of datatypes, at every depth of references (RELAX NG Specification, sections 4.20, 4.21 and 6.2).
+/// every table of datatypes, at every depth of references (RELAX NG 2001, 4.20, 4.21 and 6.2).
 pub fn canonical_steps_keep_matching()
     ensures of_choice { (ps : List Tree) → MatchAlike (choice (trees_of ps)) (choice_step ps) }
     ensures of_group { (ps : List Tree) → MatchAlike (group (trees_of ps)) (group_step ps) }

@@ -6,7 +6,7 @@ use Rattle.rn_pattern.specs.Reached.{IsCanonicalOf}
 use Rattle.rn_modset.specs.Contributions.{Member}
 use Rattle.rn_syntax.specs.Grammar.{Tokens}
 use Rattle.rn_syntax.specs.Tree as t
-use Rattle.rn_syntax.specs.Fault.{HasTree}
+use Rattle.rn_syntax.specs.Beginnings.{HasTree}
 use Rattle.rn_assemble.specs.Refusal.{Refusal, IsFirst}
 use Rattle.rn_assemble.proofs.Refusals.OneSet.{first_of_set, one_assembled}
 use Rattle.rn_simplify.specs.Spelling.{spelling}

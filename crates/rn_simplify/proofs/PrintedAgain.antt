@@ -14,7 +14,7 @@ use Rattle.rn_modset.specs.Modules as effective
 use Rattle.rn_syntax.specs.Grammar.{Tokens}
 use Rattle.rn_syntax.specs.Tree as t
 use Rattle.rn_syntax.specs.Tokens.{terminals}
-use Rattle.rn_syntax.specs.Fault.{HasTree}
+use Rattle.rn_syntax.specs.Beginnings.{HasTree}
 use Rattle.rn_syntax.specs.Places.{deep}
 use Rattle.rn_syntax.specs.Faults.{kind_places}
 use Rattle.rn_syntax.specs.declared.fault.FaultKind.{FaultKind}

@@ -1,4 +1,4 @@
-// The canonical form of a body, each of whose members is brought into its form once (RELAX NG, 4.17, 4.20 and 4.21).
+// The canonical form of a body, each of whose members is brought into its form once (RELAX NG 2001, 4.17, 4.20 and 4.21).
 ghost use Rattle.std.specs.Prelude.{◌≡◌, ◌<◌, All, IfOk, IsTrue, length, map, slice_index_or, take};
 ghost use Rattle.rn_pattern.specs.Canonical as form;
 ghost use Rattle.rn_pattern.specs.Canonical.{canonical_all, choice_step, interleave_step};

@@ -1,4 +1,4 @@
-// The kinds of lists of patterns (RELAX NG, 4.12).
+// The kinds of lists of patterns (RELAX NG 2001, 4.12).
 ghost use Rattle.std.specs.Prelude.{◌≡◌, All, IfOk, IsTrue, map};
 ghost use Rattle.rn_pattern.specs.Store.{KeepsIds, StandsFor};
 ghost use Rattle.rn_pattern.specs.View.{pattern_view, shared_view};

@@ -136,7 +136,7 @@ fn write_chain(
     }
 }
 
-/// Writes an interleave, which is mixed if one of its members is text.
+/// Writes an interleave, which is mixed if its first member is text.
 #[cycle(pattern)]
 fn write_interleave(writer: &mut Writer, prefixes: &Prefixes, members: &[Rc<Pattern>])
     ensures { Writes (written_interleave
@@ -168,7 +168,7 @@ fn write_mixed(writer: &mut Writer, prefixes: &Prefixes, members: &[Rc<Pattern>]
     }
 }
 
-/// Writes a choice, which has a postfix if one of its members is empty.
+/// Writes a choice, which has a postfix if its first member is `empty`.
 #[cycle(pattern)]
 fn write_choice(writer: &mut Writer, prefixes: &Prefixes, members: &[Rc<Pattern>])
     ensures { Writes (written_choice

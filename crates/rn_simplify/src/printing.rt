@@ -17,7 +17,7 @@ use std::alloc::Global;
 
 /// The one text of a canonical grammar: the declarations of its prefixes, its start, and its definitions in the order of their names, each on a line of its own.
 /// `OutputTooLarge` where the text would have more than [`rn_modset::MAX_TEXT`] bytes, else `OutputTooDeep` where more than [`rn_syntax::MAX_OPEN`] of its brackets would be open at once;
-/// brackets in literals don't count. A text is read back as the grammar, its `?`, `*` and `mixed` opened (compact syntax, section 2; RELAX NG Specification, sections 4.13 to 4.15).
+/// brackets in literals don't count. A text is read back as the grammar, its `?`, `*` and `mixed` opened (compact syntax, section 2; RELAX NG 2001, 4.13 to 4.15).
 pub fn print(alloc: Global, normal: &Normal) -> Result<String, Refusal>
     ensures ok { IfOk result (λ text. IsPrinted (normal_view normal.now) (string_bytes text)) }
     ensures err { IfErr result (IsUnprinted (normal_view normal.now)) }

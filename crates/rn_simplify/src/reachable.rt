@@ -1,4 +1,4 @@
-// The definitions that are reached through canonical forms (RELAX NG, 4.19).
+// The definitions that are reached through canonical forms (RELAX NG 2001, 4.19).
 ghost use Rattle.std.specs.Prelude.{◌≡◌, IfOk, drop, length, map, bytes_eq};
 ghost use Rattle.std.specs.List.{IsDistinct};
 ghost use Rattle.std.specs.Slice.Iter.{iter_rest};

@@ -1,4 +1,4 @@
-// The references of a pattern, as the numbers of the definitions in their order (RELAX NG, 4.18 and 4.19).
+// The references of a pattern, as the numbers of the definitions in their order (RELAX NG 2001, 4.18 and 4.19).
 ghost use Rattle.std.specs.Prelude.{◌≡◌, ◌∷◌, ◌++◌, [], IfOk, OnOk, map};
 ghost use Rattle.rn_assemble.specs.GrammarView.{definitions_view};
 ghost use Rattle.rn_pattern.specs.Tree.{trees_of};

@@ -1,4 +1,4 @@
-// Members of a list to which components are joined that stand in it before (RELAX NG, 4.17).
+// Members of a list to which components are joined that stand in it before (RELAX NG 2001, 4.17).
 ghost use Rattle.std.specs.Prelude.{◌≡◌, ◌≤◌, ◌<◌, IfOk, IfSome, List, Some, map, slice_get, slice_index_or};
 ghost use Rattle.rn_assemble.specs.Firsts.{AreFirsts};
 ghost use Rattle.rn_pattern.specs.Tree.{Tree};

@@ -1,4 +1,4 @@
-// The definitions of a grammar in an order in which each comes after those that it refers to outside elements (RELAX NG, 4.19).
+// The definitions of a grammar in an order in which each comes after those that it refers to outside elements (RELAX NG 2001, 4.19).
 ghost use Rattle.std.specs.Prelude.{◌≡◌, ◌<◌, IfOk, length, slice_index_or, string_bytes};
 ghost use Rattle.rn_pattern.specs.Graph.{AllBelow, IsGraph, row, rows_of};
 ghost use Rattle.rn_pattern.specs.Ranks.{HasNoLoop, IsRanking};

@@ -38,7 +38,7 @@ pub(crate) fn begins_with_text(members: &[Rc<Pattern>]) -> bool
     }
 }
 
-/// The shape of an interleave, which is mixed if one of its members is text.
+/// The shape of an interleave, which is mixed if its first member is text.
 fn shape_of_interleave(members: &[Rc<Pattern>]) -> Shape
     ensures { (f : Prefixes) → shape_view result
         ≡ (written_interleave (rows_of f members.now)).shape }
@@ -50,7 +50,7 @@ fn shape_of_interleave(members: &[Rc<Pattern>]) -> Shape
     }
 }
 
-/// The shape of a choice, which has a postfix if one of its members is empty.
+/// The shape of a choice, which has a postfix if its first member is `empty`.
 fn shape_of_choice(members: &[Rc<Pattern>]) -> Shape
     ensures { (f : Prefixes) → shape_view result ≡ (written_choice (rows_of f members.now)).shape }
 {

@@ -1,4 +1,4 @@
-// The canonical form of a pattern, built in a store (RELAX NG, 4.20 and 4.21).
+// The canonical form of a pattern, built in a store (RELAX NG 2001, 4.20 and 4.21).
 ghost use Rattle.std.specs.Prelude.{◌≡◌, ◌++◌, ◌∷◌, [], All, IfOk, IsSome, IsTrue, OnOk, Some, map};
 ghost use Rattle.std.specs.Option.{option_map};
 ghost use Rattle.rn_pattern.specs.Canonical as form;

@@ -1,4 +1,4 @@
-// The canonical form of a pattern, made as a tree that shares with the pattern what stays the same (RELAX NG, 4.20 and 4.21).
+// The canonical form of a pattern, made as a tree that shares with the pattern what stays the same (RELAX NG 2001, 4.20 and 4.21).
 ghost use Rattle.std.specs.Prelude.{◌≡◌, ◌++◌, ◌∷◌, [], IfOk, IsSome, IsTrue, OnOk, Some, if◌then◌else◌, map};
 ghost use Rattle.std.specs.Option.{option_map};
 ghost use Rattle.rn_pattern.specs.Canonical as form;

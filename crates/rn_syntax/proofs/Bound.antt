@@ -106,11 +106,6 @@ at_map f [] i x e = refl
 at_map f (y ∷ xs) zero x e = ap f (sym e)
 at_map f (y ∷ xs) (suc i) x e = at_map f xs i x e
 
--- whether a library is a given one has nothing to do with the declarations
-pub same_library : (ds es : List Declaration) (o : Option (List ℕ)) (s : List ℕ) → is_library ds o s ≡ is_library es o s
-same_library ds es None s = refl
-same_library ds es (Some l) s = refl
-
 -- the first wrong place, with those of one declaration more
 pub wrong_more : (all w w' : Option ℕ) (a b : List ℕ) → all ≡ (if is_some w then w else first (a ++ b)) → w' ≡ (if is_some w then w else first a) → all ≡ (if is_some w' then w' else first b)
 wrong_more all (Some i) w' a b e f = cc

@@ -15,7 +15,7 @@ use std::collections::BTreeMap;
 /// The namespace of prefix `xml` (Namespaces in XML, section 3).
 pub const XML_URI: &str = "http://www.w3.org/XML/1998/namespace";
 
-/// The library of datatype prefix `xsd` (RELAX NG Compact Syntax, section 2, decl).
+/// The library of datatype prefix `xsd` (RELAX NG Compact Syntax, 2, decl).
 pub const XSD_URI: &str = "http://www.w3.org/2001/XMLSchema-datatypes";
 
 /// What the declarations of a module bind: the default namespace, namespace prefixes and datatype prefixes, each by the first
@@ -64,7 +64,8 @@ impl<'m, 'a> Bindings<'m, 'a> {
         self.default
     }
 
-    /// The number of the first declaration that binds the namespace prefix, if one does. `xml` is bound without.
+    /// The number of the first declaration that binds the namespace prefix, if one does. `xml` is bound without
+    /// a declaration, so for it the answer may be `None`.
     pub fn namespace(&self, prefix: &str) -> Option<usize>
         ensures number { result
             ≡ places.number_of (places.binds_namespace prefix.now) (bound self.now) }
@@ -75,7 +76,8 @@ impl<'m, 'a> Bindings<'m, 'a> {
         self.namespaces.get(prefix).copied()
     }
 
-    /// The number of the first declaration that binds the datatype prefix, if one does. `xsd` is bound without.
+    /// The number of the first declaration that binds the datatype prefix, if one does. `xsd` is bound without
+    /// a declaration, so for it the answer may be `None`.
     pub fn library(&self, prefix: &str) -> Option<usize>
         ensures number { result
             ≡ places.number_of (places.binds_library prefix.now) (bound self.now) }
@@ -109,7 +111,7 @@ impl<'m, 'a> Bindings<'m, 'a> {
 
     /// Whether the datatype prefix is bound to this library.
     pub(crate) fn is_library(&self, prefix: &str, uri: &str) -> bool
-        ensures { result ≡ places.is_library (bound self.now)
+        ensures { result ≡ places.is_library
             (places.library_of (bound self.now) prefix.now) uri.now }
     {
         if prefix == "xsd" {
@@ -124,7 +126,7 @@ impl<'m, 'a> Bindings<'m, 'a> {
 
     /// Whether the prefix is bound to the library of XML Schema.
     pub(crate) fn is_xml_schema(&self, prefix: &str) -> bool
-        ensures { result ≡ places.is_library (bound self.now)
+        ensures { result ≡ places.is_library
             (places.library_of (bound self.now) prefix.now) places.xsd_uri }
     {
         self.is_library(prefix, XSD_URI)
@@ -226,7 +228,7 @@ fn with_default(
 
 /// Whether the declaration is of this datatype library.
 fn is_library(declaration: &Declaration<'_>, uri: &str) -> bool
-    ensures { result ≡ places.is_library []
+    ensures { result ≡ places.is_library
         (library_text (declaration_view declaration.now)) uri.now }
 {
     match declaration {

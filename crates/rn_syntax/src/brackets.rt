@@ -37,7 +37,7 @@ fn open_behind(depth: usize, terminal: Terminal<'_>) -> Option<usize>
     }
 }
 
-/// The same behind a token.
+/// How many brackets are open behind a token, unless there are too many.
 fn open_behind_token(depth: usize, token: Token<'_>) -> Option<usize>
     requires { depth ≤ max_open }
     ensures bound { MatchOption result (depth ≡ max_open) (λ n. n ≤ max_open) }

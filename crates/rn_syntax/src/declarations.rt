@@ -1,7 +1,7 @@
 // Declarations of prefixes (compact syntax, section 2, decl).
 ghost use Rattle.std.specs.Prelude.{◌≡◌, ◌≤◌, ◌<◌, length, map, IfOk, IsTrue};
 ghost use Rattle.rn_syntax.specs.inside.Declaring.{IsDatatypesEnd, IsDefaultEnd, IsNamespaceEnd, MayHaveDefaultPrefix};
-ghost use Rattle.rn_syntax.specs.inside.Follow.{Starts, Anything, begins_declaration, begins_item, first_terminal, no_tilde, no_word};
+ghost use Rattle.rn_syntax.specs.inside.Follow.{Starts, Anything, begins_declaration, behind_item, first_terminal, no_tilde, no_word};
 ghost use Rattle.rn_syntax.specs.Grammar.{AreDeclarations, IsDeclaration, IsUri};
 ghost use Rattle.rn_text.specs.Reading.{GoesOn, MayGoOn};
 ghost use Rattle.rn_syntax.specs.inside.Reading.{Reads, ReadsOne, rest};
@@ -21,7 +21,7 @@ pub(crate) fn declarations<'a>(
     tokens: &[Token<'a>],
 ) -> Result<(Vec<Declaration<'a>>, usize), Fault>
     ensures inside { IfOk result (λ r. r.1 ≤ length tokens.now) }
-    ensures reads { Reads AreDeclarations (Starts begins_item)
+    ensures reads { Reads AreDeclarations (Starts behind_item)
         (λ v. map declaration_view v.items) tokens.now 0 result }
 {
     let mut declarations = Vec::new(alloc);

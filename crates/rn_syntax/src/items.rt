@@ -1,9 +1,9 @@
 // The items of a grammar, and those of an include (compact syntax, section 2, grammarContent and includeContent).
 ghost use Rattle.std.specs.Prelude.{◌≡◌, ◌≤◌, ◌<◌, length, map, IfOk, IsTrue};
 ghost use Rattle.std.specs.Cow.{cow_str_bytes};
-ghost use Rattle.rn_syntax.specs.inside.Follow.{Anything, Starts, begins_item, behind_pattern, first_terminal, is_end, no_brace, no_inherit};
+ghost use Rattle.rn_syntax.specs.inside.Follow.{Anything, Starts, behind_item, behind_pattern, first_terminal, is_end, no_brace, no_inherit};
 ghost use Rattle.rn_syntax.specs.Grammar.{AreInnerItems, AreItems, IsComponent, MayInherit, MayHaveOverrides};
-ghost use Rattle.rn_syntax.specs.inside.Including.{AreItemsBehind, IsDivEnd, IsIncludeEnd, IsInnerItem, IsInnerDivEnd, IsItem, opens_inner, opens_item};
+ghost use Rattle.rn_syntax.specs.inside.Including.{AreItemsBehind, IsDivEnd, IsIncludeEnd, IsInnerItem, IsInnerDivEnd, IsItem, begins_inner, begins_item};
 ghost use Rattle.rn_text.specs.Reading.{GoesOn, MayGoOn};
 ghost use Rattle.rn_syntax.specs.inside.Reading.{Reads, rest};
 ghost use Rattle.rn_syntax.specs.Tree as tree;
@@ -62,7 +62,7 @@ fn inclusion<'a>(
 /// Whether an item begins here, or a note.
 fn begins_item(tokens: &[Token<'_>], at: usize) -> bool
     ensures inside { IsTrue result → at < length tokens.now }
-    ensures is { result ≡ opens_item (first_terminal (rest tokens.now at)) }
+    ensures is { result ≡ begins_item (first_terminal (rest tokens.now at)) }
 {
     match next(tokens, at) {
         Terminal::LeftBracket | Terminal::Ident(_) | Terminal::Prefixed(_) => true,
@@ -89,7 +89,7 @@ pub(crate) fn items<'a>(
     items_behind(alloc, tokens, at, Vec::new(alloc))
 }
 
-/// The same behind items that were read already.
+/// `item*`, added to the items that were read already.
 #[cycle(items)]
 pub(crate) fn items_behind<'a>(
     alloc: Global,
@@ -126,7 +126,7 @@ pub(crate) fn item<'a>(
 ) -> Result<(Item<'a>, usize), Fault>
     requires { at ≤ length tokens.now }
     ensures inside { GoesOn at (length tokens.now) result }
-    ensures reads { Reads IsItem (Starts begins_item) item_view tokens.now at result }
+    ensures reads { Reads IsItem (Starts behind_item) item_view tokens.now at result }
 {
     match next(tokens, at) {
         Terminal::Keyword(keyword) => match keyword {
@@ -179,7 +179,7 @@ fn div<'a>(alloc: Global, tokens: &[Token<'a>], at: usize) -> Result<(Item<'a>, 
 fn include<'a>(alloc: Global, tokens: &[Token<'a>], at: usize) -> Result<(Item<'a>, usize), Fault>
     requires { at ≤ length tokens.now }
     ensures inside { GoesOn at (length tokens.now) result }
-    ensures reads { Reads IsIncludeEnd (Starts begins_item) item_view tokens.now at result }
+    ensures reads { Reads IsIncludeEnd (Starts behind_item) item_view tokens.now at result }
 {
     let (wanted, behind) = literal(alloc, tokens, at)?;
     let (inherit, own) = inherit(tokens, behind)?;
@@ -224,7 +224,7 @@ fn overrides<'a>(
 /// Whether an inner item begins here, or a note.
 fn begins_inner(tokens: &[Token<'_>], at: usize) -> bool
     ensures inside { IsTrue result → at < length tokens.now }
-    ensures is { result ≡ opens_inner (first_terminal (rest tokens.now at)) }
+    ensures is { result ≡ begins_inner (first_terminal (rest tokens.now at)) }
 {
     match next(tokens, at) {
         Terminal::LeftBracket | Terminal::Ident(_) | Terminal::Prefixed(_) => true,
@@ -272,7 +272,7 @@ fn inner_item<'a>(
 ) -> Result<(Item<'a>, usize), Fault>
     requires { at ≤ length tokens.now }
     ensures inside { GoesOn at (length tokens.now) result }
-    ensures reads { Reads IsInnerItem (Starts begins_item) item_view tokens.now at result }
+    ensures reads { Reads IsInnerItem (Starts behind_item) item_view tokens.now at result }
 {
     match next(tokens, at) {
         Terminal::Keyword(keyword) => match keyword {

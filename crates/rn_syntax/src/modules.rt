@@ -1,7 +1,7 @@
 // Modules (compact syntax, section 2, topLevel).
 ghost use Rattle.std.specs.Prelude.{◌≤◌, ◌<◌, length, map, IfErr, IfOk};
 ghost use Rattle.rn_text.specs.Tokens.{lexeme_of};
-ghost use Rattle.rn_syntax.specs.Fault.{HasTree};
+ghost use Rattle.rn_syntax.specs.Beginnings.{HasTree};
 ghost use Rattle.rn_syntax.specs.inside.Follow.{Starts, is_end};
 ghost use Rattle.rn_syntax.specs.inside.Itemizing.{AreAnnotatedItems};
 ghost use Rattle.rn_syntax.specs.inside.Modular.{IsAnnotatedBody, IsBody, IsGrammarEnd, IsModuleFault};
@@ -50,7 +50,7 @@ fn body<'a>(alloc: Global, tokens: &[Token<'a>], at: usize) -> Result<(Vec<Item<
     items(alloc, tokens, at)
 }
 
-/// The same behind an annotation.
+/// A module's body behind an annotation.
 fn annotated_body<'a>(
     alloc: Global,
     tokens: &[Token<'a>],

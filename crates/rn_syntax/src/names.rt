@@ -19,19 +19,19 @@ use crate::tree::{AnyName, Name, Nc, Prefix};
 use rn_text::Token;
 use std::alloc::{AllocError, Global};
 
-fn one(alloc: Global, name: Name<'_>, end: usize) -> Result<(Box<Nc<'_>>, usize), Fault>
+fn single_name(alloc: Global, name: Name<'_>, end: usize) -> Result<(Box<Nc<'_>>, usize), Fault>
     ensures { Makes boxed_class_view (tree.name (name_view name.entry)) end result }
 {
     boxed(alloc, Nc::Name(name), end)
 }
 
-fn all(alloc: Global, any: AnyName<'_>, end: usize) -> Result<(Box<Nc<'_>>, usize), Fault>
+fn all_names(alloc: Global, any: AnyName<'_>, end: usize) -> Result<(Box<Nc<'_>>, usize), Fault>
     ensures { Makes boxed_class_view (tree.all (any_view any.entry)) end result }
 {
     boxed(alloc, Nc::All(any), end)
 }
 
-fn all_but<'a>(
+fn all_names_but<'a>(
     alloc: Global,
     any: AnyName<'a>,
     except: Box<Nc<'a>>,
@@ -119,7 +119,7 @@ fn any_class<'a>(
         (Starts behind_name) boxed_class_view tokens.now at result }
 {
     let end = skip_follows(tokens, at)?;
-    all(alloc, any, end)
+    all_names(alloc, any, end)
 }
 
 /// `ncoperand = ncprimary | [ann] ( "*" | AnyOf ) "-" ncprimary`. Most are words, which are asked for first.
@@ -160,7 +160,7 @@ fn any_class_operand<'a>(
         return any_class(alloc, tokens, body + 1, any);
     };
     let (except, end) = class_primary(alloc, tokens, body + 2)?;
-    all_but(alloc, any, except, end)
+    all_names_but(alloc, any, except, end)
 }
 
 /// `ncprimary = [ann] ( word | Prefixed | "*" | AnyOf | "(" nc ")" ) follow*`
@@ -212,17 +212,17 @@ fn class_core<'a>(
     ensures reads { Reads IsClassCore Anything boxed_class_view tokens.now at result }
 {
     match next(tokens, at) {
-        Terminal::Ident(name) => one(alloc, Name::Local(name), at + 1),
+        Terminal::Ident(name) => single_name(alloc, Name::Local(name), at + 1),
         Terminal::Keyword(keyword) => {
             let name = keyword_text(tokens, at, keyword);
-            one(alloc, Name::Local(name), at + 1)
+            single_name(alloc, Name::Local(name), at + 1)
         }
         Terminal::Prefixed(text) => {
             let prefix = Prefix {
                 name: prefix_name(text),
                 at: place(tokens, at),
             };
-            one(alloc, Name::Prefixed(prefix, local_name(text)), at + 1)
+            single_name(alloc, Name::Prefixed(prefix, local_name(text)), at + 1)
         }
         Terminal::LeftParen => {
             let (class, end) = name_class(alloc, tokens, at + 1)?;

@@ -3,7 +3,7 @@ ghost use Rattle.std.specs.Prelude.{◌≡◌, [], None, IfOk, IfErr, IsTrue, On
 ghost use Rattle.rn_text.specs.Tokens.{lexeme_of};
 ghost use Rattle.rn_syntax.specs.Tokens.{terminals};
 ghost use Rattle.rn_syntax.specs.Places.{deep, first, declarations_places, prefix_places, builtin_places, context_places, except_places};
-ghost use Rattle.rn_syntax.specs.Fault.{HasTree};
+ghost use Rattle.rn_syntax.specs.Beginnings.{HasTree};
 ghost use Rattle.rn_syntax.specs.Faults.{HasModuleFault, HasNoFault, IsFault};
 ghost use Rattle.rn_syntax.specs.inside.Stopping.{IsSyntax};
 ghost use Rattle.rn_syntax.specs.Spelled.{AreSpelled};
@@ -127,7 +127,7 @@ fn bound_fault(
     items_fault(bindings, module)
 }
 
-/// The same of a module whose declarations aren't bound yet.
+/// The first fault of a module that its grammar leaves open, if it has one; its declarations are bound here.
 fn fault(alloc: Global, module: &Module<'_>) -> Result<Option<SyntaxFault>, AllocError>
     ensures { IfOk result (λ found. MatchOption found (HasNoFault (module_view «module».now))
         (HasModuleFault (module_view «module».now))) }

@@ -160,7 +160,7 @@ impl Rule {
         }
     }
 
-    /// The same of the datatype of a value.
+    /// The first place in the datatype of a value that breaks the rule.
     #[tactic(auto, using(crate::proofs::FaultPlaces::FirstPlaces::first_append), unfolding(crate::specs::inside::Rules::datatypes))]
     pub(crate) fn value(self, bindings: &Bindings<'_, '_>, datatype: Datatype<'_>) -> Option<usize>
         ensures { result ≡ first (rules.datatypes (bound bindings.now) self true
@@ -177,7 +177,7 @@ impl Rule {
         }
     }
 
-    /// The same of the datatype of data.
+    /// The first place in the datatype of data that breaks the rule.
     #[tactic(auto, using(crate::proofs::FaultPlaces::FirstPlaces::first_append, crate::proofs::FaultPlaces::FirstPlaces::first_behind), unfolding(crate::specs::inside::Rules::datatypes))]
     pub(crate) fn data(
         self,
@@ -198,7 +198,7 @@ impl Rule {
         }
     }
 
-    /// The same of what is excepted behind the `-` at this place.
+    /// The first place of an except, behind the `-` at this place, that breaks the rule.
     #[tactic(auto, unfolding(crate::specs::inside::Rules::excepts))]
     pub(crate) fn except(self, at: usize, excepted: &Pat<'_>) -> Option<usize>
         ensures { result ≡ first (rules.excepts self at (pattern_view excepted.now)) }
@@ -209,7 +209,7 @@ impl Rule {
         }
     }
 
-    /// The same of the prefix behind `inherit =`.
+    /// The place of the prefix behind `inherit =`, if it breaks the rule.
     #[tactic(auto, unfolding(crate::specs::inside::Rules::inherits))]
     pub(crate) fn inherit(
         self,

@@ -93,7 +93,7 @@ pub(crate) fn symbol(text: &str) -> Terminal<'_>
     }
 }
 
-/// The prefix at the front of a name with one, and of `:*` with one.
+/// The prefix of a prefixed name or of `prefix:*`.
 pub(crate) fn prefix_name(text: &str) -> &str
     ensures { result.now ≡ encode_utf8_all (run_of is_name_char (chars text.now)) }
 {

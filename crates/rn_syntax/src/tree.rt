@@ -37,7 +37,7 @@ pub enum Nc<'a> {
     Name(Name<'a>),
     /// All names, or all of a namespace.
     All(AnyName<'a>),
-    /// The same without what is behind the `-`.
+    /// All names, or all of a namespace, but those of the class behind the `-`.
     AllBut(AnyName<'a>, Box<Nc<'a>>),
     /// Two or more, in the order of the text.
     Choice(Vec<Nc<'a>>),

@@ -32,7 +32,7 @@ fn before_three(text: &str, c: char) -> Option<&str>
     before_char(before_char(before_char(text, c)?, c)?, c)
 }
 
-/// What stands between the delimiters of a segment.
+/// What stands between the delimiters of a segment; `None` where the text isn't delimited so.
 pub fn between_delimiters(segment: &str) -> Option<&str>
     ensures cases { MatchOption result (is_delimited (chars segment.now) ≡ false)
         (λ r. chars r.now ≡ between_delimiters (chars segment.now)) }

@@ -87,6 +87,7 @@ fn without_mark(text: &str) -> &str
 
 /// The tokens of a source, in order (RELAX NG Compact Syntax, 2 and appendix A). Each is as long as it
 /// can be; white space and comments stand between them, and a byte order mark may stand before all.
+/// An escape `\x{..}` is read within a literal alone, though the standard has it stand anywhere.
 /// The source is refused where it is not UTF-8, then at its first character that XML does not have,
 /// then at the first place where no token can be read, and wherever memory is.
 pub fn tokens<'a>(alloc: Global, src: &'a [u8]) -> Result<Vec<Token<'a>>, TextFault>

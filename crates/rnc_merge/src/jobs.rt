@@ -9,8 +9,8 @@ use rn_merge::{
 use rn_modset::{Contribution, ModuleSet, write_bundle};
 use std::alloc::Global;
 
-/// Reads all files of a job, does it, and writes what it gives. At a fault of the words, the files
-/// or the input nothing is written; at `Write` the sink took a front of what the job gives.
+/// Reads all files of a job, does it, and writes what it gives. At every fault but `Write` nothing
+/// is written; at `Write` the sink took a front of what the job gives.
 pub fn perform<W: Sink>(rt: &HostRuntime, job: Job, out: &mut W) -> Result<(), ProgramFault>
     requires { W.has_failed out.old ≡ false }
     ensures { LeavesSink result (out.new ≡ out.old) }

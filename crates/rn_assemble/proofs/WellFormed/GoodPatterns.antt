@@ -136,14 +136,14 @@ not_false false e = absurd (false≢true (sym e))
 
 module _ (ds : List Declaration) where
   data_at : (s : Option Text) (l : Text) (ps : Params) (i : ℕ) → place_if (not (is_some s)) i ≡ []
-      → place_if (is_library ds s [] && (has_any ds ps || not (bytes_eq l (codes "string") || bytes_eq l (codes "token")))) i ≡ [] → IsName l → AreParams ps → IsData Free (unwrap_or s []) l ps
+      → place_if (is_library s [] && (has_any ps || not (bytes_eq l (codes "string") || bytes_eq l (codes "token")))) i ≡ [] → IsName l → AreParams ps → IsData Free (unwrap_or s []) l ps
   data_at None l ps i u b n h = cc
   data_at (Some []) l [] i u b n h = bare (builtin_type l (not_false (bytes_eq l (codes "string") || bytes_eq l (codes "token")) (no_place _ i b)))
   data_at (Some []) l (p ∷ ps) i u b n h = cc
   data_at (Some (c ∷ k)) l [] i u b n h = bare (library_type tt n)
   data_at (Some (c ∷ k)) l (p ∷ ps) i u b n h = with_params tt n h
 
-  no_params : (ps : Params) (i : ℕ) → place_if (has_any ds ps) i ≡ [] → ps ≡ []
+  no_params : (ps : Params) (i : ℕ) → place_if (has_any ps) i ≡ [] → ps ≡ []
   no_params [] i e = refl
   no_params (p ∷ ps) i e = cc
 
@@ -155,7 +155,7 @@ module _ (ds : List Declaration) where
   type_of : {l x : Text} → IsData Free l x [] → IsType Free l x
   type_of (bare h) = h
 
-  context_at : (s : Option Text) (l : Text) (i : ℕ) → place_if (not (is_some s)) i ≡ [] → place_if (is_library ds s xsd_uri && (bytes_eq l (codes "QName") || bytes_eq l (codes "NOTATION"))) i ≡ [] → needs_context (unwrap_or s []) l ≡ false
+  context_at : (s : Option Text) (l : Text) (i : ℕ) → place_if (not (is_some s)) i ≡ [] → place_if (is_library s xsd_uri && (bytes_eq l (codes "QName") || bytes_eq l (codes "NOTATION"))) i ≡ [] → needs_context (unwrap_or s []) l ≡ false
   context_at None l i u e = cc
   context_at (Some k) l i u e = no_place _ i e
 

@@ -1,4 +1,4 @@
--- Includes that no refusal stands against, and the modules that none includes (RELAX NG 4.7).
+-- Includes that no refusal stands against, and the modules that none includes (RELAX NG 2001, 4.7).
 use Rattle.std.specs.Prelude.{◌≡◌, ℕ, ◌<◌, List, length, map, sum_by}
 use Rattle.rn_text.specs.Texts.{Text}
 use Rattle.rn_pattern.specs.References.{Reaches}

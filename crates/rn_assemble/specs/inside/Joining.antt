@@ -1,4 +1,4 @@
--- The grammar of combined patterns, and what stands against it (RELAX NG 4.16, 4.17).
+-- The grammar of combined patterns, and what stands against it (RELAX NG 2001, 4.16, 4.17).
 use Rattle.std.specs.Prelude.{◌≡◌, true, List, ⊤}
 use Rattle.std.specs.List.Sorted.{IsStrictlySortedBy}
 use Rattle.rn_text.specs.Texts.{Text, text_cmp}

@@ -1,4 +1,4 @@
--- Overrides of what isn't there, in the instances of a module (RELAX NG 4.7).
+-- Overrides of what isn't there, in the instances of a module (RELAX NG 2001, 4.7).
 use Rattle.std.specs.Prelude.{◌≡◌, ◌⊎◌, ℕ, zero, suc, ◌<◌, true, List, [], ◌∷◌, ◌++◌, length, Option, Some, None, Contains}
 use Rattle.rn_text.specs.Texts.{Text, text_cmp}
 use Rattle.rn_syntax.specs.Tree as t

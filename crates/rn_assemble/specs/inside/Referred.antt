@@ -71,7 +71,7 @@ pub record AreAllReferences (names : List Text) (cs : List Component) (all outer
   pub outside : AreReferences RefersOutside names cs outer
   pub defined : (x : Text) → ¬ IsUndefined (joined_grammar cs) x
 
--- the least name that is referred to and not defined, for want of memory aside
+-- the least name that is referred to and not defined, want of memory aside
 abbrev pub IsLeastUndefined : List Component → Refusal → Type 0
 IsLeastUndefined cs (r.Undefined x) = IsLeast text_cmp (IsUndefined (joined_grammar cs)) (string_bytes x)
 IsLeastUndefined cs r.Memory = ⊤

@@ -14,7 +14,7 @@ use Rattle.rn_syntax.specs.declared.fault.SyntaxFault.TheVariants as s
 use Rattle.rn_syntax.specs.Terminal.{◌#◌}
 use Rattle.rn_syntax.specs.Grammar.{Tokens}
 use Rattle.rn_syntax.specs.Tokens.{terminals}
-use Rattle.rn_syntax.specs.Fault.{HasTree, Stops}
+use Rattle.rn_syntax.specs.Beginnings.{HasTree, Stops}
 use Rattle.rn_syntax.specs.Faults as parsing
 use Rattle.rn_syntax.specs.Faults.{IsFault, IsFaultOfTree}
 use Rattle.rn_syntax.specs.Places.{deep}

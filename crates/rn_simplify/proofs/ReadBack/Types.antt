@@ -89,8 +89,8 @@ module _ (f : Prefixes) (ds : List Declaration) where
         library = ap (λ o. unwrap_or o []) b.meaning;
         name = e;
         bound = λ v ps. ap (λ o. place_if (not (is_some o)) i) b.meaning;
-        builtin = λ v. ap (λ o. place_if (is_library ds o [] && (has_any ds [] || not (bytes_eq (encode_utf8_all (chars x)) (codes "string") || bytes_eq (encode_utf8_all (chars x)) (codes "token")))) i) b.meaning;
-        context = λ k. (λ j. place_if (is_library ds (b.meaning j) xsd_uri && (bytes_eq (e j) (codes "QName") || bytes_eq (e j) (codes "NOTATION"))) i) ∙ ap (λ y. place_if y i) k;
+        builtin = λ v. ap (λ o. place_if (is_library o [] && (has_any [] || not (bytes_eq (encode_utf8_all (chars x)) (codes "string") || bytes_eq (encode_utf8_all (chars x)) (codes "token")))) i) b.meaning;
+        context = λ k. (λ j. place_if (is_library (b.meaning j) xsd_uri && (bytes_eq (e j) (codes "QName") || bytes_eq (e j) (codes "NOTATION"))) i) ∙ ap (λ y. place_if y i) k;
       }
 
   pub type_term : {l x : Text} → IsType Library l x → (i : ℕ) → TypeTerm l x i
@@ -136,7 +136,7 @@ module _ (f : Prefixes) (ds : List Declaration) where
         library = y.library;
         name = y.name;
         bound = y.bound false (e ∷ es);
-        builtin = ap (λ o. place_if (is_library ds o [] && (has_any ds (e ∷ es) || not (bytes_eq (encode_utf8_all (chars x)) (codes "string") || bytes_eq (encode_utf8_all (chars x)) (codes "token")))) i) b.meaning;
+        builtin = ap (λ o. place_if (is_library o [] && (has_any (e ∷ es) || not (bytes_eq (encode_utf8_all (chars x)) (codes "string") || bytes_eq (encode_utf8_all (chars x)) (codes "token")))) i) b.meaning;
       }
 
   pub data_sound : {l x : Text} {ps : Parameters} → IsData Library l x ps → Sound (datum_pieces f l x ps)

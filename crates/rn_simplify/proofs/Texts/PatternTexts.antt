@@ -5,7 +5,7 @@ use Rattle.std.specs.declared.alloc.Global.{Global}
 use Rattle.rn_pattern.specs.View.{parameters_view}
 use Rattle.std.specs.Str.{chars, encode_utf8_all, IsUtf8}
 use Rattle.std.proofs.Math.Dec.{eqb-suc-zero}
-use Rattle.rn_text.specs.Literals.{literal_bytes, segments, quoted, joined, literal_of}
+use Rattle.rn_text.specs.Literals.{literal_bytes, segments, delimited, joined, literal_of}
 use Rattle.rn_text.specs.Parts.{Piece, text_of}
 use Rattle.rn_pattern.specs.Tree.{Parameters}
 use Rattle.rn_text.specs.Texts.{Text}
@@ -20,8 +20,8 @@ use Rattle.rn_simplify.proofs.Texts.PartTexts.{writes_word, writes_braced}
 
 literal_text : (rs : List (List ℕ)) → text_of (s.literal_of rs) ≡ joined rs
 literal_text [] = refl
-literal_text (r ∷ []) = append-nil (quoted r)
-literal_text (r ∷ q ∷ rs) = ap (λ t. quoted r ++ (codes " ~ " ++ t)) (literal_text (q ∷ rs))
+literal_text (r ∷ []) = append-nil (delimited r)
+literal_text (r ∷ q ∷ rs) = ap (λ t. delimited r ++ (codes " ~ " ++ t)) (literal_text (q ∷ rs))
 
 literal_depth : (rs : List (List ℕ)) (n : ℕ) → depth_after (s.literal_of rs) n ≡ Some n
 unfolding lib.Utf8.encode chars

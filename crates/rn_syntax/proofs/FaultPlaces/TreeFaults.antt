@@ -6,7 +6,7 @@ use Rattle.rn_syntax.specs.declared.fault.SyntaxFault.{SyntaxFault}
 use Rattle.rn_syntax.specs.declared.fault.SyntaxFault.TheVariants.{Deep, Syntax, Memory}
 use Rattle.rn_syntax.specs.Tree.{Module}
 use Rattle.rn_syntax.specs.Tokens.{terminals}
-use Rattle.rn_syntax.specs.Fault.{HasTree}
+use Rattle.rn_syntax.specs.Beginnings.{HasTree}
 use Rattle.rn_syntax.specs.Spelled.{AreSpelled}
 use Rattle.rn_syntax.specs.Places.{deep}
 use Rattle.rn_syntax.specs.Faults.{HasModuleFault, IsFault}

@@ -6,9 +6,9 @@ use Rattle.rn_syntax.specs.Terminal.{Terminal, ◌#◌, ident, keyword, prefixed
 use Rattle.rn_syntax.specs.Tree as t
 use Rattle.rn_syntax.specs.Tree.{Uri, Declaration, Item, Module, items_of}
 use Rattle.rn_syntax.specs.Grammar as g
-use Rattle.rn_syntax.specs.inside.Follow.{Starts, no_bracket, no_tilde, behind_pattern, first_terminal, no_brace, begins_item, is_end, no_inherit, no_declaration}
+use Rattle.rn_syntax.specs.inside.Follow.{Starts, no_bracket, no_tilde, behind_pattern, first_terminal, no_brace, behind_item, is_end, no_inherit, no_declaration}
 use Rattle.rn_syntax.specs.Grammar.{Tokens, IsLiteral, MayHaveAnnotation, IsUri, IsDeclaration, AreDeclarations, IsComponent, IsNote, AreInnerItems, MayInherit, MayHaveOverrides, AreItems}
-use Rattle.rn_syntax.specs.Fault.{HasTree}
+use Rattle.rn_syntax.specs.Beginnings.{HasTree}
 use Rattle.rn_syntax.proofs.OneReading.OneClass.{literal_one, annotation_one, may_one, word_one, starts_to, tail, word_is}
 use Rattle.rn_syntax.proofs.OneReading.OnePattern.{literal_kind, pattern_one}
 
@@ -20,7 +20,7 @@ abbrev pub is_grammar : Terminal → Bool
 is_grammar (keyword k.Grammar) = true
 is_grammar x = false
 
-pub item_to_pattern : (x : Terminal) → begins_item x ≡ true → behind_pattern x ≡ true
+pub item_to_pattern : (x : Terminal) → behind_item x ≡ true → behind_pattern x ≡ true
 item_to_pattern (ident n) e = refl
 item_to_pattern (prefixed n l) e = refl
 item_to_pattern (keyword w) e = refl
@@ -28,25 +28,25 @@ item_to_pattern left_bracket e = refl
 item_to_pattern right_brace e = refl
 item_to_pattern x e = absurd (false≢true e)
 
-pub item_to_tilde : (x : Terminal) → begins_item x ≡ true → no_tilde x ≡ true
+pub item_to_tilde : (x : Terminal) → behind_item x ≡ true → no_tilde x ≡ true
 item_to_tilde tilde e = absurd (false≢true e)
 item_to_tilde x e = refl
 
-pub item_to_brace : (x : Terminal) → begins_item x ≡ true → no_brace x ≡ true
+pub item_to_brace : (x : Terminal) → behind_item x ≡ true → no_brace x ≡ true
 item_to_brace left_brace e = absurd (false≢true e)
 item_to_brace x e = refl
 
-pub item_to_inherit : (x : Terminal) → begins_item x ≡ true → no_inherit x ≡ true
+pub item_to_inherit : (x : Terminal) → behind_item x ≡ true → no_inherit x ≡ true
 item_to_inherit (keyword k.Inherit) e = absurd (false≢true e)
 item_to_inherit x e = refl
 
-pub item_to_declaration : (x : Terminal) → begins_item x ≡ true → no_declaration x ≡ true
+pub item_to_declaration : (x : Terminal) → behind_item x ≡ true → no_declaration x ≡ true
 item_to_declaration (keyword k.Namespace) e = absurd (false≢true e)
 item_to_declaration (keyword k.Default) e = absurd (false≢true e)
 item_to_declaration (keyword k.Datatypes) e = absurd (false≢true e)
 item_to_declaration x e = refl
 
-pub end_to_item : (x : Terminal) → is_end x ≡ true → begins_item x ≡ true
+pub end_to_item : (x : Terminal) → is_end x ≡ true → behind_item x ≡ true
 end_to_item right_brace e = refl
 end_to_item x e = absurd (false≢true e)
 
@@ -77,12 +77,12 @@ declaration_front (g.default u) e = false≢true e
 declaration_front (g.default_prefix w u) e = false≢true e
 declaration_front (g.datatypes w l) e = false≢true e
 
-pub declarations_one : {ts r r' : Tokens} {ds es : List Declaration} → AreDeclarations ts ds r → AreDeclarations ts es r' → Starts begins_item r → Starts begins_item r' → (ds ≡ es) × (r ≡ r')
+pub declarations_one : {ts r r' : Tokens} {ds es : List Declaration} → AreDeclarations ts ds r → AreDeclarations ts es r' → Starts behind_item r → Starts behind_item r' → (ds ≡ es) × (r ≡ r')
 declarations_one g.none g.none a b = (refl, refl)
-declarations_one {r = r} g.none (g.more d m) a b = absurd (declaration_front d (starts_to begins_item no_declaration item_to_declaration r a))
-declarations_one {r' = r'} (g.more d m) g.none a b = absurd (declaration_front d (starts_to begins_item no_declaration item_to_declaration r' b))
+declarations_one {r = r} g.none (g.more d m) a b = absurd (declaration_front d (starts_to behind_item no_declaration item_to_declaration r a))
+declarations_one {r' = r'} (g.more d m) g.none a b = absurd (declaration_front d (starts_to behind_item no_declaration item_to_declaration r' b))
 declarations_one {r = r} {r' = r'} (g.more d m) (g.more {ds = es} d' m') a b =
-    let e = declaration_one d d' (declarations_tilde m (starts_to begins_item no_tilde item_to_tilde r a)) (declarations_tilde m' (starts_to begins_item no_tilde item_to_tilde r' b)) in
+    let e = declaration_one d d' (declarations_tilde m (starts_to behind_item no_tilde item_to_tilde r a)) (declarations_tilde m' (starts_to behind_item no_tilde item_to_tilde r' b)) in
     let f = declarations_one m (subst (λ y. AreDeclarations y es r') (sym e.1) m') a b in
     ((λ i. e.0 i ∷ f.0 i), f.1)
 
@@ -90,7 +90,7 @@ pub component_one : {ts r r' : Tokens} {x y : Item} → IsComponent ts x r → I
 component_one (g.define {n = n} {w = w} p) (g.define q) a b = let e = pattern_one p q a b in (ap (t.define n w) e.0, e.1)
 component_one (g.start {w = w} p) (g.start q) a b = let e = pattern_one p q a b in (ap (t.start w) e.0, e.1)
 
-pub component_front : {ts r : Tokens} {x : Item} → IsComponent ts x r → Starts begins_item ts × Starts no_bracket ts
+pub component_front : {ts r : Tokens} {x : Item} → IsComponent ts x r → Starts behind_item ts × Starts no_bracket ts
 component_front (g.define p) = (refl, refl)
 component_front (g.start p) = (refl, refl)
 
@@ -108,7 +108,7 @@ pub component_grammar : {i : ℕ} {ts r : Tokens} {x : Item} → IsComponent (ke
 component_grammar c = elim c [ ]
 
 -- an annotation or not, before what begins an item
-pub may_item : {ts mid : Tokens} → MayHaveAnnotation ts mid → Starts begins_item mid → Starts begins_item ts
+pub may_item : {ts mid : Tokens} → MayHaveAnnotation ts mid → Starts behind_item mid → Starts behind_item ts
 may_item g.bare h = h
 may_item (g.annotated (g.bracketed c)) h = refl
 
@@ -120,7 +120,7 @@ pub note_one : {ts r r' : Tokens} → IsNote ts r → IsNote ts r' → r ≡ r'
 note_one (g.by_name n) (g.by_name l) = annotation_one n l
 note_one (g.by_prefixed n) (g.by_prefixed l) = annotation_one n l
 
-pub note_front : {ts r : Tokens} → IsNote ts r → Starts begins_item ts
+pub note_front : {ts r : Tokens} → IsNote ts r → Starts behind_item ts
 note_front (g.by_name n) = refl
 note_front (g.by_prefixed n) = refl
 
@@ -137,8 +137,8 @@ pub keyword_note : {w : _} {i : ℕ} {ts us r : Tokens} → MayHaveAnnotation ts
 keyword_note g.bare n = elim n [ ]
 keyword_note (g.annotated (g.bracketed c)) n = elim n [ ]
 
-pub inner_front : {ts r : Tokens} {xs : List Item} → AreInnerItems ts xs r → Starts is_end r → Starts begins_item ts
-inner_front {ts = ts} g.none a = starts_to is_end begins_item end_to_item ts a
+pub inner_front : {ts r : Tokens} {xs : List Item} → AreInnerItems ts xs r → Starts is_end r → Starts behind_item ts
+inner_front {ts = ts} g.none a = starts_to is_end behind_item end_to_item ts a
 inner_front (g.component m c n) a = may_item m (component_front c).0
 inner_front (g.div m n o) a = may_item m refl
 inner_front (g.note n m) a = note_front n
@@ -151,7 +151,7 @@ inner_one g.none (g.note n m) a b = absurd (note_end n a)
 inner_one (g.component m c n) g.none a b = absurd (may_end m (component_end c) b)
 inner_one {r' = r'} (g.component {after = after} m c n) (g.component {after = after'} {x = y} {xs = ys} m' c' n') a b =
     let e = may_one m m' (component_front c).1 (component_front c').1 in
-    let f = component_one c (subst (λ z. IsComponent z y after') (sym e) c') (starts_to begins_item behind_pattern item_to_pattern after (inner_front n a)) (starts_to begins_item behind_pattern item_to_pattern after' (inner_front n' b)) in
+    let f = component_one c (subst (λ z. IsComponent z y after') (sym e) c') (starts_to behind_item behind_pattern item_to_pattern after (inner_front n a)) (starts_to behind_item behind_pattern item_to_pattern after' (inner_front n' b)) in
     let h = inner_one n (subst (λ z. AreInnerItems z ys r') (sym f.1) n') a b in
     ((λ i. f.0 i ∷ h.0 i), h.1)
 inner_one (g.component {after = after} {x = x} m c n) (g.div m' n' o) a b = let e = may_one m m' (component_front c).1 refl in absurd (component_keyword (subst (λ z. IsComponent z x after) e c))
@@ -181,20 +181,20 @@ override_one g.none (g.braces n) a b = absurd (false≢true a)
 override_one (g.braces n) g.none a b = absurd (false≢true b)
 override_one (g.braces n) (g.braces n') a b = let e = inner_one n n' refl refl in (e.0, ap tail e.1)
 
-pub override_inherit : {ts r : Tokens} {xs : List Item} → MayHaveOverrides ts xs r → Starts begins_item r → Starts no_inherit ts
-override_inherit {ts = ts} g.none a = starts_to begins_item no_inherit item_to_inherit ts a
+pub override_inherit : {ts r : Tokens} {xs : List Item} → MayHaveOverrides ts xs r → Starts behind_item r → Starts no_inherit ts
+override_inherit {ts = ts} g.none a = starts_to behind_item no_inherit item_to_inherit ts a
 override_inherit (g.braces n) a = refl
 
-pub override_tilde : {ts r : Tokens} {xs : List Item} → MayHaveOverrides ts xs r → Starts begins_item r → Starts no_tilde ts
-override_tilde {ts = ts} g.none a = starts_to begins_item no_tilde item_to_tilde ts a
+pub override_tilde : {ts r : Tokens} {xs : List Item} → MayHaveOverrides ts xs r → Starts behind_item r → Starts no_tilde ts
+override_tilde {ts = ts} g.none a = starts_to behind_item no_tilde item_to_tilde ts a
 override_tilde (g.braces n) a = refl
 
 pub inherit_tilde : {ts r : Tokens} {h : Option (List ℕ × ℕ)} → MayInherit ts h r → Starts no_tilde r → Starts no_tilde ts
 inherit_tilde g.none a = a
 inherit_tilde (g.inherit w) a = refl
 
-pub items_front : {ts r : Tokens} {xs : List Item} → AreItems ts xs r → Starts is_end r → Starts begins_item ts
-items_front {ts = ts} g.none a = starts_to is_end begins_item end_to_item ts a
+pub items_front : {ts r : Tokens} {xs : List Item} → AreItems ts xs r → Starts is_end r → Starts behind_item ts
+items_front {ts = ts} g.none a = starts_to is_end behind_item end_to_item ts a
 items_front (g.component m c n) a = may_item m (component_front c).0
 items_front (g.div m n o) a = may_item m refl
 items_front (g.include m l h o n) a = may_item m refl
@@ -209,7 +209,7 @@ items_one g.none (g.note n m) a b = absurd (note_end n a)
 items_one (g.component m c n) g.none a b = absurd (may_end m (component_end c) b)
 items_one {r' = r'} (g.component {after = after} m c n) (g.component {after = after'} {x = y} {xs = ys} m' c' n') a b =
     let e = may_one m m' (component_front c).1 (component_front c').1 in
-    let f = component_one c (subst (λ z. IsComponent z y after') (sym e) c') (starts_to begins_item behind_pattern item_to_pattern after (items_front n a)) (starts_to begins_item behind_pattern item_to_pattern after' (items_front n' b)) in
+    let f = component_one c (subst (λ z. IsComponent z y after') (sym e) c') (starts_to behind_item behind_pattern item_to_pattern after (items_front n a)) (starts_to behind_item behind_pattern item_to_pattern after' (items_front n' b)) in
     let h = items_one n (subst (λ z. AreItems z ys r') (sym f.1) n') a b in
     ((λ i. f.0 i ∷ h.0 i), h.1)
 items_one (g.component {after = after} {x = x} m c n) (g.div m' n' o) a b = let e = may_one m m' (component_front c).1 refl in absurd (component_keyword (subst (λ z. IsComponent z x after) e c))
@@ -233,7 +233,7 @@ items_one {r' = r'} (g.include {own = own} {after = after} m l h o n) (g.include
     let f' = items_front n' b in
     let el = literal_one l (subst (λ z. IsLiteral z s' behind') (sym e) l') (inherit_tilde h (override_tilde o f)) (inherit_tilde h' (override_tilde o' f')) in
     let eh = inherit_one h (subst (λ z. MayInherit z i' own') (sym el.1) h') (override_inherit o f) (override_inherit o' f') in
-    let eo = override_one o (subst (λ z. MayHaveOverrides z zs after') (sym eh.1) o') (starts_to begins_item no_brace item_to_brace after f) (starts_to begins_item no_brace item_to_brace after' f') in
+    let eo = override_one o (subst (λ z. MayHaveOverrides z zs after') (sym eh.1) o') (starts_to behind_item no_brace item_to_brace after f) (starts_to behind_item no_brace item_to_brace after' f') in
     let en = items_one n (subst (λ z. AreItems z ys r') (sym eo.1) n') a b in
     ((λ i. t.include (el.0 i) (eh.0 i) (items_of (eo.0 i)) ∷ en.0 i), en.1)
 items_one (g.include m l h o n) (g.note k j) a b = absurd (keyword_note m k)

@@ -13,7 +13,7 @@ use Rattle.rn_syntax.specs.Tree as t
 use Rattle.rn_syntax.specs.Tree.{Declaration, Uri}
 use Rattle.rn_syntax.specs.Grammar as g
 use Rattle.rn_syntax.specs.Grammar.{Tokens, IsWord, IsLiteral, IsUri, IsDeclaration, AreDeclarations}
-use Rattle.rn_syntax.specs.inside.Follow.{Starts, Anything, first_terminal, no_tilde, no_word, begins_item, begins_declaration}
+use Rattle.rn_syntax.specs.inside.Follow.{Starts, Anything, first_terminal, no_tilde, no_word, behind_item, begins_declaration}
 use Rattle.rn_syntax.specs.inside.Sequence.{Then, both, Gives, gives, IsToken, token, IsOf, of, IsHere, IsWordAt, word_at, IsPrefixAt, prefix_at}
 use Rattle.rn_syntax.specs.inside.Declaring.{IsUriEnd, IsNamespaceEnd, IsDatatypesEnd, MayHaveDefaultPrefix, no_prefix, prefix, IsDefaultEnd}
 use Rattle.rn_syntax.specs.inside.Reading.{Took, Stuck, seen, IsNext, rest}
@@ -282,29 +282,29 @@ no_such_keyword {w = w} e h1 h2 h3 = no_declaration_here (ap (λ (l : Tokens). b
 more_to : {l r : Tokens} {ds : List Declaration} → Then IsDeclaration (λ d. Whole AreDeclarations (d ∷ [])) l ds r → AreDeclarations l ds r
 more_to {l = l} {r = r} (both k d) = subst (λ (ds : List Declaration). AreDeclarations l ds r) (sym d.is) (g.more k d.behind)
 
-none_begins : (l : Tokens) → begins_declaration (first_terminal l) ≡ true → Starts begins_item l → ⊥
+none_begins : (l : Tokens) → begins_declaration (first_terminal l) ≡ true → Starts behind_item l → ⊥
 none_begins [] e f = cc
 none_begins (keyword k.Namespace # i ∷ l) e f = false≢true f
 none_begins (keyword k.Default # i ∷ l) e f = false≢true f
 none_begins (keyword k.Datatypes # i ∷ l) e f = false≢true f
 none_begins (y # i ∷ l) e f = cc
 
-more_from : {l r : Tokens} {ds : List Declaration} → begins_declaration (first_terminal l) ≡ true → AreDeclarations l ds r → Starts begins_item r → Then IsDeclaration (λ d. Whole AreDeclarations (d ∷ [])) l ds r
+more_from : {l r : Tokens} {ds : List Declaration} → begins_declaration (first_terminal l) ≡ true → AreDeclarations l ds r → Starts behind_item r → Then IsDeclaration (λ d. Whole AreDeclarations (d ∷ [])) l ds r
 more_from e (g.more {ds = ds} k d) f = both k (record { more = ds; is = refl; behind = d })
 more_from {l = l} e g.none f = absurd (none_begins l e f)
 
-pub declaration_follows : {now : Tokens} → begins_declaration (first_terminal now) ≡ true → Upto AreDeclarations (Then IsDeclaration (λ d. Whole AreDeclarations (d ∷ []))) (Starts begins_item) now now
+pub declaration_follows : {now : Tokens} → begins_declaration (first_terminal now) ≡ true → Upto AreDeclarations (Then IsDeclaration (λ d. Whole AreDeclarations (d ∷ []))) (Starts behind_item) now now
 declaration_follows h = upto_at (λ l z r d. more_to d) (λ l a z r d f. more_from (ap begins_declaration (first_alike a) ∙ h) d f)
 
-pub fits_declarations : Fits (Starts no_tilde) (λ d. Whole AreDeclarations (d ∷ [])) (Starts begins_item)
-fits_declarations = record { fits = λ d mid z r k f. declarations_tilde k.behind (starts_to begins_item no_tilde item_to_tilde r f) }
+pub fits_declarations : Fits (Starts no_tilde) (λ d. Whole AreDeclarations (d ∷ [])) (Starts behind_item)
+fits_declarations = record { fits = λ d mid z r k f. declarations_tilde k.behind (starts_to behind_item no_tilde item_to_tilde r f) }
 
 end_from : {l r : Tokens} {ds : List Declaration} → begins_declaration (first_terminal l) ≡ false → AreDeclarations l ds r → (ds ≡ []) × (r ≡ l)
 end_from e g.none = (refl, refl)
 end_from e (g.more k d) = absurd (false≢true (sym e ∙ declaration_begins k))
 
 abbrev pub So_far : List Declaration → Tokens → Tokens → Type 0
-So_far ds ts now = Upto AreDeclarations (Whole AreDeclarations ds) (Starts begins_item) ts now
+So_far ds ts now = Upto AreDeclarations (Whole AreDeclarations ds) (Starts behind_item) ts now
 
 pub so_far_same : {ds es : List Declaration} (ts now : Tokens) → ds ≡ es → So_far ds ts now → So_far es ts now
 so_far_same ts now e u = subst (λ (l : List Declaration). So_far l ts now) e u
@@ -315,10 +315,10 @@ declared_start ts = behind_start
 pub declared_read : (ds : List Declaration) (ts now : Tokens) {next : Tokens} {d : Declaration} → So_far ds ts now → begins_declaration (first_terminal now) ≡ true → Took IsDeclaration (Starts no_tilde) now d next → So_far (ds ++ d ∷ []) ts next
 declared_read ds ts now u e k = part_read (λ (l : List Declaration). l) ds u (declaration_follows e) fits_declarations k
 
-pub declared_stuck : (ds : List Declaration) (ts now : Tokens) {bad : Tokens} → So_far ds ts now → begins_declaration (first_terminal now) ≡ true → Stuck IsDeclaration (Starts no_tilde) now bad → Stuck AreDeclarations (Starts begins_item) ts bad
+pub declared_stuck : (ds : List Declaration) (ts now : Tokens) {bad : Tokens} → So_far ds ts now → begins_declaration (first_terminal now) ≡ true → Stuck IsDeclaration (Starts no_tilde) now bad → Stuck AreDeclarations (Starts behind_item) ts bad
 declared_stuck ds ts now u e k = part_stuck (λ (l : List Declaration). l) ds u (declaration_follows e) fits_declarations (λ more. (more, [], g.none)) k
 
-pub declared_took : (ds : List Declaration) (ts now : Tokens) → So_far ds ts now → begins_declaration (first_terminal now) ≡ false → Took AreDeclarations (Starts begins_item) ts ds now
+pub declared_took : (ds : List Declaration) (ts now : Tokens) → So_far ds ts now → begins_declaration (first_terminal now) ≡ false → Took AreDeclarations (Starts behind_item) ts ds now
 declared_took ds ts now u e = parts_took (λ (l : List Declaration). l) ds [] (sym (append-nil ds)) u (record {
   front = [];
   cut = refl;

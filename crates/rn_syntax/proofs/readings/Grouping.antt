@@ -14,10 +14,10 @@ use Rattle.rn_syntax.specs.Tree as t
 use Rattle.rn_syntax.specs.Tree.{Item, Pattern, items_of}
 use Rattle.rn_syntax.specs.Grammar as g
 use Rattle.rn_syntax.specs.Grammar.{Tokens, IsPattern, IsComponent, AreItems, AreInnerItems}
-use Rattle.rn_syntax.specs.inside.Follow.{Starts, Anything, first_terminal, no_bracket, begins_item, behind_pattern, is_end}
+use Rattle.rn_syntax.specs.inside.Follow.{Starts, Anything, first_terminal, no_bracket, behind_item, behind_pattern, is_end}
 use Rattle.rn_syntax.specs.inside.Sequence.{Then, both, Gives, gives, IsToken, token, IsOf, of, IsAssign, by_method, is_note}
 use Rattle.rn_syntax.specs.inside.Including as i
-use Rattle.rn_syntax.specs.inside.Including.{opens_item, opens_inner, IsItem, IsInnerItem, UpToBrace, InBraces, IsDivEnd, IsInnerDivEnd, IsIncludeEnd, AreItemsBehind}
+use Rattle.rn_syntax.specs.inside.Including.{begins_item, begins_inner, IsItem, IsInnerItem, UpToBrace, InBraces, IsDivEnd, IsInnerDivEnd, IsIncludeEnd, AreItemsBehind}
 use Rattle.rn_syntax.specs.inside.Reading.{Took, Stuck, seen, IsNext, rest}
 use Rattle.rn_syntax.proofs.OneReading.OneClass.{starts_to}
 use Rattle.rn_syntax.proofs.OneReading.OneTree.{item_to_pattern}
@@ -27,7 +27,7 @@ use Rattle.rn_syntax.proofs.readings.Rows.{Rows, none, row, note, IsRow, So_far}
 
 -- ---- what begins an item
 
-item_opens : (y : Terminal) → opens_item y ≡ true → begins_item y ≡ true
+item_opens : (y : Terminal) → begins_item y ≡ true → behind_item y ≡ true
 item_opens (ident n) e = refl
 item_opens (prefixed n l) e = refl
 item_opens (keyword k.Start) e = refl
@@ -36,15 +36,15 @@ item_opens (keyword k.Include) e = refl
 item_opens left_bracket e = refl
 item_opens y e = absurd (false≢true e)
 
-item_not_end : (y : Terminal) → opens_item y ≡ true → is_end y ≡ false
+item_not_end : (y : Terminal) → begins_item y ≡ true → is_end y ≡ false
 item_not_end right_brace e = absurd (false≢true e)
 item_not_end y e = refl
 
-inner_item : (y : Terminal) → opens_inner y ≡ true → opens_item y ≡ true
+inner_item : (y : Terminal) → begins_inner y ≡ true → begins_item y ≡ true
 inner_item (keyword k.Include) e = absurd (false≢true e)
 inner_item y e = e
 
-component_opens : (ts : Tokens) (x : Item) (r : Tokens) → IsComponent ts x r → opens_inner (first_terminal ts) ≡ true
+component_opens : (ts : Tokens) (x : Item) (r : Tokens) → IsComponent ts x r → begins_inner (first_terminal ts) ≡ true
 component_opens ts x r (g.define p) = refl
 component_opens ts x r (g.start p) = refl
 
@@ -59,7 +59,7 @@ component_plain ts x r (g.start p) = refl
 pub text_pattern : (i : ℕ) (more : Tokens) → IsPattern (keyword k.Text # i ∷ more) t.text more
 text_pattern i more = g.one (g.plain (g.primary g.bare g.text g.none))
 
-item_begins : (ts : Tokens) (x : Item) (r : Tokens) → IsItem ts x r → opens_item (first_terminal ts) ≡ true
+item_begins : (ts : Tokens) (x : Item) (r : Tokens) → IsItem ts x r → begins_item (first_terminal ts) ≡ true
 item_begins ts x r (i.component d) = inner_item (first_terminal ts) (component_opens ts x r d)
 item_begins ts x r (i.div d) = refl
 item_begins ts x r (i.include l h o) = refl
@@ -74,7 +74,7 @@ item_plain ts x r (i.component d) = component_plain ts x r d
 item_plain ts x r (i.div d) = refl
 item_plain ts x r (i.include l h o) = refl
 
-pub item_row : IsRow IsItem opens_item
+pub item_row : IsRow IsItem begins_item
 item_row = record {
   begins = item_begins;
   unbracketed = item_unbracketed;
@@ -88,7 +88,7 @@ item_row = record {
   nothing = refl;
 }
 
-inner_begins : (ts : Tokens) (x : Item) (r : Tokens) → IsInnerItem ts x r → opens_inner (first_terminal ts) ≡ true
+inner_begins : (ts : Tokens) (x : Item) (r : Tokens) → IsInnerItem ts x r → begins_inner (first_terminal ts) ≡ true
 inner_begins ts x r (i.component d) = component_opens ts x r d
 inner_begins ts x r (i.div d) = refl
 
@@ -100,7 +100,7 @@ inner_plain : (ts : Tokens) (x : Item) (r : Tokens) → IsInnerItem ts x r → i
 inner_plain ts x r (i.component d) = component_plain ts x r d
 inner_plain ts x r (i.div d) = refl
 
-pub inner_row : IsRow IsInnerItem opens_inner
+pub inner_row : IsRow IsInnerItem begins_inner
 inner_row = record {
   begins = inner_begins;
   unbracketed = inner_unbracketed;
@@ -266,7 +266,7 @@ can_div = can_gives (λ (xs : List Item). t.div (items_of xs))
 
 -- ---- items
 
-pub div_item : {j : ℕ} {now next : Tokens} → now ≡ keyword k.Div # j ∷ next → Upto IsItem IsDivEnd (Starts begins_item) now next
+pub div_item : {j : ℕ} {now next : Tokens} → now ≡ keyword k.Div # j ∷ next → Upto IsItem IsDivEnd (Starts behind_item) now next
 div_item {j = j} e = upto_token e (λ l z r d. to d) (λ l z r d g. from d)
   where
     to : {l r : Tokens} {z : Item} → IsDivEnd l z r → IsItem (keyword k.Div # j ∷ l) z r
@@ -276,7 +276,7 @@ div_item {j = j} e = upto_token e (λ l z r d. to d) (λ l z r d g. from d)
     from (i.div d) = both token (both d (both token gives))
     from (i.component d) = elim d [ ]
 
-pub include_item : {j : ℕ} {now next : Tokens} → now ≡ keyword k.Include # j ∷ next → Upto IsItem IsIncludeEnd (Starts begins_item) now next
+pub include_item : {j : ℕ} {now next : Tokens} → now ≡ keyword k.Include # j ∷ next → Upto IsItem IsIncludeEnd (Starts behind_item) now next
 include_item {j = j} e = upto_token e (λ l z r d. to d) (λ l z r d g. from d)
   where
     to : {l r : Tokens} {z : Item} → IsIncludeEnd l z r → IsItem (keyword k.Include # j ∷ l) z r
@@ -286,7 +286,7 @@ include_item {j = j} e = upto_token e (λ l z r d. to d) (λ l z r d g. from d)
     from (i.include d h o) = both d (both h (both o gives))
     from (i.component d) = elim d [ ]
 
-pub div_inner : {j : ℕ} {now next : Tokens} → now ≡ keyword k.Div # j ∷ next → Upto IsInnerItem IsInnerDivEnd (Starts begins_item) now next
+pub div_inner : {j : ℕ} {now next : Tokens} → now ≡ keyword k.Div # j ∷ next → Upto IsInnerItem IsInnerDivEnd (Starts behind_item) now next
 div_inner {j = j} e = upto_token e (λ l z r d. to d) (λ l z r d g. from d)
   where
     to : {l r : Tokens} {z : Item} → IsInnerDivEnd l z r → IsInnerItem (keyword k.Div # j ∷ l) z r
@@ -301,7 +301,7 @@ not_group (keyword k.Div) = false
 not_group (keyword k.Include) = false
 not_group y = true
 
-pub component_item : {now : Tokens} → not_group (first_terminal now) ≡ true → Upto IsItem IsComponent (Starts begins_item) now now
+pub component_item : {now : Tokens} → not_group (first_terminal now) ≡ true → Upto IsItem IsComponent (Starts behind_item) now now
 component_item h = upto_at (λ l z r d. i.component d) (λ l a z r d g. from (ap not_group (first_alike a) ∙ h) d)
   where
     from : {l r : Tokens} {z : Item} → not_group (first_terminal l) ≡ true → IsItem l z r → IsComponent l z r
@@ -313,7 +313,7 @@ abbrev pub not_div : Terminal → Bool
 not_div (keyword k.Div) = false
 not_div y = true
 
-pub component_inner : {now : Tokens} → not_div (first_terminal now) ≡ true → Upto IsInnerItem IsComponent (Starts begins_item) now now
+pub component_inner : {now : Tokens} → not_div (first_terminal now) ≡ true → Upto IsInnerItem IsComponent (Starts behind_item) now now
 component_inner h = upto_at (λ l z r d. i.component d) (λ l a z r d g. from (ap not_div (first_alike a) ∙ h) d)
   where
     from : {l r : Tokens} {z : Item} → not_div (first_terminal l) ≡ true → IsInnerItem l z r → IsComponent l z r
@@ -337,17 +337,17 @@ other_div : (w : Keyword) → (w ≡ k.Div → ⊥) → not_div (keyword w) ≡ 
 other_div k.Div h = absurd (h refl)
 other_div w h = refl
 
-pub item_keyword : {w : Keyword} {j : ℕ} {now next : Tokens} → now ≡ keyword w # j ∷ next → (w ≡ k.Div → ⊥) → (w ≡ k.Include → ⊥) → Upto IsItem IsComponent (Starts begins_item) now now
+pub item_keyword : {w : Keyword} {j : ℕ} {now next : Tokens} → now ≡ keyword w # j ∷ next → (w ≡ k.Div → ⊥) → (w ≡ k.Include → ⊥) → Upto IsItem IsComponent (Starts behind_item) now now
 item_keyword {w = w} e h l = component_item (ap (λ (ts : Tokens). not_group (first_terminal ts)) e ∙ other_group w h l)
 
-pub item_other : (now behind : Tokens) (y : code.Terminal) → IsNext now (seen y) behind → ((w : _) → y ≡ c.Keyword w → ⊥) → Upto IsItem IsComponent (Starts begins_item) now now
+pub item_other : (now behind : Tokens) (y : code.Terminal) → IsNext now (seen y) behind → ((w : _) → y ≡ c.Keyword w → ⊥) → Upto IsItem IsComponent (Starts behind_item) now now
 item_other now behind y e h = component_item (ap not_group (first_next now behind (seen y) e) ∙ no_keyword_group y h)
 
-pub inner_keyword : {w : Keyword} {j : ℕ} {now next : Tokens} → now ≡ keyword w # j ∷ next → (w ≡ k.Div → ⊥) → Upto IsInnerItem IsComponent (Starts begins_item) now now
+pub inner_keyword : {w : Keyword} {j : ℕ} {now next : Tokens} → now ≡ keyword w # j ∷ next → (w ≡ k.Div → ⊥) → Upto IsInnerItem IsComponent (Starts behind_item) now now
 inner_keyword {w = w} e h = component_inner (ap (λ (ts : Tokens). not_div (first_terminal ts)) e ∙ other_div w h)
 
-pub inner_other : (now behind : Tokens) (y : code.Terminal) → IsNext now (seen y) behind → ((w : _) → y ≡ c.Keyword w → ⊥) → Upto IsInnerItem IsComponent (Starts begins_item) now now
+pub inner_other : (now behind : Tokens) (y : code.Terminal) → IsNext now (seen y) behind → ((w : _) → y ≡ c.Keyword w → ⊥) → Upto IsInnerItem IsComponent (Starts behind_item) now now
 inner_other now behind y e h = component_inner (ap not_div (first_next now behind (seen y) e) ∙ no_keyword_div y h)
 
-pub item_pattern : (r : Tokens) → Starts begins_item r → Starts behind_pattern r
-item_pattern r h = starts_to begins_item behind_pattern item_to_pattern r h
+pub item_pattern : (r : Tokens) → Starts behind_item r → Starts behind_pattern r
+item_pattern r h = starts_to behind_item behind_pattern item_to_pattern r h

@@ -11,7 +11,7 @@ use Rattle.rn_syntax.specs.Tree as t
 use Rattle.rn_syntax.specs.Tree.{Item, items_of}
 use Rattle.rn_syntax.specs.Grammar as g
 use Rattle.rn_syntax.specs.Grammar.{Tokens, IsLiteral, AreInnerItems, MayInherit, MayHaveOverrides}
-use Rattle.rn_syntax.specs.inside.Follow.{Starts, Anything, first_terminal, no_tilde, no_brace, no_inherit, begins_item}
+use Rattle.rn_syntax.specs.inside.Follow.{Starts, Anything, first_terminal, no_tilde, no_brace, no_inherit, behind_item}
 use Rattle.rn_syntax.specs.inside.Sequence.{Then, both, Gives, gives, IsToken, token, IsOf, of, IsPrefixAt, prefix_at}
 use Rattle.rn_syntax.specs.inside.Including.{UpToBrace, IsIncludeEnd}
 use Rattle.rn_syntax.specs.inside.Reading.{Took, Stuck, seen, IsNext}
@@ -102,20 +102,20 @@ Overrides s h = Then MayHaveOverrides (λ (ys : List Item). Gives (t.include s h
 abbrev pub Inherits : List ℕ → Tokens → Item → Tokens → Type 0
 Inherits s = Then MayInherit (Overrides s)
 
-fits_wanted : Fits (Starts no_tilde) Inherits (Starts begins_item)
+fits_wanted : Fits (Starts no_tilde) Inherits (Starts behind_item)
 fits_wanted = record { fits = λ s mid z r d g. fit d g }
   where
-    fit : {s : List ℕ} {l r : Tokens} {z : Item} → Inherits s l z r → Starts begins_item r → Starts no_tilde l
+    fit : {s : List ℕ} {l r : Tokens} {z : Item} → Inherits s l z r → Starts behind_item r → Starts no_tilde l
     fit (both h (both o gives)) g = inherit_tilde h (override_tilde o g)
 
-fits_inherit : (s : List ℕ) → Fits (Starts no_inherit) (Overrides s) (Starts begins_item)
+fits_inherit : (s : List ℕ) → Fits (Starts no_inherit) (Overrides s) (Starts behind_item)
 fits_inherit s = record { fits = λ h mid z r d g. fit d g }
   where
-    fit : {h : Option Place} {l r : Tokens} {z : Item} → Overrides s h l z r → Starts begins_item r → Starts no_inherit l
+    fit : {h : Option Place} {l r : Tokens} {z : Item} → Overrides s h l z r → Starts behind_item r → Starts no_inherit l
     fit (both o gives) g = override_inherit o g
 
-fits_own : (s : List ℕ) (h : Option Place) → Fits (Starts no_brace) (λ (ys : List Item). Gives (t.include s h (items_of ys))) (Starts begins_item)
-fits_own s h = fits_gives (λ (ys : List Item). t.include s h (items_of ys)) (λ r g. starts_to begins_item no_brace item_to_brace r g)
+fits_own : (s : List ℕ) (h : Option Place) → Fits (Starts no_brace) (λ (ys : List Item). Gives (t.include s h (items_of ys))) (Starts behind_item)
+fits_own s h = fits_gives (λ (ys : List Item). t.include s h (items_of ys)) (λ r g. starts_to behind_item no_brace item_to_brace r g)
 
 can_own : (s : List ℕ) (h : Option Place) → Can (λ (ys : List Item). Gives (t.include s h (items_of ys)))
 can_own s h = can_gives (λ (ys : List Item). t.include s h (items_of ys))
@@ -126,16 +126,16 @@ can_overrides s more = (more, λ h. (t.include s h (items_of []), both g.none gi
 can_inherits : Can Inherits
 can_inherits more = (more, λ s. (t.include s None (items_of []), both g.none (both g.none gives)))
 
-pub wanted_stuck : {now bad : Tokens} → Stuck IsLiteral (Starts no_tilde) now bad → Stuck IsIncludeEnd (Starts begins_item) now bad
+pub wanted_stuck : {now bad : Tokens} → Stuck IsLiteral (Starts no_tilde) now bad → Stuck IsIncludeEnd (Starts behind_item) now bad
 wanted_stuck k = stuck_in fits_wanted can_inherits k
 
 module _ {now behind : Tokens} {s : List ℕ} (l : Took IsLiteral (Starts no_tilde) now s behind) where
-  pub inherit_stuck : {bad : Tokens} → Stuck MayInherit (Starts no_inherit) behind bad → Stuck IsIncludeEnd (Starts begins_item) now bad
+  pub inherit_stuck : {bad : Tokens} → Stuck MayInherit (Starts no_inherit) behind bad → Stuck IsIncludeEnd (Starts behind_item) now bad
   inherit_stuck k = stuck_upto (reads fits_wanted l) (stuck_in (fits_inherit s) (can_overrides s) k)
 
   module _ {own : Tokens} {h : Option Place} (i : Took MayInherit (Starts no_inherit) behind h own) where
-    pub own_stuck : {bad : Tokens} → Stuck MayHaveOverrides (Starts no_brace) own bad → Stuck IsIncludeEnd (Starts begins_item) now bad
+    pub own_stuck : {bad : Tokens} → Stuck MayHaveOverrides (Starts no_brace) own bad → Stuck IsIncludeEnd (Starts behind_item) now bad
     own_stuck k = stuck_upto (upto_then (reads fits_wanted l) (reads (fits_inherit s) i)) (stuck_in (fits_own s h) (can_own s h) k)
 
-    pub include_took : {end : Tokens} {ys : List Item} → Took MayHaveOverrides (Starts no_brace) own ys end → Took IsIncludeEnd (Starts begins_item) now (t.include s h (items_of ys)) end
+    pub include_took : {end : Tokens} {ys : List Item} → Took MayHaveOverrides (Starts no_brace) own ys end → Took IsIncludeEnd (Starts behind_item) now (t.include s h (items_of ys)) end
     include_took {end = end} {ys = ys} k = took_upto (upto_then (upto_then (reads fits_wanted l) (reads (fits_inherit s) i)) (reads (fits_own s h) k)) (took_gives (t.include s h (items_of ys)) end)

@@ -9,7 +9,7 @@ use Rattle.rn_syntax.specs.Tree as tree
 use Rattle.rn_syntax.specs.Tree.{Item}
 use Rattle.rn_syntax.specs.Grammar as g
 use Rattle.rn_syntax.specs.Grammar.{Tokens, IsAnnotation, MayHaveAnnotation, AreItems}
-use Rattle.rn_syntax.specs.inside.Follow.{Starts, is_end, begins_item}
+use Rattle.rn_syntax.specs.inside.Follow.{Starts, is_end, behind_item}
 use Rattle.rn_syntax.specs.inside.Sequence.{Then, both}
 use Rattle.rn_syntax.specs.inside.Reading.{Took, Stuck}
 use Rattle.rn_syntax.specs.inside.Including as n
@@ -52,11 +52,11 @@ start_items = upto_at (λ l z r d. to d) (λ l a z r d h. from d)
     from : {l r : Tokens} {z : List Item} → AreAnnotatedItems l z r → Then IsItem (λ (y : Item). AreItemsBehind (y ∷ [])) l z r
     from (first_items {xs = xs} d b) = both d (record { more = xs; is = refl; behind = b })
 
-fits_items : Fits (Starts begins_item) (λ (y : Item). AreItemsBehind (y ∷ [])) (Starts is_end)
+fits_items : Fits (Starts behind_item) (λ (y : Item). AreItemsBehind (y ∷ [])) (Starts is_end)
 fits_items = record { fits = λ y mid z r b h. items_front b.behind h }
 
-pub first_read : {ts now : Tokens} {y : Item} {ys : List Item} → ys ≡ y ∷ [] → Took IsItem (Starts begins_item) ts y now → Upto AreAnnotatedItems (AreItemsBehind ys) (Starts is_end) ts now
+pub first_read : {ts now : Tokens} {y : Item} {ys : List Item} → ys ≡ y ∷ [] → Took IsItem (Starts behind_item) ts y now → Upto AreAnnotatedItems (AreItemsBehind ys) (Starts is_end) ts now
 first_read {ts = ts} {now = now} e k = subst (λ (l : List Item). Upto AreAnnotatedItems (AreItemsBehind l) (Starts is_end) ts now) (sym e) (upto_then start_items (reads fits_items k))
 
-pub first_stuck : {ts bad : Tokens} → Stuck IsItem (Starts begins_item) ts bad → Stuck AreAnnotatedItems (Starts is_end) ts bad
+pub first_stuck : {ts bad : Tokens} → Stuck IsItem (Starts behind_item) ts bad → Stuck AreAnnotatedItems (Starts is_end) ts bad
 first_stuck k = stuck_upto start_items (stuck_in fits_items (λ more. (more, λ y. (y ∷ [], record { more = []; is = refl; behind = g.none }))) k)

@@ -12,8 +12,8 @@ use Rattle.rn_syntax.specs.Terminal.{Placed, ◌#◌, keyword, left_brace, right
 use Rattle.rn_syntax.specs.Tree.{Declaration, Item, Module, items_of}
 use Rattle.rn_syntax.specs.Grammar as g
 use Rattle.rn_syntax.specs.Grammar.{Tokens, IsAnnotation, MayHaveAnnotation, AreFollows, AreItems, AreDeclarations, IsModule}
-use Rattle.rn_syntax.specs.Fault.{HasTree, IsRefused, Stops}
-use Rattle.rn_syntax.specs.inside.Follow.{Starts, Anything, first_terminal, no_follow, is_end, begins_item}
+use Rattle.rn_syntax.specs.Beginnings.{HasTree, IsRefused, Stops}
+use Rattle.rn_syntax.specs.inside.Follow.{Starts, Anything, first_terminal, no_follow, is_end, behind_item}
 use Rattle.rn_syntax.specs.inside.Sequence.{Then, both, Gives, gives, IsToken, token}
 use Rattle.rn_syntax.specs.inside.Itemizing.{AreAnnotatedItems}
 use Rattle.rn_syntax.specs.inside.Modular.{IsGrammarEnd, IsBody, items_body, grammar_body, IsAnnotatedBody, items_behind, grammar_behind, IsModuleBefore, IsModuleFault}
@@ -157,26 +157,26 @@ Made ds xs = record { declarations = ds; items = items_of xs }
 abbrev pub Items : List Declaration → Tokens → Module → Tokens → Type 0
 Items ds = Then IsBody (λ (xs : List Item). Gives (Made ds xs))
 
-body_front : {ts r : Tokens} {xs : List Item} → IsBody ts xs r → Starts is_end r → Starts begins_item ts
+body_front : {ts r : Tokens} {xs : List Item} → IsBody ts xs r → Starts is_end r → Starts behind_item ts
 body_front (items_body d) h = items_front d h
 body_front (grammar_body a d) h = may_item a refl
 
-items_before : {ds : List Declaration} {ts r : Tokens} {m : Module} → Items ds ts m r → Starts is_end r → Starts begins_item ts
+items_before : {ds : List Declaration} {ts r : Tokens} {m : Module} → Items ds ts m r → Starts is_end r → Starts behind_item ts
 items_before (both d gives) h = body_front d h
 
-pub fits_body : Fits (Starts begins_item) Items (Starts is_end)
+pub fits_body : Fits (Starts behind_item) Items (Starts is_end)
 fits_body = record { fits = λ ds mid m r d h. items_before d h }
 
 fits_made : (ds : List Declaration) → Fits (Starts is_end) (λ (xs : List Item). Gives (Made ds xs)) (Starts is_end)
 fits_made ds = fits_gives (λ (xs : List Item). Made ds xs) (λ r h. h)
 
-pub module_declarations : {ts bad : Tokens} → Stuck AreDeclarations (Starts begins_item) ts bad → Stuck IsModuleBefore (Starts is_end) ts bad
+pub module_declarations : {ts bad : Tokens} → Stuck AreDeclarations (Starts behind_item) ts bad → Stuck IsModuleBefore (Starts is_end) ts bad
 module_declarations d = stuck_in fits_body (λ more. (more, λ ds. (Made ds [], both (items_body g.none) gives))) d
 
-pub module_body : {ts now bad : Tokens} {ds : List Declaration} → Took AreDeclarations (Starts begins_item) ts ds now → Stuck IsBody (Starts is_end) now bad → Stuck IsModuleBefore (Starts is_end) ts bad
+pub module_body : {ts now bad : Tokens} {ds : List Declaration} → Took AreDeclarations (Starts behind_item) ts ds now → Stuck IsBody (Starts is_end) now bad → Stuck IsModuleBefore (Starts is_end) ts bad
 module_body {ds = ds} d b = stuck_upto (reads fits_body d) (stuck_in (fits_made ds) (can_gives (λ (xs : List Item). Made ds xs)) b)
 
-pub module_took : {ts now end : Tokens} {ds : List Declaration} {xs : List Item} → Took AreDeclarations (Starts begins_item) ts ds now → Took IsBody (Starts is_end) now xs end → Took IsModuleBefore (Starts is_end) ts (record { declarations = ds; items = items_of xs }) end
+pub module_took : {ts now end : Tokens} {ds : List Declaration} {xs : List Item} → Took AreDeclarations (Starts behind_item) ts ds now → Took IsBody (Starts is_end) now xs end → Took IsModuleBefore (Starts is_end) ts (record { declarations = ds; items = items_of xs }) end
 module_took {end = end} {ds = ds} {xs = xs} d b = took_upto (upto_then (reads fits_body d) (reads (fits_made ds) b)) (took_gives (Made ds xs) end)
 
 -- ---- whole tokens

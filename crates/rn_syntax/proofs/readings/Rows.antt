@@ -8,7 +8,7 @@ use Rattle.rn_syntax.specs.Tree as t
 use Rattle.rn_syntax.specs.Tree.{Item}
 use Rattle.rn_syntax.specs.Grammar as g
 use Rattle.rn_syntax.specs.Grammar.{Tokens, IsAnnotation, MayHaveAnnotation, IsNote}
-use Rattle.rn_syntax.specs.inside.Follow.{Starts, Anything, first_terminal, no_bracket, begins_item, is_end}
+use Rattle.rn_syntax.specs.inside.Follow.{Starts, Anything, first_terminal, no_bracket, behind_item, is_end}
 use Rattle.rn_syntax.specs.inside.Sequence.{Then, both, is_note}
 use Rattle.rn_syntax.specs.inside.Reading.{Alike, ends, same, Took, Stuck, Bare}
 use Rattle.rn_syntax.proofs.OneReading.OneClass.{starts_to}
@@ -31,7 +31,7 @@ pub record IsRow (S : Tokens → Item → Tokens → Type 0) (test : Terminal �
   pub unbracketed : (ts : Tokens) (x : Item) (r : Tokens) → S ts x r → Starts no_bracket ts
   pub plain : (ts : Tokens) (x : Item) (r : Tokens) → S ts x r → is_note ts ≡ false
   pub named : (n : List ℕ) (i : ℕ) (more : Tokens) → S (ident n # i ∷ assign m.Plain # 0 ∷ keyword k.Text # 0 ∷ more) (t.define n m.Plain t.text) more
-  pub opens : (y : Terminal) → test y ≡ true → begins_item y ≡ true
+  pub opens : (y : Terminal) → test y ≡ true → behind_item y ≡ true
   pub not_end : (y : Terminal) → test y ≡ true → is_end y ≡ false
   pub bracket : test left_bracket ≡ true
   pub by_ident : (n : List ℕ) → test (ident n) ≡ true
@@ -84,32 +84,32 @@ module _ {S : Tokens → Item → Tokens → Type 0} {test : Terminal → Bool} 
   row_plain (both g.bare d) = s.plain _ _ _ d
   row_plain (both (g.annotated (g.bracketed c)) d) = refl
 
-  pub rows_front : {ts r : Tokens} {xs : List Item} → Rows S ts xs r → Starts is_end r → Starts begins_item ts
-  rows_front {ts = ts} none a = starts_to is_end begins_item end_to_item ts a
-  rows_front {ts = ts} (row w n) a = starts_first begins_item ts (s.opens _ (row_begins w))
+  pub rows_front : {ts r : Tokens} {xs : List Item} → Rows S ts xs r → Starts is_end r → Starts behind_item ts
+  rows_front {ts = ts} none a = starts_to is_end behind_item end_to_item ts a
+  rows_front {ts = ts} (row w n) a = starts_first behind_item ts (s.opens _ (row_begins w))
   rows_front (note n d) a = note_front n
 
   note_begins : {ts r : Tokens} → IsNote ts r → test (first_terminal ts) ≡ true
   note_begins (g.by_name {n = n} a) = s.by_ident n
   note_begins (g.by_prefixed {n = n} {l = l} a) = s.by_prefixed n l
 
-  fits_row : Fits (Starts no_bracket) (λ (u : Unit {0}). S) (Starts begins_item)
+  fits_row : Fits (Starts no_bracket) (λ (u : Unit {0}). S) (Starts behind_item)
   fits_row = record { fits = λ u mid x r d g. s.unbracketed mid x r d }
 
   -- an annotation and an S were read
-  pub row_took : {now body next : Tokens} {x : Item} → Took (Bare MayHaveAnnotation) (Starts no_bracket) now tt body → Took S (Starts begins_item) body x next → Took (Row S) (Starts begins_item) now x next
+  pub row_took : {now body next : Tokens} {x : Item} → Took (Bare MayHaveAnnotation) (Starts no_bracket) now tt body → Took S (Starts behind_item) body x next → Took (Row S) (Starts behind_item) now x next
   row_took a k = took_upto (reads fits_row a) k
 
-  pub row_stuck : {now body bad : Tokens} → Took (Bare MayHaveAnnotation) (Starts no_bracket) now tt body → Stuck S (Starts begins_item) body bad → Stuck (Row S) (Starts begins_item) now bad
+  pub row_stuck : {now body bad : Tokens} → Took (Bare MayHaveAnnotation) (Starts no_bracket) now tt body → Stuck S (Starts behind_item) body bad → Stuck (Row S) (Starts behind_item) now bad
   row_stuck a k = stuck_upto (reads fits_row a) k
 
   can_row : Can (λ (u : Unit {0}). S)
   can_row more = (ident [] # 0 ∷ assign m.Plain # 0 ∷ keyword k.Text # 0 ∷ more, λ u. (t.define [] m.Plain t.text, s.named [] 0 more))
 
-  pub row_unannotated : {now bad : Tokens} → Stuck (Bare MayHaveAnnotation) (Starts no_bracket) now bad → Stuck (Row S) (Starts begins_item) now bad
+  pub row_unannotated : {now bad : Tokens} → Stuck (Bare MayHaveAnnotation) (Starts no_bracket) now bad → Stuck (Row S) (Starts behind_item) now bad
   row_unannotated k = stuck_in fits_row can_row k
 
-  split : {ts t r : Tokens} {x : Item} {z : List Item} → Row S ts x t → ((y : Item) (mid : Tokens) → Row S ts y mid → Starts begins_item mid → (y ≡ x) × (mid ≡ t)) → Rows S ts z r → Starts is_end r → Whole (Rows S) (x ∷ []) t z r
+  split : {ts t r : Tokens} {x : Item} {z : List Item} → Row S ts x t → ((y : Item) (mid : Tokens) → Row S ts y mid → Starts behind_item mid → (y ≡ x) × (mid ≡ t)) → Rows S ts z r → Starts is_end r → Whole (Rows S) (x ∷ []) t z r
   split w only none g = absurd (opens_not_end _ (row_begins w) g)
   split w only (note n d) g = absurd (false≢true (sym (row_plain w) ∙ note_is n))
   split {r = r} {x = x} w only (row {mid = mid} {x = y} {xs = ys} v d) g =
@@ -117,7 +117,7 @@ module _ {S : Tokens → Item → Tokens → Type 0} {test : Terminal → Bool} 
       record { more = ys; is = ap (λ (i : Item). i ∷ ys) o.0; behind = subst (λ (l : Tokens). Rows S l ys r) o.1 d }
 
   -- one more row
-  pub rows_row : {now next : Tokens} {x : Item} → Took (Row S) (Starts begins_item) now x next → Upto (Rows S) (Whole (Rows S) (x ∷ [])) (Starts is_end) now next
+  pub rows_row : {now next : Tokens} {x : Item} → Took (Row S) (Starts behind_item) now x next → Upto (Rows S) (Whole (Rows S) (x ∷ [])) (Starts is_end) now next
   rows_row w = record {
     front = w.front;
     cut = w.cut;
@@ -125,13 +125,13 @@ module _ {S : Tokens → Item → Tokens → Type 0} {test : Terminal → Bool} 
     splits = λ t a z r d g. split (w.derives t) (λ y mid v f. w.only t a y mid v f) d g;
   }
 
-  refuse : {ts r : Tokens} {z : List Item} → test (first_terminal ts) ≡ true → is_note ts ≡ false → ((y : Item) (mid : Tokens) → Row S ts y mid → Starts begins_item mid → ⊥) → Rows S ts z r → Starts is_end r → ⊥
+  refuse : {ts r : Tokens} {z : List Item} → test (first_terminal ts) ≡ true → is_note ts ≡ false → ((y : Item) (mid : Tokens) → Row S ts y mid → Starts behind_item mid → ⊥) → Rows S ts z r → Starts is_end r → ⊥
   refuse {ts = ts} h p never none g = opens_not_end ts h g
   refuse h p never (note n d) g = false≢true (sym p ∙ note_is n)
   refuse h p never (row v d) g = never _ _ v (rows_front d g)
 
   -- what begins as here is no note, since a row stopped
-  stuck_plain : (front : Tokens) {t bad : Tokens} → Alike t bad → is_note (front ++ bad) ≡ false → ((t : Tokens) → Alike t bad → (x : Item) (r : Tokens) → Row S (front ++ t) x r → Starts begins_item r → ⊥) → is_note (front ++ t) ≡ false
+  stuck_plain : (front : Tokens) {t bad : Tokens} → Alike t bad → is_note (front ++ bad) ≡ false → ((t : Tokens) → Alike t bad → (x : Item) (r : Tokens) → Row S (front ++ t) x r → Starts behind_item r → ⊥) → is_note (front ++ t) ≡ false
   stuck_plain [] ends h never = refl
   stuck_plain [] (same {x = ident n # i}) h never = absurd (never (ident n # i ∷ assign m.Plain # 0 ∷ keyword k.Text # 0 ∷ []) same (t.define n m.Plain t.text) [] (both g.bare (s.named n i [])) tt)
   stuck_plain [] (same {x = prefixed n l # i}) h never = absurd (false≢true (sym h))
@@ -139,7 +139,7 @@ module _ {S : Tokens → Item → Tokens → Type 0} {test : Terminal → Bool} 
   stuck_plain (y # i ∷ fs) {t = t} {bad = bad} a h never = same_second y i (fs ++ t) (fs ++ bad) (first_alike (alike_front fs a)) ∙ h
 
   -- a row stopped
-  pub rows_stuck : {now bad : Tokens} → test (first_terminal now) ≡ true → is_note now ≡ false → Stuck (Row S) (Starts begins_item) now bad → Stuck (Rows S) (Starts is_end) now bad
+  pub rows_stuck : {now bad : Tokens} → test (first_terminal now) ≡ true → is_note now ≡ false → Stuck (Row S) (Starts behind_item) now bad → Stuck (Rows S) (Starts is_end) now bad
   rows_stuck h p w = record {
     front = w.front;
     cut = w.cut;
@@ -204,7 +204,7 @@ abbrev pub So_far : (Tokens → List Item → Tokens → Type 0) → (Tokens →
 So_far V S xs ts now = Upto V (Whole (Rows S) xs) (Starts is_end) ts now
 
 module _ {V : Tokens → List Item → Tokens → Type 0} {S : Tokens → Item → Tokens → Type 0} {test : Terminal → Bool} (s : IsRow S test) (xs : List Item) {ts now : Tokens} (so_far : So_far V S xs ts now) where
-  pub so_far_row : {body next : Tokens} {x : Item} → Took (Bare MayHaveAnnotation) (Starts no_bracket) now tt body → Took S (Starts begins_item) body x next → So_far V S (xs ++ x ∷ []) ts next
+  pub so_far_row : {body next : Tokens} {x : Item} → Took (Bare MayHaveAnnotation) (Starts no_bracket) now tt body → Took S (Starts behind_item) body x next → So_far V S (xs ++ x ∷ []) ts next
   so_far_row a k = upto_then so_far (part_behind (λ (l : List Item). l) xs (rows_row s (row_took s a k)))
 
   pub so_far_note : {y : Terminal} {i : ℕ} {next behind : Tokens} → now ≡ y # i ∷ next → is_note now ≡ true → Took (Bare IsAnnotation) Anything next tt behind → So_far V S xs ts behind
@@ -216,7 +216,7 @@ module _ {V : Tokens → List Item → Tokens → Type 0} {S : Tokens → Item �
   pub stuck_annotation : {bad : Tokens} → test (first_terminal now) ≡ true → is_note now ≡ false → Stuck (Bare MayHaveAnnotation) (Starts no_bracket) now bad → Stuck V (Starts is_end) ts bad
   stuck_annotation h p k = parts_stuck (λ (l : List Item). l) xs so_far (rows_stuck s h p (row_unannotated s k))
 
-  pub stuck_row : {body bad : Tokens} → test (first_terminal now) ≡ true → is_note now ≡ false → Took (Bare MayHaveAnnotation) (Starts no_bracket) now tt body → Stuck S (Starts begins_item) body bad → Stuck V (Starts is_end) ts bad
+  pub stuck_row : {body bad : Tokens} → test (first_terminal now) ≡ true → is_note now ≡ false → Took (Bare MayHaveAnnotation) (Starts no_bracket) now tt body → Stuck S (Starts behind_item) body bad → Stuck V (Starts is_end) ts bad
   stuck_row h p a k = parts_stuck (λ (l : List Item). l) xs so_far (rows_stuck s h p (row_stuck s a k))
 
   pub so_far_took : test (first_terminal now) ≡ false → Took V (Starts is_end) ts xs now

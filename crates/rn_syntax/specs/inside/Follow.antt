@@ -69,17 +69,17 @@ abbrev pub behind_pattern : Terminal → Bool
 behind_pattern (operator o) = false
 behind_pattern x = behind_operand x
 
--- behind declarations, and where items begin or end
-abbrev pub begins_item : Terminal → Bool
-begins_item (ident n) = true
-begins_item (prefixed n l) = true
-begins_item (keyword k.Start) = true
-begins_item (keyword k.Div) = true
-begins_item (keyword k.Include) = true
-begins_item (keyword k.Grammar) = true
-begins_item left_bracket = true
-begins_item right_brace = true
-begins_item x = false
+-- what may stand behind declarations and behind an item
+abbrev pub behind_item : Terminal → Bool
+behind_item (ident n) = true
+behind_item (prefixed n l) = true
+behind_item (keyword k.Start) = true
+behind_item (keyword k.Div) = true
+behind_item (keyword k.Include) = true
+behind_item (keyword k.Grammar) = true
+behind_item left_bracket = true
+behind_item right_brace = true
+behind_item x = false
 
 -- behind items
 abbrev pub is_end : Terminal → Bool

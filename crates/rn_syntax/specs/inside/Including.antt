@@ -9,19 +9,19 @@ use Rattle.rn_syntax.specs.Grammar.{Tokens, IsLiteral, IsComponent, AreItems, Ar
 use Rattle.rn_syntax.specs.inside.Sequence.{Then, Gives, IsToken}
 
 -- an item or a note begins
-abbrev pub opens_item : Terminal → Bool
-opens_item (ident n) = true
-opens_item (prefixed n l) = true
-opens_item (keyword k.Start) = true
-opens_item (keyword k.Div) = true
-opens_item (keyword k.Include) = true
-opens_item left_bracket = true
-opens_item x = false
+abbrev pub begins_item : Terminal → Bool
+begins_item (ident n) = true
+begins_item (prefixed n l) = true
+begins_item (keyword k.Start) = true
+begins_item (keyword k.Div) = true
+begins_item (keyword k.Include) = true
+begins_item left_bracket = true
+begins_item x = false
 
 -- an inner item or a note begins
-abbrev pub opens_inner : Terminal → Bool
-opens_inner (keyword k.Include) = false
-opens_inner x = opens_item x
+abbrev pub begins_inner : Terminal → Bool
+begins_inner (keyword k.Include) = false
+begins_inner x = begins_item x
 
 -- define | start | "div" "{" item* "}" | include
 pub data IsItem : Tokens → Item → Tokens → Type 0 where

@@ -7,7 +7,7 @@ use Rattle.rn_syntax.specs.declared.fault.Fault.TheVariants as f
 use Rattle.rn_syntax.specs.Terminal.{◌#◌, keyword, left_brace, right_brace}
 use Rattle.rn_syntax.specs.Tree.{Item, Module, items_of}
 use Rattle.rn_syntax.specs.Grammar.{Tokens, MayHaveAnnotation, AreFollows, AreItems, AreDeclarations}
-use Rattle.rn_syntax.specs.Fault.{Stops}
+use Rattle.rn_syntax.specs.Beginnings.{Stops}
 use Rattle.rn_syntax.specs.inside.Sequence.{Then, Gives, IsToken}
 use Rattle.rn_syntax.specs.inside.Reading.{Bare, rest}
 use Rattle.rn_syntax.specs.Spelled.{AreSpelled}

@@ -7,13 +7,13 @@ use Rattle.std.proofs.lemmas.Bool.{and_from}
 use Rattle.rn_text.specs.declared.parts.Part.TheVariants.{Space, Token}
 use Rattle.rn_text.specs.declared.parts.Kind.TheVariants.{Name, Keyword, Quoted, Prefixed, AnyOf, Segment, Symbol}
 use Rattle.rn_text.specs.Characters.{is_xml_char, is_ncname, is_keyword}
-use Rattle.rn_text.specs.Literals.{quoted}
+use Rattle.rn_text.specs.Literals.{delimited}
 use Rattle.rn_text.specs.Parts.{IsFirstPart, Piece, IsCut, text_of, is_symbol}
 use Rattle.rn_text.specs.Texts.{is_white}
 use Rattle.rn_text.proofs.Cutting.FirstParts.{white_first, keyword_is_name}
 use Rattle.rn_text.proofs.Cutting.BeforeBreaks.{is_break, is_solo, name_before, prefixed_before, any_before, quoted_before, symbol_before, solo_before, segment_before}
 use Rattle.rn_text.proofs.Quoting.SegmentTexts.{Together}
-use Rattle.rn_text.proofs.Quoting.QuotedRuns.{quoted_segment, quoted_xml, all_append}
+use Rattle.rn_text.proofs.Quoting.DelimitedRuns.{delimited_segment, delimited_xml, all_append}
 use Rattle.rn_text.proofs.Words.XmlNames.{ncname_xml}
 
 -- the pieces are the parts of their text before a break, and their characters are of XML
@@ -110,5 +110,5 @@ pub any_free : (p : List ℕ) → is_ncname p ≡ true → Free (record { part =
 unfolding is_xml_char
 any_free p x = one_free (record { part = Token AnyOf; spelling = p ++ 58 ∷ 42 ∷ [] }) (all_append is_xml_char p (58 ∷ 42 ∷ []) (ncname_xml p x) refl) (λ rest. any_before p rest x)
 
-pub segment_sound : (s : List ℕ) → Together s → list_all is_xml_char s ≡ true → Sound (record { part = Token Segment; spelling = quoted s } ∷ [])
-segment_sound s t x = one_sound (record { part = Token Segment; spelling = quoted s }) (quoted_xml s x) (λ b rest e. segment_before (quoted s) b rest (quoted_segment s t) e)
+pub segment_sound : (s : List ℕ) → Together s → list_all is_xml_char s ≡ true → Sound (record { part = Token Segment; spelling = delimited s } ∷ [])
+segment_sound s t x = one_sound (record { part = Token Segment; spelling = delimited s }) (delimited_xml s x) (λ b rest e. segment_before (delimited s) b rest (delimited_segment s t) e)

@@ -10,17 +10,17 @@ use Rattle.rn_text.specs.declared.parts.Part.TheVariants.{Space, Token}
 use Rattle.rn_text.specs.declared.parts.Kind.TheVariants.{Segment, Symbol}
 use Rattle.rn_text.specs.Characters.{is_xml_char}
 use Rattle.rn_text.specs.Segments.{begins_with, segment_text}
-use Rattle.rn_text.specs.Literals.{literal_bytes, quoted, joined, segments, literal_of}
+use Rattle.rn_text.specs.Literals.{literal_bytes, delimited, joined, segments, literal_of}
 use Rattle.rn_text.specs.Parts.{Piece, IsCut, symbols}
 use Rattle.rn_text.specs.Tokens.{Lexeme, HasTokens, SegmentsHaveText, lexemes, unmarked, unmarked_start}
 use Rattle.rn_text.proofs.Cutting.FirstParts.{white_first}
 use Rattle.rn_text.proofs.Cutting.BeforeBreaks.{solo_before, at_end, before_end}
-use Rattle.rn_text.proofs.Quoting.SegmentTexts.{Together, quoted_text, segments_together, segments_join}
-use Rattle.rn_text.proofs.Quoting.QuotedRuns.{quoted_segment, quoted_xml, all_append}
+use Rattle.rn_text.proofs.Quoting.SegmentTexts.{Together, delimited_text, segments_together, segments_join}
+use Rattle.rn_text.proofs.Quoting.DelimitedRuns.{delimited_segment, delimited_xml, all_append}
 use Rattle.rn_text.proofs.TokenLists.CutLexemes.{xml_scalars, all_parts}
 
 abbrev segment : List ℕ → Piece
-segment s = record { part = Token Segment; spelling = quoted s }
+segment s = record { part = Token Segment; spelling = delimited s }
 
 abbrev space : Piece
 space = record { part = Space; spelling = 32 ∷ [] }
@@ -36,25 +36,25 @@ literal_pieces (s ∷ t ∷ ss) = segment s ∷ space ∷ tilde ∷ space ∷ li
 -- the literal is cut into them
 literal_cut : (ss : List (List ℕ)) → AllByRecursion Together ss → IsCut (joined ss) (literal_pieces ss) []
 unfolding symbols
-literal_cut [] t = ([], at_end Segment (quoted []) (quoted_segment [] tt), refl)
-literal_cut (s ∷ []) t = ([], at_end Segment (quoted s) (quoted_segment s t.0), refl)
+literal_cut [] t = ([], at_end Segment (delimited []) (delimited_segment [] tt), refl)
+literal_cut (s ∷ []) t = ([], at_end Segment (delimited s) (delimited_segment s t.0), refl)
 literal_cut (s ∷ r ∷ ss) t =
     let next = joined (r ∷ ss) in (
       32 ∷ 126 ∷ 32 ∷ next,
-      before_end Segment (quoted s) (32 ∷ 126 ∷ 32 ∷ next) (quoted_segment s t.0) refl,
+      before_end Segment (delimited s) (32 ∷ 126 ∷ 32 ∷ next) (delimited_segment s t.0) refl,
       (126 ∷ 32 ∷ next, white_first 32 (126 ∷ 32 ∷ next) refl, (32 ∷ next, solo_before 126 (32 ∷ next) refl refl, (next, white_first 32 next refl, literal_cut (r ∷ ss) t.1))),
     )
 
 -- its characters are of XML where those of the text are
 literal_xml : (ss : List (List ℕ)) → list_all is_xml_char (flat_map (λ s. s) ss) ≡ true → list_all is_xml_char (joined ss) ≡ true
 unfolding is_xml_char
-literal_xml [] e = quoted_xml [] refl
-literal_xml (s ∷ []) e = quoted_xml s (all_parts is_xml_char s [] e).0
-literal_xml (s ∷ r ∷ ss) e = grind (arith, nat_tests, all_append, all_parts, quoted_xml, literal_xml (r ∷ ss))
+literal_xml [] e = delimited_xml [] refl
+literal_xml (s ∷ []) e = delimited_xml s (all_parts is_xml_char s [] e).0
+literal_xml (s ∷ r ∷ ss) e = grind (arith, nat_tests, all_append, all_parts, delimited_xml, literal_xml (r ∷ ss))
 
 -- and their texts are the text's
-segment_back : (s : List ℕ) → Together s → list_all is_xml_char s ≡ true → segment_text (chars (encode_utf8_all (quoted s))) ≡ s
-segment_back s t xml = ap segment_text (chars-encodes (quoted s) (xml_scalars (quoted s) (quoted_xml s xml))) ∙ quoted_text s t
+segment_back : (s : List ℕ) → Together s → list_all is_xml_char s ≡ true → segment_text (chars (encode_utf8_all (delimited s))) ≡ s
+segment_back s t xml = ap segment_text (chars-encodes (delimited s) (xml_scalars (delimited s) (delimited_xml s xml))) ∙ delimited_text s t
 
 literal_texts : (ss : List (List ℕ)) (place : ℕ) → AllByRecursion Together ss → list_all is_xml_char (flat_map (λ s. s) ss) ≡ true → SegmentsHaveText (lexemes place (literal_pieces ss)) (flat_map (λ s. s) ss)
 literal_texts [] place t e = (refl, sym (segment_back [] tt refl))
@@ -65,12 +65,12 @@ literal_texts (s ∷ r ∷ ss) place t e =
     (refl, refl, append-nil (encode_utf8 126) ∙ encode_ascii 126 (lit< tt), (more, ap (λ l. l ++ more) (sym (segment_back s t.0 parts.0)), literal_texts (r ∷ ss) _ t.1 parts.1))
 
 -- no byte order mark begins it
-no_mark : (s rest : List ℕ) → begins_with (λ c. c == 0xFEFF) (quoted s ++ rest) ≡ false
+no_mark : (s rest : List ℕ) → begins_with (λ c. c == 0xFEFF) (delimited s ++ rest) ≡ false
 no_mark s rest = grind (arith, nat_tests)
 
 literal_unmarked : (ss : List (List ℕ)) → unmarked (joined ss) ≡ joined ss
 literal_unmarked [] = refl
-literal_unmarked (s ∷ []) = cond-false _ _ _ (ap (begins_with (λ c. c == 0xFEFF)) (sym (append-nil (quoted s))) ∙ no_mark s [])
+literal_unmarked (s ∷ []) = cond-false _ _ _ (ap (begins_with (λ c. c == 0xFEFF)) (sym (append-nil (delimited s))) ∙ no_mark s [])
 literal_unmarked (s ∷ r ∷ ss) = cond-false _ _ _ (no_mark s (codes " ~ " ++ joined (r ∷ ss)))
 
 pub literal_reads_back : (cs : List ℕ) → list_all is_xml_char cs ≡ true → (ts : List Lexeme) × HasTokens (literal_of cs) ts × SegmentsHaveText ts cs

@@ -10,7 +10,7 @@ use Rattle.std.specs.Str.Parse.{digits_value}
 use Rattle.std.proofs.lemmas.Bool.{cases_Bool, cond-false, and_left, and_right}
 use Rattle.rn_text.specs.Characters.{is_xml_char}
 use Rattle.rn_text.specs.Segments.{segment_text, text_after, opens_threefold, is_segment, escape_front, begins_with, is_x}
-use Rattle.rn_text.specs.Literals.{are_parted, segments, written, delimiter_for, quoted, literal_of}
+use Rattle.rn_text.specs.Literals.{are_parted, segments, written, delimiter_for, delimited, literal_of}
 
 -- small cases, by computing
 segment_cases : (segment_text (codes "'\\xx{41}'") ≡ codes "A") × (segment_text (codes "\"\"\"a\"b" ++ 10 ∷ codes "c\"\"\"") ≡ codes "a\"b" ++ 10 ∷ codes "c")
@@ -72,14 +72,14 @@ pub no_delimiter : (c : ℕ) (rest : List ℕ) → begins_with (λ e. e == delim
 no_delimiter c rest = grind (arith, nat_tests, plain_written)
 
 -- a written segment reads as the segment
-pub quoted_text : (s : List ℕ) → Together s → segment_text (quoted s) ≡ s
-quoted_text [] t = refl
-quoted_text (c ∷ cs) t =
+pub delimited_text : (s : List ℕ) → Together s → segment_text (delimited s) ≡ s
+delimited_text [] t = refl
+delimited_text (c ∷ cs) t =
     let q = delimiter_for c in
     let inside = flat_map written (c ∷ cs) in
     let tail : inside ++ q ∷ [] ≡ written c ++ (flat_map written cs ++ q ∷ []) = append_assoc (written c) (flat_map written cs) (q ∷ []) in
-    let simple : opens_threefold (quoted (c ∷ cs)) ≡ false = and_right _ _ (and_right _ _ (and_left _ _ (ap (begins_with (λ e. e == q)) tail ∙ no_delimiter c (flat_map written cs ++ q ∷ [])))) in
-    let long : length (quoted (c ∷ cs)) - 2 ≡ length inside = omega (arith, length-append inside (q ∷ [])) in
+    let simple : opens_threefold (delimited (c ∷ cs)) ≡ false = and_right _ _ (and_right _ _ (and_left _ _ (ap (begins_with (λ e. e == q)) tail ∙ no_delimiter c (flat_map written cs ++ q ∷ [])))) in
+    let long : length (delimited (c ∷ cs)) - 2 ≡ length inside = omega (arith, length-append inside (q ∷ [])) in
     ap (text_after 0) (cond-false _ _ _ simple ∙ ap (λ n. take n (inside ++ q ∷ [])) long ∙ take-append_seam inside (q ∷ [])) ∙ text_back (c ∷ cs) t
 
 -- no segment parts neighbours that stand in two

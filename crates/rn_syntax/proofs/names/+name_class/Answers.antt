@@ -14,22 +14,22 @@ use Rattle.rn_syntax.proofs.names.+name_class.Goals as goal
 -- ---- cores
 
 pub class_core-returns-in-Ident-clause-inside : goal.class_core-returns-in-Ident-clause-inside
-class_core-returns-in-Ident-clause-inside t c = made_advanced boxed_class_view _ _ _ _ c.one.result c.one.ensures (one_on c.in-Ident.ensures.inside)
+class_core-returns-in-Ident-clause-inside t c = made_advanced boxed_class_view _ _ _ _ c.single_name.result c.single_name.ensures (one_on c.in-Ident.ensures.inside)
 
 pub class_core-returns-in-Ident-clause-reads : goal.class_core-returns-in-Ident-clause-reads
-class_core-returns-in-Ident-clause-reads t c = made_reads boxed_class_view c.args.tokens.now c.args.at (c.args.at + 1) c.one.result c.one.ensures (λ s. word_core g.by_name c.in-Ident.ensures.next.1)
+class_core-returns-in-Ident-clause-reads t c = made_reads boxed_class_view c.args.tokens.now c.args.at (c.args.at + 1) c.single_name.result c.single_name.ensures (λ s. word_core g.by_name c.in-Ident.ensures.next.1)
 
 pub class_core-returns-in-Keyword-clause-inside : goal.class_core-returns-in-Keyword-clause-inside
-class_core-returns-in-Keyword-clause-inside t c = made_advanced boxed_class_view _ _ _ _ c.one-in-Keyword.result c.one-in-Keyword.ensures (one_on c.in-Keyword.ensures.inside)
+class_core-returns-in-Keyword-clause-inside t c = made_advanced boxed_class_view _ _ _ _ c.single_name-in-Keyword.result c.single_name-in-Keyword.ensures (one_on c.in-Keyword.ensures.inside)
 
 pub class_core-returns-in-Keyword-clause-reads : goal.class_core-returns-in-Keyword-clause-reads
-class_core-returns-in-Keyword-clause-reads t c = made_reads boxed_class_view c.args.tokens.now c.args.at (c.args.at + 1) c.one-in-Keyword.result c.one-in-Keyword.ensures (λ s. word_core (word_at_keyword c.keyword_text-name.ensures) c.in-Keyword.ensures.next.1)
+class_core-returns-in-Keyword-clause-reads t c = made_reads boxed_class_view c.args.tokens.now c.args.at (c.args.at + 1) c.single_name-in-Keyword.result c.single_name-in-Keyword.ensures (λ s. word_core (word_at_keyword c.keyword_text-name.ensures) c.in-Keyword.ensures.next.1)
 
 pub class_core-returns-in-Prefixed-clause-inside : goal.class_core-returns-in-Prefixed-clause-inside
-class_core-returns-in-Prefixed-clause-inside t c = made_advanced boxed_class_view _ _ _ _ c.one-in-Prefixed.result c.one-in-Prefixed.ensures (one_on c.in-Prefixed.ensures.inside)
+class_core-returns-in-Prefixed-clause-inside t c = made_advanced boxed_class_view _ _ _ _ c.single_name-in-Prefixed.result c.single_name-in-Prefixed.ensures (one_on c.in-Prefixed.ensures.inside)
 
 pub class_core-returns-in-Prefixed-clause-reads : goal.class_core-returns-in-Prefixed-clause-reads
-class_core-returns-in-Prefixed-clause-reads t c = made_reads boxed_class_view c.args.tokens.now c.args.at (c.args.at + 1) c.one-in-Prefixed.result c.one-in-Prefixed.ensures (λ s. let n = c.in-Prefixed.ensures.next in rw (c.prefix_name.ensures, c.local_name.ensures) (prefixed_core (place_is c.args.tokens.now n.1 c.place.ensures) n.1))
+class_core-returns-in-Prefixed-clause-reads t c = made_reads boxed_class_view c.args.tokens.now c.args.at (c.args.at + 1) c.single_name-in-Prefixed.result c.single_name-in-Prefixed.ensures (λ s. let n = c.in-Prefixed.ensures.next in rw (c.prefix_name.ensures, c.local_name.ensures) (prefixed_core (place_is c.args.tokens.now n.1 c.place.ensures) n.1))
 
 pub class_core-returns-in_err-class-in-LeftParen-clause-reads : goal.class_core-returns-in_err-class-in-LeftParen-clause-reads
 class_core-returns-in_err-class-in-LeftParen-clause-reads t c =
@@ -120,13 +120,13 @@ any_class_operand-returns-in_err-except-clause-reads t c =
     rw (p.1, p.2) (on_fault c.args.tokens.now (c.in_ok-body.body + 2) c.args.at _ (λ s bad k. except_stuck (any_view c.in-Some.any) (upto_then (operand_body (c.in_ok-body.ensures.skips s)) (operand_any c.in-Some.ensures.names)) e k) c.in_err-except.ensures.reads)
 
 pub any_class_operand-returns-clause-inside : goal.any_class_operand-returns-clause-inside
-any_class_operand-returns-clause-inside t c = made_advanced boxed_class_view _ _ _ _ c.all_but.result c.all_but.ensures (record { further = omega (arith, c.in_ok-body.ensures.inside.further, c.in_ok-except.ensures.inside.further); inside = c.in_ok-except.ensures.inside.inside })
+any_class_operand-returns-clause-inside t c = made_advanced boxed_class_view _ _ _ _ c.all_names_but.result c.all_names_but.ensures (record { further = omega (arith, c.in_ok-body.ensures.inside.further, c.in_ok-except.ensures.inside.further); inside = c.in_ok-except.ensures.inside.inside })
 
 pub any_class_operand-returns-clause-reads : goal.any_class_operand-returns-clause-reads
 any_class_operand-returns-clause-reads t c =
     let n = c.in-Minus.ensures.next in
     let e = next_two c.args.tokens.now c.in_ok-body.body n.1 in
-    made_reads boxed_class_view c.args.tokens.now c.args.at c.in_ok-except.end c.all_but.result c.all_but.ensures (λ s. except_took (any_view c.in-Some.any) (upto_then (operand_body (c.in_ok-body.ensures.skips s)) (operand_any c.in-Some.ensures.names)) e (c.in_ok-except.ensures.reads s))
+    made_reads boxed_class_view c.args.tokens.now c.args.at c.in_ok-except.end c.all_names_but.result c.all_names_but.ensures (λ s. except_took (any_view c.in-Some.any) (upto_then (operand_body (c.in_ok-body.ensures.skips s)) (operand_any c.in-Some.ensures.names)) e (c.in_ok-except.ensures.reads s))
 
 pub class_operand-class_end-requires : goal.class_operand-class_end-requires
 class_operand-class_end-requires t c = (omega (arith, c.decreases), (c.requires, (word_first c.next.result _ _ c.in-Ident.is c.next.ensures.next).1))

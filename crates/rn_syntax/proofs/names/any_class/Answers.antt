@@ -11,7 +11,7 @@ returns-in_err-end-clause-reads c =
     rw (p.1, p.2) (on_fault c.args.tokens.now c.args.at c.args.at _ (λ s bad k. followed_stuck (t.all (any_view c.args.any)) k) c.in_err-end.ensures.skips)
 
 pub returns-clause-inside : goal.returns-clause-inside
-returns-clause-inside c = made_passed boxed_class_view _ _ _ _ c.all.result c.all.ensures c.in_ok-end.ensures.inside
+returns-clause-inside c = made_passed boxed_class_view _ _ _ _ c.all_names.result c.all_names.ensures c.in_ok-end.ensures.inside
 
 pub returns-clause-reads : goal.returns-clause-reads
-returns-clause-reads c = made_reads boxed_class_view c.args.tokens.now c.args.at c.in_ok-end.end c.all.result c.all.ensures (λ s. followed_took (t.all (any_view c.args.any)) (c.in_ok-end.ensures.skips s))
+returns-clause-reads c = made_reads boxed_class_view c.args.tokens.now c.args.at c.in_ok-end.end c.all_names.result c.all_names.ensures (λ s. followed_took (t.all (any_view c.args.any)) (c.in_ok-end.ensures.skips s))

@@ -5,7 +5,7 @@ use Rattle.rn_syntax.specs.Places as places
 use Rattle.rn_syntax.specs.View.{declaration_view}
 use Rattle.rn_syntax.specs.Bound.{bound}
 use Rattle.rn_syntax.specs.inside.Numbered.{library_text}
-use Rattle.rn_syntax.proofs.Bound.{at_map, library_found, same_library}
+use Rattle.rn_syntax.proofs.Bound.{at_map, library_found}
 use Rattle.rn_syntax.proofs.bindings.Bindings.is_library.Goals as goal
 
 pub returns : goal.returns
@@ -18,4 +18,4 @@ returns c =
     = library_found ds p c.in-Some.number (declaration_view x) (sym c.library.ensures.number ∙ c.in-Some.is)
     ∙ ap library_text (at_map declaration_view c.args.self.now.declarations.now c.in-Some.number x c.index-declarations-number.is) in
     let library : places.library_of ds p ≡ library_text (declaration_view x) = ap (λ b. if b then Some places.xsd_uri else places.declared_library ds p) other ∙ found in
-    c.is_library.ensures ∙ same_library [] ds (library_text (declaration_view x)) c.args.uri.now ∙ ap (λ o. places.is_library ds o c.args.uri.now) (sym library)
+    c.is_library.ensures ∙ ap (λ o. places.is_library o c.args.uri.now) (sym library)

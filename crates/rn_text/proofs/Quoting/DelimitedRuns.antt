@@ -6,7 +6,7 @@ use Rattle.std.proofs.lemmas.List.Folds.{list_all-append}
 use Rattle.std.proofs.lemmas.Bool.{and_from, and_parts}
 use Rattle.rn_text.specs.Characters.{is_xml_char}
 use Rattle.rn_text.specs.Segments.{is_segment, opens_threefold, escape_front, is_x, ends_at_one, escapes_hold}
-use Rattle.rn_text.specs.Literals.{written, delimiter_for, quoted}
+use Rattle.rn_text.specs.Literals.{written, delimiter_for, delimited}
 use Rattle.rn_text.proofs.Cutting.DelimitedFronts.{one_step, one_here}
 use Rattle.rn_text.proofs.Quoting.WrittenLiterals.{same_delimiter}
 use Rattle.rn_text.proofs.Quoting.SegmentTexts.{Together, plain_written, not_x, no_delimiter}
@@ -36,11 +36,11 @@ holds c [] t = grind (arith, nat_tests, append_assoc, escapes_on, no_escape, not
 holds c (d ∷ ds) t = grind (arith, nat_tests, same_delimiter, append_assoc, escapes_on, no_escape, not_x_mark, holds d ds)
 
 -- it is a segment, with one delimiter on each side
-quoted_simple : (s : List ℕ) → Together s → opens_threefold (quoted s) ≡ false
-quoted_simple s h1 = grind (arith, nat_tests, append_assoc, no_delimiter)
+delimited_simple : (s : List ℕ) → Together s → opens_threefold (delimited s) ≡ false
+delimited_simple s h1 = grind (arith, nat_tests, append_assoc, no_delimiter)
 
-pub quoted_segment : (s : List ℕ) → Together s → is_segment (quoted s) ≡ true
-quoted_segment s h1 = grind (arith, nat_tests, ends, holds, quoted_simple)
+pub delimited_segment : (s : List ℕ) → Together s → is_segment (delimited s) ≡ true
+delimited_segment s h1 = grind (arith, nat_tests, ends, holds, delimited_simple)
 
 -- its characters are of XML where those of the text are
 pub all_append : (p : ℕ → Bool) (xs ys : List ℕ) → list_all p xs ≡ true → list_all p ys ≡ true → list_all p (xs ++ ys) ≡ true
@@ -54,6 +54,6 @@ all_written : (cs : List ℕ) → list_all is_xml_char cs ≡ true → list_all 
 all_written [] a = refl
 all_written (c ∷ cs) a = all_append is_xml_char (written c) (flat_map written cs) (written_xml c (and_parts _ _ a).0) (all_written cs (and_parts _ _ a).1)
 
-pub quoted_xml : (s : List ℕ) → list_all is_xml_char s ≡ true → list_all is_xml_char (quoted s) ≡ true
+pub delimited_xml : (s : List ℕ) → list_all is_xml_char s ≡ true → list_all is_xml_char (delimited s) ≡ true
 unfolding is_xml_char
-quoted_xml s h1 = grind (arith, nat_tests, all_append, all_written)
+delimited_xml s h1 = grind (arith, nat_tests, all_append, all_written)
