@@ -4,7 +4,7 @@ use Rattle.std.specs.Prelude.{if◌then◌else◌, ⊤}
 use Rattle.std.specs.Str.{bytes_eq}
 use Rattle.rn_syntax.specs.Tree as t
 use Rattle.rn_syntax.specs.Tree.{Declaration, Uri}
-use Rattle.rn_syntax.specs.Places.{declared_namespace, declared_library, declared_default, has_default, binds_namespace, binds_library, is_default, number_of, uri_of, uri_at, is_library, first}
+use Rattle.rn_syntax.specs.Places.{declared_namespace, declared_library, declared_default, has_default, binds_namespace, binds_library, is_default, number_of, uri_of, uri_at, first}
 use Rattle.rn_syntax.specs.inside.Numbered.{library_text}
 
 module _ (f : Declaration → Bool) where

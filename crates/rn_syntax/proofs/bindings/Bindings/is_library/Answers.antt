@@ -1,5 +1,5 @@
 -- The declaration of the number gives the library of the prefix.
-use Rattle.std.proofs.Common.{◌≡◌, [], ap, ◌∙◌, sym, false, Some}
+use Rattle.std.proofs.Common.{◌≡◌, ap, ◌∙◌, sym, false, Some}
 use Rattle.std.specs.Prelude.{bytes_eq, codes, if◌then◌else◌}
 use Rattle.rn_syntax.specs.Places as places
 use Rattle.rn_syntax.specs.View.{declaration_view}
