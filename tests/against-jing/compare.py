@@ -7,7 +7,7 @@ the set and changed in one place, and what is printed must be printed again. Whe
 must refuse it.
 compare.py PROGRAM texts COUNT [SEED]: module texts of which a token or more is changed, dropped or put in. `check` must find a fault where jing
 finds a syntax error, and none where jing takes the text.
-compare.py PROGRAM files COUNT [SEED]: trees of two to seven files in folders, with PROGRAM rnc-flat: includes, overrides, externals with and without
+compare.py PROGRAM files COUNT [SEED]: trees of two to six files in folders, with PROGRAM rnc-flat: includes, overrides, externals with and without
 inherit, nested grammars and parents. Where jing takes the main file, the program must print it, jing must take what is printed, the simplified forms
 that jing makes of both must be the same up to names (simplified.py), both must be valid for the same documents, and what is printed must be printed
 again. Where jing refuses the tree by another rule than section 7, the program must refuse it. The tree of a seed is the same whatever COUNT is.
