@@ -121,6 +121,13 @@ def uri(twin):
     return {"a": head + "".join(f"|element e{i}{{text}}" for i in range(60000))}
 
 
+def libraries(twin):
+    """60,000 values of a datatype library whose URI has 1.2 MB, which two includes bring in; in the twin a literal has that length."""
+    long = "u" * 1200000
+    head = f'datatypes x = "{"u" if twin else long}"\na |= "{long if twin else "u"}"\n'
+    return {"a": head + "\n".join(f'a |= x:t "n{i}"' for i in range(60000)), "driver": 'start = a\ninclude "a"\ninclude "a"'}
+
+
 def components(twin):
     """200,000 definitions of one name, which 511 includes bring in: 102 million members."""
     modules = {"a": "\n".join("x |= text" for _ in range(200000)), "driver": "start = x\n" + "\n".join('include "a"' for _ in range(1 if twin else 511))}
@@ -133,7 +140,7 @@ def interleaves(twin):
     return modules
 
 
-TWINNED = (definitions, prefixes, namespaces, literals, parentheses, interleaved, names, includes, uri)
+TWINNED = (definitions, prefixes, namespaces, literals, parentheses, interleaved, names, includes, uri, libraries)
 SHAPES = {shape.__name__: shape for shape in (*TWINNED, components, interleaves)}
 MEMORY = 8 << 30
 

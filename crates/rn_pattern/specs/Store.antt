@@ -1,5 +1,6 @@
 -- What the ids of a store of patterns stand for.
 use Rattle.std.specs.Prelude.{◌≡◌, ◌≢◌, ◌↔◌, ◌⊎◌, ◌+◌, ◌≤◌, All, AllPairs, Contains, ℕ, List, map, length, Bool, IsTrue, IfOk, OnErr, Option, Some, None, Result, string_bytes}
+use Rattle.std.specs.Rc.{rc_str_bytes}
 use Rattle.rn_pattern.specs.Tree as tree
 use Rattle.rn_pattern.specs.Tree.{Parameters, Tree, trees_of}
 use Rattle.rn_text.specs.Texts.{Text}
@@ -13,9 +14,9 @@ node_view at Node.NotAllowed = tree.not_allowed
 node_view at Node.Empty = tree.empty
 node_view at Node.Text = tree.text
 node_view at (Node.Ref x) = tree.ref (string_bytes x)
-node_view at (Node.Value l x t) = tree.value (string_bytes l) (string_bytes x) (string_bytes t)
-node_view at (Node.Datum l x ps None) = tree.datum (string_bytes l) (string_bytes x) (parameters_view ps.items)
-node_view at (Node.Datum l x ps (Some i)) = tree.datum_but (string_bytes l) (string_bytes x) (parameters_view ps.items) (at i)
+node_view at (Node.Value l x t) = tree.value (rc_str_bytes l) (string_bytes x) (string_bytes t)
+node_view at (Node.Datum l x ps None) = tree.datum (rc_str_bytes l) (string_bytes x) (parameters_view ps.items)
+node_view at (Node.Datum l x ps (Some i)) = tree.datum_but (rc_str_bytes l) (string_bytes x) (parameters_view ps.items) (at i)
 node_view at (Node.List i) = tree.list (at i)
 node_view at (Node.Attribute c i) = tree.attribute (name_class_view c) (at i)
 node_view at (Node.Element c i) = tree.element (name_class_view c) (at i)

@@ -1,6 +1,7 @@
 // One step of the canonical form: what a constructor makes of parts that are canonical (RELAX NG 2001, 4.20 and 4.21).
 ghost use Rattle.std.specs.Prelude.{◌≡◌, IfOk, IsTrue, List, IfSome, flat_map, map};
 ghost use Rattle.std.specs.Option.{option_map};
+ghost use Rattle.std.specs.Rc.{rc_str_bytes};
 ghost use Rattle.rn_pattern.specs.Canonical.{attribute_step, canonical_name, choice_step, group_step, has_not_allowed, interleave_step, list_step, one_or_more_step, sorted, sorted_once};
 ghost use Rattle.rn_pattern.specs.inside.Lists.{listed, members_by};
 ghost use Rattle.rn_pattern.specs.inside.Stored.{knows, tree_at};
@@ -18,6 +19,7 @@ use crate::node_table::NodeTable;
 use crate::tree::NameClass;
 use std::alloc::{AllocError, Global};
 use std::cmp::Ordering;
+use std::rc::RcStr;
 
 /// A pattern in canonical form: one that the store has, or a node over its ids that is to be stored.
 #[derive(Drop)]
@@ -33,18 +35,17 @@ pub enum Reduced {
 pub fn datum(
     nodes: &NodeTable<'_>,
     alloc: Global,
-    library: &str,
+    library: RcStr,
     type_name: &str,
     params: &[(String, String)],
     except: Option<NodeId>,
 ) -> Result<Reduced, AllocError>
     requires { IfSome except (λ i. IsTrue (knows_in nodes.now i)) }
     ensures tree { IfOk result (λ r. reduced_tree (trees nodes.now) r
-        ≡ datum_step library.now type_name.now (parameters_view params.now)
+        ≡ datum_step (rc_str_bytes library) type_name.now (parameters_view params.now)
         (option_map (tree_in nodes.now) except)) }
     ensures stored { IfOk result (IsReducedIn (trees nodes.now)) }
 {
-    let library = String::from_str(alloc, library)?;
     let type_name = String::from_str(alloc, type_name)?;
     let params = params.to_vec(alloc)?;
     Ok(Reduced::New(Node::Datum(library, type_name, params, allowed_except(nodes, except))))

@@ -4,6 +4,7 @@ ghost use Rattle.std.specs.List.{IsDistinct, IsDistinct-prop};
 ghost use Rattle.rn_pattern.specs.inside.Hashing.{node_eq};
 ghost use Rattle.rn_pattern.specs.inside.Stored.{NameEarlier, NameEarlier-prop, trees_of_nodes};
 
+use crate::libraries::Libraries;
 use crate::node::{Node, NodeId};
 use crate::node_table::NodeTable;
 use crate::pattern_store::Patterns;
@@ -11,11 +12,13 @@ use crate::seed::Seed;
 use crate::store::NodeStore;
 use indexmap::IndexSet;
 use std::alloc::{AllocError, Global};
+use std::rc::RcStr;
 
 /// A store in which equal patterns have equal ids: a constructor looks for an equal node by its hash.
 #[derive(Drop)]
 pub struct Interned {
     alloc: Global,
+    libraries: Libraries,
     nodes: IndexSet<Node<NodeId>, Seed>,
     ghost earlier: { NameEarlier 0 nodes.keys } by { NameEarlier-prop 0 nodes.keys },
     ghost distinct: { IsDistinct node_eq nodes.keys } by { IsDistinct-prop node_eq nodes.keys },
@@ -35,6 +38,7 @@ impl Interned {
     {
         Interned {
             alloc,
+            libraries: Libraries::new(alloc),
             nodes: IndexSet::with_hasher(alloc, seed),
         }
     }
@@ -61,6 +65,10 @@ impl NodeStore for Interned {
         NodeTable {
             nodes: self.nodes.as_slice(),
         }
+    }
+
+    fn library(&mut self, library: &str) -> Result<RcStr, AllocError> {
+        self.libraries.shared(library)
     }
 
     fn add(&mut self, node: Node<NodeId>) -> Result<NodeId, AllocError> {

@@ -20,6 +20,7 @@ pub mod graph;
 mod hashing;
 mod heads;
 pub mod interned;
+mod libraries;
 mod name_class;
 pub mod name_classes;
 pub mod node;

@@ -1,5 +1,6 @@
 // Nodes of a store.
 use crate::tree::NameClass;
+use std::rc::RcStr;
 
 /// The place of a pattern in a store.
 #[derive(Clone, Copy, PartialEq, Eq, PartialOrd, Ord, Hash, Drop)]
@@ -16,10 +17,10 @@ pub enum Node<Id> {
     Text,
     /// The name of a definition.
     Ref(String),
-    /// The datatype library, the type and the text.
-    Value(String, String, String),
-    /// The datatype library, the type, its parameters and what is excepted.
-    Datum(String, String, Vec<(String, String)>, Option<Id>),
+    /// The datatype library, the type and the text. The library is shared by all nodes of a store.
+    Value(RcStr, String, String),
+    /// The datatype library, the type, its parameters and what is excepted. The library is shared likewise.
+    Datum(RcStr, String, Vec<(String, String)>, Option<Id>),
     /// The pattern of a string's words.
     List(Id),
     /// The names, and the pattern of the text.

@@ -2,16 +2,19 @@
 ghost use Rattle.std.specs.Prelude.{◌≡◌};
 ghost use Rattle.rn_pattern.specs.inside.Stored.{NameEarlier, NameEarlier-prop, trees_of_nodes};
 
+use crate::libraries::Libraries;
 use crate::node::{Node, NodeId};
 use crate::node_table::NodeTable;
 use crate::pattern_store::Patterns;
 use crate::store::NodeStore;
 use std::alloc::{AllocError, Global};
+use std::rc::RcStr;
 
 /// A store that keeps each pattern that it is asked for, and looks for no equal one.
 #[derive(Drop)]
 pub struct Plain {
     alloc: Global,
+    libraries: Libraries,
     nodes: Vec<Node<NodeId>>,
     ghost earlier: { NameEarlier 0 nodes.items } by { NameEarlier-prop 0 nodes.items },
 }
@@ -23,6 +26,7 @@ impl Plain {
     {
         Plain {
             alloc,
+            libraries: Libraries::new(alloc),
             nodes: Vec::new(alloc),
         }
     }
@@ -44,6 +48,10 @@ impl NodeStore for Plain {
 
     fn table(&self) -> NodeTable<'_> {
         NodeTable { nodes: &self.nodes }
+    }
+
+    fn library(&mut self, library: &str) -> Result<RcStr, AllocError> {
+        self.libraries.shared(library)
     }
 
     fn add(&mut self, node: Node<NodeId>) -> Result<NodeId, AllocError> {

@@ -1,6 +1,7 @@
 // The constructors of a store, written once for all ways in which nodes may lie.
 ghost use Rattle.std.specs.Prelude.{◌≡◌, ◌+◌, ◌≤◌, IfOk, IfSome, IsTrue, List, OnErr, length};
 ghost use Rattle.std.specs.Option.{option_map};
+ghost use Rattle.std.specs.Rc.{rc_str_bytes};
 ghost use Rattle.rn_pattern.specs.inside.Hashing.{tree_at-same};
 ghost use Rattle.rn_pattern.specs.Matching.{MatchAlike};
 ghost use Rattle.rn_pattern.specs.inside.Stored.{NamesBelow, knows, tree_at, trees_of_nodes};
@@ -16,6 +17,7 @@ use crate::node_table::NodeTable;
 use crate::pattern_store::Patterns;
 use crate::tree::NameClass;
 use std::alloc::{AllocError, Global};
+use std::rc::RcStr;
 
 /// Where the nodes of a store lie, and how one is added.
 pub trait NodeStore {
@@ -26,6 +28,11 @@ pub trait NodeStore {
 
     fn table(&self) -> NodeTable<'_>
         ensures { trees_of_nodes result.nodes.now ≡ trees self.now };
+
+    /// The library as a text that the store shares. No id comes or goes.
+    fn library(&mut self, library: &str) -> Result<RcStr, AllocError>
+        ensures text { IfOk result (λ text. rc_str_bytes text ≡ library.now) }
+        ensures kept { trees self.new ≡ trees self.old };
 
     /// The id of the node.
     fn add(&mut self, node: Node<NodeId>) -> Result<NodeId, AllocError>
@@ -85,7 +92,7 @@ impl<S: NodeStore> Patterns for S {
     }
 
     fn value(&mut self, library: &str, type_name: &str, text: &str) -> Result<NodeId, AllocError> {
-        let library = String::from_str(self.allocator(), library)?;
+        let library = self.library(library)?;
         let type_name = String::from_str(self.allocator(), type_name)?;
         let text = String::from_str(self.allocator(), text)?;
         self.add(Node::Value(library, type_name, text))
@@ -110,6 +117,7 @@ impl<S: NodeStore> Patterns for S {
         ensures kept { AddsAnswerOnly knows tree_at length
             (S.trees self.old) (S.trees self.new) result }
     {
+        let library = self.library(library)?;
         let pattern = canonical::datum(
             &self.table(),
             self.allocator(),

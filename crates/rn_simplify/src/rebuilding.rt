@@ -1,6 +1,7 @@
 // From an id of a store back to its pattern.
 ghost use Rattle.std.specs.Prelude.{◌≡◌, All, IfOk, IfSome, IsSome, IsTrue, Some, map, string_bytes};
 ghost use Rattle.std.specs.Option.{option_map};
+ghost use Rattle.std.specs.Rc.{rc_str_bytes};
 ghost use Rattle.rn_pattern.specs.Nodes.{node_members};
 ghost use Rattle.rn_pattern.specs.Store.{node_view};
 ghost use Rattle.rn_pattern.specs.Tree.{Tree, value};
@@ -62,15 +63,15 @@ fn leaf_pattern<Id>(alloc: Global, node: &Node<Id>) -> Result<Pattern, AllocErro
 
 fn value_pattern(
     alloc: Global,
-    library: &str,
+    library: &RcStr,
     type_name: &String,
     text: &String,
 ) -> Result<Pattern, AllocError>
-    ensures { IfOk result (λ p. pattern_view p ≡ value library.now (string_bytes type_name.now)
-        (string_bytes text.now)) }
+    ensures { IfOk result (λ p. pattern_view p ≡ value (rc_str_bytes library.now)
+        (string_bytes type_name.now) (string_bytes text.now)) }
 {
     let value = Value {
-        library: RcStr::from_str(alloc, library)?,
+        library: library.clone()?,
         type_name: type_name.clone()?,
         text: text.clone()?,
     };
@@ -79,17 +80,17 @@ fn value_pattern(
 
 fn datum_pattern(
     alloc: Global,
-    library: &str,
+    library: &RcStr,
     type_name: &String,
     params: &[(String, String)],
     except: Option<Box<Pattern>>,
 ) -> Result<Pattern, AllocError>
     ensures { IfOk result (λ p. pattern_view p
-        ≡ datum_over library.now (string_bytes type_name.now)
+        ≡ datum_over (rc_str_bytes library.now) (string_bytes type_name.now)
         (parameters_view params.now) (excepted_view except)) }
 {
     let data = Data {
-        library: RcStr::from_str(alloc, library)?,
+        library: library.clone()?,
         type_name: type_name.clone()?,
         params: params.to_vec(alloc)?,
     };

@@ -8,6 +8,7 @@ use Rattle.rn_pattern.specs.Tree as tree
 use Rattle.rn_pattern.specs.Tree.{Tree, trees_of}
 use Rattle.rn_pattern.specs.View.{name_class_view, parameters_view}
 use Rattle.std.specs.Prelude.{◌⊎◌, string_bytes}
+use Rattle.std.specs.Rc.{rc_str_bytes}
 use Rattle.std.proofs.Math.Nat.{eq-or-lt_of_le}
 use Rattle.rn_pattern.specs.Store.{AddsOnly, KeepsTrees, StandsFor, node_view}
 use Rattle.rn_pattern.specs.inside.Stored.{tree_at, trees_from, trees_of_nodes, NamesBelow, NameEarlier, knows}
@@ -52,7 +53,7 @@ map_same at by k (i ∷ is) same h =
 
 -- a node's tree rests on the trees of the ids in it alone
 pub node_view_same : (at by : NodeId → Tree) (k : ℕ) (n : Node NodeId) → ((i : NodeId) → i.0 < k → at i ≡ by i) → NamesBelow k n → node_view at n ≡ node_view by n
-node_view_same at by k (Node.Datum l x ps (Some i)) same h = ap (tree.datum_but (string_bytes l) (string_bytes x) (parameters_view ps.items)) (same i h)
+node_view_same at by k (Node.Datum l x ps (Some i)) same h = ap (tree.datum_but (rc_str_bytes l) (string_bytes x) (parameters_view ps.items)) (same i h)
 node_view_same at by k (Node.Datum l x ps None) same h = refl
 node_view_same at by k (Node.List i) same h = ap tree.list (same i h)
 node_view_same at by k (Node.Attribute c i) same h = ap (tree.attribute (name_class_view c)) (same i h)

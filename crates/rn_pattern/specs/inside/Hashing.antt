@@ -5,6 +5,7 @@ use Rattle.std.specs.Ordering.{on}
 use Rattle.std.specs.Cmp.{IsEquivalence, decided, on_equiv, first_so, second_so, unsigned_Decides}
 use Rattle.std.specs.Cmp.Lexicographic.{pointwise, pointwise_decides, bytes_decides}
 use Rattle.std.specs.Hash as fed
+use Rattle.std.specs.Rc.{rc_str_bytes}
 use Rattle.std.proofs.Common.{refl, ap, subst, sym, ◌∙◌}
 use Rattle.std.proofs.lemmas.List.{append-nil, append_assoc}
 use Rattle.rn_pattern.specs.Tree as tree
@@ -156,8 +157,8 @@ places_writes is = flat_map fed.usize (map (λ i. i.0) is)
 -- what a kind of node has besides its number
 abbrev pub parts_writes : Node NodeId → List (List ℕ)
 parts_writes (Node.Ref x) = fed.str (string_bytes x)
-parts_writes (Node.Value l x t) = fed.str (string_bytes l) ++ (fed.str (string_bytes x) ++ fed.str (string_bytes t))
-parts_writes (Node.Datum l x ps e) = fed.str (string_bytes l) ++ (fed.str (string_bytes x) ++ (parameters_writes (parameters_view ps.items) ++ places_writes (option_to_list e)))
+parts_writes (Node.Value l x t) = fed.str (rc_str_bytes l) ++ (fed.str (string_bytes x) ++ fed.str (string_bytes t))
+parts_writes (Node.Datum l x ps e) = fed.str (rc_str_bytes l) ++ (fed.str (string_bytes x) ++ (parameters_writes (parameters_view ps.items) ++ places_writes (option_to_list e)))
 parts_writes (Node.List i) = fed.usize i.0
 parts_writes (Node.Attribute c i) = name_writes (name_class_view c) ++ fed.usize i.0
 parts_writes (Node.Element c i) = name_writes (name_class_view c) ++ fed.usize i.0

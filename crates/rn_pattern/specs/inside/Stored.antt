@@ -1,6 +1,7 @@
 -- The trees of a list of nodes, each of which names earlier ones by their places.
 use Rattle.std.specs.Prelude.{◌++◌, ◌∷◌, [], ℕ, ◌+◌, ◌<◌, List, All, length, slice_index_or, nat_lt, Bool, ⊤, Option, Some, None, String, string_bytes}
 use Rattle.std.specs.Coded.{×_prop, Π_prop, Unit-prop, le_prop}
+use Rattle.std.specs.Rc.{rc_str_bytes}
 use Rattle.rn_pattern.specs.Tree as tree
 use Rattle.rn_pattern.specs.Tree.{Tree}
 use Rattle.rn_text.specs.Texts.{Text}
@@ -74,8 +75,8 @@ node_rank (Node.Choice is) = 12
 
 abbrev pub node_texts : {I : Type 0} → Node I → List Text
 node_texts (Node.Ref x) = string_bytes x ∷ [] ∷ [] ∷ []
-node_texts (Node.Value l x t) = string_bytes l ∷ string_bytes x ∷ string_bytes t ∷ []
-node_texts (Node.Datum l x ps e) = string_bytes l ∷ string_bytes x ∷ [] ∷ []
+node_texts (Node.Value l x t) = rc_str_bytes l ∷ string_bytes x ∷ string_bytes t ∷ []
+node_texts (Node.Datum l x ps e) = rc_str_bytes l ∷ string_bytes x ∷ [] ∷ []
 node_texts n = [] ∷ [] ∷ [] ∷ []
 
 abbrev pub node_parameters : {I : Type 0} → Node I → List (String Global × String Global)

@@ -1,7 +1,9 @@
 -- What the nodes with a content or with members stand for.
 use Rattle.std.proofs.Common.{◌≡◌, ◌+◌, ◌⊎◌, inl, inr, [], ◌∷◌, Option, Some, None, refl, ap, ◌∙◌}
 use Rattle.std.specs.Prelude.{Box, String, string_bytes, Vec}
+use Rattle.std.specs.Rc.{rc_str_bytes}
 use Rattle.std.specs.declared.alloc.Global.{Global}
+use Rattle.std.specs.declared.rc.RcStr.{RcStr}
 use Rattle.rn_pattern.proofs.Ordered.PatternKinds.{datum_of}
 use Rattle.rn_pattern.specs.Nodes.{node_members}
 use Rattle.rn_pattern.specs.Store.{node_view}
@@ -52,6 +54,6 @@ pub datum_alike : (l x : Text) (ps : Parameters) (p : Option (Box Pattern Global
 datum_alike l x ps None = refl
 datum_alike l x ps (Some p) = refl
 
-pub node_of_datum : {I : Type 0} (at : I → Tree) (l x : String Global) (ps : Vec (String Global × String Global) Global) (e : Option I) → datum_over (string_bytes l) (string_bytes x) (parameters_view ps.items) (except_trees at e) ≡ node_view at (Node.Datum l x ps e)
+pub node_of_datum : {I : Type 0} (at : I → Tree) (l : RcStr Global) (x : String Global) (ps : Vec (String Global × String Global) Global) (e : Option I) → datum_over (rc_str_bytes l) (string_bytes x) (parameters_view ps.items) (except_trees at e) ≡ node_view at (Node.Datum l x ps e)
 node_of_datum at l x ps None = refl
 node_of_datum at l x ps (Some i) = refl

@@ -2,6 +2,7 @@ use Rattle.std.proofs.Common.{◌≡◌, Some, ◌+◌, ◌*◌, ◌<◌, ◌≤
 use Rattle.std.proofs.lemmas.List.{take_all}
 use Rattle.std.specs.Prelude.{All, IfOk, IsTrue, string_bytes}
 use Rattle.std.specs.Option.{option_map}
+use Rattle.std.specs.Rc.{rc_str_bytes}
 use Rattle.rn_pattern.specs.Store.{node_view}
 use Rattle.rn_pattern.specs.View.{parameters_view, pattern_view}
 use Rattle.rn_simplify.specs.inside.NodeKinds.{datum_over}
@@ -40,11 +41,10 @@ pub rebuild-returns-in_ok-except-in-Datum : goal.rebuild-returns-in_ok-except-in
 rebuild-returns-in_ok-except-in-Datum g t c =
     let at = g.P.Patterns.tree_of c.args.store.now in
     let d = c.in-Datum in
-    let l = c.deref.ensures in
-    let ps = c.deref-in-Datum.ensures.value in
+    let ps = c.deref.ensures.value in
     let except = c.in_ok-except-in-Datum.ensures in
     subst (λ x. IfOk c.datum_pattern.result (λ p. pattern_view p ≡ x))
-    ((λ i. datum_over (l i) (string_bytes d.type_name) (parameters_view (ps i)) (except i))
+    ((λ i. datum_over (rc_str_bytes d.library) (string_bytes d.type_name) (parameters_view (ps i)) (except i))
     ∙ node_of_datum at d.library d.type_name d.params d.except
     ∙ sym (ap (node_view at) d.is) ∙ c.node-node.ensures.root) c.datum_pattern.ensures
 
