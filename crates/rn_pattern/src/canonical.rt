@@ -118,8 +118,9 @@ pub fn one_or_more(nodes: &NodeTable<'_>, content: NodeId) -> Reduced
     }
 }
 
-/// A choice: choices among the members opened, `notAllowed` left out (4.20), in order, each pattern once. No member left is
-/// `notAllowed`, one is itself. The members are ids, in any order and with repeats.
+/// A choice: choices among the members opened, `notAllowed` left out (4.20), in order, each pattern once. With no
+/// member left it is `notAllowed`; with one left it is that member. The members are ids, in any order and with
+/// repeats.
 pub fn choice(
     nodes: &NodeTable<'_>,
     alloc: Global,
@@ -136,7 +137,7 @@ pub fn choice(
 }
 
 /// A group: `notAllowed` where a member is (4.20); else groups among the members opened, `empty` left out (4.21), the order
-/// kept. No member left is `empty`, one is itself.
+/// kept. With no member left it is `empty`; with one left it is that member.
 pub fn group(
     nodes: &NodeTable<'_>,
     alloc: Global,
@@ -155,7 +156,7 @@ pub fn group(
 }
 
 /// An interleave: `notAllowed` where a member is (4.20); else interleaves among the members opened, `empty` left out (4.21),
-/// in order, repeats kept. No member left is `empty`, one is itself.
+/// in order, repeats kept. With no member left it is `empty`; with one left it is that member.
 pub fn interleave(
     nodes: &NodeTable<'_>,
     alloc: Global,

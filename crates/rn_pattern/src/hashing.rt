@@ -8,7 +8,7 @@ ghost use Rattle.std.specs.Cmp.{partial_equiv_from_equiv};
 
 use crate::heads::compare_heads;
 use crate::node::{Node, NodeId};
-use crate::node_parts::{kind, parts_of};
+use crate::node_parts::{parts_of, rank};
 use crate::tree::NameClass;
 use std::cmp::Ordering;
 use std::hash::{Hash, Hasher};
@@ -38,18 +38,18 @@ impl Hash for Node<NodeId> {
     ghost respects_eq = { node_eq_writes };
 
     fn hash<H: Hasher>(&self, state: &mut H) {
-        state.write_u8(kind(self));
+        state.write_u8(rank(self));
         match self {
             Node::NotAllowed | Node::Empty | Node::Text => {}
             Node::Ref(name) => name.hash(state),
-            Node::Value(library, kind, text) => {
+            Node::Value(library, type_name, text) => {
                 library.hash(state);
-                kind.hash(state);
+                type_name.hash(state);
                 text.hash(state);
             }
-            Node::Datum(library, kind, parameters, except) => {
+            Node::Datum(library, type_name, parameters, except) => {
                 library.hash(state);
-                kind.hash(state);
+                type_name.hash(state);
                 hash_parameters(parameters, state);
                 hash_places(except.as_slice(), state);
             }

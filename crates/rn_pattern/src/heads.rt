@@ -15,11 +15,11 @@ pub struct Heads<'a> {
     /// The names of an attribute or an element.
     pub class: Option<&'a NameClass>,
     /// The name of a reference, or the library of a datatype.
-    pub first: &'a str,
+    pub name_or_library: &'a str,
     /// The type's name in its library.
-    pub second: &'a str,
+    pub type_name: &'a str,
     /// The text of a value.
-    pub third: &'a str,
+    pub text: &'a str,
     /// A name and a text each, in their order.
     pub parameters: &'a [(String, String)],
 }
@@ -34,9 +34,9 @@ pub fn bare_heads<'a>(kind: u8) -> Heads<'a>
     Heads {
         kind,
         class: None,
-        first: "",
-        second: "",
-        third: "",
+        name_or_library: "",
+        type_name: "",
+        text: "",
         parameters: &[],
     }
 }
@@ -62,12 +62,12 @@ pub fn compare_heads(x: Heads, y: Heads) -> Ordering
         Ordering::Equal => {}
         order => return order,
     }
-    match x.first.cmp(y.first) {
+    match x.name_or_library.cmp(y.name_or_library) {
         Ordering::Equal => {}
         order => return order,
     }
-    x.second
-        .cmp(y.second)
-        .then(x.third.cmp(y.third))
+    x.type_name
+        .cmp(y.type_name)
+        .then(x.text.cmp(y.text))
         .then(x.parameters.cmp(y.parameters))
 }

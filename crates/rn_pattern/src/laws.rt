@@ -136,8 +136,8 @@ pub fn canonical_patterns_keep_validity()
 {}
 
 /// A grammar in which notAllowed or empty replaces each reference whose definition is worth that, looking through any
-/// number of references, and nothing else is changed, is valid for the same documents (sections 4.19 to 4.21). The premise
-/// is the same.
+/// number of references, and nothing else is changed, is valid for the same documents (sections 4.19 to 4.21). Premise: an
+/// except of a datatype holds data, values and choices of them alone (7.1.4).
 pub fn settled_references_keep_validity()
     ensures { (k : ℕ) (G : Grammar) → HasExcepts G.start → DefinesExcepts G
         → ValidAlike G (replaced_grammar (settled_within k G) G) }

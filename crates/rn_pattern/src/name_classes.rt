@@ -7,7 +7,7 @@ ghost use Rattle.rn_pattern.specs.inside.PartViews.{name_classes_view, patterns_
 use crate::tree::{NameClass, Pattern};
 use std::rc::Rc;
 
-/// The namespace of namespace declarations.
+/// The namespace of declarations as RELAX NG 2001, 4.16 spells it, without the `/` at the end.
 const XMLNS_URI: &str = "http://www.w3.org/2000/xmlns";
 
 /// Whether the class holds no anyName, at any depth.

@@ -52,18 +52,21 @@ fn heads_of(node: &Node<NodeId>) -> Heads<'_>
     ensures parameters { result.parameters.now ≡ node_parameters node.now }
     ensures class { option_copied result.class ≡ node_class node.now }
 {
-    let bare = bare_heads(kind(node));
+    let bare = bare_heads(rank(node));
     match node {
-        Node::Ref(first) => Heads { first, ..bare },
-        Node::Value(first, second, third) => Heads {
-            first,
-            second,
-            third,
+        Node::Ref(name) => Heads {
+            name_or_library: name,
             ..bare
         },
-        Node::Datum(first, second, parameters, _) => Heads {
-            first,
-            second,
+        Node::Value(library, type_name, text) => Heads {
+            name_or_library: library,
+            type_name,
+            text,
+            ..bare
+        },
+        Node::Datum(library, type_name, parameters, _) => Heads {
+            name_or_library: library,
+            type_name,
             parameters,
             ..bare
         },
@@ -91,7 +94,7 @@ fn members_of(node: &Node<NodeId>) -> &[NodeId]
 }
 
 /// The place of the node's kind in the order.
-pub fn kind(node: &Node<NodeId>) -> u8
+pub fn rank(node: &Node<NodeId>) -> u8
     ensures { result ≡ node_rank node.now }
 {
     match node {

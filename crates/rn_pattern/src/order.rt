@@ -110,16 +110,19 @@ impl Pattern {
     {
         let bare = bare_heads(self.rank());
         match self {
-            Pattern::Ref(first) => Heads { first, ..bare },
+            Pattern::Ref(name) => Heads {
+                name_or_library: name,
+                ..bare
+            },
             Pattern::Value(value) => Heads {
-                first: &value.library,
-                second: &value.type_name,
-                third: &value.text,
+                name_or_library: &value.library,
+                type_name: &value.type_name,
+                text: &value.text,
                 ..bare
             },
             Pattern::Datum(data, _) => Heads {
-                first: &data.library,
-                second: &data.type_name,
+                name_or_library: &data.library,
+                type_name: &data.type_name,
                 parameters: &data.params,
                 ..bare
             },

@@ -110,7 +110,7 @@ pub trait Patterns {
         ensures kept { AddsAnswerOnly knows tree_of size self.old self.new result };
 
     /// A choice: the members of choices among the members in their place, without `notAllowed`, in order, each pattern
-    /// once. No member left is `notAllowed`, one is itself.
+    /// once. With no member left it is `notAllowed`; with one left it is that member.
     fn choice(&mut self, members: &[Self::Id]) -> Result<Self::Id, AllocError>
         requires { KnowsAll (knows self.old) members.now }
         ensures made { IfOk result (StandsFor (knows self.new) (tree_of self.new)
@@ -120,7 +120,7 @@ pub trait Patterns {
         ensures kept { AddsAnswerOnly knows tree_of size self.old self.new result };
 
     /// A group: the members of groups among the members in their place, without `empty`, the order kept; `notAllowed`
-    /// where a member is (4.20, 4.21). No member left is `empty`, one is itself.
+    /// where a member is (4.20, 4.21). With no member left it is `empty`; with one left it is that member.
     fn group(&mut self, members: &[Self::Id]) -> Result<Self::Id, AllocError>
         requires { KnowsAll (knows self.old) members.now }
         ensures made { IfOk result (StandsFor (knows self.new) (tree_of self.new)
@@ -129,7 +129,9 @@ pub trait Patterns {
             (tree.group (trees_of (map (tree_of self.old) members.now))) (tree_of self.new i)) }
         ensures kept { AddsAnswerOnly knows tree_of size self.old self.new result };
 
-    /// An interleave: as a group, and in order, repeats kept.
+    /// An interleave: the members of interleaves among the members in their place, without `empty`, in order, repeats
+    /// kept; `notAllowed` where a member is (4.20, 4.21). With no member left it is `empty`; with one left it is that
+    /// member.
     fn ileave(&mut self, members: &[Self::Id]) -> Result<Self::Id, AllocError>
         requires { KnowsAll (knows self.old) members.now }
         ensures made { IfOk result (StandsFor (knows self.new) (tree_of self.new)

@@ -109,8 +109,8 @@ pub fn one_or_more_over(content: Box<Pattern>) -> Pattern
     }
 }
 
-/// A choice: choices among the members opened, `notAllowed` left out (4.20), in order, each pattern once. No member left is
-/// `notAllowed`, one is itself.
+/// A choice: choices among the members opened, `notAllowed` left out (4.20), in order, each pattern once. With no
+/// member left it is `notAllowed`; with one left it is that member.
 pub fn choice_over(alloc: Global, members: Vec<Rc<Pattern>>) -> Result<Pattern, AllocError>
     ensures { IfOk result (λ p. pattern_view p ≡ choice_step (map shared_view members.items)) }
 {
@@ -120,7 +120,7 @@ pub fn choice_over(alloc: Global, members: Vec<Rc<Pattern>>) -> Result<Pattern, 
 }
 
 /// A group: `notAllowed` where a member is (4.20); else groups among the members opened, `empty` left out (4.21), the order
-/// kept. No member left is `empty`, one is itself.
+/// kept. With no member left it is `empty`; with one left it is that member.
 pub fn group_over(alloc: Global, members: Vec<Rc<Pattern>>) -> Result<Pattern, AllocError>
     ensures { IfOk result (λ p. pattern_view p ≡ group_step (map shared_view members.items)) }
 {
@@ -132,7 +132,7 @@ pub fn group_over(alloc: Global, members: Vec<Rc<Pattern>>) -> Result<Pattern, A
 }
 
 /// An interleave: `notAllowed` where a member is (4.20); else interleaves among the members opened, `empty` left out (4.21),
-/// in order, repeats kept. No member left is `empty`, one is itself.
+/// in order, repeats kept. With no member left it is `empty`; with one left it is that member.
 pub fn interleave_over(alloc: Global, members: Vec<Rc<Pattern>>) -> Result<Pattern, AllocError>
     ensures { IfOk result (λ p. pattern_view p ≡ interleave_step (map shared_view members.items)) }
 {

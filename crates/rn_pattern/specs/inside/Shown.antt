@@ -47,7 +47,7 @@ class_view (Some c) = more_names (name_class_view c) no_names
 
 -- the three texts, the parameters and the name class of the heads
 abbrev pub part_texts : Heads → List Text
-part_texts x = x.first.now ∷ x.second.now ∷ x.third.now ∷ []
+part_texts x = x.name_or_library.now ∷ x.type_name.now ∷ x.text.now ∷ []
 
 abbrev pub part_parameters : Heads → Parameters
 part_parameters x = parameters_view x.parameters.now
