@@ -296,7 +296,17 @@ begins name_class 1 'class.rnc:2:1: error: `bad` has a name class that is not al
     echo 'start = text'
 } >many.rnc
 printf 'x |= empty\n' >empty.rnc
-row many_includes 1 '' 'rnc-flat: error: the files are included more than 512 times in all, each inclusion of a file counted with those in it\n' many.rnc
+instances='rnc-flat: error: the files come to more than 512 instances of modules in all: each file that nobody includes is one, each inclusion is one, and each external or nested grammar is two\n'
+row many_includes 1 '' "$instances" many.rnc
+# one file with 256 nested grammars comes to one more than there may be, one with 255 to one less
+{
+    printf 'start = element a { '
+    for n in $(seq 255); do printf 'grammar { start = empty }, '; done
+    echo 'grammar { start = empty } }'
+} >grammars.rnc
+row many_grammars 1 '' "$instances" grammars.rnc
+sed 's/grammar { start = empty }, //' grammars.rnc >fewer.rnc
+if "$program" fewer.rnc >got.out 2>got.err && grep -q '^start = ' got.out; then pass; else fail "fewer_grammars: $(head -1 got.err)"; fi
 {
     printf 'start = '
     for n in $(seq 150000); do printf 'element name-of-an-element-number-%d { text } |\n' "$n"; done

@@ -18,7 +18,7 @@ brought, a module without items, and an except in a chain without parentheses. I
 and a second default namespace, and a wrong except of data also out of reach and behind a reference. jing alone tests section 7 of the standard.
 An include that overrides one name by two components isn't drawn: jing then loses what other modules add to that name (4.7 keeps it). Nor are a space
 in a reference to a file, which jing doesn't escape, and loops in excepts, which jing doesn't look for out of reach. A file that is a pattern with
-annotations before it jing refuses. rnc-flat refuses what includes files more than 512 times in all.
+annotations before it jing refuses. rnc-flat refuses files that come to more than 512 instances of modules.
 """
 import collections
 import os
@@ -187,7 +187,7 @@ class Told:
         is_good, rest = answers[self.paths()[0]]
         if self.refusal:
             is_early = self.damage in ("Except", "ExceptReference") and "excepted" in self.kind()
-            is_known = is_early or "more than 512 times" in self.kind()
+            is_known = is_early or "more than 512 instances" in self.kind()
             return f"{self.refusal.splitlines()[0]}; jing takes it" if is_good and not is_known else ""
         if not self.stays:
             return "what is printed is printed otherwise again"

@@ -24,13 +24,9 @@ pub fn general_sentence(alloc: Global, refusal: &Refusal) -> Result<String, Allo
 }
 
 fn instances_sentence(alloc: Global) -> Result<String, AllocError> {
-    let behind = "times in all, each inclusion of a file counted with those in it";
-    limit_sentence(
-        alloc,
-        "the files are included more than",
-        MAX_INSTANCES,
-        behind,
-    )
+    let behind =
+        "instances of modules in all: each file that nobody includes is one, each inclusion is one, and each external or nested grammar is two";
+    limit_sentence(alloc, "the files come to more than", MAX_INSTANCES, behind)
 }
 
 fn deep_output_sentence(alloc: Global) -> Result<String, AllocError> {
