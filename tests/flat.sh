@@ -332,7 +332,7 @@ row syntax 1 '' 'comma.rnc:1:21: error: `,` can'"'"'t stand here\n    start = el
 printf '\tstart = element a { ; }\n' >lexical.rnc
 row lexical 1 '' 'lexical.rnc:1:22: error: nothing that the compact syntax has begins like this\n    \tstart = element a { ; }\n    \t                    ^\n' lexical.rnc
 printf 'start = element p:a { text }\n' >prefix.rnc
-begins prefix 1 'prefix.rnc:1:17: error: this prefix is not declared, or is declared twice or against its meaning' prefix.rnc
+begins prefix 1 'prefix.rnc:1:17: error: this prefix is not declared, is declared twice, or may not be bound to this; or this is a second default namespace' prefix.rnc
 printf 'datatypes d = ""\nstart = element a { d:integer }\n' >builtin.rnc
 begins builtin 1 'builtin.rnc:2:21: error: without a datatype library there are only `string` and `token`, without parameters' builtin.rnc
 printf 'start = element a { xsd:QName "a" }\n' >context.rnc
@@ -355,7 +355,7 @@ row terminal 1 '' 'escape.rnc:3:5: error: nothing that the compact syntax has be
 # ---- all faults are told, in the order of the names of files and of their texts
 comma_lines='comma.rnc:1:21: error: `,` can'"'"'t stand here\n    start = element a { , }\n                        ^\n'
 lexical_lines='lexical.rnc:1:22: error: nothing that the compact syntax has begins like this\n    \tstart = element a { ; }\n    \t                    ^\n'
-prefix_lines='prefix.rnc:1:17: error: this prefix is not declared, or is declared twice or against its meaning\n    start = element p:a { text }\n                    ^\n'
+prefix_lines='prefix.rnc:1:17: error: this prefix is not declared, is declared twice, or may not be bound to this; or this is a second default namespace\n    start = element p:a { text }\n                    ^\n'
 builtin_lines='builtin.rnc:2:21: error: without a datatype library there are only `string` and `token`, without parameters\n    start = element a { d:integer }\n                        ^\n'
 except_lines='except.rnc:1:32: error: only data, values and choices of them can be excepted from data\n    start = element a { xsd:string - text }\n                                   ^\n'
 printf 'include "none.rnc"\ninclude "lexical.rnc"\ninclude "comma.rnc"\nstart = text\n' >several.rnc
@@ -365,7 +365,7 @@ bad checked 1 "$builtin_lines$except_lines$prefix_lines" checked.rnc
 printf 'include "prefix.rnc"\ninclude "comma.rnc"\n' >both.rnc
 bad both 1 "$comma_lines$prefix_lines" both.rnc
 printf 'include "http://x/y"\ninclude "none.rnc"\ninclude "prefix.rnc"\nstart = element p:a { text }\ninclude "%%"\n' >links.rnc
-bad links 3 'rnc-flat: error: nowhere.rnc: no such file\nlinks.rnc:1:9: error: no map says where the URI lies\n    include "http://x/y"\n            ^\nlinks.rnc:2:9: error: no such file\n    include "none.rnc"\n            ^\nlinks.rnc:4:17: error: this prefix is not declared, or is declared twice or against its meaning\n    start = element p:a { text }\n                    ^\nlinks.rnc:5:9: error: a % is not followed by two hexadecimal digits\n    include "%"\n            ^\n'"$prefix_lines" links.rnc nowhere.rnc
+bad links 3 'rnc-flat: error: nowhere.rnc: no such file\nlinks.rnc:1:9: error: no map says where the URI lies\n    include "http://x/y"\n            ^\nlinks.rnc:2:9: error: no such file\n    include "none.rnc"\n            ^\nlinks.rnc:4:17: error: this prefix is not declared, is declared twice, or may not be bound to this; or this is a second default namespace\n    start = element p:a { text }\n                    ^\nlinks.rnc:5:9: error: a % is not followed by two hexadecimal digits\n    include "%"\n            ^\n'"$prefix_lines" links.rnc nowhere.rnc
 printf 'start = parent x\n' >lifted.rnc
 bad lifted 1 'lifted.rnc:1:9: error: there is no grammar around this one that parent could mean\n    start = parent x\n            ^\n'"$prefix_lines" prefix.rnc lifted.rnc
 {

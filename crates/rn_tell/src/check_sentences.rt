@@ -51,7 +51,7 @@ pub fn check_sentence(alloc: Global, text: &str, place: &Place) -> Result<String
         Place::Encoding { .. } => ENCODING,
         Place::Lexical { .. } => LEXICAL,
         Place::Prefix { .. } =>
-            "this prefix is not declared, or is declared twice or against its meaning",
+            "this prefix is not declared, is declared twice, or may not be bound to this; or this is a second default namespace",
         Place::Builtin { .. } =>
             "without a datatype library there are only `string` and `token`, without parameters",
         Place::ContextValue { .. } =>
