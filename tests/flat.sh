@@ -412,6 +412,7 @@ printf 'start = text\n' >a.rnc
 bad missing 3 'rnc-flat: error: none.rnc: no such file\n' none.rnc
 bad missing_among 3 'rnc-flat: error: none.rnc: no such file\n' a.rnc none.rnc
 bad folder 3 'rnc-flat: error: folder: this is a folder\n' folder
+bad folder_at_the_top 3 'rnc-flat: error: /: this is a folder\n' /
 truncate -s 300M huge.rnc
 bad huge 3 'rnc-flat: error: huge.rnc: the file is larger than 4,194,304 bytes\n' huge.rnc
 ln -s self.rnc self.rnc
@@ -425,6 +426,7 @@ include() {
 }
 include include_missing 3 'no such file' 'missing.rnc'
 include include_folder 3 'this is a folder' 'folder'
+include include_folder_at_the_top 3 'this is a folder' '/'
 include include_huge 3 'the file is larger than 4,194,304 bytes' 'huge.rnc'
 include include_link_to_itself 3 "the file can't be read" 'self.rnc'
 include includes_itself 1 'the file refers to itself: include.rnc, include.rnc' 'include.rnc'

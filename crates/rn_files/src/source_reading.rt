@@ -11,7 +11,7 @@ use crate::soundness::fault_of;
 use crate::source_faults::{FaultKind, FaultPlace, SourceFault};
 use crate::sources::{Asked, Attempt, SourceFile, Sources};
 use crate::walk::{Entry, Followed, FoundFile, Origin, Walk};
-use rn_modset::is_module_name;
+use rn_modset::MAX_NAME;
 use std::alloc::{AllocError, Global};
 use std::collections::BTreeSet;
 
@@ -59,7 +59,7 @@ fn name_of(
 ) -> Result<String, AllocError> {
     let place = entry.place;
     let name = module_name(alloc, unescaped_name(entry, root))?;
-    if !is_module_name(name.as_str()) {
+    if name.len() > MAX_NAME {
         let kind = FaultKind::Name;
         faults.push(SourceFault { place, kind })?;
     }
