@@ -26,8 +26,11 @@ pub enum FileFault {
     Memory,
 }
 
+/// The path that is standard input.
+pub const STANDARD_INPUT: &str = "-";
+
 /// What files are read from, by paths whose segments are parted by `/`. A path that doesn't begin with `/` is one below
-/// the current folder, which is the path `.`; the path `-` is standard input.
+/// the current folder, which is the path `.`; [`STANDARD_INPUT`] is standard input.
 pub trait Files {
     // What the path may lead to; a type that says nothing allows all.
     ghost leads: { Self → List ℕ → List ℕ → Type 0 } = { λ _ _ _. Unit {0} };
@@ -40,7 +43,7 @@ pub trait Files {
     fn real_path(&self, alloc: Global, path: &str) -> Result<String, FileFault>
         ensures { IfOk result (λ found. leads self.now path.now (string_bytes found)) };
 
-    /// The bytes of the file at the path, or of standard input at `-`. `Large` where they are more than `MAX_TEXT`;
+    /// The bytes of the file at the path, or of standard input at [`STANDARD_INPUT`]. `Large` where they are more than `MAX_TEXT`;
     /// another fault tells why they can't be read, or that memory ran out.
     fn read(&self, alloc: Global, path: &str) -> Result<Vec<u8>, FileFault>
         ensures { IfOk result (λ bytes. gives self.now path.now bytes.items) };

@@ -8,7 +8,7 @@ ghost use Rattle.rn_outline.specs.Links.{is_link};
 
 use crate::escapes::file_uri;
 use crate::file_texts::{FileText, MAX_TEXT, text_of};
-use crate::files::{FileFault, Files};
+use crate::files::{FileFault, Files, STANDARD_INPUT};
 use crate::maps::{Location, Map, locate};
 use crate::paths::remove_dot_segments;
 use crate::root_folder::RootFolder;
@@ -17,9 +17,6 @@ use crate::uri_references::resolve_below;
 use crate::walk::{Followed, FoundFile, MAX_SOURCES, Origin, Walk};
 use rn_outline::{Outline, Part, PartKind};
 use std::alloc::{AllocError, Global};
-
-/// The word for standard input.
-const STANDARD_INPUT: &str = "-";
 
 /// Where files are looked for.
 #[derive(Clone, Copy)]

@@ -29,7 +29,7 @@ mod uris;
 mod walk;
 
 pub use file_texts::MAX_TEXT;
-pub use files::{FileFault, Files};
+pub use files::{FileFault, Files, STANDARD_INPUT};
 pub use line_breaks::Position;
 pub use maps::Map;
 pub use memory_files::MemoryFiles;

@@ -2,13 +2,13 @@
 
 use clap::error::ErrorKind;
 use clap::{Arg, ArgAction, ArgMatches, Command};
-use rn_files::Map;
+use rn_files::{Map, STANDARD_INPUT};
 use std::alloc::{AllocError, Global};
 use std::error::Error;
 use std::fmt;
 
-/// The word for standard input and standard output.
-pub const STANDARD: &str = "-";
+/// The word for standard output: that for standard input.
+const STANDARD_OUTPUT: &str = STANDARD_INPUT;
 
 /// What is said above the options.
 const ABOUT: &str =
@@ -216,10 +216,10 @@ fn asked_words(alloc: Global, words: &ArgMatches<'_>) -> Result<Words, WordsFaul
 fn is_named_twice(files: &[String], task: &Task) -> bool {
     let named = files
         .iter()
-        .filter(|file| file.as_str() == STANDARD)
+        .filter(|file| file.as_str() == STANDARD_INPUT)
         .count();
     match task {
-        Task::Check { file } if file.as_str() == STANDARD => named > 0,
+        Task::Check { file } if file.as_str() == STANDARD_INPUT => named > 0,
         _ => named > 1,
     }
 }
@@ -231,7 +231,7 @@ fn asked_task(alloc: Global, words: &ArgMatches<'_>) -> Result<Task, WordsFault>
     let Some(file) = copy(alloc, words.get_str("check"))? else {
         return Ok(Task::Write {
             product,
-            output: output.filter(|file| file.as_str() != STANDARD),
+            output: output.filter(|file| file.as_str() != STANDARD_OUTPUT),
         });
     };
     if output.is_some() {

@@ -1,16 +1,13 @@
 // The files of the system.
 ghost use Rattle.std.specs.Prelude.{◌≡◌, false};
 
-use rn_files::{FileFault, Files, MAX_TEXT};
+use rn_files::{FileFault, Files, MAX_TEXT, STANDARD_INPUT};
 use rn_flat::Outputs;
 use rn_merge::{Failed, Input, ReadFault, Source, read_input};
 use std::alloc::Global;
 use std::fs::{File, Metadata, OpenOptions};
 use std::io::{ErrorKind, Write};
 use std::{fs, io, process};
-
-/// The word for standard input.
-const STANDARD: &str = "-";
 
 /// How many names are tried for a file beside another.
 const ATTEMPTS: usize = 100;
@@ -29,7 +26,7 @@ impl Files for System<'_> {
     }
 
     fn read(&self, alloc: Global, path: &str) -> Result<Vec<u8>, FileFault> {
-        if path == STANDARD {
+        if path == STANDARD_INPUT {
             return read_all(alloc, &mut Input::new(self.rt.stdin()));
         }
         let opened = File::open(self.rt, path).map_err(|error| fault_of(&error))?;
