@@ -107,11 +107,11 @@ fn closing_place(sources: &[SourceFile], files: &[usize]) -> Option<FaultPlace> 
     Some(FaultPlace::Text { file, at })
 }
 
-/// That a file is meant or asked for which is none of the sources.
-fn stray_fault() -> SourceFault {
+/// That the sources don't keep what is promised of them.
+fn unsound_fault() -> SourceFault {
     SourceFault {
         place: FaultPlace::Current,
-        kind: FaultKind::Count,
+        kind: FaultKind::Unsound,
     }
 }
 
@@ -124,25 +124,25 @@ fn closed_loop(sources: &[SourceFile], looped: Vec<usize>) -> SourceFault {
     }
 }
 
-/// A loop along references; or that a file is meant or asked for that is none of the sources.
+/// A loop along references; or that the sources don't keep what else is promised of them.
 pub fn fault_of(alloc: Global, sources: &Sources) -> Result<Option<SourceFault>, AllocError>
     ensures { IfOk result (λ fault. IfNone fault (IsSound sources.now)) }
 {
     let files = sources.files.as_slice();
     if !is_graph(files) {
-        return Ok(Some(stray_fault()));
+        return Ok(Some(unsound_fault()));
     }
     if !are_below(sources.roots.as_slice(), files.len()) {
-        return Ok(Some(stray_fault()));
+        return Ok(Some(unsound_fault()));
     }
     if !have_names(files) {
-        return Ok(Some(stray_fault()));
+        return Ok(Some(unsound_fault()));
     }
     if !have_targets(files) {
-        return Ok(Some(stray_fault()));
+        return Ok(Some(unsound_fault()));
     }
     if !have_own_names(files) {
-        return Ok(Some(stray_fault()));
+        return Ok(Some(unsound_fault()));
     }
     let edges = file_graph(alloc, files)?;
     match first_loop(alloc, &edges)? {

@@ -44,6 +44,8 @@ pub enum FaultKind {
     Twice,
     /// The reference closes a loop through these files, in order, of which the first is the one that is referred to here.
     Loop(Vec<usize>),
+    /// The sources don't keep what is promised of them; no files are known for which this is so.
+    Unsound,
 }
 
 /// A fault and its place.

@@ -67,6 +67,7 @@ fn reading_sentence(
         FaultKind::Lexical => LEXICAL,
         FaultKind::Outside => "the file is not below the root folder",
         FaultKind::Twice => "another file has the same name",
+        FaultKind::Unsound => "what was read of the files does not fit together",
     };
     String::from_str(alloc, sentence)
 }
