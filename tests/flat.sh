@@ -202,7 +202,7 @@ input=flat.rnc
 row check_input 0 '' '' --check - a.rnc
 input=/dev/null
 printf 'default namespace = ""\nstart = element b { empty }\n' >other.rnc
-row check_other 1 '' 'other.rnc:2:1: error: this is not the schema, which has here: start = element a { empty }\n    start = element b { empty }\n    ^\n' --check other.rnc a.rnc
+row check_other 1 '' 'other.rnc:2:17: error: this is not the schema, which has here: start = element a { empty }\n    start = element b { empty }\n                    ^\n' --check other.rnc a.rnc
 printf 'default namespace = ""\n' >short.rnc
 row check_short 1 '' 'short.rnc:2:1: error: this is not the schema, which has here: start = element a { empty }\n' --check short.rnc a.rnc
 printf '%bmore\n' "$schema" >long.rnc
@@ -210,9 +210,18 @@ row check_long 1 '' 'long.rnc:3:1: error: this is not the schema, which ends bef
 : >empty.rnc
 row check_empty 1 '' 'empty.rnc:1:1: error: this is not the schema, which has here: default namespace = ""\n' --check empty.rnc a.rnc
 printf 'default namespace = ""\r\nstart = element a { empty }\r\n' >dos.rnc
-begins check_line_ends 1 'dos.rnc:1:1: error: this is not the schema, which has here: default namespace = ""' --check dos.rnc a.rnc
+begins check_line_ends 1 'dos.rnc:1:23: error: this is not the schema, which has here: default namespace = ""' --check dos.rnc a.rnc
+# the 216th character of a long line differs: 80 before it are shown, of the schema's line too
+printf 'start = element %s { empty }\n' "$(printf 'n%.0s' $(seq 200))" >name.rnc
+printf 'default namespace = ""\nstart = element %sm { empty }\n' "$(printf 'n%.0s' $(seq 199))" >far.rnc
+front=$(printf 'n%.0s' $(seq 80))
+row check_far 1 '' "far.rnc:2:216: error: this is not the schema, which has here: ${front}n { empty }\n    ${front}m { empty }\n    $(printf '%80s' '')^\n" --check far.rnc name.rnc
+# the second byte of a character differs: the place is where the character begins
+printf 'start = element \303\251 { empty }\n' >acute.rnc
+printf 'default namespace = ""\nstart = element \303\250 { empty }\n' >grave.rnc
+row check_character 1 '' 'grave.rnc:2:17: error: this is not the schema, which has here: start = element \303\251 { empty }\n    start = element \303\250 { empty }\n                    ^\n' --check grave.rnc acute.rnc
 row check_missing 3 '' 'rnc-flat: error: none.rnc: no such file\n' --check none.rnc a.rnc
-alone check_writes_nothing a.rnc flat.rnc other.rnc short.rnc long.rnc empty.rnc dos.rnc
+alone check_writes_nothing a.rnc flat.rnc other.rnc short.rnc long.rnc empty.rnc dos.rnc name.rnc far.rnc acute.rnc grave.rnc
 
 # ---- maps
 room maps
@@ -349,6 +358,13 @@ begins encoding 1 'bytes.rnc:2:3: error: the file is not UTF-8 from here on' byt
 begins brackets 1 'brackets.rnc:1:265: error: more than 256 brackets are open here' brackets.rnc
 printf 'start = "\344\270\226\347\225\214", ;\n' >wide.rnc
 row columns_count_characters 1 '' 'wide.rnc:1:15: error: nothing that the compact syntax has begins like this\n    start = "\344\270\226\347\225\214", ;\n                  ^\n' wide.rnc
+# of a longer line 80 characters are shown before the place: here the fault is behind 8 and 30 times 7 characters
+{
+    printf 'start = '
+    for _ in $(seq 30); do printf 'text | '; done
+    echo ';'
+} >wider.rnc
+row long_line 1 '' "wider.rnc:1:219: error: nothing that the compact syntax has begins like this\n     | $(printf 'text | %.0s' $(seq 11));\n    $(printf '%80s' '')^\n" wider.rnc
 printf 'start = element a { text }\n\nx = \033[31m\n' >escape.rnc
 row terminal 1 '' 'escape.rnc:3:5: error: nothing that the compact syntax has begins like this\n    x = ?[31m\n        ^\n' escape.rnc
 

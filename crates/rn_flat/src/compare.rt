@@ -3,9 +3,12 @@ ghost use Rattle.std.specs.Prelude.{◌≡◌, MatchOption, OnOk};
 ghost use Rattle.rn_flat.specs.Comparisons.{DifferFirst};
 
 use crate::flat_fault::{FlatFault, refusal_fault};
-use rn_files::{FileFault, Files, line_of};
-use rn_tell::{Colours, Message, Messages, Page, SHOWN, Spot, push_printable};
+use rn_files::{FileFault, Files, line_of, position};
+use rn_tell::{Colours, Message, Messages, Page, SHOWN, Spot, push_printable, skipped_front};
 use std::alloc::{AllocError, Global};
+
+/// The most bytes of a character.
+const LONGEST: usize = 4;
 
 /// The first byte at which two texts differ, if they do: the end of the shorter one, where it is the front of the other.
 pub fn first_difference(found: &[u8], wanted: &[u8]) -> Option<usize>
@@ -24,8 +27,8 @@ pub fn first_difference(found: &[u8], wanted: &[u8]) -> Option<usize>
     }
 }
 
-/// Refuses a file that has other bytes than the schema: the fault tells the first line that differs, or why the file can't be
-/// read, or that memory ran out.
+/// Refuses a file that has other bytes than the schema: the fault tells where the first difference is and what the schema
+/// has there, or why the file can't be read, or that memory ran out.
 pub fn check_file<F: Files>(
     alloc: Global,
     files: &F,
@@ -63,12 +66,12 @@ fn differs(
     at: usize,
     colours: Colours,
 ) -> Result<FlatFault, AllocError> {
-    let start = line_start(found, at);
     let found = String::from_utf8_lossy(alloc, found)?;
     let schema = String::from_utf8_lossy(alloc, schema)?;
+    let at = character_start(schema.as_str(), at);
     let message = Message {
-        spot: Some(Spot { file: 0, at: start }),
-        sentence: difference(alloc, schema.as_str(), start)?,
+        spot: Some(Spot { file: 0, at }),
+        sentence: difference(alloc, schema.as_str(), at)?,
     };
     let page = Page {
         name: path,
@@ -80,26 +83,29 @@ fn differs(
     refusal_fault(alloc, &pages, &told, colours)
 }
 
-/// Where the line begins in which a byte is.
-fn line_start(bytes: &[u8], at: usize) -> usize {
-    let mut start = 0;
-    for (number, byte) in bytes.iter().enumerate().take(at) {
-        if *byte == b'\n' {
-            start = number.saturating_add(1);
+/// The first byte of the character in which a byte of a text is.
+fn character_start(text: &str, at: usize) -> usize {
+    let mut start = at;
+    for _ in 0..LONGEST {
+        if text.is_char_boundary(start) {
+            break;
         }
+        start = start.saturating_sub(1);
     }
     start
 }
 
-/// What the schema has from a line on that a file lacks.
-fn difference(alloc: Global, schema: &str, start: usize) -> Result<String, AllocError> {
+/// What the schema has in the line of a byte, which a file lacks: of a long line the part that messages show.
+fn difference(alloc: Global, schema: &str, at: usize) -> Result<String, AllocError> {
     let mut sentence = String::from_str(alloc, "this is not the schema, which ")?;
-    if start >= schema.len() {
+    if at >= schema.len() {
         sentence.push_str("ends before this line")?;
         return Ok(sentence);
     }
     sentence.push_str("has here: ")?;
-    for character in line_of(schema, start).chars().take(SHOWN) {
+    let line = line_of(schema, at);
+    let skipped = skipped_front(line, position(schema, at).column);
+    for character in line.chars().skip(skipped).take(SHOWN) {
         sentence.push(character)?;
     }
     Ok(sentence)

@@ -21,6 +21,6 @@ pub use fault_messages::{is_unread, set_message};
 pub use file_messages::{lift_messages, reading_messages};
 pub use report::{
     Colours, MAX_TOLD, Message, Messages, Page, SHOWN, Spot, attempt_pages, message_lines,
-    push_printable, source_pages,
+    push_printable, skipped_front, source_pages,
 };
 pub use sentences::refusal_messages;

@@ -289,11 +289,7 @@ fn push_source(
         return Ok(());
     }
     let column = position(text, at).column;
-    let skipped = if line.chars().count() > SHOWN {
-        column.saturating_sub(BEFORE)
-    } else {
-        0
-    };
+    let skipped = skipped_front(line, column);
     lines.push_str("    ")?;
     push_part(lines, line, skipped)?;
     lines.push_str("\n    ")?;
@@ -302,6 +298,16 @@ fn push_source(
     lines.push_str("^")?;
     lines.push_str(paint(colours, "\u{1B}[0m"))?;
     lines.push_str("\n")
+}
+
+/// How many characters at the front of a line are not shown where the place is in this column, which counts from 1: none
+/// where the whole line is shown.
+pub fn skipped_front(line: &str, column: usize) -> usize {
+    if line.chars().count() > SHOWN {
+        column.saturating_sub(1).saturating_sub(BEFORE)
+    } else {
+        0
+    }
 }
 
 /// The part of the line that is shown.
