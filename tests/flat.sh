@@ -485,6 +485,10 @@ printf 'x |= text\n' >'a b.rnc'
 printf 'include "a%%20b.rnc"\nstart = x\n' >spaced.rnc
 row escaped 0 'default namespace = ""\nstart = x\nx = text\n' '' spaced.rnc
 row escaped_names 0 'a%20b.rnc a b.rnc\nspaced.rnc spaced.rnc\n' '' --list spaced.rnc
+controls=$(printf 'c\nd\033.rnc')
+printf 'start = text\n' >"$controls"
+row listed_controls 0 'c%0Ad%1B.rnc c?d?.rnc\n' '' --list "$controls"
+rm "$controls"
 long=$(printf 'n%.0s' $(seq 201))
 printf 'start = text\n' >"$long"
 bad long_name 1 "rnc-flat: error: $long: the name of the file, below the root folder, is longer than 200 bytes\n" "$long"

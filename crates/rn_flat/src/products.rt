@@ -2,9 +2,10 @@
 use rn_files::SourceFile;
 use rn_lift::{Lifted, LiftedModule};
 use rn_outline::PartKind;
+use rn_tell::push_printable;
 use std::alloc::{AllocError, Global};
 
-/// A line for each module: its name and the file that it comes from.
+/// A line for each module: its name and the file that it comes from, whose path is printed as in messages.
 pub fn list_text(
     alloc: Global,
     lifted: &Lifted,
@@ -14,7 +15,7 @@ pub fn list_text(
     for module in lifted.modules.as_slice() {
         lines.push_str(module.name.as_str())?;
         lines.push_str(" ")?;
-        lines.push_str(file_of(module, files))?;
+        push_printable(&mut lines, file_of(module, files))?;
         lines.push_str("\n")?;
     }
     Ok(lines)
