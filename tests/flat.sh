@@ -262,6 +262,32 @@ printf 'start = element doc { external "circle.rnc" }\n' >own-loop.rnc
 printf 'start = one?\none = two\ntwo = one+\n' >circle.rnc
 row own_recursive 1 '' 'circle.rnc:2:1: error: `one` refers to itself outside elements: by `two` in circle.rnc:3:1\n    one = two\n    ^\n' own-loop.rnc
 
+# What is made of files has names of its own: messages have the paths of the files. A file in two scopes is told once.
+printf 'start = element doc { external "override.rnc" }\n' >own-override.rnc
+printf 'include "a%%20b.rnc" {\n  other = empty\n}\nstart = element in { name }\n' >override.rnc
+printf 'name = text\n' >'a b.rnc'
+row own_override 1 '' 'override.rnc:2:3: error: `other` replaces nothing: a b.rnc, which is included in override.rnc:1:9, does not define it\n      other = empty\n      ^\n' own-override.rnc
+row override_root 1 '' 'override.rnc:2:3: error: `other` replaces nothing: a b.rnc, which is included in override.rnc:1:9, does not define it\n      other = empty\n      ^\n' --root .. override.rnc
+# twice FILE: a schema that places the file in two scopes
+twice() {
+    printf 'namespace one = "urn:one"\nnamespace two = "urn:two"\nstart = element doc { external "%s" inherit = one, external "%s" inherit = two }\n' "$1" "$1"
+}
+twice faulty.rnc >scopes.rnc
+row scopes_undefined 1 '' 'faulty.rnc:1:21: error: `missing` is not defined\n    start = element a { missing }\n                        ^\n' scopes.rnc
+twice override.rnc >scopes.rnc
+row scopes_override 1 '' 'override.rnc:2:3: error: `other` replaces nothing: a b.rnc, which is included in override.rnc:1:9, does not define it\n      other = empty\n      ^\n' scopes.rnc
+printf 'start = c\nc = text\nc = empty\nd |= text\nd &= empty\n' >double.rnc
+twice double.rnc >scopes.rnc
+row scopes_twice 1 '' 'double.rnc:2:1: error: `c` is defined here and in double.rnc:3:1, neither with |= nor &=\n    c = text\n    ^\ndouble.rnc:4:1: error: `d` is combined by |= here, and by &= in double.rnc:5:1\n    d |= text\n    ^\n' scopes.rnc
+{
+    echo 'start = text'
+    for n in $(seq 10 34); do echo "d$n = u$n"; done
+} >several.rnc
+twice several.rnc >scopes.rnc
+several=
+for n in $(seq 10 29); do several="${several}several.rnc:$((n - 8)):7: error: \`u$n\` is not defined\n    d$n = u$n\n          ^\n"; done
+row scopes_many 1 '' "${several}rnc-flat: note: there are more faults, which are not told: 5\n" scopes.rnc
+
 # ---- a refusal of each kind, with its places
 room sentences
 mkdir extensions
@@ -299,7 +325,7 @@ row recursive_long 1 '' "$chain, then 5 more\n    n01 = n02\n    ^\n" chain.rnc
 printf 'name = text\n' >nostart.rnc
 row no_start 1 '' 'rnc-flat: error: none of the files defines start\n' nostart.rnc
 printf 'start = bad\nbad = element * - * { text }\n' >class.rnc
-begins name_class 1 'class.rnc:2:1: error: `bad` has a name class that is not allowed: * excepts *, p:* excepts * or p:*, or an attribute may be named xmlns (RELAX NG, section 4.16)' class.rnc
+begins name_class 1 'class.rnc:2:1: error: a definition of `bad`, of which this is the first, has a name class that is not allowed: * excepts *, p:* excepts * or p:*, or an attribute may be named xmlns (RELAX NG, section 4.16)' class.rnc
 {
     for _ in $(seq 10000); do echo 'include "empty.rnc"'; done
     echo 'start = text'

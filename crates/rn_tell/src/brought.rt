@@ -14,15 +14,6 @@ pub struct Instance {
     pub by: Option<(usize, usize)>,
 }
 
-/// A definition that takes part in the schema.
-#[derive(Clone, Copy, Debug, PartialEq, Eq)]
-pub struct Component {
-    /// The definition.
-    pub site: Site,
-    /// The number of the instance of its module.
-    pub instance: usize,
-}
-
 /// The instances of the modules, those that nobody includes first, and each before what it includes.
 pub fn instances(alloc: Global, sites: &Sites<'_>) -> Result<Vec<Instance>, AllocError> {
     let roots = roots(alloc, sites)?;
@@ -137,45 +128,6 @@ pub fn is_hidden(sites: &Sites<'_>, instances: &[Instance], number: usize, key: 
 /// The include that brings an instance.
 fn way_up(instances: &[Instance], number: usize) -> Option<(usize, usize)> {
     instances.get(number)?.by
-}
-
-/// The definitions of the key that take part in the schema.
-pub fn components(
-    alloc: Global,
-    sites: &Sites<'_>,
-    instances: &[Instance],
-    key: &str,
-) -> Result<Vec<Component>, AllocError> {
-    let mut components = Vec::new(alloc);
-    for (number, instance) in instances.iter().enumerate() {
-        if !is_hidden(sites, instances, number, key) {
-            push_own(sites, instance.module, number, key, &mut components)?;
-        }
-    }
-    Ok(components)
-}
-
-/// Adds the definitions of the key in a module.
-fn push_own(
-    sites: &Sites<'_>,
-    module: usize,
-    instance: usize,
-    key: &str,
-    components: &mut Vec<Component>,
-) -> Result<(), AllocError> {
-    let text = sites.text(module);
-    for (number, part) in sites.parts(module).iter().enumerate() {
-        if key_of(text, part) == Some(key) {
-            components.push(Component {
-                site: Site {
-                    module,
-                    part: number,
-                },
-                instance,
-            })?;
-        }
-    }
-    Ok(())
 }
 
 /// The keys that the module, with what it includes, defines, in order.

@@ -1,5 +1,5 @@
 // The definitions that take part in a schema, by their keys.
-use crate::brought::{Instance, instances_of, is_hidden};
+use crate::brought::{Instance, is_hidden};
 use crate::sites::{Site, Sites, key_of, use_of};
 use std::alloc::{AllocError, Global};
 
@@ -14,13 +14,34 @@ pub struct Defined<'v> {
     pub is_repeated: bool,
 }
 
-/// The definitions that take part in the schema, in the order of their keys.
+/// A definition as it comes to the schema with an instance of its module.
+#[derive(Clone, Copy, Debug, PartialEq, Eq, PartialOrd, Ord)]
+pub struct Component {
+    /// The number of the instance of its module.
+    pub instance: usize,
+    /// The definition.
+    pub site: Site,
+}
+
+/// A reference of a definition.
+#[derive(Clone, Copy, Debug, PartialEq, Eq)]
+pub struct Use<'v> {
+    /// The name that it refers to.
+    pub name: &'v str,
+    /// The byte of the module's text where the name begins.
+    pub at: usize,
+    /// The reference.
+    pub site: Site,
+}
+
+/// The definitions that take part in the schema, in the order of their keys. The numbers are those of the instances of each
+/// module.
 pub fn taking_part<'v>(
     alloc: Global,
     sites: &'v Sites<'_>,
     instances: &[Instance],
+    own: &[Vec<usize>],
 ) -> Result<Vec<Defined<'v>>, AllocError> {
-    let own = instances_of(alloc, sites, instances)?;
     let mut defined = Vec::new(alloc);
     for (module, own) in own.iter().enumerate() {
         push_taking_part(sites, instances, module, own.as_slice(), &mut defined)?;
@@ -69,20 +90,63 @@ pub fn group_of<'d, 'v>(defined: &'d [Defined<'v>], key: &str) -> &'d [Defined<'
     &defined[from.min(to)..to]
 }
 
-/// The names that a definition refers to, and where each begins: those behind it, up to the next definition.
+/// These definitions, which take part in the schema, as they come to it. The numbers are those of the instances of each
+/// module.
+pub fn components(
+    alloc: Global,
+    sites: &Sites<'_>,
+    instances: &[Instance],
+    own: &[Vec<usize>],
+    defined: &[Defined<'_>],
+) -> Result<Vec<Component>, AllocError> {
+    let mut components = Vec::new(alloc);
+    for one in defined {
+        if let Some(numbers) = own.get(one.site.module) {
+            push_components(sites, instances, numbers.as_slice(), *one, &mut components)?;
+        }
+    }
+    components.sort()?;
+    Ok(components)
+}
+
+/// Adds a definition once for each of these instances of its module with which it comes to the schema.
+fn push_components(
+    sites: &Sites<'_>,
+    instances: &[Instance],
+    numbers: &[usize],
+    defined: Defined<'_>,
+    components: &mut Vec<Component>,
+) -> Result<(), AllocError> {
+    for number in numbers {
+        if !is_hidden(sites, instances, *number, defined.key) {
+            components.push(Component {
+                instance: *number,
+                site: defined.site,
+            })?;
+        }
+    }
+    Ok(())
+}
+
+/// What a definition refers to: the references behind it, up to the next definition.
 pub fn uses<'v>(
     alloc: Global,
     sites: &'v Sites<'_>,
     site: Site,
-) -> Result<Vec<(&'v str, usize)>, AllocError> {
+) -> Result<Vec<Use<'v>>, AllocError> {
+    let Site { module, part } = site;
     let mut uses = Vec::new(alloc);
-    let text = sites.text(site.module);
-    for part in sites.parts(site.module).iter().skip(site.part).skip(1) {
+    let text = sites.text(module);
+    for (number, part) in sites.parts(module).iter().enumerate().skip(part).skip(1) {
         if key_of(text, part).is_some() {
             break;
         }
-        if let Some(found) = use_of(text, part) {
-            uses.push(found)?;
+        if let Some((name, at)) = use_of(text, part) {
+            let site = Site {
+                module,
+                part: number,
+            };
+            uses.push(Use { name, at, site })?;
         }
     }
     Ok(uses)

@@ -30,6 +30,16 @@ pub struct FurtherRefusal<'v> {
     pub module: &'v str,
     /// The key or the name; nothing for the start.
     pub key: &'v str,
+    /// Of `Override` the first definition that overrides, of `Undefined` the first reference; `None` where there is none, and
+    /// of the other kinds.
+    pub site: Option<Site>,
+}
+
+impl FurtherRefusal<'_> {
+    /// What tells it from others, and in which order it is tested.
+    fn rank(&self) -> (Kind, &str, &str) {
+        (self.kind, self.module, self.key)
+    }
 }
 
 /// A refusal of a key, whichever module it is in.
@@ -38,6 +48,7 @@ fn of_key(kind: Kind, key: &str) -> FurtherRefusal<'_> {
         kind,
         module: "",
         key,
+        site: None,
     }
 }
 
@@ -48,6 +59,7 @@ fn found_of(refusal: &Refusal) -> Option<FurtherRefusal<'_>> {
             kind: Kind::Override,
             module: module.as_str(),
             key: key_text(key),
+            site: None,
         }),
         Refusal::PlainTwice { key } => Some(of_key(Kind::PlainTwice, key_text(key))),
         Refusal::MixedMethods { key } => Some(of_key(Kind::MixedMethods, key_text(key))),
@@ -57,12 +69,12 @@ fn found_of(refusal: &Refusal) -> Option<FurtherRefusal<'_>> {
     }
 }
 
-/// The refusals that would be answered after this one, each once and in order; none behind a refusal of another kind.
-pub fn refusals_behind<'v>(
+/// The refusal and those that would be answered after it, each once and in order; nothing for a refusal of another kind.
+pub fn refusals_from<'v>(
     alloc: Global,
     sites: &'v Sites<'_>,
     defined: &[Defined<'v>],
-    refusal: &Refusal,
+    refusal: &'v Refusal,
 ) -> Result<Vec<FurtherRefusal<'v>>, AllocError> {
     let mut found = Vec::new(alloc);
     let Some(first) = found_of(refusal) else {
@@ -72,8 +84,11 @@ pub fn refusals_behind<'v>(
     push_combined(sites, defined, &mut found)?;
     push_undefined(alloc, sites, defined, &mut found)?;
     found.sort()?;
-    found.dedup();
-    found.retain(|one| *one > first);
+    found.dedup_by(|one, before| one.rank() == before.rank());
+    found.retain(|one| one.rank() >= first.rank());
+    if found.first().map(|one| one.rank()) != Some(first.rank()) {
+        found.insert(0, first)?;
+    }
     Ok(found)
 }
 
@@ -83,46 +98,64 @@ fn push_unfounded<'v>(
     sites: &'v Sites<'_>,
     found: &mut Vec<FurtherRefusal<'v>>,
 ) -> Result<(), AllocError> {
-    for module in 0..sites.modules.len() {
-        push_unfounded_in(alloc, sites, module, found)?;
+    let mut last = None;
+    let mut provided = Vec::new(alloc);
+    for (target, include) in overriding_includes(alloc, sites)? {
+        if last != Some(target) {
+            provided = provided_keys(alloc, sites, target)?;
+            last = Some(target);
+        }
+        push_lacking(sites, provided.as_slice(), include, found)?;
     }
     Ok(())
 }
 
-/// Adds what the includes of a module override and the included modules lack.
-fn push_unfounded_in<'v>(
-    alloc: Global,
-    sites: &'v Sites<'_>,
+/// The includes that override something, each behind the module that it includes, in the order of these modules.
+fn overriding_includes(alloc: Global, sites: &Sites<'_>) -> Result<Vec<(usize, Site)>, AllocError> {
+    let mut includes = Vec::new(alloc);
+    for module in 0..sites.modules.len() {
+        push_overriding(sites, module, &mut includes)?;
+    }
+    includes.sort()?;
+    Ok(includes)
+}
+
+/// Adds the includes of a module that override something.
+fn push_overriding(
+    sites: &Sites<'_>,
     module: usize,
-    found: &mut Vec<FurtherRefusal<'v>>,
+    includes: &mut Vec<(usize, Site)>,
 ) -> Result<(), AllocError> {
     for part in 0..sites.parts(module).len() {
-        push_lacking(alloc, sites, Site { module, part }, found)?;
+        let include = Site { module, part };
+        if let Some(target) = sites.included_module(include) {
+            if !sites.overridden(include).is_empty() {
+                includes.push((target, include))?;
+            }
+        }
     }
     Ok(())
 }
 
-/// Adds what an include overrides and its module lacks.
+/// Adds what an include overrides and its module lacks, which provides these keys.
 fn push_lacking<'v>(
-    alloc: Global,
     sites: &'v Sites<'_>,
+    provided: &[&str],
     include: Site,
     found: &mut Vec<FurtherRefusal<'v>>,
 ) -> Result<(), AllocError> {
-    let overridden = sites.overridden_keys(include);
-    let Some(target) = sites.included_module(include) else {
-        return Ok(());
-    };
-    if overridden.is_empty() {
-        return Ok(());
-    }
-    let provided = provided_keys(alloc, sites, target)?;
-    for (_, key) in overridden {
-        if provided.binary_search(&key.as_str()).is_err() {
+    let module = include.module;
+    for one in sites.overridden(include) {
+        let key = one.key.as_str();
+        if provided.binary_search(&key).is_err() {
             found.push(FurtherRefusal {
                 kind: Kind::Override,
-                module: sites.name(include.module),
-                key: key.as_str(),
+                module: sites.name(module),
+                key,
+                site: Some(Site {
+                    module,
+                    part: one.part,
+                }),
             })?;
         }
     }
@@ -206,9 +239,11 @@ fn push_undefined_in<'v>(
     site: Site,
     found: &mut Vec<FurtherRefusal<'v>>,
 ) -> Result<(), AllocError> {
-    for (name, _) in uses(alloc, sites, site)? {
-        if group_of(defined, name).is_empty() {
-            found.push(of_key(Kind::Undefined, name))?;
+    for one in uses(alloc, sites, site)? {
+        if group_of(defined, one.name).is_empty() {
+            let mut refusal = of_key(Kind::Undefined, one.name);
+            refusal.site = Some(one.site);
+            found.push(refusal)?;
         }
     }
     Ok(())

@@ -10,6 +10,7 @@ mod check_sentences;
 mod defined;
 mod fault_messages;
 mod file_messages;
+mod findings;
 mod further_refusals;
 mod general_sentences;
 mod loop_sites;

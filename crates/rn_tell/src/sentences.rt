@@ -2,37 +2,29 @@
 ghost use Rattle.std.specs.Prelude.{IfOk};
 ghost use Rattle.rn_tell.specs.Messages.{IsFew};
 
-use crate::brought::{Component, Instance, components, instances, parting_includes, provided_keys};
-use crate::defined::{Defined, taking_part};
+use crate::brought::{instances, instances_of};
+use crate::defined::taking_part;
 use crate::file_messages::text_messages;
-use crate::further_refusals::{FurtherRefusal, Kind, has_method, refusals_behind};
+use crate::findings::{
+    Finding, Telling, components_of, finding_alike, finding_of, first_alike, spelled_key,
+};
+use crate::further_refusals::{FurtherRefusal, Kind, refusals_from};
 use crate::general_sentences::general_sentence;
-use crate::loop_sites::{first_use, loop_of, loop_of_includes};
+use crate::loop_sites::loop_of;
 use crate::report::{MAX_TOLD, Message, Messages, Page, Spot, place_text, source_pages};
-use crate::sites::{Site, Sites, include_around, include_of, key_of, key_text, sites_of};
+use crate::sites::{Site, key_text, sites_of};
 use rn_assemble::Refusal;
 use rn_files::SourceFile;
 use rn_lift::Lifted;
-use rn_outline::{Method, Part};
 use std::alloc::{AllocError, Global};
-
-/// What sentences are made from: the files, the modules and what these are made of, how they come to a schema, and the
-/// definitions that take part in it.
-#[derive(Clone, Copy)]
-struct Telling<'a> {
-    alloc: Global,
-    pages: &'a [Page<'a>],
-    sites: &'a Sites<'a>,
-    instances: &'a [Instance],
-    defined: &'a [Defined<'a>],
-}
+use std::collections::BTreeSet;
 
 /// A sentence, and the place that it is told at.
 type Placed = (Option<Spot>, String);
 
 /// What is told of modules that are refused. Where texts are at fault, it is the fault of each text; else the refusal, at the
 /// first place that it speaks of, and then those that would be answered once it is mended, of the kinds of which all can be
-/// found.
+/// found. What is the same for several modules of one file is told once.
 pub fn refusal_messages(
     alloc: Global,
     files: &[SourceFile],
@@ -48,39 +40,57 @@ pub fn refusal_messages(
     let pages = source_pages(alloc, files)?;
     let sites = sites_of(alloc, lifted)?;
     let instances = instances(alloc, &sites)?;
-    let defined = taking_part(alloc, &sites, instances.as_slice())?;
-    let others = refusals_behind(alloc, &sites, defined.as_slice(), refusal)?;
+    let own = instances_of(alloc, &sites, instances.as_slice())?;
+    let defined = taking_part(alloc, &sites, instances.as_slice(), own.as_slice())?;
     let telling = Telling {
         alloc,
         pages: pages.as_slice(),
         sites: &sites,
         instances: instances.as_slice(),
+        own: own.as_slice(),
         defined: defined.as_slice(),
     };
-    tell(&telling, refusal, others.as_slice())
+    let found = refusals_from(alloc, &sites, defined.as_slice(), refusal)?;
+    if found.is_empty() {
+        Messages::of_message(alloc, message_of(place_refusal(&telling, refusal)?))
+    } else {
+        tell(&telling, found.as_slice())
+    }
 }
 
-/// The messages of a refusal and of those behind it.
-fn tell(
-    telling: &Telling<'_>,
-    refusal: &Refusal,
-    others: &[FurtherRefusal<'_>],
-) -> Result<Messages, AllocError>
+/// The messages of these refusals.
+fn tell(telling: &Telling<'_>, refusals: &[FurtherRefusal<'_>]) -> Result<Messages, AllocError>
     ensures { IfOk result IsFew }
 {
-    let mut told = Messages::of_message(
-        telling.alloc,
-        message_of(place_refusal(telling, refusal)?),
-    )?;
-    for found in others {
-        if told.is_full() {
-            told.further = told.further.saturating_add(1);
-        } else {
-            let placed = place_found(telling, *found)?;
-            told.messages.push(message_of(placed))?;
+    let firsts = first_alike(telling.alloc, telling.sites.lifted)?;
+    let mut seen = BTreeSet::new(telling.alloc);
+    let mut told = Messages::new(telling.alloc);
+    for refusal in refusals {
+        let finding = finding_of(telling, *refusal)?;
+        if seen.insert(finding_alike(firsts.as_slice(), finding))? {
+            tell_finding(telling, &mut told, finding)?;
         }
     }
     Ok(told)
+}
+
+/// Adds the message of a finding, or counts it.
+fn tell_finding(
+    telling: &Telling<'_>,
+    told: &mut Messages,
+    finding: Finding<'_>,
+) -> Result<(), AllocError>
+    requires { IsFew told.old }
+    ensures { IsFew told.new }
+{
+    if told.is_full() {
+        told.further = told.further.saturating_add(1);
+        return Ok(());
+    }
+    let spot = spot_of(telling, finding.here);
+    let sentence = finding_sentence(telling, finding)?;
+    told.messages.push(Message { spot, sentence })?;
+    Ok(())
 }
 
 fn message_of(placed: Placed) -> Message {
@@ -88,36 +98,28 @@ fn message_of(placed: Placed) -> Message {
     Message { spot, sentence }
 }
 
+/// A refusal of which others are not looked for.
 fn place_refusal(telling: &Telling<'_>, refusal: &Refusal) -> Result<Placed, AllocError> {
     match refusal {
-        Refusal::PlainTwice { key } => plain_twice(telling, key_text(key)),
-        Refusal::MixedMethods { key } => mixed_methods(telling, key_text(key)),
-        Refusal::Override { module, key } => unfounded_override(
-            telling,
-            module.as_str(),
-            key_text(key),
-        ),
-        Refusal::Missing { module, wanted } => missing_include(
-            telling,
-            module.as_str(),
-            wanted.as_str(),
-        ),
-        Refusal::Cycle { module } => cycle(telling, module.as_str()),
-        Refusal::Undefined { name } => undefined_name(telling, name.as_str()),
         Refusal::Recursive { name } => recursive_name(telling, name.as_str()),
         Refusal::NameClass { key } => name_class(telling, key_text(key)),
         _ => Ok((None, general_sentence(telling.alloc, refusal)?)),
     }
 }
 
-fn place_found(telling: &Telling<'_>, found: FurtherRefusal<'_>) -> Result<Placed, AllocError> {
-    match found.kind {
-        Kind::Override => unfounded_override(telling, found.module, found.key),
-        Kind::PlainTwice => plain_twice(telling, found.key),
-        Kind::MixedMethods => mixed_methods(telling, found.key),
-        Kind::NoStart => Ok((None, general_sentence(telling.alloc, &Refusal::NoStart)?)),
-        Kind::Undefined => undefined_name(telling, found.key),
+fn finding_sentence(telling: &Telling<'_>, finding: Finding<'_>) -> Result<String, AllocError> {
+    match finding.kind {
+        Kind::Override => unfounded_override(telling, finding),
+        Kind::PlainTwice => plain_twice(telling, finding),
+        Kind::MixedMethods => mixed_methods(telling, finding),
+        Kind::NoStart => general_sentence(telling.alloc, &Refusal::NoStart),
+        Kind::Undefined => sentence_on(telling, finding, "is not defined"),
     }
+}
+
+/// Where a site is in the files.
+fn spot_of(telling: &Telling<'_>, site: Option<Site>) -> Option<Spot> {
+    site.and_then(|site| telling.sites.spot(site))
 }
 
 /// Where a site is, as `FILE:LINE:COLUMN`.
@@ -125,236 +127,83 @@ fn place(telling: &Telling<'_>, site: Site) -> Result<String, AllocError> {
     place_text(telling.alloc, telling.pages, telling.sites.spot(site))
 }
 
-/// A key as the file writes it.
-fn spelled_key<'k>(telling: &Telling<'_>, key: &'k str) -> &'k str {
-    if key.is_empty() {
-        "start"
-    } else {
-        telling.sites.lifted.written_name(key)
-    }
-}
-
-/// The definitions of a key, as they come to the schema.
-fn components_of(telling: &Telling<'_>, key: &str) -> Result<Vec<Component>, AllocError> {
-    components(telling.alloc, telling.sites, telling.instances, key)
-}
-
-/// Two definitions by `=`.
-fn plain_twice(telling: &Telling<'_>, key: &str) -> Result<Placed, AllocError> {
-    let found = components_of(telling, key)?;
-    let mut plain = found
-        .iter()
-        .filter(|one| has_method(telling.sites, one.site, Method::Plain));
-    match (plain.next(), plain.next()) {
-        (Some(first), Some(second)) if first.site == second.site => included_twice(
-            telling, key, *first, *second,
-        ),
-        (Some(first), Some(second)) => {
-            let name = spelled_key(telling, key);
-            let other = place(telling, second.site)?;
-            let sentence = format!(in telling.alloc;
-                "`{name}` is defined here and in {other}, neither with |= nor &="
-            )?;
-            Ok((telling.sites.spot(first.site), sentence))
+/// Two definitions by `=`, or one that two includes bring.
+fn plain_twice(telling: &Telling<'_>, finding: Finding<'_>) -> Result<String, AllocError> {
+    let name = finding.name;
+    match (finding.here, finding.there, finding.elsewhere) {
+        (Some(_), Some(one), Some(other)) => {
+            let one = place(telling, one)?;
+            let other = place(telling, other)?;
+            format!(in telling.alloc;
+                "`{name}` is defined here with =, and comes twice: by the includes in {one} and in {other}"
+            )
         }
-        _ => unplaced_sentence(
+        (Some(_), Some(other), None) => {
+            let other = place(telling, other)?;
+            format!(in telling.alloc;
+                "`{name}` is defined here and in {other}, neither with |= nor &="
+            )
+        }
+        (Some(_), None, _) => sentence_on(
             telling,
-            key,
+            finding,
+            "is defined here with =, and comes twice",
+        ),
+        _ => sentence_on(
+            telling,
+            finding,
             "is defined twice, neither time with |= nor &=",
         ),
     }
 }
 
-/// One definition that two includes bring.
-fn included_twice(
-    telling: &Telling<'_>,
-    key: &str,
-    first: Component,
-    second: Component,
-) -> Result<Placed, AllocError> {
-    let name = spelled_key(telling, key);
-    let sentence = match parting_includes(telling.instances, first.instance, second.instance) {
-        Some((one, other)) => {
-            let one = place(telling, one)?;
-            let other = place(telling, other)?;
-            format!(in telling.alloc;
-                "`{name}` is defined here with =, and comes twice: by the includes in {one} and in {other}"
-            )?
-        }
-        None => format!(in telling.alloc; "`{name}` is defined here with =, and comes twice")?,
-    };
-    Ok((telling.sites.spot(first.site), sentence))
-}
-
-/// The first definition of those by the method.
-fn first_by(telling: &Telling<'_>, found: &[Component], method: Method) -> Option<Site> {
-    let one = found
-        .iter()
-        .find(|one| has_method(telling.sites, one.site, method))?;
-    Some(one.site)
-}
-
 /// Definitions by `|=` and by `&=`.
-fn mixed_methods(telling: &Telling<'_>, key: &str) -> Result<Placed, AllocError> {
-    let found = components_of(telling, key)?;
-    let choice = first_by(telling, found.as_slice(), Method::Choice);
-    let interleave = first_by(telling, found.as_slice(), Method::Interleave);
-    let (Some(choice), Some(interleave)) = (choice, interleave) else {
-        return unplaced_sentence(telling, key, "is combined by |= and by &=");
+fn mixed_methods(telling: &Telling<'_>, finding: Finding<'_>) -> Result<String, AllocError> {
+    let (Some(_), Some(interleave)) = (finding.here, finding.there) else {
+        return sentence_on(telling, finding, "is combined by |= and by &=");
     };
-    let name = spelled_key(telling, key);
+    let name = finding.name;
     let other = place(telling, interleave)?;
-    let sentence = format!(in telling.alloc;
-        "`{name}` is combined by |= here, and by &= in {other}"
-    )?;
-    Ok((telling.sites.spot(choice), sentence))
+    format!(in telling.alloc; "`{name}` is combined by |= here, and by &= in {other}")
 }
 
 /// An include that overrides what the included file lacks.
-fn unfounded_override(
-    telling: &Telling<'_>,
-    module: &str,
-    key: &str,
-) -> Result<Placed, AllocError> {
-    let name = spelled_key(telling, key);
-    let Some((site, include)) = first_unfounded(telling, module, key)? else {
-        return unplaced_sentence(
-            telling,
-            key,
-            "replaces what the included file does not define",
-        );
+fn unfounded_override(telling: &Telling<'_>, finding: Finding<'_>) -> Result<String, AllocError> {
+    let Some(include) = finding.there else {
+        let what = "replaces what the included file does not define";
+        return sentence_on(telling, finding, what);
     };
+    let name = finding.name;
+    let file = included_path(telling, include);
     let place = place(telling, include)?;
-    let file = included_name(telling.sites, include);
-    let sentence = format!(in telling.alloc;
+    format!(in telling.alloc;
         "`{name}` replaces nothing: {file}, which is included in {place}, does not define it"
-    )?;
-    Ok((telling.sites.spot(site), sentence))
+    )
 }
 
-/// The first definition of the key in an include whose module lacks it, and the include.
-fn first_unfounded(
-    telling: &Telling<'_>,
-    module: &str,
-    key: &str,
-) -> Result<Option<(Site, Site)>, AllocError> {
-    let Some(module_number) = telling.sites.number_of(module) else {
-        return Ok(None);
-    };
-    let text = telling.sites.text(module_number);
-    for (number, part) in telling.sites.parts(module_number).iter().enumerate() {
-        if key_of(text, part) != Some(key) {
-            continue;
-        }
-        if let Some(include) = lacking_include(telling, module_number, part, key)? {
-            return Ok(Some((
-                Site {
-                    module: module_number,
-                    part: number,
-                },
-                include,
-            )));
-        }
-    }
-    Ok(None)
-}
-
-/// The include of a definition that overrides what the included module, with what it includes, lacks.
-fn lacking_include(
-    telling: &Telling<'_>,
-    module_number: usize,
-    part: &Part,
-    key: &str,
-) -> Result<Option<Site>, AllocError> {
-    let Some(include) = include_around(part) else {
-        return Ok(None);
-    };
-    let site = Site {
-        module: module_number,
-        part: include,
-    };
-    let Some(target) = telling.sites.included_module(site) else {
-        return Ok(None);
-    };
-    let provided = provided_keys(telling.alloc, telling.sites, target)?;
-    Ok(match provided.binary_search(&key) {
-        Ok(_) => None,
-        Err(_) => Some(site),
-    })
-}
-
-/// The name of the module that is included there.
-fn included_name<'v>(sites: &'v Sites<'_>, include: Site) -> &'v str {
-    match sites.part(include).and_then(include_of) {
-        Some((name, _)) => name,
+/// The path of the file that is included there.
+fn included_path<'a>(telling: &Telling<'a>, include: Site) -> &'a str {
+    match included_page(telling, include) {
+        Some(page) => page.path,
         None => "the file",
     }
 }
 
-/// An include of what no file has as its name.
-fn missing_include(
+/// The file that is included there.
+fn included_page<'a>(telling: &Telling<'a>, include: Site) -> Option<&'a Page<'a>> {
+    let module = telling.sites.included_module(include)?;
+    let basis = telling.sites.lifted.modules.get(module)?.basis?;
+    telling.pages.get(basis.file)
+}
+
+/// The sentence that says this of the name.
+fn sentence_on(
     telling: &Telling<'_>,
-    module: &str,
-    wanted: &str,
-) -> Result<Placed, AllocError> {
-    let sentence = format!(in telling.alloc; "there is no `{wanted}` to include")?;
-    let Some(module_number) = telling.sites.number_of(module) else {
-        return Ok((None, sentence));
-    };
-    let found = telling
-        .sites
-        .parts(module_number)
-        .iter()
-        .position(|part| is_include(part, wanted));
-    match found {
-        Some(part) => Ok((
-            telling.sites.spot(Site {
-                module: module_number,
-                part,
-            }),
-            sentence,
-        )),
-        None => Ok((None, sentence)),
-    }
-}
-
-/// Whether the part includes the module of this name.
-fn is_include(part: &Part, wanted: &str) -> bool {
-    match include_of(part) {
-        Some((name, _)) => name == wanted,
-        None => false,
-    }
-}
-
-/// A module that comes back to itself by includes.
-fn cycle(telling: &Telling<'_>, module: &str) -> Result<Placed, AllocError> {
-    let mut sentence = format!(in telling.alloc; "{module} includes itself")?;
-    let Some(module_number) = telling.sites.number_of(module) else {
-        return Ok((None, sentence));
-    };
-    let way = loop_of_includes(telling.alloc, telling.sites, module_number)?;
-    for (number, include) in way.iter().copied().enumerate() {
-        sentence.push_str(if number == 0 {
-            ": it includes "
-        } else {
-            ", which includes "
-        })?;
-        sentence.push_str(included_name(telling.sites, include))?;
-        if number > 0 {
-            sentence.push_str(" in ")?;
-            sentence.push_str(place(telling, include)?.as_str())?;
-        }
-    }
-    let first = way.first().copied();
-    Ok((first.and_then(|site| telling.sites.spot(site)), sentence))
-}
-
-/// A name that nothing defines.
-fn undefined_name(telling: &Telling<'_>, name: &str) -> Result<Placed, AllocError> {
-    let written = spelled_key(telling, name);
-    let sentence = format!(in telling.alloc; "`{written}` is not defined")?;
-    let site = first_use(telling.alloc, telling.sites, telling.defined, name)?;
-    Ok((site.and_then(|site| telling.sites.spot(site)), sentence))
+    finding: Finding<'_>,
+    what: &str,
+) -> Result<String, AllocError> {
+    let name = finding.name;
+    format!(in telling.alloc; "`{name}` {what}")
 }
 
 /// A name that comes back to itself outside elements.
@@ -371,8 +220,7 @@ fn recursive_name(telling: &Telling<'_>, name: &str) -> Result<Placed, AllocErro
         }
     }
     push_others(telling.alloc, &mut sentence, way.len())?;
-    let first = way.first().copied();
-    Ok((first.and_then(|site| telling.sites.spot(site)), sentence))
+    Ok((spot_of(telling, way.first().copied()), sentence))
 }
 
 /// Appends how many members of a loop are not told.
@@ -392,19 +240,13 @@ fn name_at<'t>(telling: &Telling<'t>, site: Site) -> &'t str {
     }
 }
 
-/// A definition with a name class that is not allowed.
+/// Definitions with a name class that is not allowed in one of them.
 fn name_class(telling: &Telling<'_>, key: &str) -> Result<Placed, AllocError> {
     let name = spelled_key(telling, key);
     let sentence = format!(in telling.alloc;
-        "`{name}` has a name class that is not allowed: * excepts *, p:* excepts * or p:*, or an attribute may be named xmlns (RELAX NG, section 4.16)"
+        "a definition of `{name}`, of which this is the first, has a name class that is not allowed: * excepts *, p:* excepts * or p:*, or an attribute may be named xmlns (RELAX NG, section 4.16)"
     )?;
     let found = components_of(telling, key)?;
     let site = found.first().map(|one| one.site);
-    Ok((site.and_then(|site| telling.sites.spot(site)), sentence))
-}
-
-/// The sentence on a key whose places are not found.
-fn unplaced_sentence(telling: &Telling<'_>, key: &str, what: &str) -> Result<Placed, AllocError> {
-    let name = spelled_key(telling, key);
-    Ok((None, format!(in telling.alloc; "`{name}` {what}")?))
+    Ok((spot_of(telling, site), sentence))
 }

@@ -6,13 +6,24 @@ use rn_outline::{Method, Part, PartKind, name_in, read_outline};
 use rn_text::{Kind, Token, tokens};
 use std::alloc::{AllocError, Global};
 
+/// A definition of an include that overrides.
+#[derive(Debug, Drop, PartialEq, Eq, PartialOrd, Ord)]
+pub struct Overriding {
+    /// The number of the part that is the include.
+    pub include: usize,
+    /// The key.
+    pub key: String,
+    /// The number of the part that is the definition.
+    pub part: usize,
+}
+
 /// What a module is made of.
 #[derive(Debug, Drop)]
 pub struct ModuleSites {
     /// Its definitions, references and includes, in the order of its text.
     pub parts: Vec<Part>,
-    /// What its includes override, in order: the number of the part that is the include, and the key.
-    pub overrides: Vec<(usize, String)>,
+    /// What its includes override, in order.
+    pub overrides: Vec<Overriding>,
     /// Where names begin that are outside elements, in order.
     pub outside: Vec<usize>,
 }
@@ -76,22 +87,10 @@ pub fn use_of<'a>(text: &'a str, part: &Part) -> Option<(&'a str, usize)> {
     }
 }
 
-/// Whether the part refers to the name.
-pub fn is_use(text: &str, part: &Part, name: &str) -> bool {
-    match use_of(text, part) {
-        Some((used, _)) => used == name,
-        None => false,
-    }
-}
-
-/// The module that a part includes, and where its literal begins.
-pub fn include_of(part: &Part) -> Option<(&str, usize)> {
+/// The name of the module that a part includes.
+fn include_of(part: &Part) -> Option<&str> {
     match &part.kind {
-        PartKind::Include {
-            literal,
-            literal_at,
-            ..
-        } => Some((literal.as_str(), literal_at.from)),
+        PartKind::Include { literal, .. } => Some(literal.as_str()),
         _ => None,
     }
 }
@@ -123,15 +122,15 @@ fn module_sites(alloc: Global, text: &str) -> Result<ModuleSites, AllocError> {
 }
 
 /// What the includes override, in order.
-fn overrides(
-    alloc: Global,
-    text: &str,
-    parts: &[Part],
-) -> Result<Vec<(usize, String)>, AllocError> {
+fn overrides(alloc: Global, text: &str, parts: &[Part]) -> Result<Vec<Overriding>, AllocError> {
     let mut overrides = Vec::new(alloc);
-    for part in parts {
+    for (number, part) in parts.iter().enumerate() {
         if let (Some(include), Some(key)) = (include_around(part), key_of(text, part)) {
-            overrides.push((include, String::from_str(alloc, key)?))?;
+            overrides.push(Overriding {
+                include,
+                key: String::from_str(alloc, key)?,
+                part: number,
+            })?;
         }
     }
     overrides.sort()?;
@@ -266,19 +265,19 @@ impl Sites<'_> {
         match self.modules.get(module) {
             Some(held) => held
                 .overrides
-                .binary_search_by(|one| one.0.cmp(&include).then(one.1.as_str().cmp(&key)))
+                .binary_search_by(|one| one.include.cmp(&include).then(one.key.as_str().cmp(&key)))
                 .is_ok(),
             None => false,
         }
     }
 
-    /// What the include overrides: with its number, each key.
-    pub fn overridden_keys(&self, include: Site) -> &[(usize, String)] {
+    /// What the include overrides, in the order of the keys.
+    pub fn overridden(&self, include: Site) -> &[Overriding] {
         match self.modules.get(include.module) {
             Some(held) => {
                 let all = held.overrides.as_slice();
-                let from = all.partition_point(|one| one.0 < include.part);
-                let to = all.partition_point(|one| one.0 <= include.part);
+                let from = all.partition_point(|one| one.include < include.part);
+                let to = all.partition_point(|one| one.include <= include.part);
                 all.get(from..to).unwrap_or(&[])
             }
             None => &[],
@@ -288,7 +287,7 @@ impl Sites<'_> {
     /// The module that a site includes.
     pub fn included_module(&self, site: Site) -> Option<usize> {
         let part = self.part(site)?;
-        let (name, _) = include_of(part)?;
+        let name = include_of(part)?;
         self.number_of(name)
     }
 
