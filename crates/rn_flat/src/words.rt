@@ -27,7 +27,7 @@ pub enum Product {
     Bundle,
     /// A line for each module, with its file.
     List,
-    /// The modules and what they include, as a Graphviz text.
+    /// The files and what they include or place by `external`, as a Graphviz text; nothing is lifted.
     Graph,
 }
 

@@ -77,8 +77,8 @@ impl Outputs for Written<'_> {
     }
 }
 
-/// Gives the file these bytes, whole or not at all. What is no file and no folder, as a terminal, is written to. A link is
-/// followed.
+/// A regular file or a new path gets these bytes whole or not at all; a link is followed if it leads somewhere, else replaced.
+/// Anything else, as a terminal, is written to, and may hold a front after an error.
 fn write_whole(rt: &HostRuntime, path: &str, bytes: &[u8]) -> io::Result<()> {
     let Ok(real) = fs::canonicalize(rt, path) else {
         return write_beside(rt, path, bytes, None);
