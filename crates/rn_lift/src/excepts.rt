@@ -238,7 +238,7 @@ impl Excepts {
             .definitions
             .standing_definitions(alloc, units, plan, &key)?;
         if standing.is_empty() {
-            return Err(trail.fault(LiftFaultKind::Undefined));
+            return Err(undefined(units, plan, place, part));
         }
         if trail.open.contains(&key) || !are_data(units, plan, standing.as_slice()) {
             return Err(trail.fault(LiftFaultKind::ExceptReference));
@@ -296,6 +296,15 @@ fn file_of(units: &Units<'_>, plan: &Plan, place: usize) -> usize {
 
 fn part_at<'a>(units: &Units<'a>, plan: &Plan, place: usize, part: usize) -> Option<&'a Part> {
     units.files.get(file_of(units, plan, place))?.part(part)
+}
+
+/// The fault of a part at a place, whose name nothing defines.
+fn undefined(units: &Units<'_>, plan: &Plan, place: usize, part: usize) -> LiftFault {
+    LiftFault {
+        file: file_of(units, plan, place),
+        at: part_at(units, plan, place, part).map_or(0, |part| part.at.from),
+        kind: LiftFaultKind::Undefined,
+    }
 }
 
 /// What a part at a place stands for.

@@ -356,6 +356,19 @@ start = xsd:string - x
 LiftFault { file: 0, at: 21, kind: Undefined }
 ====
 @a
+start = xsd:string - x x = 'a' | y
+=>
+LiftFault { file: 0, at: 33, kind: Undefined }
+====
+@a
+start = xsd:string - x
+include 'b'
+@b
+x = 'a' | (z | y) z = 'b'
+=>
+LiftFault { file: 1, at: 15, kind: Undefined }
+====
+@a
 start = external 'b'
 @b
 start = \\start \\start = empty

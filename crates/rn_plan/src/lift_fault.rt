@@ -37,7 +37,8 @@ pub enum LiftFaultKind {
     /// An external or an include to which no file is given.
     #[error("no file is given for this")]
     NoFile,
-    /// A reference in an except to a name without a definition (4.18).
+    /// A reference to a name without a definition (4.18): one in an except, or in a definition that
+    /// one in an except stands for. The place is that of the reference to this name.
     #[error("nothing defines this")]
     Undefined,
     /// The texts that references in excepts stand for would have more bytes than `MAX_EXCEPTS` of rn_lift.
