@@ -240,39 +240,39 @@ impl Excepts {
         if standing.is_empty() {
             return Err(undefined(units, plan, place, part));
         }
-        if trail.open.contains(&key) || !are_data(units, plan, standing.as_slice()) {
+        if trail.open.contains(&key) || !are_data(units, plan, standing) {
             return Err(trail.fault(LiftFaultKind::ExceptReference));
         }
         trail.text.push('(')?;
         trail.open.insert(key.copy(alloc)?)?;
         trail.tasks.push(Task::Leave(key))?;
         trail.tasks.push(Task::Text(")"))?;
-        self.push_bodies(alloc, units, plan, trail, standing.as_slice())
+        push_bodies(alloc, units, plan, &mut self.bodies, trail, standing)
     }
+}
 
-    /// Adds the bodies of definitions, with `|` between each two.
-    fn push_bodies(
-        &mut self,
-        alloc: Global,
-        units: &Units<'_>,
-        plan: &Plan,
-        trail: &mut Trail,
-        standing: &[Definition],
-    ) -> Result<(), LiftFault> {
-        for (number, definition) in standing.iter().rev().enumerate() {
-            if number > 0 {
-                trail.tasks.push(Task::Text(" | "))?;
-            }
-            let file = file_of(units, plan, definition.place);
-            let body = self.bodies.number(alloc, units, file, definition.part)?;
-            trail.tasks.push(Task::Body {
-                place: definition.place,
-                body,
-                next: 0,
-            })?;
+/// Adds the bodies of definitions to what is to be written, with `|` between each two.
+fn push_bodies(
+    alloc: Global,
+    units: &Units<'_>,
+    plan: &Plan,
+    bodies: &mut BodyChunks,
+    trail: &mut Trail,
+    standing: &[Definition],
+) -> Result<(), LiftFault> {
+    for (number, definition) in standing.iter().rev().enumerate() {
+        if number > 0 {
+            trail.tasks.push(Task::Text(" | "))?;
         }
-        Ok(())
+        let file = file_of(units, plan, definition.place);
+        let body = bodies.number(alloc, units, file, definition.part)?;
+        trail.tasks.push(Task::Body {
+            place: definition.place,
+            body,
+            next: 0,
+        })?;
     }
+    Ok(())
 }
 
 fn new_trail(alloc: Global, file: usize, at: usize) -> Trail {

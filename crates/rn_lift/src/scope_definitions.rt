@@ -36,8 +36,9 @@ pub(crate) struct Definition {
 
 #[derive(Drop)]
 pub(crate) struct Definitions {
-    /// In the order of places and parts.
-    all: BTreeMap<ScopedName, Vec<Definition>>,
+    /// In the order of places and parts; of a name of which the overridden ones are dropped, in that of a walk.
+    rows: BTreeMap<ScopedName, Vec<Definition>>,
+    /// The names of which overridden definitions are not dropped yet.
     overridden: BTreeSet<ScopedName>,
 }
 
@@ -45,7 +46,7 @@ impl Definitions {
     /// All definitions of all places; none, where no reference stands in an except.
     pub(crate) fn of(alloc: Global, units: &Units<'_>, plan: &Plan) -> Result<Self, AllocError> {
         let mut definitions = Definitions {
-            all: BTreeMap::new(alloc),
+            rows: BTreeMap::new(alloc),
             overridden: BTreeSet::new(alloc),
         };
         if !units.have_excepts() {
@@ -95,38 +96,64 @@ impl Definitions {
         if definition.within.is_some() {
             self.overridden.insert(key.copy(alloc)?)?;
         }
-        if let Some(row) = self.all.get_mut(&key) {
+        if let Some(row) = self.rows.get_mut(&key) {
             return Ok(row.push(definition)?);
         }
         let mut row = Vec::new(alloc);
         row.push(definition)?;
-        self.all.insert(key, row)?;
+        self.rows.insert(key, row)?;
         Ok(())
     }
 
     /// The definitions of a name that no include overrides.
     pub(crate) fn standing_definitions(
-        &self,
+        &mut self,
         alloc: Global,
         units: &Units<'_>,
         plan: &Plan,
         key: &ScopedName,
-    ) -> Result<Vec<Definition>, AllocError> {
-        let Some(all) = self.all.get(key) else {
-            return Ok(Vec::new(alloc));
-        };
-        if !self.overridden.contains(key) {
-            return Vec::from_slice(alloc, all.as_slice());
+    ) -> Result<&[Definition], AllocError> {
+        if self.overridden.contains(key) {
+            self.drop_overridden(alloc, units, plan, key)?;
         }
-        let mut walk = Walk::new(alloc, plan, key.scope)?;
-        for _ in 0..plan.places.len() {
-            let Some(number) = walk.waiting.pop() else {
-                break;
-            };
-            walk.visit(units, plan, all.as_slice(), number)?;
+        match self.rows.get(key) {
+            Some(row) => Ok(row.as_slice()),
+            None => Ok(&[]),
         }
-        Ok(walk.found)
     }
+
+    /// Leaves the definitions of an overridden name that stand. So there is one walk for each name.
+    fn drop_overridden(
+        &mut self,
+        alloc: Global,
+        units: &Units<'_>,
+        plan: &Plan,
+        key: &ScopedName,
+    ) -> Result<(), AllocError> {
+        if let Some(row) = self.rows.get_mut(key) {
+            *row = found_by_walk(alloc, units, plan, row.as_slice(), key.scope)?;
+        }
+        self.overridden.remove(key);
+        Ok(())
+    }
+}
+
+/// Of the definitions of a name in a scope, those to which includes lead that don't override it.
+fn found_by_walk(
+    alloc: Global,
+    units: &Units<'_>,
+    plan: &Plan,
+    all: &[Definition],
+    scope: usize,
+) -> Result<Vec<Definition>, AllocError> {
+    let mut walk = Walk::new(alloc, plan, scope)?;
+    for _ in 0..plan.places.len() {
+        let Some(number) = walk.waiting.pop() else {
+            break;
+        };
+        walk.visit(units, plan, all, number)?;
+    }
+    Ok(walk.found)
 }
 
 /// A walk along includes, from the places that bring in a scope.
