@@ -1,8 +1,8 @@
 // Limits that two crates have, of which neither stands on the other, and how sentences show them.
 use rn_lift::MAX_EXCEPTS;
-use rn_modset::MAX_TEXT;
+use rn_modset::{MAX_CONTRIBUTIONS, MAX_TEXT};
 use rn_outline::{Grouped, OutlineFault, read_outline};
-use rn_plan::LiftFaultKind;
+use rn_plan::{LiftFaultKind, Lifting, MAX_PLACES, Units, make_plan};
 use rn_syntax::{MAX_OPEN, SyntaxFault, parse};
 use rn_text::tokens;
 use std::alloc::{AllocError, Global};
@@ -52,6 +52,46 @@ fn excepts_may_be_as_long_as_a_text(rt: HostRuntime) {
     assert_eq!(&rt; MAX_EXCEPTS, MAX_TEXT);
 }
 
+// A start that is a choice of so many nested grammars and of text.
+fn start_of_grammars(alloc: Global, count: usize) -> Result<String, AllocError> {
+    let mut text = String::from_str(alloc, "start = text")?;
+    for _ in 0..count {
+        text.push_str(" | grammar { start = text }")?;
+    }
+    Ok(text)
+}
+
+// How many places a file with so many nested grammars has, or the fault: one of its own, and one for each of these.
+fn places_of_grammars(
+    rt: &(impl Abort + AllocGlobal),
+    count: usize,
+) -> Result<usize, LiftFaultKind> {
+    let text = start_of_grammars(rt.alloc(), count).expect(rt, "no memory");
+    let tokens = tokens(rt.alloc(), text.as_bytes()).expect(rt, "no tokens");
+    let outline = read_outline(rt.alloc(), text.as_str(), tokens.as_slice());
+    let outline = outline.expect(rt, "no outline");
+    let file = Lifting {
+        name: "a",
+        text: text.as_str(),
+        outline: &outline,
+        targets: &[],
+    };
+    let units = Units::of(rt.alloc(), &[file]).expect(rt, "no memory");
+    match make_plan(rt.alloc(), &units, &[0]) {
+        Ok(plan) => Ok(plan.places.len()),
+        Err(fault) => Err(fault.kind),
+    }
+}
+
+#[test]
+fn files_make_as_many_modules_as_a_set_has(rt: HostRuntime) {
+    assert_eq!(&rt; MAX_PLACES, MAX_CONTRIBUTIONS);
+    let most = places_of_grammars(&rt, MAX_PLACES - 1);
+    assert_eq!(&rt; most, Ok(1_024), "as many as may be");
+    let more = places_of_grammars(&rt, MAX_PLACES);
+    assert_eq!(&rt; more, Err(LiftFaultKind::Many), "a module too many");
+}
+
 // Whether a number is shown like this.
 fn is_shown(rt: &(impl Abort + AllocGlobal), number: usize, wanted: &str) -> bool {
     let number = Grouped(number);
@@ -74,5 +114,5 @@ fn numbers_are_shown_in_threes(rt: HostRuntime) {
 fn the_sentence_on_modules_shows_its_limit_so(rt: HostRuntime) {
     let kind = LiftFaultKind::Many;
     let sentence = format!(in rt.alloc(); "{kind}").expect(&rt, "no memory");
-    assert_eq!(&rt; sentence.as_str(), "more than 65,536 modules");
+    assert_eq!(&rt; sentence.as_str(), "more than 1,024 modules");
 }

@@ -15,15 +15,16 @@ use rn_outline::{Part, PartKind, Span};
 use std::alloc::{AllocError, Global};
 use std::collections::BTreeMap;
 
-/// The most modules that files may make, without those that bring in scopes.
-pub const MAX_PLACES: usize = 65_536;
+/// The most modules that files may make, without those that bring in scopes: as many as a set has contributions,
+/// `MAX_CONTRIBUTIONS` of rn_modset, on which this crate does not stand.
+pub const MAX_PLACES: usize = 1_024;
 
 /// Which modules files become, of which some are roots: the scopes and places that the roots make,
 /// with all that they lead to (RELAX NG 2001, 4.6, 4.7, 4.18). Files that no root reaches have no
 /// place.
 ///
-/// Refused with the first fault: `NoFile`, `IncludedPattern`, `Prefix`, `NoParent`, in the order of
-/// places and parts, or `Many`. `Memory` stands for want of memory alone.
+/// Refused with the first fault: `NoFile`, `IncludedPattern`, `Prefix`, `NoParent`, `Many`, in the
+/// order of places and parts. `Memory` stands for want of memory alone.
 pub fn make_plan(alloc: Global, units: &Units<'_>, roots: &[usize]) -> Result<Plan, LiftFault>
     ensures free { IfOk result (λ p.
         AreFree (files_of units.now) p.names.own (string_bytes p.names.start)) }
@@ -76,15 +77,15 @@ impl Plan {
         Ok(())
     }
 
-    /// Makes the links of all places, those that are made on the way too.
+    /// Makes the links of all places, those that are made on the way too. There are never more than [`MAX_PLACES`].
     fn link_all(&mut self, alloc: Global, units: &Units<'_>) -> Result<(), LiftFault> {
         for number in 0..MAX_PLACES {
             if number >= self.places.len() {
-                return Ok(());
+                break;
             }
             self.link(alloc, units, number)?;
         }
-        Err(fault(0, 0, LiftFaultKind::Many))
+        Ok(())
     }
 
     /// Names the modules that bring in scopes.
@@ -335,7 +336,8 @@ impl Plan {
         })
     }
 
-    /// The place of a unit in a scope: one for each namespace that is handed to it, where it needs that.
+    /// The place of a unit in a scope: one for each namespace that is handed to it, where it needs that. `Many`, where it
+    /// would be one more than [`MAX_PLACES`].
     fn place(
         &mut self,
         alloc: Global,
@@ -356,6 +358,9 @@ impl Plan {
         };
         if let Some(number) = self.place_numbers.get(&key) {
             return Ok(*number);
+        }
+        if self.places.len() >= MAX_PLACES {
+            return Err(fault(0, 0, LiftFaultKind::Many));
         }
         let module = self.module_name(alloc, units, unit, scope)?;
         let number = self.places.len();
