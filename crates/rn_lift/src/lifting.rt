@@ -98,8 +98,9 @@ fn add_bringing_modules(
     Ok(())
 }
 
-/// The modules that files become (RELAX NG 2001, 4.6, 4.7, 4.18, 7.1.4), of which some are roots:
-/// what nobody includes. Their schema is that of the roots.
+/// The modules that files become (RELAX NG 2001, 4.6, 4.7, 4.18, 7.1.4). `roots` are the numbers of
+/// the files asked for; a root may be included by another, and a number that no file has is passed
+/// over. The schema of the modules is that of the roots.
 ///
 /// Files that no root reaches become no modules. A file of the roots' scope keeps its name, and its
 /// text, but for the literals of its includes and for what is lifted. Refused with the first fault;

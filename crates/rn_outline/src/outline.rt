@@ -50,8 +50,7 @@ fn skip_annotations(tokens: &[Token<'_>], mut at: usize) -> Result<usize, Stop>
     Ok(at)
 }
 
-/// The number of the token `}` that closes the `{` of this number, which is the only `grammar` of the file if nothing but
-/// following annotations stands behind it.
+/// The number of the `}` that closes the `{` of this number; `None` where none does.
 fn closing_brace(tokens: &[Token<'_>], at: usize) -> Option<usize>
     ensures { IfSome result (λ r. r < length tokens.now) }
 {
@@ -80,7 +79,8 @@ fn only_follows(tokens: &[Token<'_>], mut at: usize) -> bool
     at == tokens.len()
 }
 
-/// Whether the grammar whose `{` is the token of this number is the whole file.
+/// Whether the grammar whose `{` is the token of this number is the whole file. An unclosed one counts as the whole file, so
+/// that the fault is told at its end.
 fn is_whole(tokens: &[Token<'_>], at: usize) -> bool {
     match closing_brace(tokens, at) {
         Some(close) => only_follows(tokens, close + 1),

@@ -116,7 +116,7 @@ impl<'a> Units<'a> {
         }
     }
 
-    /// Whether a part of a file is excepted from data.
+    /// Whether a part of any of the files is excepted from data.
     pub fn have_excepts(&self) -> bool {
         self.files
             .iter()
