@@ -187,6 +187,14 @@ row output_nowhere 3 '' "rnc-flat: error: none/flat.rnc can't be written\n" -o n
 row output_folder 3 '' "rnc-flat: error: target can't be written\n" -o target a.rnc
 row output_device 0 '' '' -o /dev/null a.rnc
 if [ -c /dev/null ]; then pass; else fail 'output_device: it is gone'; fi
+ln -s nowhere.rnc loose.rnc
+row output_loose_link 3 '' "rnc-flat: error: loose.rnc can't be written\n" -o loose.rnc a.rnc
+if [ -L loose.rnc ] && [ ! -e nowhere.rnc ]; then pass; else fail 'output_loose_link: it is gone, or was followed'; fi
+ln -s /proc/self/fd/1 pipe
+"$program" -o pipe a.rnc | cat >"$work/got.pipe"
+if [ -L pipe ] && [ "$(cat "$work/got.pipe")" = "$(printf '%b' "$schema")" ]; then pass; else fail 'output_pipe'; fi
+rm loose.rnc pipe
+row input_pipe 0 "$schema" '' <(cat a.rnc)
 alone output_leaves_nothing a.rnc bad.rnc flat.rnc link.rnc target
 row output_list 0 '' '' --list -o list a.rnc
 holds output_list_bytes list 'a.rnc a.rnc\n'

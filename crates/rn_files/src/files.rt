@@ -39,7 +39,8 @@ pub trait Files {
     ghost gives: { Self → List ℕ → List ℕ → Type 0 } = { λ _ _ _. Unit {0} };
 
     /// The one path of the file or the folder that the path leads to: it begins with `/`, and has no segment that is empty,
-    /// `.`, `..` or a link. A fault tells why there is none, or that memory ran out.
+    /// `.`, `..` or a link. A pipe without such a path has the one by which it was asked for. A fault tells why there is none,
+    /// or that memory ran out.
     fn real_path(&self, alloc: Global, path: &str) -> Result<String, FileFault>
         ensures { IfOk result (λ found. leads self.now path.now (string_bytes found)) };
 

@@ -21,8 +21,12 @@ pub struct System<'a> {
 
 impl Files for System<'_> {
     fn real_path(&self, alloc: Global, path: &str) -> Result<String, FileFault> {
-        let found = fs::canonicalize(self.rt, path).map_err(|error| fault_of(&error))?;
-        String::from_str(alloc, found.as_path().as_str()).map_err(|_| FileFault::Memory)
+        let found = match fs::canonicalize(self.rt, path) {
+            Ok(real) => String::from_str(alloc, real.as_path().as_str()),
+            Err(_) if is_pipe(self.rt, path) => String::from_str(alloc, path),
+            Err(error) => return Err(fault_of(&error)),
+        };
+        found.map_err(|_| FileFault::Memory)
     }
 
     fn read(&self, alloc: Global, path: &str) -> Result<Vec<u8>, FileFault> {
@@ -38,6 +42,14 @@ impl Files for System<'_> {
             return Err(FileFault::Large);
         }
         read_all(alloc, &mut Input::new(opened))
+    }
+}
+
+/// Whether the path from the root leads to a pipe or a device. Those of a process, such as `/dev/fd/63`, have no other path.
+fn is_pipe(rt: &HostRuntime, path: &str) -> bool {
+    match fs::metadata(rt, path) {
+        Ok(metadata) => path.starts_with('/') && !metadata.is_file() && !metadata.is_dir(),
+        Err(_) => false,
     }
 }
 
@@ -77,19 +89,26 @@ impl Outputs for Written<'_> {
     }
 }
 
-/// A regular file or a new path gets these bytes whole or not at all; a link is followed if it leads somewhere, else replaced.
-/// Anything else, as a terminal, is written to, and may hold a front after an error.
+/// A regular file or a new path gets these bytes whole or not at all. A link is followed; one that leads nowhere is refused.
+/// Anything else, as a terminal or a pipe, is written to, and may hold a front after an error.
 fn write_whole(rt: &HostRuntime, path: &str, bytes: &[u8]) -> io::Result<()> {
-    let Ok(real) = fs::canonicalize(rt, path) else {
-        return write_beside(rt, path, bytes, None);
+    let Ok(metadata) = fs::metadata(rt, path) else {
+        return write_new(rt, path, bytes);
     };
-    let metadata = fs::metadata(rt, path)?;
     if metadata.is_file() {
-        write_beside(rt, real.as_path().as_str(), bytes, Some(metadata))
-    } else {
-        let mut opened = OpenOptions::new().write(true).open(rt, path)?;
-        opened.write_all(bytes)
+        let real = fs::canonicalize(rt, path)?;
+        return write_beside(rt, real.as_path().as_str(), bytes, Some(metadata));
     }
+    let mut opened = OpenOptions::new().write(true).open(rt, path)?;
+    opened.write_all(bytes)
+}
+
+/// Writes the bytes to a path at which there is nothing, not even a link.
+fn write_new(rt: &HostRuntime, path: &str, bytes: &[u8]) -> io::Result<()> {
+    if fs::symlink_metadata(rt, path).is_ok() {
+        return Err(io::Error::from(ErrorKind::NotFound));
+    }
+    write_beside(rt, path, bytes, None)
 }
 
 /// Writes the bytes to a new file beside the one at the path, which then takes its place.
