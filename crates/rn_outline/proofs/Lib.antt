@@ -1,1 +1,2 @@
+mod Backslashes
 mod Commas

@@ -1,5 +1,5 @@
 -- Parts that name another file.
-use Rattle.std.specs.Prelude.{ℕ, Bool, true, false, if◌then◌else◌, List, [], ◌∷◌, Option, Some, None}
+use Rattle.std.specs.Prelude.{ℕ, ◌+◌, Bool, true, false, if◌then◌else◌, List, [], ◌∷◌, Option, Some, None}
 use Rattle.rn_outline.specs.declared.file_parts.Part.{Part}
 use Rattle.rn_outline.specs.declared.file_parts.PartKind.{PartKind}
 use Rattle.rn_outline.specs.declared.file_parts.PartKind.TheVariants.{External, Include}
@@ -27,3 +27,12 @@ behind_first (t ∷ ts) = ts
 abbrev pub targets_of : List Part → List ℕ → List (Option ℕ)
 targets_of [] ts = []
 targets_of (p ∷ ps) ts = if is_link p then first_of ts ∷ targets_of ps (behind_first ts) else None ∷ targets_of ps ts
+
+-- the numbers of those parts that name another file, where the first part has this number
+abbrev pub link_numbers_from : ℕ → List Part → List ℕ
+link_numbers_from number [] = []
+link_numbers_from number (p ∷ ps) = if is_link p then number ∷ link_numbers_from (number + 1) ps else link_numbers_from (number + 1) ps
+
+-- the numbers of the parts that name another file
+abbrev pub link_numbers : List Part → List ℕ
+link_numbers parts = link_numbers_from 0 parts

@@ -1,8 +1,10 @@
 // What a file is made of.
-ghost use Rattle.std.specs.Prelude.{◌≡◌};
+ghost use Rattle.std.specs.Prelude.{◌≡◌, ◌<◌, ◌≤◌, ◌⊎◌, [], length, slice_range, IfOk};
 ghost use Rattle.std.specs.List.{list_any};
-ghost use Rattle.rn_outline.specs.Links.{is_link};
+ghost use Rattle.std.specs.Str.{IsCharBoundary};
+ghost use Rattle.rn_outline.specs.Links.{is_link, link_numbers};
 ghost use Rattle.rn_outline.specs.Spans.{front_end, mark};
+ghost use Rattle.rn_outline.specs.TokenNames.{unquoted_name};
 
 use std::alloc::{AllocError, Global};
 
@@ -179,12 +181,18 @@ impl Outline {
 
     /// The numbers of the parts that name another file, externals and includes, in the order of the
     /// text. Refused for want of memory alone.
-    pub fn links(&self, alloc: Global) -> Result<Vec<usize>, AllocError> {
+    pub fn links(&self, alloc: Global) -> Result<Vec<usize>, AllocError>
+        ensures { IfOk result (λ v. v.items ≡ link_numbers self.now.parts.items) }
+    {
         let mut links = Vec::new(alloc);
-        for (number, part) in self.parts.iter().enumerate() {
+        let mut rest = self.parts.as_slice();
+        let mut number = 0;
+        'parts: while let Some((part, behind)) = rest.split_first() {
             if is_link(part) {
                 links.push(number)?;
             }
+            number += 1;
+            rest = behind;
         }
         Ok(links)
     }
@@ -227,7 +235,24 @@ pub fn is_link(part: &Part) -> bool
 
 /// The name that a token of the text is: without the backslash of a quoted one. Of a span that lies
 /// not in the text, nothing.
-pub fn name_in(text: &str, span: Span) -> &str {
-    let name = text.get(span.from..span.to).unwrap_or("");
-    name.strip_prefix('\\').unwrap_or(name)
+pub fn name_in(text: &str, span: Span) -> &str
+    ensures inside { span.from ≤ span.to → IsCharBoundary text.now span.from
+        → IsCharBoundary text.now span.to
+        → result.now ≡ unquoted_name (slice_range text.now span.from span.to) }
+    ensures outside { (span.to < span.from) ⊎ (length text.now < span.to) → result.now ≡ [] }
+{
+    match text.get(span.from..span.to) {
+        Some(token) => unquoted_name(token),
+        None => "",
+    }
+}
+
+/// A name without the backslash of a quoted one.
+pub fn unquoted_name(token: &str) -> &str
+    ensures { result.now ≡ unquoted_name token.now }
+{
+    if let Some(name) = token.strip_prefix('\\') {
+        return name;
+    }
+    token
 }

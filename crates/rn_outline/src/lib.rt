@@ -18,7 +18,7 @@ mod skips;
 pub use annotations::annotation_end;
 pub use file_parts::{
     Declaration, DeclarationKind, Method, Outline, Part, PartKind, Shape, Span, Uri, is_link,
-    name_in,
+    name_in, unquoted_name,
 };
 pub use grouped::Grouped;
 pub use outline::{MAX_OPEN, read_outline};

@@ -1,11 +1,10 @@
 -- Names with dots.
-use Rattle.std.proofs.Common.{◌≡◌, ℕ, ◌<◌, Bool, true, false, List, [], ◌∷◌, length, take, get_or, ◌==◌, if◌then◌else◌, ◌≢◌, ◌⊎◌, inl, inr, refl, sym, ap, subst, ◌∙◌, arith, length-append}
+use Rattle.std.proofs.Common.{◌≡◌, ℕ, ◌<◌, false, List, ◌∷◌, length, take, get_or, ap, subst, ◌∙◌, arith, length-append}
 use Rattle.std.specs.Prelude.{slice_index, String}
 use Rattle.std.specs.BTreeSet.{BTreeSet, contains_text}
 use Rattle.std.specs.declared.alloc.Global.{Global}
 use Rattle.std.proofs.Math.Seq.{take-append_seam, get_or-append_seam}
-use Rattle.std.proofs.lemmas.Bool.Decides.{eqb_tells}
-use Rattle.rn_plan.specs.FreeNames.{IsNoOwn, unquoted_name}
+use Rattle.rn_plan.specs.FreeNames.{IsNoOwn}
 
 -- what stands before a dot ends with a dot behind it
 pub no_own : (own : BTreeSet (String Global)) (name : List ℕ) → ((k : ℕ) → k < length name → slice_index name k ≡ 46 → contains_text own (take k name) ≡ false) → IsNoOwn own name
@@ -14,12 +13,3 @@ no_own own name f stem rest e =
     let dot : slice_index name (length stem) ≡ 46 = ap (λ (t : List ℕ). get_or t (length stem) 0) e ∙ get_or-append_seam stem 46 rest 0 in
     let inside : length stem < length name = omega (arith, ap length e, length-append stem (46 ∷ rest)) in
     subst (λ (t : List ℕ). contains_text own t ≡ false) front (f (length stem) inside dot)
-
-kept : (b : ℕ) (bs : List ℕ) → ((rest : List ℕ) → b ∷ bs ≡ 92 ∷ rest → ⊥) → (((b == 92) ≡ true) × (b ≡ 92)) ⊎ (((b == 92) ≡ false) × (b ≢ 92)) → b ∷ bs ≡ unquoted_name (b ∷ bs)
-kept b bs f (inl (t, e)) = absurd (f bs (ap (λ (x : ℕ). x ∷ bs) e))
-kept b bs f (inr (t, e)) = sym (ap (λ (q : Bool). if q then bs else (b ∷ bs)) t)
-
--- without a backslash in front a name is as it is
-pub unquoted_none : (bs : List ℕ) → ((rest : List ℕ) → bs ≡ 92 ∷ rest → ⊥) → bs ≡ unquoted_name bs
-unquoted_none [] f = refl
-unquoted_none (b ∷ bs) f = kept b bs f (eqb_tells b 92)

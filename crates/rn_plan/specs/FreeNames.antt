@@ -1,18 +1,14 @@
 -- Names that no file writes.
-use Rattle.std.specs.Prelude.{◌≡◌, ◌≢◌, ℕ, ◌==◌, false, if◌then◌else◌, List, [], ◌∷◌, ◌++◌, All, Option, Some, None, String, slice_range}
+use Rattle.std.specs.Prelude.{◌≡◌, ◌≢◌, ℕ, false, List, ◌∷◌, ◌++◌, All, Option, Some, None, String, slice_range}
 use Rattle.std.specs.List.{AllByRecursion}
 use Rattle.std.specs.BTreeSet.{BTreeSet, contains_text}
 use Rattle.std.specs.declared.alloc.Global.{Global}
+use Rattle.rn_outline.specs.TokenNames.{unquoted_name}
 use Rattle.rn_outline.specs.declared.file_parts.Part.{Part}
 use Rattle.rn_outline.specs.declared.file_parts.PartKind.{PartKind}
 use Rattle.rn_outline.specs.declared.file_parts.PartKind.TheVariants.{Define, Reference, Parent}
 use Rattle.rn_outline.specs.declared.file_parts.Span.{Span}
 use Rattle.rn_plan.specs.declared.given.Lifting.{Lifting}
-
--- a name without the backslash of a quoted one
-abbrev pub unquoted_name : List ℕ → List ℕ
-unquoted_name [] = []
-unquoted_name (b ∷ bs) = if b == 92 then bs else b ∷ bs
 
 -- the token that is the name which a part defines or refers to
 abbrev pub name_span : PartKind → Option Span

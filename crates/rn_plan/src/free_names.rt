@@ -1,13 +1,13 @@
 // Whether the names that were made are free.
 ghost use Rattle.std.specs.Prelude.{◌≡◌, ◌<◌, false, length, slice_index, take, IsTrue, IsFalse, string_bytes};
 ghost use Rattle.std.specs.BTreeSet.{contains_text};
-ghost use Rattle.rn_plan.specs.FreeNames.{AreFree, FileIsFree, IsFreeName, IsNoOwn, PartIsFree, name_span, unquoted_name};
+ghost use Rattle.rn_plan.specs.FreeNames.{AreFree, FileIsFree, IsFreeName, IsNoOwn, PartIsFree};
 ghost use Rattle.rn_plan.specs.UnitFiles.{files_of};
 
 use crate::given::Given;
-use crate::own_names::Names;
+use crate::own_names::{Names, name_span};
 use crate::units::Units;
-use rn_outline::{Part, PartKind, Span};
+use rn_outline::{Part, unquoted_name};
 use std::collections::BTreeSet;
 
 /// Whether no name that the files write is one that was made for a scope, or for a start.
@@ -56,27 +56,6 @@ fn is_free(name: &str, names: &Names) -> bool
     ensures { IsTrue result → IsFreeName names.now.own (string_bytes names.now.start) name.now }
 {
     name != names.start.as_str() && !is_own(&names.own, name)
-}
-
-/// The token that is the name which a part defines or refers to.
-fn name_span(kind: &PartKind) -> Option<Span>
-    ensures { result ≡ name_span kind.now }
-{
-    match kind {
-        PartKind::Define { name, .. } | PartKind::Reference { name } | PartKind::Parent { name } =>
-            { Some(*name) }
-        _ => None,
-    }
-}
-
-/// A name without the backslash of a quoted one.
-fn unquoted_name(token: &str) -> &str
-    ensures { result.now ≡ unquoted_name token.now }
-{
-    if let Some(name) = token.strip_prefix('\\') {
-        return name;
-    }
-    token
 }
 
 /// Whether a name begins with one of these stems and a dot.

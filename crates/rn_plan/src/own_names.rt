@@ -1,11 +1,12 @@
 // Names of their own: distinct from all that are written, and from each other.
 ghost use Rattle.std.specs.Prelude.{◌≡◌, ◌∷◌, ◌++◌, false, not, IfOk, OnOk, string_bytes};
 ghost use Rattle.std.specs.BTreeSet.{contains_text};
+ghost use Rattle.rn_plan.specs.FreeNames.{name_span};
 ghost use Rattle.rn_plan.specs.NameSets.{Takes};
 
 use crate::given::Given;
 use crate::units::Units;
-use rn_outline::{PartKind, name_in};
+use rn_outline::{PartKind, Span, name_in};
 use std::alloc::{AllocError, Global};
 use std::collections::{BTreeMap, BTreeSet};
 
@@ -117,12 +118,22 @@ fn push_stem(stem: &mut String, c: char) -> Result<(), AllocError> {
     stem.push('_')
 }
 
-/// The name that a part defines or refers to; nothing, if it does neither.
-pub(crate) fn written_name<'a>(text: &'a str, kind: &PartKind) -> &'a str {
+/// The token that is the name which a part defines or refers to.
+pub(crate) fn name_span(kind: &PartKind) -> Option<Span>
+    ensures { result ≡ name_span kind.now }
+{
     match kind {
         PartKind::Define { name, .. } | PartKind::Reference { name } | PartKind::Parent { name } =>
-            name_in(text, *name),
-        _ => "",
+            { Some(*name) }
+        _ => None,
+    }
+}
+
+/// The name that a part defines or refers to; nothing, if it does neither.
+pub(crate) fn written_name<'a>(text: &'a str, kind: &PartKind) -> &'a str {
+    match name_span(kind) {
+        Some(span) => name_in(text, span),
+        None => "",
     }
 }
 

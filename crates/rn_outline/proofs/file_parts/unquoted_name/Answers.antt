@@ -1,8 +1,8 @@
 use Rattle.std.proofs.Common.{Some, None, sym, ap, arith}
 use Rattle.std.proofs.lemmas.Str.Pattern.{strip_prefix_char}
-use Rattle.rn_plan.specs.FreeNames.{unquoted_name}
-use Rattle.rn_plan.proofs.Dots.{unquoted_none}
-use Rattle.rn_plan.proofs.free_names.unquoted_name.Goals as goal
+use Rattle.rn_outline.specs.TokenNames.{unquoted_name}
+use Rattle.rn_outline.proofs.Backslashes.{unquoted_none}
+use Rattle.rn_outline.proofs.file_parts.unquoted_name.Goals as goal
 
 pub returns-in-Some : goal.returns-in-Some
 returns-in-Some c = sym (ap unquoted_name (strip_prefix_char 92 c.args.token.now (Some c.in-Some.name) c.in-Some.ensures.cases (omega arith)))
