@@ -49,7 +49,7 @@ pub struct Lifted {
     /// In the order of their names, which are distinct.
     pub modules: Vec<LiftedModule>,
     /// What stands before the first dot of the names of their own.
-    pub(crate) stems: BTreeSet<String>,
+    pub(crate) made_stems: BTreeSet<String>,
     /// What stands behind that dot for a start.
     pub(crate) start: String,
 }
@@ -105,7 +105,7 @@ impl Lifted {
         let Some((stem, rest)) = name.split_once('.') else {
             return name;
         };
-        if !self.stems.contains(stem) {
+        if !self.made_stems.contains(stem) {
             return name;
         }
         if rest == self.start.as_str() {

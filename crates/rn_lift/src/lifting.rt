@@ -107,7 +107,7 @@ fn add_bringing_modules(
 /// `Memory` stands for want of memory alone.
 pub fn lift(alloc: Global, files: &[Lifting<'_>], roots: &[usize]) -> Result<Lifted, LiftFault>
     ensures order { IfOk result (λ l. AreRising l.modules.items) }
-    ensures free { IfOk result (λ l. AreFree files.now l.stems (string_bytes l.start)) }
+    ensures free { IfOk result (λ l. AreFree files.now l.made_stems (string_bytes l.start)) }
     ensures made { IfOk result (λ l.
         AreMadeOfFiles files.now l.modules.items (string_bytes l.start)) }
     ensures plain { IfOk result (λ l. All (KeepsText files.now) l.modules.items) }
@@ -123,7 +123,7 @@ pub fn lift(alloc: Global, files: &[Lifting<'_>], roots: &[usize]) -> Result<Lif
 fn finish(plan: Plan, mut modules: Vec<LiftedModule>) -> Result<Lifted, LiftFault>
     ensures order { IfOk result (λ l. AreRising l.modules.items) }
     ensures same { IfOk result (λ l. IsPermutation modules.items l.modules.items) }
-    ensures stems { IfOk result (λ l. l.stems ≡ plan.names.own) }
+    ensures stems { IfOk result (λ l. l.made_stems ≡ plan.names.made_stems) }
     ensures start { IfOk result (λ l. l.start ≡ plan.names.start) }
 {
     modules.sort_by(|a, b| a.name.cmp(&b.name))?;
@@ -135,10 +135,14 @@ fn finish(plan: Plan, mut modules: Vec<LiftedModule>) -> Result<Lifted, LiftFaul
         });
     }
     let Plan { names, .. } = plan;
-    let Names { own, start, .. } = names;
+    let Names {
+        made_stems,
+        start,
+        ..
+    } = names;
     Ok(Lifted {
         modules,
-        stems: own,
+        made_stems,
         start,
     })
 }

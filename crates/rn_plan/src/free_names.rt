@@ -13,7 +13,7 @@ use std::collections::BTreeSet;
 /// Whether no name that the files write is one that was made for a scope, or for a start.
 pub(crate) fn are_free(units: &Units<'_>, names: &Names) -> bool
     ensures { IsTrue result
-        → AreFree (files_of units.now) names.now.own (string_bytes names.now.start) }
+        → AreFree (files_of units.now) names.now.made_stems (string_bytes names.now.start) }
 {
     for given in &units.files {
         if !is_free_file(given, names) {
@@ -26,7 +26,7 @@ pub(crate) fn are_free(units: &Units<'_>, names: &Names) -> bool
 /// The same, of the names that one file writes.
 fn is_free_file(given: &Given<'_>, names: &Names) -> bool
     ensures { IsTrue result
-        → FileIsFree names.now.own (string_bytes names.now.start) given.now.file }
+        → FileIsFree names.now.made_stems (string_bytes names.now.start) given.now.file }
 {
     let mut rest = given.file.outline.parts.as_slice();
     'parts: while let Some((part, behind)) = rest.split_first() {
@@ -40,7 +40,7 @@ fn is_free_file(given: &Given<'_>, names: &Names) -> bool
 
 fn is_free_part(text: &str, part: &Part, names: &Names) -> bool
     ensures { IsTrue result
-        → PartIsFree names.now.own (string_bytes names.now.start) text.now part.now }
+        → PartIsFree names.now.made_stems (string_bytes names.now.start) text.now part.now }
 {
     let Some(span) = name_span(&part.kind) else {
         return true;
@@ -53,9 +53,10 @@ fn is_free_part(text: &str, part: &Part, names: &Names) -> bool
 
 /// Whether a name is neither that of a start nor one with a stem that was made.
 fn is_free(name: &str, names: &Names) -> bool
-    ensures { IsTrue result → IsFreeName names.now.own (string_bytes names.now.start) name.now }
+    ensures { IsTrue result
+        → IsFreeName names.now.made_stems (string_bytes names.now.start) name.now }
 {
-    name != names.start.as_str() && !is_own(&names.own, name)
+    name != names.start.as_str() && !is_own(&names.made_stems, name)
 }
 
 /// Whether a name begins with one of these stems and a dot.

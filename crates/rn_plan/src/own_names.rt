@@ -150,13 +150,13 @@ pub fn own_name(alloc: Global, stem: &str, name: &str) -> Result<String, AllocEr
 /// The names that scopes and modules are given.
 #[derive(Drop)]
 pub struct Names {
-    /// What stands before the first dot of names.
-    stems: Taken,
+    /// What stands before the first dot of names, those that were made too.
+    taken_stems: Taken,
     modules: Taken,
     /// Of each file, whether no module has its name yet.
     is_free: Vec<bool>,
     /// The stems that were made.
-    pub own: BTreeSet<String>,
+    pub made_stems: BTreeSet<String>,
     /// What stands behind the dot for a start: a name that nobody writes.
     pub start: String,
 }
@@ -165,10 +165,10 @@ impl Names {
     /// The names beside all that these files write and are called.
     pub(crate) fn of(alloc: Global, units: &Units<'_>) -> Result<Self, AllocError> {
         let mut names = Names {
-            stems: Taken::new(alloc),
+            taken_stems: Taken::new(alloc),
             modules: Taken::new(alloc),
             is_free: Vec::new(alloc),
-            own: BTreeSet::new(alloc),
+            made_stems: BTreeSet::new(alloc),
             start: String::new(alloc),
         };
         let mut starts = Taken::new(alloc);
@@ -191,7 +191,7 @@ impl Names {
         for part in &outline.parts {
             let name = written_name(given.file.text, &part.kind);
             if let Some((front, _)) = name.split_once('.') {
-                self.stems.take(alloc, front)?;
+                self.taken_stems.take(alloc, front)?;
             }
             if name.starts_with("start") {
                 starts.take(alloc, name)?;
@@ -208,14 +208,15 @@ impl Names {
         unit: usize,
     ) -> Result<String, AllocError>
         ensures free { IfOk result (λ r.
-            contains_text self.old.stems.names (string_bytes r) ≡ false) }
+            contains_text self.old.taken_stems.names (string_bytes r) ≡ false) }
         ensures taken { IfOk result (λ r.
-            Takes (string_bytes r) self.old.stems.names self.new.stems.names) }
-        ensures own { IfOk result (λ r. Takes (string_bytes r) self.old.own self.new.own) }
+            Takes (string_bytes r) self.old.taken_stems.names self.new.taken_stems.names) }
+        ensures own { IfOk result (λ r.
+            Takes (string_bytes r) self.old.made_stems self.new.made_stems) }
     {
         let wished = wished_stem(alloc, units, unit)?;
-        let stem = self.stems.fresh_name(alloc, wished.as_str())?;
-        add(&mut self.own, stem.clone()?)?;
+        let stem = self.taken_stems.fresh_name(alloc, wished.as_str())?;
+        add(&mut self.made_stems, stem.clone()?)?;
         Ok(stem)
     }
 

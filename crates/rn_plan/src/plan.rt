@@ -28,7 +28,7 @@ pub const MAX_PLACES: usize = 1_024;
 /// `Unsound` where a made name is not free. `Memory` stands for want of memory alone.
 pub fn make_plan(alloc: Global, units: &Units<'_>, roots: &[usize]) -> Result<Plan, LiftFault>
     ensures free { IfOk result (λ p.
-        AreFree (files_of units.now) p.names.own (string_bytes p.names.start)) }
+        AreFree (files_of units.now) p.names.made_stems (string_bytes p.names.start)) }
 {
     let mut plan = Plan::new(alloc, units)?;
     plan.add_roots(alloc, units, roots)?;

@@ -5,4 +5,4 @@ use Rattle.rn_plan.specs.declared.given.Given.{Given}
 use Rattle.rn_plan.proofs.free_names.are_free.Goals as goal
 
 pub returns : goal.returns
-returns c = λ _. All-map (FileIsFree c.args.names.now.own (string_bytes c.args.names.now.start)) (λ (g : Given). g.file) c.args.units.now.files.items (λ k d h. c.loop-given.invariant k d (omega (arith, h)))
+returns c = λ _. All-map (FileIsFree c.args.names.now.made_stems (string_bytes c.args.names.now.start)) (λ (g : Given). g.file) c.args.units.now.files.items (λ k d h. c.loop-given.invariant k d (omega (arith, h)))

@@ -5,7 +5,7 @@ use Rattle.rn_plan.specs.FreeNames.{FileIsFree, PartIsFree}
 use Rattle.rn_plan.proofs.free_names.is_free_file.Given as goal
 
 abbrev pub invariant-parts : goal.invariant-parts
-invariant-parts l = AllByRecursion (PartIsFree l.names.own (string_bytes l.names.start) l.given.file.text.now) l.rest → FileIsFree l.names.own (string_bytes l.names.start) l.given.file
+invariant-parts l = AllByRecursion (PartIsFree l.names.made_stems (string_bytes l.names.start) l.given.file.text.now) l.rest → FileIsFree l.names.made_stems (string_bytes l.names.start) l.given.file
 
 abbrev pub decreases-parts : goal.decreases-parts
 decreases-parts l = length l.rest
