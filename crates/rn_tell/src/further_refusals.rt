@@ -35,11 +35,9 @@ pub struct FurtherRefusal<'v> {
     pub site: Option<Site>,
 }
 
-impl FurtherRefusal<'_> {
-    /// What tells it from others, and in which order it is tested.
-    fn rank(&self) -> (Kind, &str, &str) {
-        (self.kind, self.module, self.key)
-    }
+/// Whether two refusals are one, wherever they are told.
+fn is_same(one: &FurtherRefusal<'_>, other: &FurtherRefusal<'_>) -> bool {
+    one.kind == other.kind && one.module == other.module && one.key == other.key
 }
 
 /// A refusal of a key, whichever module it is in.
@@ -69,12 +67,13 @@ fn found_of(refusal: &Refusal) -> Option<FurtherRefusal<'_>> {
     }
 }
 
-/// The refusal and those that would be answered after it, each once and in order; nothing for a refusal of another kind.
+/// The refusal and those that would be answered after it, each once and in order; nothing for a refusal of another kind, or
+/// one that is not found.
 pub fn refusals_from<'v>(
     alloc: Global,
     sites: &'v Sites<'_>,
     defined: &[Defined<'v>],
-    refusal: &'v Refusal,
+    refusal: &Refusal,
 ) -> Result<Vec<FurtherRefusal<'v>>, AllocError> {
     let mut found = Vec::new(alloc);
     let Some(first) = found_of(refusal) else {
@@ -84,10 +83,10 @@ pub fn refusals_from<'v>(
     push_combined(sites, defined, &mut found)?;
     push_undefined(alloc, sites, defined, &mut found)?;
     found.sort()?;
-    found.dedup_by(|one, before| one.rank() == before.rank());
-    found.retain(|one| one.rank() >= first.rank());
-    if found.first().map(|one| one.rank()) != Some(first.rank()) {
-        found.insert(0, first)?;
+    found.dedup_by(|one, before| is_same(one, before));
+    found.retain(|one| *one >= first);
+    if !found.first().is_some_and(|one| is_same(one, &first)) {
+        found.clear();
     }
     Ok(found)
 }
@@ -140,7 +139,7 @@ fn push_overriding(
 /// Adds what an include overrides and its module lacks, which provides these keys.
 fn push_lacking<'v>(
     sites: &'v Sites<'_>,
-    provided: &[&str],
+    provided: &[&'v str],
     include: Site,
     found: &mut Vec<FurtherRefusal<'v>>,
 ) -> Result<(), AllocError> {

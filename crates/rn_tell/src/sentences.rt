@@ -42,6 +42,7 @@ pub fn refusal_messages(
     let instances = instances(alloc, &sites)?;
     let own = instances_of(alloc, &sites, instances.as_slice())?;
     let defined = taking_part(alloc, &sites, instances.as_slice(), own.as_slice())?;
+    let found = refusals_from(alloc, &sites, defined.as_slice(), refusal)?;
     let telling = Telling {
         alloc,
         pages: pages.as_slice(),
@@ -50,7 +51,6 @@ pub fn refusal_messages(
         own: own.as_slice(),
         defined: defined.as_slice(),
     };
-    let found = refusals_from(alloc, &sites, defined.as_slice(), refusal)?;
     if found.is_empty() {
         Messages::of_message(alloc, message_of(place_refusal(&telling, refusal)?))
     } else {
@@ -98,7 +98,7 @@ fn message_of(placed: Placed) -> Message {
     Message { spot, sentence }
 }
 
-/// A refusal of which others are not looked for.
+/// A refusal for which no others are looked for.
 fn place_refusal(telling: &Telling<'_>, refusal: &Refusal) -> Result<Placed, AllocError> {
     match refusal {
         Refusal::Recursive { name } => recursive_name(telling, name.as_str()),
