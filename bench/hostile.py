@@ -115,10 +115,11 @@ def includes(twin):
 
 
 def uri(twin):
-    """60,000 names in a namespace whose URI has 1.2 MB; in the twin a literal has that length."""
+    """60,000 names, in no order, in a namespace whose URI has 1.2 MB; in the twin a literal has that length."""
     long = "u" * 1200000
     head = f'default namespace = "{"u" if twin else long}"\nstart = element r {{ "{long if twin else "u"}" }}'
-    return {"a": head + "".join(f"|element e{i}{{text}}" for i in range(60000))}
+    names = random.Random(1).sample(range(60000), 60000)
+    return {"a": head + "".join(f"|element e{i}{{text}}" for i in names)}
 
 
 def libraries(twin):

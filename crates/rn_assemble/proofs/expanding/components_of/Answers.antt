@@ -21,7 +21,7 @@ loop-root-preserved c = record {
       let f : ℕ → List Component = λ r. components modules (name_at modules r) [] in
       let h = c.loop-root.invariant.listed modules names k e b in
       let within : get_or roots i 0 < length modules = b (get_or roots i 0) (Contains-get_or roots i 0 c.loop-root-test.true) in
-      let x = subst (λ (u : Text). Expands names c.args.contents.now c.loop-root.components c.expand.new.components h.0 (components_within (suc instance_limit) modules (name_at modules (get_or roots i 0)) u)) c.args.known.now.none_is
+      let x = subst (λ (u : Text). Expands names c.args.contents.now c.loop-root.components c.expand.new.components h.0 (components_within (suc instance_limit) modules (name_at modules (get_or roots i 0)) u)) c.args.constants.now.none_is
       (c.in_ok-expand.ensures.expands modules names h.0 (record { modules_in_order = k.modules_in_order; names_in_order = k.names_in_order; flat = k.flat; are = k.are; contexts = h.2; lists = h.1 }) within) in
       let more : flat_map f (take (i + 1) roots) ≡ flat_map f (take i roots) ++ f (get_or roots i 0) = ap (flat_map f) (take_more roots i 0 c.loop-root-test.true) ∙ flat_map-append f (take i roots) (get_or roots i 0 ∷ []) ∙ ap (λ q. flat_map f (take i roots) ++ q) (append-nil (f (get_or roots i 0))) in
       (h.0 ++ x.adds.added, x.adds.lists, x.contexts, map-append (λ (d : Live). d.component) h.0 x.adds.added ∙ (λ j. h.3 j ++ x.adds.are j) ∙ sym more);
@@ -31,7 +31,7 @@ loop-root-preserved c = record {
       let P : ℕ → Text → Key → Type 0 = λ r. LacksWithin (suc instance_limit) modules (name_at modules r) [] in
       let h = c.loop-root.invariant.listed modules names k e b in
       let within : get_or roots i 0 < length modules = b (get_or roots i 0) (Contains-get_or roots i 0 c.loop-root-test.true) in
-      let noted = subst (λ (u : Text). Notes (AtNumbers modules names (LacksWithin (suc instance_limit) modules (name_at modules (get_or roots i 0)) u)) c.loop-root.components.lack c.expand.new.components.lack) c.args.known.now.none_is
+      let noted = subst (λ (u : Text). Notes (AtNumbers modules names (LacksWithin (suc instance_limit) modules (name_at modules (get_or roots i 0)) u)) c.loop-root.components.lack c.expand.new.components.lack) c.args.constants.now.none_is
       (c.in_ok-expand.ensures.lacks modules names h.0 (record { modules_in_order = k.modules_in_order; names_in_order = k.names_in_order; flat = k.flat; are = k.are; contexts = h.2; lists = h.1 }) within) in
       subst (λ (rs : List ℕ). Notes (AtNumbers modules names (LacksFrom modules rs)) None c.expand.new.components.lack) (sym (take_more roots i 0 c.loop-root-test.true))
       (some_more modules names P (take i roots) (get_or roots i 0) None c.loop-root.components.lack c.expand.new.components.lack (c.loop-root.invariant.lacks modules names k e b) noted);
