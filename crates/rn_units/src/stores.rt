@@ -1,6 +1,6 @@
 // The canonical form of each constructor by rows, and the order.
 use crate::samples::name;
-use rn_pattern::{Data, Interned, NameClass, Pattern, Plain, Value};
+use rn_pattern::{Data, Interned, NameClass, Pattern, Patterns, Plain, Value};
 use std::alloc::{AllocError, Global};
 use std::cmp::Ordering;
 use std::process::Abort;
