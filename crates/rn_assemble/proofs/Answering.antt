@@ -4,4 +4,5 @@ pub mod ReadModules
 pub mod FirstRefusal
 pub mod SetRefusal
 pub mod Checks
+pub mod ShortenedSets
 pub mod Refusing

@@ -7,6 +7,7 @@ pub mod Coded
 pub mod CombinedDefinitions
 pub mod CombinedView
 pub mod Contained
+pub mod Covered
 pub mod Expanded
 pub mod Held
 pub mod Included

@@ -11,6 +11,7 @@ ghost use Rattle.rn_assemble.specs.inside.Lacking.{IsLeastLack};
 ghost use Rattle.rn_assemble.specs.inside.Methods.{CanCombine, IsUncombined};
 ghost use Rattle.rn_assemble.specs.Refusal.{IsAssembled, Lacks};
 ghost use Rattle.rn_assemble.specs.Refused.{IsFirstRefusal};
+ghost use Rattle.rn_assemble.specs.ShortTexts.{IsShortened, short_texts};
 ghost use Rattle.rn_assemble.specs.inside.Sound.{HasSoundReferences, IsUnsound};
 ghost use Rattle.rn_assemble.specs.inside.Views.{AreInOrder, modules_view, names_of};
 ghost use Rattle.rn_assemble.specs.inside.Listed.{OfKeys};
@@ -29,9 +30,26 @@ use crate::named_modules::{NamedModule, read_modules};
 use crate::references::{least_recursive, references_of};
 use crate::refusal::Refusal;
 use crate::seeds::seed_of;
+use crate::short_uris::ShortUris;
+use crate::shortening::{short_uris_of, shortened};
 use rn_modset::ModuleSet;
 use rn_pattern::Seed;
 use std::alloc::Global;
+
+/// The grammar of a set with short texts in the place of long URIs, and the URIs that they stand for.
+#[derive(Drop)]
+pub struct ShortGrammar {
+    /// The grammar of the set, but for its URIs.
+    pub grammar: Grammar,
+    /// What its URIs stand for.
+    pub uris: ShortUris,
+}
+
+/// The combined patterns of a set, and what their URIs stand for.
+struct ShortCombined<'s> {
+    combined: Combined<'s>,
+    uris: ShortUris,
+}
 
 /// The grammar of the set: the components of all modules that no module includes, with includes replaced by what they
 /// include, joined for each name in their order (RELAX NG 2001, 4.7, 4.11, 4.17). Or the first refusal that stands, of those
@@ -54,6 +72,38 @@ fn combine_set<'s>(alloc: Global, set: &'s ModuleSet, seed: &Seed) -> Result<Com
 {
     let modules = read_modules(alloc, set)?;
     combine_modules(alloc, modules.as_slice(), seed)
+}
+
+/// The grammar of the set with short texts in the place of long URIs, or the first refusal that stands, as
+/// [`assemble`](crate::assemble) has them. What is made of it compares few bytes of a URI, while each name of the set's
+/// grammar may stand in one of megabytes.
+pub fn assemble_short(alloc: Global, set: &ModuleSet) -> Result<ShortGrammar, Refusal>
+    ensures { MatchResult result
+        (λ g. IsShortened set.now (short_texts g.uris) (grammar_view g.grammar))
+        (IsFirstRefusal set.now) }
+{
+    let seed = seed_of(set);
+    let ShortCombined { combined, uris } = combine_short(alloc, set, &seed)?;
+    let joined = joined_grammar(alloc, combined, &seed)?;
+    let grammar = Grammar { joined };
+    Ok(ShortGrammar { grammar, uris })
+}
+
+/// The combined patterns of the set, or the first refusal that stands for it. The trees of the modules are given up.
+fn combine_short<'s>(
+    alloc: Global,
+    set: &'s ModuleSet,
+    seed: &Seed,
+) -> Result<ShortCombined<'s>, Refusal>
+    ensures { MatchResult result
+        (λ c. IsShortened set.now (short_texts c.uris) (combined_view c.combined))
+        (IsFirstRefusal set.now) }
+{
+    let modules = read_modules(alloc, set)?;
+    let uris = short_uris_of(alloc, modules.as_slice())?;
+    let modules = shortened(alloc, &uris, modules)?;
+    let combined = combine_modules(alloc, modules.as_slice(), seed)?;
+    Ok(ShortCombined { combined, uris })
 }
 
 /// The combined patterns of the modules, or the first refusal that stands for them.

@@ -29,12 +29,15 @@ pub mod refusal;
 mod resolution;
 mod runs;
 mod seeds;
+pub mod short_uris;
+mod shortening;
 
-pub use assembly::assemble;
+pub use assembly::{ShortGrammar, assemble, assemble_short};
 pub use grammar::Grammar;
 pub use instances::INSTANCE_LIMIT;
 pub use joined_grammar::Definitions;
 pub use references::Reach;
 pub use refusal::{Key, Refusal};
+pub use short_uris::{MAX_SHORT_URI, ShortUris};
 
 pub mod laws;

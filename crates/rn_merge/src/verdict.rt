@@ -4,9 +4,9 @@ ghost use Rattle.rn_simplify.specs.ReadAgain.{IsReadAgain};
 ghost use Rattle.rn_merge.specs.Schemas.{DefinesPlainlyOnce, CombinesByOneMethod, IsPrintedAgain, IsPrintedAlone, IsUnrefused, RefusesFirst};
 ghost use Rattle.rn_merge.specs.Verdicts.{IsAnswer};
 
-use rn_assemble::{Refusal, assemble};
+use rn_assemble::{Refusal, ShortGrammar, assemble_short};
 use rn_modset::ModuleSet;
-use rn_simplify::{normalise, print};
+use rn_simplify::{normalise, print_with};
 use std::alloc::Global;
 
 /// The verdict of the set: its flat schema in the canonical text, or the first refusal that stands,
@@ -28,12 +28,12 @@ pub fn merge(alloc: Global, set: &ModuleSet) -> Result<String, Refusal>
     ensures alone { IfOk result (λ text. IsPrintedAlone (string_bytes text)) }
     ensures first { IfErr result (RefusesFirst set.now) }
 {
-    let grammar = assemble(alloc, set)?;
+    let ShortGrammar { grammar, uris } = assemble_short(alloc, set)?;
     let normal = normalise(alloc, &grammar);
     // (its memory is free again before the text is made)
     drop(grammar);
     let normal = normal?;
-    let text = print(alloc, &normal);
+    let text = print_with(alloc, &normal, &uris);
     drop(normal);
     text
 }

@@ -8,7 +8,7 @@ use crate::tree::{NameClass, Pattern};
 use std::rc::Rc;
 
 /// The namespace of declarations as RELAX NG 2001, 4.16 spells it, without the `/` at the end.
-const XMLNS_URI: &str = "http://www.w3.org/2000/xmlns";
+pub const XMLNS_URI: &str = "http://www.w3.org/2000/xmlns";
 
 /// Whether the class holds no anyName, at any depth.
 #[cycle(no_any)]

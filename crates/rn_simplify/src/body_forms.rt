@@ -33,7 +33,7 @@ pub(crate) fn body_form(
     if firsts.is_empty() {
         return tree_form(alloc, settled, likely, body);
     }
-    let mut store = Interned::with_seed(alloc, *settled.names.hasher());
+    let mut store = Interned::with_seed(alloc, *settled.definitions.hasher());
     stored_body_form(alloc, &mut store, settled, body, firsts)
 }
 
@@ -43,18 +43,18 @@ pub(crate) fn definition_forms(
     settled: &SettledDefinitions<'_>,
     grammar: &Grammar,
 ) -> Result<Vec<(String, Pattern)>, AllocError>
-    requires { definitions_view settled.now.names.now.entries
+    requires { definitions_view settled.now.definitions.now.entries
         ≡ (grammar_view grammar.now).definitions }
     ensures made { IfOk result (λ v. definitions_view v.items
         ≡ map (λ (d : Text × Tree). (d.0, form.canonical (becomes settled.now) d.1))
-        (definitions_view settled.now.names.now.entries)) }
+        (definitions_view settled.now.definitions.now.entries)) }
     ensures distinct { IfOk result
         (λ v. IsDistinct bytes_eq (map (λ d. d.0) (definitions_view v.items))) }
 {
-    let mut forms = Vec::with_capacity(alloc, settled.names.len())?;
-    for number in 0..settled.names.len() {
-        let name = name_of(settled.names, number).clone()?;
-        let body = body_of(settled.names, number);
+    let mut forms = Vec::with_capacity(alloc, settled.definitions.len())?;
+    for number in 0..settled.definitions.len() {
+        let name = name_of(settled.definitions, number).clone()?;
+        let body = body_of(settled.definitions, number);
         let likely = settled.likely(number);
         let form = body_form(alloc, settled, likely, body, grammar.firsts(number))?;
         forms.push((name, form))?;

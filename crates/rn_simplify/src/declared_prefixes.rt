@@ -3,6 +3,7 @@ ghost use Rattle.std.specs.Prelude.{◌≡◌, ◌∷◌, [], codes, filter, map
 ghost use Rattle.std.specs.Str.{encode_utf8_all};
 ghost use Rattle.rn_simplify.specs.Spelling.{bindings, has_empty_ns_name, library_prefix, namespace_prefix, place, prefixes, type_piece};
 ghost use Rattle.rn_simplify.specs.inside.Gathers.{is_other};
+ghost use Rattle.rn_assemble.specs.ShortTexts.{IsTable, long_uri, short_texts};
 ghost use Rattle.rn_simplify.specs.NormalView.{normal_view};
 ghost use Rattle.rn_simplify.specs.inside.Writes.{bound_to, declaration_lines, empty_entries, entries, prefixes_view, Writes, WritesBytes, none};
 
@@ -10,6 +11,7 @@ use crate::mentions::Mentions;
 use crate::normal::Normal;
 use crate::writer::Writer;
 use indexmap::IndexSet;
+use rn_assemble::ShortUris;
 use rn_pattern::Seed;
 use rn_syntax::{XML_URI, XSD_URI};
 use sha2::{Digest, Sha256};
@@ -137,15 +139,16 @@ impl Prefixes {
         writer.put(type_name);
     }
 
-    /// Writes the declarations, one a line.
-    pub(crate) fn write_declarations(&self, writer: &mut Writer)
-        ensures { Writes (declaration_lines
+    /// Writes the declarations, one a line, with the URIs that the texts stand for.
+    pub(crate) fn write_declarations(&self, writer: &mut Writer, uris: &ShortUris)
+        requires { IsTable (short_texts uris.now) }
+        ensures { Writes (declaration_lines (long_uri (short_texts uris.now))
             (prefixes_view self.now) self.now.empty_namespace) writer.old writer.new }
     {
         writer.put("default namespace = \"\"\n");
         self.write_empty_namespace(writer);
-        self.write_namespaces(writer);
-        self.write_libraries(writer);
+        self.write_namespaces(writer, uris);
+        self.write_libraries(writer, uris);
     }
 
     fn write_empty_namespace(&self, writer: &mut Writer)
@@ -157,27 +160,29 @@ impl Prefixes {
         }
     }
 
-    fn write_namespaces(&self, writer: &mut Writer)
-        ensures { let f = prefixes_view self.now in
-            Writes (bindings (codes "namespace")
-            (entries (namespace_prefix f) f.namespaces)) writer.old writer.new }
+    fn write_namespaces(&self, writer: &mut Writer, uris: &ShortUris)
+        requires { IsTable (short_texts uris.now) }
+        ensures { let f = prefixes_view self.now in Writes (bindings (codes "namespace")
+            (entries (long_uri (short_texts uris.now)) (namespace_prefix f) f.namespaces))
+            writer.old writer.new }
     {
         for uri in self.namespaces.as_slice() {
             writer.put("namespace ");
             self.write_namespace(writer, uri);
-            write_bound(writer, uri);
+            write_bound(writer, uris.uri(uri));
         }
     }
 
-    fn write_libraries(&self, writer: &mut Writer)
-        ensures { let f = prefixes_view self.now in
-            Writes (bindings (codes "datatypes")
-            (entries (library_prefix f) f.libraries)) writer.old writer.new }
+    fn write_libraries(&self, writer: &mut Writer, uris: &ShortUris)
+        requires { IsTable (short_texts uris.now) }
+        ensures { let f = prefixes_view self.now in Writes (bindings (codes "datatypes")
+            (entries (long_uri (short_texts uris.now)) (library_prefix f) f.libraries))
+            writer.old writer.new }
     {
         for uri in self.libraries.as_slice() {
             writer.put("datatypes ");
             self.write_library(writer, uri);
-            write_bound(writer, uri);
+            write_bound(writer, uris.uri(uri));
         }
     }
 }

@@ -11,26 +11,26 @@ use rn_assemble::Definitions;
 const FEW_NUMBERS: usize = 8;
 
 /// The number of the definition of a name. The likely numbers are tried first, if they are few.
-pub(crate) fn find_number(names: &Definitions, likely: &[usize], name: &str) -> Option<usize>
-    ensures number { result ≡ number_of (definitions_view names.now.entries) name.now }
-    ensures within { IfSome result (λ k. k < length names.now.entries) }
+pub(crate) fn find_number(definitions: &Definitions, likely: &[usize], name: &str) -> Option<usize>
+    ensures number { result ≡ number_of (definitions_view definitions.now.entries) name.now }
+    ensures within { IfSome result (λ k. k < length definitions.now.entries) }
 {
-    match find_among(names, likely, name) {
+    match find_among(definitions, likely, name) {
         Some(number) => Some(number),
-        None => names.get_index_of(name),
+        None => definitions.get_index_of(name),
     }
 }
 
 /// The one of a few numbers whose definition has the name.
-fn find_among(names: &Definitions, likely: &[usize], name: &str) -> Option<usize>
+fn find_among(definitions: &Definitions, likely: &[usize], name: &str) -> Option<usize>
     ensures { IfSome result
-        (λ k. number_of (definitions_view names.now.entries) name.now ≡ Some k) }
+        (λ k. number_of (definitions_view definitions.now.entries) name.now ≡ Some k) }
 {
     if likely.len() > FEW_NUMBERS {
         return None;
     }
     for number in likely {
-        if is_named(names, *number, name) {
+        if is_named(definitions, *number, name) {
             return Some(*number);
         }
     }
@@ -38,12 +38,12 @@ fn find_among(names: &Definitions, likely: &[usize], name: &str) -> Option<usize
 }
 
 /// Whether there is a definition with the number, and it has the name.
-fn is_named(names: &Definitions, number: usize, name: &str) -> bool
+fn is_named(definitions: &Definitions, number: usize, name: &str) -> bool
     ensures { IsTrue result
-        → number_of (definitions_view names.now.entries) name.now ≡ Some number }
+        → number_of (definitions_view definitions.now.entries) name.now ≡ Some number }
 {
-    if number >= names.len() {
+    if number >= definitions.len() {
         return false;
     }
-    name_of(names, number).as_str() == name
+    name_of(definitions, number).as_str() == name
 }

@@ -26,7 +26,7 @@ pub(crate) fn settle_all(
     alloc: Global,
     grammar: &Grammar,
 ) -> Result<SettledDefinitions<'_>, AllocError>
-    ensures names { IfOk result (λ s. definitions_view s.names.now.entries
+    ensures definitions { IfOk result (λ s. definitions_view s.definitions.now.entries
         ≡ (grammar_view grammar.now).definitions) }
     ensures exact { IfOk result (λ s. (rank : Text → ℕ) × IsSettling (grammar_view grammar.now)
         (becomes s) rank) }
@@ -45,16 +45,16 @@ fn settle<'g>(
     references: Rows,
 ) -> Result<SettledDefinitions<'g>, AllocError>
     requires { AllBelow (length (grammar_view grammar.now).definitions) order.now }
-    ensures names { IfOk result (λ s. definitions_view s.names.now.entries
+    ensures definitions { IfOk result (λ s. definitions_view s.definitions.now.entries
         ≡ (grammar_view grammar.now).definitions) }
     ensures settled { IfOk result (λ s. IsInOrder (grammar_view grammar.now).definitions order.now
         → AreSettled (grammar_view grammar.now).definitions order.now
         (becomes_by (grammar_view grammar.now).definitions s.kinds.items)) }
 {
-    let names = grammar.defs();
-    let kinds = vec![in alloc; FormKind::Other; names.len()]?;
+    let definitions = grammar.defs();
+    let kinds = vec![in alloc; FormKind::Other; definitions.len()]?;
     let mut settled = SettledDefinitions {
-        names,
+        definitions,
         kinds,
         references,
     };
@@ -71,15 +71,16 @@ fn settle_definition(
     number: usize,
     settled: &mut SettledDefinitions<'_>,
 ) -> Result<(), AllocError>
-    requires within { number < length settled.old.names.now.entries }
-    requires of { definitions_view settled.old.names.now.entries
+    requires within { number < length settled.old.definitions.now.entries }
+    requires of { definitions_view settled.old.definitions.now.entries
         ≡ (grammar_view grammar.now).definitions }
-    ensures names { settled.new.names.now.entries ≡ settled.old.names.now.entries }
+    ensures definitions { settled.new.definitions.now.entries
+        ≡ settled.old.definitions.now.entries }
     ensures settled { OnOk result ((d : Text × Tree) → settled.new.kinds.items
         ≡ slice_set settled.old.kinds.items number (kind_of (canonical (becomes settled.old)
-        (slice_index_or (definitions_view settled.old.names.now.entries) number d).1))) }
+        (slice_index_or (definitions_view settled.old.definitions.now.entries) number d).1))) }
 {
-    let body = body_of(settled.names, number);
+    let body = body_of(settled.definitions, number);
     let likely = settled.likely(number);
     let kind = evaluate_body(alloc, settled, likely, body, grammar.firsts(number))?;
     settled.kinds[number] = kind;

@@ -1,5 +1,5 @@
 // Laws of canonical grammars and of their texts.
-ghost use Rattle.std.specs.Prelude.{◌≡◌, ◌↔◌, ◌≤◌, ℕ, length, List, [], ◌∷◌, IfSome};
+ghost use Rattle.std.specs.Prelude.{◌≡◌, ◌↔◌, ◌≤◌, ℕ, length, List, [], ◌∷◌, Contains, IfSome};
 ghost use Rattle.std.specs.List.{AllByRecursion};
 ghost use Rattle.rn_pattern.specs.Tree.{Tree};
 ghost use Rattle.rn_text.specs.Texts.{Text};
@@ -14,6 +14,7 @@ ghost use Rattle.rn_modset.specs.Modules.{AreEffective};
 ghost use Rattle.rn_syntax.specs.Places.{except_places};
 ghost use Rattle.rn_assemble.specs.Components.{Component, NamedModule, set_components};
 ghost use Rattle.rn_assemble.specs.Combine.{IsCombination, joined_grammar, module_grammar};
+ghost use Rattle.rn_assemble.specs.Renamed.{IsOfKnownUris, IsRenaming, renamed_grammar};
 ghost use Rattle.rn_assemble.specs.WellFormed.{IsWellFormed, HasWritableTexts};
 ghost use Rattle.rn_assemble.specs.Refusal.{Refusal, StandsFor};
 ghost use Rattle.rn_modset.specs.Limits.{max_text};
@@ -74,6 +75,17 @@ pub fn canonical_again()
 pub fn settling_in_order_is_canonical()
     ensures { (G N : Grammar) (settled : Text → Tree) (rank : Text → ℕ) → IsSettling G settled rank
         → IsPruned (formed settled G) N → IsCanonicalOf G N }
+{}
+
+/// Other texts for the known URIs of a grammar, which keep their order and those that mean something by themselves, are
+/// other texts for those of its canonical grammar and nothing else. The canonical grammar has no URI that the grammar
+/// does not have.
+pub fn canonical_grammars_are_renamed()
+    ensures renamed { (named : Text → Text) (known : List Text) → IsRenaming named (Contains known)
+        → (G N : Grammar) → IsOfKnownUris (Contains known) G → IsCanonicalOf G N
+        → IsCanonicalOf (renamed_grammar named G) (renamed_grammar named N) }
+    ensures known { (known : List Text) (G N : Grammar) → IsOfKnownUris (Contains known) G
+        → IsCanonicalOf G N → IsOfKnownUris (Contains known) N }
 {}
 
 /// What a grammar keeps its canonical grammar keeps, and that grammar opened: every reference is defined, no loop is

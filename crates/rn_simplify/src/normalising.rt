@@ -134,19 +134,19 @@ fn stored_definition_forms<P: Patterns>(
     settled: &SettledDefinitions<'_>,
     grammar: &Grammar,
 ) -> Result<Vec<(String, Pattern)>, AllocError>
-    requires { definitions_view settled.now.names.now.entries
+    requires { definitions_view settled.now.definitions.now.entries
         ≡ (grammar_view grammar.now).definitions }
     ensures made { IfOk result (λ v. definitions_view v.items
         ≡ map (λ (d : Text × Tree). (d.0, form.canonical (becomes settled.now) d.1))
-        (definitions_view settled.now.names.now.entries)) }
+        (definitions_view settled.now.definitions.now.entries)) }
     ensures distinct { IfOk result
         (λ v. IsDistinct bytes_eq (map (λ d. d.0) (definitions_view v.items))) }
     ensures kept { KeepsIds P.knows P.tree_of store.old store.new }
 {
-    let mut forms = Vec::with_capacity(alloc, settled.names.len())?;
-    for number in 0..settled.names.len() {
-        let name = name_of(settled.names, number).clone()?;
-        let body = body_of(settled.names, number);
+    let mut forms = Vec::with_capacity(alloc, settled.definitions.len())?;
+    for number in 0..settled.definitions.len() {
+        let name = name_of(settled.definitions, number).clone()?;
+        let body = body_of(settled.definitions, number);
         let form = stored_body_form(alloc, store, settled, body, grammar.firsts(number))?;
         forms.push((name, form))?;
     }

@@ -1,6 +1,8 @@
 // The text of a canonical grammar (compact syntax, section 2, topLevel).
 ghost use Rattle.std.specs.Prelude.{string_bytes, codes, IfOk, IfErr};
 ghost use Rattle.rn_pattern.specs.View.{pattern_view};
+ghost use Rattle.rn_assemble.specs.Renamed.{IsOfKnownUris};
+ghost use Rattle.rn_assemble.specs.ShortTexts.{IsKnown, IsTable, long_grammar, short_texts};
 ghost use Rattle.rn_simplify.specs.NormalView.{definitions_view, normal_view};
 ghost use Rattle.rn_simplify.specs.Spelling.{definition_line, definition_lines, keyword};
 ghost use Rattle.rn_simplify.specs.Printing.{IsPrinted, IsUnprinted};
@@ -11,7 +13,7 @@ use crate::declared_prefixes::Prefixes;
 use crate::normal::Normal;
 use crate::pattern_text::write_pattern;
 use crate::writer::Writer;
-use rn_assemble::Refusal;
+use rn_assemble::{Refusal, ShortUris};
 use rn_pattern::Pattern;
 use std::alloc::Global;
 
@@ -23,9 +25,22 @@ pub fn print(alloc: Global, normal: &Normal) -> Result<String, Refusal>
     ensures err { IfErr result (IsUnprinted (normal_view normal.now)) }
     ensures read_back { IfOk result (λ text. ∥ IsReadBack (normal_view normal.now) ∥₁) }
 {
+    print_with(alloc, normal, &ShortUris::none(alloc))
+}
+
+/// The one text of the canonical grammar that has URIs where this one has texts that stand for them. It is refused as by
+/// [`print`].
+pub fn print_with(alloc: Global, normal: &Normal, uris: &ShortUris) -> Result<String, Refusal>
+    requires table { IsTable (short_texts uris.now) }
+    requires known { IsOfKnownUris (IsKnown (short_texts uris.now)) (normal_view normal.now) }
+    ensures ok { IfOk result (λ text. IsPrinted
+        (long_grammar (short_texts uris.now) (normal_view normal.now)) (string_bytes text)) }
+    ensures err { IfErr result (IsUnprinted
+        (long_grammar (short_texts uris.now) (normal_view normal.now))) }
+{
     let prefixes = Prefixes::of(alloc, normal)?;
     let mut writer = Writer::new(alloc);
-    prefixes.write_declarations(&mut writer);
+    prefixes.write_declarations(&mut writer, uris);
     write_start(&mut writer, &prefixes, &normal.start);
     write_definitions(&mut writer, &prefixes, normal.defs.as_slice());
     writer.finish()

@@ -25,7 +25,7 @@ pub(crate) fn prune_forms(
     mut forms: Vec<(String, Pattern)>,
 ) -> Result<Vec<(String, Pattern)>, AllocError>
     requires named { map (λ d. d.0) (definitions_view forms.items)
-        ≡ map (λ d. d.0) (definitions_view settled.now.names.now.entries) }
+        ≡ map (λ d. d.0) (definitions_view settled.now.definitions.now.entries) }
     requires distinct { IsDistinct bytes_eq (map (λ d. d.0) (definitions_view forms.items)) }
     ensures { IfOk result (λ v. IsPruned
         (record { start = pattern_view start.now; definitions = definitions_view forms.items })
@@ -45,7 +45,7 @@ fn reached_forms(
     forms: &[(String, Pattern)],
 ) -> Result<Vec<bool>, AllocError>
     requires { map (λ d. d.0) (definitions_view forms.now)
-        ≡ map (λ d. d.0) (definitions_view settled.now.names.now.entries) }
+        ≡ map (λ d. d.0) (definitions_view settled.now.definitions.now.entries) }
     ensures size { IfOk result (λ marks. length marks.items ≡ length forms.now) }
     ensures reached { IfOk result
         (λ marks. MarksReached (record {
@@ -54,7 +54,7 @@ fn reached_forms(
         }) marks.items) }
 {
     let rows = rows_of_forms(alloc, settled, forms)?;
-    let first = referred_numbers(alloc, settled.names, &[], start)?;
+    let first = referred_numbers(alloc, settled.definitions, &[], start)?;
     reached_nodes(alloc, &rows, &first)
 }
 
@@ -65,13 +65,13 @@ fn rows_of_forms(
     forms: &[(String, Pattern)],
 ) -> Result<Rows, AllocError>
     ensures { IfOk result (λ rows. rows_of rows
-        ≡ rows_by Everywhere (definitions_view settled.now.names.now.entries)
+        ≡ rows_by Everywhere (definitions_view settled.now.definitions.now.entries)
         (definitions_view forms.now)) }
 {
     let mut rows = Rows::with_capacity(alloc, forms.len())?;
     for (_, form) in forms {
         let likely = settled.likely(rows.len());
-        let row = referred_numbers(alloc, settled.names, likely, form)?;
+        let row = referred_numbers(alloc, settled.definitions, likely, form)?;
         rows.push_row(&row)?;
     }
     Ok(rows)

@@ -26,17 +26,17 @@ impl References {
     /// The references of a pattern that stands outside elements.
     pub(crate) fn of(
         alloc: Global,
-        names: &Definitions,
+        definitions: &Definitions,
         pattern: &Pattern,
     ) -> Result<References, AllocError>
-        ensures { IfOk result (AreReferences (definitions_view names.now.entries)
+        ensures { IfOk result (AreReferences (definitions_view definitions.now.entries)
             (pattern_view pattern.now)) }
     {
         let mut found = References {
             everywhere: Vec::new(alloc),
             outside: Vec::new(alloc),
         };
-        found.add(names, &[], pattern, Reach::OutsideElements)?;
+        found.add(definitions, &[], pattern, Reach::OutsideElements)?;
         Ok(found)
     }
 
@@ -45,29 +45,34 @@ impl References {
     #[cycle(add)]
     fn add(
         &mut self,
-        names: &Definitions,
+        definitions: &Definitions,
         likely: &[usize],
         pattern: &Pattern,
         reach: Reach,
     ) -> Result<(), AllocError>
         ensures everywhere { OnOk result (self.new.everywhere.items ≡ self.old.everywhere.items
-            ++ numbers_of (definitions_view names.now.entries)
+            ++ numbers_of (definitions_view definitions.now.entries)
             (references Everywhere (pattern_view pattern.now))) }
         ensures outside { reach ≡ OutsideElements
             → OnOk result (self.new.outside.items ≡ self.old.outside.items
-            ++ numbers_of (definitions_view names.now.entries)
+            ++ numbers_of (definitions_view definitions.now.entries)
             (references OutsideElements (pattern_view pattern.now))) }
         ensures inside { reach ≡ Everywhere
             → OnOk result (self.new.outside.items ≡ self.old.outside.items) }
     {
         match pattern {
-            Pattern::Ref(name) => self.add_name(names, likely, name, reach),
-            Pattern::Datum(_, Some(content)) => self.add(names, likely, content, reach),
+            Pattern::Ref(name) => self.add_name(definitions, likely, name, reach),
+            Pattern::Datum(_, Some(content)) => self.add(definitions, likely, content, reach),
             Pattern::List(content) | Pattern::Attribute(_, content) | Pattern::OneOrMore(content) =>
-                { self.add(names, likely, content, reach) }
-            Pattern::Element(_, content) => self.add(names, likely, content, Reach::Everywhere),
+                { self.add(definitions, likely, content, reach) }
+            Pattern::Element(_, content) => self.add(
+                definitions,
+                likely,
+                content,
+                Reach::Everywhere,
+            ),
             Pattern::Group(members) | Pattern::Interleave(members) | Pattern::Choice(members) => {
-                self.add_all(names, likely, members, reach)
+                self.add_all(definitions, likely, members, reach)
             }
             Pattern::NotAllowed
             | Pattern::Empty
@@ -80,43 +85,43 @@ impl References {
     #[cycle(add)]
     fn add_all(
         &mut self,
-        names: &Definitions,
+        definitions: &Definitions,
         likely: &[usize],
         members: &[Rc<Pattern>],
         reach: Reach,
     ) -> Result<(), AllocError>
         ensures everywhere { OnOk result (self.new.everywhere.items ≡ self.old.everywhere.items
-            ++ numbers_of (definitions_view names.now.entries)
+            ++ numbers_of (definitions_view definitions.now.entries)
             (all_references Everywhere (trees_of (map shared_view members.now)))) }
         ensures outside { reach ≡ OutsideElements
             → OnOk result (self.new.outside.items ≡ self.old.outside.items
-            ++ numbers_of (definitions_view names.now.entries)
+            ++ numbers_of (definitions_view definitions.now.entries)
             (all_references OutsideElements (trees_of (map shared_view members.now)))) }
         ensures inside { reach ≡ Everywhere
             → OnOk result (self.new.outside.items ≡ self.old.outside.items) }
     {
         for member in members {
-            self.add(names, likely, member, reach)?;
+            self.add(definitions, likely, member, reach)?;
         }
         Ok(())
     }
 
     fn add_name(
         &mut self,
-        names: &Definitions,
+        definitions: &Definitions,
         likely: &[usize],
         name: &str,
         reach: Reach,
     ) -> Result<(), AllocError>
         ensures everywhere { OnOk result (self.new.everywhere.items ≡ self.old.everywhere.items
-            ++ numbers_of (definitions_view names.now.entries) (name.now ∷ [])) }
+            ++ numbers_of (definitions_view definitions.now.entries) (name.now ∷ [])) }
         ensures outside { reach ≡ OutsideElements
             → OnOk result (self.new.outside.items ≡ self.old.outside.items
-            ++ numbers_of (definitions_view names.now.entries) (name.now ∷ [])) }
+            ++ numbers_of (definitions_view definitions.now.entries) (name.now ∷ [])) }
         ensures inside { reach ≡ Everywhere
             → OnOk result (self.new.outside.items ≡ self.old.outside.items) }
     {
-        match find_number(names, likely, name) {
+        match find_number(definitions, likely, name) {
             Some(number) => self.add_number(number, reach),
             None => Ok(()),
         }
@@ -142,17 +147,17 @@ impl References {
 /// The definitions that a pattern refers to, in elements and outside. The likely numbers are tried first.
 pub(crate) fn referred_numbers(
     alloc: Global,
-    names: &Definitions,
+    definitions: &Definitions,
     likely: &[usize],
     pattern: &Pattern,
 ) -> Result<Vec<usize>, AllocError>
-    ensures { IfOk result (λ v. v.items ≡ numbers_of (definitions_view names.now.entries)
+    ensures { IfOk result (λ v. v.items ≡ numbers_of (definitions_view definitions.now.entries)
         (references Everywhere (pattern_view pattern.now))) }
 {
     let mut found = References {
         everywhere: Vec::new(alloc),
         outside: Vec::new(alloc),
     };
-    found.add(names, likely, pattern, Reach::Everywhere)?;
+    found.add(definitions, likely, pattern, Reach::Everywhere)?;
     Ok(found.everywhere)
 }

@@ -9,13 +9,13 @@ use rn_pattern::Rows;
 /// What the references to the definitions of a grammar become.
 #[derive(Drop)]
 pub(crate) struct SettledDefinitions<'g> {
-    pub(crate) names: &'g Definitions,
+    pub(crate) definitions: &'g Definitions,
     /// The kind of the form of each definition, by its number.
     pub(crate) kinds: Vec<FormKind>,
     /// The numbers of the definitions that each one refers to, as they were found for the order of settling. No answer rests on
     /// them.
     pub(crate) references: Rows,
-    ghost sized: { length kinds.items ≡ length names.now.entries },
+    ghost sized: { length kinds.items ≡ length definitions.now.entries },
 }
 
 impl SettledDefinitions<'_> {
@@ -35,7 +35,7 @@ impl SettledDefinitions<'_> {
     pub(crate) fn kind_of(&self, likely: &[usize], name: &str) -> FormKind
         ensures { result ≡ kind_in self.now name.now }
     {
-        match find_number(self.names, likely, name) {
+        match find_number(self.definitions, likely, name) {
             Some(number) => self.kinds[number],
             None => FormKind::Other,
         }

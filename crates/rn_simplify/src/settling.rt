@@ -23,39 +23,39 @@ use rn_pattern::{Pattern, Rows};
 use std::alloc::{AllocError, Global};
 
 /// The name of the definition with a number.
-pub(crate) fn name_of(names: &Definitions, number: usize) -> &String
-    requires { number < length names.now.entries }
+pub(crate) fn name_of(definitions: &Definitions, number: usize) -> &String
+    requires { number < length definitions.now.entries }
     ensures { (d : Text × Tree) → string_bytes result.now
-        ≡ (slice_index_or (definitions_view names.now.entries) number d).0 }
+        ≡ (slice_index_or (definitions_view definitions.now.entries) number d).0 }
 {
-    let (name, _) = names.get_index(number).unwrap();
+    let (name, _) = definitions.get_index(number).unwrap();
     name
 }
 
 /// The body of the definition with a number.
-pub(crate) fn body_of(names: &Definitions, number: usize) -> &Pattern
-    requires { number < length names.now.entries }
+pub(crate) fn body_of(definitions: &Definitions, number: usize) -> &Pattern
+    requires { number < length definitions.now.entries }
     ensures { (d : Text × Tree) → pattern_view result.now
-        ≡ (slice_index_or (definitions_view names.now.entries) number d).1 }
+        ≡ (slice_index_or (definitions_view definitions.now.entries) number d).1 }
 {
-    let (_, body) = names.get_index(number).unwrap();
+    let (_, body) = definitions.get_index(number).unwrap();
     body
 }
 
 /// The references of a body. A member that stands in its list before isn't looked at.
 fn body_references(
     alloc: Global,
-    names: &Definitions,
+    definitions: &Definitions,
     body: &Pattern,
     firsts: &[u32],
 ) -> Result<References, AllocError>
     requires { AreFirstsOf firsts.now body.now }
-    ensures { IfOk result (AreReferences (definitions_view names.now.entries)
+    ensures { IfOk result (AreReferences (definitions_view definitions.now.entries)
         (pattern_view body.now)) }
 {
     match without_repeats(alloc, body, firsts)? {
-        Some(distinct) => References::of(alloc, names, &distinct),
-        None => References::of(alloc, names, body),
+        Some(distinct) => References::of(alloc, definitions, &distinct),
+        None => References::of(alloc, definitions, body),
     }
 }
 
@@ -66,8 +66,13 @@ fn references_of(alloc: Global, grammar: &Grammar, number: usize) -> Result<Refe
         → AreReferences (grammar_view grammar.now).definitions
         (slice_index_or (grammar_view grammar.now).definitions number d).1 found) }
 {
-    let names = grammar.defs();
-    body_references(alloc, names, body_of(names, number), grammar.firsts(number))
+    let definitions = grammar.defs();
+    body_references(
+        alloc,
+        definitions,
+        body_of(definitions, number),
+        grammar.firsts(number),
+    )
 }
 
 /// The references of all definitions, each by its number.

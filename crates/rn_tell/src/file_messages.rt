@@ -101,13 +101,28 @@ fn messages_in_order(
 {
     let mut told = Messages::new(alloc);
     for number in telling_order(alloc, pages, faults)? {
-        if told.is_full() {
-            told.further = told.further.saturating_add(1);
-        } else if let Some(fault) = faults.get(number) {
-            told.messages.push(message(alloc, words, pages, fault)?)?;
+        if let Some(fault) = faults.get(number) {
+            tell_fault(alloc, &mut told, words, pages, fault)?;
         }
     }
     Ok(told)
+}
+
+/// Adds the message of a fault, or counts it.
+fn tell_fault(
+    alloc: Global,
+    told: &mut Messages,
+    words: &[String],
+    pages: &[Page<'_>],
+    fault: &Fault<'_>,
+) -> Result<(), AllocError>
+    requires { IsFew told.old }
+    ensures { IsFew told.new }
+{
+    if told.has_room() {
+        told.messages.push(message(alloc, words, pages, fault)?)?;
+    }
+    Ok(())
 }
 
 /// The numbers of the faults, in the order in which they are told.
@@ -197,8 +212,7 @@ fn tell_text(
     requires { IsFew told.old }
     ensures { IsFew told.new }
 {
-    if told.is_full() {
-        told.further = told.further.saturating_add(1);
+    if !told.has_room() {
         return Ok(());
     }
     let spot = origin.map(|(file, at)| Spot { file, at });

@@ -83,8 +83,7 @@ fn tell_finding(
     requires { IsFew told.old }
     ensures { IsFew told.new }
 {
-    if told.is_full() {
-        told.further = told.further.saturating_add(1);
+    if !told.has_room() {
         return Ok(());
     }
     let spot = spot_of(telling, finding.here);

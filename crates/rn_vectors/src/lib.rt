@@ -16,6 +16,8 @@ mod lines;
 #[cfg(test)]
 mod lists;
 #[cfg(test)]
+mod long_uris;
+#[cfg(test)]
 mod memory;
 #[cfg(test)]
 mod merges;
@@ -29,3 +31,5 @@ mod repeats;
 mod rows;
 #[cfg(test)]
 mod streams;
+#[cfg(test)]
+mod uri_orders;

@@ -1,5 +1,5 @@
 -- Modules whose includes were followed: their components, and their least override of what isn't there.
-use Rattle.std.proofs.Common.{◌≡◌, ℕ, ◌<◌, List, [], length, get_or, map, Option, Some, None, Result, sym, ap, ◌∙◌, subst, arith, Ordering}
+use Rattle.std.proofs.Common.{◌≡◌, ℕ, ◌<◌, List, [], length, get_or, map, Option, Some, None, Result, sym, ap, ◌∙◌, subst, arith}
 use Rattle.std.specs.Prelude.{◌↔◌, true, flat_map, MatchResult}
 use Rattle.std.specs.List.{AllByRecursion}
 use Rattle.std.specs.List.Sorted.{IsStrictlySortedBy}
@@ -21,7 +21,7 @@ use Rattle.rn_assemble.specs.inside.Included.{AreIncluded}
 use Rattle.rn_assemble.specs.inside.Joining.{HasStart, IsCombinedGrammar, IsMisnamed}
 use Rattle.rn_assemble.specs.inside.Keyed.{AreNames, key_at}
 use Rattle.rn_assemble.specs.inside.Lacking.{IsLeastLack, LacksFrom}
-use Rattle.rn_assemble.specs.Least.{IsLeast, key_cmp}
+use Rattle.rn_assemble.specs.Least.{key_cmp}
 use Rattle.rn_assemble.specs.inside.Listed.{Live, Lists, components_in}
 use Rattle.rn_assemble.specs.inside.Methods.{CanCombine}
 use Rattle.rn_assemble.specs.Refusal.{Lacks, StandsFor, override}
@@ -29,6 +29,7 @@ use Rattle.rn_assemble.specs.inside.Sound.{HasSoundReferences}
 use Rattle.rn_assemble.specs.inside.Views.{named_module_view, modules_view}
 use Rattle.rn_assemble.proofs.Answering.FirstRefusal.{NoneBelow, none_included, none_lacking, none_combined, none_sound, misnamed_first, combined_grammar_of}
 use Rattle.rn_assemble.proofs.Expansion.Lacking.{lacks_alike}
+use Rattle.rn_assemble.proofs.Renaming.Alike.{least_alike, some_alike}
 
 -- the name of a module, by its place
 pub name_seen_at : (ms : List code_module.NamedModule) (i : ℕ) (d : code_module.NamedModule) → i < length ms → (get_or ms i d).name.now ≡ name_at (modules_view ms) i
@@ -41,17 +42,13 @@ from_roots modules numbers a =
     let f : Text → List Component = λ x. components modules x [] in
     sym (flat_map-map f (name_at modules) numbers) ∙ ap (flat_map f) a.are ∙ flat_map-map f (λ (m : NamedModule). m.name) (roots modules)
 
--- least of what holds alike
-least_alike : {X : Type 0} (cmp : X → X → Ordering) (P Q : X → Type 0) → ((x : X) → P x → Q x) → ((x : X) → Q x → P x) → (x : X) → IsLeast cmp P x → IsLeast cmp Q x
-least_alike cmp P Q to from x h = record { holds = to x h.holds; least = λ y q. h.least y (from y q) }
-
 least_lack : (modules : List NamedModule) (names : List Text) (P Q : Text → Key → Type 0) → ((y : Text) (k : Key) → P y k ↔ Q y k) → (o : Option Lack) → IsLeastLack modules names P o → IsLeastLack modules names Q o
 least_lack modules names P Q alike None h = λ y k q. h y k ((alike y k).1 q)
 least_lack modules names P Q alike (Some l) h = (
   h.0,
   h.1,
-  least_alike text_cmp (λ y. (k : Key) × P y k) (λ y. (k : Key) × Q y k) (λ y p. (p.0, (alike y p.0).0 p.1)) (λ y q. (q.0, (alike y q.0).1 q.1)) (name_at modules l.«module») h.2,
-  least_alike key_cmp (P (name_at modules l.«module»)) (Q (name_at modules l.«module»)) (λ k p. (alike _ k).0 p) (λ k q. (alike _ k).1 q) (key_at names l.key) h.3,
+  (least_alike text_cmp (λ y. (k : Key) × P y k) (λ y. (k : Key) × Q y k) (λ y. some_alike (alike y)) (name_at modules l.«module»)).0 h.2,
+  (least_alike key_cmp (P (name_at modules l.«module»)) (Q (name_at modules l.«module»)) (alike (name_at modules l.«module»)) (key_at names l.key)).0 h.3,
 )
 
 pub expanded : (modules : List NamedModule) (names : List Text) (x : Components) (numbers : List ℕ) → IsStrictlySortedBy text_cmp (map (λ (m : NamedModule). m.name) modules) → AllByRecursion (λ (m : NamedModule). AreFlat m.tree.items) modules

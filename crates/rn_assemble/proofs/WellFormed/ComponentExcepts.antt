@@ -112,7 +112,7 @@ module _ (included : Text → Text → List Component) (good : (x u : Text) → 
 abbrev Allowed : NamedModule → Type 0
 Allowed m = except_places m.tree ≡ []
 
-pub all_true : (rs : List NamedModule) → AllByRecursion (λ _. ⊤) rs
+pub all_true : {X : Type 0} (rs : List X) → AllByRecursion (λ _. ⊤) rs
 all_true [] = tt
 all_true (r ∷ rs) = (tt, all_true rs)
 

@@ -8,11 +8,15 @@ use Rattle.rn_modset.specs.Contributions.{Member}
 use Rattle.rn_syntax.proofs.OneReading.OneTree.{one_tree}
 use Rattle.rn_assemble.specs.declared.refusal.Refusal as code
 use Rattle.rn_assemble.specs.declared.refusal.Refusal.TheVariants as r
-use Rattle.rn_assemble.specs.Refusal.{IsAssembled}
+use Rattle.rn_assemble.specs.Renamed.{IsOfKnownUris}
+use Rattle.rn_assemble.specs.ShortTexts.{IsKnown, IsShortened, ShortTexts, long_grammar, long_uri}
+use Rattle.rn_assemble.proofs.Renaming.ShortTables.{table_renames}
 use Rattle.rn_simplify.specs.Printing.{IsPrinted, IsUnprinted}
 use Rattle.rn_simplify.specs.Verdict.{IsVerdict, prints, too_large, too_deep}
 use Rattle.rn_simplify.proofs.PrintedAgain.{printed_again}
 use Rattle.rn_simplify.proofs.PrintedSets.{printed_read}
+use Rattle.rn_simplify.proofs.Renaming.CanonicalGrammars.{canonical_renamed}
+use Rattle.rn_simplify.proofs.Renaming.KnownUris.{known_canonical}
 use Rattle.rn_merge.specs.Schemas.{IsSchema, RefusesFirst}
 use Rattle.rn_merge.specs.Verdicts.{Answer, IsAnswer, IsRefusedAs}
 use Rattle.rn_merge.proofs.Verdicts.LoneContributions.{effective_alone}
@@ -37,11 +41,6 @@ pub answered_schema : (s : List Member) (answer : Answer) → IsAnswer s answer 
 answered_schema s (Ok text) h = schema s (string_bytes text) h
 answered_schema s (Err q) h = tt
 
--- what is printed of the canonical grammar of the set is its schema
-pub printed_schema : (s : List Member) (answer : Answer) (g n : Grammar) → IsAssembled s g → IsCanonicalOf g n
-    → IfOk answer (λ text. IsPrinted n (string_bytes text)) → IfErr answer (IsUnprinted n) → IfOk answer (λ text. IsSchema s (string_bytes text))
-printed_schema s answer g n a c ok err = answered_schema s answer (answered s n answer (g, a, c) ok err)
-
 pub refuses_first : (s : List Member) (q : code.Refusal) → IsRefusedAs s q → RefusesFirst s q
 refuses_first s r.OutputTooLarge h = λ some. unrefused s too_large (λ q. λ k. cc) h
 refuses_first s r.OutputTooDeep h = λ some. unrefused s too_deep (λ q. λ k. cc) h
@@ -53,9 +52,23 @@ pub answered_refusal : (s : List Member) (answer : Answer) → IsAnswer s answer
 answered_refusal s (Ok text) h = tt
 answered_refusal s (Err q) h = refuses_first s q h
 
-pub printed_refusal : (s : List Member) (answer : Answer) (g n : Grammar) → IsAssembled s g → IsCanonicalOf g n
-    → IfOk answer (λ text. IsPrinted n (string_bytes text)) → IfErr answer (IsUnprinted n) → IfErr answer (RefusesFirst s)
-printed_refusal s answer g n a c ok err = answered_refusal s answer (answered s n answer (g, a, c) ok err)
+-- what is printed of the canonical grammar that has short texts in the place of URIs, with these, is the set's
+module _ (s : List Member) (es : ShortTexts) (G N : Grammar) (h : IsShortened s es G) (c : IsCanonicalOf G N) where
+  pub printed_known : IsOfKnownUris (IsKnown es) N
+  printed_known = known_canonical (IsKnown es) G N h.known c
+
+  long_canonical : IsCanonicalOf (long_grammar es G) (long_grammar es N)
+  long_canonical = canonical_renamed (long_uri es) (IsKnown es) (table_renames es h.table) G N h.known c
+
+  module _ (answer : Answer) (ok : IfOk answer (λ text. IsPrinted (long_grammar es N) (string_bytes text))) (err : IfErr answer (IsUnprinted (long_grammar es N))) where
+    pub printed_answer : IsAnswer s answer
+    printed_answer = answered s (long_grammar es N) answer (long_grammar es G, h.assembled, long_canonical) ok err
+
+    pub printed_schema : IfOk answer (λ text. IsSchema s (string_bytes text))
+    printed_schema = answered_schema s answer printed_answer
+
+    pub printed_refusal : IfErr answer (RefusesFirst s)
+    printed_refusal = answered_refusal s answer printed_answer
 
 -- want of memory says nothing
 pub lacking : (s : List Member) (answer : Answer) → IsErrAnd answer (λ q. q ≡ r.Memory) → IfErr answer (RefusesFirst s)

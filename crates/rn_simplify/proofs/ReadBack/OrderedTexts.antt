@@ -101,7 +101,7 @@ pub sorted_apart : (xs : List Text) → AreApart (sorted_once text_cmp xs)
 sorted_apart [] = tt
 sorted_apart (x ∷ xs) = put_apart x (sorted_once text_cmp xs) (sorted_apart xs)
 
-filter_only : (P : Text → Type 0) (t : Text → Bool) (xs : List Text) → AllByRecursion P xs → AllByRecursion P (filter t xs)
+pub filter_only : (P : Text → Type 0) (t : Text → Bool) (xs : List Text) → AllByRecursion P xs → AllByRecursion P (filter t xs)
 filter_only P t [] a = tt
 filter_only P t (x ∷ xs) a = go (t x) (filter_only P t xs a.1)
   where

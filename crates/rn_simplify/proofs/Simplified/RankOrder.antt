@@ -1,33 +1,15 @@
 -- References settled in the order of ranks, and the forms pruned to those that are reached, give the canonical grammar.
-use Rattle.std.proofs.Common.{◌≡◌, inl, inr, ℕ, length, Option, Some, None, option_map, refl, sym, ap, ◌∙◌, subst}
-use Rattle.rn_pattern.specs.Tree.{Tree, Trees, ref, datum_but, list, attribute, one_or_more, group, interleave, choice, no_trees, more_trees}
+use Rattle.std.proofs.Common.{◌≡◌, ℕ, length, Option, Some, None, option_map, refl, sym, ap, ◌∙◌, subst}
+use Rattle.rn_pattern.specs.Tree.{Tree}
 use Rattle.rn_text.specs.Texts.{Text}
 use Rattle.rn_pattern.specs.Matching.{Grammar, definition_of}
 use Rattle.rn_pattern.specs.Canonical.{canonical, settled_within}
-use Rattle.rn_pattern.specs.Reached.{RefersTo, SomeRefersTo, IsReached, by_start, by_definition, formed, all_canonical, IsPruned, IsCanonicalOf}
-use Rattle.rn_pattern.specs.References.{RefersOutside, SomeRefersOutside}
+use Rattle.rn_pattern.specs.Reached.{RefersTo, IsReached, by_start, by_definition, formed, all_canonical, IsPruned, IsCanonicalOf}
 use Rattle.rn_pattern.proofs.Matches.Ranked.{canonical_same, settled_is}
 use Rattle.rn_pattern.proofs.Matches.Validity.{lookup-map}
+use Rattle.rn_assemble.proofs.Referring.JoinedReferences.{outside_anywhere}
 use Rattle.rn_simplify.specs.Settling.{IsSettling}
 use Rattle.rn_simplify.proofs.Simplified.Forms.{form_source, to_form, reached_source}
-
-mutual
-  -- a reference outside elements is a reference
-  pub outside_refers : (x : Text) (p : Tree) → RefersOutside x p → RefersTo x p
-  outside_refers x (ref y) h = h
-  outside_refers x (datum_but l t ps p) h = outside_refers x p h
-  outside_refers x (list p) h = outside_refers x p h
-  outside_refers x (attribute c p) h = outside_refers x p h
-  outside_refers x (one_or_more p) h = outside_refers x p h
-  outside_refers x (group ps) h = some_outside_refers x ps h
-  outside_refers x (interleave ps) h = some_outside_refers x ps h
-  outside_refers x (choice ps) h = some_outside_refers x ps h
-  outside_refers x p h = absurd h
-
-  some_outside_refers : (x : Text) (ps : Trees) → SomeRefersOutside x ps → SomeRefersTo x ps
-  some_outside_refers x no_trees h = absurd h
-  some_outside_refers x (more_trees p ps) (inl h) = inl (outside_refers x p h)
-  some_outside_refers x (more_trees p ps) (inr h) = inr (some_outside_refers x ps h)
 
 module _ (G : Grammar) (t : Text → Tree) (rank : Text → ℕ) (k : IsSettling G t rank) where
   abbrev A : Grammar
@@ -40,7 +22,7 @@ module _ (G : Grammar) (t : Text → Tree) (rank : Text → ℕ) (k : IsSettling
   s = settled_within (length G.definitions) G
 
   same_name : (x : Text) → IsReached G x → s x ≡ t x
-  same_name x r = settled_is G t k.forms (IsReached G) rank k.made (λ y z p w e h. (by_definition p w e (outside_refers z p h), k.falls y z p w e h)) (length G.definitions) x r (k.below x r)
+  same_name x r = settled_is G t k.forms (IsReached G) rank k.made (λ y z p w e h. (by_definition p w e (outside_anywhere z p h), k.falls y z p w e h)) (length G.definitions) x r (k.below x r)
 
   same_form : (p : Tree) → ((x : Text) → RefersTo x p → IsReached G x) → canonical s p ≡ canonical t p
   same_form p f = canonical_same s t p (λ x h. same_name x (f x h))

@@ -26,7 +26,7 @@ use Rattle.rn_pattern.specs.Canonical.{HaveSameMembers}
 use Rattle.rn_simplify.specs.inside.SettlingOrder.{IsSettlingOrder}
 use Rattle.rn_assemble.specs.declared.references.Reach.TheVariants.{OutsideElements}
 use Rattle.rn_simplify.proofs.Simplified.Forms.{found_in}
-use Rattle.rn_simplify.proofs.Simplified.RankOrder.{outside_refers}
+use Rattle.rn_assemble.proofs.Referring.JoinedReferences.{outside_anywhere}
 use Rattle.rn_simplify.proofs.Simplified.ReferredIn.{contains_none, outside_in, in_outside, mapped_in, source_of}
 use Rattle.rn_simplify.proofs.Simplified.ReferenceGraph.{nothing, is_at, number_some, body_is, row_is, row_within, reached_number, number_reached}
 
@@ -138,7 +138,7 @@ module _ (G : Grammar) (marks : List Bool) (outs : List (List ℕ)) (marked_elem
       rank_falls : (x y : Text) (p : Tree) → IsReached G x → definition_of G x ≡ Some p → RefersOutside y p → rank y < rank x
       rank_falls x y p r e h =
           let a = number_some ds x p e in
-          let b = numbered y (by_definition p r e (outside_refers y p h)) in
+          let b = numbered y (by_definition p r e (outside_anywhere y p h)) in
           let l = lower x y p a.0 b.0 r a.1 e h b.1 in
           omega (arith, l, rank_is x a.0 a.1, rank_is y b.0 b.1)
 
@@ -168,7 +168,7 @@ module _ (G : Grammar) (marks : List Bool) (outs : List (List ℕ)) (marked_elem
             let n = marked_name a m in
             let r : IsReached G x = subst (IsReached G) (same_name n.0 x a n.1 e) n.2 in
             let less = lower x y p a k r e d h f in
-            let (j, within, is) = listed y k (by_definition p r d (outside_refers y p h)) f in
+            let (j, within, is) = listed y k (by_definition p r d (outside_anywhere y p h)) f in
             let here : get_or order j 0 ≡ k = get_or_default order j 0 k within ∙ is in
             elim (cases_lt j i) [
               | inl before ↦ taken_at order i j k (omega (arith, l)) before is

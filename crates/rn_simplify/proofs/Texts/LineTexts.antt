@@ -1,5 +1,5 @@
 -- The texts of lines.
-use Rattle.std.proofs.Common.{◌≡◌, ℕ, ◌+◌, ◌<◌, Bool, List, [], ◌∷◌, ◌++◌, length, map, take, get_or, refl, sym, ap, ◌∙◌, append_assoc, append-nil}
+use Rattle.std.proofs.Common.{◌≡◌, ℕ, ◌+◌, ◌<◌, Bool, true, false, List, [], ◌∷◌, ◌++◌, length, map, take, get_or, refl, sym, ap, ◌∙◌, append_assoc, append-nil}
 use Rattle.std.specs.Prelude.{codes, String, string_bytes}
 use Rattle.std.specs.Str.{chars, encode_utf8_all}
 use Rattle.std.specs.declared.alloc.Global.{Global}
@@ -12,10 +12,13 @@ use Rattle.rn_text.specs.Texts.{Text}
 use Rattle.rn_pattern.specs.Matching.{Grammar}
 use Rattle.rn_pattern.specs.View.{pattern_view}
 use Rattle.rn_pattern.specs.declared.tree.Pattern.{Pattern}
+use Rattle.rn_assemble.specs.Renamed.{IsOfKnownUris, IsRenaming, renamed_grammar}
 use Rattle.rn_simplify.specs.declared.writer.Writer.{Writer}
-use Rattle.rn_simplify.specs.Spelling.{Prefixes, prefixes, binding, bindings, default_line, definition_line, definition_lines, has_empty_ns_name, identifier, infix_of, keyword, library_entries, line_end, literal, namespace_prefix, space, spelling_pieces, word, written_tree}
+use Rattle.rn_simplify.specs.Spelling.{Prefixes, prefixes, binding, bindings, default_line, definition_line, definition_lines, has_empty_ns_name, identifier, infix_of, keyword, library_prefix, line_end, literal, namespace_entries, namespace_prefix, space, spelling_pieces, word, written_tree}
 use Rattle.rn_simplify.specs.inside.Writes.{bound_to, declaration_lines, defined_as, empty_entries, entries, none, Writes, WritesBytes}
 use Rattle.rn_simplify.specs.NormalView.{definitions_view}
+use Rattle.rn_simplify.proofs.Renaming.RenamedEntries.{renamed_entries}
+use Rattle.rn_simplify.proofs.Renaming.RenamedLines.{spelling_renamed}
 use Rattle.rn_simplify.proofs.Texts.Writing.{writes_then, writes_pieces, writes_as}
 use Rattle.rn_simplify.proofs.Texts.PartTexts.{writes_spelled}
 use Rattle.rn_simplify.proofs.Texts.PatternTexts.{equals_written, writes_literal}
@@ -50,10 +53,11 @@ bindings_more : (w : List ℕ) (es : List (List ℕ × Text)) (e : List ℕ × T
 bindings_more w [] e = append-nil (binding w e.0 e.1)
 bindings_more w (d ∷ es) e = ap (λ ps. binding w d.0 d.1 ++ ps) (bindings_more w es e) ∙ sym (append_assoc (binding w d.0 d.1) (bindings w es) (binding w e.0 e.1))
 
-pub writes_one_binding : (w : List ℕ) (prefix : Text → List ℕ) (us : List Text) (u : Text) {a b c : Writer} → Writes (bindings w (entries prefix us)) a b → Writes (binding w (prefix u) u) b c → Writes (bindings w (entries prefix (us ++ u ∷ []))) a c
-writes_one_binding w prefix us u h k =
-    let more : entries prefix (us ++ u ∷ []) ≡ entries prefix us ++ (prefix u, u) ∷ [] = map-append {A = Text} {B = List ℕ × Text} (λ (v : Text). (prefix v, v)) us (u ∷ []) in
-    writes_as (sym (ap (bindings w) more ∙ bindings_more w (entries prefix us) (prefix u, u))) (writes_then (bindings w (entries prefix us)) (binding w (prefix u) u) h k)
+pub writes_one_binding : (w : List ℕ) (named : Text → Text) (prefix : Text → List ℕ) (us : List Text) (u : Text) {a b c : Writer} → Writes (bindings w (entries named prefix us)) a b → Writes (binding w (prefix u) (named u)) b c
+    → Writes (bindings w (entries named prefix (us ++ u ∷ []))) a c
+writes_one_binding w named prefix us u h k =
+    let more : entries named prefix (us ++ u ∷ []) ≡ entries named prefix us ++ (prefix u, named u) ∷ [] = map-append {A = Text} {B = List ℕ × Text} (λ (v : Text). (prefix v, named v)) us (u ∷ []) in
+    writes_as (sym (ap (bindings w) more ∙ bindings_more w (entries named prefix us) (prefix u, named u))) (writes_then (bindings w (entries named prefix us)) (binding w (prefix u) (named u)) h k)
 
 -- the texts of the keys up to a place
 pub texts_more : (ks : List (String Global)) (i : ℕ) (k : String Global) → i < length ks → k ≡ get_or ks i k → map (λ u. string_bytes u) (take (i + 1) ks) ≡ map (λ u. string_bytes u) (take i ks) ++ string_bytes k ∷ []
@@ -96,20 +100,40 @@ bindings-append w (e ∷ es) fs = ap (λ ps. binding w e.0 e.1 ++ ps) (bindings-
 regrouped : (d e n l s : List Piece) → (d ++ (e ++ (n ++ l))) ++ s ≡ d ++ ((e ++ n) ++ (l ++ s))
 regrouped d e n l s = simp append_assoc
 
-lines_are : (g : Grammar) → declaration_lines (prefixes g) (has_empty_ns_name g) ++ (definition_line (prefixes g) (keyword (codes "start")) g.start ++ definition_lines (prefixes g) g.definitions) ≡ spelling_pieces g
-lines_are g =
+-- what prefixes are bound to in the declarations
+entries_named : (named : Text → Text) (prefix : Text → List ℕ) (us : List Text) → renamed_entries named (map (λ (u : Text). (prefix u, u)) us) ≡ entries named prefix us
+entries_named named prefix [] = refl
+entries_named named prefix (u ∷ us) = ap (λ es. (prefix u, named u) ∷ es) (entries_named named prefix us)
+
+no_entry_named : (named : Text → Text) → named [] ≡ [] → (has_empty : Bool) → renamed_entries named (empty_entries has_empty) ≡ empty_entries has_empty
+no_entry_named named e true = ap (λ (u : Text). (codes "n0", u) ∷ []) e
+no_entry_named named e false = refl
+
+namespaces_named : (named : Text → Text) → named [] ≡ [] → (g : Grammar) → renamed_entries named (namespace_entries g) ≡ empty_entries (has_empty_ns_name g) ++ entries named (namespace_prefix (prefixes g)) (prefixes g).namespaces
+namespaces_named named e g =
+    let f = prefixes g in
+    map-append (λ (d : List ℕ × Text). (d.0, named d.1)) (empty_entries (has_empty_ns_name g)) (map (λ (u : Text). (namespace_prefix f u, u)) f.namespaces)
+    ∙ (λ i. no_entry_named named e (has_empty_ns_name g) i ++ entries_named named (namespace_prefix f) f.namespaces i)
+
+lines_are : {named : Text → Text} {known : Text → Bool} (r : IsRenaming named (λ u. known u ≡ true)) (g : Grammar) → IsOfKnownUris (λ u. known u ≡ true) g
+    → declaration_lines named (prefixes g) (has_empty_ns_name g) ++ (definition_line (prefixes g) (keyword (codes "start")) g.start ++ definition_lines (prefixes g) g.definitions) ≡ spelling_pieces (renamed_grammar named g)
+lines_are {named} r g k =
     let f = prefixes g in
     let none = empty_entries (has_empty_ns_name g) in
-    let namespaces = entries (namespace_prefix f) f.namespaces in
-    let libraries = bindings (codes "datatypes") (library_entries g) in
+    let namespaces = entries named (namespace_prefix f) f.namespaces in
+    let libraries = entries named (library_prefix f) f.libraries in
     let rest = definition_line f (keyword (codes "start")) g.start ++ definition_lines f g.definitions in
-    regrouped default_line (bindings (codes "namespace") none) (bindings (codes "namespace") namespaces) libraries rest
-    ∙ ap (λ ps. default_line ++ (ps ++ (libraries ++ rest))) (sym (bindings-append (codes "namespace") none namespaces))
+    regrouped default_line (bindings (codes "namespace") none) (bindings (codes "namespace") namespaces) (bindings (codes "datatypes") libraries) rest
+    ∙ ap (λ ps. default_line ++ (ps ++ (bindings (codes "datatypes") libraries ++ rest))) (sym (bindings-append (codes "namespace") none namespaces))
+    ∙ sym (λ i. default_line ++ (bindings (codes "namespace") (namespaces_named named r.none g i) ++ (bindings (codes "datatypes") (entries_named named (library_prefix f) f.libraries i) ++ rest)))
+    ∙ sym (spelling_renamed r g k)
 
-pub writes_lines : (g : Grammar) (f : Prefixes) (has_empty : Bool) {a b c d : Writer} → f ≡ prefixes g → has_empty ≡ has_empty_ns_name g → Writes (declaration_lines f has_empty) a b → Writes (definition_line f (keyword (codes "start")) g.start) b c → Writes (definition_lines f g.definitions) c d → Writes (spelling_pieces g) a d
-writes_lines g f has_empty {a} {b} {c} {d} e w h j k =
+pub writes_lines : {named : Text → Text} {known : Text → Bool} (r : IsRenaming named (λ u. known u ≡ true)) (g : Grammar) → IsOfKnownUris (λ u. known u ≡ true) g
+    → (f : Prefixes) (has_empty : Bool) {a b c d : Writer} → f ≡ prefixes g → has_empty ≡ has_empty_ns_name g → Writes (declaration_lines named f has_empty) a b → Writes (definition_line f (keyword (codes "start")) g.start) b c
+    → Writes (definition_lines f g.definitions) c d → Writes (spelling_pieces (renamed_grammar named g)) a d
+writes_lines {named} r g known f has_empty {a} {b} {c} {d} e w h j k =
     let start = definition_line f (keyword (codes "start")) g.start in
     let lines = definition_lines f g.definitions in
-    let same : declaration_lines f has_empty ++ (start ++ lines) ≡ spelling_pieces g =
-    (λ i. declaration_lines (e i) (w i) ++ (definition_line (e i) (keyword (codes "start")) g.start ++ definition_lines (e i) g.definitions)) ∙ lines_are g in
-    writes_as same (writes_then (declaration_lines f has_empty) (start ++ lines) h (writes_then start lines j k))
+    let same : declaration_lines named f has_empty ++ (start ++ lines) ≡ spelling_pieces (renamed_grammar named g) =
+    (λ i. declaration_lines named (e i) (w i) ++ (definition_line (e i) (keyword (codes "start")) g.start ++ definition_lines (e i) g.definitions)) ∙ lines_are r g known in
+    writes_as same (writes_then (declaration_lines named f has_empty) (start ++ lines) h (writes_then start lines j k))

@@ -78,7 +78,7 @@ becomes_by ds kinds x = stand_in (kind_at ds kinds x) x
 
 -- both by what the code holds
 abbrev pub kind_in : SettledDefinitions → Text → FormKind
-kind_in s = kind_at (definitions_view s.names.now.entries) s.kinds.items
+kind_in s = kind_at (definitions_view s.definitions.now.entries) s.kinds.items
 
 abbrev pub becomes : SettledDefinitions → Text → Tree
-becomes s = becomes_by (definitions_view s.names.now.entries) s.kinds.items
+becomes s = becomes_by (definitions_view s.definitions.now.entries) s.kinds.items

@@ -113,20 +113,20 @@ abbrev pub begins : (NodeText → Bool) → List NodeText → Bool
 begins p [] = false
 begins p (w ∷ ws) = p w
 
--- prefixes with what they are bound to
-abbrev pub entries : (Text → List ℕ) → List Text → List (List ℕ × Text)
-entries prefix us = map (λ (u : Text). (prefix u, u)) us
+-- prefixes with what they are bound to: named: the URI of each text
+abbrev pub entries : (named : Text → Text) → (Text → List ℕ) → List Text → List (List ℕ × Text)
+entries named prefix us = map (λ (u : Text). (prefix u, named u)) us
 
 abbrev pub empty_entries : Bool → List (List ℕ × Text)
 empty_entries has_empty = cond has_empty ((codes "n0", []) ∷ []) []
 
 -- the lines of declarations; has_empty: the empty namespace has a prefix
-abbrev pub declaration_lines : s.Prefixes → (has_empty : Bool) → List Piece
-declaration_lines f has_empty =
+abbrev pub declaration_lines : (named : Text → Text) → s.Prefixes → (has_empty : Bool) → List Piece
+declaration_lines named f has_empty =
     default_line
     ++ (bindings (codes "namespace") (empty_entries has_empty)
-    ++ (bindings (codes "namespace") (entries (namespace_prefix f) f.namespaces)
-    ++ bindings (codes "datatypes") (entries (library_prefix f) f.libraries)))
+    ++ (bindings (codes "namespace") (entries named (namespace_prefix f) f.namespaces)
+    ++ bindings (codes "datatypes") (entries named (library_prefix f) f.libraries)))
 
 -- the rest of such a line behind the prefix, and the rest of a definition's line behind its name
 abbrev pub bound_to : Text → List Piece

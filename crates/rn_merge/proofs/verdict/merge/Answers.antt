@@ -1,8 +1,9 @@
 use Rattle.std.proofs.lemmas.Result.{IfOk-weaker}
 use Rattle.rn_assemble.specs.GrammarView.{grammar_view}
+use Rattle.rn_assemble.specs.ShortTexts.{short_texts}
 use Rattle.rn_simplify.specs.NormalView.{normal_view}
-use Rattle.rn_merge.proofs.Verdicts.Schemas.{answered_refusal, lacking, printed_refusal, printed_schema}
-use Rattle.rn_merge.proofs.Verdicts.SetVerdict.{answered_first, answered}
+use Rattle.rn_merge.proofs.Verdicts.Schemas.{answered_refusal, lacking, printed_answer, printed_known, printed_refusal, printed_schema}
+use Rattle.rn_merge.proofs.Verdicts.SetVerdict.{answered_first}
 use Rattle.rn_merge.proofs.verdict.merge.Goals as goal
 
 pub returns-in_err-grammar-clause-verdict : goal.returns-in_err-grammar-clause-verdict
@@ -17,40 +18,61 @@ returns-in_err-grammar-clause-first c =
 pub returns-in_err-normal-clause-first : goal.returns-in_err-normal-clause-first
 returns-in_err-normal-clause-first c = lacking c.args.set.now c.from_residual-in_err-normal.result c.from_residual-in_err-normal.ensures.1
 
+pub print_with-text-requires-clause-known : goal.print_with-text-requires-clause-known
+print_with-text-requires-clause-known c =
+    let short = c.in_ok-grammar.field-0 in
+    printed_known c.args.set.now (short_texts short.uris) (grammar_view short.grammar) (normal_view c.in_ok-normal.normal) c.in_ok-grammar.ensures c.in_ok-normal.ensures.canonical
+
 pub returns-clause-verdict : goal.returns-clause-verdict
 returns-clause-verdict c =
-    answered c.args.set.now (normal_view c.in_ok-normal.normal) c.print-text.result (grammar_view c.in_ok-grammar.grammar, c.in_ok-grammar.ensures, c.in_ok-normal.ensures.canonical) c.print-text.ensures.ok c.print-text.ensures.err
+    let short = c.in_ok-grammar.field-0 in
+    printed_answer c.args.set.now (short_texts short.uris) (grammar_view short.grammar) (normal_view c.in_ok-normal.normal) c.in_ok-grammar.ensures c.in_ok-normal.ensures.canonical
+    c.print_with-text.result c.print_with-text.ensures.ok c.print_with-text.ensures.err
 
 pub returns-clause-first : goal.returns-clause-first
 returns-clause-first c =
-    printed_refusal c.args.set.now c.print-text.result (grammar_view c.in_ok-grammar.grammar) (normal_view c.in_ok-normal.normal) c.in_ok-grammar.ensures c.in_ok-normal.ensures.canonical c.print-text.ensures.ok c.print-text.ensures.err
+    let short = c.in_ok-grammar.field-0 in
+    printed_refusal c.args.set.now (short_texts short.uris) (grammar_view short.grammar) (normal_view c.in_ok-normal.normal) c.in_ok-grammar.ensures c.in_ok-normal.ensures.canonical
+    c.print_with-text.result c.print_with-text.ensures.ok c.print_with-text.ensures.err
 
 pub returns-clause-documents : goal.returns-clause-documents
 returns-clause-documents c =
-    IfOk-weaker c.print-text.result _ _ (λ t h. h.documents)
-    (printed_schema c.args.set.now c.print-text.result (grammar_view c.in_ok-grammar.grammar) (normal_view c.in_ok-normal.normal) c.in_ok-grammar.ensures c.in_ok-normal.ensures.canonical c.print-text.ensures.ok c.print-text.ensures.err)
+    let short = c.in_ok-grammar.field-0 in
+    IfOk-weaker c.print_with-text.result _ _ (λ t h. h.documents)
+    (printed_schema c.args.set.now (short_texts short.uris) (grammar_view short.grammar) (normal_view c.in_ok-normal.normal) c.in_ok-grammar.ensures c.in_ok-normal.ensures.canonical
+    c.print_with-text.result c.print_with-text.ensures.ok c.print_with-text.ensures.err)
 
 pub returns-clause-unrefused : goal.returns-clause-unrefused
 returns-clause-unrefused c =
-    IfOk-weaker c.print-text.result _ _ (λ t h. h.unrefused)
-    (printed_schema c.args.set.now c.print-text.result (grammar_view c.in_ok-grammar.grammar) (normal_view c.in_ok-normal.normal) c.in_ok-grammar.ensures c.in_ok-normal.ensures.canonical c.print-text.ensures.ok c.print-text.ensures.err)
+    let short = c.in_ok-grammar.field-0 in
+    IfOk-weaker c.print_with-text.result _ _ (λ t h. h.unrefused)
+    (printed_schema c.args.set.now (short_texts short.uris) (grammar_view short.grammar) (normal_view c.in_ok-normal.normal) c.in_ok-grammar.ensures c.in_ok-normal.ensures.canonical
+    c.print_with-text.result c.print_with-text.ensures.ok c.print_with-text.ensures.err)
 
 pub returns-clause-plain_once : goal.returns-clause-plain_once
 returns-clause-plain_once c =
-    IfOk-weaker c.print-text.result _ _ (λ t h. h.plain_once)
-    (printed_schema c.args.set.now c.print-text.result (grammar_view c.in_ok-grammar.grammar) (normal_view c.in_ok-normal.normal) c.in_ok-grammar.ensures c.in_ok-normal.ensures.canonical c.print-text.ensures.ok c.print-text.ensures.err)
+    let short = c.in_ok-grammar.field-0 in
+    IfOk-weaker c.print_with-text.result _ _ (λ t h. h.plain_once)
+    (printed_schema c.args.set.now (short_texts short.uris) (grammar_view short.grammar) (normal_view c.in_ok-normal.normal) c.in_ok-grammar.ensures c.in_ok-normal.ensures.canonical
+    c.print_with-text.result c.print_with-text.ensures.ok c.print_with-text.ensures.err)
 
 pub returns-clause-one_method : goal.returns-clause-one_method
 returns-clause-one_method c =
-    IfOk-weaker c.print-text.result _ _ (λ t h. h.one_method)
-    (printed_schema c.args.set.now c.print-text.result (grammar_view c.in_ok-grammar.grammar) (normal_view c.in_ok-normal.normal) c.in_ok-grammar.ensures c.in_ok-normal.ensures.canonical c.print-text.ensures.ok c.print-text.ensures.err)
+    let short = c.in_ok-grammar.field-0 in
+    IfOk-weaker c.print_with-text.result _ _ (λ t h. h.one_method)
+    (printed_schema c.args.set.now (short_texts short.uris) (grammar_view short.grammar) (normal_view c.in_ok-normal.normal) c.in_ok-grammar.ensures c.in_ok-normal.ensures.canonical
+    c.print_with-text.result c.print_with-text.ensures.ok c.print_with-text.ensures.err)
 
 pub returns-clause-again : goal.returns-clause-again
 returns-clause-again c =
-    IfOk-weaker c.print-text.result _ _ (λ t h. h.again)
-    (printed_schema c.args.set.now c.print-text.result (grammar_view c.in_ok-grammar.grammar) (normal_view c.in_ok-normal.normal) c.in_ok-grammar.ensures c.in_ok-normal.ensures.canonical c.print-text.ensures.ok c.print-text.ensures.err)
+    let short = c.in_ok-grammar.field-0 in
+    IfOk-weaker c.print_with-text.result _ _ (λ t h. h.again)
+    (printed_schema c.args.set.now (short_texts short.uris) (grammar_view short.grammar) (normal_view c.in_ok-normal.normal) c.in_ok-grammar.ensures c.in_ok-normal.ensures.canonical
+    c.print_with-text.result c.print_with-text.ensures.ok c.print_with-text.ensures.err)
 
 pub returns-clause-alone : goal.returns-clause-alone
 returns-clause-alone c =
-    IfOk-weaker c.print-text.result _ _ (λ t h. h.alone)
-    (printed_schema c.args.set.now c.print-text.result (grammar_view c.in_ok-grammar.grammar) (normal_view c.in_ok-normal.normal) c.in_ok-grammar.ensures c.in_ok-normal.ensures.canonical c.print-text.ensures.ok c.print-text.ensures.err)
+    let short = c.in_ok-grammar.field-0 in
+    IfOk-weaker c.print_with-text.result _ _ (λ t h. h.alone)
+    (printed_schema c.args.set.now (short_texts short.uris) (grammar_view short.grammar) (normal_view c.in_ok-normal.normal) c.in_ok-grammar.ensures c.in_ok-normal.ensures.canonical
+    c.print_with-text.result c.print_with-text.ensures.ok c.print_with-text.ensures.err)

@@ -7,4 +7,4 @@ use Rattle.rn_simplify.specs.inside.FormKinds.{becomes}
 use Rattle.rn_simplify.proofs.body_forms.definition_forms.Given as goal
 
 abbrev pub invariant-loop-number : goal.invariant-loop-number
-invariant-loop-number l = definitions_view l.forms.items ≡ map (λ (d : Text × Tree). (d.0, canonical (becomes l.settled) d.1)) (take l.number (definitions_view l.settled.names.now.entries))
+invariant-loop-number l = definitions_view l.forms.items ≡ map (λ (d : Text × Tree). (d.0, canonical (becomes l.settled) d.1)) (take l.number (definitions_view l.settled.definitions.now.entries))

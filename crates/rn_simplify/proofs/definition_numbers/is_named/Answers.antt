@@ -9,6 +9,6 @@ use Rattle.rn_simplify.proofs.definition_numbers.is_named.Goals as goal
 
 pub returns : goal.returns
 returns c = λ same.
-    let es = c.args.names.now.entries in
+    let es = c.args.definitions.now.entries in
     number_by_place (definitions_view es) c.args.name.now c.args.number (distinct_names es c.len.ensures.unique) (omega (arith, size_of_view es))
     (sym (c.name_of.ensures nothing) ∙ sym c.as_str.ensures.value ∙ (bytes_decides c.as_str.result.now c.args.name.now).0 (sym c.eq.ensures ∙ same))

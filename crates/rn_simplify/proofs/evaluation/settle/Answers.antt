@@ -17,14 +17,14 @@ pub settle_definition-requires-clause-within : goal.settle_definition-requires-c
 settle_definition-requires-clause-within c =
     let order = c.args.order.now in
     let i = c.loop-number.number-index in
-    omega (arith, c.requires (get_or order i 0) (Contains-get_or order i 0 c.loop-number-test.true), ap length c.loop-number.invariant.names, size_of_view c.loop-number.settled.names.now.entries)
+    omega (arith, c.requires (get_or order i 0) (Contains-get_or order i 0 c.loop-number-test.true), ap length c.loop-number.invariant.definitions, size_of_view c.loop-number.settled.definitions.now.entries)
 
 pub settle_definition-requires-clause-of : goal.settle_definition-requires-clause-of
-settle_definition-requires-clause-of c = c.loop-number.invariant.names
+settle_definition-requires-clause-of c = c.loop-number.invariant.definitions
 
 pub loop-number-init : goal.loop-number-init
 loop-number-init c = record {
-  names = c.defs-names.ensures;
+  definitions = c.defs-definitions.ensures;
   settled = λ _. settled_none (grammar_view c.args.grammar.now).definitions c.args.order.now _;
 }
 
@@ -37,11 +37,11 @@ loop-number-preserved c =
     let n = get_or order i 0 in
     let kinds = c.loop-number.settled.kinds.items in
     let kinds' = c.settle_definition.new.settled.kinds.items in
-    let size : length kinds ≡ length ds = omega (arith, c.loop-number.settled.sized, ap length inv.names, size_of_view c.loop-number.settled.names.now.entries) in
+    let size : length kinds ≡ length ds = omega (arith, c.loop-number.settled.sized, ap length inv.definitions, size_of_view c.loop-number.settled.definitions.now.entries) in
     let one : kinds' ≡ set kinds n (kind_of (canonical (becomes_by ds kinds) (get_or ds n nothing).1)) =
-    subst (λ es. kinds' ≡ set kinds n (kind_of (canonical (becomes_by es kinds) (get_or es n nothing).1))) inv.names (c.in_ok-settle_definition.ensures.settled nothing) in
+    subst (λ es. kinds' ≡ set kinds n (kind_of (canonical (becomes_by es kinds) (get_or es n nothing).1))) inv.definitions (c.in_ok-settle_definition.ensures.settled nothing) in
     record {
-      names = ap definitions_view c.settle_definition.ensures.names ∙ inv.names;
+      definitions = ap definitions_view c.settle_definition.ensures.definitions ∙ inv.definitions;
       settled = λ ordered. settled_more ds order kinds kinds' ordered size i c.loop-number-test.true one (inv.settled ordered);
     }
 
@@ -51,5 +51,5 @@ returns-clause-settled c = λ o.
     let t = becomes_by ds c.loop-number.settled.kinds.items in
     subst (λ (ns : List ℕ). AreSettled ds ns t) (take_all c.loop-number.number-index c.args.order.now (omega arith)) (c.loop-number.invariant.settled o)
 
-pub returns-clause-names : goal.returns-clause-names
-returns-clause-names c = c.loop-number.invariant.names
+pub returns-clause-definitions : goal.returns-clause-definitions
+returns-clause-definitions c = c.loop-number.invariant.definitions

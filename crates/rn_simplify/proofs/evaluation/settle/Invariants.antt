@@ -7,7 +7,7 @@ use Rattle.rn_simplify.proofs.evaluation.settle.Given as goal
 
 abbrev pub invariant-loop-number : goal.invariant-loop-number
 invariant-loop-number l = record {
-  names : definitions_view l.settled.names.now.entries ≡ (grammar_view l.grammar).definitions;
+  definitions : definitions_view l.settled.definitions.now.entries ≡ (grammar_view l.grammar).definitions;
   settled : IsInOrder (grammar_view l.grammar).definitions l.order
       → AreSettled (grammar_view l.grammar).definitions (take l.number-index l.order) (becomes_by (grammar_view l.grammar).definitions l.settled.kinds.items);
 }

@@ -14,8 +14,8 @@ use Rattle.rn_simplify.proofs.evaluation.settle_all.Goals as goal
 pub settle-requires : goal.settle-requires
 settle-requires c = λ y h. c.in_ok-order.ensures.within y (subst (λ (l : List ℕ). Contains l y) c.deref.ensures.value h)
 
-pub returns-clause-names : goal.returns-clause-names
-returns-clause-names c = c.settle.ensures.names
+pub returns-clause-definitions : goal.returns-clause-definitions
+returns-clause-definitions c = c.settle.ensures.definitions
 
 pub returns-clause-exact : goal.returns-clause-exact
 returns-clause-exact c =
@@ -26,11 +26,11 @@ returns-clause-exact c =
     (λ s h.
     let w = c.args.grammar.now.well_formed in
     let o = c.in_ok-order.ensures.order in
-    let es = definitions_view s.names.now.entries in
+    let es = definitions_view s.definitions.now.entries in
     let kinds = s.kinds.items in
     let ordered : IsInOrder G.definitions c.deref.result.now = subst (IsInOrder G.definitions) (sym c.deref.ensures.value) o.in_order in
     let settled : AreSettled G.definitions order (becomes_by G.definitions kinds) =
     subst (λ (ns : List ℕ). AreSettled G.definitions ns (becomes_by G.definitions kinds)) c.deref.ensures.value (h.1 ordered) in
     let here : AreSettled G.definitions order (becomes_by es kinds) = subst (λ (fs : List (Text × Tree)). AreSettled G.definitions order (becomes_by fs kinds)) (sym h.0) settled in
     (o.rank, settling_is G (becomes_by es kinds) order w o (settled_canonical es kinds) here))
-    (both_hold c.settle.result _ _ ensures.names ensures.settled)
+    (both_hold c.settle.result _ _ ensures.definitions ensures.settled)

@@ -14,7 +14,7 @@ returns c =
     let (rank, settling) = c.in_ok-settled.ensures.exact in
     let fs = definitions_view c.in_ok-forms.forms.items in
     let vs = definitions_view c.in_ok-defs.defs.items in
-    canonical_of (grammar_view c.args.grammar.now) (becomes c.in_ok-settled.settled) rank _ fs vs _ (pattern_view c.in_ok-start.start) settling c.in_ok-settled.ensures.names c.start.ensures c.in_ok-start.ensures c.in_ok-forms.ensures.made c.in_ok-defs.ensures
+    canonical_of (grammar_view c.args.grammar.now) (becomes c.in_ok-settled.settled) rank _ fs vs _ (pattern_view c.in_ok-start.start) settling c.in_ok-settled.ensures.definitions c.start.ensures c.in_ok-start.ensures c.in_ok-forms.ensures.made c.in_ok-defs.ensures
 
 pub body_form-requires : goal.body_form-requires
 body_form-requires c = subst (λ (p : Tree). AreFirsts c.start_firsts.result.now (joined_members p)) (sym c.start.ensures) c.start_firsts.ensures

@@ -1,25 +1,28 @@
-use Rattle.std.proofs.Common.{sym, subst}
-use Rattle.std.specs.Prelude.{string_bytes}
-use Rattle.rn_simplify.specs.NormalView.{definitions_view, normal_view}
-use Rattle.rn_simplify.specs.Spelling.{definition_lines}
+use Rattle.std.proofs.Common.{◌≡◌, sym, subst, ap, ◌∙◌}
+use Rattle.std.specs.Prelude.{string_bytes, IfOk, IfErr}
+use Rattle.std.proofs.lemmas.Result.{IfOk-weaker}
+use Rattle.rn_pattern.specs.Matching.{Grammar}
+use Rattle.rn_assemble.specs.ShortTexts.{ShortTexts, IsKnown, IsTable, long_grammar, short_texts}
+use Rattle.rn_assemble.specs.Renamed.{IsOfKnownUris}
+use Rattle.rn_assemble.proofs.Renaming.ShortTables.{empty_table, all_known, same_grammar}
+use Rattle.rn_simplify.specs.NormalView.{normal_view}
 use Rattle.rn_simplify.specs.Printing.{IsPrinted, IsUnprinted}
-use Rattle.rn_simplify.specs.ReadBack.{IsReadBack}
-use Rattle.rn_simplify.specs.inside.Writes.{IsHindrance, prefixes_view, Writes}
-use Rattle.rn_simplify.proofs.Texts.FinishedText.{if_ok, if_err, printed, unprinted}
-use Rattle.rn_simplify.proofs.Texts.LineTexts.{writes_lines}
 use Rattle.rn_simplify.proofs.Texts.SourceTexts.{read_back}
 use Rattle.rn_simplify.proofs.printing.print.Goals as goal
+
+pub print_with-requires-clause-table : goal.print_with-requires-clause-table
+print_with-requires-clause-table c = subst IsTable (sym c.none.ensures) empty_table
+
+pub print_with-requires-clause-known : goal.print_with-requires-clause-known
+print_with-requires-clause-known c = subst (λ (es : ShortTexts). IsOfKnownUris (IsKnown es) (normal_view c.args.normal.now)) (sym c.none.ensures) (all_known (normal_view c.args.normal.now))
 
 pub returns : goal.returns
 returns c =
     let g = normal_view c.args.normal.now in
-    let f = prefixes_view c.in_ok-prefixes.prefixes in
-    let a = c.new-writer in
-    let z = c.write_definitions.new.writer in
-    let lines = subst (λ ds. Writes (definition_lines f (definitions_view ds)) c.write_start.new.writer z) c.as_slice.ensures.value c.write_definitions.ensures in
-    let whole = writes_lines g f c.in_ok-prefixes.prefixes.empty_namespace c.in_ok-prefixes.ensures.prefixes c.in_ok-prefixes.ensures.empty c.write_declarations.ensures c.write_start.ensures lines in
+    let same : long_grammar (short_texts c.none.result) g ≡ g = ap (λ (es : ShortTexts). long_grammar es g) c.none.ensures ∙ same_grammar g in
+    let is = subst (λ (n : Grammar). IfOk c.print_with.result (λ t. IsPrinted n (string_bytes t))) same c.print_with.ensures.ok in
     record {
-      ok = if_ok _ (λ t. IsPrinted g (string_bytes t)) (λ t h. subst (λ s. IsPrinted g (string_bytes s)) (sym h.2) (printed g a.ensures.text a.ensures.outside a.ensures.shallow a.ensures.goes whole h.0 h.1)) c.finish.result c.finish.ensures.ok;
-      read_back = if_ok _ (λ t. ∥ IsReadBack g ∥₁) (λ t h. read_back g c.args.normal.now.source (printed g a.ensures.text a.ensures.outside a.ensures.shallow a.ensures.goes whole h.0 h.1).0) c.finish.result c.finish.ensures.ok;
-      err = if_err (IsHindrance z) (IsUnprinted g) (unprinted g a.ensures.text a.ensures.outside a.ensures.shallow a.ensures.goes whole) c.finish.result c.finish.ensures.err;
+      ok = is;
+      err = subst (λ (n : Grammar). IfErr c.print_with.result (IsUnprinted n)) same c.print_with.ensures.err;
+      read_back = IfOk-weaker c.print_with.result _ _ (λ t h. read_back g c.args.normal.now.source h.0) is;
     }

@@ -6,4 +6,4 @@ use Rattle.rn_assemble.specs.declared.references.Reach.TheVariants.{Everywhere}
 use Rattle.rn_simplify.proofs.reachable.rows_of_forms.Given as goal
 
 abbrev pub invariant-loop-form : goal.invariant-loop-form
-invariant-loop-form l = rows_of l.rows ≡ rows_by Everywhere (definitions_view l.settled.names.now.entries) (definitions_view (take l.form-index l.forms))
+invariant-loop-form l = rows_of l.rows ≡ rows_by Everywhere (definitions_view l.settled.definitions.now.entries) (definitions_view (take l.form-index l.forms))

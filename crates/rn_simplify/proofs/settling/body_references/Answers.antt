@@ -10,7 +10,7 @@ use Rattle.rn_simplify.proofs.settling.body_references.Goals as goal
 
 pub returns-in-Some : goal.returns-in-Some
 returns-in-Some c =
-    let ds = definitions_view c.args.names.now.entries in
+    let ds = definitions_view c.args.definitions.now.entries in
     let body = pattern_view c.args.body.now in
     let distinct = pattern_view c.in-Some.distinct.value in
     let same : AreSameButRepeats distinct body = subst (λ o. IfSome o (λ p. AreSameButRepeats (pattern_view p.value) body)) c.in-Some.is c.in_ok-distinct.ensures in

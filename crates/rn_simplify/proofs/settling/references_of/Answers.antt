@@ -8,17 +8,17 @@ use Rattle.rn_simplify.proofs.Simplified.ReferenceGraph.{nothing}
 use Rattle.rn_simplify.proofs.settling.references_of.Goals as goal
 
 pub body_of-requires : goal.body_of-requires
-body_of-requires c = omega (arith, c.requires, ap length c.defs-names.ensures, size_of_view c.defs-names.result.now.entries)
+body_of-requires c = omega (arith, c.requires, ap length c.defs-definitions.ensures, size_of_view c.defs-definitions.result.now.entries)
 
 pub body_references-requires : goal.body_references-requires
 body_references-requires c =
     let n = c.args.number in
-    subst (λ p. AreFirsts c.firsts.result.now (joined_members p)) (sym (c.body_of.ensures nothing ∙ ap (λ ds. (get_or ds n nothing).1) c.defs-names.ensures)) (c.firsts.ensures nothing c.requires)
+    subst (λ p. AreFirsts c.firsts.result.now (joined_members p)) (sym (c.body_of.ensures nothing ∙ ap (λ ds. (get_or ds n nothing).1) c.defs-definitions.ensures)) (c.firsts.ensures nothing c.requires)
 
 pub returns : goal.returns
 returns c =
     let n = c.args.number in
     IfOk-weaker c.body_references.result _ _
-    (λ found h d. subst (λ ds. AreReferences ds (get_or ds n d).1 found) c.defs-names.ensures
-    (subst (λ p. AreReferences (definitions_view c.defs-names.result.now.entries) p found) (c.body_of.ensures d) h))
+    (λ found h d. subst (λ ds. AreReferences ds (get_or ds n d).1 found) c.defs-definitions.ensures
+    (subst (λ p. AreReferences (definitions_view c.defs-definitions.result.now.entries) p found) (c.body_of.ensures d) h))
     c.body_references.ensures

@@ -1,8 +1,9 @@
 use Rattle.std.proofs.Common.{map, take}
 use Rattle.std.specs.Prelude.{codes, string_bytes}
+use Rattle.rn_assemble.specs.ShortTexts.{long_uri, short_texts}
 use Rattle.rn_simplify.specs.Spelling.{bindings, library_prefix}
 use Rattle.rn_simplify.specs.inside.Writes.{entries, prefixes_view, Writes}
 use Rattle.rn_simplify.proofs.declared_prefixes.Prefixes.write_libraries.Given as goal
 
 abbrev pub invariant-loop-uri : goal.invariant-loop-uri
-invariant-loop-uri l = Writes (bindings (codes "datatypes") (entries (library_prefix (prefixes_view l.self)) (map (λ u. string_bytes u) (take l.uri-index l.self.libraries.keys)))) l.initial.writer l.writer
+invariant-loop-uri l = Writes (bindings (codes "datatypes") (entries (long_uri (short_texts l.uris)) (library_prefix (prefixes_view l.self)) (map (λ u. string_bytes u) (take l.uri-index l.self.libraries.keys)))) l.initial.writer l.writer

@@ -12,13 +12,13 @@ use Rattle.rn_simplify.proofs.reference_numbers.References.+add.Goals as goal
 
 pub add-returns-in-Group-clause-everywhere : goal.add-returns-in-Group-clause-everywhere
 add-returns-in-Group-clause-everywhere t c =
-    let ds = definitions_view c.args.names.now.entries in
+    let ds = definitions_view c.args.definitions.now.entries in
     subst (λ (xs : List Text). OnOk c.add_all.result (c.add_all.new.self.everywhere.items ≡ c.args.self.now.everywhere.items ++ numbers_of ds xs))
     (of_members Everywhere c.args.pattern.now c.in-Group.members c.deref-in-Group.result.now c.deref-in-Group.ensures.value c.in-Group.is) c.add_all.ensures.everywhere
 
 pub add-returns-in-Group-clause-outside : goal.add-returns-in-Group-clause-outside
 add-returns-in-Group-clause-outside t c = λ e.
-    let ds = definitions_view c.args.names.now.entries in
+    let ds = definitions_view c.args.definitions.now.entries in
     subst (λ (xs : List Text). OnOk c.add_all.result (c.add_all.new.self.outside.items ≡ c.args.self.now.outside.items ++ numbers_of ds xs))
     (of_members OutsideElements c.args.pattern.now c.in-Group.members c.deref-in-Group.result.now c.deref-in-Group.ensures.value c.in-Group.is) (c.add_all.ensures.outside e)
 
@@ -31,7 +31,7 @@ add_all-loop-member-init t c = record {
 
 pub add_all-loop-member-preserved : goal.add_all-loop-member-preserved
 add_all-loop-member-preserved t c =
-    let ds = definitions_view c.args.names.now.entries in
+    let ds = definitions_view c.args.definitions.now.entries in
     let start = c.args.self.now in
     let old = c.loop-member.self in
     let new = c.add.new.self in
@@ -46,8 +46,8 @@ add_all-loop-member-preserved t c =
 
 pub add_all-returns-clause-everywhere : goal.add_all-returns-clause-everywhere
 add_all-returns-clause-everywhere t c =
-    c.loop-member.invariant.everywhere ∙ ap (λ ps. c.args.self.now.everywhere.items ++ numbers_of (definitions_view c.args.names.now.entries) (all_references Everywhere (trees_of (map shared_view ps)))) (take_all c.loop-member.member-index c.args.members.now (omega arith))
+    c.loop-member.invariant.everywhere ∙ ap (λ ps. c.args.self.now.everywhere.items ++ numbers_of (definitions_view c.args.definitions.now.entries) (all_references Everywhere (trees_of (map shared_view ps)))) (take_all c.loop-member.member-index c.args.members.now (omega arith))
 
 pub add_all-returns-clause-outside : goal.add_all-returns-clause-outside
 add_all-returns-clause-outside t c = λ e.
-    c.loop-member.invariant.outside e ∙ ap (λ ps. c.args.self.now.outside.items ++ numbers_of (definitions_view c.args.names.now.entries) (all_references OutsideElements (trees_of (map shared_view ps)))) (take_all c.loop-member.member-index c.args.members.now (omega arith))
+    c.loop-member.invariant.outside e ∙ ap (λ ps. c.args.self.now.outside.items ++ numbers_of (definitions_view c.args.definitions.now.entries) (all_references OutsideElements (trees_of (map shared_view ps)))) (take_all c.loop-member.member-index c.args.members.now (omega arith))

@@ -9,7 +9,7 @@ use Rattle.rn_simplify.proofs.reference_numbers.References.+add.Given as goal
 
 abbrev pub invariant-add_all-loop-member : goal.invariant-add_all-loop-member
 invariant-add_all-loop-member l = record {
-  everywhere : l.self.everywhere.items ≡ l.initial.self.everywhere.items ++ numbers_of (definitions_view l.names.entries) (all_references Everywhere (trees_of (map shared_view (take l.member-index l.members))));
-  outside : l.reach ≡ OutsideElements → l.self.outside.items ≡ l.initial.self.outside.items ++ numbers_of (definitions_view l.names.entries) (all_references OutsideElements (trees_of (map shared_view (take l.member-index l.members))));
+  everywhere : l.self.everywhere.items ≡ l.initial.self.everywhere.items ++ numbers_of (definitions_view l.definitions.entries) (all_references Everywhere (trees_of (map shared_view (take l.member-index l.members))));
+  outside : l.reach ≡ OutsideElements → l.self.outside.items ≡ l.initial.self.outside.items ++ numbers_of (definitions_view l.definitions.entries) (all_references OutsideElements (trees_of (map shared_view (take l.member-index l.members))));
   inside : l.reach ≡ Everywhere → l.self.outside.items ≡ l.initial.self.outside.items;
 }

@@ -9,7 +9,7 @@ use Rattle.rn_simplify.proofs.reference_numbers.References.of.Goals as goal
 
 pub returns : goal.returns
 returns c =
-    let numbers = λ (s : Reach). numbers_of (definitions_view c.args.names.now.entries) (references s (pattern_view c.args.pattern.now)) in
+    let numbers = λ (s : Reach). numbers_of (definitions_view c.args.definitions.now.entries) (references s (pattern_view c.args.pattern.now)) in
     record {
       everywhere = same_itself _ _ (c.in_ok-add.ensures.everywhere ∙ ap (λ ns. ns ++ numbers Everywhere) c.new.ensures.items);
       outside = same_itself _ _ (c.in_ok-add.ensures.outside refl ∙ ap (λ ns. ns ++ numbers OutsideElements) c.new-2.ensures.items);

@@ -1,0 +1,20 @@
+-- Other texts for the URIs of modules, and of what is put together of them.
+pub mod Lists
+pub mod Alike
+pub mod KnownTexts
+pub mod ResolvedPatterns
+pub mod ResolvedUris
+pub mod RenamedComponents
+pub mod RenamedGrammars
+pub mod RenamedRules
+pub mod RenamedReferences
+pub mod RenamedLacks
+pub mod SameRefusals
+pub mod WritablePatterns
+pub mod WritableGrammars
+pub mod WellFormedGrammars
+pub mod ShortTables
+pub mod TableSearches
+pub mod WritableFronts
+pub mod ShortModules
+pub mod Replacing

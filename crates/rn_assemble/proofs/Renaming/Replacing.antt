@@ -1,0 +1,41 @@
+-- What holds of each thing that a loop goes through, and things that are replaced one by one.
+use Rattle.std.proofs.Common.{◌≡◌, ℕ, ◌+◌, ◌<◌, ◌≤◌, List, [], ◌∷◌, ◌++◌, map, length, get_or, take, append-nil, refl, sym, ap, ◌∙◌, subst}
+use Rattle.std.specs.List.{AllByRecursion, AllZip}
+use Rattle.std.proofs.lemmas.List.{map-append, nil_from_length, take_all, take_more}
+use Rattle.rn_pattern.proofs.Ordered.Ascending.{each_behind, each_join}
+
+module _ {X Y : Type 0} (P : Y → Type 0) (f : X → Y) where
+  -- one more of those that a loop goes through by their places, and no more of them
+  pub each_more : (xs : List X) (i : ℕ) (x : X) → i < length xs → x ≡ get_or xs i x
+      → AllByRecursion P (map f (take i xs)) → P (f x) → AllByRecursion P (map f (take (i + 1) xs))
+  each_more xs i x l e h p =
+      let one_more : take (i + 1) xs ≡ take i xs ++ x ∷ [] = take_more xs i x l ∙ ap (λ y. take i xs ++ y ∷ []) (sym e) in
+      subst (AllByRecursion P) (sym (ap (map f) one_more ∙ map-append f (take i xs) (x ∷ [])))
+      (each_join P (map f (take i xs)) (f x ∷ []) h (p, tt))
+
+  pub each_seen : (xs : List X) (i : ℕ) → length xs ≤ i → AllByRecursion P (map f (take i xs)) → AllByRecursion P (map f xs)
+  each_seen xs i l h = subst (λ (ys : List X). AllByRecursion P (map f ys)) (take_all i xs l) h
+
+  -- the one that comes behind those so far
+  pub of_next : (zs xs : List X) (x : X) (ys : List X) → xs ++ x ∷ ys ≡ zs → AllByRecursion P (map f zs) → P (f x)
+  of_next zs xs x ys e h =
+      (each_behind P (map f xs) (f x ∷ map f ys)
+      (subst (AllByRecursion P) (ap (map f) (sym e) ∙ map-append f xs (x ∷ ys)) h)).0
+
+-- none comes behind those so far
+pub all_yielded : {X : Type 0} (xs ys zs : List X) → xs ++ ys ≡ zs → length ys ≡ 0 → xs ≡ zs
+all_yielded xs ys zs e l = sym (append-nil xs) ∙ ap (λ ws. xs ++ ws) (sym (nil_from_length ys l)) ∙ e
+
+-- each is replaced by one of a kind from which g makes it again
+module _ {X Y : Type 0} (f : X → Y) (g : Y → Y) (K : Y → Type 0) where
+  pub made_again : (xs ys : List X) → AllZip (λ x y. (g (f y) ≡ f x) × K (f y)) xs ys → map g (map f ys) ≡ map f xs
+  made_again [] [] h = refl
+  made_again [] (y ∷ ys) h = absurd h
+  made_again (x ∷ xs) [] h = absurd h
+  made_again (x ∷ xs) (y ∷ ys) h = λ i. h.0.0 i ∷ made_again xs ys h.1 i
+
+  pub of_a_kind : (xs ys : List X) → AllZip (λ x y. (g (f y) ≡ f x) × K (f y)) xs ys → AllByRecursion K (map f ys)
+  of_a_kind [] [] h = tt
+  of_a_kind [] (y ∷ ys) h = absurd h
+  of_a_kind (x ∷ xs) [] h = absurd h
+  of_a_kind (x ∷ xs) (y ∷ ys) h = (h.0.1, of_a_kind xs ys h.1)

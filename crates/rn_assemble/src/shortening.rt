@@ -1,0 +1,245 @@
+// The URIs of modules' declarations replaced by short texts.
+ghost use Rattle.std.specs.Prelude.{◌≡◌, ◌⊎◌, [], IfOk, IsTrue, map, option_map};
+ghost use Rattle.std.specs.Cow.{cow_str_bytes};
+ghost use Rattle.std.specs.List.{AllByRecursion};
+ghost use Rattle.rn_syntax.specs.View.{declaration_view};
+ghost use Rattle.rn_assemble.specs.Renamed.{DeclareKnown, DeclaresKnown, renamed_declaration, renamed_modules};
+ghost use Rattle.rn_assemble.specs.ShortTexts.{IsKnown, IsTable, long_uri, short_texts};
+ghost use Rattle.rn_assemble.specs.inside.Covered.{AreCovered, HasShort, IsCovered, StandsForDeclaration, StandsForModule, declared_text};
+ghost use Rattle.rn_assemble.specs.inside.Views.{modules_view, named_module_view};
+
+use crate::named_modules::NamedModule;
+use crate::short_uris::{MAX_SHORT_URI, ShortUris};
+use rn_syntax::{Declaration, Module, Uri};
+use std::alloc::{AllocError, Global};
+use std::borrow::CowStr;
+use std::collections::BTreeSet;
+
+/// Short texts for the URIs that the modules declare; none where no URI is long.
+pub(crate) fn short_uris_of(
+    alloc: Global,
+    modules: &[NamedModule<'_>],
+) -> Result<ShortUris, AllocError>
+    ensures table { IfOk result (λ s. IsTable (short_texts s)) }
+    ensures covered { IfOk result (λ s. (short_texts s ≡ [])
+        ⊎ AreCovered (short_texts s) (modules_view modules.now)) }
+{
+    if !have_long_uri(modules) {
+        return Ok(ShortUris::none(alloc));
+    }
+    let uris = ShortUris::of(alloc, declared_uris(alloc, modules)?)?;
+    if are_covered(&uris, modules) {
+        Ok(uris)
+    } else {
+        Ok(ShortUris::none(alloc))
+    }
+}
+
+/// The URI of a declaration, if it isn't inherited.
+fn declared_uri<'d>(declaration: &'d Declaration<'_>) -> Option<&'d str>
+    ensures { option_map (λ s. s.now) result ≡ declared_text (declaration_view declaration.now) }
+{
+    match declaration {
+        Declaration::Namespace(_, Uri::Literal(uri)) => Some(uri.as_str()),
+        Declaration::Default(_, _, Uri::Literal(uri)) => Some(uri.as_str()),
+        Declaration::Datatypes(_, uri) => Some(uri.as_str()),
+        _ => None,
+    }
+}
+
+/// Whether a URI of the declarations is long.
+fn has_long_uri(declarations: &[Declaration<'_>]) -> bool {
+    for declaration in declarations {
+        if declared_uri(declaration).is_some_and(|uri| uri.len() > MAX_SHORT_URI) {
+            return true;
+        }
+    }
+    false
+}
+
+/// Whether a module declares a long URI.
+fn have_long_uri(modules: &[NamedModule<'_>]) -> bool {
+    for module in modules {
+        if has_long_uri(&module.tree.decls) {
+            return true;
+        }
+    }
+    false
+}
+
+/// The URIs that the modules declare, and those that mean something by themselves.
+fn declared_uris<'m>(
+    alloc: Global,
+    modules: &'m [NamedModule<'_>],
+) -> Result<BTreeSet<&'m str>, AllocError> {
+    let mut uris = ShortUris::special(alloc)?;
+    for module in modules {
+        add_declared(&module.tree.decls, &mut uris)?;
+    }
+    Ok(uris)
+}
+
+/// Adds the URIs of the declarations.
+fn add_declared<'d>(
+    declarations: &'d [Declaration<'_>],
+    uris: &mut BTreeSet<&'d str>,
+) -> Result<(), AllocError> {
+    for declaration in declarations {
+        if let Some(uri) = declared_uri(declaration) {
+            uris.insert(uri)?;
+        }
+    }
+    Ok(())
+}
+
+/// Whether a short text stands for the URI of the declaration, if it has one.
+fn is_covered(uris: &ShortUris, declaration: &Declaration<'_>) -> bool
+    requires { IsTable (short_texts uris.now) }
+    ensures { IsTrue result → IsCovered (short_texts uris.now) (declaration_view declaration.now) }
+{
+    match declared_uri(declaration) {
+        Some(uri) => uris.short(uri).is_some(),
+        None => true,
+    }
+}
+
+/// Whether short texts stand for all URIs of the declarations.
+fn is_module_covered(uris: &ShortUris, declarations: &[Declaration<'_>]) -> bool
+    requires { IsTable (short_texts uris.now) }
+    ensures { IsTrue result → AllByRecursion (IsCovered (short_texts uris.now))
+        (map declaration_view declarations.now) }
+{
+    for declaration in declarations {
+        if !is_covered(uris, declaration) {
+            return false;
+        }
+    }
+    true
+}
+
+/// Whether short texts stand for all URIs that the modules declare.
+fn are_covered(uris: &ShortUris, modules: &[NamedModule<'_>]) -> bool
+    requires { IsTable (short_texts uris.now) }
+    ensures { IsTrue result → AreCovered (short_texts uris.now) (modules_view modules.now) }
+{
+    for module in modules {
+        if !is_module_covered(uris, &module.tree.decls) {
+            return false;
+        }
+    }
+    true
+}
+
+/// The modules with short texts in the place of the URIs that they declare.
+pub(crate) fn shortened<'a>(
+    alloc: Global,
+    uris: &ShortUris,
+    modules: Vec<NamedModule<'a>>,
+) -> Result<Vec<NamedModule<'a>>, AllocError>
+    requires table { IsTable (short_texts uris.now) }
+    requires covered { (short_texts uris.now ≡ [])
+        ⊎ AreCovered (short_texts uris.now) (modules_view modules.items) }
+    ensures modules { IfOk result (λ v. renamed_modules (long_uri (short_texts uris.now))
+        (modules_view v.items) ≡ modules_view modules.entry.items) }
+    ensures known { IfOk result
+        (λ v. DeclareKnown (IsKnown (short_texts uris.now)) (modules_view v.items)) }
+{
+    if uris.is_empty() {
+        return Ok(modules);
+    }
+    let mut short = Vec::with_capacity(alloc, modules.len())?;
+    for module in modules {
+        short.push(shortened_module(alloc, uris, module)?)?;
+    }
+    Ok(short)
+}
+
+/// A module with short texts in the place of the URIs that it declares.
+fn shortened_module<'a>(
+    alloc: Global,
+    uris: &ShortUris,
+    module: NamedModule<'a>,
+) -> Result<NamedModule<'a>, AllocError>
+    requires table { IsTable (short_texts uris.now) }
+    requires covered { AllByRecursion (IsCovered (short_texts uris.now))
+        (named_module_view «module»).tree.declarations }
+    ensures { IfOk result (λ m. StandsForModule (short_texts uris.now)
+        (named_module_view «module».entry) (named_module_view m)) }
+{
+    let NamedModule { name, tree } = module;
+    let Module { decls, items } = tree;
+    let decls = shortened_declarations(alloc, uris, decls)?;
+    Ok(NamedModule {
+        name,
+        tree: Module { decls, items },
+    })
+}
+
+/// The declarations with short texts in the place of their URIs.
+fn shortened_declarations<'a>(
+    alloc: Global,
+    uris: &ShortUris,
+    declarations: Vec<Declaration<'a>>,
+) -> Result<Vec<Declaration<'a>>, AllocError>
+    requires table { IsTable (short_texts uris.now) }
+    requires covered { AllByRecursion (IsCovered (short_texts uris.now))
+        (map declaration_view declarations.items) }
+    ensures renamed { IfOk result
+        (λ v. map (renamed_declaration (long_uri (short_texts uris.now)))
+        (map declaration_view v.items) ≡ map declaration_view declarations.entry.items) }
+    ensures known { IfOk result
+        (λ v. AllByRecursion (DeclaresKnown (IsKnown (short_texts uris.now)))
+        (map declaration_view v.items)) }
+{
+    let mut short = Vec::with_capacity(alloc, declarations.len())?;
+    for declaration in declarations {
+        short.push(shortened_declaration(alloc, uris, declaration)?)?;
+    }
+    Ok(short)
+}
+
+/// The declaration with a short text in the place of its URI.
+fn shortened_declaration<'a>(
+    alloc: Global,
+    uris: &ShortUris,
+    declaration: Declaration<'a>,
+) -> Result<Declaration<'a>, AllocError>
+    requires table { IsTable (short_texts uris.now) }
+    requires covered { IsCovered (short_texts uris.now) (declaration_view declaration) }
+    ensures { IfOk result (λ d. StandsForDeclaration (short_texts uris.now)
+        (declaration_view declaration.entry) (declaration_view d)) }
+{
+    match declaration {
+        Declaration::Namespace(prefix, Uri::Literal(uri)) => {
+            let uri = shortened_text(alloc, uris, uri)?;
+            Ok(Declaration::Namespace(prefix, Uri::Literal(uri)))
+        }
+        Declaration::Default(at, prefix, Uri::Literal(uri)) => {
+            let uri = shortened_text(alloc, uris, uri)?;
+            Ok(Declaration::Default(at, prefix, Uri::Literal(uri)))
+        }
+        Declaration::Datatypes(prefix, uri) => {
+            let uri = shortened_text(alloc, uris, uri)?;
+            Ok(Declaration::Datatypes(prefix, uri))
+        }
+        inherited => Ok(inherited),
+    }
+}
+
+/// The short text that stands for a URI.
+fn shortened_text<'a>(
+    alloc: Global,
+    uris: &ShortUris,
+    uri: CowStr<'a>,
+) -> Result<CowStr<'a>, AllocError>
+    requires table { IsTable (short_texts uris.now) }
+    requires covered { HasShort (short_texts uris.now) (cow_str_bytes uri) }
+    ensures renamed { IfOk result (λ s. long_uri (short_texts uris.now) (cow_str_bytes s)
+        ≡ cow_str_bytes uri.entry) }
+    ensures known { IfOk result (λ s. IsKnown (short_texts uris.now) (cow_str_bytes s)) }
+{
+    match uris.short(uri.as_str()) {
+        Some(short) => Ok(CowStr::Owned(String::from_str(alloc, short)?)),
+        None => Ok(uri),
+    }
+}
