@@ -1,14 +1,11 @@
--- Other texts for the URIs of a grammar or of modules: short ones while a set is merged, and those that were declared when it is printed.
-use Rattle.std.specs.Prelude.{◌≡◌, [], List, map, ⊤}
+-- Other texts for the URIs of a grammar: short ones while a set is merged, and those that were declared when it is printed.
+use Rattle.std.specs.Prelude.{◌≡◌, [], map, ⊤}
 use Rattle.std.specs.List.{AllByRecursion}
 use Rattle.rn_text.specs.Texts.{Text, text_cmp}
 use Rattle.rn_pattern.specs.Tree.{NameTree, NameTrees, any_name, any_name_but, ns_name, ns_name_but, name, name_choice, no_names, more_names, Tree, Trees, not_allowed, empty, text, ref, value, datum, datum_but, list, attribute, element, one_or_more, group, interleave, choice, no_trees, more_trees}
 use Rattle.rn_pattern.specs.Matching.{Grammar}
 use Rattle.rn_pattern.specs.NameRules.{declarations}
-use Rattle.rn_syntax.specs.Tree as t
-use Rattle.rn_syntax.specs.Tree.{Uri, Declaration}
 use Rattle.rn_syntax.specs.Places.{xml_uri, xsd_uri}
-use Rattle.rn_assemble.specs.Components.{NamedModule}
 
 -- named: what each URI is called
 module _ (named : Text → Text) where
@@ -52,22 +49,6 @@ module _ (named : Text → Text) where
   abbrev pub renamed_grammar : Grammar → Grammar
   renamed_grammar G = record { start = renamed_tree G.start; definitions = map renamed_definition G.definitions }
 
-  abbrev pub renamed_uri : Uri → Uri
-  renamed_uri (t.literal u) = t.literal (named u)
-  renamed_uri t.inherited = t.inherited
-
-  abbrev pub renamed_declaration : Declaration → Declaration
-  renamed_declaration (t.namespace p i u) = t.namespace p i (renamed_uri u)
-  renamed_declaration (t.default i p u) = t.default i p (renamed_uri u)
-  renamed_declaration (t.datatypes p i u) = t.datatypes p i (named u)
-
-  -- the bodies of a module have prefixes in the place of URIs
-  abbrev pub renamed_module : NamedModule → NamedModule
-  renamed_module m = record { name = m.name; tree = record { declarations = map renamed_declaration m.tree.declarations; items = m.tree.items } }
-
-  abbrev pub renamed_modules : List NamedModule → List NamedModule
-  renamed_modules ms = map renamed_module ms
-
 -- all URIs that are there are known
 module _ (Known : Text → Type 0) where
   abbrev mutual
@@ -104,16 +85,6 @@ module _ (Known : Text → Type 0) where
   pub record IsOfKnownUris (G : Grammar) : Type 0 where
     pub start : HasKnownUris G.start
     pub definitions : AllByRecursion (λ (d : Text × Tree). HasKnownUris d.1) G.definitions
-
-  abbrev pub DeclaresKnown : Declaration → Type 0
-  DeclaresKnown (t.namespace p i (t.literal u)) = Known u
-  DeclaresKnown (t.namespace p i t.inherited) = ⊤
-  DeclaresKnown (t.default i p (t.literal u)) = Known u
-  DeclaresKnown (t.default i p t.inherited) = ⊤
-  DeclaresKnown (t.datatypes p i u) = Known u
-
-  abbrev pub DeclareKnown : List NamedModule → Type 0
-  DeclareKnown ms = AllByRecursion (λ (m : NamedModule). AllByRecursion DeclaresKnown m.tree.declarations) ms
 
 -- the known URIs keep their order, and those that mean something by themselves their texts
 pub record IsRenaming (named : Text → Text) (Known : Text → Type 0) : Type 0 where

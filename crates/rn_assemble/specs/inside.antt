@@ -23,6 +23,7 @@ pub mod Noting
 pub mod OneProof
 pub mod Patterns
 pub mod Referred
+pub mod RenamedModules
 pub mod SetFaults
 pub mod Shared
 pub mod Runs

@@ -31,7 +31,7 @@ use crate::references::{least_recursive, references_of};
 use crate::refusal::Refusal;
 use crate::seeds::seed_of;
 use crate::short_uris::ShortUris;
-use crate::shortening::{short_uris_of, shortened};
+use crate::shortening::{short_uris_of, shorten_modules};
 use rn_modset::ModuleSet;
 use rn_pattern::Seed;
 use std::alloc::Global;
@@ -39,9 +39,9 @@ use std::alloc::Global;
 /// The grammar of a set with short texts in the place of long URIs, and the URIs that they stand for.
 #[derive(Drop)]
 pub struct ShortGrammar {
-    /// The grammar of the set, but for its URIs.
+    /// The grammar of the set, with short texts in the place of its long URIs.
     pub grammar: Grammar,
-    /// What its URIs stand for.
+    /// The URI that each short text stands for. None where no URI of the set is long.
     pub uris: ShortUris,
 }
 
@@ -74,9 +74,10 @@ fn combine_set<'s>(alloc: Global, set: &'s ModuleSet, seed: &Seed) -> Result<Com
     combine_modules(alloc, modules.as_slice(), seed)
 }
 
-/// The grammar of the set with short texts in the place of long URIs, or the first refusal that stands, as
-/// [`assemble`](crate::assemble) has them. What is made of it compares few bytes of a URI, while each name of the set's
-/// grammar may stand in one of megabytes.
+/// The grammar of the set (RELAX NG 2001, 4.7, 4.11, 4.17) with short texts in the place of URIs of more than
+/// [`MAX_KEPT_URI`](crate::MAX_KEPT_URI) bytes, so that names are compared by few bytes, though a URI may have megabytes.
+/// Or the first refusal that stands, of those from `Conflict` to `NameClass` in the order of `Refusal`: the one that
+/// [`assemble`](crate::assemble) answers. `Memory` stands for want of memory alone. The set is left as it is.
 pub fn assemble_short(alloc: Global, set: &ModuleSet) -> Result<ShortGrammar, Refusal>
     ensures { MatchResult result
         (λ g. IsShortened set.now (short_texts g.uris) (grammar_view g.grammar))
@@ -89,7 +90,8 @@ pub fn assemble_short(alloc: Global, set: &ModuleSet) -> Result<ShortGrammar, Re
     Ok(ShortGrammar { grammar, uris })
 }
 
-/// The combined patterns of the set, or the first refusal that stands for it. The trees of the modules are given up.
+/// The combined patterns of the set with short texts in the place of long URIs, and the URIs that these stand for; or the
+/// first refusal that stands for the set. The trees of the modules are given up.
 fn combine_short<'s>(
     alloc: Global,
     set: &'s ModuleSet,
@@ -101,7 +103,7 @@ fn combine_short<'s>(
 {
     let modules = read_modules(alloc, set)?;
     let uris = short_uris_of(alloc, modules.as_slice())?;
-    let modules = shortened(alloc, &uris, modules)?;
+    let modules = shorten_modules(alloc, &uris, modules)?;
     let combined = combine_modules(alloc, modules.as_slice(), seed)?;
     Ok(ShortCombined { combined, uris })
 }

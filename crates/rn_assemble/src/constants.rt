@@ -43,7 +43,7 @@ impl Constants {
         })
     }
 
-    /// The same, shared.
+    /// These texts and patterns, shared.
     pub fn share(&self) -> Result<Constants, AllocError> {
         Ok(Constants {
             none: self.none.clone()?,

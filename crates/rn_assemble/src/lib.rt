@@ -38,6 +38,6 @@ pub use instances::INSTANCE_LIMIT;
 pub use joined_grammar::Definitions;
 pub use references::Reach;
 pub use refusal::{Key, Refusal};
-pub use short_uris::{MAX_SHORT_URI, ShortUris};
+pub use short_uris::{MAX_KEPT_URI, ShortUris};
 
 pub mod laws;

@@ -43,15 +43,15 @@ struct Reference<'s> {
 /// Of each key, the keys that its components refer to, and those that they refer to outside elements.
 #[derive(Drop)]
 pub(crate) struct References {
-    all: Rows,
-    outer: Rows,
+    everywhere: Rows,
+    outside: Rows,
 }
 
 /// The keys that a key's components refer to, and those that they refer to outside elements.
 #[derive(Drop)]
 struct Row {
-    all: Vec<usize>,
-    outer: Vec<usize>,
+    everywhere: Vec<usize>,
+    outside: Vec<usize>,
 }
 
 /// The references of all components. `Undefined` names the least name that is referred to and has no component.
@@ -60,20 +60,21 @@ pub(crate) fn references_of<'s>(
     keys: &Keys<'s>,
     components: &Components<'_, '_, 's>,
 ) -> Result<References, Refusal>
-    ensures all { IfOk result (λ r. IsGraph (rows_of r.all)) }
-    ensures all_size { IfOk result (λ r. length (rows_of r.all) ≡ length (names_of keys.now) + 1) }
-    ensures outer { IfOk result (λ r. IsGraph (rows_of r.outer)) }
-    ensures outer_size { IfOk result (λ r. length (rows_of r.outer)
+    ensures everywhere { IfOk result (λ r. IsGraph (rows_of r.everywhere)) }
+    ensures everywhere_size { IfOk result (λ r. length (rows_of r.everywhere)
+        ≡ length (names_of keys.now) + 1) }
+    ensures outside { IfOk result (λ r. IsGraph (rows_of r.outside)) }
+    ensures outside_size { IfOk result (λ r. length (rows_of r.outside)
         ≡ length (names_of keys.now) + 1) }
     ensures found { OfKeys keys.now components.now
         (λ names cs. MatchResult result
-        (λ r. AreAllReferences names cs (rows_of r.all) (rows_of r.outer))
+        (λ r. AreAllReferences names cs (rows_of r.everywhere) (rows_of r.outside))
         (IsLeastUndefined cs)) }
 {
     let mut looked: Vec<Option<usize>> = vec![in alloc; None; components.count_bodies()]?;
     let mut undefined = None;
-    let mut all = Rows::with_capacity(alloc, keys.len())?;
-    let mut outer = Rows::with_capacity(alloc, keys.len())?;
+    let mut everywhere = Rows::with_capacity(alloc, keys.len())?;
+    let mut outside = Rows::with_capacity(alloc, keys.len())?;
     let mut near = Near::default();
     for key in 0..keys.len() {
         let bodies = bodies_of(alloc, components, key, &mut looked, &mut near)?;
@@ -85,12 +86,12 @@ pub(crate) fn references_of<'s>(
             references.as_slice(),
             &mut undefined,
         )?;
-        all.push_row(&row.all)?;
-        outer.push_row(&row.outer)?;
+        everywhere.push_row(&row.everywhere)?;
+        outside.push_row(&row.outside)?;
     }
     match undefined {
         Some(name) => Err(undefined_name(alloc, name)),
-        None => Ok(References { all, outer }),
+        None => Ok(References { everywhere, outside }),
     }
 }
 
@@ -212,21 +213,21 @@ fn row_of<'s>(
     references: &[Reference<'s>],
     undefined: &mut Option<&'s str>,
 ) -> Result<Row, AllocError>
-    ensures all_within { IfOk result (λ row. AllBelow (length (names_of keys.now) + 1)
-        row.all.items) }
-    ensures all { IfOk result (λ row. AreNumbers (names_of keys.now)
-        (names_within Everywhere (map reference_view references.now)) row.all.items) }
-    ensures outer_within { IfOk result (λ row. AllBelow (length (names_of keys.now) + 1)
-        row.outer.items) }
-    ensures outer { IfOk result (λ row. AreNumbers (names_of keys.now)
-        (names_within OutsideElements (map reference_view references.now)) row.outer.items) }
+    ensures everywhere_within { IfOk result (λ row. AllBelow (length (names_of keys.now) + 1)
+        row.everywhere.items) }
+    ensures everywhere { IfOk result (λ row. AreNumbers (names_of keys.now)
+        (names_within Everywhere (map reference_view references.now)) row.everywhere.items) }
+    ensures outside_within { IfOk result (λ row. AllBelow (length (names_of keys.now) + 1)
+        row.outside.items) }
+    ensures outside { IfOk result (λ row. AreNumbers (names_of keys.now)
+        (names_within OutsideElements (map reference_view references.now)) row.outside.items) }
     ensures least { OnOk result (KeepsLeast (names_of keys.now) components.now
         (names_within Everywhere (map reference_view references.now))
         undefined.old undefined.new) }
 {
     let mut row = Row {
-        all: Vec::new(alloc),
-        outer: Vec::new(alloc),
+        everywhere: Vec::new(alloc),
+        outside: Vec::new(alloc),
     };
     for reference in references {
         let key = keys.find(reference.name);
@@ -239,17 +240,17 @@ fn row_of<'s>(
 impl Row {
     /// Adds the key of a name that a reference with this narrowest reach refers to, if the name has one.
     fn add(&mut self, key: Option<usize>, reach: Reach) -> Result<(), AllocError>
-        ensures all { OnOk result (self.new.all.items
-            ≡ self.old.all.items ++ number_within Everywhere reach key) }
-        ensures outer { OnOk result (self.new.outer.items
-            ≡ self.old.outer.items ++ number_within OutsideElements reach key) }
+        ensures everywhere { OnOk result (self.new.everywhere.items
+            ≡ self.old.everywhere.items ++ number_within Everywhere reach key) }
+        ensures outside { OnOk result (self.new.outside.items
+            ≡ self.old.outside.items ++ number_within OutsideElements reach key) }
     {
         let Some(key) = key else {
             return Ok(());
         };
-        self.all.push(key)?;
+        self.everywhere.push(key)?;
         if reach == Reach::OutsideElements {
-            self.outer.push(key)?;
+            self.outside.push(key)?;
         }
         Ok(())
     }
@@ -300,17 +301,17 @@ pub(crate) fn least_recursive(
     alloc: Global,
     references: &References,
 ) -> Result<Option<usize>, AllocError>
-    requires all { IsGraph (rows_of references.now.all) }
-    requires some { 0 < length (rows_of references.now.all) }
-    requires outer { IsGraph (rows_of references.now.outer) }
-    requires size { length (rows_of references.now.outer)
-        ≡ length (rows_of references.now.all) }
+    requires everywhere { IsGraph (rows_of references.now.everywhere) }
+    requires some { 0 < length (rows_of references.now.everywhere) }
+    requires outside { IsGraph (rows_of references.now.outside) }
+    requires size { length (rows_of references.now.outside)
+        ≡ length (rows_of references.now.everywhere) }
     ensures { (names : List Text) (cs : List Component) → IsStrictlySortedBy text_cmp names
-        → AreAllReferences names cs (rows_of references.now.all)
-        (rows_of references.now.outer) → IfOk result (IsLeastRecursive names cs) }
+        → AreAllReferences names cs (rows_of references.now.everywhere)
+        (rows_of references.now.outside) → IfOk result (IsLeastRecursive names cs) }
 {
-    let first = references.all.row(START);
-    let reached = reached_nodes(alloc, &references.all, first)?;
-    let outer = marked_rows(alloc, &references.outer, reached.as_slice())?;
-    least_looped(alloc, &outer)
+    let first = references.everywhere.row(START);
+    let reached = reached_nodes(alloc, &references.everywhere, first)?;
+    let outside = marked_rows(alloc, &references.outside, reached.as_slice())?;
+    least_looped(alloc, &outside)
 }

@@ -7,14 +7,14 @@ ghost use Rattle.rn_assemble.specs.ShortTexts.{CanBeWritten, IsTable, Keeps, Sho
 ghost use Rattle.rn_assemble.specs.inside.Covered.{short_of};
 ghost use Rattle.rn_assemble.specs.WritableTexts.{IsXml};
 
-use rn_pattern::name_classes::XMLNS_URI;
+use rn_pattern::XMLNS_URI;
 use rn_syntax::{XML_URI, XSD_URI};
 use std::alloc::{AllocError, Global};
 use std::cmp::Ordering;
 use std::collections::BTreeSet;
 
 /// The most bytes of a URI that stands for itself while modules are put together.
-pub const MAX_SHORT_URI: usize = 64;
+pub const MAX_KEPT_URI: usize = 64;
 
 /// A URI, and the text that stands for it.
 #[derive(Drop)]
@@ -52,14 +52,14 @@ impl ShortUris {
         requires { IsTable (short_texts self.now) }
         ensures { result.now ≡ long_uri (short_texts self.now) text.now }
     {
-        match with_short(&self.list, text) {
+        match find_short(&self.list, text) {
             Some(entry) => entry.uri.as_str(),
             None => text,
         }
     }
 
     /// The short text that stands for a URI, if one does.
-    pub(crate) fn short(&self, uri: &str) -> Option<&str>
+    pub(crate) fn short_text(&self, uri: &str) -> Option<&str>
         requires { IsTable (short_texts self.now) }
         ensures { MatchOption result (short_of (short_texts self.now) uri.now ≡ None)
             (λ s. short_of (short_texts self.now) uri.now ≡ Some s.now) }
@@ -73,21 +73,12 @@ impl ShortUris {
         }
     }
 
-    /// The URIs that mean something by themselves: no namespace, and those of `xml`, `xsd` and of declarations.
-    pub(crate) fn special<'u>(alloc: Global) -> Result<BTreeSet<&'u str>, AllocError> {
-        let mut uris = BTreeSet::new(alloc);
-        for uri in ["", XML_URI, XSD_URI, XMLNS_URI] {
-            uris.insert(uri)?;
-        }
-        Ok(uris)
-    }
-
     /// Short texts for these URIs, which come in their order, and for those that mean something by themselves. Where that
     /// makes no table there are none.
     pub(crate) fn of(alloc: Global, uris: BTreeSet<&str>) -> Result<ShortUris, AllocError>
         ensures { IfOk result (λ s. IsTable (short_texts s)) }
     {
-        let list = listed(alloc, uris)?;
+        let list = list_uris(alloc, uris)?;
         if is_table(&list) {
             Ok(ShortUris { list })
         } else {
@@ -96,8 +87,17 @@ impl ShortUris {
     }
 }
 
+/// The URIs that mean something by themselves: no namespace, and those of `xml`, `xsd` and of declarations.
+pub(crate) fn special_uris<'u>(alloc: Global) -> Result<BTreeSet<&'u str>, AllocError> {
+    let mut uris = BTreeSet::new(alloc);
+    for uri in ["", XML_URI, XSD_URI, XMLNS_URI] {
+        uris.insert(uri)?;
+    }
+    Ok(uris)
+}
+
 /// The entry with a short text.
-fn with_short<'l>(list: &'l [ShortUri], short: &str) -> Option<&'l ShortUri>
+fn find_short<'l>(list: &'l [ShortUri], short: &str) -> Option<&'l ShortUri>
     requires { ShortsAscend (listed_texts list.now) }
     ensures { MatchOption result (lookup (bytes_eq short.now) (listed_texts list.now) ≡ None)
         (λ e. lookup (bytes_eq short.now) (listed_texts list.now)
@@ -113,7 +113,7 @@ fn with_short<'l>(list: &'l [ShortUri], short: &str) -> Option<&'l ShortUri>
 }
 
 /// The URIs with their short texts.
-fn listed(alloc: Global, uris: BTreeSet<&str>) -> Result<Vec<ShortUri>, AllocError>
+fn list_uris(alloc: Global, uris: BTreeSet<&str>) -> Result<Vec<ShortUri>, AllocError>
     ensures { IfOk result (λ v. CanBeWritten (listed_texts v.items)) }
 {
     let mut list = Vec::with_capacity(alloc, uris.len())?;
@@ -128,22 +128,22 @@ fn short_uri(alloc: Global, uri: &str, number: usize) -> Result<ShortUri, AllocE
     ensures { IfOk result (λ e. IsXml (string_bytes e.uri) → IsXml (string_bytes e.short)) }
 {
     let long = String::from_str(alloc, uri)?;
-    if uri.len() <= MAX_SHORT_URI {
+    if uri.len() <= MAX_KEPT_URI {
         let short = String::from_str(alloc, uri)?;
         return Ok(ShortUri { short, uri: long });
     }
-    let mut short = front(alloc, uri)?;
+    let mut short = front_of(alloc, uri)?;
     push_number(&mut short, number)?;
     Ok(ShortUri { short, uri: long })
 }
 
-/// The first characters of a URI, up to that with which they have more than `MAX_SHORT_URI` bytes.
-fn front(alloc: Global, uri: &str) -> Result<String, AllocError>
+/// The first characters of a URI, up to that with which they have more than `MAX_KEPT_URI` bytes.
+fn front_of(alloc: Global, uri: &str) -> Result<String, AllocError>
     ensures { IfOk result (λ s. IsXml uri.now → IsXml (string_bytes s)) }
 {
     let mut front = String::new(alloc);
     for character in uri.chars() {
-        if front.len() > MAX_SHORT_URI {
+        if front.len() > MAX_KEPT_URI {
             return Ok(front);
         }
         front.push(character)?;
@@ -167,7 +167,7 @@ fn stays(list: &[ShortUri], uri: &str) -> bool
     requires { ShortsAscend (listed_texts list.now) }
     ensures { IsTrue result → Stays (listed_texts list.now) uri.now }
 {
-    match with_short(list, uri) {
+    match find_short(list, uri) {
         Some(entry) => entry.uri.as_str() == uri,
         None => false,
     }

@@ -2,14 +2,15 @@
 ghost use Rattle.std.specs.Prelude.{◌≡◌, ◌⊎◌, [], IfOk, IsTrue, map, option_map};
 ghost use Rattle.std.specs.Cow.{cow_str_bytes};
 ghost use Rattle.std.specs.List.{AllByRecursion};
+ghost use Rattle.rn_syntax.specs.Places.{uri_of};
 ghost use Rattle.rn_syntax.specs.View.{declaration_view};
-ghost use Rattle.rn_assemble.specs.Renamed.{DeclareKnown, DeclaresKnown, renamed_declaration, renamed_modules};
+ghost use Rattle.rn_assemble.specs.inside.RenamedModules.{literal_text, DeclareKnown, DeclaresKnown, renamed_declaration, renamed_modules};
 ghost use Rattle.rn_assemble.specs.ShortTexts.{IsKnown, IsTable, long_uri, short_texts};
-ghost use Rattle.rn_assemble.specs.inside.Covered.{AreCovered, HasShort, IsCovered, StandsForDeclaration, StandsForModule, declared_text};
+ghost use Rattle.rn_assemble.specs.inside.Covered.{AreCovered, HasShort, IsCovered, StandsForDeclaration, StandsForModule};
 ghost use Rattle.rn_assemble.specs.inside.Views.{modules_view, named_module_view};
 
 use crate::named_modules::NamedModule;
-use crate::short_uris::{MAX_SHORT_URI, ShortUris};
+use crate::short_uris::{MAX_KEPT_URI, ShortUris, special_uris};
 use rn_syntax::{Declaration, Module, Uri};
 use std::alloc::{AllocError, Global};
 use std::borrow::CowStr;
@@ -27,7 +28,7 @@ pub(crate) fn short_uris_of(
     if !have_long_uri(modules) {
         return Ok(ShortUris::none(alloc));
     }
-    let uris = ShortUris::of(alloc, declared_uris(alloc, modules)?)?;
+    let uris = ShortUris::of(alloc, literal_uris(alloc, modules)?)?;
     if are_covered(&uris, modules) {
         Ok(uris)
     } else {
@@ -36,8 +37,9 @@ pub(crate) fn short_uris_of(
 }
 
 /// The URI of a declaration, if it isn't inherited.
-fn declared_uri<'d>(declaration: &'d Declaration<'_>) -> Option<&'d str>
-    ensures { option_map (λ s. s.now) result ≡ declared_text (declaration_view declaration.now) }
+fn literal_uri<'d>(declaration: &'d Declaration<'_>) -> Option<&'d str>
+    ensures { option_map (λ s. s.now) result
+        ≡ literal_text (uri_of (declaration_view declaration.now)) }
 {
     match declaration {
         Declaration::Namespace(_, Uri::Literal(uri)) => Some(uri.as_str()),
@@ -50,7 +52,7 @@ fn declared_uri<'d>(declaration: &'d Declaration<'_>) -> Option<&'d str>
 /// Whether a URI of the declarations is long.
 fn has_long_uri(declarations: &[Declaration<'_>]) -> bool {
     for declaration in declarations {
-        if declared_uri(declaration).is_some_and(|uri| uri.len() > MAX_SHORT_URI) {
+        if literal_uri(declaration).is_some_and(|uri| uri.len() > MAX_KEPT_URI) {
             return true;
         }
     }
@@ -68,24 +70,24 @@ fn have_long_uri(modules: &[NamedModule<'_>]) -> bool {
 }
 
 /// The URIs that the modules declare, and those that mean something by themselves.
-fn declared_uris<'m>(
+fn literal_uris<'m>(
     alloc: Global,
     modules: &'m [NamedModule<'_>],
 ) -> Result<BTreeSet<&'m str>, AllocError> {
-    let mut uris = ShortUris::special(alloc)?;
+    let mut uris = special_uris(alloc)?;
     for module in modules {
-        add_declared(&module.tree.decls, &mut uris)?;
+        add_literals(&module.tree.decls, &mut uris)?;
     }
     Ok(uris)
 }
 
 /// Adds the URIs of the declarations.
-fn add_declared<'d>(
+fn add_literals<'d>(
     declarations: &'d [Declaration<'_>],
     uris: &mut BTreeSet<&'d str>,
 ) -> Result<(), AllocError> {
     for declaration in declarations {
-        if let Some(uri) = declared_uri(declaration) {
+        if let Some(uri) = literal_uri(declaration) {
             uris.insert(uri)?;
         }
     }
@@ -97,8 +99,8 @@ fn is_covered(uris: &ShortUris, declaration: &Declaration<'_>) -> bool
     requires { IsTable (short_texts uris.now) }
     ensures { IsTrue result → IsCovered (short_texts uris.now) (declaration_view declaration.now) }
 {
-    match declared_uri(declaration) {
-        Some(uri) => uris.short(uri).is_some(),
+    match literal_uri(declaration) {
+        Some(uri) => uris.short_text(uri).is_some(),
         None => true,
     }
 }
@@ -131,7 +133,7 @@ fn are_covered(uris: &ShortUris, modules: &[NamedModule<'_>]) -> bool
 }
 
 /// The modules with short texts in the place of the URIs that they declare.
-pub(crate) fn shortened<'a>(
+pub(crate) fn shorten_modules<'a>(
     alloc: Global,
     uris: &ShortUris,
     modules: Vec<NamedModule<'a>>,
@@ -149,13 +151,13 @@ pub(crate) fn shortened<'a>(
     }
     let mut short = Vec::with_capacity(alloc, modules.len())?;
     for module in modules {
-        short.push(shortened_module(alloc, uris, module)?)?;
+        short.push(shorten_module(alloc, uris, module)?)?;
     }
     Ok(short)
 }
 
 /// A module with short texts in the place of the URIs that it declares.
-fn shortened_module<'a>(
+fn shorten_module<'a>(
     alloc: Global,
     uris: &ShortUris,
     module: NamedModule<'a>,
@@ -168,7 +170,7 @@ fn shortened_module<'a>(
 {
     let NamedModule { name, tree } = module;
     let Module { decls, items } = tree;
-    let decls = shortened_declarations(alloc, uris, decls)?;
+    let decls = shorten_declarations(alloc, uris, decls)?;
     Ok(NamedModule {
         name,
         tree: Module { decls, items },
@@ -176,7 +178,7 @@ fn shortened_module<'a>(
 }
 
 /// The declarations with short texts in the place of their URIs.
-fn shortened_declarations<'a>(
+fn shorten_declarations<'a>(
     alloc: Global,
     uris: &ShortUris,
     declarations: Vec<Declaration<'a>>,
@@ -193,13 +195,13 @@ fn shortened_declarations<'a>(
 {
     let mut short = Vec::with_capacity(alloc, declarations.len())?;
     for declaration in declarations {
-        short.push(shortened_declaration(alloc, uris, declaration)?)?;
+        short.push(shorten_declaration(alloc, uris, declaration)?)?;
     }
     Ok(short)
 }
 
 /// The declaration with a short text in the place of its URI.
-fn shortened_declaration<'a>(
+fn shorten_declaration<'a>(
     alloc: Global,
     uris: &ShortUris,
     declaration: Declaration<'a>,
@@ -211,15 +213,15 @@ fn shortened_declaration<'a>(
 {
     match declaration {
         Declaration::Namespace(prefix, Uri::Literal(uri)) => {
-            let uri = shortened_text(alloc, uris, uri)?;
+            let uri = shorten_text(alloc, uris, uri)?;
             Ok(Declaration::Namespace(prefix, Uri::Literal(uri)))
         }
         Declaration::Default(at, prefix, Uri::Literal(uri)) => {
-            let uri = shortened_text(alloc, uris, uri)?;
+            let uri = shorten_text(alloc, uris, uri)?;
             Ok(Declaration::Default(at, prefix, Uri::Literal(uri)))
         }
         Declaration::Datatypes(prefix, uri) => {
-            let uri = shortened_text(alloc, uris, uri)?;
+            let uri = shorten_text(alloc, uris, uri)?;
             Ok(Declaration::Datatypes(prefix, uri))
         }
         inherited => Ok(inherited),
@@ -227,7 +229,7 @@ fn shortened_declaration<'a>(
 }
 
 /// The short text that stands for a URI.
-fn shortened_text<'a>(
+fn shorten_text<'a>(
     alloc: Global,
     uris: &ShortUris,
     uri: CowStr<'a>,
@@ -238,7 +240,7 @@ fn shortened_text<'a>(
         ≡ cow_str_bytes uri.entry) }
     ensures known { IfOk result (λ s. IsKnown (short_texts uris.now) (cow_str_bytes s)) }
 {
-    match uris.short(uri.as_str()) {
+    match uris.short_text(uri.as_str()) {
         Some(short) => Ok(CowStr::Owned(String::from_str(alloc, short)?)),
         None => Ok(uri),
     }

@@ -194,7 +194,7 @@ impl<'u, 'a> PlaceView<'u, 'a> {
         }
     }
 
-    /// The same, of a part that is not excepted.
+    /// What stands in the place of a part that isn't in an except, or of its name, if it doesn't stay.
     fn stand_in(
         &self,
         alloc: Global,

@@ -6,7 +6,7 @@ ghost use Rattle.rn_merge.specs.Verdicts.{IsAnswer};
 
 use rn_assemble::{Refusal, ShortGrammar, assemble_short};
 use rn_modset::ModuleSet;
-use rn_simplify::{normalise, print_with};
+use rn_simplify::{normalise, print_long};
 use std::alloc::Global;
 
 /// The verdict of the set: its flat schema in the canonical text, or the first refusal that stands,
@@ -33,7 +33,7 @@ pub fn merge(alloc: Global, set: &ModuleSet) -> Result<String, Refusal>
     // (its memory is free again before the text is made)
     drop(grammar);
     let normal = normal?;
-    let text = print_with(alloc, &normal, &uris);
+    let text = print_long(alloc, &normal, &uris);
     drop(normal);
     text
 }

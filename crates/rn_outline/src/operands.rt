@@ -40,7 +40,7 @@ pub(crate) fn operand(reader: &mut Reader, tokens: &[Token<'_>], at: usize) -> R
     }
 }
 
-/// The same, where it begins with this keyword.
+/// Reads an operand that begins with a keyword, or its front up to the bracket behind which more patterns stand.
 fn keyword(reader: &mut Reader, tokens: &[Token<'_>], at: usize, word: Word) -> Result<usize, Stop>
     requires { at < length tokens.now }
     ensures { GoesPast at (length tokens.now) result }

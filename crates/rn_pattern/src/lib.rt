@@ -38,6 +38,7 @@ mod store;
 pub mod tree;
 
 pub use interned::Interned;
+pub use name_classes::XMLNS_URI;
 pub use node::{Node, NodeId};
 pub use pattern_store::Patterns;
 pub use plain::Plain;

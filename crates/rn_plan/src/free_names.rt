@@ -23,7 +23,7 @@ pub(crate) fn are_free(units: &Units<'_>, names: &Names) -> bool
     true
 }
 
-/// The same, of the names that one file writes.
+/// Whether no name that one file writes is one that was made for a scope, or for a start.
 fn is_free_file(given: &Given<'_>, names: &Names) -> bool
     ensures { IsTrue result
         → FileIsFree names.now.made_stems (string_bytes names.now.start) given.now.file }

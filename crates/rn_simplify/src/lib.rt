@@ -33,4 +33,4 @@ mod writer;
 
 pub use normal::Normal;
 pub use normalising::{normalise, normalise_in};
-pub use printing::{print, print_with};
+pub use printing::{print, print_long};

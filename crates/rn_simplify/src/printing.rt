@@ -25,12 +25,14 @@ pub fn print(alloc: Global, normal: &Normal) -> Result<String, Refusal>
     ensures err { IfErr result (IsUnprinted (normal_view normal.now)) }
     ensures read_back { IfOk result (λ text. ∥ IsReadBack (normal_view normal.now) ∥₁) }
 {
-    print_with(alloc, normal, &ShortUris::none(alloc))
+    print_long(alloc, normal, &ShortUris::none(alloc))
 }
 
-/// The one text of the canonical grammar that has URIs where this one has texts that stand for them. It is refused as by
-/// [`print`].
-pub fn print_with(alloc: Global, normal: &Normal, uris: &ShortUris) -> Result<String, Refusal>
+/// The one text of the canonical grammar that has URIs where this one has short texts that stand for them: the declarations
+/// of its prefixes are of the URIs (compact syntax, section 2, decl). `OutputTooLarge` where the text would have more than
+/// [`rn_modset::MAX_TEXT`] bytes, with the URIs at their length; else `OutputTooDeep` where more than
+/// [`rn_syntax::MAX_OPEN`] of its brackets would be open at once.
+pub fn print_long(alloc: Global, normal: &Normal, uris: &ShortUris) -> Result<String, Refusal>
     requires table { IsTable (short_texts uris.now) }
     requires known { IsOfKnownUris (IsKnown (short_texts uris.now)) (normal_view normal.now) }
     ensures ok { IfOk result (λ text. IsPrinted

@@ -119,9 +119,10 @@ fn tell_fault(
     requires { IsFew told.old }
     ensures { IsFew told.new }
 {
-    if told.has_room() {
-        told.messages.push(message(alloc, words, pages, fault)?)?;
+    if told.count_if_full() {
+        return Ok(());
     }
+    told.messages.push(message(alloc, words, pages, fault)?)?;
     Ok(())
 }
 
@@ -212,7 +213,7 @@ fn tell_text(
     requires { IsFew told.old }
     ensures { IsFew told.new }
 {
-    if !told.has_room() {
+    if told.count_if_full() {
         return Ok(());
     }
     let spot = origin.map(|(file, at)| Spot { file, at });

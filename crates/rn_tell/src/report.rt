@@ -1,5 +1,5 @@
 // Messages with their places, and how they are shown.
-ghost use Rattle.std.specs.Prelude.{◌≡◌, ◌<◌, ◌++◌, IfOk, IsTrue, OnOk, slice_get, string_bytes, vec_len};
+ghost use Rattle.std.specs.Prelude.{◌≡◌, ◌<◌, ◌++◌, IfOk, IsFalse, OnOk, slice_get, string_bytes, vec_len};
 ghost use Rattle.rn_tell.specs.Limits.{max_told};
 ghost use Rattle.rn_tell.specs.Messages.{AreLines, IsFew, IsMessagePlace, IsPlaceAt, IsPlaceIn, note};
 ghost use Rattle.rn_tell.specs.inside.Messages.{AddsMessage};
@@ -73,16 +73,16 @@ impl Messages {
         Ok(told)
     }
 
-    /// Whether there is room for another message. Where there is none, the one that is left out is counted.
-    pub(crate) fn has_room(&mut self) -> bool
-        ensures room { IsTrue result → vec_len self.new.messages < max_told }
+    /// Whether there is no room for another message. Then the one that is left out is counted.
+    pub(crate) fn count_if_full(&mut self) -> bool
+        ensures room { IsFalse result → vec_len self.new.messages < max_told }
         ensures kept { self.new.messages ≡ self.old.messages }
     {
         if self.messages.len() < MAX_TOLD {
-            return true;
+            return false;
         }
         self.further = self.further.saturating_add(1);
-        false
+        true
     }
 }
 

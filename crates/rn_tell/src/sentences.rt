@@ -83,7 +83,7 @@ fn tell_finding(
     requires { IsFew told.old }
     ensures { IsFew told.new }
 {
-    if !told.has_room() {
+    if told.count_if_full() {
         return Ok(());
     }
     let spot = spot_of(telling, finding.here);

@@ -22,20 +22,20 @@ pub fn perform<W: Sink>(rt: &HostRuntime, job: Job, out: &mut W) -> Result<(), P
             file,
         } => {
             let text = read_file(rt, 0, file.as_str())?;
-            pack(rt.alloc(), name, revision, Some(text), out)
+            write_contribution(rt.alloc(), name, revision, Some(text), out)
         }
-        Job::Withdraw { name, revision } => pack(rt.alloc(), name, revision, None, out),
-        Job::Join { files } => join(
+        Job::Withdraw { name, revision } => write_contribution(rt.alloc(), name, revision, None, out),
+        Job::Join { files } => write_union(
             rt.alloc(),
             read_files(rt, files.as_slice())?.as_slice(),
             out,
         ),
-        Job::List { files } => list(
+        Job::List { files } => write_list(
             rt.alloc(),
             read_files(rt, files.as_slice())?.as_slice(),
             out,
         ),
-        Job::Print { files } => print(rt.alloc(), read_files(rt, files.as_slice())?, out),
+        Job::Print { files } => write_schema(rt.alloc(), read_files(rt, files.as_slice())?, out),
         Job::Check { file } => {
             let text = read_file(rt, 0, file.as_str())?;
             check(rt.alloc(), text.as_slice()).map_err(ProgramFault::Check)
@@ -44,7 +44,7 @@ pub fn perform<W: Sink>(rt: &HostRuntime, job: Job, out: &mut W) -> Result<(), P
 }
 
 /// Writes the bundle of one contribution: of a module text, or of a withdrawal where there is none.
-fn pack<W: Sink>(
+fn write_contribution<W: Sink>(
     alloc: Global,
     name: String,
     revision: u64,
@@ -67,7 +67,7 @@ fn pack<W: Sink>(
 }
 
 /// Writes the bundle of the union of bundles.
-fn join<W: Sink>(alloc: Global, bundles: &[Vec<u8>], out: &mut W) -> Result<(), ProgramFault>
+fn write_union<W: Sink>(alloc: Global, bundles: &[Vec<u8>], out: &mut W) -> Result<(), ProgramFault>
     requires { W.has_failed out.old ≡ false }
     ensures { LeavesSink result (out.new ≡ out.old) }
 {
@@ -76,7 +76,7 @@ fn join<W: Sink>(alloc: Global, bundles: &[Vec<u8>], out: &mut W) -> Result<(), 
 }
 
 /// Writes a line for each contribution of the union of bundles.
-fn list<W: Sink>(alloc: Global, bundles: &[Vec<u8>], out: &mut W) -> Result<(), ProgramFault>
+fn write_list<W: Sink>(alloc: Global, bundles: &[Vec<u8>], out: &mut W) -> Result<(), ProgramFault>
     requires { W.has_failed out.old ≡ false }
     ensures { LeavesSink result (out.new ≡ out.old) }
 {
@@ -90,7 +90,7 @@ fn list<W: Sink>(alloc: Global, bundles: &[Vec<u8>], out: &mut W) -> Result<(), 
 }
 
 /// Writes the schema of the union of bundles, whose memory is free again before it is made.
-fn print<W: Sink>(alloc: Global, bundles: Vec<Vec<u8>>, out: &mut W) -> Result<(), ProgramFault>
+fn write_schema<W: Sink>(alloc: Global, bundles: Vec<Vec<u8>>, out: &mut W) -> Result<(), ProgramFault>
     requires { W.has_failed out.old ≡ false }
     ensures { LeavesSink result (out.new ≡ out.old) }
 {

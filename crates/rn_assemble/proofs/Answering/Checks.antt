@@ -29,7 +29,7 @@ use Rattle.rn_assemble.specs.inside.Sound.{HasSoundReferences}
 use Rattle.rn_assemble.specs.inside.Views.{named_module_view, modules_view}
 use Rattle.rn_assemble.proofs.Answering.FirstRefusal.{NoneBelow, none_included, none_lacking, none_combined, none_sound, misnamed_first, combined_grammar_of}
 use Rattle.rn_assemble.proofs.Expansion.Lacking.{lacks_alike}
-use Rattle.rn_assemble.proofs.Renaming.Alike.{least_alike, some_alike}
+use Rattle.rn_assemble.proofs.Renaming.AlikeFacts.{least_alike, some_alike}
 
 -- the name of a module, by its place
 pub name_seen_at : (ms : List code_module.NamedModule) (i : ℕ) (d : code_module.NamedModule) → i < length ms → (get_or ms i d).name.now ≡ name_at (modules_view ms) i

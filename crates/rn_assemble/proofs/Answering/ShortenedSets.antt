@@ -12,7 +12,8 @@ use Rattle.rn_assemble.specs.declared.refusal.Refusal.TheVariants as r
 use Rattle.rn_assemble.specs.Components.{NamedModule}
 use Rattle.rn_assemble.specs.Refusal.{Refusal, AreModules, IsFirstFor, StandsFor, grammar_of}
 use Rattle.rn_assemble.specs.Refused.{refusal_view}
-use Rattle.rn_assemble.specs.Renamed.{renamed_modules, DeclareKnown, IsOfKnownUris, IsRenaming}
+use Rattle.rn_assemble.specs.Renamed.{IsOfKnownUris, IsRenaming}
+use Rattle.rn_assemble.specs.inside.RenamedModules.{renamed_modules, DeclareKnown}
 use Rattle.rn_assemble.specs.ShortTexts.{ShortTexts, IsKnown, IsShortened, IsTable, long_grammar, long_uri}
 use Rattle.rn_assemble.specs.inside.Contained.{AreFlat}
 use Rattle.rn_assemble.specs.inside.Views.{AreInOrder, module_names, modules_view}

@@ -28,7 +28,7 @@ abbrev pub is_some : List Tree → Bool
 is_some [] = false
 is_some (p ∷ ps) = true
 
-same_text : (x y : Text) → bytes_eq x y ≡ true → x ≡ y
+pub same_text : (x y : Text) → bytes_eq x y ≡ true → x ≡ y
 same_text x y e = (bytes_decides x y).0 e
 
 lookup_name_at : (b : Bool) (x y : Text) (f : Text → Tree) (r : Bool) (o : Option Tree) → bytes_eq x y ≡ b → o ≡ cond r (Some (f x)) None → cond b (Some (f y)) o ≡ cond (b || r) (Some (f x)) None

@@ -44,7 +44,7 @@ names_more meant rs i h =
     ∙ flat_map-append (λ (q : Text × Reach). within meant q.1 q.0) (map reference_view (take i rs)) (reference_view r ∷ [])
     ∙ ap (λ ns. names_within meant (map reference_view (take i rs)) ++ ns) (append-nil (within meant r.reach r.name.now))
 
-is_none : {A : Type 0} (o : Option A) → ¬ IsSome o → o ≡ None
+pub is_none : {A : Type 0} (o : Option A) → ¬ IsSome o → o ≡ None
 is_none None h = refl
 is_none (Some x) h = absurd (h refl)
 

@@ -9,9 +9,10 @@ use Rattle.rn_pattern.proofs.Ordered.Ascending.{each_join, each_flat}
 use Rattle.rn_syntax.specs.Tree as t
 use Rattle.rn_syntax.specs.Tree.{Declaration, Item, Items, includes}
 use Rattle.rn_assemble.specs.Components.{Key, start_key, name_key, same_key, Component, NamedModule, has_key, without_overridden, handed_on, item_components, all_components, module_components, modules_named, components_within, components, instance_limit, Includes, instances_within, roots, set_components}
-use Rattle.rn_assemble.specs.Renamed.{renamed_tree, renamed_module, renamed_modules, HasKnownUris, DeclaresKnown, DeclareKnown, IsRenaming}
+use Rattle.rn_assemble.specs.Renamed.{renamed_tree, HasKnownUris, IsRenaming}
+use Rattle.rn_assemble.specs.inside.RenamedModules.{renamed_module, renamed_modules, DeclaresKnown, DeclareKnown}
 use Rattle.rn_assemble.proofs.WellFormed.ComponentExcepts.{each_kept, all_true}
-use Rattle.rn_assemble.proofs.Renaming.Lists.{filter_inside, flat_map_inside, any_inside}
+use Rattle.rn_assemble.proofs.Renaming.MappedTests.{filter_inside, flat_map_inside, any_inside}
 use Rattle.rn_assemble.proofs.Renaming.ResolvedPatterns.{renamed_declarations, resolved_pattern-renamed, handed_on-renamed}
 use Rattle.rn_assemble.proofs.Renaming.ResolvedUris.{resolved_pattern-known, handed_on-known}
 

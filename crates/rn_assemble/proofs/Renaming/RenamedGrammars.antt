@@ -10,7 +10,7 @@ use Rattle.rn_assemble.specs.Components.{Key, start_key, name_key, same_key, Com
 use Rattle.rn_assemble.specs.Combine.{of_key, bodies, is_plain, is_choice, is_interleave, uses, IsPlainTwice, IsMixed, method_node, joined_tree, joined_pattern, first_of, defined_names, joined_grammar}
 use Rattle.rn_assemble.specs.Renamed.{renamed_tree, renamed_trees, renamed_definition, renamed_grammar, HasKnownUris, HaveKnownUris, IsOfKnownUris}
 use Rattle.rn_assemble.proofs.Combined.JoinedProperties.{joined_kept}
-use Rattle.rn_assemble.proofs.Renaming.Lists.{cond_inside, filter_inside, any_inside}
+use Rattle.rn_assemble.proofs.Renaming.MappedTests.{cond_inside, filter_inside, any_inside}
 use Rattle.rn_assemble.proofs.Renaming.RenamedComponents.{renamed_component, renamed_components, HasKnownBody}
 
 module _ (named : Text → Text) where
@@ -45,7 +45,7 @@ module _ (named : Text → Text) where
 
   -- ---- joined trees
 
-  trees_of-renamed : (ps : List Tree) → trees_of (map (renamed_tree named) ps) ≡ renamed_trees named (trees_of ps)
+  pub trees_of-renamed : (ps : List Tree) → trees_of (map (renamed_tree named) ps) ≡ renamed_trees named (trees_of ps)
   trees_of-renamed [] = refl
   trees_of-renamed (p ∷ ps) = ap (more_trees (renamed_tree named p)) (trees_of-renamed ps)
 

@@ -11,8 +11,9 @@ use Rattle.rn_syntax.specs.Tree.{Name, Datatype, AnyName, NameClass, NameClasses
 use Rattle.rn_syntax.specs.Places.{xml_uri, xsd_uri, declared_namespace, declared_library, library_of}
 use Rattle.rn_assemble.specs.Resolve.{uri_text, declared_text, default_of, namespace_of, resolved_name, every_name, every_name_but, resolved_class, resolved_classes, type_library, type_name, resolved_pattern, resolved_patterns}
 use Rattle.rn_assemble.specs.Components.{handed_on}
-use Rattle.rn_assemble.specs.Renamed.{renamed_class, renamed_classes, renamed_tree, renamed_trees, renamed_uri, renamed_declaration, IsRenaming}
-use Rattle.rn_assemble.proofs.Renaming.Lists.{cond_inside}
+use Rattle.rn_assemble.specs.Renamed.{renamed_class, renamed_classes, renamed_tree, renamed_trees, IsRenaming}
+use Rattle.rn_assemble.specs.inside.RenamedModules.{renamed_uri, renamed_declaration}
+use Rattle.rn_assemble.proofs.Renaming.MappedTests.{cond_inside}
 
 -- ---- what declarations bind
 

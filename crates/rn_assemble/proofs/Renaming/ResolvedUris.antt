@@ -11,7 +11,8 @@ use Rattle.rn_syntax.specs.Tree.{Datatype, NameClass, NameClasses, Pattern, Patt
 use Rattle.rn_syntax.specs.Places.{xml_uri, xsd_uri, declared_namespace, declared_library, library_of}
 use Rattle.rn_assemble.specs.Resolve.{uri_text, declared_text, default_of, namespace_of, resolved_class, resolved_classes, type_library, resolved_pattern, resolved_patterns}
 use Rattle.rn_assemble.specs.Components.{handed_on}
-use Rattle.rn_assemble.specs.Renamed.{HasKnownNames, HaveKnownNames, HasKnownUris, HaveKnownUris, DeclaresKnown, IsRenaming}
+use Rattle.rn_assemble.specs.Renamed.{HasKnownNames, HaveKnownNames, HasKnownUris, HaveKnownUris, IsRenaming}
+use Rattle.rn_assemble.specs.inside.RenamedModules.{DeclaresKnown}
 
 module _ (Known : Text → Type 0) where
   abbrev IsKnown : Uri → Type 0

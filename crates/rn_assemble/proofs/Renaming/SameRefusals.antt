@@ -11,8 +11,9 @@ use Rattle.rn_assemble.specs.Components.{Key, start_key, Component, NamedModule,
 use Rattle.rn_assemble.specs.Combine.{IsPlainTwice, IsMixed, joined_pattern, joined_grammar}
 use Rattle.rn_assemble.specs.Least.{key_cmp}
 use Rattle.rn_assemble.specs.Refusal.{Refusal, conflict, faulty, missing, cycle, too_many_instances, override, plain_twice, mixed_methods, no_start, undefined, recursive, name_class, Wants, Lacks, BreaksNameRules, grammar_of, StandsFor, IsFirstFor}
-use Rattle.rn_assemble.specs.Renamed.{renamed_module, renamed_modules, renamed_grammar, DeclareKnown, IsOfKnownUris, IsRenaming}
-use Rattle.rn_assemble.proofs.Renaming.Alike.{same_type, some_alike, least_alike}
+use Rattle.rn_assemble.specs.Renamed.{renamed_grammar, IsOfKnownUris, IsRenaming}
+use Rattle.rn_assemble.specs.inside.RenamedModules.{renamed_module, renamed_modules, DeclareKnown}
+use Rattle.rn_assemble.proofs.Renaming.AlikeFacts.{same_type, some_alike, least_alike}
 use Rattle.rn_assemble.proofs.Renaming.RenamedComponents.{renamed_components, HasKnownBody, Includes-renamed, instances_within-renamed, roots-renamed, has_key-renamed, set_components-renamed, set_components-known}
 use Rattle.rn_assemble.proofs.Renaming.RenamedGrammars.{IsPlainTwice-renamed, IsMixed-renamed, joined_pattern-renamed, joined_grammar-renamed, joined_pattern-known, joined_grammar-known}
 use Rattle.rn_assemble.proofs.Renaming.RenamedRules.{KeepsNameRules-renamed}

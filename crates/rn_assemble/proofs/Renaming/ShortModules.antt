@@ -4,7 +4,7 @@ use Rattle.std.specs.List.{AllByRecursion}
 use Rattle.rn_syntax.specs.Tree as t
 use Rattle.rn_syntax.specs.Tree.{Declaration, Uri}
 use Rattle.rn_assemble.specs.Components.{NamedModule}
-use Rattle.rn_assemble.specs.Renamed.{DeclareKnown, DeclaresKnown, renamed_declaration, renamed_modules, renamed_uri}
+use Rattle.rn_assemble.specs.inside.RenamedModules.{DeclareKnown, DeclaresKnown, renamed_declaration, renamed_modules, renamed_uri}
 use Rattle.rn_assemble.specs.ShortTexts.{IsKnown, long_uri}
 
 same_uri : (u : Uri) → renamed_uri (long_uri []) u ≡ u

@@ -1,5 +1,5 @@
 -- A table of short texts renames URIs and keeps their order; without short texts nothing changes.
-use Rattle.std.proofs.Common.{◌≡◌, ◌<◌, true, inl, inr, List, [], ◌∷◌, map, length, get_or, Some, refl, sym, ap, ◌∙◌, subst, arith, Contains, Less, Equal, Greater}
+use Rattle.std.proofs.Common.{◌≡◌, ◌<◌, inl, inr, List, [], ◌∷◌, map, length, get_or, Some, refl, sym, ap, ◌∙◌, subst, arith, Contains, Less, Equal, Greater}
 use Rattle.std.specs.Prelude.{bytes_eq, unwrap_or}
 use Rattle.std.specs.List.{AllByRecursion, IsDistinct}
 use Rattle.std.specs.List.Sorted.{IsStrictlySortedBy}
@@ -11,7 +11,6 @@ use Rattle.std.proofs.lemmas.List.{get_or-map, get_or_default, length-map}
 use Rattle.std.proofs.lemmas.List.Elements.{All-from_recursion}
 use Rattle.std.proofs.lemmas.Map.Keys.{IsDistinct-from_apart, Less-from_sorted}
 use Rattle.std.proofs.lemmas.Map.Views.{Contains-from_any, Contains-from_lookup, list_any-from_Contains, lookup-from_Contains}
-use Rattle.std.proofs.lemmas.Slice.Eq.{bytes_eq-Decides}
 use Rattle.rn_text.specs.Texts.{Text, text_cmp}
 use Rattle.rn_pattern.specs.Tree.{NameTree, NameTrees, any_name, any_name_but, ns_name, ns_name_but, name, name_choice, no_names, more_names, Tree, Trees, not_allowed, empty, text, ref, value, datum, datum_but, list, attribute, element, one_or_more, group, interleave, choice, no_trees, more_trees}
 use Rattle.rn_pattern.specs.Matching.{Grammar}
@@ -21,16 +20,17 @@ use Rattle.rn_assemble.specs.Renamed.{renamed_class, renamed_classes, renamed_tr
 use Rattle.rn_assemble.specs.ShortTexts.{ShortTexts, IsKnown, IsTable, long_grammar, long_uri}
 use Rattle.rn_assemble.specs.inside.Covered.{swapped}
 use Rattle.rn_assemble.specs.WritableTexts.{IsXml}
+use Rattle.rn_assemble.proofs.Combined.Combinations.{same_text}
 use Rattle.rn_assemble.proofs.Combined.Joined.{differ}
 use Rattle.rn_assemble.proofs.Referring.Named.{mapped, rise_at, unmapped}
 
 -- ---- entries by their places
 
-abbrev short_of : Text × Text → Text
-short_of e = e.0
+abbrev short_part : Text × Text → Text
+short_part e = e.0
 
-abbrev uri_of : Text × Text → Text
-uri_of e = e.1
+abbrev uri_part : Text × Text → Text
+uri_part e = e.1
 
 -- texts that ascend are apart
 pub apart : (ks : List Text) → IsStrictlySortedBy text_cmp ks → IsDistinct bytes_eq ks
@@ -45,13 +45,13 @@ module _ (f : Text × Text → Text) (es : ShortTexts) (s : IsStrictlySortedBy t
   behind : (a b : Text × Text) (c : Contains es a) (d : Contains es b) → d.0 < c.0 → text_cmp (f a) (f b) ≡ Greater
   behind a b c d h = nat_list_cmp_total.antisymm (f a) (f b) ∙ ap ordering_reverse (before b a d c h)
 
-module _ (es : ShortTexts) (shorts : IsStrictlySortedBy text_cmp (map short_of es)) (uris : IsStrictlySortedBy text_cmp (map uri_of es)) where
+module _ (es : ShortTexts) (shorts : IsStrictlySortedBy text_cmp (map short_part es)) (uris : IsStrictlySortedBy text_cmp (map uri_part es)) where
   -- of two entries the one with the lesser text has the lesser URI
   ordered : (a b : Text × Text) → Contains es a → Contains es b → text_cmp a.1 b.1 ≡ text_cmp a.0 b.0
   ordered a b c d = elim (cases_lt c.0 d.0) [
-    | inl h ↦ before uri_of es uris a b c d h ∙ sym (before short_of es shorts a b c d h)
+    | inl h ↦ before uri_part es uris a b c d h ∙ sym (before short_part es shorts a b c d h)
     | inr h ↦ elim (cases_lt d.0 c.0) [
-      | inl k ↦ behind uri_of es uris a b c d k ∙ sym (behind short_of es shorts a b c d k)
+      | inl k ↦ behind uri_part es uris a b c d k ∙ sym (behind short_part es shorts a b c d k)
       | inr k ↦
           let here : c.0 ≡ d.0 = omega (arith, h, k) in
           let same : a ≡ b = sym c.2 ∙ ap (λ i. get_or es i a) here ∙ get_or_default es d.0 a b d.1 ∙ d.2 in
@@ -61,20 +61,17 @@ module _ (es : ShortTexts) (shorts : IsStrictlySortedBy text_cmp (map short_of e
 
 -- ---- a table
 
-same_text : (u v : Text) → bytes_eq u v ≡ true → u ≡ v
-same_text u v = (bytes_eq-Decides u v).0
-
 -- a short text stands for its URI
-stands : (es : ShortTexts) → IsStrictlySortedBy text_cmp (map short_of es) → (e : Text × Text) → Contains es e → long_uri es e.0 ≡ e.1
-stands es s e c = ap (λ o. unwrap_or o e.0) (lookup-from_Contains {eq = bytes_eq} nat_list_eq_equiv e.0 e.1 es (apart (map short_of es) s) c)
+stands : (es : ShortTexts) → IsStrictlySortedBy text_cmp (map short_part es) → (e : Text × Text) → Contains es e → long_uri es e.0 ≡ e.1
+stands es s e c = ap (λ o. unwrap_or o e.0) (lookup-from_Contains {eq = bytes_eq} nat_list_eq_equiv e.0 e.1 es (apart (map short_part es) s) c)
 
 -- the entry of a known text, where there are short texts
 entry_of : (e : Text × Text) (es : ShortTexts) (u : Text) → IsKnown (e ∷ es) u → (d : Text × Text) × Contains (e ∷ es) d × (d.0 ≡ u)
-entry_of e es u k = unmapped short_of (e ∷ es) u (Contains-from_any {eq = bytes_eq} same_text u (map short_of (e ∷ es)) k)
+entry_of e es u k = unmapped short_part (e ∷ es) u (Contains-from_any {eq = bytes_eq} same_text u (map short_part (e ∷ es)) k)
 
 known_entry : (es : ShortTexts) (d : Text × Text) → Contains es d → IsKnown es d.0
 known_entry [] d (k, l, g) = absurd (omega (arith, l))
-known_entry (e ∷ es) d c = list_any-from_Contains {eq = bytes_eq} nat_list_eq_equiv d.0 (map short_of (e ∷ es)) (mapped short_of (e ∷ es) d c)
+known_entry (e ∷ es) d c = list_any-from_Contains {eq = bytes_eq} nat_list_eq_equiv d.0 (map short_part (e ∷ es)) (mapped short_part (e ∷ es) d c)
 
 kept_order : (es : ShortTexts) → IsTable es → (u v : Text) → IsKnown es u → IsKnown es v → text_cmp (long_uri es u) (long_uri es v) ≡ text_cmp u v
 kept_order [] t u v k l = refl

@@ -1,6 +1,6 @@
 -- A binary search in a table of texts, against a look-up among its entries; and texts that ascend one by one.
-use Rattle.std.proofs.Common.{◌≡◌, ℕ, ◌+◌, ◌<◌, List, [], ◌∷◌, length, get_or, map, Result, Ok, Err, MatchResult, Option, Some, None, sym, ap, ◌∙◌, subst, refl, arith, Contains, Less, string_bytes}
-use Rattle.std.specs.Prelude.{bytes_eq, IsSome}
+use Rattle.std.proofs.Common.{◌≡◌, ℕ, ◌+◌, ◌<◌, List, [], ◌∷◌, length, get_or, map, Result, Ok, Err, MatchResult, Some, None, sym, ap, ◌∙◌, subst, arith, Contains, Less, string_bytes}
+use Rattle.std.specs.Prelude.{bytes_eq}
 use Rattle.std.specs.List.Sorted.{IsBinarySearchResult, IsSearchInRange, IsStrictlySortedBy}
 use Rattle.std.specs.Map.{lookup}
 use Rattle.std.proofs.lemmas.Cmp.{nat_list_cmp_total, nat_list_eq_equiv}
@@ -13,6 +13,7 @@ use Rattle.rn_text.specs.Texts.{Text, text_cmp}
 use Rattle.rn_assemble.specs.ShortTexts.{short_text}
 use Rattle.rn_assemble.specs.inside.Covered.{swapped}
 use Rattle.rn_assemble.specs.declared.short_uris.ShortUri.{ShortUri}
+use Rattle.rn_assemble.proofs.Referring.LeastUndefined.{is_none}
 use Rattle.rn_assemble.proofs.Referring.Named.{place_of}
 use Rattle.rn_assemble.proofs.Renaming.ShortTables.{apart}
 
@@ -36,12 +37,8 @@ ascending f (x ∷ xs) h = sorted_from_all_adjacent nat_list_cmp_total (map f (x
 abbrev texts_of : List (Text × Text) → List Text
 texts_of es = map (λ (e : Text × Text). e.0) es
 
-none_of : {X : Type 0} (o : Option X) → ¬ IsSome o → o ≡ None
-none_of None n = refl
-none_of (Some x) n = absurd (n refl)
-
 missed : (es : List (Text × Text)) (t : Text) → ¬ Contains (texts_of es) t → lookup (bytes_eq t) es ≡ None
-missed es t n = none_of (lookup (bytes_eq t) es)
+missed es t n = is_none (lookup (bytes_eq t) es)
     (λ s. n (Contains-keys_from_lookup {eq = bytes_eq} (λ x y e. (bytes_eq-Decides x y).0 e) t es s))
 
 -- the text that a look-up of t finds is told by the thing at the place r; where there is no place it finds none

@@ -1,10 +1,10 @@
 -- Where a renamed grammar of known URIs is well-formed, so is the grammar; and its definitions have distinct names if those of the other have.
-use Rattle.std.proofs.Common.{List, [], ◌∷◌, map, Option, Some, None, option_map, subst}
+use Rattle.std.proofs.Common.{List, [], ◌∷◌, map, Option, subst}
 use Rattle.std.specs.Prelude.{IfSome}
 use Rattle.std.specs.List.{AllByRecursion}
 use Rattle.rn_text.specs.Texts.{Text}
-use Rattle.rn_pattern.specs.Tree.{Tree, Trees, not_allowed, value, datum, datum_but, list, attribute, element, one_or_more, group, interleave, choice, no_trees, more_trees}
-use Rattle.rn_pattern.specs.Excepts.{IsExcept, AreExcepts, HasExcepts, HaveExcepts}
+use Rattle.rn_pattern.specs.Tree.{Tree, Trees, datum_but, list, attribute, element, one_or_more, group, interleave, choice, no_trees, more_trees}
+use Rattle.rn_pattern.specs.Excepts.{HasExcepts, HaveExcepts}
 use Rattle.rn_pattern.specs.Matching.{Grammar, definition_of}
 use Rattle.rn_pattern.specs.NameRules.{KeepsNameRules}
 use Rattle.rn_assemble.specs.Combine.{AreDistinct, Differ}
@@ -12,25 +12,13 @@ use Rattle.rn_assemble.specs.Renamed.{renamed_tree, renamed_trees, renamed_defin
 use Rattle.rn_assemble.specs.WellFormed.{IsWellFormed}
 use Rattle.rn_assemble.proofs.Renaming.RenamedReferences.{definition_of-renamed, IsUndefined-renamed, IsRecursive-renamed}
 use Rattle.rn_assemble.proofs.Renaming.RenamedRules.{KeepsNameRules-renamed}
-use Rattle.rn_assemble.proofs.Renaming.WritableGrammars.{definition_of-known}
+use Rattle.rn_assemble.proofs.Renaming.WritableGrammars.{definition_of-known, some_before}
+use Rattle.rn_assemble.proofs.Renaming.WritablePatterns.{except_before}
 
 module _ (named : Text → Text) where
   mutual
-    except_before : (p : Tree) → IsExcept (renamed_tree named p) → IsExcept p
-    except_before not_allowed h = h
-    except_before (value l x s) h = h
-    except_before (datum l x ps) h = h
-    except_before (datum_but l x ps p) h = except_before p h
-    except_before (choice ps) h = excepts_before ps h
-    except_before p h = absurd h
-
-    excepts_before : (ps : Trees) → AreExcepts (renamed_trees named ps) → AreExcepts ps
-    excepts_before no_trees h = h
-    excepts_before (more_trees p ps) h = (except_before p h.0, excepts_before ps h.1)
-
-  mutual
     has_excepts_before : (p : Tree) → HasExcepts (renamed_tree named p) → HasExcepts p
-    has_excepts_before (datum_but l x ps p) h = except_before p h
+    has_excepts_before (datum_but l x ps p) h = except_before named p h
     has_excepts_before (list p) h = has_excepts_before p h
     has_excepts_before (attribute c p) h = has_excepts_before p h
     has_excepts_before (element c p) h = has_excepts_before p h
@@ -43,11 +31,6 @@ module _ (named : Text → Text) where
     have_excepts_before : (ps : Trees) → HaveExcepts (renamed_trees named ps) → HaveExcepts ps
     have_excepts_before no_trees h = h
     have_excepts_before (more_trees p ps) h = (has_excepts_before p h.0, have_excepts_before ps h.1)
-
-  -- what holds of a definition that is there, of the one before it
-  some_before : (P Q R : Tree → Type 0) → ((p : Tree) → R p → P (renamed_tree named p) → Q p) → (o : Option Tree) → IfSome o R → IfSome (option_map (renamed_tree named) o) P → IfSome o Q
-  some_before P Q R f None k h = tt
-  some_before P Q R f (Some p) k h = f p k h
 
   differ_before : (d : Text × Tree) (ds : List (Text × Tree)) → AllByRecursion (Differ (renamed_definition named d)) (map (renamed_definition named) ds) → AllByRecursion (Differ d) ds
   differ_before d [] h = tt

@@ -20,18 +20,19 @@ definition_of-known Known G k x =
     All-lookup (HasKnownUris Known) (bytes_eq x) G.definitions
     (All-from_recursion (λ (d : Text × Tree). HasKnownUris Known d.1) G.definitions k.definitions)
 
+-- what holds of a definition that is there, of the one before it
+pub some_before : (named : Text → Text) (P Q R : Tree → Type 0) → ((p : Tree) → R p → P (renamed_tree named p) → Q p)
+    → (o : Option Tree) → IfSome o R → IfSome (option_map (renamed_tree named) o) P → IfSome o Q
+some_before named P Q R f None k h = tt
+some_before named P Q R f (Some p) k h = f p k h
+
 module _ {named : Text → Text} {Known : Text → Type 0} (r : IsRenaming named Known)
     (xml : (u : Text) → Known u → IsXml (named u) → IsXml u) where
-  some_before : (o : Option Tree) → IfSome o (HasKnownUris Known)
-      → IfSome (option_map (renamed_tree named) o) IsWritable → IfSome o IsWritable
-  some_before None k h = tt
-  some_before (Some p) k h = IsWritable-before r xml p k h
-
   pub writable_before : (G : Grammar) → IsOfKnownUris Known G → HasWritableTexts (renamed_grammar named G) → HasWritableTexts G
   writable_before G k h = record {
     start = IsWritable-before r xml G.start k.start h.start;
     definitions = λ x.
-        some_before (definition_of G x) (definition_of-known Known G k x)
+        some_before named IsWritable IsWritable (HasKnownUris Known) (IsWritable-before r xml) (definition_of G x) (definition_of-known Known G k x)
         (subst (λ (o : Option Tree). IfSome o IsWritable) (definition_of-renamed named G x) (h.definitions x));
     names = λ x p c. h.names x (renamed_tree named p) (map_contains (renamed_definition named) G.definitions (x, p) c);
   }

@@ -32,7 +32,7 @@ data_before l e (with_params {c = c} {l = k} {x = x} {e = p} {es = ps} f h a) =
 
 module _ (named : Text → Text) where
   mutual
-    except_before : (p : Tree) → IsExcept (renamed_tree named p) → IsExcept p
+    pub except_before : (p : Tree) → IsExcept (renamed_tree named p) → IsExcept p
     except_before not_allowed h = tt
     except_before (value library type t) h = tt
     except_before (datum library type params) h = tt
@@ -40,7 +40,7 @@ module _ (named : Text → Text) where
     except_before (choice ps) h = excepts_before ps h
     except_before p h = absurd h
 
-    excepts_before : (ps : Trees) → AreExcepts (renamed_trees named ps) → AreExcepts ps
+    pub excepts_before : (ps : Trees) → AreExcepts (renamed_trees named ps) → AreExcepts ps
     excepts_before no_trees h = tt
     excepts_before (more_trees p ps) h = (except_before p h.0, excepts_before ps h.1)
 

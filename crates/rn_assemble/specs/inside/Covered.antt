@@ -1,12 +1,12 @@
 -- Declarations whose URIs have short texts.
-use Rattle.std.specs.Prelude.{◌≡◌, List, Option, Some, None, map, bytes_eq, IfSome, IsSome}
+use Rattle.std.specs.Prelude.{◌≡◌, List, Option, map, bytes_eq, IfSome, IsSome}
 use Rattle.std.specs.List.{AllByRecursion}
 use Rattle.std.specs.Map.{lookup}
 use Rattle.rn_text.specs.Texts.{Text}
-use Rattle.rn_syntax.specs.Tree as t
-use Rattle.rn_syntax.specs.Tree.{Declaration, Uri}
+use Rattle.rn_syntax.specs.Tree.{Declaration}
+use Rattle.rn_syntax.specs.Places.{uri_of}
 use Rattle.rn_assemble.specs.Components.{NamedModule}
-use Rattle.rn_assemble.specs.Renamed.{renamed_declaration, renamed_module, DeclaresKnown}
+use Rattle.rn_assemble.specs.inside.RenamedModules.{literal_text, renamed_declaration, renamed_module, DeclaresKnown}
 use Rattle.rn_assemble.specs.ShortTexts.{ShortTexts, long_uri, IsKnown}
 
 -- the pairs with the URI first
@@ -17,23 +17,13 @@ swapped es = map (λ (e : Text × Text). (e.1, e.0)) es
 abbrev pub short_of : ShortTexts → Text → Option Text
 short_of es u = lookup (bytes_eq u) (swapped es)
 
-abbrev pub literal_of : Uri → Option Text
-literal_of (t.literal u) = Some u
-literal_of t.inherited = None
-
--- the URI of a declaration, if it isn't inherited
-abbrev pub declared_text : Declaration → Option Text
-declared_text (t.namespace p i u) = literal_of u
-declared_text (t.default i p u) = literal_of u
-declared_text (t.datatypes p i u) = Some u
-
 module _ (es : ShortTexts) where
   -- a short text stands for the URI
   abbrev pub HasShort : Text → Type 0
   HasShort u = IsSome (short_of es u)
 
   abbrev pub IsCovered : Declaration → Type 0
-  IsCovered d = IfSome (declared_text d) HasShort
+  IsCovered d = IfSome (literal_text (uri_of d)) HasShort
 
   abbrev pub AreCovered : List NamedModule → Type 0
   AreCovered ms = AllByRecursion (λ (m : NamedModule). AllByRecursion IsCovered m.tree.declarations) ms

@@ -10,7 +10,7 @@ use Rattle.rn_pattern.specs.Reached.{formed, all_canonical, IsPruned, IsCanonica
 use Rattle.rn_pattern.proofs.Forms.Settled.{next}
 use Rattle.rn_assemble.specs.Renamed.{renamed_tree, renamed_definition, renamed_grammar, HasKnownUris, IsOfKnownUris, IsRenaming}
 use Rattle.rn_assemble.proofs.Renaming.RenamedReferences.{definition_of-renamed}
-use Rattle.rn_simplify.proofs.Renaming.Grammars.{known_definition}
+use Rattle.rn_simplify.proofs.Renaming.RenamedDefinitions.{known_definition}
 use Rattle.rn_simplify.proofs.Renaming.PrunedGrammars.{pruned_renamed}
 use Rattle.rn_simplify.proofs.Renaming.KnownUris.{settled_known}
 use Rattle.rn_simplify.proofs.Renaming.CanonicalPatterns.{form-renamed}

@@ -7,6 +7,7 @@ use Rattle.rn_pattern.specs.Order.{tree_cmp}
 use Rattle.rn_pattern.specs.Canonical.{sorted, sorted_once, canonical_name, node_of, is_not_allowed, has_not_allowed, alternatives, grouped, interleaved, choice_step, group_step, interleave_step, one_or_more_step, list_step, attribute_step, datum_but_step, canonical, canonical_all}
 use Rattle.rn_pattern.proofs.Ordered.Ascending.{each_flat}
 use Rattle.rn_assemble.specs.Renamed.{renamed_class, renamed_tree, renamed_trees, HasKnownUris, HaveKnownUris, IsRenaming}
+use Rattle.rn_assemble.proofs.Renaming.RenamedGrammars.{trees_of-renamed}
 use Rattle.rn_simplify.proofs.Renaming.KeptOrder.{tree_order_kept}
 use Rattle.rn_simplify.proofs.Renaming.MappedLists.{flat_map-mapped, sorted-mapped, sorted_once-mapped}
 use Rattle.rn_simplify.proofs.Renaming.KnownUris.{AllTrees, alternatives_known, interleaved_known, canonical_all_known}
@@ -21,10 +22,6 @@ module _ (named : Text → Text) where
   list_of-renamed : (ps : Trees) → list_of (renamed_trees named ps) ≡ map called (list_of ps)
   list_of-renamed no_trees = refl
   list_of-renamed (more_trees p ps) = ap (λ qs. called p ∷ qs) (list_of-renamed ps)
-
-  trees_of-renamed : (ps : List Tree) → trees_of (map called ps) ≡ renamed_trees named (trees_of ps)
-  trees_of-renamed [] = refl
-  trees_of-renamed (p ∷ ps) = ap (more_trees (called p)) (trees_of-renamed ps)
 
   alternatives-renamed : (p : Tree) → alternatives (called p) ≡ map called (alternatives p)
   alternatives-renamed (choice ps) = list_of-renamed ps
@@ -54,7 +51,7 @@ module _ (named : Text → Text) where
       → node_of none over (map called ps) ≡ called (node_of none over ps)
   node_of-renamed none over n o [] = sym n
   node_of-renamed none over n o (p ∷ []) = refl
-  node_of-renamed none over n o (p ∷ q ∷ ps) = ap over (trees_of-renamed (p ∷ q ∷ ps)) ∙ o (trees_of (p ∷ q ∷ ps))
+  node_of-renamed none over n o (p ∷ q ∷ ps) = ap over (trees_of-renamed named (p ∷ q ∷ ps)) ∙ o (trees_of (p ∷ q ∷ ps))
 
   -- notAllowed, or p
   unless-renamed : (b : Bool) (p : Tree) → cond b not_allowed (called p) ≡ called (cond b not_allowed p)

@@ -8,7 +8,7 @@ use Rattle.rn_pattern.specs.Matching.{Grammar, definition_of}
 use Rattle.rn_pattern.specs.Reached.{IsReached, IsPruned}
 use Rattle.rn_assemble.specs.Renamed.{renamed_tree, renamed_definition, renamed_grammar}
 use Rattle.rn_assemble.proofs.Renaming.RenamedReferences.{IsReached-renamed}
-use Rattle.rn_simplify.proofs.Renaming.Grammars.{definition_renamed, definition_before}
+use Rattle.rn_simplify.proofs.Renaming.RenamedDefinitions.{definition_renamed, definition_before}
 use Rattle.rn_simplify.proofs.Renaming.MappedLists.{entry_mapped, entry_before}
 
 module _ (named : Text → Text) (F N : Grammar) (c : IsPruned F N) where

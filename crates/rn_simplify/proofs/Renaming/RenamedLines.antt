@@ -1,5 +1,5 @@
 -- The spelling of a renamed grammar is that of the grammar, but for what its prefixes are bound to.
-use Rattle.std.proofs.Common.{◌≡◌, ℕ, Bool, true, false, cond, List, [], ◌∷◌, ◌++◌, map, refl, sym, ◌∙◌}
+use Rattle.std.proofs.Common.{◌≡◌, ℕ, Bool, true, false, List, [], ◌∷◌, ◌++◌, map, refl, sym, ap, ◌∙◌}
 use Rattle.std.specs.Prelude.{codes}
 use Rattle.std.specs.Str.{chars}
 use Rattle.std.specs.List.{AllByRecursion}
@@ -8,6 +8,7 @@ use Rattle.rn_text.specs.Parts.{Piece}
 use Rattle.rn_pattern.specs.Tree.{Tree}
 use Rattle.rn_pattern.specs.Matching.{Grammar}
 use Rattle.rn_assemble.specs.Renamed.{renamed_tree, renamed_definition, renamed_grammar, HasKnownUris, IsOfKnownUris, IsRenaming}
+use Rattle.rn_simplify.specs.inside.Writes.{empty_entries, entries}
 use Rattle.rn_simplify.proofs.Renaming.RenamedEntries.{renamed_entries}
 use Rattle.rn_simplify.specs.Spelling.{Prefixes, keyword, identifier, infix_of, line_end, namespace_prefix, library_prefix, prefixes, has_empty_ns_name, default_line, definition_line, namespace_entries, library_entries, bindings, definition_lines, spelling_pieces}
 use Rattle.rn_simplify.proofs.Renaming.MappedLists.{map_joined}
@@ -16,12 +17,12 @@ use Rattle.rn_simplify.proofs.Renaming.RenamedPrefixes.{renamed_prefixes, HasKno
 use Rattle.rn_simplify.proofs.Renaming.WrittenPatterns.{written_tree_renamed}
 
 -- the entries of texts by what their prefixes are
-abbrev entries_by : (Text → List ℕ) → List Text → List (List ℕ × Text)
-entries_by prefix us = map (λ (u : Text). (prefix u, u)) us
+abbrev own_entries : (Text → List ℕ) → List Text → List (List ℕ × Text)
+own_entries = entries (λ u. u)
 
--- the entry of the empty namespace
-abbrev empty_entry : Bool → List (List ℕ × Text)
-empty_entry b = cond b ((codes "n0", []) ∷ []) []
+pub empty_entry_renamed : (named : Text → Text) → named [] ≡ [] → (has_empty : Bool) → renamed_entries named (empty_entries has_empty) ≡ empty_entries has_empty
+empty_entry_renamed named e true = ap (λ (u : Text). (codes "n0", u) ∷ []) e
+empty_entry_renamed named e false = refl
 
 module _ {named : Text → Text} {Known : Text → Type 0} (r : IsRenaming named Known) where
   module _ (f : Prefixes) (k : HasKnownTexts Known f) where
@@ -39,14 +40,10 @@ module _ {named : Text → Text} {Known : Text → Type 0} (r : IsRenaming named
 
   entries_renamed : (old new : Text → List ℕ) → ((u : Text) → Known u → new (named u) ≡ old u)
       → (us : List Text) → AllByRecursion Known us
-      → entries_by new (map named us) ≡ renamed_entries named (entries_by old us)
+      → own_entries new (map named us) ≡ renamed_entries named (own_entries old us)
   entries_renamed old new same [] a = refl
   entries_renamed old new same (u ∷ us) a =
       λ i. (same u a.0 i, named u) ∷ entries_renamed old new same us a.1 i
-
-  empty_entry_renamed : (b : Bool) → empty_entry b ≡ renamed_entries named (empty_entry b)
-  empty_entry_renamed true = λ i. (codes "n0", sym r.none i) ∷ []
-  empty_entry_renamed false = refl
 
   module _ (N : Grammar) (k : IsOfKnownUris Known N) where
     -- the prefixes, and that their texts are known
@@ -59,17 +56,17 @@ module _ {named : Text → Text} {Known : Text → Type 0} (r : IsRenaming named
     pub namespace_entries_renamed :
         namespace_entries (renamed_grammar named N) ≡ renamed_entries named (namespace_entries N)
     namespace_entries_renamed =
-        (λ i. empty_entry (empty_ns_name_renamed r N k i)
-        ++ entries_by (namespace_prefix (prefixes_renamed r N k i)) (prefixes_renamed r N k i).namespaces)
-        ∙ map_joined (λ (e : List ℕ × Text). (e.0, named e.1)) (empty_entry (has_empty_ns_name N))
-        (entries_by (namespace_prefix f) f.namespaces)
-        (empty_entry_renamed (has_empty_ns_name N))
+        (λ i. empty_entries (empty_ns_name_renamed r N k i)
+        ++ own_entries (namespace_prefix (prefixes_renamed r N k i)) (prefixes_renamed r N k i).namespaces)
+        ∙ map_joined (λ (e : List ℕ × Text). (e.0, named e.1)) (empty_entries (has_empty_ns_name N))
+        (own_entries (namespace_prefix f) f.namespaces)
+        (sym (empty_entry_renamed named r.none (has_empty_ns_name N)))
         (entries_renamed (namespace_prefix f) (namespace_prefix (renamed_prefixes named f))
         (namespace_prefix_renamed r f known) f.namespaces known.namespaces)
 
     pub library_entries_renamed : library_entries (renamed_grammar named N) ≡ renamed_entries named (library_entries N)
     library_entries_renamed =
-        (λ i. entries_by (library_prefix (prefixes_renamed r N k i)) (prefixes_renamed r N k i).libraries)
+        (λ i. own_entries (library_prefix (prefixes_renamed r N k i)) (prefixes_renamed r N k i).libraries)
         ∙ entries_renamed (library_prefix f) (library_prefix (renamed_prefixes named f))
         (library_prefix_renamed r f known) f.libraries known.libraries
 

@@ -1,5 +1,5 @@
 -- The texts of lines.
-use Rattle.std.proofs.Common.{◌≡◌, ℕ, ◌+◌, ◌<◌, Bool, true, false, List, [], ◌∷◌, ◌++◌, length, map, take, get_or, refl, sym, ap, ◌∙◌, append_assoc, append-nil}
+use Rattle.std.proofs.Common.{◌≡◌, ℕ, ◌+◌, ◌<◌, Bool, true, List, [], ◌∷◌, ◌++◌, length, map, take, get_or, refl, sym, ap, ◌∙◌, append_assoc, append-nil}
 use Rattle.std.specs.Prelude.{codes, String, string_bytes}
 use Rattle.std.specs.Str.{chars, encode_utf8_all}
 use Rattle.std.specs.declared.alloc.Global.{Global}
@@ -18,7 +18,7 @@ use Rattle.rn_simplify.specs.Spelling.{Prefixes, prefixes, binding, bindings, de
 use Rattle.rn_simplify.specs.inside.Writes.{bound_to, declaration_lines, defined_as, empty_entries, entries, none, Writes, WritesBytes}
 use Rattle.rn_simplify.specs.NormalView.{definitions_view}
 use Rattle.rn_simplify.proofs.Renaming.RenamedEntries.{renamed_entries}
-use Rattle.rn_simplify.proofs.Renaming.RenamedLines.{spelling_renamed}
+use Rattle.rn_simplify.proofs.Renaming.RenamedLines.{empty_entry_renamed, spelling_renamed}
 use Rattle.rn_simplify.proofs.Texts.Writing.{writes_then, writes_pieces, writes_as}
 use Rattle.rn_simplify.proofs.Texts.PartTexts.{writes_spelled}
 use Rattle.rn_simplify.proofs.Texts.PatternTexts.{equals_written, writes_literal}
@@ -105,15 +105,11 @@ entries_named : (named : Text → Text) (prefix : Text → List ℕ) (us : List 
 entries_named named prefix [] = refl
 entries_named named prefix (u ∷ us) = ap (λ es. (prefix u, named u) ∷ es) (entries_named named prefix us)
 
-no_entry_named : (named : Text → Text) → named [] ≡ [] → (has_empty : Bool) → renamed_entries named (empty_entries has_empty) ≡ empty_entries has_empty
-no_entry_named named e true = ap (λ (u : Text). (codes "n0", u) ∷ []) e
-no_entry_named named e false = refl
-
 namespaces_named : (named : Text → Text) → named [] ≡ [] → (g : Grammar) → renamed_entries named (namespace_entries g) ≡ empty_entries (has_empty_ns_name g) ++ entries named (namespace_prefix (prefixes g)) (prefixes g).namespaces
 namespaces_named named e g =
     let f = prefixes g in
     map-append (λ (d : List ℕ × Text). (d.0, named d.1)) (empty_entries (has_empty_ns_name g)) (map (λ (u : Text). (namespace_prefix f u, u)) f.namespaces)
-    ∙ (λ i. no_entry_named named e (has_empty_ns_name g) i ++ entries_named named (namespace_prefix f) f.namespaces i)
+    ∙ (λ i. empty_entry_renamed named e (has_empty_ns_name g) i ++ entries_named named (namespace_prefix f) f.namespaces i)
 
 lines_are : {named : Text → Text} {known : Text → Bool} (r : IsRenaming named (λ u. known u ≡ true)) (g : Grammar) → IsOfKnownUris (λ u. known u ≡ true) g
     → declaration_lines named (prefixes g) (has_empty_ns_name g) ++ (definition_line (prefixes g) (keyword (codes "start")) g.start ++ definition_lines (prefixes g) g.definitions) ≡ spelling_pieces (renamed_grammar named g)

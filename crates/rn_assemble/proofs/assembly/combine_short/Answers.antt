@@ -3,7 +3,7 @@ use Rattle.std.specs.List.{AllByRecursion}
 use Rattle.rn_assemble.specs.declared.named_modules.NamedModule as code_module
 use Rattle.rn_assemble.specs.Components.{NamedModule}
 use Rattle.rn_assemble.specs.Refused.{IsFirstRefusal}
-use Rattle.rn_assemble.specs.Renamed.{renamed_modules, DeclareKnown}
+use Rattle.rn_assemble.specs.inside.RenamedModules.{renamed_modules, DeclareKnown}
 use Rattle.rn_assemble.specs.ShortTexts.{IsKnown, long_uri, short_texts}
 use Rattle.rn_assemble.specs.inside.CombinedView.{combined_view}
 use Rattle.rn_assemble.specs.inside.Contained.{AreFlat}

@@ -15,21 +15,21 @@ use Rattle.rn_assemble.proofs.references.references_of.Goals as goal
 
 pub loop-key-init : goal.loop-key-init
 loop-key-init c = record {
-  all = rw (c.in_ok-all.ensures.rows) (no_rows _);
-  all_size = ap length c.in_ok-all.ensures.rows;
-  outer = rw (c.in_ok-outer.ensures.rows) (no_rows _);
-  outer_size = ap length c.in_ok-outer.ensures.rows;
+  everywhere = rw (c.in_ok-everywhere.ensures.rows) (no_rows _);
+  everywhere_size = ap length c.in_ok-everywhere.ensures.rows;
+  outside = rw (c.in_ok-outside.ensures.rows) (no_rows _);
+  outside_size = ap length c.in_ok-outside.ensures.rows;
   looked = omega (arith, c.in_ok-looked.ensures.len, c.in_ok-looked.looked.ok, c.count_bodies.ensures);
   fresh = none_looked _ _ 0 (c.in_ok-looked.ensures.items_if_clones_equal (λ y h. search rules));
-  gathered = λ live l s. rw (c.in_ok-all.ensures.rows, c.in_ok-outer.ensures.rows) (gathered_begins _ _);
+  gathered = λ live l s. rw (c.in_ok-everywhere.ensures.rows, c.in_ok-outside.ensures.rows) (gathered_begins _ _);
 }
 
 pub loop-key-preserved : goal.loop-key-preserved
 loop-key-preserved c = record {
-  all = rows_pushed _ _ _ _ c.loop-key.invariant.all (below_still _ _ _ c.in_ok-row.ensures.all_within c.deref.ensures.value) c.in_ok-push_row.ensures.rows;
-  all_size = omega (arith, ap length c.in_ok-push_row.ensures.rows, length_push (rows_of c.loop-key.all) c.deref.result.now, c.loop-key.invariant.all_size);
-  outer = rows_pushed _ _ _ _ c.loop-key.invariant.outer (below_still _ _ _ c.in_ok-row.ensures.outer_within c.deref-in-loop-key.ensures.value) c.in_ok-push_row-2.ensures.rows;
-  outer_size = omega (arith, ap length c.in_ok-push_row-2.ensures.rows, length_push (rows_of c.loop-key.outer) c.deref-in-loop-key.result.now, c.loop-key.invariant.outer_size);
+  everywhere = rows_pushed _ _ _ _ c.loop-key.invariant.everywhere (below_still _ _ _ c.in_ok-row.ensures.everywhere_within c.deref.ensures.value) c.in_ok-push_row.ensures.rows;
+  everywhere_size = omega (arith, ap length c.in_ok-push_row.ensures.rows, length_push (rows_of c.loop-key.everywhere) c.deref.result.now, c.loop-key.invariant.everywhere_size);
+  outside = rows_pushed _ _ _ _ c.loop-key.invariant.outside (below_still _ _ _ c.in_ok-row.ensures.outside_within c.deref-in-loop-key.ensures.value) c.in_ok-push_row-2.ensures.rows;
+  outside_size = omega (arith, ap length c.in_ok-push_row-2.ensures.rows, length_push (rows_of c.loop-key.outside) c.deref-in-loop-key.result.now, c.loop-key.invariant.outside_size);
   looked = omega (arith, c.bodies_of.ensures.size, c.bodies_of.new.looked.ok, c.loop-key.looked.ok, c.loop-key.invariant.looked);
   fresh = c.in_ok-bodies.ensures.fresh;
   gathered = λ live l s.
@@ -45,36 +45,36 @@ loop-key-preserved c = record {
       let written : map reference_view c.as_slice-in-loop-key.result.now ≡ flat_map (references_at bs) c.in_ok-bodies.bodies.items =
       ap (map reference_view) c.as_slice-in-loop-key.ensures.value ∙ c.in_ok-references.ensures ∙ ap (flat_map (references_at bs)) c.as_slice.ensures.value in
       let texts = names_within Everywhere (map reference_view c.as_slice-in-loop-key.result.now) in
-      let outer = names_within OutsideElements (map reference_view c.as_slice-in-loop-key.result.now) in
+      let texts_outside = names_within OutsideElements (map reference_view c.as_slice-in-loop-key.result.now) in
       let anywhere = names_anywhere names bs list rows live l s k c.in_ok-bodies.bodies.items texts h found (ap (names_within Everywhere) written) in
-      let outside = names_outside names bs list rows live l s k c.in_ok-bodies.bodies.items outer h found (ap (names_within OutsideElements) written) in
-      gathered_more names cs (rows_of c.loop-key.all) (rows_of c.loop-key.outer) (rows_of c.push_row.new.self) (rows_of c.push_row-in-loop-key.new.self) c.deref.result.now c.deref-in-loop-key.result.now k _ _ texts
-      (c.loop-key.invariant.gathered live l s) c.loop-key.invariant.all_size c.loop-key.invariant.outer_size c.in_ok-push_row.ensures.rows c.in_ok-push_row-2.ensures.rows
-      (row_of RefersTo names texts cs k c.deref.result.now (subst (AreNumbers names texts) (sym c.deref.ensures.value) c.in_ok-row.ensures.all) anywhere)
-      (row_of RefersOutside names outer cs k c.deref-in-loop-key.result.now (subst (AreNumbers names outer) (sym c.deref-in-loop-key.ensures.value) c.in_ok-row.ensures.outer) outside)
+      let outside = names_outside names bs list rows live l s k c.in_ok-bodies.bodies.items texts_outside h found (ap (names_within OutsideElements) written) in
+      gathered_more names cs (rows_of c.loop-key.everywhere) (rows_of c.loop-key.outside) (rows_of c.push_row.new.self) (rows_of c.push_row-in-loop-key.new.self) c.deref.result.now c.deref-in-loop-key.result.now k _ _ texts
+      (c.loop-key.invariant.gathered live l s) c.loop-key.invariant.everywhere_size c.loop-key.invariant.outside_size c.in_ok-push_row.ensures.rows c.in_ok-push_row-2.ensures.rows
+      (row_of RefersTo names texts cs k c.deref.result.now (subst (AreNumbers names texts) (sym c.deref.ensures.value) c.in_ok-row.ensures.everywhere) anywhere)
+      (row_of RefersOutside names texts_outside cs k c.deref-in-loop-key.result.now (subst (AreNumbers names texts_outside) (sym c.deref-in-loop-key.ensures.value) c.in_ok-row.ensures.outside) outside)
       anywhere
       (λ before b. c.in_ok-row.ensures.least live before l s b);
 }
 
-pub returns-clause-all : goal.returns-clause-all
-returns-clause-all c = is_graph _ _ c.loop-key.invariant.all (omega (arith, c.loop-key.invariant.all_size, c.loop-key-test.false, c.loop-key.auto.key-end, c.len-key-end.ensures))
+pub returns-clause-everywhere : goal.returns-clause-everywhere
+returns-clause-everywhere c = is_graph _ _ c.loop-key.invariant.everywhere (omega (arith, c.loop-key.invariant.everywhere_size, c.loop-key-test.false, c.loop-key.auto.key-end, c.len-key-end.ensures))
 
-pub returns-clause-outer : goal.returns-clause-outer
-returns-clause-outer c = is_graph _ _ c.loop-key.invariant.outer (omega (arith, c.loop-key.invariant.outer_size, c.loop-key-test.false, c.loop-key.auto.key-end, c.len-key-end.ensures))
+pub returns-clause-outside : goal.returns-clause-outside
+returns-clause-outside c = is_graph _ _ c.loop-key.invariant.outside (omega (arith, c.loop-key.invariant.outside_size, c.loop-key-test.false, c.loop-key.auto.key-end, c.len-key-end.ensures))
 
 pub returns-clause-found : goal.returns-clause-found
 returns-clause-found c = λ live l s.
     let names = names_of c.args.keys.now in
     let size : c.loop-key.key ≡ suc (length names) = omega (arith, c.loop-key-test.false, c.loop-key.auto.key-end, c.len-key-end.ensures) in
-    gathered_none names _ _ _ live l s (rows_of c.loop-key.all) (rows_of c.loop-key.outer) (c.loop-key.invariant.all_size ∙ size) (c.loop-key.invariant.outer_size ∙ size)
-    (subst (λ k. Gathered names (components_in live) (rows_of c.loop-key.all) (rows_of c.loop-key.outer) k None) size
-    (subst (λ o. Gathered names (components_in live) (rows_of c.loop-key.all) (rows_of c.loop-key.outer) c.loop-key.key (option_map (λ t. t.now) o)) c.in-None.is (c.loop-key.invariant.gathered live l s)))
+    gathered_none names _ _ _ live l s (rows_of c.loop-key.everywhere) (rows_of c.loop-key.outside) (c.loop-key.invariant.everywhere_size ∙ size) (c.loop-key.invariant.outside_size ∙ size)
+    (subst (λ k. Gathered names (components_in live) (rows_of c.loop-key.everywhere) (rows_of c.loop-key.outside) k None) size
+    (subst (λ o. Gathered names (components_in live) (rows_of c.loop-key.everywhere) (rows_of c.loop-key.outside) c.loop-key.key (option_map (λ t. t.now) o)) c.in-None.is (c.loop-key.invariant.gathered live l s)))
 
 pub returns-in-Some-clause-found : goal.returns-in-Some-clause-found
 returns-in-Some-clause-found c = λ live l s.
     let names = names_of c.args.keys.now in
     let size : c.loop-key.key ≡ suc (length names) = omega (arith, c.loop-key-test.false, c.loop-key.auto.key-end, c.len-key-end.ensures) in
     c.undefined_name.ensures (components_in live)
-    (gathered_some names _ _ _ live l s (rows_of c.loop-key.all) (rows_of c.loop-key.outer) c.in-Some.name.now
-    (subst (λ k. Gathered names (components_in live) (rows_of c.loop-key.all) (rows_of c.loop-key.outer) k (Some c.in-Some.name.now)) size
-    (subst (λ o. Gathered names (components_in live) (rows_of c.loop-key.all) (rows_of c.loop-key.outer) c.loop-key.key (option_map (λ t. t.now) o)) c.in-Some.is (c.loop-key.invariant.gathered live l s))))
+    (gathered_some names _ _ _ live l s (rows_of c.loop-key.everywhere) (rows_of c.loop-key.outside) c.in-Some.name.now
+    (subst (λ k. Gathered names (components_in live) (rows_of c.loop-key.everywhere) (rows_of c.loop-key.outside) k (Some c.in-Some.name.now)) size
+    (subst (λ o. Gathered names (components_in live) (rows_of c.loop-key.everywhere) (rows_of c.loop-key.outside) c.loop-key.key (option_map (λ t. t.now) o)) c.in-Some.is (c.loop-key.invariant.gathered live l s))))

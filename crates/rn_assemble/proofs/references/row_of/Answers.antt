@@ -12,10 +12,10 @@ use Rattle.rn_assemble.proofs.references.row_of.Goals as goal
 
 pub loop-reference-init : goal.loop-reference-init
 loop-reference-init c = record {
-  all_within = rw c.new.ensures.items (none_below _);
-  all = rw c.new.ensures.items (no_numbers _);
-  outer_within = rw c.new-2.ensures.items (none_below _);
-  outer = rw c.new-2.ensures.items (no_numbers _);
+  everywhere_within = rw c.new.ensures.items (none_below _);
+  everywhere = rw c.new.ensures.items (no_numbers _);
+  outside_within = rw c.new-2.ensures.items (none_below _);
+  outside = rw c.new-2.ensures.items (no_numbers _);
   least = keeps_none (names_of c.args.keys.now) c.args.components.now c.args.undefined.now;
 }
 
@@ -25,19 +25,19 @@ loop-reference-preserved c =
     let rs = c.args.references.now in
     let i = c.loop-reference.reference-index in
     let r = get_or rs i no_reference in
-    let all = c.loop-reference.row.all.items in
-    let outer = c.loop-reference.row.outer.items in
+    let everywhere = c.loop-reference.row.everywhere.items in
+    let outside = c.loop-reference.row.outside.items in
     let o = c.find-key.result in
     let inv = c.loop-reference.invariant in
     let before = λ (meant : Reach). names_within meant (map reference_view (take i rs)) in
     let more = λ (meant : Reach). sym (names_more meant rs i c.loop-reference-test.true) in
     record {
-      all_within = subst (AllBelow (length names + 1)) (sym c.in_ok-add.ensures.all) (below_within _ all Everywhere r.reach o inv.all_within c.find-key.ensures.within);
-      all = subst (λ ts. AreNumbers names ts c.add.new.self.all.items) (more Everywhere)
-          (subst (AreNumbers names (before Everywhere ++ r.name.now ∷ [])) (sym c.in_ok-add.ensures.all) (number_found names _ all r.name.now inv.all Everywhere r.reach o c.find-key.ensures.found));
-      outer_within = subst (AllBelow (length names + 1)) (sym c.in_ok-add.ensures.outer) (below_within _ outer OutsideElements r.reach o inv.outer_within c.find-key.ensures.within);
-      outer = subst (λ ts. AreNumbers names ts c.add.new.self.outer.items) (more OutsideElements)
-          (subst (AreNumbers names (before OutsideElements ++ within OutsideElements r.reach r.name.now)) (sym c.in_ok-add.ensures.outer) (number_found names _ outer r.name.now inv.outer OutsideElements r.reach o c.find-key.ensures.found));
+      everywhere_within = subst (AllBelow (length names + 1)) (sym c.in_ok-add.ensures.everywhere) (below_within _ everywhere Everywhere r.reach o inv.everywhere_within c.find-key.ensures.within);
+      everywhere = subst (λ ts. AreNumbers names ts c.add.new.self.everywhere.items) (more Everywhere)
+          (subst (AreNumbers names (before Everywhere ++ r.name.now ∷ [])) (sym c.in_ok-add.ensures.everywhere) (number_found names _ everywhere r.name.now inv.everywhere Everywhere r.reach o c.find-key.ensures.found));
+      outside_within = subst (AllBelow (length names + 1)) (sym c.in_ok-add.ensures.outside) (below_within _ outside OutsideElements r.reach o inv.outside_within c.find-key.ensures.within);
+      outside = subst (λ ts. AreNumbers names ts c.add.new.self.outside.items) (more OutsideElements)
+          (subst (AreNumbers names (before OutsideElements ++ within OutsideElements r.reach r.name.now)) (sym c.in_ok-add.ensures.outside) (number_found names _ outside r.name.now inv.outside OutsideElements r.reach o c.find-key.ensures.found));
       least = subst (λ ts. KeepsLeast names c.args.components.now ts c.args.undefined.now c.least_undefined.result) (more Everywhere)
           (keeps_both names c.args.components.now (before Everywhere) (r.name.now ∷ []) _ _ _ inv.least (c.least_undefined.ensures names c.find-key.ensures.found));
     }

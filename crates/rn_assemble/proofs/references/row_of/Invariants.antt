@@ -8,9 +8,9 @@ use Rattle.rn_assemble.proofs.references.row_of.Given as goal
 
 abbrev pub invariant-loop-reference : goal.invariant-loop-reference
 invariant-loop-reference l = record {
-  all_within : AllBelow (length (names_of l.keys) + 1) l.row.all.items;
-  all : AreNumbers (names_of l.keys) (names_within Everywhere (map reference_view (take l.reference-index l.references))) l.row.all.items;
-  outer_within : AllBelow (length (names_of l.keys) + 1) l.row.outer.items;
-  outer : AreNumbers (names_of l.keys) (names_within OutsideElements (map reference_view (take l.reference-index l.references))) l.row.outer.items;
+  everywhere_within : AllBelow (length (names_of l.keys) + 1) l.row.everywhere.items;
+  everywhere : AreNumbers (names_of l.keys) (names_within Everywhere (map reference_view (take l.reference-index l.references))) l.row.everywhere.items;
+  outside_within : AllBelow (length (names_of l.keys) + 1) l.row.outside.items;
+  outside : AreNumbers (names_of l.keys) (names_within OutsideElements (map reference_view (take l.reference-index l.references))) l.row.outside.items;
   least : KeepsLeast (names_of l.keys) l.components (names_within Everywhere (map reference_view (take l.reference-index l.references))) l.fn.undefined l.undefined;
 }

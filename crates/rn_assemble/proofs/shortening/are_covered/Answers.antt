@@ -7,7 +7,7 @@ use Rattle.rn_assemble.specs.Components.{NamedModule}
 use Rattle.rn_assemble.specs.ShortTexts.{ShortTexts, short_texts}
 use Rattle.rn_assemble.specs.inside.Covered.{IsCovered}
 use Rattle.rn_assemble.specs.inside.Views.{named_module_view}
-use Rattle.rn_assemble.proofs.Renaming.Replacing.{each_more, each_seen}
+use Rattle.rn_assemble.proofs.Renaming.ReplacedOneByOne.{each_more, each_seen}
 use Rattle.rn_assemble.proofs.shortening.are_covered.Goals as goal
 
 abbrev IsModuleCovered : ShortTexts → NamedModule → Type 0

@@ -3,7 +3,7 @@ use Rattle.std.proofs.Common.{refl}
 use Rattle.rn_syntax.specs.View.{declaration_view}
 use Rattle.rn_assemble.specs.ShortTexts.{short_texts}
 use Rattle.rn_assemble.specs.inside.Covered.{IsCovered}
-use Rattle.rn_assemble.proofs.Renaming.Replacing.{each_more, each_seen}
+use Rattle.rn_assemble.proofs.Renaming.ReplacedOneByOne.{each_more, each_seen}
 use Rattle.rn_assemble.proofs.shortening.is_module_covered.Goals as goal
 
 pub loop-declaration-preserved : goal.loop-declaration-preserved

@@ -5,13 +5,13 @@ use Rattle.std.specs.Vec.Iter.{into_iter_items}
 use Rattle.std.proofs.lemmas.List.Elements.{AllZip-push}
 use Rattle.rn_assemble.specs.Components as view
 use Rattle.rn_assemble.specs.declared.named_modules.NamedModule.{NamedModule}
-use Rattle.rn_assemble.specs.Renamed.{renamed_module, renamed_modules, DeclareKnown, DeclaresKnown}
+use Rattle.rn_assemble.specs.inside.RenamedModules.{renamed_module, renamed_modules, DeclareKnown, DeclaresKnown}
 use Rattle.rn_assemble.specs.ShortTexts.{IsKnown, ShortTexts, long_uri, short_texts}
 use Rattle.rn_assemble.specs.inside.Covered.{AreCovered, IsCovered, StandsForModule}
 use Rattle.rn_assemble.specs.inside.Views.{modules_view, named_module_view}
-use Rattle.rn_assemble.proofs.Renaming.Replacing.{all_yielded, made_again, of_a_kind, of_next}
+use Rattle.rn_assemble.proofs.Renaming.ReplacedOneByOne.{all_yielded, made_again, of_a_kind, of_next}
 use Rattle.rn_assemble.proofs.Renaming.ShortModules.{modules_known, same_modules}
-use Rattle.rn_assemble.proofs.shortening.shortened.Goals as goal
+use Rattle.rn_assemble.proofs.shortening.shorten_modules.Goals as goal
 
 abbrev Stands : ShortTexts → NamedModule → NamedModule → Type 0
 Stands es m n = StandsForModule es (named_module_view m) (named_module_view n)
@@ -32,8 +32,8 @@ returns-then-is_empty-clause-known c =
     let ms = modules_view c.args.modules.items in
     subst (λ (es : ShortTexts). DeclareKnown (IsKnown es) ms) (sym (c.if-is_empty.ensures.0 refl)) (modules_known ms)
 
-pub shortened_module-requires-clause-covered : goal.shortened_module-requires-clause-covered
-shortened_module-requires-clause-covered c =
+pub shorten_module-requires-clause-covered : goal.shorten_module-requires-clause-covered
+shorten_module-requires-clause-covered c =
     let es = short_texts c.args.uris.now in
     let before = c.loop-module.yielded in
     let covered : AreCovered es (modules_view c.args.modules.items) = elim c.requires.covered [
@@ -53,8 +53,8 @@ loop-module-preserved c =
     record {
       stand = subst (λ (ms : List NamedModule). AllZip (Stands es) (before ++ c.in-Some.module ∷ []) ms)
           (sym {A = List NamedModule} c.in_ok-push.ensures.items)
-          (AllZip-push (Stands es) before c.loop-module.short.items c.in-Some.module c.in_ok-shortened_module.field-0
-          c.loop-module.invariant.stand c.in_ok-shortened_module.ensures);
+          (AllZip-push (Stands es) before c.loop-module.short.items c.in-Some.module c.in_ok-shorten_module.field-0
+          c.loop-module.invariant.stand c.in_ok-shorten_module.ensures);
       rest = append_assoc before (c.in-Some.module ∷ []) left ∙ ap (λ (ms : List NamedModule). before ++ ms) (sym step)
           ∙ c.loop-module.invariant.rest;
       count = omega (arith, c.in-Some.ensures.steps.1, c.loop-module.invariant.count, ap length step);

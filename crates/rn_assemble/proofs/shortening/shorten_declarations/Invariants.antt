@@ -6,7 +6,7 @@ use Rattle.rn_syntax.specs.View.{declaration_view}
 use Rattle.rn_syntax.specs.declared.tree.Declaration.{Declaration}
 use Rattle.rn_assemble.specs.ShortTexts.{short_texts}
 use Rattle.rn_assemble.specs.inside.Covered.{StandsForDeclaration}
-use Rattle.rn_assemble.proofs.shortening.shortened_declarations.Given as goal
+use Rattle.rn_assemble.proofs.shortening.shorten_declarations.Given as goal
 
 abbrev pub invariant-loop-declaration : goal.invariant-loop-declaration
 invariant-loop-declaration l = record {

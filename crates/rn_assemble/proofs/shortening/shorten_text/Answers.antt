@@ -7,7 +7,7 @@ use Rattle.rn_text.specs.Texts.{Text}
 use Rattle.rn_assemble.specs.ShortTexts.{IsKnown, IsTable, ShortTexts, long_uri, short_texts}
 use Rattle.rn_assemble.specs.inside.Covered.{swapped}
 use Rattle.rn_assemble.proofs.Renaming.ShortTables.{short_stands}
-use Rattle.rn_assemble.proofs.shortening.shortened_text.Goals as goal
+use Rattle.rn_assemble.proofs.shortening.shorten_text.Goals as goal
 
 copied : (es : ShortTexts) → IsTable es → (u v s w : Text) → v ≡ u → w ≡ s → lookup (bytes_eq v) (swapped es) ≡ Some s
     → (long_uri es w ≡ u) × IsKnown es w

@@ -6,7 +6,7 @@ use Rattle.rn_assemble.specs.declared.named_modules.NamedModule.{NamedModule}
 use Rattle.rn_assemble.specs.ShortTexts.{short_texts}
 use Rattle.rn_assemble.specs.inside.Covered.{StandsForModule}
 use Rattle.rn_assemble.specs.inside.Views.{named_module_view}
-use Rattle.rn_assemble.proofs.shortening.shortened.Given as goal
+use Rattle.rn_assemble.proofs.shortening.shorten_modules.Given as goal
 
 abbrev pub invariant-loop-module : goal.invariant-loop-module
 invariant-loop-module l = record {

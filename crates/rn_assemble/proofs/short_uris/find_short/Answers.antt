@@ -3,7 +3,7 @@ use Rattle.std.proofs.lemmas.Fn.{always_returns_same}
 use Rattle.rn_text.specs.Texts.{text_cmp}
 use Rattle.rn_assemble.specs.declared.short_uris.ShortUri.{ShortUri}
 use Rattle.rn_assemble.proofs.Renaming.TableSearches.{short_looked_up}
-use Rattle.rn_assemble.proofs.short_uris.with_short.Goals as goal
+use Rattle.rn_assemble.proofs.short_uris.find_short.Goals as goal
 
 pub returns-in-Ok : goal.returns-in-Ok
 returns-in-Ok c =

@@ -4,7 +4,7 @@ use Rattle.std.proofs.lemmas.Iterator.Consumers.{YieldsList-turn}
 use Rattle.rn_assemble.specs.WritableTexts.{IsXml}
 use Rattle.rn_assemble.proofs.Renaming.WritableFronts.{xml_char_at, xml_push}
 use Rattle.rn_assemble.proofs.WellFormed.Terminals.{xml_nothing}
-use Rattle.rn_assemble.proofs.short_uris.front.Goals as goal
+use Rattle.rn_assemble.proofs.short_uris.front_of.Goals as goal
 
 pub loop-character-init : goal.loop-character-init
 loop-character-init c _ = subst IsXml (sym c.new-front.ensures.bytes) xml_nothing

@@ -8,7 +8,7 @@ use Rattle.rn_simplify.specs.Printing.{IsPrinted, IsUnprinted}
 use Rattle.rn_simplify.specs.inside.Writes.{IsHindrance, prefixes_view, Writes}
 use Rattle.rn_simplify.proofs.Texts.FinishedText.{if_ok, if_err, printed, unprinted}
 use Rattle.rn_simplify.proofs.Texts.LineTexts.{writes_lines}
-use Rattle.rn_simplify.proofs.printing.print_with.Goals as goal
+use Rattle.rn_simplify.proofs.printing.print_long.Goals as goal
 
 pub returns : goal.returns
 returns c =

@@ -5,17 +5,17 @@ use Rattle.std.specs.Vec.Iter.{into_iter_items}
 use Rattle.std.proofs.lemmas.List.Elements.{AllZip-push}
 use Rattle.rn_syntax.specs.View.{declaration_view}
 use Rattle.rn_syntax.specs.declared.tree.Declaration.{Declaration}
-use Rattle.rn_assemble.specs.Renamed.{renamed_declaration, DeclaresKnown}
+use Rattle.rn_assemble.specs.inside.RenamedModules.{renamed_declaration, DeclaresKnown}
 use Rattle.rn_assemble.specs.ShortTexts.{IsKnown, ShortTexts, long_uri, short_texts}
 use Rattle.rn_assemble.specs.inside.Covered.{IsCovered, StandsForDeclaration}
-use Rattle.rn_assemble.proofs.Renaming.Replacing.{all_yielded, made_again, of_a_kind, of_next}
-use Rattle.rn_assemble.proofs.shortening.shortened_declarations.Goals as goal
+use Rattle.rn_assemble.proofs.Renaming.ReplacedOneByOne.{all_yielded, made_again, of_a_kind, of_next}
+use Rattle.rn_assemble.proofs.shortening.shorten_declarations.Goals as goal
 
 abbrev Stands : ShortTexts → Declaration → Declaration → Type 0
 Stands es d e = StandsForDeclaration es (declaration_view d) (declaration_view e)
 
-pub shortened_declaration-requires-clause-covered : goal.shortened_declaration-requires-clause-covered
-shortened_declaration-requires-clause-covered c =
+pub shorten_declaration-requires-clause-covered : goal.shorten_declaration-requires-clause-covered
+shorten_declaration-requires-clause-covered c =
     let before = c.loop-declaration.yielded in
     let next : before ++ c.in-Some.declaration ∷ into_iter_items c.next.new.self ≡ c.args.declarations.items =
     ap (λ (ds : List Declaration). before ++ ds) (sym c.in-Some.ensures.steps.0) ∙ c.loop-declaration.invariant.rest in
@@ -31,8 +31,8 @@ loop-declaration-preserved c =
     record {
       stand = subst (λ (ds : List Declaration). AllZip (Stands es) (before ++ c.in-Some.declaration ∷ []) ds)
           (sym {A = List Declaration} c.in_ok-push.ensures.items)
-          (AllZip-push (Stands es) before c.loop-declaration.short.items c.in-Some.declaration c.in_ok-shortened_declaration.field-0
-          c.loop-declaration.invariant.stand c.in_ok-shortened_declaration.ensures);
+          (AllZip-push (Stands es) before c.loop-declaration.short.items c.in-Some.declaration c.in_ok-shorten_declaration.field-0
+          c.loop-declaration.invariant.stand c.in_ok-shorten_declaration.ensures);
       rest = append_assoc before (c.in-Some.declaration ∷ []) left ∙ ap (λ (ds : List Declaration). before ++ ds) (sym step)
           ∙ c.loop-declaration.invariant.rest;
       count = omega (arith, c.in-Some.ensures.steps.1, c.loop-declaration.invariant.count, ap length step);
