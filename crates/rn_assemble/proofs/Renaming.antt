@@ -1,6 +1,6 @@
 -- Other texts for the URIs of modules, and of what is put together of them.
-pub mod Lists
-pub mod Alike
+pub mod MappedTests
+pub mod AlikeFacts
 pub mod KnownTexts
 pub mod ResolvedPatterns
 pub mod ResolvedUris
@@ -17,4 +17,4 @@ pub mod ShortTables
 pub mod TableSearches
 pub mod WritableFronts
 pub mod ShortModules
-pub mod Replacing
+pub mod ReplacedOneByOne

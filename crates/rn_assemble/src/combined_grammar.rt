@@ -23,7 +23,7 @@ pub(crate) struct Combined<'s> {
     pub definitions: Vec<CombinedDefinition<'s>>,
     /// For each member of the start, the first one with its body.
     pub start_firsts: Vec<u32>,
-    /// The same for each definition.
+    /// For each definition, and each member of it, the first member with its body.
     pub firsts: Vec<Vec<u32>>,
     ghost start_tied: { AreTied start_firsts.items (joined_members (boxed_view start)) } by { AreTied-prop start_firsts.items (joined_members (boxed_view start)) },
     ghost tied: { HaveTied (firsts_of firsts.items) (combined_definitions definitions.items) } by { HaveTied-prop (firsts_of firsts.items) (combined_definitions definitions.items) },

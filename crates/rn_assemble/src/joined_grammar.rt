@@ -18,7 +18,7 @@ pub(crate) struct Joined {
     pub defs: Definitions,
     /// For each member of the start, the first one with its body.
     pub start_firsts: Vec<u32>,
-    /// The same for each definition.
+    /// For each definition, and each member of it, the first member with its body.
     pub firsts: Vec<Vec<u32>>,
     ghost start_tied: { AreTied start_firsts.items (joined_members (pattern_view start)) } by { AreTied-prop start_firsts.items (joined_members (pattern_view start)) },
     ghost tied: { HaveTied (firsts_of firsts.items) (definitions_view defs.entries) } by { HaveTied-prop (firsts_of firsts.items) (definitions_view defs.entries) },

@@ -91,7 +91,10 @@ pub(crate) fn references_of<'s>(
     }
     match undefined {
         Some(name) => Err(undefined_name(alloc, name)),
-        None => Ok(References { everywhere, outside }),
+        None => Ok(References {
+            everywhere,
+            outside,
+        }),
     }
 }
 

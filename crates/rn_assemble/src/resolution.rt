@@ -54,7 +54,7 @@ fn every_name<'t>(context: Context<'_, 't>, any: &'t AnyName<'_>) -> Result<Name
     }
 }
 
-/// The same without the names of a class.
+/// Every name, or every name of a namespace, without the names of a class.
 fn every_name_but<'t>(
     alloc: Global,
     context: Context<'_, 't>,

@@ -1,5 +1,5 @@
 -- Other texts for the URIs of a grammar, in the same order: its canonical grammar has them too, and its spelling but where prefixes are bound.
-pub mod Grammars
+pub mod RenamedDefinitions
 pub mod KeptOrder
 pub mod KnownUris
 pub mod MappedLists

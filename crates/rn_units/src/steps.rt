@@ -81,7 +81,7 @@ pub fn stepped(
     }
 }
 
-/// The same of the atoms of these numbers.
+/// The pattern that a step makes over the atoms of these numbers.
 fn stepped_over(
     alloc: Global,
     parts: &Parts,

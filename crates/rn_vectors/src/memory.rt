@@ -23,7 +23,7 @@ pub fn print_answer(rt: &(impl Abort + Print), is_refused: bool) {
 }
 
 /// Sets, and what a merge answers for them.
-static MERGES: [(&str, &str); 13] = [
+static MERGES: [(&str, &str); 14] = [
     (
         "@a\nstart = doc doc |= element b { text }\n@b\ndoc |= element a { empty }",
         "start = doc\ndoc = element a { empty } | element b { text }\n",
@@ -69,6 +69,10 @@ static MERGES: [(&str, &str); 13] = [
     (
         "@m0\ninclude \"m1\" include \"m1\" start = element r { y }\n@m1\ninclude \"m2\" include \"m2\"\n@m2\ninclude \"m3\" include \"m3\"\n@m3\ninclude \"m4\" include \"m4\"\n@m4\ninclude \"m5\" include \"m5\"\n@m5\ninclude \"m6\" include \"m6\"\n@m6\ninclude \"m7\" include \"m7\"\n@m7\ninclude \"m8\" include \"m8\"\n@m8\ninclude \"m9\" include \"m9\"\n@m9\ny |= text",
         "Instances",
+    ),
+    (
+        "@a\nnamespace p = \"http://example.org/a/namespace/whose/uri/has/more/than/sixty-four/bytes\" start = element p:r { attribute p:k { text }, y }\n@b\ndatatypes t = \"http://example.org/types/of/a/library/whose/uri/has/more/than/those/bytes\" y = t:id",
+        "namespace n1 = \"http://example.org/a/namespace/whose/uri/has/more/than/sixty-four/bytes\"\ndatatypes d1 = \"http://example.org/types/of/a/library/whose/uri/has/more/than/those/bytes\"\nstart = element n1:r { attribute n1:k { text }, y }\ny = d1:id\n",
     ),
 ];
 

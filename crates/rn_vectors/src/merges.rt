@@ -15,7 +15,7 @@ fn printed(rt: &(impl Abort + AllocGlobal), set: &ModuleSet) -> String {
     merge(rt.alloc(), set).expect(rt, "the set is refused")
 }
 
-/// The same for one module.
+/// The text that a merge prints of the set that a text writes.
 pub fn merged(rt: &(impl Abort + AllocGlobal), text: &str) -> String {
     printed(rt, &written_set(rt, text))
 }
@@ -33,7 +33,7 @@ pub fn answer(rt: &(impl Abort + AllocGlobal), set: &ModuleSet) -> String {
     shown(rt, merge(rt.alloc(), set))
 }
 
-/// The same for one module.
+/// What a merge answers for the set that a text writes, as rows write it.
 pub fn answer_of_text(rt: &(impl Abort + AllocGlobal), text: &str) -> String {
     answer(rt, &written_set(rt, text))
 }

@@ -53,7 +53,7 @@ fn set_of_one(rt: &(impl Abort + AllocGlobal), text: &str) -> String {
     set
 }
 
-/// The same with a module for each include.
+/// A set whose driver includes as many modules, each with the text.
 fn set_of_many(rt: &(impl Abort + AllocGlobal), text: &str) -> String {
     let mut driver = expect_text(rt, format!(in rt.alloc(); "@main\n{DRIVER}"));
     let mut modules = owned(rt, "");

@@ -24,7 +24,13 @@ pub fn perform<W: Sink>(rt: &HostRuntime, job: Job, out: &mut W) -> Result<(), P
             let text = read_file(rt, 0, file.as_str())?;
             write_contribution(rt.alloc(), name, revision, Some(text), out)
         }
-        Job::Withdraw { name, revision } => write_contribution(rt.alloc(), name, revision, None, out),
+        Job::Withdraw { name, revision } => write_contribution(
+            rt.alloc(),
+            name,
+            revision,
+            None,
+            out,
+        ),
         Job::Join { files } => write_union(
             rt.alloc(),
             read_files(rt, files.as_slice())?.as_slice(),
@@ -90,7 +96,11 @@ fn write_list<W: Sink>(alloc: Global, bundles: &[Vec<u8>], out: &mut W) -> Resul
 }
 
 /// Writes the schema of the union of bundles, whose memory is free again before it is made.
-fn write_schema<W: Sink>(alloc: Global, bundles: Vec<Vec<u8>>, out: &mut W) -> Result<(), ProgramFault>
+fn write_schema<W: Sink>(
+    alloc: Global,
+    bundles: Vec<Vec<u8>>,
+    out: &mut W,
+) -> Result<(), ProgramFault>
     requires { W.has_failed out.old ≡ false }
     ensures { LeavesSink result (out.new ≡ out.old) }
 {

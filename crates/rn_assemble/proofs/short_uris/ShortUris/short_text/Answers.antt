@@ -4,7 +4,7 @@ use Rattle.std.proofs.lemmas.Fn.{always_returns_same}
 use Rattle.rn_text.specs.Texts.{text_cmp}
 use Rattle.rn_assemble.specs.declared.short_uris.ShortUri.{ShortUri}
 use Rattle.rn_assemble.proofs.Renaming.TableSearches.{uri_looked_up}
-use Rattle.rn_assemble.proofs.short_uris.ShortUris.short.Goals as goal
+use Rattle.rn_assemble.proofs.short_uris.ShortUris.short_text.Goals as goal
 
 pub returns-in-Ok : goal.returns-in-Ok
 returns-in-Ok c =
