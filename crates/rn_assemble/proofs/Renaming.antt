@@ -15,6 +15,11 @@ pub mod WritableGrammars
 pub mod WellFormedGrammars
 pub mod ShortTables
 pub mod TableSearches
-pub mod WritableFronts
 pub mod ShortModules
 pub mod ReplacedOneByOne
+pub mod TextSets
+pub mod DeclaredUris
+pub mod NumberDigits
+pub mod ShortLists
+pub mod WritableShorts
+pub mod DeclaredTables

@@ -9,6 +9,7 @@ pub mod CombinedView
 pub mod Contained
 pub mod Covered
 pub mod Expanded
+pub mod GatheredUris
 pub mod Held
 pub mod Included
 pub mod Inclusions

@@ -1,11 +1,11 @@
 // Short texts that stand for URIs while the modules of a set are put together.
-ghost use Rattle.std.specs.Prelude.{◌≡◌, ◌↔◌, [], IfOk, IsTrue, MatchOption, None, OnOk, Some, string_bytes};
+ghost use Rattle.std.specs.Prelude.{◌≡◌, ◌↔◌, ◌<◌, ◌^◌, [], length, IfOk, IsTrue, MatchOption, None, Some, string_bytes};
 ghost use Rattle.std.specs.Map.{lookup};
 ghost use Rattle.std.specs.Str.{bytes_eq};
 ghost use Rattle.rn_text.specs.Texts.{text_cmp};
-ghost use Rattle.rn_assemble.specs.ShortTexts.{CanBeWritten, IsTable, Keeps, ShortsAscend, Stays, UrisAscend, listed_texts, long_uri, short_texts};
+ghost use Rattle.rn_assemble.specs.ShortTexts.{IsTable, ShortsAscend, front_of, listed_texts, long_uri, short_entry, short_list, short_text_of, short_texts};
 ghost use Rattle.rn_assemble.specs.inside.Covered.{short_of};
-ghost use Rattle.rn_assemble.specs.WritableTexts.{IsXml};
+ghost use Rattle.rn_assemble.specs.inside.Views.{texts_of};
 
 use rn_pattern::XMLNS_URI;
 use rn_syntax::{XML_URI, XSD_URI};
@@ -13,7 +13,8 @@ use std::alloc::{AllocError, Global};
 use std::cmp::Ordering;
 use std::collections::BTreeSet;
 
-/// The most bytes of a URI that stands for itself while modules are put together.
+/// The most bytes of a URI that isn't long. Where no module of a set declares a long one, each URI stands for itself while
+/// the modules are put together.
 pub const MAX_KEPT_URI: usize = 64;
 
 /// A URI, and the text that stands for it.
@@ -73,27 +74,18 @@ impl ShortUris {
         }
     }
 
-    /// Short texts for these URIs, which come in their order, and for those that mean something by themselves. Where that
-    /// makes no table there are none.
+    /// Short texts for these URIs, which are numbered in their order.
     pub(crate) fn of(alloc: Global, uris: BTreeSet<&str>) -> Result<ShortUris, AllocError>
-        ensures { IfOk result (λ s. IsTable (short_texts s)) }
+        ensures texts { IfOk result (λ s. short_texts s ≡ short_list 0 (texts_of uris.entry.keys)) }
+        ensures few { IfOk result (λ s. length (short_texts s) < 2 ^ 64) }
     {
-        let list = list_uris(alloc, uris)?;
-        if is_table(&list) {
-            Ok(ShortUris { list })
-        } else {
-            Ok(ShortUris::none(alloc))
+        let mut list = Vec::with_capacity(alloc, uris.len())?;
+        for uri in uris {
+            let short = short_uri(alloc, uri, list.len())?;
+            list.push(short)?;
         }
+        Ok(ShortUris { list })
     }
-}
-
-/// The URIs that mean something by themselves: no namespace, and those of `xml`, `xsd` and of declarations.
-pub(crate) fn special_uris<'u>(alloc: Global) -> Result<BTreeSet<&'u str>, AllocError> {
-    let mut uris = BTreeSet::new(alloc);
-    for uri in ["", XML_URI, XSD_URI, XMLNS_URI] {
-        uris.insert(uri)?;
-    }
-    Ok(uris)
 }
 
 /// The entry with a short text.
@@ -112,94 +104,42 @@ fn find_short<'l>(list: &'l [ShortUri], short: &str) -> Option<&'l ShortUri>
     }
 }
 
-/// The URIs with their short texts.
-fn list_uris(alloc: Global, uris: BTreeSet<&str>) -> Result<Vec<ShortUri>, AllocError>
-    ensures { IfOk result (λ v. CanBeWritten (listed_texts v.items)) }
-{
-    let mut list = Vec::with_capacity(alloc, uris.len())?;
-    for (number, uri) in uris.into_iter().enumerate() {
-        list.push(short_uri(alloc, uri, number)?)?;
-    }
-    Ok(list)
-}
-
-/// A URI with its short text: itself, or its first characters and its number.
+/// The URI of a number with its short text.
 fn short_uri(alloc: Global, uri: &str, number: usize) -> Result<ShortUri, AllocError>
-    ensures { IfOk result (λ e. IsXml (string_bytes e.uri) → IsXml (string_bytes e.short)) }
+    ensures { IfOk result (λ e. short_entry e ≡ (short_text_of number uri.now, uri.now)) }
 {
-    let long = String::from_str(alloc, uri)?;
-    if uri.len() <= MAX_KEPT_URI {
-        let short = String::from_str(alloc, uri)?;
-        return Ok(ShortUri { short, uri: long });
+    Ok(ShortUri {
+        short: short_text(alloc, uri, number)?,
+        uri: String::from_str(alloc, uri)?,
+    })
+}
+
+/// The short text of the URI of a number: a URI that means something by itself, or the greatest of these that is below the
+/// URI, with the number behind it.
+fn short_text(alloc: Global, uri: &str, number: usize) -> Result<String, AllocError>
+    ensures { IfOk result (λ s. string_bytes s ≡ short_text_of number uri.now) }
+{
+    let front = front_of(uri);
+    let mut text = String::from_str(alloc, front)?;
+    if uri == front {
+        return Ok(text);
     }
-    let mut short = front_of(alloc, uri)?;
-    push_number(&mut short, number)?;
-    Ok(ShortUri { short, uri: long })
+    text.push_str(&hex::encode(alloc, number.to_be_bytes())?)?;
+    Ok(text)
 }
 
-/// The first characters of a URI, up to that with which they have more than `MAX_KEPT_URI` bytes.
-fn front_of(alloc: Global, uri: &str) -> Result<String, AllocError>
-    ensures { IfOk result (λ s. IsXml uri.now → IsXml (string_bytes s)) }
+/// The greatest of the URIs that mean something by themselves that isn't above a URI: that of `xml`, of `xsd`, of
+/// declarations, or no namespace.
+fn front_of(uri: &str) -> &'static str
+    ensures { result.now ≡ front_of uri.now }
 {
-    let mut front = String::new(alloc);
-    for character in uri.chars() {
-        if front.len() > MAX_KEPT_URI {
-            return Ok(front);
-        }
-        front.push(character)?;
+    if XML_URI <= uri {
+        XML_URI
+    } else if XSD_URI <= uri {
+        XSD_URI
+    } else if XMLNS_URI <= uri {
+        XMLNS_URI
+    } else {
+        ""
     }
-    Ok(front)
-}
-
-/// Appends a number in letters, so that of two numbers the lesser is before the greater.
-fn push_number(text: &mut String, number: usize) -> Result<(), AllocError>
-    ensures { OnOk result (IsXml (string_bytes text.old) → IsXml (string_bytes text.new)) }
-{
-    for byte in number.to_be_bytes() {
-        text.push((b'a' + byte / 16) as char)?;
-        text.push((b'a' + byte % 16) as char)?;
-    }
-    Ok(())
-}
-
-/// Whether a URI stands for itself.
-fn stays(list: &[ShortUri], uri: &str) -> bool
-    requires { ShortsAscend (listed_texts list.now) }
-    ensures { IsTrue result → Stays (listed_texts list.now) uri.now }
-{
-    match find_short(list, uri) {
-        Some(entry) => entry.uri.as_str() == uri,
-        None => false,
-    }
-}
-
-/// Whether the URIs that mean something by themselves stand for themselves.
-fn keeps(list: &[ShortUri]) -> bool
-    requires shorts { ShortsAscend (listed_texts list.now) }
-    requires writable { CanBeWritten (listed_texts list.now) }
-    ensures { IsTrue result → Keeps (listed_texts list.now) }
-{
-    stays(list, "") && stays(list, XML_URI) && stays(list, XSD_URI) && stays(list, XMLNS_URI)
-}
-
-/// Whether the short texts ascend, and the URIs with them.
-fn ascends(list: &[ShortUri]) -> bool
-    ensures shorts { IsTrue result → ShortsAscend (listed_texts list.now) }
-    ensures uris { IsTrue result → UrisAscend (listed_texts list.now) }
-{
-    for at in 1..list.len() {
-        let (before, behind) = (&list[at - 1], &list[at]);
-        if before.short >= behind.short || before.uri >= behind.uri {
-            return false;
-        }
-    }
-    true
-}
-
-/// Whether the list is a table.
-fn is_table(list: &[ShortUri]) -> bool
-    requires { CanBeWritten (listed_texts list.now) }
-    ensures { IsTrue result → IsTable (listed_texts list.now) }
-{
-    ascends(list) && keeps(list)
 }

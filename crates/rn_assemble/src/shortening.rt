@@ -1,17 +1,19 @@
 // The URIs of modules' declarations replaced by short texts.
-ghost use Rattle.std.specs.Prelude.{◌≡◌, ◌⊎◌, [], IfOk, IsTrue, map, option_map};
+ghost use Rattle.std.specs.Prelude.{◌≡◌, ◌⊎◌, ◌∷◌, ◌++◌, [], IfOk, OnOk, map, option_map};
 ghost use Rattle.std.specs.Cow.{cow_str_bytes};
-ghost use Rattle.std.specs.List.{AllByRecursion};
+ghost use Rattle.std.specs.List.{AllByRecursion, list_any};
 ghost use Rattle.rn_syntax.specs.Places.{uri_of};
 ghost use Rattle.rn_syntax.specs.View.{declaration_view};
-ghost use Rattle.rn_assemble.specs.inside.RenamedModules.{literal_text, DeclareKnown, DeclaresKnown, renamed_declaration, renamed_modules};
-ghost use Rattle.rn_assemble.specs.ShortTexts.{IsKnown, IsTable, long_uri, short_texts};
+ghost use Rattle.rn_assemble.specs.ShortTexts.{IsKnown, IsTable, declared_uris, is_long, literal_text, long_uri, module_uris, short_texts, short_texts_of, special_uris};
 ghost use Rattle.rn_assemble.specs.inside.Covered.{AreCovered, HasShort, IsCovered, StandsForDeclaration, StandsForModule};
+ghost use Rattle.rn_assemble.specs.inside.GatheredUris.{AreGathered, GathersUris};
+ghost use Rattle.rn_assemble.specs.inside.RenamedModules.{DeclareKnown, DeclaresKnown, renamed_declaration, renamed_modules};
 ghost use Rattle.rn_assemble.specs.inside.Views.{modules_view, named_module_view};
 
 use crate::named_modules::NamedModule;
-use crate::short_uris::{MAX_KEPT_URI, ShortUris, special_uris};
-use rn_syntax::{Declaration, Module, Uri};
+use crate::short_uris::{MAX_KEPT_URI, ShortUris};
+use rn_pattern::XMLNS_URI;
+use rn_syntax::{Declaration, Module, Uri, XML_URI, XSD_URI};
 use std::alloc::{AllocError, Global};
 use std::borrow::CowStr;
 use std::collections::BTreeSet;
@@ -21,6 +23,7 @@ pub(crate) fn short_uris_of(
     alloc: Global,
     modules: &[NamedModule<'_>],
 ) -> Result<ShortUris, AllocError>
+    ensures texts { IfOk result (λ s. short_texts s ≡ short_texts_of (modules_view modules.now)) }
     ensures table { IfOk result (λ s. IsTable (short_texts s)) }
     ensures covered { IfOk result (λ s. (short_texts s ≡ [])
         ⊎ AreCovered (short_texts s) (modules_view modules.now)) }
@@ -28,12 +31,7 @@ pub(crate) fn short_uris_of(
     if !have_long_uri(modules) {
         return Ok(ShortUris::none(alloc));
     }
-    let uris = ShortUris::of(alloc, literal_uris(alloc, modules)?)?;
-    if are_covered(&uris, modules) {
-        Ok(uris)
-    } else {
-        Ok(ShortUris::none(alloc))
-    }
+    ShortUris::of(alloc, literal_uris(alloc, modules)?)
 }
 
 /// The URI of a declaration, if it isn't inherited.
@@ -49,10 +47,23 @@ fn literal_uri<'d>(declaration: &'d Declaration<'_>) -> Option<&'d str>
     }
 }
 
+/// Whether the URI of a declaration is long.
+fn declares_long(declaration: &Declaration<'_>) -> bool
+    ensures { result ≡ list_any is_long
+        (declared_uris (declaration_view declaration.now ∷ [])) }
+{
+    match literal_uri(declaration) {
+        Some(uri) => uri.len() > MAX_KEPT_URI,
+        None => false,
+    }
+}
+
 /// Whether a URI of the declarations is long.
-fn has_long_uri(declarations: &[Declaration<'_>]) -> bool {
+fn has_long_uri(declarations: &[Declaration<'_>]) -> bool
+    ensures { result ≡ list_any is_long (declared_uris (map declaration_view declarations.now)) }
+{
     for declaration in declarations {
-        if literal_uri(declaration).is_some_and(|uri| uri.len() > MAX_KEPT_URI) {
+        if declares_long(declaration) {
             return true;
         }
     }
@@ -60,7 +71,9 @@ fn has_long_uri(declarations: &[Declaration<'_>]) -> bool {
 }
 
 /// Whether a module declares a long URI.
-fn have_long_uri(modules: &[NamedModule<'_>]) -> bool {
+fn have_long_uri(modules: &[NamedModule<'_>]) -> bool
+    ensures { result ≡ list_any is_long (module_uris (modules_view modules.now)) }
+{
     for module in modules {
         if has_long_uri(&module.tree.decls) {
             return true;
@@ -69,67 +82,66 @@ fn have_long_uri(modules: &[NamedModule<'_>]) -> bool {
     false
 }
 
-/// The URIs that the modules declare, and those that mean something by themselves.
+/// The URIs that the modules declare, and those that mean something by themselves: no namespace, and those of `xml`, `xsd`
+/// and of declarations.
 fn literal_uris<'m>(
     alloc: Global,
     modules: &'m [NamedModule<'_>],
-) -> Result<BTreeSet<&'m str>, AllocError> {
-    let mut uris = special_uris(alloc)?;
+) -> Result<BTreeSet<&'m str>, AllocError>
+    ensures { IfOk result (AreGathered (special_uris ++ module_uris (modules_view modules.now))) }
+{
+    let mut uris = BTreeSet::new(alloc);
+    add_special(&mut uris)?;
     for module in modules {
         add_literals(&module.tree.decls, &mut uris)?;
     }
     Ok(uris)
 }
 
+/// Adds the URIs that mean something by themselves.
+fn add_special<'u>(uris: &mut BTreeSet<&'u str>) -> Result<(), AllocError>
+    ensures { OnOk result (GathersUris special_uris uris.old uris.new) }
+{
+    add_uri("", uris)?;
+    add_uri(XML_URI, uris)?;
+    add_uri(XSD_URI, uris)?;
+    add_uri(XMLNS_URI, uris)
+}
+
 /// Adds the URIs of the declarations.
 fn add_literals<'d>(
     declarations: &'d [Declaration<'_>],
     uris: &mut BTreeSet<&'d str>,
-) -> Result<(), AllocError> {
+) -> Result<(), AllocError>
+    ensures { OnOk result (GathersUris (declared_uris (map declaration_view declarations.now))
+        uris.old uris.new) }
+{
     for declaration in declarations {
-        if let Some(uri) = literal_uri(declaration) {
-            uris.insert(uri)?;
-        }
+        add_literal(declaration, uris)?;
     }
     Ok(())
 }
 
-/// Whether a short text stands for the URI of the declaration, if it has one.
-fn is_covered(uris: &ShortUris, declaration: &Declaration<'_>) -> bool
-    requires { IsTable (short_texts uris.now) }
-    ensures { IsTrue result → IsCovered (short_texts uris.now) (declaration_view declaration.now) }
+/// Adds the URI of the declaration.
+fn add_literal<'d>(
+    declaration: &'d Declaration<'_>,
+    uris: &mut BTreeSet<&'d str>,
+) -> Result<(), AllocError>
+    ensures { OnOk result (GathersUris (declared_uris (declaration_view declaration.now ∷ []))
+        uris.old uris.new) }
 {
     match literal_uri(declaration) {
-        Some(uri) => uris.short_text(uri).is_some(),
-        None => true,
+        Some(uri) => add_uri(uri, uris),
+        None => Ok(()),
     }
 }
 
-/// Whether short texts stand for all URIs of the declarations.
-fn is_module_covered(uris: &ShortUris, declarations: &[Declaration<'_>]) -> bool
-    requires { IsTable (short_texts uris.now) }
-    ensures { IsTrue result → AllByRecursion (IsCovered (short_texts uris.now))
-        (map declaration_view declarations.now) }
+/// Adds the URI.
+fn add_uri<'u>(uri: &'u str, uris: &mut BTreeSet<&'u str>) -> Result<(), AllocError>
+    ensures { OnOk result (GathersUris (uri.now ∷ []) uris.old uris.new) }
 {
-    for declaration in declarations {
-        if !is_covered(uris, declaration) {
-            return false;
-        }
-    }
-    true
-}
-
-/// Whether short texts stand for all URIs that the modules declare.
-fn are_covered(uris: &ShortUris, modules: &[NamedModule<'_>]) -> bool
-    requires { IsTable (short_texts uris.now) }
-    ensures { IsTrue result → AreCovered (short_texts uris.now) (modules_view modules.now) }
-{
-    for module in modules {
-        if !is_module_covered(uris, &module.tree.decls) {
-            return false;
-        }
-    }
-    true
+    uris.insert(uri)?;
+    Ok(())
 }
 
 /// The modules with short texts in the place of the URIs that they declare.

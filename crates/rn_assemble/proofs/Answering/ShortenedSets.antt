@@ -14,7 +14,7 @@ use Rattle.rn_assemble.specs.Refusal.{Refusal, AreModules, IsFirstFor, StandsFor
 use Rattle.rn_assemble.specs.Refused.{refusal_view}
 use Rattle.rn_assemble.specs.Renamed.{IsOfKnownUris, IsRenaming}
 use Rattle.rn_assemble.specs.inside.RenamedModules.{renamed_modules, DeclareKnown}
-use Rattle.rn_assemble.specs.ShortTexts.{ShortTexts, IsKnown, IsShortened, IsTable, long_grammar, long_uri}
+use Rattle.rn_assemble.specs.ShortTexts.{ShortTexts, IsKnown, IsShortened, IsTable, long_grammar, long_uri, short_texts_of}
 use Rattle.rn_assemble.specs.inside.Contained.{AreFlat}
 use Rattle.rn_assemble.specs.inside.Views.{AreInOrder, module_names, modules_view}
 use Rattle.rn_assemble.specs.inside.Checked.{IsFirstOfModules, IsGrammarOf}
@@ -58,8 +58,9 @@ module _ (es : ShortTexts) (t : IsTable es) (ms short : List NamedModule) (same 
       of_view None m = m
       of_view (Some p) m = first_for p m
 
-  pub shortened_of : (s : List Member) → AreModules s ms → (g : Grammar) → IsGrammarOf short g → IsShortened s es g
-  shortened_of s a g h = record {
+  pub shortened_of : es ≡ short_texts_of ms → (s : List Member) → AreModules s ms → (g : Grammar) → IsGrammarOf short g → IsShortened s es g
+  shortened_of e s a g h = record {
+    texts = (ms, a, e);
     table = t;
     assembled = assembled_of_modules s ms a (long_grammar es g) (λ q k. h.0 q ((alike q).0 k), ap (long_grammar es) h.1 ∙ sym (grammar_renamed renames short) ∙ ap grammar_of same);
     known = subst (IsOfKnownUris (IsKnown es)) (sym h.1) (known_grammar renames short known);

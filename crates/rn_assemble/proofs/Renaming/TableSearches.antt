@@ -1,16 +1,15 @@
--- A binary search in a table of texts, against a look-up among its entries; and texts that ascend one by one.
-use Rattle.std.proofs.Common.{◌≡◌, ℕ, ◌+◌, ◌<◌, List, [], ◌∷◌, length, get_or, map, Result, Ok, Err, MatchResult, Some, None, sym, ap, ◌∙◌, subst, arith, Contains, Less, string_bytes}
+-- A binary search in a table of texts, against a look-up among its entries.
+use Rattle.std.proofs.Common.{◌≡◌, ℕ, ◌<◌, List, length, get_or, map, Result, Ok, Err, MatchResult, Some, None, sym, ap, ◌∙◌, subst, arith, Contains, string_bytes}
 use Rattle.std.specs.Prelude.{bytes_eq}
 use Rattle.std.specs.List.Sorted.{IsBinarySearchResult, IsSearchInRange, IsStrictlySortedBy}
 use Rattle.std.specs.Map.{lookup}
-use Rattle.std.proofs.lemmas.Cmp.{nat_list_cmp_total, nat_list_eq_equiv}
+use Rattle.std.proofs.lemmas.Cmp.{nat_list_eq_equiv}
 use Rattle.std.proofs.lemmas.List.{get_or-map, length-map}
-use Rattle.std.proofs.lemmas.Map.Keys.{sorted_from_all_adjacent}
 use Rattle.std.proofs.lemmas.Map.Views.{Contains-keys_from_lookup, lookup-from_Contains}
 use Rattle.std.proofs.lemmas.Simd.{map-map}
 use Rattle.std.proofs.lemmas.Slice.Eq.{bytes_eq-Decides}
 use Rattle.rn_text.specs.Texts.{Text, text_cmp}
-use Rattle.rn_assemble.specs.ShortTexts.{short_text}
+use Rattle.rn_assemble.specs.ShortTexts.{short_entry}
 use Rattle.rn_assemble.specs.inside.Covered.{swapped}
 use Rattle.rn_assemble.specs.declared.short_uris.ShortUri.{ShortUri}
 use Rattle.rn_assemble.proofs.Referring.LeastUndefined.{is_none}
@@ -19,18 +18,6 @@ use Rattle.rn_assemble.proofs.Renaming.ShortTables.{apart}
 
 abbrev Ascends : List Text → Type 0
 Ascends ts = IsStrictlySortedBy text_cmp ts
-
--- where the text of each thing is below that of the next they ascend
-pub ascending : {X : Type 0} (f : X → Text) (xs : List X)
-    → ((k : ℕ) (d : X) → k + 1 < length xs → text_cmp (f (get_or xs k d)) (f (get_or xs (k + 1) d)) ≡ Less)
-    → IsStrictlySortedBy text_cmp (map f xs)
-ascending f [] h = sorted_from_all_adjacent nat_list_cmp_total [] [] (λ k l. absurd (omega (arith, l)))
-ascending f (x ∷ xs) h = sorted_from_all_adjacent nat_list_cmp_total (map f (x ∷ xs)) (f x)
-    (λ k l.
-    let m : k + 1 < length (x ∷ xs) = omega (arith, l, length-map (x ∷ xs) f) in
-    let here = get_or-map f (x ∷ xs) k x (f x) (omega arith) in
-    let next = get_or-map f (x ∷ xs) (k + 1) x (f x) m in
-    (λ i. text_cmp (here i) (next i)) ∙ h k x m)
 
 -- ---- a text among the first of pairs
 
@@ -71,19 +58,19 @@ module _ {X : Type 0} (f g : X → Text) where
 -- ---- a search by short texts, and one by URIs
 
 pub short_looked_up : (es : List ShortUri) (t : Text) (r : Result ℕ ℕ)
-    → IsStrictlySortedBy text_cmp (map (λ (e : Text × Text). e.0) (map short_text es))
+    → IsStrictlySortedBy text_cmp (map (λ (e : Text × Text). e.0) (map short_entry es))
     → IsBinarySearchResult (λ (e : ShortUri). text_cmp (string_bytes e.short) t) es r → IsSearchInRange r (length es)
-    → IsFoundAt (map short_text es) t (λ (e : ShortUri). string_bytes e.uri) es r
+    → IsFoundAt (map short_entry es) t (λ (e : ShortUri). string_bytes e.uri) es r
 short_looked_up es t r s =
     looked_up (λ (e : ShortUri). string_bytes e.short) (λ (e : ShortUri). string_bytes e.uri) es t r
-    (subst Ascends (map-map (λ (e : Text × Text). e.0) short_text es) s)
+    (subst Ascends (map-map (λ (e : Text × Text). e.0) short_entry es) s)
 
 pub uri_looked_up : (es : List ShortUri) (t : Text) (r : Result ℕ ℕ)
-    → IsStrictlySortedBy text_cmp (map (λ (e : Text × Text). e.1) (map short_text es))
+    → IsStrictlySortedBy text_cmp (map (λ (e : Text × Text). e.1) (map short_entry es))
     → IsBinarySearchResult (λ (e : ShortUri). text_cmp (string_bytes e.uri) t) es r → IsSearchInRange r (length es)
-    → IsFoundAt (swapped (map short_text es)) t (λ (e : ShortUri). string_bytes e.short) es r
+    → IsFoundAt (swapped (map short_entry es)) t (λ (e : ShortUri). string_bytes e.short) es r
 uri_looked_up es t r s h l =
     subst (λ (ds : List (Text × Text)). IsFoundAt ds t (λ (e : ShortUri). string_bytes e.short) es r)
-    (sym (map-map (λ (e : Text × Text). (e.1, e.0)) short_text es))
+    (sym (map-map (λ (e : Text × Text). (e.1, e.0)) short_entry es))
     (looked_up (λ (e : ShortUri). string_bytes e.uri) (λ (e : ShortUri). string_bytes e.short) es t r
-    (subst Ascends (map-map (λ (e : Text × Text). e.1) short_text es) s) h l)
+    (subst Ascends (map-map (λ (e : Text × Text). e.1) short_entry es) s) h l)

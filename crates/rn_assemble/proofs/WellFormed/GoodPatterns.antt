@@ -23,14 +23,14 @@ use Rattle.rn_assemble.proofs.WellFormed.GoodTrees.{IsGoodUri, IsGoodName, IsGoo
 
 -- ---- namespaces and libraries
 
-ascii_xml : (cs : Text) → list_all is_xml_char cs ≡ true → list_all (λ c. ltb c 128) cs ≡ true → IsXml cs
+pub ascii_xml : (cs : Text) → list_all is_xml_char cs ≡ true → list_all (λ c. ltb c 128) cs ≡ true → IsXml cs
 ascii_xml cs e a = subst IsXml (ascii cs a) (xml_is cs e)
 
-xml_namespace : IsXml xml_uri
+pub xml_namespace : IsXml xml_uri
 unfolding is_xml_char
 xml_namespace = ascii_xml xml_uri refl refl
 
-xsd_library : IsXml xsd_uri
+pub xsd_library : IsXml xsd_uri
 unfolding is_xml_char
 xsd_library = ascii_xml xsd_uri refl refl
 

@@ -6,8 +6,8 @@ use Rattle.rn_text.specs.Texts.{Text}
 use Rattle.rn_syntax.specs.Tree.{Declaration}
 use Rattle.rn_syntax.specs.Places.{uri_of}
 use Rattle.rn_assemble.specs.Components.{NamedModule}
-use Rattle.rn_assemble.specs.inside.RenamedModules.{literal_text, renamed_declaration, renamed_module, DeclaresKnown}
-use Rattle.rn_assemble.specs.ShortTexts.{ShortTexts, long_uri, IsKnown}
+use Rattle.rn_assemble.specs.inside.RenamedModules.{renamed_declaration, renamed_module, DeclaresKnown}
+use Rattle.rn_assemble.specs.ShortTexts.{ShortTexts, literal_text, long_uri, IsKnown}
 
 -- the pairs with the URI first
 abbrev pub swapped : ShortTexts → List (Text × Text)

@@ -1,16 +1,12 @@
 -- Other texts for the URIs that modules declare. The bodies of a module have prefixes in the place of URIs.
-use Rattle.std.specs.Prelude.{List, Option, Some, None, map, IfSome}
+use Rattle.std.specs.Prelude.{List, map, IfSome}
 use Rattle.std.specs.List.{AllByRecursion}
 use Rattle.rn_text.specs.Texts.{Text}
 use Rattle.rn_syntax.specs.Tree as t
 use Rattle.rn_syntax.specs.Tree.{Uri, Declaration}
 use Rattle.rn_syntax.specs.Places.{uri_of}
 use Rattle.rn_assemble.specs.Components.{NamedModule}
-
--- the text of a URI that isn't inherited
-abbrev pub literal_text : Uri → Option Text
-literal_text (t.literal u) = Some u
-literal_text t.inherited = None
+use Rattle.rn_assemble.specs.ShortTexts.{literal_text}
 
 -- named: what each URI is called
 module _ (named : Text → Text) where

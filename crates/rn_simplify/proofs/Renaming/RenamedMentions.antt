@@ -8,7 +8,7 @@ use Rattle.rn_pattern.specs.Matching.{Grammar}
 use Rattle.rn_pattern.proofs.Ordered.Ascending.{each_join, each_flat}
 use Rattle.rn_assemble.specs.Renamed.{renamed_class, renamed_classes, renamed_tree, renamed_trees, renamed_definition, renamed_grammar, HasKnownNames, HaveKnownNames, HasKnownUris, HaveKnownUris, IsOfKnownUris, IsRenaming}
 use Rattle.rn_simplify.specs.Spelling.{name_uris, names_uris, mentions, mentions_all, grammar_mentions, has_empty_ns_name}
-use Rattle.rn_assemble.proofs.Renaming.Lists.{list_any-mapped}
+use Rattle.rn_assemble.proofs.Renaming.MappedTests.{list_any-mapped}
 use Rattle.rn_simplify.proofs.Renaming.MappedLists.{map_joined}
 use Rattle.rn_assemble.proofs.Renaming.KnownTexts.{alike_eq}
 

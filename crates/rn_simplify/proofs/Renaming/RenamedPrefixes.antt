@@ -12,7 +12,7 @@ use Rattle.rn_assemble.specs.Renamed.{renamed_grammar, IsOfKnownUris, IsRenaming
 use Rattle.rn_simplify.specs.Spelling.{Prefixes, keyword, word, prefixed_piece, place, namespace_prefix, library_prefix, type_piece, name_piece, prefixes}
 use Rattle.rn_simplify.proofs.ReadBack.OrderedTexts.{filter_only}
 use Rattle.rn_simplify.proofs.Renaming.MappedLists.{sorted_once-mapped}
-use Rattle.rn_assemble.proofs.Renaming.Lists.{filter-mapped}
+use Rattle.rn_assemble.proofs.Renaming.MappedTests.{filter-mapped}
 use Rattle.rn_assemble.proofs.Renaming.KnownTexts.{both_alike, is_empty, is_xml, is_xsd}
 use Rattle.rn_simplify.proofs.Renaming.RenamedMentions.{namespaces_of, libraries_of, namespaces_renamed, libraries_renamed, namespaces_known, libraries_known}
 

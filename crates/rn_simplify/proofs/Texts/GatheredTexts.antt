@@ -7,11 +7,9 @@ use Rattle.std.specs.BTreeSet.{BTreeSet, insert_key}
 use Rattle.std.specs.declared.rc.Rc.{Rc}
 use Rattle.std.specs.declared.alloc.Global.{Global}
 use Rattle.std.specs.declared.cmp.Ordering.{Ordering}
-use Rattle.std.specs.declared.cmp.Ordering.TheVariants.{Less, Equal, Greater}
 use Rattle.std.specs.Ordering.{match_ordering, is_eq}
 use Rattle.std.proofs.Math.Dec.{eqb-suc-zero}
 use Rattle.std.proofs.lemmas.Cmp.{nat_list_cmp_total}
-use Rattle.std.proofs.lemmas.List.Sorted.{IsPermutation-append_comm}
 use Rattle.rn_modset.proofs.Ordered.RisingLists.{insert_held}
 use Rattle.rn_pattern.specs.Tree.{NameTree, name_trees_of, Tree, trees_of}
 use Rattle.rn_text.specs.Texts.{Text, text_cmp}
@@ -26,7 +24,7 @@ use Rattle.rn_pattern.specs.declared.tree.Pattern.TheVariants as variant
 use Rattle.rn_pattern.proofs.Ordered.PatternKinds.{group_seen, interleave_seen, choice_seen}
 use Rattle.rn_pattern.proofs.Ordered.Orders.{text_same}
 use Rattle.rn_pattern.proofs.Ordered.Ascending.{climbs_sorted_once}
-use Rattle.rn_pattern.proofs.Ordered.Sorting.{sorted_once_permutation}
+use Rattle.rn_assemble.proofs.Renaming.TextSets.{gathered_more, sorted_more}
 use Rattle.rn_simplify.specs.declared.mentions.Mentions.{Mentions}
 use Rattle.rn_simplify.proofs.ReadBack.OrderedTexts.{any_mapped}
 use Rattle.rn_simplify.specs.Spelling.{name_uris, names_uris, mentions, mentions_all}
@@ -34,26 +32,10 @@ use Rattle.rn_simplify.specs.inside.Gathers.{is_other, IsGathered, GathersTexts,
 
 -- ---- one more text
 
-sorted_more : (zs : List Text) (t : Text) → sorted_once text_cmp (zs ++ t ∷ []) ≡ put_once text_cmp t (sorted_once text_cmp zs)
-sorted_more zs t = sorted_once_permutation text_cmp nat_list_cmp_total text_same (zs ++ t ∷ []) (t ∷ zs) (IsPermutation-append_comm zs (t ∷ []))
-
--- a set of any order that compares texts inserts as texts are put
-put_key_by : (o : Ordering) (x y : Text) (k l : String Global) (ys : List Text) (ls : List (String Global)) → string_bytes k ≡ x → string_bytes l ≡ y → map (λ u. string_bytes u) ls ≡ ys → (us : List Text) (ks : List (String Global)) → map (λ u. string_bytes u) ks ≡ us
-    → map (λ u. string_bytes u) (match_ordering o (k ∷ l ∷ ls) (l ∷ ls) (l ∷ ks)) ≡ match_ordering o (x ∷ y ∷ ys) (y ∷ ys) (y ∷ us)
-put_key_by Less x y k l ys ls e f g us ks h = λ i. e i ∷ f i ∷ g i
-put_key_by Equal x y k l ys ls e f g us ks h = λ i. f i ∷ g i
-put_key_by Greater x y k l ys ls e f g us ks h = λ i. f i ∷ h i
-
 module _ (cmp : String Global → String Global → Ordering) (is : (k l : String Global) → cmp k l ≡ text_cmp (string_bytes k) (string_bytes l)) where
-  put_key : (k : String Global) (ks : List (String Global)) → map (λ u. string_bytes u) (insert_key cmp ks k) ≡ put_once text_cmp (string_bytes k) (map (λ u. string_bytes u) ks)
-  put_key k [] = refl
-  put_key k (l ∷ ls) =
-      ap (λ o. map (λ u. string_bytes u) (match_ordering o (k ∷ l ∷ ls) (l ∷ ls) (l ∷ insert_key cmp ls k))) (is k l)
-      ∙ put_key_by (text_cmp (string_bytes k) (string_bytes l)) _ _ k l _ ls refl refl refl _ (insert_key cmp ls k) (put_key k ls)
-
   pub gathers_new : (t : Text) (k : String Global) (a b : BTreeSet (String Global)) → string_bytes k ≡ t → b.keys ≡ insert_key cmp a.keys k → GathersTexts (t ∷ []) a b
   gathers_new t k a b e h zs g =
-      ap (λ ks. map (λ (u : String Global). string_bytes u) ks) h ∙ put_key k a.keys ∙ (λ i. put_once text_cmp (e i) (g i)) ∙ sym (sorted_more zs t)
+      gathered_more (λ (u : String Global). string_bytes u) cmp is k a.keys b.keys zs h g ∙ ap (λ (u : Text). sorted_once text_cmp (zs ++ u ∷ [])) e
 
 put_insert : (x : Text) (ys : List Text) → put_once text_cmp x ys ≡ insert_key text_cmp ys x
 put_insert x [] = refl

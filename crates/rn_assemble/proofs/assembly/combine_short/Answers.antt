@@ -4,7 +4,7 @@ use Rattle.rn_assemble.specs.declared.named_modules.NamedModule as code_module
 use Rattle.rn_assemble.specs.Components.{NamedModule}
 use Rattle.rn_assemble.specs.Refused.{IsFirstRefusal}
 use Rattle.rn_assemble.specs.inside.RenamedModules.{renamed_modules, DeclareKnown}
-use Rattle.rn_assemble.specs.ShortTexts.{IsKnown, long_uri, short_texts}
+use Rattle.rn_assemble.specs.ShortTexts.{IsKnown, long_uri, short_texts, short_texts_of}
 use Rattle.rn_assemble.specs.inside.CombinedView.{combined_view}
 use Rattle.rn_assemble.specs.inside.Contained.{AreFlat}
 use Rattle.rn_assemble.specs.inside.Views.{AreInOrder, modules_view}
@@ -46,4 +46,5 @@ returns c =
     let short = modules_view c.as_slice-2.result.now in
     let same : renamed_modules (long_uri es) short ≡ ms = ap (λ (xs : List code_module.NamedModule). renamed_modules (long_uri es) (modules_view xs)) c.as_slice-2.ensures.value ∙ c.in_ok-modules-2.ensures.modules in
     let known = subst (λ (xs : List code_module.NamedModule). DeclareKnown (IsKnown es) (modules_view xs)) (sym c.as_slice-2.ensures.value) c.in_ok-modules-2.ensures.known in
-    shortened_of es c.in_ok-uris.ensures.table ms short same known c.args.set.now c.in_ok-modules.ensures.ok (combined_view c.in_ok-combined.combined) c.in_ok-combined.ensures
+    let texts = c.in_ok-uris.ensures.texts ∙ ap (λ (xs : List code_module.NamedModule). short_texts_of (modules_view xs)) c.as_slice.ensures.value in
+    shortened_of es c.in_ok-uris.ensures.table ms short same known texts c.args.set.now c.in_ok-modules.ensures.ok (combined_view c.in_ok-combined.combined) c.in_ok-combined.ensures
