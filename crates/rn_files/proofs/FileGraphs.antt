@@ -1,9 +1,9 @@
 -- Graphs of files.
-use Rattle.std.proofs.Common.{◌≡◌, ◌≢◌, Bool, ◌&&◌, refl, false, not, ℕ, suc, zero, ◌<◌, ◌+◌, ◌==◌, ◌∙◌, true, List, [], ◌∷◌, ◌++◌, length, take, get_or, ap, subst, sym, arith}
+use Rattle.std.proofs.Common.{◌≡◌, ◌≢◌, false, not, ℕ, suc, zero, ◌<◌, ◌+◌, ◌==◌, ◌∙◌, true, List, [], ◌∷◌, ◌++◌, length, take, get_or, ap, subst, sym, arith}
 use Rattle.std.specs.Prelude.{nat_lt, All, string_bytes}
 use Rattle.std.specs.List.{list_all}
 use Rattle.std.specs.Str.{bytes_eq}
-use Rattle.std.proofs.lemmas.Bool.{false≢true}
+use Rattle.std.proofs.lemmas.Bool.{and_parts, false≢true, ltb-true}
 use Rattle.std.proofs.lemmas.Bool.Decides.{nat_tests}
 use Rattle.std.proofs.lemmas.Slice.Eq.{bytes_eq-Decides}
 use Rattle.std.proofs.lemmas.List.{length-map, map-append, take_more}
@@ -17,12 +17,9 @@ use Rattle.rn_modset.specs.Contributions.{is_module_name}
 use Rattle.rn_pattern.specs.Ranks.{HasNoLoop}
 use Rattle.rn_pattern.specs.Graph.{AllBelow, row, IsGraph}
 
-less_if : (n x : ℕ) → nat_lt x n ≡ true → x < n
-less_if n x h = grind (arith, nat_tests)
-
 -- numbers that were tested are less
 pub all_less : (n : ℕ) (xs : List ℕ) → list_all (λ x. nat_lt x n) xs ≡ true → All (λ x. x < n) xs
-all_less n xs h = All-weaker (λ x. nat_lt x n ≡ true) (λ x. x < n) (less_if n) xs (AllPass-from_list_all (λ x. nat_lt x n) xs h)
+all_less n xs h = All-weaker (λ x. nat_lt x n ≡ true) (λ x. x < n) (λ x. ltb-true x n) xs (AllPass-from_list_all (λ x. nat_lt x n) xs h)
 
 abbrev IsTested : ℕ → SourceFile → Type 0
 IsTested n f = list_all (λ x. nat_lt x n) f.targets.items ≡ true
@@ -57,10 +54,6 @@ same_number a b h = grind (arith, nat_tests)
 same_if : (f : SourceFile) → (length f.targets.items == count_links f) ≡ true → HasTargets f
 same_if f h = same_number (length f.targets.items) (count_links f) h
 
-and_both : (x y : Bool) → (x && y) ≡ true → (x ≡ true) × (y ≡ true)
-and_both true y h = (refl, h)
-and_both false y h = absurd (false≢true h)
-
 name_differs : (f g : SourceFile) → differ_in_name f g ≡ true → string_bytes f.name ≢ string_bytes g.name
 name_differs f g h e =
     let same : bytes_eq (string_bytes f.name) (string_bytes g.name) ≡ true = (bytes_eq-Decides (string_bytes f.name) (string_bytes g.name)).1 e in
@@ -70,7 +63,7 @@ name_differs f g h e =
 own_names : (fs : List SourceFile) → have_own_names fs ≡ true → HaveOwnNames fs
 own_names [] h = tt
 own_names (f ∷ fs) h =
-    let each = and_both (list_all (differ_in_name f) fs) (have_own_names fs) h in (
+    let each = and_parts (list_all (differ_in_name f) fs) (have_own_names fs) h in (
       All-weaker (λ g. differ_in_name f g ≡ true) (λ g. string_bytes f.name ≢ string_bytes g.name) (name_differs f) fs
           (AllPass-from_list_all (differ_in_name f) fs each.0),
       own_names fs each.1,

@@ -1,6 +1,6 @@
 mod LineCuts
-mod NameFacts
+mod NamesReadBack
 mod FileGraphs
-mod PathFacts
-mod UriFacts
-mod MapFacts
+mod WalkedSegments
+mod SlashPlaces
+mod LongestPrefixes

@@ -5,7 +5,7 @@ use Rattle.std.specs.Option.{option_map, option_map_or, option_or}
 use Rattle.std.specs.Char.{is_ascii_alphabetic, is_ascii_alphanumeric}
 use Rattle.rn_files.specs.Paths.{Segment, is_slash, path_of, segments, without_dots}
 
--- the parts; a part that is absent is none, which differs from one that is empty
+-- the parts of a URI or a reference; a part that is absent is none, which differs from one that is empty
 pub record UriParts : Type 0 where
   pub scheme : Option (List ℕ)
   pub authority : Option (List ℕ)
@@ -18,7 +18,7 @@ is_colon b = b == 58
 abbrev pub is_scheme_byte : ℕ → Bool
 is_scheme_byte b = is_ascii_alphanumeric b || b == 43 || b == 45 || b == 46
 
--- a letter, and then such bytes (3.1)
+-- a letter, and then bytes that may stand behind the first one of a scheme (3.1)
 abbrev pub is_scheme : List ℕ → Bool
 is_scheme [] = false
 is_scheme (b ∷ bs) = is_ascii_alphabetic b && list_all is_scheme_byte bs
@@ -37,7 +37,7 @@ behind_scheme text = if has_scheme text then after_first is_colon text else text
 abbrev pub behind_slashes : List ℕ → Option (List ℕ)
 behind_slashes text = if starts_with nat_eq text (codes "//") then Some (drop 2 text) else None
 
--- from the first slash on
+-- the text from its first slash on
 abbrev pub from_slash : List ℕ → List ℕ
 from_slash text = drop (position_or_len is_slash text) text
 
@@ -45,7 +45,7 @@ from_slash text = drop (position_or_len is_slash text) text
 abbrev pub authority_of : List ℕ → Option (List ℕ)
 authority_of text = option_map (before_first is_slash) (behind_slashes text)
 
--- the path is what is left (3.3)
+-- what stands behind two slashes and an authority, if they come first, and else the whole text: the path (3.3)
 abbrev pub behind_authority : List ℕ → List ℕ
 behind_authority text = option_map_or from_slash (behind_slashes text) text
 
@@ -74,7 +74,7 @@ folder_of base =
     if is_some base.authority && length base.path == 0 then [] ∷ []
     else take (length (segments base.path) - 1) (segments base.path)
 
--- the reference's path behind that folder (5.2.3)
+-- the segments of the folder of the base's path, and behind them those of the reference's path (5.2.3)
 abbrev pub merged_paths : UriParts → List ℕ → List Segment
 merged_paths base path = folder_of base ++ segments path
 

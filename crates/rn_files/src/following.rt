@@ -1,7 +1,7 @@
 // Reading files, and what they refer to.
 ghost use Rattle.std.specs.Prelude.{◌≡◌, ◌<◌, ◌≤◌, All, IfOk, IfSome, IsNone, is_some, string_bytes, vec_len};
 ghost use Rattle.rn_modset.specs.Limits.{max_text};
-ghost use Rattle.rn_files.specs.inside.Following.{IsFollowed, LeadsTo};
+ghost use Rattle.rn_files.specs.inside.Following.{EntriesGrow, IsFollowed, LeadsTo};
 ghost use Rattle.rn_files.specs.inside.Maps.{IsLocation};
 ghost use Rattle.rn_files.specs.inside.UriReferences.{StandsFor};
 ghost use Rattle.rn_outline.specs.Links.{is_link};
@@ -81,7 +81,7 @@ fn enter_found(
     found: FoundFile,
     place: FaultPlace,
 ) -> Result<Option<usize>, AllocError>
-    ensures { vec_len walk.old.entries ≤ vec_len walk.new.entries }
+    ensures { EntriesGrow walk.old walk.new }
 {
     let is_outside = ways
         .root
@@ -154,7 +154,7 @@ fn real_path<F: Files>(
     leads: &Location,
     place: FaultPlace,
 ) -> Result<Option<String>, AllocError>
-    ensures grows { vec_len walk.old.entries ≤ vec_len walk.new.entries }
+    ensures grows { EntriesGrow walk.old walk.new }
     ensures led { IfOk result (λ found. IfSome found (λ path.
         F.leads files.now (string_bytes leads.now.path) (string_bytes path))) }
 {
@@ -176,7 +176,7 @@ fn target_uri(
     literal: &str,
     place: FaultPlace,
 ) -> Result<Option<String>, AllocError>
-    ensures grows { vec_len walk.old.entries ≤ vec_len walk.new.entries }
+    ensures grows { EntriesGrow walk.old walk.new }
     ensures stands { IfOk result (λ found. IfSome found (λ uri.
         StandsFor base.now literal.now (string_bytes uri))) }
 {
@@ -191,7 +191,7 @@ fn target_location(
     uri: &str,
     place: FaultPlace,
 ) -> Result<Option<Location>, AllocError>
-    ensures grows { vec_len walk.old.entries ≤ vec_len walk.new.entries }
+    ensures grows { EntriesGrow walk.old walk.new }
     ensures lies { IfOk result (λ found. IfSome found (λ leads.
         IsLocation maps.now uri.now (string_bytes leads.path) leads.is_mapped)) }
 {
@@ -217,7 +217,7 @@ fn find_link<F: Files>(
     literal: &str,
     place: FaultPlace,
 ) -> Result<Option<FoundFile>, AllocError>
-    ensures grows { vec_len walk.old.entries ≤ vec_len walk.new.entries }
+    ensures grows { EntriesGrow walk.old walk.new }
     ensures led { IfOk result (λ found. IfSome found (λ file.
         LeadsTo (F.leads files.now) ways.now.maps.now base.now literal.now
         (string_bytes file.uri) (string_bytes file.path))) }
@@ -251,7 +251,7 @@ fn follow_link<F: Files>(
     literal: &str,
     place: FaultPlace,
 ) -> Result<Option<usize>, AllocError>
-    ensures { vec_len walk.old.entries ≤ vec_len walk.new.entries }
+    ensures { EntriesGrow walk.old walk.new }
 {
     match find_link(alloc, files, ways, walk, base, literal, place)? {
         Some(found) => enter_found(ways, walk, found, place),
@@ -269,7 +269,7 @@ fn follow_links<F: Files>(
     base: &str,
     outline: &Outline,
 ) -> Result<Vec<usize>, AllocError>
-    ensures { vec_len walk.old.entries ≤ vec_len walk.new.entries }
+    ensures { EntriesGrow walk.old walk.new }
 {
     let mut targets = Vec::new(alloc);
     for part in &outline.parts {

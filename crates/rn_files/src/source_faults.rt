@@ -51,7 +51,7 @@ pub enum FaultKind {
 /// A fault and its place.
 #[derive(Debug, Drop, PartialEq, Eq)]
 pub struct SourceFault {
-    /// What it is about.
+    /// What the fault is about.
     pub place: FaultPlace,
     /// What is wrong there.
     pub kind: FaultKind,

@@ -126,8 +126,8 @@ fn given_root<F: Files>(
     }))
 }
 
-/// What was read and what is wrong.
-fn refusal(
+/// What was read on a walk that found faults, and what is wrong.
+fn reading_of_walk(
     alloc: Global,
     walk: Walk,
     followed: Vec<Followed>,
@@ -200,8 +200,12 @@ fn sources<F: Files>(
     Ok(sources)
 }
 
-/// A fault of files that were all read.
-fn refuse(alloc: Global, sources: Sources, fault: SourceFault) -> Result<Reading, AllocError> {
+/// What was read of files that have no fault of their own, and what is wrong with them together.
+fn reading_of_sources(
+    alloc: Global,
+    sources: Sources,
+    fault: SourceFault,
+) -> Result<Reading, AllocError> {
     let Sources { files, .. } = sources;
     let mut attempts = Vec::new(alloc);
     for source in files {
@@ -226,7 +230,7 @@ fn check_sources(alloc: Global, sources: Sources) -> Result<Sources, ReadFault>
     ensures same { IfOk result (λ s. s ≡ sources) }
 {
     match fault_of(alloc, &sources)? {
-        Some(fault) => Err(ReadFault::Faults(refuse(alloc, sources, fault)?)),
+        Some(fault) => Err(ReadFault::Faults(reading_of_sources(alloc, sources, fault)?)),
         None => Ok(sources),
     }
 }
@@ -317,7 +321,7 @@ pub fn read_sources<F: Files>(
     } = find_files(alloc, files, asked, &mut walk)?;
     let names = name_files(alloc, folder, &mut walk)?;
     if !walk.faults.is_empty() {
-        return Err(ReadFault::Faults(refusal(alloc, walk, followed, names)?));
+        return Err(ReadFault::Faults(reading_of_walk(alloc, walk, followed, names)?));
     }
     let files = sources(alloc, files, walk.entries, followed, names)?;
     check_sources(alloc, Sources { files, roots })

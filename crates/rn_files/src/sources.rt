@@ -26,7 +26,7 @@ pub struct SourceFile {
     pub uri: String,
     /// The bytes of the file.
     pub text: String,
-    /// That of the text.
+    /// The outline of the text.
     pub outline: Outline,
     /// For each external and include of the outline, in order, the number of the file that is meant.
     pub targets: Vec<usize>,
@@ -35,7 +35,7 @@ pub struct SourceFile {
 /// The files that are asked for and all that they reach: first those asked for, and then as they are first referred to.
 #[derive(Debug, Drop, PartialEq, Eq)]
 pub struct Sources {
-    /// In that order; each is there once, however it is spelled.
+    /// First those asked for, and then the others as they are first referred to; each is there once, however it is spelled.
     pub files: Vec<SourceFile>,
     /// The numbers of the files that are asked for, each once, in order.
     pub roots: Vec<usize>,
@@ -48,6 +48,6 @@ pub struct Attempt {
     pub name: String,
     /// The file as it is told to people.
     pub shown: String,
-    /// The front of it that is UTF-8.
+    /// The front of the file's text that is UTF-8.
     pub text: String,
 }

@@ -15,7 +15,7 @@ pub struct SplitUri<'a> {
     pub scheme: Option<&'a str>,
     /// What stands between two slashes and the next one (3.2); it may be empty.
     pub authority: Option<&'a str>,
-    /// What is left (3.3).
+    /// The path: what is left behind the other parts (3.3).
     pub path: &'a str,
 }
 

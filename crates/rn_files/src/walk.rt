@@ -1,5 +1,6 @@
 // Files as they are found, each once.
-ghost use Rattle.std.specs.Prelude.{◌≡◌, ◌≤◌, IfOk, IfSome, Ok, vec_len};
+ghost use Rattle.std.specs.Prelude.{◌≡◌, IfOk, IfSome, Ok};
+ghost use Rattle.rn_files.specs.inside.Following.{EntriesGrow};
 
 use crate::files::FileFault;
 use crate::source_faults::{FaultKind, FaultPlace, SourceFault};
@@ -80,7 +81,7 @@ impl Walk {
 
     /// Keeps a fault.
     pub fn note(&mut self, place: FaultPlace, kind: FaultKind) -> Result<(), AllocError>
-        ensures { vec_len self.old.entries ≤ vec_len self.new.entries }
+        ensures { EntriesGrow self.old self.new }
     {
         self.faults.push(SourceFault { place, kind })?;
         Ok(())
@@ -92,7 +93,7 @@ impl Walk {
         place: FaultPlace,
         answer: Result<T, FileFault>,
     ) -> Result<Option<T>, AllocError>
-        ensures grows { vec_len self.old.entries ≤ vec_len self.new.entries }
+        ensures grows { EntriesGrow self.old self.new }
         ensures answered { IfOk result (λ noted. IfSome noted (λ value. answer ≡ Ok value)) }
     {
         match answer {
@@ -111,7 +112,7 @@ impl Walk {
         place: FaultPlace,
         answer: Result<T, ReferenceFault>,
     ) -> Result<Option<T>, AllocError>
-        ensures grows { vec_len self.old.entries ≤ vec_len self.new.entries }
+        ensures grows { EntriesGrow self.old self.new }
         ensures answered { IfOk result (λ noted. IfSome noted (λ value. answer ≡ Ok value)) }
     {
         match answer {
@@ -130,7 +131,7 @@ impl Walk {
         found: FoundFile,
         place: FaultPlace,
     ) -> Result<Option<usize>, AllocError>
-        ensures { vec_len self.old.entries ≤ vec_len self.new.entries }
+        ensures { EntriesGrow self.old self.new }
     {
         if let Some(number) = self.numbers.get(found.path.as_str()) {
             return Ok(Some(*number));
@@ -144,7 +145,7 @@ impl Walk {
 
     /// Puts a file behind the others.
     fn add(&mut self, found: FoundFile, place: FaultPlace) -> Result<Option<usize>, AllocError>
-        ensures { vec_len self.old.entries ≤ vec_len self.new.entries }
+        ensures { EntriesGrow self.old self.new }
     {
         let number = self.entries.len();
         let path = found.path.clone()?;

@@ -2,7 +2,7 @@
 ghost use Rattle.std.specs.Prelude.{◌≡◌, false, [], IfOk, string_bytes};
 ghost use Rattle.std.specs.List.{list_any};
 
-use crate::bodies::{BodyChunks, Chunk};
+use crate::body_chunks::{BodyChunks, Chunk};
 use crate::prefixes::Prefixes;
 use crate::scope_definitions::{Definition, Definitions, ScopedName};
 use rn_outline::{Method, Outline, Part, PartKind};
@@ -18,7 +18,7 @@ pub const MAX_EXCEPTS: usize = 4_194_304;
 #[derive(Drop)]
 pub(crate) struct Spliced {
     pub(crate) declarations: String,
-    /// By the numbers of the parts, which rise.
+    /// What stands in the place of each reference, by the numbers of the parts, which rise.
     texts: Vec<(usize, String)>,
 }
 

@@ -2,7 +2,7 @@
 //! `grammar` and bare patterns, each byte with its origin (RELAX NG 2001, 4.6, 4.7, 4.18, 7.1.4).
 #![tactic(auto)]
 
-mod bodies;
+mod body_chunks;
 mod draft;
 mod edits;
 mod excepts;

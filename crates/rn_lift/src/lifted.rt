@@ -9,7 +9,7 @@ use std::collections::BTreeSet;
 /// bytes of a file from `at` on, or they were made for what stands at `at`. All are counts of bytes.
 #[derive(Clone, Copy, Debug, PartialEq, Eq)]
 pub struct Piece {
-    /// The first byte of the module's text that belongs to it.
+    /// The first byte of the module's text that belongs to the piece.
     pub from: usize,
     /// The number of the file.
     pub file: usize,
@@ -33,13 +33,13 @@ pub struct Basis {
 /// A module of the compact syntax without `external`, `parent`, nested `grammar` and bare patterns.
 #[derive(Debug, Drop, PartialEq, Eq)]
 pub struct LiftedModule {
-    /// No other module has it.
+    /// The name, which no other module has.
     pub name: String,
-    /// Each byte has its origin in `pieces`.
+    /// The text; each byte has its origin in `pieces`.
     pub text: String,
-    /// In the order of their `from`, each with its own.
+    /// Where the bytes of the text come from, in the order of their `from`, of which no two are equal.
     pub pieces: Vec<Piece>,
-    /// `None` for a module that brings in a scope.
+    /// What the module was made of; `None` for one that brings in a scope.
     pub basis: Option<Basis>,
 }
 
@@ -50,7 +50,7 @@ pub struct Lifted {
     pub modules: Vec<LiftedModule>,
     /// What stands before the first dot of the names of their own.
     pub(crate) made_stems: BTreeSet<String>,
-    /// What stands behind that dot for a start.
+    /// What stands behind the first dot of the name of a start.
     pub(crate) start: String,
 }
 

@@ -9,8 +9,8 @@ ghost use Rattle.rn_plan.specs.ScopeEntries.{entry_of};
 
 use crate::excepts::Excepts;
 use crate::lifted::{Lifted, LiftedModule, Piece};
-use crate::module_texts::module_at;
-use rn_plan::{LiftFault, LiftFaultKind, Lifting, Names, Plan, Scope, Units, make_plan};
+use crate::module_texts::{module_at, unsound_fault};
+use rn_plan::{LiftFault, Lifting, Names, Plan, Scope, Units, make_plan};
 use rn_text::write_literal;
 use std::alloc::{AllocError, Global};
 use std::cmp::Ordering;
@@ -128,11 +128,7 @@ fn finish(plan: Plan, mut modules: Vec<LiftedModule>) -> Result<Lifted, LiftFaul
 {
     modules.sort_by(|a, b| a.name.cmp(&b.name))?;
     if !are_rising(modules.as_slice()) {
-        return Err(LiftFault {
-            file: 0,
-            at: 0,
-            kind: LiftFaultKind::Unsound,
-        });
+        return Err(unsound_fault());
     }
     let Plan { names, .. } = plan;
     let Names {

@@ -30,7 +30,7 @@ pub(crate) struct PlaceView<'u, 'a> {
     pub(crate) basis: Basis,
 }
 
-/// What was planned does not fit the files.
+/// What was planned does not fit the files, or the names of the modules don't rise.
 pub(crate) fn unsound_fault() -> LiftFault {
     LiftFault {
         file: 0,
@@ -212,7 +212,7 @@ impl<'u, 'a> PlaceView<'u, 'a> {
             PartKind::Define { name, .. } => self.name(alloc, scope, name_in(text, *name)),
             PartKind::Start { word, .. } => self.start(alloc, *word),
             PartKind::Reference { name } => {
-                self.name(alloc, plan.names_of(scope), name_in(text, *name))
+                self.name(alloc, plan.reference_scope_of(scope), name_in(text, *name))
             }
             PartKind::Parent { name } => self.parent(alloc, *name),
             PartKind::Include { .. } => Ok(Some(self.include(alloc, number)?)),

@@ -1,5 +1,6 @@
 // Prefixes of datatypes that come from another file.
 
+use rn_outline::unquoted_name;
 use rn_plan::{Given, Taken, Units};
 use rn_text::{Kind, Token, tokens, write_literal};
 use std::alloc::{AllocError, Global};
@@ -91,12 +92,22 @@ fn take_used(alloc: Global, text: &str, taken: &mut Taken) -> Result<(), AllocEr
     Ok(())
 }
 
+/// The prefix of a name that has one, and what stands behind its colon.
+pub(crate) fn split_name<'t>(token: &Token<'t>) -> Option<(&'t str, &'t str)> {
+    match token.kind {
+        Kind::Prefixed => token.text.split_once(':'),
+        _ => None,
+    }
+}
+
 /// The prefix of a name that has one, or the name.
 fn prefix_of<'t>(token: &Token<'t>) -> &'t str {
+    if let Some((prefix, _)) = split_name(token) {
+        return prefix;
+    }
     match token.kind {
-        Kind::Prefixed => token.text.split_once(':').map_or("", |(prefix, _)| prefix),
         Kind::Name | Kind::Keyword => token.text,
-        Kind::Quoted => token.text.strip_prefix('\\').unwrap_or(""),
+        Kind::Quoted => unquoted_name(token.text),
         _ => "",
     }
 }

@@ -36,7 +36,8 @@ pub(crate) struct Definition {
 
 #[derive(Drop)]
 pub(crate) struct Definitions {
-    /// In the order of places and parts; of a name of which the overridden ones are dropped, in that of a walk.
+    /// The definitions of each name, in the order of places and parts; once the overridden ones are dropped, in the order of a
+    /// walk.
     rows: BTreeMap<ScopedName, Vec<Definition>>,
     /// The names of which overridden definitions are not dropped yet.
     overridden: BTreeSet<ScopedName>,
@@ -219,7 +220,7 @@ impl Walk {
     }
 }
 
-/// The definitions of a place, among those in the order of places.
+/// Of definitions in the order of places, those of a place.
 fn definitions_of_place(all: &[Definition], place: usize) -> &[Definition] {
     let from = all.partition_point(|definition| definition.place < place);
     let to = all.partition_point(|definition| definition.place <= place);

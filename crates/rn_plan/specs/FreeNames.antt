@@ -21,7 +21,7 @@ name_span _ = None
 abbrev pub IsNoOwn : BTreeSet (String Global) → List ℕ → Type 0
 IsNoOwn own name = (stem rest : List ℕ) → name ≡ stem ++ (46 ∷ rest) → contains_text own stem ≡ false
 
--- a name that is not that of a start either
+-- a name that is not that of a start, and does not begin with one of these stems and a dot
 abbrev pub IsFreeName : BTreeSet (String Global) → List ℕ → List ℕ → Type 0
 IsFreeName own start name = (name ≢ start) × IsNoOwn own name
 

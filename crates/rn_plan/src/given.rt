@@ -3,7 +3,7 @@ ghost use Rattle.std.specs.Prelude.{◌≡◌, IfOk};
 ghost use Rattle.rn_outline.specs.Links.{behind_first, first_of, targets_of};
 ghost use Rattle.rn_plan.specs.UnitFiles.{HasTargets, target_of};
 
-use crate::bindings::Bindings;
+use crate::outline_bindings::OutlineBindings;
 use rn_outline::{Outline, Part, is_link};
 use std::alloc::{AllocError, Global};
 
@@ -14,7 +14,7 @@ pub struct Lifting<'a> {
     pub name: &'a str,
     /// Its bytes are what spans of the outline count.
     pub text: &'a str,
-    /// That of the text, from [`rn_outline::read_outline`].
+    /// The outline of the text, from [`rn_outline::read_outline`].
     pub outline: &'a Outline,
     /// For each external and include of the outline, in its order, the number of the file that is
     /// meant.
@@ -28,7 +28,7 @@ pub struct Given<'a> {
     pub file: Lifting<'a>,
     /// For each part of the outline, the number of the file that it names, if it names one.
     pub targets: Vec<Option<usize>>,
-    pub(crate) bindings: Bindings,
+    pub(crate) bindings: OutlineBindings,
     pub(crate) first: usize,
 }
 
@@ -42,7 +42,7 @@ impl<'a> Given<'a> {
         Ok(Given {
             file,
             targets: targets_of(alloc, outline.parts.as_slice(), file.targets)?,
-            bindings: Bindings::of(alloc, file.text, outline)?,
+            bindings: OutlineBindings::of(alloc, file.text, outline)?,
             first,
         })
     }

@@ -3,12 +3,12 @@
 //! (RELAX NG 2001, 4.6, 4.7, 4.8, 4.18).
 #![tactic(auto)]
 
-mod bindings;
 mod free_names;
 pub mod given;
 pub mod lift_fault;
 mod linking;
 mod namespaces;
+mod outline_bindings;
 pub mod own_names;
 pub mod plan;
 mod root_includes;

@@ -32,7 +32,7 @@ impl Named {
         }
     }
 
-    /// The unit of the file.
+    /// The unit of the file that is named.
     pub(crate) fn unit(self, units: &Units<'_>, here: Here) -> Result<usize, LiftFault> {
         match self.target.and_then(|file| units.number(file, 0)) {
             Some(unit) => Ok(unit),

@@ -1,7 +1,7 @@
 // Namespaces that are handed on, by numbers.
 
-use crate::bindings::Namespace;
 use crate::given::Given;
+use crate::outline_bindings::Namespace;
 use rn_outline::{Span, name_in};
 use std::alloc::{AllocError, Global};
 use std::collections::BTreeMap;

@@ -10,7 +10,7 @@ use rn_outline::{PartKind, Span, name_in};
 use std::alloc::{AllocError, Global};
 use std::collections::{BTreeMap, BTreeSet};
 
-/// How many bytes of a file's name a name of its own takes.
+/// The most characters of a file's name that the stem of a name of its own takes.
 const STEM_LIMIT: usize = 80;
 
 /// Names that are taken, and from which number on others made of the same name may be free.
@@ -36,7 +36,7 @@ fn add(names: &mut BTreeSet<String>, name: String) -> Result<(), AllocError>
 }
 
 impl Taken {
-    /// None is taken.
+    /// No name is taken.
     pub fn new(alloc: Global) -> Self {
         Taken {
             names: BTreeSet::new(alloc),
@@ -67,7 +67,7 @@ impl Taken {
         Ok(made)
     }
 
-    /// The first free one of those, and its number.
+    /// The first free one of a name, the name with `-2` behind it, with `-3` and so on, and its number: 1 for the name itself.
     fn first_free_name(&self, alloc: Global, name: &str) -> Result<(String, u64), AllocError>
         ensures { IfOk result (λ r. contains_text self.now.names (string_bytes r.0) ≡ false) }
     {

@@ -46,7 +46,7 @@ impl Plan {
         let mut scopes = Vec::new(alloc);
         scopes.push(Scope {
             stem: String::new(alloc),
-            names: ROOT,
+            reference_scope: ROOT,
             parent: None,
             namespace: 0,
             entry: 0,
@@ -283,7 +283,10 @@ impl Plan {
         namespace: usize,
         at: usize,
     ) -> Result<usize, LiftFault> {
-        let around = self.scopes.get(here.scope).map(|scope| scope.names);
+        let around = self
+            .scopes
+            .get(here.scope)
+            .map(|scope| scope.reference_scope);
         let key = ScopeKey {
             unit,
             namespace,
@@ -317,17 +320,17 @@ impl Plan {
         at: usize,
     ) -> Result<Scope, LiftFault> {
         let (around, above) = match self.scopes.get(here.scope) {
-            Some(scope) => (scope.names, self.parent_of(scope.names)),
+            Some(scope) => (scope.reference_scope, self.parent_of(scope.reference_scope)),
             None => (ROOT, None),
         };
-        let (names, parent) = if units.is_pattern(unit) {
+        let (reference_scope, parent) = if units.is_pattern(unit) {
             (around, above)
         } else {
             (self.scopes.len(), Some(around))
         };
         Ok(Scope {
             stem: self.names.stem(alloc, units, unit)?,
-            names,
+            reference_scope,
             parent,
             namespace,
             entry: 0,

@@ -15,9 +15,9 @@ pub const ROOT: usize = 0;
 pub struct Scope {
     /// What stands before the dot of its names; nothing, for the roots.
     pub stem: String,
-    /// The scope that references mean: itself, for a grammar; that around it, for a pattern.
-    pub names: usize,
-    /// The scope that references behind `parent` mean.
+    /// The number of the scope that references mean: itself, for a grammar; that around it, for a pattern.
+    pub reference_scope: usize,
+    /// The number of the scope that references behind `parent` mean.
     pub parent: Option<usize>,
     /// The number of the namespace that is handed to it.
     pub(crate) namespace: usize,
@@ -51,7 +51,7 @@ pub struct PlacedUnit {
 pub struct Link {
     /// The number of the part in its file's outline.
     pub part: usize,
-    /// The number of the place, or of the scope.
+    /// The number of the place or the scope that the part leads to.
     pub to: usize,
 }
 
@@ -86,7 +86,7 @@ pub struct Plan {
 }
 
 impl Plan {
-    /// The scope that references behind `parent` mean in a scope.
+    /// The number of the scope that references behind `parent` mean in a scope.
     pub fn parent_of(&self, scope: usize) -> Option<usize> {
         self.scopes.get(scope)?.parent
     }
@@ -106,15 +106,15 @@ impl Plan {
         }
     }
 
-    /// The scope that references in a scope mean.
-    pub fn names_of(&self, scope: usize) -> usize
+    /// The number of the scope that references in a scope mean.
+    pub fn reference_scope_of(&self, scope: usize) -> usize
         ensures { scope ≡ ROOT → result ≡ ROOT }
     {
         if scope == ROOT {
             return ROOT;
         }
         match self.scopes.get(scope) {
-            Some(scope) => scope.names,
+            Some(scope) => scope.reference_scope,
             None => ROOT,
         }
     }
@@ -131,7 +131,7 @@ impl Plan {
     pub fn scope_meant(&self, place: usize, part: usize, kind: &PartKind) -> Option<usize> {
         let scope = self.places.get(place)?.scope;
         match kind {
-            PartKind::Reference { .. } => Some(self.names_of(scope)),
+            PartKind::Reference { .. } => Some(self.reference_scope_of(scope)),
             PartKind::Parent { .. } => self.parent_of(scope),
             PartKind::External { .. } | PartKind::Grammar { .. } => self.leads_to(place, part),
             _ => None,

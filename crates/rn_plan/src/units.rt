@@ -40,9 +40,9 @@ impl Unit {
 /// The grammars of files, those of a file side by side in the order of their numbers.
 #[derive(Drop)]
 pub struct Units<'a> {
-    /// In the order in which they were given.
+    /// The files, in the order in which they were given.
     pub files: Vec<Given<'a>>,
-    /// Those of the first file first.
+    /// The units of all files, those of the first file first.
     pub units: Vec<Unit>,
 }
 

@@ -1,9 +1,14 @@
--- What was read of files, and which files references lead to.
-use Rattle.std.specs.Prelude.{ℕ, Bool, List, IfSome, string_bytes}
+-- What was found and read of files, and which files references lead to.
+use Rattle.std.specs.Prelude.{ℕ, ◌≤◌, Bool, List, IfSome, string_bytes, vec_len}
 use Rattle.rn_files.specs.inside.Maps.{IsLocation}
 use Rattle.rn_files.specs.inside.UriReferences.{StandsFor}
 use Rattle.rn_files.specs.declared.maps.Map.{Map}
 use Rattle.rn_files.specs.declared.walk.Followed.{Followed}
+use Rattle.rn_files.specs.declared.walk.Walk.{Walk}
+
+-- a walk found as many files as it had found before, or more
+abbrev pub EntriesGrow : Walk → Walk → Type 0
+EntriesGrow before after = vec_len before.entries ≤ vec_len after.entries
 
 -- where a file has no fault, its text is what is given at its path
 abbrev pub IsFollowed : (List ℕ → List ℕ → Type 0) → Followed → Type 0

@@ -15,7 +15,7 @@ is_whole prefix rest = length rest == 0 || slice_index rest 0 == 47 || ends_with
 abbrev pub behind : List ℕ → List ℕ → Option (List ℕ)
 behind uri prefix = if starts_with nat_eq uri prefix then Some (drop (length prefix) uri) else None
 
--- the rest, if it begins where a segment ends
+-- the rest behind a prefix, if it begins where a segment ends
 abbrev pub if_whole : List ℕ → Option (List ℕ) → Option (List ℕ)
 if_whole prefix None = None
 if_whole prefix (Some rest) = if is_whole prefix rest then Some rest else None
@@ -51,11 +51,11 @@ abbrev pub below : List ℕ → List ℕ → List ℕ
 below folder rest =
     folder ++ (if is_whole folder rest then [] else codes "/") ++ percent_decode rest
 
--- the scheme is `file`, in any case
+-- the scheme of a URI is `file`, in upper or lower case
 abbrev pub is_file_scheme : Option (List ℕ) → Bool
 is_file_scheme scheme = option_map_or (λ s. str_eq_ignore_ascii_case s (codes "file")) scheme false
 
--- no host is named
+-- the authority of a URI names no host
 abbrev pub has_no_host : Option (List ℕ) → Bool
 has_no_host authority = option_map_or (λ a. length a == 0) authority true
 

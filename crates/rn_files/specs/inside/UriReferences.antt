@@ -22,7 +22,7 @@ abbrev pub LeadAbove : List Segment → Type 0
 LeadAbove ss = (before : List Segment) × (up : Segment) × (after : List Segment) × (ss ≡ before ++ (up ∷ after))
     × (finds_none (walked_folder before) up ≡ true)
 
--- the segments of its path, before the dot segments are removed
+-- the segments of the path that a reference in a file with the URI `base` stands for, before the dot segments are removed
 abbrev pub target_segments : List ℕ → List ℕ → List Segment
 target_segments base reference = uris.dotted_segments (parts_of base) (parts_of (escaped_reference reference))
 

@@ -1,12 +1,12 @@
 -- Each part of the grammar stays, or an edit is for it: the edits are added one by one.
-use Rattle.std.proofs.Common.{◌≡◌, ℕ, ◌<◌, ◌+◌, ◌⊎◌, inl, inr, List, [], ◌∷◌, ◌++◌, map, refl, sym, ap, subst}
+use Rattle.std.proofs.Common.{◌≡◌, ℕ, ◌<◌, ◌+◌, ◌⊎◌, inl, inr, List, [], ◌∷◌, ◌++◌, map, refl, sym, ap, subst, below_more}
 use Rattle.std.specs.Prelude.{Contains}
 use Rattle.std.proofs.lemmas.List.Elements.{All-push}
 use Rattle.rn_lift.specs.inside.Planned.{AddsEdit, IsCovered, IsEditOf, StaysAt}
 use Rattle.rn_lift.specs.StandIns.{Stays}
 use Rattle.rn_lift.specs.declared.edits.Edit.{Edit}
 use Rattle.rn_lift.specs.declared.module_texts.PlaceView.{PlaceView}
-use Rattle.rn_lift.proofs.OneMore.{below_next, last_there, still_there}
+use Rattle.rn_lift.proofs.OneMore.{last_there, still_there}
 
 abbrev parts_of : List Edit → List ℕ
 parts_of es = map (λ e. e.part) es
@@ -33,4 +33,4 @@ one_added v number es new e q i s = subst (λ (l : List Edit). AddsEdit v number
 
 -- the parts so far, and one more
 pub more : (v : PlaceView) (es new : List Edit) (i : ℕ) → AddsEdit v i es new → ((n : ℕ) → n < i → IsCovered v es n) → (n : ℕ) → n < i + 1 → IsCovered v new n
-more v es new i a h = below_next (IsCovered v new) i (λ m k. a.kept m (h m k)) a.covered
+more v es new i a h = below_more (IsCovered v new) i (λ m k. a.kept m (h m k)) a.covered

@@ -1,4 +1,4 @@
-use Rattle.rn_files.proofs.NameFacts.{name_is_named}
+use Rattle.rn_files.proofs.NamesReadBack.{name_is_named}
 use Rattle.rn_files.proofs.laws.names_are_those_of_modules.Goals as goal
 
 pub returns : goal.returns

@@ -1,4 +1,4 @@
-use Rattle.rn_files.proofs.MapFacts.{longest_found}
+use Rattle.rn_files.proofs.LongestPrefixes.{longest_found}
 use Rattle.rn_files.proofs.maps.longest_prefix.Goals as goal
 
 pub returns : goal.returns

@@ -1,7 +1,7 @@
 use Rattle.std.proofs.Common.{◌≡◌, take}
 use Rattle.std.specs.List.{fold}
 use Rattle.std.specs.Prelude.{None}
-use Rattle.rn_files.proofs.MapFacts.{better, seen}
+use Rattle.rn_files.proofs.LongestPrefixes.{better, seen}
 use Rattle.rn_files.proofs.maps.longest_prefix.Given as goal
 
 -- the best of the maps so far

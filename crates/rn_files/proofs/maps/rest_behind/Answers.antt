@@ -1,4 +1,4 @@
-use Rattle.rn_files.proofs.MapFacts.{stripped}
+use Rattle.rn_files.proofs.LongestPrefixes.{stripped}
 use Rattle.rn_files.proofs.maps.rest_behind.Goals as goal
 
 pub returns : goal.returns

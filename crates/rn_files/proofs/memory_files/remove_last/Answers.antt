@@ -1,7 +1,7 @@
 use Rattle.std.proofs.Common.{lit<, ◌∙◌}
 use Rattle.std.specs.Prelude.{Some, None, string_bytes}
 use Rattle.std.proofs.lemmas.Str.Pattern.{rfind_char}
-use Rattle.rn_files.proofs.UriFacts.{last_at, no_last}
+use Rattle.rn_files.proofs.SlashPlaces.{last_at, no_last}
 use Rattle.rn_files.proofs.memory_files.remove_last.Goals as goal
 
 pub returns-in-Some : goal.returns-in-Some

@@ -1,5 +1,5 @@
 use Rattle.std.proofs.Common.{ap, sym, ◌∙◌}
-use Rattle.rn_files.proofs.PathFacts.{pushed, texts}
+use Rattle.rn_files.proofs.WalkedSegments.{pushed, texts}
 use Rattle.rn_files.proofs.paths.enter.Goals as goal
 
 pub returns : goal.returns

@@ -1,4 +1,4 @@
-use Rattle.rn_files.proofs.PathFacts.{joined_all}
+use Rattle.rn_files.proofs.WalkedSegments.{joined_all}
 use Rattle.rn_files.proofs.paths.joined_path.Goals as goal
 
 pub returns : goal.returns

@@ -1,6 +1,6 @@
 use Rattle.std.proofs.Common.{arith}
 use Rattle.std.proofs.lemmas.List.{length-map}
-use Rattle.rn_files.proofs.PathFacts.{above_at, led_more, never_above, texts, within_more}
+use Rattle.rn_files.proofs.WalkedSegments.{above_at, led_more, never_above, texts, within_more}
 use Rattle.rn_files.proofs.paths.lead_above.Goals as goal
 
 pub loop-segment-preserved : goal.loop-segment-preserved

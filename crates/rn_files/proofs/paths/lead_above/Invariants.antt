@@ -1,6 +1,6 @@
 use Rattle.std.proofs.Common.{◌≡◌, take}
 use Rattle.rn_files.specs.Paths.{walked_folder}
-use Rattle.rn_files.proofs.PathFacts.{AreWithin, texts}
+use Rattle.rn_files.proofs.WalkedSegments.{AreWithin, texts}
 use Rattle.rn_files.proofs.paths.lead_above.Given as goal
 
 -- where the segments so far lead, and none of them leads above

@@ -1,7 +1,7 @@
 use Rattle.std.proofs.Common.{ap, drop, lit<, sym, ◌∙◌}
 use Rattle.std.specs.Prelude.{Some, None}
 use Rattle.std.proofs.lemmas.Str.Pattern.{find_char}
-use Rattle.rn_files.proofs.UriFacts.{all_before, from_start, no_slash, none_behind, slash_at}
+use Rattle.rn_files.proofs.SlashPlaces.{all_before, from_start, no_slash, none_behind, slash_at}
 use Rattle.rn_files.proofs.uris.split_at_slash.Goals as goal
 
 pub returns-in-Some-clause-before : goal.returns-in-Some-clause-before

@@ -1,4 +1,4 @@
--- Facts on the parts of URIs.
+-- Where the first and the last slash of a text are, and what stands before and behind them.
 use Rattle.std.proofs.Common.{◌≡◌, ℕ, ◌+◌, ◌-◌, ◌<◌, Bool, not, arith, List, [], length, get_or, take, ap, sym, ◌∙◌}
 use Rattle.std.specs.Prelude.{◌≢◌, slice_range}
 use Rattle.std.specs.List.{position_or_len, before_first, before_last, suffix_len}

@@ -1,4 +1,4 @@
--- Facts on names of modules.
+-- The name that is made of a path is read back by decoding its escapes, and is a module's name.
 use Rattle.std.proofs.Common.{◌≡◌, ℕ, ◌≤◌, inl, inr, length, true, List, [], ◌∷◌, ◌++◌, ap, sym, ◌∙◌, arith}
 use Rattle.std.specs.List.{list_all}
 use Rattle.std.proofs.lemmas.List.Sums.{list_all-from_AllPass}

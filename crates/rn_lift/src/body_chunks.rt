@@ -2,9 +2,10 @@
 ghost use Rattle.std.specs.Prelude.{◌<◌, length, IfOk};
 ghost use Rattle.rn_text.specs.Reading.{Advanced};
 
+use crate::prefixes::split_name;
 use rn_outline::{Part, PartKind, Span, annotation_end};
 use rn_plan::Units;
-use rn_text::{Kind, Token, tokens};
+use rn_text::{Token, tokens};
 use std::alloc::{AllocError, Global};
 use std::collections::BTreeMap;
 
@@ -22,7 +23,7 @@ pub(crate) enum Chunk {
 #[derive(Drop)]
 pub(crate) struct BodyChunks {
     bodies: Vec<Vec<Chunk>>,
-    /// By file and part.
+    /// The number of each body, by the file and the part of its definition.
     numbers: BTreeMap<(usize, usize), usize>,
 }
 
@@ -158,15 +159,13 @@ impl Cutter {
     }
 
     fn push(&mut self, alloc: Global, token: &Token<'_>) -> Result<(), AllocError> {
-        if token.kind == Kind::Prefixed {
-            if let Some((prefix, local)) = token.text.split_once(':') {
-                self.push_text(alloc, " ")?;
-                self.chunks.push(Chunk::Datatype {
-                    prefix: String::from_str(alloc, prefix)?,
-                    local: String::from_str(alloc, local)?,
-                })?;
-                return Ok(());
-            }
+        if let Some((prefix, local)) = split_name(token) {
+            self.push_text(alloc, " ")?;
+            self.chunks.push(Chunk::Datatype {
+                prefix: String::from_str(alloc, prefix)?,
+                local: String::from_str(alloc, local)?,
+            })?;
+            return Ok(());
         }
         self.push_text(alloc, " ")?;
         self.push_text(alloc, token.text)

@@ -1,4 +1,4 @@
--- Facts on paths and their segments.
+-- Segments are walked one by one: the folder so far, whether one leads above the root, and how they are joined again.
 use Rattle.std.proofs.Common.{◌≡◌, ℕ, ◌+◌, ◌-◌, ◌<◌, ◌≤◌, ◌⊎◌, inl, inr, subst, arith, cond, Bool, true, false, List, [], ◌∷◌, ◌++◌, length, get_or, take, drop, map, refl, ap, sym, ◌∙◌, length-append}
 use Rattle.std.specs.Borrow.{Bor}
 use Rattle.std.specs.List.{fold, flat_map}

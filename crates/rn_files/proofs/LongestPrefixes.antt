@@ -1,4 +1,4 @@
--- Facts on maps.
+-- The map with the longest prefix of a URI is found by going through the maps once.
 use Rattle.std.proofs.Common.{◌≡◌, ℕ, ◌<◌, ◌≤◌, arith, cond, true, false, List, [], ◌∷◌, ◌++◌, length, drop, take, ap, refl, sym, subst, ◌∙◌, append_assoc}
 use Rattle.std.specs.Borrow.{Bor}
 use Rattle.std.specs.List.{fold, starts_with}
@@ -8,6 +8,7 @@ use Rattle.std.specs.Str.Pattern.{FindsTextPrefix, StripsPrefix}
 use Rattle.std.proofs.lemmas.Bool.{cond_both, ltb-true, ltb-false}
 use Rattle.std.proofs.lemmas.Bool.Decides.{Decides-eqb}
 use Rattle.std.proofs.lemmas.List.{append-nil, take_all}
+use Rattle.std.proofs.lemmas.Option.{IfSome_then}
 use Rattle.std.proofs.lemmas.List.Elements.{All-append, All-cons, All-nil, All-weaker}
 use Rattle.std.proofs.lemmas.Slice.Eq.{starts_is}
 use Rattle.std.proofs.lemmas.Str.Pattern.{starts_text}
@@ -28,10 +29,6 @@ IsBest maps uri best = MatchOption best (HasNoMap maps uri) (λ b. IsLongest map
 
 abbrev pub better : List ℕ → Option (List ℕ × List ℕ) → Map → Option (List ℕ × List ℕ)
 better uri best m = chosen best (string_bytes m.folder) (left_by uri m)
-
-if_some_weaker : {A : Type 0} (o : Option A) (P Q : A → Type 0) → ((x : A) → P x → Q x) → IfSome o P → IfSome o Q
-if_some_weaker None P Q to h = tt
-if_some_weaker (Some x) P Q to h = to x h
 
 abbrev LeavesMore : List ℕ → ℕ → Map → Type 0
 LeavesMore uri n m = IfSome (left_by uri m) (λ more. n < length more)
@@ -67,10 +64,10 @@ all_longer maps uri folder rest n (before, it, after, cut, named, left, ahead, b
     subst Q (sym cut)
     (All-append (LeavesMore uri n) before (it ∷ after)
     (All-weaker (LeavesMore uri (length rest)) (LeavesMore uri n)
-    (λ m. if_some_weaker (left_by uri m) (λ more. length rest < length more) (λ more. n < length more) (λ more h. omega (arith, h, less))) before ahead)
+    (λ m h. IfSome_then (left_by uri m) h (λ more l. omega (arith, l, less))) before ahead)
     (All-cons (LeavesMore uri n) it after here
     (All-weaker (LeavesNoLess uri (length rest)) (LeavesMore uri n)
-    (λ m. if_some_weaker (left_by uri m) (λ more. length rest ≤ length more) (λ more. n < length more) (λ more h. omega (arith, h, less))) after behind)))
+    (λ m h. IfSome_then (left_by uri m) h (λ more l. omega (arith, l, less))) after behind)))
 
 chosen_more : (maps : List Map) (uri : List ℕ) (m : Map) (best : Option (List ℕ × List ℕ)) (o : Option (List ℕ)) → left_by uri m ≡ o → IsBest maps uri best
     → IsBest (maps ++ (m ∷ [])) uri (chosen best (string_bytes m.folder) o)
@@ -109,7 +106,7 @@ read_best : (maps : List Map) (uri : List ℕ) (best : Option Reach) → IsBest 
 read_best maps uri None h = h
 read_best maps uri (Some b) h = h
 
--- the same of what the code has
+-- the longest one of the maps, as the code has it
 pub longest_found : (maps : List Map) (uri : List ℕ) (n : ℕ) (best : Option Reach) → length maps ≤ n
     → seen best ≡ fold (better uri) None (take n maps) → MatchOption best (HasNoMap maps uri) (λ b. IsLongest maps uri b.0.now b.1.now)
 longest_found maps uri n best all e =

@@ -5,9 +5,10 @@ use rn_syntax::{XML_URI, XSD_URI};
 use std::alloc::{AllocError, Global};
 use std::collections::BTreeMap;
 
-/// Prefixes, each with the number of its first declaration.
+/// The default namespace and the prefixes that the declarations of an outline bind, each by the number of its first
+/// declaration.
 #[derive(Drop)]
-pub(crate) struct Bindings {
+pub(crate) struct OutlineBindings {
     default: Option<usize>,
     namespaces: BTreeMap<String, usize>,
     libraries: BTreeMap<String, usize>,
@@ -34,10 +35,10 @@ fn bind(
     Ok(())
 }
 
-impl Bindings {
+impl OutlineBindings {
     /// What the declarations of an outline bind.
     pub(crate) fn of(alloc: Global, text: &str, outline: &Outline) -> Result<Self, AllocError> {
-        let mut bindings = Bindings {
+        let mut bindings = OutlineBindings {
             default: None,
             namespaces: BTreeMap::new(alloc),
             libraries: BTreeMap::new(alloc),
