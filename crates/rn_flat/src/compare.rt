@@ -45,7 +45,7 @@ pub fn check_file<F: Files>(
     };
     match first_difference(found.as_slice(), schema) {
         None => Ok(()),
-        Some(at) => Err(differs(alloc, path, found.as_slice(), schema, at, colours)?),
+        Some(at) => Err(difference_fault(alloc, path, found.as_slice(), schema, at, colours)?),
     }
 }
 
@@ -58,7 +58,7 @@ fn unread_fault(alloc: Global, path: &str, fault: FileFault) -> Result<FlatFault
 }
 
 /// The file that is checked is not the schema, from this byte on.
-fn differs(
+fn difference_fault(
     alloc: Global,
     path: &str,
     found: &[u8],

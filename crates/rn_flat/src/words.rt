@@ -3,6 +3,7 @@
 use clap::error::ErrorKind;
 use clap::{Arg, ArgAction, ArgMatches, Command};
 use rn_files::{Map, STANDARD_INPUT};
+use rn_merge::copies;
 use std::alloc::{AllocError, Global};
 use std::error::Error;
 use std::fmt;
@@ -31,7 +32,7 @@ pub enum Product {
     Graph,
 }
 
-/// What is done with it.
+/// What is done with the files.
 #[derive(Debug, Drop, PartialEq, Eq)]
 pub enum Task {
     /// A product is written to standard output, or to a file: whole, or not at all.
@@ -285,15 +286,6 @@ fn copy(alloc: Global, word: Option<&str>) -> Result<Option<String>, AllocError>
         Some(word) => Ok(Some(String::from_str(alloc, word)?)),
         None => Ok(None),
     }
-}
-
-/// Copies of the words.
-fn copies(alloc: Global, words: &[&str]) -> Result<Vec<String>, AllocError> {
-    let mut copies = Vec::new(alloc);
-    for word in words {
-        copies.push(String::from_str(alloc, word)?)?;
-    }
-    Ok(copies)
 }
 
 /// Two options can't be given together.

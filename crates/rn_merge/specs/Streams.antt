@@ -4,18 +4,14 @@ use Rattle.std.specs.Io.KnownBytes.{Consumes, Appends}
 use Rattle.rn_merge.specs.declared.streams.ReadFault.{ReadFault}
 use Rattle.rn_merge.specs.declared.streams.ReadFault.TheVariants.{Read, Large, Memory}
 
--- whether the list is empty
-abbrev pub is_empty : List ℕ → Bool
-is_empty xs = length xs == 0
-
 -- a pull that gives no byte into a place that isn't empty has found the end
 abbrev pub ends_input : {E : Type 0} → Result ℕ E → List ℕ → Bool
-ends_input (Ok n) into = n == 0 && not (is_empty into)
+ends_input (Ok n) into = n == 0 && not (length into == 0)
 ends_input (Err e) into = false
 
 -- a push fails, or takes no byte of a piece that isn't empty
 abbrev pub refuses_piece : {E : Type 0} → Result ℕ E → List ℕ → Bool
-refuses_piece (Ok n) piece = n == 0 && not (is_empty piece)
+refuses_piece (Ok n) piece = n == 0 && not (length piece == 0)
 refuses_piece (Err e) piece = true
 
 -- known bytes grow by a front of bs

@@ -17,4 +17,4 @@ pub use streams::{
 };
 pub use text_faults::{Place, check};
 pub use verdict::merge;
-pub use words::{Job, ProgramFault, STANDARD_INPUT, plan};
+pub use words::{Job, ProgramFault, STANDARD_INPUT, copies, plan};

@@ -41,7 +41,7 @@ pub enum Job {
     },
     /// Write the bundle of one withdrawal.
     Withdraw {
-        /// The module's name, as for `Pack`.
+        /// The module's name, of which nothing is tested yet.
         name: String,
         /// The revision that withdraws the module.
         revision: u64,
@@ -53,12 +53,12 @@ pub enum Job {
     },
     /// Write a line for each contribution of the union of bundles.
     List {
-        /// As for `Join`.
+        /// The files with the bundles, one or more.
         files: Vec<String>,
     },
     /// Write the schema of the union of bundles.
     Print {
-        /// As for `Join`; standard input alone where there are no words.
+        /// The files with the bundles, one or more; standard input alone where there are no words.
         files: Vec<String>,
     },
     /// Test one module text.
@@ -258,7 +258,8 @@ fn files(alloc: Global, words: &ArgMatches<'_>) -> Result<Vec<String>, ProgramFa
     Ok(copies(alloc, files)?)
 }
 
-fn copies(alloc: Global, words: &[&str]) -> Result<Vec<String>, AllocError>
+/// Copies of the words. Refused only for want of memory.
+pub fn copies(alloc: Global, words: &[&str]) -> Result<Vec<String>, AllocError>
     ensures { IfOk result
         (λ copies. map string_bytes copies.items ≡ map (λ word. word.now) words.now) }
 {

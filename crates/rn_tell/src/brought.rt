@@ -1,9 +1,7 @@
 // How modules come to a schema: instances of modules, one for each way of includes from a module that nobody includes.
 use crate::sites::{Site, Sites, key_of};
+use rn_assemble::INSTANCE_LIMIT;
 use std::alloc::{AllocError, Global};
-
-/// The most instances that a set may have; further ones are not looked at.
-pub const MAX_INSTANCES: usize = rn_assemble::INSTANCE_LIMIT;
 
 /// An instance of a module.
 #[derive(Clone, Copy, Debug, PartialEq, Eq)]
@@ -51,14 +49,14 @@ fn mark_included(sites: &Sites<'_>, module: usize, included: &mut Vec<bool>) {
     }
 }
 
-/// These instances and all that they bring.
+/// These instances and all that they bring; those beyond the limit are not looked at.
 fn instances_from(
     alloc: Global,
     sites: &Sites<'_>,
     roots: Vec<Instance>,
 ) -> Result<Vec<Instance>, AllocError> {
     let mut instances = roots;
-    for number in 0..MAX_INSTANCES {
+    for number in 0..INSTANCE_LIMIT {
         match instances.get(number).copied() {
             Some(instance) => bring(sites, number, instance.module, &mut instances)?,
             None => break,
@@ -75,7 +73,7 @@ fn bring(
     instances: &mut Vec<Instance>,
 ) -> Result<(), AllocError> {
     for part in 0..sites.parts(module).len() {
-        if instances.len() >= MAX_INSTANCES {
+        if instances.len() >= INSTANCE_LIMIT {
             break;
         }
         if let Some(target) = sites.included_module(Site { module, part }) {
@@ -110,7 +108,7 @@ pub fn instances_of(
 /// 4.7).
 pub fn is_hidden(sites: &Sites<'_>, instances: &[Instance], number: usize, key: &str) -> bool {
     let mut by = way_up(instances, number);
-    for _ in 0..MAX_INSTANCES {
+    for _ in 0..INSTANCE_LIMIT {
         let Some((above, part)) = by else {
             return false;
         };
@@ -164,7 +162,7 @@ fn push_keys<'v>(
 pub fn parting_includes(instances: &[Instance], one: usize, other: usize) -> Option<(Site, Site)> {
     let mut one = way_up(instances, one)?;
     let mut other = way_up(instances, other)?;
-    for _ in 0..MAX_INSTANCES {
+    for _ in 0..INSTANCE_LIMIT {
         let first = site_of(instances, one)?;
         let second = site_of(instances, other)?;
         if first != second {

@@ -4,13 +4,13 @@ use rn_outline::{Grouped, MAX_OPEN};
 use rn_text::{Token, tokens};
 use std::alloc::{AllocError, Global};
 
-/// Of bytes that are no UTF-8.
+/// The sentence on bytes that are no UTF-8.
 pub const ENCODING: &str = "the file is not UTF-8 from here on";
 
-/// Of what is no token, white space or comment.
+/// The sentence on what is no token, white space or comment.
 pub const LEXICAL: &str = "nothing that the compact syntax has begins like this";
 
-/// Of a request for memory that was refused.
+/// The sentence on a request for memory that was refused.
 pub const MEMORY: &str = "out of memory";
 
 /// A sentence that names a limit.
@@ -30,7 +30,7 @@ pub fn deep_sentence(alloc: Global) -> Result<String, AllocError> {
 }
 
 /// The byte where a text is at fault; the first one where memory did not suffice.
-pub fn place_at(place: &Place) -> usize {
+pub fn fault_byte(place: &Place) -> usize {
     place.kind_and_place().map_or(0, |(_, at)| at)
 }
 

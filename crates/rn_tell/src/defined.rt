@@ -16,7 +16,7 @@ pub struct Defined<'v> {
 
 /// A definition as it comes to the schema with an instance of its module.
 #[derive(Clone, Copy, Debug, PartialEq, Eq, PartialOrd, Ord)]
-pub struct Component {
+pub struct BroughtDefinition {
     /// The number of the instance of its module.
     pub instance: usize,
     /// The definition.
@@ -92,34 +92,34 @@ pub fn group_of<'d, 'v>(defined: &'d [Defined<'v>], key: &str) -> &'d [Defined<'
 
 /// These definitions, which take part in the schema, as they come to it. The numbers are those of the instances of each
 /// module.
-pub fn components(
+pub fn brought_definitions(
     alloc: Global,
     sites: &Sites<'_>,
     instances: &[Instance],
     own: &[Vec<usize>],
     defined: &[Defined<'_>],
-) -> Result<Vec<Component>, AllocError> {
-    let mut components = Vec::new(alloc);
+) -> Result<Vec<BroughtDefinition>, AllocError> {
+    let mut brought = Vec::new(alloc);
     for one in defined {
         if let Some(numbers) = own.get(one.site.module) {
-            push_components(sites, instances, numbers.as_slice(), *one, &mut components)?;
+            push_brought(sites, instances, numbers.as_slice(), *one, &mut brought)?;
         }
     }
-    components.sort()?;
-    Ok(components)
+    brought.sort()?;
+    Ok(brought)
 }
 
 /// Adds a definition once for each of these instances of its module with which it comes to the schema.
-fn push_components(
+fn push_brought(
     sites: &Sites<'_>,
     instances: &[Instance],
     numbers: &[usize],
     defined: Defined<'_>,
-    components: &mut Vec<Component>,
+    brought: &mut Vec<BroughtDefinition>,
 ) -> Result<(), AllocError> {
     for number in numbers {
         if !is_hidden(sites, instances, *number, defined.key) {
-            components.push(Component {
+            brought.push(BroughtDefinition {
                 instance: *number,
                 site: defined.site,
             })?;

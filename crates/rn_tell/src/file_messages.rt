@@ -3,7 +3,7 @@
 ghost use Rattle.std.specs.Prelude.{IfOk};
 ghost use Rattle.rn_tell.specs.Messages.{IsFew};
 
-use crate::check_sentences::{check_sentence, is_of_meaning, place_at};
+use crate::check_sentences::{check_sentence, fault_byte, is_of_meaning};
 use crate::fault_messages::{lift_message, lift_spot, reading_message, reading_spot};
 use crate::report::{Message, Messages, Page, Spot, attempt_pages, source_pages};
 use rn_files::{Reading, SourceFault, SourceFile};
@@ -18,7 +18,7 @@ use std::collections::BTreeSet;
 enum Fault<'f> {
     Reading(&'f SourceFault),
     Lift(&'f LiftFault),
-    /// Of what the text of a file means: of its prefixes, datatypes and values.
+    /// A fault of what the text of a file means: of its prefixes, datatypes and values.
     Meaning { file: usize, place: Place },
 }
 
@@ -29,7 +29,7 @@ fn spot_of(fault: &Fault<'_>) -> Option<Spot> {
         Fault::Lift(fault) => lift_spot(fault),
         Fault::Meaning { file, place } => Some(Spot {
             file: *file,
-            at: place_at(place),
+            at: fault_byte(place),
         }),
     }
 }
@@ -193,7 +193,7 @@ pub fn text_messages(alloc: Global, modules: &[LiftedModule]) -> Result<Messages
     let mut told = Messages::new(alloc);
     for module in modules {
         if let Some(place) = fault_of(alloc, module.text.as_str())? {
-            let origin = module.origin(place_at(&place));
+            let origin = module.origin(fault_byte(&place));
             if seen.insert(origin)? {
                 tell_text(alloc, &mut told, module, origin, &place)?;
             }

@@ -1,7 +1,7 @@
 // What is told of a refusal, before it is a sentence: the name that it is about, and the sites that are told.
 use crate::brought::{Instance, parting_includes};
-use crate::defined::{Component, Defined, components, group_of};
-use crate::further_refusals::{FurtherRefusal, Kind, has_method};
+use crate::defined::{BroughtDefinition, Defined, brought_definitions, group_of};
+use crate::further_refusals::{FurtherRefusal, RefusalKind, has_method};
 use crate::report::Page;
 use crate::sites::{Site, Sites, include_around};
 use rn_lift::Lifted;
@@ -31,7 +31,7 @@ pub struct Telling<'a> {
 #[derive(Clone, Copy, Debug, PartialEq, Eq, PartialOrd, Ord)]
 pub struct Finding<'v> {
     /// Its kind.
-    pub kind: Kind,
+    pub kind: RefusalKind,
     /// The key or the name, as the file writes it.
     pub name: &'v str,
     /// Where it is told; `None` where that is not found.
@@ -52,8 +52,11 @@ pub fn spelled_key<'k>(telling: &Telling<'_>, key: &'k str) -> &'k str {
 }
 
 /// The definitions of a key, as they come to the schema.
-pub fn components_of(telling: &Telling<'_>, key: &str) -> Result<Vec<Component>, AllocError> {
-    components(
+pub fn brought_definitions_of(
+    telling: &Telling<'_>,
+    key: &str,
+) -> Result<Vec<BroughtDefinition>, AllocError> {
+    brought_definitions(
         telling.alloc,
         telling.sites,
         telling.instances,
@@ -75,10 +78,10 @@ pub fn finding_of<'v>(
         elsewhere: None,
     };
     match refusal.kind {
-        Kind::Override => Ok(with_include(telling, finding)),
-        Kind::PlainTwice => with_plain_ones(telling, finding, refusal.key),
-        Kind::MixedMethods => with_both_methods(telling, finding, refusal.key),
-        Kind::NoStart | Kind::Undefined => Ok(finding),
+        RefusalKind::Override => Ok(with_include(telling, finding)),
+        RefusalKind::PlainTwice => with_plain_ones(telling, finding, refusal.key),
+        RefusalKind::MixedMethods => with_both_methods(telling, finding, refusal.key),
+        RefusalKind::NoStart | RefusalKind::Undefined => Ok(finding),
     }
 }
 
@@ -91,7 +94,7 @@ fn including(sites: &Sites<'_>, definition: Site) -> Option<Site> {
     })
 }
 
-/// With the include of the definition that overrides.
+/// The finding with the include of the definition that overrides.
 fn with_include<'v>(telling: &Telling<'_>, finding: Finding<'v>) -> Finding<'v> {
     let mut finding = finding;
     finding.there = finding
@@ -100,14 +103,14 @@ fn with_include<'v>(telling: &Telling<'_>, finding: Finding<'v>) -> Finding<'v> 
     finding
 }
 
-/// With two definitions by `=`; where they are one that comes twice, with the includes at which its ways part.
+/// The finding with two definitions by `=`; where they are one that comes twice, with the includes at which its ways part.
 fn with_plain_ones<'v>(
     telling: &Telling<'_>,
     finding: Finding<'v>,
     key: &str,
 ) -> Result<Finding<'v>, AllocError> {
     let mut finding = finding;
-    let found = components_of(telling, key)?;
+    let found = brought_definitions_of(telling, key)?;
     let mut plain = found
         .iter()
         .filter(|one| has_method(telling.sites, one.site, Method::Plain));
@@ -128,21 +131,21 @@ fn with_plain_ones<'v>(
 }
 
 /// The first definition of those by the method.
-fn first_by(telling: &Telling<'_>, found: &[Component], method: Method) -> Option<Site> {
+fn first_by(telling: &Telling<'_>, found: &[BroughtDefinition], method: Method) -> Option<Site> {
     let one = found
         .iter()
         .find(|one| has_method(telling.sites, one.site, method))?;
     Some(one.site)
 }
 
-/// With the first definitions by `|=` and by `&=`.
+/// The finding with the first definitions by `|=` and by `&=`.
 fn with_both_methods<'v>(
     telling: &Telling<'_>,
     finding: Finding<'v>,
     key: &str,
 ) -> Result<Finding<'v>, AllocError> {
     let mut finding = finding;
-    let found = components_of(telling, key)?;
+    let found = brought_definitions_of(telling, key)?;
     finding.here = first_by(telling, found.as_slice(), Method::Choice);
     finding.there = first_by(telling, found.as_slice(), Method::Interleave);
     Ok(finding)

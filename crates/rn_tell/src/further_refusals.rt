@@ -8,7 +8,7 @@ use std::alloc::{AllocError, Global};
 
 /// The kind of a refusal, in the order in which they are tested.
 #[derive(Clone, Copy, Debug, PartialEq, Eq, PartialOrd, Ord)]
-pub enum Kind {
+pub enum RefusalKind {
     /// An include overrides what is not there (RELAX NG 2001, 4.7).
     Override,
     /// A name is defined twice by `=` (4.17).
@@ -25,7 +25,7 @@ pub enum Kind {
 #[derive(Clone, Copy, Debug, PartialEq, Eq, PartialOrd, Ord)]
 pub struct FurtherRefusal<'v> {
     /// Its kind.
-    pub kind: Kind,
+    pub kind: RefusalKind,
     /// Of `Override` the module whose include is at fault, else nothing.
     pub module: &'v str,
     /// The key or the name; nothing for the start.
@@ -41,7 +41,7 @@ fn is_same(one: &FurtherRefusal<'_>, other: &FurtherRefusal<'_>) -> bool {
 }
 
 /// A refusal of a key, whichever module it is in.
-fn of_key(kind: Kind, key: &str) -> FurtherRefusal<'_> {
+fn of_key(kind: RefusalKind, key: &str) -> FurtherRefusal<'_> {
     FurtherRefusal {
         kind,
         module: "",
@@ -54,15 +54,15 @@ fn of_key(kind: Kind, key: &str) -> FurtherRefusal<'_> {
 fn found_of(refusal: &Refusal) -> Option<FurtherRefusal<'_>> {
     match refusal {
         Refusal::Override { module, key } => Some(FurtherRefusal {
-            kind: Kind::Override,
+            kind: RefusalKind::Override,
             module: module.as_str(),
             key: key_text(key),
             site: None,
         }),
-        Refusal::PlainTwice { key } => Some(of_key(Kind::PlainTwice, key_text(key))),
-        Refusal::MixedMethods { key } => Some(of_key(Kind::MixedMethods, key_text(key))),
-        Refusal::NoStart => Some(of_key(Kind::NoStart, "")),
-        Refusal::Undefined { name } => Some(of_key(Kind::Undefined, name.as_str())),
+        Refusal::PlainTwice { key } => Some(of_key(RefusalKind::PlainTwice, key_text(key))),
+        Refusal::MixedMethods { key } => Some(of_key(RefusalKind::MixedMethods, key_text(key))),
+        Refusal::NoStart => Some(of_key(RefusalKind::NoStart, "")),
+        Refusal::Undefined { name } => Some(of_key(RefusalKind::Undefined, name.as_str())),
         _ => None,
     }
 }
@@ -148,7 +148,7 @@ fn push_lacking<'v>(
         let key = one.key.as_str();
         if provided.binary_search(&key).is_err() {
             found.push(FurtherRefusal {
-                kind: Kind::Override,
+                kind: RefusalKind::Override,
                 module: sites.name(module),
                 key,
                 site: Some(Site {
@@ -168,7 +168,7 @@ fn push_combined<'v>(
     found: &mut Vec<FurtherRefusal<'v>>,
 ) -> Result<(), AllocError> {
     if group_of(defined, "").is_empty() {
-        found.push(of_key(Kind::NoStart, ""))?;
+        found.push(of_key(RefusalKind::NoStart, ""))?;
     }
     let mut before = None;
     for one in defined {
@@ -188,10 +188,10 @@ fn push_group<'v>(
     found: &mut Vec<FurtherRefusal<'v>>,
 ) -> Result<(), AllocError> {
     if is_plain_twice(sites, group) {
-        found.push(of_key(Kind::PlainTwice, key))?;
+        found.push(of_key(RefusalKind::PlainTwice, key))?;
     }
     if has_any(sites, group, Method::Choice) && has_any(sites, group, Method::Interleave) {
-        found.push(of_key(Kind::MixedMethods, key))?;
+        found.push(of_key(RefusalKind::MixedMethods, key))?;
     }
     Ok(())
 }
@@ -240,7 +240,7 @@ fn push_undefined_in<'v>(
 ) -> Result<(), AllocError> {
     for one in uses(alloc, sites, site)? {
         if group_of(defined, one.name).is_empty() {
-            let mut refusal = of_key(Kind::Undefined, one.name);
+            let mut refusal = of_key(RefusalKind::Undefined, one.name);
             refusal.site = Some(one.site);
             found.push(refusal)?;
         }

@@ -1,7 +1,6 @@
 // The sentences on refusals that are about all files together.
-use crate::brought::MAX_INSTANCES;
 use crate::check_sentences::{MEMORY, limit_sentence};
-use rn_assemble::Refusal;
+use rn_assemble::{INSTANCE_LIMIT, Refusal};
 use rn_modset::MAX_TEXT;
 use rn_outline::MAX_OPEN;
 use std::alloc::{AllocError, Global};
@@ -26,7 +25,7 @@ pub fn general_sentence(alloc: Global, refusal: &Refusal) -> Result<String, Allo
 fn instances_sentence(alloc: Global) -> Result<String, AllocError> {
     let behind =
         "instances of modules in all: each file that nobody includes is one, each inclusion is one, and each external or nested grammar is two";
-    limit_sentence(alloc, "the files come to more than", MAX_INSTANCES, behind)
+    limit_sentence(alloc, "the files come to more than", INSTANCE_LIMIT, behind)
 }
 
 fn deep_output_sentence(alloc: Global) -> Result<String, AllocError> {

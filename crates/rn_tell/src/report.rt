@@ -128,7 +128,7 @@ pub fn attempt_pages(alloc: Global, files: &[Attempt]) -> Result<Vec<Page<'_>>, 
 pub enum Colours {
     /// No colours.
     Plain,
-    /// Those of a terminal.
+    /// The colours of a terminal.
     Terminal,
 }
 

@@ -6,9 +6,9 @@ use crate::brought::{instances, instances_of};
 use crate::defined::taking_part;
 use crate::file_messages::text_messages;
 use crate::findings::{
-    Finding, Telling, components_of, finding_alike, finding_of, first_alike, spelled_key,
+    Finding, Telling, brought_definitions_of, finding_alike, finding_of, first_alike, spelled_key,
 };
-use crate::further_refusals::{FurtherRefusal, Kind, refusals_from};
+use crate::further_refusals::{FurtherRefusal, RefusalKind, refusals_from};
 use crate::general_sentences::general_sentence;
 use crate::loop_sites::loop_of;
 use crate::report::{MAX_TOLD, Message, Messages, Page, Spot, place_text, source_pages};
@@ -108,11 +108,11 @@ fn place_refusal(telling: &Telling<'_>, refusal: &Refusal) -> Result<Placed, All
 
 fn finding_sentence(telling: &Telling<'_>, finding: Finding<'_>) -> Result<String, AllocError> {
     match finding.kind {
-        Kind::Override => unfounded_override(telling, finding),
-        Kind::PlainTwice => plain_twice(telling, finding),
-        Kind::MixedMethods => mixed_methods(telling, finding),
-        Kind::NoStart => general_sentence(telling.alloc, &Refusal::NoStart),
-        Kind::Undefined => sentence_on(telling, finding, "is not defined"),
+        RefusalKind::Override => unfounded_override(telling, finding),
+        RefusalKind::PlainTwice => plain_twice(telling, finding),
+        RefusalKind::MixedMethods => mixed_methods(telling, finding),
+        RefusalKind::NoStart => general_sentence(telling.alloc, &Refusal::NoStart),
+        RefusalKind::Undefined => sentence_on(telling, finding, "is not defined"),
     }
 }
 
@@ -122,7 +122,7 @@ fn spot_of(telling: &Telling<'_>, site: Option<Site>) -> Option<Spot> {
 }
 
 /// Where a site is, as `FILE:LINE:COLUMN`.
-fn place(telling: &Telling<'_>, site: Site) -> Result<String, AllocError> {
+fn site_text(telling: &Telling<'_>, site: Site) -> Result<String, AllocError> {
     place_text(telling.alloc, telling.pages, telling.sites.spot(site))
 }
 
@@ -131,14 +131,14 @@ fn plain_twice(telling: &Telling<'_>, finding: Finding<'_>) -> Result<String, Al
     let name = finding.name;
     match (finding.here, finding.there, finding.elsewhere) {
         (Some(_), Some(one), Some(other)) => {
-            let one = place(telling, one)?;
-            let other = place(telling, other)?;
+            let one = site_text(telling, one)?;
+            let other = site_text(telling, other)?;
             format!(in telling.alloc;
                 "`{name}` is defined here with =, and comes twice: by the includes in {one} and in {other}"
             )
         }
         (Some(_), Some(other), None) => {
-            let other = place(telling, other)?;
+            let other = site_text(telling, other)?;
             format!(in telling.alloc;
                 "`{name}` is defined here and in {other}, neither with |= nor &="
             )
@@ -162,7 +162,7 @@ fn mixed_methods(telling: &Telling<'_>, finding: Finding<'_>) -> Result<String, 
         return sentence_on(telling, finding, "is combined by |= and by &=");
     };
     let name = finding.name;
-    let other = place(telling, interleave)?;
+    let other = site_text(telling, interleave)?;
     format!(in telling.alloc; "`{name}` is combined by |= here, and by &= in {other}")
 }
 
@@ -174,7 +174,7 @@ fn unfounded_override(telling: &Telling<'_>, finding: Finding<'_>) -> Result<Str
     };
     let name = finding.name;
     let file = included_path(telling, include);
-    let place = place(telling, include)?;
+    let place = site_text(telling, include)?;
     format!(in telling.alloc;
         "`{name}` replaces nothing: {file}, which is included in {place}, does not define it"
     )
@@ -215,7 +215,7 @@ fn recursive_name(telling: &Telling<'_>, name: &str) -> Result<Placed, AllocErro
             sentence.push_str(if number == 1 { ": by `" } else { ", then `" })?;
             sentence.push_str(name_at(telling, site))?;
             sentence.push_str("` in ")?;
-            sentence.push_str(place(telling, site)?.as_str())?;
+            sentence.push_str(site_text(telling, site)?.as_str())?;
         }
     }
     push_others(telling.alloc, &mut sentence, way.len())?;
@@ -245,7 +245,7 @@ fn name_class(telling: &Telling<'_>, key: &str) -> Result<Placed, AllocError> {
     let sentence = format!(in telling.alloc;
         "a definition of `{name}`, of which this is the first, has a name class that is not allowed: * excepts *, p:* excepts * or p:*, or an attribute may be named xmlns (RELAX NG, section 4.16)"
     )?;
-    let found = components_of(telling, key)?;
+    let found = brought_definitions_of(telling, key)?;
     let site = found.first().map(|one| one.site);
     Ok((spot_of(telling, site), sentence))
 }

@@ -293,17 +293,8 @@ impl Sites<'_> {
 
     /// Where a definition, a reference or an include is in the files: its name or its literal.
     pub fn spot(&self, site: Site) -> Option<Spot> {
-        let at = place_of(self.part(site)?);
+        let at = self.part(site)?.mark().from;
         let (file, at) = self.lifted.modules.get(site.module)?.origin(at)?;
         Some(Spot { file, at })
-    }
-}
-
-/// The byte where the name or the literal of a part begins.
-fn place_of(part: &Part) -> usize {
-    match &part.kind {
-        PartKind::Define { name, .. } | PartKind::Reference { name } => name.from,
-        PartKind::Include { literal_at, .. } => literal_at.from,
-        _ => part.at.from,
     }
 }

@@ -2,8 +2,8 @@
 ghost use Rattle.std.specs.Prelude.{All, IfOk, IsTrue};
 ghost use Rattle.rn_pattern.specs.Store.{KeepsTrees};
 
-use crate::memory::{MAIN, SET, print_answer};
-use crate::samples::{BEGIN, END, is_reference, mark, name, written_set};
+use crate::memory::{MAIN, print_answer};
+use crate::samples::{BEGIN, END, TWICE_INCLUDED, is_reference, mark, name, written_set};
 use crate::steps::{over, stepped};
 use rn_assemble::{Grammar, Refusal, assemble};
 use rn_modset::ModuleSet;
@@ -203,7 +203,7 @@ fn is_assembled(rt: &impl Abort, answer: &Result<Grammar, Refusal>) {
 
 #[test]
 fn a_set_is_assembled(rt: HostRuntime) {
-    let set = written_set(rt.alloc(), SET).expect(&rt, "no set");
+    let set = written_set(rt.alloc(), TWICE_INCLUDED).expect(&rt, "no set");
     print_answer(&rt, is_refused_grammar(&rt, &set));
 }
 

@@ -1,7 +1,9 @@
 // Calls on texts, literals, sets and bundles, with their requests for memory refused in turn by what tests/out-of-memory loads
 // before the tests' program. A call that is refused answers want of memory, in its own type, and leaves what it was lent.
 // Without a refusal, as in the gate, it gives its own answer. Each test tells whether a call was refused.
-use crate::samples::{BEGIN, END, ONE, answer_word, contribution, held, mark, written_set};
+use crate::samples::{
+    BEGIN, END, ONE, TWICE_INCLUDED, answer_word, contribution, held, mark, written_set,
+};
 use rn_modset::{AddFault, BundleFault, ModuleSet, SetFault, read_bundle, write_bundle};
 use rn_text::{TextFault, literal, tokens, write_literal};
 use std::process::Abort;
@@ -12,12 +14,8 @@ pub fn print_answer(rt: &(impl Abort + Print), is_refused: bool) {
     println!(rt; "{word}").expect(rt, "nothing is printed");
 }
 
-/// A module.
+/// A module that includes another one twice.
 pub const MAIN: &str = "include \"lib\" include \"lib\" start = element r { y }";
-
-/// The set of it and of what it includes.
-pub const SET: &str =
-    "@main\ninclude \"lib\" include \"lib\" start = element r { y }\n@lib\ny |= text";
 
 #[test]
 fn a_text_is_cut(rt: HostRuntime) {
@@ -47,7 +45,7 @@ fn a_literal_is_read(rt: HostRuntime) {
 /// Four contributions, as a set is written. With them it is full of what it asked room for, so a fifth one asks for more.
 const FOUR: &str = "@a\nx\n@b 2\ny\n@c 3 withdrawn\n@e\nv";
 
-/// And as it holds them.
+/// The four contributions of `FOUR`, as a set holds them.
 const FOUR_HELD: &str = "a 1\nb 2\nc 3 withdrawn\ne 1\n";
 
 /// A set holds the contributions of these lines.
@@ -133,7 +131,7 @@ fn a_literal_is_written(rt: HostRuntime) {
 
 #[test]
 fn effective_modules_are_found(rt: HostRuntime) {
-    let set = written_set(rt.alloc(), SET).expect(&rt, "no set");
+    let set = written_set(rt.alloc(), TWICE_INCLUDED).expect(&rt, "no set");
     mark(rt.alloc(), BEGIN);
     let answer = set.effective(rt.alloc());
     mark(rt.alloc(), END);

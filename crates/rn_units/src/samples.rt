@@ -10,6 +10,10 @@ use std::rc::RcStr;
 pub const ONE: &str =
     "rncset 1\nmodule t 7 3 ba7816bf8f01cfea414140de5dae2223b00361a396177a9cb410ff61f20015ad\nabc\nend 1\n";
 
+/// The set of a module that includes another one twice, and of that one.
+pub const TWICE_INCLUDED: &str =
+    "@main\ninclude \"lib\" include \"lib\" start = element r { y }\n@lib\ny |= text";
+
 /// A text that so often holds a piece between a front and an end.
 pub fn repeated(
     alloc: Global,

@@ -207,7 +207,7 @@ static STARTS: [(u32, u32); 15] = [
     (0x10000, 0xEFFFF),
 ];
 
-// And of each further range that may stand in one.
+// The first and the last character of each further range that may stand in a name.
 static FURTHER: [(u32, u32); 5] = [
     (0x2D, 0x2E),
     (0x30, 0x39),

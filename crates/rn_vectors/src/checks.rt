@@ -1,6 +1,8 @@
 // Module texts, and the one fault of each.
+use crate::helpers::{
+    Subject, each_line, expect_text, holds, owned, push, repeated, same, same_for,
+};
 use crate::merges::line_of;
-use crate::rows::{Subject, each_line, expect_text, holds, owned, push, repeated, same, same_for};
 use rn_merge::{Place, ProgramFault, check, status};
 use std::alloc::Global;
 use std::process::Abort;

@@ -1,8 +1,8 @@
 // Sets and texts at their limits, and long lists and chains.
+use crate::helpers::{expect_text, holds, owned, push, repeated, same, same_count, written_set};
 use crate::merges::{
     FIRST_LINE, answer, answer_of_text, merged, prints_again, prints_in_either_store,
 };
-use crate::rows::{expect_text, holds, owned, push, repeated, same, same_count, written_set};
 use rn_modset::ModuleSet;
 use rn_units::samples::module;
 use std::process::Abort;
@@ -140,7 +140,7 @@ fn deeper_texts_are_refused(rt: HostRuntime) {
     }
 }
 
-/// And the deepest ones that are printed, with their innermost elements in the text.
+/// Nested elements as in `TOO_DEEP`, the deepest ones that are printed, with their innermost elements in the text.
 static DEEPEST: [(usize, &str, &str, &str); 2] = [
     (255, "", "empty | b | c", "element x { (b | c)? }"),
     (

@@ -1,16 +1,13 @@
 // What makes the schema of a grammar, with its requests for memory refused in turn as in `memory`.
+use crate::helpers::{holds, same_count, written_set};
 use crate::memory::{is_refused_answer, print_answer};
 use crate::merges::{self, shown};
-use crate::rows::{holds, same_count, written_set};
 use rn_assemble::{Grammar, Refusal};
 use rn_pattern::{Interned, Patterns, Plain};
 use rn_simplify::{Normal, normalise, normalise_in, print};
-use rn_units::samples::{BEGIN, END, is_reference, mark};
+use rn_units::samples::{BEGIN, END, TWICE_INCLUDED, is_reference, mark};
 use std::alloc::AllocError;
 use std::process::Abort;
-
-/// The set of a module and of what it includes.
-const SET: &str = "@main\ninclude \"lib\" include \"lib\" start = element r { y }\n@lib\ny |= text";
 
 /// Whether memory is refused to what normalises a grammar, whose canonical form has one definition.
 fn is_refused_normal(rt: &(impl Abort + AllocGlobal), grammar: &Grammar) -> bool {
@@ -50,9 +47,9 @@ fn is_refused_in<P: Patterns>(
     is_refused
 }
 
-/// The grammar of the set.
+/// The grammar of the set `TWICE_INCLUDED`.
 fn grammar(rt: &(impl Abort + AllocGlobal)) -> Box<Grammar> {
-    merges::grammar(rt, &written_set(rt, SET))
+    merges::grammar(rt, &written_set(rt, TWICE_INCLUDED))
 }
 
 #[test]
@@ -84,7 +81,7 @@ fn printed(rt: &(impl Abort + AllocGlobal), normal: &Normal) -> Option<String> {
     }
 }
 
-/// The canonical grammar of the set.
+/// The canonical grammar of the set `TWICE_INCLUDED`.
 fn normal(rt: &(impl Abort + AllocGlobal)) -> Box<Normal> {
     let normal = normalise(rt.alloc(), &grammar(rt)).expect(rt, "no memory");
     Box::new(rt.alloc(), normal).expect(rt, "no memory")

@@ -8,6 +8,8 @@ mod combining;
 #[cfg(test)]
 mod drawing;
 #[cfg(test)]
+mod helpers;
+#[cfg(test)]
 mod large;
 #[cfg(test)]
 mod layers;
@@ -27,8 +29,6 @@ mod printing;
 mod refusals;
 #[cfg(test)]
 mod repeats;
-#[cfg(test)]
-mod rows;
 #[cfg(test)]
 mod streams;
 #[cfg(test)]

@@ -1,5 +1,5 @@
 // Words, lines, sources and sinks.
-use crate::rows::{Subject, contribution, each_line, expect_text, holds, owned, same};
+use crate::helpers::{Subject, contribution, each_line, expect_text, holds, owned, same};
 use rn_assemble::{Key, Refusal};
 use rn_merge::{Job, Place, ProgramFault, fault_line, list_line, plan, refusal_line, status};
 use rn_modset::{AddFault, BundleFault};

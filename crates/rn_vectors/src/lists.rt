@@ -3,8 +3,8 @@
 ghost use Rattle.std.specs.Prelude.{◌<◌, ◌≤◌};
 
 use crate::drawing::Draw;
+use crate::helpers::{each_schema, expect_text, owned, push, same_for, written_set};
 use crate::merges::{BothStores, Merge, MergeAgain, merged, prints_in_either_store};
-use crate::rows::{each_schema, expect_text, owned, push, same_for, written_set};
 use std::process::Abort;
 
 /// Lists of which some members are lists of the same kind, or come to that, or to nothing.

@@ -1,10 +1,10 @@
 // Sets whose modules declare long URIs, of which a merge makes short texts for a while. A set prints its schema with and without that, through either store,
 // and what it prints is printed again.
-use crate::merges::{BothStores, Merge, MergeAgain, answer, merged};
-use crate::rows::{
+use crate::helpers::{
     Subject, each_schema, each_set, expect_text, owned, push, repeated, same, same_count, same_for,
     written_set,
 };
+use crate::merges::{BothStores, Merge, MergeAgain, answer, merged};
 use rn_assemble::assemble;
 use rn_merge::refusal_line;
 use rn_modset::ModuleSet;

@@ -1,10 +1,10 @@
 // Merges, checks, runs and lines, with their requests for memory refused in turn by what tests/out-of-memory loads
 // before the tests' program. A call that is refused answers want of memory, in its own type, and leaves what it was lent.
 // Without a refusal, as in the gate, it gives its own answer. Each test tells whether a call was refused.
-use crate::merges::{line_of, shown};
-use crate::rows::{
+use crate::helpers::{
     contribution, expect_text, holds, owned, repeated, same, same_bytes, written_set,
 };
+use crate::merges::{line_of, shown};
 use crate::streams::{A, B, PRINTED, bundles, sink_of};
 use rn_assemble::Refusal;
 use rn_merge::{

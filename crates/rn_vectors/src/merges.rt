@@ -1,5 +1,5 @@
 // What a merge answers for sets, and what its layers do. A helper that lacks memory, or is given what it can't take, ends its test.
-use crate::rows::{Subject, expect_text, owned, same, same_for, written_set};
+use crate::helpers::{Subject, expect_text, owned, same, same_for, written_set};
 use rn_assemble::{Grammar, Refusal, assemble};
 use rn_merge::{ProgramFault, fault_line, merge, refusal_line};
 use rn_modset::ModuleSet;

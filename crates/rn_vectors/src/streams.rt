@@ -1,7 +1,7 @@
 // Runs over bundles, with sources and sinks that fail at a known byte.
 ghost use Rattle.std.specs.Prelude.{◌≡◌, false};
 
-use crate::rows::{holds, same_bytes, written_set};
+use crate::helpers::{holds, same_bytes, written_set};
 use rn_assemble::Refusal;
 use rn_merge::{
     Failed, ReadFault, RunFault, Sink, Source, Status, read_input, run_print, write_output,

@@ -1,8 +1,8 @@
 // The order of long URIs while short texts stand for them: tables of URIs in their order, and sets that are drawn.
 use crate::drawing::Draw;
+use crate::helpers::{expect_text, holds, owned, push, written_set};
 use crate::long_uris::{lengthened, prints};
 use crate::merges::{prints_again, prints_in_either_store};
-use crate::rows::{expect_text, holds, owned, push, written_set};
 use rn_assemble::assemble_short;
 use rn_modset::ModuleSet;
 use rn_simplify::{normalise, print};
@@ -205,7 +205,7 @@ const FRONTS: [&str; 7] = [
     "http://www.w3.org/2001/XMLSchema-datatypes",
 ];
 
-/// And what they are made of behind that.
+/// What the URIs that are drawn are made of behind their fronts.
 const PIECES: [&str; 10] = ["0", "1", "e", "g", "i", "é", "ê", "€", "😀", "^"];
 
 /// A URI.

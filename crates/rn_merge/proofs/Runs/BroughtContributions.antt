@@ -1,8 +1,9 @@
 -- The union of bundles holds what they bring, whatever their order.
-use Rattle.std.proofs.Common.{◌≡◌, ◌≢◌, ℕ, ◌≤◌, ◌⊎◌, inl, inr, ⊎_elim, Bool, true, false, List, [], ◌∷◌, length, take, drop, refl, sym, ap, subst, ◌∙◌, arith, take-append-drop}
+use Rattle.std.proofs.Common.{◌≡◌, ◌≢◌, ℕ, ◌≤◌, ◌⊎◌, inl, inr, ⊎_elim, List, [], ◌∷◌, length, take, drop, refl, sym, ap, subst, ◌∙◌, arith, take-append-drop}
 use Rattle.std.specs.Prelude.{Contains, Some, slice_get}
 use Rattle.std.proofs.lemmas.Bool.{or_cases, or_left, or_right}
 use Rattle.std.proofs.lemmas.Option.{slice_get_within, get_or_from_slice_get}
+use Rattle.rn_text.proofs.Words.Runs.{same_test}
 use Rattle.rn_modset.specs.Contributions.{Member}
 use Rattle.rn_modset.specs.Sets.{Rises, has, union}
 use Rattle.rn_modset.specs.Grammar.{IsBundle}
@@ -50,15 +51,10 @@ rises_unions s (t ∷ ts) h = rises_unions (union s t) ts (rises_union s t h)
 union_rises : (bundles : List (List ℕ)) (s : List Member) → IsUnion bundles s → Rises s
 union_rises bundles s h = subst Rises (sym h.is) (rises_unions [] h.sets none_kept.rises)
 
-pub same_truth : (a b : Bool) → (a ≡ true → b ≡ true) → (b ≡ true → a ≡ true) → a ≡ b
-same_truth true b f g = sym (f refl)
-same_truth false true f g = g refl
-same_truth false false f g = refl
-
 -- sets that hold the same contributions are one
 one_by_members : (s t : List Member) → Rises s → Rises t → ((q : Member) → In q s → In q t) → ((q : Member) → In q t → In q s) → s ≡ t
 one_by_members s t h k f g =
-    one_set s t h k (λ q. same_truth (has s q) (has t q) (λ e. has_from_in t q (f q (in_from_has s q e))) (λ e. has_from_in s q (g q (in_from_has t q e))))
+    one_set s t h k (λ q. same_test (has s q) (has t q) (λ e. has_from_in t q (f q (in_from_has s q e))) (λ e. has_from_in s q (g q (in_from_has t q e))))
 
 -- a set that lies within another is not longer
 no_longer : (s t : List Member) → Rises s → Rises t → ((q : Member) → In q s → In q t) → length s ≤ length t
@@ -89,7 +85,7 @@ module _ (bundles : List (List ℕ)) (s : List Member) (h : IsUnion bundles s) w
       (λ (t, i, k). let (b, j, is) = bundle_of_set bundles h.sets h.are t i in (b, t, contains_from_in bundles b j, is, contains_from_in t m k))
       (in_unions [] h.sets m (subst (λ (u : List Member). In m u) h.is (in_from_contains s m c)))
 
-  -- and it holds what a bundle brings
+  -- the union holds what a bundle brings
   pub held : (m : Member) → Brings bundles m → Contains s m
   held m (b, t, c, is, k) =
       let (u, i, other) = set_of_bundle bundles h.sets h.are b (in_from_contains bundles b c) in

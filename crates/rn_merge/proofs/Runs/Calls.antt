@@ -2,6 +2,7 @@
 use Rattle.std.proofs.Common.{◌≡◌, ◌≢◌, true, List, [], ◌∷◌, ⊎_elim, inl, inr, refl, sym, subst, ◌∙◌}
 use Rattle.std.specs.Prelude.{Err}
 use Rattle.std.specs.List.{flat_map}
+use Rattle.rn_text.proofs.Words.Runs.{same_test}
 use Rattle.rn_modset.specs.Contributions.{Member}
 use Rattle.rn_modset.specs.Sets.{has}
 use Rattle.rn_modset.specs.Laws.{Call, after, brought}
@@ -10,7 +11,6 @@ use Rattle.rn_modset.proofs.Unions.UnionLaws.{call_laws}
 use Rattle.rn_assemble.specs.declared.refusal.Refusal.TheVariants as r
 use Rattle.rn_merge.specs.Laws.{IsLeftBy, Bring, BringAlike}
 use Rattle.rn_merge.specs.Verdicts.{Answer, answer_view, IsAnswer}
-use Rattle.rn_merge.proofs.Runs.BroughtContributions.{same_truth}
 use Rattle.rn_merge.proofs.Verdicts.SetVerdict.{one_answer}
 
 in_brought : (calls : List Call) (m : Member) → In m (flat_map brought calls) → (call : Call) × In call calls × In m (brought call)
@@ -33,7 +33,7 @@ carried calls others m over h =
 pub one_left : (calls others : List Call) (s t : List Member) → IsLeftBy calls s → IsLeftBy others t → BringAlike calls others → s ≡ t
 one_left calls others s t e f alike =
     let same : after [] calls ≡ after [] others = call_laws.same calls others
-    (λ m. same_truth (has (flat_map brought calls) m) (has (flat_map brought others) m) (carried calls others m (alike m).0) (carried others calls m (alike m).1)) in
+    (λ m. same_test (has (flat_map brought calls) m) (has (flat_map brought others) m) (carried calls others m (alike m).0) (carried others calls m (alike m).1)) in
     e ∙ same ∙ sym f
 
 pub one_answer_of_calls : (calls others : List Call) (s t : List Member) → IsLeftBy calls s → IsLeftBy others t → BringAlike calls others

@@ -4,6 +4,7 @@ use Rattle.std.specs.Prelude.{bytes_eq}
 use Rattle.std.specs.List.{AllZip}
 use Rattle.std.specs.Cmp.Lexicographic.{bytes_decides}
 use Rattle.std.proofs.lemmas.Bool.{cases_order}
+use Rattle.std.proofs.lemmas.Option.{same_Some}
 use Rattle.std.proofs.lemmas.Map.Views.{Contains-from_lookup}
 use Rattle.rn_text.specs.Tokens.{lexeme_of}
 use Rattle.rn_pattern.specs.Tree.{Tree}
@@ -36,13 +37,10 @@ module _ (s : List Member) where
   effective_name : (x t : Text) → IsEffective s x t → In x names
   effective_name x t (r, highest, only) = held_name x r highest.text highest.held
 
-  some_same : (t u : Text) → Some t ≡ Some u → t ≡ u
-  some_same t u e = cc
-
   one_text : (x t u : Text) → IsEffective s x t → IsEffective s x u → t ≡ u
   one_text x t u (r, h, only) (q, k, other) =
       let same : r ≡ q = omega (arith, h.highest q k.text k.held, k.highest r h.text h.held) in
-      some_same t u ((other (Some t)).0 (subst (λ n. Holds s x n (Some t)) same ((only (Some t)).1 refl)))
+      same_Some t u ((other (Some t)).0 (subst (λ n. Holds s x n (Some t)) same ((only (Some t)).1 refl)))
 
   module _ (none : (q : Refusal) → ¬ Stands s q) where
     agreed : (x : Text) (r : ℕ) → ¬ IsConflict s x r
@@ -94,9 +92,6 @@ module _ (F : Grammar) where
   abbrev IsKept : Text → Tree → Type 0
   IsKept x p = IsReached F x × (definition_of F x ≡ Some p)
 
-  some_tree : (p q : Tree) → Some p ≡ Some q → p ≡ q
-  some_tree p q e = cc
-
   defined_name : (x : Text) (p : Tree) → IsKept x p → In x (map (λ (d : Text × Tree). d.0) F.definitions)
   defined_name x p h =
       let inside : Contains {X = Text × Tree} F.definitions (x, p) = Contains-from_lookup {eq = bytes_eq} (λ y z e. (bytes_decides y z).0 e) x p F.definitions h.1 in
@@ -104,7 +99,7 @@ module _ (F : Grammar) where
 
   never_unpruned : ((N : Grammar) → ¬ IsPruned F N) → ⊥
   never_unpruned lacks =
-      never_no_entries IsKept (λ x p q h k. some_tree p q (sym h.1 ∙ k.1)) (map (λ (d : Text × Tree). d.0) F.definitions) defined_name (λ ds order are.
+      never_no_entries IsKept (λ x p q h k. same_Some p q (sym h.1 ∙ k.1)) (map (λ (d : Text × Tree). d.0) F.definitions) defined_name (λ ds order are.
       lacks (record { start = F.start; definitions = ds }) (record { start = refl; definitions = are; in_order = names_sorted ds order }))
 
 pub never_uncanonical : (G : Grammar) → ((N : Grammar) → ¬ IsCanonicalOf G N) → ⊥

@@ -80,8 +80,8 @@ pub fn each_row<S: Subject>(
     between: &str,
     arrow: &str,
 ) {
-    for row in rows.split(between) {
-        let (given, wanted) = row.split_once(arrow).expect(rt, "no arrow");
+    let rows = samples::rows(rt.alloc(), rows, between, arrow).expect(rt, "no rows");
+    for (given, wanted) in &rows {
         subject.answers(rt, given, wanted);
     }
 }
