@@ -75,8 +75,8 @@ fn keep_their_order(rt: &(impl Abort + AllocGlobal), uris: &str) {
     prints(rt, given.as_str(), wanted.as_str());
 }
 
-/// URIs in their order, which is that of their bytes. `^` stands for sixty letters `u`, so `^0123` has 64 bytes, as many as a URI has
-/// at most that stands for itself.
+/// URIs in their order, which is that of their bytes. `^` stands for sixty letters `u`, so `^0123` has 64 bytes, as many as a URI
+/// has at most that isn't long.
 const ORDERS: &str = "^0123 < ^01234
 ^0123 < ^01234 < ^012345 < ^0123456 < ^01234567 < ^012345678
 ^01230 < ^01231
@@ -97,8 +97,8 @@ fn uris_keep_their_order(rt: HostRuntime) {
     }
 }
 
-/// URIs in their order, of which some are spelled like the short text of another: its first characters, of more than 64 bytes, and its
-/// number in 16 letters. The first URI of a row has the number 4, behind no namespace and three others, so its letters end with `e`.
+/// URIs in their order, of which some are spelled like the short text of another: nothing, or a URI that means something by itself, and
+/// a number in 16 digits; or like a text that is made of the URI's first 64 bytes and a number in 16 letters.
 const ALIKE: &str = "^01234 < ^01234aaaaaaaaaaaaaaaa < ^01234z
 ^01234aaaaaaaaaaaaaaaa < ^01234aaaaaaaaaaaaaaae < ^01234aaaaaaaaaaaaaaaf < ^01234aaaaaaaaaaaaaaag < ^01234z
 ^01234aaaaaaaaaaaaaaae < ^01234z
@@ -107,7 +107,13 @@ const ALIKE: &str = "^01234 < ^01234aaaaaaaaaaaaaaaa < ^01234z
 ^0123éaaaaaaaaaaaaaaaf < ^0123éz
 ^012€aaaaaaaaaaaaaaaf < ^012€z
 ^01😀aaaaaaaaaaaaaaaf < ^01😀z
-^0123😀aaaaaaaaaaaaaaaf < ^0123😀z";
+^0123😀aaaaaaaaaaaaaaaf < ^0123😀z
+0000000000000001 < 0000000000000002 < ^^
+0000000000000002 < 0000000000000003 < 000000000000000f < 000000000000000f^
+http://www.w3.org/2000/xmlns0000000000000002 < http://www.w3.org/2000/xmlns0000000000000003 < ^^
+http://www.w3.org/2000/xmlns < http://www.w3.org/2000/xmlns0000000000000001 < http://www.w3.org/2000/xmlns0000000000000001^
+http://www.w3.org/2001/XMLSchema-datatypes0000000000000003 < http://www.w3.org/2001/XMLSchema-datatypes0000000000000004 < ^^
+http://www.w3.org/XML/1998/namespace0000000000000004 < http://www.w3.org/XML/1998/namespace0000000000000005 < ^^";
 
 #[test]
 fn uris_like_short_texts_are_told_apart(rt: HostRuntime) {
@@ -144,7 +150,7 @@ fn characters_keep_their_order(rt: &(impl Abort + AllocGlobal), before: &str) {
     }
 }
 
-/// Texts behind which a character of several bytes ends at or around the place where a URI is cut.
+/// Texts behind which a character of several bytes ends at 64 bytes, or around them.
 const BEFORE: [&str; 7] = ["^", "^0", "^01", "^012", "^0123", "^01234", "^012345"];
 
 #[test]
