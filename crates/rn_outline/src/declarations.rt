@@ -1,6 +1,7 @@
 // Declarations of prefixes (compact syntax, section 2, decl).
 ghost use Rattle.std.specs.Prelude.{◌<◌, ◌≤◌, length, IfOk, IfSome};
-ghost use Rattle.rn_text.specs.Reading.{Advanced, Passed};
+ghost use Rattle.rn_text.specs.Reading.{Advanced};
+ghost use Rattle.rn_text.specs.inside.Reading.{Passed};
 
 use crate::file_parts::{Declaration, DeclarationKind, Span, Uri};
 use crate::outline_fault::Stop;

@@ -1,6 +1,6 @@
 // Items of grammars and of includes (compact syntax, section 2, grammarContent and includeContent).
 ghost use Rattle.std.specs.Prelude.{◌<◌, ◌≤◌, ◌+◌, length};
-ghost use Rattle.rn_text.specs.Reading.{GoesPast};
+ghost use Rattle.rn_text.specs.inside.Reading.{GoesPast};
 
 use crate::file_parts::{Method, PartKind};
 use crate::outline_fault::Stop;

@@ -1,6 +1,6 @@
 // Operands of patterns, and what stands behind them (compact syntax, section 2, pattern).
 ghost use Rattle.std.specs.Prelude.{◌≡◌, ◌<◌, ◌≤◌, length, IfOk};
-ghost use Rattle.rn_text.specs.Reading.{GoesPast, MayGoPast, Passed};
+ghost use Rattle.rn_text.specs.inside.Reading.{GoesPast, MayGoPast, Passed};
 
 use crate::file_parts::{PartKind, Span};
 use crate::items::next_item;

@@ -1,6 +1,6 @@
 // The outline of a text.
 ghost use Rattle.std.specs.Prelude.{◌<◌, ◌≤◌, ◌+◌, length, IfOk, IfSome, IsTrue};
-ghost use Rattle.rn_text.specs.Reading.{GoesPast, MayGoPast};
+ghost use Rattle.rn_text.specs.inside.Reading.{GoesPast, MayGoPast};
 ghost use Rattle.rn_outline.specs.Outlines.{IsOutline};
 ghost use Rattle.rn_outline.specs.Spans.{AreApart, AreInOrder};
 

@@ -1,6 +1,7 @@
 // Runs of tokens that hold no part: annotations, literals, parameters, name classes.
 ghost use Rattle.std.specs.Prelude.{◌<◌, ◌≤◌, length, IfOk, IsTrue};
-ghost use Rattle.rn_text.specs.Reading.{Advanced, GoesPast, MayGoPast, Passed};
+ghost use Rattle.rn_text.specs.Reading.{Advanced};
+ghost use Rattle.rn_text.specs.inside.Reading.{GoesPast, MayGoPast, Passed};
 
 use crate::file_parts::{Method, Span};
 use crate::outline_fault::Stop;

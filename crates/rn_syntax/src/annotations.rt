@@ -2,7 +2,7 @@
 ghost use Rattle.std.specs.Prelude.{◌≡◌, ◌≤◌, ◌<◌, length, IsTrue};
 ghost use Rattle.rn_syntax.specs.inside.Follow.{Starts, Anything, no_bracket, no_follow};
 ghost use Rattle.rn_syntax.specs.Grammar.{Closed, IsAnnotation, MayHaveAnnotation, AreFollows};
-ghost use Rattle.rn_text.specs.Reading.{GoesPast, MayGoPast};
+ghost use Rattle.rn_text.specs.inside.Reading.{GoesPast, MayGoPast};
 ghost use Rattle.rn_syntax.specs.inside.Reading.{Skips, rest};
 ghost use Rattle.rn_syntax.specs.inside.Sequence.{IsFollow, is_note};
 

@@ -4,7 +4,7 @@ ghost use Rattle.std.specs.Cow.{cow_str_bytes};
 ghost use Rattle.rn_syntax.specs.inside.Follow.{Anything, Starts, behind_item, behind_pattern, first_terminal, is_end, no_brace, no_inherit};
 ghost use Rattle.rn_syntax.specs.Grammar.{AreInnerItems, AreItems, IsComponent, MayInherit, MayHaveOverrides};
 ghost use Rattle.rn_syntax.specs.inside.Including.{AreItemsBehind, IsDivEnd, IsIncludeEnd, IsInnerItem, IsInnerDivEnd, IsItem, begins_inner, begins_item};
-ghost use Rattle.rn_text.specs.Reading.{GoesOn, MayGoOn};
+ghost use Rattle.rn_text.specs.inside.Reading.{GoesOn, MayGoOn};
 ghost use Rattle.rn_syntax.specs.inside.Reading.{Reads, rest};
 ghost use Rattle.rn_syntax.specs.Tree as tree;
 ghost use Rattle.rn_syntax.specs.View.{boxed_view, item_view, items_view, prefix_view};

@@ -5,7 +5,7 @@ ghost use Rattle.rn_syntax.specs.Beginnings.{HasTree};
 ghost use Rattle.rn_syntax.specs.inside.Follow.{Starts, is_end};
 ghost use Rattle.rn_syntax.specs.inside.Itemizing.{AreAnnotatedItems};
 ghost use Rattle.rn_syntax.specs.inside.Modular.{IsAnnotatedBody, IsBody, IsGrammarEnd, IsModuleFault};
-ghost use Rattle.rn_text.specs.Reading.{MayGoOn};
+ghost use Rattle.rn_text.specs.inside.Reading.{MayGoOn};
 ghost use Rattle.rn_syntax.specs.inside.Reading.{Reads};
 ghost use Rattle.rn_syntax.specs.Spelled.{AreSpelled};
 ghost use Rattle.rn_syntax.specs.Tokens.{terminals};

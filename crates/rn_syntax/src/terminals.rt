@@ -6,7 +6,7 @@ ghost use Rattle.rn_text.specs.Characters.{is_name_char};
 ghost use Rattle.rn_text.specs.Keywords.{spelling};
 ghost use Rattle.rn_text.specs.Segments.{run_of, after_run};
 ghost use Rattle.rn_syntax.specs.inside.Follow.{Anything, first_terminal};
-ghost use Rattle.rn_text.specs.Reading.{GoesPast};
+ghost use Rattle.rn_text.specs.inside.Reading.{GoesPast};
 ghost use Rattle.rn_syntax.specs.inside.Reading.{IsInside, IsNext, IsSegmentOf, IsWhole, Passes, ReadsOne, rest, seen};
 ghost use Rattle.rn_syntax.specs.Spelled.{AreSpelled, BeginAt, SpellsItsKind};
 ghost use Rattle.rn_syntax.specs.inside.Sequence.{IsOf, IsWordAt, IsAssign};

@@ -1,5 +1,7 @@
--- Characters, their runs, and the words made of them.
-pub mod Basics
+-- Characters, their runs, and the words made of them; lists of characters, and tests of them.
+pub mod TruthValues
+pub mod EqualLists
+pub mod AppendedLists
 pub mod Runs
 pub mod HexDigits
 pub mod KeywordSpellings

@@ -2,3 +2,4 @@
 pub mod Ascii
 pub mod PartEnds
 pub mod Writing
+pub mod Reading

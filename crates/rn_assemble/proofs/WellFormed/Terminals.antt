@@ -14,7 +14,7 @@ use Rattle.rn_text.specs.Segments.{run_of, after_run, begins_with, escape_front,
 use Rattle.rn_text.specs.Parts.{spells, Piece, text_of, IsCut}
 use Rattle.rn_text.specs.Tokens.{Lexeme, HasTokens, width, unmarked, unmarked_start, has_mark}
 use Rattle.rn_text.proofs.Words.XmlNames.{ncname_xml}
-use Rattle.rn_text.proofs.Quoting.DelimitedRuns.{all_append}
+use Rattle.rn_text.proofs.Words.AppendedLists.{all_append}
 use Rattle.rn_text.proofs.Quoting.SegmentContents.{EscapesWhole, segment_whole}
 use Rattle.rn_text.specs.Texts.{Text}
 use Rattle.rn_text.specs.declared.keywords.Keyword as code

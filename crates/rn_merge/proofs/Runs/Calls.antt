@@ -2,7 +2,7 @@
 use Rattle.std.proofs.Common.{◌≡◌, ◌≢◌, true, List, [], ◌∷◌, ⊎_elim, inl, inr, refl, sym, subst, ◌∙◌}
 use Rattle.std.specs.Prelude.{Err}
 use Rattle.std.specs.List.{flat_map}
-use Rattle.rn_text.proofs.Words.Runs.{same_test}
+use Rattle.rn_text.proofs.Words.TruthValues.{same_test}
 use Rattle.rn_modset.specs.Contributions.{Member}
 use Rattle.rn_modset.specs.Sets.{has}
 use Rattle.rn_modset.specs.Laws.{Call, after, brought}

@@ -9,7 +9,8 @@ use Rattle.rn_text.specs.declared.parts.Part.TheVariants as part
 use Rattle.rn_text.specs.Characters.{is_xml_char}
 use Rattle.rn_text.specs.Parts.{Piece, IsCut, spells}
 use Rattle.rn_text.specs.Tokens.{Lexeme, HasTokens, lexeme_of, lexeme_at, lexemes, unmarked, width}
-use Rattle.rn_text.proofs.TokenLists.CutLexemes.{all_parts, xml_scalars, unmarked_xml}
+use Rattle.rn_text.proofs.TokenLists.CutLexemes.{xml_scalars, unmarked_xml}
+use Rattle.rn_text.proofs.Words.AppendedLists.{all_parts}
 use Rattle.rn_syntax.specs.Spelled.{SpellsItsKind, AreSpelled}
 
 abbrev Spelled : Lexeme → Type 0

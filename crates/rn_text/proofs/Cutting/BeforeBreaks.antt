@@ -17,7 +17,8 @@ use Rattle.rn_text.proofs.Words.Runs.{after_run_passes, after_run_stops, run_spl
 use Rattle.rn_text.proofs.Cutting.DelimitedFronts.{segment_first, delimiter_at, escapes_within}
 use Rattle.rn_text.proofs.Cutting.FirstParts.{letter, class_of, one_of, symbol_first, symbol_short, single_symbol, pair_symbol, keyword_is_name}
 use Rattle.rn_text.proofs.Cutting.NameTokens.{name_chars, run_ends, name_first, any_first, prefixed_first, quoted_first, colon_is_none, colon_of}
-use Rattle.rn_text.proofs.Words.Basics.{true_is_false, cons_first}
+use Rattle.rn_text.proofs.Words.EqualLists.{cons_first}
+use Rattle.rn_text.proofs.Words.TruthValues.{true_is_false}
 use Rattle.std.specs.Str.{bytes_eq}
 use Rattle.std.proofs.lemmas.Slice.Eq.{bytes_eq-Decides}
 use Rattle.rn_text.proofs.Quoting.SegmentContents.{within_brace}

@@ -10,10 +10,10 @@ use Rattle.rn_text.specs.Segments.{is_delimiter, is_delimited, is_segment, opens
 use Rattle.rn_text.specs.Parts.{BeginsWith, IsFirstPart, spells}
 use Rattle.rn_text.specs.inside.PartEnds.{IsDelimitedFront, IsNeverDelimited}
 use Rattle.rn_text.specs.Tokens.{BeginsNoPart}
-use Rattle.rn_text.proofs.Words.Runs.{same_test}
+use Rattle.rn_text.proofs.Words.TruthValues.{same_test}
 use Rattle.rn_text.proofs.Cutting.FirstParts.{quote, class_of, class_quote, front_of}
 use Rattle.rn_text.proofs.TokenLists.OneTokenList.{same_front}
-use Rattle.rn_text.proofs.Words.Basics.{cons_first, cons_rest, none_of}
+use Rattle.rn_text.proofs.Words.EqualLists.{cons_first, cons_rest, none_of}
 
 -- a front of the text that the test passes goes over what was searched, and on into the rest
 pub record Searched (test : List ℕ → Bool) (text rest : List ℕ) : Type 0 where
@@ -169,7 +169,7 @@ one_front d tail front after h1 h2 h3 h4 = grind (arith, nat_tests, three_grows)
 one_never : (d : ℕ) (tail : List ℕ) → is_delimiter d ≡ true → three_of d (d ∷ tail) ≡ false → ((front after : List ℕ) → front ++ after ≡ tail → ends_at_one d front ≡ true → ⊥) → IsNeverDelimited (d ∷ tail)
 one_never d tail h1 h2 h3 = grind (arith, nat_tests, opens_alike)
 
--- the same of what a search gave
+-- the front between delimiters that a search for their end found, or that there is none
 pub delimited_three : {T : Type 0} (now : T → List ℕ) (d : ℕ) (text opened : List ℕ) (r : Option T) → is_delimiter d ≡ true → text ≡ d ∷ d ∷ d ∷ opened
     → MatchOption r ((front after : List ℕ) → front ++ after ≡ opened → ends_at_three d front ≡ true → ⊥) (λ x. (front : List ℕ) × (front ++ now x ≡ opened) × (ends_at_three d front ≡ true))
     → MatchOption r (IsNeverDelimited text) (λ x. (front : List ℕ) × IsDelimitedFront text front (now x))
@@ -196,7 +196,7 @@ never_segment text d cs is q never part front after begins = never front after (
 delimiter_plain : (d : ℕ) (cs : List ℕ) → is_delimiter d ≡ true → escape_front (d ∷ cs) ≡ false
 delimiter_plain d cs q = and_left _ _ (and_left _ _ (ne_eqb d 92 (λ e. let h : true ≡ false = sym q ∙ ap is_delimiter e in cc)))
 
--- so the escapes of a segment may be judged with its delimiters
+-- the escapes of a segment may be judged with its delimiters, since no escape begins in these
 pub escapes_within : (d : ℕ) (cs : List ℕ) → is_delimiter d ≡ true → escapes_hold d (d ∷ cs) ≡ escapes_hold d cs
 escapes_within d cs q = ap (λ b. cond b (is_whole_escape (d ∷ cs) && not (escaped_char (d ∷ cs) == d)) true && escapes_hold d cs) (delimiter_plain d cs q)
 

@@ -137,7 +137,7 @@ only_class k c cs n is bound part front after begins =
     let h = bound part f.tail after (sym f.same_class ∙ is) f.split f.spelled in
     omega (arith, ap length f.is)
 
--- the same where none is left
+-- no part begins the text where none of its class does
 pub none_of_class : (k : Class) (c : ℕ) (cs : List ℕ) → class c ≡ k
     → ((part : Part) (tail after : List ℕ) → class_of part ≡ k → tail ++ after ≡ cs → spells part (c ∷ tail) ≡ true → ⊥)
     → BeginsNoPart (c ∷ cs)
@@ -221,7 +221,7 @@ only_symbol part h1 = grind (arith, nat_tests)
 pub symbol_none : (c : ℕ) (cs : List ℕ) → class c ≡ other → ((tail after : List ℕ) → tail ++ after ≡ cs → is_symbol (c ∷ tail) ≡ true → ⊥) → BeginsNoPart (c ∷ cs)
 symbol_none c cs k h = none_of_class other c cs k (λ part tail after is split e. h tail after split (ap (λ p. spells p (c ∷ tail)) (sym (only_symbol part is)) ∙ e))
 
--- the same of the text that these characters are
+-- what is first of these characters is first of the text that they are
 pub first_at : (text cs : List ℕ) (part : Part) (front after : List ℕ) → text ≡ cs → IsFirstPart cs part front after → IsFirstPart text part front after
 first_at text cs part front after e h = subst (λ t. IsFirstPart t part front after) (sym e) h
 

@@ -18,7 +18,7 @@ use Rattle.rn_text.specs.inside.PartEnds.{IsNoPrefix, IsPrefixEnd}
 use Rattle.rn_text.specs.Tokens.{BeginsNoPart}
 use Rattle.rn_text.proofs.Words.Runs.{after_run_passes, after_run_stops, run_split, run_passes, cut_before}
 use Rattle.rn_text.proofs.Cutting.FirstParts.{letter, backslash, none_of_class, class_of, class_letter, only_class, plain_start, run_longest, keyword_is_name, differs, first_at}
-use Rattle.rn_text.proofs.Words.Basics.{cons_first, cons_rest}
+use Rattle.rn_text.proofs.Words.EqualLists.{cons_first, cons_rest}
 
 -- a character that begins a name may stand in one
 pub start_is_char : (c : ℕ) → is_name_start c ≡ true → is_name_char c ≡ true
@@ -122,7 +122,7 @@ run_ends p (x ∷ xs) y ys all e = grind (arith, nat_tests, after_run_passes, af
 pub run_is_name : (c : ℕ) (cs : List ℕ) → is_name_start c ≡ true → is_ncname (run_of is_name_char (c ∷ cs)) ≡ true
 run_is_name c cs start = ap is_ncname (cond-true _ _ _ (start_is_char c start)) ∙ and_from _ _ start (run_passes is_name_char cs)
 
--- a name, a colon and what passes spell such a token
+-- a name, a colon and what passes spell a token with a prefix
 pub spells_prefixed : (p : List ℕ → Bool) (name local : List ℕ) → is_ncname name ≡ true → p local ≡ true → is_prefixed p (name ++ 58 ∷ local) ≡ true
 spells_prefixed p name local h1 h2 = grind (arith, nat_tests, colon_is_none, name_chars, run_ends)
 

@@ -13,7 +13,8 @@ use Rattle.rn_text.specs.Texts.{is_white}
 use Rattle.rn_text.proofs.Cutting.FirstParts.{white_first, keyword_is_name}
 use Rattle.rn_text.proofs.Cutting.BeforeBreaks.{is_break, is_solo, name_before, prefixed_before, any_before, quoted_before, symbol_before, solo_before, segment_before}
 use Rattle.rn_text.proofs.Quoting.SegmentTexts.{Together}
-use Rattle.rn_text.proofs.Quoting.DelimitedRuns.{delimited_segment, delimited_xml, all_append}
+use Rattle.rn_text.proofs.Quoting.DelimitedRuns.{delimited_segment, delimited_xml}
+use Rattle.rn_text.proofs.Words.AppendedLists.{all_append}
 use Rattle.rn_text.proofs.Words.XmlNames.{ncname_xml}
 
 -- the pieces are the parts of their text before a break, and their characters are of XML
@@ -21,12 +22,12 @@ pub record Sound (ps : List Piece) : Type 0 where
   pub before : (b : ℕ) (rest : List ℕ) → is_break b ≡ true → IsCut (text_of ps ++ b ∷ rest) ps (b ∷ rest)
   pub xml : list_all is_xml_char (text_of ps) ≡ true
 
--- the same before anything
+-- the pieces are the parts of their text whatever follows, and their characters are of XML
 pub record Free (ps : List Piece) : Type 0 where
   pub before : (rest : List ℕ) → IsCut (text_of ps ++ rest) ps rest
   pub xml : list_all is_xml_char (text_of ps) ≡ true
 
--- they begin with a break
+-- the pieces' text begins with a break
 pub record Breaks (ps : List Piece) : Type 0 where
   pub first : ℕ
   pub more : List ℕ

@@ -1,13 +1,13 @@
 -- What is written for a run of a text is one segment.
-use Rattle.std.proofs.Common.{arith, ◌≡◌, ℕ, Bool, true, false, List, [], ◌∷◌, ◌++◌, refl, ◌∙◌, append_assoc}
+use Rattle.std.proofs.Common.{arith, ◌≡◌, ℕ, true, false, List, [], ◌∷◌, ◌++◌, refl, append_assoc}
 use Rattle.std.proofs.lemmas.Bool.Decides.{nat_tests}
 use Rattle.std.specs.List.{flat_map, list_all}
-use Rattle.std.proofs.lemmas.List.Folds.{list_all-append}
-use Rattle.std.proofs.lemmas.Bool.{and_from, and_parts}
+use Rattle.std.proofs.lemmas.Bool.{and_parts}
 use Rattle.rn_text.specs.Characters.{is_xml_char}
 use Rattle.rn_text.specs.Segments.{is_segment, opens_threefold, escape_front, is_x, ends_at_one, escapes_hold}
 use Rattle.rn_text.specs.Literals.{written, delimiter_for, delimited}
 use Rattle.rn_text.proofs.Cutting.DelimitedFronts.{one_step, one_here}
+use Rattle.rn_text.proofs.Words.AppendedLists.{all_append}
 use Rattle.rn_text.proofs.Quoting.WrittenLiterals.{same_delimiter}
 use Rattle.rn_text.proofs.Quoting.SegmentTexts.{Together, plain_written, not_x, no_delimiter}
 
@@ -35,16 +35,12 @@ holds : (c : ℕ) (cs : List ℕ) → Together (c ∷ cs) → escapes_hold (deli
 holds c [] t = grind (arith, nat_tests, append_assoc, escapes_on, no_escape, not_x_mark)
 holds c (d ∷ ds) t = grind (arith, nat_tests, same_delimiter, append_assoc, escapes_on, no_escape, not_x_mark, holds d ds)
 
--- it is a segment, with one delimiter on each side
+-- a run between delimiters is a segment, with one delimiter on each side
 delimited_simple : (s : List ℕ) → Together s → opens_threefold (delimited s) ≡ false
 delimited_simple s h1 = grind (arith, nat_tests, append_assoc, no_delimiter)
 
 pub delimited_segment : (s : List ℕ) → Together s → is_segment (delimited s) ≡ true
 delimited_segment s h1 = grind (arith, nat_tests, ends, holds, delimited_simple)
-
--- its characters are of XML where those of the text are
-pub all_append : (p : ℕ → Bool) (xs ys : List ℕ) → list_all p xs ≡ true → list_all p ys ≡ true → list_all p (xs ++ ys) ≡ true
-all_append p xs ys a b = list_all-append p xs ys ∙ and_from (list_all p xs) (list_all p ys) a b
 
 written_xml : (c : ℕ) → is_xml_char c ≡ true → list_all is_xml_char (written c) ≡ true
 unfolding is_xml_char
@@ -54,6 +50,7 @@ all_written : (cs : List ℕ) → list_all is_xml_char cs ≡ true → list_all 
 all_written [] a = refl
 all_written (c ∷ cs) a = all_append is_xml_char (written c) (flat_map written cs) (written_xml c (and_parts _ _ a).0) (all_written cs (and_parts _ _ a).1)
 
+-- the characters of a run between delimiters are of XML where those of the text are
 pub delimited_xml : (s : List ℕ) → list_all is_xml_char s ≡ true → list_all is_xml_char (delimited s) ≡ true
 unfolding is_xml_char
 delimited_xml s h1 = grind (arith, nat_tests, all_append, all_written)

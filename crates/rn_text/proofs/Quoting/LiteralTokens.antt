@@ -16,8 +16,9 @@ use Rattle.rn_text.specs.Tokens.{Lexeme, HasTokens, SegmentsHaveText, lexemes, u
 use Rattle.rn_text.proofs.Cutting.FirstParts.{white_first}
 use Rattle.rn_text.proofs.Cutting.BeforeBreaks.{solo_before, at_end, before_end}
 use Rattle.rn_text.proofs.Quoting.SegmentTexts.{Together, delimited_text, segments_together, segments_join}
-use Rattle.rn_text.proofs.Quoting.DelimitedRuns.{delimited_segment, delimited_xml, all_append}
-use Rattle.rn_text.proofs.TokenLists.CutLexemes.{xml_scalars, all_parts}
+use Rattle.rn_text.proofs.Quoting.DelimitedRuns.{delimited_segment, delimited_xml}
+use Rattle.rn_text.proofs.Words.AppendedLists.{all_append, all_parts}
+use Rattle.rn_text.proofs.TokenLists.CutLexemes.{xml_scalars}
 
 abbrev segment : List ℕ → Piece
 segment s = record { part = Token Segment; spelling = delimited s }
@@ -45,14 +46,14 @@ literal_cut (s ∷ r ∷ ss) t =
       (126 ∷ 32 ∷ next, white_first 32 (126 ∷ 32 ∷ next) refl, (32 ∷ next, solo_before 126 (32 ∷ next) refl refl, (next, white_first 32 next refl, literal_cut (r ∷ ss) t.1))),
     )
 
--- its characters are of XML where those of the text are
+-- the characters of a literal are of XML where those of its text are
 literal_xml : (ss : List (List ℕ)) → list_all is_xml_char (flat_map (λ s. s) ss) ≡ true → list_all is_xml_char (joined ss) ≡ true
 unfolding is_xml_char
 literal_xml [] e = delimited_xml [] refl
 literal_xml (s ∷ []) e = delimited_xml s (all_parts is_xml_char s [] e).0
 literal_xml (s ∷ r ∷ ss) e = grind (arith, nat_tests, all_append, all_parts, delimited_xml, literal_xml (r ∷ ss))
 
--- and their texts are the text's
+-- the tokens of a literal are segments whose texts make up its text
 segment_back : (s : List ℕ) → Together s → list_all is_xml_char s ≡ true → segment_text (chars (encode_utf8_all (delimited s))) ≡ s
 segment_back s t xml = ap segment_text (chars-encodes (delimited s) (xml_scalars (delimited s) (delimited_xml s xml))) ∙ delimited_text s t
 
@@ -85,6 +86,6 @@ literal_reads_back cs xml =
       subst (SegmentsHaveText (lexemes start (literal_pieces ss))) (segments_join cs) (literal_texts ss start together all),
     )
 
--- the same of the bytes that are written
+-- the bytes of the literal of a text are read back as the text
 pub literal_bytes_read_back : (text : List ℕ) → list_all is_xml_char (chars text) ≡ true → IsUtf8 (literal_bytes text) × ((ts : List Lexeme) × HasTokens (chars (literal_bytes text)) ts × SegmentsHaveText ts (chars text))
 literal_bytes_read_back text h1 = grind (arith, nat_tests, chars-encodes, literal_reads_back, xml_scalars)

@@ -14,7 +14,8 @@ use Rattle.rn_text.proofs.Words.Runs.{run_split, all_pass}
 use Rattle.rn_text.proofs.Cutting.NameTokens.{run_within, run_ends}
 use Rattle.rn_text.proofs.TokenLists.OneTokenList.{same_front}
 use Rattle.rn_text.proofs.Cutting.DelimitedFronts.{delimiter_at, three_by, closed_one, closed_three}
-use Rattle.rn_text.proofs.Words.Basics.{true_is_false, cons_rest, none_of}
+use Rattle.rn_text.proofs.Words.EqualLists.{cons_rest, none_of}
+use Rattle.rn_text.proofs.Words.TruthValues.{true_is_false}
 
 -- ---- the delimiters
 

@@ -1,11 +1,10 @@
 -- The tokens of a text that is cut: what spells them, and where they stand.
 use Rattle.std.proofs.lemmas.Bool.Decides.{nat_tests}
-use Rattle.std.proofs.Common.{◌≡◌, ℕ, ◌+◌, ◌-◌, ◌<◌, ◌≤◌, ltb, leb, Bool, true, cond, List, [], ◌∷◌, ◌++◌, length, drop, take, refl, sym, ap, ◌∙◌, subst, arith, append_assoc, length-append}
+use Rattle.std.proofs.Common.{◌≡◌, ℕ, ◌+◌, ◌-◌, ◌<◌, ◌≤◌, ltb, leb, true, cond, List, [], ◌∷◌, ◌++◌, length, drop, take, refl, sym, ap, ◌∙◌, subst, arith, append_assoc, length-append}
 use Rattle.std.specs.Prelude.{◌&&◌, encode_utf8}
 use Rattle.std.specs.List.{list_all, AllByRecursion}
 use Rattle.std.specs.Str.{IsUtf8, chars, encode_utf8_all, all_scalars}
 use Rattle.std.proofs.Math.Seq.{take-append_seam, drop-append_seam}
-use Rattle.std.proofs.lemmas.List.Folds.{list_all-append}
 use Rattle.std.proofs.lemmas.Bool.{and_parts, and_from, lt-ltb}
 use Rattle.std.proofs.lemmas.Str.{chars-encodes, encodes-chars, encodes-append, len_utf8_bounds, length-encode}
 use Rattle.rn_text.specs.declared.parts.Part.{Part}
@@ -14,6 +13,7 @@ use Rattle.rn_text.specs.Characters.{is_xml_char}
 use Rattle.rn_text.specs.Parts.{Piece, IsCut, IsSpelled, spells}
 use Rattle.rn_text.specs.Tokens.{Lexeme, HasTokens, StandInOrder, unmarked, lexeme_at, lexemes, width}
 use Rattle.rn_text.proofs.Cutting.Cuts.{mark_front, no_empty_part}
+use Rattle.rn_text.proofs.Words.AppendedLists.{all_parts}
 use Rattle.rn_text.proofs.Cutting.BeforeBreaks.{spelled_is}
 
 scalar_of : (c : ℕ) → is_xml_char c ≡ true → cond (ltb c 55296) true (leb 57344 c && ltb c 1114112) ≡ true
@@ -23,9 +23,6 @@ scalar_of c h1 = grind (arith, nat_tests, lt-ltb)
 pub xml_scalars : (cs : List ℕ) → list_all is_xml_char cs ≡ true → all_scalars cs ≡ true
 xml_scalars [] e = refl
 xml_scalars (c ∷ cs) e = let both = and_parts (is_xml_char c) (list_all is_xml_char cs) e in and_from (cond (ltb c 55296) true (leb 57344 c && ltb c 1114112)) (all_scalars cs) (scalar_of c both.0) (xml_scalars cs both.1)
-
-pub all_parts : (p : ℕ → Bool) (xs ys : List ℕ) → list_all p (xs ++ ys) ≡ true → (list_all p xs ≡ true) × (list_all p ys ≡ true)
-all_parts p xs ys e = and_parts (list_all p xs) (list_all p ys) (sym (list_all-append p xs ys) ∙ e)
 
 -- the text behind a mark
 pub unmarked_xml : (cs : List ℕ) → list_all is_xml_char cs ≡ true → list_all is_xml_char (unmarked cs) ≡ true

@@ -20,7 +20,7 @@ use Rattle.rn_text.specs.Tokens.{Lexeme, HasTokens, BeginsNoPart, IsLexicalPlace
 use Rattle.rn_text.proofs.Words.Runs.{all_pass}
 use Rattle.rn_text.proofs.Cutting.Cuts.{part_shortens, leaves_at}
 use Rattle.rn_text.proofs.TokenLists.OneFaultPlace.{list_or_place, one_place}
-use Rattle.rn_text.proofs.Words.Basics.{true_is_false}
+use Rattle.rn_text.proofs.Words.TruthValues.{true_is_false}
 
 -- the greatest number up to n that passes
 record Greatest (p : ℕ → Bool) (n : ℕ) : Type 0 where

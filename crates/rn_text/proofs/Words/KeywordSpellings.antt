@@ -12,7 +12,7 @@ use Rattle.rn_text.specs.declared.keywords.Keyword.{Keyword}
 use Rattle.rn_text.specs.Keywords.{spelling, every_keyword}
 use Rattle.rn_text.specs.Characters.{keywords, is_keyword}
 
--- it is listed, and its characters are ASCII
+-- the spelling of a keyword is listed, and its characters are ASCII
 abbrev IsKnown : Keyword → Type 0
 IsKnown w = (is_keyword (spelling w) ≡ true) × (list_all (λ c. nat_lt c 128) (spelling w) ≡ true)
 

@@ -14,7 +14,7 @@ use Rattle.std.specs.Str.Pattern.{IsTrimStartMatches, CutsPrefixes, FindsPrefixB
 use Rattle.std.proofs.lemmas.Str.Pattern.{strip_prefix_char, strip_suffix_char}
 use Rattle.std.proofs.lemmas.Str.{chars_past_char, IsUtf8-past_char, IsUtf8-take, chars-append, encodes-chars, encodes_same, scalars-chars, encodes-append, encode_ascii, chars-nil, chars-IsAscii, IsCharBoundary-at_seam, len_utf8_bounds}
 use Rattle.rn_text.specs.Segments.{is_empty, after_run, run_of, begins_with}
-use Rattle.rn_text.proofs.Words.Basics.{none_of}
+use Rattle.rn_text.proofs.Words.EqualLists.{none_of}
 use Rattle.rn_text.specs.inside.Ascii.{is_ascii_and}
 
 -- a run and what follows it
@@ -74,7 +74,7 @@ starts_char_chars bs c None u small h =
     not_first (chars bs) c (λ cs e. lacks (encode_utf8_all cs) (sym (encodes-chars bs u) ∙ ap encode_utf8_all e ∙ ap (λ l. l ++ encode_utf8_all cs) (encode_ascii c small)))
 starts_char_chars bs c (Some x) u small h = grind (arith, nat_tests, strip_prefix_char, chars_past_char, encode_ascii)
 
--- `strip_suffix` at one
+-- `strip_suffix` at an ASCII character, in characters
 pub ends_char_chars : (bs : List ℕ) (c : ℕ) (r : Option (Bor (List ℕ))) → IsUtf8 bs → c < 128
     → MatchOption r (FindsCharSuffix c bs None) (λ x. (n : ℕ) × FindsCharSuffix c bs (Some n) × (x.now ≡ take (length bs - n) bs) × (length x.now + n ≡ length bs))
     → MatchOption r ((front : List ℕ) → chars bs ≢ front ++ c ∷ []) (λ x. chars bs ≡ chars x.now ++ c ∷ [])
@@ -90,11 +90,7 @@ ends_char_chars bs c (Some x) u small h =
     one zero = small
     one (suc i) = lit< tt
 
--- two tests that hold together are one
-pub same_test : (a b : Bool) → (a ≡ true → b ≡ true) → (b ≡ true → a ≡ true) → a ≡ b
-same_test a b h1 h2 = grind (arith, nat_tests)
-
--- the same where a closure tests the characters
+-- what `trim_start_matches` leaves where a closure tests the characters
 pub trimmed_by : {F : Type 0} (g : Mut F (ℕ × Unit {0}) Bool) (f : F) (k : ℕ → Bool) → ((f : F) (a : ℕ × Unit {0}) (r : Bool) (h : F) → Called g f a r h → r ≡ k a.0)
     → (s r : List ℕ) → IsUtf8 s → IsTrimStartMatches (λ s o. (k : ℕ → Bool) → AlwaysReturns g (λ a r. r ≡ k a.0) f → FindsPrefixBy k s o) s r → chars r ≡ after_run k (chars s)
 trimmed_by g f k answers s r u h = trimmed (λ s o. (k : ℕ → Bool) → AlwaysReturns g (λ a r. r ≡ k a.0) f → FindsPrefixBy k s o) k (λ s o found. found k (answers_always g (λ a r. r ≡ k a.0) f answers)) s r u h
@@ -116,7 +112,7 @@ all_pass p (c ∷ cs) = elim (p c) as (λ b. is_empty (cond b (after_run p cs) (
 char_finds : (c : ℕ) (s : List ℕ) (o : Option ℕ) → FindsCharPrefix c s o → FindsPrefixBy (λ d. d == c) s o
 char_finds c s o h1 = grind (arith, nat_tests)
 
--- the same where the pattern is a character
+-- what `trim_start_matches` leaves where the pattern is a character
 pub trimmed_char : (c : ℕ) (s r : List ℕ) → IsUtf8 s → IsTrimStartMatches (FindsCharPrefix c) s r → chars r ≡ after_run (λ d. d == c) (chars s)
 trimmed_char c s r u h = trimmed (FindsCharPrefix c) (λ d. d == c) (char_finds c) s r u h
 
@@ -132,7 +128,7 @@ cut_before text rest front t r e =
       ap (λ n. take n text) at ∙ ap (take (length (encode_utf8_all front))) split ∙ take-append_seam (encode_utf8_all front) rest,
     )
 
--- and what is cut off is the front
+-- what is cut off before the end that is another text is the front
 pub front_chars : (text rest word front : List ℕ) → IsUtf8 text → IsUtf8 rest → IsUtf8 word → chars text ≡ front ++ chars rest → word ≡ take (length text - length rest - 0) text → chars word ≡ front
 front_chars text rest word front h1 h2 h3 h4 h5 = grind (arith, nat_tests, cut_before, encodes-chars, encodes_same)
 
@@ -165,7 +161,7 @@ ascii_run p (b ∷ bs) u = ⊎_elim
     (λ stops. let run = after_run_stops (is_ascii_and p) b bs stops in (subst IsUtf8 (sym run) u, ap (λ l. after_run p (chars l)) run))
     (cases_Bool (is_ascii_and p b))
 
--- the text may be cut there
+-- a text may be cut behind its run of ASCII characters that pass
 pub ascii_cut : (p : ℕ → Bool) (bs rest : List ℕ) → IsUtf8 bs → rest ≡ after_run (is_ascii_and p) bs
     → (length rest ≤ length bs) × IsCharBoundary bs (length bs - length rest) × (drop (length bs - length rest) bs ≡ rest)
 ascii_cut p bs rest u e =
@@ -177,7 +173,7 @@ ascii_cut p bs rest u e =
       ap (λ n. drop n bs) at ∙ ap (drop (length run)) split ∙ drop-append_seam run rest,
     )
 
--- nothing follows where all are such characters
+-- nothing follows the run in a text whose characters all are of ASCII and pass
 pub ascii_all : (p : ℕ → Bool) (bs : List ℕ) → IsUtf8 bs → list_all (is_ascii_and p) bs ≡ true → chars [] ≡ after_run p (chars bs)
 ascii_all p bs u all =
     let end : after_run (is_ascii_and p) bs ≡ [] = none_of _ (all_pass (is_ascii_and p) bs ∙ all) in

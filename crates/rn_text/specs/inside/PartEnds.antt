@@ -15,7 +15,7 @@ pub record IsDelimitedFront (text front after : List ℕ) : Type 0 where
 abbrev pub IsNeverDelimited : List ℕ → Type 0
 IsNeverDelimited text = (front after : List ℕ) → ¬ (IsDelimitedFront text front after)
 
--- of the symbols that begin with c and go on in the text, this is the longest
+-- c and the tail, with which the text begins, are the longest symbol that begins with c and goes on in the text
 pub record IsLongestSymbol (c : ℕ) (text tail after : List ℕ) : Type 0 where
   pub split : tail ++ after ≡ text
   pub is : is_symbol (c ∷ tail) ≡ true
@@ -25,7 +25,7 @@ pub record IsLongestSymbol (c : ℕ) (text tail after : List ℕ) : Type 0 where
 abbrev pub IsNoPrefix : List ℕ → Type 0
 IsNoPrefix text = (c : ℕ) (cs : List ℕ) → text ≡ 58 ∷ c ∷ cs → ((c == 42) ≡ false) × (is_name_start c ≡ false)
 
--- what follows a name makes it the prefix of such a token, behind which the rest follows
+-- what follows a name makes it the prefix of a token of this kind, behind which the rest follows
 abbrev pub IsPrefixEnd : List ℕ → Kind → List ℕ → Type 0
 IsPrefixEnd text kind rest = (c : ℕ) × (cs : List ℕ) × (text ≡ 58 ∷ c ∷ cs)
     × (((kind ≡ AnyOf) × (c ≡ 42) × (rest ≡ cs)) ⊎ ((kind ≡ Prefixed) × (is_name_start c ≡ true) × (rest ≡ after_run is_name_char cs)))

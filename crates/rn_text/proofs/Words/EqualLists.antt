@@ -1,9 +1,6 @@
--- Truth values and lists.
-use Rattle.std.proofs.Common.{◌≡◌, ℕ, Bool, true, false, List, [], ◌∷◌, refl, sym, ◌∙◌}
+-- What equal lists share, and what an empty one is.
+use Rattle.std.proofs.Common.{◌≡◌, ℕ, true, List, [], ◌∷◌, refl}
 use Rattle.rn_text.specs.Segments.{is_empty}
-
-pub true_is_false : (b : Bool) → b ≡ true → b ≡ false → ⊥
-true_is_false b t f = let h : true ≡ false = sym t ∙ f in cc
 
 pub cons_first : {x y : ℕ} {xs ys : List ℕ} → x ∷ xs ≡ y ∷ ys → x ≡ y
 cons_first e = cc
