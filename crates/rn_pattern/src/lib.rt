@@ -10,9 +10,13 @@
 //!
 //! [`laws`] has what is proved of canonical patterns; [`examples`] has documents that are valid and documents that are not.
 //! [`name_classes`] has the restrictions on name classes (4.16). [`graph`] and [`ranks`] walk graphs whose nodes are numbers:
-//! definitions and what they refer to, modules and what they include. The edges of a graph are [`Rows`].
+//! definitions and what they refer to, modules and what they include. The edges of a graph are [`Rows`]; those of references,
+//! everywhere and outside elements, are [`ReferenceRows`].
+//!
+//! [`boxes`] puts a value in a box of its own, or where it can be shared.
 #![tactic(auto)]
 
+pub mod boxes;
 mod canonical;
 mod connector;
 mod copies;
@@ -30,6 +34,7 @@ mod order;
 pub mod pattern_store;
 pub mod plain;
 pub mod ranks;
+pub mod references;
 pub mod rows;
 mod search;
 pub mod seed;
@@ -42,6 +47,7 @@ pub use name_classes::XMLNS_URI;
 pub use node::{Node, NodeId};
 pub use pattern_store::Patterns;
 pub use plain::Plain;
+pub use references::{NodeReferences, Reach, ReferenceRows};
 pub use rows::Rows;
 pub use seed::Seed;
 pub use tree::{Data, NameClass, Pattern, Value};
