@@ -1,5 +1,5 @@
 -- Graphs of numbered nodes.
 pub mod Marking
-pub mod Rows
+pub mod BuiltRows
 pub mod RowEnds
 pub mod FirstLoop

@@ -1,7 +1,7 @@
 -- The search along the edges of a graph.
 pub mod EdgesLeft
-pub mod Each
+pub mod DecidedByEach
 pub mod Rising
-pub mod Grouping
+pub mod KeptGroups
 pub mod Closing
 pub mod Ranking

@@ -96,9 +96,10 @@ AnyName x = ⊤
 abbrev pub IsCanonicalPattern : Tree → Type 0
 IsCanonicalPattern = IsCanonical AnyName
 
--- what the step makes of a canonical pattern, or of a list of them, is canonical
+-- what the step makes of a canonical pattern is canonical
 abbrev pub KeepsCanonical : (Tree → Tree) → Type 0
 KeepsCanonical step = (p : Tree) → IsCanonicalPattern p → IsCanonicalPattern (step p)
 
-abbrev pub JoinsCanonical : (List Tree → Tree) → Type 0
-JoinsCanonical step = (ps : List Tree) → All IsCanonicalPattern ps → IsCanonicalPattern (step ps)
+-- what the step makes of a list of canonical patterns is canonical
+abbrev pub MakesCanonical : (List Tree → Tree) → Type 0
+MakesCanonical step = (ps : List Tree) → All IsCanonicalPattern ps → IsCanonicalPattern (step ps)

@@ -272,7 +272,7 @@ numbers = record {
   equal = (codes "urn:numbers", codes "int", codes "1", codes "1") ∷ (codes "urn:numbers", codes "int", codes "1", codes "01") ∷ [];
 }
 
--- the same, but 1 is 1 alone
+-- the texts 0, 1 and 01 are an int, and no other text is the same number as 1
 abbrev pub spellings : Table
 spellings = record numbers { equal = (codes "urn:numbers", codes "int", codes "1", codes "1") ∷ [] }
 
@@ -308,7 +308,7 @@ x_in_u = record x_one { uri = codes "urn:u" }
 abbrev pub named_by : NameTree → Grammar
 named_by c = only (element c empty)
 
--- the names of the namespace urn:u, the same without its a, and all names but a in no namespace
+-- the names of the namespace urn:u, those of them that aren't a, and all names but a in no namespace
 abbrev pub of_u : NameTree
 of_u = ns_name (codes "urn:u")
 

@@ -47,6 +47,10 @@ pattern_view = fold-Pattern Tree pattern_step
 abbrev pub shared_view : Rc Pattern Global → Tree
 shared_view p = pattern_view p.value
 
+-- the trees of shared patterns, in their order
+abbrev pub shared_trees : List (Rc Pattern Global) → Trees
+shared_trees ps = trees_of (map shared_view ps)
+
 abbrev pub boxed_view : Box Pattern Global → Tree
 boxed_view p = pattern_view p.value
 

@@ -1,4 +1,5 @@
--- What contracts of private functions speak of: where nodes lie, when they are equal and how they are hashed, searches. No public contract cites it.
+-- What contracts of private functions speak of: nodes of a store as a list and in a table, their hashes, counts and equality, the parts of a pattern that
+-- the order compares, members of lists, parts of name classes, marks, row ends and searches of graphs. No public contract cites it.
 pub mod Stored
 pub mod Shown
 pub mod PartViews

@@ -1,5 +1,5 @@
-// Values in boxes of their own, and shared ones. Each function is small and of any type, since a call that may give a pattern
-// back is costly to prove.
+// Values in boxes of their own, and shared ones. Each function is small and of any type, since a call that may give a
+// pattern back is costly to prove.
 ghost use Rattle.std.specs.Prelude.{◌≡◌, IfOk};
 
 use std::alloc::{AllocError, Global};

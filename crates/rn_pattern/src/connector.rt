@@ -5,8 +5,7 @@ ghost use Rattle.rn_pattern.specs.inside.Stored.{NamesBelow};
 ghost use Rattle.rn_pattern.specs.Store.{node_view};
 ghost use Rattle.rn_pattern.specs.Tree.{Tree, trees_of};
 ghost use Rattle.rn_pattern.specs.declared.node.NodeId.{NodeId};
-ghost use Rattle.rn_pattern.specs.View.{pattern_view, shared_view};
-ghost use Rattle.rn_pattern.specs.inside.PartViews.{patterns_view};
+ghost use Rattle.rn_pattern.specs.View.{pattern_view, shared_view, shared_trees};
 
 use crate::node::{Node, NodeId};
 use crate::tree::Pattern;
@@ -116,7 +115,7 @@ impl Connector {
 
     /// The pattern of a list of the members, which are taken as they are.
     pub fn pattern(self, members: Vec<Rc<Pattern>>) -> Pattern
-        ensures { pattern_view result ≡ over self (patterns_view members.items) }
+        ensures { pattern_view result ≡ over self (shared_trees members.items) }
     {
         match self {
             Connector::Choice => Pattern::Choice(members),

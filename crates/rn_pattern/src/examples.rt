@@ -20,7 +20,7 @@ pub fn elements_hold_what_their_pattern_matches()
     ensures c_alone { Rejects a_or_b no_library (leaf (codes "c")) }
     // 6.2.3: a string that is not white space is not nothing
     ensures a_of_x { Rejects a_or_b no_library (a_of (codes "x")) }
-    // 6.2.3: nor is an attribute
+    // 6.2.3: an attribute is not nothing
     ensures a_with_x { Rejects a_or_b no_library a_with_x }
     // 6.2.4: an element is no string
     ensures b_of_a { Rejects a_or_b no_library b_of_a }
@@ -32,23 +32,23 @@ pub fn elements_hold_what_their_pattern_matches()
 
 /// White space before, between and behind elements says nothing (section 6.2.7); other strings there aren't matched.
 pub fn white_space_pads_elements()
-    // 6.2.7: none is needed
+    // 6.2.7: no white space is needed
     ensures none { Accepts a_then_b no_library doc_a_b }
-    // 6.2.7: the four characters of white space
+    // 6.2.7: the four characters of white space, before, between and behind elements
     ensures blank { Accepts a_then_b no_library (doc_padded_by blank) }
     // 6.2.7: a letter is no white space
     ensures letter { Rejects a_then_b no_library (doc_padded_by (codes "x")) }
-    // 6.2.7: nor is a no-break space
+    // 6.2.7: a no-break space is no white space
     ensures no_break_space { Rejects a_then_b no_library (doc_padded_by no_break_space) }
     // 6.2.2: white space alone has no elements in it
     ensures no_elements { Rejects a_then_b no_library (doc_of (string blank ∷ [])) }
-    // 6.2.7: before an element
+    // 6.2.7: a letter before an element is not matched
     ensures letter_before { Rejects a_then_b no_library (doc_led_by (codes "x")) }
-    // 6.2.7: and behind one
+    // 6.2.7: a letter behind an element is not matched
     ensures letter_behind { Rejects a_then_b no_library (doc_ended_by (codes "x")) }
-    // 6.2.7: white space on one side alone
+    // 6.2.7: white space before elements, and none behind
     ensures blank_before { Accepts a_then_b no_library (doc_led_by blank) }
-    // 6.2.7: and on the other
+    // 6.2.7: white space behind elements, and none before
     ensures blank_behind { Accepts a_then_b no_library (doc_ended_by blank) }
     // 6.2.7: elements match no attribute of their parent
     ensures attribute { Rejects a_then_b no_library doc_with_x }
@@ -65,7 +65,7 @@ pub fn content_matches_weakly()
     ensures nothing_for_string { Accepts (a_holding any_string) no_library bare_a }
     // no content for the empty string, which is the value
     ensures nothing_for_empty_value { Accepts (a_holding (string_is [])) no_library bare_a }
-    // the empty string is another value
+    // no content for the empty string, which is another value
     ensures nothing_for_value { Rejects (a_holding token_x) no_library bare_a }
     // white space is taken for no content, and not twice for the empty string
     ensures blank_for_empty_value { Rejects (a_holding (string_is [])) no_library (a_of blank) }
@@ -74,7 +74,7 @@ pub fn content_matches_weakly()
     // white space for no content, in an attribute
     ensures blank_attribute { Accepts (a_holding x_is_empty) no_library
         (a_with (said (codes "x") blank ∷ [])) }
-    // other text is not
+    // an attribute whose text is no white space, for no content
     ensures some_attribute { Rejects (a_holding x_is_empty) no_library a_with_x }
     // white space for no content, beside an attribute
     ensures blank_beside_attribute { Accepts (a_holding x_is_one) no_library (a_with_x_of blank) }
@@ -88,15 +88,15 @@ pub fn lists_split_at_white_space()
     ensures two { Accepts (a_holding x_then_y) no_library (a_of (codes "x y")) }
     // white space of any kind and length, at the ends too
     ensures padded { Accepts (a_holding x_then_y) no_library (a_of padded_x_y) }
-    // one word
-    ensures joined { Rejects (a_holding x_then_y) no_library (a_of (codes "xy")) }
-    // one word
+    // two words without white space between are one word
+    ensures run_together { Rejects (a_holding x_then_y) no_library (a_of (codes "xy")) }
+    // one word where two are wanted
     ensures one { Rejects (a_holding x_then_y) no_library (a_of (codes "x")) }
     // 6.2.2: words in another order
     ensures turned { Rejects (a_holding x_then_y) no_library (a_of (codes "y x")) }
     // 6.2.5: three words, each of which is x
     ensures three_of_some { Accepts (a_holding some_x) no_library (a_of (codes "x x x")) }
-    // 6.2.5: one of which is not
+    // 6.2.5: three words, one of which is not x
     ensures other_of_some { Rejects (a_holding some_x) no_library (a_of (codes "x y x")) }
     // 6.2.5: no word
     ensures none_of_some { Rejects (a_holding some_x) no_library bare_a }
@@ -112,32 +112,32 @@ pub fn values_and_excepts()
     ensures string_itself { Accepts (a_holding string_x_y) no_library (a_of (codes "x y")) }
     // white space counts in a string
     ensures string_padded { Rejects (a_holding string_x_y) no_library (a_of padded_x_y) }
-    // white space is normalised in a token
+    // white space is normalised in a token: more of it parts the same words
     ensures token_padded { Accepts (a_holding token_x_y) no_library (a_of padded_x_y) }
-    // but its words stay two
-    ensures token_joined { Rejects (a_holding token_x_y) no_library (a_of (codes "xy")) }
+    // white space is normalised in a token, and not dropped between words
+    ensures token_run_together { Rejects (a_holding token_x_y) no_library (a_of (codes "xy")) }
     // a string that the except does not match
     ensures string_other { Accepts (a_holding string_but_x) no_library (a_of (codes "y")) }
-    // and the one that it matches
+    // a string that the except matches
     ensures string_excepted { Rejects (a_holding string_but_x) no_library (a_of (codes "x")) }
-    // as a string, x with white space is another
+    // a string that is the excepted one with white space round it is another string
     ensures string_padded_other { Accepts (a_holding string_but_x) no_library (a_of padded_x) }
-    // as a token it is the same
+    // a token that is the excepted one with white space round it is the same token
     ensures token_excepted { Rejects (a_holding token_but_x) no_library (a_of padded_x) }
     // a token that the except does not match
     ensures token_other { Accepts (a_holding token_but_x) no_library (a_of (codes "y")) }
     // a value matches no attribute
     ensures value_with_attribute { Rejects (a_holding token_x) no_library
         (a_with_x_of (codes "x")) }
-    // nor does data
+    // data matches no attribute
     ensures data_with_attribute { Rejects (a_holding any_string) no_library
         (a_with_x_of (codes "x")) }
-    // nor data with an except
+    // data with an except matches no attribute
     ensures except_with_attribute { Rejects (a_holding string_but_x) no_library
         (a_with_x_of (codes "y")) }
     // 6.2.9: the built-in types are string and token
     ensures unknown_type { Rejects (a_holding unknown_type) no_library (a_of (codes "1")) }
-    // 6.2.9: no other has a value
+    // 6.2.9: the built-in library has no values of other types than string and token
     ensures unknown_value { Rejects (a_holding unknown_value) no_library (a_of (codes "1")) }
 {}
 
@@ -147,11 +147,11 @@ pub fn datatype_libraries_answer()
     ensures value_itself { Accepts (a_holding one) numbers (a_of (codes "1")) }
     // a text that the library takes as equal
     ensures value_equal { Accepts (a_holding one) numbers (a_of (codes "01")) }
-    // the value itself, for another library
+    // the value itself, where the library takes nothing else as equal
     ensures value_itself_apart { Accepts (a_holding one) spellings (a_of (codes "1")) }
-    // which does not take that text as equal
+    // a text that another library takes as equal, and this one does not
     ensures value_apart { Rejects (a_holding one) spellings (a_of (codes "01")) }
-    // another number
+    // a text that stands for another number
     ensures value_other { Rejects (a_holding one) numbers (a_of (codes "0")) }
     // the text as it is, white space with it: the table does not have it
     ensures value_padded { Rejects (a_holding one) numbers (a_of (codes " 1")) }
@@ -159,34 +159,34 @@ pub fn datatype_libraries_answer()
     ensures value_unknown { Rejects (a_holding one) no_library (a_of (codes "1")) }
     // a text that the type allows
     ensures data_allowed { Accepts (a_holding any_int) numbers (a_of (codes "0")) }
-    // and one that it does not
+    // a text that the type does not allow
     ensures data_refused { Rejects (a_holding any_int) numbers (a_of (codes "x")) }
     // a text that the type with its parameter allows
     ensures data_allowed_with_parameter { Accepts (a_holding positive) numbers (a_of (codes "1")) }
-    // and one that only the type without it allows
+    // a text that the type allows, and the type with its parameter does not
     ensures data_refused_by_parameter { Rejects (a_holding positive) numbers (a_of (codes "0")) }
 {}
 
 /// A group matches its members in their order (section 6.2.2), an interleave in any order, a repeated member as often as
 /// it is repeated (6.2.6).
 pub fn groups_and_interleaves()
-    // 6.2.2
+    // 6.2.2: the members in their order
     ensures group_in_order { Accepts a_then_b no_library doc_a_b }
-    // 6.2.2: the other order
+    // 6.2.2: the members in the other order
     ensures group_turned { Rejects a_then_b no_library doc_b_a }
-    // 6.2.2: a member without a part
+    // 6.2.2: a member of the group without a part
     ensures group_short { Rejects a_then_b no_library doc_a }
-    // 6.2.6
+    // 6.2.6: the members in their order
     ensures interleave_in_order { Accepts a_and_b no_library doc_a_b }
-    // 6.2.6: the other order
+    // 6.2.6: the members in the other order
     ensures interleave_turned { Accepts a_and_b no_library doc_b_a }
-    // 6.2.6: a member without a part
+    // 6.2.6: a member of the interleave without a part
     ensures interleave_short { Rejects a_and_b no_library doc_a }
-    // 6.2.6: twice, another between them
+    // 6.2.6: a member that is written twice has two parts, one of another member between
     ensures repeats_apart { Accepts a_twice_and_b no_library doc_a_b_a }
-    // 6.2.6: once
+    // 6.2.6: a member that is written twice has one part alone
     ensures repeats_short { Rejects a_twice_and_b no_library doc_a_b }
-    // 6.2.6: three times
+    // 6.2.6: a member that is written twice has three parts
     ensures repeats_long { Rejects a_twice_and_b no_library doc_a_a_a_b }
     // 6.2.6 and 6.2.4: strings on both sides of an element
     ensures mixed { Accepts mixed_a no_library doc_text_a_text }
@@ -196,15 +196,15 @@ pub fn groups_and_interleaves()
 
 /// One or more, and with `empty` beside it none or more (section 6.2.5).
 pub fn repetitions()
-    // once
+    // one part
     ensures some_once { Accepts some_a no_library doc_a }
-    // twice
+    // two parts
     ensures some_twice { Accepts some_a no_library doc_a_a }
-    // not at all
+    // no part
     ensures some_never { Rejects some_a no_library bare_doc }
-    // 6.2.1 and 6.2.3: the other member of the choice
+    // 6.2.1 and 6.2.3: `empty`, the other member of the choice
     ensures any_never { Accepts any_a no_library bare_doc }
-    // twice
+    // two parts beside `empty`
     ensures any_twice { Accepts any_a no_library doc_a_a }
     // a part that does not match
     ensures any_other { Rejects any_a no_library doc_a_b }
@@ -212,33 +212,33 @@ pub fn repetitions()
 
 /// Attributes match in any order, also in a group, and each must be matched (sections 6.2.2 and 6.2.7).
 pub fn attributes_have_no_order()
-    // 6.2.2: a bag of attributes is split
+    // 6.2.2: a bag of attributes is split among the members
     ensures in_order { Accepts (a_holding x_and_y) no_library (a_with (x_one ∷ y_two ∷ [])) }
-    // 6.2.2: and has no order
+    // 6.2.2: a bag of attributes has no order
     ensures turned { Accepts (a_holding x_and_y) no_library a_with_y_x }
-    // 6.2.7: y is not there
+    // 6.2.7: the attribute y is not there
     ensures short { Rejects (a_holding x_and_y) no_library a_with_x }
-    // 6.2.2: z is left
+    // 6.2.2: the attribute z is left
     ensures long { Rejects (a_holding x_and_y) no_library (a_with (x_one ∷ y_two ∷ z_three ∷ [])) }
-    // 6.1 and 6.2.5: each is of another name
+    // 6.1 and 6.2.5: each attribute is of another name than the excepted one
     ensures except_others { Accepts (a_holding all_but_x) no_library
         (a_with (y_two ∷ z_three ∷ [])) }
     // 6.1: the excepted name
     ensures except_x { Rejects (a_holding all_but_x) no_library a_with_x }
     // 6.1: the excepted name beside another
     ensures except_x_with_other { Rejects (a_holding all_but_x) no_library a_with_y_x }
-    // 6.2.7 and 6.2.8: its text is the value
+    // 6.2.7 and 6.2.8: the text of the attribute is the value
     ensures value_itself { Accepts (a_holding x_is_one) no_library a_with_x }
-    // 6.2.8: its text is another
+    // 6.2.8: the text of the attribute is not the value
     ensures value_other { Rejects (a_holding x_is_one) no_library
         (a_with (said (codes "x") (codes "2") ∷ [])) }
     // 6.2.7: content is no attribute
     ensures value_in_content { Rejects (a_holding x_is_one) no_library (a_of (codes "1")) }
-    // 6.2.6: an interleave splits them as a group does
+    // 6.2.6: an interleave splits attributes as a group does
     ensures interleaved { Accepts (a_holding x_beside_y) no_library a_with_y_x }
-    // 6.2.7: x is not there
+    // 6.2.7: the attribute x is not there
     ensures interleaved_short { Rejects (a_holding x_beside_y) no_library (a_with (y_two ∷ [])) }
-    // 6.2.7: content is left
+    // 6.2.7: content beside the attribute is left
     ensures value_beside_content { Rejects (a_holding x_is_one) no_library
         (a_with_x_of (codes "y")) }
 {}
@@ -249,7 +249,7 @@ pub fn name_classes_hold_names()
     ensures any_name { Accepts (named_by any_name) no_library b_in_u }
     // a name that the except does not hold
     ensures but_a_other { Accepts (named_by all_but_a) no_library bare_b }
-    // the same local name in another namespace
+    // the excepted local name in another namespace than the except's
     ensures but_a_elsewhere { Accepts (named_by all_but_a) no_library a_in_u }
     // the excepted name
     ensures but_a_itself { Rejects (named_by all_but_a) no_library bare_a }
@@ -265,27 +265,27 @@ pub fn name_classes_hold_names()
     ensures of_u_but_a_itself { Rejects (named_by of_u_but_a) no_library a_in_u }
     // a name of another namespace
     ensures of_u_but_a_elsewhere { Rejects (named_by of_u_but_a) no_library b_in_v }
-    // the first member holds it
+    // a name that the first member of the choice holds
     ensures choice_first { Accepts (named_by a_or_of_u) no_library bare_a }
-    // the second member holds it
+    // a name that the second member of the choice holds
     ensures choice_second { Accepts (named_by a_or_of_u) no_library b_in_u }
-    // neither member holds it
+    // a name that neither member of the choice holds
     ensures choice_none { Rejects (named_by a_or_of_u) no_library bare_b }
 {}
 
 /// A reference matches what its definition matches, through other references too (sections 4.19 and 6.3).
 pub fn references_stand_for_definitions()
-    // in the definition of first
+    // what the definition of first matches itself
     ensures through_one { Accepts through_two no_library bare_b }
-    // in that of second, to which it refers
+    // what the definition of second matches, to which that of first refers
     ensures through_two { Accepts through_two no_library bare_a }
-    // in neither
+    // what neither definition matches
     ensures through_none { Rejects through_two no_library (leaf (codes "c")) }
     // a definition that refers to itself inside an element
     ensures nested_empty { Accepts nested no_library bare_doc }
-    // and matches at two levels
+    // a definition that refers to itself inside an element matches at two levels
     ensures nested { Accepts nested no_library doc_doc_a_a }
-    // but not at the second
+    // what the definition does not match, at the second level
     ensures nested_other { Rejects nested no_library doc_doc_b }
 {}
 
@@ -295,7 +295,7 @@ pub fn documents_and_other_items()
     ensures two_names { IsDocument (a_with (x_one ∷ x_in_u ∷ [])) }
     // two attributes with one name
     ensures one_name_twice { ¬ IsDocument (a_with (x_one ∷ x_one ∷ [])) }
-    // the same in an element inside
+    // an element inside with two attributes of one name
     ensures one_name_twice_inside { ¬ IsDocument (doc_of (a_with (x_one ∷ x_one ∷ []) ∷ [])) }
     // two strings side by side
     ensures two_strings { ¬ IsDocument
@@ -310,25 +310,25 @@ pub fn documents_and_other_items()
 pub fn name_classes_keep_restrictions()
     // an except of anyName may hold an nsName
     ensures any_but_namespace { KeepsNameRules (element all_but_u empty) }
-    // but no anyName
+    // an except of anyName may hold no anyName
     ensures any_but_any { ¬ KeepsNameRules (element (any_name_but any_name) empty) }
-    // at any depth
+    // an except of anyName may hold no anyName at any depth
     ensures any_but_any_inside { ¬ KeepsNameRules
         (element (any_name_but (ns_name_but (codes "urn:u") any_name)) empty) }
     // an except of nsName may hold a name
     ensures namespace_but_name { KeepsNameRules (element of_u_but_a empty) }
-    // but no nsName
+    // an except of nsName may hold no nsName
     ensures namespace_but_namespace { ¬ KeepsNameRules
         (element (ns_name_but (codes "urn:u") of_u) empty) }
     // an attribute in no namespace
     ensures attribute { KeepsNameRules x_is_one }
-    // unless it is xmlns
+    // an attribute may not be xmlns in no namespace
     ensures attribute_xmlns { ¬ KeepsNameRules (attribute (plain (codes "xmlns")) text) }
-    // which an element may be
+    // an element may be xmlns in no namespace
     ensures element_xmlns { KeepsNameRules (element (plain (codes "xmlns")) empty) }
-    // an attribute in the namespace of declarations
+    // an attribute may have no name in the namespace of declarations
     ensures attribute_declaration { ¬ KeepsNameRules
         (attribute (name declarations (codes "x")) text) }
-    // any attribute of that namespace
+    // an attribute may not have any name of the namespace of declarations
     ensures attributes_of_declarations { ¬ KeepsNameRules (attribute (ns_name declarations) text) }
 {}

@@ -47,10 +47,8 @@ fn compare_classes(x: Option<&NameClass>, y: Option<&NameClass>) -> Ordering
         (class_view (option_copied y.entry)) }
 {
     match (x, y) {
-        (None, None) => Ordering::Equal,
-        (None, Some(_)) => Ordering::Less,
-        (Some(_), None) => Ordering::Greater,
         (Some(c), Some(d)) => c.cmp(d),
+        _ => x.is_some().cmp(&y.is_some()),
     }
 }
 

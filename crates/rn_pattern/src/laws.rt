@@ -9,7 +9,7 @@ ghost use Rattle.rn_pattern.specs.HeldNames.{HoldAlike};
 ghost use Rattle.rn_pattern.specs.Matching.{Grammar, MatchAlike, ValidAlike};
 ghost use Rattle.rn_pattern.specs.Order.{name_cmp, tree_cmp};
 ghost use Rattle.rn_pattern.specs.Canonical.{sorted, sorted_once, canonical_name, choice_step, group_step, interleave_step, one_or_more_step, list_step, attribute_step, datum_but_step, canonical, settled_in, settled_within, canonical_within, HaveSameMembers};
-ghost use Rattle.rn_pattern.specs.CanonicalShape.{IsAscending, IsCanonicalName, IsCanonicalPattern, JoinsCanonical, KeepsCanonical};
+ghost use Rattle.rn_pattern.specs.CanonicalShape.{IsAscending, IsCanonicalName, IsCanonicalPattern, MakesCanonical, KeepsCanonical};
 ghost use Rattle.rn_pattern.specs.Excepts.{DefinesExcepts, HasExcepts};
 ghost use Rattle.rn_pattern.specs.Opened.{opened, opened_grammar};
 ghost use Rattle.rn_pattern.specs.Pairing.{PairedUp};
@@ -68,9 +68,9 @@ pub fn canonical_forms_are_canonical()
 
 /// Each canonical step makes a canonical pattern of canonical parts (sections 4.20 and 4.21).
 pub fn canonical_steps_are_canonical()
-    ensures of_choice { JoinsCanonical choice_step }
-    ensures of_group { JoinsCanonical group_step }
-    ensures of_interleave { JoinsCanonical interleave_step }
+    ensures of_choice { MakesCanonical choice_step }
+    ensures of_group { MakesCanonical group_step }
+    ensures of_interleave { MakesCanonical interleave_step }
     ensures of_one_or_more { KeepsCanonical one_or_more_step }
     ensures of_list { KeepsCanonical list_step }
     ensures of_data { (library type : Text) (params : Parameters)

@@ -2,9 +2,9 @@
 //! section 3, after the simplification of section 4).
 //!
 //! A [`Patterns`] store names each pattern by an id. Its constructors bring a pattern into canonical form on the way in:
-//! `notAllowed` and `empty` are propagated (4.20, 4.21), nested lists are joined, and the members of a choice or an
-//! interleave are put in one order. [`Plain`] keeps each pattern that it is asked for; in [`Interned`] equal patterns
-//! have equal ids.
+//! `notAllowed` and `empty` are propagated (4.20, 4.21), lists within lists of their kind are opened, and the members of a
+//! choice or an interleave are put in one order. [`Plain`] keeps each pattern that it is asked for; in [`Interned`] equal
+//! patterns have equal ids.
 //!
 //! [`steps`] takes the same steps on patterns themselves, for a pattern that no store is to keep.
 //!

@@ -1,8 +1,8 @@
 // The restrictions on name classes (RELAX NG 2001, 4.16).
 ghost use Rattle.std.specs.Prelude.{◌≡◌, ◌≢◌, ◌↔◌, true, []};
 ghost use Rattle.rn_pattern.specs.NameRules.{HasNoAny, HaveNoAny, HasNamesAlone, HaveNamesAlone, HasNameExcepts, HaveNameExcepts, HasNoDeclaration, HaveNoDeclaration, IsNoDeclaration, KeepsNameRules, KeepNameRules, declarations};
-ghost use Rattle.rn_pattern.specs.View.{name_class_view, pattern_view};
-ghost use Rattle.rn_pattern.specs.inside.PartViews.{name_classes_view, patterns_view};
+ghost use Rattle.rn_pattern.specs.View.{name_class_view, pattern_view, shared_trees};
+ghost use Rattle.rn_pattern.specs.inside.PartViews.{name_classes_view};
 
 use crate::tree::{NameClass, Pattern};
 use std::rc::Rc;
@@ -154,7 +154,7 @@ pub fn keeps_name_rules(pattern: &Pattern) -> bool
 
 #[cycle(name_rules)]
 fn keep_name_rules(members: &[Rc<Pattern>]) -> bool
-    ensures { (result ≡ true) ↔ KeepNameRules (patterns_view members.now) }
+    ensures { (result ≡ true) ↔ KeepNameRules (shared_trees members.now) }
 {
     for member in members {
         if !keeps_name_rules(member) {

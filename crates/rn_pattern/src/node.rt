@@ -19,7 +19,7 @@ pub enum Node<Id> {
     Ref(String),
     /// The datatype library, the type and the text. The library is shared by all nodes of a store.
     Value(RcStr, String, String),
-    /// The datatype library, the type, its parameters and what is excepted. The library is shared likewise.
+    /// The datatype library, the type, its parameters and what is excepted. The library is shared by all nodes of a store.
     Datum(RcStr, String, Vec<(String, String)>, Option<Id>),
     /// The pattern of a string's words.
     List(Id),

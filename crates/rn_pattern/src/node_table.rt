@@ -70,19 +70,12 @@ impl<'a> NodeTable<'a> {
             Ordering::Equal => {}
             order => return order,
         }
-        for (k, i) in x.members.iter().enumerate() {
-            if k >= y.members.len() {
-                return Ordering::Greater;
-            }
-            match self.compare(*i, y.members[k]) {
+        for k in 0..x.members.len().min(y.members.len()) {
+            match self.compare(x.members[k], y.members[k]) {
                 Ordering::Equal => {}
                 order => return order,
             }
         }
-        if x.members.len() < y.members.len() {
-            Ordering::Less
-        } else {
-            Ordering::Equal
-        }
+        x.members.len().cmp(&y.members.len())
     }
 }

@@ -1,8 +1,8 @@
 // The order of name classes and of patterns: by kind, then by the parts from left to right.
 ghost use Rattle.std.specs.Prelude.{◌≡◌};
 ghost use Rattle.rn_pattern.specs.Order.{name_cmp, name_rank, names_cmp, rank, tree_cmp, trees_cmp};
-ghost use Rattle.rn_pattern.specs.View.{excepted_view, name_class_view, pattern_view};
-ghost use Rattle.rn_pattern.specs.inside.PartViews.{except_view, name_classes_view, patterns_view};
+ghost use Rattle.rn_pattern.specs.View.{excepted_view, name_class_view, pattern_view, shared_trees};
+ghost use Rattle.rn_pattern.specs.inside.PartViews.{except_view, name_classes_view};
 ghost use Rattle.rn_pattern.specs.inside.Shown.{names_in, parameters_in, part_class, part_parameters, part_texts, texts_in};
 
 use crate::heads::{Heads, bare_heads, compare_heads};
@@ -51,10 +51,8 @@ fn compare_excepts(c: &Option<Box<NameClass>>, d: &Option<Box<NameClass>>) -> Or
     ensures { result ≡ names_cmp (except_view c.now) (except_view d.now) }
 {
     match (c, d) {
-        (None, None) => Ordering::Equal,
-        (None, Some(_)) => Ordering::Less,
-        (Some(_), None) => Ordering::Greater,
         (Some(c), Some(d)) => c.cmp(d),
+        _ => c.is_some().cmp(&d.is_some()),
     }
 }
 
@@ -63,20 +61,13 @@ fn compare_excepts(c: &Option<Box<NameClass>>, d: &Option<Box<NameClass>>) -> Or
 fn compare_name_classes(cs: &[NameClass], ds: &[NameClass]) -> Ordering
     ensures { result ≡ names_cmp (name_classes_view cs.now) (name_classes_view ds.now) }
 {
-    for (k, c) in cs.iter().enumerate() {
-        if k >= ds.len() {
-            return Ordering::Greater;
-        }
-        match c.cmp(&ds[k]) {
+    for k in 0..cs.len().min(ds.len()) {
+        match cs[k].cmp(&ds[k]) {
             Ordering::Equal => {}
             order => return order,
         }
     }
-    if cs.len() < ds.len() {
-        Ordering::Less
-    } else {
-        Ordering::Equal
-    }
+    cs.len().cmp(&ds.len())
 }
 
 impl Pattern {
@@ -165,30 +156,21 @@ fn compare_excepted(p: &Option<Box<Pattern>>, q: &Option<Box<Pattern>>) -> Order
     ensures { result ≡ trees_cmp (excepted_view p.now) (excepted_view q.now) }
 {
     match (p, q) {
-        (None, None) => Ordering::Equal,
-        (None, Some(_)) => Ordering::Less,
-        (Some(_), None) => Ordering::Greater,
         (Some(p), Some(q)) => p.cmp(q),
+        _ => p.is_some().cmp(&q.is_some()),
     }
 }
 
 /// By the first members that differ; a list stands before each longer one that it begins.
 #[cycle(compare_patterns)]
 fn compare_patterns(ps: &[Rc<Pattern>], qs: &[Rc<Pattern>]) -> Ordering
-    ensures { result ≡ trees_cmp (patterns_view ps.now) (patterns_view qs.now) }
+    ensures { result ≡ trees_cmp (shared_trees ps.now) (shared_trees qs.now) }
 {
-    for (k, p) in ps.iter().enumerate() {
-        if k >= qs.len() {
-            return Ordering::Greater;
-        }
-        match p.cmp(&qs[k]) {
+    for k in 0..ps.len().min(qs.len()) {
+        match ps[k].cmp(&qs[k]) {
             Ordering::Equal => {}
             order => return order,
         }
     }
-    if ps.len() < qs.len() {
-        Ordering::Less
-    } else {
-        Ordering::Equal
-    }
+    ps.len().cmp(&qs.len())
 }

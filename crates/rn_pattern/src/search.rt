@@ -1,9 +1,10 @@
-// One search along all edges of a graph (Gabow's path-based search for strongly connected groups): the least node that comes back to itself, and ranks.
+// One search along all edges of a graph (Gabow's path-based search for strongly connected groups): the least node that comes
+// back to itself, and ranks.
 
 ghost use Rattle.std.specs.Prelude.{◌≡◌, ℕ, ◌-◌, ◌<◌, ◌≤◌, ◌≢◌, ◌⊎◌, [], Contains, length, vec_len, take, drop, min, MatchBool, MatchOption, None, IfOk, OnOk, map};
 ghost use Rattle.rn_pattern.specs.Graph.{row, IsGraph, rows_of};
 ghost use Rattle.rn_pattern.specs.Ranks.{HasNoLoop, IsFirstLoop, IsRanking};
-ghost use Rattle.rn_pattern.specs.inside.Searching.{EndsWith, IsNext, edges_left, Grouping, GroupsOn, IsLeastLooped, IsClosed, IsSettled, IsStage, IsAtWork, IsJoined, AllLead, LeadsBack, Rises, left_at, next_at, node_at, place_of, work};
+ghost use Rattle.rn_pattern.specs.inside.Searching.{EndsWith, IsNext, edges_left, Grouping, GroupsOn, IsLeastLooped, IsClosed, IsSettled, IsStage, IsAtWork, IsUnited, AllLead, LeadsBack, Rises, left_at, next_at, node_at, place_of, work};
 
 use crate::rows::Rows;
 use std::alloc::{AllocError, Global};
@@ -19,9 +20,9 @@ enum Stage {
     Closed,
 }
 
-/// A search along the edges. The nodes that are met stand on a stack, in groups of nodes that lead to one another; each node on the stack leads to
-/// all behind it. So an edge from the last group back to another one joins all groups from there on. A group is closed when no edge of it is left; by then
-/// the groups that its edges lead to are closed.
+/// A search along the edges. The nodes that are met stand on a stack, in groups of nodes that lead to one another; each node
+/// on the stack leads to all behind it. So an edge from the last group back to another one unites all groups from there on. A
+/// group is closed when no edge of it is left; by then the groups that its edges lead to are closed.
 #[derive(Drop)]
 pub(crate) struct Search {
     /// Of each node that was met, its place when it was put on the stack.
@@ -118,18 +119,18 @@ fn pass(search: &mut Search, edges: &Rows, place: usize)
     search.left[node] -= 1;
 }
 
-/// Joins all groups that begin behind the place to the one before.
-fn join_bounds(bounds: &mut Vec<usize>, place: usize)
+/// Drops the bounds behind the place: all groups that begin there are united with the one before.
+fn drop_bounds(bounds: &mut Vec<usize>, place: usize)
     requires { Rises bounds.old.items }
-    ensures { IsJoined bounds.old.items bounds.new.items place }
+    ensures { IsUnited bounds.old.items bounds.new.items place }
 {
     while !bounds.is_empty() && bounds[bounds.len() - 1] > place {
         bounds.pop();
     }
 }
 
-/// Joins the groups that an edge between the places closes to a loop, and leaves the edge.
-fn merge_groups(search: &mut Search, edges: &Rows, place: usize, other: usize)
+/// Unites the groups that an edge between the places closes to a loop, and leaves the edge.
+fn unite_groups(search: &mut Search, edges: &Rows, place: usize, other: usize)
     requires grouping { Grouping (rows_of edges.now) search.old }
     requires within { place < vec_len search.old.stack }
     requires other_within { other < vec_len search.old.stack }
@@ -141,7 +142,7 @@ fn merge_groups(search: &mut Search, edges: &Rows, place: usize, other: usize)
     ensures goes_on { GroupsOn (rows_of edges.now) search.old search.new }
     ensures less { work search.new < work search.old }
 {
-    join_bounds(&mut search.bounds, other);
+    drop_bounds(&mut search.bounds, other);
     pass(search, edges, place);
 }
 
@@ -298,7 +299,7 @@ fn step(search: &mut Search, edges: &Rows) -> Result<(), AllocError>
     };
     match stage_of(search, edges, next) {
         Stage::New => enter(search, edges, next)?,
-        Stage::Open(other) => merge_groups(search, edges, place, other),
+        Stage::Open(other) => unite_groups(search, edges, place, other),
         Stage::Closed => pass(search, edges, place),
     }
     Ok(())

@@ -11,7 +11,7 @@ use Rattle.std.proofs.lemmas.List.Elements.{Contains-append_left, Contains-push,
 use Rattle.rn_text.specs.Texts.{Text, text_cmp}
 use Rattle.rn_pattern.specs.Graph.{AllBelow}
 use Rattle.rn_pattern.proofs.Ordered.InOrder.{contains_behind, contains_cases, contains_front}
-use Rattle.rn_pattern.proofs.Graphs.Rows.{none_below}
+use Rattle.rn_pattern.proofs.Graphs.BuiltRows.{none_below}
 use Rattle.rn_syntax.specs.Tree as t
 use Rattle.rn_syntax.specs.Tree.{Item, Items, includes, item_includes}
 use Rattle.rn_assemble.specs.Components.{NamedModule}

@@ -13,7 +13,7 @@ use Rattle.rn_pattern.specs.Reached.{RefersTo}
 use Rattle.rn_pattern.specs.References.{RefersOutside, IsUndefined}
 use Rattle.rn_pattern.specs.Graph.{row}
 use Rattle.rn_pattern.proofs.Graphs.FirstLoop.{source_within}
-use Rattle.rn_pattern.proofs.Graphs.Rows.{row_before, row_behind}
+use Rattle.rn_pattern.proofs.Graphs.BuiltRows.{row_before, row_behind}
 use Rattle.rn_assemble.specs.Components.{name_key, Component}
 use Rattle.rn_assemble.specs.Combine.{bodies, joined_pattern, joined_grammar, defined_names}
 use Rattle.rn_assemble.specs.inside.Keyed.{IsNumber, key_at}

@@ -11,7 +11,7 @@ use Rattle.std.proofs.lemmas.List.Elements.{Contains-append_left, Contains-push,
 use Rattle.rn_text.specs.Texts.{Text, text_cmp}
 use Rattle.rn_pattern.specs.Matching.{Grammar, definition_of}
 use Rattle.rn_pattern.specs.Graph.{AllBelow}
-use Rattle.rn_pattern.proofs.Graphs.Rows.{below_push}
+use Rattle.rn_pattern.proofs.Graphs.BuiltRows.{below_push}
 use Rattle.rn_assemble.specs.Combine.{joined_grammar}
 use Rattle.rn_assemble.specs.inside.Listed.{components_in}
 use Rattle.rn_assemble.specs.inside.Keyed.{IsFound, IsNumber}

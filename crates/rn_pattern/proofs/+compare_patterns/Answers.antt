@@ -1,11 +1,11 @@
 -- The heads, and then the members one by one.
-use Rattle.std.proofs.Common.{◌≡◌, ◌+◌, ◌≤◌, ◌<◌, length, map, sym, ap, ◌∙◌, arith}
+use Rattle.std.proofs.Common.{map, sym, ap, ◌∙◌, arith}
 use Rattle.rn_pattern.specs.Order.{rank, tree_cmp, trees_cmp}
-use Rattle.rn_pattern.specs.View.{pattern_view, shared_view}
-use Rattle.rn_pattern.proofs.Ordered.Stepwise.{trees_cmp-trees_of, rest_longer, rest_shorter, rest_level, rest_settled, rest_tied}
+use Rattle.rn_pattern.specs.View.{pattern_view, shared_view, shared_trees}
+use Rattle.rn_pattern.proofs.Ordered.Stepwise.{trees_cmp-trees_of, rest_ended, rest_settled, rest_tied}
 use Rattle.rn_pattern.specs.inside.Shown.{ShowsHeads, part_texts, part_parameters, part_class, texts_in, parameters_in, names_in, members_in}
 use Rattle.rn_pattern.specs.declared.heads.Heads.{Heads}
-use Rattle.rn_pattern.specs.Tree.{Tree, trees_of}
+use Rattle.rn_pattern.specs.Tree.{Tree}
 use Rattle.rn_pattern.proofs.Ordered.ByHeads.{heads_settled, heads_tied, same_kind}
 use Rattle.rn_pattern.proofs.Ordered.PatternKinds.{group_seen, interleave_seen, choice_seen, datum_excepted, no_members_tied, not_datum, not_list, not_attribute, not_element, not_oneormore, not_group, not_interleave, not_choice}
 use Rattle.rn_pattern.proofs.+compare_patterns.Goals as goal
@@ -13,40 +13,25 @@ use Rattle.rn_pattern.proofs.+compare_patterns.Goals as goal
 shows : {t : Tree} {x : Heads} → x.kind ≡ rank t → part_texts x ≡ texts_in t → part_parameters x ≡ parameters_in t → part_class x ≡ names_in t → ShowsHeads t x
 shows a b c d = record { kinds = a; texts_are = b; parameters_are = c; class_is = d }
 
-pub order::compare_patterns-returns-then-k-qs : goal.order::compare_patterns-returns-then-k-qs
-order::compare_patterns-returns-then-k-qs t c =
-    let xs = c.args.ps.now in
-    let ys = c.args.qs.now in
-    sym (trees_cmp-trees_of (map shared_view xs) (map shared_view ys) ∙ c.loop-k.invariant.1 ∙ rest_longer tree_cmp shared_view xs ys c.loop-k.k c.index-ps-k.result c.loop-k-test.true c.if-k-qs.true)
-
 pub order::compare_patterns-returns-in_default : goal.order::compare_patterns-returns-in_default
 order::compare_patterns-returns-in_default t c =
     let xs = c.args.ps.now in
     let ys = c.args.qs.now in
-    sym (trees_cmp-trees_of (map shared_view xs) (map shared_view ys) ∙ c.loop-k.invariant.1 ∙ rest_settled tree_cmp shared_view xs ys c.loop-k.k c.index-ps-k.result c.index-qs-k.result c.cmp.result c.loop-k-test.true c.if-k-qs.false (c.cmp.ensures ∙ (λ i. tree_cmp (pattern_view (c.deref.ensures i)) (pattern_view (c.deref-in-loop-k.ensures i))) ∙ (λ i. tree_cmp (shared_view (c.index-ps-k.is i)) (shared_view (c.index-qs-k.is i)))) c.in_default.not-Equal)
+    sym (trees_cmp-trees_of (map shared_view xs) (map shared_view ys) ∙ c.loop-k.invariant ∙ rest_settled tree_cmp shared_view xs ys c.loop-k.k c.index-ps-k.result c.index-qs-k.result c.cmp.result (omega (arith, c.loop-k-test.true, c.min-k-end.ensures)) (omega (arith, c.loop-k-test.true, c.min-k-end.ensures)) (c.cmp.ensures ∙ (λ i. tree_cmp (pattern_view (c.deref.ensures i)) (pattern_view (c.deref-in-loop-k.ensures i))) ∙ (λ i. tree_cmp (shared_view (c.index-ps-k.is i)) (shared_view (c.index-qs-k.is i)))) c.in_default.not-Equal)
 
-pub order::compare_patterns-returns-then-ps-qs : goal.order::compare_patterns-returns-then-ps-qs
-order::compare_patterns-returns-then-ps-qs t c =
+pub order::compare_patterns-returns : goal.order::compare_patterns-returns
+order::compare_patterns-returns t c =
     let xs = c.args.ps.now in
     let ys = c.args.qs.now in
-    let all : length xs ≤ c.loop-k.k = omega arith in
-    let more : c.loop-k.k < length ys = omega (arith, c.loop-k.auto.k-end) in
-    sym (trees_cmp-trees_of (map shared_view xs) (map shared_view ys) ∙ c.loop-k.invariant.1 ∙ rest_shorter tree_cmp shared_view xs ys c.loop-k.k all more)
-
-pub order::compare_patterns-returns-else-ps-qs : goal.order::compare_patterns-returns-else-ps-qs
-order::compare_patterns-returns-else-ps-qs t c =
-    let xs = c.args.ps.now in
-    let ys = c.args.qs.now in
-    let all : length xs ≤ c.loop-k.k = omega arith in
-    let level : length ys ≤ c.loop-k.k = omega arith in
-    sym (trees_cmp-trees_of (map shared_view xs) (map shared_view ys) ∙ c.loop-k.invariant.1 ∙ rest_level tree_cmp shared_view xs ys c.loop-k.k all level)
+    c.cmp-2.ensures ∙ sym (trees_cmp-trees_of (map shared_view xs) (map shared_view ys) ∙ c.loop-k.invariant
+    ∙ rest_ended tree_cmp shared_view xs ys c.loop-k.k (omega (arith, c.loop-k.auto.k-end, c.loop-k-test.false, c.min-k-end.ensures)))
 
 pub tree::Pattern::cmp-returns-in-Group-Group : goal.tree::Pattern::cmp-returns-in-Group-Group
 tree::Pattern::cmp-returns-in-Group-Group t c =
     let x = ap pattern_view c.in-Group-Group.is-0 ∙ group_seen c.in-Group-Group.ps in
     let y = ap pattern_view c.in-Group-Group.is-1 ∙ group_seen c.in-Group-Group.qs in
     c.compare_patterns.ensures
-    ∙ (λ i. trees_cmp (trees_of (map shared_view (c.deref-in-Group-Group.ensures.value i))) (trees_of (map shared_view (c.deref-in-Group-Group-2.ensures.value i))))
+    ∙ (λ i. trees_cmp (shared_trees (c.deref-in-Group-Group.ensures.value i)) (shared_trees (c.deref-in-Group-Group-2.ensures.value i)))
     ∙ sym (λ i. tree_cmp (x i) (y i))
 
 pub tree::Pattern::cmp-returns-in-Interleave-Interleave : goal.tree::Pattern::cmp-returns-in-Interleave-Interleave
@@ -54,7 +39,7 @@ tree::Pattern::cmp-returns-in-Interleave-Interleave t c =
     let x = ap pattern_view c.in-Interleave-Interleave.is-0 ∙ interleave_seen c.in-Interleave-Interleave.ps in
     let y = ap pattern_view c.in-Interleave-Interleave.is-1 ∙ interleave_seen c.in-Interleave-Interleave.qs in
     c.compare_patterns-in-Interleave-Interleave.ensures
-    ∙ (λ i. trees_cmp (trees_of (map shared_view (c.deref-in-Interleave-Interleave.ensures.value i))) (trees_of (map shared_view (c.deref-in-Interleave-Interleave-2.ensures.value i))))
+    ∙ (λ i. trees_cmp (shared_trees (c.deref-in-Interleave-Interleave.ensures.value i)) (shared_trees (c.deref-in-Interleave-Interleave-2.ensures.value i)))
     ∙ sym (λ i. tree_cmp (x i) (y i))
 
 pub tree::Pattern::cmp-returns-in-Choice-Choice : goal.tree::Pattern::cmp-returns-in-Choice-Choice
@@ -62,7 +47,7 @@ tree::Pattern::cmp-returns-in-Choice-Choice t c =
     let x = ap pattern_view c.in-Choice-Choice.is-0 ∙ choice_seen c.in-Choice-Choice.ps in
     let y = ap pattern_view c.in-Choice-Choice.is-1 ∙ choice_seen c.in-Choice-Choice.qs in
     c.compare_patterns-in-Choice-Choice.ensures
-    ∙ (λ i. trees_cmp (trees_of (map shared_view (c.deref-in-Choice-Choice.ensures.value i))) (trees_of (map shared_view (c.deref-in-Choice-Choice-2.ensures.value i))))
+    ∙ (λ i. trees_cmp (shared_trees (c.deref-in-Choice-Choice.ensures.value i)) (shared_trees (c.deref-in-Choice-Choice-2.ensures.value i)))
     ∙ sym (λ i. tree_cmp (x i) (y i))
 
 pub tree::Pattern::cmp-returns-in_default : goal.tree::Pattern::cmp-returns-in_default
@@ -99,5 +84,4 @@ pub order::compare_patterns-loop-k-preserved : goal.order::compare_patterns-loop
 order::compare_patterns-loop-k-preserved t c =
     let xs = c.args.ps.now in
     let ys = c.args.qs.now in
-    let more : c.loop-k.k + 1 ≤ length ys = omega arith in
-    (more, c.loop-k.invariant.1 ∙ rest_tied tree_cmp shared_view xs ys c.loop-k.k c.index-ps-k.result c.index-qs-k.result c.cmp.result c.loop-k-test.true c.if-k-qs.false (c.cmp.ensures ∙ (λ i. tree_cmp (pattern_view (c.deref.ensures i)) (pattern_view (c.deref-in-loop-k.ensures i))) ∙ (λ i. tree_cmp (shared_view (c.index-ps-k.is i)) (shared_view (c.index-qs-k.is i)))) c.in-Equal.is)
+    c.loop-k.invariant ∙ rest_tied tree_cmp shared_view xs ys c.loop-k.k c.index-ps-k.result c.index-qs-k.result c.cmp.result (omega (arith, c.loop-k-test.true, c.min-k-end.ensures)) (omega (arith, c.loop-k-test.true, c.min-k-end.ensures)) (c.cmp.ensures ∙ (λ i. tree_cmp (pattern_view (c.deref.ensures i)) (pattern_view (c.deref-in-loop-k.ensures i))) ∙ (λ i. tree_cmp (shared_view (c.index-ps-k.is i)) (shared_view (c.index-qs-k.is i)))) c.in-Equal.is

@@ -1,4 +1,4 @@
-use Rattle.std.proofs.Common.{◌≡◌, ◌≤◌, length, map, drop}
+use Rattle.std.proofs.Common.{◌≡◌, map, drop}
 use Rattle.std.specs.Cmp.Lexicographic.{slice_cmp}
 use Rattle.rn_pattern.specs.Order.{tree_cmp}
 use Rattle.rn_pattern.specs.View.{shared_view}
@@ -6,6 +6,5 @@ use Rattle.rn_pattern.proofs.+compare_patterns.Given as goal
 
 abbrev pub invariant-order::compare_patterns-loop-k : goal.invariant-order::compare_patterns-loop-k
 invariant-order::compare_patterns-loop-k l =
-    (l.k ≤ length l.qs)
-    × (slice_cmp tree_cmp (map shared_view l.ps) (map shared_view l.qs)
-    ≡ slice_cmp tree_cmp (map shared_view (drop l.k l.ps)) (map shared_view (drop l.k l.qs)))
+    slice_cmp tree_cmp (map shared_view l.ps) (map shared_view l.qs)
+    ≡ slice_cmp tree_cmp (map shared_view (drop l.k l.ps)) (map shared_view (drop l.k l.qs))

@@ -1,7 +1,7 @@
 -- The shape of a canonical pattern, and that the canonical steps give it.
-use Rattle.std.proofs.Common.{◌≡◌, inl, inr, Bool, true, false, ◌||◌, cond, List, [], ◌∷◌, refl, sym, subst}
+use Rattle.std.proofs.Common.{◌≡◌, inl, inr, Bool, true, false, cond, List, [], ◌∷◌, refl, sym, subst}
 use Rattle.std.specs.Prelude.{flat_map}
-use Rattle.std.proofs.lemmas.Bool.{false≢true}
+use Rattle.std.proofs.lemmas.Bool.{false≢true, or_parts}
 use Rattle.rn_pattern.specs.Tree.{Parameters, NameTree, NameTrees, any_name, any_name_but, ns_name, ns_name_but, name, name_choice, no_names, more_names, name_list_of, name_trees_of, Tree, Trees, not_allowed, empty, text, ref, value, datum, datum_but, list, attribute, element, one_or_more, group, interleave, choice, no_trees, more_trees, list_of, trees_of}
 use Rattle.rn_text.specs.Texts.{Text}
 use Rattle.rn_pattern.specs.Order.{name_cmp, tree_cmp}
@@ -88,13 +88,9 @@ module _ (Named : Text → Type 0) where
   abbrev Allowed : Tree → Type 0
   Allowed p = IsCanonical Named p × (is_not_allowed p ≡ false)
 
-  allowed_at : (a b : Bool) → (a || b) ≡ false → (a ≡ false) × (b ≡ false)
-  allowed_at true b e = absurd (false≢true (sym e))
-  allowed_at false b e = (refl, e)
-
   pub each_allowed : (ps : List Tree) → AllByRecursion (IsCanonical Named) ps → has_not_allowed ps ≡ false → AllByRecursion Allowed ps
   each_allowed [] h e = tt
-  each_allowed (p ∷ ps) h e = let (a, b) = allowed_at (is_not_allowed p) (has_not_allowed ps) e in ((h.0, a), each_allowed ps h.1 b)
+  each_allowed (p ∷ ps) h e = let (a, b) = or_parts (is_not_allowed p) (has_not_allowed ps) e in ((h.0, a), each_allowed ps h.1 b)
 
   choice_node : (ps : List Tree) → AllByRecursion (Member may_choose) ps → IsStrictlySortedBy tree_cmp ps → IsCanonical Named (node_of not_allowed choice ps)
   choice_node [] h k = tt

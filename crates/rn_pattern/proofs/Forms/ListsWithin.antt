@@ -2,7 +2,7 @@
 use Rattle.std.proofs.Common.{◌≡◌, Bool, true, false, cond, List, [], ◌∷◌, ◌++◌, refl, sym, ap, ◌∙◌}
 use Rattle.std.specs.Prelude.{flat_map, ◌||◌}
 use Rattle.std.specs.List.{AllByRecursion}
-use Rattle.std.proofs.lemmas.Bool.{false≢true}
+use Rattle.std.proofs.lemmas.Bool.{false≢true, or_right}
 use Rattle.std.proofs.lemmas.Grind.{flat_map-append}
 use Rattle.rn_pattern.specs.Tree.{Tree, Trees, not_allowed, empty, group, interleave, choice}
 use Rattle.rn_pattern.specs.Order.{tree_cmp}
@@ -50,10 +50,6 @@ has-append : (ps qs : List Tree) → has_not_allowed (ps ++ qs) ≡ (has_not_all
 has-append [] qs = refl
 has-append (p ∷ ps) qs = has_more (is_not_allowed p) (has_not_allowed (ps ++ qs)) (has_not_allowed ps) (has_not_allowed qs) (has-append ps qs)
 
-or-true : (b : Bool) → (b || true) ≡ true
-or-true true = refl
-or-true false = refl
-
 module _ (order : List Tree → List Tree) (over : Trees → Tree) (inside : Tree → List Tree)
     (between : (front ps rest : List Tree) → order (front ++ (order ps ++ rest)) ≡ order (front ++ (ps ++ rest))) where
   abbrev node : List Tree → Tree
@@ -72,8 +68,8 @@ module _ (order : List Tree → List Tree) (over : Trees → Tree) (inside : Tre
       → (b ≡ false → (is_not_allowed (node ps) ≡ false) × (inside (node ps) ≡ order (flat_map inside ps)))
       → step (front ++ (cond b not_allowed (node ps) ∷ rest)) ≡ step (front ++ (ps ++ rest))
   within_at true front ps rest e h =
-      forbidden (front ++ (not_allowed ∷ rest)) (has-append front (not_allowed ∷ rest) ∙ or-true (has_not_allowed front))
-      ∙ sym (forbidden (front ++ (ps ++ rest)) (has-append front (ps ++ rest) ∙ ap (λ b. has_not_allowed front || b) (has-append ps rest ∙ ap (λ b. b || has_not_allowed rest) e) ∙ or-true (has_not_allowed front)))
+      forbidden (front ++ (not_allowed ∷ rest)) (has-append front (not_allowed ∷ rest) ∙ or_right (has_not_allowed front) true refl)
+      ∙ sym (forbidden (front ++ (ps ++ rest)) (has-append front (ps ++ rest) ∙ ap (λ b. has_not_allowed front || b) (has-append ps rest ∙ ap (λ b. b || has_not_allowed rest) e) ∙ or_right (has_not_allowed front) true refl))
   within_at false front ps rest e h =
       let flat = flat_map inside in
       same_step (front ++ (node ps ∷ rest)) (front ++ (ps ++ rest))

@@ -6,7 +6,7 @@ use Rattle.std.specs.Ordering.{match_ordering}
 use Rattle.std.specs.Map.{lookup}
 use Rattle.std.specs.Cmp.Lexicographic.{bytes_decides}
 use Rattle.std.proofs.Math.Path.{fun_ext}
-use Rattle.std.proofs.lemmas.Bool.{false≢true}
+use Rattle.std.proofs.lemmas.Bool.{false≢true, or_right}
 use Rattle.rn_pattern.specs.Tree.{Parameters, NameTree, Tree, Trees, not_allowed, empty, text, ref, value, datum, datum_but, list, attribute, element, one_or_more, group, interleave, choice, no_trees, more_trees, list_of}
 use Rattle.rn_text.specs.Texts.{Text}
 use Rattle.rn_pattern.specs.Order.{tree_cmp}
@@ -73,11 +73,7 @@ none_at true p q ps qs e f ih h =
     let n : p ≡ not_allowed = is_none p e in
     let m : q ≡ not_allowed = f (ap is_settled n) ∙ n in
     ap (λ t. is_not_allowed t || has_not_allowed qs) m
-none_at false p q ps qs e f ih h = or_behind (is_not_allowed q) (ih h)
-  where
-    or_behind : (b : Bool) → has_not_allowed qs ≡ true → (b || has_not_allowed qs) ≡ true
-    or_behind true k = refl
-    or_behind false k = k
+none_at false p q ps qs e f ih h = or_right (is_not_allowed q) (has_not_allowed qs) (ih h)
 
 firms_none : (ps qs : List Tree) → Firms ps qs → has_not_allowed ps ≡ true → has_not_allowed qs ≡ true
 firms_none [] [] f h = h

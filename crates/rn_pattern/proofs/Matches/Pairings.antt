@@ -11,7 +11,7 @@ use Rattle.rn_pattern.specs.Pairing.{PairedUp, alone, paired}
 use Rattle.rn_pattern.proofs.Ordered.Orders.{tree_same}
 use Rattle.rn_pattern.proofs.Ordered.TotalOrder.{tree_cmp_total}
 use Rattle.rn_pattern.proofs.Ordered.Sorting.{sorted_permutation, sorted_once_permutation}
-use Rattle.rn_pattern.proofs.Matches.Products.{IsComposition, Product, product_apart, product_join, product_one, product_sorted, product_unsorted}
+use Rattle.rn_pattern.proofs.Matches.Products.{IsComposition, Product, product_apart, product_append, product_one, product_sorted, product_unsorted}
 use Rattle.rn_pattern.proofs.Matches.Compositions.{Content, nothing, InTurn, in_turn, Mixed, mixed, mixed_swap, Matching, group_product, product_group, interleave_product, product_interleave}
 use Rattle.rn_pattern.proofs.Matches.StepsKeep.{list_of-trees_of, SomeOf, some_of_trees, trees_of_some, some_left, some_right, some_either, some_sorted, some_unsorted}
 
@@ -28,7 +28,7 @@ module _ (T : Table) (μ : Meaning) where
 
   -- nodes whose members match parts that are put together by C
   module _ (C : Content → Content → Content → Type 0) (whole : IsComposition C nothing) (node : Trees → Tree) (apart : (ps : Trees) (s : Content) → M (node ps) s → Product C nothing M (list_of ps) s)
-      (join : (ps : Trees) (s : Content) → Product C nothing M (list_of ps) s → M (node ps) s) where
+      (together : (ps : Trees) (s : Content) → Product C nothing M (list_of ps) s → M (node ps) s) where
     abbrev P : List Tree → Content → Type 0
     P = Product C nothing M
 
@@ -38,12 +38,12 @@ module _ (T : Table) (μ : Meaning) where
         into : M (node (more_trees p (more_trees q no_trees))) s → P (ps ++ qs) s
         into h =
             let (first, rest, c, here, more) = apart (more_trees p (more_trees q no_trees)) s h in
-            product_join C nothing whole M ps qs s first rest c ((e first).0 here) ((f rest).0 ((product_one C nothing whole M q rest).1 more))
+            product_append C nothing whole M ps qs s first rest c ((e first).0 here) ((f rest).0 ((product_one C nothing whole M q rest).1 more))
 
         back : P (ps ++ qs) s → M (node (more_trees p (more_trees q no_trees))) s
         back h =
             let (u, r, c, before, behind) = product_apart C nothing whole M ps qs s h in
-            join (more_trees p (more_trees q no_trees)) s (u, r, c, (e u).1 before, (product_one C nothing whole M q r).0 ((f r).1 behind))
+            together (more_trees p (more_trees q no_trees)) s (u, r, c, (e u).1 before, (product_one C nothing whole M q r).0 ((f r).1 behind))
 
     paired_members : (ps : List Tree) (p : Tree) → PairedUp node ps p → (s : Content) → M p s ↔ P ps s
     paired_members ps p alone s = product_one C nothing whole M p s
@@ -52,7 +52,7 @@ module _ (T : Table) (μ : Meaning) where
     listed_members : (ps : List Tree) (s : Content) → M (node (trees_of ps)) s ↔ P ps s
     listed_members ps s = (
       λ h. subst (λ (x : List Tree). P x s) (list_of-trees_of ps) (apart (trees_of ps) s h),
-      λ h. join (trees_of ps) s (subst (λ (x : List Tree). P x s) (sym (list_of-trees_of ps)) h),
+      λ h. together (trees_of ps) s (subst (λ (x : List Tree). P x s) (sym (list_of-trees_of ps)) h),
     )
 
   pub paired_interleave : (ps : List Tree) (p : Tree) → PairedUp interleave ps p → (s : Content) → M p s ↔ Product Mixed nothing M ps s

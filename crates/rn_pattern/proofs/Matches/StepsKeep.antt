@@ -12,7 +12,7 @@ use Rattle.rn_pattern.specs.Order.{tree_cmp}
 use Rattle.rn_pattern.specs.Matching.{Matches, SomeMatches, Weakly, Meaning}
 use Rattle.rn_pattern.specs.Canonical.{put_once, sorted, sorted_once, node_of, is_not_allowed, has_not_allowed, alternatives, grouped, interleaved, choice_step, group_step, interleave_step, one_or_more_step, list_step, attribute_step, datum_but_step}
 use Rattle.rn_pattern.proofs.Ordered.Orders.{tree_same}
-use Rattle.rn_pattern.proofs.Matches.Products.{IsComposition, Product, product_join, product_one, product_flat, product_unflat, product_sorted, product_unsorted}
+use Rattle.rn_pattern.proofs.Matches.Products.{IsComposition, Product, product_append, product_one, product_flat, product_unflat, product_sorted, product_unsorted}
 use Rattle.rn_pattern.proofs.Matches.Compositions.{Content, nothing, InTurn, Mixed, in_turn, mixed, mixed_swap, Matching, group_product, product_group, interleave_product, product_interleave, one_or_more_product, product_one_or_more}
 
 pub list_of-trees_of : (ps : List Tree) → list_of (trees_of ps) ≡ ps
@@ -220,7 +220,7 @@ module _ (T : Table) (meaning : Meaning) where
   times_twice p (suc n) s (first, rest, c, here, more) =
       let (j, some, before) = one_or_more_product T meaning p first here in
       let (k, enough, behind) = times_twice p n rest more in
-      (j + k, omega arith, subst (λ (x : List Tree). Product InTurn nothing M x s) (replicate-append-replicate j k p) (product_join InTurn nothing in_turn M (replicate j p) (replicate k p) s first rest c before behind))
+      (j + k, omega arith, subst (λ (x : List Tree). Product InTurn nothing M x s) (replicate-append-replicate j k p) (product_append InTurn nothing in_turn M (replicate j p) (replicate k p) s first rest c before behind))
 
   once : (p : Tree) (s : Content) → M p s → M (one_or_more p) s
   once p s h = product_one_or_more T meaning p s 1 (omega arith) ((product_one InTurn nothing in_turn M p s).0 h)

@@ -1,8 +1,9 @@
 -- Nodes whose parts the order does not tell apart are equal.
-use Rattle.std.proofs.Common.{◌≡◌, Bool, true, false, ◌&&◌, nat_eq, refl, sym, ap, ◌∙◌, Ordering, Equal, nat_cmp}
+use Rattle.std.proofs.Common.{◌≡◌, false, ◌&&◌, nat_eq, sym, ap, ◌∙◌, Ordering, Equal, nat_cmp}
 use Rattle.std.specs.Ordering.{ordering_then}
 use Rattle.std.specs.Cmp.Lexicographic.{slice_cmp, pointwise, pointwise_decides}
 use Rattle.std.proofs.lemmas.Cmp.{ranked, tied_itself, nat_cmp_total, nat_list_cmp_total, lists_total}
+use Rattle.std.proofs.lemmas.Bool.{false_from_ne_true}
 use Rattle.rn_pattern.specs.Tree.{name_choice}
 use Rattle.rn_pattern.specs.Order.{parameters_cmp, names_cmp}
 use Rattle.rn_text.specs.Texts.{text_cmp}
@@ -28,12 +29,8 @@ eq_by_places x y h =
     let params : x.2 ≡ y.2 = parameters_same x.2 y.2 (then_second t p f) in
     λ i. (number_decides x.0 y.0).1 kinds i && ((pointwise_decides text_decides x.1 y.1).1 texts i && ((pointwise_decides parameter_decides x.2 y.2).1 params i && ((names_decides x.3 y.3).1 names i && pointwise nat_eq x.4 y.4)))
 
-not_true : (b : Bool) → ¬ (b ≡ true) → false ≡ b
-not_true true h = absurd (h refl)
-not_true false h = refl
-
 pub heads_itself : (x : NodeParts) → heads x x ≡ Equal
 heads_itself x = λ i. ordering_then (tied_itself nat_cmp_total x.0 i) (ordering_then (tied_itself name_cmp_total (name_choice x.3) i) (ordering_then (tied_itself (lists_total nat_list_cmp_total) x.1 i) (tied_itself parameters_total x.2 i)))
 
 pub not_eq : (x y : NodeParts) → ¬ (heads x y ≡ Equal) → false ≡ same_parts x y
-not_eq x y h = not_true (same_parts x y) (λ e. h (ap (heads x) (sym ((parts_decides x y).0 e)) ∙ heads_itself x))
+not_eq x y h = sym (false_from_ne_true (same_parts x y) (λ e. h (ap (heads x) (sym ((parts_decides x y).0 e)) ∙ heads_itself x)))

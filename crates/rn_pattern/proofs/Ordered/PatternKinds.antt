@@ -8,7 +8,7 @@ use Rattle.rn_pattern.specs.Tree as tree
 use Rattle.rn_pattern.specs.Tree.{Parameters, Tree, Trees, no_trees, more_trees, trees_of}
 use Rattle.rn_text.specs.Texts.{Text}
 use Rattle.rn_pattern.specs.Order.{rank, trees_cmp}
-use Rattle.rn_pattern.specs.View.{pattern_step, pattern_view, shared_view, parameters_view, excepted_view}
+use Rattle.rn_pattern.specs.View.{pattern_step, pattern_view, shared_view, parameters_view, excepted_view, shared_trees}
 use Rattle.rn_pattern.specs.declared.tree.Data.{Data}
 use Rattle.rn_pattern.specs.declared.tree.NameClass.{NameClass}
 use Rattle.rn_pattern.specs.declared.tree.Pattern.{Pattern, fold-roll-Pattern, map-Pattern}
@@ -21,13 +21,13 @@ shared_by : (ps : List (Rc Pattern Global)) → map (λ (r : Rc Tree Global). r.
 shared_by [] = refl
 shared_by (p ∷ ps) = ap (λ t. shared_view p ∷ t) (shared_by ps)
 
-pub group_seen : (v : Vec (Rc Pattern Global) Global) → pattern_view (pattern.Group v) ≡ tree.group (trees_of (map shared_view v.items))
+pub group_seen : (v : Vec (Rc Pattern Global) Global) → pattern_view (pattern.Group v) ≡ tree.group (shared_trees v.items)
 group_seen v = ap pattern_view (sym (variant.rolls-Group v)) ∙ fold-roll-Pattern Tree pattern_step (Pattern-F.Group v) ∙ ap (λ ts. tree.group (trees_of ts)) (shared_by v.items)
 
-pub interleave_seen : (v : Vec (Rc Pattern Global) Global) → pattern_view (pattern.Interleave v) ≡ tree.interleave (trees_of (map shared_view v.items))
+pub interleave_seen : (v : Vec (Rc Pattern Global) Global) → pattern_view (pattern.Interleave v) ≡ tree.interleave (shared_trees v.items)
 interleave_seen v = ap pattern_view (sym (variant.rolls-Interleave v)) ∙ fold-roll-Pattern Tree pattern_step (Pattern-F.Interleave v) ∙ ap (λ ts. tree.interleave (trees_of ts)) (shared_by v.items)
 
-pub choice_seen : (v : Vec (Rc Pattern Global) Global) → pattern_view (pattern.Choice v) ≡ tree.choice (trees_of (map shared_view v.items))
+pub choice_seen : (v : Vec (Rc Pattern Global) Global) → pattern_view (pattern.Choice v) ≡ tree.choice (shared_trees v.items)
 choice_seen v = ap pattern_view (sym (variant.rolls-Choice v)) ∙ fold-roll-Pattern Tree pattern_step (Pattern-F.Choice v) ∙ ap (λ ts. tree.choice (trees_of ts)) (shared_by v.items)
 
 abbrev pub datum_of : Text → Text → Parameters → Trees → Tree

@@ -1,6 +1,7 @@
 -- Two lists compared one by one, along what their entries stand for.
-use Rattle.std.proofs.Common.{◌≡◌, ◌<◌, ◌≤◌, ◌+◌, ℕ, List, [], ◌∷◌, map, length, drop, get_or, refl, sym, ap, ◌∙◌, arith, Ordering, Less, Equal, Greater}
-use Rattle.std.proofs.lemmas.List.{drop_more, drop_all, length-drop}
+use Rattle.std.proofs.Common.{◌≡◌, ◌<◌, ◌+◌, ℕ, List, [], ◌∷◌, map, length, drop, get_or, refl, sym, ap, ◌∙◌, arith, min, Ordering, Less, Equal, Greater, nat_cmp}
+use Rattle.std.proofs.lemmas.List.{drop_more, length-drop}
+use Rattle.std.specs.Cmp.{nat_cmp_is}
 use Rattle.std.specs.Ordering.{ordering_then}
 use Rattle.std.specs.Cmp.Lexicographic.{slice_cmp}
 use Rattle.rn_pattern.specs.Tree.{NameTree, Tree, trees_of, name_trees_of}
@@ -33,18 +34,16 @@ module _ {X Y : Type 0} (R : X → X → Ordering) (at : Y → X) (xs ys : List 
   pub rest_step : (d e : Y) → k < length xs → k < length ys → rest_cmp ≡ ordering_then (R (at (get_or xs k d)) (at (get_or ys k e))) (slice_cmp R (map at (drop (k + 1) xs)) (map at (drop (k + 1) ys)))
   rest_step d e l g = λ i. slice_cmp R (map at (drop_more xs k d l i)) (map at (drop_more ys k e g i))
 
-  pub rest_longer : (d : Y) → k < length xs → length ys ≤ k → rest_cmp ≡ Greater
-  rest_longer d l g = λ i. slice_cmp R (map at (drop_more xs k d l i)) (map at (drop_all k ys g i))
+  ended_by : (us vs : List Y) (m n : ℕ) → m ≡ length us + k → n ≡ length vs + k → k ≡ min m n → slice_cmp R (map at us) (map at vs) ≡ nat_cmp m n
+  ended_by [] [] m n e f g = nat_cmp_is m n Equal (omega arith)
+  ended_by [] (v ∷ vs) m n e f g = nat_cmp_is m n Less (omega arith)
+  ended_by (u ∷ us) [] m n e f g = nat_cmp_is m n Greater (omega arith)
+  ended_by (u ∷ us) (v ∷ vs) m n e f g = absurd (omega arith)
 
-  shorter_by : (zs : List Y) → 0 < length zs → slice_cmp R (map at []) (map at zs) ≡ Less
-  shorter_by [] h = absurd (omega arith)
-  shorter_by (z ∷ zs) h = refl
-
-  pub rest_shorter : length xs ≤ k → k < length ys → rest_cmp ≡ Less
-  rest_shorter l g = ap (λ zs. slice_cmp R (map at zs) (map at (drop k ys))) (drop_all k xs l) ∙ shorter_by (drop k ys) (omega (arith, length-drop k ys))
-
-  pub rest_level : length xs ≤ k → length ys ≤ k → rest_cmp ≡ Equal
-  rest_level l g = λ i. slice_cmp R (map at (drop_all k xs l i)) (map at (drop_all k ys g i))
+  -- where one list ends, their lengths decide
+  pub rest_ended : k ≡ min (length xs) (length ys) → rest_cmp ≡ nat_cmp (length xs) (length ys)
+  rest_ended e =
+      ended_by (drop k xs) (drop k ys) (length xs) (length ys) (omega (arith, e, length-drop k xs)) (omega (arith, e, length-drop k ys)) e
 
   pub rest_settled : (d e : Y) (r : Ordering) → k < length xs → k < length ys → r ≡ R (at (get_or xs k d)) (at (get_or ys k e)) → ¬ (r ≡ Equal) → rest_cmp ≡ r
   rest_settled d e r l g is h = rest_step d e l g ∙ then_settled (R (at (get_or xs k d)) (at (get_or ys k e))) _ (λ f. h (is ∙ f)) ∙ sym is

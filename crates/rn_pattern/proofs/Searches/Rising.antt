@@ -4,7 +4,7 @@ use Rattle.std.specs.Prelude.{Contains}
 use Rattle.std.proofs.lemmas.List.{length_push, length-append, get_or_push, get_or_past, get_or_default, get_or_append_left, take_at, take_all, take_more, take-take, take-append-drop, length-take}
 use Rattle.std.proofs.lemmas.List.Elements.{Contains-append_left, Contains-push, Contains-push_cases, Contains-get_or}
 use Rattle.std.proofs.lemmas.Bool.{cases_lt}
-use Rattle.rn_pattern.specs.inside.Searching.{EndsWith, Rises, IsJoined}
+use Rattle.rn_pattern.specs.inside.Searching.{EndsWith, Rises, IsUnited}
 
 -- where an element stands
 pub stands : (xs : List ℕ) (x : ℕ) → Contains xs x → (i : ℕ) × (i < length xs) × (get_or xs i 0 ≡ x)
@@ -65,16 +65,16 @@ ends_at path x h e = (
   sym (take_all (length path - 1 + 1) path (omega arith)) ∙ take_more path (length path - 1) 0 (omega (arith, h)) ∙ ap (λ (y : ℕ). take (length path - 1) path ++ y ∷ []) (sym e),
 )
 
--- the bounds that are left while groups are joined
-pub record IsJoining (old now : List ℕ) (place : ℕ) : Type 0 where
+-- the bounds that are left while groups are united
+pub record IsUniting (old now : List ℕ) (place : ℕ) : Type 0 where
   pub front : (n : ℕ) × (now ≡ take n old)
   pub kept : (c : ℕ) → Contains old c → c ≤ place → Contains now c
 
-pub join_begins : (old : List ℕ) (place : ℕ) → IsJoining old old place
-join_begins old place = record { front = (length old, sym (take_all (length old) old (omega arith))); kept = λ c k l. k }
+pub uniting_begins : (old : List ℕ) (place : ℕ) → IsUniting old old place
+uniting_begins old place = record { front = (length old, sym (take_all (length old) old (omega arith))); kept = λ c k l. k }
 
-pub join_goes_on : (old now now' : List ℕ) (place x n : ℕ) → IsJoining old now place → n ≡ length now → x ≡ get_or now (n - 1) 0 → 0 < n → place < x → now' ≡ take (n - 1) now → IsJoining old now' place
-join_goes_on old now now' place x n g m e h l q = record {
+pub uniting_goes_on : (old now now' : List ℕ) (place x n : ℕ) → IsUniting old now place → n ≡ length now → x ≡ get_or now (n - 1) 0 → 0 < n → place < x → now' ≡ take (n - 1) now → IsUniting old now' place
+uniting_goes_on old now now' place x n g m e h l q = record {
   front = (n - 1, q ∙ ap (λ (xs : List ℕ). take (n - 1) xs) g.front.1 ∙ take-take (n - 1) g.front.0 old (omega (arith, m, ap length g.front.1, length-take g.front.0 old)));
   kept = λ c k o. elim (Contains-push_cases ends.0 x c (subst (λ (xs : List ℕ). Contains xs c) ends.1 (g.kept c k o))) [
     | inl r ↦ subst (λ (xs : List ℕ). Contains xs c) (sym (q ∙ popped now ends.0 x n ends.1 m)) r
@@ -85,8 +85,8 @@ join_goes_on old now now' place x n g m e h l q = record {
     ends : EndsWith now x
     ends = ends_at now x (omega (arith, h, m)) (e ∙ ap (λ (k : ℕ). get_or now (k - 1) 0) m)
 
-pub join_ends : (old now : List ℕ) (place : ℕ) → Rises old → IsJoining old now place → (0 < length now → get_or now (length now - 1) 0 ≤ place) → IsJoined old now place
-join_ends old now place r g f = record {
+pub uniting_ends : (old now : List ℕ) (place : ℕ) → Rises old → IsUniting old now place → (0 < length now → get_or now (length now - 1) 0 ≤ place) → IsUnited old now place
+uniting_ends old now place r g f = record {
   front = g.front;
   kept = g.kept;
   within = λ c k.

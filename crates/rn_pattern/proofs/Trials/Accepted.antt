@@ -13,8 +13,8 @@ use Rattle.rn_pattern.specs.Matching.{Meaning, Matches, SomeMatches, Grammar, de
 use Rattle.rn_pattern.proofs.Matches.Weaving.{Weave, woven, first, second}
 use Rattle.rn_pattern.proofs.Matches.Products.{Product, product_one}
 use Rattle.rn_pattern.proofs.Matches.Compositions.{Content, nothing, InTurn, Mixed, in_turn as turns, Matching, group_product, product_group, interleave_product, product_interleave, one_or_more_product, product_one_or_more}
-use Rattle.rn_pattern.proofs.Trials.Accepting.{both, is_nothing, some_weave, some_cut, times, are_strings, allows, takes_as_equal, accepts, in_turn, in_any_order, some_accepts, accepts_within, is_valid_within}
-use Rattle.rn_pattern.proofs.Trials.AcceptedParts.{never, both_decides, either_decides, is_nothing_decides, SomeWeave, some_weave_decides, SomeCut, some_cut_decides, are_strings_decides, only_string_decides, attribute_decides, element_decides, allows_decides, takes_as_equal_decides}
+use Rattle.rn_pattern.proofs.Trials.Accepting.{both, is_empty, some_weave, some_cut, times, are_strings, allows, takes_as_equal, accepts, in_turn, in_any_order, some_accepts, accepts_within, is_valid_within}
+use Rattle.rn_pattern.proofs.Trials.AcceptedParts.{never, both_decides, either_decides, is_empty_decides, SomeWeave, some_weave_decides, SomeCut, some_cut_decides, are_strings_decides, only_string_decides, attribute_decides, element_decides, allows_decides, takes_as_equal_decides}
 
 -- parts in turn, and parts in any order
 module _ (P Q : List Attribute → List Item → Type 0) where
@@ -102,11 +102,11 @@ module _ (P : List Attribute → List Item → Type 0) (f : List Attribute → L
         times_from_parts n s part.0 part.1 rest c (is part here) within (λ i inside. times_from k i rest inside more)
 
 module _ (T : Table) (means : Text → List Attribute → List Item → Bool) (meaning : Meaning) (same : (x : Text) (a : List Attribute) (m : List Item) → Decides (means x a m) (meaning x a m)) where
-  nothing_decides : (a : List Attribute) (m : List Item) → Decides (is_nothing a && is_nothing m) ((a ≡ []) × (m ≡ []))
-  nothing_decides a m = Decides-and (is_nothing a) (is_nothing m) (is_nothing_decides a) (is_nothing_decides m)
+  nothing_decides : (a : List Attribute) (m : List Item) → Decides (is_empty a && is_empty m) ((a ≡ []) × (m ≡ []))
+  nothing_decides a m = Decides-and (is_empty a) (is_empty m) (is_empty_decides a) (is_empty_decides m)
 
-  none_decides : (a : List Attribute) (m : List Item) → Decides (is_nothing a && is_nothing m) (Path Content (a, m) nothing)
-  none_decides a m = Decides-like (is_nothing a && is_nothing m) (λ h. λ i. (h.0 i, h.1 i)) (λ e. (ap (λ s. s.0) e, ap (λ s. s.1) e)) (nothing_decides a m)
+  none_decides : (a : List Attribute) (m : List Item) → Decides (is_empty a && is_empty m) (Path Content (a, m) nothing)
+  none_decides a m = Decides-like (is_empty a && is_empty m) (λ h. λ i. (h.0 i, h.1 i)) (λ e. (ap (λ s. s.0) e, ap (λ s. s.1) e)) (nothing_decides a m)
 
   repeated_decides : (p : Tree) → ((a : List Attribute) (m : List Item) → Decides (accepts T means p a m) (Matches T meaning a m p)) → (a : List Attribute) (m : List Item) → Decides (times (λ b k. accepts T means p b k) (length a + length m) a m) (Matches T meaning a m (one_or_more p))
   repeated_decides p each a m = Decides-like _ to from (times_decide (λ b k. Matches T meaning b k p) (λ b k. accepts T means p b k) each (length a + length m) a m)
@@ -127,7 +127,7 @@ module _ (T : Table) (means : Text → List Attribute → List Item → Bool) (m
     accepts_decides : (p : Tree) (a : List Attribute) (m : List Item) → Decides (accepts T means p a m) (Matches T meaning a m p)
     accepts_decides not_allowed a m = never (λ h. h)
     accepts_decides empty a m = nothing_decides a m
-    accepts_decides text a m = Decides-and (is_nothing a) (are_strings m) (is_nothing_decides a) (are_strings_decides m)
+    accepts_decides text a m = Decides-and (is_empty a) (are_strings m) (is_empty_decides a) (are_strings_decides m)
     accepts_decides (ref x) a m = same x a m
     accepts_decides (value library type t) a m = only_string_decides (λ s. takes_as_equal T library type t s) (λ s. TakesAsEqual T library type t s) (λ s. takes_as_equal_decides T library type t s) a m
     accepts_decides (datum library type params) a m = only_string_decides (λ s. allows T library type params s) (λ s. Allows T library type params s) (λ s. allows_decides T library type params s) a m

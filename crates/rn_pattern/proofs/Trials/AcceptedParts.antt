@@ -13,7 +13,7 @@ use Rattle.rn_pattern.specs.HeldNames.{HoldsName, SomeHoldsName}
 use Rattle.rn_pattern.specs.Datatype.{Table, IsBlank, collapsed, Allows, TakesAsEqual}
 use Rattle.rn_pattern.specs.Matching.{IsString, IsPadding, Weakly}
 use Rattle.rn_pattern.proofs.Matches.Weaving.{Weave, woven, first, second}
-use Rattle.rn_pattern.proofs.Trials.Accepting.{both, either, is_nothing, some_weave, some_cut, are_strings, is_blank, is_padding, is_string_with, is_attribute_with, is_element_with, weakly, holds_name, some_holds_name, same_parameters, is_allowed, is_equal, allows, takes_as_equal}
+use Rattle.rn_pattern.proofs.Trials.Accepting.{both, either, is_empty, some_weave, some_cut, are_strings, is_blank, is_padding, is_string_with, is_attribute_with, is_element_with, weakly, holds_name, some_holds_name, same_parameters, is_allowed, is_equal, allows, takes_as_equal}
 
 pub never : {P : Type 0} → ¬ P → Decides false P
 never h = (λ e. absurd (false≢true e), λ p. absurd (h p))
@@ -32,9 +32,9 @@ module _ {P Q : Type 0} where
       back (inr q) = k.1 q
 
 module _ {X : Type 0} where
-  pub is_nothing_decides : (xs : List X) → Decides (is_nothing xs) (xs ≡ [])
-  is_nothing_decides [] = (λ _. refl, λ _. refl)
-  is_nothing_decides (x ∷ xs) = never (λ e. cc)
+  pub is_empty_decides : (xs : List X) → Decides (is_empty xs) (xs ≡ [])
+  is_empty_decides [] = (λ _. refl, λ _. refl)
+  is_empty_decides (x ∷ xs) = never (λ e. cc)
 
   -- two lists that xs is woven of, and for which P holds
   abbrev pub SomeWeave : (List X → List X → Type 0) → List X → Type 0
@@ -120,8 +120,8 @@ module _ (f : Text → Bool) (P : Text → Type 0) (each : (s : Text) → Decide
   is_string_with_decides m = (string_to m, λ h. subst (λ (t : List Item). is_string_with f t ≡ true) (sym h.1) ((each h.0).1 h.2))
 
   -- no attribute, and one string
-  pub only_string_decides : (a : List Attribute) (m : List Item) → Decides (both (is_nothing a) (λ _. is_string_with f m)) ((s : Text) × (a ≡ []) × (m ≡ string s ∷ []) × P s)
-  only_string_decides a m = Decides-like (both (is_nothing a) (λ _. is_string_with f m)) (λ h. (h.1.0, h.0, h.1.1, h.1.2)) (λ h. (h.1, (h.0, h.2, h.3))) (both_decides (is_nothing a) (λ _. is_string_with f m) (is_nothing_decides a) (is_string_with_decides m))
+  pub only_string_decides : (a : List Attribute) (m : List Item) → Decides (both (is_empty a) (λ _. is_string_with f m)) ((s : Text) × (a ≡ []) × (m ≡ string s ∷ []) × P s)
+  only_string_decides a m = Decides-like (both (is_empty a) (λ _. is_string_with f m)) (λ h. (h.1.0, h.0, h.1.1, h.1.2)) (λ h. (h.1, (h.0, h.2, h.3))) (both_decides (is_empty a) (λ _. is_string_with f m) (is_empty_decides a) (is_string_with_decides m))
 
 module _ (f : Attribute → Bool) (P : Attribute → Type 0) (each : (x : Attribute) → Decides (f x) (P x)) where
   attribute_to : (a : List Attribute) → is_attribute_with f a ≡ true → (x : Attribute) × (a ≡ x ∷ []) × P x
@@ -164,7 +164,7 @@ module _ (f : Text → Text → List Attribute → Items → Bool) (P : Text →
 weakly_decides : (f : List Attribute → List Item → Bool) (P : List Attribute → List Item → Type 0) → ((a : List Attribute) (m : List Item) → Decides (f a m) (P a m)) → (a : List Attribute) (m : List Item) → Decides (weakly f a m) (Weakly P a m)
 weakly_decides f P each a m =
     let blank = is_string_with_decides (λ s. both (is_blank s) (λ _. f a [])) (λ s. IsBlank s × P a []) (λ s. both_decides (is_blank s) (λ _. f a []) (is_blank_decides s) (each a [])) m in
-    let none = both_decides (is_nothing m) (λ _. f a (string [] ∷ [])) (is_nothing_decides m) (each a (string [] ∷ [])) in
+    let none = both_decides (is_empty m) (λ _. f a (string [] ∷ [])) (is_empty_decides m) (each a (string [] ∷ [])) in
     let padded = Decides-like (is_string_with (λ s. both (is_blank s) (λ _. f a [])) m) (λ (h : (s : Text) × (m ≡ string s ∷ []) × (IsBlank s × P a [])). (h.0, h.1, h.2.0, h.2.1)) (λ (h : (s : Text) × (m ≡ string s ∷ []) × IsBlank s × P a []). (h.0, h.1, (h.2, h.3))) blank in
     either_decides (f a m) _ (each a m) (either_decides (is_string_with (λ s. both (is_blank s) (λ _. f a [])) m) _ padded none)
 
@@ -236,17 +236,17 @@ module _ (T : Table) where
   takes_as_equal_decides (c ∷ library) type s t = is_equal_decides (c ∷ library) type s t T.equal
 
 pub attribute_decides : (c : NameTree) (f : List Attribute → List Item → Bool) (P : List Attribute → List Item → Type 0) → ((a : List Attribute) (m : List Item) → Decides (f a m) (P a m)) → (a : List Attribute) (m : List Item)
-    → Decides (both (is_nothing m) (λ _. is_attribute_with (λ x. both (holds_name x.uri x.local c) (λ _. weakly f [] (string x.content ∷ []))) a)) ((x : Attribute) × (a ≡ x ∷ []) × (m ≡ []) × HoldsName x.uri x.local c × Weakly P [] (string x.content ∷ []))
+    → Decides (both (is_empty m) (λ _. is_attribute_with (λ x. both (holds_name x.uri x.local c) (λ _. weakly f [] (string x.content ∷ []))) a)) ((x : Attribute) × (a ≡ x ∷ []) × (m ≡ []) × HoldsName x.uri x.local c × Weakly P [] (string x.content ∷ []))
 attribute_decides c f P each a m =
     let one = λ (x : Attribute). both_decides (holds_name x.uri x.local c) (λ _. weakly f [] (string x.content ∷ [])) (holds_name_decides x.uri x.local c) (weakly_decides f P each [] (string x.content ∷ [])) in
     let some = is_attribute_with_decides (λ x. both (holds_name x.uri x.local c) (λ _. weakly f [] (string x.content ∷ []))) (λ x. HoldsName x.uri x.local c × Weakly P [] (string x.content ∷ [])) one a in
-    Decides-like _ (λ h. (h.1.0, h.1.1, h.0, h.1.2.0, h.1.2.1)) (λ h. (h.2, (h.0, h.1, (h.3, h.4)))) (both_decides (is_nothing m) (λ _. is_attribute_with (λ x. both (holds_name x.uri x.local c) (λ _. weakly f [] (string x.content ∷ []))) a) (is_nothing_decides m) some)
+    Decides-like _ (λ h. (h.1.0, h.1.1, h.0, h.1.2.0, h.1.2.1)) (λ h. (h.2, (h.0, h.1, (h.3, h.4)))) (both_decides (is_empty m) (λ _. is_attribute_with (λ x. both (holds_name x.uri x.local c) (λ _. weakly f [] (string x.content ∷ []))) a) (is_empty_decides m) some)
 
 pub element_decides : (c : NameTree) (f : List Attribute → List Item → Bool) (P : List Attribute → List Item → Type 0) → ((a : List Attribute) (m : List Item) → Decides (f a m) (P a m)) → (a : List Attribute) (m : List Item)
-    → Decides (both (is_nothing a) (λ _. is_element_with (λ u l b k. both (holds_name u l c) (λ _. weakly f b (items_of k))) m))
+    → Decides (both (is_empty a) (λ _. is_element_with (λ u l b k. both (holds_name u l c) (λ _. weakly f b (items_of k))) m))
     ((before : List Item) × (u : Text) × (l : Text) × (b : List Attribute) × (k : Items) × (behind : List Item) × (a ≡ []) × (m ≡ before ++ node u l b k ∷ behind) × IsPadding before × IsPadding behind × HoldsName u l c × Weakly P b (items_of k))
 element_decides c f P each a m =
     let one = λ (u : Text) (l : Text) (b : List Attribute) (k : Items). both_decides (holds_name u l c) (λ _. weakly f b (items_of k)) (holds_name_decides u l c) (weakly_decides f P each b (items_of k)) in
     let some = is_element_with_decides (λ u l b k. both (holds_name u l c) (λ _. weakly f b (items_of k))) (λ u l b k. HoldsName u l c × Weakly P b (items_of k)) one m in
     Decides-like _ (λ h. (h.1.0, h.1.1, h.1.2, h.1.3, h.1.4, h.1.5, h.0, h.1.6, h.1.7, h.1.8, h.1.9.0, h.1.9.1)) (λ h. (h.6, (h.0, h.1, h.2, h.3, h.4, h.5, h.7, h.8, h.9, (h.10, h.11))))
-    (both_decides (is_nothing a) (λ _. is_element_with (λ u l b k. both (holds_name u l c) (λ _. weakly f b (items_of k))) m) (is_nothing_decides a) some)
+    (both_decides (is_empty a) (λ _. is_element_with (λ u l b k. both (holds_name u l c) (λ _. weakly f b (items_of k))) m) (is_empty_decides a) some)

@@ -17,9 +17,9 @@ abbrev pub either : Bool → (Unit {0} → Bool) → Bool
 either true f = true
 either false f = f tt
 
-abbrev pub is_nothing : {X : Type 0} → List X → Bool
-is_nothing [] = true
-is_nothing (x ∷ xs) = false
+abbrev pub is_empty : {X : Type 0} → List X → Bool
+is_empty [] = true
+is_empty (x ∷ xs) = false
 
 -- two lists that the list is woven of
 abbrev pub some_weave : {X : Type 0} → (List X → List X → Bool) → List X → Bool
@@ -70,7 +70,7 @@ is_element_with f (string s ∷ string t ∷ m) = false
 is_element_with f (string s ∷ node u l b k ∷ m) = both (is_blank s) (λ _. both (is_padding m) (λ _. f u l b k))
 
 abbrev pub weakly : (List Attribute → List Item → Bool) → List Attribute → List Item → Bool
-weakly f a m = either (f a m) (λ _. either (is_string_with (λ s. both (is_blank s) (λ _. f a [])) m) (λ _. both (is_nothing m) (λ _. f a (string [] ∷ []))))
+weakly f a m = either (f a m) (λ _. either (is_string_with (λ s. both (is_blank s) (λ _. f a [])) m) (λ _. both (is_empty m) (λ _. f a (string [] ∷ []))))
 
 abbrev mutual
   pub holds_name : Text → Text → NameTree → Bool
@@ -112,26 +112,26 @@ module _ (T : Table) (means : Text → List Attribute → List Item → Bool) wh
   abbrev mutual
     pub accepts : Tree → List Attribute → List Item → Bool
     accepts not_allowed a m = false
-    accepts empty a m = is_nothing a && is_nothing m
-    accepts text a m = is_nothing a && are_strings m
+    accepts empty a m = is_empty a && is_empty m
+    accepts text a m = is_empty a && are_strings m
     accepts (ref x) a m = means x a m
-    accepts (value library type t) a m = both (is_nothing a) (λ _. is_string_with (λ s. takes_as_equal T library type t s) m)
-    accepts (datum library type params) a m = both (is_nothing a) (λ _. is_string_with (λ s. allows T library type params s) m)
-    accepts (datum_but library type params p) a m = both (is_nothing a) (λ _. is_string_with (λ s. both (allows T library type params s) (λ _. not (accepts p a m))) m)
-    accepts (list p) a m = both (is_nothing a) (λ _. is_string_with (λ s. accepts p [] (map string (words s))) m)
-    accepts (attribute c p) a m = both (is_nothing m) (λ _. is_attribute_with (λ x. both (holds_name x.uri x.local c) (λ _. weakly (λ b k. accepts p b k) [] (string x.content ∷ []))) a)
-    accepts (element c p) a m = both (is_nothing a) (λ _. is_element_with (λ u l b k. both (holds_name u l c) (λ _. weakly (λ d n. accepts p d n) b (items_of k))) m)
+    accepts (value library type t) a m = both (is_empty a) (λ _. is_string_with (λ s. takes_as_equal T library type t s) m)
+    accepts (datum library type params) a m = both (is_empty a) (λ _. is_string_with (λ s. allows T library type params s) m)
+    accepts (datum_but library type params p) a m = both (is_empty a) (λ _. is_string_with (λ s. both (allows T library type params s) (λ _. not (accepts p a m))) m)
+    accepts (list p) a m = both (is_empty a) (λ _. is_string_with (λ s. accepts p [] (map string (words s))) m)
+    accepts (attribute c p) a m = both (is_empty m) (λ _. is_attribute_with (λ x. both (holds_name x.uri x.local c) (λ _. weakly (λ b k. accepts p b k) [] (string x.content ∷ []))) a)
+    accepts (element c p) a m = both (is_empty a) (λ _. is_element_with (λ u l b k. both (holds_name u l c) (λ _. weakly (λ d n. accepts p d n) b (items_of k))) m)
     accepts (one_or_more p) a m = times (λ b k. accepts p b k) (length a + length m) a m
     accepts (group ps) a m = in_turn ps a m
     accepts (interleave ps) a m = in_any_order ps a m
     accepts (choice ps) a m = some_accepts ps a m
 
     pub in_turn : Trees → List Attribute → List Item → Bool
-    in_turn no_trees a m = is_nothing a && is_nothing m
+    in_turn no_trees a m = is_empty a && is_empty m
     in_turn (more_trees p ps) a m = some_weave (λ b c. some_cut (λ k l. both (accepts p b k) (λ _. in_turn ps c l)) m) a
 
     pub in_any_order : Trees → List Attribute → List Item → Bool
-    in_any_order no_trees a m = is_nothing a && is_nothing m
+    in_any_order no_trees a m = is_empty a && is_empty m
     in_any_order (more_trees p ps) a m = some_weave (λ b c. some_weave (λ k l. both (accepts p b k) (λ _. in_any_order ps c l)) m) a
 
     pub some_accepts : Trees → List Attribute → List Item → Bool

@@ -2,7 +2,7 @@
 use Rattle.std.proofs.Common.{◌≡◌, ◌≢◌, ℕ, zero, suc, Bool, true, false, not, ◌&&◌, List, [], ◌∷◌, refl, arith}
 use Rattle.std.specs.Prelude.{bytes_eq, All}
 use Rattle.std.specs.Bool.{Decides}
-use Rattle.std.proofs.lemmas.Bool.{false≢true}
+use Rattle.std.proofs.lemmas.Bool.{false≢true, and_parts}
 use Rattle.std.proofs.lemmas.Bool.Decides.{Decides-not, Decides-and, Decides-by_and}
 use Rattle.std.proofs.lemmas.List.Kept.{AllPairs-cons}
 use Rattle.std.proofs.lemmas.Slice.Eq.{bytes_eq-Decides}
@@ -11,7 +11,7 @@ use Rattle.rn_pattern.specs.Document.{Attribute, Item, Items, node, string, no_i
 use Rattle.rn_pattern.specs.Datatype.{Table}
 use Rattle.rn_pattern.specs.Matching.{Grammar}
 use Rattle.rn_pattern.specs.Examples.{Accepts, Rejects}
-use Rattle.rn_pattern.proofs.Trials.Accepting.{is_valid_within}
+use Rattle.rn_pattern.proofs.Trials.Accepting.{is_empty, is_valid_within}
 use Rattle.rn_pattern.proofs.Trials.Accepted.{valid_within, not_valid_within}
 
 abbrev SameName : Attribute → Attribute → Type 0
@@ -28,15 +28,11 @@ abbrev has_distinct_names : List Attribute → Bool
 has_distinct_names [] = true
 has_distinct_names (x ∷ a) = has_new_name x a && has_distinct_names a
 
-abbrev is_some : Text → Bool
-is_some [] = false
-is_some (c ∷ s) = true
-
 abbrev strings_stand_apart : List Item → Bool
 strings_stand_apart [] = true
-strings_stand_apart (string s ∷ []) = is_some s
+strings_stand_apart (string s ∷ []) = not (is_empty s)
 strings_stand_apart (string s ∷ string t ∷ is) = false
-strings_stand_apart (string s ∷ node u l a k ∷ is) = is_some s && strings_stand_apart is
+strings_stand_apart (string s ∷ node u l a k ∷ is) = not (is_empty s) && strings_stand_apart is
 strings_stand_apart (node u l a k ∷ is) = strings_stand_apart is
 
 abbrev mutual
@@ -49,11 +45,6 @@ abbrev mutual
   are_documents (more_items (node u l a k) is) = is_document (node u l a k) && are_documents is
   are_documents (more_items (string s) is) = are_documents is
 
--- the two parts of a test that passes
-passed : (x y : Bool) → (x && y) ≡ true → (x ≡ true) × (y ≡ true)
-passed true y e = (refl, e)
-passed false y e = absurd (false≢true e)
-
 other_name_decides : (x y : Attribute) → Decides (has_other_name x y) (¬ SameName x y)
 other_name_decides x y = Decides-not (bytes_eq x.uri y.uri && bytes_eq x.local y.local) (Decides-and (bytes_eq x.uri y.uri) (bytes_eq x.local y.local) (bytes_eq-Decides x.uri y.uri) (bytes_eq-Decides x.local y.local))
 
@@ -63,10 +54,10 @@ new_name x a e = (Decides-by_and (has_other_name x) (λ y. ¬ SameName x y) (has
 distinct_names : (a : List Attribute) → has_distinct_names a ≡ true → HasDistinctNames a
 distinct_names [] e = λ i j d lt within. absurd (omega arith)
 distinct_names (x ∷ a) e =
-    let (new, rest) = passed (has_new_name x a) (has_distinct_names a) e in
+    let (new, rest) = and_parts (has_new_name x a) (has_distinct_names a) e in
     AllPairs-cons (λ y z. ¬ SameName y z) x a (new_name x a new) (distinct_names a rest)
 
-some_text : (s : Text) → is_some s ≡ true → s ≢ []
+some_text : (s : Text) → not (is_empty s) ≡ true → s ≢ []
 some_text [] e = absurd (false≢true e)
 some_text (c ∷ s) e = λ h. cc
 
@@ -75,22 +66,22 @@ apart [] e = tt
 apart (string s ∷ []) e = some_text s e
 apart (string s ∷ string t ∷ is) e = absurd (false≢true e)
 apart (string s ∷ node u l a k ∷ is) e =
-    let (some, rest) = passed (is_some s) (strings_stand_apart is) e in
+    let (some, rest) = and_parts (not (is_empty s)) (strings_stand_apart is) e in
     (some_text s some, apart is rest)
 apart (node u l a k ∷ is) e = apart is e
 
 mutual
   pub document : (i : Item) → is_document i ≡ true → IsDocument i
   document (node u l a k) e =
-      let (names, rest) = passed (has_distinct_names a) (strings_stand_apart (items_of k) && are_documents k) e in
-      let (strings, within) = passed (strings_stand_apart (items_of k)) (are_documents k) rest in
+      let (names, rest) = and_parts (has_distinct_names a) (strings_stand_apart (items_of k) && are_documents k) e in
+      let (strings, within) = and_parts (strings_stand_apart (items_of k)) (are_documents k) rest in
       (distinct_names a names, apart (items_of k) strings, documents k within)
   document (string s) e = absurd (false≢true e)
 
   documents : (is : Items) → are_documents is ≡ true → AreDocuments is
   documents no_items e = tt
   documents (more_items (node u l a k) is) e =
-      let (here, rest) = passed (is_document (node u l a k)) (are_documents is) e in
+      let (here, rest) = and_parts (is_document (node u l a k)) (are_documents is) e in
       (document (node u l a k) here, documents is rest)
   documents (more_items (string s) is) e = documents is e
 

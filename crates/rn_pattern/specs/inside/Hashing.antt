@@ -7,6 +7,7 @@ use Rattle.std.specs.Cmp.Lexicographic.{pointwise, pointwise_decides, bytes_deci
 use Rattle.std.specs.Hash as fed
 use Rattle.std.specs.Rc.{rc_str_bytes}
 use Rattle.std.proofs.Common.{refl, ap, subst, sym, ◌∙◌}
+use Rattle.std.proofs.lemmas.Bool.{and_from}
 use Rattle.std.proofs.lemmas.List.{append-nil, append_assoc}
 use Rattle.rn_pattern.specs.Tree as tree
 use Rattle.rn_pattern.specs.Tree.{Parameters, Tree, NameTree, NameTrees, any_name, any_name_but, ns_name, ns_name_but, name, name_choice, no_names, more_names}
@@ -53,9 +54,6 @@ abbrev pub node_eq : Node NodeId → Node NodeId → Bool
 node_eq = on node_parts same_parts
 
 -- each test decides equality
-both_true : (a b : Bool) → a ≡ true → b ≡ true → (a && b) ≡ true
-both_true a b h k = λ i. h i && k i
-
 pub number_decides : (x y : ℕ) → Decides (nat_eq x y) (x ≡ y)
 number_decides x y = unsigned_Decides x y
 
@@ -95,13 +93,13 @@ mutual
   name_itself any_name = refl
   name_itself (any_name_but c) = name_itself c
   name_itself (ns_name u) = (text_decides u u).1 refl
-  name_itself (ns_name_but u c) = both_true (same_text u u) (same_name c c) ((text_decides u u).1 refl) (name_itself c)
-  name_itself (name u l) = both_true (same_text u u) (same_text l l) ((text_decides u u).1 refl) ((text_decides l l).1 refl)
+  name_itself (ns_name_but u c) = and_from (same_text u u) (same_name c c) ((text_decides u u).1 refl) (name_itself c)
+  name_itself (name u l) = and_from (same_text u u) (same_text l l) ((text_decides u u).1 refl) ((text_decides l l).1 refl)
   name_itself (name_choice cs) = names_itself cs
 
   names_itself : (cs : NameTrees) → same_names cs cs ≡ true
   names_itself no_names = refl
-  names_itself (more_names c cs) = both_true (same_name c c) (same_names cs cs) (name_itself c) (names_itself cs)
+  names_itself (more_names c cs) = and_from (same_name c c) (same_names cs cs) (name_itself c) (names_itself cs)
 
 pub names_decides : (cs ds : NameTrees) → Decides (same_names cs ds) (cs ≡ ds)
 names_decides cs ds = (names_sound cs ds, λ e. subst (λ t. same_names cs t ≡ true) e (names_itself cs))
@@ -109,7 +107,7 @@ names_decides cs ds = (names_sound cs ds, λ e. subst (λ t. same_names cs t ≡
 pub parameter_decides : (x y : Text × Text) → Decides (same_parameter x y) (x ≡ y)
 parameter_decides x y = (
   λ h i. ((text_decides x.0 y.0).0 (first_so (same_text x.0 y.0) (same_text x.1 y.1) h) i, (text_decides x.1 y.1).0 (second_so (same_text x.0 y.0) (same_text x.1 y.1) h) i),
-  λ e. both_true (same_text x.0 y.0) (same_text x.1 y.1) ((text_decides x.0 y.0).1 (ap (λ p. p.0) e)) ((text_decides x.1 y.1).1 (ap (λ p. p.1) e)),
+  λ e. and_from (same_text x.0 y.0) (same_text x.1 y.1) ((text_decides x.0 y.0).1 (ap (λ p. p.0) e)) ((text_decides x.1 y.1).1 (ap (λ p. p.1) e)),
 )
 
 pub parts_decides : (x y : NodeParts) → Decides (same_parts x y) (x ≡ y)
@@ -126,10 +124,10 @@ parts_decides x y =
         (names_decides x.3 y.3).0 (first_so d e (second_so c (d && e) (second_so b (c && (d && e)) (second_so a (b && (c && (d && e))) h)))) i,
         (bytes_decides x.4 y.4).0 (second_so d e (second_so c (d && e) (second_so b (c && (d && e)) (second_so a (b && (c && (d && e))) h)))) i,
       ),
-      λ f. both_true a (b && (c && (d && e))) ((number_decides x.0 y.0).1 (ap (λ p. p.0) f))
-          (both_true b (c && (d && e)) ((pointwise_decides text_decides x.1 y.1).1 (ap (λ p. p.1) f))
-          (both_true c (d && e) ((pointwise_decides parameter_decides x.2 y.2).1 (ap (λ p. p.2) f))
-          (both_true d e ((names_decides x.3 y.3).1 (ap (λ p. p.3) f)) ((bytes_decides x.4 y.4).1 (ap (λ p. p.4) f))))),
+      λ f. and_from a (b && (c && (d && e))) ((number_decides x.0 y.0).1 (ap (λ p. p.0) f))
+          (and_from b (c && (d && e)) ((pointwise_decides text_decides x.1 y.1).1 (ap (λ p. p.1) f))
+          (and_from c (d && e) ((pointwise_decides parameter_decides x.2 y.2).1 (ap (λ p. p.2) f))
+          (and_from d e ((names_decides x.3 y.3).1 (ap (λ p. p.3) f)) ((bytes_decides x.4 y.4).1 (ap (λ p. p.4) f))))),
     )
 
 pub node_eq_equiv : IsEquivalence node_eq

@@ -1,5 +1,5 @@
 -- A search for the nodes of a graph that come back to themselves. The nodes that are met stand on a stack, in groups of nodes that lead to one
--- another (strongly connected ones); each node on the stack leads to all behind it. A group is closed when no edge is left that might join it to another.
+-- another (strongly connected ones); each node on the stack leads to all behind it. A group is closed when no edge is left that might unite it with another.
 use Rattle.std.specs.Prelude.{◌≡◌, ℕ, ◌+◌, ◌<◌, ◌≤◌, ◌⊎◌, List, length, slice_index_or, take, sum_by, sum, count_by, Contains, Option, Some, None, ◌∷◌, ◌++◌, [], ◌-◌}
 use Rattle.std.specs.Option.{is_some}
 use Rattle.rn_pattern.specs.Graph.{row}
@@ -64,18 +64,18 @@ Rises xs = (i j : ℕ) → i < j → j < length xs → slice_index_or xs i 0 < s
 pub record GroupingBy (rows : List (List ℕ)) (places : List (Option ℕ)) (left stack path bounds : List ℕ) (least : Option ℕ) : Type 0 where
   pub places_size : length places ≡ length rows
   pub left_size : length left ≡ length rows
-  pub left_within : (x : ℕ) → slice_index_or left x 0 ≤ length (row rows x)
-  pub fresh : (x : ℕ) → place_of places x ≡ None → slice_index_or left x 0 ≡ length (row rows x)
+  pub left_within : (x : ℕ) → edges_left left x ≤ length (row rows x)
+  pub fresh : (x : ℕ) → place_of places x ≡ None → edges_left left x ≡ length (row rows x)
   pub placed : (i : ℕ) → i < length stack → place_of places (node_at stack i) ≡ Some i
   pub path_within : (p : ℕ) → Contains path p → p < length stack
   pub path_rises : Rises path
-  pub on_path : (i : ℕ) → i < length stack → 0 < slice_index_or left (node_at stack i) 0 → Contains path i
+  pub on_path : (i : ℕ) → i < length stack → 0 < edges_left left (node_at stack i) → Contains path i
   pub bounds_within : (c : ℕ) → Contains bounds c → c < length stack
   pub bounds_rise : Rises bounds
   pub first_bound : slice_index_or bounds 0 0 ≡ 0
   pub bounded : 0 < length stack → 0 < length bounds
   pub leads : (i j : ℕ) → i < length stack → j < length stack → IsNear bounds i j → Comes rows (node_at stack i) (node_at stack j)
-  pub looked : (i k : ℕ) → i < length stack → slice_index_or left (node_at stack i) 0 ≤ k → k < length (row rows (node_at stack i)) → IsSettled places stack bounds i (slice_index_or (row rows (node_at stack i)) k 0)
+  pub looked : (i k : ℕ) → i < length stack → edges_left left (node_at stack i) ≤ k → k < length (row rows (node_at stack i)) → IsSettled places stack bounds i (slice_index_or (row rows (node_at stack i)) k 0)
   pub closed : (x y : ℕ) → IsClosed places stack x → Contains (row rows x) y → IsClosed places stack y
   pub least_is : IsLeastLooped rows (IsClosed places stack) least
 
@@ -131,8 +131,8 @@ abbrev pub IsAtWork : List ℕ → ℕ → Option ℕ → Type 0
 IsAtWork path begin None = (p : ℕ) → Contains path p → p < begin
 IsAtWork path begin (Some p) = (begin ≤ p) × EndsWith path p
 
--- all groups that begin behind the place are joined to the one before
-pub record IsJoined (old now : List ℕ) (place : ℕ) : Type 0 where
+-- all groups that begin behind the place are united with the one before
+pub record IsUnited (old now : List ℕ) (place : ℕ) : Type 0 where
   pub front : (n : ℕ) × (now ≡ take n old)
   pub kept : (c : ℕ) → Contains old c → c ≤ place → Contains now c
   pub within : (c : ℕ) → Contains now c → c ≤ place

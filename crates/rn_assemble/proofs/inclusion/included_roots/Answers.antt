@@ -5,7 +5,7 @@ use Rattle.std.proofs.lemmas.Bool.{false≢true}
 use Rattle.std.proofs.lemmas.List.{length-map}
 use Rattle.rn_pattern.specs.Graph.{rows_of}
 use Rattle.rn_pattern.specs.Ranks.{HasNoLoop, IsFirstLoop}
-use Rattle.rn_pattern.proofs.Graphs.Rows.{below_still}
+use Rattle.rn_pattern.proofs.Graphs.BuiltRows.{below_still}
 use Rattle.rn_assemble.specs.declared.named_modules.NamedModule.{NamedModule}
 use Rattle.rn_assemble.specs.Components.{instance_limit}
 use Rattle.rn_assemble.specs.inside.Included.{AreIncluded}

@@ -3,7 +3,7 @@ use Rattle.rn_pattern.specs.Graph.{Reached, is_marked, row, rows_of}
 use Rattle.std.specs.Prelude.{Decides, MatchOption}
 use Rattle.std.proofs.lemmas.Result.{IfOk-weaker}
 use Rattle.rn_pattern.specs.Ranks.{HasNoLoop, IsFirstLoop}
-use Rattle.rn_pattern.proofs.Graphs.Rows.{kept_graph, row_within}
+use Rattle.rn_pattern.proofs.Graphs.BuiltRows.{kept_graph, row_within}
 use Rattle.rn_assemble.proofs.Referring.NumberedReferences.{least}
 use Rattle.rn_assemble.proofs.references.least_recursive.Goals as goal
 

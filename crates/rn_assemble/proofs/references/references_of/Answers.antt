@@ -4,7 +4,7 @@ use Rattle.std.proofs.lemmas.List.{length_push}
 use Rattle.rn_pattern.specs.Reached.{RefersTo}
 use Rattle.rn_pattern.specs.References.{RefersOutside}
 use Rattle.rn_pattern.specs.Graph.{row, rows_of}
-use Rattle.rn_pattern.proofs.Graphs.Rows.{below_still, rows_pushed, is_graph, no_rows}
+use Rattle.rn_pattern.proofs.Graphs.BuiltRows.{below_still, rows_pushed, is_graph, no_rows}
 use Rattle.rn_assemble.specs.inside.Listed.{components_in}
 use Rattle.rn_assemble.specs.inside.Referred.{AreBodiesAt, AreNumbers, names_within, reference_view, references_at}
 use Rattle.rn_assemble.specs.declared.references.Reach.TheVariants.{Everywhere, OutsideElements}

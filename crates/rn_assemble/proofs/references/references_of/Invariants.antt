@@ -3,7 +3,7 @@ use Rattle.std.proofs.Common.{◌≡◌, ◌+◌, List, length, option_map}
 use Rattle.std.specs.List.Sorted.{IsStrictlySortedBy}
 use Rattle.rn_text.specs.Texts.{text_cmp}
 use Rattle.rn_pattern.specs.Graph.{rows_of}
-use Rattle.rn_pattern.proofs.Graphs.Rows.{AreRows}
+use Rattle.rn_pattern.proofs.Graphs.BuiltRows.{AreRows}
 use Rattle.rn_assemble.specs.inside.Listed.{Lists, Live, components_in}
 use Rattle.rn_assemble.specs.inside.Referred.{IsFresh}
 use Rattle.rn_assemble.specs.inside.Views.{names_of}

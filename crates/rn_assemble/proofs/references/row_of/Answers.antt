@@ -1,7 +1,7 @@
 -- One reference more.
 use Rattle.std.proofs.Common.{◌+◌, [], ◌∷◌, ◌++◌, length, map, take, get_or, sym, subst, arith}
 use Rattle.std.proofs.lemmas.List.{take_all}
-use Rattle.rn_pattern.proofs.Graphs.Rows.{none_below}
+use Rattle.rn_pattern.proofs.Graphs.BuiltRows.{none_below}
 use Rattle.rn_pattern.specs.Graph.{AllBelow}
 use Rattle.rn_assemble.specs.inside.Referred.{AreNumbers, KeepsLeast, names_within, reference_view, within}
 use Rattle.rn_assemble.specs.inside.Views.{names_of}

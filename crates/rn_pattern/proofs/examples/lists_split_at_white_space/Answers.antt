@@ -11,8 +11,8 @@ returns-clause-two c = accepted 0 (a_holding x_then_y) no_library (a_of (codes "
 pub returns-clause-padded : goal.returns-clause-padded
 returns-clause-padded c = accepted 0 (a_holding x_then_y) no_library (a_of padded_x_y) refl refl
 
-pub returns-clause-joined : goal.returns-clause-joined
-returns-clause-joined c = rejected (a_holding x_then_y) no_library (a_of (codes "xy")) refl (λ n. refl)
+pub returns-clause-run_together : goal.returns-clause-run_together
+returns-clause-run_together c = rejected (a_holding x_then_y) no_library (a_of (codes "xy")) refl (λ n. refl)
 
 pub returns-clause-one : goal.returns-clause-one
 returns-clause-one c = rejected (a_holding x_then_y) no_library (a_of (codes "x")) refl (λ n. refl)

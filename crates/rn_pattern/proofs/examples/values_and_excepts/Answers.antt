@@ -13,8 +13,8 @@ returns-clause-string_padded c = rejected (a_holding (string_is (codes "x y"))) 
 pub returns-clause-token_padded : goal.returns-clause-token_padded
 returns-clause-token_padded c = accepted 0 (a_holding (token_is (codes "x y"))) no_library (a_of padded_x_y) refl refl
 
-pub returns-clause-token_joined : goal.returns-clause-token_joined
-returns-clause-token_joined c = rejected (a_holding (token_is (codes "x y"))) no_library (a_of (codes "xy")) refl (λ n. refl)
+pub returns-clause-token_run_together : goal.returns-clause-token_run_together
+returns-clause-token_run_together c = rejected (a_holding (token_is (codes "x y"))) no_library (a_of (codes "xy")) refl (λ n. refl)
 
 pub returns-clause-string_other : goal.returns-clause-string_other
 returns-clause-string_other c = accepted 0 (a_holding string_but_x) no_library (a_of (codes "y")) refl refl

@@ -1,7 +1,7 @@
 use Rattle.std.proofs.Common.{arith, ◌∙◌, ap, cond, [], length}
 use Rattle.std.proofs.lemmas.List.{length_push}
 use Rattle.rn_pattern.specs.Graph.{is_marked, rows_of}
-use Rattle.rn_pattern.proofs.Graphs.Rows.{keep_more, kept_all}
+use Rattle.rn_pattern.proofs.Graphs.BuiltRows.{keep_more, kept_all}
 use Rattle.rn_pattern.proofs.graph.marked_rows.Goals as goal
 
 pub loop-node-init : goal.loop-node-init

@@ -1,6 +1,6 @@
 use Rattle.std.proofs.Common.{◌≡◌, length}
 use Rattle.rn_pattern.specs.Graph.{rows_of}
-use Rattle.rn_pattern.proofs.Graphs.Rows.{IsKept}
+use Rattle.rn_pattern.proofs.Graphs.BuiltRows.{IsKept}
 use Rattle.rn_pattern.proofs.graph.marked_rows.Given as goal
 
 -- the rows so far

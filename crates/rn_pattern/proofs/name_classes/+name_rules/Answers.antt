@@ -1,12 +1,12 @@
 -- One after the other.
-use Rattle.std.proofs.Common.{◌≡◌, ap, sym, subst, ◌∙◌, arith, map}
+use Rattle.std.proofs.Common.{◌≡◌, ap, sym, subst, ◌∙◌, arith}
 use Rattle.std.specs.Prelude.{Box, Decides}
 use Rattle.std.proofs.lemmas.Bool.{true≢false}
 use Rattle.std.proofs.lemmas.Bool.Decides.{not_from_Decides}
 use Rattle.rn_pattern.specs.NameRules.{HasNameExcepts, HasNoDeclaration, KeepsNameRules, KeepNameRules}
 use Rattle.rn_pattern.specs.Tree as tree
-use Rattle.rn_pattern.specs.Tree.{Tree, trees_of}
-use Rattle.rn_pattern.specs.View.{name_class_view, pattern_step, pattern_view, shared_view}
+use Rattle.rn_pattern.specs.Tree.{Tree}
+use Rattle.rn_pattern.specs.View.{name_class_view, pattern_step, pattern_view, shared_view, shared_trees}
 use Rattle.std.specs.declared.alloc.Global.{Global}
 use Rattle.std.specs.declared.rc.Rc.{Rc}
 use Rattle.rn_pattern.specs.declared.tree.NameClass.{NameClass}
@@ -15,7 +15,7 @@ use Rattle.rn_pattern.specs.declared.tree.Pattern.TheOpen.{Pattern-F}
 use Rattle.rn_pattern.specs.declared.tree.Pattern.TheVariants as variant
 use Rattle.rn_pattern.specs.declared.tree.Pattern.TheViews as pattern
 use Rattle.rn_pattern.proofs.Ordered.PatternKinds.{group_seen, interleave_seen, choice_seen}
-use Rattle.rn_pattern.proofs.Searches.Each.{all_more, stops, ends}
+use Rattle.rn_pattern.proofs.Searches.DecidedByEach.{all_more, stops, ends}
 use Rattle.rn_pattern.proofs.name_classes.+name_rules.Goals as goal
 use Rattle.rn_pattern.proofs.name_classes.+name_rules.Goals.{keeps_name_rules-then-has_name_excepts, keeps_name_rules-else-has_name_excepts}
 
@@ -33,7 +33,7 @@ one_or_more_seen p = ap pattern_view (sym (variant.rolls-OneOrMore p)) ∙ fold-
 
 pub keep_name_rules-returns-then-not-keeps_name_rules : goal.keep_name_rules-returns-then-not-keeps_name_rules
 keep_name_rules-returns-then-not-keeps_name_rules t c =
-    stops {X = Rc Pattern Global} (λ k. KeepsNameRules (shared_view k)) (λ ks. KeepNameRules (trees_of (map shared_view ks))) tt (λ _ _ p q. (p, q)) (λ _ _ q. q.0) (λ _ _ q. q.1)
+    stops {X = Rc Pattern Global} (λ k. KeepsNameRules (shared_view k)) (λ ks. KeepNameRules (shared_trees ks)) tt (λ _ _ p q. (p, q)) (λ _ _ q. q.0) (λ _ _ q. q.1)
     c.args.members.now c.loop-member.member-index c.member-item.result c.loop-member-test.true c.member-item.is (not_from_Decides _ (subst (λ p. Decides c.keeps_name_rules.result (KeepsNameRules (pattern_view p))) c.deref.ensures c.keeps_name_rules.ensures) c.if-not-keeps_name_rules.true)
 
 pub keep_name_rules-loop-member-preserved : goal.keep_name_rules-loop-member-preserved
@@ -42,26 +42,26 @@ keep_name_rules-loop-member-preserved t c =
 
 pub keep_name_rules-returns : goal.keep_name_rules-returns
 keep_name_rules-returns t c =
-    ends {X = Rc Pattern Global} (λ k. KeepsNameRules (shared_view k)) (λ ks. KeepNameRules (trees_of (map shared_view ks))) tt (λ _ _ p q. (p, q)) (λ _ _ q. q.0) (λ _ _ q. q.1)
+    ends {X = Rc Pattern Global} (λ k. KeepsNameRules (shared_view k)) (λ ks. KeepNameRules (shared_trees ks)) tt (λ _ _ p q. (p, q)) (λ _ _ q. q.0) (λ _ _ q. q.1)
     c.args.members.now c.loop-member.member-index (omega arith) c.loop-member.invariant
 
 pub keeps_name_rules-returns-in-Group : goal.keeps_name_rules-returns-in-Group
 keeps_name_rules-returns-in-Group t c =
     let seen = ap pattern_view c.in-Group.is ∙ group_seen c.in-Group.members in
     subst (λ p. Decides c.keep_name_rules.result (KeepsNameRules p)) (sym seen)
-    (subst (λ ps. Decides c.keep_name_rules.result (KeepNameRules (trees_of (map shared_view ps)))) c.deref-in-Group.ensures.value c.keep_name_rules.ensures)
+    (subst (λ ps. Decides c.keep_name_rules.result (KeepNameRules (shared_trees ps))) c.deref-in-Group.ensures.value c.keep_name_rules.ensures)
 
 pub keeps_name_rules-returns-in-Interleave : goal.keeps_name_rules-returns-in-Interleave
 keeps_name_rules-returns-in-Interleave t c =
     let seen = ap pattern_view c.in-Interleave.is ∙ interleave_seen c.in-Interleave.members in
     subst (λ p. Decides c.keep_name_rules-in-Interleave.result (KeepsNameRules p)) (sym seen)
-    (subst (λ ps. Decides c.keep_name_rules-in-Interleave.result (KeepNameRules (trees_of (map shared_view ps)))) c.deref-in-Interleave.ensures.value c.keep_name_rules-in-Interleave.ensures)
+    (subst (λ ps. Decides c.keep_name_rules-in-Interleave.result (KeepNameRules (shared_trees ps))) c.deref-in-Interleave.ensures.value c.keep_name_rules-in-Interleave.ensures)
 
 pub keeps_name_rules-returns-in-Choice : goal.keeps_name_rules-returns-in-Choice
 keeps_name_rules-returns-in-Choice t c =
     let seen = ap pattern_view c.in-Choice.is ∙ choice_seen c.in-Choice.members in
     subst (λ p. Decides c.keep_name_rules-in-Choice.result (KeepsNameRules p)) (sym seen)
-    (subst (λ ps. Decides c.keep_name_rules-in-Choice.result (KeepNameRules (trees_of (map shared_view ps)))) c.deref-in-Choice.ensures.value c.keep_name_rules-in-Choice.ensures)
+    (subst (λ ps. Decides c.keep_name_rules-in-Choice.result (KeepNameRules (shared_trees ps))) c.deref-in-Choice.ensures.value c.keep_name_rules-in-Choice.ensures)
 
 pub keeps_name_rules-returns-in-List : goal.keeps_name_rules-returns-in-List
 keeps_name_rules-returns-in-List t c =

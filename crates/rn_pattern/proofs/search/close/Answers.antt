@@ -4,7 +4,7 @@ use Rattle.std.specs.Prelude.{vec_len}
 use Rattle.rn_pattern.specs.Graph.{rows_of}
 use Rattle.rn_pattern.specs.inside.Searching.{GroupingBy, RankingBy}
 use Rattle.rn_pattern.proofs.Searches.Rising.{popped}
-use Rattle.rn_pattern.proofs.Searches.Grouping.{node_below}
+use Rattle.rn_pattern.proofs.Searches.KeptGroups.{node_below}
 use Rattle.rn_pattern.proofs.Searches.Closing.{begin_below, group_closed, group_ranked}
 use Rattle.rn_pattern.proofs.search.close.Goals as goal
 

@@ -1,6 +1,6 @@
 use Rattle.std.proofs.Common.{◌<◌, length, arith}
 use Rattle.rn_pattern.specs.Graph.{rows_of}
-use Rattle.rn_pattern.proofs.Searches.Grouping.{entered_at, met_still}
+use Rattle.rn_pattern.proofs.Searches.KeptGroups.{entered_at, met_still}
 use Rattle.rn_pattern.proofs.Searches.Ranking.{entered_ranked}
 use Rattle.rn_pattern.proofs.search.enter.Goals as goal
 

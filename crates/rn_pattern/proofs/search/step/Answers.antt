@@ -2,7 +2,7 @@ use Rattle.std.proofs.Common.{◌-◌, ℕ, List, inl, arith, get_or, sym, ap, �
 use Rattle.std.specs.Prelude.{Contains}
 use Rattle.rn_pattern.specs.Graph.{row, rows_of}
 use Rattle.rn_pattern.specs.inside.Searching.{AllLead, IsClosed}
-use Rattle.rn_pattern.proofs.Searches.Grouping.{place_below, leads_next}
+use Rattle.rn_pattern.proofs.Searches.KeptGroups.{place_below, leads_next}
 use Rattle.rn_pattern.proofs.search.step.Goals as goal
 
 pub node_of-requires-clause-within : goal.node_of-requires-clause-within
@@ -18,13 +18,13 @@ enter-requires-clause-all_lead c =
     c.last_bound-begin.ensures c.in-Some.ensures.0 (place_below rows s.places.items s.left.items s.stack.items s.path.items s.bounds.items s.least c.requires.grouping.groups c.in-Some.place c.in-Some.ensures.1)
     (subst (λ (x : ℕ). Contains (row rows x) c.in-Some-next_of.next) c.node_of.ensures.is c.in-Some-next_of.ensures.edge)
 
-pub merge_groups-requires-clause-within : goal.merge_groups-requires-clause-within
-merge_groups-requires-clause-within c =
+pub unite_groups-requires-clause-within : goal.unite_groups-requires-clause-within
+unite_groups-requires-clause-within c =
     let s = c.args.search.now in
     omega (arith, place_below (rows_of c.args.edges.now) s.places.items s.left.items s.stack.items s.path.items s.bounds.items s.least c.requires.grouping.groups c.in-Some.place c.in-Some.ensures.1, s.stack.ok)
 
-pub merge_groups-requires-clause-all_lead : goal.merge_groups-requires-clause-all_lead
-merge_groups-requires-clause-all_lead c =
+pub unite_groups-requires-clause-all_lead : goal.unite_groups-requires-clause-all_lead
+unite_groups-requires-clause-all_lead c =
     let s = c.args.search.now in
     let rows = rows_of c.args.edges.now in
     subst (AllLead rows s.stack.items) (sym c.in-Open.ensures.1)

@@ -1,4 +1,4 @@
-use Rattle.std.proofs.Common.{◌≡◌, ◌≤◌, length, map, drop}
+use Rattle.std.proofs.Common.{◌≡◌, map, drop}
 use Rattle.std.specs.Cmp.Lexicographic.{slice_cmp}
 use Rattle.rn_pattern.specs.inside.Stored.{tree_at}
 use Rattle.rn_pattern.specs.Order.{tree_cmp}
@@ -10,6 +10,5 @@ decreases-compare l = l.a.0
 
 abbrev pub invariant-loop-k : goal.invariant-loop-k
 invariant-loop-k l =
-    (l.k ≤ length l.y.members.now)
-    × (slice_cmp tree_cmp (map (tree_at (trees l.self)) l.x.members.now) (map (tree_at (trees l.self)) l.y.members.now)
-    ≡ slice_cmp tree_cmp (map (tree_at (trees l.self)) (drop l.k l.x.members.now)) (map (tree_at (trees l.self)) (drop l.k l.y.members.now)))
+    slice_cmp tree_cmp (map (tree_at (trees l.self)) l.x.members.now) (map (tree_at (trees l.self)) l.y.members.now)
+    ≡ slice_cmp tree_cmp (map (tree_at (trees l.self)) (drop l.k l.x.members.now)) (map (tree_at (trees l.self)) (drop l.k l.y.members.now))

@@ -30,8 +30,7 @@ rows_push n rows xs h l x = elim (cases_lt x (length rows)) [
 pub is_graph : (n : ℕ) (rows : List (List ℕ)) → AreRows n rows → length rows ≡ n → IsGraph rows
 is_graph n rows h e = subst (λ (m : ℕ). AreRows m rows) (sym e) h
 
--- the same for a list that is known by an equation
-
+-- a list that an equation names is below the number, as the list that it equals
 pub below_still : (n : ℕ) (xs ys : List ℕ) → AllBelow n xs → ys ≡ xs → AllBelow n ys
 below_still n xs ys h e = subst (λ (l : List ℕ). AllBelow n l) (sym e) h
 

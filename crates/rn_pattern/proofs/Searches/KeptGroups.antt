@@ -1,4 +1,4 @@
--- A search for nodes that come back to themselves, by one step each.
+-- Each step of a search for nodes that come back to themselves keeps its groups.
 use Rattle.std.proofs.Common.{◌≡◌, ℕ, ◌-◌, ◌<◌, ◌≤◌, inl, inr, List, [], ◌∷◌, ◌++◌, length, get_or, set, refl, sym, ap, ◌∙◌, subst, arith}
 use Rattle.std.specs.Prelude.{Contains, Option, Some, None}
 use Rattle.std.proofs.lemmas.List.{length_push, length-set, get_or_push, get_or-set_same, get_or-set_other, get_or_past, get_or_append_left}
@@ -6,7 +6,7 @@ use Rattle.std.proofs.lemmas.List.Elements.{Contains-append_left, Contains-push,
 use Rattle.std.proofs.lemmas.Bool.{cases_eq, cases_lt}
 use Rattle.rn_pattern.specs.Graph.{row}
 use Rattle.rn_pattern.specs.Ranks.{Leads, by_edge, and_edge}
-use Rattle.rn_pattern.specs.inside.Searching.{EndsWith, GroupingBy, IsLeastLooped, IsClosed, IsSettled, IsJoined, AllLead, Comes, Rises, node_at, place_of}
+use Rattle.rn_pattern.specs.inside.Searching.{EndsWith, GroupingBy, IsLeastLooped, IsClosed, IsSettled, IsUnited, AllLead, Comes, Rises, node_at, place_of}
 use Rattle.rn_pattern.proofs.Searches.Rising.{contains_take, rises_left, rises_take, rises_push, first_take, greatest_last, has_last}
 
 pub met_below : (places : List (Option ℕ)) (x p : ℕ) → place_of places x ≡ Some p → x < length places
@@ -120,9 +120,9 @@ module _ (rows : List (List ℕ)) where
           | inr ne ↦ w.looked i k h (omega (arith, l, ne)) m
         ]
 
-    -- groups are joined
-    pub joined : (bounds' : List ℕ) (p : ℕ) → IsJoined bounds bounds' p → p < length stack → AllLead rows stack (node_at stack p) → GroupingBy rows places left stack path bounds' least
-    joined bounds' p g h all = record {
+    -- groups are united
+    pub united : (bounds' : List ℕ) (p : ℕ) → IsUnited bounds bounds' p → p < length stack → AllLead rows stack (node_at stack p) → GroupingBy rows places left stack path bounds' least
+    united bounds' p g h all = record {
       places_size = w.places_size;
       left_size = w.left_size;
       left_within = w.left_within;
