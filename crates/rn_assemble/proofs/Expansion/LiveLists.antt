@@ -9,7 +9,7 @@ use Rattle.std.proofs.lemmas.Bool.Decides.{eqb_tells}
 use Rattle.rn_text.specs.Texts.{Text}
 use Rattle.std.proofs.lemmas.Option.{get_or_from_slice_get, slice_get-get_or, slice_get_cases}
 use Rattle.rn_pattern.specs.Graph.{row}
-use Rattle.rn_pattern.proofs.Ordered.Ascending.{each_join, each_front, each_behind}
+use Rattle.rn_pattern.proofs.Ordered.Ascending.{each_append, each_front, each_behind}
 use Rattle.rn_assemble.specs.declared.bodies.Body.{Body}
 use Rattle.rn_assemble.specs.Components.{Component}
 use Rattle.rn_assemble.specs.inside.Listed.{IsBody, IsLive, Live, ListsBy, Rises, places_of}
@@ -176,7 +176,7 @@ module _ (names : List Text) where
       } in
       record {
         size = s.size ∙ h.size;
-        are = each_join (IsLive names bodies (list ++ body ∷ [])) live (e ∷ []) (each_to (IsLive names bodies list) (IsLive names bodies (list ++ body ∷ [])) (λ d k. subst (λ bs. IsLive names bs (list ++ body ∷ []) d) (append-nil bodies) (live_still bodies [] list (body ∷ []) d k)) live h.are) (new, tt);
+        are = each_append (IsLive names bodies (list ++ body ∷ [])) live (e ∷ []) (each_to (IsLive names bodies list) (IsLive names bodies (list ++ body ∷ [])) (λ d k. subst (λ bs. IsLive names bs (list ++ body ∷ []) d) (append-nil bodies) (live_still bodies [] list (body ∷ []) d k)) live h.are) (new, tt);
         rises = rises_join 0 (length list) live (e ∷ []) (omega arith) h.rises (each_to (IsLive names bodies list) (λ (d : Live). d.place < length list) (λ d k. k.within) live h.are) (omega arith, tt);
         places = λ k m. elim (cases_eq k key) [
           | inl same ↦ ap (row now) same ∙ s.at ∙ ap (λ r. r ++ length list ∷ []) (h.places key w) ∙ sym (ap (λ j. places_of j (live ++ e ∷ [])) same ∙ places_join key live (e ∷ []) ∙ ap (λ r. places_of key live ++ r) (with_key key e refl))
@@ -192,7 +192,7 @@ module _ (names : List Text) where
       let P = IsLive names bodies list in
       record {
         size = s.size ∙ h.size;
-        are = each_join P live (filter p added) (each_front P live added h.are) (each_filtered P p added (each_behind P live added h.are));
+        are = each_append P live (filter p added) (each_front P live added h.are) (each_filtered P p added (each_behind P live added h.are));
         rises = rises_join 0 before live (filter p added) (omega arith) (rises_front 0 live added h.rises) low (rises_filtered p before added high);
         places = λ k m. elim (cases_eq k key) [
           | inl same ↦ ap (row now) same ∙ s.at ∙ sym (ap (λ j. places_of j (live ++ filter p added)) same ∙ places_join key live (filter p added) ∙ ap (λ r. places_of key live ++ r) (none_left key added) ∙ append-nil (places_of key live))

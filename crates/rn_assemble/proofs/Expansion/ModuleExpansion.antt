@@ -4,7 +4,7 @@ use Rattle.std.specs.Prelude.{slice_range}
 use Rattle.std.specs.List.{AllByRecursion, AllZip}
 use Rattle.std.proofs.lemmas.List.{length-map}
 use Rattle.rn_text.specs.Texts.{Text, text_cmp}
-use Rattle.rn_pattern.proofs.Ordered.Ascending.{each_join, each_behind}
+use Rattle.rn_pattern.proofs.Ordered.Ascending.{each_append, each_behind}
 use Rattle.std.specs.List.Sorted.{IsStrictlySortedBy}
 use Rattle.rn_syntax.specs.Tree as t
 use Rattle.rn_syntax.specs.Tree.{Declaration}
@@ -33,11 +33,11 @@ module _ (modules : List NamedModule) where
     item_within n (t.define x m p) = tt
     item_within n (t.start m p) = tt
     item_within n (t.div xs) = items_within n xs
-    item_within n (t.include w h xs) = each_join (IsWithin modules) (inclusions modules n xs) _ (items_within n xs) (λ k e. place_within w k modules e, tt)
+    item_within n (t.include w h xs) = each_append (IsWithin modules) (inclusions modules n xs) _ (items_within n xs) (λ k e. place_within w k modules e, tt)
 
     items_within : (n : ℕ) (xs : t.Items) → AllByRecursion (IsWithin modules) (inclusions modules n xs)
     items_within n t.no_items = tt
-    items_within n (t.item x xs) = each_join (IsWithin modules) (item_inclusions modules n x) _ (item_within n x) (items_within _ xs)
+    items_within n (t.item x xs) = each_append (IsWithin modules) (item_inclusions modules n x) _ (item_within n x) (items_within _ xs)
 
 -- how far a module is expanded
 pub record Going (modules : List NamedModule) (names : List Text) (contents : List Contents) (content : Contents) (old now : Components) (live : List Live) (m : NamedModule) (u : Text) (depth first n : ℕ) (includes : List Include) : Type 0 where

@@ -14,7 +14,7 @@ use Rattle.rn_pattern.specs.Tree.{Tree, Trees, no_trees, interleave, choice, tre
 use Rattle.rn_text.specs.Texts.{Text, text_cmp}
 use Rattle.rn_pattern.specs.View.{shared_view, boxed_view}
 use Rattle.rn_pattern.specs.declared.tree.Pattern.{Pattern}
-use Rattle.rn_pattern.proofs.Ordered.Ascending.{each_join}
+use Rattle.rn_pattern.proofs.Ordered.Ascending.{each_append}
 use Rattle.rn_assemble.specs.declared.bodies.Body.{Body}
 use Rattle.rn_assemble.specs.declared.refusal.Key as code
 use Rattle.rn_assemble.specs.declared.refusal.Refusal.{Refusal}
@@ -93,7 +93,7 @@ module _ (cs : List Component) (k : Key) where
       let more : take (i + 1) parts ≡ take i parts ++ c ∷ [] = take_more parts i c l ∙ ap (λ d. take i parts ++ d ∷ []) (is c) in
       subst (λ ds. AreSound ds (map shared_view ms')) (sym more) (
         ap (map shared_view) e ∙ map-append shared_view ms (m ∷ []) ∙ (λ j. h.0 j ++ s.0 j ∷ []) ∙ sym (map-append (λ (d : Component). d.body) (take i parts) (c ∷ [])),
-        each_join (λ (d : Component). KeepsNameRules d.body) (take i parts) (c ∷ []) h.1 (s.1, tt),
+        each_append (λ (d : Component). KeepsNameRules d.body) (take i parts) (c ∷ []) h.1 (s.1, tt),
       )
 
   pub sound_all : (ts : List Tree) (i : ℕ) → length parts ≤ i → AreSound (take i parts) ts → AreSound parts ts

@@ -5,7 +5,7 @@ use Rattle.std.specs.List.{AllByRecursion, list_any}
 use Rattle.std.proofs.lemmas.List.{map-append}
 use Rattle.std.proofs.lemmas.List.Folds.{flat_map-map}
 use Rattle.rn_text.specs.Texts.{Text}
-use Rattle.rn_pattern.proofs.Ordered.Ascending.{each_join, each_flat}
+use Rattle.rn_pattern.proofs.Ordered.Ascending.{each_append, each_flat}
 use Rattle.rn_syntax.specs.Tree as t
 use Rattle.rn_syntax.specs.Tree.{Declaration, Item, Items, includes}
 use Rattle.rn_assemble.specs.Components.{Key, start_key, name_key, same_key, Component, NamedModule, has_key, without_overridden, handed_on, item_components, all_components, module_components, modules_named, components_within, components, instance_limit, Includes, instances_within, roots, set_components}
@@ -164,12 +164,12 @@ module _ {named : Text → Text} {Known : Text → Type 0} (r : IsRenaming named
           let items = all_components f inherited ds xs in
           let all = known x u (handed_on-known r inherited ds k h inherit) in
           let from = each_kept (HasKnownBody Known) (λ c. not (has_key c.key items)) (f x u) all in
-          each_join (HasKnownBody Known) (without_overridden (f x u) items) items from (items-known xs)
+          each_append (HasKnownBody Known) (without_overridden (f x u) items) items from (items-known xs)
 
       items-known : (xs : Items) → AllByRecursion (HasKnownBody Known) (all_components f inherited ds xs)
       items-known t.no_items = tt
       items-known (t.item x xs) =
-          each_join (HasKnownBody Known) (item_components f inherited ds x) (all_components f inherited ds xs)
+          each_append (HasKnownBody Known) (item_components f inherited ds x) (all_components f inherited ds xs)
           (item-known x) (items-known xs)
 
   module _ (ms : List NamedModule) (declared : DeclareKnown Known ms) where

@@ -5,7 +5,7 @@ use Rattle.std.specs.List.{AllByRecursion}
 use Rattle.std.proofs.lemmas.Bool.{false≢true}
 use Rattle.rn_text.specs.Texts.{Text}
 use Rattle.rn_pattern.specs.Excepts.{IsExcept, AreExcepts, HasExcepts, HaveExcepts}
-use Rattle.rn_pattern.proofs.Ordered.Ascending.{each_join, each_flat}
+use Rattle.rn_pattern.proofs.Ordered.Ascending.{each_append, each_flat}
 use Rattle.rn_syntax.specs.declared.token.Operator.TheVariants as o
 use Rattle.rn_syntax.specs.declared.token.Postfix.TheVariants as r
 use Rattle.rn_syntax.specs.Tree as t
@@ -100,13 +100,13 @@ module _ (included : Text → Text → List Component) (good : (x u : Text) → 
     item_good (t.include wanted inherit xs) h =
         let own = all_components included inherited ds xs in
         let from = included wanted (handed_on inherited ds inherit) in
-        each_join Good (without_overridden from own) own (each_kept Good (λ c. not (has_key c.key own)) from (good wanted (handed_on inherited ds inherit))) (items_good xs h)
+        each_append Good (without_overridden from own) own (each_kept Good (λ c. not (has_key c.key own)) from (good wanted (handed_on inherited ds inherit))) (items_good xs h)
 
     items_good : (xs : Items) → in_items xs ≡ [] → AllByRecursion Good (all_components included inherited ds xs)
     items_good t.no_items h = tt
     items_good (t.item x xs) h =
         let both = nil_parts (in_item x) (in_items xs) h in
-        each_join Good (item_components included inherited ds x) (all_components included inherited ds xs) (item_good x both.0) (items_good xs both.1)
+        each_append Good (item_components included inherited ds x) (all_components included inherited ds xs) (item_good x both.0) (items_good xs both.1)
 
 -- no except of the module is at fault
 abbrev Allowed : NamedModule → Type 0

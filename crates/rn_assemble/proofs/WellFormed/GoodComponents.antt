@@ -4,7 +4,7 @@ use Rattle.std.specs.Prelude.{⊤, bytes_eq}
 use Rattle.std.specs.List.{AllByRecursion, AllZip}
 use Rattle.std.specs.Str.{chars}
 use Rattle.rn_text.specs.Texts.{Text}
-use Rattle.rn_pattern.proofs.Ordered.Ascending.{each_join, each_flat}
+use Rattle.rn_pattern.proofs.Ordered.Ascending.{each_append, each_flat}
 use Rattle.rn_pattern.proofs.Ordered.InOrder.{contains_front, contains_behind}
 use Rattle.rn_modset.specs.Contributions.{Member}
 use Rattle.rn_modset.specs.Modules as effective
@@ -64,7 +64,7 @@ module _ (included : Text → Text → List Component) (good : (y u : Text) → 
         let own = all_components included inherited ds xs in
         let from = included wanted (handed_on inherited ds inherit) in
         let prefixes = nil_parts (inherit_places ds inherit) (prefix_items ds xs) u in
-        each_join IsWritableComponent (without_overridden from own) own (each_kept IsWritableComponent (λ c. not (has_key c.key own)) from (good wanted (handed_on inherited ds inherit) (handed_xml inherited ds x d inherit))) (items_writable xs g prefixes.1 b k e)
+        each_append IsWritableComponent (without_overridden from own) own (each_kept IsWritableComponent (λ c. not (has_key c.key own)) from (good wanted (handed_on inherited ds inherit) (handed_xml inherited ds x d inherit))) (items_writable xs g prefixes.1 b k e)
 
     items_writable : (xs : Items) → AreGoodItems xs → prefix_items ds xs ≡ [] → builtin_items ds xs ≡ [] → context_items ds xs ≡ [] → in_items xs ≡ [] → AllByRecursion IsWritableComponent (all_components included inherited ds xs)
     items_writable t.no_items g u b k e = tt
@@ -73,7 +73,7 @@ module _ (included : Text → Text → List Component) (good : (y u : Text) → 
         let builtins = nil_parts (builtin_item ds i) (builtin_items ds xs) b in
         let contexts = nil_parts (context_item ds i) (context_items ds xs) k in
         let excepts = nil_parts (in_item i) (in_items xs) e in
-        each_join IsWritableComponent (item_components included inherited ds i) (all_components included inherited ds xs) (item_writable i g.0 prefixes.0 builtins.0 contexts.0 excepts.0) (items_writable xs g.1 prefixes.1 builtins.1 contexts.1 excepts.1)
+        each_append IsWritableComponent (item_components included inherited ds i) (all_components included inherited ds xs) (item_writable i g.0 prefixes.0 builtins.0 contexts.0 excepts.0) (items_writable xs g.1 prefixes.1 builtins.1 contexts.1 excepts.1)
 
 -- a good tree without faults
 pub record IsFaultless (m : Module) : Type 0 where

@@ -9,7 +9,7 @@ use Rattle.rn_text.specs.Texts.{Text}
 use Rattle.rn_pattern.specs.Matching.{Grammar, definition_of}
 use Rattle.rn_pattern.specs.CanonicalShape.{IsCanonicalName, AreCanonicalNames, is_single, IsCanonical, AreCanonical, IsCanonicalPattern, AnyName, is_several, may_group, may_interleave, may_choose}
 use Rattle.rn_pattern.specs.Canonical.{canonical_within, settled_within}
-use Rattle.rn_pattern.proofs.Ordered.Ascending.{each_join}
+use Rattle.rn_pattern.proofs.Ordered.Ascending.{each_append}
 use Rattle.rn_pattern.proofs.Forms.CanonicalForm.{canonical_is}
 use Rattle.rn_pattern.proofs.Forms.Settled.{settled_canonical}
 use Rattle.rn_assemble.specs.WellFormed.{HasWritableTexts}
@@ -139,11 +139,11 @@ mutual
   uris_xml (ns_name_but u c) h = (h.0, uris_xml c h.1)
   uris_xml (name u l) h = (h.0, tt)
   uris_xml (name_choice no_names) h = tt
-  uris_xml (name_choice (more_names c cs)) h = each_join IsXml (name_uris false c) (names_uris false cs) (uris_xml c h.0) (all_uris_xml cs h.1)
+  uris_xml (name_choice (more_names c cs)) h = each_append IsXml (name_uris false c) (names_uris false cs) (uris_xml c h.0) (all_uris_xml cs h.1)
 
   all_uris_xml : (cs : NameTrees) → AreWritableNames cs → AllByRecursion IsXml (names_uris false cs)
   all_uris_xml no_names h = tt
-  all_uris_xml (more_names c cs) h = each_join IsXml (name_uris false c) (names_uris false cs) (uris_xml c h.0) (all_uris_xml cs h.1)
+  all_uris_xml (more_names c cs) h = each_append IsXml (name_uris false c) (names_uris false cs) (uris_xml c h.0) (all_uris_xml cs h.1)
 
 module _ (of_name : NameTree → List Text) (of_library : Text → List Text) (names : (c : NameTree) → IsWritableName c → AllByRecursion IsXml (of_name c)) (libraries : (l : Text) → IsXml l → AllByRecursion IsXml (of_library l)) where
   abbrev of : Tree → List Text
@@ -160,10 +160,10 @@ module _ (of_name : NameTree → List Text) (of_library : Text → List Text) (n
     mentions_xml (t.ref x) h = tt
     mentions_xml (t.value l x s) h = libraries l h.0
     mentions_xml (t.datum l x ps) h = libraries l h.0
-    mentions_xml (t.datum_but l x ps p) h = each_join IsXml (of_library l) (of p) (libraries l h.0) (mentions_xml p h.3)
+    mentions_xml (t.datum_but l x ps p) h = each_append IsXml (of_library l) (of p) (libraries l h.0) (mentions_xml p h.3)
     mentions_xml (t.list p) h = mentions_xml p h
-    mentions_xml (t.attribute c p) h = each_join IsXml (of_name c) (of p) (names c h.0) (mentions_xml p h.1)
-    mentions_xml (t.element c p) h = each_join IsXml (of_name c) (of p) (names c h.0) (mentions_xml p h.1)
+    mentions_xml (t.attribute c p) h = each_append IsXml (of_name c) (of p) (names c h.0) (mentions_xml p h.1)
+    mentions_xml (t.element c p) h = each_append IsXml (of_name c) (of p) (names c h.0) (mentions_xml p h.1)
     mentions_xml (t.one_or_more p) h = mentions_xml p h
     mentions_xml (t.group ps) h = all_mentions_xml ps h
     mentions_xml (t.interleave ps) h = all_mentions_xml ps h
@@ -171,14 +171,14 @@ module _ (of_name : NameTree → List Text) (of_library : Text → List Text) (n
 
     all_mentions_xml : (ps : Trees) → AreWritable ps → AllByRecursion IsXml (of_all ps)
     all_mentions_xml no_trees h = tt
-    all_mentions_xml (more_trees p ps) h = each_join IsXml (of p) (of_all ps) (mentions_xml p h.0) (all_mentions_xml ps h.1)
+    all_mentions_xml (more_trees p ps) h = each_append IsXml (of p) (of_all ps) (mentions_xml p h.0) (all_mentions_xml ps h.1)
 
   definitions_xml : (ds : List (Text × Tree)) → AllByRecursion (λ d. IsName d.0 × IsWritable d.1) ds → AllByRecursion IsXml (flat_map (λ (d : Text × Tree). of d.1) ds)
   definitions_xml [] h = tt
-  definitions_xml (d ∷ ds) h = each_join IsXml (of d.1) (flat_map (λ (e : Text × Tree). of e.1) ds) (mentions_xml d.1 h.0.1) (definitions_xml ds h.1)
+  definitions_xml (d ∷ ds) h = each_append IsXml (of d.1) (flat_map (λ (e : Text × Tree). of e.1) ds) (mentions_xml d.1 h.0.1) (definitions_xml ds h.1)
 
   pub grammar_xml : (n : Grammar) → IsWritable n.start → AllByRecursion (λ d. IsName d.0 × IsWritable d.1) n.definitions → AllByRecursion IsXml (grammar_mentions of_name of_library n)
-  grammar_xml n s h = each_join IsXml (of n.start) (flat_map (λ (d : Text × Tree). of d.1) n.definitions) (mentions_xml n.start s) (definitions_xml n.definitions h)
+  grammar_xml n s h = each_append IsXml (of n.start) (flat_map (λ (d : Text × Tree). of d.1) n.definitions) (mentions_xml n.start s) (definitions_xml n.definitions h)
 
 -- ---- the grammar
 

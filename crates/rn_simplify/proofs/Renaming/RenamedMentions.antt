@@ -5,7 +5,7 @@ use Rattle.std.specs.List.{AllByRecursion, list_any}
 use Rattle.rn_text.specs.Texts.{Text}
 use Rattle.rn_pattern.specs.Tree.{NameTree, NameTrees, any_name, any_name_but, ns_name, ns_name_but, name, name_choice, no_names, more_names, Tree, Trees, not_allowed, empty, text, ref, value, datum, datum_but, list, attribute, element, one_or_more, group, interleave, choice, no_trees, more_trees}
 use Rattle.rn_pattern.specs.Matching.{Grammar}
-use Rattle.rn_pattern.proofs.Ordered.Ascending.{each_join, each_flat}
+use Rattle.rn_pattern.proofs.Ordered.Ascending.{each_append, each_flat}
 use Rattle.rn_assemble.specs.Renamed.{renamed_class, renamed_classes, renamed_tree, renamed_trees, renamed_definition, renamed_grammar, HasKnownNames, HaveKnownNames, HasKnownUris, HaveKnownUris, IsOfKnownUris, IsRenaming}
 use Rattle.rn_simplify.specs.Spelling.{name_uris, names_uris, mentions, mentions_all, grammar_mentions, has_empty_ns_name}
 use Rattle.rn_assemble.proofs.Renaming.MappedTests.{list_any-mapped}
@@ -51,7 +51,7 @@ module _ (Known : Text → Type 0) (ns_only : Bool) where
     names_uris_known : (ns : NameTrees) → HaveKnownNames Known ns → AllByRecursion Known (names_uris ns_only ns)
     names_uris_known no_names h = tt
     names_uris_known (more_names n ns) h =
-        each_join Known (name_uris ns_only n) (names_uris ns_only ns) (name_uris_known n h.0) (names_uris_known ns h.1)
+        each_append Known (name_uris ns_only n) (names_uris ns_only ns) (name_uris_known n h.0) (names_uris_known ns h.1)
 
 -- ---- of a pattern and a grammar
 
@@ -114,12 +114,12 @@ module _ (Known : Text → Type 0) (of_name : NameTree → List Text) (of_librar
     mentions_known (value l x s) h = libraries l h
     mentions_known (datum l x ps) h = libraries l h
     mentions_known (datum_but l x ps p) h =
-        each_join Known (of_library l) (mentions of_name of_library p) (libraries l h.0) (mentions_known p h.1)
+        each_append Known (of_library l) (mentions of_name of_library p) (libraries l h.0) (mentions_known p h.1)
     mentions_known (list p) h = mentions_known p h
     mentions_known (attribute n p) h =
-        each_join Known (of_name n) (mentions of_name of_library p) (names n h.0) (mentions_known p h.1)
+        each_append Known (of_name n) (mentions of_name of_library p) (names n h.0) (mentions_known p h.1)
     mentions_known (element n p) h =
-        each_join Known (of_name n) (mentions of_name of_library p) (names n h.0) (mentions_known p h.1)
+        each_append Known (of_name n) (mentions of_name of_library p) (names n h.0) (mentions_known p h.1)
     mentions_known (one_or_more p) h = mentions_known p h
     mentions_known (group ps) h = all_mentions_known ps h
     mentions_known (interleave ps) h = all_mentions_known ps h
@@ -129,14 +129,14 @@ module _ (Known : Text → Type 0) (of_name : NameTree → List Text) (of_librar
         → AllByRecursion Known (mentions_all of_name of_library ps)
     all_mentions_known no_trees h = tt
     all_mentions_known (more_trees p ps) h =
-        each_join Known (mentions of_name of_library p) (mentions_all of_name of_library ps)
+        each_append Known (mentions of_name of_library p) (mentions_all of_name of_library ps)
         (mentions_known p h.0) (all_mentions_known ps h.1)
 
   pub grammar_mentions_known : (N : Grammar) → IsOfKnownUris Known N
       → AllByRecursion Known (grammar_mentions of_name of_library N)
   grammar_mentions_known N k =
       let of_definition = λ (d : Text × Tree). mentions of_name of_library d.1 in
-      each_join Known (mentions of_name of_library N.start) (flat_map of_definition N.definitions)
+      each_append Known (mentions of_name of_library N.start) (flat_map of_definition N.definitions)
       (mentions_known N.start k.start)
       (each_flat Known (λ (d : Text × Tree). HasKnownUris Known d.1) of_definition (λ d h. mentions_known d.1 h)
       N.definitions k.definitions)

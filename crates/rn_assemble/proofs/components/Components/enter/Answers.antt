@@ -1,7 +1,7 @@
 use Rattle.std.proofs.Common.{◌≡◌, ◌++◌, ◌∷◌, [], List, length, map, sym, subst}
 use Rattle.std.specs.Rc.{rc_str_bytes}
 use Rattle.std.specs.List.{AllByRecursion}
-use Rattle.rn_pattern.proofs.Ordered.Ascending.{each_join}
+use Rattle.rn_pattern.proofs.Ordered.Ascending.{each_append}
 use Rattle.rn_assemble.specs.declared.contents.Component as code
 use Rattle.rn_assemble.specs.declared.bodies.Body.{Body}
 use Rattle.rn_assemble.specs.declared.components.MetContext.{MetContext}
@@ -25,6 +25,6 @@ returns-clause-entered c = λ contents h i same.
     record {
       starts = starts;
       contexts = subst (λ (qs : List MetContext). AllByRecursion (ContextHolds contents new) qs) (sym pushed)
-          (each_join (ContextHolds contents new) x.contexts.items (q ∷ []) before (context_made contents new q d i starts, tt));
+          (each_append (ContextHolds contents new) x.contexts.items (q ∷ []) before (context_made contents new q d i starts, tt));
       grows = (made, bodies);
     }
