@@ -1,15 +1,15 @@
 // The union of two lists that rise, in time linear in the bytes of both.
 ghost use Rattle.std.specs.Prelude.{◌≡◌, ◌+◌, ◌<◌, ◌≤◌, [], length, true, false, IfOk, MatchOption, MatchBool, vec_len};
 ghost use Rattle.rn_modset.specs.Contributions.{member, members_of};
-ghost use Rattle.rn_modset.specs.Sets.{Rises, has, missing, union};
-ghost use Rattle.rn_modset.specs.inside.Merges.{IsNotBelow, KeepsFrom, AreApart, EndsAbove, TakesGreatest};
+ghost use Rattle.rn_modset.specs.Sets.{Rises, has, union};
+ghost use Rattle.rn_modset.specs.inside.Merges.{missing, IsNotBelow, KeepsFrom, AreApart, EndsAbove, TakesGreatest};
 ghost use Rattle.rn_modset.specs.inside.Digested.{members_in, IsDigested, AreDigested, HasRoom};
 
 use crate::contribution::Contribution;
 use crate::members::{Digested, Members};
 use std::alloc::{AllocError, Global};
 
-/// How many of the others are not held.
+/// How many contributions of the second list the first doesn't hold.
 pub fn count_missing(held: &[Contribution], others: &[Contribution]) -> usize
     requires held { Rises (members_of held.now) }
     requires others { Rises (members_of others.now) }
@@ -27,7 +27,7 @@ pub fn count_missing(held: &[Contribution], others: &[Contribution]) -> usize
     count
 }
 
-/// Copies of the others that are not held, of which there are that many, with their digests.
+/// Copies of the members of `others` that `held` lacks, of which there are `count`, with their digests.
 pub fn copy_missing(
     alloc: Global,
     held: &[Contribution],
@@ -56,7 +56,7 @@ pub fn copy_missing(
     Ok(copies)
 }
 
-/// What is left of those behind the ones that are below the contribution.
+/// What is left of the list behind the contributions that are below this one.
 fn skip_below<'a>(held: &'a [Contribution], contribution: &Contribution) -> &'a [Contribution]
     requires { Rises (members_of held.now) }
     ensures rises { Rises (members_of result.now) }
@@ -74,7 +74,7 @@ fn skip_below<'a>(held: &'a [Contribution], contribution: &Contribution) -> &'a 
     rest
 }
 
-/// Whether the contribution is the first of those, which are not below it.
+/// Whether the contribution is the first of the list, in which none is below it.
 fn begins_with(rest: &[Contribution], contribution: &Contribution) -> bool
     requires rises { Rises (members_of rest.now) }
     requires from { IsNotBelow (members_of rest.now) (member contribution.now) }

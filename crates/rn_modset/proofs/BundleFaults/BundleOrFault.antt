@@ -18,7 +18,7 @@ use Rattle.rn_modset.specs.Grammar.{Head, text_header, withdrawal_header, is_low
 use Rattle.rn_modset.specs.Bundles.{header_line, header_of, body_of, digest, entry, first_line, end_line}
 use Rattle.rn_modset.specs.inside.Headers.{MayStand, IsNoHeader, AreNoTextFields}
 use Rattle.rn_modset.specs.Faults.{HasLine, Ends, IsTextFault, cut_short, no_line_feed, other_digest, IsEntryFault, no_header, bad_text, IsFaultBehind, no_line, more_bytes, bad_entry, out_of_order, HasBundleFault, no_first_line, behind}
-use Rattle.rn_modset.proofs.Truths.{differs}
+use Rattle.rn_modset.proofs.TestAnswers.TruthValues.{differs}
 use Rattle.rn_modset.proofs.LineParts.HeaderLines.{whole_line, IsCut, no_kind, no_name, bad_name, no_such_kind, text_by, withdrawal_by, AreCut, no_revision, no_length, bad_revision, bad_length, bad_limits}
 use Rattle.rn_modset.proofs.BundlesWritten.SpelledBundles.{IsSpelledFront, front_by, first_spelled, header_spelled, last_by, last_spelled, entry_by, header_at, no_header_at, digest_spelled, bundle_at}
 use Rattle.rn_modset.proofs.BundlesRead.EntryByEntry.{front_start, front_more, front_set, front_end}

@@ -3,6 +3,7 @@ use Rattle.std.proofs.Common.{◌≡◌, ◌≢◌, ℕ, ◌<◌, ◌⊎◌, inl
 use Rattle.std.specs.List.{list_all}
 use Rattle.std.proofs.lemmas.Fmt.{decimal_injective}
 use Rattle.std.proofs.lemmas.List.{append_cancel_left, length-append}
+use Rattle.rn_text.proofs.Words.AppendedLists.{all_append}
 use Rattle.rn_modset.specs.declared.faults.BundleFault.{BundleFault}
 use Rattle.rn_modset.specs.declared.faults.BundleFault.TheVariants.{Header, Order, Truncated, Trailing, Memory}
 use Rattle.rn_modset.specs.Contributions.{Member, is_name_byte, is_withdrawal, IsWithinLimits}
@@ -11,7 +12,8 @@ use Rattle.rn_modset.specs.Grammar.{Head, text_header, withdrawal_header, is_low
 use Rattle.rn_modset.specs.Bundles.{header_line, header_of, body_of, digest, entry}
 use Rattle.rn_modset.specs.inside.Headers.{MayStand}
 use Rattle.rn_modset.specs.Faults.{not_line_feed, HasLine, Ends, Heads, IsTextFault, cut_short, no_line_feed, other_digest, text_memory, IsEntryFault, no_header, bad_text, entry_memory, IsFaultBehind, no_line, more_bytes, bad_entry, out_of_order}
-use Rattle.rn_modset.proofs.Truths.{first_of_both, second_of_both, else_false}
+use Rattle.std.proofs.lemmas.Bool.{false_from_ne_true}
+use Rattle.rn_modset.proofs.TestAnswers.TruthValues.{second_of_both}
 use Rattle.rn_modset.proofs.LineParts.LineFields.{Lacks, one_split, one_front, lacks_by, lacks_from_all, unsplit, one_cut, name_lacks, number_lacks}
 use Rattle.rn_modset.proofs.Numerals.TextDigests.{digest_is}
 use Rattle.rn_modset.proofs.BundlesWritten.SpelledBundles.{digest_by, header_spelled, header_by, entry_spelled}
@@ -185,17 +187,9 @@ one_verdict ms (headed h after) f g (inl x) (inr y) p q = absurd (p (good_text (
 one_verdict ms (headed h after) f g (inr x) (inl y) p q = absurd (q (good_text (length ms) h after x.m x.more x.entry y))
 one_verdict ms (headed h after) f g (inr x) (inr y) p q = x.is ∙ sym y.is
 
-all_append : (p : ℕ → Bool) (a b : List ℕ) → list_all p a ≡ true → list_all p b ≡ true → list_all p (a ++ b) ≡ true
-all_append p [] b h k = k
-all_append p (x ∷ a) b h k = both (p x) (list_all p (a ++ b)) (first_of_both (p x) _ h) (all_append p a b (second_of_both (p x) _ h) k)
-  where
-    both : (c d : Bool) → c ≡ true → d ≡ true → (c && d) ≡ true
-    both true d e f = f
-    both false d e f = cc
-
 pub all_but : (c : ℕ) (xs : List ℕ) → Lacks c xs → list_all (λ x. not (x == c)) xs ≡ true
 all_but c [] l = refl
-all_but c (x ∷ xs) l = both (x == c) (list_all (λ z. not (z == c)) xs) (else_false (x == c) (λ e. l.0 (eqb-true x c e))) (all_but c xs l.1)
+all_but c (x ∷ xs) l = both (x == c) (list_all (λ z. not (z == c)) xs) (false_from_ne_true (x == c) (λ e. l.0 (eqb-true x c e))) (all_but c xs l.1)
   where
     both : (a b : Bool) → a ≡ false → b ≡ true → (not a && b) ≡ true
     both true b e f = cc

@@ -17,12 +17,12 @@ use Rattle.rn_modset.proofs.BundleFaults.NextLine.{ended, IsKind, IsVerdict, Kin
 use Rattle.std.proofs.lemmas.Bool.{or_left, or_right}
 
 -- of two fronts of one list of bytes one goes on to the other
-pub record GoesOn (ms ns : List Member) (x y : List ℕ) : Type 0 where
+pub record Continues (ms ns : List Member) (x y : List ℕ) : Type 0 where
   pub rest : List Member
   pub whole : ns ≡ ms ++ rest
   pub left : x ≡ entries rest ++ y
 
-one_way : (ms ns : List Member) (x y : List ℕ) → All IsWithinLimits ms → All IsWithinLimits ns → entries ms ++ x ≡ entries ns ++ y → GoesOn ms ns x y ⊎ GoesOn ns ms y x
+one_way : (ms ns : List Member) (x y : List ℕ) → All IsWithinLimits ms → All IsWithinLimits ns → entries ms ++ x ≡ entries ns ++ y → Continues ms ns x y ⊎ Continues ns ms y x
 one_way [] ns x y g h e = inl (record { rest = ns; whole = refl; left = e })
 one_way (m ∷ ms) [] x y g h e = inr (record { rest = m ∷ ms; whole = refl; left = sym e })
 one_way (m ∷ ms) (n ∷ ns) x y g h e =

@@ -19,7 +19,7 @@ use Rattle.rn_modset.proofs.Ordered.SearchedPlaces.{rise_at}
 use Rattle.rn_modset.proofs.Ordered.ProgramOrder.{same_order}
 use Rattle.rn_modset.specs.contracts.contribution.ContributionOrd.TheImpl.{ghosts}
 use Rattle.std.specs.Ordering.{is_lt}
-use Rattle.rn_modset.proofs.Truths.{or_associates}
+use Rattle.std.proofs.Math.Bool.{or_assoc}
 
 all_push : (P : Member → Type 0) (ms : List Member) (m : Member) → AllByRecursion P ms → P m → AllByRecursion P (ms ++ m ∷ [])
 all_push P [] m a p = (p, tt)
@@ -83,7 +83,7 @@ any_push [] m = or_false (is_withdrawal m)
     or_false : (b : Bool) → (b || false) ≡ b
     or_false true = refl
     or_false false = refl
-any_push (x ∷ ms) m = ap (λ b. is_withdrawal x || b) (any_push ms m) ∙ sym (or_associates (is_withdrawal x) (has_withdrawal ms) (is_withdrawal m))
+any_push (x ∷ ms) m = ap (λ b. is_withdrawal x || b) (any_push ms m) ∙ sym (or_assoc (is_withdrawal x) (has_withdrawal ms) (is_withdrawal m))
 
 version_push : (w a b : Bool) → (a ≡ true → w ≡ true) → (b ≡ true → w ≡ true) → (a || b) ≡ true → w ≡ true
 version_push w true b f g e = f refl

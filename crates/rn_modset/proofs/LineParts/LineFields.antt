@@ -6,7 +6,7 @@ use Rattle.std.specs.Char.{is_ascii_digit}
 use Rattle.std.proofs.lemmas.Fmt.{digits_decimal}
 use Rattle.hex.specs.Hex.{encode_with, lower_digits}
 use Rattle.rn_modset.proofs.Numerals.DecimalNumbers.{own}
-use Rattle.rn_modset.proofs.Truths.{first_of_both, second_of_both, not_both}
+use Rattle.rn_modset.proofs.TestAnswers.TruthValues.{first_of_both, second_of_both, not_both}
 use Rattle.rn_modset.specs.Contributions.{is_name_byte, is_module_name}
 
 -- no element is c

@@ -10,7 +10,7 @@ use Rattle.std.proofs.lemmas.Str.Parse.{digit_from_value, numerals_by_value, tel
 use Rattle.std.proofs.lemmas.Fmt.{decimal_is_IsNumeral, decimal-digits_value, decimal_digit, first_decimal}
 use Rattle.hex.specs.Hex.{encode_with, lower_digits}
 use Rattle.rn_modset.specs.Grammar.{IsDigit, DigitsGoOn, IsNumber, IsHexDigit, SpellsBytes}
-use Rattle.rn_modset.proofs.Truths.{first_of_both, second_of_both}
+use Rattle.rn_modset.proofs.TestAnswers.TruthValues.{first_of_both, second_of_both}
 
 digit_is : (c n : ℕ) → IsDigit c n → digit_value c ≡ n
 digit_is c n d = omega (arith, d.0, d.1, digit_value_digit c (omega (arith, d.0, d.1), omega (arith, d.0, d.1)))

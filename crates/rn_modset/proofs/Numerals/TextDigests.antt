@@ -13,7 +13,7 @@ use Rattle.rn_modset.specs.Digests.{text_digest}
 use Rattle.rn_modset.specs.Bundles.{digest}
 use Rattle.rn_modset.specs.Grammar.{IsDigest, is_lower_hex}
 use Rattle.rn_modset.proofs.Ordered.SearchedPlaces.{map_insert}
-use Rattle.rn_modset.proofs.Truths.{first_of_both, second_of_both}
+use Rattle.rn_modset.proofs.TestAnswers.TruthValues.{first_of_both, second_of_both}
 
 length-digest_bytes : (h : List ℕ) (n : ℕ) → length (digest_bytes h n) ≡ n * 4
 unfolding digest_bytes

@@ -9,7 +9,7 @@ use Rattle.std.specs.List.Sorted.{IsStrictlySortedBy}
 use Rattle.std.specs.BTreeSet.{insert_key}
 use Rattle.std.proofs.lemmas.Cmp.{alike_right, tied_itself}
 use Rattle.std.proofs.lemmas.Bool.{or_left, or_from}
-use Rattle.rn_modset.proofs.Truths.{less_not_equal, greater_not_equal}
+use Rattle.rn_modset.proofs.TestAnswers.Orderings.{less_not_equal, greater_not_equal}
 
 or_absorbs : (a b c : Bool) → a ≡ b → (b || c) ≡ (a || (b || c))
 or_absorbs true true c e = refl

@@ -17,7 +17,7 @@ use Rattle.rn_modset.proofs.Ordered.MemberOrder.{members_total}
 use Rattle.rn_modset.proofs.Ordered.ProgramOrder.{same_order}
 use Rattle.rn_modset.proofs.Ordered.RisingLists.{insert_at}
 use Rattle.std.proofs.lemmas.Bool.{or_left, or_right}
-use Rattle.rn_modset.proofs.Truths.{greater_not_less}
+use Rattle.rn_modset.proofs.TestAnswers.Orderings.{greater_not_less}
 
 pub reads_map : (cs : List Contribution) (j : ℕ) (d : Member) (e : Contribution) → j < length cs → get_or (map member cs) j d ≡ member (get_or cs j e)
 reads_map [] j d e h = absurd (omega arith)

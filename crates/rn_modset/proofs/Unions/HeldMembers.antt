@@ -9,7 +9,7 @@ use Rattle.rn_modset.proofs.Ordered.MemberOrder.{members_total, members_same}
 use Rattle.rn_modset.proofs.Unions.Membership.{in_from_has, has_from_in, in_from_contains, contains_from_in}
 use Rattle.rn_modset.proofs.Unions.UnionMembers.{has_with, has_union}
 use Rattle.std.proofs.lemmas.Bool.{or_left, or_right, or_cases}
-use Rattle.rn_modset.proofs.Truths.{tied}
+use Rattle.rn_modset.proofs.TestAnswers.Orderings.{tied}
 
 -- the test of a set is the containing
 contains_from_has : (s : List Member) (m : Member) → has s m ≡ true → Contains s m

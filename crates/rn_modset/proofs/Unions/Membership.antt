@@ -10,7 +10,7 @@ use Rattle.rn_modset.specs.Contributions.{Member, member_cmp}
 use Rattle.rn_modset.specs.Sets.{has}
 use Rattle.rn_modset.proofs.Ordered.MemberOrder.{members_total, members_same}
 use Rattle.std.proofs.lemmas.Bool.{or_left, or_right, or_cases}
-use Rattle.rn_modset.proofs.Truths.{tied}
+use Rattle.rn_modset.proofs.TestAnswers.Orderings.{tied}
 
 -- q is an element
 abbrev pub In : {X : Type 0} → X → List X → Type 0

@@ -10,11 +10,14 @@ use Rattle.std.proofs.lemmas.Cmp.{tied_back, tied_itself}
 use Rattle.std.proofs.lemmas.List.{append-nil, same_from_push}
 use Rattle.rn_modset.specs.declared.contribution.Contribution.{Contribution}
 use Rattle.rn_modset.specs.Contributions.{Member, member, members_of, member_cmp}
-use Rattle.rn_modset.specs.Sets.{Rises, has, union, missing}
-use Rattle.rn_modset.specs.inside.Merges.{KeepsFrom, AreApart, AreBelow, EndsAbove, TakesGreatest}
+use Rattle.rn_modset.specs.Sets.{Rises, has, union}
+use Rattle.rn_modset.specs.inside.Merges.{missing, KeepsFrom, AreApart, AreBelow, EndsAbove, TakesGreatest}
 use Rattle.rn_modset.proofs.Ordered.MemberOrder.{members_total, members_same}
 use Rattle.rn_modset.proofs.Unions.Membership.{In, in_left, in_right, in_append, all_in, all_by_in, below_in, above_in, in_from_has, has_from_in}
-use Rattle.rn_modset.proofs.Truths.{else_false, not_both, tied, or_associates}
+use Rattle.std.proofs.Math.Bool.{or_assoc}
+use Rattle.std.proofs.lemmas.Bool.{false_from_ne_true}
+use Rattle.rn_modset.proofs.TestAnswers.Orderings.{tied}
+use Rattle.rn_modset.proofs.TestAnswers.TruthValues.{not_both}
 use Rattle.rn_modset.proofs.Ordered.RisingLists.{all_through, lacks_below, one_list, turned}
 use Rattle.rn_modset.proofs.Unions.UnionMembers.{has_union, rises_union}
 use Rattle.rn_modset.proofs.EffectiveModules.SlicePlaces.{IsHeldAt, slice_front_more, slice_back_more, split_at}
@@ -147,7 +150,7 @@ ends_none s = (λ e. refl, λ front m e. tt)
 
 has_append : (xs ys : List Member) (q : Member) → has (xs ++ ys) q ≡ (has xs q || has ys q)
 has_append [] ys q = refl
-has_append (x ∷ xs) ys q = ap (λ b. is_eq (member_cmp q x) || b) (has_append xs ys q) ∙ sym (or_associates (is_eq (member_cmp q x)) (has xs q) (has ys q))
+has_append (x ∷ xs) ys q = ap (λ b. is_eq (member_cmp q x) || b) (has_append xs ys q) ∙ sym (or_assoc (is_eq (member_cmp q x)) (has xs q) (has ys q))
 
 rises_append : (xs ys : List Member) → Rises xs → Rises ys → ((x y : Member) → In x xs → In y ys → member_cmp x y ≡ Less) → Rises (xs ++ ys)
 unfolding IsStrictlySortedBy
@@ -260,4 +263,4 @@ pub rises_missing : (s t : List Member) → Rises t → Rises (missing s t)
 rises_missing s t r = rises_filter (λ m. not (has s m)) t r
 
 pub missing_apart : (s t : List Member) → AreApart s (missing s t)
-missing_apart s t = λ q h. else_false (has (missing s t) q) (λ k. not_both (has s q) (in_filter (λ m. not (has s m)) t q (in_from_has (missing s t) q k)) h)
+missing_apart s t = λ q h. false_from_ne_true (has (missing s t) q) (λ k. not_both (has s q) (in_filter (λ m. not (has s m)) t q (in_from_has (missing s t) q k)) h)

@@ -8,7 +8,7 @@ use Rattle.rn_modset.specs.Laws.{AreUnionLaws, AreCallLaws, Call, added, joined,
 use Rattle.rn_modset.proofs.Ordered.MemberOrder.{members_total, members_same}
 use Rattle.rn_modset.proofs.Ordered.RisingLists.{one_list}
 use Rattle.rn_modset.proofs.Unions.UnionMembers.{has_union, rises_union}
-use Rattle.rn_modset.proofs.Truths.{or_associates}
+use Rattle.std.proofs.Math.Bool.{or_assoc}
 
 or_commutes : (a b : Bool) → (a || b) ≡ (b || a)
 or_commutes true true = refl
@@ -33,7 +33,7 @@ union_laws = record {
   commutes = λ s t h k. one_set (union s t) (union t s) (rises_union s t h.rises) (rises_union t s k.rises)
       (λ q. has_union s t q ∙ or_commutes (has s q) (has t q) ∙ sym (has_union t s q));
   associates = λ s t u h k l. one_set (union (union s t) u) (union s (union t u)) (rises_union (union s t) u (rises_union s t h.rises)) (rises_union s (union t u) h.rises)
-      (λ q. has_union (union s t) u q ∙ ap (λ b. b || has u q) (has_union s t q) ∙ or_associates (has s q) (has t q) (has u q) ∙ ap (λ b. has s q || b) (sym (has_union t u q)) ∙ sym (has_union s (union t u) q));
+      (λ q. has_union (union s t) u q ∙ ap (λ b. b || has u q) (has_union s t q) ∙ or_assoc (has s q) (has t q) (has u q) ∙ ap (λ b. has s q || b) (sym (has_union t u q)) ∙ sym (has_union s (union t u) q));
   repeats = λ s h. one_set (union s s) s (rises_union s s h.rises) h.rises (λ q. has_union s s q ∙ or_repeats (has s q));
   begins = λ s h. one_set (union [] s) s (rises_union [] s rises_none) h.rises (λ q. has_union [] s q);
 }

@@ -18,7 +18,7 @@ IsDigested d = d.digest ≡ text_digest (member d.contribution)
 abbrev pub AreDigested : Members → Type 0
 AreDigested ms = ms.digests.items ≡ map text_digest (members_in ms)
 
--- there is room for n more
+-- there is room for n members more
 abbrev pub HasRoom : Members → ℕ → Type 0
 HasRoom ms n = (vec_len ms.contributions + n ≤ vec_capacity ms.contributions) × (vec_len ms.digests + n ≤ vec_capacity ms.digests)
 

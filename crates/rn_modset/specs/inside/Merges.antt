@@ -1,9 +1,13 @@
 -- Merging lists that rise.
-use Rattle.std.specs.Prelude.{◌≡◌, ◌≢◌, ◌⊎◌, true, false, List, [], ◌∷◌, ◌++◌}
-use Rattle.std.specs.List.{AllByRecursion}
+use Rattle.std.specs.Prelude.{◌≡◌, ◌≢◌, ◌⊎◌, true, false, not, List, [], ◌∷◌, ◌++◌}
+use Rattle.std.specs.List.{AllByRecursion, filter}
 use Rattle.std.specs.declared.cmp.Ordering.TheVariants.{Less}
 use Rattle.rn_modset.specs.Contributions.{Member, member_cmp}
 use Rattle.rn_modset.specs.Sets.{has}
+
+-- the members of t that s lacks
+abbrev pub missing : List Member → List Member → List Member
+missing s t = filter (λ m. not (has s m)) t
 
 -- the first of these, if there is one, is not below m
 abbrev pub IsNotBelow : List Member → Member → Type 0

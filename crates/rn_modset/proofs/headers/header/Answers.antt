@@ -2,7 +2,8 @@
 use Rattle.std.proofs.Common.{◌≡◌, ◌≢◌, sym, ◌∙◌, codes}
 use Rattle.std.specs.Cmp.Lexicographic.{same_text}
 use Rattle.rn_modset.proofs.LineParts.HeaderLines.{IsCut, no_name, bad_name, no_such_kind, text_by, withdrawal_by}
-use Rattle.rn_modset.proofs.Truths.{differs, other_text}
+use Rattle.rn_modset.proofs.TestAnswers.ComparedBytes.{other_text}
+use Rattle.rn_modset.proofs.TestAnswers.TruthValues.{differs}
 use Rattle.rn_modset.proofs.headers.header.Goals as goal
 use Rattle.rn_modset.proofs.headers.header.Goals.{else-eq-2-via-then-eq-2+else-withdrawals, else-eq-2-via-else-eq-2}
 

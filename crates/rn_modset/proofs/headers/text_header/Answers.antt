@@ -1,6 +1,6 @@
 -- The fields behind a text's name, cut at their spaces.
 use Rattle.std.proofs.Common.{rules, arith}
-use Rattle.rn_modset.proofs.Truths.{differs}
+use Rattle.rn_modset.proofs.TestAnswers.TruthValues.{differs}
 use Rattle.rn_modset.proofs.LineParts.HeaderLines.{AreCut, no_length, bad_revision, bad_length, bad_limits}
 use Rattle.rn_modset.proofs.headers.text_header.Goals as goal
 use Rattle.rn_modset.proofs.headers.text_header.Goals.{then-len-via-then-len, then-len-via-else-len+then-not-is_digest}

@@ -3,7 +3,7 @@ use Rattle.std.proofs.Common.{◌≡◌, ◌++◌, ◌∷◌, [], sym, ap, ◌�
 use Rattle.std.proofs.lemmas.List.{map_push}
 use Rattle.rn_modset.specs.Contributions.{member, members_of}
 use Rattle.rn_modset.specs.Digests.{text_digest}
-use Rattle.rn_modset.specs.Sets.{missing}
+use Rattle.rn_modset.specs.inside.Merges.{missing}
 use Rattle.rn_modset.proofs.Numerals.TextDigests.{on_ok, digest_at}
 use Rattle.rn_modset.proofs.Unions.MergedLists.{step_by, passed, counted}
 use Rattle.rn_modset.proofs.merging.copy_missing.Goals as goal

@@ -1,6 +1,6 @@
 use Rattle.std.proofs.Common.{◌≡◌, take, drop}
 use Rattle.rn_modset.specs.Contributions.{members_of}
-use Rattle.rn_modset.specs.Sets.{missing}
+use Rattle.rn_modset.specs.inside.Merges.{missing}
 use Rattle.rn_modset.specs.inside.Digested.{AreDigested}
 use Rattle.rn_modset.proofs.Unions.MergedLists.{IsAhead}
 use Rattle.rn_modset.proofs.merging.copy_missing.Given as goal

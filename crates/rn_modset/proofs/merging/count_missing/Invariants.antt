@@ -1,6 +1,6 @@
 use Rattle.std.proofs.Common.{◌≡◌, ◌≤◌, length, take, drop}
 use Rattle.rn_modset.specs.Contributions.{members_of}
-use Rattle.rn_modset.specs.Sets.{missing}
+use Rattle.rn_modset.specs.inside.Merges.{missing}
 use Rattle.rn_modset.proofs.Unions.MergedLists.{IsAhead}
 use Rattle.rn_modset.proofs.merging.count_missing.Given as goal
 

@@ -3,7 +3,8 @@ use Rattle.std.proofs.Common.{◌≡◌, ◌++◌, ◌∷◌, length, decimal, c
 use Rattle.std.proofs.lemmas.List.{length-map}
 use Rattle.rn_modset.specs.Contributions.{member, members_of}
 use Rattle.rn_modset.specs.Contributions.{has_withdrawal}
-use Rattle.rn_modset.proofs.Truths.{differs, other_by_not, same_truth, truth_itself, same_by_not}
+use Rattle.rn_modset.proofs.TestAnswers.ComparedBytes.{other_by_not, same_by_not}
+use Rattle.rn_modset.proofs.TestAnswers.TruthValues.{differs, same_truth, truth_itself}
 use Rattle.rn_modset.proofs.LineParts.HeaderLines.{end_cut, no_end}
 use Rattle.rn_modset.proofs.reading.is_end.Goals as goal
 

@@ -7,7 +7,7 @@ use Rattle.rn_modset.specs.Contributions.{members_of}
 use Rattle.rn_modset.specs.Modules.{AreEffective, IsFirstConflict, modules_of, module_of}
 use Rattle.rn_modset.specs.inside.Places.{IsFollowed, IsContradicted}
 use Rattle.rn_modset.specs.Sets.{Rises}
-use Rattle.rn_modset.proofs.Truths.{differs}
+use Rattle.rn_modset.proofs.TestAnswers.TruthValues.{differs}
 use Rattle.rn_modset.proofs.EffectiveModules.SetWalk.{walk_start}
 use Rattle.rn_modset.proofs.EffectiveModules.SlicePlaces.{IsHeldAt}
 use Rattle.rn_modset.proofs.EffectiveModules.WalkSteps.{step_on, step_conflict, step_text, step_withdrawal, walk_done}

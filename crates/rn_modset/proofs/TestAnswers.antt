@@ -1,0 +1,4 @@
+-- What the answers of tests and of comparisons say.
+pub mod TruthValues
+pub mod ComparedBytes
+pub mod Orderings
