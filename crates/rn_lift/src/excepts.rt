@@ -5,7 +5,7 @@ ghost use Rattle.std.specs.List.{list_any};
 use crate::body_chunks::{BodyChunks, Chunk};
 use crate::prefixes::Prefixes;
 use crate::scope_definitions::{Definition, Definitions, ScopedName};
-use rn_outline::{Method, Outline, Part, PartKind};
+use rn_outline::{Outline, OutlineMethod, Part, PartKind};
 use rn_plan::{LiftFault, LiftFaultKind, Plan, Unit, Units};
 use std::alloc::{AllocError, Global};
 use std::collections::BTreeSet;
@@ -346,7 +346,7 @@ fn is_data(kind: &PartKind, is_combined: bool) -> bool {
             method,
             only_data,
             ..
-        } => *only_data && !(is_combined && *method == Method::Interleave),
+        } => *only_data && !(is_combined && *method == OutlineMethod::Interleave),
         _ => false,
     }
 }

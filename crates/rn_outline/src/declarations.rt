@@ -3,7 +3,7 @@ ghost use Rattle.std.specs.Prelude.{◌<◌, ◌≤◌, length, IfOk, IfSome};
 ghost use Rattle.rn_text.specs.Reading.{Advanced};
 ghost use Rattle.rn_text.specs.inside.Reading.{Passed};
 
-use crate::file_parts::{Declaration, DeclarationKind, Span, Uri};
+use crate::file_parts::{DeclarationKind, OutlineDeclaration, OutlineUri, Span};
 use crate::outline_fault::Stop;
 use crate::signs::{Sign, Word, sign_at, span};
 use crate::skips::{literal_at, plain_assign, word};
@@ -14,7 +14,7 @@ use std::alloc::Global;
 pub(crate) fn declarations(
     alloc: Global,
     tokens: &[Token<'_>],
-) -> Result<(Vec<Declaration>, usize), Stop>
+) -> Result<(Vec<OutlineDeclaration>, usize), Stop>
     ensures { IfOk result (λ r. r.1 ≤ length tokens.now) }
 {
     let mut declarations = Vec::new(alloc);
@@ -49,7 +49,7 @@ fn declaration(
     at: usize,
     kind: DeclarationKind,
     behind: usize,
-) -> Result<(Declaration, usize), Stop>
+) -> Result<(OutlineDeclaration, usize), Stop>
     requires { Advanced at behind (length tokens.now) }
     ensures { IfOk result (λ r. Advanced at r.1 (length tokens.now)) }
 {
@@ -57,7 +57,7 @@ fn declaration(
     let value = plain_assign(tokens, equals)?;
     let (uri, end) = uri(alloc, tokens, value, kind)?;
     let at = span(tokens, at, end);
-    let declaration = Declaration {
+    let declaration = OutlineDeclaration {
         kind,
         prefix,
         uri,
@@ -90,15 +90,15 @@ fn uri(
     tokens: &[Token<'_>],
     at: usize,
     kind: DeclarationKind,
-) -> Result<(Uri, usize), Stop>
+) -> Result<(OutlineUri, usize), Stop>
     requires { at ≤ length tokens.now }
     ensures { IfOk result (λ r. Advanced at r.1 (length tokens.now)) }
 {
     if let Sign::Word(Word::Inherit) = sign_at(tokens, at) {
         if kind != DeclarationKind::Datatypes {
-            return Ok((Uri::Inherited, at + 1));
+            return Ok((OutlineUri::Inherited, at + 1));
         }
     }
     let (text, _, end) = literal_at(alloc, tokens, at)?;
-    Ok((Uri::Literal(text), end))
+    Ok((OutlineUri::Literal(text), end))
 }

@@ -27,9 +27,10 @@ pub struct Span {
     pub to: usize,
 }
 
-/// How a definition is combined with others of its name (RELAX NG 2001, 4.17): `=`, `|=`, `&=`.
+/// How a definition is combined with others of its name (RELAX NG 2001, 4.17): `=`, `|=`, `&=`. rn_syntax's `Method` is that of
+/// a module's tree; this one is of files that may be no modules yet, and whose reader stands on rn_text alone.
 #[derive(Clone, Copy, Debug, PartialEq, Eq)]
-pub enum Method {
+pub enum OutlineMethod {
     /// `=`
     Plain,
     /// `|=`
@@ -49,25 +50,26 @@ pub enum DeclarationKind {
     Datatypes,
 }
 
-/// What a declaration binds its prefix to.
+/// What a declaration binds its prefix to. Unlike rn_syntax's `Uri`, which may borrow its text from the source, it owns it.
 #[derive(Debug, Drop, PartialEq, Eq)]
-pub enum Uri {
+pub enum OutlineUri {
     /// The text of the literal, its segments put together.
     Literal(String),
     /// `inherit`: what is handed to the file.
     Inherited,
 }
 
-/// A declaration (compact syntax, section 2, decl). Whether its prefix is bound twice, or may be
-/// bound at all, is not looked at here.
+/// A declaration (compact syntax, section 2, decl) by the bytes that it takes, so that it can be cut out of its text, where
+/// rn_syntax's `Declaration` has names and the places that faults name. Whether its prefix is bound twice, or may be bound at
+/// all, is not looked at here.
 #[derive(Debug, Drop, PartialEq, Eq)]
-pub struct Declaration {
+pub struct OutlineDeclaration {
     /// By its keywords.
     pub kind: DeclarationKind,
     /// The token that is the prefix; `None` for a default namespace without one.
     pub prefix: Option<Span>,
     /// What it is bound to.
-    pub uri: Uri,
+    pub uri: OutlineUri,
     /// From the first keyword to the end of the literal or of `inherit`.
     pub at: Span,
 }
@@ -96,7 +98,7 @@ pub enum PartKind {
         /// The token that is its name.
         name: Span,
         /// How it is combined.
-        method: Method,
+        method: OutlineMethod,
         /// Its pattern, with annotations.
         body: Span,
         /// Of an override, the number of the part that is its include (4.7).
@@ -111,7 +113,7 @@ pub enum PartKind {
         /// The token `start`.
         word: Span,
         /// How it is combined.
-        method: Method,
+        method: OutlineMethod,
         /// Its pattern, with annotations.
         body: Span,
         /// Of an override, the number of the part that is its include (4.7).
@@ -162,7 +164,7 @@ pub struct Outline {
     /// Whether it is a grammar.
     pub shape: Shape,
     /// In the order of the text.
-    pub declarations: Vec<Declaration>,
+    pub declarations: Vec<OutlineDeclaration>,
     /// What stands behind the declarations.
     pub body: Span,
     /// In the order in which they begin.

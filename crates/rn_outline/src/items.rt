@@ -2,7 +2,7 @@
 ghost use Rattle.std.specs.Prelude.{◌<◌, ◌≤◌, ◌+◌, length};
 ghost use Rattle.rn_text.specs.inside.Reading.{GoesPast};
 
-use crate::file_parts::{Method, PartKind};
+use crate::file_parts::{OutlineMethod, PartKind};
 use crate::outline_fault::Stop;
 use crate::outline_reader::{Frame, Mode, Reader};
 use crate::signs::{Sign, Word, end, sign_at, span};
@@ -48,7 +48,12 @@ fn named_item(reader: &mut Reader, tokens: &[Token<'_>], at: usize) -> Result<us
     }
 }
 
-fn define(reader: &mut Reader, tokens: &[Token<'_>], at: usize, method: Method) -> Result<(), Stop>
+fn define(
+    reader: &mut Reader,
+    tokens: &[Token<'_>],
+    at: usize,
+    method: OutlineMethod,
+) -> Result<(), Stop>
     requires { at + 1 < length tokens.now }
 {
     let name = span(tokens, at, at + 1);

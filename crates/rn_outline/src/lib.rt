@@ -17,8 +17,8 @@ mod skips;
 
 pub use annotations::annotation_end;
 pub use file_parts::{
-    Declaration, DeclarationKind, Method, Outline, Part, PartKind, Shape, Span, Uri, is_link,
-    name_in, unquoted_name,
+    DeclarationKind, Outline, OutlineDeclaration, OutlineMethod, OutlineUri, Part, PartKind, Shape,
+    Span, is_link, name_in, unquoted_name,
 };
 pub use grouped::Grouped;
 pub use outline::{MAX_OPEN, read_outline};

@@ -5,7 +5,7 @@ ghost use Rattle.rn_outline.specs.Outlines.{IsOutline};
 ghost use Rattle.rn_outline.specs.Spans.{AreApart, AreInOrder};
 
 use crate::declarations::declarations;
-use crate::file_parts::{Method, Outline, Part, PartKind, Shape, Span};
+use crate::file_parts::{Outline, OutlineMethod, Part, PartKind, Shape, Span};
 use crate::items::item;
 use crate::operands::{behind_operand, operand};
 use crate::outline_fault::{OutlineFault, Stop};
@@ -123,7 +123,7 @@ fn begin_pattern(reader: &mut Reader, at: Span) -> Result<(), Stop> {
             from: at.from,
             to: at.from,
         },
-        method: Method::Plain,
+        method: OutlineMethod::Plain,
         body: at,
         within: None,
         only_data: true,

@@ -2,7 +2,7 @@
 ghost use Rattle.std.specs.Prelude.{length};
 ghost use Rattle.rn_outline.specs.inside.Signs.{IsInside};
 
-use crate::file_parts::{Method, Span};
+use crate::file_parts::{OutlineMethod, Span};
 use rn_text::{Keyword, Kind, Token, keyword_of};
 
 /// A keyword, by what follows it.
@@ -29,6 +29,8 @@ pub(crate) enum Word {
     Start,
 }
 
+/// A token by what an outline's reader does at it. Unlike rn_syntax's `Terminal` it has no text, and no case of its own for
+/// what is passed over alike.
 #[derive(Clone, Copy)]
 pub(crate) enum Sign {
     /// A name that is no keyword, or is quoted.
@@ -37,7 +39,7 @@ pub(crate) enum Sign {
     Prefixed,
     AnyOf,
     Segment,
-    Assign(Method),
+    Assign(OutlineMethod),
     Bar,
     /// `,`, `&`
     Join,
@@ -89,9 +91,9 @@ fn word_of(keyword: Keyword) -> Word {
 
 fn symbol(text: &str) -> Sign {
     match text.as_bytes() {
-        b"=" => Sign::Assign(Method::Plain),
-        b"|=" => Sign::Assign(Method::Choice),
-        b"&=" => Sign::Assign(Method::Interleave),
+        b"=" => Sign::Assign(OutlineMethod::Plain),
+        b"|=" => Sign::Assign(OutlineMethod::Choice),
+        b"&=" => Sign::Assign(OutlineMethod::Interleave),
         b"{" => Sign::LeftBrace,
         b"}" => Sign::RightBrace,
         b"(" => Sign::LeftParen,

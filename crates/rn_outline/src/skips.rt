@@ -3,7 +3,7 @@ ghost use Rattle.std.specs.Prelude.{◌<◌, ◌≤◌, length, IfOk, IsTrue};
 ghost use Rattle.rn_text.specs.Reading.{Advanced};
 ghost use Rattle.rn_text.specs.inside.Reading.{GoesPast, MayGoPast, Passed};
 
-use crate::file_parts::{Method, Span};
+use crate::file_parts::{OutlineMethod, Span};
 use crate::outline_fault::Stop;
 use crate::signs::{Sign, Word, sign_at, span};
 use rn_text::{Kind, Token, literal};
@@ -162,7 +162,7 @@ pub(crate) fn plain_assign(tokens: &[Token<'_>], at: usize) -> Result<usize, Sto
 {
     match sign_at(tokens, at) {
         Sign::Assign(method) => match method {
-            Method::Plain => Ok(at + 1),
+            OutlineMethod::Plain => Ok(at + 1),
             _ => Err(Stop::Stuck(at)),
         },
         _ => Err(Stop::Stuck(at)),

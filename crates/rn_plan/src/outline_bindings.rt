@@ -1,6 +1,6 @@
 // What the declarations of a file bind (compact syntax, section 2, decl).
 
-use rn_outline::{Declaration, DeclarationKind, Outline, Span, Uri, name_in};
+use rn_outline::{DeclarationKind, Outline, OutlineDeclaration, OutlineUri, Span, name_in};
 use rn_syntax::{XML_URI, XSD_URI};
 use std::alloc::{AllocError, Global};
 use std::collections::BTreeMap;
@@ -54,7 +54,7 @@ impl OutlineBindings {
         alloc: Global,
         text: &str,
         number: usize,
-        declaration: &Declaration,
+        declaration: &OutlineDeclaration,
     ) -> Result<(), AllocError> {
         if declaration.kind == DeclarationKind::Default && self.default.is_none() {
             self.default = Some(number);
@@ -105,7 +105,7 @@ impl OutlineBindings {
 /// What the declaration of this number binds to.
 fn declared_namespace(outline: &Outline, number: usize) -> Option<Namespace<'_>> {
     match &outline.declarations.get(number)?.uri {
-        Uri::Literal(uri) => Some(Namespace::Literal(uri.as_str())),
-        Uri::Inherited => Some(Namespace::Inherited),
+        OutlineUri::Literal(uri) => Some(Namespace::Literal(uri.as_str())),
+        OutlineUri::Inherited => Some(Namespace::Inherited),
     }
 }

@@ -5,7 +5,7 @@ use crate::further_refusals::{FurtherRefusal, RefusalKind, has_method};
 use crate::report::Page;
 use crate::sites::{Site, Sites, include_around};
 use rn_lift::Lifted;
-use rn_outline::Method;
+use rn_outline::OutlineMethod;
 use std::alloc::{AllocError, Global};
 use std::collections::BTreeMap;
 
@@ -111,9 +111,11 @@ fn with_plain_ones<'v>(
 ) -> Result<Finding<'v>, AllocError> {
     let mut finding = finding;
     let found = brought_definitions_of(telling, key)?;
-    let mut plain = found
-        .iter()
-        .filter(|one| has_method(telling.sites, one.site, Method::Plain));
+    let mut plain = found.iter().filter(|one| has_method(
+        telling.sites,
+        one.site,
+        OutlineMethod::Plain,
+    ));
     if let (Some(first), Some(second)) = (plain.next(), plain.next()) {
         finding.here = Some(first.site);
         if first.site != second.site {
@@ -131,7 +133,11 @@ fn with_plain_ones<'v>(
 }
 
 /// The first definition of those by the method.
-fn first_by(telling: &Telling<'_>, found: &[BroughtDefinition], method: Method) -> Option<Site> {
+fn first_by(
+    telling: &Telling<'_>,
+    found: &[BroughtDefinition],
+    method: OutlineMethod,
+) -> Option<Site> {
     let one = found
         .iter()
         .find(|one| has_method(telling.sites, one.site, method))?;
@@ -146,8 +152,8 @@ fn with_both_methods<'v>(
 ) -> Result<Finding<'v>, AllocError> {
     let mut finding = finding;
     let found = brought_definitions_of(telling, key)?;
-    finding.here = first_by(telling, found.as_slice(), Method::Choice);
-    finding.there = first_by(telling, found.as_slice(), Method::Interleave);
+    finding.here = first_by(telling, found.as_slice(), OutlineMethod::Choice);
+    finding.there = first_by(telling, found.as_slice(), OutlineMethod::Interleave);
     Ok(finding)
 }
 

@@ -3,7 +3,7 @@ use crate::brought::provided_keys;
 use crate::defined::{Defined, group_of, uses};
 use crate::sites::{Site, Sites, key_text, method_of};
 use rn_assemble::Refusal;
-use rn_outline::Method;
+use rn_outline::OutlineMethod;
 use std::alloc::{AllocError, Global};
 
 /// The kind of a refusal, in the order in which they are tested.
@@ -190,19 +190,21 @@ fn push_group<'v>(
     if is_plain_twice(sites, group) {
         found.push(of_key(RefusalKind::PlainTwice, key))?;
     }
-    if has_any(sites, group, Method::Choice) && has_any(sites, group, Method::Interleave) {
+    if has_any(sites, group, OutlineMethod::Choice)
+        && has_any(sites, group, OutlineMethod::Interleave)
+    {
         found.push(of_key(RefusalKind::MixedMethods, key))?;
     }
     Ok(())
 }
 
 /// Whether the definition at a site is combined so.
-pub fn has_method(sites: &Sites<'_>, site: Site, method: Method) -> bool {
+pub fn has_method(sites: &Sites<'_>, site: Site, method: OutlineMethod) -> bool {
     sites.part(site).and_then(method_of) == Some(method)
 }
 
 /// Whether one of the definitions is combined so.
-fn has_any(sites: &Sites<'_>, group: &[Defined<'_>], method: Method) -> bool {
+fn has_any(sites: &Sites<'_>, group: &[Defined<'_>], method: OutlineMethod) -> bool {
     group.iter().any(|one| has_method(sites, one.site, method))
 }
 
@@ -210,7 +212,7 @@ fn has_any(sites: &Sites<'_>, group: &[Defined<'_>], method: Method) -> bool {
 fn is_plain_twice(sites: &Sites<'_>, group: &[Defined<'_>]) -> bool {
     let mut plain = group
         .iter()
-        .filter(|one| has_method(sites, one.site, Method::Plain));
+        .filter(|one| has_method(sites, one.site, OutlineMethod::Plain));
     match (plain.next(), plain.next()) {
         (Some(one), None) => one.is_repeated,
         (first, _) => first.is_some(),

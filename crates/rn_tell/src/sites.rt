@@ -2,7 +2,7 @@
 use crate::report::Spot;
 use rn_assemble::Key;
 use rn_lift::Lifted;
-use rn_outline::{Method, Part, PartKind, name_in, read_outline};
+use rn_outline::{OutlineMethod, Part, PartKind, name_in, read_outline};
 use rn_text::{Kind, Token, tokens};
 use std::alloc::{AllocError, Global};
 
@@ -64,7 +64,7 @@ pub fn key_of<'a>(text: &'a str, part: &Part) -> Option<&'a str> {
 }
 
 /// How a definition is combined.
-pub fn method_of(part: &Part) -> Option<Method> {
+pub fn method_of(part: &Part) -> Option<OutlineMethod> {
     match &part.kind {
         PartKind::Define { method, .. } | PartKind::Start { method, .. } => Some(*method),
         _ => None,
