@@ -1,7 +1,7 @@
 // A module's declarations under the namespace that it inherits.
 ghost use Rattle.std.specs.Prelude.{◌≡◌, ◌<◌, [], length, unwrap_or};
 ghost use Rattle.std.specs.Rc.{rc_str_bytes};
-ghost use Rattle.rn_syntax.specs.Bound.{bound};
+ghost use Rattle.rn_syntax.specs.BindingDeclarations.{bound};
 ghost use Rattle.rn_syntax.specs.Places as places;
 ghost use Rattle.rn_syntax.specs.Places.{uri_at};
 ghost use Rattle.rn_syntax.specs.View.{prefix_view};

@@ -1,6 +1,6 @@
 // The URIs of a module's declarations. Each is copied once, and shared by all that is resolved by it.
 ghost use Rattle.std.specs.Prelude.{◌≡◌, map, IfOk};
-ghost use Rattle.rn_syntax.specs.Bound.{bound};
+ghost use Rattle.rn_syntax.specs.BindingDeclarations.{bound};
 ghost use Rattle.rn_syntax.specs.Places.{uri_of};
 ghost use Rattle.rn_syntax.specs.View.{declaration_view, uri_view};
 ghost use Rattle.rn_assemble.specs.inside.Shared.{shared_uri};

@@ -1,15 +1,14 @@
 -- The faults of a module that the grammar leaves open, each kind over the whole module and at its first place (compact syntax,
 -- section 2; RELAX NG 2001, 7.1.4).
-use Rattle.std.specs.Prelude.{◌≡◌, ◌<◌, ℕ, List, [], map, Option, Some, None, MatchOption, codes}
+use Rattle.std.specs.Prelude.{◌≡◌, ◌<◌, ℕ, List, [], Option, Some, None, MatchOption, codes}
 use Rattle.rn_text.specs.declared.source.Token.{Token}
-use Rattle.rn_text.specs.Tokens.{lexeme_of}
 use Rattle.rn_syntax.specs.declared.fault.FaultKind.{FaultKind}
 use Rattle.rn_syntax.specs.declared.fault.FaultKind.TheVariants as kind
 use Rattle.rn_syntax.specs.declared.fault.SyntaxFault.{SyntaxFault}
 use Rattle.rn_syntax.specs.declared.fault.SyntaxFault.TheVariants.{Deep, Syntax, Prefix, Builtin, ContextValue, Except, Memory}
 use Rattle.rn_syntax.specs.Tree.{Module}
 use Rattle.rn_syntax.specs.Grammar.{Tokens}
-use Rattle.rn_syntax.specs.Tokens.{terminals}
+use Rattle.rn_syntax.specs.Tokens.{terminals_of}
 use Rattle.rn_syntax.specs.Beginnings.{HasTree, Stops}
 use Rattle.rn_syntax.specs.Spelled.{AreSpelled, BeginAt}
 use Rattle.rn_syntax.specs.Places.{deep, first, prefix_places, builtin_places, context_places, except_places}
@@ -71,19 +70,19 @@ HasModuleFault m e = MatchOption (kind_and_place e) ⊥ (λ k. IsFirstOfKinds m 
 
 -- the tokens are this module, no bracket of theirs is too many, and no fault stands
 abbrev pub IsSound : List Token → Module → Type 0
-IsSound xs m = (deep 0 (terminals (map lexeme_of xs)) ≡ None) × HasTree (terminals (map lexeme_of xs)) m × HasNoFault m
+IsSound xs m = (deep 0 (terminals_of xs) ≡ None) × HasTree (terminals_of xs) m × HasNoFault m
 
 -- the tokens before this place begin a module, and with the one there none begins
 abbrev pub StopsAt : List Token → ℕ → Type 0
-StopsAt xs at = (bad : Tokens) × Stops (terminals (map lexeme_of xs)) bad × BeginAt xs bad at
+StopsAt xs at = (bad : Tokens) × Stops (terminals_of xs) bad × BeginAt xs bad at
 
 -- no bracket is too many, and the tree of the tokens has the fault
 abbrev pub IsFaultOfTree : List Token → SyntaxFault → Type 0
-IsFaultOfTree xs e = (deep 0 (terminals (map lexeme_of xs)) ≡ None) × (m : Module) × (AreSpelled xs → HasTree (terminals (map lexeme_of xs)) m) × HasModuleFault m e
+IsFaultOfTree xs e = (deep 0 (terminals_of xs) ≡ None) × (m : Module) × (AreSpelled xs → HasTree (terminals_of xs) m) × HasModuleFault m e
 
 -- this is the fault of the tokens, of which Deep comes first, and then Syntax
 abbrev pub IsFault : List Token → SyntaxFault → Type 0
-IsFault xs (Deep at) = deep 0 (terminals (map lexeme_of xs)) ≡ Some at
+IsFault xs (Deep at) = deep 0 (terminals_of xs) ≡ Some at
 IsFault xs Memory = Unit {0}
-IsFault xs (Syntax at) = (deep 0 (terminals (map lexeme_of xs)) ≡ None) × (AreSpelled xs → StopsAt xs at)
+IsFault xs (Syntax at) = (deep 0 (terminals_of xs) ≡ None) × (AreSpelled xs → StopsAt xs at)
 IsFault xs e = IsFaultOfTree xs e

@@ -1,12 +1,10 @@
 // What the declarations of a module bind.
 ghost use Rattle.std.specs.Prelude.{◌≡◌, ◌<◌, ◌++◌, ◌∷◌, [], ℕ, List, length, Option, Some, None, is_some, MatchOption, ⊤, map, IfOk, option_map, ◌||◌, if◌then◌else◌};
-ghost use Rattle.std.specs.BTreeMap as tree;
-ghost use Rattle.rn_text.specs.Texts.{text_cmp};
 ghost use Rattle.rn_syntax.specs.Tree.{literal};
 ghost use Rattle.rn_syntax.specs.Places as places;
 ghost use Rattle.rn_syntax.specs.Places.{first};
 ghost use Rattle.rn_syntax.specs.View.{declaration_view, uri_view};
-ghost use Rattle.rn_syntax.specs.inside.Numbered.{is_prefix, library_text};
+ghost use Rattle.rn_syntax.specs.inside.Numbered.{AreNumbers, is_prefix, library_text, number_at, wrong_declaration};
 
 use crate::tree::{Declaration, Prefix, Uri};
 use std::alloc::{AllocError, Global};
@@ -27,12 +25,12 @@ pub struct Bindings<'m, 'a> {
     namespaces: BTreeMap<&'m str, usize>,
     libraries: BTreeMap<&'m str, usize>,
     ghost default_is: { default ≡ places.number_of places.is_default (map declaration_view declarations.now) },
-    ghost namespaces_are: { (p : List ℕ) → tree.get_by (λ k. text_cmp p k.now) namespaces ≡ places.number_of (places.binds_namespace p) (map declaration_view declarations.now) },
-    ghost libraries_are: { (p : List ℕ) → tree.get_by (λ k. text_cmp p k.now) libraries ≡ places.number_of (places.binds_library p) (map declaration_view declarations.now) },
+    ghost namespaces_are: { AreNumbers places.binds_namespace namespaces declarations.now },
+    ghost libraries_are: { AreNumbers places.binds_library libraries declarations.now },
 }
 
 impl<'m, 'a> Bindings<'m, 'a> {
-    ghost use Rattle.rn_syntax.specs.Bound.{bound};
+    ghost use Rattle.rn_syntax.specs.BindingDeclarations.{bound};
 
     /// What these declarations bind, whether they may bind it so or not. It fails only where memory is refused.
     pub fn new(alloc: Global, declarations: &'m [Declaration<'a>]) -> Result<Self, AllocError>
@@ -276,10 +274,8 @@ fn with_prefix<'m>(
     prefix: Option<&'m str>,
     number: usize,
 ) -> Result<BTreeMap<&'m str, usize>, AllocError>
-    ensures { IfOk result (λ m. (p : List ℕ)
-        → tree.get_by (λ k. text_cmp p k.now) m
-        ≡ (if is_some (tree.get_by (λ k. text_cmp p k.now) numbers.entry)
-        then tree.get_by (λ k. text_cmp p k.now) numbers.entry
+    ensures { IfOk result (λ m. (p : List ℕ) → number_at m p
+        ≡ (if is_some (number_at numbers.entry p) then number_at numbers.entry p
         else if is_prefix prefix.entry p then Some number else None)) }
 {
     let Some(prefix) = prefix else {
@@ -298,7 +294,7 @@ pub(crate) fn bind_all<'m, 'a>(
     declarations: &'m [Declaration<'a>],
 ) -> Result<(Bindings<'m, 'a>, Option<usize>), AllocError>
     ensures { IfOk result (λ r. (r.0.declarations.now ≡ declarations.now)
-        × (r.1 ≡ first (places.declarations_places [] (map declaration_view declarations.now)))) }
+        × (r.1 ≡ wrong_declaration (map declaration_view declarations.now))) }
 {
     let mut bindings = Bindings::of_none(alloc);
     let mut wrong = None;

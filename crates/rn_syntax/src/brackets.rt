@@ -1,12 +1,12 @@
 // How deep brackets nest.
-ghost use Rattle.std.specs.Prelude.{◌≡◌, ◌≤◌, ◌∷◌, ℕ, MatchOption, map};
+ghost use Rattle.std.specs.Prelude.{◌≡◌, ◌≤◌, ◌∷◌, ℕ, MatchOption};
 ghost use Rattle.rn_text.specs.Tokens.{lexeme_of};
 ghost use Rattle.rn_syntax.specs.Grammar as grammar;
 ghost use Rattle.rn_syntax.specs.Places.{deep, max_open};
 ghost use Rattle.rn_syntax.specs.inside.Reading.{seen};
 ghost use Rattle.rn_syntax.specs.Terminal as term;
 ghost use Rattle.rn_syntax.specs.Terminal.{◌#◌};
-ghost use Rattle.rn_syntax.specs.Tokens.{placed, terminals};
+ghost use Rattle.rn_syntax.specs.Tokens.{placed, terminals_of};
 
 use crate::terminals::{Terminal, symbol};
 use rn_text::{Kind, Token};
@@ -54,7 +54,7 @@ fn open_behind_token(depth: usize, token: Token<'_>) -> Option<usize>
 
 /// The place of the first bracket that is one too many.
 pub(crate) fn too_deep(tokens: &[Token<'_>]) -> Option<usize>
-    ensures { result ≡ deep 0 (terminals (map lexeme_of tokens.now)) }
+    ensures { result ≡ deep 0 (terminals_of tokens.now) }
 {
     let mut depth: usize = 0;
     'tokens: for token in tokens {

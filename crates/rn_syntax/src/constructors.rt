@@ -1,15 +1,15 @@
 // Patterns made by their readers, each in its box with the index behind it.
-ghost use Rattle.std.specs.Prelude.{◌≡◌, ◌++◌, ◌∷◌, [], Some, None, map, OnOk};
+ghost use Rattle.std.specs.Prelude.{Some, None};
 ghost use Rattle.std.specs.Cow.{cow_str_bytes};
 ghost use Rattle.rn_syntax.specs.inside.Reading.{Makes};
 ghost use Rattle.rn_syntax.specs.Tree as tree;
-ghost use Rattle.rn_syntax.specs.View.{boxed_class_view, boxed_view, datatype_view, params_view, pattern_view, patterns_view, type_view};
+ghost use Rattle.rn_syntax.specs.View.{boxed_class_view, boxed_view, datatype_view, params_view, patterns_view, type_view};
 
 use crate::boxes::boxed;
 use crate::fault::Fault;
 use crate::token::{Operator, Postfix};
 use crate::tree::{Data, Datatype, Nc, Param, Pat, Value};
-use std::alloc::{AllocError, Global};
+use std::alloc::Global;
 use std::borrow::CowStr;
 
 pub(crate) fn element<'a>(
@@ -182,16 +182,4 @@ pub(crate) fn chain<'a>(
         (patterns_view members.entry.items)) end result }
 {
     boxed(alloc, Pat::Chain(operator, members), end)
-}
-
-/// Adds a member to those of a chain, which lie side by side.
-pub(crate) fn push_member<'a>(
-    members: &mut Vec<Pat<'a>>,
-    member: Box<Pat<'a>>,
-) -> Result<(), AllocError>
-    ensures { OnOk result (map pattern_view members.new.items
-        ≡ map pattern_view members.old.items ++ boxed_view member.entry ∷ []) }
-{
-    members.push(Box::into_inner(member))?;
-    Ok(())
 }

@@ -1,6 +1,5 @@
 // Modules (compact syntax, section 2, topLevel).
 ghost use Rattle.std.specs.Prelude.{◌≤◌, ◌<◌, length, map, IfErr, IfOk};
-ghost use Rattle.rn_text.specs.Tokens.{lexeme_of};
 ghost use Rattle.rn_syntax.specs.Beginnings.{HasTree};
 ghost use Rattle.rn_syntax.specs.inside.Follow.{Starts, is_end};
 ghost use Rattle.rn_syntax.specs.inside.Itemizing.{AreAnnotatedItems};
@@ -8,7 +7,7 @@ ghost use Rattle.rn_syntax.specs.inside.Modular.{IsAnnotatedBody, IsBody, IsGram
 ghost use Rattle.rn_text.specs.inside.Reading.{MayGoOn};
 ghost use Rattle.rn_syntax.specs.inside.Reading.{Reads};
 ghost use Rattle.rn_syntax.specs.Spelled.{AreSpelled};
-ghost use Rattle.rn_syntax.specs.Tokens.{terminals};
+ghost use Rattle.rn_syntax.specs.Tokens.{terminals_of};
 ghost use Rattle.rn_syntax.specs.View.{item_view, module_view};
 
 use crate::annotations::{annotation, skip_follows};
@@ -23,15 +22,15 @@ use std::alloc::Global;
 /// `module = decl* item* | decl* [ann] "grammar" "{" item* "}" follow*`
 pub(crate) fn module<'a>(alloc: Global, tokens: &[Token<'a>]) -> Result<Module<'a>, Fault>
     ensures tree { IfOk result (λ m. AreSpelled tokens.now
-        → HasTree (terminals (map lexeme_of tokens.now)) (module_view m)) }
+        → HasTree (terminals_of tokens.now) (module_view m)) }
     ensures stuck { IfErr result (IsModuleFault tokens.now) }
 {
-    let (decls, at) = declarations(alloc, tokens)?;
+    let (declarations, at) = declarations(alloc, tokens)?;
     let (items, end) = body(alloc, tokens, at)?;
     if end < tokens.len() {
         return Err(Fault::Stuck(end));
     }
-    Ok(Module { decls, items })
+    Ok(Module { declarations, items })
 }
 
 /// `item* | [ann] "grammar" "{" item* "}" follow*`

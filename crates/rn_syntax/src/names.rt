@@ -1,15 +1,15 @@
 // Name classes (compact syntax, section 2, nameClass).
-ghost use Rattle.std.specs.Prelude.{◌≡◌, ◌≤◌, ◌<◌, ◌+◌, ◌++◌, ◌∷◌, [], length, map, false, IfSome, OnOk, MatchOption};
+ghost use Rattle.std.specs.Prelude.{◌≡◌, ◌≤◌, ◌<◌, ◌+◌, [], length, false, IfSome, MatchOption};
 ghost use Rattle.rn_syntax.specs.inside.Follow.{Starts, Anything, begins_any, behind_class, behind_name, first_terminal};
 ghost use Rattle.rn_syntax.specs.Grammar.{IsAnyName, IsClassCore, IsClassOperand, IsClassPrimary, IsNameClass};
 ghost use Rattle.rn_text.specs.inside.Reading.{GoesOn, MayGoOn};
 ghost use Rattle.rn_syntax.specs.inside.Reading.{Makes, Reads, rest};
 ghost use Rattle.rn_syntax.specs.inside.Sequence.{IsAnyClassEnd, IsClassEnd, IsHere};
 ghost use Rattle.rn_syntax.specs.Tree as tree;
-ghost use Rattle.rn_syntax.specs.View.{any_view, boxed_class_view, class_view, classes_view, name_view};
+ghost use Rattle.rn_syntax.specs.View.{any_view, boxed_class_view, classes_view, name_view};
 
 use crate::annotations::{skip_annotation, skip_follows};
-use crate::boxes::boxed;
+use crate::boxes::{boxed, push_member};
 use crate::fault::Fault;
 use crate::terminals::{
     Terminal, is_operator, keyword_text, local_name, next, place, prefix_name, right_paren,
@@ -17,7 +17,7 @@ use crate::terminals::{
 use crate::token::{Operator, Postfix};
 use crate::tree::{AnyName, Name, Nc, Prefix};
 use rn_text::Token;
-use std::alloc::{AllocError, Global};
+use std::alloc::Global;
 
 fn single_name(alloc: Global, name: Name<'_>, end: usize) -> Result<(Box<Nc<'_>>, usize), Fault>
     ensures { Makes boxed_class_view (tree.name (name_view name.entry)) end result }
@@ -51,15 +51,6 @@ fn choice<'a>(
     ensures { Makes boxed_class_view (tree.choice (classes_view members.entry.items)) end result }
 {
     boxed(alloc, Nc::Choice(members), end)
-}
-
-/// Adds a member to those of a choice, which lie side by side.
-fn push_member<'a>(members: &mut Vec<Nc<'a>>, member: Box<Nc<'a>>) -> Result<(), AllocError>
-    ensures { OnOk result (map class_view members.new.items
-        ≡ map class_view members.old.items ++ boxed_class_view member.entry ∷ []) }
-{
-    members.push(Box::into_inner(member))?;
-    Ok(())
 }
 
 /// `nc = ncoperand ( "|" ncoperand )*`

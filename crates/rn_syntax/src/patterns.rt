@@ -9,9 +9,10 @@ ghost use Rattle.rn_syntax.specs.Terminal as terminal;
 ghost use Rattle.rn_syntax.specs.View.{boxed_class_view, boxed_view, datatype_view, params_view};
 
 use crate::annotations::{skip_annotation, skip_follows};
+use crate::boxes::push_member;
 use crate::constructors::{
     attribute, chain, datum, datum_but, element, empty, list, mixed, not_allowed, plain_value,
-    push_member, reference, repeated, text, value,
+    reference, repeated, text, value,
 };
 use crate::datatypes::{datatype, params};
 use crate::fault::Fault;

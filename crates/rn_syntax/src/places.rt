@@ -1,7 +1,7 @@
 // The places in the patterns of a module that break a rule.
 ghost use Rattle.std.specs.Prelude.{◌≡◌};
 ghost use Rattle.std.specs.Cow.{cow_str_bytes};
-ghost use Rattle.rn_syntax.specs.Bound.{bound};
+ghost use Rattle.rn_syntax.specs.BindingDeclarations.{bound};
 ghost use Rattle.rn_syntax.specs.Places.{first};
 ghost use Rattle.rn_syntax.specs.inside.Rules as rules;
 ghost use Rattle.rn_syntax.specs.Tree as tree;

@@ -1,10 +1,10 @@
 // The module that tokens spell.
-ghost use Rattle.std.specs.Prelude.{◌≡◌, [], None, IfOk, IfErr, IsTrue, OnOk, MatchOption, map};
-ghost use Rattle.rn_text.specs.Tokens.{lexeme_of};
-ghost use Rattle.rn_syntax.specs.Tokens.{terminals};
-ghost use Rattle.rn_syntax.specs.Places.{deep, first, declarations_places, prefix_places, builtin_places, context_places, except_places};
+ghost use Rattle.std.specs.Prelude.{◌≡◌, [], None, IfOk, IfErr, IsTrue, OnOk, MatchOption};
+ghost use Rattle.rn_syntax.specs.Tokens.{terminals_of};
+ghost use Rattle.rn_syntax.specs.Places.{deep, first, prefix_places, builtin_places, context_places, except_places};
 ghost use Rattle.rn_syntax.specs.Beginnings.{HasTree};
 ghost use Rattle.rn_syntax.specs.Faults.{HasModuleFault, HasNoFault, IsFault};
+ghost use Rattle.rn_syntax.specs.inside.Numbered.{wrong_declaration};
 ghost use Rattle.rn_syntax.specs.inside.Stopping.{IsSyntax};
 ghost use Rattle.rn_syntax.specs.Spelled.{AreSpelled};
 ghost use Rattle.rn_syntax.specs.View.{module_view};
@@ -23,7 +23,7 @@ use std::alloc::{AllocError, Global};
 /// The module that the tokens are, by the grammar alone.
 fn tree<'a>(alloc: Global, tokens: &[Token<'a>]) -> Result<Module<'a>, SyntaxFault>
     ensures tree { IfOk result (λ m. AreSpelled tokens.now
-        → HasTree (terminals (map lexeme_of tokens.now)) (module_view m)) }
+        → HasTree (terminals_of tokens.now) (module_view m)) }
     ensures place { IfErr result (IsSyntax tokens.now) }
 {
     match module(alloc, tokens) {
@@ -37,9 +37,8 @@ fn tree<'a>(alloc: Global, tokens: &[Token<'a>]) -> Result<Module<'a>, SyntaxFau
 
 /// The place of the first unbound prefix in the items.
 fn prefix_place(bindings: &Bindings<'_, '_>, module: &Module<'_>) -> Option<usize>
-    requires bound { bindings.now.declarations.now ≡ «module».now.decls.items }
-    requires declared { first (declarations_places []
-        (module_view «module».now).declarations) ≡ None }
+    requires bound { bindings.now.declarations.now ≡ «module».now.declarations.items }
+    requires declared { wrong_declaration (module_view «module».now).declarations ≡ None }
     ensures { result ≡ first (prefix_places (module_view «module».now)) }
 {
     module_place(Rule::Prefixes, bindings, module)
@@ -47,7 +46,7 @@ fn prefix_place(bindings: &Bindings<'_, '_>, module: &Module<'_>) -> Option<usiz
 
 /// The place of the first type of the empty library that is none of it.
 fn builtin_place(bindings: &Bindings<'_, '_>, module: &Module<'_>) -> Option<usize>
-    requires { bindings.now.declarations.now ≡ «module».now.decls.items }
+    requires { bindings.now.declarations.now ≡ «module».now.declarations.items }
     ensures { result ≡ first (builtin_places (module_view «module».now)) }
 {
     module_place(Rule::Builtins, bindings, module)
@@ -55,7 +54,7 @@ fn builtin_place(bindings: &Bindings<'_, '_>, module: &Module<'_>) -> Option<usi
 
 /// The place of the first value of a type that looks at namespace bindings.
 fn context_value_place(bindings: &Bindings<'_, '_>, module: &Module<'_>) -> Option<usize>
-    requires { bindings.now.declarations.now ≡ «module».now.decls.items }
+    requires { bindings.now.declarations.now ≡ «module».now.declarations.items }
     ensures { result ≡ first (context_places (module_view «module».now)) }
 {
     module_place(Rule::ContextValues, bindings, module)
@@ -71,9 +70,8 @@ fn except_place(bindings: &Bindings<'_, '_>, module: &Module<'_>) -> Option<usiz
 
 /// Whether the items of a module are known to keep all rules, by one walk through them.
 fn keeps_rules(bindings: &Bindings<'_, '_>, module: &Module<'_>) -> bool
-    requires bound { bindings.now.declarations.now ≡ «module».now.decls.items }
-    requires declared { first (declarations_places []
-        (module_view «module».now).declarations) ≡ None }
+    requires bound { bindings.now.declarations.now ≡ «module».now.declarations.items }
+    requires declared { wrong_declaration (module_view «module».now).declarations ≡ None }
     ensures { IsTrue result → HasNoFault (module_view «module».now) }
 {
     match module_place(Rule::All, bindings, module) {
@@ -84,9 +82,8 @@ fn keeps_rules(bindings: &Bindings<'_, '_>, module: &Module<'_>) -> bool
 
 /// The first fault in the items of a module whose declarations are bound: one walk for each kind, in their order.
 fn items_fault(bindings: &Bindings<'_, '_>, module: &Module<'_>) -> Option<SyntaxFault>
-    requires bound { bindings.now.declarations.now ≡ «module».now.decls.items }
-    requires declared { first (declarations_places []
-        (module_view «module».now).declarations) ≡ None }
+    requires bound { bindings.now.declarations.now ≡ «module».now.declarations.items }
+    requires declared { wrong_declaration (module_view «module».now).declarations ≡ None }
     ensures { MatchOption result (HasNoFault (module_view «module».now))
         (HasModuleFault (module_view «module».now)) }
 {
@@ -112,9 +109,8 @@ fn bound_fault(
     wrong: Option<usize>,
     module: &Module<'_>,
 ) -> Option<SyntaxFault>
-    requires bound { bindings.now.declarations.now ≡ «module».now.decls.items }
-    requires wrong { wrong ≡ first (declarations_places []
-        (module_view «module».now).declarations) }
+    requires bound { bindings.now.declarations.now ≡ «module».now.declarations.items }
+    requires wrong { wrong ≡ wrong_declaration (module_view «module».now).declarations }
     ensures { MatchOption result (HasNoFault (module_view «module».now))
         (HasModuleFault (module_view «module».now)) }
 {
@@ -132,7 +128,7 @@ fn fault(alloc: Global, module: &Module<'_>) -> Result<Option<SyntaxFault>, Allo
     ensures { IfOk result (λ found. MatchOption found (HasNoFault (module_view «module».now))
         (HasModuleFault (module_view «module».now))) }
 {
-    let (bindings, wrong) = bind_all(alloc, &module.decls)?;
+    let (bindings, wrong) = bind_all(alloc, &module.declarations)?;
     Ok(bound_fault(&bindings, wrong, module))
 }
 
@@ -143,9 +139,9 @@ fn fault(alloc: Global, module: &Module<'_>) -> Result<Option<SyntaxFault>, Allo
 /// begin some module, and no module begins with them and the token there; where the place is the end of the last token, they are
 /// none. What is said of trees is so where each token is spelled as its kind says, as those of a source are.
 pub fn parse<'a>(alloc: Global, tokens: &[Token<'a>]) -> Result<Module<'a>, SyntaxFault>
-    ensures shallow { OnOk result (deep 0 (terminals (map lexeme_of tokens.now)) ≡ None) }
+    ensures shallow { OnOk result (deep 0 (terminals_of tokens.now) ≡ None) }
     ensures tree { IfOk result (λ m. AreSpelled tokens.now
-        → HasTree (terminals (map lexeme_of tokens.now)) (module_view m)) }
+        → HasTree (terminals_of tokens.now) (module_view m)) }
     ensures sound { IfOk result (λ m. HasNoFault (module_view m)) }
     ensures fault { IfErr result (IsFault tokens.now) }
 {

@@ -1,6 +1,6 @@
 // The rules on prefixes, datatypes and excepts.
 ghost use Rattle.std.specs.Prelude.{◌≡◌, [], not, true, false};
-ghost use Rattle.rn_syntax.specs.Bound.{bound};
+ghost use Rattle.rn_syntax.specs.BindingDeclarations.{bound};
 ghost use Rattle.rn_syntax.specs.Places as places;
 ghost use Rattle.rn_syntax.specs.Places.{first};
 ghost use Rattle.rn_syntax.specs.inside.Rules as rules;

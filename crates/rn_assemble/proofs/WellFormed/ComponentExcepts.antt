@@ -11,7 +11,7 @@ use Rattle.rn_syntax.specs.declared.token.Postfix.TheVariants as r
 use Rattle.rn_syntax.specs.Tree as t
 use Rattle.rn_syntax.specs.Tree.{Pattern, Patterns, Declaration, Item, Items}
 use Rattle.rn_syntax.specs.Places.{place_if, pattern_places, patterns_places, item_places, items_places, is_allowed, are_allowed, except_places}
-use Rattle.rn_syntax.proofs.Basics.EmptyLists.{nil_parts}
+use Rattle.rn_syntax.proofs.Lists.EmptyLists.{nil_parts}
 use Rattle.rn_assemble.specs.Resolve.{resolved_pattern, resolved_patterns}
 use Rattle.rn_assemble.specs.Components.{Component, NamedModule, has_key, handed_on, item_components, all_components, module_components, modules_named, components_within, components, instance_limit, roots, set_components, without_overridden}
 

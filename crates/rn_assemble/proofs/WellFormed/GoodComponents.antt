@@ -14,7 +14,7 @@ use Rattle.rn_syntax.specs.Tree as t
 use Rattle.rn_syntax.specs.Tree.{Declaration, Item, Items, Module}
 use Rattle.rn_syntax.specs.Places.{class_places, unbound_type, wrong_builtin, context_value, inherit_places, declarations_places, item_places, items_places, prefix_places, builtin_places, context_places, except_places}
 use Rattle.rn_syntax.specs.Faults.{kind_places}
-use Rattle.rn_syntax.proofs.Basics.EmptyLists.{nil_parts}
+use Rattle.rn_syntax.proofs.Lists.EmptyLists.{nil_parts}
 use Rattle.rn_syntax.proofs.FaultPlaces.FaultKinds.{each_empty}
 use Rattle.rn_assemble.specs.Components.{Component, NamedModule, has_key, handed_on, item_components, all_components, module_components, modules_named, components_within, components, instance_limit, roots, set_components, without_overridden}
 use Rattle.rn_assemble.specs.WritableTexts.{IsXml}

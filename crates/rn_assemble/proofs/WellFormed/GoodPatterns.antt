@@ -15,7 +15,7 @@ use Rattle.rn_syntax.specs.Tree as t
 use Rattle.rn_syntax.specs.Tree.{Name, Datatype, Params, AnyName, NameClass, NameClasses, Pattern, Patterns, Uri, Declaration}
 use Rattle.rn_syntax.specs.Places.{xml_uri, xsd_uri, declared_namespace, declared_library, library_of, place_if, has_any, is_library, unbound_type, wrong_builtin, context_value, pattern_places, patterns_places}
 use Rattle.rn_syntax.proofs.TokenKinds.PieceTokens.{ascii}
-use Rattle.rn_syntax.proofs.Basics.EmptyLists.{nil_parts}
+use Rattle.rn_syntax.proofs.Lists.EmptyLists.{nil_parts}
 use Rattle.rn_assemble.specs.Resolve.{uri_text, declared_text, default_of, namespace_of, resolved_class, resolved_classes, type_library, type_name, every_name, every_name_but, resolved_pattern, resolved_patterns}
 use Rattle.rn_assemble.specs.WritableTexts.{IsName, IsXml, AreParams, needs_context, IsType, string_type, token_type, library_type, IsData, bare, with_params, Free, IsWritableName, AreWritableNames, IsWritable, AreWritable}
 use Rattle.rn_assemble.proofs.WellFormed.Terminals.{xml_is, xml_nothing}

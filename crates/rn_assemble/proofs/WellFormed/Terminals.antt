@@ -14,7 +14,7 @@ use Rattle.rn_text.specs.Segments.{run_of, after_run, begins_with, escape_front,
 use Rattle.rn_text.specs.Parts.{spells, Piece, text_of, IsCut}
 use Rattle.rn_text.specs.Tokens.{Lexeme, HasTokens, width, unmarked, unmarked_start, has_mark}
 use Rattle.rn_text.proofs.Words.XmlNames.{ncname_xml}
-use Rattle.rn_text.proofs.Words.AppendedLists.{all_append}
+use Rattle.rn_text.proofs.Words.AppendedLists.{all_append, all_parts}
 use Rattle.rn_text.proofs.Quoting.SegmentContents.{EscapesWhole, segment_whole}
 use Rattle.rn_text.specs.Texts.{Text}
 use Rattle.rn_text.specs.declared.keywords.Keyword as code
@@ -23,16 +23,17 @@ use Rattle.rn_syntax.specs.Terminal as t
 use Rattle.rn_syntax.specs.Terminal.{Terminal, Placed, ◌#◌}
 use Rattle.rn_syntax.specs.Grammar.{Tokens}
 use Rattle.rn_syntax.specs.Tokens.{spelled_in, keyword_row, keyword_rows, symbol_rows, terminal_of, terminals}
-use Rattle.rn_syntax.proofs.TokenKinds.PieceTokens.{before, terms, terms-are, scalars_of}
+use Rattle.rn_text.proofs.TokenLists.CutLexemes.{xml_scalars}
+use Rattle.rn_syntax.proofs.TokenKinds.PieceTokens.{before, terms, terms-are}
 use Rattle.rn_assemble.specs.WritableTexts.{IsName, IsXml}
 
 -- ---- names and texts in bytes
 
 pub xml_is : (cs : List ℕ) → list_all is_xml_char cs ≡ true → IsXml (encode_utf8_all cs)
-xml_is cs x = record { utf8 = (cs, (scalars_of cs x, refl)); is = ap (list_all is_xml_char) (chars-encodes cs (scalars_of cs x)) ∙ x }
+xml_is cs x = record { utf8 = (cs, (xml_scalars cs x, refl)); is = ap (list_all is_xml_char) (chars-encodes cs (xml_scalars cs x)) ∙ x }
 
 pub name_is : (cs : List ℕ) → is_ncname cs ≡ true → IsName (encode_utf8_all cs)
-name_is cs x = let scalar = scalars_of cs (ncname_xml cs x) in record { utf8 = (cs, (scalar, refl)); is = ap is_ncname (chars-encodes cs scalar) ∙ x }
+name_is cs x = let scalar = xml_scalars cs (ncname_xml cs x) in record { utf8 = (cs, (scalar, refl)); is = ap is_ncname (chars-encodes cs scalar) ∙ x }
 
 -- a text of XML characters behind another
 pub xml_append : (s t : Text) → IsXml s → IsXml t → IsXml (s ++ t)
@@ -44,13 +45,6 @@ pub xml_nothing : IsXml []
 xml_nothing = xml_is [] refl
 
 -- ---- segments
-
-all_parts : (p : ℕ → Bool) (xs ys : List ℕ) → list_all p (xs ++ ys) ≡ true → (list_all p xs ≡ true) × (list_all p ys ≡ true)
-all_parts p [] ys h = (refl, h)
-all_parts p (x ∷ xs) ys h =
-    let here = and_parts (p x) (list_all p (xs ++ ys)) h in
-    let rest = all_parts p xs ys here.1 in
-    (and_from (p x) (list_all p xs) here.0 rest.0, rest.1)
 
 all_drop : (p : ℕ → Bool) (n : ℕ) (cs : List ℕ) → list_all p cs ≡ true → list_all p (drop n cs) ≡ true
 all_drop p zero cs h = h

@@ -2,7 +2,7 @@
 use Rattle.std.specs.Prelude.{◌≡◌, List}
 use Rattle.std.specs.Rc.{rc_str_bytes}
 use Rattle.rn_text.specs.Texts.{Text}
-use Rattle.rn_syntax.specs.Bound.{bound}
+use Rattle.rn_syntax.specs.BindingDeclarations.{bound}
 use Rattle.rn_syntax.specs.Tree.{Declaration}
 use Rattle.rn_assemble.specs.declared.declared_uris.DeclaredUris.{DeclaredUris}
 use Rattle.rn_assemble.specs.declared.context.Context.{Context}

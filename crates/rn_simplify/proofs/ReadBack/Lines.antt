@@ -22,7 +22,7 @@ use Rattle.rn_syntax.specs.Tokens.{symbol_rows, keyword_rows}
 use Rattle.rn_syntax.specs.declared.token.Method.TheVariants as m
 use Rattle.rn_text.specs.declared.keywords.Keyword.TheVariants as k
 use Rattle.rn_syntax.proofs.TokenKinds.PieceTokens.{before, terms, behind, terms-append}
-use Rattle.rn_syntax.proofs.Basics.EmptyLists.{both_nil}
+use Rattle.rn_syntax.proofs.Lists.EmptyLists.{both_nil}
 use Rattle.rn_assemble.specs.Resolve.{default_of}
 use Rattle.rn_assemble.specs.Components.{Component, start_key, name_key, all_components}
 use Rattle.rn_simplify.specs.Spelling.{space, line_end, symbol, keyword, word, identifier, literal, Prefixes, binding, bindings, default_line, definition_line, definition_lines, written_tree}

@@ -22,7 +22,7 @@ use Rattle.rn_syntax.specs.declared.token.Operator.{Operator}
 use Rattle.rn_syntax.specs.declared.token.Operator.TheVariants as o
 use Rattle.rn_syntax.specs.declared.token.Postfix.TheVariants as pf
 use Rattle.rn_syntax.proofs.TokenKinds.PieceTokens.{before, terms, behind, terms-append}
-use Rattle.rn_syntax.proofs.Basics.EmptyLists.{both_nil}
+use Rattle.rn_syntax.proofs.Lists.EmptyLists.{both_nil}
 use Rattle.rn_assemble.specs.Resolve.{default_of, resolved_class}
 use Rattle.rn_simplify.specs.Spelling.{space, symbol, keyword, type_piece, infix_of, comma, literal, Prefixes, closed, postfixed, chained, NodeText, node_text, operand, primary, in_parentheses, in_braces, chain, optional_member, optional, mixed_pieces, written_choice, written_interleave, written_name, datum_pieces, value_pieces, written_tree, written_trees}
 use Rattle.rn_simplify.specs.Printable as w

@@ -18,7 +18,7 @@ use Rattle.rn_pattern.proofs.Ordered.InOrder.{contains_cases}
 use Rattle.rn_pattern.proofs.Matches.OpenedKeeps.{opened_valid}
 use Rattle.rn_syntax.specs.Tree as t
 use Rattle.rn_syntax.specs.Tree.{Declaration, Module, item_includes, includes}
-use Rattle.rn_syntax.proofs.Basics.EmptyLists.{nil_parts}
+use Rattle.rn_syntax.proofs.Lists.EmptyLists.{nil_parts}
 use Rattle.rn_assemble.specs.Components.{Key, start_key, name_key, same_key, Component, NamedModule, has_key, Includes, components, instances, instances_within, roots, set_components}
 use Rattle.rn_assemble.specs.Combine.{of_key, bodies, method_node, IsPlainTwice, IsMixed, IsCombination, joined_tree, joined_pattern, joined_grammar, module_grammar, components_of, AreDistinct}
 use Rattle.rn_assemble.specs.WellFormed.{IsWellFormed}

@@ -17,8 +17,9 @@ use Rattle.rn_syntax.specs.Tree.{Declaration, Module, items_of}
 use Rattle.rn_syntax.specs.Grammar as g
 use Rattle.rn_syntax.specs.Grammar.{IsModule}
 use Rattle.rn_syntax.specs.Places.{declarations_places}
-use Rattle.rn_syntax.proofs.TokenKinds.PieceTokens.{terms, behind, terms-append, terms-are, scalars_of}
-use Rattle.rn_syntax.proofs.Basics.EmptyLists.{both_nil}
+use Rattle.rn_text.proofs.TokenLists.CutLexemes.{xml_scalars}
+use Rattle.rn_syntax.proofs.TokenKinds.PieceTokens.{terms, behind, terms-append, terms-are}
+use Rattle.rn_syntax.proofs.Lists.EmptyLists.{both_nil}
 use Rattle.rn_assemble.specs.Combine.{joined_grammar, plain_start, plain_definition, components_of, AreDistinct}
 use Rattle.rn_assemble.specs.Resolve.{default_of}
 use Rattle.rn_simplify.specs.Spelling.{keyword, Prefixes, prefixes, namespace_entries, library_entries, bindings, default_line, definition_line, definition_lines, spelling_pieces, spelling}
@@ -66,7 +67,7 @@ is_read_back n h =
     let f = prefixes n in
     let ds = declarations_of n in
     let free = spelled_free n h in
-    let text : chars (spelling n) ≡ text_of (spelling_pieces n) = chars-encodes (text_of (spelling_pieces n)) (scalars_of (text_of (spelling_pieces n)) free.xml) in
+    let text : chars (spelling n) ≡ text_of (spelling_pieces n) = chars-encodes (text_of (spelling_pieces n)) (xml_scalars (text_of (spelling_pieces n)) free.xml) in
     let i = behind 0 default_line in
     let j = behind i (bindings (codes "namespace") (namespace_entries n)) in
     let k = behind j (bindings (codes "datatypes") (library_entries n)) in
@@ -83,7 +84,7 @@ is_read_back n h =
     (g.items (g.more (default_reads _) (declarations_then (namespaces_read (namespace_entries n) h.namespaces i _) (libraries_read (library_entries n) h.libraries j rest))) items.1) in
     let components : module_components (λ wanted inherited. []) [] m ≡ components_of (opened_grammar n) = items.2.components ∙ ap (λ l. plain_start (opened n.start) ∷ l) (components_are f ds refl n.definitions) in
     record {
-      utf8 = (text_of (spelling_pieces n), (scalars_of (text_of (spelling_pieces n)) free.xml, refl));
+      utf8 = (text_of (spelling_pieces n), (xml_scalars (text_of (spelling_pieces n)) free.xml, refl));
       tokens = lexemes 0 (spelling_pieces n);
       has_tokens = subst (λ cs. HasTokens cs (lexemes 0 (spelling_pieces n))) (sym text) (record { xml = free.xml; pieces = spelling_pieces n; cut = subst (λ t. IsCut t (spelling_pieces n) []) (append-nil (text_of (spelling_pieces n))) (free.before []); are = refl });
       shallow = refl;

@@ -54,7 +54,7 @@ its_own e = refl
 pub same_fault : (e : SyntaxFault) (k : FaultKind) (at : ℕ) → kind_and_place e ≡ Some (k, at) → e ≡ fault_at k at
 same_fault e k at h = its_own e ∙ ap fault_of h
 
--- it is no want of memory
+-- the fault of a kind at a place is no want of memory
 pub no_memory : (k : FaultKind) (at : ℕ) → fault_at k at ≢ fault.Memory
 no_memory kind.Encoding at e = cc
 no_memory k at e = cc
@@ -81,6 +81,6 @@ no_places m p b c x kind.ContextValue = c
 no_places m p b c x kind.Except = x
 no_places m p b c x k = refl
 
--- and the other way round
+-- where no kind has a place, each of the four lists of places is empty
 pub each_empty : (m : Module) → ((k : FaultKind) → kind_places k m ≡ []) → (prefix_places m ≡ []) × (builtin_places m ≡ []) × (context_places m ≡ []) × (except_places m ≡ [])
 each_empty m none = (none kind.Prefix, none kind.Builtin, none kind.ContextValue, none kind.Except)

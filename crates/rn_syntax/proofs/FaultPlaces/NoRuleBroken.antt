@@ -6,7 +6,7 @@ use Rattle.rn_syntax.specs.Places.{first, place_if, pattern_places, patterns_pla
 use Rattle.rn_text.specs.Texts.{Text}
 use Rattle.rn_syntax.specs.Faults.{HasNoFault}
 use Rattle.rn_syntax.proofs.FaultPlaces.FaultKinds.{no_fault as none_of_kinds}
-use Rattle.rn_syntax.proofs.Basics.EmptyLists.{nil_parts, both_nil}
+use Rattle.rn_syntax.proofs.Lists.EmptyLists.{nil_parts, both_nil}
 use Rattle.rn_syntax.proofs.FaultPlaces.FirstPlaces.{none_first}
 
 nothing_first : (xs : List ℕ) → first xs ≡ None → xs ≡ []

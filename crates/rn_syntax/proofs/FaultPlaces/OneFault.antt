@@ -35,12 +35,12 @@ no_tree ts bad stops m tree = go bad stops.refused stops.cut
     go (x ∷ more) refused cut = refused (more, m, subst (λ (us : Tokens). HasTree us m) (cut ∙ sym (append_assoc stops.front (x ∷ []) more)) tree)
 
 -- of two fronts of one list one goes on to the other
-record GoesOn (a b x y : Tokens) : Type 0 where
+record Continues (a b x y : Tokens) : Type 0 where
   rest : Tokens
   whole : b ≡ a ++ rest
   left : x ≡ rest ++ y
 
-one_way : (a b x y : Tokens) → a ++ x ≡ b ++ y → GoesOn a b x y ⊎ GoesOn b a y x
+one_way : (a b x y : Tokens) → a ++ x ≡ b ++ y → Continues a b x y ⊎ Continues b a y x
 one_way [] b x y e = inl (record { rest = b; whole = refl; left = e })
 one_way (c ∷ a) [] x y e = inr (record { rest = c ∷ a; whole = refl; left = sym e })
 one_way (c ∷ a) (d ∷ b) x y e =
@@ -52,7 +52,7 @@ one_way (c ∷ a) (d ∷ b) x y e =
     ]
 
 -- a front that begins a module doesn't go on behind one that is refused
-same_stop : (a b x y : Tokens) → IsRefused a x → Begins b → GoesOn a b x y → x ≡ y
+same_stop : (a b x y : Tokens) → IsRefused a x → Begins b → Continues a b x y → x ≡ y
 same_stop a b x y refused begins j = go x j.rest refused j.whole j.left
   where
     go : (x rest : Tokens) → IsRefused a x → b ≡ a ++ rest → x ≡ rest ++ y → x ≡ y
@@ -183,9 +183,9 @@ module _ (xs : List Token) (spelled : AreSpelled xs) where
   empty_module = ([], record { declarations = []; items = _ }, g.items g.none g.none)
 
   -- the place of a token, or of the end
-  place_of : (bad : Tokens) → (at : ℕ) × BeginAt xs bad at
-  place_of [] = (last_end xs, refl)
-  place_of (t # i ∷ bad) = (i, refl)
+  begins_at : (bad : Tokens) → (at : ℕ) × BeginAt xs bad at
+  begins_at [] = (last_end xs, refl)
+  begins_at (t # i ∷ bad) = (i, refl)
 
   module _ (faultless : (e : SyntaxFault) → IsFault xs e → e ≡ Memory) (shallow : deep 0 ts ≡ None) where
     module _ (m : Module) (tree : HasTree ts m) where
@@ -206,7 +206,7 @@ module _ (xs : List Token) (spelled : AreSpelled xs) where
 
     never_stops : (bad : Tokens) → ¬ Stops ts bad
     never_stops bad s =
-        let at = place_of bad in
+        let at = begins_at bad in
         let e : Syntax at.0 ≡ Memory = faultless (Syntax at.0) (shallow, λ _. (bad, s, at.1)) in
         let k : Syntax at.0 ≢ Memory = λ z. cc in
         k e

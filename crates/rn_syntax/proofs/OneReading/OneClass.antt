@@ -65,6 +65,10 @@ abbrev pub tail : Tokens → Tokens
 tail [] = []
 tail (x ∷ ts) = ts
 
+abbrev pub place_of : Tokens → ℕ
+place_of [] = 0
+place_of (x # i ∷ ts) = i
+
 abbrev pub is_word : Terminal → Bool
 is_word (ident n) = true
 is_word (keyword w) = true

@@ -10,7 +10,7 @@ use Rattle.rn_syntax.specs.Tree.{Datatype, Params, Pattern, patterns_of}
 use Rattle.rn_syntax.specs.Grammar as g
 use Rattle.rn_syntax.specs.inside.Follow.{Starts, no_bracket, no_follow, no_tilde, behind_primary, behind_operand, behind_pattern, first_terminal, no_brace, behind_core}
 use Rattle.rn_syntax.specs.Grammar.{Tokens, IsLiteral, MayHaveAnnotation, AreFollows, IsDatatype, MayHaveParams, IsPattern, AreMore, IsOperand, IsPrimary, IsCore}
-use Rattle.rn_syntax.proofs.OneReading.OneClass.{literal_one, may_one, follows_one, datatype_one, starts_to, first_placed, tail, may_params_one, minus_stays, class_one}
+use Rattle.rn_syntax.proofs.OneReading.OneClass.{literal_one, may_one, follows_one, datatype_one, starts_to, first_placed, tail, place_of, may_params_one, minus_stays, class_one}
 
 pub to_operand : (x : Terminal) → behind_pattern x ≡ true → behind_operand x ≡ true
 to_operand (operator o) e = absurd (false≢true e)
@@ -178,10 +178,6 @@ same_op a b e = cc
 
 pub same_postfix : (a b : Postfix) → postfix a ≡ postfix b → a ≡ b
 same_postfix a b e = cc
-
-abbrev pub place_of : Tokens → ℕ
-place_of [] = 0
-place_of (x # i ∷ ts) = i
 
 mutual
   unfolding tag

@@ -14,41 +14,41 @@ use Rattle.rn_syntax.specs.Terminal.{Terminal, keyword}
 use Rattle.rn_syntax.specs.Tokens.{terminal_of, spelled_in, keyword_rows, symbol_rows}
 use Rattle.rn_syntax.specs.inside.Reading.{rest}
 use Rattle.rn_syntax.specs.inside.Follow.{first_terminal}
-use Rattle.rn_syntax.proofs.readings.Next.{rest_cons}
+use Rattle.rn_syntax.proofs.ProductionsRead.Next.{rest_cons}
 use Rattle.rn_syntax.proofs.FaultPlaces.OpenBrackets.{keywords_plain}
 use Rattle.rn_syntax.proofs.TokenKinds.KeywordsAndSymbols.{IsPlain}
 
 -- the spelling that a terminal has, if it is a keyword
-abbrev word_of : Terminal → List ℕ
-word_of (keyword w) = spelling w
-word_of _ = []
+abbrev keyword_text : Terminal → List ℕ
+keyword_text (keyword w) = spelling w
+keyword_text _ = []
 
-abbrev is_word : Terminal → Bool
-is_word (keyword w) = true
-is_word _ = false
+abbrev is_keyword : Terminal → Bool
+is_keyword (keyword w) = true
+is_keyword _ = false
 
 -- rows of keywords with their spellings, which are their own bytes: what they see as a keyword has its spelling's bytes
-spelled_row : (rows : List (List ℕ × Terminal)) (cs : List ℕ) (w : code.Keyword) → AllByRecursion (λ (row : List ℕ × Terminal). word_of row.1 ≡ row.0) rows → AllByRecursion IsPlain rows
+spelled_row : (rows : List (List ℕ × Terminal)) (cs : List ℕ) (w : code.Keyword) → AllByRecursion (λ (row : List ℕ × Terminal). keyword_text row.1 ≡ row.0) rows → AllByRecursion IsPlain rows
     → spelled_in rows cs ≡ keyword w → encode_utf8_all cs ≡ spelling w
 spelled_row [] cs w all plain e = cc
 spelled_row (row ∷ rows) cs w all plain e = elim (cases_Bool (bytes_eq row.0 cs)) [
   | inl h ↦ let k : row.1 ≡ keyword w = sym (ap (λ b. cond b row.1 (spelled_in rows cs)) h) ∙ e in
-      ap encode_utf8_all (sym ((bytes_eq-Decides row.0 cs).0 h)) ∙ plain.0.0 ∙ sym all.0 ∙ ap word_of k
+      ap encode_utf8_all (sym ((bytes_eq-Decides row.0 cs).0 h)) ∙ plain.0.0 ∙ sym all.0 ∙ ap keyword_text k
   | inr h ↦ spelled_row rows cs w all.1 plain.1 (sym (ap (λ b. cond b row.1 (spelled_in rows cs)) h) ∙ e)
 ]
 
-no_row : (rows : List (List ℕ × Terminal)) (cs : List ℕ) (w : code.Keyword) → AllByRecursion (λ (row : List ℕ × Terminal). is_word row.1 ≡ false) rows → spelled_in rows cs ≡ keyword w → ⊥
+no_row : (rows : List (List ℕ × Terminal)) (cs : List ℕ) (w : code.Keyword) → AllByRecursion (λ (row : List ℕ × Terminal). is_keyword row.1 ≡ false) rows → spelled_in rows cs ≡ keyword w → ⊥
 no_row [] cs w all e = cc
 no_row (row ∷ rows) cs w all e = elim (cases_Bool (bytes_eq row.0 cs)) [
-  | inl h ↦ let k : row.1 ≡ keyword w = sym (ap (λ b. cond b row.1 (spelled_in rows cs)) h) ∙ e in let f : false ≡ true = sym all.0 ∙ ap is_word k in cc
+  | inl h ↦ let k : row.1 ≡ keyword w = sym (ap (λ b. cond b row.1 (spelled_in rows cs)) h) ∙ e in let f : false ≡ true = sym all.0 ∙ ap is_keyword k in cc
   | inr h ↦ no_row rows cs w all.1 (sym (ap (λ b. cond b row.1 (spelled_in rows cs)) h) ∙ e)
 ]
 
-keywords_spelled : AllByRecursion (λ (row : List ℕ × Terminal). word_of row.1 ≡ row.0) keyword_rows
+keywords_spelled : AllByRecursion (λ (row : List ℕ × Terminal). keyword_text row.1 ≡ row.0) keyword_rows
 unfolding keyword_rows
 keywords_spelled = (refl, (refl, (refl, (refl, (refl, (refl, (refl, (refl, (refl, (refl, (refl, (refl, (refl, (refl, (refl, (refl, (refl, (refl, (refl, tt)))))))))))))))))))
 
-symbols_are_none : AllByRecursion (λ (row : List ℕ × Terminal). is_word row.1 ≡ false) symbol_rows
+symbols_are_none : AllByRecursion (λ (row : List ℕ × Terminal). is_keyword row.1 ≡ false) symbol_rows
 unfolding symbol_rows
 symbols_are_none = (refl, (refl, (refl, (refl, (refl, (refl, (refl, (refl, (refl, (refl, (refl, (refl, (refl, (refl, (refl, (refl, (refl, (refl, tt))))))))))))))))))
 

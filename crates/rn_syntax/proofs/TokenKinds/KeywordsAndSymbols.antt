@@ -1,5 +1,5 @@
 -- What the tables of keywords and symbols make of bytes and of the characters that they spell.
-use Rattle.std.proofs.Common.{◌≡◌, ℕ, Bool, true, false, cond, List, [], ◌∷◌, refl, sym, ap, ◌∙◌, map, ◌≢◌}
+use Rattle.std.proofs.Common.{◌≡◌, ℕ, cond, List, [], ◌∷◌, refl, sym, ap, ◌∙◌, map, ◌≢◌}
 use Rattle.std.specs.List.{AllByRecursion}
 use Rattle.std.specs.Str.{bytes_eq, chars, encode_utf8_all, IsUtf8}
 use Rattle.std.proofs.lemmas.Bool.{cond-false, false_from_ne_true}
@@ -8,6 +8,7 @@ use Rattle.std.proofs.lemmas.Slice.Eq.{bytes_eq-Decides}
 use Rattle.rn_text.specs.declared.keywords.Keyword.{Keyword}
 use Rattle.rn_text.specs.declared.keywords.Keyword.TheVariants as k
 use Rattle.rn_text.specs.Keywords.{spelling, every_keyword}
+use Rattle.rn_text.proofs.Words.TruthValues.{same_test}
 use Rattle.rn_syntax.specs.Terminal as t
 use Rattle.rn_syntax.specs.Terminal.{Terminal}
 use Rattle.rn_syntax.specs.Tokens.{spelled_in, keyword_row, keyword_rows}
@@ -35,7 +36,7 @@ keyword_seen k.String = refl
 keyword_seen k.Text = refl
 keyword_seen k.Token = refl
 
--- and what spells none as none
+-- what spells no keyword is seen as none
 no_row : (ws : List Keyword) (cs : List ℕ) → ((w : Keyword) → cs ≢ spelling w) → spelled_in (map keyword_row ws) cs ≡ t.other
 no_row [] cs none = refl
 no_row (w ∷ ws) cs none = cond-false _ _ _ (false_from_ne_true (bytes_eq (spelling w) cs) (λ e. none w (sym ((bytes_eq-Decides (spelling w) cs).0 e)))) ∙ no_row ws cs none
@@ -47,12 +48,6 @@ none_seen cs none = no_row every_keyword cs none
 -- a row is of characters that are their own bytes
 abbrev pub IsPlain : List ℕ × Terminal → Type 0
 IsPlain row = (encode_utf8_all row.0 ≡ row.0) × (chars row.0 ≡ row.0)
-
--- two tests with one meaning
-same_test : (a b : Bool) → (a ≡ true → b ≡ true) → (b ≡ true → a ≡ true) → a ≡ b
-same_test true b f g = sym (f refl)
-same_test false true f g = g refl
-same_test false false f g = refl
 
 pub spelled_chars : (rows : List (List ℕ × Terminal)) (bs : List ℕ) → IsUtf8 bs → AllByRecursion IsPlain rows → spelled_in rows (chars bs) ≡ spelled_in rows bs
 spelled_chars [] bs u h = refl

@@ -35,11 +35,11 @@ pub data IsInnerItem : Tokens → Item → Tokens → Type 0 where
   component : {ts rest : Tokens} {x : Item} → IsComponent ts x rest → IsInnerItem ts x rest
   div : {i j l : ℕ} {ts rest : Tokens} {ys : List Item} → AreInnerItems ts ys (right_brace # l ∷ rest) → IsInnerItem (keyword k.Div # i ∷ left_brace # j ∷ ts) (t.div (items_of ys)) rest
 
--- such a list, `}`, and what it makes of what follows
+-- a list of items, `}`, and what these items make of what follows
 abbrev pub UpToBrace : {C : Type 0} → (Tokens → List Item → Tokens → Type 0) → (List Item → Tokens → C → Tokens → Type 0) → Tokens → C → Tokens → Type 0
 UpToBrace L M = Then L (λ xs. Then (IsToken right_brace) (λ j. M xs))
 
--- the same in braces
+-- `{`, a list of items, `}`, and what these items make of what follows
 abbrev pub InBraces : {C : Type 0} → (Tokens → List Item → Tokens → Type 0) → (List Item → Tokens → C → Tokens → Type 0) → Tokens → C → Tokens → Type 0
 InBraces L M = Then (IsToken left_brace) (λ i. UpToBrace L M)
 

@@ -22,7 +22,7 @@ pub data IsBody : Tokens → List Item → Tokens → Type 0 where
   items_body : {ts rest : Tokens} {xs : List Item} → AreItems ts xs rest → IsBody ts xs rest
   grammar_body : {i : ℕ} {ts mid rest : Tokens} {xs : List Item} → MayHaveAnnotation ts (keyword k.Grammar # i ∷ mid) → IsGrammarEnd mid xs rest → IsBody ts xs rest
 
--- the same behind an annotation
+-- a module's body behind an annotation: the items of which the first has it, or `grammar` and its items in braces
 pub data IsAnnotatedBody : Tokens → List Item → Tokens → Type 0 where
   items_behind : {ts rest : Tokens} {xs : List Item} → AreAnnotatedItems ts xs rest → IsAnnotatedBody ts xs rest
   grammar_behind : {i : ℕ} {mid rest : Tokens} {xs : List Item} → IsGrammarEnd mid xs rest → IsAnnotatedBody (keyword k.Grammar # i ∷ mid) xs rest

@@ -1,15 +1,14 @@
 -- What readers of tokens see, and what their answers say of the grammar.
-use Rattle.std.specs.Prelude.{◌≡◌, ℕ, List, [], ◌∷◌, ◌++◌, Option, Some, None, Result, Ok, Err, Bool, true, not, ◌&&◌, ◌==◌, map, drop, ◌+◌, ◌<◌}
+use Rattle.std.specs.Prelude.{◌≡◌, ℕ, List, [], ◌∷◌, ◌++◌, Option, Some, None, Result, Ok, Err, Bool, true, not, ◌&&◌, ◌==◌, drop, ◌+◌, ◌<◌}
 use Rattle.std.specs.Str.{chars, encode_utf8_all}
 use Rattle.rn_text.specs.Characters.{is_name_char}
 use Rattle.rn_text.specs.declared.source.Token.{Token}
 use Rattle.rn_text.specs.Segments.{after_run, run_of, segment_text, is_segment}
-use Rattle.rn_text.specs.Tokens.{lexeme_of}
 use Rattle.rn_syntax.specs.Terminal as t
 use Rattle.rn_syntax.specs.Terminal.{Terminal, Placed, ◌#◌}
 use Rattle.rn_syntax.specs.Grammar.{Tokens}
 use Rattle.rn_syntax.specs.Spelled.{AreSpelled}
-use Rattle.rn_syntax.specs.Tokens.{terminals}
+use Rattle.rn_syntax.specs.Tokens.{terminals_of}
 use Rattle.rn_syntax.specs.inside.Follow.{Anything}
 use Rattle.rn_syntax.specs.inside.Sequence.{IsToken}
 use Rattle.rn_syntax.specs.declared.fault.Fault.{Fault}
@@ -60,7 +59,7 @@ seen c.End = None
 
 -- the tokens from an index on
 abbrev pub rest : List Token → ℕ → Tokens
-rest xs at = drop at (terminals (map lexeme_of xs))
+rest xs at = drop at (terminals_of xs)
 
 -- the next of these tokens, if there is one, and what follows it
 abbrev pub IsNext : Tokens → Option Terminal → Tokens → Type 0
@@ -103,21 +102,21 @@ abbrev pub Makes : {A B : Type 0} → (B → A) → A → ℕ → Result (B × �
 Makes view x behind (Ok r) = (view r.0 ≡ x) × (r.1 ≡ behind)
 Makes view x behind (Err e) = e ≡ f.Memory
 
--- the same of one that reads one token
+-- a reader of an N that is one token answered what that stands for, by this view; the index behind it is the next
 abbrev pub ReadsOne : {A B : Type 0} → (Tokens → A → Tokens → Type 0) → (Tokens → Type 0) → (B → A) → List Token → ℕ → Result B Fault → Type 0
 ReadsOne N F view xs at (Ok x) = AreSpelled xs → Took N F (rest xs at) (view x) (rest xs (at + 1))
 ReadsOne N F view xs at (Err e) = Faults N F xs at e
 
--- what stands for nothing
+-- an N that stands for nothing, as a relation to the unit
 abbrev pub Bare : (Tokens → Tokens → Type 0) → Tokens → Unit {0} → Tokens → Type 0
 Bare N ts u rest = N ts rest
 
--- the same of one that answers the index alone
+-- a reader of an N that stands for nothing answered the index behind it
 abbrev pub Skips : (Tokens → Tokens → Type 0) → (Tokens → Type 0) → List Token → ℕ → Result ℕ Fault → Type 0
 Skips N F xs at (Ok behind) = AreSpelled xs → Took (Bare N) F (rest xs at) tt (rest xs behind)
 Skips N F xs at (Err e) = Faults (Bare N) F xs at e
 
--- the same of one that passes this terminal
+-- a reader of this terminal answered the index behind it
 abbrev pub Passes : Terminal → List Token → ℕ → Result ℕ Fault → Type 0
 Passes x xs at (Ok behind) = AreSpelled xs → (i : ℕ) × Took (IsToken x) Anything (rest xs at) i (rest xs behind)
 Passes x xs at (Err e) = Faults (IsToken x) Anything xs at e

@@ -11,7 +11,7 @@ classes ds r.Prefixes n = places.class_places ds n
 classes ds r.All n = places.class_places ds n
 classes ds _ n = []
 
--- of a value (true) or of data with these parameters
+-- the places at which the datatype of a value (true), or of data with these parameters, breaks the rule
 unfoldable pub datatypes : List Declaration → Rule → Bool → Datatype → Params → List ℕ
 datatypes ds r.Prefixes v x ps = places.unbound_type ds v x ps
 datatypes ds r.Builtins v x ps = places.wrong_builtin ds v x ps

@@ -1,6 +1,6 @@
 use Rattle.std.proofs.Common.{◌+◌}
-use Rattle.rn_syntax.proofs.readings.Compose.{skips_upto}
-use Rattle.rn_syntax.proofs.readings.Skipping.{annotation_at, no_annotation}
+use Rattle.rn_syntax.proofs.ProductionsRead.Compose.{skips_upto}
+use Rattle.rn_syntax.proofs.ProductionsRead.Skipping.{annotation_at, no_annotation}
 use Rattle.rn_syntax.proofs.annotations.annotation.Goals as goal
 
 pub returns-in-LeftBracket-clause-skips : goal.returns-in-LeftBracket-clause-skips

@@ -1,6 +1,6 @@
 use Rattle.std.proofs.Common.{◌+◌}
-use Rattle.rn_syntax.proofs.readings.Compose.{skips_upto}
-use Rattle.rn_syntax.proofs.readings.Skipping.{follow_name, named_at, no_name}
+use Rattle.rn_syntax.proofs.ProductionsRead.Compose.{skips_upto}
+use Rattle.rn_syntax.proofs.ProductionsRead.Skipping.{follow_name, named_at, no_name}
 use Rattle.rn_syntax.proofs.annotations.follow.Goals as goal
 
 pub returns-in-Ident-clause-skips : goal.returns-in-Ident-clause-skips

@@ -1,6 +1,6 @@
 use Rattle.std.proofs.Common.{◌+◌}
-use Rattle.rn_syntax.proofs.readings.Compose.{skips_upto}
-use Rattle.rn_syntax.proofs.readings.Skipping.{may_at, bare}
+use Rattle.rn_syntax.proofs.ProductionsRead.Compose.{skips_upto}
+use Rattle.rn_syntax.proofs.ProductionsRead.Skipping.{may_at, bare}
 use Rattle.rn_syntax.proofs.annotations.skip_annotation.Goals as goal
 
 pub returns-in-LeftBracket-clause-skips : goal.returns-in-LeftBracket-clause-skips

@@ -1,8 +1,8 @@
 -- Each token opens a bracket, closes one, or leaves them.
 use Rattle.std.proofs.Common.{arith, ◌≡◌, suc, zero, ◌-◌, ◌+◌}
-use Rattle.rn_syntax.proofs.readings.Compose.{upto_then, took_upto, stuck_upto, took_gives}
-use Rattle.rn_syntax.proofs.readings.Next.{inside_of}
-use Rattle.rn_syntax.proofs.readings.Skipping.{closings_start, closings_same, closing, opening, passing, refusing, is_plain}
+use Rattle.rn_syntax.proofs.ProductionsRead.Compose.{upto_then, took_upto, stuck_upto, took_gives}
+use Rattle.rn_syntax.proofs.ProductionsRead.Next.{inside_of}
+use Rattle.rn_syntax.proofs.ProductionsRead.Skipping.{closings_start, closings_same, closing, opening, passing, refusing, is_plain}
 use Rattle.rn_syntax.proofs.annotations.skip_closed.Goals as goal
 
 pub closed-init : goal.closed-init

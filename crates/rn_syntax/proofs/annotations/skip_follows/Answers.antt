@@ -1,7 +1,7 @@
 use Rattle.std.proofs.Common.{arith, ◌+◌}
 use Rattle.std.proofs.lemmas.Result.{err_from_is_err_and}
-use Rattle.rn_syntax.proofs.readings.Compose.{upto_at, upto_then, took_upto, stuck_upto, on_fault}
-use Rattle.rn_syntax.proofs.readings.Skipping.{follow_then, follow_stuck, no_follows}
+use Rattle.rn_syntax.proofs.ProductionsRead.Compose.{upto_at, upto_then, took_upto, stuck_upto, on_fault}
+use Rattle.rn_syntax.proofs.ProductionsRead.Skipping.{follow_then, follow_stuck, no_follows}
 use Rattle.rn_syntax.proofs.annotations.skip_follows.Goals as goal
 
 pub follows-init : goal.follows-init

@@ -3,8 +3,8 @@ use Rattle.std.proofs.Common.{◌≡◌, ◌+◌, ◌++◌, ◌∷◌, [], map, 
 use Rattle.std.proofs.lemmas.List.{map-append, take_more}
 use Rattle.rn_syntax.specs.View.{declaration_view}
 use Rattle.rn_syntax.specs.Places.{declarations_places, declaration_places}
-use Rattle.rn_syntax.proofs.Bound.{wrong_more}
-use Rattle.rn_syntax.proofs.Basics.RestOfLists.{drop_next}
+use Rattle.rn_syntax.proofs.BindingDeclarations.{wrong_more}
+use Rattle.rn_syntax.proofs.Lists.RestOfLists.{drop_next}
 use Rattle.rn_syntax.proofs.bindings.bind_all.Goals as goal
 
 pub declarations-preserved : goal.declarations-preserved

@@ -5,7 +5,7 @@ use Rattle.rn_text.specs.Texts.{text_cmp}
 use Rattle.std.specs.Str.{bytes_eq}
 use Rattle.std.proofs.lemmas.Map.Text.{btree_map_updates_str}
 use Rattle.std.proofs.lemmas.Slice.Eq.{bytes_eq-Decides}
-use Rattle.rn_syntax.proofs.Bound.{put_absent}
+use Rattle.rn_syntax.proofs.BindingDeclarations.{put_absent}
 use Rattle.rn_syntax.proofs.bindings.with_prefix.Goals as goal
 
 pub returns : goal.returns

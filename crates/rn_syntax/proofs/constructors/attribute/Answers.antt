@@ -1,4 +1,4 @@
-use Rattle.rn_syntax.proofs.Basics.PatternViews.{boxed_is, view-Attribute}
+use Rattle.rn_syntax.proofs.ProductionsRead.PatternViews.{boxed_is, view-Attribute}
 use Rattle.rn_syntax.proofs.constructors.attribute.Goals as goal
 
 pub returns : goal.returns

@@ -1,6 +1,6 @@
 use Rattle.std.proofs.Common.{rules}
 use Rattle.rn_syntax.specs.declared.tree.Pat.{the_lemmas}
-use Rattle.rn_syntax.proofs.Basics.PatternViews.{boxed_is}
+use Rattle.rn_syntax.proofs.ProductionsRead.PatternViews.{boxed_is}
 use Rattle.rn_syntax.proofs.constructors.chain.Goals as goal
 
 pub returns : goal.returns

@@ -1,4 +1,4 @@
-use Rattle.rn_syntax.proofs.Basics.PatternViews.{boxed_is, view-List}
+use Rattle.rn_syntax.proofs.ProductionsRead.PatternViews.{boxed_is, view-List}
 use Rattle.rn_syntax.proofs.constructors.list.Goals as goal
 
 pub returns : goal.returns

@@ -5,8 +5,8 @@ use Rattle.rn_syntax.specs.Tree as t
 use Rattle.rn_syntax.specs.Grammar as g
 use Rattle.rn_syntax.specs.Grammar.{Tokens, IsDatatype}
 use Rattle.rn_syntax.specs.inside.Sequence.{IsHere}
-use Rattle.rn_syntax.proofs.readings.Next.{place_is}
-use Rattle.rn_syntax.proofs.readings.Parameters.{is_here}
+use Rattle.rn_syntax.proofs.ProductionsRead.Next.{place_is}
+use Rattle.rn_syntax.proofs.ProductionsRead.Parameters.{is_here}
 use Rattle.rn_syntax.proofs.datatypes.datatype.Goals as goal
 
 -- a name with a prefix, whose parts and place these are

@@ -1,7 +1,7 @@
 use Rattle.std.proofs.Common.{◌+◌}
 use Rattle.std.proofs.lemmas.Result.{err_from_is_err_and}
-use Rattle.rn_syntax.proofs.readings.Compose.{on_fault, stuck_upto}
-use Rattle.rn_syntax.proofs.readings.Parameters.{param_body, param_name, param_value, param_read, param_stuck-annotation, stuck-name, stuck-equals, stuck-value}
+use Rattle.rn_syntax.proofs.ProductionsRead.Compose.{on_fault, stuck_upto}
+use Rattle.rn_syntax.proofs.ProductionsRead.Parameters.{param_body, param_name, param_value, param_read, param_stuck-annotation, stuck-name, stuck-equals, stuck-value}
 use Rattle.rn_syntax.proofs.datatypes.param.Goals as goal
 
 pub returns-in_err-body-clause-reads : goal.returns-in_err-body-clause-reads

@@ -2,9 +2,9 @@ use Rattle.std.proofs.Common.{arith, ◌∷◌, [], ◌∙◌, sym, ap}
 use Rattle.std.proofs.lemmas.List.{map-append}
 use Rattle.std.proofs.lemmas.Result.{err_from_is_err_and}
 use Rattle.rn_syntax.specs.View.{params_view, param_view}
-use Rattle.rn_syntax.proofs.readings.Compose.{on_fault, took_same}
-use Rattle.rn_syntax.proofs.readings.Parameters.{params_start, params_read, params_stuck, params_took, params_same, no_params}
-use Rattle.rn_syntax.proofs.readings.Next.{brace_at}
+use Rattle.rn_syntax.proofs.ProductionsRead.Compose.{on_fault, took_same}
+use Rattle.rn_syntax.proofs.ProductionsRead.Parameters.{params_start, params_read, params_stuck, params_took, params_same, no_params}
+use Rattle.rn_syntax.proofs.ProductionsRead.Next.{brace_at}
 use Rattle.rn_syntax.proofs.datatypes.params.Goals as goal
 
 pub params-init : goal.params-init

@@ -3,7 +3,7 @@ use Rattle.std.proofs.Common.{◌<◌, ◌≤◌, ◌-◌, length}
 use Rattle.rn_syntax.specs.inside.Reading.{rest}
 use Rattle.rn_syntax.specs.Spelled.{AreSpelled}
 use Rattle.rn_syntax.specs.View.{params_view}
-use Rattle.rn_syntax.proofs.readings.Parameters.{So_far}
+use Rattle.rn_syntax.proofs.ProductionsRead.Parameters.{So_far}
 use Rattle.rn_syntax.proofs.datatypes.params.Given as goal
 
 abbrev pub invariant-params : goal.invariant-params

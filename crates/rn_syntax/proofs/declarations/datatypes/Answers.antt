@@ -1,8 +1,8 @@
 use Rattle.std.proofs.Common.{◌+◌}
 use Rattle.std.proofs.lemmas.Result.{err_from_is_err_and}
 use Rattle.rn_syntax.specs.View.{place_view}
-use Rattle.rn_syntax.proofs.readings.Compose.{on_fault, took_upto, stuck_upto}
-use Rattle.rn_syntax.proofs.readings.Declared.{datatypes_prefix, datatypes_upto, library_equals, library_stuck, library_took}
+use Rattle.rn_syntax.proofs.ProductionsRead.Compose.{on_fault, took_upto, stuck_upto}
+use Rattle.rn_syntax.proofs.ProductionsRead.Declared.{datatypes_prefix, datatypes_upto, library_equals, library_stuck, library_took}
 use Rattle.rn_syntax.proofs.declarations.datatypes.Goals as goal
 
 pub returns-in_err-prefix-clause-reads : goal.returns-in_err-prefix-clause-reads

@@ -1,8 +1,8 @@
 use Rattle.std.proofs.Common.{◌+◌}
 use Rattle.rn_syntax.specs.View.{declaration_view}
-use Rattle.rn_syntax.proofs.readings.Compose.{reads_upto}
-use Rattle.rn_syntax.proofs.readings.Declared.{namespace_at, default_at, datatypes_at, no_keyword, no_such_keyword}
-use Rattle.rn_syntax.proofs.readings.Next.{place_is}
+use Rattle.rn_syntax.proofs.ProductionsRead.Compose.{reads_upto}
+use Rattle.rn_syntax.proofs.ProductionsRead.Declared.{namespace_at, default_at, datatypes_at, no_keyword, no_such_keyword}
+use Rattle.rn_syntax.proofs.ProductionsRead.Next.{place_is}
 use Rattle.rn_syntax.proofs.declarations.declaration.Goals as goal
 
 pub returns-in-Namespace-clause-reads : goal.returns-in-Namespace-clause-reads

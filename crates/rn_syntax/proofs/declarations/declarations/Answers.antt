@@ -2,8 +2,8 @@ use Rattle.std.proofs.Common.{◌∷◌, [], sym, ap, ◌∙◌, map, arith}
 use Rattle.std.proofs.lemmas.List.{map-append}
 use Rattle.std.proofs.lemmas.Result.{err_from_is_err_and}
 use Rattle.rn_syntax.specs.View.{declaration_view}
-use Rattle.rn_syntax.proofs.readings.Compose.{on_fault}
-use Rattle.rn_syntax.proofs.readings.Declared.{declared_start, declared_read, declared_stuck, declared_took, so_far_same}
+use Rattle.rn_syntax.proofs.ProductionsRead.Compose.{on_fault}
+use Rattle.rn_syntax.proofs.ProductionsRead.Declared.{declared_start, declared_read, declared_stuck, declared_took, so_far_same}
 use Rattle.rn_syntax.proofs.declarations.declarations.Goals as goal
 
 pub declarations-init : goal.declarations-init

@@ -3,7 +3,7 @@ use Rattle.std.proofs.Common.{◌≤◌, ◌-◌, length, map}
 use Rattle.rn_syntax.specs.inside.Reading.{rest}
 use Rattle.rn_syntax.specs.Spelled.{AreSpelled}
 use Rattle.rn_syntax.specs.View.{declaration_view}
-use Rattle.rn_syntax.proofs.readings.Declared.{So_far}
+use Rattle.rn_syntax.proofs.ProductionsRead.Declared.{So_far}
 use Rattle.rn_syntax.proofs.declarations.declarations.Given as goal
 
 abbrev pub invariant-declarations : goal.invariant-declarations

@@ -1,11 +1,11 @@
 use Rattle.std.proofs.Common.{◌+◌, refl}
 use Rattle.std.proofs.lemmas.Result.{err_from_is_err_and}
-use Rattle.rn_syntax.proofs.readings.Compose.{on_fault, took_upto, stuck_upto, token_took}
+use Rattle.rn_syntax.proofs.ProductionsRead.Compose.{on_fault, took_upto, stuck_upto, token_took}
 use Rattle.rn_text.specs.declared.keywords.Keyword.TheVariants as k
 use Rattle.rn_syntax.specs.Terminal.{keyword}
-use Rattle.rn_syntax.proofs.readings.Compose.{upto_then}
-use Rattle.rn_syntax.proofs.readings.Declared.{default_namespace, default_upto, default_prefix_stuck, default_prefix_upto, end_equals, end_uri, end_took}
-use Rattle.rn_syntax.proofs.readings.Next.{terminal_at}
+use Rattle.rn_syntax.proofs.ProductionsRead.Compose.{upto_then}
+use Rattle.rn_syntax.proofs.ProductionsRead.Declared.{default_namespace, default_upto, default_prefix_stuck, default_prefix_upto, end_equals, end_uri, end_took}
+use Rattle.rn_syntax.proofs.ProductionsRead.Next.{terminal_at}
 use Rattle.rn_syntax.proofs.declarations.default.Goals as goal
 
 pub returns-then-not-is_keyword-clause-reads : goal.returns-then-not-is_keyword-clause-reads

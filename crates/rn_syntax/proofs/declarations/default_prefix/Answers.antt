@@ -1,6 +1,6 @@
 use Rattle.rn_syntax.specs.Grammar as g
-use Rattle.rn_syntax.proofs.readings.Declared.{may_prefix, may_none}
-use Rattle.rn_syntax.proofs.readings.Next.{place_is, word_at_keyword}
+use Rattle.rn_syntax.proofs.ProductionsRead.Declared.{may_prefix, may_none}
+use Rattle.rn_syntax.proofs.ProductionsRead.Next.{place_is, word_at_keyword}
 use Rattle.rn_syntax.proofs.declarations.default_prefix.Goals as goal
 
 pub returns-in-Ident-clause-reads : goal.returns-in-Ident-clause-reads

@@ -1,7 +1,7 @@
 use Rattle.std.proofs.Common.{◌+◌}
 use Rattle.std.proofs.lemmas.Result.{err_from_is_err_and}
-use Rattle.rn_syntax.proofs.readings.Compose.{on_fault, took_upto, stuck_upto}
-use Rattle.rn_syntax.proofs.readings.Declared.{namespace_prefix, namespace_upto, end_equals, end_uri, end_took}
+use Rattle.rn_syntax.proofs.ProductionsRead.Compose.{on_fault, took_upto, stuck_upto}
+use Rattle.rn_syntax.proofs.ProductionsRead.Declared.{namespace_prefix, namespace_upto, end_equals, end_uri, end_took}
 use Rattle.rn_syntax.proofs.declarations.namespace.Goals as goal
 
 pub returns-in_err-prefix-clause-reads : goal.returns-in_err-prefix-clause-reads

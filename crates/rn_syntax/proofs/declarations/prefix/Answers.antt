@@ -1,6 +1,6 @@
 use Rattle.std.proofs.lemmas.Result.{err_from_is_err_and}
-use Rattle.rn_syntax.proofs.readings.Compose.{on_fault}
-use Rattle.rn_syntax.proofs.readings.Declared.{prefix_took, prefix_stuck}
+use Rattle.rn_syntax.proofs.ProductionsRead.Compose.{on_fault}
+use Rattle.rn_syntax.proofs.ProductionsRead.Declared.{prefix_took, prefix_stuck}
 use Rattle.rn_syntax.proofs.declarations.prefix.Goals as goal
 
 pub returns-in_err-name-clause-reads : goal.returns-in_err-name-clause-reads

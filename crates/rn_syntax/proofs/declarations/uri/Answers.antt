@@ -1,10 +1,10 @@
 use Rattle.std.proofs.Common.{refl}
 use Rattle.std.proofs.lemmas.Result.{err_from_is_err_and}
-use Rattle.rn_syntax.proofs.readings.Compose.{on_fault}
+use Rattle.rn_syntax.proofs.ProductionsRead.Compose.{on_fault}
 use Rattle.rn_text.specs.declared.keywords.Keyword.TheVariants as k
 use Rattle.rn_syntax.specs.Terminal.{keyword}
-use Rattle.rn_syntax.proofs.readings.Declared.{inherit_took, uri_took, uri_stuck}
-use Rattle.rn_syntax.proofs.readings.Next.{terminal_at}
+use Rattle.rn_syntax.proofs.ProductionsRead.Declared.{inherit_took, uri_took, uri_stuck}
+use Rattle.rn_syntax.proofs.ProductionsRead.Next.{terminal_at}
 use Rattle.rn_syntax.proofs.declarations.uri.Goals as goal
 
 pub returns-then-is_keyword-clause-reads : goal.returns-then-is_keyword-clause-reads

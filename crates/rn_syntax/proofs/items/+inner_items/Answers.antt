@@ -4,10 +4,10 @@ use Rattle.std.proofs.lemmas.Result.{err_from_is_err_and}
 use Rattle.rn_syntax.specs.Grammar.{AreInnerItems}
 use Rattle.rn_syntax.specs.inside.Follow.{Anything}
 use Rattle.rn_syntax.specs.View.{item_view}
-use Rattle.rn_syntax.proofs.readings.Compose.{on_fault, took_same, took_upto, stuck_upto, reads_upto, took_gives, upto_then}
-use Rattle.rn_syntax.proofs.readings.Next.{token_at}
-use Rattle.rn_syntax.proofs.readings.Rows.{so_far_row, so_far_note, stuck_note, stuck_annotation, stuck_row, so_far_took, so_far_same}
-use Rattle.rn_syntax.proofs.readings.Grouping.{inner_row, inner_so_far, div_inner, inner_keyword, inner_other, item_pattern, open_stuck, open_read, list_stuck, list_read, brace_stuck, brace_read, can_inner, can_div, DivGives}
+use Rattle.rn_syntax.proofs.ProductionsRead.Compose.{on_fault, took_same, took_upto, stuck_upto, reads_upto, took_gives, upto_then}
+use Rattle.rn_syntax.proofs.ProductionsRead.Next.{token_at}
+use Rattle.rn_syntax.proofs.ProductionsRead.Rows.{so_far_row, so_far_note, stuck_note, stuck_annotation, stuck_row, so_far_took, so_far_same}
+use Rattle.rn_syntax.proofs.ProductionsRead.Grouping.{inner_row, inner_so_far, div_inner, inner_keyword, inner_other, item_pattern, open_stuck, open_read, list_stuck, list_read, brace_stuck, brace_read, can_inner, can_div, DivGives}
 use Rattle.rn_syntax.proofs.items.+inner_items.Goals as goal
 
 -- ---- lists

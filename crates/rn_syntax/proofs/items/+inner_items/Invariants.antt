@@ -5,7 +5,7 @@ use Rattle.rn_syntax.specs.inside.Including.{IsInnerItem}
 use Rattle.rn_syntax.specs.inside.Reading.{rest}
 use Rattle.rn_syntax.specs.Spelled.{AreSpelled}
 use Rattle.rn_syntax.specs.View.{item_view}
-use Rattle.rn_syntax.proofs.readings.Rows.{So_far}
+use Rattle.rn_syntax.proofs.ProductionsRead.Rows.{So_far}
 use Rattle.rn_syntax.proofs.items.+inner_items.Given as goal
 
 abbrev pub invariant-inner_items-inner : goal.invariant-inner_items-inner

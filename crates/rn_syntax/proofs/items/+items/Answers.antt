@@ -4,10 +4,10 @@ use Rattle.std.proofs.lemmas.Result.{err_from_is_err_and}
 use Rattle.rn_syntax.specs.Grammar.{AreItems}
 use Rattle.rn_syntax.specs.inside.Follow.{Anything}
 use Rattle.rn_syntax.specs.View.{item_view}
-use Rattle.rn_syntax.proofs.readings.Compose.{on_fault, took_same, took_upto, stuck_upto, reads_upto, took_gives, upto_then}
-use Rattle.rn_syntax.proofs.readings.Next.{token_at}
-use Rattle.rn_syntax.proofs.readings.Rows.{so_far_row, so_far_note, stuck_note, stuck_annotation, stuck_row, so_far_took, so_far_same}
-use Rattle.rn_syntax.proofs.readings.Grouping.{item_row, behind_so_far, items_behind_none, div_item, include_item, item_keyword, item_other, item_pattern, open_stuck, open_read, list_stuck, list_read, brace_stuck, brace_read, can_items, can_div, DivGives}
+use Rattle.rn_syntax.proofs.ProductionsRead.Compose.{on_fault, took_same, took_upto, stuck_upto, reads_upto, took_gives, upto_then}
+use Rattle.rn_syntax.proofs.ProductionsRead.Next.{token_at}
+use Rattle.rn_syntax.proofs.ProductionsRead.Rows.{so_far_row, so_far_note, stuck_note, stuck_annotation, stuck_row, so_far_took, so_far_same}
+use Rattle.rn_syntax.proofs.ProductionsRead.Grouping.{item_row, behind_so_far, items_behind_none, div_item, include_item, item_keyword, item_other, item_pattern, open_stuck, open_read, list_stuck, list_read, brace_stuck, brace_read, can_items, can_div, DivGives}
 use Rattle.rn_syntax.proofs.items.+items.Goals as goal
 
 -- ---- lists

@@ -4,7 +4,7 @@ use Rattle.rn_syntax.specs.inside.Including.{AreItemsBehind, IsItem}
 use Rattle.rn_syntax.specs.inside.Reading.{rest}
 use Rattle.rn_syntax.specs.Spelled.{AreSpelled}
 use Rattle.rn_syntax.specs.View.{item_view}
-use Rattle.rn_syntax.proofs.readings.Rows.{So_far}
+use Rattle.rn_syntax.proofs.ProductionsRead.Rows.{So_far}
 use Rattle.rn_syntax.proofs.items.+items.Given as goal
 
 abbrev pub invariant-items_behind-items : goal.invariant-items_behind-items

@@ -1,7 +1,7 @@
 use Rattle.std.proofs.Common.{◌+◌, sym}
 use Rattle.std.proofs.lemmas.Result.{err_from_is_err_and}
-use Rattle.rn_syntax.proofs.readings.Compose.{on_fault, took_same}
-use Rattle.rn_syntax.proofs.readings.Grouping.{define_at, start_at, body_method, body_stuck, body_took, method_read, no_component, no_start}
+use Rattle.rn_syntax.proofs.ProductionsRead.Compose.{on_fault, took_same}
+use Rattle.rn_syntax.proofs.ProductionsRead.Grouping.{define_at, start_at, body_method, body_stuck, body_took, method_read, no_component, no_start}
 use Rattle.rn_syntax.proofs.items.component.Goals as goal
 
 pub returns-in_err-method-in-Ident-clause-reads : goal.returns-in_err-method-in-Ident-clause-reads

@@ -1,7 +1,7 @@
 use Rattle.std.proofs.Common.{sym}
 use Rattle.std.proofs.lemmas.Result.{err_from_is_err_and}
-use Rattle.rn_syntax.proofs.readings.Compose.{on_fault, took_same}
-use Rattle.rn_syntax.proofs.readings.Inclusion.{wanted_stuck, inherit_stuck, own_stuck, include_took}
+use Rattle.rn_syntax.proofs.ProductionsRead.Compose.{on_fault, took_same}
+use Rattle.rn_syntax.proofs.ProductionsRead.Inclusion.{wanted_stuck, inherit_stuck, own_stuck, include_took}
 use Rattle.rn_syntax.proofs.items.include.Goals as goal
 
 pub returns-in_err-wanted-clause-reads : goal.returns-in_err-wanted-clause-reads

@@ -2,9 +2,9 @@ use Rattle.std.proofs.Common.{◌+◌, refl}
 use Rattle.std.proofs.lemmas.Result.{err_from_is_err_and}
 use Rattle.rn_text.specs.declared.keywords.Keyword.TheVariants as k
 use Rattle.rn_syntax.specs.Terminal.{keyword}
-use Rattle.rn_syntax.proofs.readings.Compose.{on_fault}
-use Rattle.rn_syntax.proofs.readings.Next.{terminal_at}
-use Rattle.rn_syntax.proofs.readings.Inclusion.{no_inherit_here, inherit_equals, inherit_prefix, inherit_took}
+use Rattle.rn_syntax.proofs.ProductionsRead.Compose.{on_fault}
+use Rattle.rn_syntax.proofs.ProductionsRead.Next.{terminal_at}
+use Rattle.rn_syntax.proofs.ProductionsRead.Inclusion.{no_inherit_here, inherit_equals, inherit_prefix, inherit_took}
 use Rattle.rn_syntax.proofs.items.inherit.Goals as goal
 
 pub returns-then-not-is_keyword-clause-reads : goal.returns-then-not-is_keyword-clause-reads

@@ -3,9 +3,9 @@ use Rattle.std.proofs.lemmas.Result.{err_from_is_err_and}
 use Rattle.rn_syntax.specs.inside.Follow.{Starts, no_brace}
 use Rattle.rn_syntax.specs.Grammar.{AreInnerItems}
 use Rattle.rn_syntax.specs.View.{item_view}
-use Rattle.rn_syntax.proofs.readings.Compose.{on_fault, took_same, took_upto, stuck_upto, upto_then, took_gives}
-use Rattle.rn_syntax.proofs.readings.Grouping.{list_stuck, list_read, brace_stuck, brace_read, can_inner}
-use Rattle.rn_syntax.proofs.readings.Inclusion.{ListGives, can_list, override_at, no_override}
+use Rattle.rn_syntax.proofs.ProductionsRead.Compose.{on_fault, took_same, took_upto, stuck_upto, upto_then, took_gives}
+use Rattle.rn_syntax.proofs.ProductionsRead.Grouping.{list_stuck, list_read, brace_stuck, brace_read, can_inner}
+use Rattle.rn_syntax.proofs.ProductionsRead.Inclusion.{ListGives, can_list, override_at, no_override}
 use Rattle.rn_syntax.proofs.items.overrides.Goals as goal
 
 pub returns-in_default-clause-reads : goal.returns-in_default-clause-reads

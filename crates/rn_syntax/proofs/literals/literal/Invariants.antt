@@ -4,8 +4,8 @@ use Rattle.rn_syntax.specs.Grammar.{IsLiteral}
 use Rattle.rn_syntax.specs.inside.Follow.{Starts, no_tilde}
 use Rattle.rn_syntax.specs.inside.Reading.{rest}
 use Rattle.rn_syntax.specs.Spelled.{AreSpelled}
-use Rattle.rn_syntax.proofs.readings.Compose.{Upto}
-use Rattle.rn_syntax.proofs.readings.Segmented.{Joins}
+use Rattle.rn_syntax.proofs.ProductionsRead.Compose.{Upto}
+use Rattle.rn_syntax.proofs.ProductionsRead.Segmented.{Joins}
 use Rattle.rn_syntax.proofs.literals.literal.Given as goal
 
 abbrev pub invariant-segments : goal.invariant-segments

@@ -4,7 +4,7 @@ use Rattle.std.specs.Str.{chars, encode_utf8_all}
 use Rattle.std.proofs.lemmas.Str.{encodes-chars}
 use Rattle.rn_text.specs.Segments.{is_verbatim, text_after}
 use Rattle.rn_text.proofs.Quoting.VerbatimTexts.{verbatim_text}
-use Rattle.rn_syntax.proofs.readings.Segmented.{written_is}
+use Rattle.rn_syntax.proofs.ProductionsRead.Segmented.{written_is}
 use Rattle.rn_syntax.proofs.literals.segment_text.Goals as goal
 
 pub returns-then-is_verbatim-clause-text : goal.returns-then-is_verbatim-clause-text

@@ -2,9 +2,9 @@ use Rattle.std.proofs.Common.{◌+◌, refl, map}
 use Rattle.rn_text.specs.declared.keywords.Keyword.TheVariants as k
 use Rattle.rn_syntax.specs.Terminal.{keyword}
 use Rattle.rn_syntax.specs.View.{item_view}
-use Rattle.rn_syntax.proofs.readings.Compose.{reads_upto}
-use Rattle.rn_syntax.proofs.readings.Next.{terminal_at}
-use Rattle.rn_syntax.proofs.readings.Modular.{behind_grammar, behind_items}
+use Rattle.rn_syntax.proofs.ProductionsRead.Compose.{reads_upto}
+use Rattle.rn_syntax.proofs.ProductionsRead.Next.{terminal_at}
+use Rattle.rn_syntax.proofs.ProductionsRead.Modular.{behind_grammar, behind_items}
 use Rattle.rn_syntax.proofs.modules.annotated_body.Goals as goal
 
 pub returns-then-is_keyword-clause-reads : goal.returns-then-is_keyword-clause-reads

@@ -1,8 +1,8 @@
 use Rattle.std.proofs.Common.{arith, ◌++◌, ◌∷◌, [], ap, ◌∙◌, map}
 use Rattle.std.proofs.lemmas.Result.{err_from_is_err_and}
 use Rattle.rn_syntax.specs.View.{item_view}
-use Rattle.rn_syntax.proofs.readings.Compose.{on_fault, passed_on, reads_upto}
-use Rattle.rn_syntax.proofs.readings.Itemized.{first_read, first_stuck}
+use Rattle.rn_syntax.proofs.ProductionsRead.Compose.{on_fault, passed_on, reads_upto}
+use Rattle.rn_syntax.proofs.ProductionsRead.Itemized.{first_read, first_stuck}
 use Rattle.rn_syntax.proofs.modules.annotated_items.Goals as goal
 
 pub returns-in_err-first-clause-reads : goal.returns-in_err-first-clause-reads

@@ -3,9 +3,9 @@ use Rattle.std.proofs.lemmas.Result.{err_from_is_err_and}
 use Rattle.rn_text.specs.declared.keywords.Keyword.TheVariants as k
 use Rattle.rn_syntax.specs.Terminal.{keyword}
 use Rattle.rn_syntax.specs.View.{item_view}
-use Rattle.rn_syntax.proofs.readings.Compose.{on_fault, passed_on, reads_upto}
-use Rattle.rn_syntax.proofs.readings.Next.{terminal_at}
-use Rattle.rn_syntax.proofs.readings.Modular.{body_grammar, body_items, body_annotation, body_annotated}
+use Rattle.rn_syntax.proofs.ProductionsRead.Compose.{on_fault, passed_on, reads_upto}
+use Rattle.rn_syntax.proofs.ProductionsRead.Next.{terminal_at}
+use Rattle.rn_syntax.proofs.ProductionsRead.Modular.{body_grammar, body_items, body_annotation, body_annotated}
 use Rattle.rn_syntax.proofs.modules.body.Goals as goal
 
 pub returns-in_err-behind-clause-reads : goal.returns-in_err-behind-clause-reads

@@ -1,6 +1,6 @@
 use Rattle.std.proofs.lemmas.Result.{err_from_is_err_and}
-use Rattle.rn_syntax.proofs.readings.Compose.{on_fault}
-use Rattle.rn_syntax.proofs.readings.Modular.{grammar_brace, grammar_items, grammar_close, grammar_follows, grammar_took}
+use Rattle.rn_syntax.proofs.ProductionsRead.Compose.{on_fault}
+use Rattle.rn_syntax.proofs.ProductionsRead.Modular.{grammar_brace, grammar_items, grammar_close, grammar_follows, grammar_took}
 use Rattle.rn_syntax.proofs.modules.grammar.Goals as goal
 
 pub returns-in_err-inside-clause-reads : goal.returns-in_err-inside-clause-reads

@@ -2,13 +2,13 @@ use Rattle.std.proofs.Common.{◌+◌, ◌++◌, ◌∷◌, [], ◌∙◌, sym, 
 use Rattle.std.proofs.lemmas.Result.{err_from_is_err_and}
 use Rattle.rn_syntax.specs.Grammar as g
 use Rattle.rn_syntax.specs.View.{class_view, boxed_class_view, any_view}
-use Rattle.rn_syntax.proofs.readings.Compose.{on_fault, made_advanced, made_reads, one_on, passed_past, advanced_on, took_upto, stuck_upto, reads_upto, upto_then}
-use Rattle.rn_syntax.proofs.readings.Chaining.{chain_read, chain_stuck, chain_end}
+use Rattle.rn_syntax.proofs.ProductionsRead.Compose.{on_fault, made_advanced, made_reads, one_on, passed_past, advanced_on, took_upto, stuck_upto, reads_upto, upto_then}
+use Rattle.rn_syntax.proofs.ProductionsRead.Chaining.{chain_read, chain_stuck, chain_end, pushed}
 use Rattle.rn_syntax.specs.Terminal.{operator}
 use Rattle.rn_syntax.specs.declared.token.Operator.TheVariants as o
-use Rattle.rn_syntax.proofs.readings.Next.{terminal_at, next_two, place_is, word_at_keyword}
-use Rattle.rn_syntax.proofs.readings.Classes.{word_core, prefixed_core, parens_inner, parens_stuck, parens_took, no_core, followed_took, followed_stuck, end_core, end_stuck, primary_body, primary_stuck, any_at, operand_body, operand_stuck, operand_plain, operand_any, except_took, except_stuck, tail_plain, classes_chain, class_first, class_stuck, class_alone, so_far_same, word_first}
-use Rattle.rn_syntax.proofs.readings.Skipping.{bare_here}
+use Rattle.rn_syntax.proofs.ProductionsRead.Next.{terminal_at, next_two, place_is, word_at_keyword}
+use Rattle.rn_syntax.proofs.ProductionsRead.Classes.{word_core, prefixed_core, parens_inner, parens_stuck, parens_took, no_core, followed_took, followed_stuck, end_core, end_stuck, primary_body, primary_stuck, any_at, operand_body, operand_stuck, operand_plain, operand_any, except_took, except_stuck, tail_plain, classes_chain, class_first, class_stuck, class_alone, so_far_same, word_first}
+use Rattle.rn_syntax.proofs.ProductionsRead.Skipping.{bare_here}
 use Rattle.rn_syntax.proofs.names.+name_class.Goals as goal
 
 -- ---- cores
@@ -153,7 +153,7 @@ pub name_class-choice-init : goal.name_class-choice-init
 name_class-choice-init t c = record {
   further = c.in_ok-first.ensures.inside.further;
   inside = c.in_ok-first.ensures.inside.inside;
-  so_far = λ s. so_far_same _ _ (sym (c.in_ok-push_member.ensures ∙ ap (λ l. map class_view l ++ boxed_class_view c.in_ok-first.first ∷ []) c.in_ok-members.ensures.items))
+  so_far = λ s. so_far_same _ _ (sym (pushed class_view c.in_ok-push_member.ensures ∙ ap (λ l. map class_view l ++ boxed_class_view c.in_ok-first.first ∷ []) c.in_ok-members.ensures.items))
       (class_first (c.in_ok-first.ensures.reads s), c.if-not-is_operator.ensures.is);
 }
 
@@ -163,7 +163,7 @@ name_class-choice-preserved t c =
     record {
       further = omega (arith, c.in_ok-class.ensures.inside.further);
       inside = c.in_ok-class.ensures.inside.inside;
-      so_far = λ s. so_far_same _ _ (sym c.in_ok-push_member-2.ensures)
+      so_far = λ s. so_far_same _ _ (sym (pushed class_view c.in_ok-push_member-2.ensures))
           (chain_read classes_chain _ _ _ (c.choice.invariant.so_far s) here.1 (c.in_ok-class.ensures.reads s));
     }
 

@@ -3,8 +3,8 @@ use Rattle.std.proofs.Common.{◌<◌, ◌≤◌, ◌-◌, ◌+◌, ◌*◌, len
 use Rattle.rn_syntax.specs.inside.Reading.{rest}
 use Rattle.rn_syntax.specs.Spelled.{AreSpelled}
 use Rattle.rn_syntax.specs.View.{class_view}
-use Rattle.rn_syntax.proofs.readings.Chaining.{So_far}
-use Rattle.rn_syntax.proofs.readings.Classes.{classes_chain}
+use Rattle.rn_syntax.proofs.ProductionsRead.Chaining.{So_far}
+use Rattle.rn_syntax.proofs.ProductionsRead.Classes.{classes_chain}
 use Rattle.rn_syntax.proofs.names.+name_class.Given as goal
 
 abbrev pub invariant-name_class-choice : goal.invariant-name_class-choice

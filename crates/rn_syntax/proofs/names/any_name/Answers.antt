@@ -4,8 +4,8 @@ use Rattle.rn_syntax.specs.Tree as t
 use Rattle.rn_syntax.specs.Grammar as g
 use Rattle.rn_syntax.specs.Grammar.{Tokens, IsAnyName}
 use Rattle.rn_syntax.specs.inside.Sequence.{IsHere}
-use Rattle.rn_syntax.proofs.readings.Next.{place_is}
-use Rattle.rn_syntax.proofs.readings.Parameters.{is_here}
+use Rattle.rn_syntax.proofs.ProductionsRead.Next.{place_is}
+use Rattle.rn_syntax.proofs.ProductionsRead.Parameters.{is_here}
 use Rattle.rn_syntax.proofs.names.any_name.Goals as goal
 
 -- a prefix before `:*`, whose name and place these are

@@ -1,6 +1,6 @@
 use Rattle.std.proofs.Common.{rules}
 use Rattle.rn_syntax.specs.declared.tree.Nc.{the_lemmas}
-use Rattle.rn_syntax.proofs.readings.Classes.{class_is}
+use Rattle.rn_syntax.proofs.ProductionsRead.Classes.{class_is}
 use Rattle.rn_syntax.proofs.names.choice.Goals as goal
 
 pub returns : goal.returns

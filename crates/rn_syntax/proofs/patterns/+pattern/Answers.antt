@@ -6,14 +6,14 @@ use Rattle.rn_syntax.specs.Terminal.{operator}
 use Rattle.rn_syntax.specs.Tree as tree
 use Rattle.rn_syntax.specs.View.{boxed_view, datatype_view, params_view, pattern_view}
 use Rattle.rn_syntax.specs.inside.Follow.{first_terminal}
-use Rattle.rn_syntax.proofs.readings.Compose.{on_fault, took_same, reads_upto, made_reads, made_passed, made_advanced, later, one_on, passed_on, passed_past}
-use Rattle.rn_syntax.proofs.readings.Next.{terminal_at, place_is}
-use Rattle.rn_syntax.proofs.readings.Chaining.{chain_read, chain_stuck, chain_end}
-use Rattle.rn_syntax.proofs.readings.Chains.{operands_chain, pattern_stuck, pattern_alone, pattern_first, operands_same}
-use Rattle.rn_syntax.proofs.readings.Operands.{no_segment, text_stuck, text_read, params_stuck, params_read, datum_read, except_stuck, except_took, core_made}
-use Rattle.rn_syntax.proofs.readings.Primaries.{type_at, operand_stuck, operand_typed, operand_first, operand_core_stuck, operand_core_read, primary_stuck, primary_core_stuck, primary_follows_stuck, primary_took}
-use Rattle.rn_syntax.proofs.readings.Cores.{open_stuck, braces_inner, braces_close, braced_took, class_stuck, content_stuck, content_took, keyword_here, element_stuck, element_took, attribute_stuck, attribute_took, list_stuck, list_took, mixed_stuck, mixed_took, empty_took, not_allowed_took, text_took, ref_took}
-use Rattle.rn_syntax.proofs.readings.Unnamed.{literal_stuck, literal_took, inner_stuck, close_stuck, parens_took, no_core, no_datatype, no_keyword_core}
+use Rattle.rn_syntax.proofs.ProductionsRead.Compose.{on_fault, took_same, reads_upto, made_reads, made_passed, made_advanced, later, one_on, passed_on, passed_past}
+use Rattle.rn_syntax.proofs.ProductionsRead.Next.{terminal_at, place_is}
+use Rattle.rn_syntax.proofs.ProductionsRead.Chaining.{chain_read, chain_stuck, chain_end, pushed}
+use Rattle.rn_syntax.proofs.ProductionsRead.Chains.{operands_chain, pattern_stuck, pattern_alone, pattern_first, operands_same}
+use Rattle.rn_syntax.proofs.ProductionsRead.Operands.{no_segment, text_stuck, text_read, params_stuck, params_read, datum_read, except_stuck, except_took, core_made}
+use Rattle.rn_syntax.proofs.ProductionsRead.Primaries.{type_at, operand_stuck, operand_typed, operand_first, operand_core_stuck, operand_core_read, primary_stuck, primary_core_stuck, primary_follows_stuck, primary_took}
+use Rattle.rn_syntax.proofs.ProductionsRead.Cores.{open_stuck, braces_inner, braces_close, braced_took, class_stuck, content_stuck, content_took, keyword_here, element_stuck, element_took, attribute_stuck, attribute_took, list_stuck, list_took, mixed_stuck, mixed_took, empty_took, not_allowed_took, text_took, ref_took}
+use Rattle.rn_syntax.proofs.ProductionsRead.Unnamed.{literal_stuck, literal_took, inner_stuck, close_stuck, parens_took, no_core, no_datatype, no_keyword_core}
 use Rattle.rn_syntax.proofs.patterns.+pattern.Goals as goal
 
 -- ---- braces
@@ -331,7 +331,7 @@ pattern-chain-init t c = record {
   here = c.in-Operator.ensures.next;
   so_far = λ s.
       let here = ap first_terminal c.in-Operator.ensures.next.1 in
-      operands_same c.in-Operator.operator _ _ (sym (c.in_ok-push_member.ensures ∙ ap (λ l. map pattern_view l ++ boxed_view c.in_ok-first.first ∷ []) c.in_ok-members.ensures.items))
+      operands_same c.in-Operator.operator _ _ (sym (pushed pattern_view c.in_ok-push_member.ensures ∙ ap (λ l. map pattern_view l ++ boxed_view c.in_ok-first.first ∷ []) c.in_ok-members.ensures.items))
       (pattern_first c.in-Operator.operator here (c.in_ok-first.ensures.reads s), here);
 }
 
@@ -340,7 +340,7 @@ pattern-chain-preserved t c = record {
   further = omega (arith, c.chain.invariant.further, c.in_ok-member.ensures.inside.further);
   inside = c.if-not-is_operator.ensures.inside refl;
   here = terminal_at c.args.tokens.now c.in_ok-member.behind (operator c.in-Operator.operator) (c.if-not-is_operator.ensures.inside refl) c.if-not-is_operator.ensures.is;
-  so_far = λ s. operands_same c.in-Operator.operator _ _ (sym c.in_ok-push_member-2.ensures)
+  so_far = λ s. operands_same c.in-Operator.operator _ _ (sym (pushed pattern_view c.in_ok-push_member-2.ensures))
       (chain_read (operands_chain c.in-Operator.operator) _ _ _ (c.chain.invariant.so_far s) c.chain.invariant.here.1 (c.in_ok-member.ensures.reads s));
 }
 
@@ -355,5 +355,5 @@ pattern-returns-then-not-is_operator-clause-inside t c = made_advanced boxed_vie
 pub pattern-returns-then-not-is_operator-clause-reads : goal.pattern-returns-then-not-is_operator-clause-reads
 pattern-returns-then-not-is_operator-clause-reads t c = made_reads boxed_view c.args.tokens.now c.args.at c.in_ok-member.behind c.chain-then-not-is_operator.result c.chain-then-not-is_operator.ensures
     (λ s. chain_end (operands_chain c.in-Operator.operator) _ _ _
-    (operands_same c.in-Operator.operator _ _ (sym c.in_ok-push_member-2.ensures) (chain_read (operands_chain c.in-Operator.operator) _ _ _ (c.chain.invariant.so_far s) c.chain.invariant.here.1 (c.in_ok-member.ensures.reads s)))
+    (operands_same c.in-Operator.operator _ _ (sym (pushed pattern_view c.in_ok-push_member-2.ensures)) (chain_read (operands_chain c.in-Operator.operator) _ _ _ (c.chain.invariant.so_far s) c.chain.invariant.here.1 (c.in_ok-member.ensures.reads s)))
     c.if-not-is_operator.ensures.is)

@@ -4,8 +4,8 @@ use Rattle.rn_syntax.specs.Terminal.{◌#◌, operator}
 use Rattle.rn_syntax.specs.inside.Reading.{rest}
 use Rattle.rn_syntax.specs.Spelled.{AreSpelled}
 use Rattle.rn_syntax.specs.View.{pattern_view}
-use Rattle.rn_syntax.proofs.readings.Chaining.{So_far}
-use Rattle.rn_syntax.proofs.readings.Chains.{operands_chain}
+use Rattle.rn_syntax.proofs.ProductionsRead.Chaining.{So_far}
+use Rattle.rn_syntax.proofs.ProductionsRead.Chains.{operands_chain}
 use Rattle.rn_syntax.proofs.patterns.+pattern.Given as goal
 
 abbrev pub invariant-pattern-chain : goal.invariant-pattern-chain

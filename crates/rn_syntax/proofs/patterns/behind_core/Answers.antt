@@ -2,8 +2,8 @@
 use Rattle.std.proofs.Common.{◌+◌}
 use Rattle.std.proofs.lemmas.Result.{err_from_is_err_and}
 use Rattle.rn_syntax.specs.View.{boxed_view}
-use Rattle.rn_syntax.proofs.readings.Compose.{on_fault, reads_upto}
-use Rattle.rn_syntax.proofs.readings.Operands.{core_alone, core_postfix, follows_read, follows_stuck}
+use Rattle.rn_syntax.proofs.ProductionsRead.Compose.{on_fault, reads_upto}
+use Rattle.rn_syntax.proofs.ProductionsRead.Operands.{core_alone, core_postfix, follows_read, follows_stuck}
 use Rattle.rn_syntax.proofs.patterns.behind_core.Goals as goal
 
 pub returns-in_err-behind-in-Follow-clause-reads : goal.returns-in_err-behind-in-Follow-clause-reads

@@ -1,8 +1,8 @@
 -- The postfix repeats the primary, whatever follows stand behind it.
 use Rattle.std.proofs.lemmas.Result.{err_from_is_err_and}
 use Rattle.rn_syntax.specs.View.{boxed_view}
-use Rattle.rn_syntax.proofs.readings.Compose.{on_fault, made_reads}
-use Rattle.rn_syntax.proofs.readings.Operands.{repeated_took, repeated_stuck}
+use Rattle.rn_syntax.proofs.ProductionsRead.Compose.{on_fault, made_reads}
+use Rattle.rn_syntax.proofs.ProductionsRead.Operands.{repeated_took, repeated_stuck}
 use Rattle.rn_syntax.proofs.patterns.behind_postfix.Goals as goal
 
 pub returns-in_err-behind-clause-reads : goal.returns-in_err-behind-clause-reads

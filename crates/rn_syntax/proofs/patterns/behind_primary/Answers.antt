@@ -1,8 +1,8 @@
 -- A postfix repeats the primary; what else comes leaves it.
 use Rattle.std.proofs.Common.{◌+◌}
 use Rattle.rn_syntax.specs.View.{boxed_view}
-use Rattle.rn_syntax.proofs.readings.Compose.{reads_upto}
-use Rattle.rn_syntax.proofs.readings.Operands.{alone_took, postfix_at}
+use Rattle.rn_syntax.proofs.ProductionsRead.Compose.{reads_upto}
+use Rattle.rn_syntax.proofs.ProductionsRead.Operands.{alone_took, postfix_at}
 use Rattle.rn_syntax.proofs.patterns.behind_primary.Goals as goal
 
 pub returns-in-Postfix-clause-reads : goal.returns-in-Postfix-clause-reads

@@ -1,8 +1,8 @@
 -- A literal makes a value; what else comes leaves a datum.
 use Rattle.std.proofs.lemmas.Result.{err_from_is_err_and}
 use Rattle.rn_syntax.specs.View.{boxed_view, datatype_view}
-use Rattle.rn_syntax.proofs.readings.Compose.{on_fault, reads_upto, made_reads, made_passed}
-use Rattle.rn_syntax.proofs.readings.Operands.{no_segment, valued_at, datum_took, datum_stuck}
+use Rattle.rn_syntax.proofs.ProductionsRead.Compose.{on_fault, reads_upto, made_reads, made_passed}
+use Rattle.rn_syntax.proofs.ProductionsRead.Operands.{no_segment, valued_at, datum_took, datum_stuck}
 use Rattle.rn_syntax.proofs.patterns.data.Goals as goal
 
 pub returns-in-Segment-clause-reads : goal.returns-in-Segment-clause-reads

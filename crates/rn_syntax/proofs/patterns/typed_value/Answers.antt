@@ -1,7 +1,7 @@
 use Rattle.std.proofs.lemmas.Result.{err_from_is_err_and}
 use Rattle.rn_syntax.specs.View.{boxed_view, datatype_view}
-use Rattle.rn_syntax.proofs.readings.Compose.{on_fault, made_reads, made_advanced}
-use Rattle.rn_syntax.proofs.readings.Operands.{value_took, value_stuck}
+use Rattle.rn_syntax.proofs.ProductionsRead.Compose.{on_fault, made_reads, made_advanced}
+use Rattle.rn_syntax.proofs.ProductionsRead.Operands.{value_took, value_stuck}
 use Rattle.rn_syntax.proofs.patterns.typed_value.Goals as goal
 
 pub returns-in_err-text-clause-reads : goal.returns-in_err-text-clause-reads

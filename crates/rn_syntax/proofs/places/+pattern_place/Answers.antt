@@ -1,11 +1,11 @@
 -- Neither data nor what is excepted from it breaks the rule, so the first place is that in the excepted pattern.
 use Rattle.std.proofs.Common.{◌≡◌, sym, ◌∙◌, ap, None, false}
-use Rattle.rn_syntax.specs.Bound.{bound}
+use Rattle.rn_syntax.specs.BindingDeclarations.{bound}
 use Rattle.rn_syntax.specs.Places.{first}
 use Rattle.rn_syntax.specs.inside.Rules.{datatypes, excepts, pattern_places}
 use Rattle.rn_syntax.specs.View.{datatype_view, params_view, pattern_view}
 use Rattle.rn_syntax.proofs.FaultPlaces.FirstPlaces.{nones_first}
-use Rattle.rn_syntax.proofs.Basics.PatternViews.{view-DatumBut}
+use Rattle.rn_syntax.proofs.ProductionsRead.PatternViews.{view-DatumBut}
 use Rattle.rn_syntax.proofs.places.+pattern_place.Goals as goal
 
 pub pattern_place-returns-in-None : goal.pattern_place-returns-in-None

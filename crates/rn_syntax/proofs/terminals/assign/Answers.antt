@@ -1,6 +1,6 @@
 use Rattle.rn_syntax.specs.inside.Sequence.{by_method}
-use Rattle.rn_syntax.proofs.readings.Compose.{of_took}
-use Rattle.rn_syntax.proofs.readings.Next.{no_assign, assign_one}
+use Rattle.rn_syntax.proofs.ProductionsRead.Compose.{of_took}
+use Rattle.rn_syntax.proofs.ProductionsRead.Next.{no_assign, assign_one}
 use Rattle.rn_syntax.proofs.terminals.assign.Goals as goal
 
 pub returns-in-Assign-clause-reads : goal.returns-in-Assign-clause-reads

@@ -1,5 +1,5 @@
-use Rattle.rn_syntax.proofs.readings.Compose.{token_took}
-use Rattle.rn_syntax.proofs.readings.Next.{no_plain, no_other_method, no_method}
+use Rattle.rn_syntax.proofs.ProductionsRead.Compose.{token_took}
+use Rattle.rn_syntax.proofs.ProductionsRead.Next.{no_plain, no_other_method, no_method}
 use Rattle.rn_syntax.proofs.terminals.equals.Goals as goal
 
 pub returns-in-Plain-clause-passes : goal.returns-in-Plain-clause-passes

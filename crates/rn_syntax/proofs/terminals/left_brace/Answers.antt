@@ -1,5 +1,5 @@
-use Rattle.rn_syntax.proofs.readings.Compose.{token_took}
-use Rattle.rn_syntax.proofs.readings.Next.{no_left_brace}
+use Rattle.rn_syntax.proofs.ProductionsRead.Compose.{token_took}
+use Rattle.rn_syntax.proofs.ProductionsRead.Next.{no_left_brace}
 use Rattle.rn_syntax.proofs.terminals.left_brace.Goals as goal
 
 pub returns-in-LeftBrace-clause-passes : goal.returns-in-LeftBrace-clause-passes

@@ -1,5 +1,5 @@
 -- The next token is the head of what is left.
-use Rattle.rn_syntax.proofs.readings.Next.{next_at, segment_at, spelled_at}
+use Rattle.rn_syntax.proofs.ProductionsRead.Next.{next_at, segment_at, spelled_at}
 use Rattle.rn_syntax.proofs.terminals.next.Goals as goal
 
 pub returns-clause-next : goal.returns-clause-next

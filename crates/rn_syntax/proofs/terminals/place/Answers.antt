@@ -1,5 +1,5 @@
 -- Where the token begins, or the last one ends.
-use Rattle.rn_syntax.proofs.readings.Next.{place_at, place_past, last_get}
+use Rattle.rn_syntax.proofs.ProductionsRead.Next.{place_at, place_past, last_get}
 use Rattle.rn_syntax.proofs.terminals.place.Goals as goal
 
 pub returns-then-at-tokens : goal.returns-then-at-tokens

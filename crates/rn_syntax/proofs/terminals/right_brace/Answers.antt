@@ -1,5 +1,5 @@
-use Rattle.rn_syntax.proofs.readings.Compose.{token_took}
-use Rattle.rn_syntax.proofs.readings.Next.{no_right_brace}
+use Rattle.rn_syntax.proofs.ProductionsRead.Compose.{token_took}
+use Rattle.rn_syntax.proofs.ProductionsRead.Next.{no_right_brace}
 use Rattle.rn_syntax.proofs.terminals.right_brace.Goals as goal
 
 pub returns-in-RightBrace-clause-passes : goal.returns-in-RightBrace-clause-passes

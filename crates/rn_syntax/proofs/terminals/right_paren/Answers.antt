@@ -1,5 +1,5 @@
-use Rattle.rn_syntax.proofs.readings.Compose.{token_took}
-use Rattle.rn_syntax.proofs.readings.Next.{no_right_paren}
+use Rattle.rn_syntax.proofs.ProductionsRead.Compose.{token_took}
+use Rattle.rn_syntax.proofs.ProductionsRead.Next.{no_right_paren}
 use Rattle.rn_syntax.proofs.terminals.right_paren.Goals as goal
 
 pub returns-in-RightParen-clause-passes : goal.returns-in-RightParen-clause-passes

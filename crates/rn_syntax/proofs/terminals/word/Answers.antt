@@ -2,8 +2,8 @@ use Rattle.std.proofs.Common.{subst, sym}
 use Rattle.rn_syntax.specs.Terminal.{keyword}
 use Rattle.rn_syntax.specs.Grammar.{IsWord, by_name, by_keyword}
 use Rattle.rn_syntax.specs.inside.Sequence.{word_at}
-use Rattle.rn_syntax.proofs.readings.Compose.{of_took}
-use Rattle.rn_syntax.proofs.readings.Next.{no_word, word_at_one}
+use Rattle.rn_syntax.proofs.ProductionsRead.Compose.{of_took}
+use Rattle.rn_syntax.proofs.ProductionsRead.Next.{no_word, word_at_one}
 use Rattle.rn_syntax.proofs.terminals.word.Goals as goal
 
 pub returns-in-Ident-clause-reads : goal.returns-in-Ident-clause-reads

@@ -5,7 +5,7 @@ use Rattle.std.proofs.lemmas.List.{map-append}
 use Rattle.rn_syntax.specs.Tree.{Declaration}
 use Rattle.rn_syntax.specs.View.{declaration_view}
 use Rattle.rn_syntax.specs.Places.{is_default, binds_namespace, binds_library, number_of}
-use Rattle.rn_syntax.proofs.Bound.{length_of, number_more}
+use Rattle.rn_syntax.proofs.BindingDeclarations.{length_of, number_more}
 use Rattle.rn_syntax.proofs.bindings.Bindings.bind.Goals as goal
 
 -- the number of the first of one kind, with one declaration more

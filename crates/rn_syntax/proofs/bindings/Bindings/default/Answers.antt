@@ -1,7 +1,7 @@
 -- The number is that of the first default declaration, so it is one of a declaration, of that URI.
 use Rattle.rn_syntax.specs.Places.{is_default}
-use Rattle.rn_syntax.specs.Bound.{bound}
-use Rattle.rn_syntax.proofs.Bound.{default_uri, number_is_of, number_is_within}
+use Rattle.rn_syntax.specs.BindingDeclarations.{bound}
+use Rattle.rn_syntax.proofs.BindingDeclarations.{default_uri, number_is_of, number_is_within}
 use Rattle.rn_syntax.proofs.bindings.Bindings.default.Goals as goal
 
 pub returns-clause-within : goal.returns-clause-within

@@ -1,6 +1,6 @@
 use Rattle.std.proofs.Common.{ap, ◌∙◌, is_some}
-use Rattle.rn_syntax.specs.Bound.{bound}
-use Rattle.rn_syntax.proofs.Bound.{is_default_by}
+use Rattle.rn_syntax.specs.BindingDeclarations.{bound}
+use Rattle.rn_syntax.proofs.BindingDeclarations.{is_default_by}
 use Rattle.rn_syntax.proofs.bindings.Bindings.has_default.Goals as goal
 
 pub returns : goal.returns

@@ -3,9 +3,9 @@ use Rattle.std.proofs.Common.{◌≡◌, ap, ◌∙◌, sym, false, Some}
 use Rattle.std.specs.Prelude.{bytes_eq, codes, if◌then◌else◌}
 use Rattle.rn_syntax.specs.Places as places
 use Rattle.rn_syntax.specs.View.{declaration_view}
-use Rattle.rn_syntax.specs.Bound.{bound}
+use Rattle.rn_syntax.specs.BindingDeclarations.{bound}
 use Rattle.rn_syntax.specs.inside.Numbered.{library_text}
-use Rattle.rn_syntax.proofs.Bound.{at_map, library_found}
+use Rattle.rn_syntax.proofs.BindingDeclarations.{at_map, library_found}
 use Rattle.rn_syntax.proofs.bindings.Bindings.is_library.Goals as goal
 
 pub returns : goal.returns

@@ -1,8 +1,8 @@
 -- The number is that of the first declaration that binds the prefix, so it is one of a declaration, of that URI.
 use Rattle.std.proofs.Common.{◌∙◌}
 use Rattle.rn_syntax.specs.Places.{binds_namespace}
-use Rattle.rn_syntax.specs.Bound.{bound}
-use Rattle.rn_syntax.proofs.Bound.{namespace_uri, number_is_of, number_is_within}
+use Rattle.rn_syntax.specs.BindingDeclarations.{bound}
+use Rattle.rn_syntax.proofs.BindingDeclarations.{namespace_uri, number_is_of, number_is_within}
 use Rattle.rn_syntax.proofs.bindings.Bindings.namespace.Goals as goal
 
 pub returns-clause-number : goal.returns-clause-number

@@ -20,9 +20,9 @@ use Rattle.rn_syntax.specs.inside.Reading.{Took, Stuck, seen, IsNext, rest}
 use Rattle.rn_syntax.specs.Spelled.{BeginAt}
 use Rattle.rn_syntax.proofs.OneReading.OneClass.{word_one, starts_to}
 use Rattle.rn_syntax.proofs.OneReading.OneTree.{declarations_tilde, item_to_tilde}
-use Rattle.rn_syntax.proofs.readings.Compose.{Upto, Fits, Can, CanBe, upto_at, upto_token, upto_then, took_upto, stuck_upto, reads, stuck_in, took_gives, first_alike, stuck_here, fits_anything, fits_token, fits_gives, can_gives, can_token, of_took}
-use Rattle.rn_syntax.proofs.readings.Repeating.{Whole, behind_start, part_read, part_stuck, parts_took}
-use Rattle.rn_syntax.proofs.readings.Next.{first_next, place_is}
+use Rattle.rn_syntax.proofs.ProductionsRead.Compose.{Upto, Fits, Can, CanBe, upto_at, upto_token, upto_then, took_upto, stuck_upto, reads, stuck_in, took_gives, first_alike, stuck_here, fits_anything, fits_token, fits_gives, can_gives, can_token, of_took}
+use Rattle.rn_syntax.proofs.ProductionsRead.Repeating.{Whole, behind_start, part_read, part_stuck, parts_took}
+use Rattle.rn_syntax.proofs.ProductionsRead.Next.{first_next, place_is}
 
 -- ---- prefixes
 

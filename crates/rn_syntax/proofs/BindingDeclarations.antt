@@ -28,7 +28,7 @@ module _ (f : Declaration → Bool) where
       step false None l h = tt
       step false (Some n) l h = omega (arith, h)
 
-  -- the same of a number that is it, and what it says of a URI
+  -- what is said of the number of a declaration is said of a number that is equal to it: it is within the list, and its URI is that declaration's
   pub number_is_within : (ds : List Declaration) (o : Option ℕ) → o ≡ number_of f ds → MatchOption o ⊤ (λ n. n < length ds)
   number_is_within ds o e = subst (λ r. MatchOption r ⊤ (λ n. n < length ds)) (sym e) (number_within ds)
 

@@ -12,6 +12,7 @@ use Rattle.rn_text.specs.Reading.{Advanced}
 use Rattle.rn_text.specs.inside.Reading.{Passed}
 use Rattle.rn_syntax.specs.inside.Reading.{Alike, ends, same, Took, Stuck, Faults, rest, Bare, Skips, Reads, Makes}
 use Rattle.rn_syntax.specs.Spelled.{AreSpelled}
+use Rattle.rn_syntax.proofs.OneReading.OneClass.{place_of, tail}
 
 -- The front of ts up to now is read: what makes a V of ts is a W of what is left.
 pub record Upto {A : Type 0} (V W : Tokens → A → Tokens → Type 0) (G : Tokens → Type 0) (ts now : Tokens) : Type 0 where
@@ -129,16 +130,7 @@ token_is token = refl
 pub token_first : {x : Terminal} {t r : Tokens} {i : ℕ} → IsToken x t i r → first_terminal t ≡ x
 token_first token = refl
 
-place_of : Tokens → ℕ
-place_of [] = 0
-place_of (x # i ∷ ts) = i
-
-tail : Tokens → Tokens
-tail [] = []
-tail (x ∷ ts) = ts
-
 pub token_took : {F : Tokens → Type 0} {x : Terminal} {i : ℕ} {now next : Tokens} → now ≡ x # i ∷ next → Took (IsToken x) F now i next
-unfolding place_of tail
 token_took {x = x} {i = i} e = record {
   front = x # i ∷ [];
   cut = e;

@@ -13,10 +13,10 @@ use Rattle.rn_syntax.specs.Grammar.{Tokens, IsLiteral, IsDatatype, IsPattern, Is
 use Rattle.rn_syntax.specs.inside.Follow.{Starts, Anything, first_terminal, no_tilde, behind_core, behind_pattern, begins_datatype}
 use Rattle.rn_syntax.specs.inside.Sequence.{Then, both, Gives, gives, IsToken, token}
 use Rattle.rn_syntax.specs.inside.Reading.{Took, Stuck, seen, IsNext}
-use Rattle.rn_syntax.proofs.readings.Compose.{Upto, Fits, Can, upto_token, upto_then, took_upto, stuck_upto, reads, stuck_in, stuck_here, took_gives, fits_anything, fits_token}
-use Rattle.rn_syntax.proofs.readings.Next.{first_next}
-use Rattle.rn_syntax.proofs.readings.Operands.{fits_given, can_given, upto_seen, core_tilde}
-use Rattle.rn_syntax.proofs.readings.Primaries.{can_core}
+use Rattle.rn_syntax.proofs.ProductionsRead.Compose.{Upto, Fits, Can, upto_token, upto_then, took_upto, stuck_upto, reads, stuck_in, stuck_here, took_gives, fits_anything, fits_token, fits_gives, can_gives}
+use Rattle.rn_syntax.proofs.ProductionsRead.Next.{first_next}
+use Rattle.rn_syntax.proofs.ProductionsRead.Operands.{upto_seen, core_tilde}
+use Rattle.rn_syntax.proofs.ProductionsRead.Primaries.{can_core}
 
 -- ---- a literal
 
@@ -35,10 +35,10 @@ literal_at {s = s} {i = i} e = upto_seen e (λ t z r h. to h) (λ t z r h w. fro
     from (g.datum n m) = elim n [ ]
 
 pub literal_took : {s u : List ℕ} {i : ℕ} {now next end : Tokens} → now ≡ segment s # i ∷ next → Took IsLiteral (Starts no_tilde) now u end → Took IsCore (Starts behind_core) now (tree.value None u) end
-literal_took {u = u} {end = end} e h = took_upto (upto_then (literal_at e) (reads (fits_given (λ s. tree.value None s) core_tilde) h)) (took_gives (tree.value None u) end)
+literal_took {u = u} {end = end} e h = took_upto (upto_then (literal_at e) (reads (fits_gives (λ s. tree.value None s) core_tilde) h)) (took_gives (tree.value None u) end)
 
 pub literal_stuck : {s : List ℕ} {i : ℕ} {now next bad : Tokens} → now ≡ segment s # i ∷ next → Stuck IsLiteral (Starts no_tilde) now bad → Stuck IsCore (Starts behind_core) now bad
-literal_stuck e h = stuck_upto (literal_at e) (stuck_in (fits_given (λ s. tree.value None s) core_tilde) (can_given (λ s. tree.value None s)) h)
+literal_stuck e h = stuck_upto (literal_at e) (stuck_in (fits_gives (λ s. tree.value None s) core_tilde) (can_gives (λ s. tree.value None s)) h)
 
 -- ---- parentheses
 
@@ -75,7 +75,7 @@ module _ {now next : Tokens} {i : ℕ} (e : now ≡ left_paren # i ∷ next) whe
     inner_read = upto_then (parens_at e) (reads fits_close h)
 
     pub close_stuck : {bad : Tokens} → Stuck (IsToken right_paren) Anything end bad → Stuck IsCore (Starts behind_core) now bad
-    close_stuck k = stuck_upto inner_read (stuck_in fits_anything (can_given (λ (j : ℕ). p)) k)
+    close_stuck k = stuck_upto inner_read (stuck_in fits_anything (can_gives (λ (j : ℕ). p)) k)
 
     pub parens_took : {rest : Tokens} {j : ℕ} → Took (IsToken right_paren) Anything end j rest → Took IsCore (Starts behind_core) now p rest
     parens_took {rest = rest} k = took_upto (upto_then inner_read (reads fits_anything k)) (took_gives p rest)

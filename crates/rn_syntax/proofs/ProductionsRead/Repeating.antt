@@ -3,7 +3,7 @@ use Rattle.std.proofs.Common.{◌≡◌, List, [], ◌∷◌, ◌++◌, refl, ap
 use Rattle.rn_syntax.specs.Grammar.{Tokens}
 use Rattle.rn_syntax.specs.inside.Sequence.{Then, both}
 use Rattle.rn_syntax.specs.inside.Reading.{Took, Stuck}
-use Rattle.rn_syntax.proofs.readings.Compose.{Upto, Fits, upto_at, upto_then, took_upto, stuck_upto, reads, stuck_in}
+use Rattle.rn_syntax.proofs.ProductionsRead.Compose.{Upto, Fits, upto_at, upto_then, took_upto, stuck_upto, reads, stuck_in}
 
 -- the parts xs were read, and an N, which is more parts, follows: f makes of them what all stands for
 pub record Behind {A C : Type 0} (N : Tokens → List A → Tokens → Type 0) (f : List A → C) (xs : List A) (ts : Tokens) (z : C) (rest : Tokens) : Type 0 where
@@ -49,7 +49,7 @@ module _ {A C : Type 0} {S : Tokens → A → Tokens → Type 0} {N : Tokens →
   pub part_read : {next : Tokens} {x : A} → Took S F mid x next → Upto V (Behind N f (xs ++ x ∷ [])) G ts next
   part_read k = upto_then so_far (upto_then (part_follows f xs u) (reads (fits_part f xs fits) k))
 
-  -- its reader stopped; the parts can end
+  -- the reader of a part stopped, where the parts may end
   pub part_stuck : {bad : Tokens} → ((more : Tokens) → (w : Tokens) × (l : List A) × N w l more) → Stuck S F mid bad → Stuck V G ts bad
   part_stuck can k = stuck_upto so_far (stuck_upto (part_follows f xs u) (stuck_in (fits_part f xs fits) (λ more. let w = can more in (w.0, λ x. (f ((xs ++ x ∷ []) ++ w.1), record { more = w.1; is = refl; behind = w.2 }))) k))
 

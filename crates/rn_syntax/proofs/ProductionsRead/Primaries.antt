@@ -13,9 +13,9 @@ use Rattle.rn_syntax.specs.inside.Parts.{BehindCore, IsDataEnd, BehindDatatype}
 use Rattle.rn_syntax.specs.inside.Reading.{Took, Stuck, Bare}
 use Rattle.rn_syntax.proofs.OneReading.OneClass.{datatype_one}
 use Rattle.rn_syntax.proofs.OneReading.OnePattern.{core_front, datatype_front, follows_core}
-use Rattle.rn_syntax.proofs.readings.Compose.{Upto, Fits, Can, CanBe, upto_at, upto_token, upto_then, took_upto, stuck_upto, reads, stuck_in, took_gives, first_alike, can_then}
-use Rattle.rn_syntax.proofs.readings.Skipping.{bare_here}
-use Rattle.rn_syntax.proofs.readings.Operands.{Follows, fits_given, can_given, fits_ends, can_ends, primary_follow}
+use Rattle.rn_syntax.proofs.ProductionsRead.Compose.{Upto, Fits, Can, CanBe, upto_at, upto_token, upto_then, took_upto, stuck_upto, reads, stuck_in, took_gives, first_alike, can_then, fits_gives, can_gives}
+use Rattle.rn_syntax.proofs.ProductionsRead.Skipping.{bare_here}
+use Rattle.rn_syntax.proofs.ProductionsRead.Operands.{Follows, fits_ends, can_ends, primary_follow}
 
 abbrev Annotates : Tokens → Unit {0} → Tokens → Type 0
 Annotates = Bare MayHaveAnnotation
@@ -191,7 +191,7 @@ primary_core : {ts now next : Tokens} {c : Pattern} → Took Annotates (Starts n
 primary_core a h = upto_then (primary_body a) (reads fits_closes h)
 
 pub primary_follows_stuck : {ts now next bad : Tokens} {c : Pattern} → Took Annotates (Starts no_bracket) ts tt now → Took IsCore (Starts behind_core) now c next → Stuck Follows (Starts no_follow) next bad → Stuck IsPrimary (Starts behind_primary) ts bad
-primary_follows_stuck {c = c} a h f = stuck_upto (primary_core a h) (stuck_in (fits_given (λ u. c) primary_follow) (can_given (λ u. c)) f)
+primary_follows_stuck {c = c} a h f = stuck_upto (primary_core a h) (stuck_in (fits_gives (λ u. c) primary_follow) (can_gives (λ u. c)) f)
 
 pub primary_took : {ts now next end : Tokens} {c : Pattern} → Took Annotates (Starts no_bracket) ts tt now → Took IsCore (Starts behind_core) now c next → Took Follows (Starts no_follow) next tt end → Took IsPrimary (Starts behind_primary) ts c end
-primary_took {end = end} {c = c} a h f = took_upto (upto_then (primary_core a h) (reads (fits_given (λ u. c) primary_follow) f)) (took_gives c end)
+primary_took {end = end} {c = c} a h f = took_upto (upto_then (primary_core a h) (reads (fits_gives (λ u. c) primary_follow) f)) (took_gives c end)

@@ -16,13 +16,13 @@ use Rattle.rn_syntax.specs.Tokens.{placed, terminal_of}
 use Rattle.rn_syntax.specs.inside.Reading.{seen, rest, IsInside, IsSegmentOf, IsNext}
 use Rattle.rn_syntax.specs.Spelled.{BeginAt, last_end}
 use Rattle.rn_syntax.specs.declared.token.Method.TheVariants as m
-use Rattle.rn_syntax.specs.inside.Follow.{first_terminal, is_end, Anything}
+use Rattle.rn_syntax.specs.inside.Follow.{first_terminal, is_end, no_brace, Anything}
 use Rattle.rn_syntax.specs.declared.token.Method.{Method}
 use Rattle.rn_syntax.specs.inside.Sequence.{IsToken, IsOf, of, IsWordAt, word_at, IsAssign, by_method}
 use Rattle.rn_syntax.specs.inside.Reading.{Stuck}
 use Rattle.rn_syntax.specs.Spelled.{AreSpelled, SpellsItsKind}
-use Rattle.rn_syntax.proofs.OneReading.OneClass.{word_one}
-use Rattle.rn_syntax.proofs.readings.Compose.{can_token, first_alike, token_first, stuck_here}
+use Rattle.rn_syntax.proofs.OneReading.OneClass.{word_one, is_word}
+use Rattle.rn_syntax.proofs.ProductionsRead.Compose.{can_token, first_alike, token_first, stuck_here}
 
 pub rest_cons : (xs : List Token) (at : ℕ) (d : Token) → at < length xs → rest xs at ≡ placed (lexeme_of (get_or xs at d)) ∷ rest xs (at + 1)
 rest_cons [] at d h = absurd (omega arith)
@@ -85,7 +85,24 @@ not_plain : (x : code.Terminal) → (x ≡ c.Assign m.Plain → ⊥) → unwrap_
 not_plain (c.Assign m.Plain) h e = h refl
 not_plain x h e = cc
 
--- another one stands here
+sees_no_brace : (x : code.Terminal) → (x ≡ c.LeftBrace → ⊥) → no_brace (unwrap_or (seen x) t.other) ≡ true
+sees_no_brace c.LeftBrace h = absurd (h refl)
+sees_no_brace x h = refl
+
+-- no brace stands here, where the code saw none
+pub first_no_brace : (now behind : Tokens) (x : code.Terminal) → IsNext now (seen x) behind → (x ≡ c.LeftBrace → ⊥) → no_brace (first_terminal now) ≡ true
+first_no_brace now behind x e h = ap no_brace (first_next now behind (seen x) e) ∙ sees_no_brace x h
+
+-- a segment, as the code sees it and as the grammar does
+abbrev pub is_segment : Terminal → Bool
+is_segment (t.segment s) = true
+is_segment x = false
+
+pub not_segment : (x : code.Terminal) → ((s : _) → x ≡ c.Segment s → ⊥) → is_segment (unwrap_or (seen x) t.other) ≡ false
+not_segment (c.Segment s) h = absurd (h s refl)
+not_segment x h = refl
+
+-- another terminal than the one that is looked for stands here
 pub other_token : (y : Terminal) (now behind : Tokens) (x : Option Terminal) → IsNext now x behind → (unwrap_or x t.other ≡ y → ⊥) → Stuck (IsToken y) Anything now now
 other_token y now behind x e h = record {
   front = [];
@@ -134,11 +151,6 @@ no_assign now behind x e h = stuck_here is_assign (λ t a r d. begins_assign d) 
 
 pub word_at_one : {x : Terminal} {n l : List ℕ} {i : ℕ} → IsWord x n → IsWordAt (x # i) l → l ≡ n
 word_at_one a (word_at b) = word_one b a
-
-abbrev is_word : Terminal → Bool
-is_word (t.ident n) = true
-is_word (t.keyword w) = true
-is_word x = false
 
 begins_word : {t r : Tokens} {n : List ℕ} → IsOf IsWordAt t n r → is_word (first_terminal t) ≡ true
 begins_word (of (word_at by_name)) = refl

@@ -1,6 +1,7 @@
 -- Datatypes and their parameters.
-use Rattle.std.proofs.Common.{◌≡◌, ℕ, true, false, List, [], ◌∷◌, ◌++◌, refl, ap, sym, ◌∙◌, subst, unwrap_or, append-nil}
+use Rattle.std.proofs.Common.{◌≡◌, ℕ, true, false, [], ◌∷◌, ◌++◌, refl, ap, sym, ◌∙◌, subst, append-nil}
 use Rattle.std.proofs.lemmas.Bool.{false≢true}
+use Rattle.rn_text.specs.Texts.{Text}
 use Rattle.rn_syntax.specs.declared.token.Method.TheVariants as m
 use Rattle.rn_syntax.specs.declared.terminals.Terminal as code
 use Rattle.rn_syntax.specs.declared.terminals.Terminal.TheVariants as c
@@ -13,18 +14,15 @@ use Rattle.rn_syntax.specs.inside.Follow.{Starts, Anything, first_terminal, is_e
 use Rattle.rn_syntax.specs.inside.Sequence.{Then, both, Gives, gives, IsToken, token, IsOf, of, IsWordAt, word_at, IsHere, IsParam}
 use Rattle.rn_syntax.specs.inside.Reading.{Took, Stuck, Bare, seen, IsNext}
 use Rattle.rn_syntax.proofs.OneReading.OneClass.{params_no_tilde, param_front, word_no_bracket}
-use Rattle.rn_syntax.proofs.readings.Compose.{Upto, Fits, Can, CanBe, upto_at, upto_token, upto_then, took_upto, reads, stuck_in, took_gives, can_then, first_alike, fits_anything}
-use Rattle.rn_syntax.proofs.readings.Repeating.{Whole, behind_start, part_read, part_stuck, parts_took}
-use Rattle.rn_syntax.proofs.readings.Next.{first_next}
+use Rattle.rn_syntax.proofs.ProductionsRead.Compose.{Upto, Fits, Can, CanBe, upto_at, upto_token, upto_then, took_upto, reads, stuck_in, took_gives, can_then, first_alike, fits_anything, fits_gives, can_gives}
+use Rattle.rn_syntax.proofs.ProductionsRead.Repeating.{Whole, behind_start, part_read, part_stuck, parts_took}
+use Rattle.rn_syntax.proofs.ProductionsRead.Next.{first_no_brace}
 
 -- a token that names a datatype, where the code knows its place
 pub is_here : {A : Type 0} (P : Placed → A → Type 0) (ts next : Tokens) (x : Terminal) (i j : ℕ) (d : ℕ → A) → ts ≡ x # i ∷ next → j ≡ i → P (x # i) (d i) → IsHere P ts (d j) next
 is_here P ts next x i j d here same h = record { token = x # i; holds = subst (λ (n : ℕ). P (x # i) (d n)) (sym same) h; here = here }
 
 -- ---- one parameter
-
-abbrev Text : Type 0
-Text = List ℕ
 
 abbrev Value : Text → ℕ → Tokens → Text × Text → Tokens → Type 0
 Value n i = Then IsLiteral (λ s. Gives (n, s))
@@ -41,20 +39,17 @@ fits_name = record { fits = λ a mid c r d g. begins d }
     begins : {mid r : Tokens} {c : Text × Text} → Unannotated tt mid c r → Starts no_bracket mid
     begins (both (of (word_at w)) d) = word_no_bracket w
 
-fits_gives : (n : Text) → Fits {C = Text × Text} (Starts no_tilde) (λ (s : Text). Gives {A = Text × Text} (n, s)) (Starts no_tilde)
-fits_gives n = record { fits = λ s mid c r d g. same d g }
-  where
-    same : {s : Text} {mid r : Tokens} {c : Text × Text} → Gives {A = Text × Text} (n, s) mid c r → Starts no_tilde r → Starts no_tilde mid
-    same gives g = g
+fits_text : (n : Text) → Fits {C = Text × Text} (Starts no_tilde) (λ (s : Text). Gives {A = Text × Text} (n, s)) (Starts no_tilde)
+fits_text n = fits_gives {C = Text × Text} (λ (s : Text). (n, s)) (λ r g. g)
 
-can_gives : (n : Text) → Can {C = Text × Text} (λ (s : Text). Gives {A = Text × Text} (n, s))
-can_gives n more = (more, λ s. ((n, s), gives))
+can_text : (n : Text) → Can {C = Text × Text} (λ (s : Text). Gives {A = Text × Text} (n, s))
+can_text n = can_gives {C = Text × Text} (λ (s : Text). (n, s))
 
 can_literal : CanBe IsLiteral
 can_literal more = (segment [] # 0 ∷ more, [], g.one)
 
 can_value : (n : Text) → Can (Value n)
-can_value n more = let w = can_then can_literal (can_gives n) more in (w.0, λ i. (w.1, w.2))
+can_value n more = let w = can_then can_literal (can_text n) more in (w.0, λ i. (w.1, w.2))
 
 can_named : Can Named
 can_named more = (assign m.Plain # 0 ∷ segment [] # 0 ∷ more, λ n. ((n, []), both token (both g.one gives)))
@@ -78,7 +73,7 @@ module _ {ts body : Tokens} (a : Took (Bare MayHaveAnnotation) (Starts no_bracke
       param_value = upto_then param_name (reads fits_anything e)
 
       pub param_read : {rest : Tokens} {s : Text} → Took IsLiteral (Starts no_tilde) value s rest → Took IsParam (Starts no_tilde) ts (n, s) rest
-      param_read {rest = rest} {s = s} l = took_upto (upto_then param_value (reads (fits_gives n) l)) (took_gives (n, s) rest)
+      param_read {rest = rest} {s = s} l = took_upto (upto_then param_value (reads (fits_text n) l)) (took_gives (n, s) rest)
 
 pub param_stuck-annotation : {ts bad : Tokens} → Stuck (Bare MayHaveAnnotation) (Starts no_bracket) ts bad → Stuck IsParam (Starts no_tilde) ts bad
 param_stuck-annotation k = stuck_in fits_name can_unannotated k
@@ -90,7 +85,7 @@ pub stuck-equals : (n : Text) {bad behind : Tokens} → Stuck (IsToken (assign m
 stuck-equals n k = stuck_in fits_anything (can_value n) k
 
 pub stuck-value : (n : Text) (i : ℕ) {bad value : Tokens} → Stuck IsLiteral (Starts no_tilde) value bad → Stuck (Value n i) (Starts no_tilde) value bad
-stuck-value n i k = stuck_in (fits_gives n) (can_gives n) k
+stuck-value n i k = stuck_in (fits_text n) (can_text n) k
 
 -- ---- parameters
 
@@ -131,16 +126,12 @@ none_from : {t r : Tokens} {ps : Params} → no_brace (first_terminal t) ≡ tru
 none_from e g.none = (refl, refl)
 none_from e (g.braces d) = absurd (false≢true e)
 
-not_left_brace : (x : code.Terminal) → (x ≡ c.LeftBrace → ⊥) → no_brace (unwrap_or (seen x) t.other) ≡ true
-not_left_brace c.LeftBrace h = absurd (h refl)
-not_left_brace x h = refl
-
 pub no_params : (now behind : Tokens) (x : code.Terminal) → IsNext now (seen x) behind → (x ≡ c.LeftBrace → ⊥) → Took MayHaveParams (Starts no_brace) now [] now
 no_params now behind x e h = record {
   front = [];
   cut = refl;
   derives = λ more. g.none;
-  only = λ t a y r d f. none_from (ap no_brace (first_alike a) ∙ ap no_brace (first_next now behind (seen x) e) ∙ not_left_brace x h) d;
+  only = λ t a y r d f. none_from (ap no_brace (first_alike a) ∙ first_no_brace now behind x e h) d;
 }
 
 -- ---- the loop

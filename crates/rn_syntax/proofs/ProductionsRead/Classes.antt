@@ -17,10 +17,10 @@ use Rattle.rn_syntax.specs.inside.Follow.{Starts, Anything, first_terminal, no_b
 use Rattle.rn_syntax.specs.inside.Sequence.{Then, both, Gives, gives, IsToken, token, IsHere, IsClassEnd, IsAnyClassEnd}
 use Rattle.rn_syntax.specs.inside.Reading.{Took, Stuck, Bare, Makes, seen, IsNext}
 use Rattle.rn_syntax.proofs.OneReading.OneClass.{class_core_one, class_core_front, any_no_bracket, any_one, word_is, minus_stays, name_to_follow, class_to_name, starts_to}
-use Rattle.rn_syntax.proofs.readings.Compose.{Upto, Fits, Can, CanBe, upto_at, upto_token, upto_then, took_upto, stuck_upto, reads, stuck_in, took_gives, first_alike, stuck_here, fits_anything, fits_token, fits_gives, can_gives, can_then}
-use Rattle.rn_syntax.proofs.readings.Repeating.{Whole}
-use Rattle.rn_syntax.proofs.readings.Chaining.{Rest, none, some, Chained, alone, many, IsChain, fits_chained, alone_at, So_far}
-use Rattle.rn_syntax.proofs.readings.Next.{first_next}
+use Rattle.rn_syntax.proofs.ProductionsRead.Compose.{Upto, Fits, Can, CanBe, upto_at, upto_token, upto_then, took_upto, stuck_upto, reads, stuck_in, took_gives, first_alike, stuck_here, fits_anything, fits_token, fits_gives, can_gives, can_then}
+use Rattle.rn_syntax.proofs.ProductionsRead.Repeating.{Whole}
+use Rattle.rn_syntax.proofs.ProductionsRead.Chaining.{Rest, none, some, Chained, alone, many, IsChain, fits_chained, alone_at, So_far}
+use Rattle.rn_syntax.proofs.ProductionsRead.Next.{first_next}
 
 -- ---- cores
 

@@ -21,9 +21,9 @@ use Rattle.rn_syntax.specs.inside.Reading.{Alike, ends, same, Took, Stuck, Fault
 use Rattle.rn_syntax.specs.Spelled.{AreSpelled}
 use Rattle.rn_syntax.proofs.OneReading.OneClass.{may_one}
 use Rattle.rn_syntax.proofs.OneReading.OneTree.{component_front, component_grammar, keyword_note, is_grammar, items_front, may_item}
-use Rattle.rn_syntax.proofs.readings.Compose.{Upto, Fits, Can, CanBe, upto_at, upto_token, upto_then, took_upto, stuck_upto, reads, stuck_in, took_gives, first_alike, fits_anything, fits_token, fits_gives, can_gives, alike_token}
-use Rattle.rn_syntax.proofs.readings.Next.{first_next}
-use Rattle.rn_syntax.proofs.readings.Itemized.{first_items_to, first_items_from, first_items_grammar, can_first_items}
+use Rattle.rn_syntax.proofs.ProductionsRead.Compose.{Upto, Fits, Can, CanBe, upto_at, upto_token, upto_then, took_upto, stuck_upto, reads, stuck_in, took_gives, first_alike, fits_anything, fits_token, fits_gives, can_gives, alike_token}
+use Rattle.rn_syntax.proofs.ProductionsRead.Next.{first_next}
+use Rattle.rn_syntax.proofs.ProductionsRead.Itemized.{first_items_to, first_items_from, first_items_grammar, can_first_items}
 
 -- ---- behind `grammar`
 

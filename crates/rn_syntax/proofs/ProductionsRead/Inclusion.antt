@@ -1,11 +1,10 @@
 -- Includes, part by part.
-use Rattle.std.proofs.Common.{◌≡◌, ℕ, true, List, [], ◌∷◌, Option, Some, None, refl, ap, sym, ◌∙◌, unwrap_or}
+use Rattle.std.proofs.Common.{◌≡◌, ℕ, true, List, [], ◌∷◌, Option, Some, None, refl, ap, sym, ◌∙◌}
 use Rattle.std.proofs.lemmas.Bool.{false≢true}
 use Rattle.rn_text.specs.declared.keywords.Keyword.TheVariants as k
 use Rattle.rn_syntax.specs.declared.token.Method.TheVariants as m
 use Rattle.rn_syntax.specs.declared.terminals.Terminal as code
 use Rattle.rn_syntax.specs.declared.terminals.Terminal.TheVariants as c
-use Rattle.rn_syntax.specs.Terminal as x
 use Rattle.rn_syntax.specs.Terminal.{◌#◌, ident, keyword, assign, left_brace}
 use Rattle.rn_syntax.specs.Tree as t
 use Rattle.rn_syntax.specs.Tree.{Item, items_of}
@@ -17,8 +16,8 @@ use Rattle.rn_syntax.specs.inside.Including.{UpToBrace, IsIncludeEnd}
 use Rattle.rn_syntax.specs.inside.Reading.{Took, Stuck, seen, IsNext}
 use Rattle.rn_syntax.proofs.OneReading.OneClass.{starts_to}
 use Rattle.rn_syntax.proofs.OneReading.OneTree.{item_to_brace, override_inherit, override_tilde, inherit_tilde}
-use Rattle.rn_syntax.proofs.readings.Compose.{Upto, Fits, Can, upto_token, upto_then, took_upto, stuck_upto, reads, stuck_in, took_gives, first_alike, fits_anything, fits_gives, can_gives}
-use Rattle.rn_syntax.proofs.readings.Next.{first_next}
+use Rattle.rn_syntax.proofs.ProductionsRead.Compose.{Upto, Fits, Can, upto_token, upto_then, took_upto, stuck_upto, reads, stuck_in, took_gives, first_alike, fits_anything, fits_gives, can_gives}
+use Rattle.rn_syntax.proofs.ProductionsRead.Next.{first_no_brace}
 
 -- ---- inherit
 
@@ -78,10 +77,6 @@ override_at {j = j} e = upto_token e (λ l z r d. to d) (λ l z r d f. from d f)
     from (g.braces d) f = both d (both token gives)
     from g.none f = absurd (false≢true f)
 
-not_left_brace : (y : code.Terminal) → (y ≡ c.LeftBrace → ⊥) → no_brace (unwrap_or (seen y) x.other) ≡ true
-not_left_brace c.LeftBrace h = absurd (h refl)
-not_left_brace y h = refl
-
 override_from : {l r : Tokens} {z : List Item} → no_brace (first_terminal l) ≡ true → MayHaveOverrides l z r → (z ≡ []) × (r ≡ l)
 override_from h g.none = (refl, refl)
 override_from h (g.braces d) = absurd (false≢true h)
@@ -91,7 +86,7 @@ no_override now behind y e h = record {
   front = [];
   cut = refl;
   derives = λ more. g.none;
-  only = λ l a z r d f. override_from (ap no_brace (first_alike a) ∙ ap no_brace (first_next now behind (seen y) e) ∙ not_left_brace y h) d;
+  only = λ l a z r d f. override_from (ap no_brace (first_alike a) ∙ first_no_brace now behind y e h) d;
 }
 
 -- ---- include

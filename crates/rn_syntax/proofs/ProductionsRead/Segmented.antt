@@ -12,8 +12,8 @@ use Rattle.rn_syntax.specs.Grammar.{Tokens, IsLiteral}
 use Rattle.rn_syntax.specs.inside.Follow.{Starts, Anything, first_terminal, no_tilde}
 use Rattle.rn_syntax.specs.inside.Sequence.{Then, both, Gives, gives, IsSegment, segment_here}
 use Rattle.rn_syntax.specs.inside.Reading.{Took, Stuck, seen, IsNext, is_plain}
-use Rattle.rn_syntax.proofs.readings.Compose.{Upto, Fits, Can, CanBe, upto_at, upto_token, upto_then, took_upto, stuck_upto, reads, stuck_in, took_gives, stuck_here, first_alike, fits_anything}
-use Rattle.rn_syntax.proofs.readings.Next.{first_next}
+use Rattle.rn_syntax.proofs.ProductionsRead.Compose.{Upto, Fits, Can, CanBe, upto_at, upto_token, upto_then, took_upto, stuck_upto, reads, stuck_in, took_gives, stuck_here, first_alike, fits_anything}
+use Rattle.rn_syntax.proofs.ProductionsRead.Next.{first_next, is_segment, not_segment}
 
 -- ---- text that is written as it is
 
@@ -63,16 +63,8 @@ segment_took {s = s} {i = i} same e = record {
   only = λ t a y r d f. let o = segment_is d in (o.0 ∙ sym same, o.1);
 }
 
-abbrev is_segment : Terminal → Bool
-is_segment (segment s) = true
-is_segment x = false
-
 segment_begins : {t r : Tokens} {s : List ℕ} → IsSegment t s r → is_segment (first_terminal t) ≡ true
 segment_begins segment_here = refl
-
-not_segment : (x : code.Terminal) → ((s : _) → x ≡ c.Segment s → ⊥) → is_segment (unwrap_or (seen x) t.other) ≡ false
-not_segment (c.Segment s) h = absurd (h s refl)
-not_segment x h = refl
 
 can_segment : CanBe IsSegment
 can_segment more = (segment [] # 0 ∷ more, [], segment_here)

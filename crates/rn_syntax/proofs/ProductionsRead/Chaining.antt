@@ -1,12 +1,13 @@
 -- One part, or parts with one terminal between each two.
-use Rattle.std.proofs.Common.{◌≡◌, ℕ, List, [], ◌∷◌, ◌++◌, refl, ap, sym, ◌∙◌, subst, append-nil}
+use Rattle.std.proofs.Common.{◌≡◌, ℕ, List, [], ◌∷◌, ◌++◌, refl, ap, sym, ◌∙◌, subst, append-nil, map}
+use Rattle.std.proofs.lemmas.List.{map-append}
 use Rattle.rn_syntax.specs.Terminal.{Terminal, ◌#◌}
 use Rattle.rn_syntax.specs.Grammar.{Tokens}
 use Rattle.rn_syntax.specs.inside.Follow.{first_terminal}
 use Rattle.rn_syntax.specs.inside.Sequence.{Then, both, Gives, gives}
 use Rattle.rn_syntax.specs.inside.Reading.{Took, Stuck}
-use Rattle.rn_syntax.proofs.readings.Compose.{Upto, Fits, upto_at, upto_token, upto_then, stuck_upto, reads, stuck_in, first_alike}
-use Rattle.rn_syntax.proofs.readings.Repeating.{Behind, Whole, part_read, part_stuck, parts_took}
+use Rattle.rn_syntax.proofs.ProductionsRead.Compose.{Upto, Fits, upto_at, upto_token, upto_then, stuck_upto, reads, stuck_in, first_alike}
+use Rattle.rn_syntax.proofs.ProductionsRead.Repeating.{Behind, Whole, part_read, part_stuck, parts_took}
 
 -- more parts, each behind the terminal, if they come
 pub data Rest {A : Type 0} (More : Tokens → List A → Tokens → Type 0) : Tokens → List A → Tokens → Type 0 where
@@ -105,3 +106,7 @@ module _ {A : Type 0} {V S : Tokens → A → Tokens → Type 0} {F G : Tokens �
   chain_end [] ts now u n = absurd u
   chain_end (c ∷ []) ts now u n = absurd (n u.1)
   chain_end (c ∷ d ∷ cs) ts now u n = parts_took f (c ∷ d ∷ cs) [] (ap f (sym (append-nil (c ∷ d ∷ cs)))) u (rest_end n)
+
+-- a member that was pushed, seen as its tree, stands behind the trees of those before it
+pub pushed : {X A : Type 0} {xs ys : List X} {x : X} (view : X → A) → ys ≡ xs ++ x ∷ [] → map view ys ≡ map view xs ++ view x ∷ []
+pushed {xs = xs} {x = x} view e = ap (map view) e ∙ map-append view xs (x ∷ [])

@@ -21,9 +21,9 @@ use Rattle.rn_syntax.specs.inside.Including.{begins_item, begins_inner, IsItem, 
 use Rattle.rn_syntax.specs.inside.Reading.{Took, Stuck, seen, IsNext, rest}
 use Rattle.rn_syntax.proofs.OneReading.OneClass.{starts_to}
 use Rattle.rn_syntax.proofs.OneReading.OneTree.{item_to_pattern}
-use Rattle.rn_syntax.proofs.readings.Compose.{Upto, Fits, Can, CanBe, upto_at, upto_token, upto_then, took_upto, stuck_upto, reads, stuck_in, took_gives, first_alike, stuck_here, fits_anything, fits_token, fits_gives, can_gives, can_then}
-use Rattle.rn_syntax.proofs.readings.Next.{first_next, next_index}
-use Rattle.rn_syntax.proofs.readings.Rows.{Rows, none, row, note, IsRow, So_far}
+use Rattle.rn_syntax.proofs.ProductionsRead.Compose.{Upto, Fits, Can, CanBe, upto_at, upto_token, upto_then, took_upto, stuck_upto, reads, stuck_in, took_gives, first_alike, stuck_here, fits_anything, fits_token, fits_gives, can_gives, can_then}
+use Rattle.rn_syntax.proofs.ProductionsRead.Next.{first_next, next_index}
+use Rattle.rn_syntax.proofs.ProductionsRead.Rows.{Rows, none, row, note, IsRow, So_far}
 
 -- ---- what begins an item
 

@@ -14,10 +14,10 @@ use Rattle.rn_syntax.specs.inside.Sequence.{Then, both}
 use Rattle.rn_syntax.specs.inside.Reading.{Took, Stuck, seen, IsNext}
 use Rattle.rn_syntax.proofs.OneReading.OneClass.{starts_to, tail}
 use Rattle.rn_syntax.proofs.OneReading.OnePattern.{to_operand, more_front, more_op, same_op}
-use Rattle.rn_syntax.proofs.readings.Compose.{Upto, Fits, upto_at, upto_then, took_upto, stuck_upto, reads, stuck_in, first_alike}
-use Rattle.rn_syntax.proofs.readings.Repeating.{Whole}
-use Rattle.rn_syntax.proofs.readings.Chaining.{Rest, none, some, Chained, alone, many, IsChain, So_far}
-use Rattle.rn_syntax.proofs.readings.Next.{first_next}
+use Rattle.rn_syntax.proofs.ProductionsRead.Compose.{Upto, Fits, upto_at, upto_then, took_upto, stuck_upto, reads, stuck_in, first_alike}
+use Rattle.rn_syntax.proofs.ProductionsRead.Repeating.{Whole}
+use Rattle.rn_syntax.proofs.ProductionsRead.Chaining.{Rest, none, some, Chained, alone, many, IsChain, So_far}
+use Rattle.rn_syntax.proofs.ProductionsRead.Next.{first_next}
 
 abbrev pub chain_of : Operator → List Pattern → Pattern
 chain_of op l = tree.chain op (patterns_of l)

@@ -17,24 +17,14 @@ use Rattle.rn_syntax.specs.inside.Parts.{BehindCore, BehindPostfix, BehindPrimar
 use Rattle.rn_syntax.specs.inside.Reading.{Took, Stuck, Bare, seen, IsNext, rest}
 use Rattle.rn_syntax.proofs.OneReading.OneClass.{starts_to, minus_stays}
 use Rattle.rn_syntax.proofs.OneReading.OnePattern.{to_primary, primary_to_follow, core_to_tilde, core_to_brace, follows_core}
-use Rattle.rn_syntax.proofs.readings.Compose.{Upto, Fits, Can, upto_at, upto_token, upto_then, took_upto, stuck_upto, reads, stuck_in, took_gives, first_alike, alike_token}
-use Rattle.rn_syntax.proofs.readings.Next.{first_next}
-use Rattle.rn_syntax.proofs.readings.Skipping.{none_here, no_follows}
+use Rattle.rn_syntax.proofs.ProductionsRead.Compose.{Upto, Fits, Can, fits_gives, can_gives, upto_at, upto_token, upto_then, took_upto, stuck_upto, reads, stuck_in, took_gives, first_alike, alike_token}
+use Rattle.rn_syntax.proofs.ProductionsRead.Next.{first_next, is_segment, not_segment}
+use Rattle.rn_syntax.proofs.ProductionsRead.Skipping.{none_here, no_follows}
 
 -- ---- words
 
 abbrev pub Follows : Tokens → Unit {0} → Tokens → Type 0
 Follows = Bare AreFollows
-
--- a value, where what is read last is all that is left
-pub fits_given : {A C : Type 0} {F G : Tokens → Type 0} (f : A → C) → ((r : Tokens) → G r → F r) → Fits F (λ (a : A). Gives (f a)) G
-fits_given {A = A} {C = C} {F = F} {G = G} f to = record { fits = λ a mid z r d w. same d w }
-  where
-    same : {a : A} {z : C} {mid r : Tokens} → Gives (f a) mid z r → G r → F mid
-    same {r = r} gives w = to r w
-
-pub can_given : {A C : Type 0} (f : A → C) → Can (λ (a : A). Gives (f a))
-can_given f more = (more, λ a. (f a, gives))
 
 -- a step before a token that is read later
 pub upto_seen : {A : Type 0} {V W : Tokens → A → Tokens → Type 0} {G : Tokens → Type 0} {x : Placed} {now next : Tokens} → now ≡ x ∷ next
@@ -73,10 +63,10 @@ postfix_at p s {i = i} e = upto_token e (λ t z r d. to d) (λ t z r d w. from d
     from part.alone w = absurd (false≢true w)
 
 pub repeated_took : (p : Pattern) (s : Postfix) {now rest : Tokens} → Took Follows (Starts no_follow) now tt rest → Took (BehindPostfix s p) (Starts behind_operand) now (tree.repeated s p) rest
-repeated_took p s {rest = rest} h = took_upto (reads (fits_given (λ u. tree.repeated s p) operand_follow) h) (took_gives (tree.repeated s p) rest)
+repeated_took p s {rest = rest} h = took_upto (reads (fits_gives (λ u. tree.repeated s p) operand_follow) h) (took_gives (tree.repeated s p) rest)
 
 pub repeated_stuck : (p : Pattern) (s : Postfix) {now bad : Tokens} → Stuck Follows (Starts no_follow) now bad → Stuck (BehindPostfix s p) (Starts behind_operand) now bad
-repeated_stuck p s h = stuck_in (fits_given (λ u. tree.repeated s p) operand_follow) (can_given (λ u. tree.repeated s p)) h
+repeated_stuck p s h = stuck_in (fits_gives (λ u. tree.repeated s p) operand_follow) (can_gives (λ u. tree.repeated s p)) h
 
 not_postfix : (x : code.Terminal) → ((s : Postfix) → x ≡ c.Postfix s → ⊥) → is_postfix (unwrap_or (seen x) other) ≡ false
 not_postfix (c.Postfix s) h = absurd (h s refl)
@@ -137,17 +127,9 @@ core_alone p now behind x e f h = took_upto (follows_read p (no_follows now behi
 
 -- ---- behind a datatype
 
-abbrev pub is_segment : Terminal → Bool
-is_segment (segment s) = true
-is_segment x = false
-
 literal_begins : {t r : Tokens} {s : List ℕ} → IsLiteral t s r → is_segment (first_terminal t) ≡ true
 literal_begins g.one = refl
 literal_begins (g.joined l) = refl
-
-not_segment : (x : code.Terminal) → ((s : _) → x ≡ c.Segment s → ⊥) → is_segment (unwrap_or (seen x) other) ≡ false
-not_segment (c.Segment s) h = absurd (h s refl)
-not_segment x h = refl
 
 pub no_segment : (now behind : Tokens) (x : code.Terminal) → IsNext now (seen x) behind → ((s : _) → x ≡ c.Segment s → ⊥) → is_segment (first_terminal now) ≡ false
 no_segment now behind x e h = ap is_segment (first_next now behind (seen x) e) ∙ not_segment x h
@@ -171,10 +153,10 @@ module _ (d : Datatype) {now : Tokens} where
       from (part.datum m) w = absurd (datum_not m w)
 
   pub value_took : {u : List ℕ} {rest : Tokens} → Took IsLiteral (Starts no_tilde) now u rest → Took (IsTypedValue d) (Starts behind_core) now (tree.value (Some d) u) rest
-  value_took {u = u} {rest = rest} h = took_upto (reads (fits_given (λ s. tree.value (Some d) s) core_tilde) h) (took_gives (tree.value (Some d) u) rest)
+  value_took {u = u} {rest = rest} h = took_upto (reads (fits_gives (λ s. tree.value (Some d) s) core_tilde) h) (took_gives (tree.value (Some d) u) rest)
 
   pub value_stuck : {bad : Tokens} → Stuck IsLiteral (Starts no_tilde) now bad → Stuck (IsTypedValue d) (Starts behind_core) now bad
-  value_stuck h = stuck_in (fits_given (λ s. tree.value (Some d) s) core_tilde) (can_given (λ s. tree.value (Some d) s)) h
+  value_stuck h = stuck_in (fits_gives (λ s. tree.value (Some d) s) core_tilde) (can_gives (λ s. tree.value (Some d) s)) h
 
   datum_at : is_segment (first_terminal now) ≡ false → Upto (IsDataEnd d) (Datum d) (Starts behind_core) now now
   datum_at e = upto_at (λ t z r h. to h) (λ t a z r h w. from (ap is_segment (first_alike a) ∙ e) h)
@@ -187,10 +169,10 @@ module _ (d : Datatype) {now : Tokens} where
       from e (part.valued l) = absurd (false≢true (sym e ∙ literal_begins l))
 
   pub datum_took : {ps : Params} {rest : Tokens} → is_segment (first_terminal now) ≡ false → Took MayHaveParams (Starts no_brace) now ps rest → Took (IsDataEnd d) (Starts behind_core) now (tree.datum d ps) rest
-  datum_took {ps = ps} {rest = rest} e h = took_upto (upto_then (datum_at e) (reads (fits_given (λ ps. tree.datum d ps) core_brace) h)) (took_gives (tree.datum d ps) rest)
+  datum_took {ps = ps} {rest = rest} e h = took_upto (upto_then (datum_at e) (reads (fits_gives (λ ps. tree.datum d ps) core_brace) h)) (took_gives (tree.datum d ps) rest)
 
   pub datum_stuck : {bad : Tokens} → is_segment (first_terminal now) ≡ false → Stuck MayHaveParams (Starts no_brace) now bad → Stuck (IsDataEnd d) (Starts behind_core) now bad
-  datum_stuck e h = stuck_upto (datum_at e) (stuck_in (fits_given (λ ps. tree.datum d ps) core_brace) (can_given (λ ps. tree.datum d ps)) h)
+  datum_stuck e h = stuck_upto (datum_at e) (stuck_in (fits_gives (λ ps. tree.datum d ps) core_brace) (can_gives (λ ps. tree.datum d ps)) h)
 
 -- ---- behind the datatype of an operand
 
@@ -238,20 +220,20 @@ plain_at d ps e = upto_at (λ t z r h. part.followed h) (λ t a z r h w. from (a
 except_not : {s : List ℕ} {i j : ℕ} {t after : Tokens} {ps : Params} → MayHaveParams (segment s # i ∷ t) ps (minus # j ∷ after) → ⊥
 except_not m = elim m [ ]
 
-abbrev Text : Datatype → Tokens → Pattern → Tokens → Type 0
-Text d = Then (IsTypedValue d) BehindCore
+abbrev WithText : Datatype → Tokens → Pattern → Tokens → Type 0
+WithText d = Then (IsTypedValue d) BehindCore
 
 abbrev WithParams : Datatype → Tokens → Pattern → Tokens → Type 0
 WithParams d = Then MayHaveParams (BehindParams d)
 
 module _ (d : Datatype) {ts : Tokens} where
-  text_at : {s : List ℕ} {i : ℕ} {next : Tokens} → ts ≡ segment s # i ∷ next → Upto (BehindDatatype d) (Text d) (Starts behind_operand) ts ts
+  text_at : {s : List ℕ} {i : ℕ} {next : Tokens} → ts ≡ segment s # i ∷ next → Upto (BehindDatatype d) (WithText d) (Starts behind_operand) ts ts
   text_at {s = s} {i = i} e = upto_seen e (λ t z r h. to h) (λ t z r h w. from h w)
     where
-      to : {t r : Tokens} {z : Pattern} → Text d t z r → BehindDatatype d t z r
+      to : {t r : Tokens} {z : Pattern} → WithText d t z r → BehindDatatype d t z r
       to (both (both l gives) (both f b)) = part.plain (part.valued l) f b
 
-      from : {t r : Tokens} {z : Pattern} → BehindDatatype d (segment s # i ∷ t) z r → Starts behind_operand r → Text d (segment s # i ∷ t) z r
+      from : {t r : Tokens} {z : Pattern} → BehindDatatype d (segment s # i ∷ t) z r → Starts behind_operand r → WithText d (segment s # i ∷ t) z r
       from (part.plain (part.valued l) f b) w = both (both l gives) (both f b)
       from (part.plain (part.datum m) f b) w = absurd (datum_not m (follows_core f (behind_front b w)))
       from (part.except m q) w = absurd (except_not m)
@@ -288,10 +270,10 @@ module _ (d : Datatype) (ps : Params) {ts : Tokens} where
   datum_read behind x n m = plain_at d ps (ap is_minus (first_next ts behind (seen x) n) ∙ not_minus x m)
 
   pub except_stuck : {i : ℕ} {next bad : Tokens} → ts ≡ minus # i ∷ next → Stuck IsPrimary (Starts behind_primary) next bad → Stuck (BehindParams d ps) (Starts behind_operand) ts bad
-  except_stuck {i = i} m q = stuck_upto (except_at d ps m) (stuck_in (fits_given (λ p. tree.datum_but d ps i p) operand_primary) (can_given (λ p. tree.datum_but d ps i p)) q)
+  except_stuck {i = i} m q = stuck_upto (except_at d ps m) (stuck_in (fits_gives (λ p. tree.datum_but d ps i p) operand_primary) (can_gives (λ p. tree.datum_but d ps i p)) q)
 
   pub except_took : {i : ℕ} {p : Pattern} {next end : Tokens} → ts ≡ minus # i ∷ next → Took IsPrimary (Starts behind_primary) next p end → Took (BehindParams d ps) (Starts behind_operand) ts (tree.datum_but d ps i p) end
-  except_took {i = i} {p = p} {end = end} m q = took_upto (upto_then (except_at d ps m) (reads (fits_given (λ p. tree.datum_but d ps i p) operand_primary) q)) (took_gives (tree.datum_but d ps i p) end)
+  except_took {i = i} {p = p} {end = end} m q = took_upto (upto_then (except_at d ps m) (reads (fits_gives (λ p. tree.datum_but d ps i p) operand_primary) q)) (took_gives (tree.datum_but d ps i p) end)
 
 -- what follows a core that was made, by its other names
 pub core_made : {V : Tokens → Pattern → Tokens → Type 0} {G : Tokens → Type 0} {ts : Tokens} (xs : List Token) {p q : Pattern} {i j : ℕ} → (q ≡ p) × (j ≡ i) → Upto V (BehindCore p) G ts (rest xs i) → Upto V (BehindCore q) G ts (rest xs j)

@@ -18,3 +18,4 @@ pub mod Modular
 pub mod Rows
 pub mod Grouping
 pub mod Inclusion
+pub mod PatternViews

@@ -12,9 +12,8 @@ use Rattle.rn_syntax.specs.inside.Follow.{Starts, Anything, first_terminal, behi
 use Rattle.rn_syntax.specs.inside.Sequence.{Then, both, Gives, gives, IsToken, token}
 use Rattle.rn_syntax.specs.inside.Parts.{IsBraced, IsNamed}
 use Rattle.rn_syntax.specs.inside.Reading.{Took, Stuck, rest}
-use Rattle.rn_syntax.proofs.readings.Compose.{Upto, Fits, Can, CanBe, upto_token, upto_then, took_upto, stuck_upto, reads, stuck_in, took_gives, can_then, can_token, fits_anything, fits_token}
-use Rattle.rn_syntax.proofs.readings.Next.{terminal_at}
-use Rattle.rn_syntax.proofs.readings.Operands.{can_given}
+use Rattle.rn_syntax.proofs.ProductionsRead.Compose.{Upto, Fits, Can, CanBe, upto_token, upto_then, took_upto, stuck_upto, reads, stuck_in, took_gives, can_then, can_token, fits_anything, fits_token, can_gives}
+use Rattle.rn_syntax.proofs.ProductionsRead.Next.{terminal_at}
 
 -- ---- braces
 
@@ -51,7 +50,7 @@ module _ {ts now : Tokens} {i : ℕ} (b : Took (IsToken left_brace) Anything ts 
     inner_read = upto_then opened (reads fits_close h)
 
     pub braces_close : {bad : Tokens} → Stuck (IsToken right_brace) Anything next bad → Stuck IsBraced Anything ts bad
-    braces_close k = stuck_upto inner_read (stuck_in fits_anything (can_given (λ (j : ℕ). p)) k)
+    braces_close k = stuck_upto inner_read (stuck_in fits_anything (can_gives (λ (j : ℕ). p)) k)
 
     pub braced_took : {end : Tokens} {j : ℕ} → Took (IsToken right_brace) Anything next j end → Took IsBraced Anything ts p end
     braced_took {end = end} k = took_upto (upto_then inner_read (reads fits_anything k)) (took_gives p end)
@@ -84,7 +83,7 @@ module _ {ts now : Tokens} {c : NameClass} (h : Took IsNameClass (Starts behind_
   class_read = reads fits_braced h
 
   pub content_stuck : {bad : Tokens} → Stuck IsBraced Anything now bad → Stuck IsNamed Anything ts bad
-  content_stuck b = stuck_upto class_read (stuck_in fits_anything (can_given {C = Pair} (λ p. (c, p))) b)
+  content_stuck b = stuck_upto class_read (stuck_in fits_anything (can_gives {C = Pair} (λ p. (c, p))) b)
 
   pub content_took : {end : Tokens} {p : Pattern} → Took IsBraced Anything now p end → Took IsNamed Anything ts (c, p) end
   content_took {end = end} {p = p} b = took_upto (upto_then class_read (reads fits_anything b)) (took_gives {A = Pair} (c, p) end)
@@ -159,25 +158,25 @@ module _ {now next : Tokens} {i : ℕ} where
   element_took {c = c} {p = p} {end = end} e h = took_upto (upto_then (element_at e) (reads fits_anything h)) (took_gives (tree.element c p) end)
 
   pub element_stuck : {bad : Tokens} → now ≡ keyword k.Element # i ∷ next → Stuck IsNamed Anything next bad → Stuck IsCore (Starts behind_core) now bad
-  element_stuck e h = stuck_upto (element_at e) (stuck_in fits_anything (can_given (λ (x : Pair). tree.element x.0 x.1)) h)
+  element_stuck e h = stuck_upto (element_at e) (stuck_in fits_anything (can_gives (λ (x : Pair). tree.element x.0 x.1)) h)
 
   pub attribute_took : {c : NameClass} {p : Pattern} {end : Tokens} → now ≡ keyword k.Attribute # i ∷ next → Took IsNamed Anything next (c, p) end → Took IsCore (Starts behind_core) now (tree.attribute c p) end
   attribute_took {c = c} {p = p} {end = end} e h = took_upto (upto_then (attribute_at e) (reads fits_anything h)) (took_gives (tree.attribute c p) end)
 
   pub attribute_stuck : {bad : Tokens} → now ≡ keyword k.Attribute # i ∷ next → Stuck IsNamed Anything next bad → Stuck IsCore (Starts behind_core) now bad
-  attribute_stuck e h = stuck_upto (attribute_at e) (stuck_in fits_anything (can_given (λ (x : Pair). tree.attribute x.0 x.1)) h)
+  attribute_stuck e h = stuck_upto (attribute_at e) (stuck_in fits_anything (can_gives (λ (x : Pair). tree.attribute x.0 x.1)) h)
 
   pub list_took : {p : Pattern} {end : Tokens} → now ≡ keyword k.List # i ∷ next → Took IsBraced Anything next p end → Took IsCore (Starts behind_core) now (tree.list p) end
   list_took {p = p} {end = end} e h = took_upto (upto_then (list_at e) (reads fits_anything h)) (took_gives (tree.list p) end)
 
   pub list_stuck : {bad : Tokens} → now ≡ keyword k.List # i ∷ next → Stuck IsBraced Anything next bad → Stuck IsCore (Starts behind_core) now bad
-  list_stuck e h = stuck_upto (list_at e) (stuck_in fits_anything (can_given tree.list) h)
+  list_stuck e h = stuck_upto (list_at e) (stuck_in fits_anything (can_gives tree.list) h)
 
   pub mixed_took : {p : Pattern} {end : Tokens} → now ≡ keyword k.Mixed # i ∷ next → Took IsBraced Anything next p end → Took IsCore (Starts behind_core) now (tree.mixed p) end
   mixed_took {p = p} {end = end} e h = took_upto (upto_then (mixed_at e) (reads fits_anything h)) (took_gives (tree.mixed p) end)
 
   pub mixed_stuck : {bad : Tokens} → now ≡ keyword k.Mixed # i ∷ next → Stuck IsBraced Anything next bad → Stuck IsCore (Starts behind_core) now bad
-  mixed_stuck e h = stuck_upto (mixed_at e) (stuck_in fits_anything (can_given tree.mixed) h)
+  mixed_stuck e h = stuck_upto (mixed_at e) (stuck_in fits_anything (can_gives tree.mixed) h)
 
 -- ---- one token
 

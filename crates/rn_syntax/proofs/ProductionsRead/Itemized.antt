@@ -16,7 +16,7 @@ use Rattle.rn_syntax.specs.inside.Including as n
 use Rattle.rn_syntax.specs.inside.Including.{IsItem, AreItemsBehind}
 use Rattle.rn_syntax.specs.inside.Itemizing.{AreAnnotatedItems, first_items}
 use Rattle.rn_syntax.proofs.OneReading.OneTree.{component_grammar, items_front}
-use Rattle.rn_syntax.proofs.readings.Compose.{Upto, Fits, CanBe, upto_at, upto_then, reads, stuck_in, stuck_upto}
+use Rattle.rn_syntax.proofs.ProductionsRead.Compose.{Upto, Fits, CanBe, upto_at, upto_then, reads, stuck_in, stuck_upto}
 
 pub first_items_to : {ts mid r : Tokens} {xs : List Item} → MayHaveAnnotation ts mid → AreAnnotatedItems mid xs r → AreItems ts xs r
 first_items_to a (first_items (n.component c) r) = g.component a c r

@@ -13,8 +13,9 @@ use Rattle.rn_syntax.specs.inside.Sequence.{Then, both, is_note}
 use Rattle.rn_syntax.specs.inside.Reading.{Alike, ends, same, Took, Stuck, Bare}
 use Rattle.rn_syntax.proofs.OneReading.OneClass.{starts_to}
 use Rattle.rn_syntax.proofs.OneReading.OneTree.{end_to_item, note_front, note_end, note_one}
-use Rattle.rn_syntax.proofs.readings.Compose.{Upto, Fits, Can, upto_then, took_upto, stuck_upto, reads, stuck_in, first_alike, alike_front, starts_first}
-use Rattle.rn_syntax.proofs.readings.Repeating.{Behind, Whole, parts_took, parts_stuck, part_passed}
+use Rattle.rn_syntax.proofs.ProductionsRead.Compose.{Upto, Fits, Can, upto_then, took_upto, stuck_upto, reads, stuck_in, first_alike, alike_front, starts_first}
+use Rattle.rn_syntax.proofs.ProductionsRead.Repeating.{Behind, Whole, parts_took, parts_stuck, part_passed}
+use Rattle.rn_syntax.proofs.ProductionsRead.Skipping.{begins_bracket}
 
 -- an S with its annotation
 abbrev pub Row : (Tokens → Item → Tokens → Type 0) → Tokens → Item → Tokens → Type 0
@@ -40,23 +41,20 @@ pub record IsRow (S : Tokens → Item → Tokens → Type 0) (test : Terminal �
 
 -- ---- notes
 
-annotation_bracket : {ts r : Tokens} → IsAnnotation ts r → no_bracket (first_terminal ts) ≡ false
-annotation_bracket (g.bracketed c) = refl
-
 ident_note : (n : List ℕ) (i : ℕ) (ts : Tokens) → is_note (ident n # i ∷ ts) ≡ not (no_bracket (first_terminal ts))
 ident_note n i [] = refl
 ident_note n i (left_bracket # j ∷ ts) = refl
 ident_note n i (x # j ∷ ts) = refl
 
 pub note_is : {ts r : Tokens} → IsNote ts r → is_note ts ≡ true
-note_is (g.by_name {n = n} {i = i} {ts = ts} a) = ident_note n i ts ∙ ap not (annotation_bracket a)
+note_is (g.by_name {n = n} {i = i} {ts = ts} a) = ident_note n i ts ∙ ap not (begins_bracket a)
 note_is (g.by_prefixed a) = refl
 
 same_second : (y : Terminal) (i : ℕ) (ts us : Tokens) → first_terminal ts ≡ first_terminal us → is_note (y # i ∷ ts) ≡ is_note (y # i ∷ us)
 same_second (ident n) i ts us e = ident_note n i ts ∙ ap (λ (x : Terminal). not (no_bracket x)) e ∙ sym (ident_note n i us)
 same_second y i ts us e = refl
 
--- behind such a first token an annotation makes a note
+-- behind the first token of a note an annotation makes one
 note_name : (y : Terminal) (i : ℕ) (ts : Tokens) → is_note (y # i ∷ ts) ≡ true → (us r : Tokens) → IsAnnotation us r → IsNote (y # i ∷ us) r
 note_name (ident n) i ts h us r a = g.by_name a
 note_name (prefixed n l) i ts h us r a = g.by_prefixed a

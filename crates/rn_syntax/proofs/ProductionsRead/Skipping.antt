@@ -11,8 +11,8 @@ use Rattle.rn_syntax.specs.Grammar.{Tokens, Closed, IsAnnotation, MayHaveAnnotat
 use Rattle.rn_syntax.specs.inside.Follow.{Starts, Anything, first_terminal, no_bracket, no_follow}
 use Rattle.rn_syntax.specs.inside.Sequence.{Then, both, Gives, gives, IsFollow, named}
 use Rattle.rn_syntax.specs.inside.Reading.{Alike, Took, Stuck, Bare, seen, IsNext}
-use Rattle.rn_syntax.proofs.readings.Compose.{Upto, Can, CanBe, upto_at, upto_then, stuck_upto, reads, stuck_in, stuck_here, first_alike, alike_end, upto_token, fits_anything}
-use Rattle.rn_syntax.proofs.readings.Next.{first_next}
+use Rattle.rn_syntax.proofs.ProductionsRead.Compose.{Upto, Can, CanBe, upto_at, upto_then, stuck_upto, reads, stuck_in, stuck_here, first_alike, alike_end, upto_token, fits_anything}
+use Rattle.rn_syntax.proofs.ProductionsRead.Next.{first_next}
 
 -- this many brackets close
 abbrev pub Closings : ℕ → Tokens → Unit {0} → Tokens → Type 0
@@ -145,7 +145,7 @@ not_bracket x h = refl
 pub first_no_bracket : (now behind : Tokens) (x : code.Terminal) → IsNext now (seen x) behind → (x ≡ c.LeftBracket → ⊥) → no_bracket (first_terminal now) ≡ true
 first_no_bracket now behind x e h = ap no_bracket (first_next now behind (seen x) e) ∙ not_bracket x h
 
-begins_bracket : {t r : Tokens} → IsAnnotation t r → no_bracket (first_terminal t) ≡ false
+pub begins_bracket : {t r : Tokens} → IsAnnotation t r → no_bracket (first_terminal t) ≡ false
 begins_bracket (g.bracketed d) = refl
 
 pub can_annotation : CanBe (Bare IsAnnotation)
