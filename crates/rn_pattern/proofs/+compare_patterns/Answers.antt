@@ -1,5 +1,5 @@
 -- The heads, and then the members one by one.
-use Rattle.std.proofs.Common.{map, sym, ap, ◌∙◌, arith}
+use Rattle.std.proofs.Common.{◌≡◌, map, sym, ap, ◌∙◌, arith}
 use Rattle.rn_pattern.specs.Order.{rank, tree_cmp, trees_cmp}
 use Rattle.rn_pattern.specs.View.{pattern_view, shared_view, shared_trees}
 use Rattle.rn_pattern.proofs.Ordered.Stepwise.{trees_cmp-trees_of, rest_ended, rest_settled, rest_tied}
