@@ -77,7 +77,7 @@ fn contents_of_module<'t, 's>(
         (named_module_view «module».now) c) }
 {
     let mut contents = Contents {
-        bindings: DeclaredUris::new(alloc, module.tree.declarations.as_slice(), constants)?,
+        bindings: DeclaredUris::new(alloc, module.tree.decls.as_slice(), constants)?,
         components: Vec::with_capacity(alloc, module.tree.items.len())?,
         includes: Vec::new(alloc),
     };

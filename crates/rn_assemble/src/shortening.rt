@@ -75,7 +75,7 @@ fn have_long_uri(modules: &[NamedModule<'_>]) -> bool
     ensures { result ≡ list_any is_long (module_uris (modules_view modules.now)) }
 {
     for module in modules {
-        if has_long_uri(&module.tree.declarations) {
+        if has_long_uri(&module.tree.decls) {
             return true;
         }
     }
@@ -93,7 +93,7 @@ fn literal_uris<'m>(
     let mut uris = BTreeSet::new(alloc);
     add_special(&mut uris)?;
     for module in modules {
-        add_literals(&module.tree.declarations, &mut uris)?;
+        add_literals(&module.tree.decls, &mut uris)?;
     }
     Ok(uris)
 }
@@ -181,17 +181,11 @@ fn shorten_module<'a>(
         (named_module_view «module».entry) (named_module_view m)) }
 {
     let NamedModule { name, tree } = module;
-    let Module {
-        declarations,
-        items,
-    } = tree;
-    let declarations = shorten_declarations(alloc, uris, declarations)?;
+    let Module { decls, items } = tree;
+    let decls = shorten_declarations(alloc, uris, decls)?;
     Ok(NamedModule {
         name,
-        tree: Module {
-            declarations,
-            items,
-        },
+        tree: Module { decls, items },
     })
 }
 

@@ -122,7 +122,7 @@ abbrev pub items_view : List code_item.Item → Items
 items_view xs = items_of (map item_view xs)
 
 abbrev pub module_view : code_module.Module → Module
-module_view m = record { declarations = map declaration_view m.declarations.items; items = items_view m.items.items }
+module_view m = record { declarations = map declaration_view m.decls.items; items = items_view m.items.items }
 
 -- borrowed texts
 abbrev pub texts_view : List (Bor (List ℕ)) → List (List ℕ)

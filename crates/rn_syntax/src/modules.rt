@@ -25,12 +25,12 @@ pub(crate) fn module<'a>(alloc: Global, tokens: &[Token<'a>]) -> Result<Module<'
         → HasTree (terminals_of tokens.now) (module_view m)) }
     ensures stuck { IfErr result (IsModuleFault tokens.now) }
 {
-    let (declarations, at) = declarations(alloc, tokens)?;
+    let (decls, at) = declarations(alloc, tokens)?;
     let (items, end) = body(alloc, tokens, at)?;
     if end < tokens.len() {
         return Err(Fault::Stuck(end));
     }
-    Ok(Module { declarations, items })
+    Ok(Module { decls, items })
 }
 
 /// `item* | [ann] "grammar" "{" item* "}" follow*`

@@ -37,7 +37,7 @@ fn tree<'a>(alloc: Global, tokens: &[Token<'a>]) -> Result<Module<'a>, SyntaxFau
 
 /// The place of the first unbound prefix in the items.
 fn prefix_place(bindings: &Bindings<'_, '_>, module: &Module<'_>) -> Option<usize>
-    requires bound { bindings.now.declarations.now ≡ «module».now.declarations.items }
+    requires bound { bindings.now.declarations.now ≡ «module».now.decls.items }
     requires declared { wrong_declaration (module_view «module».now).declarations ≡ None }
     ensures { result ≡ first (prefix_places (module_view «module».now)) }
 {
@@ -46,7 +46,7 @@ fn prefix_place(bindings: &Bindings<'_, '_>, module: &Module<'_>) -> Option<usiz
 
 /// The place of the first type of the empty library that is none of it.
 fn builtin_place(bindings: &Bindings<'_, '_>, module: &Module<'_>) -> Option<usize>
-    requires { bindings.now.declarations.now ≡ «module».now.declarations.items }
+    requires { bindings.now.declarations.now ≡ «module».now.decls.items }
     ensures { result ≡ first (builtin_places (module_view «module».now)) }
 {
     module_place(Rule::Builtins, bindings, module)
@@ -54,7 +54,7 @@ fn builtin_place(bindings: &Bindings<'_, '_>, module: &Module<'_>) -> Option<usi
 
 /// The place of the first value of a type that looks at namespace bindings.
 fn context_value_place(bindings: &Bindings<'_, '_>, module: &Module<'_>) -> Option<usize>
-    requires { bindings.now.declarations.now ≡ «module».now.declarations.items }
+    requires { bindings.now.declarations.now ≡ «module».now.decls.items }
     ensures { result ≡ first (context_places (module_view «module».now)) }
 {
     module_place(Rule::ContextValues, bindings, module)
@@ -70,7 +70,7 @@ fn except_place(bindings: &Bindings<'_, '_>, module: &Module<'_>) -> Option<usiz
 
 /// Whether the items of a module are known to keep all rules, by one walk through them.
 fn keeps_rules(bindings: &Bindings<'_, '_>, module: &Module<'_>) -> bool
-    requires bound { bindings.now.declarations.now ≡ «module».now.declarations.items }
+    requires bound { bindings.now.declarations.now ≡ «module».now.decls.items }
     requires declared { wrong_declaration (module_view «module».now).declarations ≡ None }
     ensures { IsTrue result → HasNoFault (module_view «module».now) }
 {
@@ -82,7 +82,7 @@ fn keeps_rules(bindings: &Bindings<'_, '_>, module: &Module<'_>) -> bool
 
 /// The first fault in the items of a module whose declarations are bound: one walk for each kind, in their order.
 fn items_fault(bindings: &Bindings<'_, '_>, module: &Module<'_>) -> Option<SyntaxFault>
-    requires bound { bindings.now.declarations.now ≡ «module».now.declarations.items }
+    requires bound { bindings.now.declarations.now ≡ «module».now.decls.items }
     requires declared { wrong_declaration (module_view «module».now).declarations ≡ None }
     ensures { MatchOption result (HasNoFault (module_view «module».now))
         (HasModuleFault (module_view «module».now)) }
@@ -109,7 +109,7 @@ fn bound_fault(
     wrong: Option<usize>,
     module: &Module<'_>,
 ) -> Option<SyntaxFault>
-    requires bound { bindings.now.declarations.now ≡ «module».now.declarations.items }
+    requires bound { bindings.now.declarations.now ≡ «module».now.decls.items }
     requires wrong { wrong ≡ wrong_declaration (module_view «module».now).declarations }
     ensures { MatchOption result (HasNoFault (module_view «module».now))
         (HasModuleFault (module_view «module».now)) }
@@ -128,7 +128,7 @@ fn fault(alloc: Global, module: &Module<'_>) -> Result<Option<SyntaxFault>, Allo
     ensures { IfOk result (λ found. MatchOption found (HasNoFault (module_view «module».now))
         (HasModuleFault (module_view «module».now))) }
 {
-    let (bindings, wrong) = bind_all(alloc, &module.declarations)?;
+    let (bindings, wrong) = bind_all(alloc, &module.decls)?;
     Ok(bound_fault(&bindings, wrong, module))
 }
 

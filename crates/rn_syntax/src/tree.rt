@@ -176,7 +176,7 @@ pub struct Include<'a> {
 #[derive(Drop)]
 pub struct Module<'a> {
     /// In the order of the text.
-    pub declarations: Vec<Declaration<'a>>,
+    pub decls: Vec<Declaration<'a>>,
     /// In the order of the text; those of a `grammar` in braces too.
     pub items: Vec<Item<'a>>,
 }
