@@ -13,10 +13,7 @@ pub(crate) fn boxed<T: Drop>(alloc: Global, value: T, end: usize) -> Result<(Box
 }
 
 /// Adds a member, out of its box, to those of a chain or a choice, which lie side by side.
-pub(crate) fn push_member<T: Drop>(
-    members: &mut Vec<T>,
-    member: Box<T>,
-) -> Result<(), AllocError>
+pub(crate) fn push_member<T: Drop>(members: &mut Vec<T>, member: Box<T>) -> Result<(), AllocError>
     ensures { OnOk result (members.new.items
         ≡ members.old.items ++ member.value ∷ []) }
 {
