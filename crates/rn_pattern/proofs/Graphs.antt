@@ -3,3 +3,4 @@ pub mod Marking
 pub mod BuiltRows
 pub mod RowEnds
 pub mod FirstLoop
+pub mod Loops

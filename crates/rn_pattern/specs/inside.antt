@@ -12,3 +12,4 @@ pub mod Count
 pub mod Marking
 pub mod RowEnds
 pub mod Searching
+pub mod Walks

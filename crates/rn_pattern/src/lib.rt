@@ -9,9 +9,9 @@
 //! [`steps`] takes the same steps on patterns themselves, for a pattern that no store is to keep.
 //!
 //! [`laws`] has what is proved of canonical patterns; [`examples`] has documents that are valid and documents that are not.
-//! [`name_classes`] has the restrictions on name classes (4.16). [`graph`] and [`ranks`] walk graphs whose nodes are numbers:
-//! definitions and what they refer to, modules and what they include. The edges of a graph are [`Rows`]; those of references,
-//! everywhere and outside elements, are [`ReferenceRows`].
+//! [`name_classes`] has the restrictions on name classes (4.16). [`graph`], [`ranks`] and [`loops`] walk graphs whose nodes are
+//! numbers: definitions and what they refer to, modules and what they include. The edges of a graph are [`Rows`]; those of
+//! references, everywhere and outside elements, are [`ReferenceRows`].
 //!
 //! [`boxes`] puts a value in a box of its own, or where it can be shared.
 #![tactic(auto)]
@@ -25,6 +25,7 @@ mod hashing;
 mod heads;
 pub mod interned;
 mod libraries;
+pub mod loops;
 mod name_class;
 pub mod name_classes;
 pub mod node;

@@ -52,7 +52,7 @@ module _ (rows : List (List ℕ)) where
     | inr h ↦ let none : Contains [] y = subst (λ (l : List ℕ). Contains l y) (get_or_past rows x [] h) c in absurd (omega (arith, none.1))
   ]
 
-  starts_within : {x y : ℕ} → Leads rows x y → x < length rows
+  pub starts_within : {x y : ℕ} → Leads rows x y → x < length rows
   starts_within (by_edge {x = x} {y = y} c) = source_within x y c
   starts_within (and_edge l c) = starts_within l
 
