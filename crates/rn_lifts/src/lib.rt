@@ -2,8 +2,16 @@
 #![tactic(auto)]
 
 #[cfg(test)]
-mod lifts;
+mod excepts;
+#[cfg(test)]
+mod free_names;
+#[cfg(test)]
+mod grouped;
+#[cfg(test)]
+mod lifted_files;
 #[cfg(test)]
 mod limits;
 #[cfg(test)]
 mod outlines;
+#[cfg(test)]
+mod scopes;

@@ -1,7 +1,8 @@
-// Limits that two crates have, of which neither stands on the other, and how sentences show them.
+// Limits that two crates have, of which neither stands on the other.
+use crate::outlines::{outline_of, outline_or_fault};
 use rn_lift::MAX_EXCEPTS;
 use rn_modset::{MAX_CONTRIBUTIONS, MAX_TEXT};
-use rn_outline::{Grouped, OutlineFault, read_outline};
+use rn_outline::OutlineFault;
 use rn_plan::{LiftFaultKind, Lifting, MAX_PLACES, Units, make_plan};
 use rn_syntax::{MAX_OPEN, SyntaxFault, parse};
 use rn_text::tokens;
@@ -10,24 +11,16 @@ use std::process::Abort;
 
 // A start in so many parentheses.
 fn enclosed_start(alloc: Global, count: usize) -> Result<String, AllocError> {
-    let mut text = String::from_str(alloc, "start = ")?;
-    for _ in 0..count {
-        text.push('(')?;
-    }
-    text.push('a')?;
-    for _ in 0..count {
-        text.push(')')?;
-    }
-    Ok(text)
+    let (opening, closing) = ("(".repeat(alloc, count)?, ")".repeat(alloc, count)?);
+    format!(in alloc; "start = {opening}a{closing}")
 }
 
 // Whether too many brackets are open in a text: as a file, and as a module.
 fn are_too_deep(rt: &(impl Abort + AllocGlobal), text: &str) -> (bool, bool) {
     let tokens = tokens(rt.alloc(), text.as_bytes()).expect(rt, "no tokens");
-    let outline = read_outline(rt.alloc(), text, tokens.as_slice());
     let module = parse(rt.alloc(), tokens.as_slice());
     (
-        matches!(outline, Err(OutlineFault::Deep { .. })),
+        matches!(outline_or_fault(rt, text), Err(OutlineFault::Deep { .. })),
         matches!(module, Err(SyntaxFault::Deep { .. })),
     )
 }
@@ -54,11 +47,8 @@ fn excepts_may_be_as_long_as_a_text(rt: HostRuntime) {
 
 // A start that is a choice of so many nested grammars and of text.
 fn start_of_grammars(alloc: Global, count: usize) -> Result<String, AllocError> {
-    let mut text = String::from_str(alloc, "start = text")?;
-    for _ in 0..count {
-        text.push_str(" | grammar { start = text }")?;
-    }
-    Ok(text)
+    let grammars = " | grammar { start = text }".repeat(alloc, count)?;
+    format!(in alloc; "start = text{grammars}")
 }
 
 // How many places a file with so many nested grammars has, or the fault: one of its own, and one for each of these.
@@ -67,9 +57,7 @@ fn places_of_grammars(
     count: usize,
 ) -> Result<usize, LiftFaultKind> {
     let text = start_of_grammars(rt.alloc(), count).expect(rt, "no memory");
-    let tokens = tokens(rt.alloc(), text.as_bytes()).expect(rt, "no tokens");
-    let outline = read_outline(rt.alloc(), text.as_str(), tokens.as_slice());
-    let outline = outline.expect(rt, "no outline");
+    let outline = outline_of(rt, text.as_str());
     let file = Lifting {
         name: "a",
         text: text.as_str(),
@@ -90,29 +78,4 @@ fn files_make_as_many_modules_as_a_set_has(rt: HostRuntime) {
     assert_eq!(&rt; most, Ok(1_024), "as many as may be");
     let more = places_of_grammars(&rt, MAX_PLACES);
     assert_eq!(&rt; more, Err(LiftFaultKind::Many), "a module too many");
-}
-
-// Whether a number is shown like this.
-fn is_shown(rt: &(impl Abort + AllocGlobal), number: usize, wanted: &str) -> bool {
-    let number = Grouped(number);
-    let shown = format!(in rt.alloc(); "{number}").expect(rt, "no memory");
-    shown.as_str() == wanted
-}
-
-#[test]
-fn numbers_are_shown_in_threes(rt: HostRuntime) {
-    assert!(&rt; is_shown(&rt, 0, "0"));
-    assert!(&rt; is_shown(&rt, 999, "999"));
-    assert!(&rt; is_shown(&rt, 1_000, "1,000"));
-    assert!(&rt; is_shown(&rt, 65_536, "65,536"));
-    assert!(&rt; is_shown(&rt, 4_000_004, "4,000,004"));
-    assert!(&rt; is_shown(&rt, 1_000_000_000, "1,000,000,000"));
-    assert!(&rt; is_shown(&rt, usize::MAX, "18,446,744,073,709,551,615"));
-}
-
-#[test]
-fn the_sentence_on_modules_shows_its_limit_so(rt: HostRuntime) {
-    let kind = LiftFaultKind::Many;
-    let sentence = format!(in rt.alloc(); "{kind}").expect(&rt, "no memory");
-    assert_eq!(&rt; sentence.as_str(), "more than 1,024 modules");
 }

@@ -1,5 +1,5 @@
-// Outlines by example.
-use rn_outline::{Outline, Part, PartKind, Span, read_outline};
+// Outlines of texts, and the faults of texts that have none.
+use rn_outline::{Outline, OutlineFault, Part, PartKind, Span, read_outline};
 use rn_text::tokens;
 use std::alloc::{AllocError, Global};
 use std::process::Abort;
@@ -9,86 +9,113 @@ fn cut(text: &str, span: Span) -> &str {
     text.get(span.from..span.to).unwrap_or("?")
 }
 
-// A part as one line.
-fn line(alloc: Global, text: &str, part: &Part) -> Result<String, AllocError> {
-    let at = cut(text, part.at);
-    let grammar = part.grammar;
-    let in_except = if part.in_except { "-" } else { "" };
-    match &part.kind {
+// The word for the kind of a part.
+fn kind_word(kind: &PartKind) -> &'static str {
+    match kind {
+        PartKind::Define { .. } => "define",
+        PartKind::Start { .. } => "start",
+        PartKind::Reference { .. } => "ref",
+        PartKind::Parent { .. } => "parent",
+        PartKind::External { .. } => "external",
+        PartKind::Include { .. } => "include",
+        PartKind::Grammar { .. } => "grammar",
+    }
+}
+
+// A text in angles.
+fn angled(alloc: Global, text: &str) -> Result<String, AllocError> {
+    format!(in alloc; "<{text}>")
+}
+
+// What is said of a part besides its kind and its text.
+fn kind_words(alloc: Global, text: &str, kind: &PartKind) -> Result<String, AllocError> {
+    match kind {
         PartKind::Define {
             name,
             body,
             within,
             only_data,
             ..
-        } => {
-            let (name, body) = (cut(text, *name), cut(text, *body));
-            format!(in alloc; "{grammar}define({at})<{name}><{body}>{within:?}{only_data};")
         }
-        PartKind::Start {
-            word,
+        | PartKind::Start {
+            word: name,
             body,
             within,
             only_data,
             ..
         } => {
-            let (word, body) = (cut(text, *word), cut(text, *body));
-            format!(in alloc; "{grammar}start({at})<{word}><{body}>{within:?}{only_data};")
+            let (name, body) = (cut(text, *name), cut(text, *body));
+            format!(in alloc; "<{name}><{body}>{within:?}{only_data}")
         }
-        PartKind::Reference { name } => {
-            let name = cut(text, *name);
-            format!(in alloc; "{grammar}{in_except}ref({at})<{name}>;")
-        }
-        PartKind::Parent { name } => {
-            let name = cut(text, *name);
-            format!(in alloc; "{grammar}{in_except}parent({at})<{name}>;")
-        }
+        PartKind::Reference { name } | PartKind::Parent { name } => angled(alloc, cut(text, *name)),
         PartKind::External {
             literal,
             inherit,
             ..
-        } => {
-            let inherit = inherit.map_or("", |prefix| cut(text, prefix));
-            format!(in alloc; "{grammar}{in_except}external({at})<{literal}>{inherit};")
         }
-        PartKind::Include {
+        | PartKind::Include {
             literal,
             inherit,
             ..
         } => {
             let inherit = inherit.map_or("", |prefix| cut(text, prefix));
-            format!(in alloc; "{grammar}include({at})<{literal}>{inherit};")
+            format!(in alloc; "<{literal}>{inherit}")
         }
         PartKind::Grammar { number, inside } => {
             let inside = cut(text, *inside);
-            format!(in alloc; "{grammar}{in_except}grammar({at}){number}<{inside}>;")
+            format!(in alloc; "{number}<{inside}>")
         }
     }
 }
 
-fn lines(alloc: Global, text: &str, outline: &Outline) -> Result<String, AllocError> {
+// A part in words: the number of its grammar, `-` in an except, its kind, its text, and what it is made of.
+fn part_words(alloc: Global, text: &str, part: &Part) -> Result<String, AllocError> {
+    let grammar = part.grammar;
+    let in_except = if part.in_except { "-" } else { "" };
+    let kind = kind_word(&part.kind);
+    let at = cut(text, part.at);
+    let behind = kind_words(alloc, text, &part.kind)?;
+    format!(in alloc; "{grammar}{in_except}{kind}({at}){behind};")
+}
+
+// An outline in words: its shape, how many declarations it has, what stands behind them, and its parts.
+fn outline_words(alloc: Global, text: &str, outline: &Outline) -> Result<String, AllocError> {
     let shape = outline.shape;
     let count = outline.declarations.len();
     let body = cut(text, outline.body);
     let mut out = format!(in alloc; "{shape:?} {count} <{body}>;")?;
     for part in &outline.parts {
-        out.push_str(line(alloc, text, part)?.as_str())?;
+        out.push_str(part_words(alloc, text, part)?.as_str())?;
     }
     Ok(out)
 }
 
-fn shown(rt: &(impl Abort + AllocGlobal), text: &str) -> String {
+/// The outline of a text, or its fault.
+pub fn outline_or_fault(
+    rt: &(impl Abort + AllocGlobal),
+    text: &str,
+) -> Result<Outline, OutlineFault> {
     let tokens = tokens(rt.alloc(), text.as_bytes()).expect(rt, "no tokens");
-    match read_outline(rt.alloc(), text, tokens.as_slice()) {
-        Ok(outline) => lines(rt.alloc(), text, &outline).expect(rt, "no memory"),
+    read_outline(rt.alloc(), text, tokens.as_slice())
+}
+
+/// The outline of a text that has one.
+pub fn outline_of(rt: &(impl Abort + AllocGlobal), text: &str) -> Outline {
+    outline_or_fault(rt, text).expect(rt, "no outline")
+}
+
+// The outline of a text in words, or its fault.
+fn answer(rt: &(impl Abort + AllocGlobal), text: &str) -> String {
+    match outline_or_fault(rt, text) {
+        Ok(outline) => outline_words(rt.alloc(), text, &outline).expect(rt, "no memory"),
         Err(fault) => format!(in rt.alloc(); "{fault:?}").expect(rt, "no memory"),
     }
 }
 
-// What files are made of. Rows are parted by lines and have an arrow before what is wanted.
-static ROWS: &str = " => Grammar 0 <>;
+// A text, and behind the arrow its outline in words, or its fault.
+const ROWS: &str = r#" => Grammar 0 <>;
 start = a => Grammar 0 <start = a>;0start(start = a)<start><a>Nonetrue;0ref(a)<a>;
-namespace a = 'x' \\div = external 'x' ~ 'y' inherit = a b |= list { a } => Grammar 1 <\\div = external 'x' ~ 'y' inherit = a b |= list { a }>;0define(\\div = external 'x' ~ 'y' inherit = a)<\\div><external 'x' ~ 'y' inherit = a>Nonetrue;0external(external 'x' ~ 'y' inherit = a)<xy>a;0define(b |= list { a })<b><list { a }>Nonefalse;0ref(a)<a>;
+namespace a = 'x' \div = external 'x' ~ 'y' inherit = a b |= list { a } => Grammar 1 <\div = external 'x' ~ 'y' inherit = a b |= list { a }>;0define(\div = external 'x' ~ 'y' inherit = a)<\div><external 'x' ~ 'y' inherit = a>Nonetrue;0external(external 'x' ~ 'y' inherit = a)<xy>a;0define(b |= list { a })<b><list { a }>Nonefalse;0ref(a)<a>;
 element a | grammar { x:string - (a | b), parent c } => Pattern 0 <element a | grammar { x:string - (a | b), parent c }>;0start(element a | grammar { x:string - (a | b), parent c })<><element a | grammar { x:string - (a | b), parent c }>Nonefalse;0-ref(a)<a>;0-ref(b)<b>;0parent(parent c)<c>;
 include 'x' { div { a = b } start |= c } d = e => Grammar 0 <include 'x' { div { a = b } start |= c } d = e>;0include(include 'x' { div { a = b } start |= c })<x>;0define(a = b)<a><b>Some(0)true;0ref(b)<b>;0start(start |= c)<start><c>Some(0)true;0ref(c)<c>;0define(d = e)<d><e>Nonetrue;0ref(e)<e>;
 grammar { start = grammar { a = parent b } } >> a [] => Grammar 0 <grammar { start = grammar { a = parent b } } >> a []>;0start(start = grammar { a = parent b })<start><grammar { a = parent b }>Nonetrue;0grammar(grammar { a = parent b })1< a = parent b >;1define(a = parent b)<a><parent b>Nonetrue;1parent(parent b)<b>;
@@ -99,12 +126,12 @@ a = parent => Syntax { at: 10 }
 a = (b => Syntax { at: 6 }
 a = b } => Syntax { at: 6 }
 include 'x' { include 'y' } => Syntax { at: 14 }
-start = a start => Syntax { at: 15 }";
+start = a start => Syntax { at: 15 }"#;
 
 #[test]
-fn outlines_by_example(rt: HostRuntime) {
+fn texts_have_their_outlines(rt: HostRuntime) {
     for row in ROWS.lines() {
         let (given, wanted) = row.split_once(" => ").unwrap_or((row, ""));
-        assert_eq!(&rt; shown(&rt, given).as_str(), wanted, "{given}");
+        assert_eq!(&rt; answer(&rt, given).as_str(), wanted, "{given}");
     }
 }

@@ -12,11 +12,6 @@ pub fn same_for(rt: &impl Abort, given: &str, found: &str, wanted: &str) {
     assert_eq!(rt; found, wanted, "{given}");
 }
 
-/// There is memory.
-pub fn expect_memory(rt: &impl Abort, answer: Result<(), AllocError>) {
-    answer.expect(rt, "no memory");
-}
-
 /// A text that was asked for.
 pub fn expect_text(rt: &impl Abort, text: Result<String, AllocError>) -> String {
     text.expect(rt, "no memory")

@@ -2,9 +2,15 @@
 #![tactic(auto)]
 
 #[cfg(test)]
+mod asked_files;
+#[cfg(test)]
 mod comparing;
 #[cfg(test)]
 mod line_breaks;
+#[cfg(test)]
+mod source_faults;
+#[cfg(test)]
+mod source_limits;
 #[cfg(test)]
 mod source_reading;
 #[cfg(test)]

@@ -1,9 +1,9 @@
-// Places in texts.
+// Lines and columns of bytes.
 use crate::comparing::{holds, same_for};
 use rn_files::{Position, line_of, position};
 
-/// A text, a byte of it, and the line, the column and the line's text where it stands.
-static PLACES: [(&str, usize, usize, usize, &str); 15] = [
+/// A text, the place of a byte, and its line, its column and the text of its line.
+static POSITIONS: [(&str, usize, usize, usize, &str); 15] = [
     ("", 0, 1, 1, ""),
     ("", 7, 1, 1, ""),
     ("ab", 0, 1, 1, "ab"),
@@ -22,8 +22,8 @@ static PLACES: [(&str, usize, usize, usize, &str); 15] = [
 ];
 
 #[test]
-fn places(rt: HostRuntime) {
-    for (text, at, line, column, whole) in &PLACES {
+fn bytes_have_their_line_and_column(rt: HostRuntime) {
+    for (text, at, line, column, whole) in &POSITIONS {
         let wanted = Position {
             line: *line,
             column: *column,

@@ -1,9 +1,10 @@
-// References resolved as RFC 3986, section 5.4, has them, and those that name no file.
+// References that are resolved as RFC 3986, section 5.4, has them, and references that name no file.
 use crate::comparing::{expect_text, same_for};
 use rn_files::{remove_dot_segments, resolve};
 use std::alloc::{AllocError, Global};
 
-/// References in `http://a/b/c/d;p`, and the URIs that they stand for (RFC 3986, sections 5.4.1 and 5.4.2).
+/// References in `http://a/b/c/d;p`, and the URIs that they stand for. All but the last three are those of RFC 3986, sections 5.4.1 and
+/// 5.4.2, without their queries and fragments; these three have characters that are escaped, an escape, and a host with dot segments.
 static RESOLVED: [(&str, &str); 34] = [
     ("g:h", "g:h"),
     ("g", "http://a/b/c/g"),
@@ -53,8 +54,8 @@ static REFUSED: [(&str, &str); 8] = [
     ("a%zz", "Escape"),
 ];
 
-/// What a reference stands for in a file with a URI.
-fn shown(alloc: Global, base: &str, reference: &str) -> Result<String, AllocError> {
+/// The URI that a reference stands for in a file with a URI, or its fault.
+fn uri_or_fault(alloc: Global, base: &str, reference: &str) -> Result<String, AllocError> {
     match resolve(alloc, base, reference) {
         Ok(uri) => Ok(uri),
         Err(fault) => format!(in alloc; "{fault:?}"),
@@ -62,17 +63,17 @@ fn shown(alloc: Global, base: &str, reference: &str) -> Result<String, AllocErro
 }
 
 #[test]
-fn examples_of_the_standard(rt: HostRuntime) {
+fn references_are_resolved_as_the_standard_says(rt: HostRuntime) {
     for (reference, wanted) in &RESOLVED {
-        let found = expect_text(&rt, shown(rt.alloc(), "http://a/b/c/d;p", reference));
+        let found = expect_text(&rt, uri_or_fault(rt.alloc(), "http://a/b/c/d;p", reference));
         same_for(&rt, reference, found.as_str(), wanted);
     }
 }
 
 #[test]
-fn refused_references(rt: HostRuntime) {
+fn references_without_a_file_are_refused(rt: HostRuntime) {
     for (reference, wanted) in &REFUSED {
-        let found = expect_text(&rt, shown(rt.alloc(), "file:///a/b", reference));
+        let found = expect_text(&rt, uri_or_fault(rt.alloc(), "file:///a/b", reference));
         same_for(&rt, reference, found.as_str(), wanted);
     }
 }
@@ -87,9 +88,9 @@ static BASES: [(&str, &str, &str); 5] = [
 ];
 
 #[test]
-fn other_bases(rt: HostRuntime) {
+fn references_are_resolved_against_other_bases(rt: HostRuntime) {
     for (base, reference, wanted) in &BASES {
-        let found = expect_text(&rt, shown(rt.alloc(), base, reference));
+        let found = expect_text(&rt, uri_or_fault(rt.alloc(), base, reference));
         same_for(&rt, base, found.as_str(), wanted);
     }
 }
@@ -114,7 +115,7 @@ static PATHS: [(&str, &str); 15] = [
 ];
 
 #[test]
-fn dot_segments(rt: HostRuntime) {
+fn dot_segments_are_removed(rt: HostRuntime) {
     for (path, wanted) in &PATHS {
         let found = expect_text(&rt, remove_dot_segments(rt.alloc(), path));
         same_for(&rt, path, found.as_str(), wanted);

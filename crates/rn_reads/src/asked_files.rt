@@ -1,0 +1,134 @@
+// What is answered where files in memory are asked for, as rows write them.
+use crate::comparing::{expect_text, same_for};
+use rn_files::{Asked, Map, MemoryFiles, ReadFault, Reading, Sources, read_sources};
+use std::alloc::{AllocError, Global};
+use std::process::Abort;
+
+/// What a row gives.
+#[derive(Drop)]
+struct Given {
+    files: MemoryFiles,
+    words: Vec<String>,
+    root: Option<String>,
+    maps: Vec<Map>,
+}
+
+/// Takes in a line of a row: its kind, and the one or two words behind it.
+fn take_line(
+    alloc: Global,
+    given: &mut Given,
+    kind: &str,
+    first: &str,
+    second: &str,
+) -> Result<(), AllocError> {
+    match kind {
+        "file" => given.files.add_file(alloc, first, second.as_bytes()),
+        "link" => given.files.add_link(alloc, first, second),
+        "word" => Ok(given.words.push(String::from_str(alloc, first)?)?),
+        "root" => {
+            given.root = Some(String::from_str(alloc, first)?);
+            Ok(())
+        }
+        _ => add_map(alloc, given, first, second),
+    }
+}
+
+/// Adds a map to what a row gives.
+fn add_map(alloc: Global, given: &mut Given, prefix: &str, folder: &str) -> Result<(), AllocError> {
+    let prefix = String::from_str(alloc, prefix)?;
+    let folder = String::from_str(alloc, folder)?;
+    given.maps.push(Map { prefix, folder })?;
+    Ok(())
+}
+
+/// What a row gives, read from its lines. The current folder is `/w`.
+fn given_of(alloc: Global, lines: &str) -> Result<Given, AllocError> {
+    let mut given = Given {
+        files: MemoryFiles::new(alloc, "/w")?,
+        words: Vec::new(alloc),
+        root: None,
+        maps: Vec::new(alloc),
+    };
+    for line in lines.split('\n') {
+        let (kind, rest) = line.split_once('\t').unwrap_or((line, ""));
+        let (first, second) = rest.split_once('\t').unwrap_or((rest, ""));
+        take_line(alloc, &mut given, kind, first, second)?;
+    }
+    Ok(given)
+}
+
+/// The names and the targets of sources, and the roots.
+fn sources_line(alloc: Global, sources: &Sources) -> Result<String, AllocError> {
+    let mut out = String::new(alloc);
+    for source in &sources.files {
+        let (name, targets) = (&source.name, &source.targets);
+        write!(out, "{name} {targets:?} ")?;
+    }
+    let roots = &sources.roots;
+    write!(out, "roots {roots:?}")?;
+    Ok(out)
+}
+
+/// The faults of files.
+fn faults_line(alloc: Global, reading: &Reading) -> Result<String, AllocError> {
+    let mut out = String::new(alloc);
+    for fault in &reading.faults {
+        let (place, kind) = (fault.place, &fault.kind);
+        write!(out, "{place:?} {kind:?};")?;
+    }
+    Ok(out)
+}
+
+/// The sources that are read, or the faults, in one line.
+pub fn answer_line(
+    alloc: Global,
+    answer: Result<Sources, ReadFault>,
+) -> Result<String, AllocError> {
+    match answer {
+        Ok(sources) => sources_line(alloc, &sources),
+        Err(ReadFault::Faults(reading)) => faults_line(alloc, &reading),
+        Err(ReadFault::Memory) => Err(AllocError),
+    }
+}
+
+/// What is answered for a row.
+fn answer_for_row(alloc: Global, lines: &str) -> Result<String, AllocError> {
+    let given = given_of(alloc, lines)?;
+    let root = match &given.root {
+        Some(root) => Some(root.as_str()),
+        None => None,
+    };
+    let asked = Asked {
+        files: given.words.as_slice(),
+        root,
+        maps: given.maps.as_slice(),
+    };
+    answer_line(alloc, read_sources(alloc, &given.files, &asked))
+}
+
+/// Each row has its answer. A row is written in lines (a file with its text, a link, a word, a root folder, a map), and what is wanted
+/// has the modules with their targets, and the roots; or the faults.
+pub fn each_answered(rt: &(impl Abort + AllocGlobal), rows: &[(&str, &str)]) {
+    for (lines, wanted) in rows {
+        let found = expect_text(rt, answer_for_row(rt.alloc(), lines));
+        same_for(rt, lines, found.as_str(), wanted);
+    }
+}
+
+/// What is answered where the file `/w/a.rnc` is asked for.
+pub fn answer_for_a(alloc: Global, files: &MemoryFiles) -> Result<Sources, ReadFault> {
+    let word = String::from_str(alloc, "a.rnc")?;
+    let asked = Asked {
+        files: &[word],
+        root: None,
+        maps: &[],
+    };
+    read_sources(alloc, files, &asked)
+}
+
+/// What is answered where `/w/a.rnc` is asked for and holds these bytes, in one line.
+pub fn answer_for_bytes(alloc: Global, bytes: &[u8]) -> Result<String, AllocError> {
+    let mut files = MemoryFiles::new(alloc, "/w")?;
+    files.add_file(alloc, "/w/a.rnc", bytes)?;
+    answer_line(alloc, answer_for_a(alloc, &files))
+}

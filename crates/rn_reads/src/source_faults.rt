@@ -1,0 +1,129 @@
+// Files that are refused with what they refer to: each fault with its place.
+use crate::asked_files::each_answered;
+
+/// References that lead to no file.
+static REFERENCES: [(&str, &str); 1] = [(
+    "file\t/w/a.rnc\tinclude '' include 'file://h/x' include 'http://h/x' include 'x#y' include 'x?y' include '%00' include 'a%2Fb' include '%' include '%FF' include 'file:x' include 'none.rnc' include 'd'\nfile\t/w/d/x\t\nword\ta.rnc",
+    "Text { file: 0, at: 8 } Reference(Empty);Text { file: 0, at: 19 } Reference(Host);Text { file: 0, at: 40 } Reference(Scheme);Text { file: 0, at: 61 } Reference(Fragment);Text { file: 0, at: 75 } Reference(Query);Text { file: 0, at: 89 } Reference(Byte);Text { file: 0, at: 103 } Reference(Byte);Text { file: 0, at: 119 } Reference(Escape);Text { file: 0, at: 131 } Reference(Encoding);Text { file: 0, at: 145 } Reference(Relative);Text { file: 0, at: 162 } File(Missing);Text { file: 0, at: 181 } File(Folder);",
+)];
+
+#[test]
+fn references_have_their_faults(rt: HostRuntime) {
+    each_answered(&rt, &REFERENCES);
+}
+
+/// Files above the root folder, in a folder of its name and in others.
+static ROOT_FOLDER: [(&str, &str); 7] = [
+    (
+        "file\t/w/r/a.rnc\tinclude '../r/b.rnc' include '../rx/c.rnc'\nfile\t/w/r/b.rnc\t\nfile\t/w/rx/c.rnc\t\nword\tr/a.rnc\nroot\tr",
+        "Text { file: 0, at: 29 } Outside;",
+    ),
+    (
+        "file\t/w/r/a.rnc\tinclude '../none.rnc' include 'none.rnc' include '../r/none.rnc'\nword\tr/a.rnc\nroot\t./r",
+        "Text { file: 0, at: 8 } Outside;Text { file: 0, at: 30 } File(Missing);Text { file: 0, at: 49 } File(Missing);",
+    ),
+    (
+        "file\t/w/r/a.rnc\tinclude 'l.rnc'\nlink\t/w/r/l.rnc\t/w/b.rnc\nfile\t/w/b.rnc\t\nword\tr/a.rnc\nroot\tr",
+        "Text { file: 0, at: 8 } Outside;",
+    ),
+    (
+        "file\t/w/l/a.rnc\t\nfile\t/w/r/a.rnc\tinclude 'b.rnc'\nlink\t/w/l\t/w/r\nfile\t/w/r/b.rnc\t\nword\tl/a.rnc\nroot\tr",
+        "a.rnc [1] b.rnc [] roots [0]",
+    ),
+    (
+        "file\t/w/r/a.rnc\tinclude 'http://h/b.rnc'\nfile\t/w/b.rnc\t\nword\tr/a.rnc\nroot\tr\nmap\thttp://h\t/w",
+        "a.rnc [1] http://h/b.rnc [] roots [0]",
+    ),
+    (
+        "file\t/w/a.rnc\tstart = ^\nfile\t/w/r/b.rnc\t\nword\ta.rnc\nword\tr/b.rnc\nroot\tr",
+        "Word(0) Outside;",
+    ),
+    (
+        "file\t/w/a.rnc\t\nword\ta.rnc\nroot\tno",
+        "Root File(Missing);",
+    ),
+];
+
+#[test]
+fn files_outside_the_root_folder_are_refused(rt: HostRuntime) {
+    each_answered(&rt, &ROOT_FOLDER);
+}
+
+/// References above the topmost folder.
+static TOPMOST: [(&str, &str); 2] = [
+    (
+        "file\t/w/a.rnc\tinclude '../b.rnc' include '../../b.rnc' include 'file:///../b.rnc' include 'x/../../../b.rnc'\nfile\t/b.rnc\t\nword\ta.rnc",
+        "Text { file: 0, at: 27 } Reference(Above);Text { file: 0, at: 49 } Reference(Above);Text { file: 0, at: 76 } Reference(Above);",
+    ),
+    (
+        "file\t/w/a.rnc\tinclude '/../b.rnc' include '/w/../b.rnc' include './/../b.rnc'\nfile\t/b.rnc\t\nfile\t/w/b.rnc\t\nword\ta.rnc",
+        "Text { file: 0, at: 8 } Reference(Above);",
+    ),
+];
+
+#[test]
+fn references_above_the_topmost_folder_are_refused(rt: HostRuntime) {
+    each_answered(&rt, &TOPMOST);
+}
+
+/// Words that name no file.
+static WORDS: [(&str, &str); 1] = [(
+    "file\t/w/d/a.rnc\t\nword\tb.rnc\nword\td",
+    "Word(0) File(Missing);Word(1) File(Folder);",
+)];
+
+#[test]
+fn words_have_their_faults(rt: HostRuntime) {
+    each_answered(&rt, &WORDS);
+}
+
+/// Texts with faults, of which all are told.
+static TEXTS: [(&str, &str); 1] = [(
+    "file\t/w/a.rnc\tinclude 'b.rnc' include 'c.rnc'\nfile\t/w/b.rnc\tstart = ^\nfile\t/w/c.rnc\tstart = = text\nword\ta.rnc",
+    "Text { file: 1, at: 8 } Lexical;Text { file: 2, at: 8 } Syntax;",
+)];
+
+#[test]
+fn texts_have_their_faults(rt: HostRuntime) {
+    each_answered(&rt, &TEXTS);
+}
+
+/// Loops, with their files in order, and a file that two ways lead to, which is no loop.
+static LOOPS: [(&str, &str); 5] = [
+    (
+        "file\t/w/a.rnc\tinclude 'b.rnc'\nfile\t/w/b.rnc\tinclude 'c.rnc'\nfile\t/w/c.rnc\telement x { text } | external 'b.rnc'\nword\ta.rnc",
+        "Text { file: 2, at: 30 } Loop([1, 2]);",
+    ),
+    (
+        "file\t/w/a.rnc\tinclude 'c.rnc' include 'b.rnc'\nfile\t/w/b.rnc\tinclude 'd.rnc' include 'a.rnc'\nfile\t/w/c.rnc\t\nfile\t/w/d.rnc\t\nword\ta.rnc",
+        "Text { file: 2, at: 24 } Loop([0, 2]);",
+    ),
+    (
+        "file\t/w/a.rnc\tx = external 'a.rnc'\nword\ta.rnc",
+        "Text { file: 0, at: 13 } Loop([0]);",
+    ),
+    (
+        "file\t/a.rnc\tinclude 'w/b.rnc'\nfile\t/w/b.rnc\tinclude '/a.rnc'\nword\tb.rnc",
+        "Text { file: 1, at: 8 } Loop([0, 1]);",
+    ),
+    (
+        "file\t/w/a.rnc\tinclude 'b.rnc' include 'c.rnc'\nfile\t/w/b.rnc\tinclude 'c.rnc'\nfile\t/w/c.rnc\t\nword\ta.rnc",
+        "a.rnc [1, 2] b.rnc [2] c.rnc [] roots [0]",
+    ),
+];
+
+#[test]
+fn loops_are_told(rt: HostRuntime) {
+    each_answered(&rt, &LOOPS);
+}
+
+/// Two files of one name.
+static SAME_NAMES: [(&str, &str); 1] = [(
+    "file\t-\t\nfile\t/w/-\t\nword\t-\nword\t/w/-",
+    "Word(1) Twice;",
+)];
+
+#[test]
+fn two_files_of_one_name_are_refused(rt: HostRuntime) {
+    each_answered(&rt, &SAME_NAMES);
+}
