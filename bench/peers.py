@@ -21,7 +21,7 @@ import shapes
 from measuring import ended, megabytes, row, seconds, table
 
 sys.path.insert(0, str(pathlib.Path(__file__).resolve().parent.parent / "tests" / "real-schemas"))
-import compare  # noqa: E402
+import packages  # noqa: E402
 
 CLOSURES = {
     "TEI (xmlcopyeditor)": "xmlcopyeditor/usr/share/xmlcopyeditor/rng/tei_all.rnc",
@@ -34,10 +34,10 @@ JING = ["jing", "-i", "-c", "-s"]
 
 def drivers(folder, room):
     """The drivers in the compact syntax by the names of the schemas."""
-    compare.fetch(folder, sorted({path.split("/")[0] for path in CLOSURES.values()}))
-    compare.open_archives(folder)
+    packages.fetch(folder, sorted({path.split("/")[0] for path in CLOSURES.values()}))
+    packages.open_archives(folder)
     paths = {name: folder / "packages" / path for name, path in CLOSURES.items()}
-    made = compare.translated(room, folder, [path for path in paths.values() if path.suffix == ".rng"])
+    made = packages.translated(room, folder, [path for path in paths.values() if path.suffix == ".rng"])
     return {name: made.get(path, path) for name, path in paths.items()}
 
 

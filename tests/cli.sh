@@ -5,63 +5,16 @@
 # takes much memory, so the rows that leave it little are left out, which the last line says.
 set -u
 
-here=$(cd "$(dirname "${BASH_SOURCE[0]}")" && pwd)
-program=${1:-$here/../crates/rnc_merge/out/rnc_merge}
-if [ ! -f "$program" ] || [ ! -x "$program" ]; then
-    echo "no program at $program" >&2
-    exit 2
-fi
-program=$(cd "$(dirname "$program")" && pwd)/$(basename "$program")
+source "$(dirname "${BASH_SOURCE[0]}")/rows.sh" rnc_merge "$@"
 
-work=$(mktemp -d)
-trap 'rm -rf "$work"' EXIT
-cd "$work" || exit 2
-
-passed=0
-failed=0
 left_out=0
 checked=${CHECKED:-0}
-input=/dev/null
-
-# row NAME STATUS STDOUT STDERR WORD..: runs the program on the words, with standard input from $input. The texts are
-# given with printf's escapes.
-row() {
-    local name=$1 status=$2 wanted_out wanted_err got
-    printf '%b' "$3" >wanted.out
-    printf '%b' "$4" >wanted.err
-    shift 4
-    "$program" "$@" <"$input" >got.out 2>got.err
-    got=$?
-    if [ "$got" -eq "$status" ] && cmp -s got.out wanted.out && cmp -s got.err wanted.err; then
-        passed=$((passed + 1))
-    else
-        failed=$((failed + 1))
-        echo "FAILED $name: status $got for $status"
-        diff wanted.out got.out | head -5
-        diff wanted.err got.err | head -5
-    fi
-}
 
 # made FILE WORD..: keeps what the program writes for the words.
 made() {
     local file=$1
     shift
-    if "$program" "$@" <"$input" >"$file" 2>made.err; then
-        passed=$((passed + 1))
-    else
-        failed=$((failed + 1))
-        echo "FAILED $*: $(head -1 made.err)"
-    fi
-}
-
-# same NAME FILE FILE: the files have the same bytes.
-same() {
-    if cmp -s "$2" "$3"; then
-        passed=$((passed + 1))
-    else
-        failed=$((failed + 1))
-        echo "FAILED $1: $2 and $3 differ"
-    fi
+    if "$program" "$@" <"$input" >"$file" 2>made.err; then pass; else fail "$*: $(head -1 made.err)"; fi
 }
 
 head_line='default namespace = ""\n'
@@ -215,12 +168,7 @@ if [ -w /dev/full ]; then
         # shellcheck disable=SC2086
         "$program" $words >/dev/full 2>got.err </dev/null
         status=$?
-        if [ "$status" -eq 3 ] && [ "$(cat got.err)" = write ]; then
-            passed=$((passed + 1))
-        else
-            failed=$((failed + 1))
-            echo "FAILED $words to a full device: status $status"
-        fi
+        if [ "$status" -eq 3 ] && [ "$(cat got.err)" = write ]; then pass; else fail "$words to a full device: status $status"; fi
     done
 fi
 
@@ -299,5 +247,4 @@ row 'two words -- behind --' 3 '' 'read 0\n' print -- -- --help
 row 'a name behind --' 0 'rncset 2\nwithdrawn -a 3\nend 1\n' '' withdraw -- -a 3
 
 [ "$left_out" -eq 0 ] || echo "left out: $left_out rows with too little memory, which a program compiled with checks can't have"
-echo "$passed passed, $failed failed"
-[ "$failed" -eq 0 ]
+tell

@@ -3,50 +3,9 @@
 # Usage: tests/flat.sh [PROGRAM]   (without PROGRAM: crates/rnc_flat/out/rnc_flat)
 set -u
 
-here=$(cd "$(dirname "${BASH_SOURCE[0]}")" && pwd)
-program=${1:-$here/../crates/rnc_flat/out/rnc_flat}
-if [ ! -f "$program" ] || [ ! -x "$program" ]; then
-    echo "no program at $program" >&2
-    exit 2
-fi
-program=$(cd "$(dirname "$program")" && pwd)/$(basename "$program")
+source "$(dirname "${BASH_SOURCE[0]}")/rows.sh" rnc_flat "$@"
 
-work=$(mktemp -d)
-trap 'rm -rf "$work"' EXIT
-cd "$work" || exit 2
-
-passed=0
-failed=0
-input=/dev/null
-
-pass() {
-    passed=$((passed + 1))
-}
-
-fail() {
-    failed=$((failed + 1))
-    echo "FAILED $*"
-}
-
-# row NAME STATUS STDOUT STDERR WORD..: runs the program on the words, with standard input from $input. The texts are
-# given with printf's escapes.
-row() {
-    local name=$1 status=$2 got
-    printf '%b' "$3" >"$work/wanted.out"
-    printf '%b' "$4" >"$work/wanted.err"
-    shift 4
-    "$program" "$@" <"$input" >"$work/got.out" 2>"$work/got.err"
-    got=$?
-    if [ "$got" -eq "$status" ] && cmp -s "$work/got.out" "$work/wanted.out" && cmp -s "$work/got.err" "$work/wanted.err"; then
-        pass
-    else
-        fail "$name: status $got for $status"
-        diff "$work/wanted.out" "$work/got.out" | head -8
-        diff "$work/wanted.err" "$work/got.err" | head -8
-    fi
-}
-
-# begins NAME STATUS STDERR WORD..: the same where nothing is written, and of standard error only the first line is given.
+# begins NAME STATUS STDERR WORD..: runs the program on the words: nothing is written, and standard error begins with this line.
 begins() {
     local name=$1 status=$2 wanted=$3 got
     shift 3
@@ -59,7 +18,7 @@ begins() {
     fi
 }
 
-# bad NAME STATUS STDERR WORD..: the same as row where nothing is written; and with -o before the words the answer is the same, the file that
+# bad NAME STATUS STDERR WORD..: a row in which nothing is written; and with -o before the words the answer is the same, the file that
 # -o names stays as it was, and no other file is beside it.
 bad() {
     local name=$1 status=$2 wanted=$3 got
@@ -547,5 +506,4 @@ if command -v script >/dev/null; then
     if grep -q 'error: `x` is not defined' got.err && ! grep -q "$(printf '\033')" got.err; then pass; else fail 'NO_COLOR'; fi
 fi
 
-echo "$passed passed, $failed failed"
-[ "$failed" -eq 0 ]
+tell

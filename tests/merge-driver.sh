@@ -3,34 +3,9 @@
 # Usage: tests/merge-driver.sh [PROGRAM]   (without PROGRAM: crates/rnc_merge/out/rnc_merge)
 set -u
 
-here=$(cd "$(dirname "${BASH_SOURCE[0]}")" && pwd)
-program=${1:-$here/../crates/rnc_merge/out/rnc_merge}
-if [ ! -f "$program" ] || [ ! -x "$program" ]; then
-    echo "no program at $program" >&2
-    exit 2
-fi
-program=$(cd "$(dirname "$program")" && pwd)/$(basename "$program")
-
-work=$(mktemp -d)
-trap 'rm -rf "$work"' EXIT
-cd "$work" || exit 2
+source "$(dirname "${BASH_SOURCE[0]}")/rows.sh" rnc_merge "$@"
 export HOME=$work GIT_CONFIG_NOSYSTEM=1
 export GIT_AUTHOR_NAME=a GIT_AUTHOR_EMAIL=a@example.org GIT_COMMITTER_NAME=a GIT_COMMITTER_EMAIL=a@example.org
-
-passed=0
-failed=0
-
-# holds NAME WORD..: the command ends well.
-holds() {
-    local name=$1
-    shift
-    if "$@" >got 2>&1; then
-        passed=$((passed + 1))
-    else
-        failed=$((failed + 1))
-        echo "FAILED $name: $(tail -2 got)"
-    fi
-}
 
 # contributes FOLDER NAME REV TEXT: the site of the folder adds a contribution to its bundle, and commits.
 contributes() {
@@ -52,10 +27,10 @@ done
 contributes one name 1 'name = element name { text }'
 contributes two extra 1 'include "name" start |= element extra { empty }'
 contributes two main 2 'include "name" start |= element doc { name }'
-holds one_pulls git -C one pull -q --no-rebase --no-edit ../two main
-holds two_pulls git -C two pull -q --no-rebase --no-edit ../one main
-holds same_bytes cmp one/schema.set two/schema.set
-holds all_are_there test "$("$program" list one/schema.set | cut -d ' ' -f 1,2 | tr '\n' ' ')" = 'extra 1 main 1 main 2 name 1 '
+succeeds one_pulls git -C one pull -q --no-rebase --no-edit ../two main
+succeeds two_pulls git -C two pull -q --no-rebase --no-edit ../one main
+same same_bytes one/schema.set two/schema.set
+succeeds all_are_there test "$("$program" list one/schema.set | cut -d ' ' -f 1,2 | tr '\n' ' ')" = 'extra 1 main 1 main 2 name 1 '
 
 # The other way round: two merges what one has, and the same comes of it.
 git clone -q one three
@@ -67,9 +42,9 @@ contributes three name 2 'name = element name { xsd:token }'
 contributes four note 1 'note = text'
 cp three/schema.set three.set
 cp four/schema.set four.set
-holds three_pulls git -C three pull -q --no-rebase --no-edit ../four main
-holds join_is_what_git_made test "$("$program" join three.set four.set | sha256sum)" = "$(sha256sum <three/schema.set)"
-holds join_commutes test "$("$program" join four.set three.set | sha256sum)" = "$(sha256sum <three/schema.set)"
+succeeds three_pulls git -C three pull -q --no-rebase --no-edit ../four main
+succeeds join_is_what_git_made test "$("$program" join three.set four.set | sha256sum)" = "$(sha256sum <three/schema.set)"
+succeeds join_commutes test "$("$program" join four.set three.set | sha256sum)" = "$(sha256sum <three/schema.set)"
 
 # What is no bundle is a conflict that git shows, and the file stays as it was.
 echo 'no bundle' >four/schema.set
@@ -78,12 +53,10 @@ cp three/schema.set before.set
 contributes three more 1 'more = text'
 cp three/schema.set before.set
 if git -C three pull -q --no-rebase --no-edit ../four main >got 2>&1; then
-    failed=$((failed + 1))
-    echo 'FAILED no_bundle: it was merged'
+    fail 'no_bundle: it was merged'
 else
-    passed=$((passed + 1))
+    pass
 fi
-holds no_bundle_stays cmp three/schema.set before.set
+same no_bundle_stays three/schema.set before.set
 
-echo "$passed passed, $failed failed"
-[ "$failed" -eq 0 ]
+tell

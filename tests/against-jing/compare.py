@@ -30,14 +30,13 @@ import sys
 import tempfile
 
 import drawing
+import jing
 import meaning
 import schema
 import simplified
 import trees
 import writing
 
-HERE = os.path.dirname(os.path.abspath(__file__))
-JARS = ":".join(f"/usr/share/java/{name}.jar" for name in ("jing", "xercesImpl", "xml-resolver"))
 PARTS = re.compile(r'"""(?:[^"]|"{1,2}(?!"))*"""|"[^"\n]*"|\'[^\'\n]*\'|#[^\n]*|\\?[A-Za-z_][\w.\-]*(?::\*|:[A-Za-z_][\w.\-]*)?|>>|\|=|&=|\s+|.', re.S)
 TOKENS = [*"{}()[]=,|&?*+-~:\\1", "|=", "&=", ">>", "x", "p:a", "p:*", "u:x", "xsd:int", "xsd:string", "xml:lang", "a:", "a.b", "-a", "x {", "div {", "\\start", "\\x"]
 TOKENS += [*sorted(schema.KEYWORDS - {"external", "parent"}), '"a"', "'b'", '"""c"""', '"\\x{41}"', "#c\n", *"é·\r\x0c\x85\u00a0\u2028\u3000\u0001\ufffe"]
@@ -107,14 +106,6 @@ def write_bytes(path, content):
     return path
 
 
-def jing(paths, room):
-    """What jing says of each schema: whether it takes it, and its documents or its errors. A path may have a tab and its documents' folder behind it."""
-    subprocess.run(["javac", "-cp", JARS, "-d", room, f"{HERE}/Jing.java"], check=True)
-    ran = subprocess.run(["java", "-cp", f"{room}:{JARS}", "Jing"], input="".join(path + "\n" for path in paths), stdout=subprocess.PIPE, text=True, check=True)
-    answers = [line.split("\t", 1) for line in ran.stdout.removesuffix("\n").split("\n")]
-    return {path: (word == "good", rest) for path, (word, rest) in zip(paths, answers, strict=True)}
-
-
 def kind_of(refusal):
     """The name of a refusal or fault, or nothing."""
     return refusal.split(" ")[0]
@@ -140,7 +131,7 @@ def compare_sets(program, seeds, room):
         os.mkdir(f"{room}/{seed}")
         told[f"{room}/{seed}"] = make_set(program, f"{room}/{seed}", seed)
     printed = [f"{folder}/printed.rnc" for folder, (_, refusal, _) in told.items() if not refusal]
-    answers = jing([f"{folder}/driver.rnc" for folder in told] + printed, room)
+    answers = jing.answers(room, [f"{folder}/driver.rnc" for folder in told] + printed)
     tally, differences = collections.Counter(), []
     for folder, (damage, refusal, stays) in told.items():
         is_good, rest = answers[f"{folder}/driver.rnc"]
@@ -207,7 +198,7 @@ def read(path):
 
 def compare_files(program, seeds, room):
     told = [Told(program, f"{room}/{seed}", seed) for seed in seeds]
-    answers = jing([path for it in told for path in it.paths()], room)
+    answers = jing.answers(room, [path for it in told for path in it.paths()])
     tally, differences = collections.Counter(), []
     for it in told:
         is_good, rest = answers[it.paths()[0]]
@@ -243,7 +234,7 @@ def compare_texts(program, seeds, room):
             path = write(f"{room}/{seed}-{at}/text.rnc", changed(rng, text) + LAST_ITEM)
             told[path] = program.run("check", path)[1]
     tally, differences = collections.Counter(), []
-    for path, (is_good, rest) in jing([*told], room).items():
+    for path, (is_good, rest) in jing.answers(room, [*told]).items():
         fault = kind_of(told[path])
         tally[f"{fault or 'good'}; jing: {'good' if is_good else first_error(rest)}"] += 1
         if is_good and fault not in ("", "Prefix", "Except") or not fault and "syntax error" in rest:

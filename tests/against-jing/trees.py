@@ -8,7 +8,7 @@ import urllib.parse
 import meaning
 import writing
 from drawing import BAD_PATTERNS, Drawer, declared, kinds_of, weighted, without_start
-from schema import Attribute, Chain, Data, Define, Div, Element, External, Include, Name, Nested, Parent, Ref, Type, Value, Word
+from schema import Chain, Data, Define, Div, External, Include, Nested, Parent, Ref, Type, Word
 
 FOLDERS = ["", "", "in", "in/deep", "in/deep/er", "of a team", "é"]
 STARTS = [(6, "particle"), (2, "data"), (2, "attributes")]

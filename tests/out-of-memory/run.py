@@ -5,7 +5,7 @@ tests/out-of-memory/run.py [PROGRAM [TESTS..]]: runs each job of a table with it
 until a run asks no further, each once alone and once with all requests after it. A run in which a request was refused ends with status 3, the
 line `Memory` on standard error and nothing on standard output, also where there is another fault. A request is spared where the run goes on
 without it and has the job's own answer: only those that the parser of words makes for texts of its own may be. TESTS are the tests'
-programs: in each of their tests named `memory` or `layers` the requests between the marks are refused in the same way, none may be spared,
+programs: in each of their tests whose module's name begins with `memory_of_` the requests between the marks are refused in the same way, none may be spared,
 and the test tells whether a call answered so. Without words it takes what `rt ci` built.
 Needs Python 3 and a system that loads a library before a program (LD_PRELOAD); the compiler is the toolchain's.
 """
@@ -16,8 +16,11 @@ import subprocess
 import sys
 import tempfile
 
+sys.dont_write_bytecode = True
 HERE = os.path.dirname(os.path.abspath(__file__))
-TOP = os.path.dirname(os.path.dirname(HERE))
+sys.path.insert(0, os.path.dirname(HERE))
+from toolchain import EMPTY_SET, TOP, compiler
+
 BUILT = ["rnc_merge/out/rnc_merge", "rn_units/out/rn_units_tests", "rn_vectors/out/rn_vectors_tests"]
 FIRST_LINE = 'default namespace = ""\n'
 WANT = (3, b"", b"Memory\n")
@@ -171,9 +174,9 @@ def told_of_test(program, test, room, shim):
 
 
 def tests_of(program):
-    """The names of the tests of calls whose memory is refused."""
+    """The names of the tests of calls whose requests for memory are refused."""
     listed = subprocess.run([program, "--list"], check=True, capture_output=True, text=True).stdout
-    return [line.rsplit(": ", 1)[0] for line in listed.splitlines() if line.startswith(("memory::", "layers::"))]
+    return [line.rsplit(": ", 1)[0] for line in listed.splitlines() if line.startswith("memory_of_")]
 
 
 def bundle(program, room, name, modules):
@@ -187,7 +190,7 @@ def bundle(program, room, name, modules):
             subprocess.run([program, "pack", module, "1", f"{room}/text"], stdout=out, check=True)
     if not made:
         with open(f"{room}/none.set", "wb") as out:
-            out.write(b"rncset 1\nend 0\n")
+            out.write(EMPTY_SET.encode())
         made = [f"{room}/none.set"]
     with open(f"{room}/{name}", "wb") as out:
         subprocess.run([program, "join", *made], stdout=out, check=True)
@@ -207,12 +210,6 @@ def jobs(program, room):
             with open(f"{room}/{name}", "wb") as out:
                 out.write(content)
         yield words, wanted
-
-
-def compiler():
-    """The C compiler of the toolchain."""
-    kit = os.path.dirname(subprocess.run(["rt", "doc"], check=True, capture_output=True, text=True).stdout.strip())
-    return f"{kit}/toolchain/bin/clang"
 
 
 def summed(of, found):

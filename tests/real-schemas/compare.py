@@ -12,122 +12,27 @@ Needs Debian's jing and trang, and a Java compiler. This is no part of the gate.
 """
 import argparse
 import collections
-import os
 import pathlib
-import re
 import subprocess
 import sys
 import tempfile
-import zipfile
 
-HERE = pathlib.Path(__file__).resolve().parent
-sys.path.insert(0, str(HERE.parent / "against-jing"))
+sys.path.insert(0, str(pathlib.Path(__file__).resolve().parent.parent / "against-jing"))
+from jing import answers  # noqa: E402
+from packages import PACKAGES, chosen, fetch, open_archives, translated  # noqa: E402
 from simplified import is_same  # noqa: E402
 
-PACKAGES = [
-    "crmsh",
-    "docbook-slides",
-    "docbook-website",
-    "docbook-xsl",
-    "docbook-xsl-ns",
-    "emacs-common",
-    "epubcheck",
-    "latexml",
-    "libvirt0",
-    "libzypp-common",
-    "pacemaker-common",
-    "xhtml-relaxng",
-    "xmlcopyeditor",
-]
-JARS = ":".join(f"/usr/share/java/{name}.jar" for name in ("jing", "trang", "xercesImpl", "xml-apis", "xml-resolver"))
+# The longest time for one schema.
 SECONDS = 180
-LINKS = {
-    ".rnc": re.compile(r"""^[^#"'\n]*?\b(?:include|external)\s+["']([^"'\n]+)""", re.M),
-    ".rng": re.compile(r"""<(?:\w+:)?(?:include|externalRef)\b[^>]*?\bhref\s*=\s*["']([^"']+)"""),
-}
 
 
-def fetch(folder, packages):
-    """Unpacks the packages that aren't there yet."""
-    for package in packages:
-        place = folder / "packages" / package
-        if place.exists():
-            continue
-        place.parent.mkdir(parents=True, exist_ok=True)
-        subprocess.run(["apt-get", "download", package], cwd=place.parent, capture_output=True)
-        for archive in place.parent.glob(f"{package}_*.deb"):
-            subprocess.run(["dpkg", "-x", archive, place], check=True)
-            archive.unlink()
-        if not place.exists():
-            print(f"no package {package}")
-
-
-def open_archives(folder):
-    """Puts the schemas that lie in Java archives beside them."""
-    for archive in (folder / "packages").rglob("*.jar"):
-        place = archive.with_suffix(".schemas")
-        if archive.is_symlink() or place.exists():
-            continue
-        with zipfile.ZipFile(archive) as opened:
-            for name in opened.namelist():
-                if name.endswith((".rnc", ".rng")):
-                    opened.extract(name, place)
-
-
-def links(path):
-    """The files that a schema includes or refers to."""
-    text = path.read_text("utf-8", "replace")
-    if path.suffix == ".rng":
-        text = re.sub(r"<!--.*?-->", "", text, flags=re.S)
-    return [os.path.normpath(path.parent / link) for link in LINKS[path.suffix].findall(text)]
-
-
-def chosen(folder, words):
-    """The schemas to be run, by their syntax."""
-    found = {}
-    for suffix in LINKS:
-        paths = sorted(path for path in (folder / "packages").rglob(f"*{suffix}") if path.is_file())
-        leads = {path: links(path) for path in paths}
-        reached = {target for targets in leads.values() for target in targets}
-        drivers = paths if words.all else [path for path in paths if leads[path] and os.path.normpath(path) not in reached]
-        found[suffix] = [path for path in drivers if words.only in str(path)]
-    return found
-
-
-def java(room, source, lines):
-    """What a program of Java's writes, line by line, where it is given lines."""
-    if not lines:
-        return []
-    subprocess.run(["javac", "-cp", JARS, "-d", room, source], check=True)
-    configuration = "-Dorg.apache.xerces.xni.parser.XMLParserConfiguration=org.apache.xerces.parsers.XIncludeParserConfiguration"
-    words = ["java", "-Xss256m", "-XX:+UseSerialGC", configuration, "-cp", f"{room}:{JARS}", source.stem]
-    ran = subprocess.run(words, input="".join(f"{line}\n" for line in lines), stdout=subprocess.PIPE, stderr=subprocess.DEVNULL, text=True, check=True)
-    return ran.stdout.removesuffix("\n").split("\n")
-
-
-def translated(room, folder, paths):
-    """The files in the compact syntax that trang makes of schemas in the XML syntax, by those; None where it makes none."""
-    made = {}
-    for path in paths:
-        place = folder / "translated" / path.relative_to(folder / "packages")
-        place.mkdir(parents=True, exist_ok=True)
-        made[path] = place / (path.stem + ".rnc")
-    missing = [path for path in paths if not made[path].exists()]
-    answers = [line for line in java(room, HERE / "Trang.java", [f"{path}\t{made[path]}" for path in missing]) if line.startswith("status ")]
-    for path, answer in zip(missing, answers, strict=True):
-        if answer != "status 0":
-            made[path].unlink(missing_ok=True)
-    return {path: to if to.exists() else None for path, to in made.items()}
-
-
-def jing(room, paths):
+def forms(room, paths):
     """What jing says of schemas in the compact syntax, by their paths: the simplified form and nothing, or nothing and the errors."""
-    answers = java(room, HERE.parent / "against-jing" / "Jing.java", [f"{path}\t{room}" for path in paths])
     found = {}
-    for path, answer in zip(paths, answers, strict=True):
-        word, rest = answer.split("\t", 1)
+    for line, (is_good, errors) in answers(room, [f"{path}\t{room}" for path in paths]).items():
+        path = pathlib.Path(line.split("\t")[0])
         form = pathlib.Path(f"{path}.simplified")
-        found[path] = (form.read_text("utf-8"), "") if word == "good" else (None, rest)
+        found[path] = (form.read_text("utf-8"), "") if is_good else (None, errors)
         form.unlink(missing_ok=True)
     return found
 
@@ -146,10 +51,10 @@ def flat(program, path, to):
 
 def compare(program, room, paths):
     """What comes of each file in the compact syntax, and why."""
-    originals = jing(room, paths)
+    originals = forms(room, paths)
     printed = {path: pathlib.Path(room) / f"{at}.rnc" for at, path in enumerate(paths)}
     refused = {path: flat(program, path, printed[path]) for path in paths}
-    again = jing(room, [printed[path] for path in paths if not refused[path]])
+    again = forms(room, [printed[path] for path in paths if not refused[path]])
     for path in paths:
         form, errors = originals[path]
         if form is None:

@@ -4,37 +4,31 @@ import os
 import re
 import shutil
 import subprocess
+import sys
 import tempfile
 
-from stubs import take_bodies_out
-
 HERE = os.path.dirname(os.path.abspath(__file__))
-TOP = os.path.dirname(os.path.dirname(HERE))
+sys.path.insert(0, os.path.dirname(HERE))
+from stubs import take_bodies_out
+from toolchain import TOP, kit, libraries
+
 PARTS = ("src", "specs", "proofs")
 # A function in a cycle of calls, which has one proof.
 IN_CYCLE = re.compile(r"#\[cycle\((\w+)\)\](?:\s*#\[[^\]]*\])*\s*(?:pub(?:\(\w+\))? )?fn (\w+)")
 
 
-def libraries():
-    """The libraries that each crate uses, by crates.txt."""
-    with open(f"{TOP}/crates.txt", encoding="utf-8") as file:
-        lines = [line.partition(":") for line in file]
-    return {name: used.split() for name, _, used in lines}
-
-
 def command(crate):
     """The words of a check of the crate, in its folder."""
-    kit = os.path.dirname(subprocess.run(["rt", "doc"], check=True, capture_output=True, text=True).stdout.strip())
-    used = libraries()
+    folder, used = kit(), libraries()
     built = [f"{TOP}/crates/{library}/out/rlib" for library in used]
     root = "src/main.rt" if os.path.isfile(f"{TOP}/crates/{crate}/src/main.rt") else "src/lib.rt"
-    words = [f"{kit}/bin/rattle", "check", "--crate-name", crate, root, "--extern", f"std={kit}/rlibs/std.rlib"]
+    words = [f"{folder}/bin/rattle", "check", "--crate-name", crate, root, "--extern", f"std={folder}/rlibs/std.rlib"]
     for library in used[crate]:
-        place = f"{TOP}/crates/{library}/out/rlib" if library in used else f"{kit}/rlibs"
+        place = f"{TOP}/crates/{library}/out/rlib" if library in used else f"{folder}/rlibs"
         words += ["--extern", f"{library}={place}/{library}.rlib"]
-    for place in [f"{kit}/rlibs", *built]:
+    for place in [f"{folder}/rlibs", *built]:
         words += ["-L", f"dependency={place}"] if os.path.isdir(place) else []
-    return [*words, "--antt-project", f"{kit}/rattle/logic/antt-project.json", "--logic-built", f"{kit}/logic_built", "--links", f"{crate}="]
+    return [*words, "--antt-project", f"{folder}/rattle/logic/antt-project.json", "--logic-built", f"{folder}/logic_built", "--links", f"{crate}="]
 
 
 def cycles(crate):

@@ -19,8 +19,9 @@ fn enclosed_start(alloc: Global, count: usize) -> Result<String, AllocError> {
 fn are_too_deep(rt: &(impl Abort + AllocGlobal), text: &str) -> (bool, bool) {
     let tokens = tokens(rt.alloc(), text.as_bytes()).expect(rt, "no tokens");
     let module = parse(rt.alloc(), tokens.as_slice());
+    let outline = outline_or_fault(rt, text);
     (
-        matches!(outline_or_fault(rt, text), Err(OutlineFault::Deep { .. })),
+        matches!(outline, Err(OutlineFault::Deep { .. })),
         matches!(module, Err(SyntaxFault::Deep { .. })),
     )
 }

@@ -117,9 +117,10 @@ pub fn each_answered(rt: &(impl Abort + AllocGlobal), rows: &[(&str, &str)]) {
 
 /// What is answered where the file `/w/a.rnc` is asked for.
 pub fn answer_for_a(alloc: Global, files: &MemoryFiles) -> Result<Sources, ReadFault> {
-    let word = String::from_str(alloc, "a.rnc")?;
+    let mut words = Vec::new(alloc);
+    words.push(String::from_str(alloc, "a.rnc")?)?;
     let asked = Asked {
-        files: &[word],
+        files: words.as_slice(),
         root: None,
         maps: &[],
     };

@@ -1,8 +1,7 @@
-// Bundles: their one spelling, what is read from damaged ones, and sets at their limits.
-use crate::contributions::{effective_count, is_effective, refuses, refuses_a_longer_text};
-use crate::samples::{ONE, written_set};
-use crate::sets::{add, bundle, held, module, set_of_bundle};
-use rn_modset::{AddFault, Contribution, ModuleSet, read_bundle};
+// Bundles: their one spelling, what is read from damaged ones, and the most entries.
+use crate::samples::{DIGEST, ONE, written_set};
+use crate::sets::{bundle, module, set_of_bundle};
+use rn_modset::{ModuleSet, read_bundle};
 use std::alloc::{AllocError, Global};
 use std::process::Abort;
 
@@ -58,8 +57,8 @@ fn bundles_have_their_lengths(rt: HostRuntime) {
     has_length(&rt, text, 238);
 }
 
-/// A bundle's text with one part of it replaced.
-fn changed(rt: &(impl Abort + AllocGlobal), old: &str, new: &str) -> String {
+/// The bundle of one text with a part of it replaced.
+fn damaged_bundle(rt: &(impl Abort + AllocGlobal), old: &str, new: &str) -> String {
     ONE.replacen(rt.alloc(), old, new, 1)
         .expect(rt, "no memory")
 }
@@ -89,7 +88,7 @@ static DAMAGE: [(&str, &str, &str); 18] = [
 #[test]
 fn damage_is_named(rt: HostRuntime) {
     for (old, new, wanted) in &DAMAGE {
-        let text = changed(&rt, old, new);
+        let text = damaged_bundle(&rt, old, new);
         is_found(&rt, new, text.as_bytes(), wanted);
     }
 }
@@ -111,11 +110,10 @@ fn fronts_are_no_bundles(rt: HostRuntime) {
 
 /// The entry of a text `abc` of revision 7.
 fn entry(rt: &(impl Abort + AllocGlobal), name: &str) -> String {
-    let digest = "ba7816bf8f01cfea414140de5dae2223b00361a396177a9cb410ff61f20015ad";
-    format!(in rt.alloc(); "module {name} 7 3 {digest}\nabc\n").expect(rt, "no memory")
+    format!(in rt.alloc(); "module {name} 7 3 {DIGEST}\nabc\n").expect(rt, "no memory")
 }
 
-/// What is wrong with a bundle of two entries, or `good`.
+/// A bundle of two entries has this fault, or is `good`.
 fn two_have(rt: &(impl Abort + AllocGlobal), version: u8, first: &str, second: &str, wanted: &str) {
     let text = format!(in rt.alloc(); "rncset {version}\n{first}{second}end 2\n");
     let text = text.expect(rt, "no memory");
@@ -123,7 +121,7 @@ fn two_have(rt: &(impl Abort + AllocGlobal), version: u8, first: &str, second: &
 }
 
 #[test]
-fn texts_rise(rt: HostRuntime) {
+fn entries_rise(rt: HostRuntime) {
     let first = entry(&rt, "t");
     for (name, wanted) in [
         ("t", "Order { entry: 1 }"),
@@ -148,7 +146,7 @@ fn withdrawal(alloc: Global, number: usize) -> Result<String, AllocError> {
 }
 
 /// A bundle of that many withdrawals.
-fn withdrawn(alloc: Global, count: usize) -> Result<String, AllocError> {
+fn bundle_of_withdrawals(alloc: Global, count: usize) -> Result<String, AllocError> {
     let mut text = String::from_str(alloc, "rncset 2\n")?;
     for number in 0..count {
         text.push_str(withdrawal(alloc, number)?.as_str())?;
@@ -159,71 +157,13 @@ fn withdrawn(alloc: Global, count: usize) -> Result<String, AllocError> {
 
 #[test]
 fn entries_are_limited(rt: HostRuntime) {
-    let most = withdrawn(rt.alloc(), 1024).expect(&rt, "no memory");
+    let most = bundle_of_withdrawals(rt.alloc(), 1024).expect(&rt, "no memory");
     is_found(&rt, "1024 entries", most.as_bytes(), "good");
-    let more = withdrawn(rt.alloc(), 1025).expect(&rt, "no memory");
+    let more = bundle_of_withdrawals(rt.alloc(), 1025).expect(&rt, "no memory");
     is_found(
         &rt,
         "1025 entries",
         more.as_bytes(),
         "Header { entry: 1024 }",
     );
-}
-
-/// A contribution of a numbered name.
-fn numbered(rt: &(impl Abort + AllocGlobal), number: usize) -> Contribution {
-    let name = format!(in rt.alloc(); "m{number:04}").expect(rt, "no memory");
-    module(rt, name.as_str(), 1, b"")
-}
-
-/// A set of 1,024 numbered names.
-fn full(rt: &(impl Abort + AllocGlobal)) -> ModuleSet {
-    let mut set = ModuleSet::new(rt.alloc());
-    for number in 0..1024 {
-        let is_new = add(rt, &mut set, numbered(rt, number));
-        assert!(rt; is_new, "each name is new");
-    }
-    set
-}
-
-/// What a full set refuses, and what it holds.
-fn takes_no_more(rt: &(impl Abort + AllocGlobal), set: &mut ModuleSet) {
-    refuses(rt, set, "m1024", AddFault::Full);
-    assert_eq!(rt; set.len(), 1024);
-    let is_new = add(rt, set, numbered(rt, 7));
-    assert!(rt; !is_new, "what a full set holds is held");
-}
-
-/// A set of one that a full set lacks takes nothing from it.
-fn joins_nothing(rt: &(impl Abort + AllocGlobal), full: &ModuleSet) {
-    let mut set = written_set(rt.alloc(), "@m1024\n").expect(rt, "no set");
-    let is_refused = set.join(full) == Err(AddFault::Full);
-    assert!(rt; is_refused, "a full set is not joined");
-    assert_eq!(rt; set.len(), 1);
-}
-
-#[test]
-fn a_full_set_takes_no_more(rt: HostRuntime) {
-    let mut set = full(&rt);
-    takes_no_more(&rt, &mut set);
-    joins_nothing(&rt, &set);
-}
-
-#[test]
-fn a_full_set_names_other_faults_first(rt: HostRuntime) {
-    let mut set = full(&rt);
-    refuses(&rt, &mut set, " 1", AddFault::BadName);
-    refuses_a_longer_text(&rt, &mut set);
-}
-
-#[test]
-fn sets_tell_what_they_hold(rt: HostRuntime) {
-    let text = "@b\nstart = text\n@a 2 withdrawn\n@a\nx = text\n@a 3\nx = empty";
-    let set = written_set(rt.alloc(), text).expect(&rt, "no set");
-    let lines = "a 1\na 2 withdrawn\na 3\nb 1\n";
-    assert_eq!(rt; held(&rt, &set).as_str(), lines);
-    assert_eq!(rt; effective_count(&rt, &set), 2);
-    let is_highest = is_effective(&rt, &set, "a", Some(b"x = empty"));
-    assert!(rt; is_highest, "the highest revision is effective");
-    assert!(rt; is_effective(&rt, &set, "c", None), "no other module is");
 }

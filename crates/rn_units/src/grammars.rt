@@ -1,4 +1,4 @@
-// Sets and what they give: each set is written with its modules parted by lines of their names.
+// The grammars of sets, or their refusals. Each set is written with its modules parted by lines of their names.
 use crate::pattern_lines::{write_pattern, write_words};
 use crate::samples::{rows, written_set};
 use rn_assemble::{Grammar, Refusal, assemble};
@@ -22,7 +22,7 @@ fn refusal_line(alloc: Global, refusal: &Refusal) -> Result<String, AllocError> 
     format!(in alloc; "{refusal:?}")
 }
 
-/// What assembling a set gives: its grammar, or the refusal.
+/// The grammar of a set in one line, or the refusal.
 fn assembled_line(alloc: Global, set: &ModuleSet) -> Result<String, AllocError> {
     match assemble(alloc, set) {
         Ok(grammar) => grammar_line(alloc, &grammar),
@@ -126,7 +126,7 @@ z = empty b2 = text
 => start = z; b = text; a = text; z = empty; b2 = text"#;
 
 #[test]
-fn grammars(rt: HostRuntime) {
+fn sets_have_their_grammars(rt: HostRuntime) {
     let rows = rows(rt.alloc(), GRAMMARS, "\n\n", "\n=> ").expect(&rt, "no rows");
     for (given, wanted) in &rows {
         assembles(&rt, given, wanted);
@@ -278,7 +278,7 @@ start = x
 => Prefix { module: "a" }"#;
 
 #[test]
-fn refusals(rt: HostRuntime) {
+fn sets_have_their_refusals(rt: HostRuntime) {
     let rows = rows(rt.alloc(), REFUSALS, "\n\n", "\n=> ").expect(&rt, "no rows");
     for (given, wanted) in &rows {
         assembles(&rt, given, wanted);

@@ -4,17 +4,25 @@
 #[cfg(test)]
 mod bundles;
 #[cfg(test)]
+mod characters;
+#[cfg(test)]
 mod contributions;
 #[cfg(test)]
 mod grammars;
 #[cfg(test)]
-mod layers;
+mod literals;
 #[cfg(test)]
-mod memory;
+mod memory_of_grammars;
+#[cfg(test)]
+mod memory_of_sets;
 #[cfg(test)]
 mod modules;
 #[cfg(test)]
+mod order;
+#[cfg(test)]
 mod pattern_lines;
+#[cfg(test)]
+mod pattern_parts;
 pub mod samples;
 #[cfg(test)]
 mod sets;

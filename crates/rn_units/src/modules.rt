@@ -46,7 +46,7 @@ static BRACKETS: [(&str, &str, &str, &str, usize, bool); 5] = [
 ];
 
 #[test]
-fn brackets_too_deep(rt: HostRuntime) {
+fn brackets_are_too_deep(rt: HostRuntime) {
     for (front, open, inner, close, at, _) in &BRACKETS {
         let text = nested(rt.alloc(), front, open, inner, close, 257).expect(&rt, "no memory");
         let found = fault(&rt, text.as_str());
@@ -55,7 +55,7 @@ fn brackets_too_deep(rt: HostRuntime) {
 }
 
 #[test]
-fn deepest_brackets(rt: HostRuntime) {
+fn the_deepest_brackets_are_read(rt: HostRuntime) {
     for (front, open, inner, close, _, is_module) in &BRACKETS {
         let text = nested(rt.alloc(), front, open, inner, close, 256).expect(&rt, "no memory");
         let at_end = Some(SyntaxFault::Syntax { at: text.len() });
@@ -65,7 +65,7 @@ fn deepest_brackets(rt: HostRuntime) {
 }
 
 #[test]
-fn include_literals(rt: HostRuntime) {
+fn literals_of_includes_are_listed(rt: HostRuntime) {
     let text =
         "include 'a' { } div { include \"b\" ~ 'c' div { include \"l\\x{69}b\" } } include \"\\x\"";
     let tokens = tokens_of(&rt, text);
@@ -95,7 +95,7 @@ fn is_borrowed(rt: &(impl Abort + AllocGlobal), text: &str) -> Option<bool> {
 }
 
 #[test]
-fn borrowed_literals(rt: HostRuntime) {
+fn literals_as_written_are_borrowed(rt: HostRuntime) {
     for (text, wanted) in [
         ("include \"lib\"", true),
         ("include '''l\"'b\n'''", true),

@@ -6,11 +6,17 @@ use rn_pattern::{NameClass, Node, Patterns};
 use std::alloc::{AllocError, Global};
 use std::rc::RcStr;
 
+/// The digest of the text `abc` (FIPS 180-2, appendix B.1).
+pub const DIGEST: &str = "ba7816bf8f01cfea414140de5dae2223b00361a396177a9cb410ff61f20015ad";
+
 /// The bundle of the text `abc`, the module `t` of revision 7.
 pub const ONE: &str =
     "rncset 1\nmodule t 7 3 ba7816bf8f01cfea414140de5dae2223b00361a396177a9cb410ff61f20015ad\nabc\nend 1\n";
 
-/// The set of a module that includes another one twice, and of that one.
+/// A module that includes another one twice.
+pub const MAIN: &str = "include \"lib\" include \"lib\" start = element r { y }";
+
+/// The set of the module `MAIN` and of that which it includes.
 pub const TWICE_INCLUDED: &str =
     "@main\ninclude \"lib\" include \"lib\" start = element r { y }\n@lib\ny |= text";
 

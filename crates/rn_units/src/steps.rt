@@ -2,8 +2,8 @@
 ghost use Rattle.std.specs.Prelude.{◌≡◌, ◌∷◌, [], All, IfOk, IsTrue};
 ghost use Rattle.rn_pattern.specs.Store.{KeepsIds};
 
-use crate::layers::{Parts, constructed_pattern, given};
 use crate::pattern_lines::pattern_line;
+use crate::pattern_parts::{Parts, constructed_pattern, new_parts};
 use rn_pattern::steps::{
     attribute_over, choice_over, datum_over, element_over, group_over, interleave_over, list_over,
     one_or_more_over, value_of,
@@ -31,10 +31,12 @@ fn atom(alloc: Global, number: usize) -> Result<Pattern, AllocError> {
     })
 }
 
+/// A reference to this name.
 fn reference(alloc: Global, name: &str) -> Result<Pattern, AllocError> {
     Ok(Pattern::Ref(String::from_str(alloc, name)?))
 }
 
+/// References to these names.
 fn references(alloc: Global, names: &[&str]) -> Result<Vec<Rc<Pattern>>, AllocError> {
     let mut members = Vec::new(alloc);
     for name in names {
@@ -50,8 +52,8 @@ pub struct Operands {
     members: Vec<Rc<Pattern>>,
 }
 
-/// Three atoms for a step.
-pub fn over(alloc: Global, atoms: Atoms) -> Result<Operands, AllocError> {
+/// The atoms of these numbers, as a step is given them.
+pub fn new_operands(alloc: Global, atoms: Atoms) -> Result<Operands, AllocError> {
     let content = Box::new(alloc, atom(alloc, atoms.0)?)?;
     let mut members = Vec::new(alloc);
     members.push(Rc::new(alloc, atom(alloc, atoms.0)?)?)?;
@@ -60,7 +62,7 @@ pub fn over(alloc: Global, atoms: Atoms) -> Result<Operands, AllocError> {
     Ok(Operands { content, members })
 }
 
-/// What the step of a number, from 4 to 12, makes of atoms. `layers` has the constructors of the same numbers.
+/// What the step of a number, from 4 to 12, makes of atoms. The constructors in `pattern_parts` have these numbers too.
 pub fn stepped(
     alloc: Global,
     parts: &Parts,
@@ -88,10 +90,10 @@ fn stepped_over(
     number: usize,
     atoms: Atoms,
 ) -> Result<Pattern, AllocError> {
-    stepped(alloc, parts, over(alloc, atoms)?, number)
+    stepped(alloc, parts, new_operands(alloc, atoms)?, number)
 }
 
-/// The line of that.
+/// The line of the pattern that a step makes over the atoms of these numbers.
 fn stepped_line(
     alloc: Global,
     parts: &Parts,
@@ -136,7 +138,7 @@ const STEPS: [(usize, Atoms, &str); 29] = [
 
 #[test]
 fn steps_make_canonical_patterns(rt: HostRuntime) {
-    let parts = given(rt.alloc()).expect(&rt, "no memory");
+    let parts = new_parts(rt.alloc()).expect(&rt, "no memory");
     for (number, atoms, wanted) in &STEPS {
         let found = stepped_line(rt.alloc(), &parts, *number, *atoms).expect(&rt, "no memory");
         assert_eq!(rt; found.as_str(), *wanted);
@@ -252,7 +254,7 @@ fn constructs<P: Patterns>(
 }
 
 /// What a step makes of atoms, the constructors of both stores make of them too.
-fn is_constructed(rt: &(impl Abort + AllocGlobal), parts: &Parts, number: usize, atoms: Atoms) {
+fn stores_agree(rt: &(impl Abort + AllocGlobal), parts: &Parts, number: usize, atoms: Atoms) {
     let wanted = stepped_over(rt.alloc(), parts, number, atoms).expect(rt, "no memory");
     constructs(
         rt,
@@ -274,9 +276,9 @@ fn is_constructed(rt: &(impl Abort + AllocGlobal), parts: &Parts, number: usize,
 
 #[test]
 fn stores_construct_what_steps_make(rt: HostRuntime) {
-    let parts = given(rt.alloc()).expect(&rt, "no memory");
+    let parts = new_parts(rt.alloc()).expect(&rt, "no memory");
     for row in 0..9 * 729 {
         let atoms = (row % 9, row / 9 % 9, row / 81 % 9);
-        is_constructed(&rt, &parts, 4 + row / 729, atoms);
+        stores_agree(&rt, &parts, 4 + row / 729, atoms);
     }
 }

@@ -1,5 +1,6 @@
 // Sets and texts at their limits, and long lists and chains.
-use crate::helpers::{expect_text, holds, owned, push, repeated, same, same_count, written_set};
+use crate::comparing::{expect_text, holds, same, same_count};
+use crate::given_texts::{owned, push, repeated, written_set};
 use crate::merges::{
     FIRST_LINE, answer, answer_of_text, merged, prints_again, prints_in_either_store,
 };

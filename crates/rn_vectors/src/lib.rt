@@ -6,13 +6,13 @@ mod checks;
 #[cfg(test)]
 mod combining;
 #[cfg(test)]
+mod comparing;
+#[cfg(test)]
 mod drawing;
 #[cfg(test)]
-mod helpers;
+mod given_texts;
 #[cfg(test)]
 mod large;
-#[cfg(test)]
-mod layers;
 #[cfg(test)]
 mod lines;
 #[cfg(test)]
@@ -20,7 +20,9 @@ mod lists;
 #[cfg(test)]
 mod long_uris;
 #[cfg(test)]
-mod memory;
+mod memory_of_merges;
+#[cfg(test)]
+mod memory_of_schemas;
 #[cfg(test)]
 mod merges;
 #[cfg(test)]
@@ -32,4 +34,8 @@ mod repeats;
 #[cfg(test)]
 mod streams;
 #[cfg(test)]
+mod tables;
+#[cfg(test)]
 mod uri_orders;
+#[cfg(test)]
+mod words;

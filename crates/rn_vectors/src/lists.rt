@@ -2,9 +2,11 @@
 // a definition that is worth notAllowed or empty written out as that.
 ghost use Rattle.std.specs.Prelude.{◌<◌, ◌≤◌};
 
+use crate::comparing::{expect_text, same_for};
 use crate::drawing::Draw;
-use crate::helpers::{each_schema, expect_text, owned, push, same_for, written_set};
+use crate::given_texts::{owned, push, written_set};
 use crate::merges::{BothStores, Merge, MergeAgain, merged, prints_in_either_store};
+use crate::tables::each_schema;
 use std::process::Abort;
 
 /// Lists of which some members are lists of the same kind, or come to that, or to nothing.

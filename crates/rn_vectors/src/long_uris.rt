@@ -1,10 +1,9 @@
 // Sets whose modules declare long URIs, of which a merge makes short texts for a while. A set prints its schema with and without that, through either store,
 // and what it prints is printed again.
-use crate::helpers::{
-    Subject, each_schema, each_set, expect_text, owned, push, repeated, same, same_count, same_for,
-    written_set,
-};
+use crate::comparing::{expect_text, same, same_count, same_for};
+use crate::given_texts::{owned, repeated, written_set};
 use crate::merges::{BothStores, Merge, MergeAgain, answer, merged};
+use crate::tables::{Subject, each_schema, each_set};
 use rn_assemble::assemble;
 use rn_merge::refusal_line;
 use rn_modset::ModuleSet;
@@ -13,16 +12,7 @@ use std::process::Abort;
 /// A text with sixty letters in the place of each `^`. So `^0123` has the most bytes of a URI that stands for itself.
 pub fn lengthened(rt: &(impl Abort + AllocGlobal), text: &str) -> String {
     let sixty = repeated(rt, "", "u", 60, "");
-    let mut out = owned(rt, "");
-    let mut is_first = true;
-    for part in text.split('^') {
-        if !is_first {
-            push(rt, &mut out, sixty.as_str());
-        }
-        push(rt, &mut out, part);
-        is_first = false;
-    }
-    out
+    expect_text(rt, text.replace(rt.alloc(), "^", sixty.as_str()))
 }
 
 /// A set prints a schema with short texts and without them, and the schema prints itself again, where `^` stands for sixty letters.
@@ -345,7 +335,7 @@ impl Subject for Refused {
 }
 
 #[test]
-fn refusals_stay(rt: HostRuntime) {
+fn long_uris_keep_refusals(rt: HostRuntime) {
     each_set(&rt, &Refused, REFUSED);
 }
 

@@ -1,5 +1,7 @@
 // What a merge answers for sets, and what its layers do. A helper that lacks memory, or is given what it can't take, ends its test.
-use crate::helpers::{Subject, expect_text, owned, same, same_for, written_set};
+use crate::comparing::{expect_text, same_for};
+use crate::given_texts::{owned, written_set};
+use crate::tables::Subject;
 use rn_assemble::{Grammar, Refusal, assemble};
 use rn_merge::{ProgramFault, fault_line, merge, refusal_line};
 use rn_modset::ModuleSet;
@@ -54,24 +56,26 @@ impl Subject for Merge {
     }
 }
 
-/// A merge of what a set prints, as a set of its own, `z` at revision 9: the same is printed again.
+/// What a set prints is printed again, as the text of a set of its own: of the module `z` in revision 9.
+fn prints_again_for(rt: &(impl Abort + AllocGlobal), set: &ModuleSet, given: &str) {
+    let text = printed(rt, set);
+    let again = expect_text(rt, format!(in rt.alloc(); "@z 9\n{text}"));
+    let again = printed(rt, &written_set(rt, again.as_str()));
+    same_for(rt, given, again.as_str(), text.as_str());
+}
+
+/// What a set prints is printed again, as the text of a set of its own.
+pub fn prints_again(rt: &(impl Abort + AllocGlobal), set: &ModuleSet) {
+    prints_again_for(rt, set, "");
+}
+
+/// A merge of what a set prints, by which the same is printed again.
 pub struct MergeAgain;
 
 impl Subject for MergeAgain {
     fn answers<R: Abort + AllocGlobal>(&self, rt: &R, given: &str, _wanted: &str) {
-        let text = printed(rt, &written_set(rt, given));
-        let again = expect_text(rt, format!(in rt.alloc(); "@z 9\n{text}"));
-        let again = printed(rt, &written_set(rt, again.as_str()));
-        same_for(rt, given, again.as_str(), text.as_str());
+        prints_again_for(rt, &written_set(rt, given), given);
     }
-}
-
-/// What a set prints is printed again, as a set of its own.
-pub fn prints_again(rt: &(impl Abort + AllocGlobal), set: &ModuleSet) {
-    let text = printed(rt, set);
-    let again = expect_text(rt, format!(in rt.alloc(); "@z 9\n{text}"));
-    let again = printed(rt, &written_set(rt, again.as_str()));
-    same(rt, again.as_str(), text.as_str());
 }
 
 /// The grammar of a set.
@@ -102,24 +106,26 @@ fn prints_in<P: Patterns>(
     same_for(rt, given, lines_of(rt, text.as_str()), wanted);
 }
 
+/// The schema of a set, whose canonical form is built in either store, has these lines behind the first one.
+fn prints_in_both(rt: &(impl Abort + AllocGlobal), set: &ModuleSet, given: &str, wanted: &str) {
+    let grammar = grammar(rt, set);
+    prints_in(rt, &grammar, &mut Plain::new(rt.alloc()), given, wanted);
+    prints_in(rt, &grammar, &mut Interned::new(rt.alloc()), given, wanted);
+}
+
 /// A merge whose canonical form is built in a store that looks for equal patterns, and in one that doesn't.
 pub struct BothStores;
 
 impl Subject for BothStores {
     fn answers<R: Abort + AllocGlobal>(&self, rt: &R, given: &str, wanted: &str) {
-        let grammar = grammar(rt, &written_set(rt, given));
-        prints_in(rt, &grammar, &mut Plain::new(rt.alloc()), given, wanted);
-        prints_in(rt, &grammar, &mut Interned::new(rt.alloc()), given, wanted);
+        prints_in_both(rt, &written_set(rt, given), given, wanted);
     }
 }
 
 /// What a set prints is printed through either store.
 pub fn prints_in_either_store(rt: &(impl Abort + AllocGlobal), set: &ModuleSet) {
     let text = printed(rt, set);
-    let wanted = lines_of(rt, text.as_str());
-    let grammar = grammar(rt, set);
-    prints_in(rt, &grammar, &mut Plain::new(rt.alloc()), "", wanted);
-    prints_in(rt, &grammar, &mut Interned::new(rt.alloc()), "", wanted);
+    prints_in_both(rt, set, "", lines_of(rt, text.as_str()));
 }
 
 /// The line of a fault.

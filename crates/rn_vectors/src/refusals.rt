@@ -1,6 +1,6 @@
 // Sets that print nothing, and the first refusal that stands for each.
-use crate::helpers::each_set;
 use crate::merges::Merge;
+use crate::tables::each_set;
 
 const ROWS: &str = r#"@a
 x = text

@@ -1,7 +1,8 @@
 // Modules that are included several times, drawn: a set merges to the same as where each include has a module of its own, with the same text. There no two
 // components have the same body.
+use crate::comparing::{expect_text, same_for};
 use crate::drawing::Draw;
-use crate::helpers::{expect_text, owned, push, same_for, written_set};
+use crate::given_texts::{owned, push, written_set};
 use crate::merges::{answer, prints_in_either_store};
 use std::process::Abort;
 

@@ -1,7 +1,8 @@
 // Runs over bundles, with sources and sinks that fail at a known byte.
 ghost use Rattle.std.specs.Prelude.{◌≡◌, false};
 
-use crate::helpers::{holds, same_bytes, written_set};
+use crate::comparing::{holds, same_bytes};
+use crate::given_texts::written_set;
 use rn_assemble::Refusal;
 use rn_merge::{
     Failed, ReadFault, RunFault, Sink, Source, Status, read_input, run_print, write_output,
@@ -195,7 +196,7 @@ fn inputs_are_read_to_their_end(rt: HostRuntime) {
 }
 
 #[test]
-fn inputs_are_refused(rt: HostRuntime) {
+fn long_and_broken_inputs_are_refused(rt: HostRuntime) {
     let mut long = source_of(b"five!", usize::MAX);
     let fault = read_input(rt.alloc(), &mut long, 4).err();
     holds(

@@ -1,6 +1,7 @@
 // The order of long URIs while short texts stand for them: tables of URIs in their order, and sets that are drawn.
+use crate::comparing::{expect_text, holds};
 use crate::drawing::Draw;
-use crate::helpers::{expect_text, holds, owned, push, written_set};
+use crate::given_texts::{owned, push, written_set};
 use crate::long_uris::{lengthened, prints};
 use crate::merges::{prints_again, prints_in_either_store};
 use rn_assemble::assemble_short;

@@ -29,6 +29,7 @@ pub fn read_file(rt: &HostRuntime, n: usize, file: &str) -> Result<Vec<u8>, Prog
     }
 }
 
+/// All bytes of the source that the file with this number among the words is.
 fn read_all<S: Source>(alloc: Global, n: usize, source: &mut S) -> Result<Vec<u8>, ProgramFault>
     requires fresh { S.has_failed source.old ≡ false }
     requires unended { S.has_ended source.old ≡ false }

@@ -112,6 +112,7 @@ fn write_schema<W: Sink>(
     }
 }
 
+/// Writes bytes to the sink.
 fn write<W: Sink>(bytes: &[u8], out: &mut W) -> Result<(), ProgramFault>
     requires { W.has_failed out.old ≡ false }
     ensures { LeavesSink result (out.new ≡ out.old) }

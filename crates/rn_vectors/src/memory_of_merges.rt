@@ -1,9 +1,8 @@
 // Merges, checks, runs and lines, with their requests for memory refused in turn by what tests/out-of-memory loads
 // before the tests' program. A call that is refused answers want of memory, in its own type, and leaves what it was lent.
 // Without a refusal, as in the gate, it gives its own answer. Each test tells whether a call was refused.
-use crate::helpers::{
-    contribution, expect_text, holds, owned, repeated, same, same_bytes, written_set,
-};
+use crate::comparing::{expect_text, holds, same, same_bytes};
+use crate::given_texts::{contribution, owned, repeated, written_set};
 use crate::merges::{line_of, shown};
 use crate::streams::{A, B, PRINTED, bundles, sink_of};
 use rn_assemble::Refusal;
@@ -12,7 +11,7 @@ use rn_merge::{
     list_line, merge, refusal_line, run_print, status,
 };
 use rn_modset::{BundleFault, ModuleSet};
-use rn_units::samples::{BEGIN, END, answer_word, mark};
+use rn_units::samples::{BEGIN, DIGEST, END, answer_word, mark};
 use std::alloc::AllocError;
 use std::process::Abort;
 
@@ -174,8 +173,7 @@ fn a_contribution_has_its_line(rt: HostRuntime) {
     mark(rt.alloc(), BEGIN);
     let answer = list_line(rt.alloc(), &given);
     mark(rt.alloc(), END);
-    let digest = "ba7816bf8f01cfea414140de5dae2223b00361a396177a9cb410ff61f20015ad";
-    let wanted = expect_text(&rt, format!(in rt.alloc(); "t 7 3 {digest}"));
+    let wanted = expect_text(&rt, format!(in rt.alloc(); "t 7 3 {DIGEST}"));
     print_answer(&rt, is_refused(&rt, answer, wanted.as_str()));
 }
 

@@ -2,7 +2,7 @@
 // before the tests' program. A call that is refused answers want of memory, in its own type, and leaves what it was lent.
 // Without a refusal, as in the gate, it gives its own answer. Each test tells whether a call was refused.
 use crate::samples::{
-    BEGIN, END, ONE, TWICE_INCLUDED, answer_word, contribution, held, mark, written_set,
+    BEGIN, END, MAIN, ONE, TWICE_INCLUDED, answer_word, contribution, held, mark, written_set,
 };
 use rn_modset::{AddFault, BundleFault, ModuleSet, SetFault, read_bundle, write_bundle};
 use rn_text::{TextFault, literal, tokens, write_literal};
@@ -13,9 +13,6 @@ pub fn print_answer(rt: &(impl Abort + Print), is_refused: bool) {
     let word = answer_word(is_refused);
     println!(rt; "{word}").expect(rt, "nothing is printed");
 }
-
-/// A module that includes another one twice.
-pub const MAIN: &str = "include \"lib\" include \"lib\" start = element r { y }";
 
 #[test]
 fn a_text_is_cut(rt: HostRuntime) {

@@ -1,95 +1,16 @@
-// Constructors of patterns, and what reads a module and assembles a set, with their requests for memory refused in turn as in `memory`.
-ghost use Rattle.std.specs.Prelude.{All, IfOk, IsTrue};
-ghost use Rattle.rn_pattern.specs.Store.{KeepsTrees};
-
-use crate::memory::{MAIN, print_answer};
-use crate::samples::{BEGIN, END, TWICE_INCLUDED, is_reference, mark, name, written_set};
-use crate::steps::{over, stepped};
+// Constructors of patterns, and what reads a module and assembles a set, with their requests for memory refused in turn by what
+// tests/out-of-memory loads before the tests' program. A call that is refused answers want of memory, in its own type, and a store
+// keeps its patterns. Without a refusal, as in the gate, it gives its own answer. Each test tells whether a call was refused.
+use crate::memory_of_sets::print_answer;
+use crate::pattern_parts::{Parts, constructed_pattern, new_parts};
+use crate::samples::{BEGIN, END, MAIN, TWICE_INCLUDED, is_reference, mark, name, written_set};
+use crate::steps::{new_operands, stepped};
 use rn_assemble::{Grammar, Refusal, assemble};
 use rn_modset::ModuleSet;
-use rn_pattern::{Data, Interned, NameClass, Patterns, Plain, Value};
+use rn_pattern::{Interned, Patterns, Plain};
 use rn_syntax::{SyntaxFault, includes, parse};
 use rn_text::{is_keyword, is_ncname, tokens};
-use std::alloc::{AllocError, Global};
 use std::process::Abort;
-use std::rc::RcStr;
-
-/// What constructors and steps are given besides patterns.
-#[derive(Drop)]
-pub struct Parts {
-    /// A choice of names that isn't in order.
-    pub class: NameClass,
-    /// A value of a type of the empty library.
-    pub value: Value,
-    /// Data with a parameter.
-    pub data: Data,
-}
-
-/// A choice of names that isn't in order, a value, and data with a parameter.
-pub fn given(alloc: Global) -> Result<Parts, AllocError> {
-    let value = Value {
-        library: RcStr::from_str(alloc, "")?,
-        type_name: String::from_str(alloc, "token")?,
-        text: String::from_str(alloc, "x")?,
-    };
-    let mut params = Vec::new(alloc);
-    params.push((String::from_str(alloc, "k")?, String::from_str(alloc, "v")?))?;
-    let data = Data {
-        library: RcStr::from_str(alloc, "u")?,
-        type_name: String::from_str(alloc, "t")?,
-        params,
-    };
-    let class = names(alloc)?;
-    Ok(Parts { class, value, data })
-}
-
-fn names(alloc: Global) -> Result<NameClass, AllocError> {
-    let mut members = Vec::new(alloc);
-    members.push(name(alloc, "u", "n")?)?;
-    members.push(name(alloc, "u", "m")?)?;
-    members.push(name(alloc, "u", "n")?)?;
-    Ok(NameClass::Choice(members))
-}
-
-/// A pattern of each constructor, of the numbers 0 to 12, over patterns of the store.
-pub fn constructed_pattern<P: Patterns>(
-    store: &mut P,
-    parts: &Parts,
-    a: P::Id,
-    members: &[P::Id],
-    number: usize,
-) -> Result<P::Id, AllocError>
-    requires a { IsTrue (P.knows store.old a) }
-    requires members { All (λ i. IsTrue (P.knows store.old i)) members.now }
-    ensures known { IfOk result (λ i. IsTrue (P.knows store.new i)) }
-    ensures kept { KeepsTrees (P.knows store.old) (P.tree_of store.old)
-        (P.knows store.new) (P.tree_of store.new) }
-{
-    match number {
-        0 => store.not_allowed(),
-        1 => store.empty(),
-        2 => store.text(),
-        3 => store.reference("c"),
-        4 => store.value(
-            &parts.value.library,
-            &parts.value.type_name,
-            &parts.value.text,
-        ),
-        5 => store.datum(
-            &parts.data.library,
-            &parts.data.type_name,
-            &parts.data.params,
-            Some(a),
-        ),
-        6 => store.list(a),
-        7 => store.attribute(&parts.class, a),
-        8 => store.element(&parts.class, a),
-        9 => store.choice(members),
-        10 => store.group(members),
-        11 => store.ileave(members),
-        _ => store.one_or_more(a),
-    }
-}
 
 /// Whether a constructor is refused in a store of two references, which stay.
 fn is_refused<P: Patterns>(
@@ -112,8 +33,8 @@ fn is_refused<P: Patterns>(
 }
 
 #[test]
-fn constructors_of_a_plain_store(rt: HostRuntime) {
-    let parts = given(rt.alloc()).expect(&rt, "no memory");
+fn patterns_are_constructed_in_a_plain_store(rt: HostRuntime) {
+    let parts = new_parts(rt.alloc()).expect(&rt, "no memory");
     let mut was_refused = false;
     for number in 0..13 {
         let mut store = Plain::new(rt.alloc());
@@ -126,8 +47,8 @@ fn constructors_of_a_plain_store(rt: HostRuntime) {
 }
 
 #[test]
-fn constructors_of_an_interned_store(rt: HostRuntime) {
-    let parts = given(rt.alloc()).expect(&rt, "no memory");
+fn patterns_are_constructed_in_an_interned_store(rt: HostRuntime) {
+    let parts = new_parts(rt.alloc()).expect(&rt, "no memory");
     let mut was_refused = false;
     for number in 0..13 {
         let mut store = Interned::new(rt.alloc());
@@ -141,16 +62,16 @@ fn constructors_of_an_interned_store(rt: HostRuntime) {
 
 /// Whether a step on patterns is refused.
 fn is_refused_step(rt: &(impl Abort + AllocGlobal), parts: &Parts, number: usize) -> bool {
-    let given = over(rt.alloc(), (1, 6, 1)).expect(rt, "no memory");
+    let operands = new_operands(rt.alloc(), (1, 6, 1)).expect(rt, "no memory");
     mark(rt.alloc(), BEGIN);
-    let answer = stepped(rt.alloc(), parts, given, number);
+    let answer = stepped(rt.alloc(), parts, operands, number);
     mark(rt.alloc(), END);
     answer.is_err()
 }
 
 #[test]
-fn steps_on_patterns(rt: HostRuntime) {
-    let parts = given(rt.alloc()).expect(&rt, "no memory");
+fn steps_make_patterns(rt: HostRuntime) {
+    let parts = new_parts(rt.alloc()).expect(&rt, "no memory");
     let mut was_refused = false;
     for number in 4..13 {
         was_refused |= is_refused_step(&rt, &parts, number);

@@ -1,6 +1,9 @@
-// What makes the schema of a grammar, with its requests for memory refused in turn as in `memory`.
-use crate::helpers::{holds, same_count, written_set};
-use crate::memory::{is_refused_answer, print_answer};
+// Calls that make the schema of a grammar, with their requests for memory refused in turn by what tests/out-of-memory loads before
+// the tests' program. A call that is refused answers want of memory, in its own type, and a store keeps its patterns.
+// Without a refusal, as in the gate, it gives its own answer. Each test tells whether a call was refused.
+use crate::comparing::{holds, same_count};
+use crate::given_texts::written_set;
+use crate::memory_of_merges::{is_refused_answer, print_answer};
 use crate::merges::{self, shown};
 use rn_assemble::{Grammar, Refusal};
 use rn_pattern::{Interned, Patterns, Plain};
