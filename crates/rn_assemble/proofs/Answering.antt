@@ -1,8 +1,8 @@
 -- Which refusal is answered.
-pub mod Unsound
+pub mod ReferenceRefusals
 pub mod ReadModules
 pub mod FirstRefusal
 pub mod SetRefusal
-pub mod Checks
+pub mod CheckedModules
 pub mod ShortenedSets
-pub mod Refusing
+pub mod RefusedResults

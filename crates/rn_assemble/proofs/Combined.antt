@@ -2,5 +2,5 @@
 pub mod Depth
 pub mod Combinations
 pub mod JoinedProperties
-pub mod Joined
+pub mod PlainComponents
 pub mod OneModule

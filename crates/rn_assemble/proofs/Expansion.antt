@@ -1,7 +1,7 @@
 -- Includes expanded: components put in, overridden, and what an include lacks.
-pub mod Counting
+pub mod CountedInstances
 pub mod ModulePlaces
-pub mod Gathered
+pub mod GatheredItems
 pub mod LiveLists
 pub mod Expansions
 pub mod Spliced
@@ -16,9 +16,10 @@ pub mod IncludedLacks
 pub mod OwnLacks
 pub mod LongerPaths
 pub mod Inclusions
-pub mod Entries
+pub mod RootNumbers
 pub mod WantedNumbers
 pub mod FirstIncludes
 pub mod EntryMarks
+pub mod NumberRanges
 pub mod RunNumbers
 pub mod CountedBodies

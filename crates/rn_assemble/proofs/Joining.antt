@@ -1,16 +1,15 @@
 -- Components of a key joined to its definition.
 pub mod SomeCombination
-pub mod Resolved
-pub mod Declared
+pub mod ResolvedLists
 pub mod KeyedBodies
 pub mod ConstantPatterns
-pub mod Looking
+pub mod BodiesLookedAt
 pub mod UsedMethods
 pub mod KeyPatterns
 pub mod DefinedNames
-pub mod FirstPlaces
+pub mod FirstComponents
 pub mod DistinctNames
-pub mod Defining
+pub mod PlacedDefinitions
 pub mod HeldStart
 pub mod SharedPatterns
 pub mod SameBodies

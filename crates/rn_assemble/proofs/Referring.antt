@@ -4,8 +4,8 @@ pub mod WrittenReferences
 pub mod FoundReferences
 pub mod LeastUndefined
 pub mod GatheredReferences
-pub mod Numbers
+pub mod KeyNumbers
 pub mod NumberedReferences
-pub mod Named
+pub mod NamedLists
 pub mod KeyNames
 pub mod LeastKeys

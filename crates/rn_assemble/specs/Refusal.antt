@@ -21,7 +21,7 @@ use Rattle.rn_assemble.specs.Components.{Key, start_key, Component, NamedModule,
 use Rattle.rn_assemble.specs.Combine.{IsPlainTwice, IsMixed, joined_pattern, joined_grammar}
 use Rattle.rn_assemble.specs.Least.{IsLeast, key_cmp}
 
--- modules by their names; a name that is wanted and not there; what is combined by its key
+-- a refusal tells a module by its name, an include by its module and the name that it wants, and what is combined by its key
 pub data Refusal : Type 0 where
   conflict : (name : Text) (revision : ℕ) → Refusal
   faulty : FaultKind → (name : Text) → Refusal
@@ -92,7 +92,7 @@ module _ (included : Text → Text → List Component) (inherited : Text) (ds : 
     items_lack t.no_items k = false
     items_lack (t.item x xs) k = item_lacks x k || items_lack xs k
 
--- in the module x, under no namespace: which keys are there does not depend on it
+-- an include of the module x defines the key, which the components of the included module lack; under no namespace, since under each the keys are the same
 abbrev pub Lacks : List NamedModule → Text → Key → Type 0
 Lacks modules x k = (m : NamedModule) × Contains (modules_named x modules) m × (items_lack (components modules) [] m.tree.declarations m.tree.items k ≡ true)
 
@@ -119,7 +119,7 @@ StandsFor modules (undefined x) = IsLeast text_cmp (IsUndefined (grammar_of modu
 StandsFor modules (recursive x) = IsLeast text_cmp (IsRecursive (grammar_of modules)) x
 StandsFor modules (name_class k) = IsLeast key_cmp (BreaksNameRules (set_components modules)) k
 
--- it is the first that stands for the modules
+-- the refusal is the first that stands for the modules
 abbrev pub IsFirstFor : List NamedModule → Refusal → Type 0
 IsFirstFor modules r = StandsFor modules r × ((q : Refusal) → rank q < rank r → ¬ StandsFor modules q)
 
@@ -136,7 +136,7 @@ Stands s (conflict x r) = IsFirstConflict s x r
 Stands s (faulty f x) = (texts : List Module) × AreEffective s texts × IsLeast text_cmp (IsFaulty texts) x × ((text : Text) × Contains texts (x, text) × IsFirstFault text f)
 Stands s r = (modules : List NamedModule) × AreModules s modules × StandsFor modules r
 
--- it is the first that stands
+-- the refusal is the first that stands for the set
 abbrev pub IsFirst : List Member → Refusal → Type 0
 IsFirst s r = Stands s r × ((q : Refusal) → rank q < rank r → ¬ Stands s q)
 

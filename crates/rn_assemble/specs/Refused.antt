@@ -28,7 +28,7 @@ fault_of (r.ContextValue m) = Some (kind.ContextValue, string_bytes m)
 fault_of (r.Except m) = Some (kind.Except, string_bytes m)
 fault_of q = None
 
--- the other refusals; want of memory and refusals of printed text are no set's
+-- a refusal that is no fault of a module's text; want of memory and refusals of printed text are no set's
 abbrev pub other_view : code.Refusal → Option Refusal
 other_view (r.Conflict m v) = Some (conflict (string_bytes m) v)
 other_view (r.Missing m w) = Some (missing (string_bytes m) (string_bytes w))

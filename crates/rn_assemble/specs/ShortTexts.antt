@@ -66,7 +66,7 @@ pub record IsTable (es : ShortTexts) : Type 0 where
   pub uris : UrisAscend es
   pub keeps : (es ≡ []) ⊎ Keeps es
 
--- ---- which texts they are
+-- ---- which texts are short for which URIs
 
 -- the text of a URI that isn't inherited
 abbrev pub literal_text : Uri → Option Text
@@ -91,7 +91,7 @@ is_long u = nat_lt max_kept_uri (length u)
 abbrev pub special_uris : List Text
 special_uris = [] ∷ xml_uri ∷ xsd_uri ∷ declarations ∷ []
 
--- the greatest of them that isn't above a URI
+-- the greatest URI that means something by itself and isn't above u
 abbrev pub front_of : Text → Text
 front_of u =
     if is_le (text_cmp xml_uri u) then xml_uri
@@ -113,7 +113,7 @@ abbrev pub short_list : ℕ → List Text → ShortTexts
 short_list n [] = []
 short_list n (u ∷ us) = (short_text_of n u, u) ∷ short_list (n + 1) us
 
--- those of the URIs that modules declare, numbered in their order; none where no such URI is long
+-- the short texts of the URIs that modules declare, numbered in the order of the URIs; none where no URI is long
 abbrev pub short_texts_of : List NamedModule → ShortTexts
 short_texts_of ms = if list_any is_long (module_uris ms) then short_list 0 (sorted_once text_cmp (special_uris ++ module_uris ms)) else []
 
@@ -134,7 +134,7 @@ short_texts s = listed_texts s.list.items
 abbrev pub long_grammar : ShortTexts → Grammar → Grammar
 long_grammar es = renamed_grammar (long_uri es)
 
--- so g is the grammar of the set
+-- the short texts are those of the set's modules, which fix them, and g with their URIs in their place is the grammar of the set
 pub record IsShortened (s : List Member) (es : ShortTexts) (g : Grammar) : Type 0 where
   pub texts : (ms : List NamedModule) × AreModules s ms × (es ≡ short_texts_of ms)
   pub table : IsTable es

@@ -1,12 +1,12 @@
 -- What contracts of private functions and of conversions speak of: numbers that stand for names, and how modules, components and references lie
 -- in the code. No public contract cites it. Lemmas stand here too that a ghost field's `by` cites.
 pub mod Bodies
-pub mod Bound
 pub mod Checked
 pub mod Coded
 pub mod CombinedDefinitions
 pub mod CombinedView
 pub mod Contained
+pub mod ContextBindings
 pub mod Covered
 pub mod Expanded
 pub mod GatheredUris
@@ -21,13 +21,14 @@ pub mod Listed
 pub mod Methods
 pub mod ModuleTexts
 pub mod Noting
+pub mod NumberRanges
+pub mod NumberRuns
 pub mod OneProof
 pub mod Patterns
 pub mod Referred
 pub mod RenamedModules
 pub mod SetFaults
 pub mod Shared
-pub mod Runs
 pub mod Sound
 pub mod Tied
 pub mod Views

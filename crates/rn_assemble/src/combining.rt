@@ -8,7 +8,7 @@ ghost use Rattle.rn_pattern.specs.View.{shared_view, boxed_view};
 ghost use Rattle.rn_assemble.specs.Combine as spec;
 ghost use Rattle.rn_assemble.specs.inside.Joining.{IsMisnamed};
 ghost use Rattle.rn_assemble.specs.inside.Keyed.{key_at};
-ghost use Rattle.rn_assemble.specs.inside.Patterns.{AreCombined, AreSharedBy, AreSound, IsMisnamedAt, IsMisnamedBy, IsSound, MayHold, pattern_of};
+ghost use Rattle.rn_assemble.specs.inside.Patterns.{AreCombined, AreSharedBy, AreWellNamed, IsMisnamedAt, IsMisnamedBy, IsWellNamed, MayHold, pattern_of};
 ghost use Rattle.rn_assemble.specs.Refusal.{BreaksNameRules};
 ghost use Rattle.rn_assemble.specs.inside.Views.{names_of};
 ghost use Rattle.rn_assemble.specs.inside.Tied.{body_of};
@@ -183,7 +183,7 @@ fn component_pattern(
 ) -> Result<Option<Box<Pattern>>, Refusal>
     ensures { WithBody (names_of keys.now) components.now
         (body_of components.now.list (row components.now.places.items key) 0)
-        (λ c. MatchResult result (λ p. IsSomeAnd p (λ q. IsSound c (boxed_view q)))
+        (λ c. MatchResult result (λ p. IsSomeAnd p (λ q. IsWellNamed c (boxed_view q)))
         (IsMisnamedBy c)) }
 {
     let Some(number) = components.body_of(key, 0, near) else {
@@ -210,7 +210,7 @@ fn member_patterns(
         → AreSharedBy keys.now components.now shared.new.items }
     ensures exact { OfKeys keys.now components.now
         (λ names cs. key < length names + 1 → AreSharedBy keys.now components.now shared.old.items
-        → MatchResult result (λ members. AreSound (spec.of_key (key_at names key) cs)
+        → MatchResult result (λ members. AreWellNamed (spec.of_key (key_at names key) cs)
         (map shared_view members.items)) (IsMisnamedAt cs (key_at names key))) }
 {
     let count = components.count_of(key);
@@ -239,7 +239,8 @@ fn member_pattern(
         → AreSharedBy keys.now components.now shared.new.items }
     ensures exact { WithBody (names_of keys.now) components.now found
         (λ c. AreSharedBy keys.now components.now shared.old.items
-        → MatchResult result (λ p. IsSomeAnd p (λ q. IsSound c (shared_view q))) (IsMisnamedBy c)) }
+        → MatchResult result (λ p. IsSomeAnd p (λ q. IsWellNamed c (shared_view q)))
+        (IsMisnamedBy c)) }
 {
     let Some(number) = found else {
         return Ok(None);
@@ -261,7 +262,7 @@ fn share_body(
         (λ c. MayHold c held.old → MayHold c held.new) }
     ensures exact { OfBody (names_of keys.now) body.now
         (λ c. MayHold c held.old
-        → MatchResult result (λ p. IsSound c (shared_view p)) (IsMisnamedBy c)) }
+        → MatchResult result (λ p. IsWellNamed c (shared_view p)) (IsMisnamedBy c)) }
 {
     if let Some(pattern) = &*held {
         return Ok(pattern.clone()?);
@@ -278,7 +279,7 @@ fn resolve_body(
     body: &Body<'_, '_, '_>,
 ) -> Result<Box<Pattern>, Refusal>
     ensures { OfBody (names_of keys.now) body.now
-        (λ c. MatchResult result (λ p. IsSound c (boxed_view p)) (IsMisnamedBy c)) }
+        (λ c. MatchResult result (λ p. IsWellNamed c (boxed_view p)) (IsMisnamedBy c)) }
 {
     let pattern = pattern(alloc, body.context, body.component.body)?;
     if !keeps_name_rules(&pattern) {

@@ -6,15 +6,15 @@ ghost use Rattle.rn_text.specs.Texts.{Text};
 ghost use Rattle.rn_pattern.specs.Graph.{row};
 ghost use Rattle.rn_syntax.specs.Tree.{Declaration};
 ghost use Rattle.rn_assemble.specs.Components as specs;
-ghost use Rattle.rn_assemble.specs.inside.Expanded.{AddsLive, CanAdd, ContextsHold, Enters, IsItem, KeepsBodies, KeepsLists};
-ghost use Rattle.rn_assemble.specs.inside.Listed.{AreBefore, IsBody, Lists, Live, Rises, resolved_between};
+ghost use Rattle.rn_assemble.specs.inside.Expanded.{AddsLive, CanAdd, ContextsHold, Enters, IsContentAt, KeepsBodies, KeepsLists};
+ghost use Rattle.rn_assemble.specs.inside.Listed.{AreBefore, IsBody, Lists, Live, PlacesRise, resolved_between};
 ghost use Rattle.rn_assemble.specs.inside.Tied.{body_of};
 
 use crate::bodies::{Bodies, Body};
 use crate::contents::Contents;
 use crate::context::Context;
 use crate::numbers::Numbers;
-use crate::runs::Runs;
+use crate::number_runs::Runs;
 use std::alloc::{AllocError, Global};
 use std::rc::RcStr;
 
@@ -27,7 +27,7 @@ struct MetContext<'c> {
 }
 
 impl MetContext<'_> {
-    /// Whether it is that of this module under this namespace.
+    /// Whether the context is that of this module under this namespace.
     fn is_of(&self, module: usize, inherited: &RcStr) -> bool
         ensures { IsTrue result → (self.now.«module» ≡ «module»)
             × (rc_str_bytes self.now.inherited.now ≡ rc_str_bytes inherited.now) }
@@ -96,7 +96,7 @@ impl<'c, 't, 's> Components<'c, 't, 's> {
     ) -> Result<usize, AllocError>
         ensures kept { KeepsLists self.old self.new }
         ensures entered { (contents : List Contents) → ContextsHold contents self.old
-            → IsItem contents «module» content.now
+            → IsContentAt contents «module» content.now
             → context.entry.bindings.now ≡ content.now.bindings
             → IfOk result (λ first. Enters contents self.old self.new first content.now
             (rc_str_bytes context.entry.inherited.now)) }
@@ -221,7 +221,7 @@ impl<'c, 't, 's> Components<'c, 't, 's> {
         ensures list { self.new.list ≡ self.old.list }
         ensures lack { self.new.lack ≡ self.old.lack }
         ensures taken { (names : List Text) (live added : List Live)
-            → Lists names self.old (live ++ added) → AreBefore before live → Rises before added
+            → Lists names self.old (live ++ added) → AreBefore before live → PlacesRise before added
             → Lists names self.new (live ++ filter (λ (e : Live). not (e.key == key)) added) }
     {
         if key < self.places.len() {

@@ -18,7 +18,7 @@ use std::alloc::{AllocError, Global};
 
 /// A define or a start of a module: its key's number, its method and its pattern.
 #[derive(Clone, Copy)]
-pub(crate) struct Component<'t, 's> {
+pub(crate) struct WrittenComponent<'t, 's> {
     pub key: usize,
     pub method: Method,
     pub body: &'t Pat<'s>,
@@ -38,7 +38,7 @@ pub(crate) struct Include<'t> {
 #[derive(Drop)]
 pub(crate) struct Contents<'t, 's> {
     pub bindings: DeclaredUris<'t>,
-    pub components: Vec<Component<'t, 's>>,
+    pub components: Vec<WrittenComponent<'t, 's>>,
     pub includes: Vec<Include<'t>>,
 }
 
@@ -169,7 +169,7 @@ fn push_component<'t, 's>(
         ≡ length contents.old.components.items + 1) }
     ensures includes { contents.new.includes.items ≡ contents.old.includes.items }
 {
-    contents.components.push(Component { key, method, body })?;
+    contents.components.push(WrittenComponent { key, method, body })?;
     Ok(())
 }
 

@@ -5,7 +5,7 @@ ghost use Rattle.rn_syntax.specs.BindingDeclarations.{bound};
 ghost use Rattle.rn_syntax.specs.Places as places;
 ghost use Rattle.rn_syntax.specs.Places.{uri_at};
 ghost use Rattle.rn_syntax.specs.View.{prefix_view};
-ghost use Rattle.rn_assemble.specs.inside.Bound.{InContext};
+ghost use Rattle.rn_assemble.specs.inside.ContextBindings.{InContext};
 ghost use Rattle.rn_assemble.specs.Components as components;
 ghost use Rattle.rn_assemble.specs.Resolve.{default_of, namespace_of, uri_text};
 
@@ -34,6 +34,7 @@ impl<'c, 't> Context<'c, 't> {
     }
 
     /// The default namespace: the inherited one where none is declared.
+    #[tactic(auto, using(crate::specs::inside::ContextBindings::binds_are))]
     pub fn default_namespace(self) -> &'c RcStr
         ensures { InContext self.entry (λ inherited ds. rc_str_bytes result.now
             ≡ default_of inherited ds) }
@@ -45,7 +46,7 @@ impl<'c, 't> Context<'c, 't> {
     }
 
     /// The namespace of a prefix.
-    #[tactic(auto, using(crate::specs::inside::Bound::binds_are))]
+    #[tactic(auto, using(crate::specs::inside::ContextBindings::binds_are))]
     pub fn namespace(self, prefix: &str) -> &'c RcStr
         ensures { InContext self.entry (λ inherited ds. rc_str_bytes result.now
             ≡ namespace_of inherited ds prefix.now) }
@@ -60,7 +61,7 @@ impl<'c, 't> Context<'c, 't> {
     }
 
     /// The datatype library of a prefix.
-    #[tactic(auto, using(crate::specs::inside::Bound::binds_are))]
+    #[tactic(auto, using(crate::specs::inside::ContextBindings::binds_are))]
     pub fn library(self, prefix: &str) -> &'c RcStr
         ensures { InContext self.entry (λ inherited ds. rc_str_bytes result.now
             ≡ unwrap_or (places.library_of ds prefix.now) []) }

@@ -27,10 +27,10 @@ pub(crate) struct DeclaredUris<'t> {
 }
 
 impl<'t> DeclaredUris<'t> {
-    ghost use Rattle.rn_assemble.specs.inside.Bound.{BindsAs};
+    ghost use Rattle.rn_assemble.specs.inside.ContextBindings.{BindsAs};
 
     /// What these declarations bind, and their URIs.
-    #[tactic(auto, using(crate::specs::inside::Bound::are_bound))]
+    #[tactic(auto, using(crate::specs::inside::ContextBindings::are_bound))]
     pub fn new(
         alloc: Global,
         declarations: &'t [Declaration<'t>],

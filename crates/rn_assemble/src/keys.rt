@@ -2,7 +2,7 @@
 ghost use Rattle.std.specs.Prelude.{◌≡◌, ◌+◌, ◌-◌, ◌<◌, [], bytes_eq, length, slice_index_or, Contains, IfOk, IfSome};
 ghost use Rattle.indexmap.specs.IndexSet.{insert_all};
 ghost use Rattle.rn_syntax.specs.View.{item_view, items_view};
-ghost use Rattle.rn_assemble.specs.inside.Keyed.{item_defines, defines, AreNames, IsFound, IsNumber, key_at};
+ghost use Rattle.rn_assemble.specs.inside.Keyed.{item_defines, defines, AreNames, IsFound, IsNameNumber, key_at};
 ghost use Rattle.rn_assemble.specs.inside.Views.{modules_view, names_of, texts_of};
 ghost use Rattle.rn_assemble.specs.Refused.{key_view};
 
@@ -49,7 +49,7 @@ impl<'s> Keys<'s> {
     /// The number of a name that a module defines; of any other name, that of start.
     pub fn number(&self, name: &str) -> usize
         ensures { Contains (names_of self.now) name.now
-            → IsNumber (names_of self.now) name.now result }
+            → IsNameNumber (names_of self.now) name.now result }
     {
         self.find(name).unwrap_or(START)
     }

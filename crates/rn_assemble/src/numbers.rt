@@ -2,7 +2,7 @@
 ghost use Rattle.std.specs.Prelude.{◌≡◌, ◌-◌, ◌++◌, ◌∷◌, [], IfErr, IfOk, length, slice_get, take};
 
 use crate::one_run::OneRun;
-use crate::runs::Runs;
+use crate::number_runs::Runs;
 use std::alloc::{AllocError, Global};
 use std::marker::Model;
 

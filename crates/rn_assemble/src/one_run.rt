@@ -1,6 +1,6 @@
 // Numbers of which each is one more than the one before.
 ghost use Rattle.std.specs.Prelude.{◌≡◌, ◌+◌, ◌-◌, ◌≤◌, ◌^◌, ◌++◌, ◌∷◌, [], false, IsTrue, length, slice_get, take};
-ghost use Rattle.rn_assemble.specs.inside.Runs.{numbers, run_from};
+ghost use Rattle.rn_assemble.specs.inside.NumberRuns.{numbers, run_from};
 
 use std::marker::Model;
 
@@ -13,7 +13,7 @@ pub(crate) struct OneRun {
 
 impl Model for OneRun {
     ghost use Rattle.std.specs.Prelude.{List, ℕ, ◌+◌, ◌^◌, ◌≤◌};
-    ghost use Rattle.rn_assemble.specs.inside.Runs.{numbers, run_from};
+    ghost use Rattle.rn_assemble.specs.inside.NumberRuns.{numbers, run_from};
 
     ghost Value = { List ℕ };
 

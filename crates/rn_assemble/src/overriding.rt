@@ -6,7 +6,7 @@ ghost use Rattle.rn_text.specs.Texts.{Text, text_cmp};
 ghost use Rattle.rn_assemble.specs.Components as specs;
 ghost use Rattle.rn_assemble.specs.inside.Expanded.{KeepsBodies, left_by, own_components};
 ghost use Rattle.rn_assemble.specs.inside.Keyed.{key_at};
-ghost use Rattle.rn_assemble.specs.inside.Listed.{AreBefore, Lists, Live, Rises, components_in};
+ghost use Rattle.rn_assemble.specs.inside.Listed.{AreBefore, Lists, Live, PlacesRise, components_in};
 ghost use Rattle.rn_assemble.specs.inside.Noting.{IsOwnLack, Notes};
 ghost use Rattle.rn_assemble.specs.inside.Views.{IsNumbered};
 
@@ -27,7 +27,7 @@ impl<'c, 't, 's> Components<'c, 't, 's> {
         ensures places { self.new.places ≡ self.old.places }
         ensures noted { (names : List Text) (live added : List Live)
             → Lists names self.old (live ++ added) → IsStrictlySortedBy text_cmp names
-            → AreBefore before live → Rises before added
+            → AreBefore before live → PlacesRise before added
             → AllByRecursion (IsNumbered names) content.now.components.items
             → include.now.from ≤ include.now.to
             → include.now.to ≤ length content.now.components.items
@@ -50,7 +50,7 @@ impl<'c, 't, 's> Components<'c, 't, 's> {
         ensures list { self.new.list ≡ self.old.list }
         ensures lack { self.new.lack ≡ self.old.lack }
         ensures taken { (names : List Text) (live added : List Live)
-            → Lists names self.old (live ++ added) → AreBefore before live → Rises before added
+            → Lists names self.old (live ++ added) → AreBefore before live → PlacesRise before added
             → include.now.from ≤ include.now.to
             → include.now.to ≤ length content.now.components.items
             → Lists names self.new
@@ -67,7 +67,7 @@ impl<'c, 't, 's> Components<'c, 't, 's> {
     fn has_since(&self, before: usize, key: usize) -> bool
         ensures { (names : List Text) (live added : List Live)
             → Lists names self.now (live ++ added) → IsStrictlySortedBy text_cmp names
-            → AreBefore before live → Rises before added → key < suc (length names)
+            → AreBefore before live → PlacesRise before added → key < suc (length names)
             → result ≡ specs.has_key (key_at names key) (components_in added) }
     {
         match self.last_of(key) {

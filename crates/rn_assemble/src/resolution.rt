@@ -8,7 +8,7 @@ ghost use Rattle.rn_text.specs.Texts.{Text};
 ghost use Rattle.rn_pattern.specs.View.{name_class_view, parameters_view, pattern_view, shared_view, boxed_view};
 ghost use Rattle.rn_syntax.specs.Tree as source;
 ghost use Rattle.rn_syntax.specs.View as seen;
-ghost use Rattle.rn_assemble.specs.inside.Bound.{InContext};
+ghost use Rattle.rn_assemble.specs.inside.ContextBindings.{InContext};
 ghost use Rattle.rn_assemble.specs.Resolve as resolve;
 
 use crate::constants::Constants;

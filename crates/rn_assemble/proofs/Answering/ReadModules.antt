@@ -16,7 +16,7 @@ use Rattle.rn_assemble.specs.inside.ModuleTexts.{IsRead, IsFaultOf}
 use Rattle.rn_assemble.specs.Refusal.{Refusal, conflict, faulty, rank, HasTextFault, IsFirstFault, IsFaulty, IsModuleOf, AreModules, Stands, IsFirst}
 use Rattle.rn_assemble.specs.Refused.{IsFirstRefusal, refusal_view}
 use Rattle.rn_assemble.specs.inside.Views.{module_names, named_module_view, modules_view}
-use Rattle.rn_assemble.proofs.Referring.Named.{in_order_mapped}
+use Rattle.rn_assemble.proofs.Referring.NamedLists.{in_order_mapped}
 
 -- the text has no fault
 abbrev pub HasFaultlessText : Module → Type 0

@@ -7,7 +7,7 @@ use Rattle.rn_text.specs.Texts.{Text}
 use Rattle.rn_pattern.proofs.Ordered.Ascending.{each_front, each_behind}
 use Rattle.rn_syntax.specs.Tree as t
 use Rattle.rn_syntax.specs.Tree.{Declaration, Item, Items, item_includes, includes}
-use Rattle.rn_assemble.specs.Components.{Component, NamedModule, item_components, all_components, module_components, without_overridden, handed_on, modules_named, components_within, instances_within}
+use Rattle.rn_assemble.specs.Components.{Component, NamedModule, item_components, all_components, module_components, without_overridden, handed_on, included_by, modules_named, components_within, instances_within}
 
 -- the components of items depend on those of their includes alone
 module _ (f g : Text → Text → List Component) where
@@ -55,23 +55,19 @@ sums_agree f g [] h = refl
 sums_agree f g (x ∷ xs) h = omega (arith, sum_by-cons f x xs, sum_by-cons g x xs, h.0, sums_agree f g xs h.1)
 
 module _ (modules : List NamedModule) where
-  -- what the modules of this name include
-  abbrev pub wanted : Text → List Text
-  wanted x = flat_map (λ (m : NamedModule). includes m.tree.items) (modules_named x modules)
-
-  pub few : (depth : ℕ) (x : Text) → instances_within (suc depth) modules x ≤ suc depth → AllByRecursion (λ y. instances_within depth modules y ≤ depth) (wanted x)
-  few depth x h = parts_up_to (instances_within depth modules) depth (wanted x) (omega (arith, h))
+  pub few : (depth : ℕ) (x : Text) → instances_within (suc depth) modules x ≤ suc depth → AllByRecursion (λ y. instances_within depth modules y ≤ depth) (included_by modules x)
+  few depth x h = parts_up_to (instances_within depth modules) depth (included_by modules x) (omega (arith, h))
 
   same_count : (depth : ℕ) (x : Text) → instances_within depth modules x ≤ depth → instances_within (suc depth) modules x ≡ instances_within depth modules x
   same_count zero x h = absurd (omega (arith, h))
   same_count (suc depth) x h =
-      ap (λ n. 1 + n) (sums_agree (instances_within (suc depth) modules) (instances_within depth modules) (wanted x) (each_to (λ y. instances_within depth modules y ≤ depth) (λ y. instances_within (suc depth) modules y ≡ instances_within depth modules y) (same_count depth) (wanted x) (few depth x h)))
+      ap (λ n. 1 + n) (sums_agree (instances_within (suc depth) modules) (instances_within depth modules) (included_by modules x) (each_to (λ y. instances_within depth modules y ≤ depth) (λ y. instances_within (suc depth) modules y ≡ instances_within depth modules y) (same_count depth) (included_by modules x) (few depth x h)))
 
   one_deeper : (depth : ℕ) (x u : Text) → instances_within depth modules x ≤ depth → components_within (suc depth) modules x u ≡ components_within depth modules x u
   one_deeper zero x u h = absurd (omega (arith, h))
   one_deeper (suc depth) x u h =
       modules-agree (components_within (suc depth) modules) (components_within depth modules) u (modules_named x modules)
-      (each_to (λ y. instances_within depth modules y ≤ depth) (Agree (components_within (suc depth) modules) (components_within depth modules)) (λ y k v. one_deeper depth y v k) (wanted x) (few depth x h))
+      (each_to (λ y. instances_within depth modules y ≤ depth) (Agree (components_within (suc depth) modules) (components_within depth modules)) (λ y k v. one_deeper depth y v k) (included_by modules x) (few depth x h))
 
   pub instances_enough : (more depth : ℕ) (x : Text) → instances_within depth modules x ≤ depth → instances_within (depth + more) modules x ≡ instances_within depth modules x
   instances_enough zero depth x h = let e : depth + zero ≡ depth = omega arith in ap (λ n. instances_within n modules x) e

@@ -10,16 +10,16 @@ use Rattle.rn_pattern.proofs.Ordered.Ascending.{each_behind}
 use Rattle.rn_pattern.proofs.Ordered.InOrder.{contained_each}
 use Rattle.rn_syntax.specs.Tree.{Declaration}
 use Rattle.rn_assemble.specs.declared.context.Context.{Context}
-use Rattle.rn_assemble.specs.declared.contents.Component as code
+use Rattle.rn_assemble.specs.declared.contents.WrittenComponent as code
 use Rattle.rn_assemble.specs.declared.contents.Contents.{Contents}
 use Rattle.rn_assemble.specs.declared.bodies.Body.{Body}
 use Rattle.rn_assemble.specs.declared.components.MetContext.{MetContext}
 use Rattle.rn_assemble.specs.declared.components.Components.{Components}
-use Rattle.rn_assemble.specs.inside.Bound.{BindsAs}
+use Rattle.rn_assemble.specs.inside.ContextBindings.{BindsAs}
 use Rattle.rn_assemble.specs.Components.{Component}
 use Rattle.rn_assemble.specs.inside.Views.{IsNumbered, written_view}
 use Rattle.rn_assemble.specs.inside.Listed.{IsBody, IsLive, Live, Lists, resolved_component}
-use Rattle.rn_assemble.specs.inside.Expanded.{AddsLive, ContextHolds, IsItem, StartsAt, left_by}
+use Rattle.rn_assemble.specs.inside.Expanded.{AddsLive, ContextHolds, IsContentAt, StartsAt, left_by}
 use Rattle.rn_assemble.proofs.Expansion.LiveLists.{each_to, rises_join}
 
 -- bodies of a context
@@ -31,11 +31,11 @@ starts_grown bodies more first content u h = record {
   inherited_is = λ i d l. ap (λ (b : Body). (rc_str_bytes b.context.inherited.now)) (get_or_append_left bodies more d (first + i) (omega (arith, l, h.within))) ∙ h.inherited_is i d l;
 }
 
-pub starts_made : (bodies : List Body) (content : Contents) (context : Context) → context.bindings.now ≡ content.bindings → StartsAt (bodies ++ map (λ (c : code.Component). record { component = c; context = context }) content.components.items) (length bodies) content (rc_str_bytes context.inherited.now)
+pub starts_made : (bodies : List Body) (content : Contents) (context : Context) → context.bindings.now ≡ content.bindings → StartsAt (bodies ++ map (λ (c : code.WrittenComponent). record { component = c; context = context }) content.components.items) (length bodies) content (rc_str_bytes context.inherited.now)
 starts_made bodies content context same =
     let cs = content.components.items in
-    let f : code.Component → Body = λ c. record { component = c; context = context } in
-    let at : (i : ℕ) (d : Body) (e : code.Component) → i < length cs → get_or (bodies ++ map f cs) (length bodies + i) d ≡ f (get_or cs i e) = λ i d e l. get_or-append-add bodies (map f cs) i d ∙ get_or-map f cs i e d l in
+    let f : code.WrittenComponent → Body = λ c. record { component = c; context = context } in
+    let at : (i : ℕ) (d : Body) (e : code.WrittenComponent) → i < length cs → get_or (bodies ++ map f cs) (length bodies + i) d ≡ f (get_or cs i e) = λ i d e l. get_or-append-add bodies (map f cs) i d ∙ get_or-map f cs i e d l in
     record {
       within = omega (arith, length-append bodies (map f cs), length-map cs f);
       component = λ i d e l. ap (λ (b : Body). b.component) (at i d e l);
@@ -46,15 +46,15 @@ starts_made bodies content context same =
 pub contexts_grown : (contents : List Contents) (bodies more : List Body) (qs : List MetContext) → AllByRecursion (ContextHolds contents bodies) qs → AllByRecursion (ContextHolds contents (bodies ++ more)) qs
 contexts_grown contents bodies more qs h = each_to (ContextHolds contents bodies) (ContextHolds contents (bodies ++ more)) (λ q k content i. starts_grown bodies more q.first content (rc_str_bytes q.inherited.now) (k content i)) qs h
 
-one_item : (contents : List Contents) (i : ℕ) (c d : Contents) → IsItem contents i c → IsItem contents i d → c ≡ d
+one_item : (contents : List Contents) (i : ℕ) (c d : Contents) → IsContentAt contents i c → IsContentAt contents i d → c ≡ d
 one_item contents i c d h k = sym (h.is c) ∙ k.is c
 
-pub context_made : (contents : List Contents) (bodies : List Body) (q : MetContext) (content : Contents) → IsItem contents q.module content → StartsAt bodies q.first content (rc_str_bytes q.inherited.now) → ContextHolds contents bodies q
+pub context_made : (contents : List Contents) (bodies : List Body) (q : MetContext) (content : Contents) → IsContentAt contents q.module content → StartsAt bodies q.first content (rc_str_bytes q.inherited.now) → ContextHolds contents bodies q
 context_made contents bodies q content i h = λ d k. subst (λ (c : Contents). StartsAt bodies q.first c (rc_str_bytes q.inherited.now)) (one_item contents q.module content d i k) h
 
-pub context_found : (contents : List Contents) (bodies : List Body) (qs : List MetContext) (q : MetContext) (m first : ℕ) (u : Text) (content : Contents) → AllByRecursion (ContextHolds contents bodies) qs → Contains qs q → q.module ≡ m → (rc_str_bytes q.inherited.now) ≡ u → q.first ≡ first → IsItem contents m content → StartsAt bodies first content u
+pub context_found : (contents : List Contents) (bodies : List Body) (qs : List MetContext) (q : MetContext) (m first : ℕ) (u : Text) (content : Contents) → AllByRecursion (ContextHolds contents bodies) qs → Contains qs q → q.module ≡ m → (rc_str_bytes q.inherited.now) ≡ u → q.first ≡ first → IsContentAt contents m content → StartsAt bodies first content u
 context_found contents bodies qs q m first u content h c em eu ef i =
-    let s = contained_each (ContextHolds contents bodies) qs h q c content (subst (λ n. IsItem contents n content) (sym em) i) in
+    let s = contained_each (ContextHolds contents bodies) qs h q c content (subst (λ n. IsContentAt contents n content) (sym em) i) in
     subst (λ n. StartsAt bodies n content u) ef (subst (λ v. StartsAt bodies q.first content v) eu s)
 
 -- a part of a list, with one element more
@@ -84,11 +84,11 @@ left_at : (a b : Bool) (q : Live → Bool) (e : Live) (xs ys : List Live) → q 
 left_at true b q e xs ys h s = s
 left_at false b q e xs ys h s = ap (λ l. cond (not b) (e ∷ l) l) s ∙ ap (λ c. cond c (e ∷ filter q ys) (filter q ys)) (sym h)
 
-pub left_push : (own : List code.Component) (c : code.Component) (es : List Live) → left_by (own ++ c ∷ []) es ≡ filter (λ (e : Live). not (e.key == c.key)) (left_by own es)
+pub left_push : (own : List code.WrittenComponent) (c : code.WrittenComponent) (es : List Live) → left_by (own ++ c ∷ []) es ≡ filter (λ (e : Live). not (e.key == c.key)) (left_by own es)
 left_push own c [] = refl
 left_push own c (e ∷ es) =
-    ap (λ b. cond (not b) (e ∷ left_by (own ++ c ∷ []) es) (left_by (own ++ c ∷ []) es)) (any_push (λ (d : code.Component). e.key == d.key) own c)
-    ∙ left_at (list_any (λ (d : code.Component). e.key == d.key) own) (e.key == c.key) (λ (d : Live). not (d.key == c.key)) e _ _ refl (left_push own c es)
+    ap (λ b. cond (not b) (e ∷ left_by (own ++ c ∷ []) es) (left_by (own ++ c ∷ []) es)) (any_push (λ (d : code.WrittenComponent). e.key == d.key) own c)
+    ∙ left_at (list_any (λ (d : code.WrittenComponent). e.key == d.key) own) (e.key == c.key) (λ (d : Live). not (d.key == c.key)) e _ _ refl (left_push own c es)
 
 pub left_none : (es : List Live) → left_by [] es ≡ es
 left_none [] = refl
@@ -97,12 +97,12 @@ left_none (e ∷ es) = ap (λ l. e ∷ l) (left_none es)
 module _ (names : List Text) where
   -- the body of a component of a context
   pub body_is : (bodies : List Body) (first : ℕ) (content : Contents) (u : Text) (ds : List Declaration) → BindsAs content.bindings ds → StartsAt bodies first content u → AllByRecursion (IsNumbered names) content.components.items
-      → (i : ℕ) (c : code.Component) → i < length content.components.items → c ≡ get_or content.components.items i c → (d : Body) → IsBody names (get_or bodies (first + i) d) c.key (resolved_component u ds (written_view names c))
+      → (i : ℕ) (c : code.WrittenComponent) → i < length content.components.items → c ≡ get_or content.components.items i c → (d : Body) → IsBody names (get_or bodies (first + i) d) c.key (resolved_component u ds (written_view names c))
   body_is bodies first content u ds binds starts numbered i c l e d =
       let same : (get_or bodies (first + i) d).component ≡ c = starts.component i d c l ∙ sym e in
       record {
-        key_is = ap (λ (b : code.Component). b.key) same;
-        numbered = subst (λ (b : code.Component). IsNumbered names b) (sym e) (All-from_recursion (IsNumbered names) content.components.items numbered i c l);
+        key_is = ap (λ (b : code.WrittenComponent). b.key) same;
+        numbered = subst (λ (b : code.WrittenComponent). IsNumbered names b) (sym e) (All-from_recursion (IsNumbered names) content.components.items numbered i c l);
         shown = (ds, subst (λ b. BindsAs b ds) (sym (starts.bindings i d l)) binds, λ j. resolved_component (sym (starts.inherited_is i d l) j) ds (written_view names (sym same j)));
       }
 
@@ -132,10 +132,10 @@ module _ (names : List Text) where
     are = map-append (λ (d : Live). d.component) h.added k.added ∙ (λ i. h.are i ++ k.are i);
   }
 
-pub left_more : (cs : List code.Component) (a b : ℕ) (c : code.Component) (es : List Live) → a ≤ b → b < length cs → c ≡ get_or cs b c → left_by (slice_range cs a (b + 1)) es ≡ filter (λ (e : Live). not (e.key == c.key)) (left_by (slice_range cs a b) es)
+pub left_more : (cs : List code.WrittenComponent) (a b : ℕ) (c : code.WrittenComponent) (es : List Live) → a ≤ b → b < length cs → c ≡ get_or cs b c → left_by (slice_range cs a (b + 1)) es ≡ filter (λ (e : Live). not (e.key == c.key)) (left_by (slice_range cs a b) es)
 left_more cs a b c es l m e = ap (λ own. left_by own es) (range_more cs a b c l m ∙ ap (λ d. slice_range cs a b ++ d ∷ []) (sym e)) ∙ left_push (slice_range cs a b) c es
 
-pub resolved_more : (names : List Text) (u : Text) (ds : List Declaration) (cs : List code.Component) (a b : ℕ) (c : code.Component) → a ≤ b → b < length cs → c ≡ get_or cs b c
+pub resolved_more : (names : List Text) (u : Text) (ds : List Declaration) (cs : List code.WrittenComponent) (a b : ℕ) (c : code.WrittenComponent) → a ≤ b → b < length cs → c ≡ get_or cs b c
     → map (resolved_component u ds) (slice_range (map (written_view names) cs) a (b + 1)) ≡ map (resolved_component u ds) (slice_range (map (written_view names) cs) a b) ++ resolved_component u ds (written_view names c) ∷ []
 resolved_more names u ds cs a b c l m e =
     let ws = map (written_view names) cs in

@@ -15,14 +15,14 @@ use Rattle.rn_assemble.specs.Components.{Includes, NamedModule, instance_limit, 
 use Rattle.rn_syntax.specs.Tree.{includes}
 use Rattle.rn_assemble.specs.inside.Expanded.{name_at}
 use Rattle.rn_assemble.specs.inside.Included.{AreIncluded}
-use Rattle.rn_assemble.specs.inside.Inclusions.{AreInclusions, IsLeastAmong, IsMissing, entries, included_by}
+use Rattle.rn_assemble.specs.inside.Inclusions.{AreInclusions, IsLeastAmong, IsMissing, entries}
 use Rattle.rn_assemble.specs.inside.Instances.{instances_of}
 use Rattle.rn_assemble.specs.Refusal.{IsFirstFor, Refusal, StandsFor, Wants, conflict, cycle, faulty, missing, rank, too_many_instances}
 use Rattle.rn_assemble.specs.inside.Views.{module_names, named_module_view, modules_view}
-use Rattle.rn_assemble.proofs.Expansion.Entries.{entries_below, entries_named}
+use Rattle.rn_assemble.proofs.Expansion.RootNumbers.{entries_below, entries_named}
 use Rattle.rn_assemble.proofs.Expansion.Inclusions.{first_cycle, include_stands, included_at, includer, no_cycle, none_missing, not_missing, rise, stands_include, total}
-use Rattle.rn_assemble.proofs.Referring.Named.{unmapped}
-use Rattle.rn_assemble.proofs.Referring.Numbers.{not_itself}
+use Rattle.rn_assemble.proofs.Referring.NamedLists.{unmapped}
+use Rattle.rn_assemble.proofs.Referring.KeyNumbers.{not_itself}
 use Rattle.rn_assemble.proofs.Expansion.WantedNumbers.{found_all, names_rise, numbers}
 
 module _ (xs : List code.NamedModule) where

@@ -12,11 +12,11 @@ use Rattle.rn_text.specs.Texts.{Text}
 use Rattle.rn_pattern.proofs.Ordered.InOrder.{contained_each, contains_cases, contains_front}
 use Rattle.rn_syntax.specs.Tree as t
 use Rattle.rn_syntax.specs.Tree.{Declaration, Item, Items, includes, item_includes}
-use Rattle.rn_assemble.specs.declared.contents.Component as code
+use Rattle.rn_assemble.specs.declared.contents.WrittenComponent as code
 use Rattle.rn_assemble.specs.declared.components.Lack.{Lack}
 use Rattle.rn_assemble.specs.declared.contents.Contents.{Contents}
 use Rattle.rn_assemble.specs.Components.{Component, Key, NamedModule, components_within, handed_on, has_key, modules_named, same_key}
-use Rattle.rn_assemble.specs.inside.Contained.{AreFlat, Inclusion, IsFlat, Written, inclusions, item_inclusions, item_written_components, place_in, written_components}
+use Rattle.rn_assemble.specs.inside.Contained.{AreFlat, Inclusion, IsFlat, WrittenComponent, inclusions, item_inclusions, item_written_components, place_in, written_components}
 use Rattle.rn_assemble.specs.inside.Expanded.{included_in, name_at}
 use Rattle.rn_assemble.specs.inside.Keyed.{key_at}
 use Rattle.rn_assemble.specs.inside.Lacking.{LacksWithin, handed_namespaces, item_handed_namespaces}
@@ -27,7 +27,7 @@ use Rattle.rn_assemble.specs.inside.Views.{IsNumbered, inclusion_view, written_v
 use Rattle.rn_assemble.proofs.Expansion.ModuleExpansion.{each_drop, each_take}
 use Rattle.rn_assemble.proofs.Expansion.ModuleLookups.{included_agrees, none_named, place_name}
 use Rattle.rn_assemble.proofs.Expansion.NotedLacks.{IsKeyNumber, IsModuleName, SomeLacks, notes_to}
-use Rattle.rn_assemble.proofs.Referring.Numbers.{same_key-Decides}
+use Rattle.rn_assemble.proofs.Referring.KeyNumbers.{same_key-Decides}
 use Rattle.rn_assemble.proofs.Expansion.Spliced.{items_none, items_plain, no_includes_behind, no_includes_front, range_parts, whole_range}
 use Rattle.rn_assemble.proofs.Joining.UsedMethods.{kept_contains}
 
@@ -42,14 +42,14 @@ any_unmap f P (x ∷ xs) (suc k, y, l, e, p) = let r = any_unmap f P xs (k, y, o
 
 -- which key is lacked by an include alone
 module _ (modules : List NamedModule) (f : Text → Text → List Component) (at : Option ℕ → Text → List Component) (agree : (w v : Text) → at (place_in modules w) v ≡ f w v) (u : Text) (ds : List Declaration) where
-  abbrev res : List Written → List Component
+  abbrev res : List WrittenComponent → List Component
   res ws = map (resolved_component u ds) ws
 
-  abbrev lacks_by : List Written → Key → Inclusion → Bool
+  abbrev lacks_by : List WrittenComponent → Key → Inclusion → Bool
   lacks_by ws k i = has_key k (res (slice_range ws i.first i.end)) && not (has_key k (at i.module_at (handed_on u ds i.inherit)))
 
   mutual
-    item_lacks_by : (ws : List Written) (k : Key) (x : Item) (n : ℕ) → IsFlat x → n + length (item_written_components x) ≤ length ws → slice_range ws n (n + length (item_written_components x)) ≡ item_written_components x
+    item_lacks_by : (ws : List WrittenComponent) (k : Key) (x : Item) (n : ℕ) → IsFlat x → n + length (item_written_components x) ≤ length ws → slice_range ws n (n + length (item_written_components x)) ≡ item_written_components x
         → list_any (lacks_by ws k) (item_inclusions modules n x) ≡ item_lacks f u ds x k
     item_lacks_by ws k (t.define x m p) n fl l e = refl
     item_lacks_by ws k (t.start m p) n fl l e = refl
@@ -61,7 +61,7 @@ module _ (modules : List NamedModule) (f : Text → Text → List Component) (at
         ∙ (λ j. has_key k (res (e j)) && not (has_key k (agree w v j)))
         ∙ ap (λ (cs : List Component). has_key k cs && not (has_key k (f w v))) (sym (items_plain modules f at agree u ds xs fl))
 
-    items_lack_by : (ws : List Written) (k : Key) (xs : Items) (n : ℕ) → AreFlat xs → n + length (written_components xs) ≤ length ws → slice_range ws n (n + length (written_components xs)) ≡ written_components xs
+    items_lack_by : (ws : List WrittenComponent) (k : Key) (xs : Items) (n : ℕ) → AreFlat xs → n + length (written_components xs) ≤ length ws → slice_range ws n (n + length (written_components xs)) ≡ written_components xs
         → list_any (lacks_by ws k) (inclusions modules n xs) ≡ items_lack f u ds xs k
     items_lack_by ws k t.no_items n fl l e = refl
     items_lack_by ws k (t.item x xs) n fl l e =
@@ -179,11 +179,11 @@ pub module_noted : (depth : ℕ) (modules : List NamedModule) (names : List Text
     → Notes (AtNumbers modules names (SomeLacks (InclusionLacks depth modules x u m.tree.declarations (map (written_view names) content.components.items)) (map inclusion_view content.includes.items))) old new
     → Notes (AtNumbers modules names (LacksWithin (suc depth) modules x u)) old new
 module_noted depth modules names x u m content old new named flat is h =
-    let By : List Written → List Inclusion → Text → Key → Type 0 = λ ws js. SomeLacks (InclusionLacks depth modules x u m.tree.declarations ws) js in
+    let By : List WrittenComponent → List Inclusion → Text → Key → Type 0 = λ ws js. SomeLacks (InclusionLacks depth modules x u m.tree.declarations ws) js in
     let ws = written_components m.tree.items in
     let js = inclusions modules 0 m.tree.items in
     let here : Notes (AtNumbers modules names (By ws js)) old new = subst (λ (ks : List Inclusion). Notes (AtNumbers modules names (By ws ks)) old new) is.includes
-    (subst (λ (vs : List Written). Notes (AtNumbers modules names (By vs (map inclusion_view content.includes.items))) old new) is.components h) in
+    (subst (λ (vs : List WrittenComponent). Notes (AtNumbers modules names (By vs (map inclusion_view content.includes.items))) old new) is.components h) in
     notes_to (AtNumbers modules names (By ws js)) (AtNumbers modules names (LacksWithin (suc depth) modules x u)) old new
     (λ l p. (p.0, p.1, brought_lacks depth modules x u m named flat (name_at modules l.«module») (key_at names l.key) p.2))
     (λ l p. (p.0, p.1, lacks_brought depth modules x u m named flat (name_at modules l.«module») (key_at names l.key) p.2)) here
@@ -194,18 +194,18 @@ paired R [] ys x z c = absurd (omega (arith, c.1))
 paired R (a ∷ xs) [] x z c = absurd z
 paired R (a ∷ xs) (b ∷ ys) x z c = ⊎_elim (λ e. (b, subst (λ v. R v b) e z.0)) (λ d. paired R xs ys x z.1 d) (contains_cases a x xs c)
 
-abbrev HasNumber : List Text → Written → Type 0
+abbrev HasNumber : List Text → WrittenComponent → Type 0
 HasNumber names w = IsKeyNumber names w.key
 
-numbered_written : (names : List Text) (cs : List code.Component) → AllByRecursion (IsNumbered names) cs → AllByRecursion (HasNumber names) (map (written_view names) cs)
+numbered_written : (names : List Text) (cs : List code.WrittenComponent) → AllByRecursion (IsNumbered names) cs → AllByRecursion (HasNumber names) (map (written_view names) cs)
 numbered_written names [] h = tt
 numbered_written names (c ∷ cs) h = ((c.key, h.0, refl), numbered_written names cs h.1)
 
-number_at : (names : List Text) (k : Key) (w : Written) (b r : Bool) → same_key k w.key ≡ b → HasNumber names w → (r ≡ true → IsKeyNumber names k) → (b || r) ≡ true → IsKeyNumber names k
+number_at : (names : List Text) (k : Key) (w : WrittenComponent) (b r : Bool) → same_key k w.key ≡ b → HasNumber names w → (r ≡ true → IsKeyNumber names k) → (b || r) ≡ true → IsKeyNumber names k
 number_at names k w true r e h f t = (h.0, h.1, (same_key-Decides k w.key).0 e ∙ h.2)
 number_at names k w false r e h f t = f t
 
-number_of : (names : List Text) (u : Text) (ds : List Declaration) (k : Key) (ws : List Written) → AllByRecursion (HasNumber names) ws → has_key k (map (resolved_component u ds) ws) ≡ true → IsKeyNumber names k
+number_of : (names : List Text) (u : Text) (ds : List Declaration) (k : Key) (ws : List WrittenComponent) → AllByRecursion (HasNumber names) ws → has_key k (map (resolved_component u ds) ws) ≡ true → IsKeyNumber names k
 number_of names u ds k [] h e = absurd (false≢true e)
 number_of names u ds k (w ∷ ws) h e = number_at names k w (same_key k w.key) (has_key k (map (resolved_component u ds) ws)) refl h.0 (number_of names u ds k ws h.1) e
 
@@ -218,7 +218,7 @@ module _ (modules : List NamedModule) (names : List Text) (contents : List Conte
       let a = Any-from_list_any (lacks_by modules (components_within depth modules) (included_in depth modules) (included_agrees depth modules) u m.tree.declarations ws k) (inclusions modules 0 m.tree.items) (items_lack_is modules (components_within depth modules) (included_in depth modules) (included_agrees depth modules) u m.tree.declarations k m.tree.items fl ∙ e) in
       let i = a.1 in
       let own = and_parts (has_key k (map (resolved_component u m.tree.declarations) (slice_range ws i.first i.end))) _ a.4 in
-      let each : AllByRecursion (HasNumber names) ws = subst (λ (vs : List Written). AllByRecursion (HasNumber names) vs) r.1.components (numbered_written names r.0.components.items r.1.numbered) in
+      let each : AllByRecursion (HasNumber names) ws = subst (λ (vs : List WrittenComponent). AllByRecursion (HasNumber names) vs) r.1.components (numbered_written names r.0.components.items r.1.numbered) in
       number_of names u m.tree.declarations k (slice_range ws i.first i.end) (each_take (HasNumber names) (i.end - i.first) (drop i.first ws) (each_drop (HasNumber names) i.first ws each)) own.0
 
   pub lack_found : (depth : ℕ) (x u y : Text) (k : Key) → LacksWithin depth modules x u y k → IsModuleName modules y × IsKeyNumber names k

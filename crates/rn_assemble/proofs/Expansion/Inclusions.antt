@@ -16,17 +16,17 @@ use Rattle.rn_pattern.specs.Graph.{AllBelow, row}
 use Rattle.rn_pattern.specs.Ranks.{HasNoLoop, IsFirstLoop, Leads, by_edge, and_edge}
 use Rattle.rn_pattern.proofs.Ordered.InOrder.{contains_behind, contains_front, text_no_less}
 use Rattle.rn_pattern.proofs.Graphs.FirstLoop.{source_within}
-use Rattle.rn_assemble.specs.Components.{Includes, NamedModule, instances_within, modules_named, roots}
+use Rattle.rn_assemble.specs.Components.{Includes, NamedModule, included_by, instances_within, modules_named, roots}
 use Rattle.rn_syntax.specs.Tree.{includes}
 use Rattle.rn_assemble.specs.inside.Contained.{place_in}
 use Rattle.rn_assemble.specs.inside.Expanded.{name_at}
-use Rattle.rn_assemble.specs.inside.Inclusions.{AreInclusions, IsMissing, included_by}
+use Rattle.rn_assemble.specs.inside.Inclusions.{AreInclusions, IsMissing}
 use Rattle.rn_assemble.specs.inside.Instances.{instances_of}
 use Rattle.rn_assemble.specs.Least.{IsLeast}
 use Rattle.rn_assemble.specs.Refusal.{Wants}
 use Rattle.rn_assemble.proofs.Expansion.ModuleLookups.{none_named, one_named, place_name, place_within}
-use Rattle.rn_assemble.proofs.Referring.Named.{mapped, unmapped}
-use Rattle.rn_assemble.proofs.Referring.Numbers.{not_itself}
+use Rattle.rn_assemble.proofs.Referring.NamedLists.{mapped, unmapped}
+use Rattle.rn_assemble.proofs.Referring.KeyNumbers.{not_itself}
 use Rattle.rn_assemble.proofs.Expansion.LongerPaths.{lead_first, reach_last}
 
 -- sums of values that agree

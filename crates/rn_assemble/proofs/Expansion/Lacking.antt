@@ -18,7 +18,7 @@ use Rattle.rn_assemble.specs.inside.Expanded.{name_at}
 use Rattle.rn_assemble.specs.inside.Included.{AreIncluded}
 use Rattle.rn_assemble.specs.inside.Lacking.{LacksFrom, LacksWithin, handed_namespaces, item_handed_namespaces}
 use Rattle.rn_assemble.specs.Refusal.{Lacks, items_lack}
-use Rattle.rn_assemble.proofs.Combined.Depth.{few, wanted}
+use Rattle.rn_assemble.proofs.Combined.Depth.{few}
 use Rattle.rn_assemble.proofs.Referring.FoundReferences.{flat_contains, map_contained, map_contains}
 use Rattle.rn_assemble.proofs.Expansion.Rooted.{IsRooted, includer, kept, rooted}
 use Rattle.rn_assemble.proofs.Expansion.SameKeys.{HaveSameKeys, items_lack_same, keys_enough}
@@ -49,7 +49,7 @@ module _ (modules : List NamedModule) (total : ℕ) where
 
   fewer : (depth : ℕ) (x : Text) (m : NamedModule) (y : Text) → instances_within (suc depth) modules x ≤ suc depth → Contains (modules_named x modules) m → Contains (includes m.tree.items) y → instances_within depth modules y ≤ depth
   fewer depth x m y h c d =
-      contained_each (λ z. instances_within depth modules z ≤ depth) (wanted modules x) (few modules depth x h) y (flat_contains (λ (n : NamedModule). includes n.tree.items) (modules_named x modules) m y c d)
+      contained_each (λ z. instances_within depth modules z ≤ depth) (included_by modules x) (few modules depth x h) y (flat_contains (λ (n : NamedModule). includes n.tree.items) (modules_named x modules) m y c d)
 
   deep_enough : (depth : ℕ) (x u : Text) (m : NamedModule) (k : Key) → suc depth ≤ total → instances_within (suc depth) modules x ≤ suc depth → Contains (modules_named x modules) m
       → items_lack (components_within depth modules) u m.tree.declarations m.tree.items k ≡ items_lack (components_within total modules) [] m.tree.declarations m.tree.items k

@@ -12,8 +12,8 @@ use Rattle.rn_pattern.specs.Graph.{row}
 use Rattle.rn_pattern.proofs.Ordered.Ascending.{each_append, each_front, each_behind}
 use Rattle.rn_assemble.specs.declared.bodies.Body.{Body}
 use Rattle.rn_assemble.specs.Components.{Component}
-use Rattle.rn_assemble.specs.inside.Listed.{IsBody, IsLive, Live, ListsBy, Rises, places_of}
-pub use Rattle.rn_assemble.proofs.Combined.Joined.{mapped as each_to}
+use Rattle.rn_assemble.specs.inside.Listed.{IsBody, IsLive, Live, ListsBy, PlacesRise, places_of}
+pub use Rattle.rn_assemble.proofs.Combined.PlainComponents.{mapped as each_to}
 use Rattle.rn_assemble.specs.inside.Tied.{body_of}
 
 each_filtered_at : {X : Type 0} (P : X → Type 0) (b : Bool) (x : X) (ys : List X) → P x → AllByRecursion P ys → AllByRecursion P (cond b (x ∷ ys) ys)
@@ -25,27 +25,27 @@ each_filtered P p [] h = tt
 each_filtered P p (x ∷ xs) h = each_filtered_at P (p x) x (filter p xs) h.0 (each_filtered P p xs h.1)
 
 -- places that rise
-rises_from : (m n : ℕ) (es : List Live) → m ≤ n → Rises n es → Rises m es
+rises_from : (m n : ℕ) (es : List Live) → m ≤ n → PlacesRise n es → PlacesRise m es
 rises_from m n [] l h = tt
 rises_from m n (e ∷ es) l h = (omega (arith, l, h.0), h.1)
 
-pub rises_join : (n m : ℕ) (xs ys : List Live) → n ≤ m → Rises n xs → AllByRecursion (λ (e : Live). e.place < m) xs → Rises m ys → Rises n (xs ++ ys)
+pub rises_join : (n m : ℕ) (xs ys : List Live) → n ≤ m → PlacesRise n xs → AllByRecursion (λ (e : Live). e.place < m) xs → PlacesRise m ys → PlacesRise n (xs ++ ys)
 rises_join n m [] ys l h a k = rises_from n m ys l k
 rises_join n m (x ∷ xs) ys l h a k = (h.0, rises_join (suc x.place) m xs ys (omega (arith, a.0)) h.1 a.1 k)
 
-rises_front : (n : ℕ) (xs ys : List Live) → Rises n (xs ++ ys) → Rises n xs
+rises_front : (n : ℕ) (xs ys : List Live) → PlacesRise n (xs ++ ys) → PlacesRise n xs
 rises_front n [] ys h = tt
 rises_front n (x ∷ xs) ys h = (h.0, rises_front (suc x.place) xs ys h.1)
 
-rises_filtered_at : (b : Bool) (n : ℕ) (e : Live) (es : List Live) → n ≤ e.place → Rises (suc e.place) es → Rises n (cond b (e ∷ es) es)
+rises_filtered_at : (b : Bool) (n : ℕ) (e : Live) (es : List Live) → n ≤ e.place → PlacesRise (suc e.place) es → PlacesRise n (cond b (e ∷ es) es)
 rises_filtered_at true n e es l h = (l, h)
 rises_filtered_at false n e es l h = rises_from n (suc e.place) es (omega (arith, l)) h
 
-pub rises_filtered : (p : Live → Bool) (n : ℕ) (es : List Live) → Rises n es → Rises n (filter p es)
+pub rises_filtered : (p : Live → Bool) (n : ℕ) (es : List Live) → PlacesRise n es → PlacesRise n (filter p es)
 rises_filtered p n [] h = tt
 rises_filtered p n (e ∷ es) h = rises_filtered_at (p e) n e (filter p es) h.0 (rises_filtered p (suc e.place) es h.1)
 
-pub above : (n : ℕ) (es : List Live) → Rises n es → AllByRecursion (λ (e : Live). n ≤ e.place) es
+pub above : (n : ℕ) (es : List Live) → PlacesRise n es → AllByRecursion (λ (e : Live). n ≤ e.place) es
 above n [] h = tt
 above n (e ∷ es) h = (h.0, each_to (λ (d : Live). suc e.place ≤ d.place) (λ (d : Live). n ≤ d.place) (λ d l. omega (arith, l, h.0)) es (above (suc e.place) es h.1))
 
@@ -185,7 +185,7 @@ module _ (names : List Text) where
       }
 
   -- what stands behind a place is taken out for a key
-  pub taken : (bodies : List Body) (list : List ℕ) (rows now : List (List ℕ)) (live added : List Live) (before key : ℕ) → ListsBy names bodies list rows (live ++ added) → AllByRecursion (λ (e : Live). e.place < before) live → Rises before added
+  pub taken : (bodies : List Body) (list : List ℕ) (rows now : List (List ℕ)) (live added : List Live) (before key : ℕ) → ListsBy names bodies list rows (live ++ added) → AllByRecursion (λ (e : Live). e.place < before) live → PlacesRise before added
       → RowSet rows now key (places_of key live) → key < length rows → ListsBy names bodies list now (live ++ filter (λ (e : Live). not (e.key == key)) added)
   taken bodies list rows now live added before key h low high s w =
       let p : Live → Bool = λ e. not (e.key == key) in

@@ -13,7 +13,7 @@ use Rattle.rn_assemble.specs.declared.contents.Include.{Include}
 use Rattle.rn_assemble.specs.declared.bodies.Body.{Body}
 use Rattle.rn_assemble.specs.declared.components.Components.{Components}
 use Rattle.rn_assemble.specs.Components.{Component, NamedModule, components_within, handed_on, module_components, without_overridden}
-use Rattle.rn_assemble.specs.inside.Contained.{AreFlat, Inclusion, inclusions, item_inclusions, Written, written_components}
+use Rattle.rn_assemble.specs.inside.Contained.{AreFlat, Inclusion, inclusions, item_inclusions, WrittenComponent, written_components}
 use Rattle.rn_assemble.specs.inside.Listed.{IsContents, IsLive, Live, Lists, ListsBy, resolved_component}
 use Rattle.rn_assemble.specs.inside.Views.{IsNumbered, inclusion_view, written_view}
 use Rattle.rn_assemble.specs.inside.Expanded.{AddsLive, ContextHolds, ContextsHold, Enters, Expands, KeepsBodies, KeepsLists, StartsAt, included_in, left_by}
@@ -51,10 +51,10 @@ pub record Going (modules : List NamedModule) (names : List Text) (contents : Li
   pub within : AllByRecursion (IsWithin modules) (map inclusion_view includes)
 
 module _ (modules : List NamedModule) (names : List Text) (contents : List Contents) (content : Contents) (live : List Live) (m : NamedModule) (u : Text) (depth first : ℕ) where
-  abbrev ws : List Written
+  abbrev ws : List WrittenComponent
   ws = map (written_view names) content.components.items
 
-  abbrev res : List Written → List Component
+  abbrev res : List WrittenComponent → List Component
   res = map (resolved_component u m.tree.declarations)
 
   -- at the beginning

@@ -12,8 +12,8 @@ use Rattle.rn_assemble.specs.declared.named_modules.NamedModule.{NamedModule}
 use Rattle.rn_assemble.specs.Components as s
 use Rattle.rn_assemble.specs.inside.Contained.{place_in}
 use Rattle.rn_assemble.specs.inside.Views.{module_names, modules_view}
-pub use Rattle.rn_assemble.proofs.Combined.Joined.{differ as differs}
-use Rattle.rn_assemble.proofs.Referring.Named.{place_of, mapped, rise_at}
+pub use Rattle.rn_assemble.proofs.Combined.PlainComponents.{differ as differs}
+use Rattle.rn_assemble.proofs.Referring.NamedLists.{place_of, mapped, rise_at}
 
 none_from : (p : NamedModule → Bool) (n : ℕ) (ys : List NamedModule) → ((k : ℕ) (d : NamedModule) → k < length ys → p (get_or ys k d) ≡ false) → position_from p n ys ≡ None
 none_from p n [] h = refl

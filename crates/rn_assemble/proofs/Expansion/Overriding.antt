@@ -11,7 +11,7 @@ use Rattle.std.proofs.lemmas.Map.Keys.{Less-from_sorted}
 use Rattle.std.proofs.lemmas.Slice.Eq.{bytes_eq-Decides}
 use Rattle.rn_text.specs.Texts.{Text, text_cmp}
 use Rattle.rn_syntax.specs.Tree.{Declaration}
-use Rattle.rn_assemble.specs.declared.contents.Component as code
+use Rattle.rn_assemble.specs.declared.contents.WrittenComponent as code
 use Rattle.rn_assemble.specs.declared.bodies.Body.{Body}
 use Rattle.rn_assemble.specs.Components.{Component, same_key, has_key, without_overridden}
 use Rattle.rn_assemble.specs.inside.Keyed.{key_at}
@@ -59,11 +59,11 @@ module _ (names : List Text) (o : IsStrictlySortedBy text_cmp names) where
   key_of_live bodies list e h = key_of_body bodies (get_or list e.place 0) e h.body_within h.is
 
   module _ (u : Text) (ds : List Declaration) where
-    abbrev res : List code.Component → List Component
+    abbrev res : List code.WrittenComponent → List Component
     res cs = map (resolved_component u ds) (map (written_view names) cs)
 
     -- a number is that of a key of these just where they have its key
-    pub same_any : (n : ℕ) (cs : List code.Component) → n < suc (length names) → AllByRecursion (IsNumbered names) cs → list_any (λ (c : code.Component). n == c.key) cs ≡ has_key (key_at names n) (res cs)
+    pub same_any : (n : ℕ) (cs : List code.WrittenComponent) → n < suc (length names) → AllByRecursion (IsNumbered names) cs → list_any (λ (c : code.WrittenComponent). n == c.key) cs ≡ has_key (key_at names n) (res cs)
     same_any n [] l h = refl
     same_any n (c ∷ cs) l h = let here = same_number n c.key l h.0 in λ i. here i || same_any n cs l h.1 i
 
@@ -72,8 +72,8 @@ module _ (names : List Text) (o : IsStrictlySortedBy text_cmp names) where
     kept_at false c e es xs h s = ap (λ l. e.component ∷ l) s ∙ ap (λ d. cond (not d) (e.component ∷ xs) xs) h
 
     -- what is left of the live components are those that are not overridden
-    pub left_is : (bodies : List Body) (list : List ℕ) (cs : List code.Component) → AllByRecursion (IsNumbered names) cs → (es : List Live) → AllByRecursion (IsLive names bodies list) es → components_in (left_by cs es) ≡ without_overridden (components_in es) (res cs)
+    pub left_is : (bodies : List Body) (list : List ℕ) (cs : List code.WrittenComponent) → AllByRecursion (IsNumbered names) cs → (es : List Live) → AllByRecursion (IsLive names bodies list) es → components_in (left_by cs es) ≡ without_overridden (components_in es) (res cs)
     left_is bodies list cs n [] h = refl
     left_is bodies list cs n (e ∷ es) h =
-        kept_at (list_any (λ (c : code.Component). e.key == c.key) cs) (has_key e.component.key (res cs)) e (left_by cs es) (without_overridden (components_in es) (res cs))
+        kept_at (list_any (λ (c : code.WrittenComponent). e.key == c.key) cs) (has_key e.component.key (res cs)) e (left_by cs es) (without_overridden (components_in es) (res cs))
         (same_any e.key cs (numbered_live names bodies list e h.0) n ∙ ap (λ j. has_key j (res cs)) (sym (key_of_live bodies list e h.0))) (left_is bodies list cs n es h.1)

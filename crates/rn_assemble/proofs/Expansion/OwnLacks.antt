@@ -14,13 +14,13 @@ use Rattle.rn_pattern.proofs.Ordered.InOrder.{contained_each}
 use Rattle.rn_syntax.specs.Tree.{Declaration}
 use Rattle.rn_assemble.specs.declared.bodies.Body.{Body}
 use Rattle.rn_assemble.specs.declared.components.Lack.{Lack}
-use Rattle.rn_assemble.specs.declared.contents.Component as code
+use Rattle.rn_assemble.specs.declared.contents.WrittenComponent as code
 use Rattle.rn_assemble.specs.Components.{Component, NamedModule, handed_on, has_key}
 use Rattle.rn_assemble.specs.Combine.{of_key}
 use Rattle.rn_assemble.specs.inside.Contained.{Inclusion}
 use Rattle.rn_assemble.specs.inside.Expanded.{included_in, name_at}
 use Rattle.rn_assemble.specs.inside.Keyed.{key_at}
-use Rattle.rn_assemble.specs.inside.Listed.{IsLive, Live, ListsBy, Rises, components_in, places_of, resolved_component}
+use Rattle.rn_assemble.specs.inside.Listed.{IsLive, Live, ListsBy, PlacesRise, components_in, places_of, resolved_component}
 use Rattle.rn_assemble.specs.inside.Noting.{AtNumbers, IncludedLacks, InclusionLacks, IsOwnLack, Notes, own_lacks}
 use Rattle.rn_assemble.specs.inside.Views.{IsNumbered, written_view}
 use Rattle.rn_assemble.proofs.Expansion.Expansions.{any_push}
@@ -34,7 +34,7 @@ use Rattle.rn_assemble.proofs.Expansion.Overriding.{apart_both, range_map, same_
 
 -- whether a component of a key was added, by the last place of the key
 module _ (names : List Text) (bodies : List Body) (list : List ℕ) (rows : List (List ℕ)) (live added : List Live) (before key : ℕ) (h : ListsBy names bodies list rows (live ++ added)) (o : IsStrictlySortedBy text_cmp names)
-    (low : AllByRecursion (λ (e : Live). e.place < before) live) (high : Rises before added) (k : key < suc (length names)) where
+    (low : AllByRecursion (λ (e : Live). e.place < before) live) (high : PlacesRise before added) (k : key < suc (length names)) where
   abbrev xs : List ℕ
   xs = places_of key live
 
@@ -107,22 +107,22 @@ module _ (names : List Text) (number : ℕ) (included : List Component) where
   abbrev has : ℕ → Bool
   has n = has_key (key_at names n) included
 
-  abbrev among : ℕ → List code.Component → Bool
-  among n own = list_any (λ (c : code.Component). n == c.key) own
+  abbrev among : ℕ → List code.WrittenComponent → Bool
+  among n own = list_any (λ (c : code.WrittenComponent). n == c.key) own
 
   pub own_none : (o : Option Lack) → Notes (IsOwnLack names number [] included) o o
   own_none o = notes_none (IsOwnLack names number [] included) o (λ l h. false≢true h.1)
 
-  own_kept : (own : List code.Component) (c : code.Component) (l : Lack) → IsOwnLack names number own included l → IsOwnLack names number (own ++ c ∷ []) included l
-  own_kept own c l h = (h.0, ap (λ b. b && not (has l.key)) (any_push (λ (d : code.Component). l.key == d.key) own c) ∙ or_kept (among l.key own) (l.key == c.key) (has l.key) h.1)
+  own_kept : (own : List code.WrittenComponent) (c : code.WrittenComponent) (l : Lack) → IsOwnLack names number own included l → IsOwnLack names number (own ++ c ∷ []) included l
+  own_kept own c l h = (h.0, ap (λ b. b && not (has l.key)) (any_push (λ (d : code.WrittenComponent). l.key == d.key) own c) ∙ or_kept (among l.key own) (l.key == c.key) (has l.key) h.1)
 
-  own_cases : (own : List code.Component) (c : code.Component) (l : Lack) → IsOwnLack names number (own ++ c ∷ []) included l → IsOwnLack names number own included l ⊎ ((l.key ≡ c.key) × (not (has c.key) ≡ true))
+  own_cases : (own : List code.WrittenComponent) (c : code.WrittenComponent) (l : Lack) → IsOwnLack names number (own ++ c ∷ []) included l → IsOwnLack names number own included l ⊎ ((l.key ≡ c.key) × (not (has c.key) ≡ true))
   own_cases own c l h =
       ⊎_elim (λ e. inl (h.0, e)) (λ e. let same : l.key ≡ c.key = eqb-true l.key c.key e.0 in inr (same, ap (λ n. not (has n)) (sym same) ∙ e.1))
-      (or_apart (among l.key own) (l.key == c.key) (has l.key) (ap (λ b. b && not (has l.key)) (sym (any_push (λ (d : code.Component). l.key == d.key) own c)) ∙ h.1))
+      (or_apart (among l.key own) (l.key == c.key) (has l.key) (ap (λ b. b && not (has l.key)) (sym (any_push (λ (d : code.WrittenComponent). l.key == d.key) own c)) ∙ h.1))
 
   -- an included component has it
-  pub own_passed : (own : List code.Component) (c : code.Component) (old new : Option Lack) → has c.key ≡ true → Notes (IsOwnLack names number own included) old new → Notes (IsOwnLack names number (own ++ c ∷ []) included) old new
+  pub own_passed : (own : List code.WrittenComponent) (c : code.WrittenComponent) (old new : Option Lack) → has c.key ≡ true → Notes (IsOwnLack names number own included) old new → Notes (IsOwnLack names number (own ++ c ∷ []) included) old new
   own_passed own c old new t h =
       notes_to (IsOwnLack names number own included) (IsOwnLack names number (own ++ c ∷ []) included) old new (own_kept own c)
       (λ l p. ⊎_elim (λ q. q) (λ e. absurd (false≢true (ap not (sym t) ∙ e.1))) (own_cases own c l p)) h
@@ -130,13 +130,13 @@ module _ (names : List Text) (number : ℕ) (included : List Component) where
   abbrev lack_at : ℕ → Lack
   lack_at n = record { «module» = number; key = n }
 
-  own_new : (own : List code.Component) (c : code.Component) (l : Lack) → has c.key ≡ false → l ≡ lack_at c.key → IsOwnLack names number (own ++ c ∷ []) included l
+  own_new : (own : List code.WrittenComponent) (c : code.WrittenComponent) (l : Lack) → has c.key ≡ false → l ≡ lack_at c.key → IsOwnLack names number (own ++ c ∷ []) included l
   own_new own c l f e =
       let same : l.key ≡ c.key = ap (λ (m : Lack). m.key) e in
-      (ap (λ (m : Lack). m.«module») e, ap (λ b. b && not (has l.key)) (any_push (λ (d : code.Component). l.key == d.key) own c) ∙ or_new (among l.key own) (l.key == c.key) (has l.key) (eq-eqb l.key c.key same) (ap has same ∙ f))
+      (ap (λ (m : Lack). m.«module») e, ap (λ b. b && not (has l.key)) (any_push (λ (d : code.WrittenComponent). l.key == d.key) own c) ∙ or_new (among l.key own) (l.key == c.key) (has l.key) (eq-eqb l.key c.key same) (ap has same ∙ f))
 
   -- no included component has it
-  pub own_met : (own : List code.Component) (c : code.Component) (old mid new : Option Lack) → has c.key ≡ false → Notes (IsOwnLack names number own included) old mid → Notes (λ l. l ≡ lack_at c.key) mid new
+  pub own_met : (own : List code.WrittenComponent) (c : code.WrittenComponent) (old mid new : Option Lack) → has c.key ≡ false → Notes (IsOwnLack names number own included) old mid → Notes (λ l. l ≡ lack_at c.key) mid new
       → Notes (IsOwnLack names number (own ++ c ∷ []) included) old new
   own_met own c old mid new f h k =
       notes_to (λ l. IsOwnLack names number own included l ⊎ (l ≡ lack_at c.key)) (IsOwnLack names number (own ++ c ∷ []) included) old new
@@ -144,9 +144,9 @@ module _ (names : List Text) (number : ℕ) (included : List Component) where
       (λ l p. ⊎_elim (λ q. inl q) (λ e. let is : l ≡ lack_at c.key = λ i. record { «module» = p.0 i; key = e.0 i } in inr is) (own_cases own c l p))
       (notes_both (IsOwnLack names number own included) (λ l. l ≡ lack_at c.key) old mid new h k)
 
-key_within : (names : List Text) (n : ℕ) (own : List code.Component) → AllByRecursion (IsNumbered names) own → list_any (λ (c : code.Component). n == c.key) own ≡ true → n < suc (length names)
+key_within : (names : List Text) (n : ℕ) (own : List code.WrittenComponent) → AllByRecursion (IsNumbered names) own → list_any (λ (c : code.WrittenComponent). n == c.key) own ≡ true → n < suc (length names)
 key_within names n own h e =
-    let a = Any-from_list_any (λ (c : code.Component). n == c.key) own e in
+    let a = Any-from_list_any (λ (c : code.WrittenComponent). n == c.key) own e in
     let below : a.1.key < suc (length names) = contained_each (IsNumbered names) own h a.1 (a.0, a.2, a.3) in
     let same : n ≡ a.1.key = eqb-true n a.1.key a.4 in
     omega (arith, below, same)
@@ -159,8 +159,8 @@ same_place modules o i j h k e = elim (cases_eq i j) [
 
 -- an include's own lacks by names, and all that the include brings
 module _ (modules : List NamedModule) (names : List Text) (mo : IsStrictlySortedBy text_cmp (map (λ (m : NamedModule). m.name) modules)) (no : IsStrictlySortedBy text_cmp names) (number : ℕ) (within : number < length modules)
-    (depth : ℕ) (u : Text) (ds : List Declaration) (cs : List code.Component) (numbered : AllByRecursion (IsNumbered names) cs) (i : Inclusion) where
-  abbrev own : List code.Component
+    (depth : ℕ) (u : Text) (ds : List Declaration) (cs : List code.WrittenComponent) (numbered : AllByRecursion (IsNumbered names) cs) (i : Inclusion) where
+  abbrev own : List code.WrittenComponent
   own = slice_range cs i.first i.end
 
   abbrev there : List Component
@@ -172,14 +172,14 @@ module _ (modules : List NamedModule) (names : List Text) (mo : IsStrictlySorted
   own_numbered : AllByRecursion (IsNumbered names) own
   own_numbered = each_take (IsNumbered names) (i.end - i.first) (drop i.first cs) (each_drop (IsNumbered names) i.first cs numbered)
 
-  tests : (l : Lack) → l.key < suc (length names) → (list_any (λ (c : code.Component). l.key == c.key) own && not (has_key (key_at names l.key) there)) ≡ test l
+  tests : (l : Lack) → l.key < suc (length names) → (list_any (λ (c : code.WrittenComponent). l.key == c.key) own && not (has_key (key_at names l.key) there)) ≡ test l
   tests l h =
       ap (λ b. b && not (has_key (key_at names l.key) there))
       (same_any names no u ds l.key own h own_numbered ∙ ap (λ ws. has_key (key_at names l.key) (map (resolved_component u ds) ws)) (sym (range_map (written_view names) i.first i.end cs)))
 
   own_named : (l : Lack) → IsOwnLack names number own there l → (l.«module» < length modules) × (l.key < suc (length names)) × ((name_at modules number ≡ name_at modules l.«module») × (test l ≡ true))
   own_named l h =
-      let parts = and_parts (list_any (λ (c : code.Component). l.key == c.key) own) (not (has_key (key_at names l.key) there)) h.1 in
+      let parts = and_parts (list_any (λ (c : code.WrittenComponent). l.key == c.key) own) (not (has_key (key_at names l.key) there)) h.1 in
       let below = key_within names l.key own own_numbered parts.0 in
       (omega (arith, within, h.0), below, (ap (name_at modules) (sym h.0), sym (tests l below) ∙ h.1))
 

@@ -10,9 +10,8 @@ use Rattle.std.proofs.lemmas.Slice.Eq.{bytes_eq-Decides}
 use Rattle.rn_text.specs.Texts.{Text}
 use Rattle.rn_pattern.specs.References.{Reaches, by_one, by_more}
 use Rattle.rn_pattern.proofs.Ordered.InOrder.{contains_behind, contains_cases, contains_front}
-use Rattle.rn_assemble.specs.Components.{NamedModule, Includes, modules_named, roots}
+use Rattle.rn_assemble.specs.Components.{NamedModule, Includes, included_by, modules_named, roots}
 use Rattle.rn_syntax.specs.Tree.{includes}
-use Rattle.rn_assemble.proofs.Combined.Depth.{wanted}
 use Rattle.rn_assemble.proofs.Referring.FoundReferences.{flat_contains, flat_contained, map_contains}
 use Rattle.rn_assemble.proofs.Expansion.LongerPaths.{reach_last}
 
@@ -46,14 +45,14 @@ module _ (modules : List NamedModule) where
   -- the module by which x includes y
   pub includer : (x y : Text) → Includes modules x y → (m : NamedModule) × Contains modules m × (m.name ≡ x) × Contains (modules_named x modules) m × Contains (includes m.tree.items) y
   includer x y h =
-      let r = flat_contained (λ (m : NamedModule). includes m.tree.items) (modules_named x modules) y (Contains-from_any {eq = bytes_eq} (λ a b e. (bytes_eq-Decides a b).0 e) y (wanted modules x) h) in
+      let r = flat_contained (λ (m : NamedModule). includes m.tree.items) (modules_named x modules) y (Contains-from_any {eq = bytes_eq} (λ a b e. (bytes_eq-Decides a b).0 e) y (included_by modules x) h) in
       let k = kept (λ (m : NamedModule). bytes_eq x m.name) modules r.0 r.1 in
       (r.0, k.0, sym ((bytes_eq-Decides x r.0.name).0 k.1), r.1, r.2)
 
-  included_by : (m : NamedModule) (y : Text) → Contains modules m → Contains (includes m.tree.items) y → Includes modules m.name y
-  included_by m y c d =
+  includes_named : (m : NamedModule) (y : Text) → Contains modules m → Contains (includes m.tree.items) y → Includes modules m.name y
+  includes_named m y c d =
       let named = passed (λ (n : NamedModule). bytes_eq m.name n.name) modules m c ((bytes_eq-Decides m.name m.name).1 refl) in
-      list_any-from_Contains {eq = bytes_eq} nat_list_eq_equiv y (wanted modules m.name) (flat_contains (λ (n : NamedModule). includes n.tree.items) (modules_named m.name modules) m y named d)
+      list_any-from_Contains {eq = bytes_eq} nat_list_eq_equiv y (included_by modules m.name) (flat_contains (λ (n : NamedModule). includes n.tree.items) (modules_named m.name modules) m y named d)
 
   abbrev names : List Text
   names = map (λ (m : NamedModule). m.name) modules
@@ -74,7 +73,7 @@ module _ (modules : List NamedModule) where
   included_in : (m : NamedModule) → is_included m ≡ true → (n : NamedModule) × Contains modules n × Includes modules n.name m.name
   included_in m e =
       let r = flat_contained (λ (n : NamedModule). includes n.tree.items) modules m.name (Contains-from_any {eq = bytes_eq} (λ a b d. (bytes_eq-Decides a b).0 d) m.name (flat_map (λ (n : NamedModule). includes n.tree.items) modules) e) in
-      (r.0, r.1, included_by r.0 m.name r.1 r.2)
+      (r.0, r.1, includes_named r.0 m.name r.1 r.2)
 
   root : (m : NamedModule) → Contains modules m → is_included m ≡ false → IsRooted m.name
   root m c e = (m, passed (λ (r : NamedModule). not (is_included r)) modules m c (ap not e), inl refl)

@@ -11,8 +11,8 @@ use Rattle.rn_syntax.specs.Tree as t
 use Rattle.rn_syntax.specs.Tree.{Declaration, Item, Items, item_includes, includes}
 use Rattle.rn_assemble.specs.Components.{Key, Component, NamedModule, same_key, has_key, without_overridden, handed_on, item_components, all_components, module_components, modules_named, components_within, instances_within}
 use Rattle.rn_assemble.specs.Refusal.{item_lacks, items_lack}
-use Rattle.rn_assemble.proofs.Combined.Depth.{components_enough, wanted}
-use Rattle.rn_assemble.proofs.Referring.Numbers.{same_key-Decides}
+use Rattle.rn_assemble.proofs.Combined.Depth.{components_enough}
+use Rattle.rn_assemble.proofs.Referring.KeyNumbers.{same_key-Decides}
 
 keys_joined : (k : Key) (ps qs cs ds : List Component) → has_key k ps ≡ has_key k cs → has_key k qs ≡ has_key k ds → has_key k (ps ++ qs) ≡ has_key k (cs ++ ds)
 keys_joined k ps qs cs ds e f =
@@ -83,7 +83,7 @@ module _ (modules : List NamedModule) where
   keys_anywhere zero x u v k = refl
   keys_anywhere (suc depth) x u v k =
       let all : (y : Text) → HaveSameKeys (components_within depth modules) (components_within depth modules) y = keys_anywhere depth in
-      modules_keys (components_within depth modules) (components_within depth modules) u v (modules_named x modules) (each_contained (HaveSameKeys (components_within depth modules) (components_within depth modules)) (wanted modules x) (λ y c. all y)) k
+      modules_keys (components_within depth modules) (components_within depth modules) u v (modules_named x modules) (each_contained (HaveSameKeys (components_within depth modules) (components_within depth modules)) (included_by modules x) (λ y c. all y)) k
 
   -- the same at any depth from the number of a module's instances on
   pub keys_enough : (total depth : ℕ) (x : Text) → depth ≤ total → instances_within depth modules x ≤ depth → HaveSameKeys (components_within depth modules) (components_within total modules) x

@@ -6,7 +6,7 @@ use Rattle.rn_text.specs.Texts.{Text}
 use Rattle.rn_syntax.specs.Tree as t
 use Rattle.rn_syntax.specs.Tree.{Declaration, Item, Items, item_includes, includes}
 use Rattle.rn_assemble.specs.Components.{Component, NamedModule, all_components, item_components, without_overridden, handed_on}
-use Rattle.rn_assemble.specs.inside.Contained.{AreFlat, IsFlat, Inclusion, Written, inclusions, item_inclusions, item_written_components, place_in, written_components}
+use Rattle.rn_assemble.specs.inside.Contained.{AreFlat, IsFlat, Inclusion, WrittenComponent, inclusions, item_inclusions, item_written_components, place_in, written_components}
 use Rattle.rn_assemble.specs.inside.Listed.{resolved_component}
 use Rattle.rn_assemble.proofs.Expansion.Expansions.{range_none}
 
@@ -63,7 +63,7 @@ whole_range ws = let n : 0 + length ws ≡ length ws = omega arith in ap (slice_
 
 module _ (at : Option ℕ → Text → List Component) (u : Text) (ds : List Declaration) where
   -- what is left from a place on
-  abbrev pub spliced : List Written → List Inclusion → ℕ → List Component
+  abbrev pub spliced : List WrittenComponent → List Inclusion → ℕ → List Component
   spliced ws [] n = map (resolved_component u ds) (slice_range ws n (length ws))
   spliced ws (i ∷ is) n = map (resolved_component u ds) (slice_range ws n i.first) ++ (without_overridden (at i.module_at (handed_on u ds i.inherit)) (map (resolved_component u ds) (slice_range ws i.first i.end)) ++ spliced ws is i.first)
 
@@ -111,10 +111,10 @@ module _ (modules : List NamedModule) where
       subst (λ is. Ordered n 0 is) (append-nil (inclusions modules 0 xs)) (items_ordered n 0 xs [] f (omega arith) (omega arith))
 
   module _ (f : Text → Text → List Component) (at : Option ℕ → Text → List Component) (agree : (w v : Text) → at (place_in modules w) v ≡ f w v) (u : Text) (ds : List Declaration) where
-    abbrev res : List Written → List Component
+    abbrev res : List WrittenComponent → List Component
     res ws = map (resolved_component u ds) ws
 
-    skips : (ws : List Written) (js : List Inclusion) (n m : ℕ) → n ≤ m → m ≤ length ws → Ordered (length ws) m js → spliced at u ds ws js n ≡ res (slice_range ws n m) ++ spliced at u ds ws js m
+    skips : (ws : List WrittenComponent) (js : List Inclusion) (n m : ℕ) → n ≤ m → m ≤ length ws → Ordered (length ws) m js → spliced at u ds ws js n ≡ res (slice_range ws n m) ++ spliced at u ds ws js m
     skips ws [] n m l k o = ap res (range_both ws n m (length ws) l k) ∙ map-append (resolved_component u ds) (slice_range ws n m) (slice_range ws m (length ws))
     skips ws (j ∷ js) n m l k o =
         let rest = without_overridden (at j.module_at (handed_on u ds j.inherit)) (res (slice_range ws j.first j.end)) ++ spliced at u ds ws js j.first in
@@ -135,11 +135,11 @@ module _ (modules : List NamedModule) where
           let rest = items_plain xs (no_includes_behind (item_includes x) (includes xs) e) in
           (λ i. first i ++ rest i) ∙ sym (map-append (resolved_component u ds) (item_written_components x) (written_components xs))
 
-    one_more : (ws : List Written) (js : List Inclusion) (n : ℕ) (w : Written) → n + 1 ≤ length ws → slice_range ws n (n + 1) ≡ w ∷ [] → Ordered (length ws) (n + 1) js → spliced at u ds ws js n ≡ res (w ∷ []) ++ spliced at u ds ws js (n + 1)
+    one_more : (ws : List WrittenComponent) (js : List Inclusion) (n : ℕ) (w : WrittenComponent) → n + 1 ≤ length ws → slice_range ws n (n + 1) ≡ w ∷ [] → Ordered (length ws) (n + 1) js → spliced at u ds ws js n ≡ res (w ∷ []) ++ spliced at u ds ws js (n + 1)
     one_more ws js n w l e o = skips ws js n (n + 1) (omega arith) l o ∙ ap (λ vs. res vs ++ spliced at u ds ws js (n + 1)) e
 
     mutual
-      item_spliced : (ws : List Written) (x : Item) (js : List Inclusion) (n : ℕ) → IsFlat x → n + length (item_written_components x) ≤ length ws → slice_range ws n (n + length (item_written_components x)) ≡ item_written_components x → Ordered (length ws) (n + length (item_written_components x)) js
+      item_spliced : (ws : List WrittenComponent) (x : Item) (js : List Inclusion) (n : ℕ) → IsFlat x → n + length (item_written_components x) ≤ length ws → slice_range ws n (n + length (item_written_components x)) ≡ item_written_components x → Ordered (length ws) (n + length (item_written_components x)) js
           → spliced at u ds ws (item_inclusions modules n x ++ js) n ≡ item_components f u ds x ++ spliced at u ds ws js (n + length (item_written_components x))
       item_spliced ws (t.define x m p) js n fl l e o = one_more ws js n _ l e o
       item_spliced ws (t.start m p) js n fl l e o = one_more ws js n _ l e o
@@ -153,7 +153,7 @@ module _ (modules : List NamedModule) where
           whole ∙ (λ j. without_overridden (agree w v j) (res (e j)) ++ spliced at u ds ws js n) ∙ ap (λ r. without_overridden (f w v) (res (written_components xs)) ++ r) (skips ws js n k (omega arith) l o ∙ ap (λ r. res r ++ spliced at u ds ws js k) e)
           ∙ sym (append_assoc (without_overridden (f w v) (res (written_components xs))) (res (written_components xs)) (spliced at u ds ws js k)) ∙ (λ j. (without_overridden (f w v) (sym own j) ++ sym own j) ++ spliced at u ds ws js k)
 
-      items_spliced : (ws : List Written) (xs : Items) (js : List Inclusion) (n : ℕ) → AreFlat xs → n + length (written_components xs) ≤ length ws → slice_range ws n (n + length (written_components xs)) ≡ written_components xs → Ordered (length ws) (n + length (written_components xs)) js
+      items_spliced : (ws : List WrittenComponent) (xs : Items) (js : List Inclusion) (n : ℕ) → AreFlat xs → n + length (written_components xs) ≤ length ws → slice_range ws n (n + length (written_components xs)) ≡ written_components xs → Ordered (length ws) (n + length (written_components xs)) js
           → spliced at u ds ws (inclusions modules n xs ++ js) n ≡ all_components f u ds xs ++ spliced at u ds ws js (n + length (written_components xs))
       items_spliced ws t.no_items js n fl l e o = let z : n ≡ n + 0 = omega arith in ap (spliced at u ds ws js) z
       items_spliced ws (t.item x xs) js n fl l e o =

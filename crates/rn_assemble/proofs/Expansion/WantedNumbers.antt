@@ -24,7 +24,7 @@ use Rattle.rn_assemble.specs.declared.named_modules.NamedModule as code
 use Rattle.rn_assemble.proofs.Referring.LeastUndefined.{no_text, texts_more}
 use Rattle.rn_assemble.proofs.Expansion.Inclusions.{not_missing}
 use Rattle.rn_assemble.proofs.Expansion.ModuleLookups.{none_named, place_name, place_within}
-use Rattle.rn_assemble.proofs.Referring.Numbers.{not_itself}
+use Rattle.rn_assemble.proofs.Referring.KeyNumbers.{not_itself}
 
 -- the literals of includes, in the words of the syntax
 mutual

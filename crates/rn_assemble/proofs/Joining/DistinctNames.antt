@@ -4,7 +4,7 @@ use Rattle.std.specs.Prelude.{bytes_eq, String, string_bytes}
 use Rattle.std.specs.List.{AllByRecursion, list_any}
 use Rattle.std.specs.String.{string_eq}
 use Rattle.std.specs.declared.alloc.Global.{Global}
-use Rattle.std.proofs.lemmas.Bool.{false≢true}
+use Rattle.std.proofs.lemmas.Bool.{false≢true, or_parts}
 use Rattle.indexmap.specs.IndexMap.{insert_entry}
 use Rattle.rn_pattern.specs.Tree.{Tree}
 use Rattle.rn_text.specs.Texts.{Text}
@@ -62,10 +62,6 @@ joined_distinct cs = once_defined (λ x. joined_pattern cs (name_key x)) cs
 
 -- ---- a name that is new in a map
 
-some_other : (b c : Bool) → (b || c) ≡ false → (b ≡ false) × (c ≡ false)
-some_other true c e = absurd (false≢true (sym e))
-some_other false c e = (refl, e)
-
 inserted_at : (b : Bool) (d : String Global × Pattern) (es fs : List (String Global × Pattern)) (s : String Global) (p : Pattern) → b ≡ false → definitions_view fs ≡ definitions_view es ++ (string_bytes s, pattern_view p) ∷ []
     → definitions_view (cond b ((d.0, p) ∷ es) (d ∷ fs)) ≡ definitions_view (d ∷ es) ++ (string_bytes s, pattern_view p) ∷ []
 inserted_at true d es fs s p e h = absurd (false≢true (sym e))
@@ -75,7 +71,7 @@ pub inserted : (es : List (String Global × Pattern)) (s : String Global) (p : P
     → definitions_view (insert_entry string_eq es s p) ≡ definitions_view es ++ (string_bytes s, pattern_view p) ∷ []
 inserted [] s p n = refl
 inserted (d ∷ es) s p n =
-    let other = some_other (bytes_eq (string_bytes s) (string_bytes d.0)) (list_any (bytes_eq (string_bytes s)) (map (λ (e : Text × Tree). e.0) (definitions_view es))) n in
+    let other = or_parts (bytes_eq (string_bytes s) (string_bytes d.0)) (list_any (bytes_eq (string_bytes s)) (map (λ (e : Text × Tree). e.0) (definitions_view es))) n in
     inserted_at (bytes_eq (string_bytes s) (string_bytes d.0)) d es (insert_entry string_eq es s p) s p other.0 (inserted es s p other.1)
 
 -- the name of a definition behind others is none of theirs

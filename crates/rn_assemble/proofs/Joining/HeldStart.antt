@@ -9,7 +9,7 @@ use Rattle.rn_assemble.specs.Combine.{joined_pattern}
 use Rattle.rn_assemble.specs.Components.{Component, has_key, start_key}
 use Rattle.rn_assemble.specs.inside.Patterns.{AreCombined}
 use Rattle.rn_pattern.specs.View.{boxed_view}
-use Rattle.rn_assemble.proofs.Joining.Defining.{start_there}
+use Rattle.rn_assemble.proofs.Joining.PlacedDefinitions.{start_there}
 
 some_viewed : (o : Option (Box Pattern Global)) (p : Tree) → option_map boxed_view o ≡ Some p → IsSome o
 some_viewed None p e = cc

@@ -25,12 +25,12 @@ use Rattle.rn_assemble.specs.inside.Joining.{IsMisnamed}
 use Rattle.rn_assemble.specs.inside.Keyed.{key_at}
 use Rattle.rn_assemble.specs.Least.{IsLeast, key_cmp}
 use Rattle.rn_assemble.specs.inside.Listed.{Live, ListsBy, components_in}
-use Rattle.rn_assemble.specs.inside.Patterns.{AreCombined, AreSound, IsMisnamedAs, IsSound, pattern_of, tree_at}
+use Rattle.rn_assemble.specs.inside.Patterns.{AreCombined, AreWellNamed, IsMisnamedAs, IsWellNamed, pattern_of, tree_at}
 use Rattle.rn_assemble.specs.Refusal.{BreaksNameRules}
 use Rattle.rn_assemble.specs.Refused.{key_view}
 use Rattle.rn_assemble.proofs.Referring.FoundReferences.{all_keyed}
 use Rattle.rn_assemble.proofs.Referring.LeastKeys.{has_none, has_some, least_key, no_key, numbered}
-use Rattle.rn_assemble.proofs.Referring.Numbers.{same_key-Decides}
+use Rattle.rn_assemble.proofs.Referring.KeyNumbers.{same_key-Decides}
 
 -- ---- restrictions on name classes in joined patterns
 
@@ -87,17 +87,17 @@ module _ (cs : List Component) (k : Key) where
 
   -- ---- members, one after the other
 
-  pub sound_more : (ms ms' : List (Rc Pattern Global)) (i : ℕ) (m : Rc Pattern Global) (c : Component) → i < length parts → ((d : Component) → get_or parts i d ≡ c) → IsSound c (shared_view m)
-      → ms' ≡ ms ++ m ∷ [] → AreSound (take i parts) (map shared_view ms) → AreSound (take (i + 1) parts) (map shared_view ms')
+  pub sound_more : (ms ms' : List (Rc Pattern Global)) (i : ℕ) (m : Rc Pattern Global) (c : Component) → i < length parts → ((d : Component) → get_or parts i d ≡ c) → IsWellNamed c (shared_view m)
+      → ms' ≡ ms ++ m ∷ [] → AreWellNamed (take i parts) (map shared_view ms) → AreWellNamed (take (i + 1) parts) (map shared_view ms')
   sound_more ms ms' i m c l is s e h =
       let more : take (i + 1) parts ≡ take i parts ++ c ∷ [] = take_more parts i c l ∙ ap (λ d. take i parts ++ d ∷ []) (is c) in
-      subst (λ ds. AreSound ds (map shared_view ms')) (sym more) (
+      subst (λ ds. AreWellNamed ds (map shared_view ms')) (sym more) (
         ap (map shared_view) e ∙ map-append shared_view ms (m ∷ []) ∙ (λ j. h.0 j ++ s.0 j ∷ []) ∙ sym (map-append (λ (d : Component). d.body) (take i parts) (c ∷ [])),
         each_append (λ (d : Component). KeepsNameRules d.body) (take i parts) (c ∷ []) h.1 (s.1, tt),
       )
 
-  pub sound_all : (ts : List Tree) (i : ℕ) → length parts ≤ i → AreSound (take i parts) ts → AreSound parts ts
-  sound_all ts i l h = subst (λ ds. AreSound ds ts) (take_all i parts l) h
+  pub sound_all : (ts : List Tree) (i : ℕ) → length parts ≤ i → AreWellNamed (take i parts) ts → AreWellNamed parts ts
+  sound_all ts i l h = subst (λ ds. AreWellNamed ds ts) (take_all i parts l) h
 
   -- ---- the key's pattern
 
@@ -117,12 +117,12 @@ module _ (cs : List Component) (k : Key) where
   one_joined node (d ∷ []) c l is = (ap (λ (e : Component). e.body) (is d), ap (λ e. e ∷ []) (is d))
   one_joined node (d ∷ e ∷ ds) c l is = absurd (omega (arith, l))
 
-  one_pattern : (p : Tree) (c : Component) → length parts ≡ 1 → ((d : Component) → get_or parts 0 d ≡ c) → IsSound c p → (Some p ≡ pattern_of cs k) × ¬ BreaksNameRules cs k
+  one_pattern : (p : Tree) (c : Component) → length parts ≡ 1 → ((d : Component) → get_or parts 0 d ≡ c) → IsWellNamed c p → (Some p ≡ pattern_of cs k) × ¬ BreaksNameRules cs k
   one_pattern p c l is s =
       let one = one_joined (method_node k cs) parts c l is in
       some_pattern p (omega (arith, l)) (s.0 ∙ sym one.0) (subst (AllByRecursion (λ (d : Component). KeepsNameRules d.body)) (sym one.1) (s.1, tt))
 
-  pub one_found : (p : Option (Box Pattern Global)) (c : Component) → length parts ≡ 1 → ((d : Component) → get_or parts 0 d ≡ c) → IsSomeAnd p (λ q. IsSound c (boxed_view q)) → (option_map boxed_view p ≡ pattern_of cs k) × ¬ BreaksNameRules cs k
+  pub one_found : (p : Option (Box Pattern Global)) (c : Component) → length parts ≡ 1 → ((d : Component) → get_or parts 0 d ≡ c) → IsSomeAnd p (λ q. IsWellNamed c (boxed_view q)) → (option_map boxed_view p ≡ pattern_of cs k) × ¬ BreaksNameRules cs k
   one_found None c l is s = absurd s
   one_found (Some q) c l is s = one_pattern (boxed_view q) c l is s
 
@@ -131,7 +131,7 @@ module _ (cs : List Component) (k : Key) where
   more_joined node (p ∷ []) l = absurd (omega (arith, l))
   more_joined node (p ∷ q ∷ ps) l = refl
 
-  pub more_pattern : (p : Tree) (ts : List Tree) → 1 < length parts → AreSound parts ts → p ≡ method_node k cs (trees_of ts) → (Some p ≡ pattern_of cs k) × ¬ BreaksNameRules cs k
+  pub more_pattern : (p : Tree) (ts : List Tree) → 1 < length parts → AreWellNamed parts ts → p ≡ method_node k cs (trees_of ts) → (Some p ≡ pattern_of cs k) × ¬ BreaksNameRules cs k
   more_pattern p ts l s e =
       some_pattern p (omega (arith, l)) (e ∙ ap (λ us. method_node k cs (trees_of us)) s.0 ∙ more_joined (method_node k cs) (bodies k cs) (omega (arith, l, length-map parts (λ (d : Component). d.body)))) s.1
 

@@ -7,7 +7,7 @@ use Rattle.rn_assemble.specs.Components.{same_key}
 use Rattle.rn_assemble.specs.Combine.{of_key}
 use Rattle.rn_assemble.specs.inside.Keyed.{key_at}
 use Rattle.rn_assemble.specs.inside.Listed.{Live, components_in}
-use Rattle.rn_assemble.proofs.Referring.Numbers.{same_key_at}
+use Rattle.rn_assemble.proofs.Referring.KeyNumbers.{same_key_at}
 
 -- the key of the component has the number
 abbrev pub IsKeyed : List Text → Live → Type 0

@@ -4,7 +4,7 @@ use Rattle.std.specs.Rc.{rc_str_bytes}
 use Rattle.rn_text.specs.Texts.{Text}
 use Rattle.rn_syntax.specs.View.{pattern_view}
 use Rattle.rn_assemble.specs.Components.{Component}
-use Rattle.rn_assemble.specs.inside.Bound.{binds_are}
+use Rattle.rn_assemble.specs.inside.ContextBindings.{binds_are}
 use Rattle.rn_assemble.specs.inside.Listed.{IsBody}
 use Rattle.rn_assemble.specs.Resolve.{resolved_pattern}
 use Rattle.rn_assemble.specs.declared.bodies.Body.{Body}

@@ -11,7 +11,7 @@ use Rattle.rn_pattern.specs.declared.tree.Pattern.{Pattern}
 use Rattle.rn_assemble.specs.declared.bodies.Body.{Body}
 use Rattle.rn_assemble.specs.Components.{Component}
 use Rattle.rn_assemble.specs.inside.Listed.{IsBody}
-use Rattle.rn_assemble.specs.inside.Patterns.{AreShared, IsSound}
+use Rattle.rn_assemble.specs.inside.Patterns.{AreShared, IsWellNamed}
 
 pub within : {X : Type 0} (xs : List X) (n : ℕ) (x : X) → slice_get xs n ≡ Some x → n < length xs
 within {X} [] n x e = let wrong : None ≡ Some x = e in cc
@@ -20,7 +20,7 @@ within (y ∷ xs) (suc n) x e = let l = within xs n x e in omega (arith, l)
 
 -- a pattern that is held stands for the component
 abbrev pub Holds : Component → Option (Rc Pattern Global) → Type 0
-Holds c o = IfSome o (λ (p : Rc Pattern Global). IsSound c (shared_view p))
+Holds c o = IfSome o (λ (p : Rc Pattern Global). IsWellNamed c (shared_view p))
 
 module _ (names : List Text) (bodies : List Body) (shared : List (Option (Rc Pattern Global))) (n : ℕ) (b : Body) (v : Option (Rc Pattern Global)) (h : AreShared names bodies shared) (at : slice_get bodies n ≡ Some b) (read : v ≡ get_or shared n v) where
   in_shared : n < length shared

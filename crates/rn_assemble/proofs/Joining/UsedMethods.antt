@@ -5,6 +5,7 @@ use Rattle.std.specs.Prelude.{Option, slice_get}
 use Rattle.std.specs.List.{list_any}
 use Rattle.std.specs.Option.{option_eq}
 use Rattle.std.specs.List.Sorted.{IsStrictlySortedBy}
+use Rattle.std.proofs.lemmas.Bool.{or_from, or_right}
 use Rattle.std.proofs.lemmas.List.{length-map, get_or-map, take_more, take-append-drop}
 use Rattle.rn_text.specs.Texts.{Text, text_cmp}
 use Rattle.rn_pattern.specs.Graph.{row}
@@ -97,25 +98,17 @@ pub any_front : {X : Type 0} (p : X → Bool) (xs ys : List X) → list_any p xs
 any_front p [] ys e = cc
 any_front p (x ∷ xs) ys e = any_at (p x) (list_any p xs) (list_any p (xs ++ ys)) e (any_front p xs ys)
 
-or_false_same : (a b : Bool) → a ≡ false → b ≡ false → (a || b) ≡ false
-or_false_same true b e f = e
-or_false_same false b e f = f
-
 any_behind_at : (a b c : Bool) → (a || b) ≡ false → (b ≡ false → c ≡ false) → (a || c) ≡ false
 any_behind_at true b c e f = e
 any_behind_at false b c e f = f e
 
-pub or_true : (a b : Bool) → b ≡ true → (a || b) ≡ true
-or_true true b e = refl
-or_true false b e = e
-
 any_behind : {X : Type 0} (p : X → Bool) (xs : List X) (x : X) → list_any p xs ≡ false → p x ≡ false → list_any p (xs ++ x ∷ []) ≡ false
-any_behind p [] x e f = or_false_same (p x) false f refl
+any_behind p [] x e f = or_from (p x) false f refl
 any_behind p (y ∷ xs) x e f = any_behind_at (p y) (list_any p xs) (list_any p (xs ++ x ∷ [])) e (λ g. any_behind p xs x g f)
 
 pub any_last : {X : Type 0} (p : X → Bool) (xs : List X) (x : X) → p x ≡ true → list_any p (xs ++ x ∷ []) ≡ true
 any_last p [] x f = ap (λ b. b || false) f
-any_last p (y ∷ xs) x f = or_true (p y) (list_any p (xs ++ x ∷ [])) (any_last p xs x f)
+any_last p (y ∷ xs) x f = or_right (p y) (list_any p (xs ++ x ∷ [])) (any_last p xs x f)
 
 pub any_more : {X : Type 0} (p : X → Bool) (xs : List X) (i : ℕ) (x : X) → i < length xs → ((d : X) → get_or xs i d ≡ x) → list_any p (take i xs) ≡ false → p x ≡ false → list_any p (take (i + 1) xs) ≡ false
 any_more p xs i x l e h f = ap (list_any p) (take_more xs i x l ∙ ap (λ y. take i xs ++ y ∷ []) (e x)) ∙ any_behind p (take i xs) x h f

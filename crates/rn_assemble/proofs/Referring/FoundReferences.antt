@@ -19,7 +19,7 @@ use Rattle.rn_syntax.specs.View.{pattern_view}
 use Rattle.rn_assemble.specs.Resolve.{resolved_pattern}
 use Rattle.rn_assemble.specs.Components.{Key, name_key, same_key, Component}
 use Rattle.rn_assemble.specs.Combine.{bodies, of_key, method_node, joined_pattern, joined_grammar}
-use Rattle.rn_assemble.specs.inside.Keyed.{IsNumber, key_at}
+use Rattle.rn_assemble.specs.inside.Keyed.{IsNameNumber, key_at}
 use Rattle.rn_assemble.specs.inside.Listed.{Live, IsBody, IsLive, ListsBy, components_in}
 use Rattle.rn_assemble.specs.inside.Referred.{AreBodiesAt, names_within, references, references_at, within}
 use Rattle.rn_assemble.specs.declared.references.Reach.{Reach}
@@ -27,7 +27,7 @@ use Rattle.rn_assemble.specs.declared.references.Reach.TheVariants.{OutsideEleme
 use Rattle.rn_assemble.specs.declared.bodies.Body.{Body}
 use Rattle.rn_assemble.proofs.Combined.Combinations.{some_joined, joined_definition}
 use Rattle.rn_assemble.proofs.Expansion.LiveLists.{each_filtered}
-use Rattle.rn_assemble.proofs.Referring.Numbers.{key_text, same_key-Decides}
+use Rattle.rn_assemble.proofs.Referring.KeyNumbers.{key_text, same_key-Decides}
 use Rattle.rn_assemble.proofs.Joining.KeyedBodies.{IsKeyed, of_key_at}
 
 -- ---- elements of mapped and filtered lists
@@ -197,7 +197,7 @@ module _ (names : List Text) (bs : List Body) (list : List ℕ) where
     bodies_defined : (x : Text) → 0 < length (bodies (name_key x) cs) → IsDefined x
     bodies_defined x h = subst (λ (o : Option Tree). IsSome o) (sym (joined_definition cs x)) (at_some (method_node (name_key x) cs) (bodies (name_key x) cs) h)
 
-    same_count : (x : Text) (n : ℕ) → IsNumber names x n → length (row rows n) ≡ length (bodies (name_key x) cs)
+    same_count : (x : Text) (n : ℕ) → IsNameNumber names x n → length (row rows n) ≡ length (bodies (name_key x) cs)
     same_count x n i =
         let f = λ (e : Live). e.place in
         let g = λ (e : Live). e.component in
@@ -205,7 +205,7 @@ module _ (names : List Text) (bs : List Body) (list : List ℕ) where
         ap length (row_is n i.within) ∙ length-map (of_number n) f ∙ sym (length-map (of_number n) g) ∙ sym (length-map (components_in (of_number n)) b)
         ∙ sym (ap length (bodies_are n i.within)) ∙ ap (λ k. length (bodies k cs)) i.is
 
-    pub number_defined : (x : Text) (n size : ℕ) → IsNumber names x n → size ≡ length (row rows n) → Decides (ltb 0 size) (IsDefined x)
+    pub number_defined : (x : Text) (n size : ℕ) → IsNameNumber names x n → size ≡ length (row rows n) → Decides (ltb 0 size) (IsDefined x)
     number_defined x n size i e = at (ltb 0 size) refl
       where
         count : size ≡ length (bodies (name_key x) cs)

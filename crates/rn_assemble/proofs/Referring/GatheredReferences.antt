@@ -16,7 +16,7 @@ use Rattle.rn_pattern.proofs.Graphs.FirstLoop.{source_within}
 use Rattle.rn_pattern.proofs.Graphs.BuiltRows.{row_before, row_behind}
 use Rattle.rn_assemble.specs.Components.{name_key, Component}
 use Rattle.rn_assemble.specs.Combine.{bodies, joined_pattern, joined_grammar, defined_names}
-use Rattle.rn_assemble.specs.inside.Keyed.{IsNumber, key_at}
+use Rattle.rn_assemble.specs.inside.Keyed.{IsNameNumber, key_at}
 use Rattle.rn_assemble.specs.Least.{IsLeast}
 use Rattle.rn_assemble.specs.inside.Listed.{Live, ListsBy, components_in}
 use Rattle.rn_assemble.specs.inside.Referred.{AreAllReferences, AreBodiesAt, AreNumbers, IsLeastOf, names_within, references_at}
@@ -29,8 +29,8 @@ use Rattle.rn_assemble.proofs.Referring.FoundReferences.{map_contained, has_live
 
 -- the row of a key has the numbers of the names among those that are referred to
 pub record RowOf (R : Text → Tree → Type 0) (names : List Text) (cs : List Component) (k : ℕ) (r : List ℕ) : Type 0 where
-  pub only : (m : ℕ) → Contains r m → (x : Text) × IsNumber names x m × R x (joined_pattern cs (key_at names k))
-  pub all : (x : Text) → R x (joined_pattern cs (key_at names k)) → Contains names x → (m : ℕ) × IsNumber names x m × Contains r m
+  pub only : (m : ℕ) → Contains r m → (x : Text) × IsNameNumber names x m × R x (joined_pattern cs (key_at names k))
+  pub all : (x : Text) → R x (joined_pattern cs (key_at names k)) → Contains names x → (m : ℕ) × IsNameNumber names x m × Contains r m
 
 pub row_of : (R : Text → Tree → Type 0) (names texts : List Text) (cs : List Component) (k : ℕ) (r : List ℕ) → AreNumbers names texts r → ((y : Text) → Contains texts y ↔ R y (joined_pattern cs (key_at names k))) → RowOf R names cs k r
 row_of R names texts cs k r a h = record {

@@ -20,8 +20,8 @@ use Rattle.indexmap.proofs.CallerLemmas.{Contains-insert_key}
 use Rattle.rn_text.specs.Texts.{Text, text_cmp}
 use Rattle.rn_pattern.proofs.Ordered.InOrder.{contains_front, contains_behind, contains_cases}
 use Rattle.rn_assemble.specs.Components.{name_key}
-use Rattle.rn_assemble.specs.inside.Keyed.{IsNumber}
-use Rattle.rn_assemble.proofs.Referring.Named.{in_order_mapped, mapped, unmapped}
+use Rattle.rn_assemble.specs.inside.Keyed.{IsNameNumber}
+use Rattle.rn_assemble.proofs.Referring.NamedLists.{in_order_mapped, mapped, unmapped}
 
 -- ---- the texts that are inserted in turn
 
@@ -95,14 +95,14 @@ module _ {X : Type 0} (f : X → Text) where
   at_text [] t i l h = absurd (omega (arith, l))
   at_text (x ∷ xs) t i l h = get_or-map f (x ∷ xs) i x [] l ∙ h x
 
-  number_at : (xs : List X) (t : Text) (i : ℕ) → i < length xs → ((d : X) → f (get_or xs i d) ≡ t) → IsNumber (map f xs) t (i + 1)
+  number_at : (xs : List X) (t : Text) (i : ℕ) → i < length xs → ((d : X) → f (get_or xs i d) ≡ t) → IsNameNumber (map f xs) t (i + 1)
   number_at xs t i l h = record {
     above = omega arith;
     within = omega (arith, l, length-map xs f);
     is = rw add-one (ap name_key (at_text xs t i l h));
   }
 
-  pub number_of_place : (xs : List X) (t : Text) (i : ℕ) → position (λ x. bytes_eq t (f x)) xs ≡ Some i → IsNumber (map f xs) t (i + 1)
+  pub number_of_place : (xs : List X) (t : Text) (i : ℕ) → position (λ x. bytes_eq t (f x)) xs ≡ Some i → IsNameNumber (map f xs) t (i + 1)
   number_of_place [] t i e = cc
   number_of_place (x ∷ xs) t i e =
       let is : X → Bool = λ y. bytes_eq t (f y) in

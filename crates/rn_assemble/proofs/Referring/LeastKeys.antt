@@ -18,7 +18,7 @@ use Rattle.rn_assemble.specs.inside.Listed.{Live, ListsBy, components_in}
 use Rattle.rn_assemble.specs.inside.Methods.{IsLeastNumber}
 use Rattle.rn_assemble.proofs.Referring.FoundReferences.{all_keyed}
 use Rattle.rn_assemble.proofs.Joining.KeyedBodies.{IsKeyed}
-use Rattle.rn_assemble.proofs.Referring.Numbers.{same_key-Decides}
+use Rattle.rn_assemble.proofs.Referring.KeyNumbers.{same_key-Decides}
 use Rattle.rn_assemble.proofs.Joining.UsedMethods.{row_size}
 
 -- a key of a live component has a number

@@ -14,14 +14,14 @@ use Rattle.rn_pattern.specs.Graph.{AllBelow}
 use Rattle.rn_pattern.proofs.Graphs.BuiltRows.{below_push}
 use Rattle.rn_assemble.specs.Combine.{joined_grammar}
 use Rattle.rn_assemble.specs.inside.Listed.{components_in}
-use Rattle.rn_assemble.specs.inside.Keyed.{IsFound, IsNumber}
+use Rattle.rn_assemble.specs.inside.Keyed.{IsFound, IsNameNumber}
 use Rattle.rn_assemble.specs.inside.Referred.{AreNumbers, IsLeastOf, KeepsLeast, lesser_text, names_within, number_within, reference_view, within}
 use Rattle.rn_assemble.specs.inside.Views.{texts_of}
 use Rattle.rn_assemble.specs.declared.components.Components.{Components}
 use Rattle.rn_assemble.specs.declared.references.Reach.{Reach}
 use Rattle.rn_assemble.specs.declared.references.Reach.TheVariants.{Everywhere, OutsideElements}
 use Rattle.rn_assemble.specs.declared.references.Reference.{Reference}
-use Rattle.rn_assemble.proofs.Referring.Numbers.{not_itself}
+use Rattle.rn_assemble.proofs.Referring.KeyNumbers.{not_itself}
 
 -- what is read where there is no text
 abbrev pub no_text : Bor (List ℕ)
@@ -87,10 +87,10 @@ module _ (G : Grammar) where
   least_more xs (Some z) x d h = lesser_at xs z x (text_cmp x z) refl (is_none (definition_of G x) d) h
 
 module _ (names texts : List Text) (numbers : List ℕ) (x : Text) (a : AreNumbers names texts numbers) where
-  number_more : (k : ℕ) → IsNumber names x k → AreNumbers names (texts ++ x ∷ []) (numbers ++ k ∷ [])
+  number_more : (k : ℕ) → IsNameNumber names x k → AreNumbers names (texts ++ x ∷ []) (numbers ++ k ∷ [])
   number_more k i = record {
-    only = λ m c. ⊎_elim (λ h. let y = a.only m h in (y.0, Contains-append_left texts (x ∷ []) y.0 y.1, y.2)) (λ e. (x, Contains-push texts x, subst (IsNumber names x) e i)) (Contains-push_cases numbers k m c);
-    all = λ y c n. ⊎_elim (λ h. let m = a.all y h n in (m.0, m.1, Contains-append_left numbers (k ∷ []) m.0 m.2)) (λ e. (k, subst (λ z. IsNumber names z k) e i, Contains-push numbers k)) (Contains-push_cases texts x y c);
+    only = λ m c. ⊎_elim (λ h. let y = a.only m h in (y.0, Contains-append_left texts (x ∷ []) y.0 y.1, y.2)) (λ e. (x, Contains-push texts x, subst (IsNameNumber names x) e i)) (Contains-push_cases numbers k m c);
+    all = λ y c n. ⊎_elim (λ h. let m = a.all y h n in (m.0, m.1, Contains-append_left numbers (k ∷ []) m.0 m.2)) (λ e. (k, subst (λ z. IsNameNumber names z k) e i, Contains-push numbers k)) (Contains-push_cases texts x y c);
   }
 
   number_none : ¬ Contains names x → AreNumbers names (texts ++ x ∷ []) numbers

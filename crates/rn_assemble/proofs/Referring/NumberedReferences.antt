@@ -14,9 +14,9 @@ use Rattle.rn_pattern.specs.Ranks.{Leads, by_edge, and_edge, HasNoLoop, IsFirstL
 use Rattle.rn_pattern.proofs.Graphs.FirstLoop.{source_within}
 use Rattle.rn_assemble.specs.Components.{name_key, Component}
 use Rattle.rn_assemble.specs.Combine.{joined_pattern, joined_grammar}
-use Rattle.rn_assemble.specs.inside.Keyed.{IsNumber, key_at}
+use Rattle.rn_assemble.specs.inside.Keyed.{IsNameNumber, key_at}
 use Rattle.rn_assemble.specs.inside.Referred.{AreAllReferences, IsLeastRecursive}
-use Rattle.rn_assemble.proofs.Referring.Numbers.{same_name, names_rise, not_itself, same_number}
+use Rattle.rn_assemble.proofs.Referring.KeyNumbers.{same_name, names_rise, not_itself, same_number}
 use Rattle.rn_assemble.proofs.Expansion.LongerPaths.{lead_first, reach_last}
 use Rattle.rn_assemble.proofs.Referring.GatheredReferences.{some_definition}
 use Rattle.rn_assemble.proofs.Referring.JoinedReferences.{refers_in_definition, definition_refers_to, outside_in_definition, definition_refers_outside, outside_anywhere}
@@ -30,7 +30,7 @@ module _ (names : List Text) (sorted : IsStrictlySortedBy text_cmp names) (cs : 
   body_of y p x e h = definition_refers_to x cs y (subst (λ o. IsSomeAnd o (RefersTo x)) (sym e) h)
 
   abbrev Found : Text → Type 0
-  Found x = (n : ℕ) × IsNumber names x n × Reached all (row all 0) n
+  Found x = (n : ℕ) × IsNameNumber names x n × Reached all (row all 0) n
 
   pub found : (x : Text) → IsReached G x → Found x
   found x (by_start h) = let m = refs.anywhere.all 0 x (omega arith) h in (m.0, m.1, at_first m.2)
@@ -39,7 +39,7 @@ module _ (names : List Text) (sorted : IsStrictlySortedBy text_cmp names) (cs : 
       let m = refs.anywhere.all n.0 x n.1.within (subst (λ k. RefersTo x (joined_pattern cs k)) (sym n.1.is) (body_of y p x e h)) in
       (m.0, m.1, along n.2 m.2)
 
-  pub reached : (n : ℕ) → Reached all (row all 0) n → (x : Text) × IsNumber names x n × IsReached G x
+  pub reached : (n : ℕ) → Reached all (row all 0) n → (x : Text) × IsNameNumber names x n × IsReached G x
   reached n (at_first c) = let x = refs.anywhere.only 0 n c in (x.0, x.1, by_start x.2)
   reached m (along {x = n} {y = k} r c) =
       let y = reached n r in
@@ -56,22 +56,22 @@ module _ (names : List Text) (sorted : IsStrictlySortedBy text_cmp names) (cs : 
 
   -- ---- steps outside elements
 
-  step : (a b : Text) (n : ℕ) → IsNumber names a n → IsSomeAnd (definition_of G a) (RefersOutside b) → (m : ℕ) × IsNumber names b m × Contains (row outer n) m
+  step : (a b : Text) (n : ℕ) → IsNameNumber names a n → IsSomeAnd (definition_of G a) (RefersOutside b) → (m : ℕ) × IsNameNumber names b m × Contains (row outer n) m
   step a b n i h = refs.outside.all n b i.within (subst (λ k. RefersOutside b (joined_pattern cs k)) (sym i.is) (definition_refers_outside b cs a h))
 
-  back : (a : Text) (n m : ℕ) → IsNumber names a n → Contains (row outer n) m → (b : Text) × IsNumber names b m × IsSomeAnd (definition_of G a) (RefersOutside b)
+  back : (a : Text) (n m : ℕ) → IsNameNumber names a n → Contains (row outer n) m → (b : Text) × IsNameNumber names b m × IsSomeAnd (definition_of G a) (RefersOutside b)
   back a n m i c =
       let b = refs.outside.only n m c in
       (b.0, b.1, outside_in_definition b.0 cs a (subst (λ k. RefersOutside b.0 (joined_pattern cs k)) i.is b.2))
 
-  pub leads : (a b : Text) (n : ℕ) → IsNumber names a n → LeadsTo G a b → (m : ℕ) × IsNumber names b m × Leads outer n m
+  pub leads : (a b : Text) (n : ℕ) → IsNameNumber names a n → LeadsTo G a b → (m : ℕ) × IsNameNumber names b m × Leads outer n m
   leads a b n i (by_one s) = let m = step a b n i s in (m.0, m.1, by_edge m.2)
   leads a c n i (by_more {a = p} {b = b} {c = q} s r) =
       let m = step a b n i s in
       let l = leads b c m.0 m.1 r in
       (l.0, l.1, lead_first m.2 l.2)
 
-  pub leads_to : (n m : ℕ) (a : Text) → IsNumber names a n → Leads outer n m → (b : Text) × IsNumber names b m × LeadsTo G a b
+  pub leads_to : (n m : ℕ) (a : Text) → IsNameNumber names a n → Leads outer n m → (b : Text) × IsNameNumber names b m × LeadsTo G a b
   leads_to n m a i (by_edge c) = let b = back a n m i c in (b.0, b.1, by_one b.2)
   leads_to n m a i (and_edge {x = x} {y = k} {z = z} l c) =
       let b = leads_to n k a i l in
@@ -103,14 +103,14 @@ module _ (names : List Text) (sorted : IsStrictlySortedBy text_cmp names) (cs : 
     leads_kept r (and_edge {x = n} {y = k} {z = m} l c) = let i = leads_kept r l in (and_edge i.0 (edge_kept k m i.1 c), along i.1 (inner k m (in_range k m c) c))
 
     -- a number on a loop is that of a recursive name
-    recursive_at : (n : ℕ) → Leads kept n n → (x : Text) × IsNumber names x n × IsRecursive G x
+    recursive_at : (n : ℕ) → Leads kept n n → (x : Text) × IsNameNumber names x n × IsRecursive G x
     recursive_at n l =
         let k = kept_leads l in
         let x = reached n k.0 in
         let b = leads_to n n x.0 x.1 k.1 in
         (x.0, x.1, (x.2, subst (LeadsTo G x.0) (same_name names b.0 x.0 n b.1 x.1) b.2))
 
-    loop_of : (x : Text) → IsRecursive G x → (n : ℕ) × IsNumber names x n × Leads kept n n
+    loop_of : (x : Text) → IsRecursive G x → (n : ℕ) × IsNameNumber names x n × Leads kept n n
     loop_of x r =
         let n = found x r.0 in
         let m = leads x x n.0 n.1 r.1 in
@@ -130,11 +130,11 @@ module _ (names : List Text) (sorted : IsStrictlySortedBy text_cmp names) (cs : 
           },
         )
       where
-        least_at : (y : Text) (m : ℕ) → IsNumber names y m → Leads kept m m → (x : Text) → IsNumber names x n → text_cmp y x ≡ Less → ⊥
+        least_at : (y : Text) (m : ℕ) → IsNameNumber names y m → Leads kept m m → (x : Text) → IsNameNumber names x n → text_cmp y x ≡ Less → ⊥
         least_at y m i k x j l = elim (cases_lt m n) [
           | inl lt ↦ h.least m lt k
           | inr ge ↦ elim (cases_eq m n) [
-            | inl e ↦ not_itself x (subst (λ z. text_cmp z x ≡ Less) (same_name names y x n (subst (IsNumber names y) e i) j) l)
+            | inl e ↦ not_itself x (subst (λ z. text_cmp z x ≡ Less) (same_name names y x n (subst (IsNameNumber names y) e i) j) l)
             | inr ne ↦ text_no_less x y (names_rise names sorted x y n m j i (omega (arith, ge, ne))) l
           ]
         ]

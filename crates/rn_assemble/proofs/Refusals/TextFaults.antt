@@ -1,5 +1,5 @@
 -- The first fault of a text, by what was read of it.
-use Rattle.std.proofs.Common.{◌≡◌, ◌≢◌, ℕ, ◌+◌, ◌<◌, true, false, List, [], ◌∷◌, ◌++◌, Option, Some, None, IfSome, MatchOption, is_some, map, refl, sym, ap, ◌∙◌, subst, arith, append-nil, append_assoc}
+use Rattle.std.proofs.Common.{◌≡◌, ◌≢◌, ℕ, ◌+◌, ◌<◌, true, false, List, [], ◌∷◌, Option, Some, None, IfSome, MatchOption, is_some, map, refl, sym, ap, ◌∙◌, subst, arith}
 use Rattle.std.specs.Str.{IsUtf8, chars}
 use Rattle.rn_text.specs.Tokens.{Lexeme, HasTokens, IsLexicalPlace, lexeme_of}
 use Rattle.rn_text.specs.declared.source.Token.{Token}
@@ -13,10 +13,11 @@ use Rattle.rn_syntax.specs.declared.fault.SyntaxFault.TheVariants as s
 use Rattle.rn_syntax.specs.Tree.{Module}
 use Rattle.rn_syntax.specs.Grammar.{Tokens}
 use Rattle.rn_syntax.specs.Tokens.{terminals}
-use Rattle.rn_syntax.specs.Beginnings.{HasTree, IsRefused, Stops}
+use Rattle.rn_syntax.specs.Beginnings.{HasTree, Stops}
 use Rattle.rn_syntax.specs.Faults.{kind_rank, kind_places, kind_and_place, HasNoFault, IsFirstOfKinds, IsFault}
 use Rattle.rn_syntax.specs.Places.{deep, first}
 use Rattle.rn_syntax.proofs.FaultPlaces.FaultKinds as of_kinds
+use Rattle.rn_syntax.proofs.FaultPlaces.OneFault.{no_tree}
 use Rattle.rn_syntax.proofs.OneReading.OneTree.{one_tree}
 use Rattle.rn_syntax.proofs.TokenKinds.SourceTokens.{tokens_are_spelled}
 use Rattle.rn_assemble.specs.declared.refusal.Refusal as code
@@ -36,14 +37,6 @@ some_there (i ∷ is) at e h = cc
 
 nowhere : (at : ℕ) → ¬ (first [] ≡ Some at)
 nowhere at e = cc
-
--- tokens that stop to begin a module have no tree
-refused_tree : (front bad : Tokens) → IsRefused front bad → (m : Module) → ¬ HasTree (front ++ bad) m
-refused_tree front [] refused m h = refused m (subst (λ (ts : Tokens). HasTree ts m) (append-nil front) h)
-refused_tree front (x ∷ more) refused m h = refused (more, m, subst (λ (ts : Tokens). HasTree ts m) (sym (append_assoc front (x ∷ []) more)) h)
-
-no_tree : (ts bad : Tokens) → Stops ts bad → (m : Module) → ¬ HasTree ts m
-no_tree ts bad stops m h = refused_tree stops.front bad stops.refused m (subst (λ (us : Tokens). HasTree us m) stops.cut h)
 
 module _ (text : Text) where
   -- the text has none of the first n kinds of faults

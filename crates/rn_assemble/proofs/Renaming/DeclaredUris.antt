@@ -1,10 +1,11 @@
 -- The URIs that declarations and modules name, gathered one after the other.
-use Rattle.std.proofs.Common.{◌≡◌, ◌<◌, ◌+◌, ℕ, zero, suc, arith, Bool, true, false, ◌||◌, List, [], ◌∷◌, ◌++◌, map, take, length, get_or, flat_map, refl, sym, ap, ◌∙◌, subst, append_assoc, append-nil}
+use Rattle.std.proofs.Common.{◌≡◌, ◌<◌, ◌+◌, ℕ, zero, suc, arith, Bool, true, ◌||◌, List, [], ◌∷◌, ◌++◌, map, take, length, get_or, flat_map, refl, sym, ap, ◌∙◌, subst, append_assoc, append-nil}
 use Rattle.std.specs.Prelude.{OnOk, Result, Ok, Err}
 use Rattle.std.specs.BTreeSet.{BTreeSet, insert_key}
 use Rattle.std.specs.Borrow.{Bor}
 use Rattle.std.specs.List.{list_any}
 use Rattle.std.specs.declared.cmp.Ordering.{Ordering}
+use Rattle.std.proofs.lemmas.Bool.{or_right}
 use Rattle.std.proofs.lemmas.Grind.{flat_map-append}
 use Rattle.std.proofs.lemmas.List.{take_more, map-append}
 use Rattle.std.proofs.lemmas.List.Folds.{list_any-append}
@@ -40,8 +41,4 @@ found_in f view p [] i x l e h = absurd (omega (arith, l))
 found_in f view p (y ∷ ys) zero x l e h =
     list_any-append p (f (view y)) (flat_map f (map view ys)) ∙ ap (λ b. b || list_any p (flat_map f (map view ys))) (ap (λ z. list_any p (f (view z))) (sym e) ∙ h)
 found_in f view p (y ∷ ys) (suc i) x l e h =
-    list_any-append p (f (view y)) (flat_map f (map view ys)) ∙ ap (λ b. list_any p (f (view y)) || b) (found_in f view p ys i x (omega (arith, l)) e h) ∙ or_true (list_any p (f (view y)))
-  where
-    or_true : (b : Bool) → (b || true) ≡ true
-    or_true true = refl
-    or_true false = refl
+    list_any-append p (f (view y)) (flat_map f (map view ys)) ∙ ap (λ b. list_any p (f (view y)) || b) (found_in f view p ys i x (omega (arith, l)) e h) ∙ or_right (list_any p (f (view y))) true refl

@@ -21,8 +21,8 @@ use Rattle.rn_assemble.specs.ShortTexts.{ShortTexts, IsKnown, IsTable, long_gram
 use Rattle.rn_assemble.specs.inside.Covered.{swapped}
 use Rattle.rn_assemble.specs.WritableTexts.{IsXml}
 use Rattle.rn_assemble.proofs.Combined.Combinations.{same_text}
-use Rattle.rn_assemble.proofs.Combined.Joined.{differ}
-use Rattle.rn_assemble.proofs.Referring.Named.{mapped, rise_at, unmapped}
+use Rattle.rn_assemble.proofs.Combined.PlainComponents.{differ}
+use Rattle.rn_assemble.proofs.Referring.NamedLists.{mapped, rise_at, unmapped}
 
 -- ---- entries by their places
 

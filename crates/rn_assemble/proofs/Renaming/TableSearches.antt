@@ -13,7 +13,7 @@ use Rattle.rn_assemble.specs.ShortTexts.{short_entry}
 use Rattle.rn_assemble.specs.inside.Covered.{swapped}
 use Rattle.rn_assemble.specs.declared.short_uris.ShortUri.{ShortUri}
 use Rattle.rn_assemble.proofs.Referring.LeastUndefined.{is_none}
-use Rattle.rn_assemble.proofs.Referring.Named.{place_of}
+use Rattle.rn_assemble.proofs.Referring.NamedLists.{place_of}
 use Rattle.rn_assemble.proofs.Renaming.ShortTables.{apart}
 
 abbrev Ascends : List Text → Type 0

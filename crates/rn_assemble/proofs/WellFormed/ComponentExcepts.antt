@@ -1,8 +1,8 @@
 -- The components of modules in which no except is at fault have excepts that are allowed.
-use Rattle.std.proofs.Common.{◌≡◌, ℕ, zero, suc, Bool, true, false, ◌&&◌, not, cond, List, [], ◌∷◌, filter, refl, Some, None}
+use Rattle.std.proofs.Common.{◌≡◌, ℕ, zero, suc, Bool, true, false, not, cond, List, [], ◌∷◌, filter, refl, Some, None}
 use Rattle.std.specs.Prelude.{⊤, bytes_eq}
 use Rattle.std.specs.List.{AllByRecursion}
-use Rattle.std.proofs.lemmas.Bool.{false≢true}
+use Rattle.std.proofs.lemmas.Bool.{and_parts, false≢true}
 use Rattle.rn_text.specs.Texts.{Text}
 use Rattle.rn_pattern.specs.Excepts.{IsExcept, AreExcepts, HasExcepts, HaveExcepts}
 use Rattle.rn_pattern.proofs.Ordered.Ascending.{each_append, each_flat}
@@ -32,10 +32,6 @@ allowed_at : (b : Bool) (i : ℕ) → place_if (not b) i ≡ [] → b ≡ true
 allowed_at true i e = refl
 allowed_at false i e = cc
 
-both_true : (a b : Bool) → (a && b) ≡ true → (a ≡ true) × (b ≡ true)
-both_true true b e = (refl, e)
-both_true false b e = absurd (false≢true e)
-
 module _ (inherited : Text) (ds : List Declaration) where
   mutual
     resolved_except : (p : Pattern) → is_allowed p ≡ true → places p ≡ [] → IsExcept (resolved_pattern inherited ds p)
@@ -50,7 +46,7 @@ module _ (inherited : Text) (ds : List Declaration) where
     resolved_excepts : (ps : Patterns) → are_allowed ps ≡ true → all_places ps ≡ [] → AreExcepts (resolved_patterns inherited ds ps)
     resolved_excepts t.no_patterns e h = tt
     resolved_excepts (t.pattern p ps) e h =
-        let allowed = both_true (is_allowed p) (are_allowed ps) e in
+        let allowed = and_parts (is_allowed p) (are_allowed ps) e in
         let both = nil_parts (places p) (all_places ps) h in
         (resolved_except p allowed.0 both.0, resolved_excepts ps allowed.1 both.1)
 

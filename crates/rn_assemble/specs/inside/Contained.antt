@@ -8,7 +8,7 @@ use Rattle.rn_syntax.specs.Tree.{Item, Items, Pattern, includes}
 use Rattle.rn_assemble.specs.Components.{Key, start_key, name_key, NamedModule}
 
 -- a component as it is written
-pub record Written : Type 0 where
+pub record WrittenComponent : Type 0 where
   pub key : Key
   pub method : Method
   pub pattern : Pattern
@@ -25,13 +25,13 @@ abbrev pub place_in : List NamedModule → Text → Option ℕ
 place_in modules x = position_from (λ (m : NamedModule). bytes_eq x m.name) 0 modules
 
 abbrev mutual
-  pub item_written_components : Item → List Written
+  pub item_written_components : Item → List WrittenComponent
   item_written_components (t.define x m p) = record { key = name_key x; method = m; pattern = p } ∷ []
   item_written_components (t.start m p) = record { key = start_key; method = m; pattern = p } ∷ []
   item_written_components (t.div xs) = written_components xs
   item_written_components (t.include wanted inherit xs) = written_components xs
 
-  pub written_components : Items → List Written
+  pub written_components : Items → List WrittenComponent
   written_components t.no_items = []
   written_components (t.item x xs) = item_written_components x ++ written_components xs
 

@@ -4,7 +4,7 @@ use Rattle.std.specs.Rc.{rc_str_bytes}
 use Rattle.std.specs.List.{AllByRecursion, list_any}
 use Rattle.std.specs.List.Sorted.{IsStrictlySortedBy}
 use Rattle.rn_text.specs.Texts.{Text, text_cmp}
-use Rattle.rn_assemble.specs.declared.contents.Component as code
+use Rattle.rn_assemble.specs.declared.contents.WrittenComponent as code
 use Rattle.rn_assemble.specs.declared.contents.Contents.{Contents}
 use Rattle.rn_assemble.specs.declared.contents.Include.{Include}
 use Rattle.rn_assemble.specs.declared.bodies.Body.{Body}
@@ -13,11 +13,11 @@ use Rattle.rn_pattern.specs.Graph.{AllBelow}
 use Rattle.rn_syntax.specs.Tree.{Declaration}
 use Rattle.rn_syntax.specs.View.{prefix_view}
 use Rattle.rn_assemble.specs.declared.components.MetContext.{MetContext}
-use Rattle.rn_assemble.specs.inside.Bound.{BindsAs}
+use Rattle.rn_assemble.specs.inside.ContextBindings.{BindsAs}
 use Rattle.rn_assemble.specs.inside.Views.{IsNumbered}
 use Rattle.rn_assemble.specs.Components.{Component, NamedModule, components_within, handed_on}
 use Rattle.rn_assemble.specs.inside.Contained.{AreFlat}
-use Rattle.rn_assemble.specs.inside.Listed.{AreContents, Live, Lists, Rises, components_in}
+use Rattle.rn_assemble.specs.inside.Listed.{AreContents, Live, Lists, PlacesRise, components_in}
 
 -- only bodies and contexts may change
 pub record KeepsLists (old new : Components) : Type 0 where
@@ -33,15 +33,15 @@ pub record KeepsBodies (old new : Components) : Type 0 where
 -- the bodies from a number on are those of the module's components under the inherited namespace
 pub record StartsAt (bodies : List Body) (first : ℕ) (content : Contents) (inherited : Text) : Type 0 where
   pub within : first + length content.components.items ≤ length bodies
-  pub component : (i : ℕ) (d : Body) (e : code.Component) → i < length content.components.items → (slice_index_or bodies (first + i) d).component ≡ slice_index_or content.components.items i e
+  pub component : (i : ℕ) (d : Body) (e : code.WrittenComponent) → i < length content.components.items → (slice_index_or bodies (first + i) d).component ≡ slice_index_or content.components.items i e
   pub bindings : (i : ℕ) (d : Body) → i < length content.components.items → (slice_index_or bodies (first + i) d).context.bindings.now ≡ content.bindings
   pub inherited_is : (i : ℕ) (d : Body) → i < length content.components.items → rc_str_bytes (slice_index_or bodies (first + i) d).context.inherited.now ≡ inherited
 
--- these components were added behind the live ones, at new places
+-- the components cs were added behind the live ones, at new places
 pub record AddsLive (names : List Text) (old new : Components) (live : List Live) (cs : List Component) : Type 0 where
   pub added : List Live
   pub lists : Lists names new (live ++ added)
-  pub rises : Rises (length old.list) added
+  pub rises : PlacesRise (length old.list) added
   pub longer : length old.list ≤ length new.list
   pub are : components_in added ≡ cs
 
@@ -55,30 +55,30 @@ pub record CanAdd (names : List Text) (x : Components) (live : List Live) (conte
   pub within : to ≤ length content.components.items
 
 -- the element at a place of a list
-pub record IsItem (contents : List Contents) (i : ℕ) (content : Contents) : Type 0 where
+pub record IsContentAt (contents : List Contents) (i : ℕ) (content : Contents) : Type 0 where
   pub within : i < length contents
   pub is : (d : Contents) → slice_index_or contents i d ≡ content
 
 -- each context that was met has its bodies
 abbrev pub ContextHolds : List Contents → List Body → MetContext → Type 0
-ContextHolds contents bodies q = (content : Contents) → IsItem contents q.module content → StartsAt bodies q.first content (rc_str_bytes q.inherited.now)
+ContextHolds contents bodies q = (content : Contents) → IsContentAt contents q.module content → StartsAt bodies q.first content (rc_str_bytes q.inherited.now)
 
 abbrev pub ContextsHold : List Contents → Components → Type 0
 ContextsHold contents x = AllByRecursion (ContextHolds contents x.bodies) x.contexts.items
 
--- the bodies of the content are there
+-- the bodies of the content begin at the number, and earlier ones are as they were
 pub record Enters (contents : List Contents) (old new : Components) (first : ℕ) (content : Contents) (inherited : Text) : Type 0 where
   pub starts : StartsAt new.bodies first content inherited
   pub contexts : ContextsHold contents new
   pub grows : (more : List Body) × (new.bodies ≡ old.bodies ++ more)
 
 -- the include's own components
-abbrev pub own_components : Contents → Include → List code.Component
+abbrev pub own_components : Contents → Include → List code.WrittenComponent
 own_components content include = slice_range content.components.items include.from include.to
 
--- without the components of the keys of these
-abbrev pub left_by : List code.Component → List Live → List Live
-left_by own es = filter (λ (e : Live). not (list_any (λ (c : code.Component). e.key == c.key) own)) es
+-- the live components whose keys are none of the keys of own
+abbrev pub left_by : List code.WrittenComponent → List Live → List Live
+left_by own es = filter (λ (e : Live). not (list_any (λ (c : code.WrittenComponent). e.key == c.key) own)) es
 
 -- the name of a module by its place
 abbrev pub name_at : List NamedModule → ℕ → Text
@@ -111,7 +111,7 @@ pub record CanInclude (modules : List NamedModule) (names : List Text) (content 
   pub numbered : AllByRecursion (IsNumbered names) content.components.items
   pub binds : BindsAs content.bindings ds
 
--- these components were added
+-- the components cs were added, and each context that was met still has its bodies
 pub record Expands (names : List Text) (contents : List Contents) (old new : Components) (live : List Live) (cs : List Component) : Type 0 where
   pub adds : AddsLive names old new live cs
   pub contexts : ContextsHold contents new
@@ -140,7 +140,7 @@ abbrev pub OfExpanding : List Contents → Components → (List NamedModule → 
 OfExpanding contents x P = (modules : List NamedModule) (names : List Text) (live : List Live)
     → CanExpand modules names contents x live → P modules names live
 
--- the same with the declarations of the module, of which the include is
+-- P holds of the modules that have these contents, of the live components so far, and of the declarations of the module whose include it is
 abbrev pub OfIncluding : List Contents → Components → Contents → Include
     → (List NamedModule → List Text → List Live → List Declaration → Type 0) → Type 0
 OfIncluding contents x content include P = (modules : List NamedModule) (names : List Text) (live : List Live) (ds : List Declaration)

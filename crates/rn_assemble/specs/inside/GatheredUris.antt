@@ -10,6 +10,6 @@ use Rattle.rn_assemble.specs.inside.Views.{texts_of}
 abbrev pub AreGathered : List Text → BTreeSet (Bor Text) → Type 0
 AreGathered zs s = texts_of s.keys ≡ sorted_once text_cmp zs
 
--- it has these too, in addition to what it had
+-- the new set has these URIs in addition to those of the old one
 abbrev pub GathersUris : List Text → BTreeSet (Bor Text) → BTreeSet (Bor Text) → Type 0
 GathersUris us a b = (zs : List Text) → AreGathered zs a → AreGathered (zs ++ us) b

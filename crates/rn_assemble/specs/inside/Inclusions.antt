@@ -1,16 +1,11 @@
 -- The includes of modules by the modules' numbers (RELAX NG 2001, 4.7).
-use Rattle.std.specs.Prelude.{◌≡◌, ℕ, ◌<◌, ◌==◌, not, List, [], length, map, filter, flat_map, Contains, Option, Some, None}
+use Rattle.std.specs.Prelude.{◌≡◌, ℕ, ◌<◌, ◌==◌, not, List, [], length, map, filter, Contains, Option, Some, None}
 use Rattle.std.specs.List.{concat, list_any, range_with_len}
 use Rattle.rn_text.specs.Texts.{Text, text_cmp}
 use Rattle.rn_pattern.specs.Graph.{IsGraph, row}
-use Rattle.rn_assemble.specs.Components.{NamedModule, modules_named}
-use Rattle.rn_syntax.specs.Tree.{includes}
+use Rattle.rn_assemble.specs.Components.{NamedModule, included_by, modules_named}
 use Rattle.rn_assemble.specs.inside.Expanded.{name_at}
 use Rattle.rn_assemble.specs.Least.{IsLeast}
-
--- what the modules of this name include, in the order of the text
-abbrev pub included_by : List NamedModule → Text → List Text
-included_by modules x = flat_map (λ (m : NamedModule). includes m.tree.items) (modules_named x modules)
 
 -- the row of each module has the numbers of those that it includes, in the order of the text; none is missing
 pub record AreInclusions (modules : List NamedModule) (rows : List (List ℕ)) : Type 0 where

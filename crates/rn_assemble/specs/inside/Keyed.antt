@@ -24,7 +24,7 @@ pub record AreNames (modules : List NamedModule) (names : List Text) : Type 0 wh
   pub in_order : IsStrictlySortedBy text_cmp names
   pub defined : (x : Text) → Contains names x ↔ Contains (flat_map (λ (m : NamedModule). defines m.tree.items) modules) x
 
--- each of these is one of the names
+-- each of the texts is one of the names
 abbrev pub AreAmong : List Text → List Text → Type 0
 AreAmong names xs = AllByRecursion (Contains names) xs
 
@@ -34,7 +34,7 @@ key_at names zero = start_key
 key_at names (suc n) = name_key (slice_index_or names n [])
 
 -- the number is that of the name's key
-pub record IsNumber (names : List Text) (x : Text) (n : ℕ) : Type 0 where
+pub record IsNameNumber (names : List Text) (x : Text) (n : ℕ) : Type 0 where
   pub above : 0 < n
   pub within : n < suc (length names)
   pub is : key_at names n ≡ name_key x
@@ -42,4 +42,4 @@ pub record IsNumber (names : List Text) (x : Text) (n : ℕ) : Type 0 where
 -- the number of the name, where it is one of the names
 abbrev pub IsFound : List Text → Text → Option ℕ → Type 0
 IsFound names x None = ¬ Contains names x
-IsFound names x (Some n) = IsNumber names x n
+IsFound names x (Some n) = IsNameNumber names x n

@@ -11,9 +11,9 @@ use Rattle.rn_assemble.specs.declared.bodies.Body.{Body}
 use Rattle.rn_assemble.specs.declared.components.Components.{Components}
 use Rattle.rn_assemble.specs.declared.keys.Keys.{Keys}
 use Rattle.rn_assemble.specs.Resolve.{resolved_pattern}
-use Rattle.rn_assemble.specs.inside.Bound.{BindsAs}
+use Rattle.rn_assemble.specs.inside.ContextBindings.{BindsAs}
 use Rattle.rn_assemble.specs.Components.{Component, Key, NamedModule}
-use Rattle.rn_assemble.specs.inside.Contained.{Written, written_components, inclusions}
+use Rattle.rn_assemble.specs.inside.Contained.{WrittenComponent, written_components, inclusions}
 use Rattle.rn_assemble.specs.inside.Keyed.{key_at}
 use Rattle.rn_assemble.specs.inside.Views.{IsNumbered, inclusion_view, names_of, written_view}
 
@@ -28,7 +28,7 @@ abbrev pub AreContents : List NamedModule → List Text → List Contents → Ty
 AreContents modules names contents = AllZip (IsContents modules names) modules contents
 
 -- a written component with its names resolved
-abbrev pub resolved_component : Text → List Declaration → Written → Component
+abbrev pub resolved_component : Text → List Declaration → WrittenComponent → Component
 resolved_component inherited ds w = record { key = w.key; method = w.method; body = resolved_pattern inherited ds w.pattern }
 
 -- the components of the numbers from one to another, with their names resolved
@@ -55,12 +55,12 @@ module _ (names : List Text) (bodies : List Body) (list : List ℕ) where
     pub body_within : slice_index_or list e.place 0 < length bodies
     pub is : (d : Body) → IsBody names (slice_index_or bodies (slice_index_or list e.place 0) d) e.key e.component
 
--- places from n on, each above those before it
-abbrev pub Rises : ℕ → List Live → Type 0
-Rises n [] = ⊤
-Rises n (e ∷ es) = (n ≤ e.place) × Rises (suc e.place) es
+-- the places of live components are n or above, each above those before it
+abbrev pub PlacesRise : ℕ → List Live → Type 0
+PlacesRise n [] = ⊤
+PlacesRise n (e ∷ es) = (n ≤ e.place) × PlacesRise (suc e.place) es
 
--- all their places are below this one
+-- all live components stand before the place
 abbrev pub AreBefore : ℕ → List Live → Type 0
 AreBefore place live = AllByRecursion (λ (e : Live). e.place < place) live
 
@@ -72,7 +72,7 @@ places_of key live = map (λ (e : Live). e.place) (filter (λ (e : Live). e.key 
 pub record ListsBy (names : List Text) (bodies : List Body) (list : List ℕ) (rows : List (List ℕ)) (live : List Live) : Type 0 where
   pub size : length rows ≡ suc (length names)
   pub are : AllByRecursion (IsLive names bodies list) live
-  pub rises : Rises 0 live
+  pub rises : PlacesRise 0 live
   pub places : (key : ℕ) → key < length rows → row rows key ≡ places_of key live
 
 abbrev pub Lists : List Text → Components → List Live → Type 0

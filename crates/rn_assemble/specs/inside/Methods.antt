@@ -11,7 +11,7 @@ use Rattle.rn_assemble.specs.Least.{IsLeast, key_cmp}
 use Rattle.rn_assemble.specs.Refused.{key_view}
 use Rattle.rn_assemble.specs.inside.Keyed.{key_at}
 
--- whether a method is the first one
+-- whether a method is the one that is asked for
 abbrev pub is_method : Method → Method → Bool
 is_method m.Plain = is_plain
 is_method m.Choice = is_choice

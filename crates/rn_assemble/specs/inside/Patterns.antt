@@ -22,12 +22,12 @@ use Rattle.rn_assemble.specs.Refused.{key_view}
 use Rattle.rn_assemble.specs.inside.Views.{names_of}
 
 -- the tree stands for the component's body, which keeps the restrictions on name classes
-abbrev pub IsSound : Component → Tree → Type 0
-IsSound c p = (p ≡ c.body) × KeepsNameRules c.body
+abbrev pub IsWellNamed : Component → Tree → Type 0
+IsWellNamed c p = (p ≡ c.body) × KeepsNameRules c.body
 
 -- the trees stand for the components' bodies, which all keep the restrictions
-abbrev pub AreSound : List Component → List Tree → Type 0
-AreSound cs ps = (ps ≡ map (λ (c : Component). c.body) cs) × AllByRecursion (λ (c : Component). KeepsNameRules c.body) cs
+abbrev pub AreWellNamed : List Component → List Tree → Type 0
+AreWellNamed cs ps = (ps ≡ map (λ (c : Component). c.body) cs) × AllByRecursion (λ (c : Component). KeepsNameRules c.body) cs
 
 -- the refusal of a key, for this reason, or want of memory
 abbrev pub IsMisnamedAs : Key → Type 0 → Refusal → Type 0
@@ -35,24 +35,24 @@ IsMisnamedAs k Why (r.NameClass j) = (key_view j ≡ k) × Why
 IsMisnamedAs k Why r.Memory = ⊤
 IsMisnamedAs k Why _ = ⊥
 
--- the refusal of the component's key, since its body breaks the restrictions
+-- the refusal of the component's key, since its body breaks the restrictions on name classes
 abbrev pub IsMisnamedBy : Component → Refusal → Type 0
 IsMisnamedBy c = IsMisnamedAs c.key (¬ KeepsNameRules c.body)
 
--- the refusal of the key, since one of its components breaks them
+-- the refusal of the key, since one of its components breaks the restrictions on name classes
 abbrev pub IsMisnamedAt : List Component → Key → Refusal → Type 0
 IsMisnamedAt cs k = IsMisnamedAs k (BreaksNameRules cs k)
 
 -- what is held, if anything is, stands for the component's body
 abbrev pub MayHold : Component → Option (Rc Pattern Global) → Type 0
-MayHold c held = IfSome held (λ p. IsSound c (shared_view p))
+MayHold c held = IfSome held (λ p. IsWellNamed c (shared_view p))
 
 -- the body of a number, resolved, stands for each component that it is the body of
 pub record AreShared (names : List Text) (bodies : List Body) (shared : List (Option (Rc Pattern Global))) : Type 0 where
   pub size : length shared ≡ length bodies
-  pub are : (n key : ℕ) (b : Body) (c : Component) → slice_get bodies n ≡ Some b → IsBody names b key c → IfSome (slice_index_or shared n None) (λ p. IsSound c (shared_view p))
+  pub are : (n key : ℕ) (b : Body) (c : Component) → slice_get bodies n ≡ Some b → IsBody names b key c → IfSome (slice_index_or shared n None) (λ p. IsWellNamed c (shared_view p))
 
--- the same of the bodies of these components
+-- the body of a number, resolved, stands for each component of x that it is the body of
 abbrev pub AreSharedBy : Keys → Components → List (Option (Rc Pattern Global)) → Type 0
 AreSharedBy keys x shared = AreShared (names_of keys) x.bodies shared
 

@@ -17,7 +17,7 @@ use Rattle.rn_syntax.specs.Tree.{Pattern, Patterns}
 use Rattle.rn_pattern.specs.Graph.{row}
 use Rattle.rn_assemble.specs.Components.{Component}
 use Rattle.rn_assemble.specs.Combine.{joined_pattern, joined_grammar}
-use Rattle.rn_assemble.specs.inside.Keyed.{IsNumber, key_at}
+use Rattle.rn_assemble.specs.inside.Keyed.{IsNameNumber, key_at}
 use Rattle.rn_assemble.specs.Least.{IsLeast}
 use Rattle.rn_assemble.specs.inside.Listed.{Live, Lists, components_in}
 use Rattle.rn_assemble.specs.declared.bodies.Body.{Body}
@@ -62,10 +62,10 @@ names_within meant rs = flat_map (λ (r : Text × Reach). within meant r.1 r.0) 
 -- the row of each key has the numbers of the names to which what is joined under it refers, in the sense of R
 pub record AreReferences (R : Text → Tree → Type 0) (names : List Text) (cs : List Component) (rows : List (List ℕ)) : Type 0 where
   pub size : length rows ≡ suc (length names)
-  pub only : (k m : ℕ) → Contains (row rows k) m → (x : Text) × IsNumber names x m × R x (joined_pattern cs (key_at names k))
-  pub all : (k : ℕ) (x : Text) → k < suc (length names) → R x (joined_pattern cs (key_at names k)) → (m : ℕ) × IsNumber names x m × Contains (row rows k) m
+  pub only : (k m : ℕ) → Contains (row rows k) m → (x : Text) × IsNameNumber names x m × R x (joined_pattern cs (key_at names k))
+  pub all : (k : ℕ) (x : Text) → k < suc (length names) → R x (joined_pattern cs (key_at names k)) → (m : ℕ) × IsNameNumber names x m × Contains (row rows k) m
 
--- both kinds of references, where each name that is referred to is defined
+-- the references anywhere and those outside elements, where each name that is referred to is defined
 pub record AreAllReferences (names : List Text) (cs : List Component) (all outer : List (List ℕ)) : Type 0 where
   pub anywhere : AreReferences RefersTo names cs all
   pub outside : AreReferences RefersOutside names cs outer
@@ -77,7 +77,7 @@ IsLeastUndefined cs (r.Undefined x) = IsLeast text_cmp (IsUndefined (joined_gram
 IsLeastUndefined cs r.Memory = ⊤
 IsLeastUndefined cs _ = ⊥
 
--- ---- how they are found
+-- ---- how references are found
 
 abbrev pub reference_view : Reference → Text × Reach
 reference_view r = (r.name.now, r.reach)
@@ -86,7 +86,7 @@ reference_view r = (r.name.now, r.reach)
 abbrev pub references_at : List Body → ℕ → List (Text × Reach)
 references_at bodies n = option_map_or (λ (b : Body). references OutsideElements (pattern_view b.component.body.now)) (slice_get bodies n) []
 
--- those of the bodies with these numbers
+-- the references of the bodies with these numbers
 abbrev pub references_in : Components → List ℕ → List (Text × Reach)
 references_in x numbers = flat_map (references_at x.bodies) numbers
 
@@ -119,8 +119,8 @@ lesser_text (Some h) x = if is_lt (text_cmp x h) then x else h
 
 -- the numbers of those of the texts that are names
 pub record AreNumbers (names texts : List Text) (numbers : List ℕ) : Type 0 where
-  pub only : (m : ℕ) → Contains numbers m → (x : Text) × Contains texts x × IsNumber names x m
-  pub all : (x : Text) → Contains texts x → Contains names x → (m : ℕ) × IsNumber names x m × Contains numbers m
+  pub only : (m : ℕ) → Contains numbers m → (x : Text) × Contains texts x × IsNameNumber names x m
+  pub all : (x : Text) → Contains texts x → Contains names x → (m : ℕ) × IsNameNumber names x m × Contains numbers m
 
 -- the least of the names that have no definition
 abbrev pub IsLeastOf : Grammar → List Text → Option Text → Type 0
@@ -139,4 +139,4 @@ KeepsLeast names x more old new = (live : List Live) (before : List Text) → Li
 -- the number of the least name that is reached and comes back to itself outside elements, if there is one
 abbrev pub IsLeastRecursive : List Text → List Component → Option ℕ → Type 0
 IsLeastRecursive names cs None = (x : Text) → ¬ IsRecursive (joined_grammar cs) x
-IsLeastRecursive names cs (Some k) = (x : Text) × IsNumber names x k × IsLeast text_cmp (IsRecursive (joined_grammar cs)) x
+IsLeastRecursive names cs (Some k) = (x : Text) × IsNameNumber names x k × IsLeast text_cmp (IsRecursive (joined_grammar cs)) x

@@ -10,7 +10,7 @@ use Rattle.rn_pattern.specs.Tree.{Tree}
 use Rattle.rn_text.specs.Texts.{Text}
 use Rattle.rn_assemble.specs.Firsts.{AreFirstsBy, joined_members}
 
--- the same by the order of patterns, which tells different ones apart
+-- first places whose members the order of patterns takes for equal; it tells different ones apart
 abbrev pub AreTied : List ℕ → List Tree → Type 0
 AreTied = AreFirstsBy (λ p q. tree_cmp p q ≡ Equal)
 

@@ -7,12 +7,12 @@ use Rattle.rn_text.specs.Texts.{Text, text_cmp}
 use Rattle.rn_syntax.specs.View.{module_view, pattern_view, prefix_view}
 use Rattle.rn_assemble.specs.declared.named_modules.NamedModule as code_module
 use Rattle.rn_assemble.specs.declared.keys.Keys.{Keys}
-use Rattle.rn_assemble.specs.declared.contents.Component as code_component
+use Rattle.rn_assemble.specs.declared.contents.WrittenComponent as code_component
 use Rattle.rn_assemble.specs.declared.contents.Contents.{Contents}
 use Rattle.rn_assemble.specs.declared.contents.Include.{Include}
 use Rattle.rn_assemble.specs.Components.{NamedModule}
 use Rattle.rn_assemble.specs.inside.Keyed.{key_at}
-use Rattle.rn_assemble.specs.inside.Contained.{Written, Inclusion}
+use Rattle.rn_assemble.specs.inside.Contained.{WrittenComponent, Inclusion}
 
 abbrev pub texts_of : List (Bor (List ℕ)) → List Text
 texts_of xs = map (λ (s : Bor (List ℕ)). s.now) xs
@@ -34,24 +34,25 @@ module_names modules = map (λ (m : code_module.NamedModule). m.name.now) module
 abbrev pub AreInOrder : List code_module.NamedModule → Type 0
 AreInOrder modules = IsStrictlySortedBy text_cmp (module_names modules)
 
-abbrev pub written_view : List Text → code_component.Component → Written
+abbrev pub written_view : List Text → code_component.WrittenComponent → WrittenComponent
 written_view names c = record { key = key_at names c.key; method = c.method; pattern = pattern_view c.body.now }
 
--- the number of its key is one of the keys' numbers
-abbrev pub IsNumbered : List Text → code_component.Component → Type 0
+-- the number of the component's key is one of the keys' numbers
+abbrev pub IsNumbered : List Text → code_component.WrittenComponent → Type 0
 IsNumbered names c = c.key < suc (length names)
 
--- these components were added
-pub record Adds (names : List Text) (old new : List code_component.Component) (added : List Written) : Type 0 where
+-- the written components were added behind the old ones
+pub record Adds (names : List Text) (old new : List code_component.WrittenComponent) (added : List WrittenComponent) : Type 0 where
   pub is : map (written_view names) new ≡ map (written_view names) old ++ added
   pub numbered : AllByRecursion (IsNumbered names) old → AllByRecursion (IsNumbered names) new
 
 abbrev pub inclusion_view : Include → Inclusion
 inclusion_view i = record { module_at = i.module; inherit = prefix_view i.inherit; first = i.from; end = i.to }
 
--- contents have got these components, and these includes
-abbrev pub AddsComponents : Keys → (old new : Contents) → List Written → Type 0
+-- contents have got these components behind the old ones
+abbrev pub AddsComponents : Keys → (old new : Contents) → List WrittenComponent → Type 0
 AddsComponents keys old new added = Adds (names_of keys) old.components.items new.components.items added
 
+-- contents have got these includes behind the old ones
 abbrev pub AddsIncludes : (old new : Contents) → List Inclusion → Type 0
 AddsIncludes old new added = map inclusion_view new.includes.items ≡ map inclusion_view old.includes.items ++ added

@@ -24,7 +24,7 @@ use Rattle.rn_simplify.specs.Spellable.{IsSpellable}
 use Rattle.rn_simplify.specs.ReadBack.{IsReadBack}
 use Rattle.rn_simplify.proofs.ReadBack.NeededBindings.{IsBoundTo, IsLibrary}
 use Rattle.rn_simplify.proofs.ReadBack.Lines.{IsEntry, empty_xml, libraries_from, IsDefinition}
-use Rattle.rn_assemble.proofs.Combined.Joined.{mapped, zipped}
+use Rattle.rn_assemble.proofs.Combined.PlainComponents.{mapped, zipped}
 use Rattle.rn_simplify.proofs.ReadBack.Whole.{declarations_of, IsDeclared, is_read_back}
 use Rattle.rn_simplify.proofs.ReadBack.OrderedTexts.{less_differs, sorted_all, filter_all, sorted_keeps, filter_keeps, pick, AreApart, sorted_apart, filter_apart}
 use Rattle.rn_simplify.proofs.ReadBack.DeclaredPrefixes.{Entry, OtherPrefix, HaveOwnPrefixes, found, no_library, found_library, Fresh, FreshLibrary, IsOwnNamespace, IsOwnLibrary, clean_declarations}

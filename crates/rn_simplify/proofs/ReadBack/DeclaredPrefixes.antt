@@ -12,7 +12,7 @@ use Rattle.rn_syntax.specs.Places.{declared_namespace, declared_library, declara
 use Rattle.rn_simplify.specs.Spelling.{binding}
 use Rattle.rn_simplify.proofs.ReadBack.Lines.{namespaces_from, libraries_from, prefix_at}
 use Rattle.rn_syntax.proofs.TokenKinds.PieceTokens.{behind}
-use Rattle.rn_assemble.proofs.Combined.Joined.{mapped, zipped}
+use Rattle.rn_assemble.proofs.Combined.PlainComponents.{mapped, zipped}
 
 abbrev pub Entry : Type 0
 Entry = List ℕ × Text

@@ -24,7 +24,7 @@ use Rattle.rn_assemble.specs.Combine.{of_key, bodies, method_node, IsPlainTwice,
 use Rattle.rn_assemble.specs.WellFormed.{IsWellFormed}
 use Rattle.rn_assemble.specs.Refusal.{Refusal, conflict, faulty, missing, cycle, too_many_instances, override, plain_twice, mixed_methods, no_start, undefined, recursive, name_class, item_lacks, items_lack, Lacks, StandsFor, grammar_of}
 use Rattle.rn_assemble.proofs.Combined.Combinations.{combined_valid, some_joined, joined_definition}
-use Rattle.rn_assemble.proofs.Combined.Joined.{plain_once, not_mixed, sorted_distinct, mapped_distinct}
+use Rattle.rn_assemble.proofs.Combined.PlainComponents.{plain_once, not_mixed, sorted_distinct, mapped_distinct}
 use Rattle.rn_assemble.proofs.Combined.JoinedProperties.{joined_excepts, joined_definition_excepts}
 use Rattle.rn_assemble.proofs.Combined.OneModule.{one_module}
 use Rattle.rn_simplify.specs.ReadBack.{IsReadBack}

@@ -13,7 +13,7 @@ use Rattle.rn_pattern.proofs.Ordered.Ascending.{each_append}
 use Rattle.rn_pattern.proofs.Forms.CanonicalForm.{canonical_is}
 use Rattle.rn_pattern.proofs.Forms.Settled.{settled_canonical}
 use Rattle.rn_assemble.specs.WellFormed.{HasWritableTexts}
-use Rattle.rn_assemble.proofs.Combined.Joined.{sorted_distinct}
+use Rattle.rn_assemble.proofs.Combined.PlainComponents.{sorted_distinct}
 use Rattle.rn_simplify.specs.Spelling.{name_uris, names_uris, mentions, mentions_all, grammar_mentions, spelling}
 use Rattle.rn_simplify.proofs.ReadBack.FewPrefixes.{few_namespaces, few_libraries}
 use Rattle.rn_simplify.specs.Spellable.{IsDefinition, IsSpellable}

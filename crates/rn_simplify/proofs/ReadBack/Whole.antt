@@ -25,7 +25,7 @@ use Rattle.rn_assemble.specs.Resolve.{default_of}
 use Rattle.rn_simplify.specs.Spelling.{keyword, Prefixes, prefixes, namespace_entries, library_entries, bindings, default_line, definition_line, definition_lines, spelling_pieces, spelling}
 use Rattle.rn_simplify.specs.ReadBack.{IsReadBack}
 use Rattle.rn_simplify.proofs.ReadBack.Lines.{IsEntry, namespaces_from, libraries_from, bindings_free, namespaces_read, libraries_read, default_free, default_reads, declarations_then, Printable, IsDefinition, opened_component, definitions_free, start_free, grammar_reads}
-use Rattle.rn_assemble.proofs.Combined.Joined.{joined_is, mapped_distinct}
+use Rattle.rn_assemble.proofs.Combined.PlainComponents.{joined_is, mapped_distinct}
 use Rattle.rn_assemble.specs.Components.{module_components}
 
 -- the declarations that are read

@@ -6,7 +6,7 @@ use Rattle.rn_assemble.specs.inside.Lacking.{IsLeastLack}
 use Rattle.rn_assemble.specs.Refusal.{Lacks}
 use Rattle.rn_assemble.specs.inside.Views.{names_of, named_module_view, modules_view}
 use Rattle.rn_assemble.specs.Refused.{key_view}
-use Rattle.rn_assemble.proofs.Answering.Checks.{override_stands, name_seen_at}
+use Rattle.rn_assemble.proofs.Answering.CheckedModules.{override_stands, name_seen_at}
 use Rattle.rn_assemble.proofs.assembly.check_overrides.Goals as goal
 
 pub returns-in_ok-key-in-Some : goal.returns-in_ok-key-in-Some

@@ -6,7 +6,7 @@ use Rattle.rn_assemble.specs.Least.{IsLeast}
 use Rattle.rn_assemble.specs.inside.Listed.{components_in}
 use Rattle.rn_assemble.specs.inside.Referred.{IsLeastRecursive}
 use Rattle.rn_assemble.specs.inside.Views.{names_of}
-use Rattle.rn_assemble.proofs.Answering.Unsound.{name_there}
+use Rattle.rn_assemble.proofs.Answering.ReferenceRefusals.{name_there}
 use Rattle.rn_assemble.proofs.assembly.check_references.Goals as goal
 
 pub returns-in-Some : goal.returns-in-Some

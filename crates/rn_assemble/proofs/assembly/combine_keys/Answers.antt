@@ -3,7 +3,7 @@ use Rattle.rn_assemble.specs.inside.Methods.{CanCombine, IsUncombined}
 use Rattle.rn_assemble.specs.inside.Sound.{HasSoundReferences, IsUnsound}
 use Rattle.rn_assemble.specs.inside.Views.{names_of, modules_view}
 use Rattle.rn_assemble.proofs.Answering.FirstRefusal.{uncombined_first, unsound_first}
-use Rattle.rn_assemble.proofs.Answering.Checks.{at_set, combined_or_first, passed_methods, passed_overrides, has_start}
+use Rattle.rn_assemble.proofs.Answering.CheckedModules.{at_set, combined_or_first, passed_methods, passed_overrides, has_start}
 use Rattle.rn_assemble.proofs.assembly.combine_keys.Goals as goal
 
 pub returns-in_err-check_methods : goal.returns-in_err-check_methods

@@ -4,7 +4,7 @@ use Rattle.rn_assemble.specs.inside.Expanded.{CanList}
 use Rattle.rn_assemble.specs.inside.Included.{AreIncluded}
 use Rattle.rn_assemble.specs.inside.Listed.{AreContents}
 use Rattle.rn_assemble.specs.inside.Views.{names_of, modules_view}
-use Rattle.rn_assemble.proofs.Answering.Checks.{expanded}
+use Rattle.rn_assemble.proofs.Answering.CheckedModules.{expanded}
 use Rattle.rn_assemble.proofs.Expansion.WantedNumbers.{names_rise}
 use Rattle.rn_assemble.proofs.assembly.combine_modules.Goals as goal
 

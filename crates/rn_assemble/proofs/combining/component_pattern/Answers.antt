@@ -1,7 +1,7 @@
 use Rattle.std.proofs.Common.{sym, ◌∙◌}
 use Rattle.std.specs.Prelude.{IsSomeAnd}
 use Rattle.rn_pattern.specs.NameRules.{KeepsNameRules}
-use Rattle.rn_assemble.specs.inside.Patterns.{IsMisnamedAs, IsSound}
+use Rattle.rn_assemble.specs.inside.Patterns.{IsMisnamedAs, IsWellNamed}
 use Rattle.rn_pattern.specs.View.{boxed_view}
 use Rattle.rn_assemble.specs.inside.Views.{names_of}
 use Rattle.rn_assemble.proofs.Joining.KeyPatterns.{refused_by}
@@ -12,7 +12,7 @@ pub returns-in_err-resolve_body : goal.returns-in_err-resolve_body
 returns-in_err-resolve_body c = λ live e h k p.
     let x = c.args.components.now in
     let is = live_body (names_of c.args.keys.now) x.bodies x.list x.places.items live e c.in-Some.number c.in-Some-body.body h k (p ∙ sym c.in-Some.ensures) (sym c.in-Some-body.ensures) in
-    refused_by (λ o. IsSomeAnd o (λ q. IsSound e.component (boxed_view q))) (IsMisnamedAs e.component.key (¬ KeepsNameRules e.component.body)) c.from_residual.result c.in_err-resolve_body.field-0.0 c.from_residual.ensures.1 (c.in_err-resolve_body.ensures e.key e.component is)
+    refused_by (λ o. IsSomeAnd o (λ q. IsWellNamed e.component (boxed_view q))) (IsMisnamedAs e.component.key (¬ KeepsNameRules e.component.body)) c.from_residual.result c.in_err-resolve_body.field-0.0 c.from_residual.ensures.1 (c.in_err-resolve_body.ensures e.key e.component is)
 
 pub returns : goal.returns
 returns c = λ live e h k p.

@@ -2,7 +2,7 @@ use Rattle.std.proofs.Common.{sym, ◌∙◌}
 use Rattle.std.specs.Prelude.{IsSomeAnd}
 use Rattle.rn_pattern.specs.NameRules.{KeepsNameRules}
 use Rattle.rn_pattern.specs.View.{shared_view}
-use Rattle.rn_assemble.specs.inside.Patterns.{IsMisnamedAs, IsSound}
+use Rattle.rn_assemble.specs.inside.Patterns.{IsMisnamedAs, IsWellNamed}
 use Rattle.rn_assemble.specs.inside.Views.{names_of}
 use Rattle.rn_assemble.proofs.Joining.KeyPatterns.{refused_by}
 use Rattle.rn_assemble.proofs.Joining.SharedPatterns.{shared_held, shared_put}
@@ -20,7 +20,7 @@ returns-in_err-share_body-clause-exact c = λ live e h k p s.
     let body = sym c.in-Some-body.ensures in
     let is = live_body names x.bodies x.list x.places.items live e c.in-Some.number c.in-Some-body.body h k (p ∙ c.in-Some.is) body in
     let held = shared_held names x.bodies c.args.shared.now.items c.in-Some.number c.in-Some-body.body c.index_mut.result.now s body c.index_mut.ensures.value e.key e.component is in
-    refused_by (λ o. IsSomeAnd o (λ q. IsSound e.component (shared_view q))) (IsMisnamedAs e.component.key (¬ KeepsNameRules e.component.body)) c.from_residual.result c.in_err-share_body.field-0.0 c.from_residual.ensures.1 (c.in_err-share_body.ensures.exact e.key e.component is held)
+    refused_by (λ o. IsSomeAnd o (λ q. IsWellNamed e.component (shared_view q))) (IsMisnamedAs e.component.key (¬ KeepsNameRules e.component.body)) c.from_residual.result c.in_err-share_body.field-0.0 c.from_residual.ensures.1 (c.in_err-share_body.ensures.exact e.key e.component is held)
 
 pub returns-clause-kept : goal.returns-clause-kept
 returns-clause-kept c = λ h.

@@ -6,7 +6,7 @@ use Rattle.rn_pattern.specs.Graph as graph
 use Rattle.rn_assemble.specs.Combine.{of_key}
 use Rattle.rn_assemble.specs.inside.Keyed.{key_at}
 use Rattle.rn_assemble.specs.inside.Listed.{components_in}
-use Rattle.rn_assemble.specs.inside.Patterns.{AreSound, IsMisnamedAs, IsSound}
+use Rattle.rn_assemble.specs.inside.Patterns.{AreWellNamed, IsMisnamedAs, IsWellNamed}
 use Rattle.rn_assemble.specs.Refusal.{BreaksNameRules}
 use Rattle.rn_assemble.specs.inside.Views.{names_of}
 use Rattle.rn_assemble.proofs.Joining.KeyPatterns.{breaks_at, misnamed_for, part_of_key, refused_by, sound_all, sound_more}
@@ -26,7 +26,7 @@ returns-in_err-pattern-clause-exact c = λ live h o k s.
     let below : i < length row = omega (arith, c.loop-index-test.true, c.count_of-count.ensures) in
     let r = at_row names x.bodies x.list x.places.items live h o c.args.key (omega (arith, k)) i below in
     let found = c.in_err-pattern.ensures.exact live r.0 h r.1 (row_body x.list row i r.0.place below r.2 ∙ sym c.body_of-number.ensures) (c.loop-index.invariant.kept s) in
-    refused_by (λ members. AreSound (of_key key cs) (map shared_view members.items)) (IsMisnamedAs key (BreaksNameRules cs key)) c.from_residual-in_err-pattern.result c.in_err-pattern.field-0.0 c.from_residual-in_err-pattern.ensures.1
+    refused_by (λ members. AreWellNamed (of_key key cs) (map shared_view members.items)) (IsMisnamedAs key (BreaksNameRules cs key)) c.from_residual-in_err-pattern.result c.in_err-pattern.field-0.0 c.from_residual-in_err-pattern.ensures.1
     (misnamed_for r.0.component.key key (¬ KeepsNameRules r.0.component.body) (BreaksNameRules cs key) c.in_err-pattern.field-0.0 (part_of_key cs key i r.0.component r.3 r.4) (breaks_at cs key i r.0.component r.3 r.4) found)
 
 pub loop-index-preserved : goal.loop-index-preserved
@@ -45,10 +45,10 @@ loop-index-preserved c = record {
       let found = c.in_ok-pattern.ensures.exact live r.0 h r.1 (row_body x.list row i r.0.place below r.2 ∙ sym c.body_of-number.ensures) (c.loop-index.invariant.kept s) in
       elim c.match-branch-3.branch [
         | in-Some+in_ok-push w ↦
-            let sound = subst (λ p. IsSomeAnd p (λ q. IsSound r.0.component (shared_view q))) w.in-Some.is found in
+            let sound = subst (λ p. IsSomeAnd p (λ q. IsWellNamed r.0.component (shared_view q))) w.in-Some.is found in
             let more = sound_more cs key c.loop-index.members.items w.push.new.self.items i w.in-Some.pattern r.0.component r.3 r.4 sound w.in_ok-push.ensures.items (c.loop-index.invariant.members live h o k s) in
-            subst (λ ms. AreSound (take (i + 1) (of_key key cs)) (map shared_view ms.items)) (sym w.members-is) more
-        | in_default w ↦ absurd (subst (λ p. IsSomeAnd p (λ q. IsSound r.0.component (shared_view q))) w.in_default.is found)
+            subst (λ ms. AreWellNamed (take (i + 1) (of_key key cs)) (map shared_view ms.items)) (sym w.members-is) more
+        | in_default w ↦ absurd (subst (λ p. IsSomeAnd p (λ q. IsWellNamed r.0.component (shared_view q))) w.in_default.is found)
       ];
 }
 

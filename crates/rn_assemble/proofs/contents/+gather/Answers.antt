@@ -3,7 +3,7 @@ use Rattle.std.proofs.lemmas.List.{length-append}
 use Rattle.rn_syntax.specs.View.{item_view, items_view}
 use Rattle.rn_assemble.specs.inside.Contained.{item_written_components, written_components}
 use Rattle.rn_assemble.specs.inside.Views.{names_of, modules_view}
-use Rattle.rn_assemble.proofs.Expansion.Gathered.{defined_at, defined_behind, adds_more, written_to, inclusions_more}
+use Rattle.rn_assemble.proofs.Expansion.GatheredItems.{defined_at, defined_behind, adds_more, written_to, inclusions_more}
 use Rattle.rn_assemble.proofs.contents.+gather.Goals as goal
 
 pub gather-items-preserved : goal.gather-items-preserved

@@ -5,7 +5,7 @@ use Rattle.rn_assemble.specs.declared.named_modules.NamedModule.{NamedModule}
 use Rattle.rn_assemble.specs.declared.contents.Contents.{Contents}
 use Rattle.rn_assemble.specs.inside.Listed.{IsContents}
 use Rattle.rn_assemble.specs.inside.Views.{names_of, named_module_view, modules_view}
-use Rattle.rn_assemble.proofs.Expansion.Gathered.{defined_each, zip_seen, zip_more}
+use Rattle.rn_assemble.proofs.Expansion.GatheredItems.{defined_each, zip_seen, zip_more}
 use Rattle.rn_assemble.proofs.contents.contents_of.Goals as goal
 
 pub contents_of_module-requires-clause-defined : goal.contents_of_module-requires-clause-defined

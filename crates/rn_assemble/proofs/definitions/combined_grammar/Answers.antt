@@ -7,7 +7,7 @@ use Rattle.rn_assemble.specs.Firsts.{joined_members}
 use Rattle.rn_assemble.specs.inside.Tied.{AreTied}
 use Rattle.rn_assemble.specs.inside.Listed.{components_in}
 use Rattle.rn_assemble.specs.inside.Views.{names_of}
-use Rattle.rn_assemble.proofs.Joining.Defining.{others_left, start_there}
+use Rattle.rn_assemble.proofs.Joining.PlacedDefinitions.{others_left, start_there}
 use Rattle.rn_assemble.proofs.Joining.HeldStart.{start_held}
 use Rattle.rn_assemble.proofs.definitions.combined_grammar.Goals as goal
 

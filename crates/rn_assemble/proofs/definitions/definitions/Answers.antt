@@ -8,7 +8,7 @@ use Rattle.rn_assemble.specs.declared.combined_grammar.CombinedDefinition.{Combi
 use Rattle.rn_assemble.specs.inside.Patterns.{IsFirstAt}
 use Rattle.rn_assemble.specs.inside.Tied.{HasRow, firsts_of}
 use Rattle.rn_assemble.specs.inside.Views.{names_of}
-use Rattle.rn_assemble.proofs.Joining.Defining.{Defining, defining_begins, defining_ends, defining_more, defining_same, pattern_there, places_within}
+use Rattle.rn_assemble.proofs.Joining.PlacedDefinitions.{Defining, defining_begins, defining_ends, defining_more, defining_same, pattern_there, places_within}
 use Rattle.rn_assemble.proofs.definitions.definitions.Goals as goal
 use Rattle.rn_assemble.proofs.definitions.definitions.Goals.{in-Some+in-Some-take+in_ok-found+in_ok-keep_row+in_ok-push, in-Some+in_default-take, in_default}
 

@@ -6,7 +6,7 @@ use Rattle.rn_assemble.specs.inside.Listed.{Lists, Live, components_in}
 use Rattle.rn_assemble.specs.inside.Patterns.{HavePatterns}
 use Rattle.rn_assemble.specs.inside.Tied.{firsts_of}
 use Rattle.rn_assemble.specs.inside.Views.{names_of}
-use Rattle.rn_assemble.proofs.Joining.Defining.{Defining}
+use Rattle.rn_assemble.proofs.Joining.PlacedDefinitions.{Defining}
 use Rattle.rn_assemble.proofs.definitions.definitions.Given as goal
 
 abbrev pub invariant-loop-place : goal.invariant-loop-place

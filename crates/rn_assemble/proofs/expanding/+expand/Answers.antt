@@ -10,12 +10,12 @@ use Rattle.rn_assemble.specs.declared.contents.Contents.{Contents}
 use Rattle.rn_assemble.specs.declared.contents.Include.{Include}
 use Rattle.rn_assemble.specs.declared.components.Components.{Components}
 use Rattle.rn_assemble.specs.declared.components.Lack.{Lack}
-use Rattle.rn_assemble.specs.inside.Bound.{BindsAs}
+use Rattle.rn_assemble.specs.inside.ContextBindings.{BindsAs}
 use Rattle.rn_assemble.specs.Components as specs
 use Rattle.rn_assemble.specs.inside.Contained.{Inclusion}
 use Rattle.rn_assemble.specs.inside.Lacking.{LacksWithin}
-use Rattle.rn_assemble.specs.inside.Listed.{IsContents, Live, Rises}
-use Rattle.rn_assemble.specs.inside.Expanded.{CanExpand, CanInclude, Expands, IsItem, included_in, name_at}
+use Rattle.rn_assemble.specs.inside.Listed.{IsContents, Live, PlacesRise}
+use Rattle.rn_assemble.specs.inside.Expanded.{CanExpand, CanInclude, Expands, IsContentAt, included_in, name_at}
 use Rattle.rn_assemble.specs.inside.Noting.{AtNumbers, IncludedLacks, InclusionLacks, IsOwnLack, Notes}
 use Rattle.rn_assemble.specs.inside.Views.{inclusion_view, written_view}
 use Rattle.rn_assemble.proofs.Expansion.Expansions.{live_below}
@@ -43,7 +43,7 @@ pub expand-includes-init : goal.expand-includes-init
 expand-includes-init t c = record {
   going = λ modules names live m k is flat.
       let at = c.in-Some.ensures.lookup.3 in
-      let item : IsItem c.args.contents.now c.args.«module» c.in-Some.content.now = record { within = at.0; is = λ d. sym (at.1 d) } in
+      let item : IsContentAt c.args.contents.now c.args.«module» c.in-Some.content.now = record { within = at.0; is = λ d. sym (at.1 d) } in
       let P = InclusionLacks (c.args.depth - 1) modules (name_at modules c.args.«module») (rc_str_bytes c.args.inherited.now) m.tree.declarations (map (written_view names) c.in-Some.content.now.components.items) in
       let kept = c.in_ok-first.ensures.kept in (
         going_none modules names c.args.contents.now c.in-Some.content.now live m (rc_str_bytes c.args.inherited.now) (c.args.depth - 1) c.in_ok-first.first c.args.components.now c.enter.new.self is flat k.lists kept (c.in_ok-first.ensures.entered c.args.contents.now k.contexts item refl),
@@ -154,7 +154,7 @@ expand_include-returns t c =
       expands = λ modules names live ds k i same.
           let e = included modules names live ds k i same in
           let left = c.take_out.ensures.taken names live e.adds.added (lists_same names mid noted (live ++ e.adds.added) n.kept n.list n.places e.adds.lists)
-          (subst (λ b. AllByRecursion (λ (d : Live). d.place < b) live) before (live_below names old live k.lists)) (subst (λ b. Rises b e.adds.added) before e.adds.rises) i.ordered i.inside in
+          (subst (λ b. AllByRecursion (λ (d : Live). d.place < b) live) before (live_below names old live k.lists)) (subst (λ b. PlacesRise b e.adds.added) before e.adds.rises) i.ordered i.inside in
           overrides names contents content u ds old mid noted taken live _ include.from include.to e k.names_in_order i.numbered n.kept n.list n.places c.take_out.ensures.kept c.take_out.ensures.list left;
       lacks = λ modules names live ds k i same w.
           let v = specs.handed_on u ds (prefix_view include.inherit) in
@@ -173,7 +173,7 @@ expand_include-returns t c =
           let own = slice_range content.components.items include.from include.to in
           let met : Notes (IsOwnLack names c.args.«module» own (included_in c.args.depth modules include.«module» v)) mid.lack noted.lack =
           subst (λ (cs : List specs.Component). Notes (IsOwnLack names c.args.«module» own cs) mid.lack noted.lack) e.adds.are
-          (n.noted names live e.adds.added e.adds.lists k.names_in_order (subst (λ b. AllByRecursion (λ (d : Live). d.place < b) live) before (live_below names old live k.lists)) (subst (λ b. Rises b e.adds.added) before e.adds.rises) i.numbered i.ordered i.inside) in
+          (n.noted names live e.adds.added e.adds.lists k.names_in_order (subst (λ b. AllByRecursion (λ (d : Live). d.place < b) live) before (live_below names old live k.lists)) (subst (λ b. PlacesRise b e.adds.added) before e.adds.rises) i.numbered i.ordered i.inside) in
           subst (λ (o : Option Lack). Notes (AtNumbers modules names (InclusionLacks c.args.depth modules (name_at modules c.args.«module») u ds (map (written_view names) content.components.items) (inclusion_view include))) old.lack o) (sym c.take_out.ensures.lack)
           (include_noted modules names k.modules_in_order k.names_in_order c.args.«module» w c.args.depth u ds content.components.items i.numbered (inclusion_view include) old.lack mid.lack noted.lack within met);
     }

@@ -12,7 +12,7 @@ use Rattle.rn_assemble.specs.inside.Included.{AreIncluded}
 use Rattle.rn_assemble.specs.inside.Instances.{instances_of}
 use Rattle.rn_assemble.specs.Refusal.{IsFirstFor, cycle}
 use Rattle.rn_assemble.specs.inside.Views.{named_module_view, modules_view}
-use Rattle.rn_assemble.proofs.Expansion.Entries.{entries_below}
+use Rattle.rn_assemble.proofs.Expansion.RootNumbers.{entries_below}
 use Rattle.rn_assemble.proofs.Expansion.FirstIncludes.{all_included, first_loop, name_seen, too_many}
 use Rattle.rn_assemble.proofs.inclusion.included_roots.Goals as goal
 

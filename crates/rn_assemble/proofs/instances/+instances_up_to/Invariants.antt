@@ -1,5 +1,5 @@
 use Rattle.rn_pattern.specs.Graph.{rows_of}
-use Rattle.rn_assemble.proofs.Expansion.Counting.{CountsTo}
+use Rattle.rn_assemble.proofs.Expansion.CountedInstances.{CountsTo}
 use Rattle.rn_assemble.proofs.instances.+instances_up_to.Given as goal
 
 abbrev pub decreases-instances_up_to : goal.decreases-instances_up_to

@@ -1,4 +1,4 @@
-use Rattle.rn_assemble.proofs.Combined.Joined.{joined_is, plain_once, not_mixed}
+use Rattle.rn_assemble.proofs.Combined.PlainComponents.{joined_is, plain_once, not_mixed}
 use Rattle.rn_assemble.proofs.laws.plain_components_are_joined.Goals as goal
 
 pub returns-clause-joined : goal.returns-clause-joined

@@ -1,5 +1,5 @@
 use Rattle.rn_pattern.specs.Graph.{row}
-use Rattle.rn_assemble.proofs.Joining.Looking.{Looking}
+use Rattle.rn_assemble.proofs.Joining.BodiesLookedAt.{Looking}
 use Rattle.rn_assemble.proofs.references.bodies_of.Given as goal
 
 abbrev pub invariant-loop-index : goal.invariant-loop-index

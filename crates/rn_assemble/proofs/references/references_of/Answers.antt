@@ -9,7 +9,7 @@ use Rattle.rn_assemble.specs.inside.Listed.{components_in}
 use Rattle.rn_assemble.specs.inside.Referred.{AreBodiesAt, AreNumbers, names_within, reference_view, references_at}
 use Rattle.rn_assemble.specs.declared.references.Reach.TheVariants.{Everywhere, OutsideElements}
 use Rattle.rn_assemble.specs.inside.Views.{names_of}
-use Rattle.rn_assemble.proofs.Joining.Looking.{none_looked}
+use Rattle.rn_assemble.proofs.Joining.BodiesLookedAt.{none_looked}
 use Rattle.rn_assemble.proofs.Referring.GatheredReferences.{Gathered, row_of, gathered_begins, gathered_more, gathered_none, gathered_some, names_anywhere, names_outside}
 use Rattle.rn_assemble.proofs.references.references_of.Goals as goal
 

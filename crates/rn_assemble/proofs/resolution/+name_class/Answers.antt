@@ -5,7 +5,7 @@ use Rattle.rn_pattern.specs.Tree.{name_trees_of}
 use Rattle.rn_syntax.specs.declared.tree.Nc.{Nc}
 use Rattle.rn_syntax.specs.View.{class_view}
 use Rattle.rn_assemble.specs.Resolve.{resolved_class}
-use Rattle.rn_assemble.proofs.Joining.Resolved.{classes_resolved}
+use Rattle.rn_assemble.proofs.Joining.ResolvedLists.{classes_resolved}
 use Rattle.rn_assemble.proofs.resolution.+name_class.Goals as goal
 
 pub name_classes-returns : goal.name_classes-returns

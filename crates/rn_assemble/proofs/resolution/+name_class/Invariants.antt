@@ -3,7 +3,7 @@ use Rattle.std.proofs.Common.{◌≡◌, map, take}
 use Rattle.std.specs.Rc.{rc_str_bytes}
 use Rattle.rn_pattern.specs.View.{name_class_view}
 use Rattle.rn_syntax.specs.View.{class_view}
-use Rattle.rn_assemble.specs.inside.Bound.{InContext}
+use Rattle.rn_assemble.specs.inside.ContextBindings.{InContext}
 use Rattle.rn_assemble.specs.Resolve.{resolved_class}
 use Rattle.rn_assemble.proofs.resolution.+name_class.Given as goal
 

@@ -7,7 +7,7 @@ use Rattle.rn_pattern.specs.View as resolved_view
 use Rattle.rn_syntax.specs.declared.tree.Pat.{Pat}
 use Rattle.rn_syntax.specs.View.{pattern_view, patterns_view}
 use Rattle.rn_assemble.specs.Resolve.{resolved_pattern, resolved_patterns, repetition, operator_node}
-use Rattle.rn_assemble.proofs.Joining.Resolved.{patterns_resolved, repeated_seen, chain_seen}
+use Rattle.rn_assemble.proofs.Joining.ResolvedLists.{patterns_resolved, repeated_seen, chain_seen}
 use Rattle.rn_assemble.proofs.resolution.+pattern.Goals as goal
 
 pub patterns-returns : goal.patterns-returns

@@ -2,7 +2,7 @@
 use Rattle.std.proofs.Common.{◌≡◌, map, take}
 use Rattle.rn_pattern.specs.View.{shared_view}
 use Rattle.rn_syntax.specs.View.{pattern_view}
-use Rattle.rn_assemble.specs.inside.Bound.{InContext}
+use Rattle.rn_assemble.specs.inside.ContextBindings.{InContext}
 use Rattle.rn_assemble.specs.Resolve.{resolved_pattern}
 use Rattle.rn_assemble.proofs.resolution.+pattern.Given as goal
 

@@ -1,6 +1,6 @@
 use Rattle.std.proofs.Common.{◌≡◌, ◌+◌, ◌<◌, List, length, get_or, map, refl, sym, ◌∙◌, subst, arith}
 use Rattle.std.specs.Prelude.{slice_range}
-use Rattle.rn_assemble.specs.declared.contents.Component as code
+use Rattle.rn_assemble.specs.declared.contents.WrittenComponent as code
 use Rattle.rn_assemble.specs.declared.bodies.Body.{Body}
 use Rattle.rn_assemble.specs.Components.{Component}
 use Rattle.rn_assemble.specs.inside.Expanded.{AddsLive}
@@ -20,7 +20,7 @@ loop-number-preserved c =
           let h = i.added names live u ds k in
           let n = c.loop-number.number in
           let d = c.in-Some.component.now in
-          let at : d ≡ get_or cs n d = subst (λ (l : List code.Component). d ≡ get_or l n d) c.deref.ensures.value (c.in-Some.ensures.lookup.3.1 d) in
+          let at : d ≡ get_or cs n d = subst (λ (l : List code.WrittenComponent). d ≡ get_or l n d) c.deref.ensures.value (c.in-Some.ensures.lookup.3.1 d) in
           let below : n < length cs = omega (arith, k.within, c.loop-number-test.true) in
           let same : c.loop-number.self.bodies ≡ c.args.self.now.bodies = i.kept.bodies in
           let comp : Component = resolved_component u ds (written_view names d) in

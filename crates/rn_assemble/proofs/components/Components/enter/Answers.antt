@@ -2,7 +2,7 @@ use Rattle.std.proofs.Common.{◌≡◌, ◌++◌, ◌∷◌, [], List, length, 
 use Rattle.std.specs.Rc.{rc_str_bytes}
 use Rattle.std.specs.List.{AllByRecursion}
 use Rattle.rn_pattern.proofs.Ordered.Ascending.{each_append}
-use Rattle.rn_assemble.specs.declared.contents.Component as code
+use Rattle.rn_assemble.specs.declared.contents.WrittenComponent as code
 use Rattle.rn_assemble.specs.declared.bodies.Body.{Body}
 use Rattle.rn_assemble.specs.declared.components.MetContext.{MetContext}
 use Rattle.rn_assemble.specs.inside.Expanded.{ContextHolds, StartsAt}
@@ -14,7 +14,7 @@ returns-clause-entered c = λ contents h i same.
     let x = c.args.self.now in
     let d = c.args.content.now in
     let u = (rc_str_bytes c.args.context.inherited.now) in
-    let made = map (λ (e : code.Component). record { component = e; context = c.args.context }) d.components.items in
+    let made = map (λ (e : code.WrittenComponent). record { component = e; context = c.args.context }) d.components.items in
     let bodies = c.in_ok-push_all.ensures.pushed in
     let at : length x.bodies ≡ c.len-first.result = sym c.len-first.ensures in
     let starts = subst (λ (bs : List Body). StartsAt bs c.len-first.result d u) (sym bodies) (subst (λ n. StartsAt (x.bodies ++ made) n d u) at (starts_made x.bodies d c.args.context same)) in

@@ -5,7 +5,7 @@ use Rattle.rn_assemble.specs.Components.{has_key}
 use Rattle.rn_assemble.specs.inside.Keyed.{key_at}
 use Rattle.rn_assemble.specs.inside.Listed.{components_in}
 use Rattle.rn_assemble.specs.inside.Patterns.{IsFirstAt, before}
-use Rattle.rn_assemble.proofs.Joining.FirstPlaces.{first_elsewhere, first_there, live_keyed, row_there}
+use Rattle.rn_assemble.proofs.Joining.FirstComponents.{first_elsewhere, first_there, live_keyed, row_there}
 use Rattle.rn_assemble.proofs.Joining.UsedMethods.{live_body}
 use Rattle.rn_assemble.proofs.components.Components.first_at.Goals as goal
 use Rattle.rn_assemble.proofs.components.Components.first_at.Goals.{else-key-ne-START-via-then-key-ne-START+else-first-place, else-key-ne-START-via-else-key-ne-START}

@@ -1,6 +1,6 @@
 use Rattle.std.proofs.Common.{◌≡◌, ◌+◌, ◌≤◌, ◌++◌, List, length, get_or, refl, sym, ap, ◌∙◌, subst, arith}
 use Rattle.std.specs.Prelude.{slice_range}
-use Rattle.rn_assemble.specs.declared.contents.Component.{Component}
+use Rattle.rn_assemble.specs.declared.contents.WrittenComponent.{WrittenComponent}
 use Rattle.rn_assemble.specs.declared.components.Components.{Components}
 use Rattle.rn_assemble.specs.inside.Expanded.{left_by}
 use Rattle.rn_assemble.specs.inside.Listed.{Lists, Live}
@@ -32,13 +32,13 @@ loop-number-preserved c =
             taken = λ names live added h low high o m.
                 let before = i.taken names live added h low high o m in
                 subst (λ (x : Components). Lists names x (live ++ left_by (slice_range cs c.args.include.now.from (c.loop-number.number + 1)) added)) (sym w.self-is)
-                (subst (λ (es : List Live). Lists names w.take_out_since.new.self (live ++ es)) (sym (left_more cs c.args.include.now.from c.loop-number.number d added c.loop-number.auto.number (omega (arith, m, c.loop-number-test.true)) (subst (λ (l : List Component). d ≡ get_or l c.loop-number.number d) c.deref.ensures.value (at.1 d))))
+                (subst (λ (es : List Live). Lists names w.take_out_since.new.self (live ++ es)) (sym (left_more cs c.args.include.now.from c.loop-number.number d added c.loop-number.auto.number (omega (arith, m, c.loop-number-test.true)) (subst (λ (l : List WrittenComponent). d ≡ get_or l c.loop-number.number d) c.deref.ensures.value (at.1 d))))
                 (w.take_out_since.ensures.taken names live (left_by (slice_range cs c.args.include.now.from c.loop-number.number) added) before low (rises_filtered _ c.args.before added high)));
           }
       | in_default w ↦ record {
         kept = record { contexts = ap (λ (x : Components). x.contexts) w.self-is ∙ i.kept.contexts; bodies = ap (λ (x : Components). x.bodies) w.self-is ∙ i.kept.bodies };
         list = ap (λ (x : Components). x.list) w.self-is ∙ i.list;
         lack = ap (λ (x : Components). x.lack) w.self-is ∙ i.lack;
-        taken = λ names live added h low high o m. absurd (let past : length cs ≤ c.loop-number.number = subst (λ (l : List Component). length l ≤ c.loop-number.number) c.deref.ensures.value w.in_default.ensures.lookup.3 in omega (arith, m, past, c.loop-number-test.true));
+        taken = λ names live added h low high o m. absurd (let past : length cs ≤ c.loop-number.number = subst (λ (l : List WrittenComponent). length l ≤ c.loop-number.number) c.deref.ensures.value w.in_default.ensures.lookup.3 in omega (arith, m, past, c.loop-number-test.true));
       }
     ]

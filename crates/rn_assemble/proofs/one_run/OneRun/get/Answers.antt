@@ -1,6 +1,6 @@
 use Rattle.std.proofs.Common.{◌≡◌, ◌+◌, ℕ, List, None, Some, subst}
 use Rattle.std.specs.Prelude.{slice_get}
-use Rattle.rn_assemble.specs.inside.Runs.{run_from}
+use Rattle.rn_assemble.specs.inside.NumberRuns.{run_from}
 use Rattle.rn_assemble.proofs.Expansion.RunNumbers.{none_past, number_got, run_number}
 use Rattle.rn_assemble.proofs.one_run.OneRun.get.Goals as goal
 

@@ -1,5 +1,5 @@
 use Rattle.std.proofs.Common.{length, sym, ap, ◌∙◌}
-use Rattle.rn_assemble.specs.inside.Runs.{run_from}
+use Rattle.rn_assemble.specs.inside.NumberRuns.{run_from}
 use Rattle.rn_assemble.proofs.Expansion.RunNumbers.{length-numbers}
 use Rattle.rn_assemble.proofs.one_run.OneRun.len.Goals as goal
 

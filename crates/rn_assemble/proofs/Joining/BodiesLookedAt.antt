@@ -1,0 +1,77 @@
+-- The bodies of a key, each looked at once.
+use Rattle.std.proofs.Common.{◌≡◌, ◌⊎◌, inl, inr, ⊎_elim, ℕ, ◌+◌, ◌<◌, ◌≤◌, List, [], ◌∷◌, ◌++◌, length, get_or, set, Option, Some, None, refl, sym, ap, ◌∙◌, subst, arith, Contains, below_more, replicate}
+use Rattle.std.specs.Prelude.{slice_get}
+use Rattle.std.proofs.lemmas.Bool.{cases_eq, cases_lt}
+use Rattle.std.proofs.lemmas.List.{length-set, get_or-set_same, get_or-set_other, get_or_default, get_or-replicate, length-replicate, get_or_past}
+use Rattle.std.proofs.lemmas.Option.{same_Some}
+use Rattle.std.proofs.lemmas.List.Elements.{Contains-append_left, Contains-push, Contains-push_cases, Contains-get_or}
+use Rattle.rn_assemble.specs.inside.Referred.{AreBodiesAt, IsFresh, IsLooked, looked_under}
+use Rattle.rn_assemble.specs.inside.Tied.{body_of}
+use Rattle.rn_assemble.proofs.Expansion.LiveLists.{row_body}
+
+-- the first i places of the row are looked at
+pub record Looking (list row : List ℕ) (key : ℕ) (old looked : List (Option ℕ)) (i : ℕ) (bodies : List ℕ) : Type 0 where
+  pub size : length looked ≡ length old
+  pub only : (n : ℕ) → Contains bodies n → (place : ℕ) × Contains row place × (slice_get list place ≡ Some n)
+  pub marked : (n : ℕ) → looked_under looked n ≡ Some key → Contains bodies n
+  pub all : (k : ℕ) → k < i → (n : ℕ) → slice_get list (get_or row k 0) ≡ Some n → n < length old → Contains bodies n
+  pub others : (n j : ℕ) → looked_under looked n ≡ Some j → (j ≡ key) ⊎ (looked_under old n ≡ Some j)
+
+module _ (list row : List ℕ) (key : ℕ) (old : List (Option ℕ)) where
+  pub looking_begins : IsFresh key old → Looking list row key old old 0 []
+  looking_begins f = record {
+    size = refl;
+    only = λ n c. absurd (omega (arith, c.1));
+    marked = λ n e. absurd (f n key (omega arith) e);
+    all = λ k h. absurd (omega arith);
+    others = λ n j e. inr e;
+  }
+
+  pub looking_on : (looked looked' : List (Option ℕ)) (i : ℕ) (bodies bodies' : List ℕ) → i < length row → Looking list row key old looked i bodies → IsLooked (body_of list row i) key looked looked' None → bodies' ≡ bodies → Looking list row key old looked' (i + 1) bodies'
+  looking_on looked looked' i bodies bodies' here l w e =
+      subst (λ bs. Looking list row key old looked' (i + 1) bs) (sym e) (subst (λ ls. Looking list row key old ls (i + 1) bodies) (sym w.0) (record {
+        size = l.size;
+        only = l.only;
+        marked = l.marked;
+        all = below_more (λ k. (n : ℕ) → slice_get list (get_or row k 0) ≡ Some n → n < length old → Contains bodies n) i l.all
+            (λ n is h. l.marked n (w.1 n (sym (row_body list row i (get_or row i 0) here refl) ∙ is) (omega (arith, h, l.size))));
+        others = l.others;
+      }))
+
+  pub looking_at : (looked looked' : List (Option ℕ)) (i m : ℕ) (bodies bodies' : List ℕ) → i < length row → Looking list row key old looked i bodies → IsLooked (body_of list row i) key looked looked' (Some m) → bodies' ≡ bodies ++ m ∷ [] → Looking list row key old looked' (i + 1) bodies'
+  looking_at looked looked' i m bodies bodies' h l w e =
+      subst (λ bs. Looking list row key old looked' (i + 1) bs) (sym e) (subst (λ ls. Looking list row key old ls (i + 1) (bodies ++ m ∷ [])) (sym w.2) (record {
+        size = length-set looked m (Some key) ∙ l.size;
+        only = λ n c. ⊎_elim (λ k. l.only n k) (λ is. (get_or row i 0, Contains-get_or row i 0 h, row_body list row i (get_or row i 0) h refl ∙ w.0 ∙ ap Some is)) (Contains-push_cases bodies m n c);
+        marked = λ n is. elim (cases_eq n m) [
+          | inl same ↦ subst (Contains (bodies ++ m ∷ [])) (sym same) (Contains-push bodies m)
+          | inr other ↦ Contains-append_left bodies (m ∷ []) n (l.marked n (sym (get_or-set_other looked m n (Some key) None other) ∙ is))
+        ];
+        all = below_more (λ k. (n : ℕ) → slice_get list (get_or row k 0) ≡ Some n → n < length old → Contains (bodies ++ m ∷ []) n) i
+            (λ k lt n is b. Contains-append_left bodies (m ∷ []) n (l.all k lt n is b))
+            (λ n is b. subst (Contains (bodies ++ m ∷ [])) (same_Some m n (sym w.0 ∙ sym (row_body list row i (get_or row i 0) h refl) ∙ is)) (Contains-push bodies m));
+        others = λ n j is. elim (cases_eq n m) [
+          | inl same ↦ inl (same_Some j key (sym is ∙ ap (looked_under (set looked m (Some key))) same ∙ get_or-set_same looked m (Some key) None w.1))
+          | inr other ↦ l.others n j (sym (get_or-set_other looked m n (Some key) None other) ∙ is)
+        ];
+      }))
+
+  pub looking_ends : (looked : List (Option ℕ)) (i : ℕ) (bodies : List ℕ) → length row ≤ i → Looking list row key old looked i bodies → AreBodiesAt (length old) list row bodies
+  looking_ends looked i bodies h l = record {
+    only = l.only;
+    all = λ place n c is b. l.all c.0 (omega (arith, c.1, h)) n (ap (slice_get list) (get_or_default row c.0 0 place c.1 ∙ c.2) ∙ is) b;
+  }
+
+  pub looked_fresh : (looked : List (Option ℕ)) (i : ℕ) (bodies : List ℕ) → IsFresh key old → Looking list row key old looked i bodies → IsFresh (key + 1) looked
+  looked_fresh looked i bodies f l n j h is = ⊎_elim (λ e. absurd (omega (arith, e, h))) (λ was. f n j (omega (arith, h)) was) (l.others n j is)
+
+pub no_value : {A : Type 0} (o : Option A) → ((x : A) → o ≡ Some x → ⊥) → o ≡ None
+no_value None h = refl
+no_value (Some x) h = absurd (h x refl)
+
+-- before the first key
+pub none_looked : (looked : List (Option ℕ)) (n key : ℕ) → looked ≡ replicate n None → IsFresh key looked
+none_looked looked n key e m j h is = let no : None ≡ Some j = sym (at m) ∙ ap (λ ls. looked_under ls m) (sym e) ∙ is in cc
+  where
+    at : (m : ℕ) → looked_under (replicate n None) m ≡ None
+    at m = elim (cases_lt m n) [ inl h ↦ get_or-replicate n m None None h | inr h ↦ get_or_past (replicate n None) m None (omega (arith, h, length-replicate {A = Option ℕ} n None)) ]
