@@ -13,8 +13,8 @@ ghost use Rattle.rn_assemble.specs.inside.Tied.{body_of};
 use crate::bodies::{Bodies, Body};
 use crate::contents::Contents;
 use crate::context::Context;
-use crate::numbers::Numbers;
 use crate::number_runs::Runs;
+use crate::numbers::Numbers;
 use std::alloc::{AllocError, Global};
 use std::rc::RcStr;
 

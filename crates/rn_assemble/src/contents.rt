@@ -169,7 +169,9 @@ fn push_component<'t, 's>(
         ≡ length contents.old.components.items + 1) }
     ensures includes { contents.new.includes.items ≡ contents.old.includes.items }
 {
-    contents.components.push(WrittenComponent { key, method, body })?;
+    contents
+        .components
+        .push(WrittenComponent { key, method, body })?;
     Ok(())
 }
 

@@ -1,8 +1,8 @@
 // A list of numbers that takes memory of its own where it has several runs.
 ghost use Rattle.std.specs.Prelude.{◌≡◌, ◌-◌, ◌++◌, ◌∷◌, [], IfErr, IfOk, length, slice_get, take};
 
-use crate::one_run::OneRun;
 use crate::number_runs::Runs;
+use crate::one_run::OneRun;
 use std::alloc::{AllocError, Global};
 use std::marker::Model;
 

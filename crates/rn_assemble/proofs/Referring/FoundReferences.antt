@@ -27,7 +27,7 @@ use Rattle.rn_assemble.specs.declared.references.Reach.TheVariants.{OutsideEleme
 use Rattle.rn_assemble.specs.declared.bodies.Body.{Body}
 use Rattle.rn_assemble.proofs.Combined.Combinations.{some_joined, joined_definition}
 use Rattle.rn_assemble.proofs.Expansion.LiveLists.{each_filtered}
-use Rattle.rn_assemble.proofs.Referring.KeyNumbers.{key_text, same_key-Decides}
+use Rattle.rn_assemble.proofs.Referring.KeyNumbers.{keyed_name, same_key-Decides}
 use Rattle.rn_assemble.proofs.Joining.KeyedBodies.{IsKeyed, of_key_at}
 
 -- ---- elements of mapped and filtered lists
@@ -219,7 +219,7 @@ module _ (names : List Text) (bs : List Body) (list : List ℕ) where
     name_contained zero x h e = cc
     name_contained (suc i) x h e =
         let l : i < length names = omega arith in
-        (i, l, get_or_default names i x [] l ∙ key_text (get_or names i []) x e)
+        (i, l, get_or_default names i x [] l ∙ keyed_name (get_or names i []) x e)
 
     -- a name that is defined is one of the names
     pub defined_name : (x : Text) → IsDefined x → Contains names x
