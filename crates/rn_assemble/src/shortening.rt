@@ -1,13 +1,13 @@
 // The URIs of modules' declarations replaced by short texts.
 ghost use Rattle.std.specs.Prelude.{◌≡◌, ◌⊎◌, ◌∷◌, ◌++◌, [], IfOk, OnOk, map, option_map};
 ghost use Rattle.std.specs.Cow.{cow_str_bytes};
-ghost use Rattle.std.specs.List.{AllByRecursion, list_any};
+ghost use Rattle.std.specs.List.{AllByRecursion, AllZip, list_any};
 ghost use Rattle.rn_syntax.specs.Places.{uri_of};
 ghost use Rattle.rn_syntax.specs.View.{declaration_view};
 ghost use Rattle.rn_assemble.specs.ShortTexts.{IsKnown, IsTable, declared_uris, is_long, literal_text, long_uri, module_uris, short_texts, short_texts_of, special_uris};
 ghost use Rattle.rn_assemble.specs.inside.Covered.{AreCovered, HasShort, IsCovered, StandsForDeclaration, StandsForModule};
 ghost use Rattle.rn_assemble.specs.inside.GatheredUris.{AreGathered, GathersUris};
-ghost use Rattle.rn_assemble.specs.inside.RenamedModules.{DeclareKnown, DeclaresKnown, renamed_declaration, renamed_modules};
+ghost use Rattle.rn_assemble.specs.inside.RenamedModules.{DeclareKnown, renamed_modules};
 ghost use Rattle.rn_assemble.specs.inside.Views.{modules_view, named_module_view};
 
 use crate::named_modules::NamedModule;
@@ -161,82 +161,83 @@ pub(crate) fn shorten_modules<'a>(
     if uris.is_empty() {
         return Ok(modules);
     }
-    let mut short = Vec::with_capacity(alloc, modules.len())?;
-    for module in modules {
-        short.push(shorten_module(alloc, uris, module)?)?;
+    shorten_each(alloc, uris, modules)
+}
+
+/// What declares URIs, in whose place short texts can stand.
+trait Shorten: Sized + Drop {
+    ghost use Rattle.rn_assemble.specs.ShortTexts.{ShortTexts};
+
+    // A short text stands for each URI that it declares.
+    ghost is_covered: { ShortTexts → Self → Type 0 };
+
+    // With these short texts, the second stands for the first.
+    ghost stands_for: { ShortTexts → Self → Self → Type 0 };
+
+    /// What stands for it, with short texts in the place of its URIs.
+    fn shorten(self, alloc: Global, uris: &ShortUris) -> Result<Self, AllocError>
+        requires table { IsTable (short_texts uris.now) }
+        requires covered { is_covered (short_texts uris.now) self }
+        ensures { IfOk result (stands_for (short_texts uris.now) self) };
+}
+
+/// What stands for each of the list, with short texts in the place of its URIs.
+fn shorten_each<T: Shorten>(
+    alloc: Global,
+    uris: &ShortUris,
+    list: Vec<T>,
+) -> Result<Vec<T>, AllocError>
+    requires table { IsTable (short_texts uris.now) }
+    requires covered { AllByRecursion (T.is_covered (short_texts uris.now)) list.items }
+    ensures { IfOk result (λ short. AllZip (T.stands_for (short_texts uris.now))
+        list.items short.items) }
+{
+    let mut short = Vec::with_capacity(alloc, list.len())?;
+    for item in list {
+        short.push(item.shorten(alloc, uris)?)?;
     }
     Ok(short)
 }
 
-/// A module with short texts in the place of the URIs that it declares.
-fn shorten_module<'a>(
-    alloc: Global,
-    uris: &ShortUris,
-    module: NamedModule<'a>,
-) -> Result<NamedModule<'a>, AllocError>
-    requires table { IsTable (short_texts uris.now) }
-    requires covered { AllByRecursion (IsCovered (short_texts uris.now))
-        (named_module_view «module»).tree.declarations }
-    ensures { IfOk result (λ m. StandsForModule (short_texts uris.now)
-        (named_module_view «module».entry) (named_module_view m)) }
-{
-    let NamedModule { name, tree } = module;
-    let Module { decls, items } = tree;
-    let decls = shorten_declarations(alloc, uris, decls)?;
-    Ok(NamedModule {
-        name,
-        tree: Module { decls, items },
-    })
-}
+impl<'a> Shorten for NamedModule<'a> {
+    ghost is_covered = { λ es m. AllByRecursion (IsCovered es)
+        (named_module_view m).tree.declarations };
 
-/// The declarations with short texts in the place of their URIs.
-fn shorten_declarations<'a>(
-    alloc: Global,
-    uris: &ShortUris,
-    declarations: Vec<Declaration<'a>>,
-) -> Result<Vec<Declaration<'a>>, AllocError>
-    requires table { IsTable (short_texts uris.now) }
-    requires covered { AllByRecursion (IsCovered (short_texts uris.now))
-        (map declaration_view declarations.items) }
-    ensures renamed { IfOk result
-        (λ v. map (renamed_declaration (long_uri (short_texts uris.now)))
-        (map declaration_view v.items) ≡ map declaration_view declarations.entry.items) }
-    ensures known { IfOk result
-        (λ v. AllByRecursion (DeclaresKnown (IsKnown (short_texts uris.now)))
-        (map declaration_view v.items)) }
-{
-    let mut short = Vec::with_capacity(alloc, declarations.len())?;
-    for declaration in declarations {
-        short.push(shorten_declaration(alloc, uris, declaration)?)?;
+    ghost stands_for = { λ es m n. StandsForModule es (named_module_view m) (named_module_view n) };
+
+    fn shorten(self, alloc: Global, uris: &ShortUris) -> Result<NamedModule<'a>, AllocError> {
+        let NamedModule { name, tree } = self;
+        let Module { decls, items } = tree;
+        let decls = shorten_each(alloc, uris, decls)?;
+        Ok(NamedModule {
+            name,
+            tree: Module { decls, items },
+        })
     }
-    Ok(short)
 }
 
-/// The declaration with a short text in the place of its URI.
-fn shorten_declaration<'a>(
-    alloc: Global,
-    uris: &ShortUris,
-    declaration: Declaration<'a>,
-) -> Result<Declaration<'a>, AllocError>
-    requires table { IsTable (short_texts uris.now) }
-    requires covered { IsCovered (short_texts uris.now) (declaration_view declaration) }
-    ensures { IfOk result (λ d. StandsForDeclaration (short_texts uris.now)
-        (declaration_view declaration.entry) (declaration_view d)) }
-{
-    match declaration {
-        Declaration::Namespace(prefix, Uri::Literal(uri)) => {
-            let uri = shorten_text(alloc, uris, uri)?;
-            Ok(Declaration::Namespace(prefix, Uri::Literal(uri)))
+impl<'a> Shorten for Declaration<'a> {
+    ghost is_covered = { λ es d. IsCovered es (declaration_view d) };
+
+    ghost stands_for = { λ es d e. StandsForDeclaration es (declaration_view d)
+        (declaration_view e) };
+
+    fn shorten(self, alloc: Global, uris: &ShortUris) -> Result<Declaration<'a>, AllocError> {
+        match self {
+            Declaration::Namespace(prefix, Uri::Literal(uri)) => {
+                let uri = shorten_text(alloc, uris, uri)?;
+                Ok(Declaration::Namespace(prefix, Uri::Literal(uri)))
+            }
+            Declaration::Default(at, prefix, Uri::Literal(uri)) => {
+                let uri = shorten_text(alloc, uris, uri)?;
+                Ok(Declaration::Default(at, prefix, Uri::Literal(uri)))
+            }
+            Declaration::Datatypes(prefix, uri) => {
+                let uri = shorten_text(alloc, uris, uri)?;
+                Ok(Declaration::Datatypes(prefix, uri))
+            }
+            inherited => Ok(inherited),
         }
-        Declaration::Default(at, prefix, Uri::Literal(uri)) => {
-            let uri = shorten_text(alloc, uris, uri)?;
-            Ok(Declaration::Default(at, prefix, Uri::Literal(uri)))
-        }
-        Declaration::Datatypes(prefix, uri) => {
-            let uri = shorten_text(alloc, uris, uri)?;
-            Ok(Declaration::Datatypes(prefix, uri))
-        }
-        inherited => Ok(inherited),
     }
 }
 

@@ -16,11 +16,14 @@ module _ {X Y : Type 0} (P : Y → Type 0) (f : X → Y) where
   pub each_seen : (xs : List X) (i : ℕ) → length xs ≤ i → AllByRecursion P (map f (take i xs)) → AllByRecursion P (map f xs)
   each_seen xs i l h = subst (λ (ys : List X). AllByRecursion P (map f ys)) (take_all i xs l) h
 
-  -- the one that comes behind those so far
-  pub of_next : (zs xs : List X) (x : X) (ys : List X) → xs ++ x ∷ ys ≡ zs → AllByRecursion P (map f zs) → P (f x)
-  of_next zs xs x ys e h =
-      (each_behind P (map f xs) (f x ∷ map f ys)
-      (subst (AllByRecursion P) (ap (map f) (sym e) ∙ map-append f xs (x ∷ ys)) h)).0
+  -- what holds of all that the things are seen as
+  pub of_views : (xs : List X) → AllByRecursion P (map f xs) → AllByRecursion (λ x. P (f x)) xs
+  of_views [] h = tt
+  of_views (x ∷ xs) h = (h.0, of_views xs h.1)
+
+-- the one that comes behind those so far
+pub of_next : {X : Type 0} (P : X → Type 0) (zs xs : List X) (x : X) (ys : List X) → xs ++ x ∷ ys ≡ zs → AllByRecursion P zs → P x
+of_next P zs xs x ys e h = (each_behind P xs (x ∷ ys) (subst (AllByRecursion P) (sym e) h)).0
 
 -- none comes behind those so far
 pub all_yielded : {X : Type 0} (xs ys zs : List X) → xs ++ ys ≡ zs → length ys ≡ 0 → xs ≡ zs
