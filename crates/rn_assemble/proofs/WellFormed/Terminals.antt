@@ -13,7 +13,6 @@ use Rattle.rn_text.specs.Characters.{is_xml_char, is_ncname, is_keyword, is_name
 use Rattle.rn_text.specs.Segments.{run_of, after_run, begins_with, escape_front, is_whole_escape, escaped_char, after_escape, opens_threefold, is_segment, between_delimiters, text_after, segment_text}
 use Rattle.rn_text.specs.Parts.{spells, Piece, text_of, IsCut}
 use Rattle.rn_text.specs.Tokens.{Lexeme, HasTokens, width, unmarked, unmarked_start, has_mark}
-use Rattle.rn_text.proofs.TokenLists.CutLexemes.{all_parts}
 use Rattle.rn_text.proofs.Words.XmlNames.{ncname_xml}
 use Rattle.rn_text.proofs.Words.AppendedLists.{all_append, all_parts}
 use Rattle.rn_text.proofs.Quoting.SegmentContents.{EscapesWhole, segment_whole}
