@@ -108,5 +108,5 @@ module _ {A : Type 0} {V S : Tokens → A → Tokens → Type 0} {F G : Tokens �
   chain_end (c ∷ d ∷ cs) ts now u n = parts_took f (c ∷ d ∷ cs) [] (ap f (sym (append-nil (c ∷ d ∷ cs)))) u (rest_end n)
 
 -- a member that was pushed, seen as its tree, stands behind the trees of those before it
-pub pushed : {X A : Type 0} {xs ys : List X} {x : X} (view : X → A) → ys ≡ xs ++ x ∷ [] → map view ys ≡ map view xs ++ view x ∷ []
-pushed {xs = xs} {x = x} view e = ap (map view) e ∙ map-append view xs (x ∷ [])
+pub pushed : {X A : Type 0} {ys : List X} (view : X → A) (xs : List X) (x : X) → ys ≡ xs ++ x ∷ [] → map view ys ≡ map view xs ++ view x ∷ []
+pushed view xs x e = ap (map view) e ∙ map-append view xs (x ∷ [])

@@ -153,7 +153,7 @@ pub name_class-choice-init : goal.name_class-choice-init
 name_class-choice-init t c = record {
   further = c.in_ok-first.ensures.inside.further;
   inside = c.in_ok-first.ensures.inside.inside;
-  so_far = λ s. so_far_same _ _ (sym (pushed class_view c.in_ok-push_member.ensures ∙ ap (λ l. map class_view l ++ boxed_class_view c.in_ok-first.first ∷ []) c.in_ok-members.ensures.items))
+  so_far = λ s. so_far_same _ _ (sym (pushed class_view _ _ c.in_ok-push_member.ensures ∙ ap (λ l. map class_view l ++ boxed_class_view c.in_ok-first.first ∷ []) c.in_ok-members.ensures.items))
       (class_first (c.in_ok-first.ensures.reads s), c.if-not-is_operator.ensures.is);
 }
 
@@ -163,7 +163,7 @@ name_class-choice-preserved t c =
     record {
       further = omega (arith, c.in_ok-class.ensures.inside.further);
       inside = c.in_ok-class.ensures.inside.inside;
-      so_far = λ s. so_far_same _ _ (sym (pushed class_view c.in_ok-push_member-2.ensures))
+      so_far = λ s. so_far_same _ _ (sym (pushed class_view _ _ c.in_ok-push_member-2.ensures))
           (chain_read classes_chain _ _ _ (c.choice.invariant.so_far s) here.1 (c.in_ok-class.ensures.reads s));
     }
 

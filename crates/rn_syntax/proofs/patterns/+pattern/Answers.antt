@@ -331,7 +331,7 @@ pattern-chain-init t c = record {
   here = c.in-Operator.ensures.next;
   so_far = λ s.
       let here = ap first_terminal c.in-Operator.ensures.next.1 in
-      operands_same c.in-Operator.operator _ _ (sym (pushed pattern_view c.in_ok-push_member.ensures ∙ ap (λ l. map pattern_view l ++ boxed_view c.in_ok-first.first ∷ []) c.in_ok-members.ensures.items))
+      operands_same c.in-Operator.operator _ _ (sym (pushed pattern_view _ _ c.in_ok-push_member.ensures ∙ ap (λ l. map pattern_view l ++ boxed_view c.in_ok-first.first ∷ []) c.in_ok-members.ensures.items))
       (pattern_first c.in-Operator.operator here (c.in_ok-first.ensures.reads s), here);
 }
 
@@ -340,7 +340,7 @@ pattern-chain-preserved t c = record {
   further = omega (arith, c.chain.invariant.further, c.in_ok-member.ensures.inside.further);
   inside = c.if-not-is_operator.ensures.inside refl;
   here = terminal_at c.args.tokens.now c.in_ok-member.behind (operator c.in-Operator.operator) (c.if-not-is_operator.ensures.inside refl) c.if-not-is_operator.ensures.is;
-  so_far = λ s. operands_same c.in-Operator.operator _ _ (sym (pushed pattern_view c.in_ok-push_member-2.ensures))
+  so_far = λ s. operands_same c.in-Operator.operator _ _ (sym (pushed pattern_view _ _ c.in_ok-push_member-2.ensures))
       (chain_read (operands_chain c.in-Operator.operator) _ _ _ (c.chain.invariant.so_far s) c.chain.invariant.here.1 (c.in_ok-member.ensures.reads s));
 }
 
@@ -355,5 +355,5 @@ pattern-returns-then-not-is_operator-clause-inside t c = made_advanced boxed_vie
 pub pattern-returns-then-not-is_operator-clause-reads : goal.pattern-returns-then-not-is_operator-clause-reads
 pattern-returns-then-not-is_operator-clause-reads t c = made_reads boxed_view c.args.tokens.now c.args.at c.in_ok-member.behind c.chain-then-not-is_operator.result c.chain-then-not-is_operator.ensures
     (λ s. chain_end (operands_chain c.in-Operator.operator) _ _ _
-    (operands_same c.in-Operator.operator _ _ (sym (pushed pattern_view c.in_ok-push_member-2.ensures)) (chain_read (operands_chain c.in-Operator.operator) _ _ _ (c.chain.invariant.so_far s) c.chain.invariant.here.1 (c.in_ok-member.ensures.reads s)))
+    (operands_same c.in-Operator.operator _ _ (sym (pushed pattern_view _ _ c.in_ok-push_member-2.ensures)) (chain_read (operands_chain c.in-Operator.operator) _ _ _ (c.chain.invariant.so_far s) c.chain.invariant.here.1 (c.in_ok-member.ensures.reads s)))
     c.if-not-is_operator.ensures.is)
