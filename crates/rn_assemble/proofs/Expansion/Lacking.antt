@@ -12,7 +12,7 @@ use Rattle.rn_pattern.specs.References.{Reaches, by_one, by_more}
 use Rattle.rn_pattern.proofs.Ordered.InOrder.{contained_each, each_contained}
 use Rattle.rn_syntax.specs.Tree as t
 use Rattle.rn_syntax.specs.Tree.{Declaration, Item, Items, item_includes, includes}
-use Rattle.rn_assemble.specs.Components.{Key, NamedModule, Includes, components_within, instance_limit, instances_within, modules_named, roots}
+use Rattle.rn_assemble.specs.Components.{Key, NamedModule, Includes, components_within, instance_limit, instances_within, modules_named, roots, included_by}
 use Rattle.rn_assemble.specs.inside.Contained.{AreFlat}
 use Rattle.rn_assemble.specs.inside.Expanded.{name_at}
 use Rattle.rn_assemble.specs.inside.Included.{AreIncluded}

@@ -9,7 +9,7 @@ use Rattle.rn_pattern.proofs.Ordered.Ascending.{each_front, each_behind}
 use Rattle.rn_pattern.proofs.Ordered.InOrder.{each_contained}
 use Rattle.rn_syntax.specs.Tree as t
 use Rattle.rn_syntax.specs.Tree.{Declaration, Item, Items, item_includes, includes}
-use Rattle.rn_assemble.specs.Components.{Key, Component, NamedModule, same_key, has_key, without_overridden, handed_on, item_components, all_components, module_components, modules_named, components_within, instances_within}
+use Rattle.rn_assemble.specs.Components.{Key, Component, NamedModule, same_key, has_key, without_overridden, handed_on, item_components, all_components, module_components, modules_named, components_within, instances_within, included_by}
 use Rattle.rn_assemble.specs.Refusal.{item_lacks, items_lack}
 use Rattle.rn_assemble.proofs.Combined.Depth.{components_enough}
 use Rattle.rn_assemble.proofs.Referring.KeyNumbers.{same_key-Decides}
