@@ -20,6 +20,5 @@ pub mod RootNumbers
 pub mod WantedNumbers
 pub mod FirstIncludes
 pub mod EntryMarks
-pub mod NumberRanges
 pub mod RunNumbers
 pub mod CountedBodies

@@ -21,7 +21,6 @@ pub mod Listed
 pub mod Methods
 pub mod ModuleTexts
 pub mod Noting
-pub mod NumberRanges
 pub mod NumberRuns
 pub mod OneProof
 pub mod Patterns

@@ -1,10 +1,9 @@
 // The components of modules in contexts, numbered on from context to context.
-ghost use Rattle.std.specs.Prelude.{◌≡◌, ◌-◌, ◌≤◌, ◌++◌, [], IfErr, IfOk, length, slice_get};
-ghost use Rattle.rn_assemble.specs.inside.Bodies.{bodies_in, bodies_of};
+ghost use Rattle.std.specs.Prelude.{◌≡◌, ◌+◌, ◌-◌, ◌<◌, ◌≤◌, ◌++◌, [], IsTrue, IfErr, IfOk, MatchOption, length, slice_get};
+ghost use Rattle.rn_assemble.specs.inside.Bodies.{AreCounted, HasNumber, HaveNumber, bodies_in, bodies_of};
 
 use crate::contents::{Contents, WrittenComponent};
 use crate::context::Context;
-use crate::number_ranges::{NumberRange, place_of};
 use std::alloc::{AllocError, Global};
 use std::marker::Model;
 
@@ -23,16 +22,16 @@ struct ModuleBodies<'c, 't, 's> {
     first: usize,
 }
 
-impl<'c, 't, 's> NumberRange for ModuleBodies<'c, 't, 's> {
-    ghost first_number = { λ r. r.first };
-
-    #[inline(always)]
-    fn first(&self) -> usize {
-        self.first
-    }
-}
-
 impl<'c, 't, 's> ModuleBodies<'c, 't, 's> {
+    /// Whether one of the components has the number.
+    #[inline(always)]
+    fn has(&self, number: usize) -> bool
+        ensures { IsTrue result → (self.now.first ≤ number)
+            × (number < self.now.first + length self.now.content.now.components.items) }
+    {
+        self.first <= number && number - self.first < self.content.components.len()
+    }
+
     /// The body of that number.
     #[inline(always)]
     fn body(&self, number: usize) -> Option<Body<'c, 't, 's>>
@@ -120,12 +119,61 @@ impl<'c, 't, 's> Bodies<'c, 't, 's> {
     pub fn get(&self, number: usize, near: &mut usize) -> Option<Body<'c, 't, 's>>
         ensures { result ≡ slice_get self.now number }
     {
-        if number >= self.len {
-            return None;
-        }
         let contexts = self.contexts.as_slice();
-        let place = place_of(contexts, number, *near);
+        let place = place_of(contexts, self.len, number, *near)?;
         *near = place;
         contexts[place].body(number)
+    }
+}
+
+/// The place of the context that has a number, if there is one. It is looked for first at a place.
+#[inline(always)]
+fn place_of(
+    contexts: &[ModuleBodies<'_, '_, '_>],
+    len: usize,
+    number: usize,
+    near: usize,
+) -> Option<usize>
+    requires { AreCounted 0 contexts.now len }
+    ensures { MatchOption result (len ≤ number) (HasNumber contexts.now number) }
+{
+    if has_number(contexts, number, near) {
+        return Some(near);
+    }
+    if number >= len {
+        return None;
+    }
+    Some(place_elsewhere(contexts, number, near))
+}
+
+/// The place of the context that has a number, looked for first behind a place.
+#[inline(never)]
+fn place_elsewhere(contexts: &[ModuleBodies<'_, '_, '_>], number: usize, near: usize) -> usize
+    requires { HaveNumber contexts.now number }
+    ensures { HasNumber contexts.now number result }
+{
+    let next = near.saturating_add(1);
+    if has_number(contexts, number, next) {
+        return next;
+    }
+    last_from(contexts, number)
+}
+
+/// The place of the last context whose bodies begin at a number or before it.
+fn last_from(contexts: &[ModuleBodies<'_, '_, '_>], number: usize) -> usize
+    requires { HaveNumber contexts.now number }
+    ensures { HasNumber contexts.now number result }
+{
+    contexts.partition_point(|context| context.first <= number) - 1
+}
+
+/// Whether there is a context at the place, and it has the number.
+#[inline(always)]
+fn has_number(contexts: &[ModuleBodies<'_, '_, '_>], number: usize, place: usize) -> bool
+    ensures { IsTrue result → HasNumber contexts.now number place }
+{
+    match contexts.get(place) {
+        Some(context) => context.has(number),
+        None => false,
     }
 }

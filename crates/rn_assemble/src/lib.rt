@@ -21,7 +21,6 @@ mod joined_grammar;
 mod keys;
 mod named_modules;
 mod nodes;
-mod number_ranges;
 mod number_runs;
 mod numbers;
 mod one_run;

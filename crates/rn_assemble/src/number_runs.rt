@@ -1,8 +1,7 @@
 // A list of numbers, held as runs in each of which a number is one more than the one before.
-ghost use Rattle.std.specs.Prelude.{◌≡◌, ◌-◌, ◌++◌, ◌∷◌, ◌↔◌, [], IsTrue, IfErr, IfOk, length, slice_get, take};
-ghost use Rattle.rn_assemble.specs.inside.NumberRuns.{ContinuesWith, LastBeginsAt};
+ghost use Rattle.std.specs.Prelude.{◌≡◌, ◌+◌, ◌-◌, ◌<◌, ◌++◌, ◌∷◌, ◌↔◌, [], IsTrue, IfErr, IfOk, IfSome, length, slice_get, take};
+ghost use Rattle.rn_assemble.specs.inside.NumberRuns.{AreRuns, ContinuesWith, HasIndex, HaveIndex, LastBeginsAt, number_at};
 
-use crate::number_ranges::{NumberRange, place_of};
 use crate::one_run::OneRun;
 use std::alloc::{AllocError, Global};
 use std::marker::Model;
@@ -12,15 +11,6 @@ use std::marker::Model;
 struct Run {
     first: usize,
     start: usize,
-}
-
-impl NumberRange for Run {
-    ghost first_number = { λ r. r.first };
-
-    #[inline(always)]
-    fn first(&self) -> usize {
-        self.first
-    }
 }
 
 /// A list of numbers. It takes 16 bytes for each number that is not one more than the one before it. Contracts see
@@ -80,11 +70,22 @@ impl Runs {
     pub fn get(&self, index: usize, near: &mut usize) -> Option<usize>
         ensures { result ≡ slice_get self.now index }
     {
+        match number_in(self.runs.as_slice(), self.len, index, *near) {
+            Some(number) => Some(number),
+            None => self.find(index, near),
+        }
+    }
+
+    /// The number at an index that another run has than the one at `near`, or none.
+    #[inline(never)]
+    fn find(&self, index: usize, near: &mut usize) -> Option<usize>
+        ensures { result ≡ slice_get self.now index }
+    {
         if index >= self.len {
             return None;
         }
         let runs = self.runs.as_slice();
-        let place = place_of(runs, index, *near);
+        let place = run_of(runs, index, *near);
         *near = place;
         let run = runs[place];
         Some(run.start + (index - run.first))
@@ -133,6 +134,53 @@ impl Runs {
         }
         self.runs.pop();
         self.len = last;
+    }
+}
+
+/// The number at an index, if the run at a place has it.
+#[inline(always)]
+fn number_in(runs: &[Run], len: usize, index: usize, place: usize) -> Option<usize>
+    requires { AreRuns runs.now len }
+    ensures { IfSome result (λ number. (index < len) × (number_at 0 runs.now index ≡ number)) }
+{
+    if index >= len || !has_index(runs, index, place) {
+        return None;
+    }
+    let run = runs[place];
+    Some(run.start + (index - run.first))
+}
+
+/// The place of the run that has an index, looked for first behind a place.
+fn run_of(runs: &[Run], index: usize, near: usize) -> usize
+    requires { HaveIndex runs.now index }
+    ensures { HasIndex runs.now index result }
+{
+    let next = near.saturating_add(1);
+    if has_index(runs, index, next) {
+        return next;
+    }
+    last_from(runs, index)
+}
+
+/// The place of the last run that begins at an index or before it.
+fn last_from(runs: &[Run], index: usize) -> usize
+    requires { HaveIndex runs.now index }
+    ensures { HasIndex runs.now index result }
+{
+    runs.partition_point(|run| run.first <= index) - 1
+}
+
+/// Whether there is a run at the place, and it has the index.
+#[inline(always)]
+fn has_index(runs: &[Run], index: usize, place: usize) -> bool
+    ensures { IsTrue result → HasIndex runs.now index place }
+{
+    let Some(run) = runs.get(place) else {
+        return false;
+    };
+    match runs.get(place + 1) {
+        Some(next) => run.first <= index && index < next.first,
+        None => run.first <= index,
     }
 }
 

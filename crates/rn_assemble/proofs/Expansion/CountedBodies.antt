@@ -1,15 +1,15 @@
 -- Bodies numbered on from context to context: which context has a number, and what one context more changes.
-use Rattle.std.proofs.Common.{◌≡◌, ℕ, zero, suc, ◌+◌, ◌-◌, ◌<◌, ◌≤◌, inl, inr, List, [], ◌∷◌, ◌++◌, length, get_or, refl, sym, ap, ◌∙◌, arith}
+use Rattle.std.proofs.Common.{◌≡◌, ℕ, zero, suc, ◌+◌, ◌-◌, ◌<◌, ◌≤◌, true, false, leb, inl, inr, List, [], ◌∷◌, ◌++◌, length, get_or, refl, sym, ap, ◌∙◌, arith}
 use Rattle.std.specs.Prelude.{slice_get}
-use Rattle.std.specs.List.Sorted.{IsNonDecreasingBy}
-use Rattle.std.proofs.lemmas.Bool.{cases_lt}
+use Rattle.std.specs.List.Sorted.{IsNonDecreasingBy, IsPartitionedBy, IsPartitionPoint}
+use Rattle.std.proofs.lemmas.List.Sorted.{IsPartitionedBy-leb}
+use Rattle.std.proofs.lemmas.Bool.{cases_lt, false≢true, le-leb, leb-true, leb-false}
 use Rattle.std.proofs.lemmas.Grind.{flat_map-append}
 use Rattle.std.proofs.lemmas.List.{append-nil, length-append, length-map}
 use Rattle.rn_assemble.specs.declared.bodies.Body.{Body}
 use Rattle.rn_assemble.specs.declared.bodies.ModuleBodies.{ModuleBodies}
 use Rattle.rn_assemble.specs.declared.contents.WrittenComponent as code
-use Rattle.rn_assemble.specs.inside.Bodies.{AreCounted, bodies_in, bodies_of}
-use Rattle.rn_assemble.specs.inside.NumberRanges.{HasNumber, HaveNumber}
+use Rattle.rn_assemble.specs.inside.Bodies.{AreCounted, HasNumber, HaveNumber, bodies_in, bodies_of}
 
 -- how many bodies the context has
 abbrev pub count : ModuleBodies → ℕ
@@ -55,21 +55,28 @@ nondecreasing n (r ∷ rs) all h (suc j) (suc k) d l m = nondecreasing (n + coun
 
 -- ---- the context of a number
 
-abbrev pub first : ModuleBodies → ℕ
-first r = r.first
+pub parted : (rs : List ModuleBodies) (number : ℕ) → HaveNumber rs number → IsPartitionedBy (λ (r : ModuleBodies). leb r.first number) rs
+parted rs number h = IsPartitionedBy-leb (λ (r : ModuleBodies). r.first) rs number (nondecreasing 0 rs h.all h.counted)
 
-pub counted_have : (rs : List ModuleBodies) (all number : ℕ) → AreCounted 0 rs all → number < all → HaveNumber first rs number
-counted_have [] all number h l = absurd (omega (arith, h, l))
-counted_have (r ∷ rs) all number h l = record { some = omega arith; begins = λ d. omega (arith, h.0); ascend = nondecreasing 0 (r ∷ rs) all h }
+abbrev pub Parts : List ModuleBodies → ℕ → ℕ → Type 0
+Parts rs number p = IsPartitionPoint (λ (r : ModuleBodies). leb r.first number ≡ true) (λ (r : ModuleBodies). leb r.first number ≡ false) rs p
 
--- the number is before the end of its context
-before_end : (rs : List ModuleBodies) (all number k : ℕ) (d : ModuleBodies) → AreCounted 0 rs all → number < all → HasNumber first rs number k → number < (get_or rs k d).first + count (get_or rs k d)
-before_end rs all number k d h l x = elim (cases_lt (suc k) (length rs)) [
-  | inl b ↦
-      let next : k + 1 ≡ suc k = omega arith in
-      omega (arith, x.ends d (omega (arith, b)), ap (λ j. (get_or rs j d).first) next, next_starts 0 rs all k d h b)
-  | inr b ↦ omega (arith, l, last_stops 0 rs all k d h (omega (arith, x.within, b)))
-]
+pub some_begin : (rs : List ModuleBodies) (number p : ℕ) → HaveNumber rs number → Parts rs number p → 1 ≤ p
+some_begin [] number p h t = absurd (omega (arith, h.within, h.counted))
+some_begin (r ∷ rs) number zero h t = absurd (false≢true (sym (t.1 0 r (omega arith) (omega arith)) ∙ le-leb r.first number (omega (arith, h.counted.0))))
+some_begin (r ∷ rs) number (suc p) h t = omega arith
+
+pub last_has_number : (rs : List ModuleBodies) (number p : ℕ) → HaveNumber rs number → p ≤ length rs → Parts rs number p → HasNumber rs number (p - 1)
+last_has_number rs number p h l t =
+    let some = some_begin rs number p h t in
+    record {
+      within = omega (arith, l, some);
+      begins = λ d. leb-true (get_or rs (p - 1) d).first number (t.0 (p - 1) d (omega arith) (omega (arith, some)));
+      ends = λ d. elim (cases_lt (suc (p - 1)) (length rs)) [
+        | inl b ↦ omega (arith, leb-false (get_or rs (suc (p - 1)) d).first number (t.1 (suc (p - 1)) d (omega (arith, some)) b), next_starts 0 rs h.all (p - 1) d h.counted b)
+        | inr b ↦ omega (arith, h.within, last_stops 0 rs h.all (p - 1) d h.counted (omega (arith, l, some, b)))
+      ];
+    }
 
 -- ---- the body of a number
 
@@ -97,9 +104,9 @@ got_from n (r ∷ rs) all (suc k) number d h l b e =
     got_from (n + count r) rs all k number d h.1 (omega (arith, l)) b e
     ∙ sym (right_got (own r) (bodies_in rs) (number - n) (number - (n + count r)) (omega (arith, low, high, own_size r)))
 
-pub body_got : (rs : List ModuleBodies) (all number k : ℕ) (d : ModuleBodies) → AreCounted 0 rs all → number < all → HasNumber first rs number k
+pub body_got : (rs : List ModuleBodies) (all number k : ℕ) (d : ModuleBodies) → AreCounted 0 rs all → HasNumber rs number k
     → slice_get (own (get_or rs k d)) (number - (get_or rs k d).first) ≡ slice_get (bodies_in rs) number
-body_got rs all number k d h l x = got_from 0 rs all k number d h x.within (x.begins d) (before_end rs all number k d h l x) ∙ ap (slice_get (bodies_in rs)) (omega arith)
+body_got rs all number k d h x = got_from 0 rs all k number d h x.within (x.begins d) (x.ends d) ∙ ap (slice_get (bodies_in rs)) (omega arith)
 
 -- ---- one context more
 

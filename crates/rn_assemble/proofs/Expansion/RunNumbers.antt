@@ -1,17 +1,14 @@
 -- Numbers held as runs: which run tells the number at an index, and what one number more or less changes.
-use Rattle.std.proofs.Common.{◌≡◌, ℕ, zero, suc, ◌+◌, ◌-◌, ◌<◌, ◌≤◌, ◌^◌, leb, cond, inl, inr, List, [], ◌∷◌, ◌++◌, length, get_or, take, None, Some, refl, sym, ap, ◌∙◌, subst, arith}
+use Rattle.std.proofs.Common.{◌≡◌, ℕ, zero, suc, ◌+◌, ◌-◌, ◌<◌, ◌≤◌, ◌^◌, true, false, leb, cond, inl, inr, List, [], ◌∷◌, ◌++◌, length, get_or, take, None, Some, refl, sym, ap, ◌∙◌, subst, arith}
 use Rattle.std.specs.Prelude.{slice_get}
-use Rattle.std.specs.List.Sorted.{IsNonDecreasingBy}
-use Rattle.std.proofs.lemmas.Bool.{cases_lt, le-leb, lt-leb}
+use Rattle.std.specs.List.Sorted.{IsNonDecreasingBy, IsPartitionedBy, IsPartitionPoint}
+use Rattle.std.proofs.lemmas.List.Sorted.{IsPartitionedBy-leb}
+use Rattle.std.proofs.lemmas.Bool.{cases_lt, false≢true, le-leb, leb-true, leb-false, lt-leb}
 use Rattle.std.proofs.lemmas.List.{length_push, get_or_append_left, get_or_default, get_or_push, take_all, take_more}
 use Rattle.std.proofs.Math.Seq.{take-append_seam}
 use Rattle.std.proofs.lemmas.Option.{slice_get-get_or, slice_get_past}
 use Rattle.rn_assemble.specs.declared.number_runs.Run.{Run}
-use Rattle.rn_assemble.specs.inside.NumberRanges.{HasNumber, HaveNumber}
-use Rattle.rn_assemble.specs.inside.NumberRuns.{AreRuns, ContinuesWith, LastBeginsAt, number_at, numbers, run_from}
-
-abbrev pub first : Run → ℕ
-first r = r.first
+use Rattle.rn_assemble.specs.inside.NumberRuns.{AreRuns, ContinuesWith, HasIndex, HaveIndex, LastBeginsAt, number_at, numbers, run_from}
 
 pub length-numbers : (rs : List Run) (n : ℕ) → length (numbers rs n) ≡ n
 length-numbers rs zero = refl
@@ -51,22 +48,45 @@ found d [] i k e l b h = absurd (omega (arith, l))
 found d (r ∷ rs) i zero e l b h = behind (cond (leb r.first i) (r.start + (i - r.first)) d) rs i (λ k f m. h (suc k) f (omega arith) (omega (arith, m))) ∙ ap (λ c. cond c (r.start + (i - r.first)) d) (le-leb r.first i b)
 found d (r ∷ rs) i (suc k) e l b h = found (cond (leb r.first i) (r.start + (i - r.first)) d) rs i k e (omega (arith, l)) b (λ j f m n. h (suc j) f (omega (arith, m)) (omega (arith, n)))
 
-pub number_found : (rs : List Run) (n i k : ℕ) (e : Run) → AreRuns rs n → HasNumber first rs i k → number_at 0 rs i ≡ (get_or rs k e).start + (i - (get_or rs k e).first)
+pub number_found : (rs : List Run) (n i k : ℕ) (e : Run) → AreRuns rs n → HasIndex rs i k → number_at 0 rs i ≡ (get_or rs k e).start + (i - (get_or rs k e).first)
 number_found rs n i k e h x = found 0 rs i k e x.within (x.begins e) (λ j f l m. elim (cases_lt (k + 1) j) [
   | inl b ↦ omega (arith, x.ends f (omega (arith, b, m)), h.rises (k + 1) j f b m)
   | inr b ↦ let same : k + 1 ≡ j = omega (arith, l, b) in subst (λ p. i < (get_or rs p f).first) same (x.ends f (omega (arith, m, same)))
 ])
 
-nondecreasing : (rs : List Run) (n : ℕ) → AreRuns rs n → IsNonDecreasingBy first rs
-nondecreasing rs n h j k d l m = elim (cases_lt j k) [
+pub runs_have : (rs : List Run) (n i : ℕ) → AreRuns rs n → i < n → HaveIndex rs i
+runs_have rs n i h l =
+    let some = h.some (omega (arith, l)) in
+    record { some = some; begins = λ d. omega (arith, h.begins d some); rises = h.rises }
+
+nondecreasing : (rs : List Run) (i : ℕ) → HaveIndex rs i → IsNonDecreasingBy (λ (r : Run). r.first) rs
+nondecreasing rs i h j k d l m = elim (cases_lt j k) [
   | inl b ↦ omega (arith, h.rises j k d b m)
   | inr b ↦ let q : j ≡ k = omega (arith, l, b) in omega (arith, ap (λ p. (get_or rs p d).first) q)
 ]
 
-pub runs_have : (rs : List Run) (n i : ℕ) → AreRuns rs n → i < n → HaveNumber first rs i
-runs_have rs n i h l =
-    let some = h.some (omega (arith, l)) in
-    record { some = some; begins = λ d. omega (arith, h.begins d some); ascend = nondecreasing rs n h }
+pub parted : (rs : List Run) (i : ℕ) → HaveIndex rs i → IsPartitionedBy (λ (r : Run). leb r.first i) rs
+parted rs i h = IsPartitionedBy-leb (λ (r : Run). r.first) rs i (nondecreasing rs i h)
+
+abbrev pub Parts : List Run → ℕ → ℕ → Type 0
+Parts rs i p = IsPartitionPoint (λ (r : Run). leb r.first i ≡ true) (λ (r : Run). leb r.first i ≡ false) rs p
+
+pub some_begin : (rs : List Run) (i p : ℕ) → HaveIndex rs i → Parts rs i p → 1 ≤ p
+some_begin rs i p h t =
+    let d : Run = record { first = 0; start = 0 } in
+    elim (cases_lt 0 p) [
+      | inl l ↦ omega (arith, l)
+      | inr l ↦ absurd (false≢true (sym (t.1 0 d (omega (arith, l)) h.some) ∙ le-leb (get_or rs 0 d).first i (h.begins d)))
+    ]
+
+pub last_has_index : (rs : List Run) (i p : ℕ) → HaveIndex rs i → p ≤ length rs → Parts rs i p → HasIndex rs i (p - 1)
+last_has_index rs i p h l t =
+    let some = some_begin rs i p h t in
+    record {
+      within = omega (arith, l, some);
+      begins = λ d. leb-true (get_or rs (p - 1) d).first i (t.0 (p - 1) d (omega arith) (omega (arith, some)));
+      ends = λ d m. leb-false (get_or rs (p - 1 + 1) d).first i (t.1 (p - 1 + 1) d (omega (arith, some)) m);
+    }
 
 -- ---- one run more
 
@@ -167,7 +187,7 @@ ended_by rs before n e h =
 
 -- ---- the same runs
 
-last_has : (rs : List Run) (n : ℕ) → AreRuns rs n → 0 < length rs → HasNumber first rs n (length rs - 1)
+last_has : (rs : List Run) (n : ℕ) → AreRuns rs n → 0 < length rs → HasIndex rs n (length rs - 1)
 last_has rs n h l = record {
   within = omega (arith, l);
   begins = λ d. omega (arith, h.within (length rs - 1) d (omega (arith, l)));

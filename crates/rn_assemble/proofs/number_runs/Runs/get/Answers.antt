@@ -1,34 +1,14 @@
-use Rattle.std.proofs.Common.{◌≡◌, ◌-◌, ◌+◌, ℕ, List, None, Some, get_or, sym, ap, ◌∙◌, subst, arith}
+use Rattle.std.proofs.Common.{◌≡◌, ℕ, List, Some, ap, ◌∙◌, subst}
 use Rattle.std.specs.Prelude.{slice_get}
 use Rattle.rn_assemble.specs.declared.number_runs.Run.{Run}
-use Rattle.rn_assemble.specs.inside.NumberRuns.{AreRuns, numbers}
-use Rattle.rn_assemble.proofs.Expansion.RunNumbers.{none_past, number_found, number_got, runs_have}
+use Rattle.rn_assemble.specs.inside.NumberRuns.{numbers}
+use Rattle.rn_assemble.proofs.Expansion.RunNumbers.{number_got}
 use Rattle.rn_assemble.proofs.number_runs.Runs.get.Goals as goal
 
-pub returns-then-index-self : goal.returns-then-index-self
-returns-then-index-self c = subst (λ (l : List ℕ). None ≡ slice_get l c.args.index) c.self.view_is (none_past c.self.inside.runs.items c.self.inside.len c.args.index (omega (arith, c.if-index-self.true)))
-
-pub place_of-place-requires : goal.place_of-place-requires
-place_of-place-requires c =
-    let rs = c.as_slice-runs.result.now in
-    let runs : AreRuns rs c.self.inside.len = subst (λ (l : List Run). AreRuns l c.self.inside.len) (sym c.as_slice-runs.ensures.value) c.self.invariant in
-    runs_have rs c.self.inside.len c.args.index runs (omega (arith, c.if-index-self.false))
-
-pub overflow_add-result : goal.overflow_add-result
-overflow_add-result c =
-    let rs = c.as_slice-runs.result.now in
-    let runs : AreRuns rs c.self.inside.len = subst (λ (l : List Run). AreRuns l c.self.inside.len) (sym c.as_slice-runs.ensures.value) c.self.invariant in
-    let at = number_found rs c.self.inside.len c.args.index c.place_of-place.result (record { first = 0; start = 0 }) runs c.place_of-place.ensures in
-    let small = runs.fits c.args.index (omega (arith, c.if-index-self.false)) in
-    omega (arith, at, small)
-
-pub returns : goal.returns
-returns c =
-    let rs = c.as_slice-runs.result.now in
+pub returns-in-Some : goal.returns-in-Some
+returns-in-Some c =
+    let rs = c.as_slice.result.now in
     let n = c.self.inside.len in
-    let runs : AreRuns rs n = subst (λ (l : List Run). AreRuns l n) (sym c.as_slice-runs.ensures.value) c.self.invariant in
-    let view = ap (λ (l : List Run). numbers l n) c.as_slice-runs.ensures.value ∙ c.self.view_is in
-    let d : Run = record { first = 0; start = 0 } in
-    let r = get_or rs c.place_of-place.result d in
-    subst (λ (l : List ℕ). Some (r.start + (c.args.index - r.first)) ≡ slice_get l c.args.index) view
-    (number_got rs n c.args.index _ (omega (arith, c.if-index-self.false)) (number_found rs n c.args.index c.place_of-place.result d runs c.place_of-place.ensures))
+    let view = ap (λ (l : List Run). numbers l n) c.as_slice.ensures.value ∙ c.self.view_is in
+    subst (λ (l : List ℕ). Some c.in-Some.number ≡ slice_get l c.args.index) view
+    (number_got rs n c.args.index c.in-Some.number c.in-Some.ensures.0 c.in-Some.ensures.1)
