@@ -3,5 +3,5 @@ pub mod MovedBytes
 pub mod Unions
 pub mod BroughtContributions
 pub mod RefusedRuns
-pub mod OneVerdict
+pub mod OneTold
 pub mod Calls

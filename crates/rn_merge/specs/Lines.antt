@@ -27,9 +27,9 @@ use Rattle.rn_merge.specs.declared.words.ProgramFault.TheVariants as failing
 abbrev pub identifier : List ℕ → List ℕ
 identifier name = if is_keyword (chars name) then 92 ∷ name else name
 
-abbrev pub key_text : Key → List ℕ
-key_text Start = codes "start"
-key_text (Define name) = identifier (string_bytes name)
+abbrev pub key_field : Key → List ℕ
+key_field Start = codes "start"
+key_field (Define name) = identifier (string_bytes name)
 
 -- ---- refusals: the name, and the fields behind it
 
@@ -65,12 +65,12 @@ abbrev pub refusal_fields : Refusal → List (List ℕ)
 refusal_fields (refusing.Conflict m revision) = string_bytes m ∷ decimal revision ∷ []
 refusal_fields (refusing.Missing m wanted) = string_bytes m ∷ literal_bytes (string_bytes wanted) ∷ []
 refusal_fields (refusing.Cycle m) = string_bytes m ∷ []
-refusal_fields (refusing.Override m key) = string_bytes m ∷ key_text key ∷ []
-refusal_fields (refusing.PlainTwice key) = key_text key ∷ []
-refusal_fields (refusing.MixedMethods key) = key_text key ∷ []
+refusal_fields (refusing.Override m key) = string_bytes m ∷ key_field key ∷ []
+refusal_fields (refusing.PlainTwice key) = key_field key ∷ []
+refusal_fields (refusing.MixedMethods key) = key_field key ∷ []
 refusal_fields (refusing.Undefined name) = identifier (string_bytes name) ∷ []
 refusal_fields (refusing.Recursive name) = identifier (string_bytes name) ∷ []
-refusal_fields (refusing.NameClass key) = key_text key ∷ []
+refusal_fields (refusing.NameClass key) = key_field key ∷ []
 refusal_fields refusing.Instances = []
 refusal_fields refusing.NoStart = []
 refusal_fields refusing.OutputTooLarge = []

@@ -33,7 +33,7 @@ abbrev pub IsPrintedAlone : Text → Type 0
 IsPrintedAlone text = (name : Text) (revision : ℕ) → IsVerdict (record { name = name; revision = revision; text = Some text } ∷ []) (prints text)
 
 -- the text is the verdict of the set, with all that follows of it
-pub record IsSchema (s : List Member) (text : Text) : Type 0 where
+pub record IsSchemaOfSet (s : List Member) (text : Text) : Type 0 where
   pub verdict : IsVerdict s (prints text)
   pub documents : IsReadAgain s text
   pub unrefused : IsUnrefused s

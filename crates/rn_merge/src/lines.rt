@@ -1,7 +1,7 @@
 // The lines and statuses of the program. No line has a line end.
 ghost use Rattle.std.specs.Prelude.{◌≡◌, ◌++◌, ◌∷◌, IfOk, OnOk, string_bytes};
 ghost use Rattle.rn_modset.specs.Contributions.{member};
-ghost use Rattle.rn_merge.specs.Lines.{identifier, key_text, refusal_name, refusal_fields, refusal_line, list_line, add_line, bundle_line, place_line, fault_line, status};
+ghost use Rattle.rn_merge.specs.Lines.{identifier, key_field, refusal_name, refusal_fields, refusal_line, list_line, add_line, bundle_line, place_line, fault_line, status};
 ghost use Rattle.rn_merge.specs.inside.Fields.{spaced_fields};
 
 use crate::text_faults::Place;
@@ -95,7 +95,8 @@ fn push_word(line: &mut String, word: &str) -> Result<(), AllocError>
 }
 
 fn push_key(line: &mut String, key: &Key) -> Result<(), AllocError>
-    ensures { OnOk result (string_bytes line.new ≡ string_bytes line.old ++ 32 ∷ key_text key.now) }
+    ensures { OnOk result (string_bytes line.new
+        ≡ string_bytes line.old ++ 32 ∷ key_field key.now) }
 {
     match key {
         Key::Start => push_word(line, "start"),

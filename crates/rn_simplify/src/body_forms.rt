@@ -2,11 +2,10 @@
 ghost use Rattle.std.specs.Prelude.{◌≡◌, IfOk, bytes_eq, map};
 ghost use Rattle.std.specs.List.{IsDistinct};
 ghost use Rattle.rn_assemble.specs.GrammarView.{definitions_view, grammar_view};
-ghost use Rattle.rn_pattern.specs.Canonical as form;
 ghost use Rattle.rn_pattern.specs.Tree.{Tree};
 ghost use Rattle.rn_text.specs.Texts.{Text};
 ghost use Rattle.rn_pattern.specs.View.{pattern_view};
-ghost use Rattle.rn_simplify.specs.inside.FormKinds.{becomes};
+ghost use Rattle.rn_simplify.specs.inside.FormKinds.{settled_form};
 ghost use Rattle.rn_simplify.specs.inside.Repeats.{AreFirstsOf};
 
 use crate::normalising::stored_body_form;
@@ -22,16 +21,16 @@ use std::alloc::{AllocError, Global};
 pub(crate) fn body_form(
     alloc: Global,
     settled: &SettledDefinitions<'_>,
-    likely: &[usize],
+    likely_numbers: &[usize],
     body: &Pattern,
     firsts: &[u32],
 ) -> Result<Pattern, AllocError>
     requires { AreFirstsOf firsts.now body.now }
-    ensures { IfOk result (λ p. pattern_view p ≡ form.canonical (becomes settled.now)
+    ensures { IfOk result (λ p. pattern_view p ≡ settled_form settled.now
         (pattern_view body.now)) }
 {
     if firsts.is_empty() {
-        return tree_form(alloc, settled, likely, body);
+        return tree_form(alloc, settled, likely_numbers, body);
     }
     let mut store = Interned::with_seed(alloc, *settled.definitions.hasher());
     stored_body_form(alloc, &mut store, settled, body, firsts)
@@ -46,7 +45,7 @@ pub(crate) fn definition_forms(
     requires { definitions_view settled.now.definitions.now.entries
         ≡ (grammar_view grammar.now).definitions }
     ensures made { IfOk result (λ v. definitions_view v.items
-        ≡ map (λ (d : Text × Tree). (d.0, form.canonical (becomes settled.now) d.1))
+        ≡ map (λ (d : Text × Tree). (d.0, settled_form settled.now d.1))
         (definitions_view settled.now.definitions.now.entries)) }
     ensures distinct { IfOk result
         (λ v. IsDistinct bytes_eq (map (λ d. d.0) (definitions_view v.items))) }
@@ -55,8 +54,8 @@ pub(crate) fn definition_forms(
     for number in 0..settled.definitions.len() {
         let name = name_of(settled.definitions, number).clone()?;
         let body = body_of(settled.definitions, number);
-        let likely = settled.likely(number);
-        let form = body_form(alloc, settled, likely, body, grammar.firsts(number))?;
+        let likely_numbers = settled.likely_numbers(number);
+        let form = body_form(alloc, settled, likely_numbers, body, grammar.firsts(number))?;
         forms.push((name, form))?;
     }
     Ok(forms)

@@ -1,11 +1,10 @@
 // The prefixes of namespaces and datatype libraries, and their declarations (compact syntax, section 2, decl).
 ghost use Rattle.std.specs.Prelude.{◌≡◌, ◌∷◌, [], codes, filter, map, string_bytes, IfOk};
 ghost use Rattle.std.specs.Str.{encode_utf8_all};
-ghost use Rattle.rn_simplify.specs.Spelling.{bindings, has_empty_ns_name, library_prefix, namespace_prefix, place, prefixes, type_piece};
-ghost use Rattle.rn_simplify.specs.inside.Gathers.{is_other};
+ghost use Rattle.rn_simplify.specs.Spelling.{bindings, has_empty_ns_name, library_prefix, namespace_prefix, place, prefixes, type_piece, bound_to, empty_entries, entries, is_other};
 ghost use Rattle.rn_assemble.specs.ShortTexts.{IsTable, long_uri, short_texts};
 ghost use Rattle.rn_simplify.specs.NormalView.{normal_view};
-ghost use Rattle.rn_simplify.specs.inside.Writes.{bound_to, declaration_lines, empty_entries, entries, prefixes_view, Writes, WritesBytes, none};
+ghost use Rattle.rn_simplify.specs.inside.Writes.{declaration_lines, prefixes_view, Writes, WritesBytes, none};
 
 use crate::mentions::Mentions;
 use crate::normal::Normal;
@@ -110,7 +109,7 @@ impl Prefixes {
             writer.put("xml");
         } else {
             writer.put("n");
-            writer.number(place_of(&self.namespaces, uri));
+            writer.put_number(place_of(&self.namespaces, uri));
         }
     }
 
@@ -123,7 +122,7 @@ impl Prefixes {
             writer.put("xsd");
         } else {
             writer.put("d");
-            writer.number(place_of(&self.libraries, uri));
+            writer.put_number(place_of(&self.libraries, uri));
         }
     }
 
@@ -192,6 +191,6 @@ fn write_bound(writer: &mut Writer, uri: &str)
     ensures { Writes (bound_to uri.now) writer.old writer.new }
 {
     writer.put(" = ");
-    writer.literal(uri);
+    writer.put_literal(uri);
     writer.put("\n");
 }

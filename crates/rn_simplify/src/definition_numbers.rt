@@ -11,25 +11,29 @@ use rn_assemble::Definitions;
 const FEW_NUMBERS: usize = 8;
 
 /// The number of the definition of a name. The likely numbers are tried first, if they are few.
-pub(crate) fn find_number(definitions: &Definitions, likely: &[usize], name: &str) -> Option<usize>
+pub(crate) fn find_number(
+    definitions: &Definitions,
+    likely_numbers: &[usize],
+    name: &str,
+) -> Option<usize>
     ensures number { result ≡ number_of (definitions_view definitions.now.entries) name.now }
     ensures within { IfSome result (λ k. k < length definitions.now.entries) }
 {
-    match find_among(definitions, likely, name) {
+    match find_among(definitions, likely_numbers, name) {
         Some(number) => Some(number),
         None => definitions.get_index_of(name),
     }
 }
 
 /// The one of a few numbers whose definition has the name.
-fn find_among(definitions: &Definitions, likely: &[usize], name: &str) -> Option<usize>
+fn find_among(definitions: &Definitions, likely_numbers: &[usize], name: &str) -> Option<usize>
     ensures { IfSome result
         (λ k. number_of (definitions_view definitions.now.entries) name.now ≡ Some k) }
 {
-    if likely.len() > FEW_NUMBERS {
+    if likely_numbers.len() > FEW_NUMBERS {
         return None;
     }
-    for number in likely {
+    for number in likely_numbers {
         if is_named(definitions, *number, name) {
             return Some(*number);
         }

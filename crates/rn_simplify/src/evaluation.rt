@@ -1,7 +1,6 @@
 // The kind of form of each definition of a grammar, by its body and by those that the body refers to outside elements.
 ghost use Rattle.std.specs.Prelude.{◌≡◌, ◌<◌, ℕ, IfOk, OnOk, length, map, slice_index_or, slice_set};
 ghost use Rattle.rn_assemble.specs.GrammarView.{definitions_view, grammar_view};
-ghost use Rattle.rn_pattern.specs.Canonical.{canonical};
 ghost use Rattle.rn_pattern.specs.Graph.{AllBelow};
 ghost use Rattle.rn_pattern.specs.Tree.{Tree, trees_of};
 ghost use Rattle.rn_text.specs.Texts.{Text};
@@ -9,7 +8,7 @@ ghost use Rattle.rn_pattern.specs.View.{pattern_view, shared_view};
 ghost use Rattle.rn_simplify.specs.inside.DefinitionNumbers.{AreSettled};
 ghost use Rattle.rn_simplify.specs.Settling.{IsSettling};
 ghost use Rattle.rn_simplify.specs.inside.SettlingOrder.{IsInOrder};
-ghost use Rattle.rn_simplify.specs.inside.FormKinds.{becomes, tree_kind, group_kind, choice_kind, becomes_by, kind_in, kind_of};
+ghost use Rattle.rn_simplify.specs.inside.FormKinds.{becomes, tree_kind, group_kind, choice_kind, becomes_by, kind_in, kind_of, settled_form};
 ghost use Rattle.rn_simplify.specs.inside.Repeats.{AreFirstsOf};
 
 use crate::form_kind::FormKind;
@@ -77,12 +76,12 @@ fn settle_definition(
     ensures definitions { settled.new.definitions.now.entries
         ≡ settled.old.definitions.now.entries }
     ensures settled { OnOk result ((d : Text × Tree) → settled.new.kinds.items
-        ≡ slice_set settled.old.kinds.items number (kind_of (canonical (becomes settled.old)
+        ≡ slice_set settled.old.kinds.items number (kind_of (settled_form settled.old
         (slice_index_or (definitions_view settled.old.definitions.now.entries) number d).1))) }
 {
     let body = body_of(settled.definitions, number);
-    let likely = settled.likely(number);
-    let kind = evaluate_body(alloc, settled, likely, body, grammar.firsts(number))?;
+    let likely_numbers = settled.likely_numbers(number);
+    let kind = evaluate_body(alloc, settled, likely_numbers, body, grammar.firsts(number))?;
     settled.kinds[number] = kind;
     Ok(())
 }
@@ -91,7 +90,7 @@ fn settle_definition(
 fn evaluate_body(
     alloc: Global,
     settled: &SettledDefinitions<'_>,
-    likely: &[usize],
+    likely_numbers: &[usize],
     body: &Pattern,
     firsts: &[u32],
 ) -> Result<FormKind, AllocError>
@@ -99,8 +98,8 @@ fn evaluate_body(
     ensures { IfOk result (λ w. w ≡ tree_kind (kind_in settled.now) (pattern_view body.now)) }
 {
     match without_repeats(alloc, body, firsts)? {
-        Some(distinct) => Ok(evaluate_pattern(settled, likely, &distinct)),
-        None => Ok(evaluate_pattern(settled, likely, body)),
+        Some(distinct) => Ok(evaluate_pattern(settled, likely_numbers, &distinct)),
+        None => Ok(evaluate_pattern(settled, likely_numbers, body)),
     }
 }
 
@@ -108,7 +107,7 @@ fn evaluate_body(
 #[cycle(evaluate_pattern)]
 fn evaluate_pattern(
     settled: &SettledDefinitions<'_>,
-    likely: &[usize],
+    likely_numbers: &[usize],
     pattern: &Pattern,
 ) -> FormKind
     ensures { result ≡ tree_kind (kind_in settled.now) (pattern_view pattern.now) }
@@ -116,13 +115,14 @@ fn evaluate_pattern(
     match pattern {
         Pattern::NotAllowed => FormKind::NotAllowed,
         Pattern::Empty => FormKind::Empty,
-        Pattern::Ref(name) => settled.kind_of(likely, name),
-        Pattern::List(content) => evaluate_pattern(settled, likely, content).around(),
-        Pattern::Attribute(_, content) => evaluate_pattern(settled, likely, content).around(),
-        Pattern::OneOrMore(content) => evaluate_pattern(settled, likely, content),
-        Pattern::Group(members) => evaluate_all(settled, likely, members),
-        Pattern::Interleave(members) => evaluate_all(settled, likely, members),
-        Pattern::Choice(members) => evaluate_any(settled, likely, members),
+        Pattern::Ref(name) => settled.kind_of(likely_numbers, name),
+        Pattern::List(content) | Pattern::Attribute(_, content) => {
+            evaluate_pattern(settled, likely_numbers, content).around()
+        }
+        Pattern::OneOrMore(content) => evaluate_pattern(settled, likely_numbers, content),
+        Pattern::Group(members) => evaluate_all(settled, likely_numbers, members),
+        Pattern::Interleave(members) => evaluate_all(settled, likely_numbers, members),
+        Pattern::Choice(members) => evaluate_any(settled, likely_numbers, members),
         Pattern::Text | Pattern::Value(_) | Pattern::Datum(_, _) | Pattern::Element(_, _) =>
             FormKind::Other,
     }
@@ -132,7 +132,7 @@ fn evaluate_pattern(
 #[cycle(evaluate_pattern)]
 fn evaluate_all(
     settled: &SettledDefinitions<'_>,
-    likely: &[usize],
+    likely_numbers: &[usize],
     members: &[Rc<Pattern>],
 ) -> FormKind
     ensures { result ≡ group_kind (kind_in settled.now)
@@ -140,7 +140,7 @@ fn evaluate_all(
 {
     let mut kind = FormKind::Empty;
     for member in members {
-        kind = kind.both(evaluate_pattern(settled, likely, member));
+        kind = kind.both(evaluate_pattern(settled, likely_numbers, member));
     }
     kind
 }
@@ -149,7 +149,7 @@ fn evaluate_all(
 #[cycle(evaluate_pattern)]
 fn evaluate_any(
     settled: &SettledDefinitions<'_>,
-    likely: &[usize],
+    likely_numbers: &[usize],
     members: &[Rc<Pattern>],
 ) -> FormKind
     ensures { result ≡ choice_kind (kind_in settled.now)
@@ -157,7 +157,7 @@ fn evaluate_any(
 {
     let mut kind = FormKind::NotAllowed;
     for member in members {
-        kind = kind.either(evaluate_pattern(settled, likely, member));
+        kind = kind.either(evaluate_pattern(settled, likely_numbers, member));
     }
     kind
 }

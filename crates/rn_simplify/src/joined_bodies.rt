@@ -1,11 +1,10 @@
 // The canonical form of a body, each of whose members is brought into its form once (RELAX NG 2001, 4.17, 4.20 and 4.21).
-ghost use Rattle.std.specs.Prelude.{◌≡◌, ◌<◌, All, IfOk, IsTrue, length, map, slice_index_or, take};
-ghost use Rattle.rn_pattern.specs.Canonical as form;
-ghost use Rattle.rn_pattern.specs.Canonical.{canonical_all, choice_step, interleave_step};
-ghost use Rattle.rn_pattern.specs.Store.{KeepsIds, StandsFor};
+ghost use Rattle.std.specs.Prelude.{◌≡◌, ◌<◌, IfOk, length, map, slice_index_or, take};
+ghost use Rattle.rn_pattern.specs.Canonical.{choice_step, interleave_step};
+ghost use Rattle.rn_pattern.specs.Store.{KeepsIds, StandsFor, KnowsAll};
 ghost use Rattle.rn_pattern.specs.Tree.{Tree, trees_of};
 ghost use Rattle.rn_pattern.specs.View.{pattern_view, shared_view};
-ghost use Rattle.rn_simplify.specs.inside.FormKinds.{becomes};
+ghost use Rattle.rn_simplify.specs.inside.FormKinds.{settled_form, settled_forms};
 ghost use Rattle.rn_simplify.specs.inside.Repeats.{AreFirstsAmong, AreFirstsOf};
 
 use crate::list_kind::ListKind;
@@ -26,7 +25,7 @@ pub(crate) fn canonical_body<P: Patterns>(
 ) -> Result<P::Id, AllocError>
     requires { AreFirstsOf firsts.now body.now }
     ensures made { IfOk result (StandsFor (P.knows store.new) (P.tree_of store.new)
-        (form.canonical (becomes settled.now) (pattern_view body.now))) }
+        (settled_form settled.now (pattern_view body.now))) }
     ensures kept { KeepsIds P.knows P.tree_of store.old store.new }
 {
     if firsts.is_empty() {
@@ -39,7 +38,7 @@ pub(crate) fn canonical_body<P: Patterns>(
     }
 }
 
-/// The id of the canonical form of a choice of the members. Those that stand before fall away.
+/// The id of the canonical form of a choice of the members. One that stands among them before falls away.
 fn choice_form<P: Patterns>(
     alloc: Global,
     store: &mut P,
@@ -49,7 +48,7 @@ fn choice_form<P: Patterns>(
 ) -> Result<P::Id, AllocError>
     requires { AreFirstsAmong firsts.now members.now }
     ensures made { IfOk result (StandsFor (P.knows store.new) (P.tree_of store.new)
-        (choice_step (canonical_all (becomes settled.now)
+        (choice_step (settled_forms settled.now
         (trees_of (map shared_view members.now))))) }
     ensures kept { KeepsIds P.knows P.tree_of store.old store.new }
 {
@@ -67,7 +66,7 @@ fn interleave_form<P: Patterns>(
 ) -> Result<P::Id, AllocError>
     requires { AreFirstsAmong firsts.now members.now }
     ensures made { IfOk result (StandsFor (P.knows store.new) (P.tree_of store.new)
-        (interleave_step (canonical_all (becomes settled.now)
+        (interleave_step (settled_forms settled.now
         (trees_of (map shared_view members.now))))) }
     ensures kept { KeepsIds P.knows P.tree_of store.old store.new }
 {
@@ -84,9 +83,9 @@ fn member_ids<P: Patterns>(
     firsts: &[u32],
 ) -> Result<Vec<P::Id>, AllocError>
     requires { AreFirstsAmong firsts.now members.now }
-    ensures known { IfOk result (λ ids. All (λ i. IsTrue (P.knows store.new i)) ids.items) }
+    ensures known { IfOk result (λ ids. KnowsAll (P.knows store.new) ids.items) }
     ensures made { IfOk result (λ ids. map (P.tree_of store.new) ids.items
-        ≡ map (form.canonical (becomes settled.now)) (map shared_view members.now)) }
+        ≡ map (settled_form settled.now) (map shared_view members.now)) }
     ensures kept { KeepsIds P.knows P.tree_of store.old store.new }
 {
     let mut ids = Vec::with_capacity(alloc, members.len())?;
@@ -110,11 +109,11 @@ fn id_at<P: Patterns>(
 ) -> Result<P::Id, AllocError>
     requires firsts { AreFirstsAmong firsts.now members.now }
     requires within { index < length members.now }
-    requires known { All (λ i. IsTrue (P.knows store.old i)) ids.now }
-    requires before { map (P.tree_of store.old) ids.now ≡ map (form.canonical (becomes settled.now))
+    requires known { KnowsAll (P.knows store.old) ids.now }
+    requires before { map (P.tree_of store.old) ids.now ≡ map (settled_form settled.now)
         (map shared_view (take index members.now)) }
     ensures made { IfOk result (λ id. (p : Tree) → StandsFor (P.knows store.new)
-        (P.tree_of store.new) (form.canonical (becomes settled.now)
+        (P.tree_of store.new) (settled_form settled.now
         (slice_index_or (map shared_view members.now) index p)) id) }
     ensures kept { KeepsIds P.knows P.tree_of store.old store.new }
 {

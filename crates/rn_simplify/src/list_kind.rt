@@ -1,6 +1,6 @@
 // The kinds of lists of patterns (RELAX NG 2001, 4.12).
-ghost use Rattle.std.specs.Prelude.{◌≡◌, All, IfOk, IsTrue, map};
-ghost use Rattle.rn_pattern.specs.Store.{KeepsIds, StandsFor};
+ghost use Rattle.std.specs.Prelude.{◌≡◌, IfOk, map};
+ghost use Rattle.rn_pattern.specs.Store.{KeepsIds, StandsFor, KnowsAll};
 ghost use Rattle.rn_pattern.specs.View.{pattern_view, shared_view};
 ghost use Rattle.rn_simplify.specs.inside.ListParts.{members_step};
 
@@ -18,13 +18,13 @@ pub(crate) enum ListKind {
 }
 
 impl ListKind {
-    /// The id of the canonical form of a list of this kind, by the ids of its parts'.
+    /// The id of the canonical form of a list of this kind, by the ids of the canonical forms of its parts.
     pub(crate) fn form_over<P: Patterns>(
         self,
         store: &mut P,
         parts: &[P::Id],
     ) -> Result<P::Id, AllocError>
-        requires { All (λ i. IsTrue (P.knows store.old i)) parts.now }
+        requires { KnowsAll (P.knows store.old) parts.now }
         ensures made { IfOk result (StandsFor (P.knows store.new) (P.tree_of store.new)
             (members_step self (map (P.tree_of store.old) parts.now))) }
         ensures kept { KeepsIds P.knows P.tree_of store.old store.new }
@@ -36,7 +36,7 @@ impl ListKind {
         }
     }
 
-    /// The canonical form of a list of this kind, over those of its parts.
+    /// The canonical form of a list of this kind, by the canonical forms of its parts.
     pub(crate) fn tree_over(
         self,
         alloc: Global,

@@ -13,7 +13,7 @@ pub struct Normal {
     pub(crate) start: Pattern,
     pub(crate) defs: Vec<(String, Pattern)>,
     /// Every reference is defined, no loop is reached, excepts and name classes keep their restrictions.
-    pub ghost well_formed: { IsWellFormed (parts_view start defs.items) } by { IsWellFormed-prop (parts_view start defs.items) },
+    pub ghost well_formed: { IsWellFormed (parts_view start defs.items) } by { IsWellFormed-prop _ },
     /// It is the canonical grammar of a well-formed grammar whose texts can be written.
     pub ghost source: { ∥ HasSource (parts_view start defs.items) ∥₁ },
 }

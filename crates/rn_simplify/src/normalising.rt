@@ -11,7 +11,7 @@ ghost use Rattle.rn_text.specs.Texts.{Text};
 ghost use Rattle.rn_pattern.specs.View.{pattern_view};
 ghost use Rattle.rn_simplify.specs.NormalView.{normal_view};
 ghost use Rattle.rn_simplify.specs.NormalParts.{parts_view};
-ghost use Rattle.rn_simplify.specs.inside.FormKinds.{becomes};
+ghost use Rattle.rn_simplify.specs.inside.FormKinds.{settled_form};
 ghost use Rattle.rn_simplify.specs.inside.Repeats.{AreFirstsOf};
 
 use crate::body_forms::{body_form, definition_forms};
@@ -119,7 +119,7 @@ pub(crate) fn stored_body_form<P: Patterns>(
     firsts: &[u32],
 ) -> Result<Pattern, AllocError>
     requires { AreFirstsOf firsts.now body.now }
-    ensures made { IfOk result (λ p. pattern_view p ≡ form.canonical (becomes settled.now)
+    ensures made { IfOk result (λ p. pattern_view p ≡ settled_form settled.now
         (pattern_view body.now)) }
     ensures kept { KeepsIds P.knows P.tree_of store.old store.new }
 {
@@ -137,7 +137,7 @@ fn stored_definition_forms<P: Patterns>(
     requires { definitions_view settled.now.definitions.now.entries
         ≡ (grammar_view grammar.now).definitions }
     ensures made { IfOk result (λ v. definitions_view v.items
-        ≡ map (λ (d : Text × Tree). (d.0, form.canonical (becomes settled.now) d.1))
+        ≡ map (λ (d : Text × Tree). (d.0, settled_form settled.now d.1))
         (definitions_view settled.now.definitions.now.entries)) }
     ensures distinct { IfOk result
         (λ v. IsDistinct bytes_eq (map (λ d. d.0) (definitions_view v.items))) }

@@ -3,7 +3,7 @@ ghost use Rattle.std.specs.Prelude.{◌≡◌, ℕ, ◌<◌, ◌≤◌, drop, le
 ghost use Rattle.rn_text.specs.Parts.{Piece};
 ghost use Rattle.rn_simplify.specs.Spelling.{in_braces, chain, mixed_pieces, infix_of, keyword, operand, optional, optional_member, params_pieces, in_parentheses, primary, space, written_choice, written_interleave, written_name, written_tree};
 ghost use Rattle.rn_pattern.specs.View.{name_class_view, parameters_view, pattern_view};
-ghost use Rattle.rn_simplify.specs.inside.Writes.{bytes_of, data_text, depth_after, prefixes_view, rows_of, value_text, Writes};
+ghost use Rattle.rn_simplify.specs.inside.Writes.{bytes_of, data_text, depth_after, prefixes_view, written_members, value_text, Writes};
 
 use crate::class_text::write_class;
 use crate::declared_prefixes::Prefixes;
@@ -25,7 +25,7 @@ pub(crate) fn write_pattern(writer: &mut Writer, prefixes: &Prefixes, pattern: &
         Pattern::NotAllowed => writer.put("notAllowed"),
         Pattern::Empty => writer.put("empty"),
         Pattern::Text => writer.put("text"),
-        Pattern::Ref(name) => writer.identifier(name),
+        Pattern::Ref(name) => writer.put_identifier(name),
         Pattern::Value(value) => write_value(writer, prefixes, value),
         Pattern::Datum(data, except) => {
             write_data(writer, prefixes, data);
@@ -125,7 +125,7 @@ fn write_chain(
 )
     requires { first ≤ length members.now }
     ensures { (s : List Piece) → bytes_of s ≡ connector.now → ((n : ℕ) → depth_after s n ≡ Some n)
-        → Writes (chain s (rows_of (prefixes_view prefixes.now)
+        → Writes (chain s (written_members (prefixes_view prefixes.now)
         (drop first members.now))) writer.old writer.new }
 {
     for i in first..members.len() {
@@ -140,7 +140,7 @@ fn write_chain(
 #[cycle(pattern)]
 fn write_interleave(writer: &mut Writer, prefixes: &Prefixes, members: &[Rc<Pattern>])
     ensures { Writes (written_interleave
-        (rows_of (prefixes_view prefixes.now) members.now)).pieces writer.old writer.new }
+        (written_members (prefixes_view prefixes.now) members.now)).pieces writer.old writer.new }
 {
     if members.is_empty() {
         writer.put("empty");
@@ -159,7 +159,7 @@ fn write_interleave(writer: &mut Writer, prefixes: &Prefixes, members: &[Rc<Patt
 fn write_mixed(writer: &mut Writer, prefixes: &Prefixes, members: &[Rc<Pattern>])
     requires { 0 < length members.now }
     ensures { Writes (mixed_pieces (infix_of (codes "&"))
-        (rows_of (prefixes_view prefixes.now) (drop 1 members.now))) writer.old writer.new }
+        (written_members (prefixes_view prefixes.now) (drop 1 members.now))) writer.old writer.new }
 {
     if members.len() == 2 {
         write_pattern(writer, prefixes, &members[1]);
@@ -172,7 +172,7 @@ fn write_mixed(writer: &mut Writer, prefixes: &Prefixes, members: &[Rc<Pattern>]
 #[cycle(pattern)]
 fn write_choice(writer: &mut Writer, prefixes: &Prefixes, members: &[Rc<Pattern>])
     ensures { Writes (written_choice
-        (rows_of (prefixes_view prefixes.now) members.now)).pieces writer.old writer.new }
+        (written_members (prefixes_view prefixes.now) members.now)).pieces writer.old writer.new }
 {
     if members.is_empty() {
         writer.put("notAllowed");
@@ -187,7 +187,7 @@ fn write_choice(writer: &mut Writer, prefixes: &Prefixes, members: &[Rc<Pattern>
 #[cycle(pattern)]
 fn write_optional(writer: &mut Writer, prefixes: &Prefixes, members: &[Rc<Pattern>])
     requires { 0 < length members.now }
-    ensures { Writes (optional (rows_of (prefixes_view prefixes.now)
+    ensures { Writes (optional (written_members (prefixes_view prefixes.now)
         (drop 1 members.now))) writer.old writer.new }
 {
     if members.len() == 1 {
@@ -240,11 +240,11 @@ fn write_value(writer: &mut Writer, prefixes: &Prefixes, value: &Value)
     ensures { Writes (value_text (prefixes_view prefixes.now) value.now) writer.old writer.new }
 {
     if is_token(&value.library, &value.type_name) {
-        writer.literal(&value.text);
+        writer.put_literal(&value.text);
     } else {
         prefixes.write_type(writer, &value.library, &value.type_name);
         writer.put(" ");
-        writer.literal(&value.text);
+        writer.put_literal(&value.text);
     }
 }
 
@@ -270,6 +270,6 @@ fn write_params(writer: &mut Writer, params: &[(String, String)])
         }
         writer.put(name);
         writer.put(" = ");
-        writer.literal(text);
+        writer.put_literal(text);
     }
 }

@@ -4,10 +4,10 @@ ghost use Rattle.rn_pattern.specs.View.{pattern_view};
 ghost use Rattle.rn_assemble.specs.Renamed.{IsOfKnownUris};
 ghost use Rattle.rn_assemble.specs.ShortTexts.{IsKnown, IsTable, long_grammar, short_texts};
 ghost use Rattle.rn_simplify.specs.NormalView.{definitions_view, normal_view};
-ghost use Rattle.rn_simplify.specs.Spelling.{definition_line, definition_lines, keyword};
+ghost use Rattle.rn_simplify.specs.Spelling.{definition_line, definition_lines, keyword, defined_as};
 ghost use Rattle.rn_simplify.specs.Printing.{IsPrinted, IsUnprinted};
 ghost use Rattle.rn_simplify.specs.ReadBack.{IsReadBack};
-ghost use Rattle.rn_simplify.specs.inside.Writes.{defined_as, prefixes_view, Writes};
+ghost use Rattle.rn_simplify.specs.inside.Writes.{prefixes_view, Writes};
 
 use crate::declared_prefixes::Prefixes;
 use crate::normal::Normal;
@@ -17,9 +17,11 @@ use rn_assemble::{Refusal, ShortUris};
 use rn_pattern::Pattern;
 use std::alloc::Global;
 
-/// The one text of a canonical grammar: the declarations of its prefixes, its start, and its definitions in the order of their names, each on a line of its own.
-/// `OutputTooLarge` where the text would have more than [`rn_modset::MAX_TEXT`] bytes, else `OutputTooDeep` where more than [`rn_syntax::MAX_OPEN`] of its brackets would be open at once;
-/// brackets in literals don't count. A text is read back as the grammar, its `?`, `*` and `mixed` opened (compact syntax, section 2; RELAX NG 2001, 4.13 to 4.15).
+/// The one text of a canonical grammar: the declarations of its prefixes, its start, and its definitions in the order of their
+/// names, each on a line of its own. `OutputTooLarge` where the text would have more than [`rn_modset::MAX_TEXT`] bytes, else
+/// `OutputTooDeep` where more than [`rn_syntax::MAX_OPEN`] of its brackets would be open at once; brackets in literals don't
+/// count. A text is read back as the grammar, its `?`, `*` and `mixed` opened (compact syntax, section 2; RELAX NG 2001, 4.13
+/// to 4.15).
 pub fn print(alloc: Global, normal: &Normal) -> Result<String, Refusal>
     ensures ok { IfOk result (λ text. IsPrinted (normal_view normal.now) (string_bytes text)) }
     ensures err { IfErr result (IsUnprinted (normal_view normal.now)) }
@@ -61,7 +63,7 @@ fn write_definitions(writer: &mut Writer, prefixes: &Prefixes, defs: &[(String, 
         (definitions_view defs.now)) writer.old writer.new }
 {
     for (name, body) in defs {
-        writer.identifier(name);
+        writer.put_identifier(name);
         write_body(writer, prefixes, body);
     }
 }

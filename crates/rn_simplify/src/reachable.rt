@@ -70,8 +70,8 @@ fn rows_of_forms(
 {
     let mut rows = Rows::with_capacity(alloc, forms.len())?;
     for (_, form) in forms {
-        let likely = settled.likely(rows.len());
-        let row = referred_numbers(alloc, settled.definitions, likely, form)?;
+        let likely_numbers = settled.likely_numbers(rows.len());
+        let row = referred_numbers(alloc, settled.definitions, likely_numbers, form)?;
         rows.push_row(&row)?;
     }
     Ok(rows)

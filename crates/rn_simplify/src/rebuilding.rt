@@ -1,9 +1,9 @@
 // From an id of a store back to its pattern.
-ghost use Rattle.std.specs.Prelude.{◌≡◌, All, IfOk, IfSome, IsSome, IsTrue, Some, map, string_bytes};
+ghost use Rattle.std.specs.Prelude.{◌≡◌, IfOk, IfSome, IsSome, IsTrue, Some, map, string_bytes};
 ghost use Rattle.std.specs.Option.{option_map};
 ghost use Rattle.std.specs.Rc.{rc_str_bytes};
 ghost use Rattle.rn_pattern.specs.Nodes.{node_members};
-ghost use Rattle.rn_pattern.specs.Store.{node_view};
+ghost use Rattle.rn_pattern.specs.Store.{node_view, KnowsAll};
 ghost use Rattle.rn_pattern.specs.Tree.{Tree, value};
 ghost use Rattle.rn_pattern.specs.View.{excepted_view, name_class_view, parameters_view, pattern_view, shared_view};
 ghost use Rattle.rn_simplify.specs.inside.NodeKinds.{datum_over, except_trees, has_members, is_leaf, node_content};
@@ -182,7 +182,7 @@ fn rebuild_members<P: Patterns>(
     store: &P,
     ids: &[P::Id],
 ) -> Result<Vec<Rc<Pattern>>, AllocError>
-    requires { All (λ i. IsTrue (P.knows store.now i)) ids.now }
+    requires { KnowsAll (P.knows store.now) ids.now }
     ensures { IfOk result (λ v. map shared_view v.items ≡ map (P.tree_of store.now) ids.now) }
 {
     let mut members: Vec<Rc<Pattern>> = Vec::with_capacity(alloc, ids.len())?;

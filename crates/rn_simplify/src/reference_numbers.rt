@@ -5,7 +5,7 @@ ghost use Rattle.rn_pattern.specs.Tree.{trees_of};
 ghost use Rattle.rn_pattern.specs.View.{pattern_view, shared_view};
 ghost use Rattle.rn_simplify.specs.inside.DefinitionNumbers.{numbers_of};
 ghost use Rattle.rn_simplify.specs.inside.ReferredNames.{all_references, references};
-ghost use Rattle.rn_simplify.specs.inside.ReferenceNumbers.{AreReferences};
+ghost use Rattle.rn_simplify.specs.inside.ReferenceNumbers.{AreReferenceNumbers};
 ghost use Rattle.rn_assemble.specs.declared.references.Reach.TheVariants.{Everywhere, OutsideElements};
 
 use crate::definition_numbers::find_number;
@@ -29,7 +29,7 @@ impl References {
         definitions: &Definitions,
         pattern: &Pattern,
     ) -> Result<References, AllocError>
-        ensures { IfOk result (AreReferences (definitions_view definitions.now.entries)
+        ensures { IfOk result (AreReferenceNumbers (definitions_view definitions.now.entries)
             (pattern_view pattern.now)) }
     {
         let mut found = References {
@@ -46,7 +46,7 @@ impl References {
     fn add(
         &mut self,
         definitions: &Definitions,
-        likely: &[usize],
+        likely_numbers: &[usize],
         pattern: &Pattern,
         reach: Reach,
     ) -> Result<(), AllocError>
@@ -61,18 +61,23 @@ impl References {
             → OnOk result (self.new.outside.items ≡ self.old.outside.items) }
     {
         match pattern {
-            Pattern::Ref(name) => self.add_name(definitions, likely, name, reach),
-            Pattern::Datum(_, Some(content)) => self.add(definitions, likely, content, reach),
+            Pattern::Ref(name) => self.add_name(definitions, likely_numbers, name, reach),
+            Pattern::Datum(_, Some(content)) => self.add(
+                definitions,
+                likely_numbers,
+                content,
+                reach,
+            ),
             Pattern::List(content) | Pattern::Attribute(_, content) | Pattern::OneOrMore(content) =>
-                { self.add(definitions, likely, content, reach) }
+                { self.add(definitions, likely_numbers, content, reach) }
             Pattern::Element(_, content) => self.add(
                 definitions,
-                likely,
+                likely_numbers,
                 content,
                 Reach::Everywhere,
             ),
             Pattern::Group(members) | Pattern::Interleave(members) | Pattern::Choice(members) => {
-                self.add_all(definitions, likely, members, reach)
+                self.add_all(definitions, likely_numbers, members, reach)
             }
             Pattern::NotAllowed
             | Pattern::Empty
@@ -86,7 +91,7 @@ impl References {
     fn add_all(
         &mut self,
         definitions: &Definitions,
-        likely: &[usize],
+        likely_numbers: &[usize],
         members: &[Rc<Pattern>],
         reach: Reach,
     ) -> Result<(), AllocError>
@@ -101,7 +106,7 @@ impl References {
             → OnOk result (self.new.outside.items ≡ self.old.outside.items) }
     {
         for member in members {
-            self.add(definitions, likely, member, reach)?;
+            self.add(definitions, likely_numbers, member, reach)?;
         }
         Ok(())
     }
@@ -109,7 +114,7 @@ impl References {
     fn add_name(
         &mut self,
         definitions: &Definitions,
-        likely: &[usize],
+        likely_numbers: &[usize],
         name: &str,
         reach: Reach,
     ) -> Result<(), AllocError>
@@ -121,7 +126,7 @@ impl References {
         ensures inside { reach ≡ Everywhere
             → OnOk result (self.new.outside.items ≡ self.old.outside.items) }
     {
-        match find_number(definitions, likely, name) {
+        match find_number(definitions, likely_numbers, name) {
             Some(number) => self.add_number(number, reach),
             None => Ok(()),
         }
@@ -148,7 +153,7 @@ impl References {
 pub(crate) fn referred_numbers(
     alloc: Global,
     definitions: &Definitions,
-    likely: &[usize],
+    likely_numbers: &[usize],
     pattern: &Pattern,
 ) -> Result<Vec<usize>, AllocError>
     ensures { IfOk result (λ v. v.items ≡ numbers_of (definitions_view definitions.now.entries)
@@ -158,6 +163,6 @@ pub(crate) fn referred_numbers(
         everywhere: Vec::new(alloc),
         outside: Vec::new(alloc),
     };
-    found.add(definitions, likely, pattern, Reach::Everywhere)?;
+    found.add(definitions, likely_numbers, pattern, Reach::Everywhere)?;
     Ok(found.everywhere)
 }

@@ -23,7 +23,7 @@ pub(crate) fn first_of(firsts: &[u32], index: usize) -> usize
     }
 }
 
-/// The members without those that stand before, in their order.
+/// The members, in their order, without each that stands among them before.
 pub(crate) fn distinct_members(
     alloc: Global,
     members: &[Rc<Pattern>],
@@ -42,7 +42,8 @@ pub(crate) fn distinct_members(
     Ok(found)
 }
 
-/// The list without the members that stand before. None where it has no first places, or isn't one.
+/// The body without the members that stand in its list before. `None` where it has no first places, or is no list to which
+/// components are joined.
 pub(crate) fn without_repeats(
     alloc: Global,
     body: &Pattern,

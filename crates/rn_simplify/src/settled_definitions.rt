@@ -22,7 +22,7 @@ impl SettledDefinitions<'_> {
     ghost use Rattle.rn_simplify.specs.inside.FormKinds.{kind_in};
 
     /// The numbers of the definitions that the body with a number is likely to refer to.
-    pub(crate) fn likely(&self, number: usize) -> &[usize] {
+    pub(crate) fn likely_numbers(&self, number: usize) -> &[usize] {
         if number < self.references.len() {
             self.references.row(number)
         } else {
@@ -32,10 +32,10 @@ impl SettledDefinitions<'_> {
 
     /// The kind of the form of the definition of a name. The likely numbers are tried first. The reference to a name without
     /// a definition stays.
-    pub(crate) fn kind_of(&self, likely: &[usize], name: &str) -> FormKind
+    pub(crate) fn kind_of(&self, likely_numbers: &[usize], name: &str) -> FormKind
         ensures { result ≡ kind_in self.now name.now }
     {
-        match find_number(self.definitions, likely, name) {
+        match find_number(self.definitions, likely_numbers, name) {
             Some(number) => self.kinds[number],
             None => FormKind::Other,
         }

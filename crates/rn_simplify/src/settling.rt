@@ -1,17 +1,16 @@
 // The definitions of a grammar in an order in which each comes after those that it refers to outside elements (RELAX NG 2001, 4.19).
 ghost use Rattle.std.specs.Prelude.{◌≡◌, ◌<◌, IfOk, length, slice_index_or, string_bytes};
-ghost use Rattle.rn_pattern.specs.Graph.{AllBelow, IsGraph, row, rows_of};
+ghost use Rattle.rn_pattern.specs.Graph.{AllBelow, IsGraph, rows_of};
 ghost use Rattle.rn_pattern.specs.Ranks.{HasNoLoop, IsRanking};
 ghost use Rattle.rn_assemble.specs.GrammarView.{definitions_view, grammar_view};
 ghost use Rattle.rn_pattern.specs.Tree.{Tree};
 ghost use Rattle.rn_text.specs.Texts.{Text};
 ghost use Rattle.rn_pattern.specs.View.{pattern_view};
 ghost use Rattle.rn_simplify.specs.inside.MarkedElements.{ArePlaces};
-ghost use Rattle.rn_simplify.specs.inside.ReferenceNumbers.{AreReferences, AreRows};
-ghost use Rattle.rn_simplify.specs.inside.DefinitionNumbers.{MarksReached, graph_of, rows_by, start_of};
+ghost use Rattle.rn_simplify.specs.inside.ReferenceNumbers.{AreReferenceNumbers, AreReferenceRows, AreOutsideRows};
+ghost use Rattle.rn_simplify.specs.inside.DefinitionNumbers.{MarksReached, start_of};
 ghost use Rattle.rn_pattern.specs.Canonical.{HaveSameMembers};
 ghost use Rattle.rn_simplify.specs.inside.SettlingOrder.{IsSettlingOrder};
-ghost use Rattle.rn_assemble.specs.declared.references.Reach.TheVariants.{OutsideElements};
 ghost use Rattle.rn_simplify.specs.inside.Repeats.{AreFirstsOf};
 
 use crate::reference_numbers::References;
@@ -50,7 +49,7 @@ fn body_references(
     firsts: &[u32],
 ) -> Result<References, AllocError>
     requires { AreFirstsOf firsts.now body.now }
-    ensures { IfOk result (AreReferences (definitions_view definitions.now.entries)
+    ensures { IfOk result (AreReferenceNumbers (definitions_view definitions.now.entries)
         (pattern_view body.now)) }
 {
     match without_repeats(alloc, body, firsts)? {
@@ -63,7 +62,7 @@ fn body_references(
 fn references_of(alloc: Global, grammar: &Grammar, number: usize) -> Result<References, AllocError>
     requires { number < length (grammar_view grammar.now).definitions }
     ensures { IfOk result (λ found. (d : Text × Tree)
-        → AreReferences (grammar_view grammar.now).definitions
+        → AreReferenceNumbers (grammar_view grammar.now).definitions
         (slice_index_or (grammar_view grammar.now).definitions number d).1 found) }
 {
     let definitions = grammar.defs();
@@ -84,11 +83,10 @@ struct ReferenceRows {
 
 /// The references of the definitions.
 fn all_references(alloc: Global, grammar: &Grammar) -> Result<ReferenceRows, AllocError>
-    ensures everywhere { IfOk result (λ rows. AreRows (row (graph_of (grammar_view grammar.now)))
-        (length (grammar_view grammar.now).definitions) (rows_of rows.everywhere)) }
-    ensures outside { IfOk result (λ rows. AreRows (row (rows_by OutsideElements
-        (grammar_view grammar.now).definitions (grammar_view grammar.now).definitions))
-        (length (grammar_view grammar.now).definitions) (rows_of rows.outside)) }
+    ensures everywhere { IfOk result (λ rows. AreReferenceRows (grammar_view grammar.now)
+        (rows_of rows.everywhere)) }
+    ensures outside { IfOk result (λ rows. AreOutsideRows (grammar_view grammar.now)
+        (rows_of rows.outside)) }
 {
     let count = grammar.defs().len();
     let mut everywhere = Rows::with_capacity(alloc, count)?;
@@ -132,8 +130,8 @@ fn reached_definitions(
     grammar: &Grammar,
     rows: &Rows,
 ) -> Result<Vec<bool>, AllocError>
-    requires { AreRows (row (graph_of (grammar_view grammar.now)))
-        (length (grammar_view grammar.now).definitions) (rows_of rows.now) }
+    requires { AreReferenceRows (grammar_view grammar.now)
+        (rows_of rows.now) }
     ensures size { IfOk result (λ v. length v.items
         ≡ length (grammar_view grammar.now).definitions) }
     ensures exact { IfOk result (λ v. MarksReached (grammar_view grammar.now) v.items) }
@@ -185,11 +183,10 @@ fn reached_in_order(
     grammar: &Grammar,
     rows: &ReferenceRows,
 ) -> Result<Vec<usize>, AllocError>
-    requires everywhere { AreRows (row (graph_of (grammar_view grammar.now)))
-        (length (grammar_view grammar.now).definitions) (rows_of rows.now.everywhere) }
-    requires outside { AreRows (row (rows_by OutsideElements
-        (grammar_view grammar.now).definitions (grammar_view grammar.now).definitions))
-        (length (grammar_view grammar.now).definitions) (rows_of rows.now.outside) }
+    requires everywhere { AreReferenceRows (grammar_view grammar.now)
+        (rows_of rows.now.everywhere) }
+    requires outside { AreOutsideRows (grammar_view grammar.now)
+        (rows_of rows.now.outside) }
     ensures within { IfOk result (λ v. AllBelow
         (length (grammar_view grammar.now).definitions) v.items) }
     ensures order { IfOk result (λ v. IsSettlingOrder (grammar_view grammar.now) v.items) }

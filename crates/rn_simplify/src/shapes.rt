@@ -2,7 +2,7 @@
 ghost use Rattle.std.specs.Prelude.{◌≡◌};
 ghost use Rattle.rn_simplify.specs.Spelling.{Prefixes, written_choice, written_interleave, written_name, written_tree};
 ghost use Rattle.rn_pattern.specs.View.{name_class_view, pattern_view};
-ghost use Rattle.rn_simplify.specs.inside.Writes.{begins, rows_of, shape_view};
+ghost use Rattle.rn_simplify.specs.inside.Writes.{begins, written_members, shape_view};
 
 use rn_pattern::{NameClass, Pattern};
 use std::rc::Rc;
@@ -20,7 +20,7 @@ pub(crate) enum Shape {
 
 /// Whether the first member is empty, which comes before all others: the choice is written with a postfix.
 pub(crate) fn begins_with_empty(members: &[Rc<Pattern>]) -> bool
-    ensures { (f : Prefixes) → result ≡ begins (λ w. w.is_empty) (rows_of f members.now) }
+    ensures { (f : Prefixes) → result ≡ begins (λ w. w.is_empty) (written_members f members.now) }
 {
     match members.first() {
         Some(first) => matches!(&**first, Pattern::Empty),
@@ -30,7 +30,7 @@ pub(crate) fn begins_with_empty(members: &[Rc<Pattern>]) -> bool
 
 /// Whether the first member is text, which comes before all others but empty: the interleave is mixed.
 pub(crate) fn begins_with_text(members: &[Rc<Pattern>]) -> bool
-    ensures { (f : Prefixes) → result ≡ begins (λ w. w.is_text) (rows_of f members.now) }
+    ensures { (f : Prefixes) → result ≡ begins (λ w. w.is_text) (written_members f members.now) }
 {
     match members.first() {
         Some(first) => matches!(&**first, Pattern::Text),
@@ -41,7 +41,7 @@ pub(crate) fn begins_with_text(members: &[Rc<Pattern>]) -> bool
 /// The shape of an interleave, which is mixed if its first member is text.
 fn shape_of_interleave(members: &[Rc<Pattern>]) -> Shape
     ensures { (f : Prefixes) → shape_view result
-        ≡ (written_interleave (rows_of f members.now)).shape }
+        ≡ (written_interleave (written_members f members.now)).shape }
 {
     if members.is_empty() || begins_with_text(members) {
         Shape::Closed
@@ -52,7 +52,8 @@ fn shape_of_interleave(members: &[Rc<Pattern>]) -> Shape
 
 /// The shape of a choice, which has a postfix if its first member is `empty`.
 fn shape_of_choice(members: &[Rc<Pattern>]) -> Shape
-    ensures { (f : Prefixes) → shape_view result ≡ (written_choice (rows_of f members.now)).shape }
+    ensures { (f : Prefixes) → shape_view result
+        ≡ (written_choice (written_members f members.now)).shape }
 {
     if members.is_empty() {
         Shape::Closed

@@ -1,15 +1,14 @@
 // The canonical form of a pattern, built in a store (RELAX NG 2001, 4.20 and 4.21).
-ghost use Rattle.std.specs.Prelude.{◌≡◌, ◌++◌, ◌∷◌, [], All, IfOk, IsSome, IsTrue, OnOk, Some, map};
+ghost use Rattle.std.specs.Prelude.{◌≡◌, ◌++◌, ◌∷◌, [], IfOk, IsSome, IsTrue, OnOk, Some, map};
 ghost use Rattle.std.specs.Option.{option_map};
 ghost use Rattle.rn_pattern.specs.Canonical as form;
-ghost use Rattle.rn_pattern.specs.Canonical.{canonical_all};
-ghost use Rattle.rn_pattern.specs.Store.{KeepsIds, StandsFor};
+ghost use Rattle.rn_pattern.specs.Store.{KeepsIds, StandsFor, KnowsAll};
 ghost use Rattle.rn_pattern.specs.Tree.{Tree, trees_of};
 ghost use Rattle.rn_text.specs.Texts.{Text};
 ghost use Rattle.rn_pattern.specs.View.{pattern_view, shared_view};
 ghost use Rattle.rn_simplify.specs.inside.Contents.{content_of, is_leaf};
 ghost use Rattle.rn_simplify.specs.inside.ListParts.{members_step, parts, parts_of};
-ghost use Rattle.rn_simplify.specs.inside.FormKinds.{becomes};
+ghost use Rattle.rn_simplify.specs.inside.FormKinds.{becomes, settled_form, settled_forms};
 
 use crate::form_kind::FormKind;
 use crate::list_kind::ListKind;
@@ -44,7 +43,7 @@ pub(crate) fn canonical_form<P: Patterns>(
     pattern: &Pattern,
 ) -> Result<P::Id, AllocError>
     ensures made { IfOk result (StandsFor (P.knows store.new) (P.tree_of store.new)
-        (form.canonical (becomes settled.now) (pattern_view pattern.now))) }
+        (settled_form settled.now (pattern_view pattern.now))) }
     ensures kept { KeepsIds P.knows P.tree_of store.old store.new }
 {
     match pattern {
@@ -87,7 +86,7 @@ fn leaf_form<P: Patterns>(
 ) -> Result<P::Id, AllocError>
     requires { IsTrue (is_leaf (pattern_view pattern.now)) }
     ensures made { IfOk result (StandsFor (P.knows store.new) (P.tree_of store.new)
-        (form.canonical (becomes settled.now) (pattern_view pattern.now))) }
+        (settled_form settled.now (pattern_view pattern.now))) }
     ensures kept { KeepsIds P.knows P.tree_of store.old store.new }
 {
     match pattern {
@@ -111,7 +110,7 @@ pub(crate) fn list_form<P: Patterns>(
     members: &[Rc<Pattern>],
 ) -> Result<P::Id, AllocError>
     ensures made { IfOk result (StandsFor (P.knows store.new) (P.tree_of store.new)
-        (members_step kind (canonical_all (becomes settled.now)
+        (members_step kind (settled_forms settled.now
         (trees_of (map shared_view members.now))))) }
     ensures kept { KeepsIds P.knows P.tree_of store.old store.new }
 {
@@ -130,10 +129,10 @@ fn push_parts<P: Patterns>(
     members: &[Rc<Pattern>],
     ids: &mut Vec<P::Id>,
 ) -> Result<(), AllocError>
-    requires { All (λ i. IsTrue (P.knows store.old i)) ids.old.items }
-    ensures known { OnOk result (All (λ i. IsTrue (P.knows store.new i)) ids.new.items) }
+    requires { KnowsAll (P.knows store.old) ids.old.items }
+    ensures known { OnOk result (KnowsAll (P.knows store.new) ids.new.items) }
     ensures made { OnOk result (map (P.tree_of store.new) ids.new.items
-        ≡ map (P.tree_of store.old) ids.old.items ++ map (form.canonical (becomes settled.now))
+        ≡ map (P.tree_of store.old) ids.old.items ++ map (settled_form settled.now)
         (parts kind (trees_of (map shared_view members.now)))) }
     ensures kept { KeepsIds P.knows P.tree_of store.old store.new }
 {
@@ -154,10 +153,10 @@ fn push_part<P: Patterns>(
     pattern: &Pattern,
     ids: &mut Vec<P::Id>,
 ) -> Result<(), AllocError>
-    requires { All (λ i. IsTrue (P.knows store.old i)) ids.old.items }
-    ensures known { OnOk result (All (λ i. IsTrue (P.knows store.new i)) ids.new.items) }
+    requires { KnowsAll (P.knows store.old) ids.old.items }
+    ensures known { OnOk result (KnowsAll (P.knows store.new) ids.new.items) }
     ensures made { OnOk result (map (P.tree_of store.new) ids.new.items
-        ≡ map (P.tree_of store.old) ids.old.items ++ map (form.canonical (becomes settled.now))
+        ≡ map (P.tree_of store.old) ids.old.items ++ map (settled_form settled.now)
         (parts_of kind (pattern_view pattern.now))) }
     ensures kept { KeepsIds P.knows P.tree_of store.old store.new }
 {
@@ -186,11 +185,11 @@ fn push_whole<P: Patterns>(
     pattern: &Pattern,
     ids: &mut Vec<P::Id>,
 ) -> Result<(), AllocError>
-    requires { All (λ i. IsTrue (P.knows store.old i)) ids.old.items }
-    ensures known { OnOk result (All (λ i. IsTrue (P.knows store.new i)) ids.new.items) }
+    requires { KnowsAll (P.knows store.old) ids.old.items }
+    ensures known { OnOk result (KnowsAll (P.knows store.new) ids.new.items) }
     ensures made { OnOk result (map (P.tree_of store.new) ids.new.items
         ≡ map (P.tree_of store.old) ids.old.items
-        ++ form.canonical (becomes settled.now) (pattern_view pattern.now) ∷ []) }
+        ++ settled_form settled.now (pattern_view pattern.now) ∷ []) }
     ensures kept { KeepsIds P.knows P.tree_of store.old store.new }
 {
     let id = canonical_form(alloc, store, settled, pattern)?;
@@ -198,7 +197,7 @@ fn push_whole<P: Patterns>(
     Ok(())
 }
 
-/// The id of the canonical form of a pattern with a content, by the id of the content's.
+/// The id of the canonical form of a pattern with a content, by the id of the canonical form of its content.
 fn form_over_content<P: Patterns>(
     store: &mut P,
     pattern: &Pattern,

@@ -2,14 +2,13 @@
 ghost use Rattle.std.specs.Prelude.{◌≡◌, ◌++◌, ◌∷◌, [], IfOk, IsSome, IsTrue, OnOk, Some, if◌then◌else◌, map};
 ghost use Rattle.std.specs.Option.{option_map};
 ghost use Rattle.rn_pattern.specs.Canonical as form;
-ghost use Rattle.rn_pattern.specs.Canonical.{canonical_all};
 ghost use Rattle.rn_pattern.specs.CanonicalShape as shape;
 ghost use Rattle.rn_pattern.specs.Tree.{Tree, ref, trees_of};
 ghost use Rattle.rn_text.specs.Texts.{Text};
 ghost use Rattle.rn_pattern.specs.View.{name_class_view, pattern_view, shared_view};
 ghost use Rattle.rn_simplify.specs.inside.Contents.{content_of, form_or, is_leaf};
 ghost use Rattle.rn_simplify.specs.inside.ListParts.{members_step, parts, parts_of};
-ghost use Rattle.rn_simplify.specs.inside.FormKinds.{becomes};
+ghost use Rattle.rn_simplify.specs.inside.FormKinds.{becomes, settled_form, settled_forms};
 
 use crate::boxes::{new_box, new_shared};
 use crate::form_kind::FormKind;
@@ -24,13 +23,13 @@ use std::rc::Rc;
 pub(crate) fn tree_form(
     alloc: Global,
     settled: &SettledDefinitions<'_>,
-    likely: &[usize],
+    likely_numbers: &[usize],
     pattern: &Pattern,
 ) -> Result<Pattern, AllocError>
-    ensures { IfOk result (λ p. pattern_view p ≡ form.canonical (becomes settled.now)
+    ensures { IfOk result (λ p. pattern_view p ≡ settled_form settled.now
         (pattern_view pattern.now)) }
 {
-    let made = form_of(alloc, settled, likely, pattern)?;
+    let made = form_of(alloc, settled, likely_numbers, pattern)?;
     form_or_copy(alloc, made, pattern)
 }
 
@@ -53,21 +52,21 @@ fn form_or_copy(
 fn form_of(
     alloc: Global,
     settled: &SettledDefinitions<'_>,
-    likely: &[usize],
+    likely_numbers: &[usize],
     pattern: &Pattern,
 ) -> Result<Option<Pattern>, AllocError>
     ensures { IfOk result (λ made. form_or made (pattern_view pattern.now)
-        ≡ form.canonical (becomes settled.now) (pattern_view pattern.now)) }
+        ≡ settled_form settled.now (pattern_view pattern.now)) }
 {
     match pattern {
         Pattern::NotAllowed
         | Pattern::Empty
         | Pattern::Text
         | Pattern::Ref(_)
-        | Pattern::Value(_) => Ok(leaf_form(settled, likely, pattern)),
+        | Pattern::Value(_) => Ok(leaf_form(settled, likely_numbers, pattern)),
         Pattern::Datum(_, None) => Ok(None),
         Pattern::Datum(data, Some(except)) => {
-            let made = form_of(alloc, settled, likely, except)?;
+            let made = form_of(alloc, settled, likely_numbers, except)?;
             let except = form_or_copy(alloc, made, except)?;
             let form = datum_over(alloc, data, Some(new_box(alloc, except)?))?;
             Ok(Some(form))
@@ -76,26 +75,36 @@ fn form_of(
         | Pattern::Attribute(_, content)
         | Pattern::Element(_, content)
         | Pattern::OneOrMore(content) => {
-            let made = form_of(alloc, settled, likely, content)?;
+            let made = form_of(alloc, settled, likely_numbers, content)?;
             form_by_content(alloc, pattern, made, content)
         }
         Pattern::Group(members) => {
-            Ok(Some(list_form(alloc, settled, likely, ListKind::Group, members)?))
+            Ok(Some(list_form(alloc, settled, likely_numbers, ListKind::Group, members)?))
         }
         Pattern::Interleave(members) => {
-            Ok(Some(list_form(alloc, settled, likely, ListKind::Interleave, members)?))
+            Ok(Some(list_form(
+                alloc,
+                settled,
+                likely_numbers,
+                ListKind::Interleave,
+                members,
+            )?))
         }
         Pattern::Choice(members) => {
-            Ok(Some(list_form(alloc, settled, likely, ListKind::Choice, members)?))
+            Ok(Some(list_form(alloc, settled, likely_numbers, ListKind::Choice, members)?))
         }
     }
 }
 
 /// What a reference becomes: notAllowed or empty if that is the form of its definition. It stays itself else.
-fn reference_form(settled: &SettledDefinitions<'_>, likely: &[usize], name: &str) -> Option<Pattern>
+fn reference_form(
+    settled: &SettledDefinitions<'_>,
+    likely_numbers: &[usize],
+    name: &str,
+) -> Option<Pattern>
     ensures { form_or result (ref name.now) ≡ becomes settled.now name.now }
 {
-    match settled.kind_of(likely, name) {
+    match settled.kind_of(likely_numbers, name) {
         FormKind::NotAllowed => Some(Pattern::NotAllowed),
         FormKind::Empty => Some(Pattern::Empty),
         FormKind::Other => None,
@@ -106,20 +115,20 @@ fn reference_form(settled: &SettledDefinitions<'_>, likely: &[usize], name: &str
 /// itself.
 fn leaf_form(
     settled: &SettledDefinitions<'_>,
-    likely: &[usize],
+    likely_numbers: &[usize],
     pattern: &Pattern,
 ) -> Option<Pattern>
     requires { IsTrue (is_leaf (pattern_view pattern.now)) }
     ensures { form_or result (pattern_view pattern.now)
-        ≡ form.canonical (becomes settled.now) (pattern_view pattern.now) }
+        ≡ settled_form settled.now (pattern_view pattern.now) }
 {
     match pattern {
-        Pattern::Ref(name) => reference_form(settled, likely, name),
+        Pattern::Ref(name) => reference_form(settled, likely_numbers, name),
         _ => None,
     }
 }
 
-/// The canonical form of a pattern with a content, or `None` where that is the pattern itself; `made` is the content's.
+/// The canonical form of a pattern with a content, or `None` where that is the pattern itself; `made` is that of its content.
 fn form_by_content(
     alloc: Global,
     pattern: &Pattern,
@@ -185,7 +194,7 @@ fn is_single_class(class: &NameClass) -> bool
     )
 }
 
-/// The canonical form of a pattern with a content, over the content's.
+/// The canonical form of a pattern with a content, by the canonical form of its content.
 fn form_over_content(
     alloc: Global,
     pattern: &Pattern,
@@ -212,15 +221,15 @@ fn form_over_content(
 fn list_form(
     alloc: Global,
     settled: &SettledDefinitions<'_>,
-    likely: &[usize],
+    likely_numbers: &[usize],
     kind: ListKind,
     members: &[Rc<Pattern>],
 ) -> Result<Pattern, AllocError>
-    ensures { IfOk result (λ p. pattern_view p ≡ members_step kind (canonical_all
-        (becomes settled.now) (trees_of (map shared_view members.now)))) }
+    ensures { IfOk result (λ p. pattern_view p ≡ members_step kind
+        (settled_forms settled.now (trees_of (map shared_view members.now)))) }
 {
     let mut forms = Vec::with_capacity(alloc, members.len())?;
-    push_parts(alloc, settled, likely, kind, members, &mut forms)?;
+    push_parts(alloc, settled, likely_numbers, kind, members, &mut forms)?;
     kind.tree_over(alloc, forms)
 }
 
@@ -229,18 +238,18 @@ fn list_form(
 fn push_parts(
     alloc: Global,
     settled: &SettledDefinitions<'_>,
-    likely: &[usize],
+    likely_numbers: &[usize],
     kind: ListKind,
     members: &[Rc<Pattern>],
     forms: &mut Vec<Rc<Pattern>>,
 ) -> Result<(), AllocError>
     ensures { OnOk result (map shared_view forms.new.items ≡ map shared_view forms.old.items
-        ++ map (form.canonical (becomes settled.now))
+        ++ map (settled_form settled.now)
         (parts kind (trees_of (map shared_view members.now)))) }
 {
     for member in members {
-        if !push_inner(alloc, settled, likely, kind, member, forms)? {
-            let made = form_of(alloc, settled, likely, member)?;
+        if !push_inner(alloc, settled, likely_numbers, kind, member, forms)? {
+            let made = form_of(alloc, settled, likely_numbers, member)?;
             push_form(alloc, made, member, forms)?;
         }
     }
@@ -253,34 +262,34 @@ fn push_parts(
 fn push_inner(
     alloc: Global,
     settled: &SettledDefinitions<'_>,
-    likely: &[usize],
+    likely_numbers: &[usize],
     kind: ListKind,
     pattern: &Pattern,
     forms: &mut Vec<Rc<Pattern>>,
 ) -> Result<bool, AllocError>
     ensures { IfOk result (λ opened. map shared_view forms.new.items
-        ++ (if opened then [] else form.canonical (becomes settled.now)
+        ++ (if opened then [] else settled_form settled.now
         (pattern_view pattern.now) ∷ []) ≡ map shared_view forms.old.items
-        ++ map (form.canonical (becomes settled.now)) (parts_of kind (pattern_view pattern.now))) }
+        ++ map (settled_form settled.now) (parts_of kind (pattern_view pattern.now))) }
 {
     match kind {
         ListKind::Group => match pattern {
             Pattern::Group(members) => {
-                push_parts(alloc, settled, likely, kind, members, forms)?;
+                push_parts(alloc, settled, likely_numbers, kind, members, forms)?;
                 Ok(true)
             }
             _ => Ok(false),
         },
         ListKind::Interleave => match pattern {
             Pattern::Interleave(members) => {
-                push_parts(alloc, settled, likely, kind, members, forms)?;
+                push_parts(alloc, settled, likely_numbers, kind, members, forms)?;
                 Ok(true)
             }
             _ => Ok(false),
         },
         ListKind::Choice => match pattern {
             Pattern::Choice(members) => {
-                push_parts(alloc, settled, likely, kind, members, forms)?;
+                push_parts(alloc, settled, likely_numbers, kind, members, forms)?;
                 Ok(true)
             }
             _ => Ok(false),

@@ -99,7 +99,7 @@ impl Writer {
     }
 
     /// Appends the literal of a text.
-    pub(crate) fn literal(&mut self, text: &str)
+    pub(crate) fn put_literal(&mut self, text: &str)
         ensures { WritesBytes (literal_bytes text.now) none self.old self.new }
     {
         if self.stopped.is_none() {
@@ -109,7 +109,7 @@ impl Writer {
     }
 
     /// Appends a definition's name, behind a backslash if it is a keyword.
-    pub(crate) fn identifier(&mut self, name: &str)
+    pub(crate) fn put_identifier(&mut self, name: &str)
         ensures { WritesBytes (if is_keyword (chars name.now) then 92 ∷ name.now else name.now) none
             self.old self.new }
     {
@@ -120,7 +120,7 @@ impl Writer {
     }
 
     /// Appends a number in decimal digits.
-    pub(crate) fn number(&mut self, number: usize)
+    pub(crate) fn put_number(&mut self, number: usize)
         ensures { WritesBytes (decimal number) none self.old self.new }
     {
         if self.stopped.is_none() {

@@ -93,7 +93,7 @@ module _ (bundles : List (List ℕ)) (s : List Member) (h : IsUnion bundles s) w
       let inside : In m u = subst (λ (v : List Member). In m v) same (in_from_contains t m k) in
       contains_from_in s m (subst (λ (v : List Member). In m v) (sym h.is) (unions_some [] h.sets u m i inside))
 
--- the same contributions, one union
+-- bundles that bring the same contributions have one union
 pub one_union : (bundles others : List (List ℕ)) (s t : List Member) → IsUnion bundles s → IsUnion others t → BringSame bundles others → s ≡ t
 one_union bundles others s t h k same =
     one_by_members s t (union_rises bundles s h) (union_rises others t k)

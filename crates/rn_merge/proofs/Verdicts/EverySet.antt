@@ -109,8 +109,8 @@ never_uncanonical G lacks = never_unpruned (all_canonical G) lacks
 
 module _ (s : List Member) (lacks : (v : Verdict) → ¬ IsVerdict s v) where
   never_shown : (n : Grammar) → IsCanonicalOfSet s n → length (spelling n) ≤ 4194304 → (b : Bool) → is_too_deep n ≡ b → ⊥
-  never_shown n c short true e = lacks too_deep (n, c, short, e)
-  never_shown n c short false e = lacks (prints (spelling n)) (n, c, short, e, refl)
+  never_shown n c short true e = lacks too_deep (n, c, (short, e))
+  never_shown n c short false e = lacks (prints (spelling n)) (n, c, (short, e, refl))
 
   never_canonical : (n : Grammar) → ¬ IsCanonicalOfSet s n
   never_canonical n c = elim (cases_order 4194304 (length (spelling n))) [

@@ -13,17 +13,17 @@ use Rattle.rn_assemble.specs.ShortTexts.{IsKnown, IsShortened, ShortTexts, long_
 use Rattle.rn_assemble.proofs.Renaming.ShortTables.{table_renames}
 use Rattle.rn_simplify.specs.Printing.{IsPrinted, IsUnprinted}
 use Rattle.rn_simplify.specs.Verdict.{IsVerdict, prints, too_large, too_deep}
-use Rattle.rn_simplify.proofs.PrintedAgain.{printed_again}
-use Rattle.rn_simplify.proofs.PrintedSets.{printed_read}
+use Rattle.rn_simplify.proofs.Printed.PrintedAgain.{printed_again}
+use Rattle.rn_simplify.proofs.Printed.PrintedSets.{printed_read}
 use Rattle.rn_simplify.proofs.Renaming.CanonicalGrammars.{canonical_renamed}
 use Rattle.rn_simplify.proofs.Renaming.KnownUris.{known_canonical}
-use Rattle.rn_merge.specs.Schemas.{IsSchema, RefusesFirst}
+use Rattle.rn_merge.specs.Schemas.{IsSchemaOfSet, RefusesFirst}
 use Rattle.rn_merge.specs.Verdicts.{Answer, IsAnswer, IsRefusedAs}
 use Rattle.rn_merge.proofs.Verdicts.LoneContributions.{effective_alone}
 use Rattle.rn_merge.proofs.Verdicts.Clashes.{plain_once, one_method}
 use Rattle.rn_merge.proofs.Verdicts.SetVerdict.{answered, unrefused}
 
-pub schema : (s : List Member) (text : Text) → IsVerdict s (prints text) → IsSchema s text
+pub schema : (s : List Member) (text : Text) → IsVerdict s (prints text) → IsSchemaOfSet s text
 schema s text h =
     let none = unrefused s (prints text) (λ q. λ k. cc) h in
     record {
@@ -37,7 +37,7 @@ schema s text h =
     }
 
 -- what is answered is the schema
-pub answered_schema : (s : List Member) (answer : Answer) → IsAnswer s answer → IfOk answer (λ text. IsSchema s (string_bytes text))
+pub answered_schema : (s : List Member) (answer : Answer) → IsAnswer s answer → IfOk answer (λ text. IsSchemaOfSet s (string_bytes text))
 answered_schema s (Ok text) h = schema s (string_bytes text) h
 answered_schema s (Err q) h = tt
 
@@ -47,12 +47,12 @@ refuses_first s r.OutputTooDeep h = λ some. unrefused s too_deep (λ q. λ k. c
 refuses_first s r.Memory h = λ some. absurd (some refl)
 refuses_first s q h = h
 
--- or the first refusal
+-- what is answered in the place of a schema is the first refusal
 pub answered_refusal : (s : List Member) (answer : Answer) → IsAnswer s answer → IfErr answer (RefusesFirst s)
 answered_refusal s (Ok text) h = tt
 answered_refusal s (Err q) h = refuses_first s q h
 
--- what is printed of the canonical grammar that has short texts in the place of URIs, with these, is the set's
+-- what is printed, with its URIs, of the canonical grammar that has short texts in their place is the set's
 module _ (s : List Member) (es : ShortTexts) (G N : Grammar) (h : IsShortened s es G) (c : IsCanonicalOf G N) where
   pub printed_known : IsOfKnownUris (IsKnown es) N
   printed_known = known_canonical (IsKnown es) G N h.known c
@@ -64,7 +64,7 @@ module _ (s : List Member) (es : ShortTexts) (G N : Grammar) (h : IsShortened s 
     pub printed_answer : IsAnswer s answer
     printed_answer = answered s (long_grammar es N) answer (long_grammar es G, h.assembled, long_canonical) ok err
 
-    pub printed_schema : IfOk answer (λ text. IsSchema s (string_bytes text))
+    pub printed_schema : IfOk answer (λ text. IsSchemaOfSet s (string_bytes text))
     printed_schema = answered_schema s answer printed_answer
 
     pub printed_refusal : IfErr answer (RefusesFirst s)

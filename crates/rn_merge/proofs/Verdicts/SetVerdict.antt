@@ -10,7 +10,7 @@ use Rattle.rn_assemble.specs.Refusal.{Refusal, Stands}
 use Rattle.rn_assemble.specs.Refused.{IsFirstRefusal}
 use Rattle.rn_simplify.specs.Printing.{IsPrinted, IsUnprinted}
 use Rattle.rn_simplify.specs.Verdict.{Verdict, prints, refused, too_large, too_deep, IsCanonicalOfSet, IsVerdict}
-use Rattle.rn_simplify.proofs.OneVerdict.{one_verdict}
+use Rattle.rn_simplify.proofs.Printed.OneVerdict.{one_verdict}
 use Rattle.rn_merge.specs.Verdicts.{verdict_view, IsRefusedAs, Answer, answer_view, IsAnswer}
 
 -- ---- from the parts to the answer
@@ -27,12 +27,12 @@ answered_first s (Err p) q e h = subst (IsRefusedAs s) (sym e) (refused_first s 
 
 unprinted : (s : List Member) (n : Grammar) (q : code.Refusal) → IsCanonicalOfSet s n → IsUnprinted n q → IsRefusedAs s q
 unprinted s n r.OutputTooLarge c h = (n, c, h)
-unprinted s n r.OutputTooDeep c h = (n, c, h.0, h.1)
+unprinted s n r.OutputTooDeep c h = (n, c, h)
 unprinted s n r.Memory c h = refl
 unprinted s n q c h = absurd h
 
 pub answered : (s : List Member) (n : Grammar) (answer : Answer) → IsCanonicalOfSet s n → IfOk answer (λ text. IsPrinted n (string_bytes text)) → IfErr answer (IsUnprinted n) → IsAnswer s answer
-answered s n (Ok text) c p u = (n, c, p.0, p.1, p.2)
+answered s n (Ok text) c p u = (n, c, p)
 answered s n (Err q) c p u = unprinted s n q c u
 
 -- a refusal that is no want of memory
@@ -69,6 +69,6 @@ one_answer s a b h k some other =
 -- no refusal stands where the verdict is none
 pub unrefused : (s : List Member) (v : Verdict) → ((q : Refusal) → v ≢ refused q) → IsVerdict s v → (q : Refusal) → ¬ Stands s q
 unrefused s (refused p) other h = absurd (other p refl)
-unrefused s (prints text) other (n, (g, a, c), short, shallow, is) = a.0
+unrefused s (prints text) other (n, (g, a, c), printed) = a.0
 unrefused s too_large other (n, (g, a, c), long) = a.0
-unrefused s too_deep other (n, (g, a, c), short, deep) = a.0
+unrefused s too_deep other (n, (g, a, c), deep) = a.0

@@ -17,7 +17,7 @@ use Rattle.rn_syntax.specs.Places.{xml_uri, xsd_uri, declarations_places, declar
 use Rattle.rn_syntax.proofs.TokenKinds.PieceTokens.{ascii, behind}
 use Rattle.rn_assemble.specs.Resolve.{declared_text}
 use Rattle.std.specs.declared.cmp.Ordering.TheVariants.{Less}
-use Rattle.rn_simplify.specs.Spelling.{Prefixes, prefixes, place, namespace_prefix, library_prefix, namespace_entries, library_entries, has_empty_ns_name, name_uris, mentions, grammar_mentions, bindings, default_line}
+use Rattle.rn_simplify.specs.Spelling.{Prefixes, prefixes, place, namespace_prefix, library_prefix, namespace_entries, library_entries, has_empty_ns_name, bindings, default_line, grammar_namespaces, grammar_libraries, is_other}
 use Rattle.rn_simplify.specs.Printable.{IsPrintable}
 use Rattle.rn_assemble.specs.WritableTexts.{IsXml, IsName, Free}
 use Rattle.rn_simplify.specs.Spellable.{IsSpellable}
@@ -30,6 +30,7 @@ use Rattle.rn_simplify.proofs.ReadBack.OrderedTexts.{less_differs, sorted_all, f
 use Rattle.rn_simplify.proofs.ReadBack.DeclaredPrefixes.{Entry, OtherPrefix, HaveOwnPrefixes, found, no_library, found_library, Fresh, FreshLibrary, IsOwnNamespace, IsOwnLibrary, clean_declarations}
 use Rattle.rn_simplify.proofs.ReadBack.NumberedPrefixes.{numbered_name, numbered_bytes, numbered_differ, place_bound, place_positive, place_one}
 use Rattle.rn_simplify.proofs.ReadBack.MentionedTexts.{Named, Wide, Libraries, Names, tree_bound, all_first, all_second}
+use Rattle.rn_simplify.specs.inside.Gathers.{tree_namespaces, tree_libraries}
 
 abbrev In : List Text → Text → Type 0
 In us u = list_any (bytes_eq u) us ≡ true
@@ -137,16 +138,16 @@ module _ (n : Grammar) (h : IsSpellable n) where
   lib l = library_prefix f l
 
   abbrev mentioned : List Text
-  mentioned = grammar_mentions (name_uris false) (λ l. []) n
+  mentioned = grammar_namespaces false n
 
   abbrev libraries_mentioned : List Text
-  libraries_mentioned = grammar_mentions (λ c. []) (λ l. l ∷ []) n
+  libraries_mentioned = grammar_libraries n
 
   abbrev Kept : Text → Type 0
-  Kept u = (not (bytes_eq u []) && not (bytes_eq u xml_uri)) ≡ true
+  Kept u = is_other xml_uri u ≡ true
 
   abbrev KeptLibrary : Text → Type 0
-  KeptLibrary l = (not (bytes_eq l []) && not (bytes_eq l xsd_uri)) ≡ true
+  KeptLibrary l = is_other xsd_uri l ≡ true
 
   pre_is : (u : Text) → Kept u → pre u ≡ 110 ∷ decimal (place u us)
   pre_is u k = let both = other_parts (bytes_eq u []) (bytes_eq u xml_uri) k in cond-false _ _ _ both.0 ∙ cond-false _ _ _ both.1
@@ -155,10 +156,10 @@ module _ (n : Grammar) (h : IsSpellable n) where
   lib_is l k = cond-false _ _ _ (other_parts (bytes_eq l []) (bytes_eq l xsd_uri) k).1
 
   members : AllByRecursion (λ u. IsXml u × Kept u) us
-  members = filter_all IsXml (λ u. not (bytes_eq u []) && not (bytes_eq u xml_uri)) (sorted_once text_cmp mentioned) (sorted_all IsXml mentioned h.namespaces)
+  members = filter_all IsXml (is_other xml_uri) (sorted_once text_cmp mentioned) (sorted_all IsXml mentioned h.namespaces)
 
   library_members : AllByRecursion (λ u. IsXml u × KeptLibrary u) ls
-  library_members = filter_all IsXml (λ u. not (bytes_eq u []) && not (bytes_eq u xsd_uri)) (sorted_once text_cmp libraries_mentioned) (sorted_all IsXml libraries_mentioned h.libraries)
+  library_members = filter_all IsXml (is_other xsd_uri) (sorted_once text_cmp libraries_mentioned) (sorted_all IsXml libraries_mentioned h.libraries)
 
   placed : AllByRecursion (Placed 110 pre us n_start refl h.few_namespaces) us
   placed = mapped (λ u. In us u × (IsXml u × Kept u)) (Placed 110 pre us n_start refl h.few_namespaces) (λ u k. (k.0, pre_is u k.1.1)) us (zipped (In us) (λ u. IsXml u × Kept u) us (all_in us) members)
@@ -179,7 +180,7 @@ module _ (n : Grammar) (h : IsSpellable n) where
   own_entries = go (has_empty_ns_name n)
     where
       rest : HaveOwnPrefixes (map (λ u. (pre u, u)) us)
-      rest = own_map 110 pre us n_start refl h.few_namespaces us (filter_apart (λ u. not (bytes_eq u []) && not (bytes_eq u xml_uri)) (sorted_once text_cmp mentioned) (sorted_apart mentioned)) placed
+      rest = own_map 110 pre us n_start refl h.few_namespaces us (filter_apart (is_other xml_uri) (sorted_once text_cmp mentioned) (sorted_apart mentioned)) placed
 
       zero_other : (u : Text) → Placed 110 pre us n_start refl h.few_namespaces u → OtherPrefix (codes "n0", []) (pre u, u)
       zero_other u k =
@@ -191,7 +192,7 @@ module _ (n : Grammar) (h : IsSpellable n) where
       go false = rest
 
   own_libraries : HaveOwnPrefixes (library_entries n)
-  own_libraries = own_map 100 lib ls d_start refl h.few_libraries ls (filter_apart (λ u. not (bytes_eq u []) && not (bytes_eq u xsd_uri)) (sorted_once text_cmp libraries_mentioned) (sorted_apart libraries_mentioned)) placed_libraries
+  own_libraries = own_map 100 lib ls d_start refl h.few_libraries ls (filter_apart (is_other xsd_uri) (sorted_once text_cmp libraries_mentioned) (sorted_apart libraries_mentioned)) placed_libraries
 
   entries : AllByRecursion IsEntry (namespace_entries n)
   entries = all_entries IsEntry (zero_name, empty_xml) (mapped (λ u. Placed 110 pre us n_start refl h.few_namespaces u × (IsXml u × Kept u)) (λ u. IsEntry (pre u, u)) (λ u k. (placed_name 110 pre us n_start refl h.few_namespaces u k.0, k.1.0)) us (zipped (Placed 110 pre us n_start refl h.few_namespaces) (λ u. IsXml u × Kept u) us placed members))
@@ -269,15 +270,15 @@ module _ (n : Grammar) (h : IsSpellable n) where
       (λ x. let is : u ≡ xml_uri = (bytes_eq-Decides u xml_uri).0 x in
       let p : pre u ≡ codes "xml" = cond-false _ _ _ e ∙ cond-true _ _ _ x in
       subst (λ q. IsBoundTo ds q u) (sym p) (subst (IsBoundTo ds (codes "xml")) (sym is) (xml_bound ds)))
-      (λ x. let here : In us u = filter_keeps u (λ u. not (bytes_eq u []) && not (bytes_eq u xml_uri)) (sorted_once text_cmp mentioned) (kept_from (bytes_eq u []) (bytes_eq u xml_uri) e x) (sorted_keeps (bytes_eq u) mentioned k) in
+      (λ x. let here : In us u = filter_keeps u (is_other xml_uri) (sorted_once text_cmp mentioned) (kept_from (bytes_eq u []) (bytes_eq u xml_uri) e x) (sorted_keeps (bytes_eq u) mentioned k) in
       let q = pick (λ u. Placed 110 pre us n_start refl h.few_namespaces u × Found (pre u, u)) u us (zipped (Placed 110 pre us n_start refl h.few_namespaces) (λ u. Found (pre u, u)) us placed found_named) here in
       bound_by ds (pre u) u (placed_name 110 pre us n_start refl h.few_namespaces u q.0) (not_xml u q.0).1 q.1)
       (cases_Bool (bytes_eq u xml_uri))
 
-  ns_named : (u : Text) → In (grammar_mentions (name_uris true) (λ l. []) n) u → Wide N L u
+  ns_named : (u : Text) → In (grammar_namespaces true n) u → Wide N L u
   ns_named u k e =
       let is : u ≡ [] = (bytes_eq-Decides u []).0 e in
-      let stands : has_empty_ns_name n ≡ true = ap (λ v. list_any (bytes_eq v) (grammar_mentions (name_uris true) (λ l. []) n)) (sym is) ∙ k in
+      let stands : has_empty_ns_name n ≡ true = ap (λ v. list_any (bytes_eq v) (grammar_namespaces true n)) (sym is) ∙ k in
       let p : pre u ≡ codes "n0" = cond-true _ _ _ e in
       subst (λ q. IsBoundTo ds q u) (sym p) (subst (IsBoundTo ds (codes "n0")) (sym is) (bound_by ds (codes "n0") [] zero_name (ap (λ p. bytes_eq p (codes "xml")) zero_bytes) (found_zero stands)))
 
@@ -286,7 +287,7 @@ module _ (n : Grammar) (h : IsSpellable n) where
       (λ x. let is : l ≡ xsd_uri = (bytes_eq-Decides l xsd_uri).0 x in
       let p : lib l ≡ codes "xsd" = cond-true _ _ _ x in
       subst (λ q. IsLibrary ds q l) (sym p) (subst (IsLibrary ds (codes "xsd")) (sym is) (xsd_library ds)))
-      (λ x. let here : In ls l = filter_keeps l (λ u. not (bytes_eq u []) && not (bytes_eq u xsd_uri)) (sorted_once text_cmp libraries_mentioned) (kept_from (bytes_eq l []) (bytes_eq l xsd_uri) e x) (sorted_keeps (bytes_eq l) libraries_mentioned k) in
+      (λ x. let here : In ls l = filter_keeps l (is_other xsd_uri) (sorted_once text_cmp libraries_mentioned) (kept_from (bytes_eq l []) (bytes_eq l xsd_uri) e x) (sorted_keeps (bytes_eq l) libraries_mentioned k) in
       let q = pick (λ u. Placed 100 lib ls d_start refl h.few_libraries u × (declared_library ds (encode_utf8_all (lib u)) ≡ Some u)) l ls (zipped (Placed 100 lib ls d_start refl h.few_libraries) (λ u. declared_library ds (encode_utf8_all (lib u)) ≡ Some u) ls placed_libraries found_libraries) here in
       record { name = placed_name 100 lib ls d_start refl h.few_libraries l q.0; meaning = cond-false _ _ _ (ap (λ p. bytes_eq p (codes "xsd")) (placed_bytes 100 lib ls d_start refl h.few_libraries l q.0)) ∙ q.1 })
       (cases_Bool (bytes_eq l xsd_uri))
@@ -294,24 +295,24 @@ module _ (n : Grammar) (h : IsSpellable n) where
   all_named : AllByRecursion (Named N L) mentioned
   all_named = mapped (In mentioned) (Named N L) named mentioned (all_in mentioned)
 
-  all_wide : AllByRecursion (Wide N L) (grammar_mentions (name_uris true) (λ l. []) n)
-  all_wide = mapped (In (grammar_mentions (name_uris true) (λ l. []) n)) (Wide N L) ns_named _ (all_in (grammar_mentions (name_uris true) (λ l. []) n))
+  all_wide : AllByRecursion (Wide N L) (grammar_namespaces true n)
+  all_wide = mapped (In (grammar_namespaces true n)) (Wide N L) ns_named _ (all_in (grammar_namespaces true n))
 
   all_libraries : AllByRecursion (Libraries N L) libraries_mentioned
   all_libraries = mapped (In libraries_mentioned) (Libraries N L) library libraries_mentioned (all_in libraries_mentioned)
 
   names_of_start : Names N L n.start
-  names_of_start = (all_first (Named N L) (mentions (name_uris false) (λ l. []) n.start) _ all_named, all_first (Wide N L) (mentions (name_uris true) (λ l. []) n.start) _ all_wide, all_first (Libraries N L) (mentions (λ c. []) (λ l. l ∷ []) n.start) _ all_libraries)
+  names_of_start = (all_first (Named N L) (tree_namespaces false n.start) _ all_named, all_first (Wide N L) (tree_namespaces true n.start) _ all_wide, all_first (Libraries N L) (tree_libraries n.start) _ all_libraries)
 
   names_of_definitions : AllByRecursion (λ d. Names N L d.1) n.definitions
   names_of_definitions =
-      let a = definitions_all (Named N L) (mentions (name_uris false) (λ l. [])) n.definitions (all_second (Named N L) (mentions (name_uris false) (λ l. []) n.start) _ all_named) in
-      let b = definitions_all (Wide N L) (mentions (name_uris true) (λ l. [])) n.definitions (all_second (Wide N L) (mentions (name_uris true) (λ l. []) n.start) _ all_wide) in
-      let c = definitions_all (Libraries N L) (mentions (λ c. []) (λ l. l ∷ [])) n.definitions (all_second (Libraries N L) (mentions (λ c. []) (λ l. l ∷ []) n.start) _ all_libraries) in
+      let a = definitions_all (Named N L) (tree_namespaces false) n.definitions (all_second (Named N L) (tree_namespaces false n.start) _ all_named) in
+      let b = definitions_all (Wide N L) (tree_namespaces true) n.definitions (all_second (Wide N L) (tree_namespaces true n.start) _ all_wide) in
+      let c = definitions_all (Libraries N L) (tree_libraries) n.definitions (all_second (Libraries N L) (tree_libraries n.start) _ all_libraries) in
       together n.definitions a b c
     where
-      together : (es : List (Text × Tree)) → AllByRecursion (λ d. AllByRecursion (Named N L) (mentions (name_uris false) (λ l. []) d.1)) es → AllByRecursion (λ d. AllByRecursion (Wide N L) (mentions (name_uris true) (λ l. []) d.1)) es
-          → AllByRecursion (λ d. AllByRecursion (Libraries N L) (mentions (λ c. []) (λ l. l ∷ []) d.1)) es → AllByRecursion (λ d. Names N L d.1) es
+      together : (es : List (Text × Tree)) → AllByRecursion (λ d. AllByRecursion (Named N L) (tree_namespaces false d.1)) es → AllByRecursion (λ d. AllByRecursion (Wide N L) (tree_namespaces true d.1)) es
+          → AllByRecursion (λ d. AllByRecursion (Libraries N L) (tree_libraries d.1)) es → AllByRecursion (λ d. Names N L d.1) es
       together [] a b c = tt
       together (e ∷ es) a b c = ((a.0, b.0, c.0), together es a.1 b.1 c.1)
 

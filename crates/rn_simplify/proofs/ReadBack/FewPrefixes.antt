@@ -1,5 +1,5 @@
 -- A text has no more declarations of prefixes than bytes.
-use Rattle.std.proofs.Common.{◌≡◌, ◌≤◌, ◌<◌, ◌+◌, ℕ, cond, List, [], ◌∷◌, ◌++◌, length, map, ap, ◌∙◌, arith}
+use Rattle.std.proofs.Common.{◌≡◌, ◌≤◌, ◌<◌, ◌+◌, ℕ, List, [], ◌∷◌, ◌++◌, length, ap, ◌∙◌, arith}
 use Rattle.std.specs.Prelude.{codes}
 use Rattle.std.proofs.lemmas.List.{length-append, length-map}
 use Rattle.std.proofs.lemmas.Str.{length-le-encodes}
@@ -7,7 +7,7 @@ use Rattle.rn_text.specs.Parts.{Piece, text_of}
 use Rattle.rn_text.proofs.Cutting.SoundPieces.{text_of-append}
 use Rattle.rn_text.specs.Texts.{Text}
 use Rattle.rn_pattern.specs.Matching.{Grammar}
-use Rattle.rn_simplify.specs.Spelling.{keyword, space, word, infix_of, literal, line_end, binding, bindings, default_line, definition_line, definition_lines, prefixes, namespace_entries, library_entries, namespace_prefix, library_prefix, has_empty_ns_name, spelling_pieces, spelling}
+use Rattle.rn_simplify.specs.Spelling.{keyword, space, word, binding, bindings, default_line, definition_line, definition_lines, prefixes, namespace_entries, library_entries, namespace_prefix, library_prefix, has_empty_ns_name, spelling_pieces, spelling, bound_to, empty_entries, own_entries}
 
 -- how many characters the pieces have
 abbrev width : List Piece → ℕ
@@ -24,7 +24,7 @@ lines : (w : List ℕ) → 0 < length w → (es : List (List ℕ × Text)) → l
 lines w some [] = omega arith
 lines w some (e ∷ es) =
     let first = binding w e.0 e.1 in
-    omega (arith, some, lines w some es, width-append first (bindings w es), width-cons (keyword w) (space ∷ word e.0 ∷ (infix_of (codes "=") ++ (literal e.1 ++ line_end ∷ []))))
+    omega (arith, some, lines w some es, width-append first (bindings w es), width-cons (keyword w) (space ∷ word e.0 ∷ bound_to e.1))
 
 module _ (n : Grammar) where
   abbrev body : List Piece
@@ -42,11 +42,11 @@ module _ (n : Grammar) where
       )
 
   abbrev named : List (List ℕ × Text)
-  named = map (λ (u : Text). (namespace_prefix (prefixes n) u, u)) (prefixes n).namespaces
+  named = own_entries (namespace_prefix (prefixes n)) (prefixes n).namespaces
 
   pub few_namespaces : length (prefixes n).namespaces ≤ length (spelling n)
   few_namespaces =
-      let all : length (namespace_entries n) ≡ length (cond {A = List (List ℕ × Text)} (has_empty_ns_name n) ((codes "n0", []) ∷ []) []) + length named = length-append {A = List ℕ × Text} (cond (has_empty_ns_name n) ((codes "n0", []) ∷ []) []) named in
+      let all : length (namespace_entries n) ≡ length (empty_entries (has_empty_ns_name n)) + length named = length-append {A = List ℕ × Text} (empty_entries (has_empty_ns_name n)) named in
       let same : length named ≡ length (prefixes n).namespaces = length-map {A = Text} {B = List ℕ × Text} (prefixes n).namespaces (λ u. (namespace_prefix (prefixes n) u, u)) in
       omega (arith, entries.0, length-le-encodes (text_of (spelling_pieces n)), all, same)
 

@@ -5,10 +5,11 @@ use Rattle.std.specs.List.{AllByRecursion}
 use Rattle.std.proofs.lemmas.Bool.{cases_Bool}
 use Rattle.rn_pattern.specs.Tree.{NameTree, NameTrees, Tree, Trees, more_trees, no_trees}
 use Rattle.rn_text.specs.Texts.{Text}
-use Rattle.rn_simplify.specs.Spelling.{name_uris, names_uris, mentions, mentions_all}
+use Rattle.rn_simplify.specs.Spelling.{name_uris, names_uris}
 use Rattle.rn_simplify.specs.Printable as w
 use Rattle.rn_simplify.specs.Printable.{IsClass, AreClasses, IsPrintable, ArePrintable, every, every_but, all_of, all_of_but, local, full, either}
 use Rattle.rn_assemble.specs.WritableTexts.{IsType, IsData, string_type, token_type, library_type, bare, with_params, Free}
+use Rattle.rn_simplify.specs.inside.Gathers.{tree_namespaces, tree_libraries, trees_namespaces, trees_libraries}
 
 pub all_first : (Q : Text → Type 0) (xs ys : List Text) → AllByRecursion Q (xs ++ ys) → AllByRecursion Q xs
 all_first Q [] ys a = tt
@@ -58,18 +59,18 @@ module _ (N L : Text → Type 0) where
   data_bound (with_params b n e) c = with_params (c refl) n e
 
   abbrev pub Names : Tree → Type 0
-  Names p = AllByRecursion Named (mentions (name_uris false) (λ l. []) p) × AllByRecursion Wide (mentions (name_uris true) (λ l. []) p) × AllByRecursion Libraries (mentions (λ n. []) (λ l. l ∷ []) p)
+  Names p = AllByRecursion Named (tree_namespaces false p) × AllByRecursion Wide (tree_namespaces true p) × AllByRecursion Libraries (tree_libraries p)
 
   abbrev AllNames : Trees → Type 0
-  AllNames ps = AllByRecursion Named (mentions_all (name_uris false) (λ l. []) ps) × AllByRecursion Wide (mentions_all (name_uris true) (λ l. []) ps) × AllByRecursion Libraries (mentions_all (λ n. []) (λ l. l ∷ []) ps)
+  AllNames ps = AllByRecursion Named (trees_namespaces false ps) × AllByRecursion Wide (trees_namespaces true ps) × AllByRecursion Libraries (trees_libraries ps)
 
   first : (p : Tree) (ps : Trees) → AllNames (more_trees p ps) → Names p
-  first p ps a = (all_first Named (mentions (name_uris false) (λ l. []) p) _ a.0, all_first Wide (mentions (name_uris true) (λ l. []) p) _ a.1, all_first Libraries (mentions (λ n. []) (λ l. l ∷ []) p) _ a.2)
+  first p ps a = (all_first Named (tree_namespaces false p) _ a.0, all_first Wide (tree_namespaces true p) _ a.1, all_first Libraries (tree_libraries p) _ a.2)
 
   others : (p : Tree) (ps : Trees) → AllNames (more_trees p ps) → AllNames ps
-  others p ps a = (all_second Named (mentions (name_uris false) (λ l. []) p) _ a.0, all_second Wide (mentions (name_uris true) (λ l. []) p) _ a.1, all_second Libraries (mentions (λ n. []) (λ l. l ∷ []) p) _ a.2)
+  others p ps a = (all_second Named (tree_namespaces false p) _ a.0, all_second Wide (tree_namespaces true p) _ a.1, all_second Libraries (tree_libraries p) _ a.2)
 
-  in_class : (n : NameTree) (p : Tree) → AllByRecursion Named (name_uris false n ++ mentions (name_uris false) (λ l. []) p) × AllByRecursion Wide (name_uris true n ++ mentions (name_uris true) (λ l. []) p) × AllByRecursion Libraries (mentions (λ n. []) (λ l. l ∷ []) p) → Names p
+  in_class : (n : NameTree) (p : Tree) → AllByRecursion Named (name_uris false n ++ tree_namespaces false p) × AllByRecursion Wide (name_uris true n ++ tree_namespaces true p) × AllByRecursion Libraries (tree_libraries p) → Names p
   in_class n p a = (all_second Named (name_uris false n) _ a.0, all_second Wide (name_uris true n) _ a.1, a.2)
 
   mutual

@@ -36,7 +36,7 @@ use Rattle.rn_simplify.proofs.Simplified.WellFormed.{normal_well_formed, opened_
 pub normal_valid : (G N : Grammar) → IsCanonicalOf G N → IsWellFormed G → (T : Table) (doc : Item) → IsValid G T doc ↔ IsValid N T doc
 normal_valid G N c w T doc = canonical_grammar_valid G N c T w.start_excepts w.excepts doc
 
--- and so has each combination of components, for the canonical grammar of what they are joined to, opened
+-- each combination of components has the documents of the canonical grammar of what they are joined to, opened
 pub combination_valid : (cs : List Component) (C N : Grammar) → AllByRecursion (λ (c : Component). HasExcepts c.body) cs → IsCombination cs C → IsCanonicalOf (joined_grammar cs) N → (T : Table) (doc : Item) → IsValid C T doc ↔ IsValid (opened_grammar N) T doc
 combination_valid cs C N e c n T doc =
     let first = combined_valid T cs C c doc in
@@ -48,7 +48,7 @@ module _ (N : Grammar) (r : IsReadBack N) where
   pub combination_read : (cs : List Component) (C : Grammar) → AllByRecursion (λ (c : Component). HasExcepts c.body) cs → IsCombination cs C → IsCanonicalOf (joined_grammar cs) N → (T : Table) (doc : Item) → IsValid C T doc ↔ IsValid (module_grammar r.tree) T doc
   combination_read cs C e c n T doc = subst (λ R. IsValid C T doc ↔ IsValid R T doc) (sym r.same) (combination_valid cs C N e c n T doc)
 
-  -- and so has the grammar itself
+  -- a grammar has the documents of what is read back of its canonical grammar
   pub joined_read : (G : Grammar) → IsCanonicalOf G N → IsWellFormed G → (T : Table) (doc : Item) → IsValid G T doc ↔ IsValid (module_grammar r.tree) T doc
   joined_read G c w T doc =
       let first = normal_valid G N c w T doc in

@@ -7,7 +7,7 @@ use Rattle.rn_pattern.specs.Order.{parameters_cmp, name_cmp, names_cmp, tree_cmp
 use Rattle.rn_assemble.specs.Renamed.{renamed_class, renamed_classes, renamed_tree, renamed_trees, HasKnownNames, HaveKnownNames, HasKnownUris, HaveKnownUris, IsRenaming}
 
 module _ (named : Text → Text) (Known : Text → Type 0) (r : IsRenaming named Known) where
-  -- two known URIs, and then the same
+  -- two known URIs are in their order, and so is what comes behind them
   uris_then : (u v : Text) (a b : Ordering) → Known u → Known v → a ≡ b
       → ordering_then (text_cmp (named u) (named v)) a ≡ ordering_then (text_cmp u v) b
   uris_then u v a b h k e = λ i. ordering_then (r.in_order u v h k i) (e i)

@@ -8,17 +8,12 @@ use Rattle.rn_text.specs.Parts.{Piece}
 use Rattle.rn_pattern.specs.Tree.{Tree}
 use Rattle.rn_pattern.specs.Matching.{Grammar}
 use Rattle.rn_assemble.specs.Renamed.{renamed_tree, renamed_definition, renamed_grammar, HasKnownUris, IsOfKnownUris, IsRenaming}
-use Rattle.rn_simplify.specs.inside.Writes.{empty_entries, entries}
 use Rattle.rn_simplify.proofs.Renaming.RenamedEntries.{renamed_entries}
-use Rattle.rn_simplify.specs.Spelling.{Prefixes, keyword, identifier, infix_of, line_end, namespace_prefix, library_prefix, prefixes, has_empty_ns_name, default_line, definition_line, namespace_entries, library_entries, bindings, definition_lines, spelling_pieces}
+use Rattle.rn_simplify.specs.Spelling.{Prefixes, keyword, identifier, infix_of, line_end, namespace_prefix, library_prefix, prefixes, has_empty_ns_name, default_line, definition_line, namespace_entries, library_entries, bindings, definition_lines, spelling_pieces, empty_entries, own_entries}
 use Rattle.rn_simplify.proofs.Renaming.MappedLists.{map_joined}
 use Rattle.rn_simplify.proofs.Renaming.RenamedMentions.{empty_ns_name_renamed}
 use Rattle.rn_simplify.proofs.Renaming.RenamedPrefixes.{renamed_prefixes, HasKnownTexts, prefixes_known, prefixes_renamed, namespace_prefix_renamed, library_prefix_renamed}
 use Rattle.rn_simplify.proofs.Renaming.WrittenPatterns.{written_tree_renamed}
-
--- the entries of texts by what their prefixes are
-abbrev own_entries : (Text → List ℕ) → List Text → List (List ℕ × Text)
-own_entries = entries (λ u. u)
 
 pub empty_entry_renamed : (named : Text → Text) → named [] ≡ [] → (has_empty : Bool) → renamed_entries named (empty_entries has_empty) ≡ empty_entries has_empty
 empty_entry_renamed named e true = ap (λ (u : Text). (codes "n0", u) ∷ []) e

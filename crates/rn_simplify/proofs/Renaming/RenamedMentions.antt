@@ -7,7 +7,7 @@ use Rattle.rn_pattern.specs.Tree.{NameTree, NameTrees, any_name, any_name_but, n
 use Rattle.rn_pattern.specs.Matching.{Grammar}
 use Rattle.rn_pattern.proofs.Ordered.Ascending.{each_append, each_flat}
 use Rattle.rn_assemble.specs.Renamed.{renamed_class, renamed_classes, renamed_tree, renamed_trees, renamed_definition, renamed_grammar, HasKnownNames, HaveKnownNames, HasKnownUris, HaveKnownUris, IsOfKnownUris, IsRenaming}
-use Rattle.rn_simplify.specs.Spelling.{name_uris, names_uris, mentions, mentions_all, grammar_mentions, has_empty_ns_name}
+use Rattle.rn_simplify.specs.Spelling.{name_uris, names_uris, mentions, mentions_all, grammar_mentions, has_empty_ns_name, grammar_namespaces, grammar_libraries}
 use Rattle.rn_assemble.proofs.Renaming.MappedTests.{list_any-mapped}
 use Rattle.rn_simplify.proofs.Renaming.MappedLists.{map_joined}
 use Rattle.rn_assemble.proofs.Renaming.KnownTexts.{alike_eq}
@@ -143,28 +143,22 @@ module _ (Known : Text → Type 0) (of_name : NameTree → List Text) (of_librar
 
 -- ---- the namespaces, and the libraries
 
-abbrev pub namespaces_of : Bool → Grammar → List Text
-namespaces_of ns_only N = grammar_mentions (name_uris ns_only) (λ l. []) N
-
-abbrev pub libraries_of : Grammar → List Text
-libraries_of N = grammar_mentions (λ n. []) (λ l. l ∷ []) N
-
 pub namespaces_renamed : (named : Text → Text) (ns_only : Bool) (N : Grammar)
-    → namespaces_of ns_only (renamed_grammar named N) ≡ map named (namespaces_of ns_only N)
+    → grammar_namespaces ns_only (renamed_grammar named N) ≡ map named (grammar_namespaces ns_only N)
 namespaces_renamed named ns_only N =
     grammar_mentions_renamed named (name_uris ns_only) (λ l. []) (name_uris_renamed named ns_only) (λ l. refl) N
 
 pub libraries_renamed : (named : Text → Text) (N : Grammar)
-    → libraries_of (renamed_grammar named N) ≡ map named (libraries_of N)
+    → grammar_libraries (renamed_grammar named N) ≡ map named (grammar_libraries N)
 libraries_renamed named N = grammar_mentions_renamed named (λ n. []) (λ l. l ∷ []) (λ n. refl) (λ l. refl) N
 
 pub namespaces_known : (Known : Text → Type 0) (ns_only : Bool) (N : Grammar) → IsOfKnownUris Known N
-    → AllByRecursion Known (namespaces_of ns_only N)
+    → AllByRecursion Known (grammar_namespaces ns_only N)
 namespaces_known Known ns_only N k =
     grammar_mentions_known Known (name_uris ns_only) (λ l. []) (name_uris_known Known ns_only) (λ l h. tt) N k
 
 pub libraries_known : (Known : Text → Type 0) (N : Grammar) → IsOfKnownUris Known N
-    → AllByRecursion Known (libraries_of N)
+    → AllByRecursion Known (grammar_libraries N)
 libraries_known Known N k = grammar_mentions_known Known (λ n. []) (λ l. l ∷ []) (λ n h. tt) (λ l h. (h, tt)) N k
 
 pub empty_ns_name_renamed : {named : Text → Text} {Known : Text → Type 0} → IsRenaming named Known
@@ -172,4 +166,4 @@ pub empty_ns_name_renamed : {named : Text → Text} {Known : Text → Type 0} �
 empty_ns_name_renamed {named} {Known} r N k =
     (λ i. list_any (bytes_eq []) (namespaces_renamed named true N i))
     ∙ list_any-mapped named (bytes_eq []) (bytes_eq []) Known (alike_eq r [] r.knows_none r.none)
-    (namespaces_of true N) (namespaces_known Known true N k)
+    (grammar_namespaces true N) (namespaces_known Known true N k)

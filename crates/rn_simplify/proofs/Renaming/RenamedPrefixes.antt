@@ -9,12 +9,12 @@ use Rattle.rn_pattern.specs.Canonical.{sorted_once}
 use Rattle.rn_pattern.proofs.Ordered.Ascending.{each_sorted_once}
 use Rattle.rn_syntax.specs.Places.{xml_uri, xsd_uri}
 use Rattle.rn_assemble.specs.Renamed.{renamed_grammar, IsOfKnownUris, IsRenaming}
-use Rattle.rn_simplify.specs.Spelling.{Prefixes, keyword, word, prefixed_piece, place, namespace_prefix, library_prefix, type_piece, name_piece, prefixes}
+use Rattle.rn_simplify.specs.Spelling.{Prefixes, keyword, word, prefixed_piece, place, namespace_prefix, library_prefix, type_piece, name_piece, prefixes, grammar_namespaces, grammar_libraries}
 use Rattle.rn_simplify.proofs.ReadBack.OrderedTexts.{filter_only}
 use Rattle.rn_simplify.proofs.Renaming.MappedLists.{sorted_once-mapped}
 use Rattle.rn_assemble.proofs.Renaming.MappedTests.{filter-mapped}
 use Rattle.rn_assemble.proofs.Renaming.KnownTexts.{both_alike, is_empty, is_xml, is_xsd}
-use Rattle.rn_simplify.proofs.Renaming.RenamedMentions.{namespaces_of, libraries_of, namespaces_renamed, libraries_renamed, namespaces_known, libraries_known}
+use Rattle.rn_simplify.proofs.Renaming.RenamedMentions.{namespaces_renamed, libraries_renamed, namespaces_known, libraries_known}
 
 abbrev pub renamed_prefixes : (Text → Text) → Prefixes → Prefixes
 renamed_prefixes named f = record { namespaces = map named f.namespaces; libraries = map named f.libraries }
@@ -32,8 +32,8 @@ is_bound_library l = not (bytes_eq l []) && not (bytes_eq l xsd_uri)
 
 pub prefixes_known : (Known : Text → Type 0) (N : Grammar) → IsOfKnownUris Known N → HasKnownTexts Known (prefixes N)
 prefixes_known Known N k =
-    let us : List Text = namespaces_of false N in
-    let ls : List Text = libraries_of N in
+    let us : List Text = grammar_namespaces false N in
+    let ls : List Text = grammar_libraries N in
     record {
       namespaces = filter_only Known is_bound (sorted_once text_cmp us)
           (each_sorted_once Known text_cmp us (namespaces_known Known false N k));
@@ -68,11 +68,11 @@ module _ {named : Text → Text} {Known : Text → Type 0} (r : IsRenaming named
   pub prefixes_renamed : (N : Grammar) → IsOfKnownUris Known N
       → prefixes (renamed_grammar named N) ≡ renamed_prefixes named (prefixes N)
   prefixes_renamed N k =
-      let us = kept_renamed is_bound (λ u h i. not (is_empty r u h i) && not (is_xml r u h i)) (namespaces_of false N)
-      (namespaces_of false (renamed_grammar named N)) (namespaces_known Known false N k)
+      let us = kept_renamed is_bound (λ u h i. not (is_empty r u h i) && not (is_xml r u h i)) (grammar_namespaces false N)
+      (grammar_namespaces false (renamed_grammar named N)) (namespaces_known Known false N k)
       (namespaces_renamed named false N) in
-      let ls = kept_renamed is_bound_library (λ l h i. not (is_empty r l h i) && not (is_xsd r l h i)) (libraries_of N)
-      (libraries_of (renamed_grammar named N)) (libraries_known Known N k) (libraries_renamed named N) in
+      let ls = kept_renamed is_bound_library (λ l h i. not (is_empty r l h i) && not (is_xsd r l h i)) (grammar_libraries N)
+      (grammar_libraries (renamed_grammar named N)) (libraries_known Known N k) (libraries_renamed named N) in
       λ i. record { namespaces = us i; libraries = ls i }
 
   pub place_renamed : (u : Text) (vs : List Text) → Known u → AllByRecursion Known vs

@@ -104,6 +104,6 @@ one_canonical G N M n m =
     (λ x h. (m.definitions x.0 x.1).1 ((n.definitions x.0 x.1).0 h)) (λ x h. (n.definitions x.0 x.1).1 ((m.definitions x.0 x.1).0 h)) in
     λ i. record { start = start i; definitions = definitions i }
 
--- so what is read back of a canonical grammar has that grammar again
+-- the canonical grammar of a canonical grammar that is opened is no other
 pub read_back_fixed : (G N M : Grammar) → IsCanonicalOf G N → IsCanonicalOf (opened_grammar N) M → M ≡ N
 read_back_fixed G N M n m = one_canonical (opened_grammar N) M N m (fixed_point G N n)

@@ -20,7 +20,7 @@ module _ (G : Grammar) (t : Text → Tree) (order : List ℕ) (w : IsWellFormed 
   made_at x (Some p) e r = let (k, n) = number_some G.definitions x p e in settled x k p n e (o.listed x k r n)
 
   pub settling_is : IsSettling G t o.rank
-  settling_is = record { forms = forms; made = λ x r. made_at x (definition_of G x) refl r; falls = o.falls; below = o.below }
+  settling_is = record { forms = forms; made = λ x r. made_at x (definition_of G x) refl r; ranks = o.ranks }
 
 pub formed_is : (G : Grammar) (t : Text → Tree) (ds fs : List (Text × Tree)) (p s : Tree) → ds ≡ G.definitions → p ≡ G.start → s ≡ canonical t p → fs ≡ map (λ (d : Text × Tree). (d.0, canonical t d.1)) ds → ◌≡◌ {A = Grammar} (record { start = s; definitions = fs }) (formed t G)
 formed_is G t ds fs p s e f g h =

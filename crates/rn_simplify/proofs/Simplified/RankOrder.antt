@@ -22,7 +22,7 @@ module _ (G : Grammar) (t : Text → Tree) (rank : Text → ℕ) (k : IsSettling
   s = settled_within (length G.definitions) G
 
   same_name : (x : Text) → IsReached G x → s x ≡ t x
-  same_name x r = settled_is G t k.forms (IsReached G) rank k.made (λ y z p w e h. (by_definition p w e (outside_anywhere z p h), k.falls y z p w e h)) (length G.definitions) x r (k.below x r)
+  same_name x r = settled_is G t k.forms (IsReached G) rank k.made (λ y z p w e h. (by_definition p w e (outside_anywhere z p h), k.ranks.falls y z p w e h)) (length G.definitions) x r (k.ranks.below x r)
 
   same_form : (p : Tree) → ((x : Text) → RefersTo x p → IsReached G x) → canonical s p ≡ canonical t p
   same_form p f = canonical_same s t p (λ x h. same_name x (f x h))

@@ -24,7 +24,7 @@ use Rattle.rn_pattern.proofs.Ordered.TotalOrder.{tree_cmp_total}
 use Rattle.rn_assemble.specs.Firsts.{joined_members}
 use Rattle.rn_simplify.specs.inside.DefinitionNumbers.{number_of, numbers_of}
 use Rattle.rn_simplify.specs.inside.ReferredNames.{Reach, references, all_references}
-use Rattle.rn_simplify.specs.inside.ReferenceNumbers.{AreReferences}
+use Rattle.rn_simplify.specs.inside.ReferenceNumbers.{AreReferenceNumbers}
 use Rattle.rn_simplify.specs.inside.Repeats.{AreSameButRepeats, choices, interleaves}
 use Rattle.rn_simplify.specs.inside.FormKinds.{both, either, tree_kind, group_kind, choice_kind}
 use Rattle.rn_assemble.specs.declared.references.Reach.TheVariants.{Everywhere, OutsideElements}
@@ -160,7 +160,7 @@ same_then : {X : Type 0} (xs ys zs : List X) → HaveSameMembers xs ys → HaveS
 same_then xs ys zs h k x = (λ c. (k x).0 ((h x).0 c), λ c. (h x).1 ((k x).1 c))
 
 -- the references of a list without repeats are those of the list
-pub references_alike : (ds : List (Text × Tree)) (p q : Tree) (found : References) → AreSameButRepeats p q → AreReferences ds p found → AreReferences ds q found
+pub references_alike : (ds : List (Text × Tree)) (p q : Tree) (found : References) → AreSameButRepeats p q → AreReferenceNumbers ds p found → AreReferenceNumbers ds q found
 references_alike ds p q found same are =
     let alike = λ (s : Reach). numbers_alike ds (references s p) (references s q) (references_same s p q same) in
     record { everywhere = same_then _ _ _ are.everywhere (alike Everywhere); outside = same_then _ _ _ are.outside (alike OutsideElements) }

@@ -176,7 +176,7 @@ module _ (G : Grammar) (marks : List Bool) (outs : List (List ℕ)) (marked_elem
             ]
 
         pub settling_order_is : IsSettlingOrder G order
-        settling_order_is = record { in_order = record { once = once; behind = behind }; listed = listed; rank = rank; falls = rank_falls; below = rank_below }
+        settling_order_is = record { in_order = record { once = once; behind = behind }; listed = listed; rank = rank; ranks = record { falls = rank_falls; below = rank_below } }
 
 by_mark : (b : Bool) (xs ys : List ℕ) → HaveSameMembers xs ys → HaveSameMembers (cond b xs []) (cond b ys [])
 by_mark true xs ys h x = h x

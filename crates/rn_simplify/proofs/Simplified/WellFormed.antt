@@ -27,7 +27,7 @@ normal_well_formed G N c w = record {
   names = λ x. if_some_at _ (definition_of N x) (λ p e. normal_names G N c (λ y q f. of_some _ (definition_of G y) q f (w.names y)) x p e);
 }
 
--- and so does what it is opened to
+-- a well-formed grammar, opened, is well formed
 pub opened_well_formed : (N : Grammar) → IsWellFormed N → IsWellFormed (opened_grammar N)
 opened_well_formed N w = record {
   defined = opened_defined N w.defined;

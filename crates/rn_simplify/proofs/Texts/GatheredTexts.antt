@@ -27,8 +27,8 @@ use Rattle.rn_pattern.proofs.Ordered.Ascending.{climbs_sorted_once}
 use Rattle.rn_assemble.proofs.Renaming.TextSets.{gathered_more, sorted_more}
 use Rattle.rn_simplify.specs.declared.mentions.Mentions.{Mentions}
 use Rattle.rn_simplify.proofs.ReadBack.OrderedTexts.{any_mapped}
-use Rattle.rn_simplify.specs.Spelling.{name_uris, names_uris, mentions, mentions_all}
-use Rattle.rn_simplify.specs.inside.Gathers.{is_other, IsGathered, GathersTexts, Mentioned, nothing, both, by_library, by_name, by_names, by_tree, by_trees, Gathers}
+use Rattle.rn_simplify.specs.Spelling.{name_uris, names_uris, mentions, mentions_all, is_other}
+use Rattle.rn_simplify.specs.inside.Gathers.{IsGathered, GathersTexts, Mentioned, nothing, mentioned_by_both, by_library, by_name, by_names, by_tree, by_trees, Gathers}
 
 -- ---- one more text
 
@@ -70,7 +70,7 @@ any_then false p (u ∷ us) vs = more (p u) (any_then false p us vs)
 pub gathers_nothing : (a : Mentions) → Gathers nothing a a
 gathers_nothing a = record { namespaces = texts_nothing a.namespaces; ns_names = or_nothing a.has_empty_ns_name; libraries = texts_nothing a.libraries }
 
-pub gathers_then : (m n : Mentioned) {a b c : Mentions} → Gathers m a b → Gathers n b c → Gathers (both m n) a c
+pub gathers_then : (m n : Mentioned) {a b c : Mentions} → Gathers m a b → Gathers n b c → Gathers (mentioned_by_both m n) a c
 gathers_then m n {a} {b} {c} h k = record {
   namespaces = texts_then m.namespaces n.namespaces a.namespaces b.namespaces c.namespaces h.namespaces k.namespaces;
   ns_names = k.ns_names ∙ ap (λ b. b || list_any (bytes_eq []) n.ns_names) h.ns_names ∙ any_then a.has_empty_ns_name (bytes_eq []) m.ns_names n.ns_names;
@@ -78,7 +78,7 @@ gathers_then m n {a} {b} {c} h k = record {
 }
 
 -- where the second may be refused
-pub gathers_unless : {E : Type 0} (r : Result (Unit {0}) E) (m n : Mentioned) {a b : Mentions} (c : Mentions) → Gathers m a b → OnOk r (Gathers n b c) → OnOk r (Gathers (both m n) a c)
+pub gathers_unless : {E : Type 0} (r : Result (Unit {0}) E) (m n : Mentioned) {a b : Mentions} (c : Mentions) → Gathers m a b → OnOk r (Gathers n b c) → OnOk r (Gathers (mentioned_by_both m n) a c)
 gathers_unless (Ok u) m n c h k = gathers_then m n h k
 gathers_unless (Err e) m n c h k = tt
 
@@ -117,16 +117,16 @@ in_list p v (inl e) = ap (λ q. by_tree (pattern_view q)) e ∙ ap by_tree (grou
 in_list p v (inr (inl e)) = ap (λ q. by_tree (pattern_view q)) e ∙ ap by_tree (interleave_seen v)
 in_list p v (inr (inr e)) = ap (λ q. by_tree (pattern_view q)) e ∙ ap by_tree (choice_seen v)
 
-attribute_named : (n : Box NameClass Global) (q : Box Pattern Global) → by_tree (pattern_view (variant.Attribute n q)) ≡ both (by_name (name_class_view n.value)) (by_tree (pattern_view q.value))
+attribute_named : (n : Box NameClass Global) (q : Box Pattern Global) → by_tree (pattern_view (variant.Attribute n q)) ≡ mentioned_by_both (by_name (name_class_view n.value)) (by_tree (pattern_view q.value))
 attribute_named n q = ap by_tree (ap pattern_view (sym (variant.rolls-Attribute n q)) ∙ fold-roll-Pattern Tree pattern_step (Pattern-F.Attribute n q))
 
-element_named : (n : Box NameClass Global) (q : Box Pattern Global) → by_tree (pattern_view (variant.Element n q)) ≡ both (by_name (name_class_view n.value)) (by_tree (pattern_view q.value))
+element_named : (n : Box NameClass Global) (q : Box Pattern Global) → by_tree (pattern_view (variant.Element n q)) ≡ mentioned_by_both (by_name (name_class_view n.value)) (by_tree (pattern_view q.value))
 element_named n q = ap by_tree (ap pattern_view (sym (variant.rolls-Element n q)) ∙ fold-roll-Pattern Tree pattern_step (Pattern-F.Element n q))
 
-pub with_library : (p : Pattern) (d : Box Data Global) (o : Option (Box Pattern Global)) (q : Box Pattern Global) → p ≡ variant.Datum d o → o ≡ Some q → by_tree (pattern_view p) ≡ both (by_library (rc_str_bytes d.value.library)) (by_tree (pattern_view q.value))
+pub with_library : (p : Pattern) (d : Box Data Global) (o : Option (Box Pattern Global)) (q : Box Pattern Global) → p ≡ variant.Datum d o → o ≡ Some q → by_tree (pattern_view p) ≡ mentioned_by_both (by_library (rc_str_bytes d.value.library)) (by_tree (pattern_view q.value))
 with_library p d o q e h = ap (λ r. by_tree (pattern_view r)) (e ∙ ap (variant.Datum d) h ∙ sym (variant.rolls-Datum d (Some q))) ∙ ap by_tree (fold-roll-Pattern Tree pattern_step (Pattern-F.Datum d (Some q)))
 
-pub named : (p : Pattern) (n : Box NameClass Global) (q : Box Pattern Global) → (p ≡ variant.Attribute n q) ⊎ (p ≡ variant.Element n q) → by_tree (pattern_view p) ≡ both (by_name (name_class_view n.value)) (by_tree (pattern_view q.value))
+pub named : (p : Pattern) (n : Box NameClass Global) (q : Box Pattern Global) → (p ≡ variant.Attribute n q) ⊎ (p ≡ variant.Element n q) → by_tree (pattern_view p) ≡ mentioned_by_both (by_name (name_class_view n.value)) (by_tree (pattern_view q.value))
 named p n q (inl e) = ap (λ r. by_tree (pattern_view r)) e ∙ attribute_named n q
 named p n q (inr e) = ap (λ r. by_tree (pattern_view r)) e ∙ element_named n q
 

@@ -14,8 +14,8 @@ use Rattle.rn_pattern.specs.View.{pattern_view}
 use Rattle.rn_pattern.specs.declared.tree.Pattern.{Pattern}
 use Rattle.rn_assemble.specs.Renamed.{IsOfKnownUris, IsRenaming, renamed_grammar}
 use Rattle.rn_simplify.specs.declared.writer.Writer.{Writer}
-use Rattle.rn_simplify.specs.Spelling.{Prefixes, prefixes, binding, bindings, default_line, definition_line, definition_lines, has_empty_ns_name, identifier, infix_of, keyword, library_prefix, line_end, literal, namespace_entries, namespace_prefix, space, spelling_pieces, word, written_tree}
-use Rattle.rn_simplify.specs.inside.Writes.{bound_to, declaration_lines, defined_as, empty_entries, entries, none, Writes, WritesBytes}
+use Rattle.rn_simplify.specs.Spelling.{Prefixes, prefixes, binding, bindings, default_line, definition_line, definition_lines, has_empty_ns_name, identifier, infix_of, keyword, library_prefix, line_end, literal, namespace_entries, namespace_prefix, space, spelling_pieces, word, written_tree, bound_to, defined_as, empty_entries, entries, own_entries}
+use Rattle.rn_simplify.specs.inside.Writes.{declaration_lines, none, Writes, WritesBytes}
 use Rattle.rn_simplify.specs.NormalView.{definitions_view}
 use Rattle.rn_simplify.proofs.Renaming.RenamedEntries.{renamed_entries}
 use Rattle.rn_simplify.proofs.Renaming.RenamedLines.{empty_entry_renamed, spelling_renamed}
@@ -101,7 +101,7 @@ regrouped : (d e n l s : List Piece) → (d ++ (e ++ (n ++ l))) ++ s ≡ d ++ ((
 regrouped d e n l s = simp append_assoc
 
 -- what prefixes are bound to in the declarations
-entries_named : (named : Text → Text) (prefix : Text → List ℕ) (us : List Text) → renamed_entries named (map (λ (u : Text). (prefix u, u)) us) ≡ entries named prefix us
+entries_named : (named : Text → Text) (prefix : Text → List ℕ) (us : List Text) → renamed_entries named (own_entries prefix us) ≡ entries named prefix us
 entries_named named prefix [] = refl
 entries_named named prefix (u ∷ us) = ap (λ es. (prefix u, named u) ∷ es) (entries_named named prefix us)
 

@@ -10,23 +10,23 @@ use Rattle.rn_pattern.specs.declared.tree.Pattern.TheFolds.{fold-roll-Pattern}
 use Rattle.rn_pattern.specs.declared.tree.Pattern.TheVariants as p
 use Rattle.rn_simplify.specs.Spelling.{Prefixes, node_text, chained, chain, comma, written_tree, written_trees, written_choice, written_interleave}
 use Rattle.rn_pattern.specs.View.{pattern_step, pattern_view}
-use Rattle.rn_simplify.specs.inside.Writes.{rows_of}
+use Rattle.rn_simplify.specs.inside.Writes.{written_members}
 
 -- each member, shared, with its tree in its place
-rows_through : (f : Prefixes) (h : Rc Pattern Global → Rc Tree Global) → ((r : Rc Pattern Global) → (h r).value ≡ pattern_view r.value) → (ps : List (Rc Pattern Global)) → written_trees f (trees_of (map (λ (r : Rc Tree Global). r.value) (map h ps))) ≡ rows_of f ps
+rows_through : (f : Prefixes) (h : Rc Pattern Global → Rc Tree Global) → ((r : Rc Pattern Global) → (h r).value ≡ pattern_view r.value) → (ps : List (Rc Pattern Global)) → written_trees f (trees_of (map (λ (r : Rc Tree Global). r.value) (map h ps))) ≡ written_members f ps
 rows_through f h e [] = refl
 rows_through f h e (p ∷ ps) = let a = e p in let r = rows_through f h e ps in λ i. written_tree f (a i) ∷ r i
 
-pub rows_behind : (f : Prefixes) (k : ℕ) (ps : List (Rc Pattern Global)) → rows_of f (drop k ps) ≡ drop k (rows_of f ps)
+pub rows_behind : (f : Prefixes) (k : ℕ) (ps : List (Rc Pattern Global)) → written_members f (drop k ps) ≡ drop k (written_members f ps)
 rows_behind f zero ps = refl
 rows_behind f (suc k) [] = refl
 rows_behind f (suc k) (p ∷ ps) = rows_behind f k ps
 
-pub group_rows : (f : Prefixes) (v : Vec (Rc Pattern Global) Global) → written_tree f (pattern_view (p.Group v)) ≡ node_text chained (chain comma (rows_of f v.items))
+pub group_rows : (f : Prefixes) (v : Vec (Rc Pattern Global) Global) → written_tree f (pattern_view (p.Group v)) ≡ node_text chained (chain comma (written_members f v.items))
 group_rows f v = ap (λ q. written_tree f (pattern_view q)) (sym (p.rolls-Group v)) ∙ ap (written_tree f) (fold-roll-Pattern Tree pattern_step (Pattern-F.Group v)) ∙ ap (λ ws. node_text chained (chain comma ws)) (rows_through f _ (λ r. refl) v.items)
 
-pub interleave_rows : (f : Prefixes) (v : Vec (Rc Pattern Global) Global) → written_tree f (pattern_view (p.Interleave v)) ≡ written_interleave (rows_of f v.items)
+pub interleave_rows : (f : Prefixes) (v : Vec (Rc Pattern Global) Global) → written_tree f (pattern_view (p.Interleave v)) ≡ written_interleave (written_members f v.items)
 interleave_rows f v = ap (λ q. written_tree f (pattern_view q)) (sym (p.rolls-Interleave v)) ∙ ap (written_tree f) (fold-roll-Pattern Tree pattern_step (Pattern-F.Interleave v)) ∙ ap written_interleave (rows_through f _ (λ r. refl) v.items)
 
-pub choice_rows : (f : Prefixes) (v : Vec (Rc Pattern Global) Global) → written_tree f (pattern_view (p.Choice v)) ≡ written_choice (rows_of f v.items)
+pub choice_rows : (f : Prefixes) (v : Vec (Rc Pattern Global) Global) → written_tree f (pattern_view (p.Choice v)) ≡ written_choice (written_members f v.items)
 choice_rows f v = ap (λ q. written_tree f (pattern_view q)) (sym (p.rolls-Choice v)) ∙ ap (written_tree f) (fold-roll-Pattern Tree pattern_step (Pattern-F.Choice v)) ∙ ap written_choice (rows_through f _ (λ r. refl) v.items)

@@ -20,7 +20,7 @@ use Rattle.rn_pattern.specs.declared.tree.Pattern.TheFolds.{fold-roll-Pattern}
 use Rattle.rn_simplify.specs.declared.writer.Writer.{Writer}
 use Rattle.rn_simplify.specs.Spelling.{Prefixes, NodeText, symbol, keyword, space, infix_of, in_braces, in_parentheses, primary, operand, chain, mixed_pieces, optional, optional_member, written_name, written_tree, written_choice, written_interleave}
 use Rattle.rn_pattern.specs.View.{pattern_step, pattern_view}
-use Rattle.rn_simplify.specs.inside.Writes.{data_text, rows_of, begins, none, opening, closing, Writes, WritesBytes}
+use Rattle.rn_simplify.specs.inside.Writes.{data_text, written_members, begins, none, opening, closing, Writes, WritesBytes}
 use Rattle.rn_simplify.proofs.Texts.Writing.{writes_nil, writes_as, writes_then, writes_pieces}
 use Rattle.rn_simplify.proofs.Texts.PartTexts.{writes_minus, writes_braced, writes_parenthesized, writes_part}
 use Rattle.rn_simplify.proofs.Texts.PatternTexts.{space_written}
@@ -104,22 +104,22 @@ writes_repeated f p h k = writes_then (primary (written_tree f p)) (symbol (code
 pub writes_maybe : (w : NodeText) {a b c : Writer} → w.repeated ≡ None → Writes (primary w) a b → WritesBytes (codes "?") none b c → Writes (optional_member w.repeated w) a c
 writes_maybe w {a = a} {c = c} e h k = subst (λ r. Writes (optional_member r w) a c) (sym e) (writes_then (primary w) (symbol (codes "?") ∷ []) h (writes_question k))
 
-pub writes_no_other : (f : Prefixes) (ps : List (Rc Pattern Global)) {a b : Writer} → length ps ≡ 1 → WritesBytes (codes "empty") none a b → Writes (optional (rows_of f (drop 1 ps))) a b
+pub writes_no_other : (f : Prefixes) (ps : List (Rc Pattern Global)) {a b : Writer} → length ps ≡ 1 → WritesBytes (codes "empty") none a b → Writes (optional (written_members f (drop 1 ps))) a b
 writes_no_other f [] e h = absurd (omega (arith, e))
 writes_no_other f (p ∷ []) e h = writes_empty h
 writes_no_other f (p ∷ q ∷ ps) e h = absurd (omega (arith, e))
 
-pub writes_one_other : (f : Prefixes) (ps : List (Rc Pattern Global)) (p : Rc Pattern Global) {a b : Writer} → length ps ≡ 2 → p ≡ get_or ps 1 p → Writes (optional_member (written_tree f (pattern_view p.value)).repeated (written_tree f (pattern_view p.value))) a b → Writes (optional (rows_of f (drop 1 ps))) a b
+pub writes_one_other : (f : Prefixes) (ps : List (Rc Pattern Global)) (p : Rc Pattern Global) {a b : Writer} → length ps ≡ 2 → p ≡ get_or ps 1 p → Writes (optional_member (written_tree f (pattern_view p.value)).repeated (written_tree f (pattern_view p.value))) a b → Writes (optional (written_members f (drop 1 ps))) a b
 writes_one_other f [] p e i h = absurd (omega (arith, e))
 writes_one_other f (q ∷ []) p e i h = absurd (omega (arith, e))
 writes_one_other f (q ∷ r ∷ []) p {a} {b} e i h = subst (λ (x : Rc Pattern Global). Writes (optional_member (written_tree f (pattern_view x.value)).repeated (written_tree f (pattern_view x.value))) a b) i h
 writes_one_other f (q ∷ r ∷ t ∷ ps) p e i h = absurd (omega (arith, e))
 
-pub writes_others : (f : Prefixes) (ps : List (Rc Pattern Global)) {a b c d e : Writer} → 0 < length ps → length ps ≢ 1 → length ps ≢ 2 → WritesBytes (codes "(") opening a b → Writes (chain (infix_of (codes "|")) (rows_of f (drop 1 ps))) b c → WritesBytes (codes ")") closing c d → WritesBytes (codes "?") none d e → Writes (optional (rows_of f (drop 1 ps))) a e
+pub writes_others : (f : Prefixes) (ps : List (Rc Pattern Global)) {a b c d e : Writer} → 0 < length ps → length ps ≢ 1 → length ps ≢ 2 → WritesBytes (codes "(") opening a b → Writes (chain (infix_of (codes "|")) (written_members f (drop 1 ps))) b c → WritesBytes (codes ")") closing c d → WritesBytes (codes "?") none d e → Writes (optional (written_members f (drop 1 ps))) a e
 writes_others f [] g i j h k l m = absurd (omega (arith, g))
 writes_others f (w ∷ []) g i j h k l m = absurd (i refl)
 writes_others f (w ∷ v ∷ []) g i j h k l m = absurd (j refl)
-writes_others f (w ∷ v ∷ u ∷ ws) g i j h k l m = writes_then (in_parentheses (chain (infix_of (codes "|")) (rows_of f (v ∷ u ∷ ws)))) (symbol (codes "?") ∷ []) (writes_parenthesized _ h k l) (writes_question m)
+writes_others f (w ∷ v ∷ u ∷ ws) g i j h k l m = writes_then (in_parentheses (chain (infix_of (codes "|")) (written_members f (v ∷ u ∷ ws)))) (symbol (codes "?") ∷ []) (writes_parenthesized _ h k l) (writes_question m)
 
 -- ---- choices and interleaves, by their first members
 
@@ -135,7 +135,7 @@ choice_of_none : (b : Bool) (v w : NodeText) {a c : Writer} → b ≡ false → 
 choice_of_none true v w e h = absurd cc
 choice_of_none false v w e h = h
 
-pub writes_optional : (f : Prefixes) (ps : List (Rc Pattern Global)) {a b : Writer} → begins (λ w. w.is_empty) (rows_of f ps) ≡ true → Writes (optional (rows_of f (drop 1 ps))) a b → Writes (written_choice (rows_of f ps)).pieces a b
+pub writes_optional : (f : Prefixes) (ps : List (Rc Pattern Global)) {a b : Writer} → begins (λ w. w.is_empty) (written_members f ps) ≡ true → Writes (optional (written_members f (drop 1 ps))) a b → Writes (written_choice (written_members f ps)).pieces a b
 writes_optional f [] e h = absurd cc
 writes_optional f (p ∷ ps) e h = choice_of_empty (written_tree f (pattern_view p.value)).is_empty _ _ e h
 
@@ -147,21 +147,21 @@ pub writes_no_interleave : (ws : List NodeText) {a b : Writer} → nat_eq (lengt
 writes_no_interleave [] e h = writes_empty h
 writes_no_interleave (w ∷ ws) e h = absurd (let y = eqb-suc-zero (length ws) in cc)
 
-pub writes_mixed : (f : Prefixes) (ps : List (Rc Pattern Global)) {a b c d e : Writer} → begins (λ w. w.is_text) (rows_of f ps) ≡ true → WritesBytes (codes "mixed") none a b → WritesBytes (codes " { ") opening b c → Writes (mixed_pieces (infix_of (codes "&")) (rows_of f (drop 1 ps))) c d → WritesBytes (codes " }") closing d e → Writes (written_interleave (rows_of f ps)).pieces a e
+pub writes_mixed : (f : Prefixes) (ps : List (Rc Pattern Global)) {a b c d e : Writer} → begins (λ w. w.is_text) (written_members f ps) ≡ true → WritesBytes (codes "mixed") none a b → WritesBytes (codes " { ") opening b c → Writes (mixed_pieces (infix_of (codes "&")) (written_members f (drop 1 ps))) c d → WritesBytes (codes " }") closing d e → Writes (written_interleave (written_members f ps)).pieces a e
 writes_mixed f [] i h j k l = absurd cc
-writes_mixed f (p ∷ ps) i h j k l = choice_of_empty (written_tree f (pattern_view p.value)).is_text _ _ i (writes_then (keyword (codes "mixed") ∷ []) (in_braces (mixed_pieces (infix_of (codes "&")) (rows_of f ps))) (writes_mixed_word h) (writes_braced _ j k l))
+writes_mixed f (p ∷ ps) i h j k l = choice_of_empty (written_tree f (pattern_view p.value)).is_text _ _ i (writes_then (keyword (codes "mixed") ∷ []) (in_braces (mixed_pieces (infix_of (codes "&")) (written_members f ps))) (writes_mixed_word h) (writes_braced _ j k l))
 
 pub writes_interleave : (ws : List NodeText) {a b : Writer} → nat_eq (length ws) 0 ≡ false → begins (λ w. w.is_text) ws ≡ false → Writes (chain (infix_of (codes "&")) ws) a b → Writes (written_interleave ws).pieces a b
 writes_interleave [] i e h = absurd cc
 writes_interleave (w ∷ ws) i e h = choice_of_none w.is_text _ _ e h
 
-pub writes_one_mixed : (f : Prefixes) (ps : List (Rc Pattern Global)) (p : Rc Pattern Global) {a b : Writer} → length ps ≡ 2 → p ≡ get_or ps 1 p → Writes (written_tree f (pattern_view p.value)).pieces a b → Writes (mixed_pieces (infix_of (codes "&")) (rows_of f (drop 1 ps))) a b
+pub writes_one_mixed : (f : Prefixes) (ps : List (Rc Pattern Global)) (p : Rc Pattern Global) {a b : Writer} → length ps ≡ 2 → p ≡ get_or ps 1 p → Writes (written_tree f (pattern_view p.value)).pieces a b → Writes (mixed_pieces (infix_of (codes "&")) (written_members f (drop 1 ps))) a b
 writes_one_mixed f [] p e i h = absurd (omega (arith, e))
 writes_one_mixed f (q ∷ []) p e i h = absurd (omega (arith, e))
 writes_one_mixed f (q ∷ r ∷ []) p {a} {b} e i h = subst (λ (x : Rc Pattern Global). Writes (written_tree f (pattern_view x.value)).pieces a b) i h
 writes_one_mixed f (q ∷ r ∷ t ∷ ps) p e i h = absurd (omega (arith, e))
 
-pub writes_several_mixed : (f : Prefixes) (ps : List (Rc Pattern Global)) {a b : Writer} → length ps ≢ 2 → Writes (chain (infix_of (codes "&")) (rows_of f (drop 1 ps))) a b → Writes (mixed_pieces (infix_of (codes "&")) (rows_of f (drop 1 ps))) a b
+pub writes_several_mixed : (f : Prefixes) (ps : List (Rc Pattern Global)) {a b : Writer} → length ps ≢ 2 → Writes (chain (infix_of (codes "&")) (written_members f (drop 1 ps))) a b → Writes (mixed_pieces (infix_of (codes "&")) (written_members f (drop 1 ps))) a b
 writes_several_mixed f [] e h = h
 writes_several_mixed f (p ∷ []) e h = h
 writes_several_mixed f (p ∷ q ∷ []) e h = absurd (e refl)
@@ -169,25 +169,25 @@ writes_several_mixed f (p ∷ q ∷ r ∷ ps) e h = h
 
 -- ---- chains
 
-pub rows_more : (f : Prefixes) (s : List Piece) (ps : List (Rc Pattern Global)) (i : ℕ) (p : Rc Pattern Global) {a b c d : Writer} → i < length ps → p ≡ get_or ps i p → Writes (chain s (rows_of f (take i ps))) a b → Writes (before (take i ps) s) b c → Writes (operand (written_tree f (pattern_view p.value))) c d → Writes (chain s (rows_of f (take (i + 1) ps))) a d
+pub rows_more : (f : Prefixes) (s : List Piece) (ps : List (Rc Pattern Global)) (i : ℕ) (p : Rc Pattern Global) {a b c d : Writer} → i < length ps → p ≡ get_or ps i p → Writes (chain s (written_members f (take i ps))) a b → Writes (before (take i ps) s) b c → Writes (operand (written_tree f (pattern_view p.value))) c d → Writes (chain s (written_members f (take (i + 1) ps))) a d
 rows_more f s ps i p {a} {b} {c} {d} l e h j k =
     let t : take (i + 1) ps ≡ take i ps ++ p ∷ [] = take_more ps i p l ∙ ap (λ y. take i ps ++ y ∷ []) (sym e) in
-    subst (λ y. Writes (chain s (rows_of f y)) a d) (sym t) (writes_row_more (λ (q : Rc Pattern Global). written_tree f (pattern_view q.value)) s (take i ps) p h j k)
+    subst (λ y. Writes (chain s (written_members f y)) a d) (sym t) (writes_row_more (λ (q : Rc Pattern Global). written_tree f (pattern_view q.value)) s (take i ps) p h j k)
 
-pub chain_begins : (f : Prefixes) (s : List Piece) (ps : List (Rc Pattern Global)) (k : ℕ) {a : Writer} → Writes (chain s (rows_of f (take (k - k) (drop k ps)))) a a
+pub chain_begins : (f : Prefixes) (s : List Piece) (ps : List (Rc Pattern Global)) (k : ℕ) {a : Writer} → Writes (chain s (written_members f (take (k - k) (drop k ps)))) a a
 chain_begins f s ps k {a} =
     let e : k - k ≡ 0 = omega arith in
-    subst (λ n. Writes (chain s (rows_of f (take n (drop k ps)))) a a) (sym e) (writes_nil a)
+    subst (λ n. Writes (chain s (written_members f (take n (drop k ps)))) a a) (sym e) (writes_nil a)
 
 behind : (ps : List (Rc Pattern Global)) (k i : ℕ) → k ≤ i → i < length ps → i - k < length (drop k ps)
 behind ps k i l h = omega (arith, length-drop k ps)
 
-pub chain_more : (f : Prefixes) (s : List Piece) (ps : List (Rc Pattern Global)) (k i : ℕ) (p : Rc Pattern Global) {a b c d : Writer} → k ≤ i → i < length ps → p ≡ get_or ps i p → Writes (chain s (rows_of f (take (i - k) (drop k ps)))) a b → Writes (before (take (i - k) (drop k ps)) s) b c → Writes (operand (written_tree f (pattern_view p.value))) c d → Writes (chain s (rows_of f (take (i + 1 - k) (drop k ps)))) a d
+pub chain_more : (f : Prefixes) (s : List Piece) (ps : List (Rc Pattern Global)) (k i : ℕ) (p : Rc Pattern Global) {a b c d : Writer} → k ≤ i → i < length ps → p ≡ get_or ps i p → Writes (chain s (written_members f (take (i - k) (drop k ps)))) a b → Writes (before (take (i - k) (drop k ps)) s) b c → Writes (operand (written_tree f (pattern_view p.value))) c d → Writes (chain s (written_members f (take (i + 1 - k) (drop k ps)))) a d
 chain_more f s ps k i p {a} {b} {c} {d} l h e x y z =
     let n : (i - k) + 1 ≡ i + 1 - k = omega arith in
     let m : i ≡ k + (i - k) = omega arith in
     let q : p ≡ get_or (drop k ps) (i - k) p = e ∙ ap (λ j. get_or ps j p) m ∙ sym (get_or-drop k ps (i - k) p) in
-    subst (λ j. Writes (chain s (rows_of f (take j (drop k ps)))) a d) n (rows_more f s (drop k ps) (i - k) p (behind ps k i l h) q x y z)
+    subst (λ j. Writes (chain s (written_members f (take j (drop k ps)))) a d) n (rows_more f s (drop k ps) (i - k) p (behind ps k i l h) q x y z)
 
 pub chain_no_connector : (s : List Piece) (ps : List (Rc Pattern Global)) (k i : ℕ) {a : Writer} → i ≤ k → Writes (before (take (i - k) (drop k ps)) s) a a
 chain_no_connector s ps k i l = before_none (drop k ps) (i - k) s (omega arith)
@@ -195,8 +195,8 @@ chain_no_connector s ps k i l = before_none (drop k ps) (i - k) s (omega arith)
 pub chain_connector : (s : List Piece) (ps : List (Rc Pattern Global)) (k i : ℕ) {a b : Writer} → k < i → i < length ps → Writes s a b → Writes (before (take (i - k) (drop k ps)) s) a b
 chain_connector s ps k i l h w = before_some (drop k ps) (i - k) s (omega arith) (behind ps k i (omega arith) h) w
 
-pub chain_ends : (f : Prefixes) (s : List Piece) (ps : List (Rc Pattern Global)) (k i : ℕ) {a b : Writer} → length ps ≤ i → Writes (chain s (rows_of f (take (i - k) (drop k ps)))) a b → Writes (chain s (rows_of f (drop k ps))) a b
-chain_ends f s ps k i {a} {b} l h = subst (λ y. Writes (chain s (rows_of f y)) a b) (take_all (i - k) (drop k ps) (omega (arith, length-drop k ps))) h
+pub chain_ends : (f : Prefixes) (s : List Piece) (ps : List (Rc Pattern Global)) (k i : ℕ) {a b : Writer} → length ps ≤ i → Writes (chain s (written_members f (take (i - k) (drop k ps)))) a b → Writes (chain s (written_members f (drop k ps))) a b
+chain_ends f s ps k i {a} {b} l h = subst (λ y. Writes (chain s (written_members f y)) a b) (take_all (i - k) (drop k ps) (omega (arith, length-drop k ps))) h
 
 -- ---- what is no repetition
 
@@ -237,9 +237,9 @@ not_repeated_at f p (Pattern-F.Choice v) e h = rolled f p _ e ∙ ap (λ t. (wri
 pub not_repeated : (f : Prefixes) (p : Pattern) → ((b : Box Pattern Global) → p ≡ pat.OneOrMore b → ⊥) → (written_tree f (pattern_view p)).repeated ≡ None
 not_repeated f p h = not_repeated_at f p (out-Pattern p) (search (rules, the_lemmas)) h
 
-pub row_count : (f : Prefixes) (ps : List (Rc Pattern Global)) (k : ℕ) (b : Bool) → nat_eq (length ps) k ≡ b → nat_eq (length (rows_of f ps)) k ≡ b
+pub row_count : (f : Prefixes) (ps : List (Rc Pattern Global)) (k : ℕ) (b : Bool) → nat_eq (length ps) k ≡ b → nat_eq (length (written_members f ps)) k ≡ b
 row_count f ps k b e = ap (λ n. nat_eq n k) (count ps) ∙ e
   where
-    count : (ps : List (Rc Pattern Global)) → length (rows_of f ps) ≡ length ps
+    count : (ps : List (Rc Pattern Global)) → length (written_members f ps) ≡ length ps
     count [] = refl
     count (p ∷ ps) = ap suc (count ps)

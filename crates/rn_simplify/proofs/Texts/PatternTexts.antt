@@ -18,12 +18,12 @@ use Rattle.rn_simplify.proofs.Texts.PartTexts.{writes_word, writes_braced}
 
 -- ---- literals
 
-literal_text : (rs : List (List ℕ)) → text_of (s.literal_of rs) ≡ joined rs
+literal_text : (rs : List (List ℕ)) → text_of (s.segment_pieces rs) ≡ joined rs
 literal_text [] = refl
 literal_text (r ∷ []) = append-nil (delimited r)
 literal_text (r ∷ q ∷ rs) = ap (λ t. delimited r ++ (codes " ~ " ++ t)) (literal_text (q ∷ rs))
 
-literal_depth : (rs : List (List ℕ)) (n : ℕ) → depth_after (s.literal_of rs) n ≡ Some n
+literal_depth : (rs : List (List ℕ)) (n : ℕ) → depth_after (s.segment_pieces rs) n ≡ Some n
 unfolding lib.Utf8.encode chars
 literal_depth [] n = refl
 literal_depth (r ∷ []) n = refl

@@ -69,7 +69,7 @@ writes_then ps qs {a} {b} {c} h k = record {
   too_large = λ n e. too_large_then ps qs h k n e (stopped_or b.stopped);
 }
 
--- the same pieces otherwise put together
+-- the pieces that are written, put together otherwise
 pub writes_as : {ps qs : List Piece} {a b : Writer} → ps ≡ qs → Writes ps a b → Writes qs a b
 writes_as {a = a} {b = b} e h = subst (λ x. Writes x a b) e h
 

@@ -13,7 +13,7 @@ content_of (t.element n p) = Some p
 content_of (t.one_or_more p) = Some p
 content_of p = None
 
--- no datatype, and no pattern in it
+-- a pattern that is no datatype, with no pattern in it
 abbrev pub is_leaf : Tree → Bool
 is_leaf t.not_allowed = true
 is_leaf t.empty = true

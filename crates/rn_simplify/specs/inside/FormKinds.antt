@@ -4,6 +4,7 @@ use Rattle.std.specs.Option.{option_map_or}
 use Rattle.rn_pattern.specs.Tree as t
 use Rattle.rn_pattern.specs.Tree.{Tree, Trees, no_trees, more_trees}
 use Rattle.rn_text.specs.Texts.{Text}
+use Rattle.rn_pattern.specs.Canonical.{canonical, canonical_all}
 use Rattle.rn_simplify.specs.inside.DefinitionNumbers.{number_of}
 use Rattle.rn_assemble.specs.GrammarView.{definitions_view}
 use Rattle.rn_simplify.specs.declared.settled_definitions.SettledDefinitions.{SettledDefinitions}
@@ -76,9 +77,18 @@ kind_at ds kinds x = option_map_or (λ k. slice_index_or kinds k FormKind.Other)
 abbrev pub becomes_by : List (Text × Tree) → List FormKind → Text → Tree
 becomes_by ds kinds x = stand_in (kind_at ds kinds x) x
 
--- both by what the code holds
+-- the kind of the form of a name's definition, by what the code holds
 abbrev pub kind_in : SettledDefinitions → Text → FormKind
 kind_in s = kind_at (definitions_view s.definitions.now.entries) s.kinds.items
 
+-- what the reference to a name becomes, by what the code holds
 abbrev pub becomes : SettledDefinitions → Text → Tree
 becomes s = becomes_by (definitions_view s.definitions.now.entries) s.kinds.items
+
+-- the canonical form of a pattern, whose references become what the code holds
+abbrev pub settled_form : SettledDefinitions → Tree → Tree
+settled_form s = canonical (becomes s)
+
+-- the canonical forms of the members of a list
+abbrev pub settled_forms : SettledDefinitions → Trees → List Tree
+settled_forms s = canonical_all (becomes s)

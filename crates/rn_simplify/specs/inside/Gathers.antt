@@ -1,5 +1,5 @@
 -- What a grammar mentions, gathered text by text.
-use Rattle.std.specs.Prelude.{◌≡◌, Bool, true, false, ◌||◌, ◌&&◌, not, List, [], ◌∷◌, ◌++◌, map, flat_map, bytes_eq, String, string_bytes}
+use Rattle.std.specs.Prelude.{◌≡◌, Bool, true, false, ◌||◌, List, [], ◌∷◌, ◌++◌, map, flat_map, bytes_eq, String, string_bytes}
 use Rattle.std.specs.List.{list_any}
 use Rattle.std.specs.BTreeSet.{BTreeSet}
 use Rattle.std.specs.declared.alloc.Global.{Global}
@@ -8,21 +8,31 @@ use Rattle.rn_text.specs.Texts.{Text, text_cmp}
 use Rattle.rn_pattern.specs.Canonical.{sorted_once}
 use Rattle.rn_pattern.specs.Matching.{Grammar}
 use Rattle.rn_simplify.specs.declared.mentions.Mentions.{Mentions}
-use Rattle.rn_simplify.specs.Spelling.{name_uris, names_uris, mentions, mentions_all, grammar_mentions}
+use Rattle.rn_simplify.specs.Spelling.{name_uris, names_uris, mentions, grammar_namespaces, grammar_libraries, mentions_all}
 
 -- the set has these texts, each once
 abbrev pub IsGathered : List Text → BTreeSet (String Global) → Type 0
 IsGathered zs s = map (λ u. string_bytes u) s.keys ≡ sorted_once text_cmp zs
 
--- it has these too, in addition to what it had
+-- these texts are gathered in the set, in addition to those that were
 abbrev pub GathersTexts : List Text → BTreeSet (String Global) → BTreeSet (String Global) → Type 0
 GathersTexts us a b = (zs : List Text) → IsGathered zs a → IsGathered (zs ++ us) b
 
--- a text that isn't empty, nor the one that has a prefix of its own
-abbrev pub is_other : Text → Text → Bool
-is_other known u = not (bytes_eq u []) && not (bytes_eq u known)
+-- the namespaces of the names in a pattern, and in patterns; ns_only: of nsName alone
+abbrev pub tree_namespaces : (ns_only : Bool) → Tree → List Text
+tree_namespaces ns_only = mentions (name_uris ns_only) (λ l. [])
 
--- namespaces, those of `p:*` alone, and libraries
+abbrev pub trees_namespaces : (ns_only : Bool) → Trees → List Text
+trees_namespaces ns_only = mentions_all (name_uris ns_only) (λ l. [])
+
+-- the libraries of the datatypes in a pattern, and in patterns
+abbrev pub tree_libraries : Tree → List Text
+tree_libraries = mentions (λ n. []) (λ l. l ∷ [])
+
+abbrev pub trees_libraries : Trees → List Text
+trees_libraries = mentions_all (λ n. []) (λ l. l ∷ [])
+
+-- what is mentioned: namespaces, those of `p:*` alone, and libraries
 pub record Mentioned : Type 0 where
   pub namespaces : List Text
   pub ns_names : List Text
@@ -31,8 +41,8 @@ pub record Mentioned : Type 0 where
 abbrev pub nothing : Mentioned
 nothing = record { namespaces = []; ns_names = []; libraries = [] }
 
-abbrev pub both : Mentioned → Mentioned → Mentioned
-both m n = record { namespaces = m.namespaces ++ n.namespaces; ns_names = m.ns_names ++ n.ns_names; libraries = m.libraries ++ n.libraries }
+abbrev pub mentioned_by_both : Mentioned → Mentioned → Mentioned
+mentioned_by_both m n = record { namespaces = m.namespaces ++ n.namespaces; ns_names = m.ns_names ++ n.ns_names; libraries = m.libraries ++ n.libraries }
 
 abbrev pub by_name : NameTree → Mentioned
 by_name c = record { namespaces = name_uris false c; ns_names = name_uris true c; libraries = [] }
@@ -48,33 +58,33 @@ by_library l = record { namespaces = []; ns_names = []; libraries = l ∷ [] }
 
 abbrev pub by_tree : Tree → Mentioned
 by_tree p = record {
-  namespaces = mentions (name_uris false) (λ l. []) p;
-  ns_names = mentions (name_uris true) (λ l. []) p;
-  libraries = mentions (λ c. []) (λ l. l ∷ []) p;
+  namespaces = tree_namespaces false p;
+  ns_names = tree_namespaces true p;
+  libraries = tree_libraries p;
 }
 
 abbrev pub by_trees : Trees → Mentioned
 by_trees ps = record {
-  namespaces = mentions_all (name_uris false) (λ l. []) ps;
-  ns_names = mentions_all (name_uris true) (λ l. []) ps;
-  libraries = mentions_all (λ c. []) (λ l. l ∷ []) ps;
+  namespaces = trees_namespaces false ps;
+  ns_names = trees_namespaces true ps;
+  libraries = trees_libraries ps;
 }
 
 abbrev pub by_definitions : List (Text × Tree) → Mentioned
 by_definitions ds = record {
-  namespaces = flat_map (λ (d : Text × Tree). mentions (name_uris false) (λ l. []) d.1) ds;
-  ns_names = flat_map (λ (d : Text × Tree). mentions (name_uris true) (λ l. []) d.1) ds;
-  libraries = flat_map (λ (d : Text × Tree). mentions (λ c. []) (λ l. l ∷ []) d.1) ds;
+  namespaces = flat_map (λ (d : Text × Tree). tree_namespaces false d.1) ds;
+  ns_names = flat_map (λ (d : Text × Tree). tree_namespaces true d.1) ds;
+  libraries = flat_map (λ (d : Text × Tree). tree_libraries d.1) ds;
 }
 
 abbrev pub by_grammar : Grammar → Mentioned
 by_grammar g = record {
-  namespaces = grammar_mentions (name_uris false) (λ l. []) g;
-  ns_names = grammar_mentions (name_uris true) (λ l. []) g;
-  libraries = grammar_mentions (λ c. []) (λ l. l ∷ []) g;
+  namespaces = grammar_namespaces false g;
+  ns_names = grammar_namespaces true g;
+  libraries = grammar_libraries g;
 }
 
--- these are gathered, in addition to what was
+-- what is mentioned is gathered, in addition to what was
 pub record Gathers (m : Mentioned) (a b : Mentions) : Type 0 where
   pub namespaces : GathersTexts m.namespaces a.namespaces b.namespaces
   pub ns_names : b.has_empty_ns_name ≡ (a.has_empty_ns_name || list_any (bytes_eq []) m.ns_names)

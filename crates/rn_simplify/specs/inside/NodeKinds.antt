@@ -5,7 +5,7 @@ use Rattle.rn_pattern.specs.Tree.{Parameters, Tree, Trees, no_trees, more_trees}
 use Rattle.rn_text.specs.Texts.{Text}
 use Rattle.rn_pattern.specs.declared.node.Node.{Node}
 
--- neither a datatype nor over a content nor over members
+-- a node that is no datatype, with no node in it
 abbrev pub is_leaf : {I : Type 0} → Node I → Bool
 is_leaf Node.NotAllowed = true
 is_leaf Node.Empty = true

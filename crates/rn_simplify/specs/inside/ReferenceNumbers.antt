@@ -3,14 +3,15 @@ use Rattle.std.specs.Prelude.{◌≡◌, ℕ, ◌<◌, List, length}
 use Rattle.rn_pattern.specs.Graph.{row}
 use Rattle.rn_pattern.specs.Tree.{Tree}
 use Rattle.rn_text.specs.Texts.{Text}
-use Rattle.rn_simplify.specs.inside.DefinitionNumbers.{numbers_of}
+use Rattle.rn_pattern.specs.Matching.{Grammar}
+use Rattle.rn_simplify.specs.inside.DefinitionNumbers.{graph_of, numbers_of, rows_by}
 use Rattle.rn_simplify.specs.inside.ReferredNames.{references}
 use Rattle.rn_pattern.specs.Canonical.{HaveSameMembers}
 use Rattle.rn_simplify.specs.declared.reference_numbers.References.{References}
 use Rattle.rn_assemble.specs.declared.references.Reach.TheVariants.{Everywhere, OutsideElements}
 
--- what a pattern refers to
-pub record AreReferences (ds : List (Text × Tree)) (p : Tree) (found : References) : Type 0 where
+-- the numbers of what a pattern refers to
+pub record AreReferenceNumbers (ds : List (Text × Tree)) (p : Tree) (found : References) : Type 0 where
   pub everywhere : HaveSameMembers found.everywhere.items (numbers_of ds (references Everywhere p))
   pub outside : HaveSameMembers found.outside.items (numbers_of ds (references OutsideElements p))
 
@@ -18,3 +19,11 @@ pub record AreReferences (ds : List (Text × Tree)) (p : Tree) (found : Referenc
 pub record AreRows (wanted : ℕ → List ℕ) (n : ℕ) (rows : List (List ℕ)) : Type 0 where
   pub size : length rows ≡ n
   pub each : (k : ℕ) → k < n → HaveSameMembers (row rows k) (wanted k)
+
+-- the rows of what each definition of a grammar refers to
+abbrev pub AreReferenceRows : Grammar → List (List ℕ) → Type 0
+AreReferenceRows G rows = AreRows (row (graph_of G)) (length G.definitions) rows
+
+-- the rows of what each definition of a grammar refers to outside elements
+abbrev pub AreOutsideRows : Grammar → List (List ℕ) → Type 0
+AreOutsideRows G rows = AreRows (row (rows_by OutsideElements G.definitions G.definitions)) (length G.definitions) rows

@@ -6,7 +6,6 @@ use Rattle.rn_text.specs.declared.parts.Part.{Part}
 use Rattle.rn_text.specs.declared.parts.Part.TheVariants.{Token}
 use Rattle.rn_text.specs.declared.parts.Kind.TheVariants.{Symbol}
 use Rattle.rn_text.specs.Parts.{Piece, text_of}
-use Rattle.rn_pattern.specs.Tree.{Tree}
 use Rattle.rn_text.specs.Texts.{Text}
 use Rattle.rn_assemble.specs.declared.refusal.Refusal.{Refusal}
 use Rattle.rn_assemble.specs.declared.refusal.Refusal.TheVariants as r
@@ -17,7 +16,7 @@ use Rattle.rn_simplify.specs.declared.shapes.Shape.{Shape}
 use Rattle.rn_simplify.specs.declared.shapes.Shape.TheVariants.{Closed, Postfixed, Chained}
 use Rattle.rn_simplify.specs.declared.declared_prefixes.Prefixes as code
 use Rattle.rn_simplify.specs.Spelling as s
-use Rattle.rn_simplify.specs.Spelling.{closed, postfixed, chained, NodeText, written_tree, bindings, datum_pieces, default_line, infix_of, literal, line_end, library_prefix, namespace_prefix, value_pieces}
+use Rattle.rn_simplify.specs.Spelling.{closed, postfixed, chained, NodeText, written_tree, bindings, datum_pieces, default_line, empty_entries, entries, library_prefix, namespace_prefix, value_pieces}
 use Rattle.std.specs.declared.rc.Rc.{Rc}
 use Rattle.std.specs.declared.alloc.Global.{Global}
 use Rattle.rn_pattern.specs.declared.tree.Data.{Data}
@@ -50,13 +49,13 @@ abbrev pub bracket_of : Part → List ℕ → Bracket
 bracket_of (Token Symbol) s = symbol_bracket (chars (encode_utf8_all s))
 bracket_of p s = none
 
--- the brackets that are open behind one; None: too many were open at once
+-- how many brackets are open behind a bracket, or behind none; None: too many are open at once
 abbrev pub depth_behind : Bracket → ℕ → Option ℕ
 depth_behind opening n = cond (nat_lt n max_open) (Some (n + 1)) None
 depth_behind closing n = Some (n - 1)
 depth_behind none n = Some n
 
--- the same behind pieces
+-- how many brackets are open behind pieces; None: too many were open at once
 abbrev pub depth_after : List Piece → ℕ → Option ℕ
 depth_after [] n = Some n
 depth_after (p ∷ ps) n = option_and_then (depth_after ps) (depth_behind (bracket_of p.part p.spelling) n)
@@ -105,35 +104,21 @@ abbrev pub data_text : s.Prefixes → Data → List Piece
 data_text f d = datum_pieces f (rc_str_bytes d.library) (string_bytes d.type_name) (parameters_view d.params.items)
 
 -- the members of a list as they are written
-abbrev pub rows_of : s.Prefixes → List (Rc Pattern Global) → List NodeText
-rows_of f ps = map (λ (p : Rc Pattern Global). written_tree f (pattern_view p.value)) ps
+abbrev pub written_members : s.Prefixes → List (Rc Pattern Global) → List NodeText
+written_members f ps = map (λ (p : Rc Pattern Global). written_tree f (pattern_view p.value)) ps
 
--- the first of them passes
+-- there is a first member, and it passes
 abbrev pub begins : (NodeText → Bool) → List NodeText → Bool
 begins p [] = false
 begins p (w ∷ ws) = p w
 
--- prefixes with what they are bound to: named: the URI of each text
-abbrev pub entries : (named : Text → Text) → (Text → List ℕ) → List Text → List (List ℕ × Text)
-entries named prefix us = map (λ (u : Text). (prefix u, named u)) us
-
-abbrev pub empty_entries : Bool → List (List ℕ × Text)
-empty_entries has_empty = cond has_empty ((codes "n0", []) ∷ []) []
-
--- the lines of declarations; has_empty: the empty namespace has a prefix
+-- the lines of declarations; named: the URI that a text stands for; has_empty: the empty namespace has a prefix
 abbrev pub declaration_lines : (named : Text → Text) → s.Prefixes → (has_empty : Bool) → List Piece
 declaration_lines named f has_empty =
     default_line
     ++ (bindings (codes "namespace") (empty_entries has_empty)
     ++ (bindings (codes "namespace") (entries named (namespace_prefix f) f.namespaces)
     ++ bindings (codes "datatypes") (entries named (library_prefix f) f.libraries)))
-
--- the rest of such a line behind the prefix, and the rest of a definition's line behind its name
-abbrev pub bound_to : Text → List Piece
-bound_to u = infix_of (codes "=") ++ (literal u ++ line_end ∷ [])
-
-abbrev pub defined_as : s.Prefixes → Tree → List Piece
-defined_as f p = infix_of (codes "=") ++ ((written_tree f p).pieces ++ line_end ∷ [])
 
 -- what stops a writer behind an append: there was no memory for it, or the text has become too large; else what stopped it before
 abbrev pub stop_behind : (appended : Bool) → Writer → Option Stop

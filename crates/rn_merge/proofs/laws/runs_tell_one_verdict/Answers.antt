@@ -1,5 +1,5 @@
 use Rattle.rn_merge.proofs.Runs.BroughtContributions.{same_brought}
-use Rattle.rn_merge.proofs.Runs.OneVerdict.{one_told, run_never_full}
+use Rattle.rn_merge.proofs.Runs.OneTold.{one_told, run_never_full}
 use Rattle.rn_merge.proofs.laws.runs_tell_one_verdict.Goals as goal
 
 pub returns-clause-one_verdict : goal.returns-clause-one_verdict

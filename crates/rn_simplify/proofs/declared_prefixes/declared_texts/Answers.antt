@@ -1,8 +1,8 @@
 use Rattle.std.proofs.Common.{◌≡◌, ◌∷◌, [], ◌++◌, map, true, false, sym, ap, ◌∙◌, subst, append_assoc, rules, length, nat_eq}
 use Rattle.std.specs.Prelude.{string_bytes, filter}
-use Rattle.rn_simplify.specs.inside.Gathers.{is_other}
 use Rattle.rn_simplify.proofs.Texts.GatheredTexts.{is_declared, not_empty, not_known}
 use Rattle.rn_simplify.proofs.ReadBack.OrderedTexts.{AreApart, keys_apart, apart_new, apart_without, kept_more, kept_none, inserted_last}
+use Rattle.rn_simplify.specs.Spelling.{is_other}
 use Rattle.rn_simplify.proofs.declared_prefixes.declared_texts.Goals as goal
 use Rattle.rn_simplify.proofs.declared_prefixes.declared_texts.Goals.{else-not-is_empty-via-then-not-is_empty+else-ne, else-not-is_empty-via-else-not-is_empty}
 

@@ -1,7 +1,7 @@
 use Rattle.std.proofs.Common.{◌≡◌, ◌++◌, map}
 use Rattle.std.specs.Prelude.{string_bytes, filter}
-use Rattle.rn_simplify.specs.inside.Gathers.{is_other}
 use Rattle.rn_simplify.proofs.ReadBack.OrderedTexts.{AreApart}
+use Rattle.rn_simplify.specs.Spelling.{is_other}
 use Rattle.rn_simplify.proofs.declared_prefixes.declared_texts.Given as goal
 
 abbrev pub invariant-loop-text : goal.invariant-loop-text

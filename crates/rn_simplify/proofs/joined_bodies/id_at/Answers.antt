@@ -2,16 +2,15 @@ use Rattle.std.proofs.Common.{◌<◌, length, map, sym, ap, ◌∙◌, subst, a
 use Rattle.std.proofs.lemmas.List.{get_or-map}
 use Rattle.std.proofs.lemmas.Result.{IfOk-weaker}
 use Rattle.std.specs.Prelude.{IsTrue}
-use Rattle.rn_pattern.specs.Canonical.{canonical}
 use Rattle.rn_pattern.specs.View.{pattern_view, shared_view}
-use Rattle.rn_simplify.specs.inside.FormKinds.{becomes}
+use Rattle.rn_simplify.specs.inside.FormKinds.{settled_form}
 use Rattle.rn_simplify.proofs.Simplified.Repeats.{first_stands, ids_size}
 use Rattle.rn_simplify.proofs.joined_bodies.id_at.Goals as goal
 
 pub returns-then-first-index-clause-made : goal.returns-then-first-index-clause-made
 returns-then-first-index-clause-made g c = λ p.
     let at = g.P.Patterns.tree_of c.args.store.now in
-    let f = canonical (becomes c.args.settled.now) in
+    let f = settled_form c.args.settled.now in
     let ids = c.args.ids.now in
     let first = c.first_of-first.result in
     let id = c.index-ids-first.result in
@@ -23,7 +22,7 @@ returns-then-first-index-clause-made g c = λ p.
 
 pub returns-else-first-index-clause-made : goal.returns-else-first-index-clause-made
 returns-else-first-index-clause-made g c =
-    let f = canonical (becomes c.args.settled.now) in
+    let f = settled_form c.args.settled.now in
     let members = c.args.members.now in
     let r = c.index-members-index.result in
     IfOk-weaker c.canonical_form.result _ _

@@ -1,5 +1,5 @@
 use Rattle.rn_syntax.proofs.OneReading.OneTree.{one_tree}
-use Rattle.rn_simplify.proofs.PrintedAgain.{printed_again}
+use Rattle.rn_simplify.proofs.Printed.PrintedAgain.{printed_again}
 use Rattle.rn_simplify.proofs.laws.printed_texts_are_printed_again.Goals as goal
 
 pub returns : goal.returns

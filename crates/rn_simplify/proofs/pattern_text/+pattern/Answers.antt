@@ -7,7 +7,7 @@ use Rattle.rn_pattern.specs.declared.tree.Pattern.TheFolds.{fold_out-Pattern, fo
 use Rattle.rn_pattern.specs.declared.tree.Pattern.TheViews.{the_lemmas}
 use Rattle.rn_simplify.specs.Spelling.{chain, comma, infix_of, operand, optional_member, primary, written_choice, written_interleave, written_tree}
 use Rattle.rn_pattern.specs.View.{name_class_view, pattern_step, pattern_view}
-use Rattle.rn_simplify.specs.inside.Writes.{bytes_of, data_text, depth_after, prefixes_view, rows_of, Writes}
+use Rattle.rn_simplify.specs.inside.Writes.{bytes_of, data_text, depth_after, prefixes_view, written_members, Writes}
 use Rattle.rn_simplify.proofs.Texts.Writing.{writes_as, writes_pieces}
 use Rattle.rn_simplify.proofs.Texts.PartTexts.{writes_identifier, writes_braced, writes_parenthesized}
 use Rattle.rn_simplify.proofs.ReadBack.Chains.{before}
@@ -50,7 +50,7 @@ pub write_choice-returns-then-is_empty : goal.write_choice-returns-then-is_empty
 write_choice-returns-then-is_empty t c =
     let f = prefixes_view c.args.prefixes.now in
     let e : nat_eq (length c.args.members.now) 0 ≡ true = search rules in
-    writes_no_choice (rows_of f c.args.members.now) (row_count f c.args.members.now 0 true e) c.put.ensures
+    writes_no_choice (written_members f c.args.members.now) (row_count f c.args.members.now 0 true e) c.put.ensures
 
 pub write_choice-returns-then-begins_with_empty : goal.write_choice-returns-then-begins_with_empty
 write_choice-returns-then-begins_with_empty t c =
@@ -61,13 +61,13 @@ pub write_choice-returns-else-begins_with_empty : goal.write_choice-returns-else
 write_choice-returns-else-begins_with_empty t c =
     let f = prefixes_view c.args.prefixes.now in
     let e : nat_eq (length c.args.members.now) 0 ≡ false = search rules in
-    writes_choice (rows_of f c.args.members.now) (row_count f c.args.members.now 0 false e) (sym (c.begins_with_empty.ensures f) ∙ c.if-begins_with_empty.false) (c.write_chain.ensures (infix_of (codes "|")) bar_bytes bar_depth)
+    writes_choice (written_members f c.args.members.now) (row_count f c.args.members.now 0 false e) (sym (c.begins_with_empty.ensures f) ∙ c.if-begins_with_empty.false) (c.write_chain.ensures (infix_of (codes "|")) bar_bytes bar_depth)
 
 pub write_interleave-returns-then-is_empty : goal.write_interleave-returns-then-is_empty
 write_interleave-returns-then-is_empty t c =
     let f = prefixes_view c.args.prefixes.now in
     let e : nat_eq (length c.args.members.now) 0 ≡ true = search rules in
-    writes_no_interleave (rows_of f c.args.members.now) (row_count f c.args.members.now 0 true e) c.put.ensures
+    writes_no_interleave (written_members f c.args.members.now) (row_count f c.args.members.now 0 true e) c.put.ensures
 
 pub write_interleave-returns-then-begins_with_text : goal.write_interleave-returns-then-begins_with_text
 write_interleave-returns-then-begins_with_text t c =
@@ -78,7 +78,7 @@ pub write_interleave-returns-else-begins_with_text : goal.write_interleave-retur
 write_interleave-returns-else-begins_with_text t c =
     let f = prefixes_view c.args.prefixes.now in
     let e : nat_eq (length c.args.members.now) 0 ≡ false = search rules in
-    writes_interleave (rows_of f c.args.members.now) (row_count f c.args.members.now 0 false e) (sym (c.begins_with_text.ensures f) ∙ c.if-begins_with_text.false) (c.write_chain.ensures (infix_of (codes "&")) ampersand_bytes ampersand_depth)
+    writes_interleave (written_members f c.args.members.now) (row_count f c.args.members.now 0 false e) (sym (c.begins_with_text.ensures f) ∙ c.if-begins_with_text.false) (c.write_chain.ensures (infix_of (codes "&")) ampersand_bytes ampersand_depth)
 
 pub write_mixed-returns-then-members-eq2 : goal.write_mixed-returns-then-members-eq2
 write_mixed-returns-then-members-eq2 t c =
@@ -143,7 +143,7 @@ write_pattern-returns-in-Ref t c =
     let f = prefixes_view c.args.prefixes.now in
     let x = c.deref.result.now in
     let e : pattern_view c.args.pattern.now ≡ tree.ref x = search (rules, the_lemmas, fold_out-Pattern Tree pattern_step, fold-roll-Pattern Tree pattern_step) in
-    subst (λ q. Writes (written_tree f q).pieces c.args.writer.now c.identifier.new.self) (sym e) (writes_identifier x c.deref.utf8 c.identifier.ensures)
+    subst (λ q. Writes (written_tree f q).pieces c.args.writer.now c.put_identifier.new.self) (sym e) (writes_identifier x c.deref.utf8 c.put_identifier.ensures)
 
 pub write_except-returns-in-Some : goal.write_except-returns-in-Some
 write_except-returns-in-Some t c =
@@ -192,19 +192,19 @@ write_pattern-returns-in-OneOrMore t c =
 pub write_pattern-returns-in-Group : goal.write_pattern-returns-in-Group
 write_pattern-returns-in-Group t c =
     let f = prefixes_view c.args.prefixes.now in
-    let e = ap (λ p. (written_tree f (pattern_view p)).pieces) c.in-Group.is ∙ ap (λ w. w.pieces) (group_rows f c.in-Group.members) ∙ ap (λ ps. chain comma (rows_of f ps)) (sym c.deref-in-Group.ensures.value) in
+    let e = ap (λ p. (written_tree f (pattern_view p)).pieces) c.in-Group.is ∙ ap (λ w. w.pieces) (group_rows f c.in-Group.members) ∙ ap (λ ps. chain comma (written_members f ps)) (sym c.deref-in-Group.ensures.value) in
     writes_as (sym e) (c.write_chain.ensures comma comma_bytes comma_depth)
 
 pub write_pattern-returns-in-Interleave : goal.write_pattern-returns-in-Interleave
 write_pattern-returns-in-Interleave t c =
     let f = prefixes_view c.args.prefixes.now in
-    let e = ap (λ p. (written_tree f (pattern_view p)).pieces) c.in-Interleave.is ∙ ap (λ w. w.pieces) (interleave_rows f c.in-Interleave.members) ∙ ap (λ ps. (written_interleave (rows_of f ps)).pieces) (sym c.deref-in-Interleave.ensures.value) in
+    let e = ap (λ p. (written_tree f (pattern_view p)).pieces) c.in-Interleave.is ∙ ap (λ w. w.pieces) (interleave_rows f c.in-Interleave.members) ∙ ap (λ ps. (written_interleave (written_members f ps)).pieces) (sym c.deref-in-Interleave.ensures.value) in
     writes_as (sym e) c.write_interleave.ensures
 
 pub write_pattern-returns-in-Choice : goal.write_pattern-returns-in-Choice
 write_pattern-returns-in-Choice t c =
     let f = prefixes_view c.args.prefixes.now in
-    let e = ap (λ p. (written_tree f (pattern_view p)).pieces) c.in-Choice.is ∙ ap (λ w. w.pieces) (choice_rows f c.in-Choice.members) ∙ ap (λ ps. (written_choice (rows_of f ps)).pieces) (sym c.deref-in-Choice.ensures.value) in
+    let e = ap (λ p. (written_tree f (pattern_view p)).pieces) c.in-Choice.is ∙ ap (λ w. w.pieces) (choice_rows f c.in-Choice.members) ∙ ap (λ ps. (written_choice (written_members f ps)).pieces) (sym c.deref-in-Choice.ensures.value) in
     writes_as (sym e) c.write_choice.ensures
 
 pub write_chain-loop-i-init : goal.write_chain-loop-i-init

@@ -25,7 +25,7 @@ loop-i-preserved c =
       | then-i-gt0 w ↦ subst (λ y. Writes (spaced ps) c.loop-i.writer y) (sym w.writer-is) (spaced_viewed xs i w.if-i-gt0.true c.loop-i-test.true w.put.ensures)
       | else-i-gt0 w ↦ subst (λ y. Writes (spaced ps) c.loop-i.writer y) (sym w.writer-is) (spaced_first xs i (omega (arith, w.if-i-gt0.false)))
     ] in
-    writes_as (ap params_pieces (sym v)) (writes_params_more ps (c.deref.result.now, c.deref-in-loop-i.result.now) c.loop-i.invariant j (writes_param c.deref.result.now c.deref-in-loop-i.result.now c.deref.utf8 c.put-in-loop-i.ensures c.put-in-loop-i-2.ensures c.literal.ensures))
+    writes_as (ap params_pieces (sym v)) (writes_params_more ps (c.deref.result.now, c.deref-in-loop-i.result.now) c.loop-i.invariant j (writes_param c.deref.result.now c.deref-in-loop-i.result.now c.deref.utf8 c.put-in-loop-i.ensures c.put-in-loop-i-2.ensures c.put_literal.ensures))
 
 pub returns : goal.returns
 returns c = writes_as (ap (λ ps. params_pieces (parameters_view ps)) (take_all c.loop-i.i c.args.params.now c.loop-i-test.false)) c.loop-i.invariant

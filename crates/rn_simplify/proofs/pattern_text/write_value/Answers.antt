@@ -12,7 +12,7 @@ returns-then-is_token c =
     let v = c.args.value.now in
     let e : (bytes_eq (rc_str_bytes v.library) [] && bytes_eq (string_bytes v.type_name) (codes "token")) ≡ true =
     sym (c.is_token.ensures ∙ (λ i. bytes_eq (c.deref.ensures.value i) [] && bytes_eq (c.deref-2.ensures i) (codes "token"))) ∙ c.if-is_token.true in
-    let node_text = subst (λ t. WritesBytes (literal_bytes t) none c.args.writer.now c.literal.new.self) c.deref-then-is_token.ensures c.literal.ensures in
+    let node_text = subst (λ t. WritesBytes (literal_bytes t) none c.args.writer.now c.put_literal.new.self) c.deref-then-is_token.ensures c.put_literal.ensures in
     writes_token (prefixes_view c.args.prefixes.now) (rc_str_bytes v.library) (string_bytes v.type_name) (string_bytes v.text) e node_text
 
 pub returns-else-is_token : goal.returns-else-is_token
@@ -23,5 +23,5 @@ returns-else-is_token c =
     sym (c.is_token.ensures ∙ (λ i. bytes_eq (c.deref.ensures.value i) [] && bytes_eq (c.deref-2.ensures i) (codes "token"))) ∙ c.if-is_token.false in
     let typed = subst (λ x. Writes (type_piece f (rc_str_bytes v.library) x ∷ []) c.args.writer.now c.write_type.new.writer) c.deref-else-is_token-2.ensures
     (subst (λ l. Writes (type_piece f l c.deref-else-is_token-2.result.now ∷ []) c.args.writer.now c.write_type.new.writer) c.deref-else-is_token.ensures.value c.write_type.ensures) in
-    let node_text = subst (λ t. WritesBytes (literal_bytes t) none c.put.new.self c.literal-else-is_token.new.self) c.deref-else-is_token-3.ensures c.literal-else-is_token.ensures in
+    let node_text = subst (λ t. WritesBytes (literal_bytes t) none c.put.new.self c.put_literal-else-is_token.new.self) c.deref-else-is_token-3.ensures c.put_literal-else-is_token.ensures in
     writes_value f (rc_str_bytes v.library) (string_bytes v.type_name) (string_bytes v.text) e typed c.put.ensures node_text

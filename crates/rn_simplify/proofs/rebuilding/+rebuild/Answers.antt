@@ -3,7 +3,7 @@ use Rattle.std.proofs.lemmas.List.{take_all}
 use Rattle.std.specs.Prelude.{All, IfOk, IsTrue, string_bytes}
 use Rattle.std.specs.Option.{option_map}
 use Rattle.std.specs.Rc.{rc_str_bytes}
-use Rattle.rn_pattern.specs.Store.{node_view}
+use Rattle.rn_pattern.specs.Store.{node_view, KnowsAll}
 use Rattle.rn_pattern.specs.View.{parameters_view, pattern_view}
 use Rattle.rn_simplify.specs.inside.NodeKinds.{datum_over}
 use Rattle.rn_simplify.proofs.Simplified.NodeSizes.{tree_size, ids_size, member_size}
@@ -29,7 +29,7 @@ rebuild-rebuild_members-requires g t c κs within =
     let value = c.deref-in-Group.ensures.value in
     let s : tree_size (at c.args.id) ≡ ids_size at v.items + 1 = ap tree_size (sym c.node-node.ensures.root) ∙ size_in n v at c.in-Group.is in
     let m : 3 * ids_size at c.deref-in-Group.result.now + 2 < 3 * tree_size (at c.args.id) = subst (λ xs. 3 * ids_size at xs + 2 < 3 * tree_size (at c.args.id)) (sym value) (omega (arith, s)) in
-    let all = subst (λ xs. All (λ i. IsTrue (k i)) xs) (members_in n v c.in-Group.is ∙ sym value) c.node-node.ensures.within in
+    let all = subst (λ xs. KnowsAll k xs) (members_in n v c.in-Group.is ∙ sym value) c.node-node.ensures.within in
     (omega (arith, m, c.decreases), (within.0, (within.1, all)))
 
 pub rebuild-returns-in-NotAllowed : goal.rebuild-returns-in-NotAllowed

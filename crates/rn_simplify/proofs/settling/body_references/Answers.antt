@@ -3,7 +3,7 @@ use Rattle.std.proofs.lemmas.Result.{IfOk-weaker}
 use Rattle.std.specs.Prelude.{IfSome}
 use Rattle.rn_assemble.specs.GrammarView.{definitions_view}
 use Rattle.rn_pattern.specs.View.{pattern_view}
-use Rattle.rn_simplify.specs.inside.ReferenceNumbers.{AreReferences}
+use Rattle.rn_simplify.specs.inside.ReferenceNumbers.{AreReferenceNumbers}
 use Rattle.rn_simplify.specs.inside.Repeats.{AreSameButRepeats}
 use Rattle.rn_simplify.proofs.Simplified.Repeats.{references_alike}
 use Rattle.rn_simplify.proofs.settling.body_references.Goals as goal
@@ -15,5 +15,5 @@ returns-in-Some c =
     let distinct = pattern_view c.in-Some.distinct.value in
     let same : AreSameButRepeats distinct body = subst (λ o. IfSome o (λ p. AreSameButRepeats (pattern_view p.value) body)) c.in-Some.is c.in_ok-distinct.ensures in
     IfOk-weaker c.of.result _ _
-    (λ found h. references_alike ds distinct body found same (subst (λ p. AreReferences ds (pattern_view p) found) c.deref.ensures h))
+    (λ found h. references_alike ds distinct body found same (subst (λ p. AreReferenceNumbers ds (pattern_view p) found) c.deref.ensures h))
     c.of.ensures

@@ -2,7 +2,7 @@ use Rattle.std.proofs.Common.{length, get_or, ap, sym, ◌∙◌, subst, arith}
 use Rattle.std.proofs.lemmas.Result.{IfOk-weaker}
 use Rattle.rn_assemble.specs.Firsts.{AreFirsts, joined_members}
 use Rattle.rn_assemble.specs.GrammarView.{definitions_view}
-use Rattle.rn_simplify.specs.inside.ReferenceNumbers.{AreReferences}
+use Rattle.rn_simplify.specs.inside.ReferenceNumbers.{AreReferenceNumbers}
 use Rattle.rn_simplify.proofs.Simplified.Numbers.{size_of_view}
 use Rattle.rn_simplify.proofs.Simplified.ReferenceGraph.{nothing}
 use Rattle.rn_simplify.proofs.settling.references_of.Goals as goal
@@ -19,6 +19,6 @@ pub returns : goal.returns
 returns c =
     let n = c.args.number in
     IfOk-weaker c.body_references.result _ _
-    (λ found h d. subst (λ ds. AreReferences ds (get_or ds n d).1 found) c.defs-definitions.ensures
-    (subst (λ p. AreReferences (definitions_view c.defs-definitions.result.now.entries) p found) (c.body_of.ensures d) h))
+    (λ found h d. subst (λ ds. AreReferenceNumbers ds (get_or ds n d).1 found) c.defs-definitions.ensures
+    (subst (λ p. AreReferenceNumbers (definitions_view c.defs-definitions.result.now.entries) p found) (c.body_of.ensures d) h))
     c.body_references.ensures

@@ -1,7 +1,7 @@
 use Rattle.std.proofs.Common.{sym, subst}
 use Rattle.rn_assemble.specs.Firsts.{AreFirsts, joined_members}
 use Rattle.rn_assemble.specs.GrammarView.{definitions_view, grammar_view}
-use Rattle.rn_simplify.specs.inside.ReferenceNumbers.{AreReferences}
+use Rattle.rn_simplify.specs.inside.ReferenceNumbers.{AreReferenceNumbers}
 use Rattle.rn_simplify.proofs.settling.start_references.Goals as goal
 
 pub body_references-requires : goal.body_references-requires
@@ -11,5 +11,5 @@ pub returns : goal.returns
 returns c =
     let G = grammar_view c.args.grammar.now in
     let found = c.in_ok-found.found in
-    (subst (λ ds. AreReferences ds G.start found) c.defs.ensures
-    (subst (λ p. AreReferences (definitions_view c.defs.result.now.entries) p found) c.start.ensures c.in_ok-found.ensures)).everywhere
+    (subst (λ ds. AreReferenceNumbers ds G.start found) c.defs.ensures
+    (subst (λ p. AreReferenceNumbers (definitions_view c.defs.result.now.entries) p found) c.start.ensures c.in_ok-found.ensures)).everywhere

@@ -8,7 +8,7 @@ use Rattle.rn_pattern.specs.Tree.{Tree, trees_of}
 use Rattle.rn_pattern.specs.View.{pattern_view, shared_view}
 use Rattle.rn_pattern.proofs.Ordered.PatternKinds.{group_seen, interleave_seen, choice_seen}
 use Rattle.rn_simplify.specs.inside.ListParts.{members_step, parts, parts_of}
-use Rattle.rn_simplify.specs.inside.FormKinds.{becomes, becomes_by}
+use Rattle.rn_simplify.specs.inside.FormKinds.{becomes, becomes_by, settled_form}
 use Rattle.rn_simplify.proofs.Simplified.Contents.{content_seen}
 use Rattle.rn_simplify.proofs.Simplified.FormKinds.{settled_canonical}
 use Rattle.rn_simplify.proofs.Simplified.StoreIds.{keeps_then, then_kept, trees_still}
@@ -92,7 +92,7 @@ push_parts-loop-member-preserved g t c =
     let old = c.loop-member.store in
     let new = c.push_part.new.store in
     let inv = c.loop-member.invariant in
-    let f = canonical (becomes c.args.settled.now) in
+    let f = settled_form c.args.settled.now in
     let now = map (r old) c.loop-member.ids.items in
     record {
       kept = keeps_then (k a) (k old) (k new) (r a) (r old) (r new) inv.kept c.push_part.ensures.kept;
@@ -104,7 +104,7 @@ push_parts-loop-member-preserved g t c =
 pub push_part-returns-in-Group-pattern-clause-made : goal.push_part-returns-in-Group-pattern-clause-made
 push_part-returns-in-Group-pattern-clause-made g t c =
     let r = g.P.Patterns.tree_of in
-    let f = canonical (becomes c.args.settled.now) in
+    let f = settled_form c.args.settled.now in
     let new = c.push_parts.new in
     subst (λ (ps : List Tree). OnOk c.push_parts.result (map (r new.store) new.ids.items ≡ map (r c.args.store.now) c.args.ids.now.items ++ map f ps))
     (group_parts c.args.kind c.args.pattern.now c.in-Group-pattern.members c.deref.result.now c.deref.ensures.value c.in-Group.is c.in-Group-pattern.is)
@@ -113,7 +113,7 @@ push_part-returns-in-Group-pattern-clause-made g t c =
 pub push_part-returns-in-Interleave-pattern-clause-made : goal.push_part-returns-in-Interleave-pattern-clause-made
 push_part-returns-in-Interleave-pattern-clause-made g t c =
     let r = g.P.Patterns.tree_of in
-    let f = canonical (becomes c.args.settled.now) in
+    let f = settled_form c.args.settled.now in
     let new = c.push_parts-in-Interleave-pattern.new in
     subst (λ (ps : List Tree). OnOk c.push_parts-in-Interleave-pattern.result (map (r new.store) new.ids.items ≡ map (r c.args.store.now) c.args.ids.now.items ++ map f ps))
     (interleave_parts c.args.kind c.args.pattern.now c.in-Interleave-pattern.members c.deref-in-Interleave-pattern.result.now c.deref-in-Interleave-pattern.ensures.value c.in-Interleave.is c.in-Interleave-pattern.is)
@@ -122,7 +122,7 @@ push_part-returns-in-Interleave-pattern-clause-made g t c =
 pub push_part-returns-in-Choice-pattern-clause-made : goal.push_part-returns-in-Choice-pattern-clause-made
 push_part-returns-in-Choice-pattern-clause-made g t c =
     let r = g.P.Patterns.tree_of in
-    let f = canonical (becomes c.args.settled.now) in
+    let f = settled_form c.args.settled.now in
     let new = c.push_parts-in-Choice-pattern.new in
     subst (λ (ps : List Tree). OnOk c.push_parts-in-Choice-pattern.result (map (r new.store) new.ids.items ≡ map (r c.args.store.now) c.args.ids.now.items ++ map f ps))
     (choice_parts c.args.kind c.args.pattern.now c.in-Choice-pattern.members c.deref-in-Choice-pattern.result.now c.deref-in-Choice-pattern.ensures.value c.in-Choice.is c.in-Choice-pattern.is)

@@ -11,7 +11,7 @@ use Rattle.rn_pattern.proofs.Ordered.PatternKinds.{group_seen, interleave_seen, 
 use Rattle.rn_pattern.specs.declared.tree.Pattern.{Pattern}
 use Rattle.rn_simplify.specs.inside.Contents.{form_or}
 use Rattle.rn_simplify.specs.inside.ListParts.{members_step, parts, parts_of}
-use Rattle.rn_simplify.specs.inside.FormKinds.{becomes, becomes_by}
+use Rattle.rn_simplify.specs.inside.FormKinds.{becomes, becomes_by, settled_form}
 use Rattle.rn_simplify.proofs.Simplified.FormKinds.{settled_canonical}
 use Rattle.rn_simplify.proofs.Simplified.ListParts.{choice_parts, group_parts, interleave_parts, parts_more, parts_same}
 use Rattle.rn_simplify.proofs.tree_forms.+form_of.Goals as goal
@@ -55,25 +55,25 @@ push_parts-loop-member-init t c = sym (append-nil (map shared_view c.args.forms.
 
 pub push_inner-returns-in_ok-push_parts-in-Group-pattern : goal.push_inner-returns-in_ok-push_parts-in-Group-pattern
 push_inner-returns-in_ok-push_parts-in-Group-pattern t c =
-    let f = canonical (becomes c.args.settled.now) in
+    let f = settled_form c.args.settled.now in
     append-nil (map shared_view c.push_parts.new.forms.items) ∙ c.in_ok-push_parts-in-Group-pattern.ensures
     ∙ ap (λ ps. map shared_view c.args.forms.now.items ++ map f ps) (group_parts c.args.kind c.args.pattern.now c.in-Group-pattern.members c.deref.result.now c.deref.ensures.value c.in-Group.is c.in-Group-pattern.is)
 
 pub push_inner-returns-in_ok-push_parts-in-Interleave-pattern : goal.push_inner-returns-in_ok-push_parts-in-Interleave-pattern
 push_inner-returns-in_ok-push_parts-in-Interleave-pattern t c =
-    let f = canonical (becomes c.args.settled.now) in
+    let f = settled_form c.args.settled.now in
     append-nil (map shared_view c.push_parts-in-Interleave-pattern.new.forms.items) ∙ c.in_ok-push_parts-in-Interleave-pattern.ensures
     ∙ ap (λ ps. map shared_view c.args.forms.now.items ++ map f ps) (interleave_parts c.args.kind c.args.pattern.now c.in-Interleave-pattern.members c.deref-in-Interleave-pattern.result.now c.deref-in-Interleave-pattern.ensures.value c.in-Interleave.is c.in-Interleave-pattern.is)
 
 pub push_inner-returns-in_ok-push_parts-in-Choice-pattern : goal.push_inner-returns-in_ok-push_parts-in-Choice-pattern
 push_inner-returns-in_ok-push_parts-in-Choice-pattern t c =
-    let f = canonical (becomes c.args.settled.now) in
+    let f = settled_form c.args.settled.now in
     append-nil (map shared_view c.push_parts-in-Choice-pattern.new.forms.items) ∙ c.in_ok-push_parts-in-Choice-pattern.ensures
     ∙ ap (λ ps. map shared_view c.args.forms.now.items ++ map f ps) (choice_parts c.args.kind c.args.pattern.now c.in-Choice-pattern.members c.deref-in-Choice-pattern.result.now c.deref-in-Choice-pattern.ensures.value c.in-Choice.is c.in-Choice-pattern.is)
 
 pub push_parts-loop-member-preserved : goal.push_parts-loop-member-preserved
 push_parts-loop-member-preserved t c =
-    let f = canonical (becomes c.args.settled.now) in
+    let f = settled_form c.args.settled.now in
     let kind = c.args.kind in
     let r = c.member-item.result in
     let now = map shared_view c.loop-member.forms.items in

@@ -1,7 +1,7 @@
 use Rattle.std.proofs.Common.{ap, ◌∙◌}
 use Rattle.std.specs.Prelude.{filter}
 use Rattle.rn_syntax.specs.Places.{xml_uri, xsd_uri}
-use Rattle.rn_simplify.specs.inside.Gathers.{is_other}
+use Rattle.rn_simplify.specs.Spelling.{is_other}
 use Rattle.rn_simplify.proofs.declared_prefixes.Prefixes.of.Goals as goal
 
 pub returns-clause-prefixes : goal.returns-clause-prefixes

@@ -1,8 +1,8 @@
 use Rattle.std.proofs.Common.{◌++◌}
 use Rattle.std.specs.Prelude.{codes}
 use Rattle.rn_assemble.specs.ShortTexts.{long_uri, short_texts}
-use Rattle.rn_simplify.specs.Spelling.{bindings, default_line, library_prefix, namespace_prefix}
-use Rattle.rn_simplify.specs.inside.Writes.{empty_entries, entries, prefixes_view}
+use Rattle.rn_simplify.specs.Spelling.{bindings, default_line, library_prefix, namespace_prefix, empty_entries, entries}
+use Rattle.rn_simplify.specs.inside.Writes.{prefixes_view}
 use Rattle.rn_simplify.proofs.Texts.Writing.{writes_then}
 use Rattle.rn_simplify.proofs.Texts.LineTexts.{default_written}
 use Rattle.rn_simplify.proofs.declared_prefixes.Prefixes.write_declarations.Goals as goal

@@ -1,7 +1,7 @@
 use Rattle.std.proofs.Common.{sym, subst}
 use Rattle.std.specs.Prelude.{codes}
-use Rattle.rn_simplify.specs.Spelling.{bindings}
-use Rattle.rn_simplify.specs.inside.Writes.{empty_entries, Writes}
+use Rattle.rn_simplify.specs.Spelling.{bindings, empty_entries}
+use Rattle.rn_simplify.specs.inside.Writes.{Writes}
 use Rattle.rn_simplify.proofs.Texts.LineTexts.{empty_written}
 use Rattle.rn_simplify.proofs.declared_prefixes.Prefixes.write_empty_namespace.Goals as goal
 

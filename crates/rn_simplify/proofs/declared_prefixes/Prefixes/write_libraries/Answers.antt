@@ -2,8 +2,8 @@ use Rattle.std.proofs.Common.{◌≡◌, ◌<◌, length, get_or, map, take, sym
 use Rattle.std.specs.Prelude.{codes, string_bytes}
 use Rattle.std.specs.Str.{encode_utf8_all}
 use Rattle.rn_assemble.specs.ShortTexts.{long_uri, short_texts}
-use Rattle.rn_simplify.specs.Spelling.{bindings, library_prefix}
-use Rattle.rn_simplify.specs.inside.Writes.{bound_to, entries, none, prefixes_view, Writes, WritesBytes}
+use Rattle.rn_simplify.specs.Spelling.{bindings, library_prefix, bound_to, entries}
+use Rattle.rn_simplify.specs.inside.Writes.{none, prefixes_view, Writes, WritesBytes}
 use Rattle.rn_simplify.proofs.Texts.LineTexts.{texts_more, writes_datatypes, writes_one_binding}
 use Rattle.rn_simplify.proofs.declared_prefixes.Prefixes.write_libraries.Goals as goal
 

@@ -19,4 +19,4 @@ returns-else-eq c =
     let h : bytes_eq l xsd_uri ≡ false = search rules in
     let p : c.place_of.result ≡ place l f.libraries = c.place_of.ensures in
     let m : place l f.libraries < 2 ^ 64 = subst (λ n. n < 2 ^ 64) p c.place_of.type_inv in
-    subst (λ b. WritesBytes b none c.args.writer.now c.number.new.self) (ap (λ n. codes "d" ++ decimal n) p ∙ numbered_library f l h m) (bytes_then (codes "d") (decimal c.place_of.result) c.put-else-eq.ensures c.number.ensures)
+    subst (λ b. WritesBytes b none c.args.writer.now c.put_number.new.self) (ap (λ n. codes "d" ++ decimal n) p ∙ numbered_library f l h m) (bytes_then (codes "d") (decimal c.place_of.result) c.put-else-eq.ensures c.put_number.ensures)

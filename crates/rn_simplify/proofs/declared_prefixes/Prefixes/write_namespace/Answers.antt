@@ -23,4 +23,4 @@ returns-else-eq c =
     let h : bytes_eq u xml_uri ≡ false = search rules in
     let p : c.place_of.result ≡ place u f.namespaces = c.place_of.ensures in
     let l : place u f.namespaces < 2 ^ 64 = subst (λ n. n < 2 ^ 64) p c.place_of.type_inv in
-    subst (λ b. WritesBytes b none c.args.writer.now c.number.new.self) (ap (λ n. codes "n" ++ decimal n) p ∙ other_namespace f u e h l) (bytes_then (codes "n") (decimal c.place_of.result) c.put-else-eq.ensures c.number.ensures)
+    subst (λ b. WritesBytes b none c.args.writer.now c.put_number.new.self) (ap (λ n. codes "n" ++ decimal n) p ∙ other_namespace f u e h l) (bytes_then (codes "n") (decimal c.place_of.result) c.put-else-eq.ensures c.put_number.ensures)

@@ -1,8 +1,8 @@
 use Rattle.std.proofs.Common.{map, take}
 use Rattle.std.specs.Prelude.{codes, string_bytes}
 use Rattle.rn_assemble.specs.ShortTexts.{long_uri, short_texts}
-use Rattle.rn_simplify.specs.Spelling.{bindings, namespace_prefix}
-use Rattle.rn_simplify.specs.inside.Writes.{entries, prefixes_view, Writes}
+use Rattle.rn_simplify.specs.Spelling.{bindings, namespace_prefix, entries}
+use Rattle.rn_simplify.specs.inside.Writes.{prefixes_view, Writes}
 use Rattle.rn_simplify.proofs.declared_prefixes.Prefixes.write_namespaces.Given as goal
 
 abbrev pub invariant-loop-uri : goal.invariant-loop-uri

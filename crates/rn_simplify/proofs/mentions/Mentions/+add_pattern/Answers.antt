@@ -5,7 +5,7 @@ use Rattle.std.specs.Rc.{rc_str_bytes}
 use Rattle.rn_pattern.specs.Tree.{trees_of}
 use Rattle.rn_pattern.specs.declared.tree.Data.{Data}
 use Rattle.rn_pattern.specs.View.{name_class_view, pattern_view, shared_view}
-use Rattle.rn_simplify.specs.inside.Gathers.{Gathers, both, by_library, by_name, by_tree, by_trees}
+use Rattle.rn_simplify.specs.inside.Gathers.{Gathers, mentioned_by_both, by_library, by_name, by_tree, by_trees}
 use Rattle.rn_simplify.proofs.Texts.GatheredTexts.{gathers_unless, gathers_one_tree, in_list, named, with_library}
 use Rattle.rn_simplify.proofs.mentions.Mentions.+add_pattern.Goals as goal
 
@@ -17,7 +17,7 @@ add_pattern-returns-in-Some t c =
     let r = c.add_pattern.result in
     let z = c.add_pattern.new.self in
     let library : l ≡ rc_str_bytes d.value.library = c.deref-in-Datum-2.ensures.value ∙ ap (λ (x : Data). rc_str_bytes x.library) c.deref-in-Datum.ensures in
-    let e = with_library c.args.pattern.now d c.in-Datum.except c.in-Some.except c.in-Datum.is c.in-Some.is ∙ sym (λ i. both (by_library (library i)) (by_tree (pattern_view (c.deref-in-Some.ensures i)))) in
+    let e = with_library c.args.pattern.now d c.in-Datum.except c.in-Some.except c.in-Datum.is c.in-Some.is ∙ sym (λ i. mentioned_by_both (by_library (library i)) (by_tree (pattern_view (c.deref-in-Some.ensures i)))) in
     subst (λ m. OnOk r (Gathers m c.args.self.now z)) (sym e)
     (gathers_unless r (by_library l) (by_tree (pattern_view p)) z c.in_ok-add_library-in-Datum.ensures c.add_pattern.ensures)
 
@@ -33,7 +33,7 @@ add_pattern-returns-in_ok-add_class-in-Attribute t c =
     let r = c.add_pattern-in-Attribute.result in
     let z = c.add_pattern-in-Attribute.new.self in
     let e = named c.args.pattern.now c.in-Attribute.class c.in-Attribute.content c.in-Attribute.is
-    ∙ sym (λ i. both (by_name (name_class_view (c.deref-in-Attribute.ensures i))) (by_tree (pattern_view (c.deref-in-Attribute-2.ensures i)))) in
+    ∙ sym (λ i. mentioned_by_both (by_name (name_class_view (c.deref-in-Attribute.ensures i))) (by_tree (pattern_view (c.deref-in-Attribute-2.ensures i)))) in
     subst (λ m. OnOk r (Gathers m c.args.self.now z)) (sym e)
     (gathers_unless r (by_name (name_class_view n)) (by_tree (pattern_view p)) z c.in_ok-add_class-in-Attribute.ensures c.add_pattern-in-Attribute.ensures)
 

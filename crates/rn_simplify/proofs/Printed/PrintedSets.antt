@@ -12,12 +12,12 @@ use Rattle.rn_assemble.proofs.Refusals.NoRefusal.{no_excepts, assembled_well_for
 use Rattle.rn_simplify.specs.ReadAgain.{IsReadAgain}
 use Rattle.rn_simplify.specs.Verdict.{IsVerdict, prints}
 use Rattle.rn_simplify.proofs.ReadBack.Binding.{spelling_reads_back}
-use Rattle.rn_simplify.proofs.PrintedAgain.{no_fault}
+use Rattle.rn_simplify.proofs.Printed.PrintedAgain.{no_fault}
 use Rattle.rn_simplify.proofs.ReadBack.ReadAgain.{combination_read, joined_read, read_canonical, read_only, read_well_formed, none_stands}
 use Rattle.rn_simplify.proofs.ReadBack.SpellableGrammars.{spellable}
 
 pub printed_read : (s : List Member) (text : Text) → IsVerdict s (prints text) → IsReadAgain s text
-printed_read s text (n, (g, (none, (modules, a, e)), c), short, shallow, is) =
+printed_read s text (n, (g, (none, (modules, a, e)), c), (short, shallow, is)) =
     let k : IsCanonicalOf (grammar_of modules) n = subst (λ f. IsCanonicalOf f n) e c in
     let r = spelling_reads_back n (spellable (grammar_of modules) n k (set_grammar_writable s modules a) (omega (arith, short))) in
     let w = assembled_well_formed s modules a none in

@@ -2,8 +2,8 @@ use Rattle.std.proofs.Common.{◌≡◌, ◌∷◌, [], cond, chars, sym, subst,
 use Rattle.rn_text.specs.Characters.{is_keyword}
 use Rattle.rn_simplify.specs.inside.Writes.{WritesBytes, none}
 use Rattle.rn_simplify.proofs.Texts.Writing.{bytes_then}
-use Rattle.rn_simplify.proofs.writer.Writer.identifier.Goals as goal
-use Rattle.rn_simplify.proofs.writer.Writer.identifier.Goals.{then-is_keyword, else-is_keyword}
+use Rattle.rn_simplify.proofs.writer.Writer.put_identifier.Goals as goal
+use Rattle.rn_simplify.proofs.writer.Writer.put_identifier.Goals.{then-is_keyword, else-is_keyword}
 
 pub returns : goal.returns
 returns c =

@@ -93,11 +93,11 @@ module _ (one_tree : (ts : Tokens) (m n : t.Module) → HasTree ts m → HasTree
           canonical : IsCanonicalOf (grammar_of printed) n
           canonical = subst (λ g. IsCanonicalOf g n) (sym same_grammar) (read_canonical n r G c)
 
-  -- the same text again
+  -- the text of a set is the verdict of each set of which it is the one effective module
   pub printed_again : (s : List Member) (text : Text) → IsVerdict s (prints text) → (u : List Member) (x : Text) → AreEffective u ((x, text) ∷ []) → IsVerdict u (prints text)
-  printed_again s text (n, (g, (none, (modules, a, e)), c), short, shallow, is) u x effective =
+  printed_again s text (n, (g, (none, (modules, a, e)), c), (short, shallow, is)) u x effective =
       let k : IsCanonicalOf (grammar_of modules) n = subst (λ f. IsCanonicalOf f n) e c in
       let r = spelling_reads_back n (spellable (grammar_of modules) n k (set_grammar_writable s modules a) (omega (arith, short))) in
       let w = assembled_well_formed s modules a none in
       let b : AreEffective u ((x, spelling n) ∷ []) = subst (λ y. AreEffective u ((x, y) ∷ [])) is effective in
-      (n, (grammar_of (printed n r shallow x), assembled n r shallow x u b (grammar_of modules) k w, canonical n r shallow x u b (grammar_of modules) k w), short, shallow, is)
+      (n, (grammar_of (printed n r shallow x), assembled n r shallow x u b (grammar_of modules) k w, canonical n r shallow x u b (grammar_of modules) k w), (short, shallow, is))
