@@ -7,9 +7,10 @@ pub mod RankOrder
 pub mod FormedGrammar
 pub mod ReferenceGraph
 pub mod ReferredIn
-pub mod Numbers
+pub mod DefinitionNumbers
 pub mod Marks
 pub mod NumberedNames
+pub mod AddedNumbers
 pub mod StoreIds
 pub mod PrunedForms
 pub mod AlikeRows

@@ -1,5 +1,5 @@
 // The definitions of a grammar in an order in which each comes after those that it refers to outside elements (RELAX NG 2001, 4.19).
-ghost use Rattle.std.specs.Prelude.{◌≡◌, ◌<◌, IfOk, length, slice_index_or, string_bytes};
+ghost use Rattle.std.specs.Prelude.{◌≡◌, ◌<◌, ◌∷◌, ◌++◌, [], IfOk, OnOk, length, slice_index_or, string_bytes};
 ghost use Rattle.rn_pattern.specs.Graph.{AllBelow, IsGraph, rows_of};
 ghost use Rattle.rn_pattern.specs.Ranks.{HasNoLoop, IsRanking};
 ghost use Rattle.rn_assemble.specs.GrammarView.{definitions_view, grammar_view};
@@ -13,7 +13,7 @@ ghost use Rattle.rn_pattern.specs.Canonical.{HaveSameMembers};
 ghost use Rattle.rn_simplify.specs.inside.SettlingOrder.{IsSettlingOrder};
 ghost use Rattle.rn_simplify.specs.inside.Repeats.{AreFirstsOf};
 
-use crate::reference_numbers::References;
+use crate::reference_numbers::{References, pattern_references};
 use crate::repeated_members::without_repeats;
 use rn_assemble::{Definitions, Grammar};
 use rn_pattern::graph::{marked_rows, reached_nodes};
@@ -53,8 +53,8 @@ fn body_references(
         (pattern_view body.now)) }
 {
     match without_repeats(alloc, body, firsts)? {
-        Some(distinct) => References::of(alloc, definitions, &distinct),
-        None => References::of(alloc, definitions, body),
+        Some(distinct) => pattern_references(alloc, definitions, &distinct),
+        None => pattern_references(alloc, definitions, body),
     }
 }
 
@@ -81,25 +81,44 @@ struct ReferenceRows {
     outside: Rows,
 }
 
+impl ReferenceRows {
+    /// No rows yet, with the memory to end so many.
+    fn with_capacity(alloc: Global, count: usize) -> Result<ReferenceRows, AllocError>
+        ensures everywhere { IfOk result (λ rows. rows_of rows.everywhere ≡ []) }
+        ensures outside { IfOk result (λ rows. rows_of rows.outside ≡ []) }
+    {
+        Ok(ReferenceRows {
+            everywhere: Rows::with_capacity(alloc, count)?,
+            outside: Rows::with_capacity(alloc, count)?,
+        })
+    }
+
+    /// Adds the references of the next definition.
+    fn push_row(&mut self, references: &References) -> Result<(), AllocError>
+        ensures everywhere { OnOk result (rows_of self.new.everywhere
+            ≡ rows_of self.old.everywhere ++ references.now.everywhere.items ∷ []) }
+        ensures outside { OnOk result (rows_of self.new.outside
+            ≡ rows_of self.old.outside ++ references.now.outside.items ∷ []) }
+    {
+        self.everywhere.push_row(&references.everywhere)?;
+        self.outside.push_row(&references.outside)
+    }
+}
+
 /// The references of the definitions.
-fn all_references(alloc: Global, grammar: &Grammar) -> Result<ReferenceRows, AllocError>
+fn reference_rows(alloc: Global, grammar: &Grammar) -> Result<ReferenceRows, AllocError>
     ensures everywhere { IfOk result (λ rows. AreReferenceRows (grammar_view grammar.now)
         (rows_of rows.everywhere)) }
     ensures outside { IfOk result (λ rows. AreOutsideRows (grammar_view grammar.now)
         (rows_of rows.outside)) }
 {
     let count = grammar.defs().len();
-    let mut everywhere = Rows::with_capacity(alloc, count)?;
-    let mut outside = Rows::with_capacity(alloc, count)?;
+    let mut rows = ReferenceRows::with_capacity(alloc, count)?;
     for number in 0..count {
         let found = references_of(alloc, grammar, number)?;
-        everywhere.push_row(&found.everywhere)?;
-        outside.push_row(&found.outside)?;
+        rows.push_row(&found)?;
     }
-    Ok(ReferenceRows {
-        everywhere,
-        outside,
-    })
+    Ok(rows)
 }
 
 /// The places that have a mark.
@@ -169,7 +188,7 @@ pub(crate) fn settling_order(alloc: Global, grammar: &Grammar) -> Result<Settlin
     ensures order { IfOk result
         (λ s. IsSettlingOrder (grammar_view grammar.now) s.numbers.items) }
 {
-    let rows = all_references(alloc, grammar)?;
+    let rows = reference_rows(alloc, grammar)?;
     let numbers = reached_in_order(alloc, grammar, &rows)?;
     Ok(SettlingOrder {
         numbers,

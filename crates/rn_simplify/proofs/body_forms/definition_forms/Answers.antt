@@ -11,7 +11,7 @@ use Rattle.rn_pattern.specs.View.{pattern_view}
 use Rattle.rn_simplify.specs.inside.FormKinds.{becomes}
 use Rattle.rn_simplify.proofs.Simplified.Marks.{distinct_names, forms_more}
 use Rattle.rn_simplify.proofs.Simplified.FormedGrammar.{names_formed}
-use Rattle.rn_simplify.proofs.Simplified.Numbers.{size_of_view}
+use Rattle.rn_simplify.proofs.Simplified.DefinitionNumbers.{size_of_view}
 use Rattle.rn_simplify.proofs.Simplified.ReferenceGraph.{nothing}
 use Rattle.rn_simplify.proofs.body_forms.definition_forms.Goals as goal
 

@@ -2,7 +2,7 @@ use Rattle.std.proofs.Common.{◌≡◌, ◌∙◌, sym, subst, Some, arith}
 use Rattle.std.specs.Prelude.{IfSome}
 use Rattle.rn_assemble.specs.GrammarView.{definitions_view}
 use Rattle.rn_simplify.specs.inside.DefinitionNumbers.{number_of}
-use Rattle.rn_simplify.proofs.Simplified.Numbers.{number_is, size_of_view}
+use Rattle.rn_simplify.proofs.Simplified.DefinitionNumbers.{number_is, size_of_view}
 use Rattle.rn_simplify.proofs.Simplified.ReferenceGraph.{is_at}
 use Rattle.rn_simplify.proofs.definition_numbers.find_number.Goals as goal
 

@@ -3,7 +3,7 @@ use Rattle.std.specs.Cmp.Lexicographic.{bytes_decides}
 use Rattle.rn_assemble.specs.GrammarView.{definitions_view}
 use Rattle.rn_simplify.proofs.Simplified.Marks.{distinct_names}
 use Rattle.rn_simplify.proofs.Simplified.NumberedNames.{number_by_place}
-use Rattle.rn_simplify.proofs.Simplified.Numbers.{size_of_view}
+use Rattle.rn_simplify.proofs.Simplified.DefinitionNumbers.{size_of_view}
 use Rattle.rn_simplify.proofs.Simplified.ReferenceGraph.{nothing}
 use Rattle.rn_simplify.proofs.definition_numbers.is_named.Goals as goal
 

@@ -5,7 +5,7 @@ use Rattle.rn_assemble.specs.GrammarView.{definitions_view, grammar_view}
 use Rattle.rn_pattern.specs.Canonical.{canonical}
 use Rattle.rn_simplify.specs.inside.DefinitionNumbers.{AreSettled}
 use Rattle.rn_simplify.specs.inside.FormKinds.{becomes_by, kind_of}
-use Rattle.rn_simplify.proofs.Simplified.Numbers.{size_of_view}
+use Rattle.rn_simplify.proofs.Simplified.DefinitionNumbers.{size_of_view}
 use Rattle.rn_simplify.proofs.Simplified.ReferenceGraph.{nothing}
 use Rattle.rn_simplify.proofs.Simplified.SettledMore.{settled_more, settled_none}
 use Rattle.rn_simplify.proofs.evaluation.settle.Goals as goal

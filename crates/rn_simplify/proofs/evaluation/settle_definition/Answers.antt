@@ -3,7 +3,7 @@ use Rattle.rn_assemble.specs.Firsts.{AreFirsts, joined_members}
 use Rattle.rn_assemble.specs.GrammarView.{definitions_view}
 use Rattle.rn_simplify.specs.inside.FormKinds.{tree_kind, kind_at}
 use Rattle.rn_simplify.proofs.Simplified.FormKinds.{evaluated_is}
-use Rattle.rn_simplify.proofs.Simplified.Numbers.{size_of_view}
+use Rattle.rn_simplify.proofs.Simplified.DefinitionNumbers.{size_of_view}
 use Rattle.rn_simplify.proofs.Simplified.ReferenceGraph.{nothing}
 use Rattle.rn_simplify.proofs.evaluation.settle_definition.Goals as goal
 

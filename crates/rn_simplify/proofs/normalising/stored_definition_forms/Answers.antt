@@ -12,7 +12,7 @@ use Rattle.rn_simplify.specs.inside.FormKinds.{becomes_by}
 use Rattle.rn_simplify.proofs.Simplified.StoreIds.{keeps_then}
 use Rattle.rn_simplify.proofs.Simplified.Marks.{distinct_names, forms_more}
 use Rattle.rn_simplify.proofs.Simplified.FormedGrammar.{names_formed}
-use Rattle.rn_simplify.proofs.Simplified.Numbers.{size_of_view}
+use Rattle.rn_simplify.proofs.Simplified.DefinitionNumbers.{size_of_view}
 use Rattle.rn_simplify.proofs.Simplified.ReferenceGraph.{nothing}
 use Rattle.rn_simplify.proofs.normalising.stored_definition_forms.Goals as goal
 

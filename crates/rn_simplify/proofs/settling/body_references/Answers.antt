@@ -14,6 +14,6 @@ returns-in-Some c =
     let body = pattern_view c.args.body.now in
     let distinct = pattern_view c.in-Some.distinct.value in
     let same : AreSameButRepeats distinct body = subst (λ o. IfSome o (λ p. AreSameButRepeats (pattern_view p.value) body)) c.in-Some.is c.in_ok-distinct.ensures in
-    IfOk-weaker c.of.result _ _
+    IfOk-weaker c.pattern_references.result _ _
     (λ found h. references_alike ds distinct body found same (subst (λ p. AreReferenceNumbers ds (pattern_view p) found) c.deref.ensures h))
-    c.of.ensures
+    c.pattern_references.ensures

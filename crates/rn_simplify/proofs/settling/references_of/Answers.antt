@@ -3,7 +3,7 @@ use Rattle.std.proofs.lemmas.Result.{IfOk-weaker}
 use Rattle.rn_assemble.specs.Firsts.{AreFirsts, joined_members}
 use Rattle.rn_assemble.specs.GrammarView.{definitions_view}
 use Rattle.rn_simplify.specs.inside.ReferenceNumbers.{AreReferenceNumbers}
-use Rattle.rn_simplify.proofs.Simplified.Numbers.{size_of_view}
+use Rattle.rn_simplify.proofs.Simplified.DefinitionNumbers.{size_of_view}
 use Rattle.rn_simplify.proofs.Simplified.ReferenceGraph.{nothing}
 use Rattle.rn_simplify.proofs.settling.references_of.Goals as goal
 

@@ -15,6 +15,7 @@ use Rattle.rn_pattern.proofs.Ordered.PatternKinds.{group_seen, interleave_seen, 
 use Rattle.rn_assemble.specs.GrammarView.{definitions_view}
 use Rattle.rn_simplify.specs.inside.DefinitionNumbers.{number_of, numbers_of}
 use Rattle.rn_simplify.specs.inside.ReferredNames.{Reach, references, all_references}
+use Rattle.rn_simplify.specs.inside.ReferenceNumbers.{all_reference_numbers, reference_numbers}
 
 front_is : (es : List (String Global × Pattern)) (x : Text) → prefix_len (λ (k : String Global). not (bytes_eq x (string_bytes k))) (map (λ (e : String Global × Pattern). e.0) es) ≡ prefix_len (λ y. not (bytes_eq x y)) (map (λ (d : Text × Tree). d.0) (definitions_view es))
 front_is [] x = refl
@@ -40,8 +41,8 @@ module _ (es : List (String Global × Pattern)) (x : Text) where
   pub one_number : (k : ℕ) → places ≡ Some k → k ∷ [] ≡ numbers_of (definitions_view es) (x ∷ [])
   one_number k e = ap (λ o. cons_option o []) (sym e ∙ number_is es x)
 
-  pub not_numbered : (xs : List ℕ) → places ≡ None → xs ≡ xs ++ numbers_of (definitions_view es) (x ∷ [])
-  not_numbered xs e = sym (append-nil xs) ∙ ap (λ o. xs ++ cons_option o []) (sym e ∙ number_is es x)
+  pub not_numbered : places ≡ None → numbers_of (definitions_view es) (x ∷ []) ≡ []
+  not_numbered e = ap (λ o. cons_option o []) (sym (number_is es x) ∙ e)
 
 -- the references of a pattern that has members are theirs
 by_kind : (s : Reach) (p : Pattern) (v : Vec (Rc Pattern Global) Global) → (p ≡ variant.Group v) ⊎ ((p ≡ variant.Interleave v) ⊎ (p ≡ variant.Choice v)) → references s (pattern_view p) ≡ all_references s (trees_of (map shared_view v.items))
@@ -58,14 +59,10 @@ all_more s [] p = append-nil (references s p)
 all_more s (q ∷ ps) p = ap (λ xs. references s q ++ xs) (all_more s ps p) ∙ sym (append_assoc (references s q) (all_references s (trees_of ps)) (references s p))
 
 -- one more member
-pub numbers_more : (s : Reach) (ds : List (Text × Tree)) (members : List (Rc Pattern Global)) (i : ℕ) (r : Rc Pattern Global) (old now new : List ℕ) → i < length members → r ≡ get_or members i r
-    → now ≡ old ++ numbers_of ds (all_references s (trees_of (map shared_view (take i members))))
-    → new ≡ now ++ numbers_of ds (references s (shared_view r))
-    → new ≡ old ++ numbers_of ds (all_references s (trees_of (map shared_view (take (i + 1) members))))
-numbers_more s ds members i r old now new h is e f =
+pub numbers_more : (ds : List (Text × Tree)) (members : List (Rc Pattern Global)) (i : ℕ) (r : Rc Pattern Global) → i < length members → r ≡ get_or members i r
+    → (s : Reach) → all_reference_numbers ds (trees_of (map shared_view (take (i + 1) members))) s ≡ all_reference_numbers ds (trees_of (map shared_view (take i members))) s ++ reference_numbers ds (shared_view r) s
+numbers_more ds members i r h is s =
     let before = map shared_view (take i members) in
     let taken : map shared_view (take (i + 1) members) ≡ before ++ shared_view r ∷ [] = ap (map shared_view) (take_more members i r h ∙ ap (λ x. take i members ++ x ∷ []) (sym is)) ∙ map-append shared_view (take i members) (r ∷ []) in
-    f ∙ ap (λ xs. xs ++ numbers_of ds (references s (shared_view r))) e
-    ∙ append_assoc old (numbers_of ds (all_references s (trees_of before))) (numbers_of ds (references s (shared_view r)))
-    ∙ ap (λ xs. old ++ xs) (sym (filter_map-append (number_of ds) (all_references s (trees_of before)) (references s (shared_view r)))
-    ∙ ap (numbers_of ds) (sym (all_more s before (shared_view r)) ∙ ap (λ ps. all_references s (trees_of ps)) (sym taken)))
+    ap (numbers_of ds) (ap (λ ps. all_references s (trees_of ps)) taken ∙ all_more s before (shared_view r))
+    ∙ filter_map-append (number_of ds) (all_references s (trees_of before)) (references s (shared_view r))
