@@ -36,7 +36,6 @@ pub use assembly::{ShortGrammar, assemble, assemble_short};
 pub use grammar::Grammar;
 pub use instances::INSTANCE_LIMIT;
 pub use joined_grammar::Definitions;
-pub use references::Reach;
 pub use refusal::{Key, Refusal};
 pub use short_uris::{MAX_KEPT_URI, ShortUris};
 

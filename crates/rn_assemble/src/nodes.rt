@@ -7,6 +7,7 @@ ghost use Rattle.rn_pattern.specs.Tree.{trees_of};
 ghost use Rattle.rn_pattern.specs.View.{parameters_view, pattern_view, shared_view, boxed_view};
 
 use crate::constants::Constants;
+use rn_pattern::boxes::{new_box, new_shared};
 use rn_pattern::{Data, Pattern, Value};
 use std::alloc::{AllocError, Global};
 use std::rc::{Rc, RcStr};
@@ -16,20 +17,6 @@ pub(crate) fn copy_text(alloc: Global, text: &str) -> Result<String, AllocError>
     ensures { IfOk result (λ s. string_bytes s ≡ text.now) }
 {
     String::from_str(alloc, text)
-}
-
-/// A value in its box. It is of any type, since a pattern that a call may give back is costly to prove.
-pub(crate) fn new_box<T: Drop>(alloc: Global, value: T) -> Result<Box<T>, AllocError>
-    ensures { IfOk result (λ b. b.value ≡ value) }
-{
-    Ok(Box::new(alloc, value)?)
-}
-
-/// A value that can be shared.
-pub(crate) fn new_shared<T: Drop>(alloc: Global, value: T) -> Result<Rc<T>, AllocError>
-    ensures { IfOk result (λ r. r.value ≡ value) }
-{
-    Ok(Rc::new(alloc, value)?)
 }
 
 /// A pattern in its box.

@@ -7,7 +7,7 @@ ghost use Rattle.rn_assemble.specs.Components.{Component};
 ghost use Rattle.rn_syntax.specs.View.{pattern_view, patterns_view};
 ghost use Rattle.rn_assemble.specs.Combine.{joined_grammar};
 ghost use Rattle.rn_assemble.specs.Least.{IsLeast};
-ghost use Rattle.rn_assemble.specs.declared.references.Reach.TheVariants.{Everywhere, OutsideElements};
+ghost use Rattle.rn_pattern.specs.declared.references.Reach.TheVariants.{Everywhere, OutsideElements};
 ghost use Rattle.rn_assemble.specs.inside.Keyed.{IsFound};
 ghost use Rattle.rn_assemble.specs.inside.Referred.{AreAllReferences, AreBodiesAt, AreNumbers, IsFresh, IsLeastRecursive, IsLeastUndefined, IsLooked, KeepsLeast, all_references, lesser_text, names_within, number_within, reference_view, references, references_in};
 ghost use Rattle.rn_assemble.specs.inside.Views.{names_of};
@@ -18,20 +18,11 @@ ghost use Rattle.rn_assemble.specs.inside.Listed.{Lists, Live, OfKeys, component
 use crate::components::{Components, Near};
 use crate::keys::{Keys, START};
 use crate::refusal::Refusal;
-use rn_pattern::Rows;
 use rn_pattern::graph::{marked_rows, reached_nodes};
 use rn_pattern::ranks::least_looped;
+use rn_pattern::{NodeReferences, Reach, ReferenceRows};
 use rn_syntax::Pat;
 use std::alloc::{AllocError, Global};
-
-/// Which references of a pattern are meant (RELAX NG 2001, 4.18 and 4.19).
-#[derive(Clone, Copy, PartialEq, Eq)]
-pub enum Reach {
-    /// All references, those in elements too (4.18).
-    Everywhere,
-    /// Those alone that no element stands around (4.19).
-    OutsideElements,
-}
 
 /// A reference of a pattern: its name, and the narrowest reach that takes it in.
 #[derive(Clone, Copy)]
@@ -40,26 +31,12 @@ struct Reference<'s> {
     reach: Reach,
 }
 
-/// Of each key, the keys that its components refer to, and those that they refer to outside elements.
-#[derive(Drop)]
-pub(crate) struct References {
-    everywhere: Rows,
-    outside: Rows,
-}
-
-/// The keys that a key's components refer to, and those that they refer to outside elements.
-#[derive(Drop)]
-struct Row {
-    everywhere: Vec<usize>,
-    outside: Vec<usize>,
-}
-
 /// The references of all components. `Undefined` names the least name that is referred to and has no component.
 pub(crate) fn references_of<'s>(
     alloc: Global,
     keys: &Keys<'s>,
     components: &Components<'_, '_, 's>,
-) -> Result<References, Refusal>
+) -> Result<ReferenceRows, Refusal>
     ensures everywhere { IfOk result (λ r. IsGraph (rows_of r.everywhere)) }
     ensures everywhere_size { IfOk result (λ r. length (rows_of r.everywhere)
         ≡ length (names_of keys.now) + 1) }
@@ -73,8 +50,7 @@ pub(crate) fn references_of<'s>(
 {
     let mut looked: Vec<Option<usize>> = vec![in alloc; None; components.count_bodies()]?;
     let mut undefined = None;
-    let mut everywhere = Rows::with_capacity(alloc, keys.len())?;
-    let mut outside = Rows::with_capacity(alloc, keys.len())?;
+    let mut rows = ReferenceRows::with_capacity(alloc, keys.len())?;
     let mut near = Near::default();
     for key in 0..keys.len() {
         let bodies = bodies_of(alloc, components, key, &mut looked, &mut near)?;
@@ -86,15 +62,11 @@ pub(crate) fn references_of<'s>(
             references.as_slice(),
             &mut undefined,
         )?;
-        everywhere.push_row(&row.everywhere)?;
-        outside.push_row(&row.outside)?;
+        rows.push_row(&row)?;
     }
     match undefined {
         Some(name) => Err(undefined_name(alloc, name)),
-        None => Ok(References {
-            everywhere,
-            outside,
-        }),
+        None => Ok(rows),
     }
 }
 
@@ -215,7 +187,7 @@ fn row_of<'s>(
     components: &Components<'_, '_, 's>,
     references: &[Reference<'s>],
     undefined: &mut Option<&'s str>,
-) -> Result<Row, AllocError>
+) -> Result<NodeReferences, AllocError>
     ensures everywhere_within { IfOk result (λ row. AllBelow (length (names_of keys.now) + 1)
         row.everywhere.items) }
     ensures everywhere { IfOk result (λ row. AreNumbers (names_of keys.now)
@@ -228,34 +200,25 @@ fn row_of<'s>(
         (names_within Everywhere (map reference_view references.now))
         undefined.old undefined.new) }
 {
-    let mut row = Row {
-        everywhere: Vec::new(alloc),
-        outside: Vec::new(alloc),
-    };
+    let mut row = NodeReferences::new(alloc);
     for reference in references {
         let key = keys.find(reference.name);
-        row.add(key, reference.reach)?;
+        add_key(&mut row, key, reference.reach)?;
         *undefined = least_undefined(components, reference.name, key, *undefined);
     }
     Ok(row)
 }
 
-impl Row {
-    /// Adds the key of a name that a reference with this narrowest reach refers to, if the name has one.
-    fn add(&mut self, key: Option<usize>, reach: Reach) -> Result<(), AllocError>
-        ensures everywhere { OnOk result (self.new.everywhere.items
-            ≡ self.old.everywhere.items ++ number_within Everywhere reach key) }
-        ensures outside { OnOk result (self.new.outside.items
-            ≡ self.old.outside.items ++ number_within OutsideElements reach key) }
-    {
-        let Some(key) = key else {
-            return Ok(());
-        };
-        self.everywhere.push(key)?;
-        if reach == Reach::OutsideElements {
-            self.outside.push(key)?;
-        }
-        Ok(())
+/// Adds the key of a name that a reference with this narrowest reach refers to, if the name has one.
+fn add_key(row: &mut NodeReferences, key: Option<usize>, reach: Reach) -> Result<(), AllocError>
+    ensures everywhere { OnOk result (row.new.everywhere.items
+        ≡ row.old.everywhere.items ++ number_within Everywhere reach key) }
+    ensures outside { OnOk result (row.new.outside.items
+        ≡ row.old.outside.items ++ number_within OutsideElements reach key) }
+{
+    match key {
+        Some(key) => row.add(key, reach),
+        None => Ok(()),
     }
 }
 
@@ -302,7 +265,7 @@ pub(crate) fn lesser_name<'s>(held: Option<&'s str>, other: &'s str) -> &'s str
 /// The least key that start reaches and that comes back to itself by references outside elements.
 pub(crate) fn least_recursive(
     alloc: Global,
-    references: &References,
+    references: &ReferenceRows,
 ) -> Result<Option<usize>, AllocError>
     requires everywhere { IsGraph (rows_of references.now.everywhere) }
     requires some { 0 < length (rows_of references.now.everywhere) }

@@ -14,9 +14,10 @@ ghost use Rattle.rn_assemble.specs.Resolve as resolve;
 use crate::constants::Constants;
 use crate::context::Context;
 use crate::nodes::{
-    choice, copy_text, group, interleave, list, mixed_pattern, new_box, new_member, one_or_more,
+    choice, copy_text, group, interleave, list, mixed_pattern, new_member, one_or_more,
     optional_pattern, reference, typed_datum, typed_value,
 };
+use rn_pattern::boxes::new_box;
 use rn_pattern::{NameClass, Pattern};
 use rn_syntax::{AnyName, Data, Datatype, Name, Nc, Operator, Param, Pat, Postfix, Value};
 use std::alloc::{AllocError, Global};

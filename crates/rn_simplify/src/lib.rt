@@ -6,7 +6,6 @@
 #![tactic(auto)]
 
 mod body_forms;
-mod boxes;
 mod class_text;
 mod declared_prefixes;
 mod definition_numbers;

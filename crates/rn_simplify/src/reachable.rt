@@ -8,7 +8,7 @@ ghost use Rattle.rn_pattern.specs.Reached.{IsPruned};
 ghost use Rattle.rn_pattern.specs.View.{pattern_view};
 ghost use Rattle.rn_simplify.specs.inside.MarkedElements.{marked_elements};
 ghost use Rattle.rn_simplify.specs.inside.DefinitionNumbers.{MarksReached, rows_by};
-ghost use Rattle.rn_assemble.specs.declared.references.Reach.TheVariants.{Everywhere};
+ghost use Rattle.rn_pattern.specs.declared.references.Reach.TheVariants.{Everywhere};
 
 use crate::reference_numbers::referred_numbers;
 use crate::settled_definitions::SettledDefinitions;

@@ -1,66 +1,28 @@
 // The references of a pattern, as the numbers of the definitions in their order (RELAX NG 2001, 4.18 and 4.19).
-ghost use Rattle.std.specs.Prelude.{◌≡◌, ◌∷◌, ◌++◌, [], IfOk, OnOk, map};
+ghost use Rattle.std.specs.Prelude.{◌≡◌, ◌∷◌, [], IfOk, OnOk, map};
 ghost use Rattle.rn_assemble.specs.GrammarView.{definitions_view};
 ghost use Rattle.rn_pattern.specs.Tree.{trees_of};
 ghost use Rattle.rn_pattern.specs.View.{pattern_view, shared_view};
 ghost use Rattle.rn_simplify.specs.inside.DefinitionNumbers.{numbers_of};
 ghost use Rattle.rn_simplify.specs.inside.ReferenceNumbers.{AddsNumbers, AreReferenceNumbers, all_reference_numbers, reference_numbers};
-ghost use Rattle.rn_assemble.specs.declared.references.Reach.TheVariants.{Everywhere, OutsideElements};
+ghost use Rattle.rn_pattern.specs.declared.references.Reach.TheVariants.{Everywhere, OutsideElements};
 
 use crate::definition_numbers::find_number;
-use rn_assemble::{Definitions, Reach};
-use rn_pattern::Pattern;
+use rn_assemble::Definitions;
+use rn_pattern::{NodeReferences, Pattern, Reach};
 use std::alloc::{AllocError, Global};
 use std::rc::Rc;
-
-/// The definitions that a pattern refers to, by their numbers. Names that have no definition are passed over.
-#[derive(Drop)]
-pub(crate) struct References {
-    pub(crate) everywhere: Vec<usize>,
-    /// Those outside elements, which stand in `everywhere` too.
-    pub(crate) outside: Vec<usize>,
-}
-
-impl References {
-    /// No references yet.
-    fn new(alloc: Global) -> References
-        ensures everywhere { result.everywhere.items ≡ [] }
-        ensures outside { result.outside.items ≡ [] }
-    {
-        References {
-            everywhere: Vec::new(alloc),
-            outside: Vec::new(alloc),
-        }
-    }
-
-    /// Adds a reference to the definition with a number, where `reach` is the narrowest reach that takes the reference in.
-    fn add(&mut self, number: usize, reach: Reach) -> Result<(), AllocError>
-        ensures everywhere { OnOk result (self.new.everywhere.items
-            ≡ self.old.everywhere.items ++ number ∷ []) }
-        ensures outside { reach ≡ OutsideElements
-            → OnOk result (self.new.outside.items ≡ self.old.outside.items ++ number ∷ []) }
-        ensures inside { reach ≡ Everywhere
-            → OnOk result (self.new.outside.items ≡ self.old.outside.items) }
-    {
-        self.everywhere.push(number)?;
-        match reach {
-            Reach::Everywhere => {}
-            Reach::OutsideElements => self.outside.push(number)?,
-        }
-        Ok(())
-    }
-}
 
 /// The definitions that a pattern which stands outside elements refers to. Names that have no definition are passed over.
 pub(crate) fn pattern_references(
     alloc: Global,
     definitions: &Definitions,
     pattern: &Pattern,
-) -> Result<References, AllocError>
+) -> Result<NodeReferences, AllocError>
     ensures { IfOk result (AreReferenceNumbers (definitions_view definitions.now.entries)
         (pattern_view pattern.now)) }
 {
-    let mut found = References::new(alloc);
+    let mut found = NodeReferences::new(alloc);
     add_pattern(
         &mut found,
         definitions,
@@ -82,7 +44,7 @@ pub(crate) fn referred_numbers(
     ensures { IfOk result (λ v. v.items ≡ reference_numbers
         (definitions_view definitions.now.entries) (pattern_view pattern.now) Everywhere) }
 {
-    let mut found = References::new(alloc);
+    let mut found = NodeReferences::new(alloc);
     add_pattern(
         &mut found,
         definitions,
@@ -97,7 +59,7 @@ pub(crate) fn referred_numbers(
 /// numbers are tried first.
 #[cycle(add_pattern)]
 fn add_pattern(
-    found: &mut References,
+    found: &mut NodeReferences,
     definitions: &Definitions,
     likely_numbers: &[usize],
     pattern: &Pattern,
@@ -137,7 +99,7 @@ fn add_pattern(
 /// likely numbers are tried first.
 #[cycle(add_pattern)]
 fn add_patterns(
-    found: &mut References,
+    found: &mut NodeReferences,
     definitions: &Definitions,
     likely_numbers: &[usize],
     members: &[Rc<Pattern>],
@@ -155,7 +117,7 @@ fn add_patterns(
 
 /// Adds the reference to a name, if it has a definition.
 fn add_name(
-    found: &mut References,
+    found: &mut NodeReferences,
     definitions: &Definitions,
     likely_numbers: &[usize],
     name: &str,

@@ -1,5 +1,5 @@
 // The definitions of a grammar in an order in which each comes after those that it refers to outside elements (RELAX NG 2001, 4.19).
-ghost use Rattle.std.specs.Prelude.{◌≡◌, ◌<◌, ◌∷◌, ◌++◌, [], IfOk, OnOk, length, slice_index_or, string_bytes};
+ghost use Rattle.std.specs.Prelude.{◌≡◌, ◌<◌, [], IfOk, length, slice_index_or, string_bytes};
 ghost use Rattle.rn_pattern.specs.Graph.{AllBelow, IsGraph, rows_of};
 ghost use Rattle.rn_pattern.specs.Ranks.{HasNoLoop, IsRanking};
 ghost use Rattle.rn_assemble.specs.GrammarView.{definitions_view, grammar_view};
@@ -13,12 +13,12 @@ ghost use Rattle.rn_pattern.specs.Canonical.{HaveSameMembers};
 ghost use Rattle.rn_simplify.specs.inside.SettlingOrder.{IsSettlingOrder};
 ghost use Rattle.rn_simplify.specs.inside.Repeats.{AreFirstsOf};
 
-use crate::reference_numbers::{References, pattern_references};
+use crate::reference_numbers::pattern_references;
 use crate::repeated_members::without_repeats;
 use rn_assemble::{Definitions, Grammar};
 use rn_pattern::graph::{marked_rows, reached_nodes};
 use rn_pattern::ranks::{Order, ranks};
-use rn_pattern::{Pattern, Rows};
+use rn_pattern::{NodeReferences, Pattern, ReferenceRows, Rows};
 use std::alloc::{AllocError, Global};
 
 /// The name of the definition with a number.
@@ -47,7 +47,7 @@ fn body_references(
     definitions: &Definitions,
     body: &Pattern,
     firsts: &[u32],
-) -> Result<References, AllocError>
+) -> Result<NodeReferences, AllocError>
     requires { AreFirstsOf firsts.now body.now }
     ensures { IfOk result (AreReferenceNumbers (definitions_view definitions.now.entries)
         (pattern_view body.now)) }
@@ -59,7 +59,11 @@ fn body_references(
 }
 
 /// The references of the definition with a number.
-fn references_of(alloc: Global, grammar: &Grammar, number: usize) -> Result<References, AllocError>
+fn references_of(
+    alloc: Global,
+    grammar: &Grammar,
+    number: usize,
+) -> Result<NodeReferences, AllocError>
     requires { number < length (grammar_view grammar.now).definitions }
     ensures { IfOk result (λ found. (d : Text × Tree)
         → AreReferenceNumbers (grammar_view grammar.now).definitions
@@ -72,37 +76,6 @@ fn references_of(alloc: Global, grammar: &Grammar, number: usize) -> Result<Refe
         body_of(definitions, number),
         grammar.firsts(number),
     )
-}
-
-/// The references of all definitions, each by its number.
-#[derive(Drop)]
-struct ReferenceRows {
-    everywhere: Rows,
-    outside: Rows,
-}
-
-impl ReferenceRows {
-    /// No rows yet, with the memory to end so many.
-    fn with_capacity(alloc: Global, count: usize) -> Result<ReferenceRows, AllocError>
-        ensures everywhere { IfOk result (λ rows. rows_of rows.everywhere ≡ []) }
-        ensures outside { IfOk result (λ rows. rows_of rows.outside ≡ []) }
-    {
-        Ok(ReferenceRows {
-            everywhere: Rows::with_capacity(alloc, count)?,
-            outside: Rows::with_capacity(alloc, count)?,
-        })
-    }
-
-    /// Adds the references of the next definition.
-    fn push_row(&mut self, references: &References) -> Result<(), AllocError>
-        ensures everywhere { OnOk result (rows_of self.new.everywhere
-            ≡ rows_of self.old.everywhere ++ references.now.everywhere.items ∷ []) }
-        ensures outside { OnOk result (rows_of self.new.outside
-            ≡ rows_of self.old.outside ++ references.now.outside.items ∷ []) }
-    {
-        self.everywhere.push_row(&references.everywhere)?;
-        self.outside.push_row(&references.outside)
-    }
 }
 
 /// The references of the definitions.

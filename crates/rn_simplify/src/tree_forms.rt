@@ -10,10 +10,10 @@ ghost use Rattle.rn_simplify.specs.inside.Contents.{content_of, form_or, is_leaf
 ghost use Rattle.rn_simplify.specs.inside.ListParts.{members_step, parts, parts_of};
 ghost use Rattle.rn_simplify.specs.inside.FormKinds.{becomes, settled_form, settled_forms};
 
-use crate::boxes::{new_box, new_shared};
 use crate::form_kind::FormKind;
 use crate::list_kind::ListKind;
 use crate::settled_definitions::SettledDefinitions;
+use rn_pattern::boxes::{new_box, new_shared};
 use rn_pattern::steps::{attribute_over, datum_over, element_over, list_over, one_or_more_over};
 use rn_pattern::{NameClass, Pattern};
 use std::alloc::{AllocError, Global};

@@ -22,8 +22,8 @@ use Rattle.rn_assemble.specs.Combine.{bodies, of_key, method_node, joined_patter
 use Rattle.rn_assemble.specs.inside.Keyed.{IsNameNumber, key_at}
 use Rattle.rn_assemble.specs.inside.Listed.{Live, IsBody, IsLive, ListsBy, components_in}
 use Rattle.rn_assemble.specs.inside.Referred.{AreBodiesAt, names_within, references, references_at, within}
-use Rattle.rn_assemble.specs.declared.references.Reach.{Reach}
-use Rattle.rn_assemble.specs.declared.references.Reach.TheVariants.{OutsideElements}
+use Rattle.rn_pattern.specs.declared.references.Reach.{Reach}
+use Rattle.rn_pattern.specs.declared.references.Reach.TheVariants.{OutsideElements}
 use Rattle.rn_assemble.specs.declared.bodies.Body.{Body}
 use Rattle.rn_assemble.proofs.Combined.Combinations.{some_joined, joined_definition}
 use Rattle.rn_assemble.proofs.Expansion.LiveLists.{each_filtered}

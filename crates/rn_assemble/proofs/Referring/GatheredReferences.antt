@@ -20,7 +20,7 @@ use Rattle.rn_assemble.specs.inside.Keyed.{IsNameNumber, key_at}
 use Rattle.rn_assemble.specs.Least.{IsLeast}
 use Rattle.rn_assemble.specs.inside.Listed.{Live, ListsBy, components_in}
 use Rattle.rn_assemble.specs.inside.Referred.{AreAllReferences, AreBodiesAt, AreNumbers, IsLeastOf, names_within, references_at}
-use Rattle.rn_assemble.specs.declared.references.Reach.TheVariants.{Everywhere, OutsideElements}
+use Rattle.rn_pattern.specs.declared.references.Reach.TheVariants.{Everywhere, OutsideElements}
 use Rattle.rn_assemble.specs.declared.bodies.Body.{Body}
 use Rattle.rn_assemble.proofs.Referring.JoinedReferences.{refers_of_joined, refers_to_joined, refers_in_definition, outside_of_joined, outside_to_joined, outside_anywhere}
 use Rattle.rn_assemble.proofs.Referring.WrittenReferences.{referred, referred_outside}

@@ -18,8 +18,8 @@ use Rattle.rn_assemble.specs.inside.Keyed.{IsFound, IsNameNumber}
 use Rattle.rn_assemble.specs.inside.Referred.{AreNumbers, IsLeastOf, KeepsLeast, lesser_text, names_within, number_within, reference_view, within}
 use Rattle.rn_assemble.specs.inside.Views.{texts_of}
 use Rattle.rn_assemble.specs.declared.components.Components.{Components}
-use Rattle.rn_assemble.specs.declared.references.Reach.{Reach}
-use Rattle.rn_assemble.specs.declared.references.Reach.TheVariants.{Everywhere, OutsideElements}
+use Rattle.rn_pattern.specs.declared.references.Reach.{Reach}
+use Rattle.rn_pattern.specs.declared.references.Reach.TheVariants.{Everywhere, OutsideElements}
 use Rattle.rn_assemble.specs.declared.references.Reference.{Reference}
 use Rattle.rn_assemble.proofs.Referring.KeyNumbers.{not_itself}
 

@@ -22,8 +22,8 @@ use Rattle.rn_assemble.specs.Least.{IsLeast}
 use Rattle.rn_assemble.specs.inside.Listed.{Live, Lists, components_in}
 use Rattle.rn_assemble.specs.declared.bodies.Body.{Body}
 use Rattle.rn_assemble.specs.declared.components.Components.{Components}
-use Rattle.rn_assemble.specs.declared.references.Reach.{Reach}
-use Rattle.rn_assemble.specs.declared.references.Reach.TheVariants.{Everywhere, OutsideElements}
+use Rattle.rn_pattern.specs.declared.references.Reach.{Reach}
+use Rattle.rn_pattern.specs.declared.references.Reach.TheVariants.{Everywhere, OutsideElements}
 use Rattle.rn_assemble.specs.declared.references.Reference.{Reference}
 use Rattle.rn_assemble.specs.declared.refusal.Refusal.{Refusal}
 use Rattle.rn_assemble.specs.declared.refusal.Refusal.TheVariants as r

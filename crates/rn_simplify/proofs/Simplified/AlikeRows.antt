@@ -7,7 +7,7 @@ use Rattle.rn_simplify.specs.inside.DefinitionNumbers.{graph_of, start_of}
 use Rattle.rn_simplify.specs.inside.ReferredNames.{references}
 use Rattle.rn_simplify.specs.inside.ReferenceNumbers.{AreRows}
 use Rattle.rn_pattern.specs.Canonical.{HaveSameMembers}
-use Rattle.rn_assemble.specs.declared.references.Reach.TheVariants.{Everywhere}
+use Rattle.rn_pattern.specs.declared.references.Reach.TheVariants.{Everywhere}
 use Rattle.rn_simplify.proofs.Simplified.ReferenceGraph.{numbers_below, row_within, rows_graph, rows_size}
 
 -- a node is reached in a graph that has all edges and first nodes of another

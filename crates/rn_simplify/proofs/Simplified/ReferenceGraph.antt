@@ -14,7 +14,7 @@ use Rattle.rn_pattern.specs.Reached.{IsReached, by_start, by_definition}
 use Rattle.rn_pattern.specs.Graph.{AllBelow, IsGraph, Reached, at_first, along, row}
 use Rattle.rn_simplify.specs.inside.DefinitionNumbers.{graph_of, number_of, numbers_of, rows_by, start_of}
 use Rattle.rn_simplify.specs.inside.ReferredNames.{Reach, references}
-use Rattle.rn_assemble.specs.declared.references.Reach.TheVariants.{Everywhere}
+use Rattle.rn_pattern.specs.declared.references.Reach.TheVariants.{Everywhere}
 use Rattle.rn_simplify.proofs.Simplified.ReferredIn.{contains_none, refers_in, in_refers, mapped_in, source_of}
 
 -- what stands for a definition that is not there

@@ -27,8 +27,8 @@ use Rattle.rn_simplify.specs.inside.ReferredNames.{Reach, references, all_refere
 use Rattle.rn_simplify.specs.inside.ReferenceNumbers.{AreReferenceNumbers}
 use Rattle.rn_simplify.specs.inside.Repeats.{AreSameButRepeats, choices, interleaves}
 use Rattle.rn_simplify.specs.inside.FormKinds.{both, either, tree_kind, group_kind, choice_kind}
-use Rattle.rn_assemble.specs.declared.references.Reach.TheVariants.{Everywhere, OutsideElements}
-use Rattle.rn_simplify.specs.declared.reference_numbers.References.{References}
+use Rattle.rn_pattern.specs.declared.references.Reach.TheVariants.{Everywhere, OutsideElements}
+use Rattle.rn_pattern.specs.declared.references.NodeReferences.{NodeReferences}
 use Rattle.rn_simplify.specs.declared.form_kind.FormKind.{FormKind}
 use Rattle.rn_simplify.proofs.Simplified.FormKinds.{around_twice, both_assoc, either_assoc, either_twice}
 use Rattle.rn_simplify.proofs.Simplified.ReferredIn.{contains_none, mapped_in, source_of}
@@ -160,7 +160,7 @@ same_then : {X : Type 0} (xs ys zs : List X) → HaveSameMembers xs ys → HaveS
 same_then xs ys zs h k x = (λ c. (k x).0 ((h x).0 c), λ c. (h x).1 ((k x).1 c))
 
 -- the references of a list without repeats are those of the list
-pub references_alike : (ds : List (Text × Tree)) (p q : Tree) (found : References) → AreSameButRepeats p q → AreReferenceNumbers ds p found → AreReferenceNumbers ds q found
+pub references_alike : (ds : List (Text × Tree)) (p q : Tree) (found : NodeReferences) → AreSameButRepeats p q → AreReferenceNumbers ds p found → AreReferenceNumbers ds q found
 references_alike ds p q found same are =
     let alike = λ (s : Reach). numbers_alike ds (references s p) (references s q) (references_same s p q same) in
     record { everywhere = same_then _ _ _ are.everywhere (alike Everywhere); outside = same_then _ _ _ are.outside (alike OutsideElements) }

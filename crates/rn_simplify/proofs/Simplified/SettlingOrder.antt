@@ -24,7 +24,7 @@ use Rattle.rn_simplify.specs.inside.ReferredNames.{references}
 use Rattle.rn_simplify.specs.inside.ReferenceNumbers.{AreRows}
 use Rattle.rn_pattern.specs.Canonical.{HaveSameMembers}
 use Rattle.rn_simplify.specs.inside.SettlingOrder.{IsSettlingOrder}
-use Rattle.rn_assemble.specs.declared.references.Reach.TheVariants.{OutsideElements}
+use Rattle.rn_pattern.specs.declared.references.Reach.TheVariants.{OutsideElements}
 use Rattle.rn_simplify.proofs.Simplified.Forms.{found_in}
 use Rattle.rn_assemble.proofs.Referring.JoinedReferences.{outside_anywhere}
 use Rattle.rn_simplify.proofs.Simplified.ReferredIn.{contains_none, outside_in, in_outside, mapped_in, source_of}

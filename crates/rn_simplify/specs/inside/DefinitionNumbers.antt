@@ -8,7 +8,7 @@ use Rattle.rn_pattern.specs.Matching.{Grammar}
 use Rattle.rn_pattern.specs.Graph.{Reached, is_marked}
 use Rattle.rn_pattern.specs.Canonical.{canonical, ref_unless_settled}
 use Rattle.rn_simplify.specs.inside.ReferredNames.{Reach, references}
-use Rattle.rn_assemble.specs.declared.references.Reach.TheVariants.{Everywhere}
+use Rattle.rn_pattern.specs.declared.references.Reach.TheVariants.{Everywhere}
 
 -- the place of the name's definition
 abbrev pub number_of : List (Text × Tree) → Text → Option ℕ

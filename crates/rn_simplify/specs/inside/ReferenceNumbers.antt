@@ -7,8 +7,8 @@ use Rattle.rn_pattern.specs.Matching.{Grammar}
 use Rattle.rn_simplify.specs.inside.DefinitionNumbers.{graph_of, numbers_of, rows_by}
 use Rattle.rn_simplify.specs.inside.ReferredNames.{Reach, all_references, references}
 use Rattle.rn_pattern.specs.Canonical.{HaveSameMembers}
-use Rattle.rn_simplify.specs.declared.reference_numbers.References.{References}
-use Rattle.rn_assemble.specs.declared.references.Reach.TheVariants.{Everywhere, OutsideElements}
+use Rattle.rn_pattern.specs.declared.references.NodeReferences.{NodeReferences}
+use Rattle.rn_pattern.specs.declared.references.Reach.TheVariants.{Everywhere, OutsideElements}
 
 -- the numbers of the definitions that a pattern refers to
 abbrev pub reference_numbers : List (Text × Tree) → Tree → Reach → List ℕ
@@ -19,13 +19,13 @@ abbrev pub all_reference_numbers : List (Text × Tree) → Trees → Reach → L
 all_reference_numbers ds ps reach = numbers_of ds (all_references reach ps)
 
 -- what was found is what a pattern refers to
-pub record AreReferenceNumbers (ds : List (Text × Tree)) (p : Tree) (found : References) : Type 0 where
+pub record AreReferenceNumbers (ds : List (Text × Tree)) (p : Tree) (found : NodeReferences) : Type 0 where
   pub everywhere : HaveSameMembers found.everywhere.items (reference_numbers ds p Everywhere)
   pub outside : HaveSameMembers found.outside.items (reference_numbers ds p OutsideElements)
 
 -- the numbers of each reach are added; of a pattern that stands in an element (where reach is Everywhere) none is outside
 -- elements
-pub record AddsNumbers (numbers : Reach → List ℕ) (reach : Reach) (old new : References) : Type 0 where
+pub record AddsNumbers (numbers : Reach → List ℕ) (reach : Reach) (old new : NodeReferences) : Type 0 where
   pub everywhere : new.everywhere.items ≡ old.everywhere.items ++ numbers Everywhere
   pub outside : reach ≡ OutsideElements → new.outside.items ≡ old.outside.items ++ numbers OutsideElements
   pub inside : reach ≡ Everywhere → new.outside.items ≡ old.outside.items

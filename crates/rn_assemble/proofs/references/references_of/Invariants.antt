@@ -12,12 +12,12 @@ use Rattle.rn_assemble.proofs.references.references_of.Given as goal
 
 abbrev pub invariant-loop-key : goal.invariant-loop-key
 invariant-loop-key l = record {
-  everywhere : AreRows (length (names_of l.keys) + 1) (rows_of l.everywhere);
-  everywhere_size : length (rows_of l.everywhere) ≡ l.key;
-  outside : AreRows (length (names_of l.keys) + 1) (rows_of l.outside);
-  outside_size : length (rows_of l.outside) ≡ l.key;
+  everywhere : AreRows (length (names_of l.keys) + 1) (rows_of l.rows.everywhere);
+  everywhere_size : length (rows_of l.rows.everywhere) ≡ l.key;
+  outside : AreRows (length (names_of l.keys) + 1) (rows_of l.rows.outside);
+  outside_size : length (rows_of l.rows.outside) ≡ l.key;
   looked : length l.looked.items ≡ length l.components.bodies;
   fresh : IsFresh l.key l.looked.items;
   gathered : (live : List Live) → Lists (names_of l.keys) l.components live → IsStrictlySortedBy text_cmp (names_of l.keys)
-      → Gathered (names_of l.keys) (components_in live) (rows_of l.everywhere) (rows_of l.outside) l.key (option_map (λ s. s.now) l.undefined);
+      → Gathered (names_of l.keys) (components_in live) (rows_of l.rows.everywhere) (rows_of l.rows.outside) l.key (option_map (λ s. s.now) l.undefined);
 }

@@ -5,17 +5,17 @@ use Rattle.rn_pattern.proofs.Graphs.BuiltRows.{none_below}
 use Rattle.rn_pattern.specs.Graph.{AllBelow}
 use Rattle.rn_assemble.specs.inside.Referred.{AreNumbers, KeepsLeast, names_within, reference_view, within}
 use Rattle.rn_assemble.specs.inside.Views.{names_of}
-use Rattle.rn_assemble.specs.declared.references.Reach.{Reach}
-use Rattle.rn_assemble.specs.declared.references.Reach.TheVariants.{Everywhere, OutsideElements}
+use Rattle.rn_pattern.specs.declared.references.Reach.{Reach}
+use Rattle.rn_pattern.specs.declared.references.Reach.TheVariants.{Everywhere, OutsideElements}
 use Rattle.rn_assemble.proofs.Referring.LeastUndefined.{below_within, keeps_both, keeps_none, names_more, no_numbers, no_reference, number_found}
 use Rattle.rn_assemble.proofs.references.row_of.Goals as goal
 
 pub loop-reference-init : goal.loop-reference-init
 loop-reference-init c = record {
-  everywhere_within = rw c.new.ensures.items (none_below _);
-  everywhere = rw c.new.ensures.items (no_numbers _);
-  outside_within = rw c.new-2.ensures.items (none_below _);
-  outside = rw c.new-2.ensures.items (no_numbers _);
+  everywhere_within = rw c.new-row.ensures.everywhere (none_below _);
+  everywhere = rw c.new-row.ensures.everywhere (no_numbers _);
+  outside_within = rw c.new-row.ensures.outside (none_below _);
+  outside = rw c.new-row.ensures.outside (no_numbers _);
   least = keeps_none (names_of c.args.keys.now) c.args.components.now c.args.undefined.now;
 }
 
@@ -32,12 +32,12 @@ loop-reference-preserved c =
     let before = λ (meant : Reach). names_within meant (map reference_view (take i rs)) in
     let more = λ (meant : Reach). sym (names_more meant rs i c.loop-reference-test.true) in
     record {
-      everywhere_within = subst (AllBelow (length names + 1)) (sym c.in_ok-add.ensures.everywhere) (below_within _ everywhere Everywhere r.reach o inv.everywhere_within c.find-key.ensures.within);
-      everywhere = subst (λ ts. AreNumbers names ts c.add.new.self.everywhere.items) (more Everywhere)
-          (subst (AreNumbers names (before Everywhere ++ r.name.now ∷ [])) (sym c.in_ok-add.ensures.everywhere) (number_found names _ everywhere r.name.now inv.everywhere Everywhere r.reach o c.find-key.ensures.found));
-      outside_within = subst (AllBelow (length names + 1)) (sym c.in_ok-add.ensures.outside) (below_within _ outside OutsideElements r.reach o inv.outside_within c.find-key.ensures.within);
-      outside = subst (λ ts. AreNumbers names ts c.add.new.self.outside.items) (more OutsideElements)
-          (subst (AreNumbers names (before OutsideElements ++ within OutsideElements r.reach r.name.now)) (sym c.in_ok-add.ensures.outside) (number_found names _ outside r.name.now inv.outside OutsideElements r.reach o c.find-key.ensures.found));
+      everywhere_within = subst (AllBelow (length names + 1)) (sym c.in_ok-add_key.ensures.everywhere) (below_within _ everywhere Everywhere r.reach o inv.everywhere_within c.find-key.ensures.within);
+      everywhere = subst (λ ts. AreNumbers names ts c.add_key.new.row.everywhere.items) (more Everywhere)
+          (subst (AreNumbers names (before Everywhere ++ r.name.now ∷ [])) (sym c.in_ok-add_key.ensures.everywhere) (number_found names _ everywhere r.name.now inv.everywhere Everywhere r.reach o c.find-key.ensures.found));
+      outside_within = subst (AllBelow (length names + 1)) (sym c.in_ok-add_key.ensures.outside) (below_within _ outside OutsideElements r.reach o inv.outside_within c.find-key.ensures.within);
+      outside = subst (λ ts. AreNumbers names ts c.add_key.new.row.outside.items) (more OutsideElements)
+          (subst (AreNumbers names (before OutsideElements ++ within OutsideElements r.reach r.name.now)) (sym c.in_ok-add_key.ensures.outside) (number_found names _ outside r.name.now inv.outside OutsideElements r.reach o c.find-key.ensures.found));
       least = subst (λ ts. KeepsLeast names c.args.components.now ts c.args.undefined.now c.least_undefined.result) (more Everywhere)
           (keeps_both names c.args.components.now (before Everywhere) (r.name.now ∷ []) _ _ _ inv.least (c.least_undefined.ensures names c.find-key.ensures.found));
     }

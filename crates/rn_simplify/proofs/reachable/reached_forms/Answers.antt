@@ -7,7 +7,7 @@ use Rattle.rn_pattern.specs.Graph.{IsGraph, Reached, is_marked, rows_of}
 use Rattle.rn_assemble.specs.GrammarView.{definitions_view}
 use Rattle.rn_simplify.specs.inside.DefinitionNumbers.{graph_of, start_of, rows_by}
 use Rattle.rn_simplify.specs.inside.ReferredNames.{references}
-use Rattle.rn_assemble.specs.declared.references.Reach.TheVariants.{Everywhere}
+use Rattle.rn_pattern.specs.declared.references.Reach.TheVariants.{Everywhere}
 use Rattle.rn_simplify.proofs.Simplified.ReferenceGraph.{rows_graph, rows_size, numbers_below}
 use Rattle.rn_simplify.proofs.Simplified.PrunedForms.{rows_same, numbers_same}
 use Rattle.rn_simplify.proofs.reachable.reached_forms.Goals as goal

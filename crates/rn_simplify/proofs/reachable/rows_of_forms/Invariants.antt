@@ -2,7 +2,7 @@ use Rattle.std.proofs.Common.{◌≡◌, take}
 use Rattle.rn_pattern.specs.Graph.{rows_of}
 use Rattle.rn_assemble.specs.GrammarView.{definitions_view}
 use Rattle.rn_simplify.specs.inside.DefinitionNumbers.{rows_by}
-use Rattle.rn_assemble.specs.declared.references.Reach.TheVariants.{Everywhere}
+use Rattle.rn_pattern.specs.declared.references.Reach.TheVariants.{Everywhere}
 use Rattle.rn_simplify.proofs.reachable.rows_of_forms.Given as goal
 
 abbrev pub invariant-loop-form : goal.invariant-loop-form

@@ -4,7 +4,7 @@ use Rattle.rn_pattern.specs.Graph.{row, rows_of}
 use Rattle.rn_simplify.specs.inside.DefinitionNumbers.{graph_of, rows_by}
 use Rattle.rn_simplify.specs.inside.ReferenceNumbers.{AreRows}
 use Rattle.rn_pattern.specs.Canonical.{HaveSameMembers}
-use Rattle.rn_assemble.specs.declared.references.Reach.TheVariants.{Everywhere, OutsideElements}
+use Rattle.rn_pattern.specs.declared.references.Reach.TheVariants.{Everywhere, OutsideElements}
 use Rattle.rn_simplify.proofs.Simplified.Marks.{no_rows, more_rows}
 use Rattle.rn_simplify.proofs.Simplified.DefinitionNumbers.{size_of_view}
 use Rattle.rn_simplify.proofs.Simplified.ReferenceGraph.{nothing, row_is}

@@ -2,7 +2,7 @@ use Rattle.rn_assemble.specs.GrammarView.{grammar_view}
 use Rattle.rn_pattern.specs.Graph.{row, rows_of}
 use Rattle.rn_simplify.specs.inside.DefinitionNumbers.{graph_of, rows_by}
 use Rattle.rn_simplify.specs.inside.ReferenceNumbers.{AreRows}
-use Rattle.rn_assemble.specs.declared.references.Reach.TheVariants.{OutsideElements}
+use Rattle.rn_pattern.specs.declared.references.Reach.TheVariants.{OutsideElements}
 use Rattle.rn_simplify.proofs.settling.reference_rows.Given as goal
 
 abbrev pub invariant-loop-number : goal.invariant-loop-number
