@@ -1,10 +1,10 @@
 // The kind of form of each definition of a grammar, by its body and by those that the body refers to outside elements.
-ghost use Rattle.std.specs.Prelude.{◌≡◌, ◌<◌, ℕ, IfOk, OnOk, length, map, slice_index_or, slice_set};
+ghost use Rattle.std.specs.Prelude.{◌≡◌, ◌<◌, ℕ, IfOk, OnOk, length, slice_index_or, slice_set};
 ghost use Rattle.rn_assemble.specs.GrammarView.{definitions_view, grammar_view};
 ghost use Rattle.rn_pattern.specs.Graph.{AllBelow};
-ghost use Rattle.rn_pattern.specs.Tree.{Tree, trees_of};
+ghost use Rattle.rn_pattern.specs.Tree.{Tree};
 ghost use Rattle.rn_text.specs.Texts.{Text};
-ghost use Rattle.rn_pattern.specs.View.{pattern_view, shared_view};
+ghost use Rattle.rn_pattern.specs.View.{pattern_view, shared_trees};
 ghost use Rattle.rn_simplify.specs.inside.DefinitionNumbers.{AreSettled};
 ghost use Rattle.rn_simplify.specs.Settling.{IsSettling};
 ghost use Rattle.rn_simplify.specs.inside.SettlingOrder.{IsInOrder};
@@ -136,7 +136,7 @@ fn evaluate_all(
     members: &[Rc<Pattern>],
 ) -> FormKind
     ensures { result ≡ group_kind (kind_in settled.now)
-        (trees_of (map shared_view members.now)) }
+        (shared_trees members.now) }
 {
     let mut kind = FormKind::Empty;
     for member in members {
@@ -153,7 +153,7 @@ fn evaluate_any(
     members: &[Rc<Pattern>],
 ) -> FormKind
     ensures { result ≡ choice_kind (kind_in settled.now)
-        (trees_of (map shared_view members.now)) }
+        (shared_trees members.now) }
 {
     let mut kind = FormKind::NotAllowed;
     for member in members {

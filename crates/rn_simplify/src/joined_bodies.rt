@@ -2,8 +2,8 @@
 ghost use Rattle.std.specs.Prelude.{◌≡◌, ◌<◌, IfOk, length, map, slice_index_or, take};
 ghost use Rattle.rn_pattern.specs.Canonical.{choice_step, interleave_step};
 ghost use Rattle.rn_pattern.specs.Store.{KeepsIds, StandsFor, KnowsAll};
-ghost use Rattle.rn_pattern.specs.Tree.{Tree, trees_of};
-ghost use Rattle.rn_pattern.specs.View.{pattern_view, shared_view};
+ghost use Rattle.rn_pattern.specs.Tree.{Tree};
+ghost use Rattle.rn_pattern.specs.View.{pattern_view, shared_view, shared_trees};
 ghost use Rattle.rn_simplify.specs.inside.FormKinds.{settled_form, settled_forms};
 ghost use Rattle.rn_simplify.specs.inside.Repeats.{AreFirstsAmong, AreFirstsOf};
 
@@ -49,7 +49,7 @@ fn choice_form<P: Patterns>(
     requires { AreFirstsAmong firsts.now members.now }
     ensures made { IfOk result (StandsFor (P.knows store.new) (P.tree_of store.new)
         (choice_step (settled_forms settled.now
-        (trees_of (map shared_view members.now))))) }
+        (shared_trees members.now)))) }
     ensures kept { KeepsIds P.knows P.tree_of store.old store.new }
 {
     let members = distinct_members(alloc, members, firsts)?;
@@ -67,7 +67,7 @@ fn interleave_form<P: Patterns>(
     requires { AreFirstsAmong firsts.now members.now }
     ensures made { IfOk result (StandsFor (P.knows store.new) (P.tree_of store.new)
         (interleave_step (settled_forms settled.now
-        (trees_of (map shared_view members.now))))) }
+        (shared_trees members.now)))) }
     ensures kept { KeepsIds P.knows P.tree_of store.old store.new }
 {
     let ids = member_ids(alloc, store, settled, members, firsts)?;

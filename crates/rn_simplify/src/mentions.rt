@@ -1,7 +1,7 @@
 // The namespaces and the datatype libraries that a grammar mentions.
 ghost use Rattle.std.specs.Prelude.{◌≡◌, ◌∷◌, [], IfOk, OnOk, map};
-ghost use Rattle.rn_pattern.specs.Tree.{name_trees_of, trees_of};
-ghost use Rattle.rn_pattern.specs.View.{name_class_view, pattern_view, shared_view};
+ghost use Rattle.rn_pattern.specs.Tree.{name_trees_of};
+ghost use Rattle.rn_pattern.specs.View.{name_class_view, pattern_view, shared_trees};
 ghost use Rattle.rn_simplify.specs.NormalView.{definitions_view, normal_view};
 ghost use Rattle.rn_simplify.specs.Spelling.{has_empty_ns_name};
 ghost use Rattle.rn_simplify.specs.inside.Gathers.{GathersTexts, Gathers, IsGathered, by_ns_name, by_definitions, by_grammar, by_library, by_name, by_names, by_tree, by_trees};
@@ -84,7 +84,7 @@ impl Mentions {
     #[cycle(add_pattern)]
     fn add_patterns(&mut self, alloc: Global, members: &[Rc<Pattern>]) -> Result<(), AllocError>
         ensures { OnOk result (Gathers
-            (by_trees (trees_of (map shared_view members.now))) self.old self.new) }
+            (by_trees (shared_trees members.now)) self.old self.new) }
     {
         for member in members {
             self.add_pattern(alloc, member)?;

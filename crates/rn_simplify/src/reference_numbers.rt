@@ -1,8 +1,7 @@
 // The references of a pattern, as the numbers of the definitions in their order (RELAX NG 2001, 4.18 and 4.19).
-ghost use Rattle.std.specs.Prelude.{◌≡◌, ◌∷◌, [], IfOk, OnOk, map};
+ghost use Rattle.std.specs.Prelude.{◌≡◌, ◌∷◌, [], IfOk, OnOk};
 ghost use Rattle.rn_assemble.specs.GrammarView.{definitions_view};
-ghost use Rattle.rn_pattern.specs.Tree.{trees_of};
-ghost use Rattle.rn_pattern.specs.View.{pattern_view, shared_view};
+ghost use Rattle.rn_pattern.specs.View.{pattern_view, shared_trees};
 ghost use Rattle.rn_simplify.specs.inside.DefinitionNumbers.{numbers_of};
 ghost use Rattle.rn_simplify.specs.inside.ReferenceNumbers.{AddsNumbers, AreReferenceNumbers, all_reference_numbers, reference_numbers};
 ghost use Rattle.rn_pattern.specs.declared.references.Reach.TheVariants.{Everywhere, OutsideElements};
@@ -106,7 +105,7 @@ fn add_patterns(
     reach: Reach,
 ) -> Result<(), AllocError>
     ensures { OnOk result (AddsNumbers (all_reference_numbers
-        (definitions_view definitions.now.entries) (trees_of (map shared_view members.now))) reach
+        (definitions_view definitions.now.entries) (shared_trees members.now)) reach
         found.old found.new) }
 {
     for member in members {

@@ -3,9 +3,9 @@ ghost use Rattle.std.specs.Prelude.{◌≡◌, ◌++◌, ◌∷◌, [], IfOk, Is
 ghost use Rattle.std.specs.Option.{option_map};
 ghost use Rattle.rn_pattern.specs.Canonical as form;
 ghost use Rattle.rn_pattern.specs.Store.{KeepsIds, StandsFor, KnowsAll};
-ghost use Rattle.rn_pattern.specs.Tree.{Tree, trees_of};
+ghost use Rattle.rn_pattern.specs.Tree.{Tree};
 ghost use Rattle.rn_text.specs.Texts.{Text};
-ghost use Rattle.rn_pattern.specs.View.{pattern_view, shared_view};
+ghost use Rattle.rn_pattern.specs.View.{pattern_view, shared_trees};
 ghost use Rattle.rn_simplify.specs.inside.Contents.{content_of, is_leaf};
 ghost use Rattle.rn_simplify.specs.inside.ListParts.{members_step, parts, parts_of};
 ghost use Rattle.rn_simplify.specs.inside.FormKinds.{becomes, settled_form, settled_forms};
@@ -111,7 +111,7 @@ pub(crate) fn list_form<P: Patterns>(
 ) -> Result<P::Id, AllocError>
     ensures made { IfOk result (StandsFor (P.knows store.new) (P.tree_of store.new)
         (members_step kind (settled_forms settled.now
-        (trees_of (map shared_view members.now))))) }
+        (shared_trees members.now)))) }
     ensures kept { KeepsIds P.knows P.tree_of store.old store.new }
 {
     let mut ids = Vec::with_capacity(alloc, members.len())?;
@@ -133,7 +133,7 @@ fn push_parts<P: Patterns>(
     ensures known { OnOk result (KnowsAll (P.knows store.new) ids.new.items) }
     ensures made { OnOk result (map (P.tree_of store.new) ids.new.items
         ≡ map (P.tree_of store.old) ids.old.items ++ map (settled_form settled.now)
-        (parts kind (trees_of (map shared_view members.now)))) }
+        (parts kind (shared_trees members.now))) }
     ensures kept { KeepsIds P.knows P.tree_of store.old store.new }
 {
     for member in members {

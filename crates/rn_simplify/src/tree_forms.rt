@@ -3,9 +3,9 @@ ghost use Rattle.std.specs.Prelude.{◌≡◌, ◌++◌, ◌∷◌, [], IfOk, Is
 ghost use Rattle.std.specs.Option.{option_map};
 ghost use Rattle.rn_pattern.specs.Canonical as form;
 ghost use Rattle.rn_pattern.specs.CanonicalShape as shape;
-ghost use Rattle.rn_pattern.specs.Tree.{Tree, ref, trees_of};
+ghost use Rattle.rn_pattern.specs.Tree.{Tree, ref};
 ghost use Rattle.rn_text.specs.Texts.{Text};
-ghost use Rattle.rn_pattern.specs.View.{name_class_view, pattern_view, shared_view};
+ghost use Rattle.rn_pattern.specs.View.{name_class_view, pattern_view, shared_view, shared_trees};
 ghost use Rattle.rn_simplify.specs.inside.Contents.{content_of, form_or, is_leaf};
 ghost use Rattle.rn_simplify.specs.inside.ListParts.{members_step, parts, parts_of};
 ghost use Rattle.rn_simplify.specs.inside.FormKinds.{becomes, settled_form, settled_forms};
@@ -226,7 +226,7 @@ fn list_form(
     members: &[Rc<Pattern>],
 ) -> Result<Pattern, AllocError>
     ensures { IfOk result (λ p. pattern_view p ≡ members_step kind
-        (settled_forms settled.now (trees_of (map shared_view members.now)))) }
+        (settled_forms settled.now (shared_trees members.now))) }
 {
     let mut forms = Vec::with_capacity(alloc, members.len())?;
     push_parts(alloc, settled, likely_numbers, kind, members, &mut forms)?;
@@ -245,7 +245,7 @@ fn push_parts(
 ) -> Result<(), AllocError>
     ensures { OnOk result (map shared_view forms.new.items ≡ map shared_view forms.old.items
         ++ map (settled_form settled.now)
-        (parts kind (trees_of (map shared_view members.now)))) }
+        (parts kind (shared_trees members.now))) }
 {
     for member in members {
         if !push_inner(alloc, settled, likely_numbers, kind, member, forms)? {

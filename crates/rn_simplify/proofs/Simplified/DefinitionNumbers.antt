@@ -8,7 +8,7 @@ use Rattle.std.proofs.lemmas.List.{take_more, map-append}
 use Rattle.std.proofs.lemmas.List.Elements.{filter_map-append}
 use Rattle.rn_pattern.specs.Tree.{Tree, trees_of}
 use Rattle.rn_text.specs.Texts.{Text}
-use Rattle.rn_pattern.specs.View.{pattern_view, shared_view}
+use Rattle.rn_pattern.specs.View.{pattern_view, shared_view, shared_trees}
 use Rattle.rn_pattern.specs.declared.tree.Pattern.{Pattern}
 use Rattle.rn_pattern.specs.declared.tree.Pattern.TheVariants as variant
 use Rattle.rn_pattern.proofs.Ordered.PatternKinds.{group_seen, interleave_seen, choice_seen}
@@ -45,14 +45,14 @@ module _ (es : List (String Global × Pattern)) (x : Text) where
   not_numbered e = ap (λ o. cons_option o []) (sym (number_is es x) ∙ e)
 
 -- the references of a pattern that has members are theirs
-by_kind : (s : Reach) (p : Pattern) (v : Vec (Rc Pattern Global) Global) → (p ≡ variant.Group v) ⊎ ((p ≡ variant.Interleave v) ⊎ (p ≡ variant.Choice v)) → references s (pattern_view p) ≡ all_references s (trees_of (map shared_view v.items))
+by_kind : (s : Reach) (p : Pattern) (v : Vec (Rc Pattern Global) Global) → (p ≡ variant.Group v) ⊎ ((p ≡ variant.Interleave v) ⊎ (p ≡ variant.Choice v)) → references s (pattern_view p) ≡ all_references s (shared_trees v.items)
 by_kind s p v (inl e) = ap (λ q. references s (pattern_view q)) e ∙ ap (references s) (group_seen v)
 by_kind s p v (inr (inl e)) = ap (λ q. references s (pattern_view q)) e ∙ ap (references s) (interleave_seen v)
 by_kind s p v (inr (inr e)) = ap (λ q. references s (pattern_view q)) e ∙ ap (references s) (choice_seen v)
 
 pub of_members : (s : Reach) (p : Pattern) (v : Vec (Rc Pattern Global) Global) (members : List (Rc Pattern Global)) → members ≡ v.items
-    → (p ≡ variant.Group v) ⊎ ((p ≡ variant.Interleave v) ⊎ (p ≡ variant.Choice v)) → all_references s (trees_of (map shared_view members)) ≡ references s (pattern_view p)
-of_members s p v members is kind = ap (λ ps. all_references s (trees_of (map shared_view ps))) is ∙ sym (by_kind s p v kind)
+    → (p ≡ variant.Group v) ⊎ ((p ≡ variant.Interleave v) ⊎ (p ≡ variant.Choice v)) → all_references s (shared_trees members) ≡ references s (pattern_view p)
+of_members s p v members is kind = ap (λ ps. all_references s (shared_trees ps)) is ∙ sym (by_kind s p v kind)
 
 all_more : (s : Reach) (ps : List Tree) (p : Tree) → all_references s (trees_of (ps ++ p ∷ [])) ≡ all_references s (trees_of ps) ++ references s p
 all_more s [] p = append-nil (references s p)
@@ -60,7 +60,7 @@ all_more s (q ∷ ps) p = ap (λ xs. references s q ++ xs) (all_more s ps p) ∙
 
 -- one more member
 pub numbers_more : (ds : List (Text × Tree)) (members : List (Rc Pattern Global)) (i : ℕ) (r : Rc Pattern Global) → i < length members → r ≡ get_or members i r
-    → (s : Reach) → all_reference_numbers ds (trees_of (map shared_view (take (i + 1) members))) s ≡ all_reference_numbers ds (trees_of (map shared_view (take i members))) s ++ reference_numbers ds (shared_view r) s
+    → (s : Reach) → all_reference_numbers ds (shared_trees (take (i + 1) members)) s ≡ all_reference_numbers ds (shared_trees (take i members)) s ++ reference_numbers ds (shared_view r) s
 numbers_more ds members i r h is s =
     let before = map shared_view (take i members) in
     let taken : map shared_view (take (i + 1) members) ≡ before ++ shared_view r ∷ [] = ap (map shared_view) (take_more members i r h ∙ ap (λ x. take i members ++ x ∷ []) (sym is)) ∙ map-append shared_view (take i members) (r ∷ []) in

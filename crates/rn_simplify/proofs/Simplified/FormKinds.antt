@@ -13,7 +13,7 @@ use Rattle.rn_text.specs.Texts.{Text}
 use Rattle.rn_pattern.specs.Order.{tree_cmp}
 use Rattle.rn_pattern.specs.Canonical.{put, put_once, sorted, sorted_once, node_of, is_not_allowed, has_not_allowed, alternatives, grouped, interleaved, choice_step, one_or_more_step, list_step, attribute_step, datum_but_step, canonical, canonical_all, canonical_name, ref_unless_settled}
 use Rattle.rn_pattern.specs.CanonicalShape.{is_several, may_choose, may_group, may_interleave, IsCanonicalPattern, AnyName}
-use Rattle.rn_pattern.specs.View.{shared_view}
+use Rattle.rn_pattern.specs.View.{shared_view, shared_trees}
 use Rattle.rn_pattern.specs.declared.tree.Pattern.{Pattern}
 use Rattle.rn_pattern.proofs.Ordered.Ascending.{each_sorted, each_sorted_once, climbs_sorted_once}
 use Rattle.rn_pattern.proofs.Forms.CanonicalForm.{Member, members_list, each_allowed, flat_choice, flat_group, flat_interleave, canonical_all_are}
@@ -316,8 +316,8 @@ module _ (named : Text → FormKind) where
     taken : map shared_view (take (n + 1) members) ≡ before ++ shared_view r ∷ []
     taken = ap (map shared_view) (take_more members n r h ∙ ap (λ x. take n members ++ x ∷ []) (sym is)) ∙ map-append shared_view (take n members) (r ∷ [])
 
-    pub all_of_more : (w v : FormKind) → w ≡ group_kind named (trees_of before) → v ≡ tree_kind named (shared_view r) → both w v ≡ group_kind named (trees_of (map shared_view (take (n + 1) members)))
+    pub all_of_more : (w v : FormKind) → w ≡ group_kind named (trees_of before) → v ≡ tree_kind named (shared_view r) → both w v ≡ group_kind named (shared_trees (take (n + 1) members))
     all_of_more w v e f = (λ i. both (e i) (f i)) ∙ sym (ap (λ ps. group_kind named (trees_of ps)) taken ∙ all_more before (shared_view r))
 
-    pub any_of_more : (w v : FormKind) → w ≡ choice_kind named (trees_of before) → v ≡ tree_kind named (shared_view r) → either w v ≡ choice_kind named (trees_of (map shared_view (take (n + 1) members)))
+    pub any_of_more : (w v : FormKind) → w ≡ choice_kind named (trees_of before) → v ≡ tree_kind named (shared_view r) → either w v ≡ choice_kind named (shared_trees (take (n + 1) members))
     any_of_more w v e f = (λ i. either (e i) (f i)) ∙ sym (ap (λ ps. choice_kind named (trees_of ps)) taken ∙ any_more before (shared_view r))

@@ -9,7 +9,7 @@ use Rattle.rn_pattern.specs.Tree.{Tree, Trees, group, interleave, choice, no_tre
 use Rattle.rn_text.specs.Texts.{Text}
 use Rattle.rn_pattern.specs.Canonical.{canonical, canonical_all}
 use Rattle.rn_pattern.specs.CanonicalShape.{AnyName, IsCanonicalPattern}
-use Rattle.rn_pattern.specs.View.{pattern_view, shared_view}
+use Rattle.rn_pattern.specs.View.{pattern_view, shared_view, shared_trees}
 use Rattle.rn_pattern.specs.declared.tree.Pattern.{Pattern}
 use Rattle.rn_pattern.specs.declared.tree.Pattern.TheVariants as variant
 use Rattle.rn_pattern.proofs.Forms.CanonicalForm.{canonical_all_are}
@@ -20,13 +20,13 @@ use Rattle.rn_simplify.specs.declared.list_kind.ListKind.{ListKind}
 
 -- the parts of a list of the kind are those of its members
 module _ (kind : ListKind) (p : Pattern) (v : Vec (Rc Pattern Global) Global) (xs : List (Rc Pattern Global)) (h : xs ≡ v.items) where
-  pub group_parts : kind ≡ ListKind.Group → p ≡ variant.Group v → parts kind (trees_of (map shared_view xs)) ≡ parts_of kind (pattern_view p)
+  pub group_parts : kind ≡ ListKind.Group → p ≡ variant.Group v → parts kind (shared_trees xs) ≡ parts_of kind (pattern_view p)
   group_parts e f = (λ i. parts (e i) (trees_of (map shared_view (h i)))) ∙ sym ((λ i. parts_of (e i) (pattern_view (f i))) ∙ ap (parts_of ListKind.Group) (group_seen v))
 
-  pub interleave_parts : kind ≡ ListKind.Interleave → p ≡ variant.Interleave v → parts kind (trees_of (map shared_view xs)) ≡ parts_of kind (pattern_view p)
+  pub interleave_parts : kind ≡ ListKind.Interleave → p ≡ variant.Interleave v → parts kind (shared_trees xs) ≡ parts_of kind (pattern_view p)
   interleave_parts e f = (λ i. parts (e i) (trees_of (map shared_view (h i)))) ∙ sym ((λ i. parts_of (e i) (pattern_view (f i))) ∙ ap (parts_of ListKind.Interleave) (interleave_seen v))
 
-  pub choice_parts : kind ≡ ListKind.Choice → p ≡ variant.Choice v → parts kind (trees_of (map shared_view xs)) ≡ parts_of kind (pattern_view p)
+  pub choice_parts : kind ≡ ListKind.Choice → p ≡ variant.Choice v → parts kind (shared_trees xs) ≡ parts_of kind (pattern_view p)
   choice_parts e f = (λ i. parts (e i) (trees_of (map shared_view (h i)))) ∙ sym ((λ i. parts_of (e i) (pattern_view (f i))) ∙ ap (parts_of ListKind.Choice) (choice_seen v))
 
 -- a canonical list within a list of its kind comes to the same as its members do
@@ -72,9 +72,9 @@ parts_push kind [] p = append-nil (parts_of kind p)
 parts_push kind (q ∷ ps) p = ap (λ xs. parts_of kind q ++ xs) (parts_push kind ps p) ∙ sym (append_assoc (parts_of kind q) (parts kind (trees_of ps)) (parts_of kind p))
 
 pub parts_more : (f : Tree → Tree) (kind : ListKind) (members : List (Rc Pattern Global)) (n : ℕ) (r : Rc Pattern Global) (old now new : List Tree) → n < length members → r ≡ get_or members n r
-    → now ≡ old ++ map f (parts kind (trees_of (map shared_view (take n members))))
+    → now ≡ old ++ map f (parts kind (shared_trees (take n members)))
     → new ≡ now ++ map f (parts_of kind (shared_view r))
-    → new ≡ old ++ map f (parts kind (trees_of (map shared_view (take (n + 1) members))))
+    → new ≡ old ++ map f (parts kind (shared_trees (take (n + 1) members)))
 parts_more f kind members n r old now new h is e g =
     let before = map shared_view (take n members) in
     let taken : map shared_view (take (n + 1) members) ≡ before ++ shared_view r ∷ [] =

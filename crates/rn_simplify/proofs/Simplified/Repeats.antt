@@ -11,7 +11,7 @@ use Rattle.rn_pattern.specs.Tree.{Tree, Trees, not_allowed, interleave, choice, 
 use Rattle.rn_text.specs.Texts.{Text}
 use Rattle.rn_pattern.specs.Order.{tree_cmp}
 use Rattle.rn_pattern.specs.Canonical.{sorted_once, node_of, alternatives, choice_step, canonical, canonical_all, HaveSameMembers}
-use Rattle.rn_pattern.specs.View.{pattern_view, shared_view}
+use Rattle.rn_pattern.specs.View.{pattern_view, shared_view, shared_trees}
 use Rattle.rn_pattern.specs.declared.tree.Pattern.{Pattern}
 use Rattle.rn_pattern.specs.declared.tree.Pattern.TheVariants as variant
 use Rattle.rn_pattern.proofs.Matches.StepsKeep.{list_of-trees_of}
@@ -127,13 +127,13 @@ module _ (p : Pattern) (v : Vec (Rc Pattern Global) Global) (xs : List (Rc Patte
   pub choices_are : (q : Pattern) (w : Vec (Rc Pattern Global) Global) → q ≡ variant.Choice w → p ≡ variant.Choice v → HaveSameMembers (map shared_view w.items) (map shared_view xs) → AreSameButRepeats (pattern_view q) (pattern_view p)
   choices_are q w f e s =
       subst (λ t. AreSameButRepeats t (pattern_view p)) (sym (ap pattern_view f ∙ choice_seen w))
-      (subst (λ t. AreSameButRepeats (choice (trees_of (map shared_view w.items))) t) (sym (ap pattern_view e ∙ choice_seen v))
+      (subst (λ t. AreSameButRepeats (choice (shared_trees w.items)) t) (sym (ap pattern_view e ∙ choice_seen v))
       (choices (holds_listed (map shared_view w.items) (map shared_view v.items) (subst (λ ys. HaveSameMembers (map shared_view w.items) (map shared_view ys)) h s))))
 
   pub interleaves_are : (q : Pattern) (w : Vec (Rc Pattern Global) Global) → q ≡ variant.Interleave w → p ≡ variant.Interleave v → HaveSameMembers (map shared_view w.items) (map shared_view xs) → AreSameButRepeats (pattern_view q) (pattern_view p)
   interleaves_are q w f e s =
       subst (λ t. AreSameButRepeats t (pattern_view p)) (sym (ap pattern_view f ∙ interleave_seen w))
-      (subst (λ t. AreSameButRepeats (interleave (trees_of (map shared_view w.items))) t) (sym (ap pattern_view e ∙ interleave_seen v))
+      (subst (λ t. AreSameButRepeats (interleave (shared_trees w.items)) t) (sym (ap pattern_view e ∙ interleave_seen v))
       (interleaves (holds_listed (map shared_view w.items) (map shared_view v.items) (subst (λ ys. HaveSameMembers (map shared_view w.items) (map shared_view ys)) h s))))
 
 -- ---- references

@@ -1,5 +1,5 @@
 -- Texts that are gathered one after the other are in order, each once.
-use Rattle.std.proofs.Common.{◌≡◌, Bool, true, false, List, [], ◌∷◌, ◌++◌, map, refl, sym, ap, ◌∙◌, subst, append_assoc, append-nil, ◌⊎◌, inl, inr, length, nat_eq}
+use Rattle.std.proofs.Common.{◌≡◌, Bool, true, false, List, [], ◌∷◌, ◌++◌, refl, sym, ap, ◌∙◌, subst, append_assoc, append-nil, ◌⊎◌, inl, inr, length, nat_eq}
 use Rattle.std.specs.Prelude.{String, string_bytes, bytes_eq, not, ◌||◌, Vec, Box, Option, Some, Result, Ok, Err, OnOk}
 use Rattle.std.specs.List.{list_any}
 use Rattle.std.specs.Rc.{rc_str_bytes}
@@ -14,7 +14,7 @@ use Rattle.rn_modset.proofs.Ordered.RisingLists.{insert_held}
 use Rattle.rn_pattern.specs.Tree.{NameTree, name_trees_of, Tree, trees_of}
 use Rattle.rn_text.specs.Texts.{Text, text_cmp}
 use Rattle.rn_pattern.specs.Canonical.{put_once, sorted_once}
-use Rattle.rn_pattern.specs.View.{name_class_view, pattern_step, pattern_view, shared_view}
+use Rattle.rn_pattern.specs.View.{name_class_view, pattern_step, pattern_view, shared_trees}
 use Rattle.rn_pattern.specs.declared.tree.Data.{Data}
 use Rattle.rn_pattern.specs.declared.tree.NameClass.{NameClass}
 use Rattle.rn_pattern.specs.declared.tree.Pattern.{Pattern}
@@ -112,7 +112,7 @@ gathers_one_tree ps p {a} {b} {c} h k =
 
 -- ---- patterns by their variants
 
-pub in_list : (p : Pattern) (v : Vec (Rc Pattern Global) Global) → (p ≡ variant.Group v) ⊎ ((p ≡ variant.Interleave v) ⊎ (p ≡ variant.Choice v)) → by_tree (pattern_view p) ≡ by_trees (trees_of (map shared_view v.items))
+pub in_list : (p : Pattern) (v : Vec (Rc Pattern Global) Global) → (p ≡ variant.Group v) ⊎ ((p ≡ variant.Interleave v) ⊎ (p ≡ variant.Choice v)) → by_tree (pattern_view p) ≡ by_trees (shared_trees v.items)
 in_list p v (inl e) = ap (λ q. by_tree (pattern_view q)) e ∙ ap by_tree (group_seen v)
 in_list p v (inr (inl e)) = ap (λ q. by_tree (pattern_view q)) e ∙ ap by_tree (interleave_seen v)
 in_list p v (inr (inr e)) = ap (λ q. by_tree (pattern_view q)) e ∙ ap by_tree (choice_seen v)

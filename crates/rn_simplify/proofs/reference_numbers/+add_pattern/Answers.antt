@@ -1,9 +1,9 @@
-use Rattle.std.proofs.Common.{[], map, refl, ap, subst, arith}
+use Rattle.std.proofs.Common.{[], refl, ap, subst, arith}
 use Rattle.std.proofs.lemmas.List.{take_all}
 use Rattle.std.proofs.lemmas.Result.{on_ok_weaker}
 use Rattle.rn_assemble.specs.GrammarView.{definitions_view}
 use Rattle.rn_pattern.specs.Tree.{trees_of}
-use Rattle.rn_pattern.specs.View.{pattern_view, shared_view}
+use Rattle.rn_pattern.specs.View.{pattern_view, shared_view, shared_trees}
 use Rattle.rn_simplify.specs.inside.DefinitionNumbers.{numbers_of}
 use Rattle.rn_simplify.specs.inside.ReferenceNumbers.{AddsNumbers, all_reference_numbers, reference_numbers}
 use Rattle.rn_simplify.proofs.Simplified.AddedNumbers.{adds_as, adds_none, adds_then}
@@ -33,5 +33,5 @@ add_patterns-loop-member-preserved t c =
 pub add_patterns-returns : goal.add_patterns-returns
 add_patterns-returns t c =
     let ds = definitions_view c.args.definitions.now.entries in
-    subst (λ ps. AddsNumbers (all_reference_numbers ds (trees_of (map shared_view ps))) c.args.reach c.args.found.now c.loop-member.found)
+    subst (λ ps. AddsNumbers (all_reference_numbers ds (shared_trees ps)) c.args.reach c.args.found.now c.loop-member.found)
     (take_all c.loop-member.member-index c.args.members.now (omega arith)) c.loop-member.invariant

@@ -4,8 +4,8 @@ use Rattle.std.proofs.lemmas.List.{append-nil, map-append}
 use Rattle.rn_assemble.specs.GrammarView.{definitions_view}
 use Rattle.rn_pattern.specs.Canonical.{canonical, canonical_all, choice_step, group_step, interleave_step}
 use Rattle.rn_pattern.specs.Store.{StandsFor}
-use Rattle.rn_pattern.specs.Tree.{Tree, trees_of}
-use Rattle.rn_pattern.specs.View.{pattern_view, shared_view}
+use Rattle.rn_pattern.specs.Tree.{Tree}
+use Rattle.rn_pattern.specs.View.{pattern_view, shared_trees}
 use Rattle.rn_pattern.proofs.Ordered.PatternKinds.{group_seen, interleave_seen, choice_seen}
 use Rattle.rn_simplify.specs.inside.ListParts.{members_step, parts, parts_of}
 use Rattle.rn_simplify.specs.inside.FormKinds.{becomes, becomes_by, settled_form}
@@ -33,7 +33,7 @@ canonical_form-returns-in-Group-clause-made g t c =
     let s = becomes c.args.settled.now in
     let new = c.list_form.new.store in
     subst (λ (u : Tree). IfOk c.list_form.result (StandsFor (g.P.Patterns.knows new) (g.P.Patterns.tree_of new) u))
-    (ap (λ xs. group_step (canonical_all s (trees_of (map shared_view xs)))) c.deref-in-Group.ensures.value
+    (ap (λ xs. group_step (canonical_all s (shared_trees xs))) c.deref-in-Group.ensures.value
     ∙ sym (ap (λ p. canonical s (pattern_view p)) c.in-Group.is ∙ ap (canonical s) (group_seen c.in-Group.members)))
     c.list_form.ensures.made
 
@@ -42,7 +42,7 @@ canonical_form-returns-in-Interleave-clause-made g t c =
     let s = becomes c.args.settled.now in
     let new = c.list_form-in-Interleave.new.store in
     subst (λ (u : Tree). IfOk c.list_form-in-Interleave.result (StandsFor (g.P.Patterns.knows new) (g.P.Patterns.tree_of new) u))
-    (ap (λ xs. interleave_step (canonical_all s (trees_of (map shared_view xs)))) c.deref-in-Interleave.ensures.value
+    (ap (λ xs. interleave_step (canonical_all s (shared_trees xs))) c.deref-in-Interleave.ensures.value
     ∙ sym (ap (λ p. canonical s (pattern_view p)) c.in-Interleave.is ∙ ap (canonical s) (interleave_seen c.in-Interleave.members)))
     c.list_form-in-Interleave.ensures.made
 
@@ -51,7 +51,7 @@ canonical_form-returns-in-Choice-clause-made g t c =
     let s = becomes c.args.settled.now in
     let new = c.list_form-in-Choice.new.store in
     subst (λ (u : Tree). IfOk c.list_form-in-Choice.result (StandsFor (g.P.Patterns.knows new) (g.P.Patterns.tree_of new) u))
-    (ap (λ xs. choice_step (canonical_all s (trees_of (map shared_view xs)))) c.deref-in-Choice.ensures.value
+    (ap (λ xs. choice_step (canonical_all s (shared_trees xs))) c.deref-in-Choice.ensures.value
     ∙ sym (ap (λ p. canonical s (pattern_view p)) c.in-Choice.is ∙ ap (canonical s) (choice_seen c.in-Choice.members)))
     c.list_form-in-Choice.ensures.made
 
@@ -63,7 +63,7 @@ list_form-returns-clause-made g t c =
     let kinds = c.args.settled.now.kinds.items in
     let s = becomes_by ds kinds in
     let kind = c.args.kind in
-    let ps = trees_of (map shared_view c.args.members.now) in
+    let ps = shared_trees c.args.members.now in
     let at = g.P.Patterns.tree_of c.push_parts.new.store in
     let new = c.form_over.new.store in
     let parts_are : map at c.deref.result.now ≡ map (canonical s) (parts kind ps) =

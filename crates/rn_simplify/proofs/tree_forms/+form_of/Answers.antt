@@ -5,8 +5,8 @@ use Rattle.std.specs.declared.rc.Rc.{Rc}
 use Rattle.std.proofs.lemmas.List.{append-nil}
 use Rattle.rn_assemble.specs.GrammarView.{definitions_view}
 use Rattle.rn_pattern.specs.Canonical.{canonical, canonical_all, choice_step, group_step, interleave_step}
-use Rattle.rn_pattern.specs.Tree.{Tree, trees_of}
-use Rattle.rn_pattern.specs.View.{pattern_view, shared_view}
+use Rattle.rn_pattern.specs.Tree.{Tree}
+use Rattle.rn_pattern.specs.View.{pattern_view, shared_view, shared_trees}
 use Rattle.rn_pattern.proofs.Ordered.PatternKinds.{group_seen, interleave_seen, choice_seen}
 use Rattle.rn_pattern.specs.declared.tree.Pattern.{Pattern}
 use Rattle.rn_simplify.specs.inside.Contents.{form_or}
@@ -20,19 +20,19 @@ use Rattle.rn_simplify.proofs.tree_forms.+form_of.Goals.{push_parts-then-not-bra
 pub form_of-returns-in_ok-list_form-in-Group : goal.form_of-returns-in_ok-list_form-in-Group
 form_of-returns-in_ok-list_form-in-Group t c =
     let s = becomes c.args.settled.now in
-    c.in_ok-list_form-in-Group.ensures ∙ ap (λ xs. group_step (canonical_all s (trees_of (map shared_view xs)))) c.deref-in-Group.ensures.value
+    c.in_ok-list_form-in-Group.ensures ∙ ap (λ xs. group_step (canonical_all s (shared_trees xs))) c.deref-in-Group.ensures.value
     ∙ sym (ap (λ p. canonical s (pattern_view p)) c.in-Group.is ∙ ap (canonical s) (group_seen c.in-Group.members))
 
 pub form_of-returns-in_ok-list_form-in-Interleave : goal.form_of-returns-in_ok-list_form-in-Interleave
 form_of-returns-in_ok-list_form-in-Interleave t c =
     let s = becomes c.args.settled.now in
-    c.in_ok-list_form-in-Interleave.ensures ∙ ap (λ xs. interleave_step (canonical_all s (trees_of (map shared_view xs)))) c.deref-in-Interleave.ensures.value
+    c.in_ok-list_form-in-Interleave.ensures ∙ ap (λ xs. interleave_step (canonical_all s (shared_trees xs))) c.deref-in-Interleave.ensures.value
     ∙ sym (ap (λ p. canonical s (pattern_view p)) c.in-Interleave.is ∙ ap (canonical s) (interleave_seen c.in-Interleave.members))
 
 pub form_of-returns-in_ok-list_form-in-Choice : goal.form_of-returns-in_ok-list_form-in-Choice
 form_of-returns-in_ok-list_form-in-Choice t c =
     let s = becomes c.args.settled.now in
-    c.in_ok-list_form-in-Choice.ensures ∙ ap (λ xs. choice_step (canonical_all s (trees_of (map shared_view xs)))) c.deref-in-Choice.ensures.value
+    c.in_ok-list_form-in-Choice.ensures ∙ ap (λ xs. choice_step (canonical_all s (shared_trees xs))) c.deref-in-Choice.ensures.value
     ∙ sym (ap (λ p. canonical s (pattern_view p)) c.in-Choice.is ∙ ap (canonical s) (choice_seen c.in-Choice.members))
 
 -- ---- lists
@@ -43,7 +43,7 @@ list_form-returns t c =
     let kinds = c.args.settled.now.kinds.items in
     let s = becomes_by ds kinds in
     let kind = c.args.kind in
-    let ps = trees_of (map shared_view c.args.members.now) in
+    let ps = shared_trees c.args.members.now in
     let parts_are : map shared_view c.push_parts.new.forms.items ≡ map (canonical s) (parts kind ps) =
     c.in_ok-push_parts.ensures ∙ ap (λ xs. map shared_view xs ++ map (canonical s) (parts kind ps)) c.in_ok-forms.ensures.items in
     subst (λ (u : Tree). IfOk c.tree_over.result (λ p. pattern_view p ≡ u))

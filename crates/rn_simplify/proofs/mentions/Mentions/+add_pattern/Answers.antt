@@ -4,7 +4,7 @@ use Rattle.std.proofs.lemmas.List.{take_more, map-append}
 use Rattle.std.specs.Rc.{rc_str_bytes}
 use Rattle.rn_pattern.specs.Tree.{trees_of}
 use Rattle.rn_pattern.specs.declared.tree.Data.{Data}
-use Rattle.rn_pattern.specs.View.{name_class_view, pattern_view, shared_view}
+use Rattle.rn_pattern.specs.View.{name_class_view, pattern_view, shared_view, shared_trees}
 use Rattle.rn_simplify.specs.inside.Gathers.{Gathers, mentioned_by_both, by_library, by_name, by_tree, by_trees}
 use Rattle.rn_simplify.proofs.Texts.GatheredTexts.{gathers_unless, gathers_one_tree, in_list, named, with_library}
 use Rattle.rn_simplify.proofs.mentions.Mentions.+add_pattern.Goals as goal
@@ -23,7 +23,7 @@ add_pattern-returns-in-Some t c =
 
 pub add_pattern-returns-in-Group : goal.add_pattern-returns-in-Group
 add_pattern-returns-in-Group t c =
-    let e = in_list c.args.pattern.now c.in-Group.members c.in-Group.is ∙ ap (λ ps. by_trees (trees_of (map shared_view ps))) (sym c.deref-in-Group.ensures.value) in
+    let e = in_list c.args.pattern.now c.in-Group.members c.in-Group.is ∙ ap (λ ps. by_trees (shared_trees ps)) (sym c.deref-in-Group.ensures.value) in
     subst (λ m. OnOk c.add_patterns.result (Gathers m c.args.self.now c.add_patterns.new.self)) (sym e) c.add_patterns.ensures
 
 pub add_pattern-returns-in_ok-add_class-in-Attribute : goal.add_pattern-returns-in_ok-add_class-in-Attribute
