@@ -1,1 +1,1 @@
-mod Dots
+mod NamesOfNoStem

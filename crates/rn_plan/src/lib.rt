@@ -7,6 +7,7 @@ mod free_names;
 pub mod given;
 pub mod lift_fault;
 mod linking;
+mod marks;
 mod namespaces;
 mod outline_bindings;
 pub mod own_names;

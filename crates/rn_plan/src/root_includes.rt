@@ -1,15 +1,9 @@
 // Which files are included by the grammars of the roots.
 
+use crate::marks::{mark_row, spread};
 use crate::units::{Unit, Units};
 use rn_outline::PartKind;
 use std::alloc::{AllocError, Global};
-
-/// A walk along the includes of the files' own grammars.
-#[derive(Drop)]
-struct Walk {
-    waiting: Vec<usize>,
-    is_included: Vec<bool>,
-}
 
 /// Of each file, whether the roots, or what they include, include it.
 pub(crate) fn included_files(
@@ -17,46 +11,39 @@ pub(crate) fn included_files(
     units: &Units<'_>,
     roots: &[usize],
 ) -> Result<Vec<bool>, AllocError> {
-    let count = units.files.len();
-    let mut walk = Walk {
-        waiting: Vec::from_slice(alloc, roots)?,
-        is_included: vec![in alloc; false; count]?,
-    };
-    for _ in 0..count.saturating_add(roots.len()) {
-        let Some(file) = walk.waiting.pop() else {
-            break;
-        };
-        if let Some(unit) = units.number(file, 0).and_then(|unit| units.units.get(unit)) {
-            walk.add_includes(units, unit)?;
+    let includes = includes(alloc, units)?;
+    let mut included = vec![in alloc; false; includes.len()]?;
+    let mut waiting = Vec::new(alloc);
+    for root in roots {
+        if let Some(row) = includes.get(*root) {
+            mark_row(&mut included, &mut waiting, row.as_slice())?;
         }
     }
-    Ok(walk.is_included)
+    spread(included, waiting, includes.as_slice())
 }
 
-impl Walk {
-    /// Marks the files that a unit includes; those that were not marked wait.
-    fn add_includes(&mut self, units: &Units<'_>, unit: &Unit) -> Result<(), AllocError> {
-        for number in &unit.parts {
-            let (Some(target), Some(part)) = (
-                units.target(unit, *number),
-                units.part(unit, *number),
-            ) else {
-                continue;
-            };
-            if matches!(&part.kind, PartKind::Include { .. }) {
-                self.mark(target)?;
-            }
-        }
-        Ok(())
+/// Of each file, the files that its own grammar includes.
+fn includes(alloc: Global, units: &Units<'_>) -> Result<Vec<Vec<usize>>, AllocError> {
+    let mut includes = Vec::new(alloc);
+    for file in 0..units.files.len() {
+        let own = units.number(file, 0).and_then(|unit| units.units.get(unit));
+        includes.push(match own {
+            Some(unit) => includes_of(alloc, units, unit)?,
+            None => Vec::new(alloc),
+        })?;
     }
+    Ok(includes)
+}
 
-    fn mark(&mut self, file: usize) -> Result<(), AllocError> {
-        if let Some(is_included) = self.is_included.get_mut(file) {
-            if !*is_included {
-                *is_included = true;
-                self.waiting.push(file)?;
+/// The files that a unit includes.
+fn includes_of(alloc: Global, units: &Units<'_>, unit: &Unit) -> Result<Vec<usize>, AllocError> {
+    let mut files = Vec::new(alloc);
+    for number in &unit.parts {
+        if let (Some(file), Some(part)) = (units.target(unit, *number), units.part(unit, *number)) {
+            if matches!(&part.kind, PartKind::Include { .. }) {
+                files.push(file)?;
             }
         }
-        Ok(())
     }
+    Ok(files)
 }

@@ -3,6 +3,7 @@ ghost use Rattle.std.specs.Prelude.{◌≡◌, [], ◌∷◌, ◌++◌, All, IfO
 ghost use Rattle.rn_plan.specs.UnitFiles.{HasTargets, files_of};
 
 use crate::given::{Given, Lifting};
+use crate::marks::{is_marked, marked_nodes, spread};
 use crate::own_names::written_name;
 use rn_outline::{Outline, Part, PartKind, Shape, Span};
 use std::alloc::{AllocError, Global};
@@ -204,9 +205,9 @@ impl<'a> Units<'a> {
     {
         let users = self.users(alloc)?;
         let needing = self.units.iter().map(|unit| unit.needs_namespace);
-        let needing = spread(alloc, needing.collect(alloc)?, users.as_slice())?;
+        let needing = spread_to_users(alloc, needing.collect(alloc)?, users.as_slice())?;
         let saying = self.units.iter().map(|unit| unit.says_parent);
-        let saying = spread(alloc, saying.collect(alloc)?, users.as_slice())?;
+        let saying = spread_to_users(alloc, saying.collect(alloc)?, users.as_slice())?;
         for (number, unit) in self.units.iter_mut().enumerate() {
             unit.needs_namespace = is_marked(needing.as_slice(), number);
             unit.says_parent = is_marked(saying.as_slice(), number);
@@ -256,47 +257,12 @@ fn is_pattern(outline: &Outline) -> bool {
     outline.shape == Shape::Pattern
 }
 
-/// Whether the node of a number is marked. Where there is no such node, none is.
-pub(crate) fn is_marked(marks: &[bool], number: usize) -> bool {
-    marks.get(number).copied().unwrap_or(false)
-}
-
-/// The marked nodes, and all that rows lead to from them.
-fn spread(
+/// The marked units, and all that use them.
+fn spread_to_users(
     alloc: Global,
-    mut marks: Vec<bool>,
-    rows: &[Vec<usize>],
+    marks: Vec<bool>,
+    users: &[Vec<usize>],
 ) -> Result<Vec<bool>, AllocError> {
-    let mut waiting = Vec::new(alloc);
-    for (number, is_marked) in marks.iter().enumerate() {
-        if *is_marked {
-            waiting.push(number)?;
-        }
-    }
-    for _ in 0..marks.len() {
-        let Some(node) = waiting.pop() else {
-            break;
-        };
-        if let Some(row) = rows.get(node) {
-            mark_row(&mut marks, &mut waiting, row.as_slice())?;
-        }
-    }
-    Ok(marks)
-}
-
-/// Marks the nodes of a row, and adds those that were not marked to what waits.
-fn mark_row(
-    marks: &mut Vec<bool>,
-    waiting: &mut Vec<usize>,
-    row: &[usize],
-) -> Result<(), AllocError> {
-    for node in row {
-        if let Some(mark) = marks.get_mut(*node) {
-            if !*mark {
-                *mark = true;
-                waiting.push(*node)?;
-            }
-        }
-    }
-    Ok(())
+    let waiting = marked_nodes(alloc, marks.as_slice())?;
+    spread(marks, waiting, users)
 }

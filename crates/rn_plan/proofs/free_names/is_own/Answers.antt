@@ -1,5 +1,5 @@
 use Rattle.std.proofs.Common.{arith}
-use Rattle.rn_plan.proofs.Dots.{no_own}
+use Rattle.rn_plan.proofs.NamesOfNoStem.{no_own}
 use Rattle.rn_plan.proofs.free_names.is_own.Goals as goal
 
 pub returns : goal.returns

@@ -1,4 +1,4 @@
--- Names with dots.
+-- Names that begin with no stem of a set and a dot.
 use Rattle.std.proofs.Common.{◌≡◌, ℕ, ◌<◌, false, List, ◌∷◌, length, take, get_or, ap, subst, ◌∙◌, arith, length-append}
 use Rattle.std.specs.Prelude.{slice_index, String}
 use Rattle.std.specs.BTreeSet.{BTreeSet, contains_text}
