@@ -1,3 +1,3 @@
-mod OneMore
+mod ListsWithOneMore
 mod LiftedModules
 mod StandIns

@@ -2,7 +2,7 @@
 ghost use Rattle.std.specs.Prelude.{◌<◌, length, IfOk};
 ghost use Rattle.rn_text.specs.Reading.{Advanced};
 
-use crate::prefixes::split_name;
+use crate::added_prefixes::split_name;
 use rn_outline::{Part, PartKind, Span, annotation_end};
 use rn_plan::Units;
 use rn_text::{Token, tokens};

@@ -3,7 +3,7 @@ ghost use Rattle.std.specs.Prelude.{◌≡◌, false, [], IfOk, string_bytes};
 ghost use Rattle.std.specs.List.{list_any};
 
 use crate::body_chunks::{BodyChunks, Chunk};
-use crate::prefixes::Prefixes;
+use crate::added_prefixes::AddedPrefixes;
 use crate::scope_definitions::{Definition, Definitions, ScopedName};
 use rn_outline::{Outline, OutlineMethod, Part, PartKind};
 use rn_plan::{LiftFault, LiftFaultKind, Plan, Unit, Units};
@@ -56,7 +56,7 @@ pub(crate) struct Excepts {
 
 /// What is still to be written, last first.
 #[derive(Drop)]
-enum Task {
+enum ToWrite {
     Text(&'static str),
     /// A body of a definition at a place, from a chunk on.
     Body {
@@ -74,7 +74,7 @@ struct Trail {
     file: usize,
     at: usize,
     text: String,
-    tasks: Vec<Task>,
+    rest: Vec<ToWrite>,
     /// What is being followed.
     open: BTreeSet<ScopedName>,
 }
@@ -116,7 +116,7 @@ impl Excepts {
             return Ok(Spliced::nothing(alloc));
         }
         let mut texts = Vec::new(alloc);
-        let mut prefixes = Prefixes::new(alloc, unit.file);
+        let mut prefixes = AddedPrefixes::new(alloc, unit.file);
         for number in &unit.parts {
             if let Some(part) = units.part(unit, *number) {
                 if part.in_except {
@@ -146,18 +146,18 @@ impl Excepts {
         alloc: Global,
         units: &Units<'_>,
         plan: &Plan,
-        prefixes: &mut Prefixes,
+        prefixes: &mut AddedPrefixes,
         mut trail: Trail,
         place: usize,
         part: usize,
     ) -> Result<String, LiftFault> {
         self.open(alloc, units, plan, &mut trail, place, part)?;
         for _ in 0..MAX_EXCEPTS {
-            let Some(task) = trail.tasks.pop() else {
+            let Some(next) = trail.rest.pop() else {
                 self.left = self.left.saturating_sub(trail.text.len());
                 return Ok(trail.text);
             };
-            self.step(alloc, units, plan, prefixes, &mut trail, task)?;
+            self.step(alloc, units, plan, prefixes, &mut trail, next)?;
             if trail.text.len() > self.left {
                 break;
             }
@@ -170,17 +170,17 @@ impl Excepts {
         alloc: Global,
         units: &Units<'_>,
         plan: &Plan,
-        prefixes: &mut Prefixes,
+        prefixes: &mut AddedPrefixes,
         trail: &mut Trail,
-        task: Task,
+        next: ToWrite,
     ) -> Result<(), LiftFault> {
-        match task {
-            Task::Text(text) => Ok(trail.text.push_str(text)?),
-            Task::Leave(key) => {
+        match next {
+            ToWrite::Text(text) => Ok(trail.text.push_str(text)?),
+            ToWrite::Leave(key) => {
                 trail.open.remove(&key);
                 Ok(())
             }
-            Task::Body { place, body, next } => {
+            ToWrite::Body { place, body, next } => {
                 self.step_body(alloc, units, plan, prefixes, trail, place, body, next)
             }
         }
@@ -192,7 +192,7 @@ impl Excepts {
         alloc: Global,
         units: &Units<'_>,
         plan: &Plan,
-        prefixes: &mut Prefixes,
+        prefixes: &mut AddedPrefixes,
         trail: &mut Trail,
         place: usize,
         body: usize,
@@ -201,7 +201,7 @@ impl Excepts {
         let Some(chunk) = self.bodies.chunk(body, next) else {
             return Ok(());
         };
-        trail.tasks.push(Task::Body {
+        trail.rest.push(ToWrite::Body {
             place,
             body,
             next: next.saturating_add(1),
@@ -245,8 +245,8 @@ impl Excepts {
         }
         trail.text.push('(')?;
         trail.open.insert(key.copy(alloc)?)?;
-        trail.tasks.push(Task::Leave(key))?;
-        trail.tasks.push(Task::Text(")"))?;
+        trail.rest.push(ToWrite::Leave(key))?;
+        trail.rest.push(ToWrite::Text(")"))?;
         push_bodies(alloc, units, plan, &mut self.bodies, trail, standing)
     }
 }
@@ -262,11 +262,11 @@ fn push_bodies(
 ) -> Result<(), LiftFault> {
     for (number, definition) in standing.iter().rev().enumerate() {
         if number > 0 {
-            trail.tasks.push(Task::Text(" | "))?;
+            trail.rest.push(ToWrite::Text(" | "))?;
         }
         let file = file_of(units, plan, definition.place);
         let body = bodies.number(alloc, units, file, definition.part)?;
-        trail.tasks.push(Task::Body {
+        trail.rest.push(ToWrite::Body {
             place: definition.place,
             body,
             next: 0,
@@ -280,7 +280,7 @@ fn new_trail(alloc: Global, file: usize, at: usize) -> Trail {
         file,
         at,
         text: String::new(alloc),
-        tasks: Vec::new(alloc),
+        rest: Vec::new(alloc),
         open: BTreeSet::new(alloc),
     }
 }

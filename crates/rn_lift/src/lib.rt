@@ -2,6 +2,7 @@
 //! `grammar` and bare patterns, each byte with its origin (RELAX NG 2001, 4.6, 4.7, 4.18, 7.1.4).
 #![tactic(auto)]
 
+mod added_prefixes;
 mod body_chunks;
 mod draft;
 mod edits;
@@ -9,7 +10,6 @@ mod excepts;
 pub mod lifted;
 pub mod lifting;
 mod module_texts;
-mod prefixes;
 mod scope_definitions;
 
 pub use excepts::MAX_EXCEPTS;

@@ -156,7 +156,7 @@ fn write_front(draft: &mut Draft<'_>, given: &Given<'_>, spliced: &Spliced) -> R
 }
 
 /// The literal of a text.
-fn literal_of(alloc: Global, text: &str) -> Result<String, AllocError>
+fn written_literal(alloc: Global, text: &str) -> Result<String, AllocError>
     ensures { IfOk result (λ t. string_bytes t ≡ literal_bytes text.now) }
 {
     let mut literal = String::new(alloc);
@@ -284,7 +284,7 @@ impl<'u, 'a> PlaceView<'u, 'a> {
             return Err(unsound_fault());
         };
         let module = place.module.as_str();
-        let literal = literal_of(alloc, module)?;
+        let literal = written_literal(alloc, module)?;
         Ok(literal)
     }
 

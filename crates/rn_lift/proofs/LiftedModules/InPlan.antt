@@ -8,7 +8,7 @@ use Rattle.rn_plan.specs.declared.units.Units.{Units}
 use Rattle.rn_lift.specs.LiftedModules.{BringsIn}
 use Rattle.rn_lift.specs.inside.Planned.{HasPlace, IsBrought, IsModuleOfPlace}
 use Rattle.rn_lift.specs.declared.lifted.LiftedModule.{LiftedModule}
-use Rattle.rn_lift.proofs.OneMore.{last_there, still_there}
+use Rattle.rn_lift.proofs.ListsWithOneMore.{last_there, still_there}
 
 -- the scopes so far, and one more
 pub brought_more : (plan : Plan) (ms ns : List LiftedModule) (m : LiftedModule) (ss : List Scope) (i : ℕ) (s : Scope) → ns ≡ ms ++ m ∷ [] → i < length ss → s ≡ get_or ss i s → BringsIn (entry_of plan s) m → All (IsBrought plan ms) (take i ss) → All (IsBrought plan ns) (take (i + 1) ss)

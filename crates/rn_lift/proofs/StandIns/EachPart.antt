@@ -6,7 +6,7 @@ use Rattle.rn_lift.specs.inside.Planned.{AddsEdit, IsCovered, IsEditOf, StaysAt}
 use Rattle.rn_lift.specs.StandIns.{Stays}
 use Rattle.rn_lift.specs.declared.edits.Edit.{Edit}
 use Rattle.rn_lift.specs.declared.module_texts.PlaceView.{PlaceView}
-use Rattle.rn_lift.proofs.OneMore.{last_there, still_there}
+use Rattle.rn_lift.proofs.ListsWithOneMore.{last_there, still_there}
 
 abbrev parts_of : List Edit → List ℕ
 parts_of es = map (λ e. e.part) es

@@ -5,7 +5,7 @@ use Rattle.std.proofs.Common.{All, List, subst, ◌∙◌}
 use Rattle.rn_plan.specs.declared.scopes.Scope.{Scope}
 use Rattle.rn_lift.specs.inside.Planned.{IsBrought}
 use Rattle.rn_lift.specs.declared.lifted.LiftedModule.{LiftedModule}
-use Rattle.rn_lift.proofs.OneMore.{all_there, still_there}
+use Rattle.rn_lift.proofs.ListsWithOneMore.{all_there, still_there}
 use Rattle.rn_lift.proofs.LiftedModules.InPlan.{brought_more}
 use Rattle.rn_lift.proofs.lifting.add_bringing_modules.Goals as goal
 

@@ -1,6 +1,6 @@
 use Rattle.std.proofs.Common.{arith}
 use Rattle.rn_lift.specs.inside.Planned.{IsModuleOfSomePlace}
-use Rattle.rn_lift.proofs.OneMore.{all_there}
+use Rattle.rn_lift.proofs.ListsWithOneMore.{all_there}
 use Rattle.rn_lift.proofs.LiftedModules.InPlan.{has_places}
 use Rattle.rn_lift.proofs.lifting.place_modules.Goals as goal
 

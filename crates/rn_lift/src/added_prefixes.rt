@@ -1,4 +1,4 @@
-// Prefixes of datatypes that come from another file.
+// AddedPrefixes of datatypes that come from another file.
 
 use rn_outline::unquoted_name;
 use rn_plan::{Given, Taken, Units};
@@ -8,7 +8,7 @@ use std::collections::BTreeMap;
 
 /// The prefixes that a module needs besides those of its file.
 #[derive(Drop)]
-pub(crate) struct Prefixes {
+pub(crate) struct AddedPrefixes {
     file: usize,
     taken: Taken,
     /// Of each library, the prefix.
@@ -16,9 +16,9 @@ pub(crate) struct Prefixes {
     declarations: String,
 }
 
-impl Prefixes {
+impl AddedPrefixes {
     pub(crate) fn new(alloc: Global, file: usize) -> Self {
-        Prefixes {
+        AddedPrefixes {
             file,
             taken: Taken::new(alloc),
             added: BTreeMap::new(alloc),
