@@ -1,8 +1,9 @@
 -- Graphs of files.
 use Rattle.std.proofs.Common.{◌≡◌, ◌≢◌, false, not, ℕ, suc, zero, ◌<◌, ◌+◌, ◌==◌, ◌∙◌, true, List, [], ◌∷◌, ◌++◌, length, take, get_or, ap, subst, sym, arith}
-use Rattle.std.specs.Prelude.{nat_lt, All, string_bytes}
+use Rattle.std.specs.Prelude.{nat_lt, All, Err, IfOk, MatchOption, None, Ok, Option, Result, Some, Vec, string_bytes}
 use Rattle.std.specs.List.{list_all}
 use Rattle.std.specs.Str.{bytes_eq}
+use Rattle.std.specs.declared.alloc.Global.{Global}
 use Rattle.std.proofs.lemmas.Bool.{and_parts, false≢true, ltb-true}
 use Rattle.std.proofs.lemmas.Bool.Decides.{nat_tests}
 use Rattle.std.proofs.lemmas.Slice.Eq.{bytes_eq-Decides}
@@ -11,11 +12,12 @@ use Rattle.std.proofs.lemmas.List.Elements.{All-contains, All-weaker, All-head, 
 use Rattle.std.proofs.lemmas.List.Sums.{AllPass-from_list_all}
 use Rattle.rn_files.specs.declared.sources.SourceFile.{SourceFile}
 use Rattle.rn_files.specs.declared.sources.Sources.{Sources}
-use Rattle.rn_files.specs.Sources.{HaveOwnNames, count_links, edges_of, IsSound}
+use Rattle.rn_files.specs.Sources.{HaveOwnNames, count_links, edges_of, AreSoundSources}
 use Rattle.rn_files.specs.inside.Sources.{differ_in_name, have_own_names}
 use Rattle.rn_modset.specs.Contributions.{is_module_name}
-use Rattle.rn_pattern.specs.Ranks.{HasNoLoop}
 use Rattle.rn_pattern.specs.Graph.{AllBelow, row, IsGraph}
+use Rattle.rn_pattern.specs.Loops.{IsLoop}
+use Rattle.rn_pattern.specs.Ranks.{HasNoLoop, IsFirstLoop, Leads}
 
 -- numbers that were tested are less
 pub all_less : (n : ℕ) (xs : List ℕ) → list_all (λ x. nat_lt x n) xs ≡ true → All (λ x. x < n) xs
@@ -35,6 +37,14 @@ graph_if files h =
     let each : All (IsTested (length files)) files = AllPass-from_list_all (λ (f : SourceFile). list_all (λ x. nat_lt x (length files)) f.targets.items) files h in
     let P : ℕ → Type 0 = λ n. (x : ℕ) → AllBelow n (row (edges_of files) x) in
     subst P (sym (length-map files (λ (f : SourceFile). f.targets.items))) (rows_below (length files) files each)
+
+-- the loop through the first node that comes back to itself
+pub loop_of_first : {E : Type 0} (rows : List (List ℕ)) (first : ℕ) (r : Result (Option (Vec ℕ Global)) E) → IsFirstLoop rows first
+    → IfOk r (λ found. MatchOption found (¬ Leads rows first first) (λ nodes. IsLoop rows first nodes.items))
+    → IfOk r (λ found. MatchOption found (HasNoLoop rows) (λ nodes. (x : ℕ) × IsFirstLoop rows x × IsLoop rows x nodes.items))
+loop_of_first rows first (Ok None) is none = absurd (none is.holds)
+loop_of_first rows first (Ok (Some nodes)) is looped = (first, is, looped)
+loop_of_first rows first (Err e) is looped = tt
 
 -- a file's row behind those of the files before it
 pub one_row_more : (rows more : List (List ℕ)) (xs : List ℕ) (files : List SourceFile) (i : ℕ) (file : SourceFile) → i < length files
@@ -75,7 +85,7 @@ pub tested_sources : (s : Sources) (rows : List (List ℕ)) (files : List Source
     → list_all (λ (f : SourceFile). list_all (λ x. nat_lt x (length files)) f.targets.items) files ≡ true → list_all (λ x. nat_lt x count) roots ≡ true
     → list_all (λ (f : SourceFile). is_module_name (string_bytes f.name)) files ≡ true
     → list_all (λ (f : SourceFile). length f.targets.items == count_links f) files ≡ true → have_own_names files ≡ true
-    → HasNoLoop rows → IsSound s
+    → HasNoLoop rows → AreSoundSources s
 tested_sources s rows files roots count same same_roots counted are graph below named linked own no_loop =
     let H : List (List ℕ) → Type 0 = λ z. HasNoLoop z in
     let T : List SourceFile → Type 0 = λ z. IsGraph (edges_of z) in

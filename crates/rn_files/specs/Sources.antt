@@ -26,7 +26,7 @@ HaveOwnNames (f ∷ fs) = All (λ g. string_bytes f.name ≢ string_bytes g.name
 
 -- targets and roots are numbers of files, and each include and external has a target; no file comes back to itself; and
 -- names are those of modules, each of one file
-pub record IsSound (s : Sources) : Type 0 where
+pub record AreSoundSources (s : Sources) : Type 0 where
   pub targets : IsGraph (edges_of s.files.items)
   pub links : All (λ f. length f.targets.items ≡ count_links f) s.files.items
   pub no_loop : HasNoLoop (edges_of s.files.items)

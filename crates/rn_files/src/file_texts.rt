@@ -1,7 +1,7 @@
 // The text of a file, and what it is made of.
 ghost use Rattle.std.specs.Prelude.{◌≡◌, IfOk, IsErr, OnOk, string_bytes};
 
-use crate::source_faults::FaultKind;
+use crate::source_faults::SourceFaultKind;
 use rn_outline::{Outline, OutlineFault, read_outline};
 use rn_text::{TextFault, tokens};
 use std::alloc::{AllocError, Global};
@@ -24,7 +24,7 @@ pub struct FileTextFault {
     /// The byte of the text.
     pub at: usize,
     /// What is wrong there.
-    pub kind: FaultKind,
+    pub kind: SourceFaultKind,
 }
 
 /// The front of the bytes up to the one with this number, if it is UTF-8.
@@ -41,11 +41,11 @@ fn outline_of(alloc: Global, text: &str) -> Result<Result<Outline, FileTextFault
         Ok(tokens) => tokens,
         Err(TextFault::Encoding { at }) => return Ok(Err(FileTextFault {
             at,
-            kind: FaultKind::Encoding,
+            kind: SourceFaultKind::Encoding,
         })),
         Err(TextFault::Lexical { at }) => return Ok(Err(FileTextFault {
             at,
-            kind: FaultKind::Lexical,
+            kind: SourceFaultKind::Lexical,
         })),
         Err(TextFault::Memory) => return Err(AllocError),
     };
@@ -53,11 +53,11 @@ fn outline_of(alloc: Global, text: &str) -> Result<Result<Outline, FileTextFault
         Ok(outline) => Ok(Ok(outline)),
         Err(OutlineFault::Syntax { at }) => Ok(Err(FileTextFault {
             at,
-            kind: FaultKind::Syntax,
+            kind: SourceFaultKind::Syntax,
         })),
         Err(OutlineFault::Deep { at }) => Ok(Err(FileTextFault {
             at,
-            kind: FaultKind::Deep,
+            kind: SourceFaultKind::Deep,
         })),
         Err(OutlineFault::Memory) => Err(AllocError),
     }
@@ -84,7 +84,7 @@ fn unread_text(alloc: Global, bytes: &[u8], at: usize) -> Result<FileText, Alloc
         text: String::from_str(alloc, front(bytes, at))?,
         outline: Err(FileTextFault {
             at,
-            kind: FaultKind::Encoding,
+            kind: SourceFaultKind::Encoding,
         }),
     })
 }

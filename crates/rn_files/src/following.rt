@@ -12,9 +12,9 @@ use crate::files::{FileFault, Files, STANDARD_INPUT};
 use crate::maps::{Location, Map, locate};
 use crate::paths::remove_dot_segments;
 use crate::root_folder::RootFolder;
-use crate::source_faults::{FaultKind, FaultPlace};
+use crate::source_faults::{FaultPlace, SourceFaultKind};
 use crate::uri_references::resolve_below;
-use crate::walk::{Followed, FoundFile, MAX_SOURCES, Origin, Walk};
+use crate::walk::{Followed, FoundBy, FoundFile, MAX_SOURCES, Walk};
 use rn_outline::{Outline, Part, PartKind};
 use std::alloc::{AllocError, Global};
 
@@ -86,8 +86,8 @@ fn enter_found(
     let is_outside = ways
         .root
         .is_some_and(|root| !root.holds(found.path.as_str()));
-    if found.origin == Origin::Path && is_outside {
-        walk.note(place, FaultKind::Outside)?;
+    if found.by == FoundBy::Path && is_outside {
+        walk.note(place, SourceFaultKind::Outside)?;
         return Ok(None);
     }
     walk.enter(found, place)
@@ -116,10 +116,10 @@ fn enter_word<F: Files>(
         path,
         shown: String::from_str(alloc, word)?,
         uri: word_uri(alloc, ways.current, word)?,
-        origin: if is_input {
-            Origin::Input
+        by: if is_input {
+            FoundBy::Input
         } else {
-            Origin::Path
+            FoundBy::Path
         },
     };
     enter_found(ways, walk, found, place)
@@ -162,7 +162,7 @@ fn real_path<F: Files>(
     let is_outside = ways.root.is_some_and(|root| !leads.is_mapped
         && !root.spells(leads.path.as_str()));
     if is_outside && matches!(&answer, Err(FileFault::Missing)) {
-        walk.note(place, FaultKind::Outside)?;
+        walk.note(place, SourceFaultKind::Outside)?;
         return Ok(None);
     }
     walk.note_answer(place, answer)
@@ -199,11 +199,11 @@ fn target_location(
 }
 
 /// How a file that a reference led to was found.
-fn origin_of(leads: &Location) -> Origin {
+fn found_by(leads: &Location) -> FoundBy {
     if leads.is_mapped {
-        Origin::Map
+        FoundBy::Map
     } else {
-        Origin::Path
+        FoundBy::Path
     }
 }
 
@@ -232,12 +232,12 @@ fn find_link<F: Files>(
         return Ok(None);
     };
     let shown = String::from_str(alloc, shown_path(ways.current, path.as_str()))?;
-    let origin = origin_of(&leads);
+    let by = found_by(&leads);
     Ok(Some(FoundFile {
         path,
         shown,
         uri,
-        origin,
+        by,
     }))
 }
 

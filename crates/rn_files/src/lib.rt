@@ -7,7 +7,6 @@
 //! Work and memory grow with the bytes that are read and the references in them; nothing recurses.
 #![tactic(auto)]
 
-mod cycles;
 mod escapes;
 mod file_texts;
 mod files;
@@ -36,8 +35,8 @@ pub use memory_files::MemoryFiles;
 pub use module_names::module_name;
 pub use paths::remove_dot_segments;
 pub use positions::{line_of, position};
-pub use source_faults::{FaultKind, FaultPlace, SourceFault};
-pub use source_reading::{ReadFault, Reading, read_sources};
+pub use source_faults::{FaultPlace, SourceFault, SourceFaultKind};
+pub use source_reading::{Reading, ReadingFault, read_sources};
 pub use sources::{Asked, Attempt, SourceFile, Sources};
 pub use uri_references::{ReferenceFault, resolve};
 pub use walk::MAX_SOURCES;

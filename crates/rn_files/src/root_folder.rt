@@ -22,7 +22,7 @@ impl RootFolder {
 }
 
 /// A path up to its last slash, and with it; nothing where it has no slash.
-pub fn folder_of(path: &str) -> &str {
+fn up_to_last_slash(path: &str) -> &str {
     match path.rfind('/') {
         Some(at) => &path[..at + 1],
         None => "",
@@ -31,7 +31,7 @@ pub fn folder_of(path: &str) -> &str {
 
 /// The folder that a folder lies in, where both end in a slash.
 fn outer_folder(folder: &str) -> &str {
-    folder_of(folder.strip_suffix('/').unwrap_or(folder))
+    up_to_last_slash(folder.strip_suffix('/').unwrap_or(folder))
 }
 
 /// The deepest folder that has both the path and all of the folder in it.
@@ -51,7 +51,7 @@ pub fn common_folder<'p>(paths: &[&'p str]) -> &'p str {
     let [first, others @ ..] = paths else {
         return "";
     };
-    let mut folder = folder_of(first);
+    let mut folder = up_to_last_slash(first);
     for path in others {
         folder = shared_folder(folder, path);
     }

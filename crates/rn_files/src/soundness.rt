@@ -1,18 +1,28 @@
 // What holds of all sources.
-ghost use Rattle.std.specs.Prelude.{◌≡◌, ◌==◌, true, IfNone, IfOk, length, string_bytes};
+ghost use Rattle.std.specs.Prelude.{◌≡◌, ◌==◌, ℕ, true, IfNone, IfOk, MatchOption, length, string_bytes};
 ghost use Rattle.std.specs.List.{list_all};
 ghost use Rattle.rn_modset.specs.Contributions.{is_module_name};
-ghost use Rattle.rn_pattern.specs.Graph.{rows_of};
-ghost use Rattle.rn_files.specs.Sources.{IsSound, count_links, edges_of};
+ghost use Rattle.rn_pattern.specs.Graph.{IsGraph, rows_of};
+ghost use Rattle.rn_pattern.specs.Loops.{IsLoop};
+ghost use Rattle.rn_pattern.specs.Ranks.{HasNoLoop, IsFirstLoop};
+ghost use Rattle.rn_files.specs.Sources.{AreSoundSources, count_links, edges_of};
 ghost use Rattle.rn_files.specs.inside.Sources.{are_below, differ_in_name, have_own_names};
 
-use crate::cycles::{are_below, first_loop};
 use crate::following::link_of;
-use crate::source_faults::{FaultKind, FaultPlace, SourceFault};
+use crate::source_faults::{FaultPlace, SourceFault, SourceFaultKind};
 use crate::sources::{SourceFile, Sources};
 use rn_modset::is_module_name;
 use rn_pattern::Rows;
+use rn_pattern::loops::shortest_loop;
+use rn_pattern::ranks::least_looped;
 use std::alloc::{AllocError, Global};
+
+/// Whether all numbers are less than the count.
+fn are_below(numbers: &[usize], count: usize) -> bool
+    ensures { result ≡ are_below count numbers.now }
+{
+    numbers.iter().all(|number| *number < count)
+}
 
 /// For each file, the numbers of those that its includes and externals mean.
 fn file_graph(alloc: Global, files: &[SourceFile]) -> Result<Rows, AllocError>
@@ -89,6 +99,19 @@ fn have_targets(files: &[SourceFile]) -> bool
         .all(|source| source.targets.len() == count_links(source))
 }
 
+/// The files of a loop along references, in order, through the first file that comes back to itself; none where no file does.
+fn first_loop(alloc: Global, edges: &Rows) -> Result<Option<Vec<usize>>, AllocError>
+    requires { IsGraph (rows_of edges.now) }
+    ensures { IfOk result (λ found. MatchOption found (HasNoLoop (rows_of edges.now))
+        (λ files. (first : ℕ) × IsFirstLoop (rows_of edges.now) first
+        × IsLoop (rows_of edges.now) first files.items)) }
+{
+    match least_looped(alloc, edges)? {
+        Some(first) => shortest_loop(alloc, edges, first),
+        None => Ok(None),
+    }
+}
+
 /// The byte where the link with this number begins.
 fn link_place(source: &SourceFile, number: usize) -> usize {
     match source.outline.parts.iter().filter_map(link_of).nth(number) {
@@ -111,7 +134,7 @@ fn closing_place(sources: &[SourceFile], files: &[usize]) -> Option<FaultPlace> 
 fn unsound_fault() -> SourceFault {
     SourceFault {
         place: FaultPlace::Current,
-        kind: FaultKind::Unsound,
+        kind: SourceFaultKind::Unsound,
     }
 }
 
@@ -120,13 +143,13 @@ fn closed_loop(sources: &[SourceFile], looped: Vec<usize>) -> SourceFault {
     let place = closing_place(sources, looped.as_slice()).unwrap_or(FaultPlace::Current);
     SourceFault {
         place,
-        kind: FaultKind::Loop(looped),
+        kind: SourceFaultKind::Loop(looped),
     }
 }
 
 /// A loop along references; or that the sources don't keep what else is promised of them.
-pub fn fault_of(alloc: Global, sources: &Sources) -> Result<Option<SourceFault>, AllocError>
-    ensures { IfOk result (λ fault. IfNone fault (IsSound sources.now)) }
+pub fn sources_fault(alloc: Global, sources: &Sources) -> Result<Option<SourceFault>, AllocError>
+    ensures { IfOk result (λ fault. IfNone fault (AreSoundSources sources.now)) }
 {
     let files = sources.files.as_slice();
     if !is_graph(files) {

@@ -21,7 +21,7 @@ pub enum FaultPlace {
 
 /// What is wrong.
 #[derive(Debug, Drop, PartialEq, Eq)]
-pub enum FaultKind {
+pub enum SourceFaultKind {
     /// The file that is named there can't be read.
     File(FileFault),
     /// The reference names no file.
@@ -54,5 +54,5 @@ pub struct SourceFault {
     /// What the fault is about.
     pub place: FaultPlace,
     /// What is wrong there.
-    pub kind: FaultKind,
+    pub kind: SourceFaultKind,
 }

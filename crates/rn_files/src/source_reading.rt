@@ -1,16 +1,16 @@
 // From the files that are asked for to sources.
 ghost use Rattle.std.specs.Prelude.{◌≡◌, All, IfOk, IfSome};
 ghost use Rattle.rn_files.specs.inside.Following.{IsFollowed};
-ghost use Rattle.rn_files.specs.Sources.{IsSound, IsTextAt};
+ghost use Rattle.rn_files.specs.Sources.{AreSoundSources, IsTextAt};
 
 use crate::files::Files;
 use crate::following::{Ways, enter_words, follow_all, word_path};
 use crate::module_names::module_name;
 use crate::root_folder::{RootFolder, common_folder};
-use crate::soundness::fault_of;
-use crate::source_faults::{FaultKind, FaultPlace, SourceFault};
+use crate::soundness::sources_fault;
+use crate::source_faults::{FaultPlace, SourceFault, SourceFaultKind};
 use crate::sources::{Asked, Attempt, SourceFile, Sources};
-use crate::walk::{Entry, Followed, FoundFile, Origin, Walk};
+use crate::walk::{Entry, Followed, FoundBy, FoundFile, Walk};
 use rn_modset::MAX_NAME;
 use std::alloc::{AllocError, Global};
 use std::collections::BTreeSet;
@@ -26,26 +26,26 @@ pub struct Reading {
 
 /// Why there are no sources.
 #[derive(Debug, Drop)]
-pub enum ReadFault {
+pub enum ReadingFault {
     /// Files or what they refer to are at fault.
     Faults(Reading),
     /// A request for memory was refused.
     Memory,
 }
 
-impl From<AllocError> for ReadFault {
+impl From<AllocError> for ReadingFault {
     fn from(_: AllocError) -> Self {
-        ReadFault::Memory
+        ReadingFault::Memory
     }
 }
 
 /// What a module's name is made from: the path below the root folder, or the URI where a map found the file.
 fn unescaped_name<'e>(entry: &'e Entry, root: &str) -> &'e str {
     let path = entry.found.path.as_str();
-    match entry.found.origin {
-        Origin::Input => path,
-        Origin::Map => entry.found.uri.as_str(),
-        Origin::Path => path.strip_prefix(root).unwrap_or(path),
+    match entry.found.by {
+        FoundBy::Input => path,
+        FoundBy::Map => entry.found.uri.as_str(),
+        FoundBy::Path => path.strip_prefix(root).unwrap_or(path),
     }
 }
 
@@ -60,11 +60,11 @@ fn name_of(
     let place = entry.place;
     let name = module_name(alloc, unescaped_name(entry, root))?;
     if name.len() > MAX_NAME {
-        let kind = FaultKind::Name;
+        let kind = SourceFaultKind::Name;
         faults.push(SourceFault { place, kind })?;
     }
     if !used.insert(name.clone()?)? {
-        let kind = FaultKind::Twice;
+        let kind = SourceFaultKind::Twice;
         faults.push(SourceFault { place, kind })?;
     }
     Ok(name)
@@ -89,7 +89,7 @@ fn names_of(
 fn deepest_folder(alloc: Global, entries: &[Entry]) -> Result<String, AllocError> {
     let mut paths = Vec::new(alloc);
     for entry in entries {
-        if entry.found.origin == Origin::Path {
+        if entry.found.by == FoundBy::Path {
             paths.push(entry.found.path.as_str())?;
         }
     }
@@ -225,12 +225,12 @@ fn reading_of_sources(
 }
 
 /// Sources without loops along references.
-fn check_sources(alloc: Global, sources: Sources) -> Result<Sources, ReadFault>
-    ensures sound { IfOk result (λ s. IsSound s) }
+fn check_sources(alloc: Global, sources: Sources) -> Result<Sources, ReadingFault>
+    ensures sound { IfOk result (λ s. AreSoundSources s) }
     ensures same { IfOk result (λ s. s ≡ sources) }
 {
-    match fault_of(alloc, &sources)? {
-        Some(fault) => Err(ReadFault::Faults(reading_of_sources(alloc, sources, fault)?)),
+    match sources_fault(alloc, &sources)? {
+        Some(fault) => Err(ReadingFault::Faults(reading_of_sources(alloc, sources, fault)?)),
         None => Ok(sources),
     }
 }
@@ -309,8 +309,8 @@ pub fn read_sources<F: Files>(
     alloc: Global,
     files: &F,
     asked: &Asked<'_>,
-) -> Result<Sources, ReadFault>
-    ensures sound { IfOk result (λ s. IsSound s) }
+) -> Result<Sources, ReadingFault>
+    ensures sound { IfOk result (λ s. AreSoundSources s) }
     ensures texts { IfOk result (λ s. All (IsTextAt (F.gives files.now)) s.files.items) }
 {
     let mut walk = Walk::new(alloc);
@@ -321,7 +321,7 @@ pub fn read_sources<F: Files>(
     } = find_files(alloc, files, asked, &mut walk)?;
     let names = name_files(alloc, folder, &mut walk)?;
     if !walk.faults.is_empty() {
-        return Err(ReadFault::Faults(reading_of_walk(alloc, walk, followed, names)?));
+        return Err(ReadingFault::Faults(reading_of_walk(alloc, walk, followed, names)?));
     }
     let files = sources(alloc, files, walk.entries, followed, names)?;
     check_sources(alloc, Sources { files, roots })

@@ -3,7 +3,7 @@ ghost use Rattle.std.specs.Prelude.{◌≡◌, IfOk, IfSome, Ok};
 ghost use Rattle.rn_files.specs.inside.Following.{EntriesGrow};
 
 use crate::files::FileFault;
-use crate::source_faults::{FaultKind, FaultPlace, SourceFault};
+use crate::source_faults::{FaultPlace, SourceFault, SourceFaultKind};
 use crate::uri_references::ReferenceFault;
 use rn_outline::Outline;
 use std::alloc::{AllocError, Global};
@@ -14,7 +14,7 @@ pub const MAX_SOURCES: usize = rn_modset::MAX_CONTRIBUTIONS;
 
 /// How a file was found.
 #[derive(Clone, Copy, Debug, PartialEq, Eq)]
-pub enum Origin {
+pub enum FoundBy {
     /// It is standard input.
     Input,
     /// By its path.
@@ -33,7 +33,7 @@ pub struct FoundFile {
     /// What its references are resolved against.
     pub uri: String,
     /// How it was found.
-    pub origin: Origin,
+    pub by: FoundBy,
 }
 
 /// A file that was found, and where.
@@ -80,7 +80,7 @@ impl Walk {
     }
 
     /// Keeps a fault.
-    pub fn note(&mut self, place: FaultPlace, kind: FaultKind) -> Result<(), AllocError>
+    pub fn note(&mut self, place: FaultPlace, kind: SourceFaultKind) -> Result<(), AllocError>
         ensures { EntriesGrow self.old self.new }
     {
         self.faults.push(SourceFault { place, kind })?;
@@ -100,7 +100,7 @@ impl Walk {
             Ok(value) => Ok(Some(value)),
             Err(FileFault::Memory) => Err(AllocError),
             Err(fault) => {
-                self.note(place, FaultKind::File(fault))?;
+                self.note(place, SourceFaultKind::File(fault))?;
                 Ok(None)
             }
         }
@@ -119,7 +119,7 @@ impl Walk {
             Ok(value) => Ok(Some(value)),
             Err(ReferenceFault::Memory) => Err(AllocError),
             Err(fault) => {
-                self.note(place, FaultKind::Reference(fault))?;
+                self.note(place, SourceFaultKind::Reference(fault))?;
                 Ok(None)
             }
         }
@@ -137,7 +137,7 @@ impl Walk {
             return Ok(Some(*number));
         }
         if self.entries.len() >= MAX_SOURCES {
-            self.note(place, FaultKind::Count)?;
+            self.note(place, SourceFaultKind::Count)?;
             return Ok(None);
         }
         self.add(found, place)

@@ -1,6 +1,6 @@
 // What is wrong with the files that are read.
 use crate::flat_fault::FlatFault;
-use rn_files::{Asked, ReadFault, Reading};
+use rn_files::{Asked, ReadingFault, Reading};
 use rn_tell::{Colours, attempt_pages, is_unread, message_lines, reading_messages};
 use std::alloc::{AllocError, Global};
 
@@ -8,12 +8,12 @@ use std::alloc::{AllocError, Global};
 pub fn reading_fault(
     alloc: Global,
     asked: &Asked<'_>,
-    fault: &ReadFault,
+    fault: &ReadingFault,
     colours: Colours,
 ) -> FlatFault {
     match fault {
-        ReadFault::Memory => FlatFault::Memory,
-        ReadFault::Faults(reading) => match reading_lines(alloc, asked, reading, colours) {
+        ReadingFault::Memory => FlatFault::Memory,
+        ReadingFault::Faults(reading) => match reading_lines(alloc, asked, reading, colours) {
             Ok(fault) => fault,
             Err(_) => FlatFault::Memory,
         },

@@ -1,6 +1,6 @@
 // What is answered where files in memory are asked for, as rows write them.
 use crate::comparing::{expect_text, same_for};
-use rn_files::{Asked, Map, MemoryFiles, ReadFault, Reading, Sources, read_sources};
+use rn_files::{Asked, Map, MemoryFiles, ReadingFault, Reading, Sources, read_sources};
 use std::alloc::{AllocError, Global};
 use std::process::Abort;
 
@@ -82,12 +82,12 @@ fn faults_line(alloc: Global, reading: &Reading) -> Result<String, AllocError> {
 /// The sources that are read, or the faults, in one line.
 pub fn answer_line(
     alloc: Global,
-    answer: Result<Sources, ReadFault>,
+    answer: Result<Sources, ReadingFault>,
 ) -> Result<String, AllocError> {
     match answer {
         Ok(sources) => sources_line(alloc, &sources),
-        Err(ReadFault::Faults(reading)) => faults_line(alloc, &reading),
-        Err(ReadFault::Memory) => Err(AllocError),
+        Err(ReadingFault::Faults(reading)) => faults_line(alloc, &reading),
+        Err(ReadingFault::Memory) => Err(AllocError),
     }
 }
 
@@ -116,7 +116,7 @@ pub fn each_answered(rt: &(impl Abort + AllocGlobal), rows: &[(&str, &str)]) {
 }
 
 /// What is answered where the file `/w/a.rnc` is asked for.
-pub fn answer_for_a(alloc: Global, files: &MemoryFiles) -> Result<Sources, ReadFault> {
+pub fn answer_for_a(alloc: Global, files: &MemoryFiles) -> Result<Sources, ReadingFault> {
     let mut words = Vec::new(alloc);
     words.push(String::from_str(alloc, "a.rnc")?)?;
     let asked = Asked {

@@ -1,7 +1,7 @@
 // Files and texts at their limits, and as many faults as there are.
 use crate::asked_files::{answer_for_a, answer_for_bytes, answer_line};
 use crate::comparing::{expect_text, same_for};
-use rn_files::{MemoryFiles, ReadFault, Sources};
+use rn_files::{MemoryFiles, ReadingFault, Sources};
 use std::alloc::{AllocError, Global};
 
 /// A file with so many includes of a file that isn't there.
@@ -13,9 +13,9 @@ fn missing_includes(alloc: Global, count: usize) -> Result<MemoryFiles, AllocErr
 }
 
 /// How many faults an answer has.
-fn count_of_faults(answer: &Result<Sources, ReadFault>) -> usize {
+fn count_of_faults(answer: &Result<Sources, ReadingFault>) -> usize {
     match answer {
-        Err(ReadFault::Faults(reading)) => reading.faults.len(),
+        Err(ReadingFault::Faults(reading)) => reading.faults.len(),
         _ => 0,
     }
 }

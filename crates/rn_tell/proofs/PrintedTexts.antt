@@ -22,7 +22,7 @@ one_text_more pages colours (n ∷ ms) m lines more e h = (
   ap (λ x. x ++ more) e.4 ∙ append_assoc e.0 e.1 more,
 )
 
--- so at the next message of a list
+-- the lines of the first messages of a list, with those of the next one
 pub next_text : (pages : List Page) (colours : Colours) (items held : List Message) (i : ℕ) (m : Message) (lines more after : List ℕ)
     → held ≡ items → i < length held → m ≡ get_or held i m → AreMessageTexts pages colours (take i items) lines
     → IsMessageText pages colours m more → after ≡ lines ++ more → AreMessageTexts pages colours (take (i + 1) items) after

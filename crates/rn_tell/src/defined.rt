@@ -14,6 +14,15 @@ pub struct Defined<'v> {
     pub is_repeated: bool,
 }
 
+/// The definitions of a key.
+#[derive(Clone, Copy)]
+pub struct Group<'d, 'v> {
+    /// The key.
+    pub key: &'v str,
+    /// Those that take part in the schema; at least one.
+    pub definitions: &'d [Defined<'v>],
+}
+
 /// A definition as it comes to the schema with an instance of its module.
 #[derive(Clone, Copy, Debug, PartialEq, Eq, PartialOrd, Ord)]
 pub struct BroughtDefinition {
@@ -76,18 +85,34 @@ fn push_taking_part<'v>(
     Ok(())
 }
 
-/// The numbers of the definitions of the key among those that are sorted.
-pub fn range_of(defined: &[Defined<'_>], key: &str) -> (usize, usize) {
-    let from = defined.partition_point(|one| one.key < key);
-    let to = defined.partition_point(|one| one.key <= key);
-    (from, to)
-}
-
 /// The definitions of the key among those that are sorted.
 pub fn group_of<'d, 'v>(defined: &'d [Defined<'v>], key: &str) -> &'d [Defined<'v>] {
-    let (from, to) = range_of(defined, key);
-    let to = to.min(defined.len());
-    &defined[from.min(to)..to]
+    let from = defined.partition_point(|one| one.key < key);
+    let to = defined.partition_point(|one| one.key <= key);
+    defined.get(from..to).unwrap_or(&[])
+}
+
+/// The definitions that are sorted, key by key.
+pub fn groups<'d, 'v>(
+    alloc: Global,
+    defined: &'d [Defined<'v>],
+) -> Result<Vec<Group<'d, 'v>>, AllocError> {
+    let mut groups = Vec::new(alloc);
+    let mut before = None;
+    for one in defined {
+        let key = one.key;
+        if before != Some(key) {
+            let definitions = group_of(defined, key);
+            groups.push(Group { key, definitions })?;
+        }
+        before = Some(key);
+    }
+    Ok(groups)
+}
+
+/// The number of the key among those that are grouped.
+pub fn number_of(groups: &[Group<'_, '_>], key: &str) -> Option<usize> {
+    groups.binary_search_by(|group| group.key.cmp(&key)).ok()
 }
 
 /// These definitions, which take part in the schema, as they come to it. The numbers are those of the instances of each

@@ -2,8 +2,8 @@
 use crate::check_sentences::{
     ENCODING, LEXICAL, MEMORY, deep_sentence, limit_sentence, unexpected_token,
 };
-use crate::report::{Message, Page, Spot};
-use rn_files::{FaultKind, FaultPlace, MAX_SOURCES, SourceFault};
+use crate::report::{Message, Page, Spot, text_of_page};
+use rn_files::{FaultPlace, MAX_SOURCES, SourceFault, SourceFaultKind};
 use rn_lift::{Lifted, MAX_EXCEPTS};
 use rn_modset::{AddFault, MAX_CONTRIBUTIONS, MAX_NAME, MAX_TEXT};
 use rn_plan::{LiftFault, LiftFaultKind, MAX_PLACES};
@@ -51,23 +51,23 @@ fn reading_sentence(
     fault: &SourceFault,
 ) -> Result<String, AllocError> {
     let sentence = match &fault.kind {
-        FaultKind::File(fault) => return format!(in alloc; "{fault}"),
-        FaultKind::Reference(fault) => return format!(in alloc; "{fault}"),
-        FaultKind::Syntax => return unexpected_at(alloc, pages, fault.place),
-        FaultKind::Loop(files) => return loop_sentence(alloc, pages, files.as_slice()),
-        FaultKind::Deep => return deep_sentence(alloc),
-        FaultKind::Count => return limit_sentence(
+        SourceFaultKind::File(fault) => return format!(in alloc; "{fault}"),
+        SourceFaultKind::Reference(fault) => return format!(in alloc; "{fault}"),
+        SourceFaultKind::Syntax => return unexpected_at(alloc, pages, fault.place),
+        SourceFaultKind::Loop(files) => return loop_sentence(alloc, pages, files.as_slice()),
+        SourceFaultKind::Deep => return deep_sentence(alloc),
+        SourceFaultKind::Count => return limit_sentence(
             alloc,
             "there are more than",
             MAX_SOURCES,
             "files",
         ),
-        FaultKind::Name => return file_name_sentence(alloc),
-        FaultKind::Encoding => ENCODING,
-        FaultKind::Lexical => LEXICAL,
-        FaultKind::Outside => "the file is not below the root folder",
-        FaultKind::Twice => "another file has the same name",
-        FaultKind::Unsound => "what was read of the files does not fit together",
+        SourceFaultKind::Name => return file_name_sentence(alloc),
+        SourceFaultKind::Encoding => ENCODING,
+        SourceFaultKind::Lexical => LEXICAL,
+        SourceFaultKind::Outside => "the file is not below the root folder",
+        SourceFaultKind::Twice => "another file has the same name",
+        SourceFaultKind::Unsound => "what was read of the files does not fit together",
     };
     String::from_str(alloc, sentence)
 }
@@ -85,13 +85,7 @@ fn unexpected_at(
     place: FaultPlace,
 ) -> Result<String, AllocError> {
     match place {
-        FaultPlace::Text { file, at } => {
-            let text = match pages.get(file) {
-                Some(page) => page.text,
-                None => "",
-            };
-            unexpected_token(alloc, text, at)
-        }
+        FaultPlace::Text { file, at } => unexpected_token(alloc, text_of_page(pages, file), at),
         _ => String::from_str(alloc, "this is no schema"),
     }
 }
@@ -120,7 +114,7 @@ fn push_path(sentence: &mut String, pages: &[Page<'_>], file: usize) -> Result<(
 
 /// Whether the fault is of a file that can't be read, and not of what is in the files.
 pub fn is_unread(fault: &SourceFault) -> bool {
-    matches!(&fault.kind, FaultKind::File(_))
+    matches!(&fault.kind, SourceFaultKind::File(_))
 }
 
 /// Where a fault of lifting is told; nowhere where it is about all files.

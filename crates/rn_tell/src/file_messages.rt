@@ -5,7 +5,7 @@ ghost use Rattle.rn_tell.specs.Messages.{IsFew};
 
 use crate::check_sentences::{check_sentence, fault_byte, is_of_meaning};
 use crate::fault_messages::{lift_message, lift_spot, reading_message, reading_spot};
-use crate::report::{Message, Messages, Page, Spot, attempt_pages, source_pages};
+use crate::report::{Message, Messages, Page, Spot, attempt_pages, source_pages, text_of_page};
 use rn_files::{Reading, SourceFault, SourceFile};
 use rn_lift::LiftedModule;
 use rn_merge::{Place, check};
@@ -15,7 +15,7 @@ use std::collections::BTreeSet;
 
 /// A fault before it is a sentence.
 #[derive(Drop)]
-enum Fault<'f> {
+enum FoundFault<'f> {
     Reading(&'f SourceFault),
     Lift(&'f LiftFault),
     /// A fault of what the text of a file means: of its prefixes, datatypes and values.
@@ -23,11 +23,11 @@ enum Fault<'f> {
 }
 
 /// Where a fault is told.
-fn spot_of(fault: &Fault<'_>) -> Option<Spot> {
+fn spot_of(fault: &FoundFault<'_>) -> Option<Spot> {
     match fault {
-        Fault::Reading(fault) => reading_spot(fault.place),
-        Fault::Lift(fault) => lift_spot(fault),
-        Fault::Meaning { file, place } => Some(Spot {
+        FoundFault::Reading(fault) => reading_spot(fault.place),
+        FoundFault::Lift(fault) => lift_spot(fault),
+        FoundFault::Meaning { file, place } => Some(Spot {
             file: *file,
             at: fault_byte(place),
         }),
@@ -45,7 +45,7 @@ pub fn reading_messages(
     let pages = attempt_pages(alloc, reading.files.as_slice())?;
     let mut faults = Vec::new(alloc);
     for fault in &reading.faults {
-        faults.push(Fault::Reading(fault))?;
+        faults.push(FoundFault::Reading(fault))?;
     }
     gather_meanings(alloc, pages.as_slice(), &mut faults)?;
     messages_in_order(alloc, words, pages.as_slice(), faults.as_slice())
@@ -60,7 +60,7 @@ pub fn lift_messages(
     ensures { IfOk result IsFew }
 {
     let pages = source_pages(alloc, files)?;
-    let mut faults = vec![in alloc; Fault::Lift(fault)]?;
+    let mut faults = vec![in alloc; FoundFault::Lift(fault)]?;
     gather_meanings(alloc, pages.as_slice(), &mut faults)?;
     messages_in_order(alloc, &[], pages.as_slice(), faults.as_slice())
 }
@@ -69,12 +69,12 @@ pub fn lift_messages(
 fn gather_meanings(
     alloc: Global,
     pages: &[Page<'_>],
-    faults: &mut Vec<Fault<'_>>,
+    faults: &mut Vec<FoundFault<'_>>,
 ) -> Result<(), AllocError> {
     for (file, page) in pages.iter().enumerate() {
         if let Some(place) = fault_of(alloc, page.text)? {
             if is_of_meaning(&place) {
-                faults.push(Fault::Meaning { file, place })?;
+                faults.push(FoundFault::Meaning { file, place })?;
             }
         }
     }
@@ -95,7 +95,7 @@ fn messages_in_order(
     alloc: Global,
     words: &[String],
     pages: &[Page<'_>],
-    faults: &[Fault<'_>],
+    faults: &[FoundFault<'_>],
 ) -> Result<Messages, AllocError>
     ensures { IfOk result IsFew }
 {
@@ -114,7 +114,7 @@ fn tell_fault(
     told: &mut Messages,
     words: &[String],
     pages: &[Page<'_>],
-    fault: &Fault<'_>,
+    fault: &FoundFault<'_>,
 ) -> Result<(), AllocError>
     requires { IsFew told.old }
     ensures { IsFew told.new }
@@ -130,7 +130,7 @@ fn tell_fault(
 fn telling_order(
     alloc: Global,
     pages: &[Page<'_>],
-    faults: &[Fault<'_>],
+    faults: &[FoundFault<'_>],
 ) -> Result<Vec<usize>, AllocError> {
     let ranks = ranks(alloc, pages)?;
     let mut places = Vec::new(alloc);
@@ -166,21 +166,15 @@ fn message(
     alloc: Global,
     words: &[String],
     pages: &[Page<'_>],
-    fault: &Fault<'_>,
+    fault: &FoundFault<'_>,
 ) -> Result<Message, AllocError> {
     match fault {
-        Fault::Reading(fault) => reading_message(alloc, words, pages, fault),
-        Fault::Lift(fault) => lift_message(alloc, fault),
-        Fault::Meaning { file, place } => {
-            let text = match pages.get(*file) {
-                Some(page) => page.text,
-                None => "",
-            };
-            Ok(Message {
-                spot: spot_of(fault),
-                sentence: check_sentence(alloc, text, place)?,
-            })
-        }
+        FoundFault::Reading(fault) => reading_message(alloc, words, pages, fault),
+        FoundFault::Lift(fault) => lift_message(alloc, fault),
+        FoundFault::Meaning { file, place } => Ok(Message {
+            spot: spot_of(fault),
+            sentence: check_sentence(alloc, text_of_page(pages, *file), place)?,
+        }),
     }
 }
 

@@ -1,7 +1,7 @@
 // The refusals of modules of which all can be found, in the order in which they are tested.
 use crate::brought::provided_keys;
-use crate::defined::{Defined, group_of, uses};
-use crate::sites::{Site, Sites, key_text, method_of};
+use crate::defined::{Defined, Group, group_of, groups, uses};
+use crate::sites::{Site, Sites, method_of, name_of_key};
 use rn_assemble::Refusal;
 use rn_outline::OutlineMethod;
 use std::alloc::{AllocError, Global};
@@ -56,11 +56,11 @@ fn found_of(refusal: &Refusal) -> Option<FurtherRefusal<'_>> {
         Refusal::Override { module, key } => Some(FurtherRefusal {
             kind: RefusalKind::Override,
             module: module.as_str(),
-            key: key_text(key),
+            key: name_of_key(key),
             site: None,
         }),
-        Refusal::PlainTwice { key } => Some(of_key(RefusalKind::PlainTwice, key_text(key))),
-        Refusal::MixedMethods { key } => Some(of_key(RefusalKind::MixedMethods, key_text(key))),
+        Refusal::PlainTwice { key } => Some(of_key(RefusalKind::PlainTwice, name_of_key(key))),
+        Refusal::MixedMethods { key } => Some(of_key(RefusalKind::MixedMethods, name_of_key(key))),
         Refusal::NoStart => Some(of_key(RefusalKind::NoStart, "")),
         Refusal::Undefined { name } => Some(of_key(RefusalKind::Undefined, name.as_str())),
         _ => None,
@@ -80,7 +80,7 @@ pub fn refusals_from<'v>(
         return Ok(found);
     };
     push_unfounded(alloc, sites, &mut found)?;
-    push_combined(sites, defined, &mut found)?;
+    push_combined(alloc, sites, defined, &mut found)?;
     push_undefined(alloc, sites, defined, &mut found)?;
     found.sort()?;
     found.dedup_by(|one, before| is_same(one, before));
@@ -163,6 +163,7 @@ fn push_lacking<'v>(
 
 /// Adds the keys whose definitions can't be combined, and the start where it has none.
 fn push_combined<'v>(
+    alloc: Global,
     sites: &Sites<'_>,
     defined: &[Defined<'v>],
     found: &mut Vec<FurtherRefusal<'v>>,
@@ -170,28 +171,24 @@ fn push_combined<'v>(
     if group_of(defined, "").is_empty() {
         found.push(of_key(RefusalKind::NoStart, ""))?;
     }
-    let mut before = None;
-    for one in defined {
-        if before != Some(one.key) {
-            push_group(sites, group_of(defined, one.key), one.key, found)?;
-        }
-        before = Some(one.key);
+    for group in groups(alloc, defined)? {
+        push_group(sites, group, found)?;
     }
     Ok(())
 }
 
-/// Adds a key whose definitions, which are these, can't be combined.
+/// Adds a key whose definitions can't be combined.
 fn push_group<'v>(
     sites: &Sites<'_>,
-    group: &[Defined<'v>],
-    key: &'v str,
+    group: Group<'_, 'v>,
     found: &mut Vec<FurtherRefusal<'v>>,
 ) -> Result<(), AllocError> {
-    if is_plain_twice(sites, group) {
+    let Group { key, definitions } = group;
+    if is_plain_twice(sites, definitions) {
         found.push(of_key(RefusalKind::PlainTwice, key))?;
     }
-    if has_any(sites, group, OutlineMethod::Choice)
-        && has_any(sites, group, OutlineMethod::Interleave)
+    if has_any(sites, definitions, OutlineMethod::Choice)
+        && has_any(sites, definitions, OutlineMethod::Interleave)
     {
         found.push(of_key(RefusalKind::MixedMethods, key))?;
     }

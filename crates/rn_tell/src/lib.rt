@@ -14,6 +14,7 @@ mod findings;
 mod further_refusals;
 mod general_sentences;
 mod loop_sites;
+mod outside_names;
 mod report;
 mod sentences;
 mod sites;

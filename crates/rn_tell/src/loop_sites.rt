@@ -1,7 +1,61 @@
 // Loops of definitions that refer to each other outside elements.
-use crate::defined::{Defined, range_of, uses};
+use crate::defined::{Defined, Group, groups, number_of, uses};
 use crate::sites::{Site, Sites};
+use rn_pattern::Rows;
+use rn_pattern::loops::shortest_loop;
 use std::alloc::{AllocError, Global};
+
+/// The sites of a shortest loop that comes back to the key, in order: of each key that is passed, the first definition that
+/// refers to the next one. Nothing where there is none.
+pub fn loop_of(
+    alloc: Global,
+    sites: &Sites<'_>,
+    defined: &[Defined<'_>],
+    key: &str,
+) -> Result<Vec<Site>, AllocError> {
+    let groups = groups(alloc, defined)?;
+    let groups = groups.as_slice();
+    let Some(first) = number_of(groups, key) else {
+        return Ok(Vec::new(alloc));
+    };
+    let edges = edges_of(alloc, sites, groups)?;
+    match shortest_loop(alloc, &edges, first)? {
+        Some(numbers) => sites_between(alloc, sites, groups, numbers.as_slice()),
+        None => Ok(Vec::new(alloc)),
+    }
+}
+
+/// For each key, the numbers of those that its definitions refer to outside elements.
+fn edges_of(
+    alloc: Global,
+    sites: &Sites<'_>,
+    groups: &[Group<'_, '_>],
+) -> Result<Rows, AllocError> {
+    let mut edges = Rows::with_capacity(alloc, groups.len())?;
+    for group in groups {
+        for one in group.definitions {
+            add_edges(alloc, sites, groups, one.site, &mut edges)?;
+        }
+        edges.end_row()?;
+    }
+    Ok(edges)
+}
+
+/// Adds the numbers of the keys that a definition refers to outside elements.
+fn add_edges(
+    alloc: Global,
+    sites: &Sites<'_>,
+    groups: &[Group<'_, '_>],
+    site: Site,
+    edges: &mut Rows,
+) -> Result<(), AllocError> {
+    for name in outside_uses(alloc, sites, site)? {
+        if let Some(number) = number_of(groups, name) {
+            edges.add(number)?;
+        }
+    }
+    Ok(())
+}
 
 /// The names outside elements that a definition refers to.
 fn outside_uses<'v>(
@@ -18,95 +72,38 @@ fn outside_uses<'v>(
     Ok(outside)
 }
 
-/// The definitions of a loop that comes back to the key, in order, the first one of the key. Nothing where there is none.
-pub fn loop_of(
+/// Of each key of a loop, by their numbers, the site of the first definition that refers to the next key of the loop.
+fn sites_between(
     alloc: Global,
     sites: &Sites<'_>,
-    defined: &[Defined<'_>],
-    key: &str,
+    groups: &[Group<'_, '_>],
+    numbers: &[usize],
 ) -> Result<Vec<Site>, AllocError> {
-    let mut walk = Walk::new(alloc, defined.len())?;
-    walk.visit(range_of(defined, key), None)?;
-    for turn in 0..defined.len() {
-        let Some(number) = walk.queue.get(turn).copied() else {
-            break;
-        };
-        let uses = outside_uses(alloc, sites, site_at(defined, number))?;
+    let mut between = Vec::new(alloc);
+    for (place, number) in numbers.iter().enumerate() {
+        let next = numbers.get(place.saturating_add(1)).or(numbers.first());
+        let next = next.and_then(|next| groups.get(*next));
+        if let (Some(group), Some(next)) = (groups.get(*number), next) {
+            if let Some(site) = first_referring(alloc, sites, group, next.key)? {
+                between.push(site)?;
+            }
+        }
+    }
+    Ok(between)
+}
+
+/// The site of the first definition of a key that refers to another key outside elements.
+fn first_referring(
+    alloc: Global,
+    sites: &Sites<'_>,
+    group: &Group<'_, '_>,
+    key: &str,
+) -> Result<Option<Site>, AllocError> {
+    for one in group.definitions {
+        let uses = outside_uses(alloc, sites, one.site)?;
         if uses.iter().any(|name| *name == key) {
-            return walk.way(alloc, defined, number);
-        }
-        for name in uses.as_slice() {
-            walk.visit(range_of(defined, name), Some(number))?;
+            return Ok(Some(one.site));
         }
     }
-    Ok(Vec::new(alloc))
-}
-
-/// The site of the definition with this number.
-fn site_at(defined: &[Defined<'_>], number: usize) -> Site {
-    match defined.get(number) {
-        Some(one) => one.site,
-        None => Site { module: 0, part: 0 },
-    }
-}
-
-/// A walk over definitions, nearest first: which were seen, from which one each was reached, and in which order.
-#[derive(Drop)]
-struct Walk {
-    seen: Vec<bool>,
-    before: Vec<Option<usize>>,
-    queue: Vec<usize>,
-}
-
-impl Walk {
-    fn new(alloc: Global, len: usize) -> Result<Walk, AllocError> {
-        Ok(Walk {
-            seen: vec![in alloc; false; len]?,
-            before: vec![in alloc; None; len]?,
-            queue: Vec::new(alloc),
-        })
-    }
-
-    /// Takes the definitions of a key into the walk, which are all seen or none of them is.
-    fn visit(&mut self, range: (usize, usize), before: Option<usize>) -> Result<(), AllocError> {
-        if self.seen.get(range.0) == Some(&true) {
-            return Ok(());
-        }
-        for number in range.0..range.1 {
-            self.note(number, before)?;
-        }
-        Ok(())
-    }
-
-    /// Takes one definition into the walk.
-    fn note(&mut self, number: usize, before: Option<usize>) -> Result<(), AllocError> {
-        if let Some(mark) = self.seen.get_mut(number) {
-            *mark = true;
-        }
-        if let Some(place) = self.before.get_mut(number) {
-            *place = before;
-        }
-        self.queue.push(number)?;
-        Ok(())
-    }
-
-    /// The definitions from the first one of the walk to this one.
-    fn way(
-        &self,
-        alloc: Global,
-        defined: &[Defined<'_>],
-        last: usize,
-    ) -> Result<Vec<Site>, AllocError> {
-        let mut way = Vec::new(alloc);
-        let mut next = Some(last);
-        for _ in 0..defined.len() {
-            let Some(number) = next else {
-                break;
-            };
-            way.push(site_at(defined, number))?;
-            next = self.before.get(number).copied().flatten();
-        }
-        way.reverse();
-        Ok(way)
-    }
+    Ok(None)
 }

@@ -1,8 +1,8 @@
 // Messages with their places, and how they are shown.
-ghost use Rattle.std.specs.Prelude.{◌≡◌, ◌<◌, ◌++◌, IfOk, IsFalse, OnOk, slice_get, string_bytes, vec_len};
+ghost use Rattle.std.specs.Prelude.{◌≡◌, ◌<◌, ◌≤◌, ◌++◌, IfOk, IsFalse, IsTrue, OnOk, if◌then◌else◌, slice_get, string_bytes, vec_len};
 ghost use Rattle.rn_tell.specs.Limits.{max_told};
 ghost use Rattle.rn_tell.specs.Messages.{AreLines, IsFew, IsMessagePlace, IsPlaceAt, IsPlaceIn, note};
-ghost use Rattle.rn_tell.specs.inside.Messages.{AddsMessage};
+ghost use Rattle.rn_tell.specs.inside.Messages.{AddsMessage, one_more};
 ghost use Rattle.rn_tell.specs.PrintedCharacters.{colour, head, painted, printable, printed, word};
 
 use rn_files::{Attempt, SourceFile, line_of, position};
@@ -76,6 +76,9 @@ impl Messages {
     /// Whether there is no room for another message. Then the one that is left out is counted.
     pub(crate) fn count_if_full(&mut self) -> bool
         ensures room { IsFalse result → vec_len self.new.messages < max_told }
+        ensures full { IsTrue result → max_told ≤ vec_len self.new.messages }
+        ensures counted { self.new.further
+            ≡ (if result then one_more self.old.further else self.old.further) }
         ensures kept { self.new.messages ≡ self.old.messages }
     {
         if self.messages.len() < MAX_TOLD {
@@ -95,6 +98,14 @@ pub struct Page<'a> {
     pub path: &'a str,
     /// Its text, or a front of it.
     pub text: &'a str,
+}
+
+/// The text of the page with this number; nothing where there is none.
+pub(crate) fn text_of_page<'a>(pages: &[Page<'a>], number: usize) -> &'a str {
+    match pages.get(number) {
+        Some(page) => page.text,
+        None => "",
+    }
 }
 
 /// The sources as messages show them. Refused only for want of memory.

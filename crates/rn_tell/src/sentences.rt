@@ -12,7 +12,7 @@ use crate::further_refusals::{FurtherRefusal, RefusalKind, refusals_from};
 use crate::general_sentences::general_sentence;
 use crate::loop_sites::loop_of;
 use crate::report::{MAX_TOLD, Message, Messages, Page, Spot, place_text, source_pages};
-use crate::sites::{Site, key_text, sites_of};
+use crate::sites::{Site, name_of_key, sites_of};
 use rn_assemble::Refusal;
 use rn_files::SourceFile;
 use rn_lift::Lifted;
@@ -101,7 +101,7 @@ fn message_of(placed: Placed) -> Message {
 fn place_refusal(telling: &Telling<'_>, refusal: &Refusal) -> Result<Placed, AllocError> {
     match refusal {
         Refusal::Recursive { name } => recursive_name(telling, name.as_str()),
-        Refusal::NameClass { key } => name_class(telling, key_text(key)),
+        Refusal::NameClass { key } => name_class(telling, name_of_key(key)),
         _ => Ok((None, general_sentence(telling.alloc, refusal)?)),
     }
 }

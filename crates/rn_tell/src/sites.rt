@@ -1,9 +1,10 @@
 // What the modules define, refer to and include, and where.
+use crate::outside_names::outside_names;
 use crate::report::Spot;
 use rn_assemble::Key;
 use rn_lift::Lifted;
 use rn_outline::{OutlineMethod, Part, PartKind, name_in, read_outline};
-use rn_text::{Kind, Token, tokens};
+use rn_text::tokens;
 use std::alloc::{AllocError, Global};
 
 /// A definition of an include that overrides.
@@ -46,8 +47,8 @@ pub struct Site {
     pub part: usize,
 }
 
-/// A key as a text: a name, or nothing for the start.
-pub fn key_text(key: &Key) -> &str {
+/// The name of a key; nothing for the start.
+pub fn name_of_key(key: &Key) -> &str {
     match key {
         Key::Start => "",
         Key::Define(name) => name.as_str(),
@@ -135,77 +136,6 @@ fn overrides(alloc: Global, text: &str, parts: &[Part]) -> Result<Vec<Overriding
     }
     overrides.sort()?;
     Ok(overrides)
-}
-
-/// Where names begin that are outside elements and annotations.
-fn outside_names(alloc: Global, tokens: &[Token<'_>]) -> Result<Vec<usize>, AllocError> {
-    let mut nesting = Nesting::new(alloc);
-    let mut outside = Vec::new(alloc);
-    for token in tokens {
-        let is_name = matches!(token.kind, Kind::Name | Kind::Quoted);
-        if is_name && nesting.is_outside() {
-            outside.push(token.start)?;
-        }
-        nesting.pass(token)?;
-    }
-    Ok(outside)
-}
-
-/// What is open before a token.
-#[derive(Drop)]
-struct Nesting {
-    annotations: usize,
-    braces: usize,
-    is_element: bool,
-    is_annotation_next: bool,
-    elements: Vec<usize>,
-}
-
-impl Nesting {
-    fn new(alloc: Global) -> Nesting {
-        Nesting {
-            annotations: 0,
-            braces: 0,
-            is_element: false,
-            is_annotation_next: false,
-            elements: Vec::new(alloc),
-        }
-    }
-
-    fn is_outside(&self) -> bool {
-        self.annotations == 0 && self.elements.is_empty()
-    }
-
-    fn pass(&mut self, token: &Token<'_>) -> Result<(), AllocError> {
-        match token.text {
-            "[" => self.annotations = self.annotations.saturating_add(1),
-            "]" => self.annotations = self.annotations.saturating_sub(1),
-            _ if self.annotations > 0 => {}
-            "{" => self.open()?,
-            "}" => self.close(),
-            "element" if token.kind == Kind::Keyword && !self.is_annotation_next =>
-                self.is_element = true,
-            _ => {}
-        }
-        self.is_annotation_next = token.text == ">>";
-        Ok(())
-    }
-
-    fn open(&mut self) -> Result<(), AllocError> {
-        self.braces = self.braces.saturating_add(1);
-        if self.is_element {
-            self.is_element = false;
-            self.elements.push(self.braces)?;
-        }
-        Ok(())
-    }
-
-    fn close(&mut self) {
-        if self.elements.last() == Some(&self.braces) {
-            let _ = self.elements.pop();
-        }
-        self.braces = self.braces.saturating_sub(1);
-    }
 }
 
 impl Sites<'_> {
