@@ -1,9 +1,9 @@
 -- The schema of these modules is one of a set of modules.
 use Rattle.std.proofs.Common.{ℕ, List, Result, Ok, Err, IfOk}
 use Rattle.rn_lift.specs.declared.lifted.LiftedModule.{LiftedModule}
-use Rattle.rn_flat.specs.JobResults.{IsSchema, IsSchemaOf}
+use Rattle.rn_flat.specs.JobResults.{IsFlatSchema, IsFlatSchemaOf}
 
-pub as_schema : {V E : Type 0} (r : Result V E) (items : V → List ℕ) (modules : List LiftedModule) → IfOk r (λ v. IsSchemaOf modules (items v))
-    → IfOk r (λ v. IsSchema (items v))
+pub as_schema : {V E : Type 0} (r : Result V E) (items : V → List ℕ) (modules : List LiftedModule) → IfOk r (λ v. IsFlatSchemaOf modules (items v))
+    → IfOk r (λ v. IsFlatSchema (items v))
 as_schema (Ok v) items modules h = record { modules = modules; is_schema = h }
 as_schema (Err e) items modules h = tt

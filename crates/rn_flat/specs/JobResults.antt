@@ -11,17 +11,17 @@ use Rattle.rn_flat.specs.declared.words.Task.TheVariants.{Write, Check}
 use Rattle.rn_flat.specs.ModuleSets.{set_of_modules}
 
 -- the text is the schema of the set of these modules, each in revision 1
-abbrev pub IsSchemaOf : List LiftedModule → List ℕ → Type 0
-IsSchemaOf modules text = IsVerdict (set_of_modules modules) (prints text)
+abbrev pub IsFlatSchemaOf : List LiftedModule → List ℕ → Type 0
+IsFlatSchemaOf modules text = IsVerdict (set_of_modules modules) (prints text)
 
 -- the text is the schema of a set of modules
-pub record IsSchema (text : List ℕ) : Type 0 where
+pub record IsFlatSchema (text : List ℕ) : Type 0 where
   pub modules : List LiftedModule
-  pub is_schema : IsSchemaOf modules text
+  pub is_schema : IsFlatSchemaOf modules text
 
 -- a product that is the schema is the text of one
 abbrev pub IsProduct : Product → List ℕ → Type 0
-IsProduct Schema text = IsSchema text
+IsProduct Schema text = IsFlatSchema text
 IsProduct Bundle text = Unit {0}
 IsProduct Listing text = Unit {0}
 IsProduct Graph text = Unit {0}
@@ -30,5 +30,5 @@ IsProduct Graph text = Unit {0}
 abbrev pub Delivers : {T : Type 0} → Task → Option (List ℕ) → Option (List ℕ) → (List ℕ → List ℕ → Type 0) → (List ℕ → List ℕ → Type 0) → Result T FlatFault → Type 0
 Delivers (Write product None) old new holds gives (Ok x) = (text : List ℕ) × IsProduct product text × Appends old new text
 Delivers (Write product (Some path)) old new holds gives (Ok x) = (text : List ℕ) × IsProduct product text × holds (string_bytes path) text
-Delivers (Check file) old new holds gives (Ok x) = (text : List ℕ) × IsSchema text × gives (string_bytes file) text
+Delivers (Check file) old new holds gives (Ok x) = (text : List ℕ) × IsFlatSchema text × gives (string_bytes file) text
 Delivers task old new holds gives (Err fault) = Unit {0}

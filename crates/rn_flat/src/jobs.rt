@@ -4,7 +4,7 @@ ghost use Rattle.rn_simplify.specs.Verdict.{prints, IsVerdict};
 ghost use Rattle.rn_flat.specs.FlatFaults.{LeavesOutput};
 ghost use Rattle.rn_flat.specs.ModuleSets.{IsSetOf};
 ghost use Rattle.rn_flat.specs.inside.ToldFiles.{told_of};
-ghost use Rattle.rn_flat.specs.JobResults.{Delivers, IsProduct, IsSchema, IsSchemaOf};
+ghost use Rattle.rn_flat.specs.JobResults.{Delivers, IsProduct, IsFlatSchema, IsFlatSchemaOf};
 
 use crate::compare::check_file;
 use crate::flat_fault::{FlatFault, refusal_fault};
@@ -91,7 +91,7 @@ fn list(alloc: Global, sources: &Sources, colours: Colours) -> Result<Vec<u8>, F
 
 /// The schema, made of the files.
 fn schema_text(alloc: Global, sources: Sources, colours: Colours) -> Result<Vec<u8>, FlatFault>
-    ensures { IfOk result (λ text. IsSchema text.items) }
+    ensures { IfOk result (λ text. IsFlatSchema text.items) }
 {
     let lifted = lift_files(alloc, &sources, colours)?;
     let mut files = sources.files;
@@ -183,7 +183,7 @@ fn schema(
     files: &[SourceFile],
     colours: Colours,
 ) -> Result<Vec<u8>, FlatFault>
-    ensures { IfOk result (λ text. IsSchemaOf lifted.now.modules.items text.items) }
+    ensures { IfOk result (λ text. IsFlatSchemaOf lifted.now.modules.items text.items) }
 {
     let set = module_set(alloc, lifted, files, colours)?;
     match merged_bytes(alloc, &set) {

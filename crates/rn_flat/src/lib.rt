@@ -1,6 +1,6 @@
 //! From files to one flat schema: the work of the program `rnc-flat`.
 //!
-//! [`plan`] says what words ask for, and [`perform`] does it: it reads the files with all that they reach, lifts them to modules, and writes or
+//! [`read_words`] says what words ask for, and [`perform`] does it: it reads the files with all that they reach, lifts them to modules, and writes or
 //! compares the schema of their set. The text that it writes is the one that `rn_merge::merge` answers, and where there is none it writes nothing.
 #![tactic(auto)]
 
@@ -17,4 +17,4 @@ pub use flat_fault::{FlatFault, fault_lines, status};
 pub use jobs::perform;
 pub use outputs::Outputs;
 pub use rn_tell::Colours;
-pub use words::{Job, Product, Task, Words, WordsFault, plan};
+pub use words::{Job, Product, Task, Words, WordsFault, read_words};

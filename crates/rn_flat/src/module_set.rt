@@ -13,7 +13,7 @@ pub const REVISION: u64 = 1;
 
 /// Why modules are no set.
 #[derive(Debug, Drop, PartialEq, Eq)]
-pub struct SetFault {
+pub struct ModuleFault {
     /// The number of the module that can't be added.
     pub module: usize,
     /// Why it can't.
@@ -21,13 +21,13 @@ pub struct SetFault {
 }
 
 /// The set of the modules, each in revision 1. The fault is that of the first module that can't be added.
-pub fn set_of(alloc: Global, modules: &[LiftedModule]) -> Result<ModuleSet, SetFault>
+pub fn set_of(alloc: Global, modules: &[LiftedModule]) -> Result<ModuleSet, ModuleFault>
     ensures { IfOk result (IsSetOf modules.now) }
 {
     let mut set = ModuleSet::new(alloc);
     for (number, module) in modules.iter().enumerate() {
         if let Err(fault) = add_module(alloc, &mut set, module) {
-            return Err(SetFault {
+            return Err(ModuleFault {
                 module: number,
                 fault,
             });

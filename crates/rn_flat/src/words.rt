@@ -105,7 +105,7 @@ impl From<AllocError> for WordsFault {
 /// What the words behind the program's name ask for. No file is read. `Usage` where an option is unknown, lacks its value,
 /// is given twice or contradicts another, where no file is named, where a map is not `PREFIX=FOLDER`, or where standard
 /// input would be read twice.
-pub fn plan(alloc: Global, words: &[String]) -> Result<Words, WordsFault> {
+pub fn read_words(alloc: Global, words: &[String]) -> Result<Words, WordsFault> {
     match program(alloc)?.try_get_matches_from(words) {
         Ok(matches) => asked_words(alloc, &matches),
         Err(error) => match error.kind() {

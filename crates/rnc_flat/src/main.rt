@@ -4,7 +4,7 @@
 mod system;
 
 use crate::system::{System, Written};
-use rn_flat::{Colours, FlatFault, Words, WordsFault, fault_lines, perform, plan, status};
+use rn_flat::{Colours, FlatFault, Words, WordsFault, fault_lines, perform, read_words, status};
 use rn_merge::{Output, write_output};
 use std::env;
 use std::io::{ErrorKind, IsTerminal};
@@ -20,7 +20,7 @@ fn main(rt: HostRuntime) -> ExitCode {
 /// Does what the words ask for.
 fn run(rt: &HostRuntime) -> Result<(), FlatFault> {
     let words = words(rt)?;
-    match plan(rt.alloc(), words.as_slice()) {
+    match read_words(rt.alloc(), words.as_slice()) {
         Ok(Words::Shown(text)) => show(rt, text.as_str()),
         Ok(Words::Job(job)) => perform(
             rt.alloc(),
