@@ -1,6 +1,6 @@
 // What is wrong with the files that are read.
 use crate::flat_fault::FlatFault;
-use rn_files::{Asked, ReadingFault, Reading};
+use rn_files::{Asked, Reading, ReadingFault};
 use rn_tell::{Colours, attempt_pages, is_unread, message_lines, reading_messages};
 use std::alloc::{AllocError, Global};
 

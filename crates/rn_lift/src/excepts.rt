@@ -2,8 +2,8 @@
 ghost use Rattle.std.specs.Prelude.{◌≡◌, false, [], IfOk, string_bytes};
 ghost use Rattle.std.specs.List.{list_any};
 
-use crate::body_chunks::{BodyChunks, Chunk};
 use crate::added_prefixes::AddedPrefixes;
+use crate::body_chunks::{BodyChunks, Chunk};
 use crate::scope_definitions::{Definition, Definitions, ScopedName};
 use rn_outline::{Outline, OutlineMethod, Part, PartKind};
 use rn_plan::{LiftFault, LiftFaultKind, Plan, Unit, Units};

@@ -1,6 +1,6 @@
 // What is answered where files in memory are asked for, as rows write them.
 use crate::comparing::{expect_text, same_for};
-use rn_files::{Asked, Map, MemoryFiles, ReadingFault, Reading, Sources, read_sources};
+use rn_files::{Asked, Map, MemoryFiles, Reading, ReadingFault, Sources, read_sources};
 use std::alloc::{AllocError, Global};
 use std::process::Abort;
 
