@@ -11,7 +11,7 @@ use Rattle.rn_syntax.specs.Tree as t
 use Rattle.rn_syntax.specs.View.{item_view, items_view}
 use Rattle.rn_assemble.specs.Components.{NamedModule}
 use Rattle.rn_assemble.specs.inside.Contained.{WrittenComponent, Inclusion, inclusions, item_inclusions, written_components, item_written_components}
-use Rattle.rn_assemble.specs.declared.contents.WrittenComponent.{WrittenComponent}
+use Rattle.rn_assemble.specs.declared.contents.WrittenComponent as code_component
 use Rattle.rn_assemble.specs.inside.Views.{Adds, written_view, named_module_view, modules_view}
 use Rattle.rn_assemble.specs.inside.Keyed.{AreNames, defines, item_defines}
 use Rattle.rn_assemble.proofs.Referring.FoundReferences.{flat_contains}
@@ -27,10 +27,10 @@ pub defined_behind : (names : List Text) (xs : List Item) (i : ℕ) (x : Item) �
 defined_behind names xs i x l e h = each_behind (Contains names) (item_defines (item_view x)) _ (subst (λ (ys : t.Items). AllByRecursion (Contains names) (defines ys)) (items_at xs i x l e) h)
 
 -- one more item is gathered, or all of an item's children
-pub adds_none : (names : List Text) (cs : List WrittenComponent) → Adds names cs cs []
+pub adds_none : (names : List Text) (cs : List code_component.WrittenComponent) → Adds names cs cs []
 adds_none names cs = record { is = sym (append-nil (map (written_view names) cs)); numbered = λ h. h }
 
-pub adds_more : (names : List Text) (cs ds es : List WrittenComponent) (us vs : List WrittenComponent) → Adds names cs ds us → Adds names ds es vs → Adds names cs es (us ++ vs)
+pub adds_more : (names : List Text) (cs ds es : List code_component.WrittenComponent) (us vs : List WrittenComponent) → Adds names cs ds us → Adds names ds es vs → Adds names cs es (us ++ vs)
 adds_more names cs ds es us vs a b = record {
   is = b.is ∙ ap (λ l. l ++ vs) a.is ∙ append_assoc (map (written_view names) cs) us vs;
   numbered = λ h. b.numbered (a.numbered h);
