@@ -115,10 +115,16 @@ pub fn each_answered(rt: &(impl Abort + AllocGlobal), rows: &[(&str, &str)]) {
     }
 }
 
-/// What is answered where the file `/w/a.rnc` is asked for.
-pub fn answer_for_a(alloc: Global, files: &MemoryFiles) -> Result<Sources, ReadingFault> {
+/// The word `a.rnc` alone.
+fn lone_word(alloc: Global) -> Result<Vec<String>, AllocError> {
     let mut words = Vec::new(alloc);
     words.push(String::from_str(alloc, "a.rnc")?)?;
+    Ok(words)
+}
+
+/// What is answered where the file `/w/a.rnc` is asked for.
+pub fn answer_for_a(alloc: Global, files: &MemoryFiles) -> Result<Sources, ReadingFault> {
+    let words = lone_word(alloc)?;
     let asked = Asked {
         files: words.as_slice(),
         root: None,
