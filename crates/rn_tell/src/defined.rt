@@ -85,11 +85,18 @@ fn push_taking_part<'v>(
     Ok(())
 }
 
-/// The definitions of the key among those that are sorted.
-pub fn group_of<'d, 'v>(defined: &'d [Defined<'v>], key: &str) -> &'d [Defined<'v>] {
+/// The numbers of the definitions of the key among those that are sorted.
+fn range_of(defined: &[Defined<'_>], key: &str) -> (usize, usize) {
     let from = defined.partition_point(|one| one.key < key);
     let to = defined.partition_point(|one| one.key <= key);
-    defined.get(from..to).unwrap_or(&[])
+    (from, to)
+}
+
+/// The definitions of the key among those that are sorted.
+pub fn group_of<'d, 'v>(defined: &'d [Defined<'v>], key: &str) -> &'d [Defined<'v>] {
+    let (from, to) = range_of(defined, key);
+    let to = to.min(defined.len());
+    &defined[from.min(to)..to]
 }
 
 /// The definitions that are sorted, key by key.
