@@ -11,7 +11,7 @@ use Rattle.rn_modset.specs.Contributions.{Member}
 use Rattle.rn_modset.specs.Modules.{Module, IsFirstConflict, AreEffective}
 use Rattle.rn_syntax.specs.Tree as t
 use Rattle.rn_syntax.specs.Tree.{Declaration, Item, Items}
-use Rattle.rn_syntax.specs.Tokens.{terminals}
+use Rattle.rn_syntax.specs.TokenTerminals.{terminals}
 use Rattle.rn_syntax.specs.Beginnings.{HasTree}
 use Rattle.rn_syntax.specs.Places.{deep}
 use Rattle.rn_syntax.specs.Faults.{kind_rank, kind_places}

@@ -1,12 +1,12 @@
 -- The names and texts of a grammar: names that are names, texts of XML characters, datatypes that may stand (RELAX NG 2001, 4.16, 7.1.4; Namespaces in XML 1.0; XML 1.0, 2.2).
-use Rattle.std.specs.Prelude.{◌≡◌, Bool, true, false, ◌&&◌, ◌||◌, [], ◌∷◌, codes, bytes_eq, ⊤}
+use Rattle.std.specs.Prelude.{◌≡◌, Bool, true, false, ◌&&◌, [], ◌∷◌, codes, bytes_eq, ⊤}
 use Rattle.std.specs.List.{list_all}
 use Rattle.std.specs.Str.{IsUtf8, chars}
 use Rattle.rn_text.specs.Characters.{is_ncname, is_xml_char}
 use Rattle.rn_pattern.specs.Tree.{Parameters, NameTree, NameTrees, any_name, any_name_but, ns_name, ns_name_but, name, name_choice, no_names, more_names, Tree, Trees, ref, value, datum, datum_but, list, attribute, element, one_or_more, group, interleave, choice, no_trees, more_trees}
 use Rattle.rn_text.specs.Texts.{Text}
 use Rattle.rn_pattern.specs.Excepts.{IsExcept}
-use Rattle.rn_syntax.specs.Places.{xsd_uri}
+use Rattle.rn_syntax.specs.Places.{xsd_uri, is_context_type}
 
 -- a name without a colon
 pub record IsName (x : Text) : Type 0 where
@@ -22,9 +22,9 @@ abbrev pub AreParams : Parameters → Type 0
 AreParams [] = Unit {0}
 AreParams (e ∷ es) = IsName e.0 × IsXml e.1 × AreParams es
 
--- QName and NOTATION of the XML Schema library
+-- whether a type of this library depends on the namespaces that are bound where its values stand
 abbrev pub needs_context : Text → Text → Bool
-needs_context l x = bytes_eq l xsd_uri && (bytes_eq x (codes "QName") || bytes_eq x (codes "NOTATION"))
+needs_context l x = bytes_eq l xsd_uri && is_context_type x
 
 -- what is asked of a library
 module _ (of_library : Text → Type 0) where

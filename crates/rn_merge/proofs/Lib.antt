@@ -1,3 +1,3 @@
 mod Runs
-mod Texts
+mod FaultsOfTexts
 mod Verdicts

@@ -2,7 +2,7 @@
 use Rattle.std.specs.Prelude.{◌≡◌, ◌↔◌, ℕ, List, [], Option, Some, Contains}
 use Rattle.std.specs.Io.KnownBytes.{Appends}
 use Rattle.rn_modset.specs.Contributions.{Member}
-use Rattle.rn_modset.specs.Grammar.{IsBundle}
+use Rattle.rn_modset.specs.BundleGrammar.{IsBundle}
 use Rattle.rn_modset.specs.Laws.{Call, after, brought}
 use Rattle.rn_simplify.specs.Verdict.{Verdict, prints}
 use Rattle.rn_merge.specs.declared.run.Status.{Status}

@@ -4,8 +4,8 @@ use Rattle.std.specs.declared.alloc.Global.{Global}
 use Rattle.std.specs.Io.KnownBytes.{Appends}
 use Rattle.rn_modset.specs.Contributions.{Member}
 use Rattle.rn_modset.specs.Sets.{union}
-use Rattle.rn_modset.specs.Grammar.{IsBundle}
-use Rattle.rn_modset.specs.Faults.{HasBundleFault}
+use Rattle.rn_modset.specs.BundleGrammar.{IsBundle}
+use Rattle.rn_modset.specs.BundleFaults.{HasBundleFault}
 use Rattle.rn_modset.specs.Limits.{max_contributions}
 use Rattle.rn_modset.specs.declared.faults.BundleFault.{BundleFault}
 use Rattle.rn_modset.specs.declared.faults.BundleFault.TheVariants as reading

@@ -12,7 +12,7 @@ use Rattle.rn_syntax.specs.Faults as parsing
 use Rattle.rn_syntax.specs.Faults.{HasNoFault, IsFault}
 use Rattle.rn_syntax.specs.Places.{deep}
 use Rattle.rn_syntax.specs.Spelled.{AreSpelled}
-use Rattle.rn_syntax.specs.Tokens.{terminals}
+use Rattle.rn_syntax.specs.TokenTerminals.{terminals}
 use Rattle.rn_syntax.specs.Tree.{Module}
 use Rattle.rn_merge.specs.declared.text_faults.Place.{Place}
 use Rattle.rn_merge.specs.declared.text_faults.Place.TheVariants.{Encoding, Lexical, Deep, Syntax, Prefix, Builtin, ContextValue, Except, Memory}

@@ -3,12 +3,12 @@ ghost use Rattle.std.specs.Prelude.{◌≡◌, ◌++◌, ◌∷◌, Bool, true, 
 ghost use Rattle.std.specs.List.{list_all};
 ghost use Rattle.rn_modset.specs.Contributions.{is_module_name};
 ghost use Rattle.rn_modset.specs.Bundles.{header_line};
-ghost use Rattle.rn_modset.specs.Grammar.{IsDigest, is_lower_hex};
+ghost use Rattle.rn_modset.specs.BundleGrammar.{IsDigest, is_lower_hex};
 ghost use Rattle.rn_modset.specs.inside.Headers.{header_view, MayStand, IsNoHeader, AreNoTextFields, IsNoWithdrawalField};
 
 use crate::contribution::MAX_TEXT;
 use crate::fields::{parse_decimal, split_at_byte};
-use crate::names::is_module_name;
+use crate::module_names::is_module_name;
 
 /// What a header line says.
 #[derive(Clone, Copy)]

@@ -5,9 +5,9 @@ ghost use Rattle.rn_modset.specs.declared.faults.BundleFault.{BundleFault};
 ghost use Rattle.rn_modset.specs.declared.faults.BundleFault.TheVariants.{Memory};
 ghost use Rattle.rn_modset.specs.Contributions.{Member};
 ghost use Rattle.rn_modset.specs.Sets.{IsSet, Rises, has, with_member, union};
-ghost use Rattle.rn_modset.specs.Grammar.{IsBundle};
+ghost use Rattle.rn_modset.specs.BundleGrammar.{IsBundle};
 ghost use Rattle.rn_modset.specs.Bundles.{bundle};
-ghost use Rattle.rn_modset.specs.Faults.{IsFront, IsFaultBehind, HasBundleFault};
+ghost use Rattle.rn_modset.specs.BundleFaults.{IsFront, IsFaultBehind, HasBundleFault};
 ghost use Rattle.rn_modset.specs.Laws.{AreUnionLaws, AreCallLaws};
 
 /// A set holds its members. With a contribution it holds that one too, and a union holds what one of both sets holds.

@@ -1,6 +1,6 @@
 pub mod Matches
 pub mod Trials
-pub mod Forms
+pub mod CanonicalForms
 pub mod Ordered
 pub mod Stores
 pub mod Graphs

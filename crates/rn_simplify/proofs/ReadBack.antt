@@ -10,7 +10,7 @@ pub mod Types
 pub mod Classes
 pub mod Chains
 pub mod Whole
-pub mod Words
+pub mod NamesAndLiterals
 pub mod SpellableGrammars
 pub mod FewPrefixes
 pub mod Writable

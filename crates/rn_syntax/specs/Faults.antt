@@ -8,7 +8,7 @@ use Rattle.rn_syntax.specs.declared.fault.SyntaxFault.{SyntaxFault}
 use Rattle.rn_syntax.specs.declared.fault.SyntaxFault.TheVariants.{Deep, Syntax, Prefix, Builtin, ContextValue, Except, Memory}
 use Rattle.rn_syntax.specs.Tree.{Module}
 use Rattle.rn_syntax.specs.Grammar.{Tokens}
-use Rattle.rn_syntax.specs.Tokens.{terminals_of}
+use Rattle.rn_syntax.specs.TokenTerminals.{terminals_of}
 use Rattle.rn_syntax.specs.Beginnings.{HasTree, Stops}
 use Rattle.rn_syntax.specs.Spelled.{AreSpelled, BeginAt}
 use Rattle.rn_syntax.specs.Places.{deep, first, prefix_places, builtin_places, context_places, except_places}

@@ -4,10 +4,10 @@ pub mod Follow
 pub mod Sequence
 pub mod Declaring
 pub mod Including
-pub mod Reading
+pub mod Readers
 pub mod Itemizing
 pub mod Modular
 pub mod Stopping
 pub mod Numbered
 pub mod Borrowed
-pub mod Parts
+pub mod PatternEnds

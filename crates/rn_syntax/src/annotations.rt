@@ -3,7 +3,7 @@ ghost use Rattle.std.specs.Prelude.{◌≡◌, ◌≤◌, ◌<◌, length, IsTru
 ghost use Rattle.rn_syntax.specs.inside.Follow.{Starts, Anything, no_bracket, no_follow};
 ghost use Rattle.rn_syntax.specs.Grammar.{Closed, IsAnnotation, MayHaveAnnotation, AreFollows};
 ghost use Rattle.rn_text.specs.inside.Reading.{GoesPast, MayGoPast};
-ghost use Rattle.rn_syntax.specs.inside.Reading.{Skips, rest};
+ghost use Rattle.rn_syntax.specs.inside.Readers.{Skips, rest};
 ghost use Rattle.rn_syntax.specs.inside.Sequence.{IsFollow, is_note};
 
 use crate::fault::Fault;

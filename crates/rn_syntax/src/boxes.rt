@@ -1,6 +1,6 @@
 // Values in their boxes, and lists of them without their boxes.
 ghost use Rattle.std.specs.Prelude.{◌≡◌, ◌++◌, ◌∷◌, [], OnOk};
-ghost use Rattle.rn_syntax.specs.inside.Reading.{Makes};
+ghost use Rattle.rn_syntax.specs.inside.Readers.{Makes};
 
 use crate::fault::Fault;
 use std::alloc::{AllocError, Global};

@@ -3,10 +3,10 @@ ghost use Rattle.std.specs.Prelude.{◌≡◌, ◌≤◌, ◌∷◌, ℕ, MatchO
 ghost use Rattle.rn_text.specs.Tokens.{lexeme_of};
 ghost use Rattle.rn_syntax.specs.Grammar as grammar;
 ghost use Rattle.rn_syntax.specs.Places.{deep, max_open};
-ghost use Rattle.rn_syntax.specs.inside.Reading.{seen};
+ghost use Rattle.rn_syntax.specs.inside.Readers.{seen};
 ghost use Rattle.rn_syntax.specs.Terminal as term;
 ghost use Rattle.rn_syntax.specs.Terminal.{◌#◌};
-ghost use Rattle.rn_syntax.specs.Tokens.{placed, terminals_of};
+ghost use Rattle.rn_syntax.specs.TokenTerminals.{placed, terminals_of};
 
 use crate::terminals::{Terminal, symbol};
 use rn_text::{Kind, Token};

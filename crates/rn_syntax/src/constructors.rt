@@ -1,7 +1,7 @@
 // Patterns made by their readers, each in its box with the index behind it.
 ghost use Rattle.std.specs.Prelude.{Some, None};
 ghost use Rattle.std.specs.Cow.{cow_str_bytes};
-ghost use Rattle.rn_syntax.specs.inside.Reading.{Makes};
+ghost use Rattle.rn_syntax.specs.inside.Readers.{Makes};
 ghost use Rattle.rn_syntax.specs.Tree as tree;
 ghost use Rattle.rn_syntax.specs.View.{boxed_class_view, boxed_view, datatype_view, params_view, patterns_view, type_view};
 

@@ -3,7 +3,7 @@ ghost use Rattle.std.specs.Prelude.{◌≡◌, ◌≤◌, ◌<◌, ◌+◌, leng
 ghost use Rattle.rn_syntax.specs.inside.Follow.{Starts, begins_datatype, first_terminal, is_end, no_brace, no_tilde};
 ghost use Rattle.rn_syntax.specs.Grammar.{IsDatatype, MayHaveParams};
 ghost use Rattle.rn_text.specs.inside.Reading.{GoesOn, MayGoOn};
-ghost use Rattle.rn_syntax.specs.inside.Reading.{Reads, rest};
+ghost use Rattle.rn_syntax.specs.inside.Readers.{Reads, rest};
 ghost use Rattle.rn_syntax.specs.inside.Sequence.{IsHere, IsParam};
 ghost use Rattle.rn_syntax.specs.View.{datatype_view, param_view, params_view};
 

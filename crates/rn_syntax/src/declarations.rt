@@ -4,7 +4,7 @@ ghost use Rattle.rn_syntax.specs.inside.Declaring.{IsDatatypesEnd, IsDefaultEnd,
 ghost use Rattle.rn_syntax.specs.inside.Follow.{Starts, Anything, begins_declaration, behind_item, first_terminal, no_tilde, no_word};
 ghost use Rattle.rn_syntax.specs.Grammar.{AreDeclarations, IsDeclaration, IsUri};
 ghost use Rattle.rn_text.specs.inside.Reading.{GoesOn, MayGoOn};
-ghost use Rattle.rn_syntax.specs.inside.Reading.{Reads, ReadsOne, rest};
+ghost use Rattle.rn_syntax.specs.inside.Readers.{Reads, ReadsOne, rest};
 ghost use Rattle.rn_syntax.specs.inside.Sequence.{IsOf, IsPrefixAt};
 ghost use Rattle.rn_syntax.specs.View.{declaration_view, place_view, prefix_view, uri_view};
 

@@ -5,7 +5,7 @@ ghost use Rattle.rn_syntax.specs.inside.Follow.{Anything, Starts, behind_item, b
 ghost use Rattle.rn_syntax.specs.Grammar.{AreInnerItems, AreItems, IsComponent, MayInherit, MayHaveOverrides};
 ghost use Rattle.rn_syntax.specs.inside.Including.{AreItemsBehind, IsDivEnd, IsIncludeEnd, IsInnerItem, IsInnerDivEnd, IsItem, begins_inner, begins_item};
 ghost use Rattle.rn_text.specs.inside.Reading.{GoesOn, MayGoOn};
-ghost use Rattle.rn_syntax.specs.inside.Reading.{Reads, rest};
+ghost use Rattle.rn_syntax.specs.inside.Readers.{Reads, rest};
 ghost use Rattle.rn_syntax.specs.Tree as tree;
 ghost use Rattle.rn_syntax.specs.View.{boxed_view, item_view, items_view, prefix_view};
 

@@ -8,7 +8,7 @@ ghost use Rattle.rn_syntax.specs.inside.Borrowed.{is_borrowed, is_written, Borro
 ghost use Rattle.rn_syntax.specs.inside.Follow.{Starts, Anything, no_tilde};
 ghost use Rattle.rn_syntax.specs.Grammar.{IsLiteral};
 ghost use Rattle.rn_text.specs.inside.Reading.{GoesOn};
-ghost use Rattle.rn_syntax.specs.inside.Reading.{Reads, is_plain};
+ghost use Rattle.rn_syntax.specs.inside.Readers.{Reads, is_plain};
 ghost use Rattle.rn_syntax.specs.Spelled.{AreSpelled};
 ghost use Rattle.rn_syntax.specs.inside.Sequence.{IsSegment};
 

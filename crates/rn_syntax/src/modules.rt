@@ -5,9 +5,9 @@ ghost use Rattle.rn_syntax.specs.inside.Follow.{Starts, is_end};
 ghost use Rattle.rn_syntax.specs.inside.Itemizing.{AreAnnotatedItems};
 ghost use Rattle.rn_syntax.specs.inside.Modular.{IsAnnotatedBody, IsBody, IsGrammarEnd, IsModuleFault};
 ghost use Rattle.rn_text.specs.inside.Reading.{MayGoOn};
-ghost use Rattle.rn_syntax.specs.inside.Reading.{Reads};
+ghost use Rattle.rn_syntax.specs.inside.Readers.{Reads};
 ghost use Rattle.rn_syntax.specs.Spelled.{AreSpelled};
-ghost use Rattle.rn_syntax.specs.Tokens.{terminals_of};
+ghost use Rattle.rn_syntax.specs.TokenTerminals.{terminals_of};
 ghost use Rattle.rn_syntax.specs.View.{item_view, module_view};
 
 use crate::annotations::{annotation, skip_follows};

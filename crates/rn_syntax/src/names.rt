@@ -3,7 +3,7 @@ ghost use Rattle.std.specs.Prelude.{◌≡◌, ◌≤◌, ◌<◌, ◌+◌, [], 
 ghost use Rattle.rn_syntax.specs.inside.Follow.{Starts, Anything, begins_any, behind_class, behind_name, first_terminal};
 ghost use Rattle.rn_syntax.specs.Grammar.{IsAnyName, IsClassCore, IsClassOperand, IsClassPrimary, IsNameClass};
 ghost use Rattle.rn_text.specs.inside.Reading.{GoesOn, MayGoOn};
-ghost use Rattle.rn_syntax.specs.inside.Reading.{Makes, Reads, rest};
+ghost use Rattle.rn_syntax.specs.inside.Readers.{Makes, Reads, rest};
 ghost use Rattle.rn_syntax.specs.inside.Sequence.{IsAnyClassEnd, IsClassEnd, IsHere};
 ghost use Rattle.rn_syntax.specs.Tree as tree;
 ghost use Rattle.rn_syntax.specs.View.{any_view, boxed_class_view, classes_view, name_view};

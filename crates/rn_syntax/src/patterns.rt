@@ -2,9 +2,9 @@
 ghost use Rattle.std.specs.Prelude.{◌≡◌, ◌≤◌, ◌<◌, false, length};
 ghost use Rattle.rn_syntax.specs.inside.Follow.{Anything, Starts, begins_datatype, behind_core, behind_operand, behind_pattern, behind_primary, first_terminal};
 ghost use Rattle.rn_syntax.specs.Grammar.{IsCore, IsOperand, IsPattern, IsPrimary};
-ghost use Rattle.rn_syntax.specs.inside.Parts.{BehindCore, BehindDatatype, BehindParams, BehindPostfix, BehindPrimary, IsDataEnd, IsTypedValue, IsBraced, IsNamed};
+ghost use Rattle.rn_syntax.specs.inside.PatternEnds.{BehindCore, BehindDatatype, BehindParams, BehindPostfix, BehindPrimary, IsDataEnd, IsTypedValue, IsBraced, IsNamed};
 ghost use Rattle.rn_text.specs.inside.Reading.{GoesOn, MayGoOn};
-ghost use Rattle.rn_syntax.specs.inside.Reading.{Reads, rest};
+ghost use Rattle.rn_syntax.specs.inside.Readers.{Reads, rest};
 ghost use Rattle.rn_syntax.specs.Terminal as terminal;
 ghost use Rattle.rn_syntax.specs.View.{boxed_class_view, boxed_view, datatype_view, params_view};
 

@@ -1,6 +1,6 @@
 // The module that tokens spell.
 ghost use Rattle.std.specs.Prelude.{◌≡◌, [], None, IfOk, IfErr, IsTrue, OnOk, MatchOption};
-ghost use Rattle.rn_syntax.specs.Tokens.{terminals_of};
+ghost use Rattle.rn_syntax.specs.TokenTerminals.{terminals_of};
 ghost use Rattle.rn_syntax.specs.Places.{deep, first, prefix_places, builtin_places, context_places, except_places};
 ghost use Rattle.rn_syntax.specs.Beginnings.{HasTree};
 ghost use Rattle.rn_syntax.specs.Faults.{HasModuleFault, HasNoFault, IsFault};

@@ -7,13 +7,13 @@ ghost use Rattle.rn_text.specs.Keywords.{spelling};
 ghost use Rattle.rn_text.specs.Segments.{run_of, after_run};
 ghost use Rattle.rn_syntax.specs.inside.Follow.{Anything, first_terminal};
 ghost use Rattle.rn_text.specs.inside.Reading.{GoesPast};
-ghost use Rattle.rn_syntax.specs.inside.Reading.{IsInside, IsNext, IsSegmentOf, IsWhole, Passes, ReadsOne, rest, seen};
+ghost use Rattle.rn_syntax.specs.inside.Readers.{IsInside, IsNext, IsSegmentOf, IsWhole, Passes, ReadsOne, rest, seen};
 ghost use Rattle.rn_syntax.specs.Spelled.{AreSpelled, BeginAt, SpellsItsKind};
 ghost use Rattle.rn_syntax.specs.inside.Sequence.{IsOf, IsWordAt, IsAssign};
 ghost use Rattle.rn_syntax.specs.declared.token.Method.TheVariants as method;
 ghost use Rattle.rn_syntax.specs.Terminal as terminal;
-ghost use Rattle.rn_syntax.specs.Tokens as tokens;
-ghost use Rattle.rn_syntax.specs.Tokens.{spelled_in, keyword_rows, symbol_rows};
+ghost use Rattle.rn_syntax.specs.TokenTerminals as tokens;
+ghost use Rattle.rn_syntax.specs.TokenTerminals.{spelled_in, keyword_rows, symbol_rows};
 
 use crate::fault::Fault;
 use crate::token::{Method, Operator, Postfix};

@@ -2,7 +2,7 @@
 pub mod TruthValues
 pub mod EqualLists
 pub mod AppendedLists
-pub mod Runs
+pub mod CharacterRuns
 pub mod HexDigits
 pub mod KeywordSpellings
 pub mod XmlNames

@@ -17,7 +17,7 @@ use Rattle.rn_syntax.specs.declared.fault.FaultKind.{FaultKind}
 use Rattle.rn_syntax.specs.Faults.{kind_rank}
 use Rattle.rn_syntax.specs.Grammar.{Tokens}
 use Rattle.rn_syntax.specs.Tree as t
-use Rattle.rn_syntax.specs.Tokens.{terminals}
+use Rattle.rn_syntax.specs.TokenTerminals.{terminals}
 use Rattle.rn_syntax.specs.Beginnings.{HasTree}
 use Rattle.rn_syntax.proofs.FaultPlaces.FaultKinds.{one_kind}
 use Rattle.rn_assemble.specs.Components.{NamedModule}

@@ -1,9 +1,9 @@
 -- A pattern of known URIs can be written where it can with its URIs renamed, if those that become XML characters are such.
-use Rattle.std.proofs.Common.{◌≡◌, ◌≢◌, ◌↔◌, false, ◌&&◌, ◌||◌, [], ◌∷◌, codes, refl, sym, ap, ◌∙◌, subst}
-use Rattle.std.specs.Prelude.{bytes_eq}
+use Rattle.std.proofs.Common.{◌≡◌, ◌≢◌, ◌↔◌, false, ◌&&◌, [], ◌∷◌, codes, refl, sym, ap, ◌∙◌, subst}
 use Rattle.rn_text.specs.Texts.{Text}
 use Rattle.rn_pattern.specs.Tree.{Parameters, NameTree, NameTrees, any_name, any_name_but, ns_name, ns_name_but, name, name_choice, no_names, more_names, Tree, Trees, not_allowed, ref, value, datum, datum_but, list, attribute, element, one_or_more, group, interleave, choice, no_trees, more_trees}
 use Rattle.rn_pattern.specs.Excepts.{IsExcept, AreExcepts}
+use Rattle.rn_syntax.specs.Places.{is_context_type}
 use Rattle.rn_assemble.specs.WritableTexts.{IsName, IsXml, AreParams, needs_context, IsType, string_type, token_type, library_type, IsData, bare, with_params, Free, IsWritableName, AreWritableNames, IsWritable, AreWritable}
 use Rattle.rn_assemble.specs.Renamed.{renamed_class, renamed_classes, renamed_tree, renamed_trees, HasKnownNames, HaveKnownNames, HasKnownUris, HaveKnownUris, IsRenaming}
 use Rattle.rn_assemble.proofs.Renaming.KnownTexts.{is_none, is_xsd}
@@ -63,7 +63,7 @@ module _ {named : Text → Text} {Known : Text → Type 0} (r : IsRenaming named
     names_before (more_names c cs) k h = (name_before c k.0 h.0, names_before cs k.1 h.1)
 
   context_before : (l x : Text) → Known l → needs_context (named l) x ≡ false → needs_context l x ≡ false
-  context_before l x k e = ap (λ b. b && (bytes_eq x (codes "QName") || bytes_eq x (codes "NOTATION"))) (sym (is_xsd r l k)) ∙ e
+  context_before l x k e = ap (λ b. b && is_context_type x) (sym (is_xsd r l k)) ∙ e
 
   mutual
     pub IsWritable-before : (p : Tree) → HasKnownUris Known p → IsWritable (renamed_tree named p) → IsWritable p

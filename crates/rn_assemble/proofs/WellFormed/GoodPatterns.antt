@@ -13,7 +13,7 @@ use Rattle.rn_syntax.specs.declared.token.Operator.TheVariants as o
 use Rattle.rn_syntax.specs.declared.token.Postfix.TheVariants as r
 use Rattle.rn_syntax.specs.Tree as t
 use Rattle.rn_syntax.specs.Tree.{Name, Datatype, Params, AnyName, NameClass, NameClasses, Pattern, Patterns, Uri, Declaration}
-use Rattle.rn_syntax.specs.Places.{xml_uri, xsd_uri, declared_namespace, declared_library, library_of, place_if, has_any, is_library, unbound_type, wrong_builtin, context_value, pattern_places, patterns_places}
+use Rattle.rn_syntax.specs.Places.{xml_uri, xsd_uri, declared_namespace, declared_library, library_of, place_if, has_any, is_library, is_context_type, unbound_type, wrong_builtin, context_value, pattern_places, patterns_places}
 use Rattle.rn_syntax.proofs.TokenKinds.PieceTokens.{ascii}
 use Rattle.rn_syntax.proofs.Lists.EmptyLists.{nil_parts}
 use Rattle.rn_assemble.specs.Resolve.{uri_text, declared_text, default_of, namespace_of, resolved_class, resolved_classes, type_library, type_name, every_name, every_name_but, resolved_pattern, resolved_patterns}
@@ -155,7 +155,7 @@ module _ (ds : List Declaration) where
   type_of : {l x : Text} → IsData Free l x [] → IsType Free l x
   type_of (bare h) = h
 
-  context_at : (s : Option Text) (l : Text) (i : ℕ) → place_if (not (is_some s)) i ≡ [] → place_if (is_library s xsd_uri && (bytes_eq l (codes "QName") || bytes_eq l (codes "NOTATION"))) i ≡ [] → needs_context (unwrap_or s []) l ≡ false
+  context_at : (s : Option Text) (l : Text) (i : ℕ) → place_if (not (is_some s)) i ≡ [] → place_if (is_library s xsd_uri && is_context_type l) i ≡ [] → needs_context (unwrap_or s []) l ≡ false
   context_at None l i u e = cc
   context_at (Some k) l i u e = no_place _ i e
 

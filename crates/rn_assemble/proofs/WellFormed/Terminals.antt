@@ -22,7 +22,7 @@ use Rattle.rn_text.specs.declared.keywords.Keyword.TheVariants as k
 use Rattle.rn_syntax.specs.Terminal as t
 use Rattle.rn_syntax.specs.Terminal.{Terminal, Placed, ◌#◌}
 use Rattle.rn_syntax.specs.Grammar.{Tokens}
-use Rattle.rn_syntax.specs.Tokens.{spelled_in, keyword_row, keyword_rows, symbol_rows, terminal_of, terminals}
+use Rattle.rn_syntax.specs.TokenTerminals.{spelled_in, keyword_row, keyword_rows, symbol_rows, terminal_of, terminals}
 use Rattle.rn_text.proofs.TokenLists.CutLexemes.{xml_scalars}
 use Rattle.rn_syntax.proofs.TokenKinds.PieceTokens.{before, terms, terms-are}
 use Rattle.rn_assemble.specs.WritableTexts.{IsName, IsXml}

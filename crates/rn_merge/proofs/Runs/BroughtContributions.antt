@@ -6,7 +6,7 @@ use Rattle.std.proofs.lemmas.Option.{slice_get_within, get_or_from_slice_get}
 use Rattle.rn_text.proofs.Words.TruthValues.{same_test}
 use Rattle.rn_modset.specs.Contributions.{Member}
 use Rattle.rn_modset.specs.Sets.{Rises, has, union}
-use Rattle.rn_modset.specs.Grammar.{IsBundle}
+use Rattle.rn_modset.specs.BundleGrammar.{IsBundle}
 use Rattle.rn_modset.proofs.Unions.AddedMember.{none_kept}
 use Rattle.rn_modset.proofs.Unions.Membership.{In, in_left, in_from_contains, contains_from_in, in_from_has, has_from_in}
 use Rattle.rn_modset.proofs.BundleFaults.OneBundleFault.{bundle_fault}

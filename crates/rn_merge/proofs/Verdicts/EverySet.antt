@@ -22,7 +22,7 @@ use Rattle.rn_assemble.proofs.Refusals.NoLeast.{no_text}
 use Rattle.rn_simplify.specs.Spelling.{spelling}
 use Rattle.rn_simplify.specs.ReadBack.{is_too_deep}
 use Rattle.rn_simplify.specs.Verdict.{Verdict, prints, refused, too_large, too_deep, IsCanonicalOfSet, IsVerdict}
-use Rattle.rn_merge.proofs.Texts.TextPlaces.{faultless_good}
+use Rattle.rn_merge.proofs.FaultsOfTexts.TextPlaces.{faultless_good}
 use Rattle.rn_merge.proofs.Verdicts.NameEntries.{no_first, in_map, names_sorted, never_no_entries}
 
 -- ---- a set without refusal has a grammar

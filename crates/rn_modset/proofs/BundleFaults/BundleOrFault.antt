@@ -14,10 +14,10 @@ use Rattle.rn_modset.specs.declared.faults.BundleFault.{BundleFault}
 use Rattle.rn_modset.specs.declared.faults.BundleFault.TheVariants.{Magic, Header, Order, Digest, Truncated, Trailing, Memory}
 use Rattle.rn_modset.specs.Contributions.{Member, member_cmp, is_module_name, is_withdrawal, has_withdrawal, IsWithinLimits}
 use Rattle.rn_modset.specs.Sets.{Rises}
-use Rattle.rn_modset.specs.Grammar.{Head, text_header, withdrawal_header, is_lower_hex, IsDigest, IsHeader, IsFirstLine, IsBundle}
+use Rattle.rn_modset.specs.BundleGrammar.{Head, text_header, withdrawal_header, is_lower_hex, IsDigest, IsHeader, IsFirstLine, IsBundle}
 use Rattle.rn_modset.specs.Bundles.{header_line, header_of, body_of, digest, entry, first_line, end_line}
 use Rattle.rn_modset.specs.inside.Headers.{MayStand, IsNoHeader, AreNoTextFields}
-use Rattle.rn_modset.specs.Faults.{HasLine, Ends, IsTextFault, cut_short, no_line_feed, other_digest, IsEntryFault, no_header, bad_text, IsFaultBehind, no_line, more_bytes, bad_entry, out_of_order, HasBundleFault, no_first_line, behind}
+use Rattle.rn_modset.specs.BundleFaults.{HasLine, Ends, IsTextFault, cut_short, no_line_feed, other_digest, IsEntryFault, no_header, bad_text, IsFaultBehind, no_line, more_bytes, bad_entry, out_of_order, HasBundleFault, no_first_line, behind}
 use Rattle.rn_modset.proofs.TestAnswers.TruthValues.{differs}
 use Rattle.rn_modset.proofs.LineParts.HeaderLines.{whole_line, IsCut, no_kind, no_name, bad_name, no_such_kind, text_by, withdrawal_by, AreCut, no_revision, no_length, bad_revision, bad_length, bad_limits}
 use Rattle.rn_modset.proofs.BundlesWritten.SpelledBundles.{IsSpelledFront, front_by, first_spelled, header_spelled, last_by, last_spelled, entry_by, header_at, no_header_at, digest_spelled, bundle_at}

@@ -8,10 +8,10 @@ use Rattle.rn_modset.specs.declared.faults.BundleFault.{BundleFault}
 use Rattle.rn_modset.specs.declared.faults.BundleFault.TheVariants.{Header, Order, Truncated, Trailing, Memory}
 use Rattle.rn_modset.specs.Contributions.{Member, is_name_byte, is_withdrawal, IsWithinLimits}
 use Rattle.rn_modset.specs.Sets.{Rises}
-use Rattle.rn_modset.specs.Grammar.{Head, text_header, withdrawal_header, is_lower_hex, IsDigestOf, IsHeader, IsEndLine}
+use Rattle.rn_modset.specs.BundleGrammar.{Head, text_header, withdrawal_header, is_lower_hex, IsDigestOf, IsHeader, IsEndLine}
 use Rattle.rn_modset.specs.Bundles.{header_line, header_of, body_of, digest, entry}
 use Rattle.rn_modset.specs.inside.Headers.{MayStand}
-use Rattle.rn_modset.specs.Faults.{not_line_feed, HasLine, Ends, Heads, IsTextFault, cut_short, no_line_feed, other_digest, text_memory, IsEntryFault, no_header, bad_text, entry_memory, IsFaultBehind, no_line, more_bytes, bad_entry, out_of_order}
+use Rattle.rn_modset.specs.BundleFaults.{not_line_feed, HasLine, Ends, Heads, IsTextFault, cut_short, no_line_feed, other_digest, text_memory, IsEntryFault, no_header, bad_text, entry_memory, IsFaultBehind, no_line, more_bytes, bad_entry, out_of_order}
 use Rattle.std.proofs.lemmas.Bool.{false_from_ne_true}
 use Rattle.rn_modset.proofs.TestAnswers.TruthValues.{second_of_both}
 use Rattle.rn_modset.proofs.LineParts.LineFields.{Lacks, one_split, one_front, lacks_by, lacks_from_all, unsplit, one_cut, name_lacks, number_lacks}

@@ -6,9 +6,9 @@ use Rattle.rn_modset.specs.declared.faults.BundleFault.{BundleFault}
 use Rattle.rn_modset.specs.declared.faults.BundleFault.TheVariants.{Magic, Header, Order, Digest, Truncated, Trailing, Memory}
 use Rattle.rn_modset.specs.Contributions.{Member, is_withdrawal, has_withdrawal, IsWithinLimits}
 use Rattle.rn_modset.specs.Sets.{Rises, IsSet}
-use Rattle.rn_modset.specs.Grammar.{IsBundle}
+use Rattle.rn_modset.specs.BundleGrammar.{IsBundle}
 use Rattle.rn_modset.specs.Bundles.{entry, entries, first_line, end_line, bundle}
-use Rattle.rn_modset.specs.Faults.{not_line_feed, IsFront, IsFaultBehind, HasBundleFault, no_first_line, behind, no_memory}
+use Rattle.rn_modset.specs.BundleFaults.{not_line_feed, IsFront, IsFaultBehind, HasBundleFault, no_first_line, behind, no_memory}
 use Rattle.rn_modset.proofs.LineParts.LineFields.{one_front, number_lacks}
 use Rattle.rn_modset.proofs.BundlesRead.DistinctBundles.{one_entry, ends_here, length_first}
 use Rattle.rn_modset.proofs.Unions.MergedLists.{rises_left}

@@ -8,7 +8,7 @@ use Rattle.rn_modset.proofs.BundlesWritten.SpelledBundles.{bundle_spelled}
 use Rattle.rn_modset.proofs.LineParts.LineFields.{one_split, one_front, name_lacks, number_lacks, hex_lacks}
 use Rattle.rn_modset.specs.Contributions.{Member, is_module_name, has_withdrawal, IsWithinLimits}
 use Rattle.rn_modset.specs.Sets.{IsSet}
-use Rattle.rn_modset.specs.Grammar.{IsBundle}
+use Rattle.rn_modset.specs.BundleGrammar.{IsBundle}
 use Rattle.rn_modset.specs.Bundles.{entry, entries, digest, end_line, bundle, first_line}
 
 flat_text : (name : List ℕ) (revision : ℕ) (text x : List ℕ) → entry (record { name = name; revision = revision; text = Some text }) ++ x

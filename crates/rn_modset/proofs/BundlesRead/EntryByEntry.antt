@@ -12,11 +12,11 @@ use Rattle.rn_modset.specs.Sets.{Rises, IsSet}
 use Rattle.rn_modset.specs.Bundles.{entry, entries, first_line, end_line, bundle}
 use Rattle.rn_modset.specs.Contributions.{is_withdrawal, has_withdrawal}
 use Rattle.rn_modset.specs.inside.Headers.{IsLastLine}
-use Rattle.rn_modset.proofs.Ordered.MemberOrder.{members_total}
+use Rattle.rn_modset.proofs.OrderedMembers.MemberOrder.{members_total}
 use Rattle.rn_modset.proofs.BundlesWritten.SpelledBundles.{IsSpelledFront}
 use Rattle.rn_modset.proofs.Unions.Membership.{In}
-use Rattle.rn_modset.proofs.Ordered.SearchedPlaces.{rise_at}
-use Rattle.rn_modset.proofs.Ordered.ProgramOrder.{same_order}
+use Rattle.rn_modset.proofs.OrderedMembers.SearchedPlaces.{rise_at}
+use Rattle.rn_modset.proofs.OrderedMembers.ProgramOrder.{same_order}
 use Rattle.rn_modset.specs.contracts.contribution.ContributionOrd.TheImpl.{ghosts}
 use Rattle.std.specs.Ordering.{is_lt}
 use Rattle.std.proofs.Math.Bool.{or_assoc}

@@ -4,10 +4,10 @@ use Rattle.std.specs.List.{All}
 use Rattle.sha2.specs.Sha256.{sha256}
 use Rattle.rn_modset.specs.Contributions.{Member, has_withdrawal, IsWithinLimits}
 use Rattle.rn_modset.specs.Sets.{Rises, IsSet}
-use Rattle.rn_modset.specs.Grammar.{Head, text_header, withdrawal_header, IsDigestOf, IsHeader, IsEntryOf, IsEntry, AreEntries, IsFirstLine, IsEndLine, IsBundle}
+use Rattle.rn_modset.specs.BundleGrammar.{Head, text_header, withdrawal_header, IsDigestOf, IsHeader, IsEntryOf, IsEntry, AreEntries, IsFirstLine, IsEndLine, IsBundle}
 use Rattle.rn_modset.specs.Bundles.{header_line, digest, entry, entries, first_line, end_line, bundle}
 use Rattle.rn_modset.specs.inside.Headers.{MayStand, IsNoHeader, IsLastLine}
-use Rattle.rn_modset.specs.Faults.{IsFront, Ends}
+use Rattle.rn_modset.specs.BundleFaults.{IsFront, Ends}
 use Rattle.rn_modset.proofs.Numerals.GrammarDigits.{number_is, number_by, hex_is, hex_written}
 use Rattle.rn_modset.proofs.Numerals.TextDigests.{digest_is, sha256_bytes}
 

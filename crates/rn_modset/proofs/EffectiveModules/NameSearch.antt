@@ -12,7 +12,7 @@ use Rattle.std.proofs.lemmas.List.Sorted.{searchable_from_sorted}
 use Rattle.std.proofs.lemmas.Map.Keys.{Less-from_sorted}
 use Rattle.rn_text.specs.Texts.{text_cmp}
 use Rattle.rn_modset.specs.Modules.{Module, module_cmp, module_of, modules_of, NamesRise}
-use Rattle.rn_modset.proofs.Ordered.MemberOrder.{texts_same}
+use Rattle.rn_modset.proofs.OrderedMembers.MemberOrder.{texts_same}
 use Rattle.rn_modset.proofs.TestAnswers.Orderings.{greater_not_less}
 
 abbrev Lent : Type 0

@@ -11,7 +11,7 @@ use Rattle.rn_modset.specs.Contributions.{Member, member_cmp}
 use Rattle.rn_text.specs.Texts.{text_cmp}
 use Rattle.rn_modset.specs.Sets.{Rises, has}
 use Rattle.rn_modset.specs.Modules.{Holds, IsHighest, IsEffective, IsConflict, IsFirstConflict, Module, module_cmp, NamesRise, AreEffective}
-use Rattle.rn_modset.proofs.Ordered.MemberOrder.{members_total, texts_same}
+use Rattle.rn_modset.proofs.OrderedMembers.MemberOrder.{members_total, texts_same}
 use Rattle.rn_modset.proofs.Unions.Membership.{In, in_left, in_right, in_append, in_from_contains, contains_from_in, sorted_push, below_in, above_in, in_from_has, has_from_in}
 
 no_text_below_itself : (x : List ℕ) → text_cmp x x ≢ Less

@@ -7,9 +7,9 @@ use Rattle.rn_modset.specs.declared.contribution.Contribution.{Contribution}
 use Rattle.rn_modset.specs.Contributions.{Member, member, members_of, member_cmp}
 use Rattle.rn_modset.specs.Sets.{Rises}
 use Rattle.rn_modset.specs.Modules.{Module, AreEffective, IsFirstConflict}
-use Rattle.rn_modset.specs.inside.Places.{IsFollowed, IsContradicted}
+use Rattle.rn_modset.specs.inside.Neighbours.{IsFollowed, IsContradicted}
 use Rattle.rn_modset.proofs.EffectiveModules.SlicePlaces.{IsHeldAt, slice_front_more, slice_back_more, split_at}
-use Rattle.rn_modset.proofs.Ordered.SearchedPlaces.{rise_at}
+use Rattle.rn_modset.proofs.OrderedMembers.SearchedPlaces.{rise_at}
 use Rattle.rn_modset.proofs.Unions.Membership.{In, in_append, below_in}
 use Rattle.rn_modset.proofs.EffectiveModules.SetWalk.{IsWalk, IsNext, IsLast, IsTop, last_in, top_at, between, walk_on, walk_text, walk_withdrawal, walk_conflict, walk_end}
 

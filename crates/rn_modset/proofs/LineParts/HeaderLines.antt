@@ -5,8 +5,8 @@ use Rattle.std.proofs.lemmas.Fmt.{decimal_injective}
 use Rattle.rn_modset.specs.declared.headers.HeaderLine.{HeaderLine}
 use Rattle.rn_modset.specs.Contributions.{is_module_name}
 use Rattle.rn_modset.specs.Bundles.{header_line, end_line}
-use Rattle.rn_modset.specs.Grammar.{Head, text_header, withdrawal_header}
-use Rattle.rn_modset.specs.Grammar.{IsDigest}
+use Rattle.rn_modset.specs.BundleGrammar.{Head, text_header, withdrawal_header}
+use Rattle.rn_modset.specs.BundleGrammar.{IsDigest}
 use Rattle.rn_modset.specs.inside.Headers.{MayStand, IsNoHeader, AreNoTextFields, IsNoWithdrawalField}
 use Rattle.rn_modset.specs.inside.Headers.{header_view}
 use Rattle.rn_modset.proofs.LineParts.LineFields.{Lacks, lacks_by, lacks_from_all, unsplit, one_cut, name_lacks, number_lacks}

@@ -9,7 +9,7 @@ use Rattle.std.proofs.lemmas.Str.{digit_value_digit}
 use Rattle.std.proofs.lemmas.Str.Parse.{digit_from_value, numerals_by_value, tells_digits}
 use Rattle.std.proofs.lemmas.Fmt.{decimal_is_IsNumeral, decimal-digits_value, decimal_digit, first_decimal}
 use Rattle.hex.specs.Hex.{encode_with, lower_digits}
-use Rattle.rn_modset.specs.Grammar.{IsDigit, DigitsGoOn, IsNumber, IsHexDigit, SpellsBytes}
+use Rattle.rn_modset.specs.BundleGrammar.{IsDigit, DigitsGoOn, IsNumber, IsHexDigit, SpellsBytes}
 use Rattle.rn_modset.proofs.TestAnswers.TruthValues.{first_of_both, second_of_both}
 
 digit_is : (c n : ℕ) → IsDigit c n → digit_value c ≡ n

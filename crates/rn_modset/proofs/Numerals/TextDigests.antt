@@ -11,8 +11,8 @@ use Rattle.rn_modset.specs.declared.contribution.Contribution.{Contribution}
 use Rattle.rn_modset.specs.Contributions.{member, members_of}
 use Rattle.rn_modset.specs.Digests.{text_digest}
 use Rattle.rn_modset.specs.Bundles.{digest}
-use Rattle.rn_modset.specs.Grammar.{IsDigest, is_lower_hex}
-use Rattle.rn_modset.proofs.Ordered.SearchedPlaces.{map_insert}
+use Rattle.rn_modset.specs.BundleGrammar.{IsDigest, is_lower_hex}
+use Rattle.rn_modset.proofs.OrderedMembers.SearchedPlaces.{map_insert}
 use Rattle.rn_modset.proofs.TestAnswers.TruthValues.{first_of_both, second_of_both}
 
 length-digest_bytes : (h : List ℕ) (n : ℕ) → length (digest_bytes h n) ≡ n * 4

@@ -7,9 +7,9 @@ use Rattle.rn_modset.specs.declared.contribution.Contribution.{Contribution}
 use Rattle.rn_modset.specs.Contributions.{Member, member, members_of, member_cmp, IsWithinLimits}
 use Rattle.rn_modset.specs.Sets.{Rises, IsSet, has, with_member}
 use Rattle.rn_modset.specs.inside.Insertion.{IsInsertionPlace}
-use Rattle.rn_modset.proofs.Ordered.MemberOrder.{members_total}
-use Rattle.rn_modset.proofs.Ordered.SearchedPlaces.{length_map}
-use Rattle.rn_modset.proofs.Ordered.RisingLists.{sorted_insert, length_insert, insert_held}
+use Rattle.rn_modset.proofs.OrderedMembers.MemberOrder.{members_total}
+use Rattle.rn_modset.proofs.OrderedMembers.SearchedPlaces.{length_map}
+use Rattle.rn_modset.proofs.OrderedMembers.RisingLists.{sorted_insert, length_insert, insert_held}
 
 pub none_kept : IsSet []
 unfolding IsStrictlySortedBy

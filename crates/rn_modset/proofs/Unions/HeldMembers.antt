@@ -5,7 +5,7 @@ use Rattle.std.specs.Ordering.{is_eq, eq_by_cmp}
 use Rattle.std.proofs.lemmas.Cmp.{tied_itself}
 use Rattle.rn_modset.specs.Contributions.{Member, member_cmp}
 use Rattle.rn_modset.specs.Sets.{has, with_member, union}
-use Rattle.rn_modset.proofs.Ordered.MemberOrder.{members_total, members_same}
+use Rattle.rn_modset.proofs.OrderedMembers.MemberOrder.{members_total, members_same}
 use Rattle.rn_modset.proofs.Unions.Membership.{in_from_has, has_from_in, in_from_contains, contains_from_in}
 use Rattle.rn_modset.proofs.Unions.UnionMembers.{has_with, has_union}
 use Rattle.std.proofs.lemmas.Bool.{or_left, or_right, or_cases}

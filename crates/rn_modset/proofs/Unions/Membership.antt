@@ -8,7 +8,7 @@ use Rattle.std.specs.List.Sorted.{IsStrictlySortedBy}
 use Rattle.std.proofs.lemmas.Cmp.{tied_itself}
 use Rattle.rn_modset.specs.Contributions.{Member, member_cmp}
 use Rattle.rn_modset.specs.Sets.{has}
-use Rattle.rn_modset.proofs.Ordered.MemberOrder.{members_total, members_same}
+use Rattle.rn_modset.proofs.OrderedMembers.MemberOrder.{members_total, members_same}
 use Rattle.std.proofs.lemmas.Bool.{or_left, or_right, or_cases}
 use Rattle.rn_modset.proofs.TestAnswers.Orderings.{tied}
 

@@ -12,13 +12,13 @@ use Rattle.rn_modset.specs.declared.contribution.Contribution.{Contribution}
 use Rattle.rn_modset.specs.Contributions.{Member, member, members_of, member_cmp}
 use Rattle.rn_modset.specs.Sets.{Rises, has, union}
 use Rattle.rn_modset.specs.inside.Merges.{missing, KeepsFrom, AreApart, AreBelow, EndsAbove, TakesGreatest}
-use Rattle.rn_modset.proofs.Ordered.MemberOrder.{members_total, members_same}
+use Rattle.rn_modset.proofs.OrderedMembers.MemberOrder.{members_total, members_same}
 use Rattle.rn_modset.proofs.Unions.Membership.{In, in_left, in_right, in_append, all_in, all_by_in, below_in, above_in, in_from_has, has_from_in}
 use Rattle.std.proofs.Math.Bool.{or_assoc}
 use Rattle.std.proofs.lemmas.Bool.{false_from_ne_true}
 use Rattle.rn_modset.proofs.TestAnswers.Orderings.{tied}
 use Rattle.rn_modset.proofs.TestAnswers.TruthValues.{not_both}
-use Rattle.rn_modset.proofs.Ordered.RisingLists.{all_through, lacks_below, one_list, turned}
+use Rattle.rn_modset.proofs.OrderedMembers.RisingLists.{all_through, lacks_below, one_list, turned}
 use Rattle.rn_modset.proofs.Unions.UnionMembers.{has_union, rises_union}
 use Rattle.rn_modset.proofs.EffectiveModules.SlicePlaces.{IsHeldAt, slice_front_more, slice_back_more, split_at}
 

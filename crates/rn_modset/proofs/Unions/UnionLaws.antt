@@ -5,8 +5,8 @@ use Rattle.std.specs.List.Sorted.{IsStrictlySortedBy}
 use Rattle.rn_modset.specs.Contributions.{Member}
 use Rattle.rn_modset.specs.Sets.{Rises, has, with_member, union}
 use Rattle.rn_modset.specs.Laws.{AreUnionLaws, AreCallLaws, Call, added, joined, after, brought}
-use Rattle.rn_modset.proofs.Ordered.MemberOrder.{members_total, members_same}
-use Rattle.rn_modset.proofs.Ordered.RisingLists.{one_list}
+use Rattle.rn_modset.proofs.OrderedMembers.MemberOrder.{members_total, members_same}
+use Rattle.rn_modset.proofs.OrderedMembers.RisingLists.{one_list}
 use Rattle.rn_modset.proofs.Unions.UnionMembers.{has_union, rises_union}
 use Rattle.std.proofs.Math.Bool.{or_assoc}
 

@@ -10,8 +10,8 @@ use Rattle.std.proofs.lemmas.Map.Views.{All-insert_key}
 use Rattle.rn_modset.specs.Contributions.{Member, member_cmp, IsWithinLimits}
 use Rattle.rn_modset.specs.Sets.{Rises, IsSet, has, with_member, union}
 use Rattle.rn_modset.specs.inside.Merges.{missing}
-use Rattle.rn_modset.proofs.Ordered.MemberOrder.{members_total, members_same}
-use Rattle.rn_modset.proofs.Ordered.RisingLists.{has_insert, one_list}
+use Rattle.rn_modset.proofs.OrderedMembers.MemberOrder.{members_total, members_same}
+use Rattle.rn_modset.proofs.OrderedMembers.RisingLists.{has_insert, one_list}
 use Rattle.rn_modset.proofs.Unions.AddedMember.{rises_with, length_with}
 use Rattle.rn_modset.proofs.TestAnswers.Orderings.{greater_not_equal}
 

@@ -8,7 +8,7 @@ use Rattle.rn_pattern.specs.Order.{name_cmp}
 use Rattle.rn_pattern.specs.Tree.{name_trees_of}
 use Rattle.rn_pattern.specs.View.{name_class_view}
 use Rattle.rn_pattern.specs.declared.tree.NameClass.TheViews as class
-use Rattle.rn_pattern.proofs.Forms.NamesTogether.{lone_part, parts_more, parts_together}
+use Rattle.rn_pattern.proofs.CanonicalForms.NamesTogether.{lone_part, parts_more, parts_together}
 use Rattle.rn_pattern.proofs.Stores.ClassTrees.{any_name_but_seen, choice_seen, ns_name_but_seen}
 use Rattle.rn_pattern.proofs.+canonical_name.Goals as goal
 use Rattle.rn_pattern.proofs.+canonical_name.Goals.{name_class::push_parts-in-Choice+in_ok-push_parts-in-Choice, name_class::push_parts-in_default+in_ok-canonical-in_default+in_ok-push-in_default}

@@ -6,7 +6,7 @@ use Rattle.rn_pattern.specs.Matching.{Grammar, definition_of}
 use Rattle.rn_pattern.specs.Canonical.{canonical_name, choice_step, group_step, interleave_step, one_or_more_step, list_step, attribute_step, datum_but_step, canonical, canonical_all, ref_unless_settled, settled_within, canonical_within}
 use Rattle.rn_pattern.specs.Reached.{RefersTo, SomeRefersTo}
 use Rattle.rn_pattern.specs.References.{RefersOutside}
-use Rattle.rn_pattern.proofs.Forms.Settled.{is_settled, Firm, canonical_firm, next, settled_canonical, solid_stand_in}
+use Rattle.rn_pattern.proofs.CanonicalForms.Settled.{is_settled, Firm, canonical_firm, next, settled_canonical, solid_stand_in}
 use Rattle.rn_pattern.specs.CanonicalShape.{AnyName, IsCanonicalPattern}
 
 module _ (s t : Text → Tree) where

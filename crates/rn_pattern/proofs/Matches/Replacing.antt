@@ -13,8 +13,8 @@ use Rattle.rn_pattern.specs.Excepts.{IsExcept, AreExcepts, HasExcepts, HaveExcep
 use Rattle.rn_pattern.specs.Reached.{formed}
 use Rattle.rn_pattern.specs.Replaced.{replaced, replaced_all, replaced_grammar}
 use Rattle.rn_pattern.proofs.Matches.CanonicalKeeps.{canonical_to, canonical_from}
-use Rattle.rn_pattern.proofs.Forms.Fixed.{canonical_itself}
-use Rattle.rn_pattern.proofs.Forms.Settled.{settled_canonical}
+use Rattle.rn_pattern.proofs.CanonicalForms.Fixed.{canonical_itself}
+use Rattle.rn_pattern.proofs.CanonicalForms.Settled.{settled_canonical}
 use Rattle.rn_pattern.proofs.Matches.Validity.{canonical_valid, lookup-map}
 
 module _ (s : Text → Tree) where

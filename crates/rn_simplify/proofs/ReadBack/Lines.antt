@@ -18,7 +18,7 @@ use Rattle.rn_syntax.specs.Tree.{Declaration, Item, items_of, includes}
 use Rattle.rn_syntax.specs.Grammar as g
 use Rattle.rn_syntax.specs.Grammar.{Tokens, IsDeclaration, AreDeclarations, AreItems}
 use Rattle.rn_syntax.specs.Places.{items_places, class_places, unbound_type, wrong_builtin, context_value, inherit_places, place_if, is_allowed}
-use Rattle.rn_syntax.specs.Tokens.{symbol_rows, keyword_rows}
+use Rattle.rn_syntax.specs.TokenTerminals.{symbol_rows, keyword_rows}
 use Rattle.rn_syntax.specs.declared.token.Method.TheVariants as m
 use Rattle.rn_text.specs.declared.keywords.Keyword.TheVariants as k
 use Rattle.rn_syntax.proofs.TokenKinds.PieceTokens.{before, terms, behind, terms-append}
@@ -28,7 +28,7 @@ use Rattle.rn_assemble.specs.Components.{Component, start_key, name_key, all_com
 use Rattle.rn_simplify.specs.Spelling.{space, line_end, symbol, keyword, word, identifier, literal, Prefixes, binding, bindings, default_line, definition_line, definition_lines, written_tree}
 use Rattle.rn_simplify.specs.Printable.{IsPrintable}
 use Rattle.rn_assemble.specs.WritableTexts.{IsName, IsXml}
-use Rattle.rn_simplify.proofs.ReadBack.Words.{space_breaks, space_free, end_free, equals_free, spelled_word_sound, spelled_word_term, identifier_sound, identifier_term, literal_sound, literal_reads}
+use Rattle.rn_simplify.proofs.ReadBack.NamesAndLiterals.{space_breaks, space_free, end_free, equals_free, spelled_word_sound, spelled_word_term, identifier_sound, identifier_term, literal_sound, literal_reads}
 use Rattle.rn_simplify.proofs.ReadBack.Classes.{Bound}
 use Rattle.rn_simplify.proofs.ReadBack.Types.{Library}
 use Rattle.rn_simplify.proofs.ReadBack.Patterns.{tree_reads}

@@ -17,7 +17,7 @@ use Rattle.rn_syntax.specs.Tree.{Pattern, Patterns, Declaration, patterns_of}
 use Rattle.rn_syntax.specs.Grammar as g
 use Rattle.rn_syntax.specs.Grammar.{Tokens, IsPattern, IsOperand, IsPrimary, IsCore, AreMore}
 use Rattle.rn_syntax.specs.Places.{place_if}
-use Rattle.rn_syntax.specs.Tokens.{symbol_rows, keyword_rows}
+use Rattle.rn_syntax.specs.TokenTerminals.{symbol_rows, keyword_rows}
 use Rattle.rn_syntax.specs.declared.token.Operator.{Operator}
 use Rattle.rn_syntax.specs.declared.token.Operator.TheVariants as o
 use Rattle.rn_syntax.specs.declared.token.Postfix.TheVariants as pf
@@ -28,7 +28,7 @@ use Rattle.rn_simplify.specs.Spelling.{space, symbol, keyword, type_piece, infix
 use Rattle.rn_simplify.specs.Printable as w
 use Rattle.rn_simplify.specs.Printable.{IsPrintable, ArePrintable, is_empty, is_text, is_repetition}
 use Rattle.rn_assemble.specs.WritableTexts.{string_type, token_type, library_type, needs_context, IsType, IsData, IsXml}
-use Rattle.rn_simplify.proofs.ReadBack.Words.{Reads, space_breaks, space_free, minus_free, parenthesized_sound, braced_sound, identifier_sound, identifier_term, literal_sound, literal_reads}
+use Rattle.rn_simplify.proofs.ReadBack.NamesAndLiterals.{Reads, space_breaks, space_free, minus_free, parenthesized_sound, braced_sound, identifier_sound, identifier_term, literal_sound, literal_reads}
 use Rattle.rn_simplify.proofs.ReadBack.NeededBindings.{FitsClass, Clean, Fits, FitAll}
 use Rattle.rn_simplify.proofs.ReadBack.Classes.{Bound, class_reads}
 use Rattle.rn_simplify.proofs.ReadBack.Types.{Library, inside_at, braced_terms, type_term, type_sound, DataTerm, data_term, data_sound}

@@ -10,8 +10,8 @@ use Rattle.rn_pattern.specs.Matching.{Grammar, definition_of}
 use Rattle.rn_pattern.specs.CanonicalShape.{IsCanonicalName, AreCanonicalNames, is_single, IsCanonical, AreCanonical, IsCanonicalPattern, AnyName, is_several, may_group, may_interleave, may_choose}
 use Rattle.rn_pattern.specs.Canonical.{canonical_within, settled_within}
 use Rattle.rn_pattern.proofs.Ordered.Ascending.{each_append}
-use Rattle.rn_pattern.proofs.Forms.CanonicalForm.{canonical_is}
-use Rattle.rn_pattern.proofs.Forms.Settled.{settled_canonical}
+use Rattle.rn_pattern.proofs.CanonicalForms.CanonicalForm.{canonical_is}
+use Rattle.rn_pattern.proofs.CanonicalForms.Settled.{settled_canonical}
 use Rattle.rn_assemble.specs.WellFormed.{HasWritableTexts}
 use Rattle.rn_assemble.proofs.Combined.PlainComponents.{sorted_distinct}
 use Rattle.rn_simplify.specs.Spelling.{name_uris, names_uris, mentions, mentions_all, grammar_mentions, spelling}

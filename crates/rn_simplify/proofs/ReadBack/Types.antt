@@ -15,15 +15,15 @@ use Rattle.rn_syntax.specs.Tree as s
 use Rattle.rn_syntax.specs.Tree.{Datatype, Declaration}
 use Rattle.rn_syntax.specs.Grammar as g
 use Rattle.rn_syntax.specs.Grammar.{Tokens, IsDatatype, MayHaveParams}
-use Rattle.rn_syntax.specs.Places.{place_if, xsd_uri, unbound_type, wrong_builtin, context_value, is_library, has_any}
-use Rattle.rn_syntax.specs.Tokens.{symbol_rows, keyword_rows}
+use Rattle.rn_syntax.specs.Places.{place_if, xsd_uri, unbound_type, wrong_builtin, context_value, is_context_type, is_library, has_any}
+use Rattle.rn_syntax.specs.TokenTerminals.{symbol_rows, keyword_rows}
 use Rattle.rn_syntax.specs.declared.token.Method.TheVariants as m
 use Rattle.rn_text.specs.declared.keywords.Keyword.TheVariants as k
 use Rattle.rn_syntax.proofs.TokenKinds.PieceTokens.{before, terms, behind, terms-append, prefixed_term}
 use Rattle.rn_assemble.specs.Resolve.{type_library, type_name}
 use Rattle.rn_simplify.specs.Spelling.{space, symbol, word, literal, in_braces, Prefixes, library_prefix, type_piece, params_pieces, datum_pieces}
 use Rattle.rn_assemble.specs.WritableTexts.{IsName, AreParams, IsType, string_type, token_type, library_type, IsData, bare, with_params, needs_context}
-use Rattle.rn_simplify.proofs.ReadBack.Words.{space_breaks, space_free, equals_free, braced_sound, word_sound, word_term, literal_sound, literal_reads}
+use Rattle.rn_simplify.proofs.ReadBack.NamesAndLiterals.{space_breaks, space_free, equals_free, braced_sound, word_sound, word_term, literal_sound, literal_reads}
 use Rattle.rn_simplify.proofs.ReadBack.NeededBindings.{IsLibrary}
 
 -- where braces and what is in them stand
@@ -90,7 +90,7 @@ module _ (f : Prefixes) (ds : List Declaration) where
         name = e;
         bound = λ v ps. ap (λ o. place_if (not (is_some o)) i) b.meaning;
         builtin = λ v. ap (λ o. place_if (is_library o [] && (has_any [] || not (bytes_eq (encode_utf8_all (chars x)) (codes "string") || bytes_eq (encode_utf8_all (chars x)) (codes "token")))) i) b.meaning;
-        context = λ k. (λ j. place_if (is_library (b.meaning j) xsd_uri && (bytes_eq (e j) (codes "QName") || bytes_eq (e j) (codes "NOTATION"))) i) ∙ ap (λ y. place_if y i) k;
+        context = λ k. (λ j. place_if (is_library (b.meaning j) xsd_uri && is_context_type (e j)) i) ∙ ap (λ y. place_if y i) k;
       }
 
   pub type_term : {l x : Text} → IsType Library l x → (i : ℕ) → TypeTerm l x i

@@ -10,8 +10,8 @@ use Rattle.rn_pattern.specs.Canonical.{put_once, sorted_once, name_class_of, nam
 use Rattle.rn_pattern.specs.Reached.{IsCanonicalOf}
 use Rattle.rn_pattern.specs.Opened.{opened_grammar}
 use Rattle.rn_pattern.proofs.Ordered.Ascending.{each_flat, each_sorted_once}
-use Rattle.rn_pattern.proofs.Forms.KeptByForms.{IsKept, opened_kept}
-use Rattle.rn_pattern.proofs.Forms.KeptRules.{canonical_except, opened_except}
+use Rattle.rn_pattern.proofs.CanonicalForms.KeptByForms.{IsKept, opened_kept}
+use Rattle.rn_pattern.proofs.CanonicalForms.KeptRules.{canonical_except, opened_except}
 use Rattle.rn_assemble.specs.WritableTexts.{IsWritableName, AreWritableNames, IsWritable, AreWritable}
 use Rattle.rn_assemble.specs.WellFormed.{HasWritableTexts}
 use Rattle.rn_simplify.proofs.Simplified.Forms.{found_in, form_source}

@@ -7,7 +7,7 @@ use Rattle.rn_text.specs.Texts.{Text}
 use Rattle.rn_pattern.specs.Matching.{Grammar, definition_of}
 use Rattle.rn_pattern.specs.Canonical.{canonical, ref_unless_settled, settled_within, settled_in}
 use Rattle.rn_pattern.specs.Reached.{formed, all_canonical, IsPruned, IsCanonicalOf}
-use Rattle.rn_pattern.proofs.Forms.Settled.{next}
+use Rattle.rn_pattern.proofs.CanonicalForms.Settled.{next}
 use Rattle.rn_assemble.specs.Renamed.{renamed_tree, renamed_definition, renamed_grammar, HasKnownUris, IsOfKnownUris, IsRenaming}
 use Rattle.rn_assemble.proofs.Renaming.RenamedReferences.{definition_of-renamed}
 use Rattle.rn_simplify.proofs.Renaming.RenamedDefinitions.{known_definition}

@@ -10,7 +10,7 @@ use Rattle.rn_pattern.specs.Canonical.{sorted_once, name_class_of, names_within,
 use Rattle.rn_pattern.specs.Reached.{IsCanonicalOf}
 use Rattle.rn_pattern.proofs.Ordered.Ascending.{each_flat, each_sorted_once}
 use Rattle.rn_pattern.proofs.Ordered.InOrder.{each_contained}
-use Rattle.rn_pattern.proofs.Forms.KeptByForms.{IsKept, canonical_kept}
+use Rattle.rn_pattern.proofs.CanonicalForms.KeptByForms.{IsKept, canonical_kept}
 use Rattle.rn_assemble.specs.Renamed.{HasKnownNames, HaveKnownNames, HasKnownUris, HaveKnownUris, IsOfKnownUris}
 use Rattle.rn_simplify.proofs.Renaming.RenamedDefinitions.{known_definition}
 use Rattle.rn_simplify.proofs.Simplified.Forms.{form_source, settled_kept}

@@ -8,9 +8,9 @@ use Rattle.rn_pattern.specs.Canonical.{canonical, ref_unless_settled, settled_wi
 use Rattle.rn_pattern.specs.Opened.{opened, opened_grammar}
 use Rattle.rn_pattern.specs.Reached.{RefersTo, IsReached, by_start, by_definition, all_canonical, IsCanonicalOf}
 use Rattle.rn_pattern.specs.CanonicalShape.{IsCanonical}
-use Rattle.rn_pattern.proofs.Forms.CanonicalForm.{canonical_is, canonical_refers}
-use Rattle.rn_pattern.proofs.Forms.Fixed.{opened_fixed}
-use Rattle.rn_pattern.proofs.Forms.Settled.{is_settled, next, settled_canonical, definition_solid, solid_stand_in}
+use Rattle.rn_pattern.proofs.CanonicalForms.CanonicalForm.{canonical_is, canonical_refers}
+use Rattle.rn_pattern.proofs.CanonicalForms.Fixed.{opened_fixed}
+use Rattle.rn_pattern.proofs.CanonicalForms.Settled.{is_settled, next, settled_canonical, definition_solid, solid_stand_in}
 use Rattle.rn_pattern.proofs.Matches.Validity.{lookup-map}
 use Rattle.rn_pattern.proofs.Matches.Pruned.{reached_definition}
 use Rattle.rn_pattern.proofs.Ordered.InOrder.{each_contained, sorted_by_name, one_by_name}

@@ -16,7 +16,7 @@ use Rattle.rn_pattern.specs.CanonicalShape.{is_several, may_choose, may_group, m
 use Rattle.rn_pattern.specs.View.{shared_view, shared_trees}
 use Rattle.rn_pattern.specs.declared.tree.Pattern.{Pattern}
 use Rattle.rn_pattern.proofs.Ordered.Ascending.{each_sorted, each_sorted_once, climbs_sorted_once}
-use Rattle.rn_pattern.proofs.Forms.CanonicalForm.{Member, members_list, each_allowed, flat_choice, flat_group, flat_interleave, canonical_all_are}
+use Rattle.rn_pattern.proofs.CanonicalForms.CanonicalForm.{Member, members_list, each_allowed, flat_choice, flat_group, flat_interleave, canonical_all_are}
 use Rattle.rn_pattern.proofs.Ordered.Orders.{tree_same}
 use Rattle.rn_pattern.proofs.Ordered.TotalOrder.{tree_cmp_total}
 use Rattle.rn_simplify.specs.inside.FormKinds.{kind_of, stand_in, around, both, either, tree_kind, group_kind, choice_kind, kind_at, becomes_by}

@@ -11,8 +11,8 @@ use Rattle.rn_pattern.specs.Canonical.{canonical, ref_unless_settled, settled_wi
 use Rattle.rn_pattern.specs.Reached.{RefersTo, IsReached, by_start, by_definition, formed, all_canonical}
 use Rattle.rn_pattern.specs.References.{RefersOutside}
 use Rattle.rn_pattern.proofs.Matches.Validity.{lookup-map}
-use Rattle.rn_pattern.proofs.Forms.KeptByForms.{IsKept, canonical_kept}
-use Rattle.rn_pattern.proofs.Forms.KeptRules.{RefersIn, RefersOutsideIn, refers_kept, outside_kept}
+use Rattle.rn_pattern.proofs.CanonicalForms.KeptByForms.{IsKept, canonical_kept}
+use Rattle.rn_pattern.proofs.CanonicalForms.KeptRules.{RefersIn, RefersOutsideIn, refers_kept, outside_kept}
 
 pub found_in : (N : Grammar) (x : Text) (p : Tree) → definition_of N x ≡ Some p → Contains N.definitions (x, p)
 found_in N x p e = Contains-from_lookup {eq = bytes_eq} (λ y z h. (bytes_decides y z).0 h) x p N.definitions e

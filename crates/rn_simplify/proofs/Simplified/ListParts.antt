@@ -12,8 +12,8 @@ use Rattle.rn_pattern.specs.CanonicalShape.{AnyName, IsCanonicalPattern}
 use Rattle.rn_pattern.specs.View.{pattern_view, shared_view, shared_trees}
 use Rattle.rn_pattern.specs.declared.tree.Pattern.{Pattern}
 use Rattle.rn_pattern.specs.declared.tree.Pattern.TheVariants as variant
-use Rattle.rn_pattern.proofs.Forms.CanonicalForm.{canonical_all_are}
-use Rattle.rn_pattern.proofs.Forms.ListsWithin.{choice_within, group_within, interleave_within}
+use Rattle.rn_pattern.proofs.CanonicalForms.CanonicalForm.{canonical_all_are}
+use Rattle.rn_pattern.proofs.CanonicalForms.ListsWithin.{choice_within, group_within, interleave_within}
 use Rattle.rn_pattern.proofs.Ordered.PatternKinds.{choice_seen, group_seen, interleave_seen}
 use Rattle.rn_simplify.specs.inside.ListParts.{members_step, parts, parts_of}
 use Rattle.rn_simplify.specs.declared.list_kind.ListKind.{ListKind}

@@ -13,8 +13,8 @@ use Rattle.rn_pattern.proofs.Matches.Validity.{lookup-map}
 use Rattle.rn_pattern.proofs.Matches.Pruned.{reached_definition}
 use Rattle.rn_simplify.proofs.Simplified.Forms.{found_in, none_before, some_before, form_source, form_kept, refers_back, outside_back, reached_source}
 use Rattle.rn_pattern.proofs.Ordered.InOrder.{contains_front, contains_behind, contains_cases}
-use Rattle.rn_pattern.proofs.Forms.KeptByForms.{IsKept, opened_kept}
-use Rattle.rn_pattern.proofs.Forms.KeptRules.{RefersIn, RefersOutsideIn, refers_kept, outside_kept, excepts_kept, canonical_except, opened_except, name_rules_kept}
+use Rattle.rn_pattern.proofs.CanonicalForms.KeptByForms.{IsKept, opened_kept}
+use Rattle.rn_pattern.proofs.CanonicalForms.KeptRules.{RefersIn, RefersOutsideIn, refers_kept, outside_kept, excepts_kept, canonical_except, opened_except, name_rules_kept}
 
 pub opened_entry : (ds : List (Text × Tree)) (x : Text) (o : Tree) → Contains {X = Text × Tree} (map (λ (d : Text × Tree). (d.0, opened d.1)) ds) (x, o) → (p : Tree) × Contains {X = Text × Tree} ds (x, p) × (opened p ≡ o)
 opened_entry [] x o (i, l, is) = absurd (omega (arith, l))

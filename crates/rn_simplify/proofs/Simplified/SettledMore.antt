@@ -11,7 +11,7 @@ use Rattle.rn_pattern.specs.Canonical.{canonical, ref_unless_settled}
 use Rattle.rn_pattern.specs.CanonicalShape.{IsCanonicalPattern}
 use Rattle.rn_pattern.specs.References.{RefersOutside}
 use Rattle.rn_pattern.proofs.Matches.Ranked.{stand_in_same}
-use Rattle.rn_pattern.proofs.Forms.Settled.{canonical_firm}
+use Rattle.rn_pattern.proofs.CanonicalForms.Settled.{canonical_firm}
 use Rattle.rn_simplify.specs.inside.DefinitionNumbers.{AreSettled, number_of}
 use Rattle.rn_simplify.specs.inside.SettlingOrder.{IsInOrder}
 use Rattle.rn_simplify.specs.inside.FormKinds.{becomes_by, stand_in, kind_of}

@@ -10,7 +10,7 @@ use Rattle.std.specs.declared.cmp.Ordering.{Ordering}
 use Rattle.std.specs.Ordering.{match_ordering, is_eq}
 use Rattle.std.proofs.Math.Dec.{eqb-suc-zero}
 use Rattle.std.proofs.lemmas.Cmp.{nat_list_cmp_total}
-use Rattle.rn_modset.proofs.Ordered.RisingLists.{insert_held}
+use Rattle.rn_modset.proofs.OrderedMembers.RisingLists.{insert_held}
 use Rattle.rn_pattern.specs.Tree.{NameTree, name_trees_of, Tree, trees_of}
 use Rattle.rn_text.specs.Texts.{Text, text_cmp}
 use Rattle.rn_pattern.specs.Canonical.{put_once, sorted_once}

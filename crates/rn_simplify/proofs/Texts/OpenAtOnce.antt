@@ -15,7 +15,7 @@ use Rattle.rn_text.specs.Tokens.{lexemes, width}
 use Rattle.rn_syntax.specs.Terminal.{Terminal, ◌#◌}
 use Rattle.rn_syntax.specs.Grammar.{Tokens}
 use Rattle.rn_syntax.specs.Places.{deep}
-use Rattle.rn_syntax.specs.Tokens.{spelled_in, symbol_rows, terminals}
+use Rattle.rn_syntax.specs.TokenTerminals.{spelled_in, symbol_rows, terminals}
 use Rattle.rn_syntax.proofs.FaultPlaces.OpenBrackets.{other_deep}
 use Rattle.rn_simplify.specs.inside.Writes.{Bracket, opening, closing, none, symbol_bracket, bracket_of, depth_behind, depth_after}
 

@@ -10,7 +10,7 @@ use Rattle.rn_syntax.specs.Terminal.{Placed, ◌#◌}
 use Rattle.rn_syntax.specs.Tree.{Module}
 use Rattle.rn_syntax.specs.Grammar as g
 use Rattle.rn_syntax.specs.Grammar.{Tokens}
-use Rattle.rn_syntax.specs.Tokens.{terminals}
+use Rattle.rn_syntax.specs.TokenTerminals.{terminals}
 use Rattle.rn_syntax.specs.Beginnings.{HasTree, Begins, IsRefused, Stops}
 use Rattle.rn_syntax.specs.Faults.{kind_rank, kind_places, kind_and_place, HasNoFault, IsFirstOfKinds, HasModuleFault, StopsAt, IsFaultOfTree, IsFault}
 use Rattle.rn_syntax.specs.Places.{deep, first}

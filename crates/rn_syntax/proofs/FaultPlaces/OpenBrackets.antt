@@ -12,7 +12,7 @@ use Rattle.rn_text.specs.Keywords.{every_keyword}
 use Rattle.rn_syntax.specs.Terminal.{Terminal, ◌#◌}
 use Rattle.rn_syntax.specs.Grammar.{Tokens}
 use Rattle.rn_syntax.specs.Places.{deep}
-use Rattle.rn_syntax.specs.Tokens.{terminal_of, spelled_in, keyword_row, keyword_rows, symbol_rows}
+use Rattle.rn_syntax.specs.TokenTerminals.{terminal_of, spelled_in, keyword_row, keyword_rows, symbol_rows}
 use Rattle.rn_syntax.proofs.TokenKinds.PieceTokens.{ascii}
 use Rattle.rn_syntax.proofs.TokenKinds.KeywordsAndSymbols.{IsPlain}
 

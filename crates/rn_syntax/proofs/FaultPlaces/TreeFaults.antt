@@ -5,7 +5,7 @@ use Rattle.rn_text.specs.Tokens.{lexeme_of}
 use Rattle.rn_syntax.specs.declared.fault.SyntaxFault.{SyntaxFault}
 use Rattle.rn_syntax.specs.declared.fault.SyntaxFault.TheVariants.{Deep, Syntax, Memory}
 use Rattle.rn_syntax.specs.Tree.{Module}
-use Rattle.rn_syntax.specs.Tokens.{terminals}
+use Rattle.rn_syntax.specs.TokenTerminals.{terminals}
 use Rattle.rn_syntax.specs.Beginnings.{HasTree}
 use Rattle.rn_syntax.specs.Spelled.{AreSpelled}
 use Rattle.rn_syntax.specs.Places.{deep}

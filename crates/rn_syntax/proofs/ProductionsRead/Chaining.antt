@@ -5,7 +5,7 @@ use Rattle.rn_syntax.specs.Terminal.{Terminal, ◌#◌}
 use Rattle.rn_syntax.specs.Grammar.{Tokens}
 use Rattle.rn_syntax.specs.inside.Follow.{first_terminal}
 use Rattle.rn_syntax.specs.inside.Sequence.{Then, both, Gives, gives}
-use Rattle.rn_syntax.specs.inside.Reading.{Took, Stuck}
+use Rattle.rn_syntax.specs.inside.Readers.{Took, Stuck}
 use Rattle.rn_syntax.proofs.ProductionsRead.Compose.{Upto, Fits, upto_at, upto_token, upto_then, stuck_upto, reads, stuck_in, first_alike}
 use Rattle.rn_syntax.proofs.ProductionsRead.Repeating.{Behind, Whole, part_read, part_stuck, parts_took}
 

@@ -11,7 +11,7 @@ use Rattle.rn_syntax.specs.Grammar as g
 use Rattle.rn_syntax.specs.Grammar.{Tokens, IsPattern, AreMore, IsOperand}
 use Rattle.rn_syntax.specs.inside.Follow.{Starts, first_terminal, behind_operand, behind_pattern}
 use Rattle.rn_syntax.specs.inside.Sequence.{Then, both}
-use Rattle.rn_syntax.specs.inside.Reading.{Took, Stuck, seen, IsNext}
+use Rattle.rn_syntax.specs.inside.Readers.{Took, Stuck, seen, IsNext}
 use Rattle.rn_syntax.proofs.OneReading.OneClass.{starts_to, tail}
 use Rattle.rn_syntax.proofs.OneReading.OnePattern.{to_operand, more_front, more_op, same_op}
 use Rattle.rn_syntax.proofs.ProductionsRead.Compose.{Upto, Fits, upto_at, upto_then, took_upto, stuck_upto, reads, stuck_in, first_alike}

@@ -15,7 +15,7 @@ use Rattle.rn_syntax.specs.Grammar as g
 use Rattle.rn_syntax.specs.Grammar.{Tokens, IsWord, MayHaveAnnotation, AreFollows, IsAnyName, IsNameClass, AreMoreClasses, IsClassOperand, IsClassPrimary, IsClassCore}
 use Rattle.rn_syntax.specs.inside.Follow.{Starts, Anything, first_terminal, no_bracket, no_follow, behind_name, behind_class, begins_any}
 use Rattle.rn_syntax.specs.inside.Sequence.{Then, both, Gives, gives, IsToken, token, IsHere, IsClassEnd, IsAnyClassEnd}
-use Rattle.rn_syntax.specs.inside.Reading.{Took, Stuck, Bare, Makes, seen, IsNext}
+use Rattle.rn_syntax.specs.inside.Readers.{Took, Stuck, Bare, Makes, seen, IsNext}
 use Rattle.rn_syntax.proofs.OneReading.OneClass.{class_core_one, class_core_front, any_no_bracket, any_one, word_is, minus_stays, name_to_follow, class_to_name, starts_to}
 use Rattle.rn_syntax.proofs.ProductionsRead.Compose.{Upto, Fits, Can, CanBe, upto_at, upto_token, upto_then, took_upto, stuck_upto, reads, stuck_in, took_gives, first_alike, stuck_here, fits_anything, fits_token, fits_gives, can_gives, can_then}
 use Rattle.rn_syntax.proofs.ProductionsRead.Repeating.{Whole}

@@ -10,7 +10,7 @@ use Rattle.rn_syntax.specs.inside.Follow.{Starts, Anything, first_terminal}
 use Rattle.rn_syntax.specs.inside.Sequence.{Then, both, Gives, gives, IsToken, token, IsOf, of}
 use Rattle.rn_text.specs.Reading.{Advanced}
 use Rattle.rn_text.specs.inside.Reading.{Passed}
-use Rattle.rn_syntax.specs.inside.Reading.{Alike, ends, same, Took, Stuck, Faults, rest, Bare, Skips, Reads, Makes}
+use Rattle.rn_syntax.specs.inside.Readers.{Alike, ends, same, Took, Stuck, Faults, rest, Bare, Skips, Reads, Makes}
 use Rattle.rn_syntax.specs.Spelled.{AreSpelled}
 use Rattle.rn_syntax.proofs.OneReading.OneClass.{place_of, tail}
 

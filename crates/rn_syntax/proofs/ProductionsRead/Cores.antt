@@ -10,8 +10,8 @@ use Rattle.rn_syntax.specs.Grammar as g
 use Rattle.rn_syntax.specs.Grammar.{Tokens, IsNameClass, IsPattern, IsCore}
 use Rattle.rn_syntax.specs.inside.Follow.{Starts, Anything, first_terminal, behind_core, behind_class, behind_pattern}
 use Rattle.rn_syntax.specs.inside.Sequence.{Then, both, Gives, gives, IsToken, token}
-use Rattle.rn_syntax.specs.inside.Parts.{IsBraced, IsNamed}
-use Rattle.rn_syntax.specs.inside.Reading.{Took, Stuck, rest}
+use Rattle.rn_syntax.specs.inside.PatternEnds.{IsBraced, IsNamed}
+use Rattle.rn_syntax.specs.inside.Readers.{Took, Stuck, rest}
 use Rattle.rn_syntax.proofs.ProductionsRead.Compose.{Upto, Fits, Can, CanBe, upto_token, upto_then, took_upto, stuck_upto, reads, stuck_in, took_gives, can_then, can_token, fits_anything, fits_token, can_gives}
 use Rattle.rn_syntax.proofs.ProductionsRead.Next.{terminal_at}
 

@@ -16,7 +16,7 @@ use Rattle.rn_syntax.specs.Grammar.{Tokens, IsWord, IsLiteral, IsUri, IsDeclarat
 use Rattle.rn_syntax.specs.inside.Follow.{Starts, Anything, first_terminal, no_tilde, no_word, behind_item, begins_declaration}
 use Rattle.rn_syntax.specs.inside.Sequence.{Then, both, Gives, gives, IsToken, token, IsOf, of, IsHere, IsWordAt, word_at, IsPrefixAt, prefix_at}
 use Rattle.rn_syntax.specs.inside.Declaring.{IsUriEnd, IsNamespaceEnd, IsDatatypesEnd, MayHaveDefaultPrefix, no_prefix, prefix, IsDefaultEnd}
-use Rattle.rn_syntax.specs.inside.Reading.{Took, Stuck, seen, IsNext, rest}
+use Rattle.rn_syntax.specs.inside.Readers.{Took, Stuck, seen, IsNext, rest}
 use Rattle.rn_syntax.specs.Spelled.{BeginAt}
 use Rattle.rn_syntax.proofs.OneReading.OneClass.{word_one, starts_to}
 use Rattle.rn_syntax.proofs.OneReading.OneTree.{declarations_tilde, item_to_tilde}

@@ -18,7 +18,7 @@ use Rattle.rn_syntax.specs.inside.Follow.{Starts, Anything, first_terminal, no_b
 use Rattle.rn_syntax.specs.inside.Sequence.{Then, both, Gives, gives, IsToken, token, IsOf, of, IsAssign, by_method, is_note}
 use Rattle.rn_syntax.specs.inside.Including as i
 use Rattle.rn_syntax.specs.inside.Including.{begins_item, begins_inner, IsItem, IsInnerItem, UpToBrace, InBraces, IsDivEnd, IsInnerDivEnd, IsIncludeEnd, AreItemsBehind}
-use Rattle.rn_syntax.specs.inside.Reading.{Took, Stuck, seen, IsNext, rest}
+use Rattle.rn_syntax.specs.inside.Readers.{Took, Stuck, seen, IsNext, rest}
 use Rattle.rn_syntax.proofs.OneReading.OneClass.{starts_to}
 use Rattle.rn_syntax.proofs.OneReading.OneTree.{item_to_pattern}
 use Rattle.rn_syntax.proofs.ProductionsRead.Compose.{Upto, Fits, Can, CanBe, upto_at, upto_token, upto_then, took_upto, stuck_upto, reads, stuck_in, took_gives, first_alike, stuck_here, fits_anything, fits_token, fits_gives, can_gives, can_then}

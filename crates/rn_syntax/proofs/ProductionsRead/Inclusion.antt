@@ -13,7 +13,7 @@ use Rattle.rn_syntax.specs.Grammar.{Tokens, IsLiteral, AreInnerItems, MayInherit
 use Rattle.rn_syntax.specs.inside.Follow.{Starts, Anything, first_terminal, no_tilde, no_brace, no_inherit, behind_item}
 use Rattle.rn_syntax.specs.inside.Sequence.{Then, both, Gives, gives, IsToken, token, IsOf, of, IsPrefixAt, prefix_at}
 use Rattle.rn_syntax.specs.inside.Including.{UpToBrace, IsIncludeEnd}
-use Rattle.rn_syntax.specs.inside.Reading.{Took, Stuck, seen, IsNext}
+use Rattle.rn_syntax.specs.inside.Readers.{Took, Stuck, seen, IsNext}
 use Rattle.rn_syntax.proofs.OneReading.OneClass.{starts_to}
 use Rattle.rn_syntax.proofs.OneReading.OneTree.{item_to_brace, override_inherit, override_tilde, inherit_tilde}
 use Rattle.rn_syntax.proofs.ProductionsRead.Compose.{Upto, Fits, Can, upto_token, upto_then, took_upto, stuck_upto, reads, stuck_in, took_gives, first_alike, fits_anything, fits_gives, can_gives}

@@ -11,7 +11,7 @@ use Rattle.rn_syntax.specs.Grammar as g
 use Rattle.rn_syntax.specs.Grammar.{Tokens, IsAnnotation, MayHaveAnnotation, AreItems}
 use Rattle.rn_syntax.specs.inside.Follow.{Starts, is_end, behind_item}
 use Rattle.rn_syntax.specs.inside.Sequence.{Then, both}
-use Rattle.rn_syntax.specs.inside.Reading.{Took, Stuck}
+use Rattle.rn_syntax.specs.inside.Readers.{Took, Stuck}
 use Rattle.rn_syntax.specs.inside.Including as n
 use Rattle.rn_syntax.specs.inside.Including.{IsItem, AreItemsBehind}
 use Rattle.rn_syntax.specs.inside.Itemizing.{AreAnnotatedItems, first_items}

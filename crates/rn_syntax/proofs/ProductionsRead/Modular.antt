@@ -17,7 +17,7 @@ use Rattle.rn_syntax.specs.inside.Follow.{Starts, Anything, first_terminal, no_f
 use Rattle.rn_syntax.specs.inside.Sequence.{Then, both, Gives, gives, IsToken, token}
 use Rattle.rn_syntax.specs.inside.Itemizing.{AreAnnotatedItems}
 use Rattle.rn_syntax.specs.inside.Modular.{IsGrammarEnd, IsBody, items_body, grammar_body, IsAnnotatedBody, items_behind, grammar_behind, IsModuleBefore, IsModuleFault}
-use Rattle.rn_syntax.specs.inside.Reading.{Alike, ends, same, Took, Stuck, Faults, Bare, seen, IsNext, rest}
+use Rattle.rn_syntax.specs.inside.Readers.{Alike, ends, same, Took, Stuck, Faults, Bare, seen, IsNext, rest}
 use Rattle.rn_syntax.specs.Spelled.{AreSpelled}
 use Rattle.rn_syntax.proofs.OneReading.OneClass.{may_one}
 use Rattle.rn_syntax.proofs.OneReading.OneTree.{component_front, component_grammar, keyword_note, is_grammar, items_front, may_item}

@@ -12,14 +12,14 @@ use Rattle.rn_syntax.specs.declared.terminals.Terminal.TheVariants as c
 use Rattle.rn_syntax.specs.Terminal as t
 use Rattle.rn_syntax.specs.Terminal.{Terminal, Placed, ◌#◌}
 use Rattle.rn_syntax.specs.Grammar.{Tokens, IsWord, by_name, by_keyword}
-use Rattle.rn_syntax.specs.Tokens.{placed, terminal_of}
-use Rattle.rn_syntax.specs.inside.Reading.{seen, rest, IsInside, IsSegmentOf, IsNext}
+use Rattle.rn_syntax.specs.TokenTerminals.{placed, terminal_of}
+use Rattle.rn_syntax.specs.inside.Readers.{seen, rest, IsInside, IsSegmentOf, IsNext}
 use Rattle.rn_syntax.specs.Spelled.{BeginAt, last_end}
 use Rattle.rn_syntax.specs.declared.token.Method.TheVariants as m
 use Rattle.rn_syntax.specs.inside.Follow.{first_terminal, is_end, no_brace, Anything}
 use Rattle.rn_syntax.specs.declared.token.Method.{Method}
 use Rattle.rn_syntax.specs.inside.Sequence.{IsToken, IsOf, of, IsWordAt, word_at, IsAssign, by_method}
-use Rattle.rn_syntax.specs.inside.Reading.{Stuck}
+use Rattle.rn_syntax.specs.inside.Readers.{Stuck}
 use Rattle.rn_syntax.specs.Spelled.{AreSpelled, SpellsItsKind}
 use Rattle.rn_syntax.proofs.OneReading.OneClass.{word_one, is_word}
 use Rattle.rn_syntax.proofs.ProductionsRead.Compose.{can_token, first_alike, token_first, stuck_here}

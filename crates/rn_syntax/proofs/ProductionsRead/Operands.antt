@@ -12,9 +12,9 @@ use Rattle.rn_syntax.specs.Grammar as g
 use Rattle.rn_syntax.specs.Grammar.{Tokens, AreFollows, IsLiteral, MayHaveParams, IsPrimary}
 use Rattle.rn_syntax.specs.inside.Follow.{Starts, first_terminal, no_follow, no_tilde, no_brace, behind_core, behind_primary, behind_operand}
 use Rattle.rn_syntax.specs.inside.Sequence.{Then, both, Gives, gives}
-use Rattle.rn_syntax.specs.inside.Parts as part
-use Rattle.rn_syntax.specs.inside.Parts.{BehindCore, BehindPostfix, BehindPrimary, IsTypedValue, IsDataEnd, BehindDatatype, BehindParams}
-use Rattle.rn_syntax.specs.inside.Reading.{Took, Stuck, Bare, seen, IsNext, rest}
+use Rattle.rn_syntax.specs.inside.PatternEnds as part
+use Rattle.rn_syntax.specs.inside.PatternEnds.{BehindCore, BehindPostfix, BehindPrimary, IsTypedValue, IsDataEnd, BehindDatatype, BehindParams}
+use Rattle.rn_syntax.specs.inside.Readers.{Took, Stuck, Bare, seen, IsNext, rest}
 use Rattle.rn_syntax.proofs.OneReading.OneClass.{starts_to, minus_stays}
 use Rattle.rn_syntax.proofs.OneReading.OnePattern.{to_primary, primary_to_follow, core_to_tilde, core_to_brace, follows_core}
 use Rattle.rn_syntax.proofs.ProductionsRead.Compose.{Upto, Fits, Can, fits_gives, can_gives, upto_at, upto_token, upto_then, took_upto, stuck_upto, reads, stuck_in, took_gives, first_alike, alike_token}

@@ -12,7 +12,7 @@ use Rattle.rn_syntax.specs.Grammar as g
 use Rattle.rn_syntax.specs.Grammar.{Tokens, MayHaveAnnotation, IsLiteral, AreParams, MayHaveParams}
 use Rattle.rn_syntax.specs.inside.Follow.{Starts, Anything, first_terminal, is_end, no_bracket, no_tilde, no_brace}
 use Rattle.rn_syntax.specs.inside.Sequence.{Then, both, Gives, gives, IsToken, token, IsOf, of, IsWordAt, word_at, IsHere, IsParam}
-use Rattle.rn_syntax.specs.inside.Reading.{Took, Stuck, Bare, seen, IsNext}
+use Rattle.rn_syntax.specs.inside.Readers.{Took, Stuck, Bare, seen, IsNext}
 use Rattle.rn_syntax.proofs.OneReading.OneClass.{params_no_tilde, param_front, word_no_bracket}
 use Rattle.rn_syntax.proofs.ProductionsRead.Compose.{Upto, Fits, Can, CanBe, upto_at, upto_token, upto_then, took_upto, reads, stuck_in, took_gives, can_then, first_alike, fits_anything, fits_gives, can_gives}
 use Rattle.rn_syntax.proofs.ProductionsRead.Repeating.{Whole, behind_start, part_read, part_stuck, parts_took}

@@ -2,7 +2,7 @@
 use Rattle.std.proofs.Common.{◌≡◌, ◌∙◌, ℕ, ap, rules, Box, Global}
 use Rattle.std.specs.Prelude.{Result, Ok, Err}
 use Rattle.rn_syntax.specs.declared.fault.Fault.{Fault}
-use Rattle.rn_syntax.specs.inside.Reading.{Makes}
+use Rattle.rn_syntax.specs.inside.Readers.{Makes}
 use Rattle.rn_syntax.specs.declared.token.Postfix.{Postfix}
 use Rattle.rn_syntax.specs.Tree as t
 use Rattle.rn_syntax.specs.View.{boxed_view, boxed_class_view, datatype_view, params_view, pattern_view}

@@ -8,9 +8,9 @@ use Rattle.rn_syntax.specs.Grammar as g
 use Rattle.rn_syntax.specs.Grammar.{Tokens, MayHaveAnnotation, IsLiteral, IsDatatype, MayHaveParams, IsOperand, IsPrimary, IsCore}
 use Rattle.rn_syntax.specs.inside.Follow.{Starts, first_terminal, no_bracket, no_follow, behind_core, behind_primary, behind_operand, begins_datatype}
 use Rattle.rn_syntax.specs.inside.Sequence.{Then, both, Gives, gives, IsHere}
-use Rattle.rn_syntax.specs.inside.Parts as part
-use Rattle.rn_syntax.specs.inside.Parts.{BehindCore, IsDataEnd, BehindDatatype}
-use Rattle.rn_syntax.specs.inside.Reading.{Took, Stuck, Bare}
+use Rattle.rn_syntax.specs.inside.PatternEnds as part
+use Rattle.rn_syntax.specs.inside.PatternEnds.{BehindCore, IsDataEnd, BehindDatatype}
+use Rattle.rn_syntax.specs.inside.Readers.{Took, Stuck, Bare}
 use Rattle.rn_syntax.proofs.OneReading.OneClass.{datatype_one}
 use Rattle.rn_syntax.proofs.OneReading.OnePattern.{core_front, datatype_front, follows_core}
 use Rattle.rn_syntax.proofs.ProductionsRead.Compose.{Upto, Fits, Can, CanBe, upto_at, upto_token, upto_then, took_upto, stuck_upto, reads, stuck_in, took_gives, first_alike, can_then, fits_gives, can_gives}

@@ -2,7 +2,7 @@
 use Rattle.std.proofs.Common.{◌≡◌, List, [], ◌∷◌, ◌++◌, refl, ap, sym, ◌∙◌, subst, append_assoc}
 use Rattle.rn_syntax.specs.Grammar.{Tokens}
 use Rattle.rn_syntax.specs.inside.Sequence.{Then, both}
-use Rattle.rn_syntax.specs.inside.Reading.{Took, Stuck}
+use Rattle.rn_syntax.specs.inside.Readers.{Took, Stuck}
 use Rattle.rn_syntax.proofs.ProductionsRead.Compose.{Upto, Fits, upto_at, upto_then, took_upto, stuck_upto, reads, stuck_in}
 
 -- the parts xs were read, and an N, which is more parts, follows: f makes of them what all stands for

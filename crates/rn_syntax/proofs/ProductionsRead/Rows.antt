@@ -10,7 +10,7 @@ use Rattle.rn_syntax.specs.Grammar as g
 use Rattle.rn_syntax.specs.Grammar.{Tokens, IsAnnotation, MayHaveAnnotation, IsNote}
 use Rattle.rn_syntax.specs.inside.Follow.{Starts, Anything, first_terminal, no_bracket, behind_item, is_end}
 use Rattle.rn_syntax.specs.inside.Sequence.{Then, both, is_note}
-use Rattle.rn_syntax.specs.inside.Reading.{Alike, ends, same, Took, Stuck, Bare}
+use Rattle.rn_syntax.specs.inside.Readers.{Alike, ends, same, Took, Stuck, Bare}
 use Rattle.rn_syntax.proofs.OneReading.OneClass.{starts_to}
 use Rattle.rn_syntax.proofs.OneReading.OneTree.{end_to_item, note_front, note_end, note_one}
 use Rattle.rn_syntax.proofs.ProductionsRead.Compose.{Upto, Fits, Can, upto_then, took_upto, stuck_upto, reads, stuck_in, first_alike, alike_front, starts_first}

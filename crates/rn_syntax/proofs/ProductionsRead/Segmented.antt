@@ -11,7 +11,7 @@ use Rattle.rn_syntax.specs.Grammar as g
 use Rattle.rn_syntax.specs.Grammar.{Tokens, IsLiteral}
 use Rattle.rn_syntax.specs.inside.Follow.{Starts, Anything, first_terminal, no_tilde}
 use Rattle.rn_syntax.specs.inside.Sequence.{Then, both, Gives, gives, IsSegment, segment_here}
-use Rattle.rn_syntax.specs.inside.Reading.{Took, Stuck, seen, IsNext, is_plain}
+use Rattle.rn_syntax.specs.inside.Readers.{Took, Stuck, seen, IsNext, is_plain}
 use Rattle.rn_syntax.proofs.ProductionsRead.Compose.{Upto, Fits, Can, CanBe, upto_at, upto_token, upto_then, took_upto, stuck_upto, reads, stuck_in, took_gives, stuck_here, first_alike, fits_anything}
 use Rattle.rn_syntax.proofs.ProductionsRead.Next.{first_next, is_segment, not_segment}
 

@@ -10,7 +10,7 @@ use Rattle.rn_syntax.specs.Grammar as g
 use Rattle.rn_syntax.specs.Grammar.{Tokens, Closed, IsAnnotation, MayHaveAnnotation, AreFollows, IsFollowName}
 use Rattle.rn_syntax.specs.inside.Follow.{Starts, Anything, first_terminal, no_bracket, no_follow}
 use Rattle.rn_syntax.specs.inside.Sequence.{Then, both, Gives, gives, IsFollow, named}
-use Rattle.rn_syntax.specs.inside.Reading.{Alike, Took, Stuck, Bare, seen, IsNext}
+use Rattle.rn_syntax.specs.inside.Readers.{Alike, Took, Stuck, Bare, seen, IsNext}
 use Rattle.rn_syntax.proofs.ProductionsRead.Compose.{Upto, Can, CanBe, upto_at, upto_then, stuck_upto, reads, stuck_in, stuck_here, first_alike, alike_end, upto_token, fits_anything}
 use Rattle.rn_syntax.proofs.ProductionsRead.Next.{first_next}
 

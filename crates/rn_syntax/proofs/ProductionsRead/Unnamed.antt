@@ -12,7 +12,7 @@ use Rattle.rn_syntax.specs.Grammar as g
 use Rattle.rn_syntax.specs.Grammar.{Tokens, IsLiteral, IsDatatype, IsPattern, IsCore}
 use Rattle.rn_syntax.specs.inside.Follow.{Starts, Anything, first_terminal, no_tilde, behind_core, behind_pattern, begins_datatype}
 use Rattle.rn_syntax.specs.inside.Sequence.{Then, both, Gives, gives, IsToken, token}
-use Rattle.rn_syntax.specs.inside.Reading.{Took, Stuck, seen, IsNext}
+use Rattle.rn_syntax.specs.inside.Readers.{Took, Stuck, seen, IsNext}
 use Rattle.rn_syntax.proofs.ProductionsRead.Compose.{Upto, Fits, Can, upto_token, upto_then, took_upto, stuck_upto, reads, stuck_in, stuck_here, took_gives, fits_anything, fits_token, fits_gives, can_gives}
 use Rattle.rn_syntax.proofs.ProductionsRead.Next.{first_next}
 use Rattle.rn_syntax.proofs.ProductionsRead.Operands.{upto_seen, core_tilde}

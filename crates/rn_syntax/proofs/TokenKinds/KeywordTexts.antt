@@ -11,8 +11,8 @@ use Rattle.rn_text.specs.declared.source.Token.{Token}
 use Rattle.rn_text.specs.declared.keywords.Keyword as code
 use Rattle.rn_text.specs.Keywords.{spelling}
 use Rattle.rn_syntax.specs.Terminal.{Terminal, keyword}
-use Rattle.rn_syntax.specs.Tokens.{terminal_of, spelled_in, keyword_rows, symbol_rows}
-use Rattle.rn_syntax.specs.inside.Reading.{rest}
+use Rattle.rn_syntax.specs.TokenTerminals.{terminal_of, spelled_in, keyword_rows, symbol_rows}
+use Rattle.rn_syntax.specs.inside.Readers.{rest}
 use Rattle.rn_syntax.specs.inside.Follow.{first_terminal}
 use Rattle.rn_syntax.proofs.ProductionsRead.Next.{rest_cons}
 use Rattle.rn_syntax.proofs.FaultPlaces.OpenBrackets.{keywords_plain}

@@ -11,7 +11,7 @@ use Rattle.rn_text.specs.Keywords.{spelling, every_keyword}
 use Rattle.rn_text.proofs.Words.TruthValues.{same_test}
 use Rattle.rn_syntax.specs.Terminal as t
 use Rattle.rn_syntax.specs.Terminal.{Terminal}
-use Rattle.rn_syntax.specs.Tokens.{spelled_in, keyword_row, keyword_rows}
+use Rattle.rn_syntax.specs.TokenTerminals.{spelled_in, keyword_row, keyword_rows}
 
 -- what spells a keyword is seen as it
 pub keyword_seen : (w : Keyword) → spelled_in keyword_rows (spelling w) ≡ t.keyword w

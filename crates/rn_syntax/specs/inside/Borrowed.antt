@@ -8,7 +8,7 @@ use Rattle.std.specs.declared.borrow.CowStr.TheVariants as text
 use Rattle.rn_text.specs.declared.source.Token.{Token}
 use Rattle.rn_text.specs.Segments.{between_delimiters, is_verbatim}
 use Rattle.rn_syntax.specs.inside.Follow.{first_terminal, no_tilde}
-use Rattle.rn_syntax.specs.inside.Reading.{rest}
+use Rattle.rn_syntax.specs.inside.Readers.{rest}
 
 abbrev pub is_borrowed : CowStr Global → Bool
 is_borrowed (text.Borrowed s) = true

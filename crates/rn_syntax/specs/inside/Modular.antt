@@ -9,7 +9,7 @@ use Rattle.rn_syntax.specs.Tree.{Item, Module, items_of}
 use Rattle.rn_syntax.specs.Grammar.{Tokens, MayHaveAnnotation, AreFollows, AreItems, AreDeclarations}
 use Rattle.rn_syntax.specs.Beginnings.{Stops}
 use Rattle.rn_syntax.specs.inside.Sequence.{Then, Gives, IsToken}
-use Rattle.rn_syntax.specs.inside.Reading.{Bare, rest}
+use Rattle.rn_syntax.specs.inside.Readers.{Bare, rest}
 use Rattle.rn_syntax.specs.Spelled.{AreSpelled}
 use Rattle.rn_syntax.specs.inside.Itemizing.{AreAnnotatedItems}
 

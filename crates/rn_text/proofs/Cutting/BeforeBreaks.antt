@@ -13,7 +13,7 @@ use Rattle.rn_text.specs.Characters.{is_name_start, is_name_char, is_ncname, is_
 use Rattle.rn_text.specs.Segments.{after_run, begins_with, is_x, is_delimiter, is_delimited, is_segment, opens_threefold, escapes_hold, escape_front}
 use Rattle.rn_text.specs.Parts.{IsFirstPart, spells, symbols, is_symbol, IsSpelled, is_prefixed, ends_token}
 use Rattle.rn_text.specs.inside.PartEnds.{IsNoPrefix}
-use Rattle.rn_text.proofs.Words.Runs.{after_run_passes, after_run_stops, run_split}
+use Rattle.rn_text.proofs.Words.CharacterRuns.{after_run_passes, after_run_stops, run_split}
 use Rattle.rn_text.proofs.Cutting.DelimitedFronts.{segment_first, delimiter_at, escapes_within}
 use Rattle.rn_text.proofs.Cutting.FirstParts.{letter, class_of, one_of, symbol_first, symbol_short, single_symbol, pair_symbol, keyword_is_name}
 use Rattle.rn_text.proofs.Cutting.NameTokens.{name_chars, run_ends, name_first, any_first, prefixed_first, quoted_first, colon_is_none, colon_of}

@@ -10,7 +10,7 @@ use Rattle.rn_text.specs.declared.parts.Kind.{Kind}
 use Rattle.rn_text.specs.declared.source.Token.{Token as SourceToken}
 use Rattle.rn_text.specs.Characters.{is_xml_char, is_keyword, keywords}
 use Rattle.rn_text.specs.Segments.{is_empty, after_run, run_of}
-use Rattle.rn_text.proofs.Words.Runs.{cut_before, is_empty_chars, all_pass, run_split, run_passes, stop_fails}
+use Rattle.rn_text.proofs.Words.CharacterRuns.{cut_before, is_empty_chars, all_pass, run_split, run_passes, stop_fails}
 use Rattle.std.proofs.lemmas.Str.{encodes-append, length-encode}
 use Rattle.std.proofs.lemmas.List.{flat_map_more}
 use Rattle.rn_text.specs.declared.parts.Part.{Part}

@@ -15,7 +15,7 @@ use Rattle.rn_text.specs.Parts.{IsFirstPart, BeginsWith, spells, symbols, is_sym
 use Rattle.rn_text.specs.inside.PartEnds.{IsLongestSymbol}
 use Rattle.rn_text.specs.Texts.{is_white}
 use Rattle.rn_text.specs.Tokens.{BeginsNoPart}
-use Rattle.rn_text.proofs.Words.Runs.{run_split, run_passes}
+use Rattle.rn_text.proofs.Words.CharacterRuns.{run_split, run_passes}
 use Rattle.rn_text.proofs.Cutting.Cuts.{no_empty_part}
 
 -- what a first character tells

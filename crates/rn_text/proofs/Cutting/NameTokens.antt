@@ -16,7 +16,7 @@ use Rattle.rn_text.specs.Segments.{is_empty, after_run, run_of, begins_with, ope
 use Rattle.rn_text.specs.Parts.{IsFirstPart, spells, is_prefixed}
 use Rattle.rn_text.specs.inside.PartEnds.{IsNoPrefix, IsPrefixEnd}
 use Rattle.rn_text.specs.Tokens.{BeginsNoPart}
-use Rattle.rn_text.proofs.Words.Runs.{after_run_passes, after_run_stops, run_split, run_passes, cut_before}
+use Rattle.rn_text.proofs.Words.CharacterRuns.{after_run_passes, after_run_stops, run_split, run_passes, cut_before}
 use Rattle.rn_text.proofs.Cutting.FirstParts.{letter, backslash, none_of_class, class_of, class_letter, only_class, plain_start, run_longest, keyword_is_name, differs, first_at}
 use Rattle.rn_text.proofs.Words.EqualLists.{cons_first, cons_rest}
 

@@ -10,7 +10,7 @@ use Rattle.std.specs.Str.Parse.{digits_value}
 use Rattle.rn_text.specs.Characters.{is_xml_char}
 use Rattle.rn_text.specs.Segments.{is_empty, after_run, run_of, begins_with, is_x, is_delimiter, is_delimited, is_segment, opens_threefold, three_of, ends_at_one, ends_at_three, escapes_hold, escape_front, after_brace, escaped_char, after_escape, is_whole_escape, between_delimiters, text_after, segment_text}
 use Rattle.rn_text.specs.inside.Writing.{StandsFor}
-use Rattle.rn_text.proofs.Words.Runs.{run_split, all_pass}
+use Rattle.rn_text.proofs.Words.CharacterRuns.{run_split, all_pass}
 use Rattle.rn_text.proofs.Cutting.NameTokens.{run_within, run_ends}
 use Rattle.rn_text.proofs.TokenLists.OneTokenList.{same_front}
 use Rattle.rn_text.proofs.Cutting.DelimitedFronts.{delimiter_at, three_by, closed_one, closed_three}

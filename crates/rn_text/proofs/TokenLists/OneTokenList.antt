@@ -13,7 +13,7 @@ use Rattle.rn_text.specs.Characters.{is_name_start, is_name_char, is_ncname, is_
 use Rattle.rn_text.specs.Segments.{is_empty, after_run, run_of, begins_with}
 use Rattle.rn_text.specs.Parts.{IsFirstPart, spells, is_prefixed, Piece, IsCut}
 use Rattle.rn_text.specs.Tokens.{Lexeme, HasTokens, lexemes, unmarked, unmarked_start}
-use Rattle.rn_text.proofs.Words.Runs.{all_pass}
+use Rattle.rn_text.proofs.Words.CharacterRuns.{all_pass}
 use Rattle.rn_text.proofs.Cutting.Cuts.{no_empty_part}
 use Rattle.rn_text.proofs.Cutting.FirstParts.{Class, white, hash, quote, backslash, letter, other, class_of, part_class, keyword_is_name, none_in_nothing}
 use Rattle.rn_text.proofs.Cutting.NameTokens.{name_chars, star_starts_none}

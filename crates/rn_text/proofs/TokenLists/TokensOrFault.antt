@@ -17,7 +17,7 @@ use Rattle.rn_text.specs.Characters.{is_xml_char}
 use Rattle.rn_text.specs.Segments.{is_empty, after_run, opens_threefold, escape_front}
 use Rattle.rn_text.specs.Parts.{spells, BeginsWith, IsFirstPart, Piece, IsCut}
 use Rattle.rn_text.specs.Tokens.{Lexeme, HasTokens, BeginsNoPart, IsLexicalPlace, HasFault, lexemes, unmarked, unmarked_start}
-use Rattle.rn_text.proofs.Words.Runs.{all_pass}
+use Rattle.rn_text.proofs.Words.CharacterRuns.{all_pass}
 use Rattle.rn_text.proofs.Cutting.Cuts.{part_shortens, leaves_at}
 use Rattle.rn_text.proofs.TokenLists.OneFaultPlace.{list_or_place, one_place}
 use Rattle.rn_text.proofs.Words.TruthValues.{true_is_false}

@@ -11,7 +11,7 @@ use Rattle.std.proofs.lemmas.Bool.Decides.{nat_tests}
 use Rattle.std.proofs.lemmas.Str.{encodes-chars, encodes-IsAscii}
 use Rattle.rn_text.specs.Characters.{is_xml_char}
 use Rattle.rn_text.specs.Segments.{is_empty, after_run, run_of, begins_with, after_brace, escaped_char, after_escape, is_whole_escape}
-use Rattle.rn_text.proofs.Words.Runs.{run_split, front_chars}
+use Rattle.rn_text.proofs.Words.CharacterRuns.{run_split, front_chars}
 
 -- a hexadecimal digit is no plus sign, and its value is below sixteen
 hex_facts : (c : ℕ) → is_ascii_hexdigit c ≡ true → (digit_value c < 16) × (47 < c) × (c < 128)

@@ -2,7 +2,7 @@ use Rattle.std.proofs.Common.{◌≡◌, rules, sym, subst, ◌+◌, map}
 use Rattle.rn_modset.specs.Sets.{union}
 use Rattle.rn_merge.specs.Runs.{IsUnionBefore, HasNoUnion}
 use Rattle.rn_merge.specs.inside.Outcomes.{join_fault}
-use Rattle.rn_merge.proofs.Runs.Unions.{one_more, no_union, refused_by}
+use Rattle.rn_merge.proofs.Runs.BundleUnions.{one_more, no_union, refused_by}
 use Rattle.rn_merge.proofs.run.read_bundles.Goals as goal
 
 pub loop-index-preserved : goal.loop-index-preserved

@@ -1,4 +1,4 @@
-use Rattle.rn_merge.proofs.Texts.TextPlaces.{good, faultless_good, first, first_placed}
+use Rattle.rn_merge.proofs.FaultsOfTexts.TextPlaces.{good, faultless_good, first, first_placed}
 use Rattle.rn_merge.proofs.text_laws.checked_texts_are_merged.Goals as goal
 
 pub returns : goal.returns

@@ -1,4 +1,4 @@
-use Rattle.rn_merge.proofs.Texts.TextPlaces.{never_neither, not_both, one_place}
+use Rattle.rn_merge.proofs.FaultsOfTexts.TextPlaces.{never_neither, not_both, one_place}
 use Rattle.rn_merge.proofs.text_laws.texts_are_good_or_have_one_place.Goals as goal
 
 pub returns : goal.returns

@@ -5,7 +5,7 @@ use Rattle.std.specs.declared.cmp.Ordering.TheVariants.{Less}
 use Rattle.rn_modset.specs.Contributions.{member, members_of, member_cmp}
 use Rattle.rn_modset.specs.Sets.{Rises, has}
 use Rattle.rn_modset.specs.inside.Merges.{IsNotBelow}
-use Rattle.rn_modset.proofs.Ordered.ProgramOrder.{same_order}
+use Rattle.rn_modset.proofs.OrderedMembers.ProgramOrder.{same_order}
 use Rattle.rn_modset.proofs.Unions.MergedLists.{begins_by}
 use Rattle.rn_modset.proofs.merging.begins_with.Goals as goal
 

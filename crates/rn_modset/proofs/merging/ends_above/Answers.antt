@@ -2,7 +2,7 @@
 use Rattle.std.proofs.Common.{ap, ◌∙◌}
 use Rattle.std.proofs.lemmas.List.{map_push}
 use Rattle.rn_modset.specs.Contributions.{member, members_of}
-use Rattle.rn_modset.proofs.Ordered.ProgramOrder.{same_order}
+use Rattle.rn_modset.proofs.OrderedMembers.ProgramOrder.{same_order}
 use Rattle.rn_modset.proofs.Unions.MergedLists.{ends_by_order}
 use Rattle.rn_modset.proofs.merging.ends_above.Goals as goal
 

@@ -3,7 +3,7 @@ use Rattle.std.proofs.Common.{◌≡◌, arith}
 use Rattle.rn_modset.specs.declared.faults.BundleFault.TheVariants.{Memory}
 use Rattle.rn_modset.specs.declared.headers.HeaderLine.TheVariants.{Text}
 use Rattle.rn_modset.specs.Bundles.{header_line}
-use Rattle.rn_modset.specs.Faults.{IsEntryFault, no_header, bad_text, entry_memory}
+use Rattle.rn_modset.specs.BundleFaults.{IsEntryFault, no_header, bad_text, entry_memory}
 use Rattle.rn_modset.specs.inside.Headers.{header_view, MayStand}
 use Rattle.rn_modset.proofs.BundleFaults.RefusedCalls.{refused_by}
 use Rattle.rn_modset.proofs.BundlesWritten.SpelledBundles.{header_at, no_header_at}

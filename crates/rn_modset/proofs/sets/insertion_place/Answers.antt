@@ -1,5 +1,5 @@
 -- The answer of the search.
-use Rattle.rn_modset.proofs.Ordered.SearchedPlaces.{place_of}
+use Rattle.rn_modset.proofs.OrderedMembers.SearchedPlaces.{place_of}
 use Rattle.rn_modset.proofs.sets.insertion_place.Goals as goal
 
 pub returns : goal.returns

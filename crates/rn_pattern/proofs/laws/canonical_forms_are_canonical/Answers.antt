@@ -1,6 +1,6 @@
 use Rattle.rn_pattern.specs.CanonicalShape.{AnyName}
-use Rattle.rn_pattern.proofs.Forms.CanonicalForm.{canonical_name_is, canonical_is}
-use Rattle.rn_pattern.proofs.Forms.Settled.{settled_canonical}
+use Rattle.rn_pattern.proofs.CanonicalForms.CanonicalForm.{canonical_name_is, canonical_is}
+use Rattle.rn_pattern.proofs.CanonicalForms.Settled.{settled_canonical}
 use Rattle.rn_pattern.specs.Canonical.{settled_within}
 use Rattle.rn_pattern.proofs.laws.canonical_forms_are_canonical.Goals as goal
 

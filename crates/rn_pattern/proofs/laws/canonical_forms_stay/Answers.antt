@@ -1,8 +1,8 @@
 use Rattle.rn_pattern.specs.CanonicalShape.{AnyName}
 use Rattle.rn_pattern.specs.Canonical.{settled_within, canonical_within}
-use Rattle.rn_pattern.proofs.Forms.CanonicalForm.{canonical_is}
-use Rattle.rn_pattern.proofs.Forms.Settled.{settled_canonical}
-use Rattle.rn_pattern.proofs.Forms.Fixed.{canonical_itself, opened_itself, canonical_name_again}
+use Rattle.rn_pattern.proofs.CanonicalForms.CanonicalForm.{canonical_is}
+use Rattle.rn_pattern.proofs.CanonicalForms.Settled.{settled_canonical}
+use Rattle.rn_pattern.proofs.CanonicalForms.Fixed.{canonical_itself, opened_itself, canonical_name_again}
 use Rattle.rn_pattern.proofs.laws.canonical_forms_stay.Goals as goal
 
 pub returns-clause-patterns : goal.returns-clause-patterns

@@ -1,7 +1,7 @@
 use Rattle.rn_pattern.specs.Canonical.{canonical_name}
 use Rattle.rn_pattern.specs.CanonicalShape.{AnyName}
-use Rattle.rn_pattern.proofs.Forms.CanonicalForm.{canonical_name_is, one_or_more_canonical, list_canonical, attribute_canonical, datum_but_canonical}
-use Rattle.rn_pattern.proofs.Forms.BuiltCanonical.{choice_of_canonical, group_of_canonical, interleave_of_canonical}
+use Rattle.rn_pattern.proofs.CanonicalForms.CanonicalForm.{canonical_name_is, one_or_more_canonical, list_canonical, attribute_canonical, datum_but_canonical}
+use Rattle.rn_pattern.proofs.CanonicalForms.BuiltCanonical.{choice_of_canonical, group_of_canonical, interleave_of_canonical}
 use Rattle.rn_pattern.proofs.laws.canonical_steps_are_canonical.Goals as goal
 
 pub returns-clause-of_choice : goal.returns-clause-of_choice

@@ -1,4 +1,4 @@
-use Rattle.rn_pattern.proofs.Forms.Settled.{settling_ends}
+use Rattle.rn_pattern.proofs.CanonicalForms.Settled.{settling_ends}
 use Rattle.rn_pattern.proofs.laws.settling_ends.Goals as goal
 
 pub returns : goal.returns

@@ -8,7 +8,7 @@ use Rattle.rn_pattern.proofs.Ordered.Orders.{name_same}
 use Rattle.rn_pattern.proofs.Ordered.TotalOrder.{name_cmp_total}
 use Rattle.rn_pattern.proofs.Ordered.SortedBy.{ids_deduped, ids_sorted, ids_sorted_once}
 use Rattle.rn_pattern.proofs.Stores.ClassTrees.{choice_seen}
-use Rattle.rn_pattern.proofs.Forms.NamesTogether.{several_names, one_name}
+use Rattle.rn_pattern.proofs.CanonicalForms.NamesTogether.{several_names, one_name}
 use Rattle.rn_pattern.proofs.name_class.choice_of.Goals as goal
 use Rattle.rn_pattern.proofs.name_class.choice_of.Goals.{in-1, in_default}
 

@@ -2,7 +2,7 @@
 use Rattle.std.proofs.Common.{◌≤◌, ◌-◌, length, suc}
 use Rattle.rn_syntax.specs.Grammar.{Closed}
 use Rattle.rn_syntax.specs.inside.Follow.{Anything}
-use Rattle.rn_syntax.specs.inside.Reading.{Bare, rest}
+use Rattle.rn_syntax.specs.inside.Readers.{Bare, rest}
 use Rattle.rn_syntax.proofs.ProductionsRead.Compose.{Upto}
 use Rattle.rn_syntax.proofs.ProductionsRead.Skipping.{Closings}
 use Rattle.rn_syntax.proofs.annotations.skip_closed.Given as goal

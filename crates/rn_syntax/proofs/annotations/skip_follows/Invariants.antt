@@ -2,7 +2,7 @@
 use Rattle.std.proofs.Common.{◌≤◌, ◌-◌, length}
 use Rattle.rn_syntax.specs.Grammar.{AreFollows}
 use Rattle.rn_syntax.specs.inside.Follow.{Starts, no_follow}
-use Rattle.rn_syntax.specs.inside.Reading.{Bare, rest}
+use Rattle.rn_syntax.specs.inside.Readers.{Bare, rest}
 use Rattle.rn_syntax.specs.Spelled.{AreSpelled}
 use Rattle.rn_syntax.proofs.ProductionsRead.Compose.{Upto}
 use Rattle.rn_syntax.proofs.annotations.skip_follows.Given as goal

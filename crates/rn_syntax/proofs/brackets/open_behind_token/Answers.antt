@@ -1,8 +1,8 @@
 -- A symbol is what its characters spell; another token is no bracket.
 use Rattle.std.proofs.Common.{◌≡◌, ap, sym, ◌∙◌, Some}
 use Rattle.std.specs.Str.{chars}
-use Rattle.rn_syntax.specs.inside.Reading.{seen}
-use Rattle.rn_syntax.specs.Tokens.{terminal_of, symbol_rows}
+use Rattle.rn_syntax.specs.inside.Readers.{seen}
+use Rattle.rn_syntax.specs.TokenTerminals.{terminal_of, symbol_rows}
 use Rattle.rn_syntax.proofs.TokenKinds.KeywordsAndSymbols.{spelled_chars}
 use Rattle.rn_syntax.proofs.FaultPlaces.OpenBrackets.{other_deep, symbols_plain}
 use Rattle.rn_syntax.proofs.brackets.open_behind_token.Goals as goal

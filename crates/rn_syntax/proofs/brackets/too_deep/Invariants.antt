@@ -2,7 +2,7 @@
 use Rattle.std.proofs.Common.{◌≡◌, ◌≤◌, map, drop}
 use Rattle.rn_text.specs.Tokens.{lexeme_of}
 use Rattle.rn_syntax.specs.Places.{deep}
-use Rattle.rn_syntax.specs.Tokens.{terminals}
+use Rattle.rn_syntax.specs.TokenTerminals.{terminals}
 use Rattle.rn_syntax.proofs.brackets.too_deep.Given as goal
 
 abbrev pub invariant-tokens : goal.invariant-tokens

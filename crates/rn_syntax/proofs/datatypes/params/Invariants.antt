@@ -1,6 +1,6 @@
 -- The parameters so far, and what is left.
 use Rattle.std.proofs.Common.{◌<◌, ◌≤◌, ◌-◌, length}
-use Rattle.rn_syntax.specs.inside.Reading.{rest}
+use Rattle.rn_syntax.specs.inside.Readers.{rest}
 use Rattle.rn_syntax.specs.Spelled.{AreSpelled}
 use Rattle.rn_syntax.specs.View.{params_view}
 use Rattle.rn_syntax.proofs.ProductionsRead.Parameters.{So_far}

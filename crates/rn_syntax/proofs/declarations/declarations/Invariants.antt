@@ -1,6 +1,6 @@
 -- The declarations so far, and what is left.
 use Rattle.std.proofs.Common.{◌≤◌, ◌-◌, length, map}
-use Rattle.rn_syntax.specs.inside.Reading.{rest}
+use Rattle.rn_syntax.specs.inside.Readers.{rest}
 use Rattle.rn_syntax.specs.Spelled.{AreSpelled}
 use Rattle.rn_syntax.specs.View.{declaration_view}
 use Rattle.rn_syntax.proofs.ProductionsRead.Declared.{So_far}

@@ -2,7 +2,7 @@
 use Rattle.std.proofs.Common.{◌≤◌, ◌-◌, ◌+◌, ◌*◌, length, map}
 use Rattle.rn_syntax.specs.Grammar.{AreInnerItems}
 use Rattle.rn_syntax.specs.inside.Including.{IsInnerItem}
-use Rattle.rn_syntax.specs.inside.Reading.{rest}
+use Rattle.rn_syntax.specs.inside.Readers.{rest}
 use Rattle.rn_syntax.specs.Spelled.{AreSpelled}
 use Rattle.rn_syntax.specs.View.{item_view}
 use Rattle.rn_syntax.proofs.ProductionsRead.Rows.{So_far}

@@ -1,7 +1,7 @@
 -- The items so far, and what is left.
 use Rattle.std.proofs.Common.{◌≤◌, ◌-◌, ◌+◌, ◌*◌, length, map}
 use Rattle.rn_syntax.specs.inside.Including.{AreItemsBehind, IsItem}
-use Rattle.rn_syntax.specs.inside.Reading.{rest}
+use Rattle.rn_syntax.specs.inside.Readers.{rest}
 use Rattle.rn_syntax.specs.Spelled.{AreSpelled}
 use Rattle.rn_syntax.specs.View.{item_view}
 use Rattle.rn_syntax.proofs.ProductionsRead.Rows.{So_far}

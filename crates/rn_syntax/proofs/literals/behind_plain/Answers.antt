@@ -1,6 +1,6 @@
 use Rattle.std.proofs.Common.{rules}
-use Rattle.rn_text.proofs.Words.Runs.{trimmed_by}
-use Rattle.rn_syntax.specs.inside.Reading.{is_plain}
+use Rattle.rn_text.proofs.Words.CharacterRuns.{trimmed_by}
+use Rattle.rn_syntax.specs.inside.Readers.{is_plain}
 use Rattle.rn_syntax.proofs.literals.behind_plain.Goals as goal
 
 pub returns : goal.returns

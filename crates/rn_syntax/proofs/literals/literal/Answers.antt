@@ -2,7 +2,7 @@ use Rattle.std.proofs.Common.{ℕ, arith, ap, sym, ◌∙◌, ◌+◌, ◌++◌,
 use Rattle.rn_syntax.specs.Grammar.{Tokens}
 use Rattle.std.proofs.lemmas.Result.{err_from_is_err_and}
 use Rattle.rn_syntax.specs.inside.Follow.{first_terminal, no_tilde}
-use Rattle.rn_syntax.specs.inside.Reading.{rest}
+use Rattle.rn_syntax.specs.inside.Readers.{rest}
 use Rattle.rn_syntax.proofs.ProductionsRead.Compose.{on_fault}
 use Rattle.rn_syntax.proofs.ProductionsRead.Segmented.{literal_first, literal_none, literal_more, literal_stuck, literal_end, joins_same, borrows_alone, copied, ends_at}
 use Rattle.rn_syntax.proofs.literals.literal.Goals as goal

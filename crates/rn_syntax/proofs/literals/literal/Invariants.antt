@@ -2,7 +2,7 @@
 use Rattle.std.proofs.Common.{◌<◌, ◌≤◌, ◌-◌, length, string_bytes}
 use Rattle.rn_syntax.specs.Grammar.{IsLiteral}
 use Rattle.rn_syntax.specs.inside.Follow.{Starts, no_tilde}
-use Rattle.rn_syntax.specs.inside.Reading.{rest}
+use Rattle.rn_syntax.specs.inside.Readers.{rest}
 use Rattle.rn_syntax.specs.Spelled.{AreSpelled}
 use Rattle.rn_syntax.proofs.ProductionsRead.Compose.{Upto}
 use Rattle.rn_syntax.proofs.ProductionsRead.Segmented.{Joins}

@@ -1,6 +1,6 @@
 -- Each call stands further on, or reads a smaller part of the production at the same token.
 use Rattle.std.proofs.Common.{◌<◌, ◌≤◌, ◌-◌, ◌+◌, ◌*◌, length, map}
-use Rattle.rn_syntax.specs.inside.Reading.{rest}
+use Rattle.rn_syntax.specs.inside.Readers.{rest}
 use Rattle.rn_syntax.specs.Spelled.{AreSpelled}
 use Rattle.rn_syntax.specs.View.{class_view}
 use Rattle.rn_syntax.proofs.ProductionsRead.Chaining.{So_far}

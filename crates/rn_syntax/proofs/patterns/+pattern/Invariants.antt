@@ -1,7 +1,7 @@
 -- Each call stands further on, or reads a smaller part of the production at the same token.
 use Rattle.std.proofs.Common.{◌≡◌, ◌∷◌, ℕ, ◌<◌, ◌-◌, ◌+◌, ◌*◌, length, map}
 use Rattle.rn_syntax.specs.Terminal.{◌#◌, operator}
-use Rattle.rn_syntax.specs.inside.Reading.{rest}
+use Rattle.rn_syntax.specs.inside.Readers.{rest}
 use Rattle.rn_syntax.specs.Spelled.{AreSpelled}
 use Rattle.rn_syntax.specs.View.{pattern_view}
 use Rattle.rn_syntax.proofs.ProductionsRead.Chaining.{So_far}

@@ -1,6 +1,6 @@
 use Rattle.std.proofs.Common.{ap, sym, ◌∙◌, Some}
 use Rattle.std.specs.Str.{chars}
-use Rattle.rn_syntax.specs.Tokens.{spelled_in, keyword_rows}
+use Rattle.rn_syntax.specs.TokenTerminals.{spelled_in, keyword_rows}
 use Rattle.rn_syntax.proofs.TokenKinds.KeywordsAndSymbols.{keyword_seen, none_seen}
 use Rattle.rn_syntax.proofs.terminals.keyword.Goals as goal
 

@@ -7,7 +7,7 @@ use Rattle.std.proofs.lemmas.List.{append_cancel_right}
 use Rattle.std.proofs.lemmas.Str.{encodes-append, encodes-chars}
 use Rattle.rn_text.specs.Characters.{is_name_char}
 use Rattle.rn_text.specs.Segments.{run_of, after_run}
-use Rattle.rn_text.proofs.Words.Runs.{run_split}
+use Rattle.rn_text.proofs.Words.CharacterRuns.{run_split}
 use Rattle.rn_syntax.proofs.terminals.prefix_name.Goals as goal
 
 stripped : (r : Option (Bor (List ℕ))) (text : Bor (List ℕ)) (front behind : List ℕ) → text.now ≡ front ++ behind

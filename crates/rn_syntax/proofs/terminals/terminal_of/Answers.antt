@@ -5,7 +5,7 @@ use Rattle.std.proofs.lemmas.Str.{encodes-chars}
 use Rattle.rn_text.specs.declared.parts.Part.TheVariants as part
 use Rattle.rn_text.specs.Parts.{spells}
 use Rattle.rn_syntax.specs.Terminal as t
-use Rattle.rn_syntax.specs.Tokens.{terminal_of, symbol_rows}
+use Rattle.rn_syntax.specs.TokenTerminals.{terminal_of, symbol_rows}
 use Rattle.rn_syntax.proofs.TokenKinds.KeywordsAndSymbols.{spelled_chars}
 use Rattle.rn_syntax.proofs.FaultPlaces.OpenBrackets.{symbols_plain}
 use Rattle.rn_syntax.proofs.terminals.terminal_of.Goals as goal

@@ -1,4 +1,4 @@
-use Rattle.rn_text.proofs.Words.Runs.{ends_char_chars}
+use Rattle.rn_text.proofs.Words.CharacterRuns.{ends_char_chars}
 use Rattle.rn_text.proofs.literals.before_char.Goals as goal
 
 pub returns-clause-cases : goal.returns-clause-cases

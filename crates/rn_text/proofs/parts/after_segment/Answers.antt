@@ -1,7 +1,7 @@
 use Rattle.std.proofs.Common.{ap, sym, ◌∙◌, rules}
 use Rattle.std.specs.Str.{chars}
 use Rattle.rn_text.specs.Segments.{escapes_hold}
-use Rattle.rn_text.proofs.Words.Runs.{cut_before, front_chars}
+use Rattle.rn_text.proofs.Words.CharacterRuns.{cut_before, front_chars}
 use Rattle.rn_text.proofs.Cutting.DelimitedFronts.{never_segment, segment_first, no_segment}
 use Rattle.rn_text.proofs.parts.after_segment.Goals as goal
 

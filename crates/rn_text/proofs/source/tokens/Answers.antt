@@ -4,7 +4,7 @@ use Rattle.std.specs.Prelude.{map}
 use Rattle.std.specs.Str.{chars, IsUtf8}
 use Rattle.rn_text.specs.Characters.{is_xml_char}
 use Rattle.rn_text.specs.Tokens.{lexeme_of, HasTokens, LeavesXmlAt, StopsAt, Lexeme, lexeme_at}
-use Rattle.rn_text.proofs.Words.Runs.{cut_before}
+use Rattle.rn_text.proofs.Words.CharacterRuns.{cut_before}
 use Rattle.rn_text.proofs.Cutting.Cuts.{CutSoFar, run_cut, leaves_xml, all_xml, cut_from_start, stops_here, tokens_at_end, cut_more_bytes, no_lexeme, part_shortens, lexemes_more, same_lexeme}
 use Rattle.rn_text.proofs.source.tokens.Goals as goal
 

@@ -5,7 +5,7 @@ use Rattle.std.specs.Option.{option_map}
 use Rattle.std.specs.String.{string_bytes}
 use Rattle.rn_modset.specs.Contributions.{members_of}
 use Rattle.rn_modset.specs.Modules.{AreEffective, IsFirstConflict, modules_of, module_of}
-use Rattle.rn_modset.specs.inside.Places.{IsFollowed, IsContradicted}
+use Rattle.rn_modset.specs.inside.Neighbours.{IsFollowed, IsContradicted}
 use Rattle.rn_modset.specs.Sets.{Rises}
 use Rattle.rn_modset.proofs.TestAnswers.TruthValues.{differs}
 use Rattle.rn_modset.proofs.EffectiveModules.SetWalk.{walk_start}

@@ -11,9 +11,9 @@ use Rattle.rn_pattern.proofs.Ordered.Ascending.{climbing_sorted_once, ascending_
 use Rattle.rn_pattern.proofs.Ordered.Orders.{tree_same}
 use Rattle.rn_pattern.proofs.Ordered.TotalOrder.{tree_cmp_total}
 use Rattle.rn_pattern.proofs.Matches.StepsKeep.{list_of-trees_of, trees_of-list_of}
-use Rattle.rn_pattern.proofs.Forms.CanonicalForm.{NameMember, name_members, Member, members_list, canonical_name_is}
-use Rattle.rn_pattern.proofs.Forms.ListsWithin.{one_choice, one_group, one_interleave}
-use Rattle.rn_pattern.proofs.Forms.NamesTogether.{one_within}
+use Rattle.rn_pattern.proofs.CanonicalForms.CanonicalForm.{NameMember, name_members, Member, members_list, canonical_name_is}
+use Rattle.rn_pattern.proofs.CanonicalForms.ListsWithin.{one_choice, one_group, one_interleave}
+use Rattle.rn_pattern.proofs.CanonicalForms.NamesTogether.{one_within}
 use Rattle.std.specs.List.{AllByRecursion}
 use Rattle.rn_pattern.specs.CanonicalShape.{is_several, IsAscending, is_single, IsCanonicalName, AreCanonicalNames, may_choose, may_group, may_interleave, may_repeat, IsCanonical, AreCanonical, AnyName, IsCanonicalPattern}
 use Rattle.std.specs.List.Sorted.{IsStrictlySortedBy}

@@ -6,7 +6,7 @@ use Rattle.rn_syntax.specs.Tree as tree
 use Rattle.rn_syntax.specs.Tree.{Datatype, Params, NameClass, Pattern}
 use Rattle.rn_syntax.specs.Grammar.{Tokens, AreFollows, IsLiteral, MayHaveParams, IsNameClass, IsPattern, IsPrimary}
 use Rattle.rn_syntax.specs.inside.Sequence.{Then, Gives, IsToken}
-use Rattle.rn_syntax.specs.inside.Reading.{Bare}
+use Rattle.rn_syntax.specs.inside.Readers.{Bare}
 
 -- follow*, behind the postfix of an operand
 abbrev pub BehindPostfix : Postfix → Pattern → Tokens → Pattern → Tokens → Type 0

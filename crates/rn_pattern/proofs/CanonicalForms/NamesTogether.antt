@@ -16,7 +16,7 @@ use Rattle.rn_pattern.specs.declared.tree.NameClass.TheVariants.{rolls-Choice}
 use Rattle.rn_pattern.specs.declared.tree.NameClass.TheOpen.{NameClass-F}
 use Rattle.rn_pattern.specs.declared.tree.NameClass.TheViews as class
 use Rattle.rn_pattern.proofs.Ordered.Ascending.{each_flat, each_sorted_once}
-use Rattle.rn_pattern.proofs.Forms.CanonicalForm.{NameMember, members_within, canonical_names_are}
+use Rattle.rn_pattern.proofs.CanonicalForms.CanonicalForm.{NameMember, members_within, canonical_names_are}
 use Rattle.rn_pattern.proofs.Matches.NamesKept.{name_list_of-name_trees_of}
 use Rattle.rn_pattern.proofs.Ordered.Orders.{name_same}
 use Rattle.rn_pattern.proofs.Ordered.TotalOrder.{name_cmp_total}

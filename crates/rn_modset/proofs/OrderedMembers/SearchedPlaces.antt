@@ -13,9 +13,9 @@ use Rattle.rn_modset.specs.contracts.contribution.ContributionOrd.TheImpl.{ghost
 use Rattle.rn_modset.specs.Contributions.{Member, member, members_of, member_cmp}
 use Rattle.rn_modset.specs.Sets.{Rises, has}
 use Rattle.rn_modset.specs.inside.Insertion.{IsInsertionPlace}
-use Rattle.rn_modset.proofs.Ordered.MemberOrder.{members_total}
-use Rattle.rn_modset.proofs.Ordered.ProgramOrder.{same_order}
-use Rattle.rn_modset.proofs.Ordered.RisingLists.{insert_at}
+use Rattle.rn_modset.proofs.OrderedMembers.MemberOrder.{members_total}
+use Rattle.rn_modset.proofs.OrderedMembers.ProgramOrder.{same_order}
+use Rattle.rn_modset.proofs.OrderedMembers.RisingLists.{insert_at}
 use Rattle.std.proofs.lemmas.Bool.{or_left, or_right}
 use Rattle.rn_modset.proofs.TestAnswers.Orderings.{greater_not_less}
 

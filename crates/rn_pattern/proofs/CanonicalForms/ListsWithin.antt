@@ -9,7 +9,7 @@ use Rattle.rn_pattern.specs.Order.{tree_cmp}
 use Rattle.rn_pattern.specs.Canonical.{sorted, sorted_once, node_of, is_not_allowed, has_not_allowed, alternatives, grouped, interleaved, choice_step, group_step, interleave_step}
 use Rattle.rn_pattern.specs.CanonicalShape.{may_choose, may_group, may_interleave, IsCanonicalPattern, AnyName}
 use Rattle.rn_pattern.proofs.Ordered.Ascending.{each_sorted, each_sorted_once}
-use Rattle.rn_pattern.proofs.Forms.CanonicalForm.{Member, each_allowed, flat_choice, flat_group, flat_interleave}
+use Rattle.rn_pattern.proofs.CanonicalForms.CanonicalForm.{Member, each_allowed, flat_choice, flat_group, flat_interleave}
 use Rattle.rn_pattern.proofs.Matches.StepsKeep.{list_of-trees_of}
 use Rattle.rn_pattern.proofs.Ordered.Orders.{tree_same}
 use Rattle.rn_pattern.proofs.Ordered.TotalOrder.{tree_cmp_total}

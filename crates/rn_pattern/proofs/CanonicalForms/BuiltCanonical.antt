@@ -12,7 +12,7 @@ use Rattle.rn_pattern.specs.inside.Stored.{knows, tree_at}
 use Rattle.rn_pattern.specs.Store.{AddsOnly, KeepsTrees, StandsFor, datum_step}
 use Rattle.rn_pattern.specs.Built.{IsMade, is_not_allowed, is_empty, is_text, is_reference, is_value, is_datum, is_list, is_attribute, is_element, is_choice, is_group, is_interleave, is_one_or_more, HoldsCanonical, StaysCanonical}
 use Rattle.rn_pattern.specs.declared.node.NodeId.{NodeId}
-use Rattle.rn_pattern.proofs.Forms.CanonicalForm.{canonical_name_is, choice_canonical, group_canonical, interleave_canonical, one_or_more_canonical, list_canonical, attribute_canonical, datum_but_canonical}
+use Rattle.rn_pattern.proofs.CanonicalForms.CanonicalForm.{canonical_name_is, choice_canonical, group_canonical, interleave_canonical, one_or_more_canonical, list_canonical, attribute_canonical, datum_but_canonical}
 use Rattle.rn_pattern.proofs.Stores.NodeTrees.{knows_place, place_known}
 
 pub choice_of_canonical : (ps : List Tree) → All IsCanonicalPattern ps → IsCanonicalPattern (choice_step ps)

@@ -3,7 +3,7 @@ use Rattle.std.proofs.Common.{rules}
 use Rattle.std.proofs.lemmas.Fn.{always_returns_same}
 use Rattle.rn_text.specs.Texts.{text_cmp}
 use Rattle.rn_modset.proofs.EffectiveModules.NameSearch.{found_there, found_nowhere}
-use Rattle.rn_modset.proofs.modules.Effective.get.Goals as goal
+use Rattle.rn_modset.proofs.effective.Effective.get.Goals as goal
 
 pub returns-in-Ok-clause-text : goal.returns-in-Ok-clause-text
 returns-in-Ok-clause-text c =

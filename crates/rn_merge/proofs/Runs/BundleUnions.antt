@@ -7,7 +7,7 @@ use Rattle.std.proofs.lemmas.Option.{slice_get-map, slice_get_read}
 use Rattle.std.specs.Prelude.{Result, Ok, Err, IsErrAnd, IfErr, Some, slice_get}
 use Rattle.std.specs.Option.{option_map}
 use Rattle.rn_modset.specs.Sets.{union, IsNotJoined}
-use Rattle.rn_modset.specs.Grammar.{IsBundle}
+use Rattle.rn_modset.specs.BundleGrammar.{IsBundle}
 use Rattle.rn_modset.specs.declared.faults.AddFault.{AddFault}
 use Rattle.rn_modset.specs.declared.faults.AddFault.TheVariants as adding
 use Rattle.rn_merge.specs.declared.run.RunFault.{RunFault}

@@ -12,7 +12,7 @@ use Rattle.rn_pattern.specs.Excepts.{IsExcept, AreExcepts, HasExcepts, HaveExcep
 use Rattle.rn_pattern.specs.NameRules.{HasNoAny, HaveNoAny, HasNamesAlone, HaveNamesAlone, HasNameExcepts, HaveNameExcepts, HasNoDeclaration, HaveNoDeclaration, KeepsNameRules, KeepNameRules}
 use Rattle.rn_pattern.proofs.Ordered.Ascending.{each_flat, each_sorted_once}
 use Rattle.rn_pattern.proofs.Matches.NamesKept.{name_list_of-name_trees_of}
-use Rattle.rn_pattern.proofs.Forms.KeptByForms.{IsKept}
+use Rattle.rn_pattern.proofs.CanonicalForms.KeptByForms.{IsKept}
 use Rattle.std.specs.List.{AllByRecursion}
 
 -- P holds of each name that the pattern refers to

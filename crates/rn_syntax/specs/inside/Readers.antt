@@ -8,7 +8,7 @@ use Rattle.rn_syntax.specs.Terminal as t
 use Rattle.rn_syntax.specs.Terminal.{Terminal, Placed, ◌#◌}
 use Rattle.rn_syntax.specs.Grammar.{Tokens}
 use Rattle.rn_syntax.specs.Spelled.{AreSpelled}
-use Rattle.rn_syntax.specs.Tokens.{terminals_of}
+use Rattle.rn_syntax.specs.TokenTerminals.{terminals_of}
 use Rattle.rn_syntax.specs.inside.Follow.{Anything}
 use Rattle.rn_syntax.specs.inside.Sequence.{IsToken}
 use Rattle.rn_syntax.specs.declared.fault.Fault.{Fault}

@@ -13,7 +13,7 @@ use Rattle.rn_syntax.specs.declared.fault.SyntaxFault.{SyntaxFault}
 use Rattle.rn_syntax.specs.declared.fault.SyntaxFault.TheVariants as s
 use Rattle.rn_syntax.specs.Terminal.{◌#◌}
 use Rattle.rn_syntax.specs.Grammar.{Tokens}
-use Rattle.rn_syntax.specs.Tokens.{terminals}
+use Rattle.rn_syntax.specs.TokenTerminals.{terminals}
 use Rattle.rn_syntax.specs.Beginnings.{HasTree, Stops}
 use Rattle.rn_syntax.specs.Faults as parsing
 use Rattle.rn_syntax.specs.Faults.{IsFault, IsFaultOfTree}
@@ -28,7 +28,7 @@ use Rattle.rn_merge.specs.declared.text_faults.Place.TheVariants.{Encoding, Lexi
 use Rattle.rn_merge.specs.TextFaults.{AreTokensOf, IsGood, HasSyntaxFault, HasPlace, kind_and_place, syntax_place}
 use Rattle.rn_merge.specs.inside.Outcomes.{text_place}
 use Rattle.rn_merge.specs.Kinds.{kind_alone, kind_of}
-use Rattle.rn_merge.proofs.Texts.TokenFaults.{tokens_of, placed}
+use Rattle.rn_merge.proofs.FaultsOfTexts.TokenFaults.{tokens_of, placed}
 
 -- ---- tokens of a text, as those of a source
 

@@ -15,7 +15,7 @@ use Rattle.rn_pattern.specs.Canonical.{put, sorted, sorted_once, canonical_name,
 use Rattle.rn_pattern.specs.References.{RefersOutside, SomeRefersOutside}
 use Rattle.rn_pattern.proofs.Ordered.Ascending.{each_front, each_behind, each_unsorted_once}
 use Rattle.rn_pattern.proofs.Ordered.Orders.{tree_same}
-use Rattle.rn_pattern.proofs.Forms.CanonicalForm.{Member, each_allowed, flat_choice, flat_group, flat_interleave, canonical_all_are}
+use Rattle.rn_pattern.proofs.CanonicalForms.CanonicalForm.{Member, each_allowed, flat_choice, flat_group, flat_interleave, canonical_all_are}
 use Rattle.rn_pattern.proofs.Ordered.Ascending.{each_sorted, each_sorted_once}
 use Rattle.std.specs.List.{AllByRecursion}
 use Rattle.rn_pattern.specs.CanonicalShape.{is_several, may_choose, may_group, may_interleave, IsCanonical, AnyName, IsCanonicalPattern}
