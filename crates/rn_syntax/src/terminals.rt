@@ -63,7 +63,7 @@ fn keyword(text: &str) -> Terminal<'_>
 }
 
 #[inline(always)]
-#[tactic(auto, unfolding(crate::specs::Tokens::symbol_rows))]
+#[tactic(auto, unfolding(crate::specs::TokenTerminals::symbol_rows))]
 pub(crate) fn symbol(text: &str) -> Terminal<'_>
     ensures is { seen result ≡ Some (spelled_in symbol_rows text.now) }
     ensures whole { IsWhole result }
@@ -118,7 +118,7 @@ pub(crate) fn local_name(text: &str) -> &str
     behind_first(after_name_chars(text))
 }
 
-/// A name that is written as it is.
+/// The terminal of a name without a backslash.
 #[inline(always)]
 fn plain_name(text: &str) -> Terminal<'_>
     ensures is { seen result ≡ Some (terminal.ident text.now) }
@@ -176,7 +176,7 @@ pub(crate) fn place(tokens: &[Token<'_>], at: usize) -> usize
     }
 }
 
-/// The text of a token.
+/// The text of a token, as the source has it.
 fn text_of<'a>(token: &Token<'a>) -> &'a str
     ensures { result.now ≡ token.now.text.now }
 {
