@@ -25,7 +25,7 @@ IsNumber (c ∷ d ∷ ds) n = (first : ℕ) × IsDigit c first × (0 < first) ×
 abbrev pub IsHexDigit : ℕ → ℕ → Type 0
 IsHexDigit c n = IsDigit c n ⊎ ((10 ≤ n) × (n < 16) × (c ≡ 87 + n))
 
--- two digits for each byte, the higher one first
+-- the digits spell the bytes in hexadecimal, in lower case: two digits for each byte, the higher one first
 abbrev pub SpellsBytes : List ℕ → List ℕ → Type 0
 SpellsBytes [] [] = Unit {0}
 SpellsBytes [] (b ∷ bytes) = ⊥
@@ -70,7 +70,7 @@ pub data Head : Type 0 where
   text_header : (name : List ℕ) (revision len : ℕ) (digest : List ℕ) → Head
   withdrawal_header : (name : List ℕ) (revision : ℕ) → Head
 
--- the line is the header that says so; a withdrawal's where withdrawals may stand
+-- the line is a header that says so; that of a withdrawal only where withdrawals may stand
 abbrev pub IsHeader : Bool → List ℕ → Head → Type 0
 IsHeader withdrawals line (text_header name revision len digits) = IsTextHeader line name revision len digits
 IsHeader withdrawals line (withdrawal_header name revision) = IsWithdrawalHeader line name revision × (withdrawals ≡ true)
@@ -84,7 +84,7 @@ IsEntryOf bytes name revision None = (line : List ℕ) × (bytes ≡ line ++ 10 
 abbrev pub IsEntry : List ℕ → Member → Type 0
 IsEntry bytes m = IsEntryOf bytes m.name m.revision m.text
 
--- one entry after another
+-- the bytes are the entries of the contributions, one after another
 abbrev pub AreEntries : List ℕ → List Member → Type 0
 AreEntries bytes [] = bytes ≡ []
 AreEntries bytes (m ∷ ms) = (front : List ℕ) × (back : List ℕ) × (bytes ≡ front ++ back) × IsEntry front m × AreEntries back ms

@@ -33,7 +33,8 @@ pub enum HeaderLine<'a> {
     },
 }
 
-/// What the line says, if it is a header within the limits; a withdrawal's where these may stand.
+/// What the line says, if it is a header within the limits; that of a withdrawal counts only where withdrawals may
+/// stand.
 pub fn header(line: &[u8], withdrawals: bool) -> Option<HeaderLine<'_>>
     ensures { MatchOption result (IsNoHeader withdrawals line.now)
         (λ h. (line.now ≡ header_line (header_view h)) × MayStand withdrawals (header_view h)) }

@@ -28,9 +28,9 @@ pub fn union_joins()
     ensures { AreUnionLaws }
 {}
 
-/// After any list of calls that answered Ok, of `add` and `join`, also of sets that were read, a set that began empty is the
-/// union of what the calls brought. So sets that were brought the same contributions, in whatever order and however often,
-/// are equal.
+/// After any list of calls that answered Ok, of `add` and `join`, also of sets that were read, a set that began empty
+/// is the union of what the calls brought. So sets that were brought the same contributions, in whatever order and
+/// however often, are equal.
 pub fn calls_bring_their_union()
     ensures { AreCallLaws }
 {}

@@ -28,7 +28,7 @@ pub struct Members {
 }
 
 impl Members {
-    /// None. They take no memory.
+    /// No contributions. They take no memory.
     pub fn new(alloc: Global) -> Members
         ensures none { result.contributions.items ≡ [] }
         ensures digested { AreDigested result }
@@ -39,7 +39,7 @@ impl Members {
         }
     }
 
-    /// None, with room for so many.
+    /// No contributions, with room for this many.
     pub fn with_capacity(alloc: Global, capacity: usize) -> Result<Members, AllocError>
         ensures none { IfOk result (λ members. members.contributions.items ≡ []) }
         ensures digested { IfOk result AreDigested }
@@ -51,7 +51,7 @@ impl Members {
         })
     }
 
-    /// The digest of all digests, one after another.
+    /// SHA-256 (FIPS 180-4) of the digests that are kept, one after another.
     pub fn digest(&self) -> [u8; 32]
         requires { AreDigested self.now }
         ensures { result ≡ set_digest (members_in self.now) }
@@ -64,7 +64,7 @@ impl Members {
         hasher.finalize()
     }
 
-    /// Appends one. It succeeds where there is room.
+    /// Appends a contribution with its digest. It succeeds where there is room.
     pub fn push(&mut self, digested: Digested) -> Result<(), AllocError>
         requires digest { IsDigested digested }
         requires before { AreDigested self.old }
@@ -84,8 +84,8 @@ impl Members {
         Ok(())
     }
 
-    /// Puts a contribution in at that place, with its digest; where memory could not be had it comes back, and nothing has
-    /// changed.
+    /// Puts a contribution in at that place, with its digest; where memory could not be had it comes back, and nothing
+    /// has changed.
     pub fn insert(&mut self, at: usize, contribution: Contribution) -> Result<(), Contribution>
         requires at { at ≤ vec_len self.old.contributions }
         requires before { AreDigested self.old }
@@ -108,7 +108,7 @@ impl Members {
         Ok(())
     }
 
-    /// Takes the last one.
+    /// Takes the last contribution, with its digest; `None` where there is none.
     pub fn pop(&mut self) -> Option<Digested>
         requires { AreDigested self.old }
         ensures last { MatchOption result (self.old.contributions.items ≡ [])
@@ -124,7 +124,7 @@ impl Members {
         })
     }
 
-    /// Turns the order round.
+    /// Turns the order of the contributions and of their digests round.
     pub fn reverse(&mut self)
         requires { AreDigested self.old }
         ensures items { self.new.contributions.items ≡ reverse self.old.contributions.items }

@@ -84,7 +84,7 @@ fn prefix(
     Ok((Some(span(tokens, at, end)), end))
 }
 
-/// `literal`, or `inherit` for a namespace
+/// The URI of a declaration, a literal or, for a namespace, `inherit`; and what stands behind it.
 fn uri(
     alloc: Global,
     tokens: &[Token<'_>],

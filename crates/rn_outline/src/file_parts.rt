@@ -27,15 +27,15 @@ pub struct Span {
     pub to: usize,
 }
 
-/// How a definition is combined with others of its name (RELAX NG 2001, 4.17): `=`, `|=`, `&=`. rn_syntax's `Method` is that of
-/// a module's tree; this one is of files that may be no modules yet, and whose reader stands on rn_text alone.
+/// How a definition is combined with others of its name (RELAX NG 2001, 4.17): `=`, `|=`, `&=`. rn_syntax's `Method` is
+/// that of a module's tree; this one is of files that may be no modules yet, and whose reader stands on rn_text alone.
 #[derive(Clone, Copy, Debug, PartialEq, Eq)]
 pub enum OutlineMethod {
-    /// `=`
+    /// `=`, which one definition of a name has at most.
     Plain,
-    /// `|=`
+    /// `|=`, by a choice.
     Choice,
-    /// `&=`
+    /// `&=`, by an interleave.
     Interleave,
 }
 
@@ -44,31 +44,32 @@ pub enum OutlineMethod {
 pub enum DeclarationKind {
     /// `default namespace`, which may bind a prefix too.
     Default,
-    /// `namespace`
+    /// `namespace`, which binds a prefix to a namespace.
     Namespace,
-    /// `datatypes`
+    /// `datatypes`, which binds a prefix to a datatype library.
     Datatypes,
 }
 
-/// What a declaration binds its prefix to. Unlike rn_syntax's `Uri`, which may borrow its text from the source, it owns it.
+/// What a declaration binds its prefix to. Unlike rn_syntax's `Uri`, which may borrow its text from the source, it owns
+/// it.
 #[derive(Debug, Drop, PartialEq, Eq)]
 pub enum OutlineUri {
     /// The text of the literal, its segments put together.
     Literal(String),
-    /// `inherit`: what is handed to the file.
+    /// `inherit`: the namespace that the including file hands on.
     Inherited,
 }
 
-/// A declaration (compact syntax, section 2, decl) by the bytes that it takes, so that it can be cut out of its text, where
-/// rn_syntax's `Declaration` has names and the places that faults name. Whether its prefix is bound twice, or may be bound at
-/// all, is not looked at here.
+/// A declaration (compact syntax, section 2, decl) by the bytes that it takes, so that it can be cut out of its text,
+/// where rn_syntax's `Declaration` has names and the places that faults name. Whether its prefix is bound twice, or may
+/// be bound at all, is not looked at here.
 #[derive(Debug, Drop, PartialEq, Eq)]
 pub struct OutlineDeclaration {
-    /// By its keywords.
+    /// Which keywords it begins with.
     pub kind: DeclarationKind,
     /// The token that is the prefix; `None` for a default namespace without one.
     pub prefix: Option<Span>,
-    /// What it is bound to.
+    /// What the prefix, or the default namespace, is bound to.
     pub uri: OutlineUri,
     /// From the first keyword to the end of the literal or of `inherit`.
     pub at: Span,
@@ -86,7 +87,7 @@ pub struct Part {
     /// Whether it is excepted from data: it stands behind a `-`, with no more than parentheses and
     /// operators between.
     pub in_except: bool,
-    /// What it is.
+    /// What kind of part it is, with the bytes of what it is made of.
     pub kind: PartKind,
 }
 
@@ -97,7 +98,7 @@ pub enum PartKind {
     Define {
         /// The token that is its name.
         name: Span,
-        /// How it is combined.
+        /// How it is combined with other definitions of its name.
         method: OutlineMethod,
         /// Its pattern, with annotations.
         body: Span,
@@ -112,13 +113,14 @@ pub enum PartKind {
     Start {
         /// The token `start`.
         word: Span,
-        /// How it is combined.
+        /// How it is combined with other starts of its grammar.
         method: OutlineMethod,
         /// Its pattern, with annotations.
         body: Span,
         /// Of an override, the number of the part that is its include (4.7).
         within: Option<usize>,
-        /// As of a definition.
+        /// Whether the body is made of data, values, `notAllowed`, references, externals, grammars and choices of them
+        /// alone.
         only_data: bool,
     },
     /// A reference to a definition of its grammar.
@@ -161,13 +163,13 @@ pub enum PartKind {
 /// What a file is made of. Nothing of it is borrowed.
 #[derive(Debug, Drop, PartialEq, Eq)]
 pub struct Outline {
-    /// Whether it is a grammar.
+    /// Whether the file is a grammar or another pattern.
     pub shape: Shape,
-    /// In the order of the text.
+    /// The declarations, in the order of the text.
     pub declarations: Vec<OutlineDeclaration>,
     /// What stands behind the declarations.
     pub body: Span,
-    /// In the order in which they begin.
+    /// The parts of the body, in the order in which they begin.
     pub parts: Vec<Part>,
     /// How many grammars the parts belong to, the file's own among them.
     pub grammars: usize,

@@ -79,8 +79,8 @@ fn only_follows(tokens: &[Token<'_>], mut at: usize) -> bool
     at == tokens.len()
 }
 
-/// Whether the grammar whose `{` is the token of this number is the whole file. An unclosed one counts as the whole file, so
-/// that the fault is told at its end.
+/// Whether the grammar whose `{` is the token of this number is the whole file. An unclosed one counts as the whole
+/// file, so that the fault is told at its end.
 fn is_whole(tokens: &[Token<'_>], at: usize) -> bool {
     match closing_brace(tokens, at) {
         Some(close) => only_follows(tokens, close + 1),
@@ -270,12 +270,12 @@ fn read(alloc: Global, text: &str, tokens: &[Token<'_>]) -> Result<Outline, Stop
     ordered_outline(outline, to).ok_or(Stop::Stuck(tokens.len()))
 }
 
-/// The outline of a text with these tokens (RELAX NG Compact Syntax, 2): grammars, and patterns as files, with all that the
-/// language has. What brings no parts and is refused where the text is read as a module may be passed over here: a chain of
-/// two operators, a second postfix, unbound prefixes.
+/// The outline of a text with these tokens (RELAX NG Compact Syntax, 2): grammars, and patterns as files, with all that
+/// the language has. What brings no parts and is refused where the text is read as a module may be passed over here: a
+/// chain of two operators, a second postfix, unbound prefixes.
 ///
-/// Refused, in this order: brackets that nest too deep, `Deep`; tokens that are no file, `Syntax`, at the first token that
-/// can't stand where it stands. `Memory` stands for want of memory alone.
+/// Refused, in this order: brackets that nest too deep, `Deep`; tokens that are no file, `Syntax`, at the first token
+/// that can't stand where it stands. `Memory` stands for want of memory alone.
 pub fn read_outline(
     alloc: Global,
     text: &str,

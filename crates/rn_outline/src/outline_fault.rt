@@ -10,13 +10,13 @@ pub enum OutlineFault {
     /// The first of `{`, `(` and `[` that makes more than [`MAX_OPEN`] open at once.
     #[error("more than {most} brackets are open at {at}", most = MAX_OPEN)]
     Deep {
-        /// The byte of the text.
+        /// How many bytes of the text stand before the bracket.
         at: usize,
     },
     /// The first token that can't stand where it stands; where the tokens end too early, the end of the last one.
     #[error("no file goes on like this at {at}")]
     Syntax {
-        /// The byte of the text.
+        /// How many bytes of the text stand before the place of the fault.
         at: usize,
     },
     /// A request for memory was refused.

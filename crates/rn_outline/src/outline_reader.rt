@@ -55,7 +55,7 @@ pub(crate) struct Reader {
     pub(crate) parts: Vec<Part>,
     pub(crate) frames: Vec<Frame>,
     pub(crate) mode: Mode,
-    /// The grammar that is read.
+    /// The number of the grammar that is read; 0 is the file's own.
     pub(crate) grammar: usize,
     /// How many grammars there are so far.
     pub(crate) grammars: usize,

@@ -29,8 +29,8 @@ pub(crate) enum Word {
     Start,
 }
 
-/// A token by what an outline's reader does at it. Unlike rn_syntax's `Terminal` it has no text, and no case of its own for
-/// what is passed over alike.
+/// A token by what an outline's reader does at it. Unlike rn_syntax's `Terminal` it has no text, and no case of its own
+/// for what is passed over alike.
 #[derive(Clone, Copy)]
 pub(crate) enum Sign {
     /// A name that is no keyword, or is quoted.
@@ -55,7 +55,7 @@ pub(crate) enum Sign {
     RightParen,
     LeftBracket,
     RightBracket,
-    /// What the grammar lacks.
+    /// A symbol that the grammar lacks.
     Other,
     /// No token is left.
     End,

@@ -68,7 +68,8 @@ pub(crate) fn follow(tokens: &[Token<'_>], at: usize) -> Result<usize, Stop>
     }
 }
 
-/// What stands behind the `{` of an element or an attribute, whose name class comes (compact syntax, section 2, nameClass).
+/// What stands behind the `{` of an element or an attribute, whose name class comes (compact syntax, section 2,
+/// nameClass).
 pub(crate) fn name_class(tokens: &[Token<'_>], mut at: usize) -> Result<usize, Stop>
     requires { at ≤ length tokens.now }
     ensures { GoesPast at (length tokens.now) result }

@@ -9,12 +9,12 @@ use Rattle.rn_pattern.specs.Order.{name_cmp, tree_cmp}
 use Rattle.rn_pattern.specs.Canonical.{is_not_allowed}
 
 module _ {X : Type 0} (R : X → X → Ordering) where
-  -- no element is less than x
+  -- no member of the list is less than x
   abbrev pub NoneBelow : X → List X → Type 0
   NoneBelow x [] = ⊤
   NoneBelow x (y ∷ ys) = (is_lt (R y x) ≡ false) × NoneBelow x ys
 
-  -- in order, with repeats
+  -- the list is in order; equal members may stand side by side
   abbrev pub IsAscending : List X → Type 0
   IsAscending [] = ⊤
   IsAscending (x ∷ xs) = NoneBelow x xs × IsAscending xs
@@ -24,7 +24,7 @@ is_several [] = false
 is_several (x ∷ []) = false
 is_several (x ∷ y ∷ ys) = true
 
--- a name class may stand in a choice of name classes
+-- the name class may be a member of a canonical choice of name classes
 abbrev pub is_no_choice : NameTree → Bool
 is_no_choice (name_choice cs) = false
 is_no_choice c = true
@@ -46,7 +46,7 @@ abbrev mutual
   AreCanonicalNames no_names = ⊤
   AreCanonicalNames (more_names c cs) = (IsCanonicalName c × (is_no_choice c ≡ true)) × AreCanonicalNames cs
 
--- a pattern may stand in a choice, a group, an interleave, a repetition
+-- the pattern may be a member of a canonical choice (4.20)
 abbrev pub may_choose : Tree → Bool
 may_choose not_allowed = false
 may_choose (choice ps) = false
@@ -70,7 +70,7 @@ may_repeat empty = false
 may_repeat (one_or_more p) = false
 may_repeat p = true
 
--- canonical, with references to these names alone
+-- the pattern is canonical, and each reference in it is to a name of which `Named` holds
 module _ (Named : Text → Type 0) where
   abbrev mutual
     pub IsCanonical : Tree → Type 0
@@ -89,7 +89,7 @@ module _ (Named : Text → Type 0) where
     AreCanonical test no_trees = ⊤
     AreCanonical test (more_trees p ps) = (IsCanonical p × (test p ≡ true)) × AreCanonical test ps
 
--- canonical, whatever it refers to
+-- a canonical pattern may refer to every name
 abbrev pub AnyName : Text → Type 0
 AnyName x = ⊤
 

@@ -54,7 +54,7 @@ HasCount {I} knows n = (ids : List I) × (length ids ≡ n) × AllPairs (λ i j.
 abbrev pub StandsFor : {I : Type 0} → (I → Bool) → (I → Tree) → Tree → I → Type 0
 StandsFor knows tree_of t i = IsTrue (knows i) × (tree_of i ≡ t)
 
--- a datatype, with or without an except (4.16 and 6.2.8), and its canonical step
+-- the data of a datatype, with an except or without (6.2.8)
 abbrev pub datum_by : Text → Text → Parameters → Option Tree → Tree
 datum_by library type params None = tree.datum library type params
 datum_by library type params (Some p) = tree.datum_but library type params p

@@ -31,7 +31,7 @@ pub enum Reduced {
 }
 
 /// A datatype with its parameters in their order, without an except that is `notAllowed` (4.20). Nothing is refused but
-/// for want of memory; so with all the steps.
+/// for want of memory.
 pub fn datum(
     nodes: &NodeTable<'_>,
     alloc: Global,
@@ -136,8 +136,8 @@ pub fn choice(
     Ok(list_of_members(Connector::Choice, members))
 }
 
-/// A group: `notAllowed` where a member is (4.20); else groups among the members opened, `empty` left out (4.21), the order
-/// kept. With no member left it is `empty`; with one left it is that member.
+/// A group: `notAllowed` where a member is (4.20); else groups among the members opened, `empty` left out (4.21), the
+/// order kept. With no member left it is `empty`; with one left it is that member.
 pub fn group(
     nodes: &NodeTable<'_>,
     alloc: Global,
@@ -155,8 +155,8 @@ pub fn group(
     Ok(list_of_members(Connector::Group, members))
 }
 
-/// An interleave: `notAllowed` where a member is (4.20); else interleaves among the members opened, `empty` left out (4.21),
-/// in order, repeats kept. With no member left it is `empty`; with one left it is that member.
+/// An interleave: `notAllowed` where a member is (4.20); else interleaves among the members opened, `empty` left out
+/// (4.21), in order, repeats kept. With no member left it is `empty`; with one left it is that member.
 pub fn interleave(
     nodes: &NodeTable<'_>,
     alloc: Global,

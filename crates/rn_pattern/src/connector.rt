@@ -76,8 +76,8 @@ impl Connector {
         }
     }
 
-    /// The members that stand for the pattern in a list of this kind, if it doesn't stand for itself: those of a list of
-    /// the same kind; none of the pattern that such a list without members is (4.20, 4.21).
+    /// The members that stand for the pattern in a list of this kind, if it doesn't stand for itself: those of a list
+    /// of the same kind; none of the pattern that such a list without members is (4.20, 4.21).
     pub fn members_within(self, pattern: &Pattern) -> Option<&[Rc<Pattern>]>
         ensures { MatchOption result
             (members_by self (pattern_view pattern.now) ≡ pattern_view pattern.now ∷ [])

@@ -10,7 +10,7 @@ use crate::tree::{Data, NameClass, Pattern, Value};
 use std::alloc::{AllocError, Global};
 
 impl NameClass {
-    /// A copy.
+    /// A copy of the name class; the texts of namespaces are shared by both. The only error is want of memory.
     #[cycle(copy_class)]
     pub fn try_clone(&self, alloc: Global) -> Result<NameClass, AllocError>
         ensures { IfOk result (λ c. name_class_view c ≡ name_class_view self.now) }
@@ -30,7 +30,7 @@ impl NameClass {
     }
 }
 
-/// A copy in a box.
+/// A copy of the name class, in a box of its own.
 #[cycle(copy_class)]
 fn boxed_class(alloc: Global, class: &NameClass) -> Result<Box<NameClass>, AllocError>
     ensures { IfOk result (λ c. name_class_view c.value ≡ name_class_view class.now) }
@@ -51,7 +51,7 @@ fn copy_classes(alloc: Global, classes: &[NameClass]) -> Result<Vec<NameClass>, 
 }
 
 impl Pattern {
-    /// A copy. The members of a list are shared with it.
+    /// A copy of the pattern; the members of a list are shared by both. The only error is want of memory.
     #[cycle(copy_pattern)]
     pub fn try_clone(&self, alloc: Global) -> Result<Pattern, AllocError>
         ensures { IfOk result (λ p. pattern_view p ≡ pattern_view self.now) }
@@ -84,7 +84,7 @@ impl Pattern {
     }
 }
 
-/// A copy in a box.
+/// A copy of the pattern, in a box of its own.
 #[cycle(copy_pattern)]
 fn boxed_pattern(alloc: Global, pattern: &Pattern) -> Result<Box<Pattern>, AllocError>
     ensures { IfOk result (λ p. boxed_view p ≡ pattern_view pattern.now) }

@@ -167,8 +167,8 @@ pub fn datatype_libraries_answer()
     ensures data_refused_by_parameter { Rejects (a_holding positive) numbers (a_of (codes "0")) }
 {}
 
-/// A group matches its members in their order (section 6.2.2), an interleave in any order, a repeated member as often as
-/// it is repeated (6.2.6).
+/// A group matches its members in their order (section 6.2.2), an interleave in any order, a repeated member as often
+/// as it is repeated (6.2.6).
 pub fn groups_and_interleaves()
     // 6.2.2: the members in their order
     ensures group_in_order { Accepts a_then_b no_library doc_a_b }

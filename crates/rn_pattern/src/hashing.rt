@@ -65,7 +65,7 @@ impl Hash for Node<NodeId> {
     }
 }
 
-/// The names and the texts of the parameters, in turn.
+/// Hashes the names and the texts of the parameters, in turn.
 fn hash_parameters<H: Hasher>(parameters: &[(String, String)], state: &mut H)
     ensures { state.new
         ≡ fold H.write state.old (parameters_writes (parameters_view parameters.now)) }
@@ -76,7 +76,7 @@ fn hash_parameters<H: Hasher>(parameters: &[(String, String)], state: &mut H)
     }
 }
 
-/// The places of the ids, in turn.
+/// Hashes the places of the ids, in turn.
 fn hash_places<H: Hasher>(ids: &[NodeId], state: &mut H)
     ensures { state.new ≡ fold H.write state.old (places_writes ids.now) }
 {
@@ -85,7 +85,7 @@ fn hash_places<H: Hasher>(ids: &[NodeId], state: &mut H)
     }
 }
 
-/// A number for the kind, then its parts.
+/// Hashes a number for the kind of the name class, then the parts of the name class.
 #[cycle(hash_names)]
 fn hash_name_class<H: Hasher>(class: &NameClass, state: &mut H)
     ensures { state.new ≡ fold H.write state.old (name_writes (name_class_view class.now)) }
@@ -117,7 +117,7 @@ fn hash_name_class<H: Hasher>(class: &NameClass, state: &mut H)
     }
 }
 
-/// The members, in turn.
+/// Hashes the name classes, in turn.
 #[cycle(hash_names)]
 fn hash_name_classes<H: Hasher>(classes: &[NameClass], state: &mut H)
     ensures { state.new ≡ fold H.write state.old (names_writes (name_classes_view classes.now)) }

@@ -20,7 +20,7 @@ pub struct Heads<'a> {
     pub type_name: &'a str,
     /// The text of a value.
     pub text: &'a str,
-    /// A name and a text each, in their order.
+    /// The parameters of a datatype, a name and a text each, in their order.
     pub parameters: &'a [(String, String)],
 }
 
@@ -52,7 +52,8 @@ fn compare_classes(x: Option<&NameClass>, y: Option<&NameClass>) -> Ordering
     }
 }
 
-/// The order of patterns by their heads. Most patterns that are compared differ in their kind, name class or first text.
+/// The order of patterns by their heads. Most patterns that are compared differ in their kind, name class or first
+/// text.
 pub fn compare_heads(x: Heads, y: Heads) -> Ordering
     ensures { result ≡ heads_cmp x.entry y.entry }
 {

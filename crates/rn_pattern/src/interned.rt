@@ -1,4 +1,4 @@
-// The store Interned.
+// A store in which equal patterns have equal ids.
 ghost use Rattle.std.specs.Prelude.{◌≡◌, IsTrue};
 ghost use Rattle.std.specs.List.{IsDistinct, IsDistinct-prop};
 ghost use Rattle.rn_pattern.specs.inside.Hashing.{node_eq};

@@ -118,8 +118,8 @@ pub fn orders_are_total()
     ensures equal_name_classes { (c d : NameTree) → (name_cmp c d ≡ Equal) ↔ (c ≡ d) }
 {}
 
-/// A pattern with its optional and mixed parts opened matches exactly what it did (sections 4.13 to 4.15), and a grammar
-/// with its patterns opened is valid for the same documents.
+/// A pattern with its optional and mixed parts opened matches exactly what it did (sections 4.13 to 4.15), and a
+/// grammar with its patterns opened is valid for the same documents.
 pub fn opened_patterns_keep_matching()
     ensures patterns { (p : Tree) → MatchAlike p (opened p) }
     ensures grammars { (G : Grammar) → ValidAlike G (opened_grammar G) }
@@ -136,8 +136,8 @@ pub fn canonical_patterns_keep_validity()
 {}
 
 /// A grammar in which notAllowed or empty replaces each reference whose definition is worth that, looking through any
-/// number of references, and nothing else is changed, is valid for the same documents (sections 4.19 to 4.21). Premise: an
-/// except of a datatype holds data, values and choices of them alone (7.1.4).
+/// number of references, and nothing else is changed, is valid for the same documents (sections 4.19 to 4.21). Premise:
+/// an except of a datatype holds data, values and choices of them alone (7.1.4).
 pub fn settled_references_keep_validity()
     ensures { (k : ℕ) (G : Grammar) → HasExcepts G.start → DefinesExcepts G
         → ValidAlike G (replaced_grammar (settled_within k G) G) }

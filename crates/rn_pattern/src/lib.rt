@@ -1,17 +1,17 @@
 //! Patterns and name classes with their names resolved, their order, and stores of canonical patterns (RELAX NG 2001,
 //! section 3, after the simplification of section 4).
 //!
-//! A [`Patterns`] store names each pattern by an id. Its constructors bring a pattern into canonical form on the way in:
-//! `notAllowed` and `empty` are propagated (4.20, 4.21), lists within lists of their kind are opened, and the members of a
-//! choice or an interleave are put in one order. [`Plain`] keeps each pattern that it is asked for; in [`Interned`] equal
-//! patterns have equal ids.
+//! A [`Patterns`] store names each pattern by an id. Its constructors bring a pattern into canonical form on the way
+//! in: `notAllowed` and `empty` are propagated (4.20, 4.21), lists within lists of their kind are opened, and the
+//! members of a choice or an interleave are put in one order. [`Plain`] keeps each pattern that it is asked for; in
+//! [`Interned`] equal patterns have equal ids.
 //!
 //! [`steps`] takes the same steps on patterns themselves, for a pattern that no store is to keep.
 //!
-//! [`laws`] has what is proved of canonical patterns; [`examples`] has documents that are valid and documents that are not.
-//! [`name_classes`] has the restrictions on name classes (4.16). [`graph`], [`ranks`] and [`loops`] walk graphs whose nodes are
-//! numbers: definitions and what they refer to, modules and what they include. The edges of a graph are [`Rows`]; those of
-//! references, everywhere and outside elements, are [`ReferenceRows`].
+//! [`laws`] has what is proved of canonical patterns; [`examples`] has documents that are valid and documents that are
+//! not. [`name_classes`] has the restrictions on name classes (4.16). [`graph`], [`ranks`] and [`loops`] walk graphs
+//! whose nodes are numbers: definitions and what they refer to, modules and what they include. The edges of a graph are
+//! [`Rows`]; those of references, everywhere and outside elements, are [`ReferenceRows`].
 //!
 //! [`boxes`] puts a value in a box of its own, or where it can be shared.
 #![tactic(auto)]

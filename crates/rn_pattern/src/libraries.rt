@@ -6,8 +6,8 @@ use std::alloc::{AllocError, Global};
 use std::collections::BTreeSet;
 use std::rc::RcStr;
 
-/// The datatype libraries that were asked for, each of them once. All values and data of a store that are of one library share
-/// its text, so a long one is stored once, in whatever order they come.
+/// The datatype libraries that were asked for, each of them once. All values and data of a store that are of one
+/// library share its text, so a long one is stored once, in whatever order they come.
 #[derive(Drop)]
 pub struct Libraries {
     alloc: Global,
@@ -23,7 +23,8 @@ impl Libraries {
         }
     }
 
-    /// The library as a shared text: the one that is there, else a new one, which is kept. The only error is want of memory.
+    /// The library as a shared text: the one that is there, else a new one, which is kept. The only error is want of
+    /// memory.
     pub fn shared(&mut self, library: &str) -> Result<RcStr, AllocError>
         ensures { IfOk result (λ text. rc_str_bytes text ≡ library.now) }
     {

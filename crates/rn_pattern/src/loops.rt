@@ -81,8 +81,8 @@ fn leads_to(walk: &Walk, edges: &Rows, place: usize, node: usize) -> bool
     row_at(walk, edges, place).contains(&node)
 }
 
-/// The loop that an edge from the node at a place to the first one closes: the nodes by which the walk came there, the first
-/// one first.
+/// The loop that an edge from the node at a place to the first one closes: the nodes by which the walk came there, the
+/// first one first.
 fn closed_loop(
     alloc: Global,
     walk: &Walk,
@@ -105,9 +105,9 @@ fn closed_loop(
     Ok(nodes)
 }
 
-/// A loop through a node of as few nodes as there is one of, or none where the node doesn't come back to itself: the node
-/// first, each with an edge to the next one, and the last one with an edge to the first. Work and memory grow with the nodes
-/// and edges. The only error is want of memory; the edges are what they were.
+/// A loop through a node of as few nodes as there is one of, or none where the node doesn't come back to itself: the
+/// node first, each with an edge to the next one, and the last one with an edge to the first. Work and memory grow with
+/// the nodes and edges. The only error is want of memory; the edges are what they were.
 pub fn shortest_loop(
     alloc: Global,
     edges: &Rows,

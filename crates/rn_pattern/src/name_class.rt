@@ -41,8 +41,8 @@ impl NameClass {
     }
 }
 
-/// Adds the canonical forms of the members, and in the place of a choice among them those of its members. So all that is
-/// in a choice is put in order at once, however deep choices are within one another.
+/// Adds the canonical forms of the members, and in the place of a choice among them those of its members. So all that
+/// is in a choice is put in order at once, however deep choices are within one another.
 #[cycle(canonical_name)]
 fn push_parts(
     alloc: Global,

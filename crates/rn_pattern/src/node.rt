@@ -1,8 +1,8 @@
-// Nodes of a store.
+// Nodes of a store, and the ids that name them.
 use crate::tree::NameClass;
 use std::rc::RcStr;
 
-/// The place of a pattern in a store.
+/// The id of a pattern in a store: the place of the pattern's node, counted from 0. It says nothing of another store.
 #[derive(Clone, Copy, PartialEq, Eq, PartialOrd, Ord, Hash, Drop)]
 pub struct NodeId(pub(crate) usize);
 
@@ -19,7 +19,8 @@ pub enum Node<Id> {
     Ref(String),
     /// The datatype library, the type and the text. The library is shared by all nodes of a store.
     Value(RcStr, String, String),
-    /// The datatype library, the type, its parameters and what is excepted. The library is shared by all nodes of a store.
+    /// The datatype library, the type, its parameters and what is excepted. The library is shared by all nodes of a
+    /// store.
     Datum(RcStr, String, Vec<(String, String)>, Option<Id>),
     /// The pattern of a string's words.
     List(Id),

@@ -56,8 +56,8 @@ impl<'a> NodeTable<'a> {
         }
     }
 
-    /// The order of the patterns at two places, equal at once where the places are. A place that isn't the table's counts
-    /// as `notAllowed`.
+    /// The order of the patterns at two places, equal at once where the places are. A place that isn't the table's
+    /// counts as `notAllowed`.
     pub fn compare(&self, a: NodeId, b: NodeId) -> Ordering
         ensures { result ≡ tree_cmp (tree_in self.now a) (tree_in self.now b) }
     {

@@ -11,7 +11,7 @@ use std::cmp::Ordering;
 use std::rc::Rc;
 
 impl NameClass {
-    /// The place of the kind in the order.
+    /// The place of the kind in the order, from 0 for anyName to 3 for a choice.
     fn rank(&self) -> u8
         ensures { result ≡ name_rank (name_class_view self.now) }
     {
@@ -23,8 +23,8 @@ impl NameClass {
         }
     }
 
-    /// The order of name classes: anyName, nsName, name, choice. Texts are compared by bytes, the namespace before the local
-    /// name; no except stands before an except, and a list before each longer one that it begins.
+    /// The order of name classes: anyName, nsName, name, choice. Texts are compared by bytes, the namespace before the
+    /// local name; no except stands before an except, and a list before each longer one that it begins.
     #[cycle(compare_names)]
     pub fn cmp(&self, other: &NameClass) -> Ordering
         ensures { result ≡ name_cmp (name_class_view self.now) (name_class_view other.now) }
@@ -45,7 +45,7 @@ impl NameClass {
     }
 }
 
-/// No except stands before one.
+/// The order of two excepts of name classes: no except stands before one.
 #[cycle(compare_names)]
 fn compare_excepts(c: &Option<Box<NameClass>>, d: &Option<Box<NameClass>>) -> Ordering
     ensures { result ≡ names_cmp (except_view c.now) (except_view d.now) }
@@ -56,7 +56,8 @@ fn compare_excepts(c: &Option<Box<NameClass>>, d: &Option<Box<NameClass>>) -> Or
     }
 }
 
-/// By the first members that differ; a list stands before each longer one that it begins.
+/// The order of two lists of name classes, by the first members that differ; a list stands before each longer one that
+/// it begins.
 #[cycle(compare_names)]
 fn compare_name_classes(cs: &[NameClass], ds: &[NameClass]) -> Ordering
     ensures { result ≡ names_cmp (name_classes_view cs.now) (name_classes_view ds.now) }
@@ -71,7 +72,7 @@ fn compare_name_classes(cs: &[NameClass], ds: &[NameClass]) -> Ordering
 }
 
 impl Pattern {
-    /// The place of the kind in the order.
+    /// The place of the kind in the order, from 0 for notAllowed to 12 for a choice.
     fn rank(&self) -> u8
         ensures { result ≡ rank (pattern_view self.now) }
     {
@@ -92,7 +93,7 @@ impl Pattern {
         }
     }
 
-    /// What the order compares first.
+    /// The heads of the pattern: all that the order compares before the members.
     fn heads(&self) -> Heads<'_>
         ensures kind { result.kind ≡ rank (pattern_view self.now) }
         ensures texts { part_texts result ≡ texts_in (pattern_view self.now) }
@@ -126,8 +127,8 @@ impl Pattern {
     }
 
     /// The order of patterns: notAllowed, empty, text, ref, value, data, list, attribute, element, oneOrMore, group,
-    /// interleave, choice; within a kind by the fields from left to right. Texts are compared by bytes; no except stands
-    /// before an except, and a list before each longer one that it begins.
+    /// interleave, choice; within a kind by the fields from left to right. Texts are compared by bytes; no except
+    /// stands before an except, and a list before each longer one that it begins.
     #[cycle(compare_patterns)]
     pub fn cmp(&self, other: &Pattern) -> Ordering
         ensures { result ≡ tree_cmp (pattern_view self.now) (pattern_view other.now) }
@@ -150,7 +151,7 @@ impl Pattern {
     }
 }
 
-/// No except stands before one.
+/// The order of two excepts of datatypes: no except stands before one.
 #[cycle(compare_patterns)]
 fn compare_excepted(p: &Option<Box<Pattern>>, q: &Option<Box<Pattern>>) -> Ordering
     ensures { result ≡ trees_cmp (excepted_view p.now) (excepted_view q.now) }
@@ -161,7 +162,8 @@ fn compare_excepted(p: &Option<Box<Pattern>>, q: &Option<Box<Pattern>>) -> Order
     }
 }
 
-/// By the first members that differ; a list stands before each longer one that it begins.
+/// The order of two lists of patterns, by the first members that differ; a list stands before each longer one that it
+/// begins.
 #[cycle(compare_patterns)]
 fn compare_patterns(ps: &[Rc<Pattern>], qs: &[Rc<Pattern>]) -> Ordering
     ensures { result ≡ trees_cmp (shared_trees ps.now) (shared_trees qs.now) }

@@ -23,10 +23,10 @@ pub trait Patterns {
     // Whether the id is one of this store's.
     ghost knows: { Self → Self.Id → Bool };
 
-    // The pattern that it stands for.
+    // The pattern that the id stands for.
     ghost tree_of: { Self → Self.Id → Tree };
 
-    // The number of its ids.
+    // How many ids the store has.
     ghost size: { Self → ℕ };
 
     /// The root of the id's pattern.
@@ -35,18 +35,18 @@ pub trait Patterns {
         ensures root { node_view (tree_of self.now) result.now ≡ tree_of self.now id }
         ensures within { KnowsAll (knows self.now) (node_members result.now) };
 
-    /// `notAllowed`.
+    /// The id of `notAllowed`, the pattern that matches nothing.
     fn not_allowed(&mut self) -> Result<Self::Id, AllocError>
         ensures made { IfOk result (StandsFor (knows self.new) (tree_of self.new)
             tree.not_allowed) }
         ensures kept { AddsAnswerOnly knows tree_of size self.old self.new result };
 
-    /// `empty`.
+    /// The id of `empty`, the pattern of no attribute and no content (6.2.3).
     fn empty(&mut self) -> Result<Self::Id, AllocError>
         ensures made { IfOk result (StandsFor (knows self.new) (tree_of self.new) tree.empty) }
         ensures kept { AddsAnswerOnly knows tree_of size self.old self.new result };
 
-    /// `text`.
+    /// The id of `text`, the pattern of any strings (6.2.4).
     fn text(&mut self) -> Result<Self::Id, AllocError>
         ensures made { IfOk result (StandsFor (knows self.new) (tree_of self.new) tree.text) }
         ensures kept { AddsAnswerOnly knows tree_of size self.old self.new result };

@@ -1,4 +1,4 @@
-// The store Plain.
+// A store that keeps each pattern that it is asked for.
 ghost use Rattle.std.specs.Prelude.{◌≡◌};
 ghost use Rattle.rn_pattern.specs.inside.Stored.{NameEarlier, NameEarlier-prop, trees_of_nodes};
 
@@ -31,7 +31,7 @@ impl Plain {
         }
     }
 
-    /// How many ids the store has.
+    /// How many ids the store has. Two ids that stand for equal patterns may differ.
     pub fn nodes(&self) -> usize
         ensures { result ≡ ⟦<Plain as Patterns>⟧.size self.now }
     {

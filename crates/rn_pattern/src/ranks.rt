@@ -17,8 +17,8 @@ pub enum Order {
     Looped(usize),
 }
 
-/// A rank for each node, below the number of nodes, by which each edge leads to a lower one; or a node on a loop. The only
-/// error is want of memory; the edges are what they were.
+/// A rank for each node, below the number of nodes, by which each edge leads to a lower one; or a node on a loop. The
+/// only error is want of memory; the edges are what they were.
 pub fn ranks(alloc: Global, edges: &Rows) -> Result<Order, AllocError>
     requires graph { IsGraph (rows_of edges.now) }
     ensures { IfOk result (λ o. IsOrdered (rows_of edges.now) o) }
@@ -30,8 +30,8 @@ pub fn ranks(alloc: Global, edges: &Rows) -> Result<Order, AllocError>
     })
 }
 
-/// The least node that comes back to itself along one edge or more, if there is one. The only error is want of memory; the
-/// edges are what they were.
+/// The least node that comes back to itself along one edge or more, if there is one. The only error is want of memory;
+/// the edges are what they were.
 pub fn least_looped(alloc: Global, edges: &Rows) -> Result<Option<usize>, AllocError>
     requires { IsGraph (rows_of edges.now) }
     ensures within { IfOk result (λ node. IfSome node (λ x. x < length (rows_of edges.now))) }

@@ -1,4 +1,5 @@
-// The references of patterns, as edges of a graph whose nodes are numbers: those to all nodes, and those outside elements.
+// The references of patterns, as edges of a graph whose nodes are numbers: those to all nodes, and those outside
+// elements.
 ghost use Rattle.std.specs.Prelude.{◌≡◌, ◌∷◌, ◌++◌, [], IfOk, OnOk};
 ghost use Rattle.rn_pattern.specs.Graph.{rows_of};
 ghost use Rattle.rn_pattern.specs.declared.references.Reach.TheVariants.{Everywhere, OutsideElements};
@@ -15,8 +16,8 @@ pub enum Reach {
     OutsideElements,
 }
 
-/// The nodes that one node refers to, and those among them that it refers to outside elements. A node is in a list once for
-/// each reference to it that was added.
+/// The nodes that one node refers to, and those among them that it refers to outside elements. A node is in a list once
+/// for each reference to it that was added.
 #[derive(Drop)]
 pub struct NodeReferences {
     /// The nodes of all references.
@@ -37,8 +38,8 @@ impl NodeReferences {
         }
     }
 
-    /// Adds a reference to the node with a number, where `reach` is the narrowest reach that takes the reference in. The only
-    /// error is want of memory.
+    /// Adds a reference to the node with a number, where `reach` is the narrowest reach that takes the reference in.
+    /// The only error is want of memory.
     pub fn add(&mut self, number: usize, reach: Reach) -> Result<(), AllocError>
         ensures everywhere { OnOk result (self.new.everywhere.items
             ≡ self.old.everywhere.items ++ number ∷ []) }

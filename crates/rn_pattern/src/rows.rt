@@ -6,8 +6,8 @@ ghost use Rattle.rn_pattern.specs.inside.RowEnds.{AreEnds, AreEnds-prop};
 
 use std::alloc::{AllocError, Global};
 
-/// The rows of a graph: for each node, the nodes that its edges lead to. A node is a number below the count of rows. All
-/// rows lie in one list, so that a row takes no memory of its own beside its nodes and one number.
+/// The rows of a graph: for each node, the nodes that its edges lead to. A node is a number below the count of rows.
+/// All rows lie in one list, so that a row takes no memory of its own beside its nodes and one number.
 #[derive(Drop)]
 pub struct Rows {
     /// The nodes of all rows, in their order. Those behind the last end are of a row that has not ended.
@@ -77,8 +77,8 @@ impl Rows {
         if node == 0 { 0 } else { self.ends[node - 1] }
     }
 
-    /// Adds a row of these nodes. What was added to a row that has not ended is dropped. The only error is want of memory; it
-    /// leaves the rows that there are.
+    /// Adds a row of these nodes. What was added to a row that has not ended is dropped. The only error is want of
+    /// memory; it leaves the rows that there are.
     pub fn push_row(&mut self, row: &[usize]) -> Result<(), AllocError>
         ensures rows { OnOk result (rows_of self.new ≡ rows_of self.old ++ row.now ∷ []) }
         ensures open { OnOk result (open_row self.new ≡ []) }
@@ -116,8 +116,8 @@ impl Rows {
         Ok(())
     }
 
-    /// Ends the row of the nodes that were added since the last end. The only error is want of memory; it leaves all as it
-    /// was.
+    /// Ends the row of the nodes that were added since the last end. The only error is want of memory; it leaves all as
+    /// it was.
     pub fn end_row(&mut self) -> Result<(), AllocError>
         ensures rows { OnOk result (rows_of self.new ≡ rows_of self.old ++ open_row self.old ∷ []) }
         ensures open { OnOk result (open_row self.new ≡ []) }

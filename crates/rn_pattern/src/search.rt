@@ -1,5 +1,5 @@
-// One search along all edges of a graph (Gabow's path-based search for strongly connected groups): the least node that comes
-// back to itself, and ranks.
+// One search along all edges of a graph (Gabow's path-based search for strongly connected groups): the least node that
+// comes back to itself, and ranks.
 
 ghost use Rattle.std.specs.Prelude.{◌≡◌, ℕ, ◌-◌, ◌<◌, ◌≤◌, ◌≢◌, ◌⊎◌, [], Contains, length, vec_len, take, drop, min, MatchBool, MatchOption, None, IfOk, OnOk, map};
 ghost use Rattle.rn_pattern.specs.Graph.{row, IsGraph, rows_of};
@@ -9,7 +9,7 @@ ghost use Rattle.rn_pattern.specs.inside.Searching.{EndsWith, IsNext, edges_left
 use crate::rows::Rows;
 use std::alloc::{AllocError, Global};
 
-/// How far a node is.
+/// How far the search has come with a node.
 #[derive(Clone, Copy)]
 enum Stage {
     /// Not met yet.
@@ -20,9 +20,9 @@ enum Stage {
     Closed,
 }
 
-/// A search along the edges. The nodes that are met stand on a stack, in groups of nodes that lead to one another; each node
-/// on the stack leads to all behind it. So an edge from the last group back to another one unites all groups from there on. A
-/// group is closed when no edge of it is left; by then the groups that its edges lead to are closed.
+/// A search along the edges. The nodes that are met stand on a stack, in groups of nodes that lead to one another; each
+/// node on the stack leads to all behind it. So an edge from the last group back to another one unites all groups from
+/// there on. A group is closed when no edge of it is left; by then the groups that its edges lead to are closed.
 #[derive(Drop)]
 pub(crate) struct Search {
     /// Of each node that was met, its place when it was put on the stack.
@@ -54,8 +54,8 @@ fn lengths(alloc: Global, edges: &Rows) -> Result<Vec<usize>, AllocError>
     Ok(lengths)
 }
 
-/// The node that the next edge to look at leads to from a node, if there is one. Of each node so many edges are left; they are
-/// taken from the end.
+/// The node that the next edge to look at leads to from a node, if there is one. Of each node so many edges are left;
+/// they are taken from the end.
 fn next_of(left: &[usize], edges: &Rows, node: usize) -> Option<usize>
     requires graph { IsGraph (rows_of edges.now) }
     requires within { node < length (rows_of edges.now) }
@@ -105,7 +105,8 @@ fn enter(search: &mut Search, edges: &Rows, node: usize) -> Result<(), AllocErro
     Ok(())
 }
 
-/// Leaves an edge of the node at the place, which leads to a closed node or into the node's own group, or to one behind it.
+/// Leaves an edge of the node at the place, which leads to a closed node or into the node's own group, or to one behind
+/// it.
 fn pass(search: &mut Search, edges: &Rows, place: usize)
     requires grouping { Grouping (rows_of edges.now) search.old }
     requires within { place < vec_len search.old.stack }
@@ -264,7 +265,7 @@ fn node_of(search: &Search, edges: &Rows, place: usize) -> usize
     search.stack[place]
 }
 
-/// How far the node is.
+/// Whether the node was met, and if so, whether its group is closed.
 fn stage_of(search: &Search, edges: &Rows, node: usize) -> Stage
     requires grouping { Grouping (rows_of edges.now) search.now }
     requires within { node < length (rows_of edges.now) }
@@ -280,7 +281,8 @@ fn stage_of(search: &Search, edges: &Rows, node: usize) -> Stage
     }
 }
 
-/// One step of the search.
+/// One step of the search: looks at the next edge of the last group, leaves a node with no edge left, or closes the
+/// group.
 fn step(search: &mut Search, edges: &Rows) -> Result<(), AllocError>
     requires graph { IsGraph (rows_of edges.now) }
     requires grouping { Grouping (rows_of edges.now) search.old }

@@ -4,8 +4,8 @@ ghost use Rattle.std.specs.Hash.DefaultHasher as sip;
 
 use std::hash::{BuildHasher, DefaultHasher, Hasher};
 
-/// Makes the hashers of a map: SipHash-1-3 behind the bytes of a seed. Who writes the keys of a map can make them fall into
-/// one bucket if the seed is known to them before; so the seed is a digest of all that they wrote.
+/// Makes the hashers of a map: SipHash-1-3 behind the bytes of a seed. Who writes the keys of a map can make them fall
+/// into one bucket if the seed is known to them before; so the seed is a digest of all that they wrote.
 #[derive(Clone, Copy)]
 pub struct Seed {
     hasher: DefaultHasher,

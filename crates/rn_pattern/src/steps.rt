@@ -1,5 +1,5 @@
-//! The canonical form of a pattern over parts that are canonical, one step at a time (RELAX NG 2001, 4.20 and 4.21). Nothing
-//! is refused but for want of memory.
+//! The canonical form of a pattern over parts that are canonical, one step at a time (RELAX NG 2001, 4.20 and 4.21).
+//! Nothing is refused but for want of memory.
 ghost use Rattle.std.specs.Prelude.{◌≡◌, IfOk, IsTrue, flat_map, map, string_bytes};
 ghost use Rattle.std.specs.Option.{option_map};
 ghost use Rattle.std.specs.Rc.{rc_str_bytes};
@@ -119,8 +119,8 @@ pub fn choice_over(alloc: Global, members: Vec<Rc<Pattern>>) -> Result<Pattern, 
     pattern_of_members(alloc, Connector::Choice, members)
 }
 
-/// A group: `notAllowed` where a member is (4.20); else groups among the members opened, `empty` left out (4.21), the order
-/// kept. With no member left it is `empty`; with one left it is that member.
+/// A group: `notAllowed` where a member is (4.20); else groups among the members opened, `empty` left out (4.21), the
+/// order kept. With no member left it is `empty`; with one left it is that member.
 pub fn group_over(alloc: Global, members: Vec<Rc<Pattern>>) -> Result<Pattern, AllocError>
     ensures { IfOk result (λ p. pattern_view p ≡ group_step (map shared_view members.items)) }
 {
@@ -131,8 +131,8 @@ pub fn group_over(alloc: Global, members: Vec<Rc<Pattern>>) -> Result<Pattern, A
     pattern_of_members(alloc, Connector::Group, members)
 }
 
-/// An interleave: `notAllowed` where a member is (4.20); else interleaves among the members opened, `empty` left out (4.21),
-/// in order, repeats kept. With no member left it is `empty`; with one left it is that member.
+/// An interleave: `notAllowed` where a member is (4.20); else interleaves among the members opened, `empty` left out
+/// (4.21), in order, repeats kept. With no member left it is `empty`; with one left it is that member.
 pub fn interleave_over(alloc: Global, members: Vec<Rc<Pattern>>) -> Result<Pattern, AllocError>
     ensures { IfOk result (λ p. pattern_view p ≡ interleave_step (map shared_view members.items)) }
 {
@@ -156,8 +156,8 @@ fn has_not_allowed(members: &[Rc<Pattern>]) -> bool
     false
 }
 
-/// The members of a list of the parts, with those of the lists of its kind among them. Where there are no such lists, it is
-/// the parts themselves.
+/// The members of a list of the parts, with those of the lists of its kind among them. Where there are no such lists,
+/// it is the parts themselves.
 fn open_members(
     alloc: Global,
     connector: Connector,

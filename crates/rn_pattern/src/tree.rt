@@ -1,8 +1,8 @@
 // Patterns and name classes whose names are resolved.
 use std::rc::{Rc, RcStr};
 
-/// A name class. Namespaces and local names are UTF-8. A namespace is shared by all names that are made of one binding, so a
-/// long one is stored once.
+/// A name class. Namespaces and local names are UTF-8. A namespace is shared by all names that are made of one binding,
+/// so a long one is stored once.
 #[derive(Drop)]
 pub enum NameClass {
     /// Every name, without those of the except.
@@ -37,8 +37,8 @@ pub struct Data {
     pub params: Vec<(String, String)>,
 }
 
-/// A pattern. The members of a list are shared, since one body may stand in many lists. What is large is in a box, since most
-/// patterns are references and lists.
+/// A pattern. The members of a list are shared, since one body may stand in many lists. What is large is in a box,
+/// since most patterns are references and lists.
 #[derive(Drop)]
 pub enum Pattern {
     /// Matches nothing.

@@ -1,5 +1,5 @@
--- The faults of a module that the grammar leaves open, each kind over the whole module and at its first place (compact syntax,
--- section 2; RELAX NG 2001, 7.1.4).
+-- The faults of the tokens of a module: too many open brackets, tokens that are no module, and what the grammar leaves open, each kind over the whole module
+-- and at its first place (compact syntax, section 2; RELAX NG 2001, 7.1.4).
 use Rattle.std.specs.Prelude.{◌≡◌, ◌<◌, ℕ, List, [], Option, Some, None, MatchOption, codes}
 use Rattle.rn_text.specs.declared.source.Token.{Token}
 use Rattle.rn_syntax.specs.declared.fault.FaultKind.{FaultKind}

@@ -16,8 +16,8 @@ pub const XML_URI: &str = "http://www.w3.org/XML/1998/namespace";
 /// The library of datatype prefix `xsd` (RELAX NG Compact Syntax, 2, decl).
 pub const XSD_URI: &str = "http://www.w3.org/2001/XMLSchema-datatypes";
 
-/// What the declarations of a module bind: the default namespace, namespace prefixes and datatype prefixes, each by the first
-/// declaration that does. A declaration is told by its number: its index among the declarations.
+/// What the declarations of a module bind: the default namespace, namespace prefixes and datatype prefixes, each by the
+/// first declaration that does. A declaration is told by its number: its index among the declarations.
 #[derive(Drop)]
 pub struct Bindings<'m, 'a> {
     declarations: &'m [Declaration<'a>],
@@ -40,7 +40,7 @@ impl<'m, 'a> Bindings<'m, 'a> {
         Ok(bindings)
     }
 
-    /// What no declaration binds.
+    /// What a module without declarations binds.
     fn of_none(alloc: Global) -> Self
         ensures { result.declarations.now ≡ [] }
     {
@@ -235,7 +235,7 @@ fn is_library(declaration: &Declaration<'_>, uri: &str) -> bool
     }
 }
 
-/// Whether it is the namespace of prefix `xml`.
+/// Whether the URI is the namespace of prefix `xml`.
 fn is_xml(uri: &Uri<'_>) -> bool
     ensures { result ≡ places.is_xml_uri (uri_view uri.now) }
 {

@@ -52,7 +52,7 @@ fn open_behind_token(depth: usize, token: Token<'_>) -> Option<usize>
     }
 }
 
-/// The place of the first bracket that is one too many.
+/// The byte at which the first bracket begins that makes more than [`MAX_OPEN`] open at once.
 pub(crate) fn too_deep(tokens: &[Token<'_>]) -> Option<usize>
     ensures { result ≡ deep 0 (terminals_of tokens.now) }
 {

@@ -46,27 +46,29 @@ impl FaultKind {
     }
 }
 
-/// What is wrong with the tokens of a text. The first kind in this order that stands is answered, at its first place: `at`
-/// counts bytes from the start of the text.
+/// What is wrong with the tokens of a text. The first kind in this order that stands is answered, at its first place:
+/// `at` counts bytes from the start of the text.
 #[derive(Debug, Drop, PartialEq, Eq, Error)]
 pub enum SyntaxFault {
     /// The first of `{`, `(` and `[` that makes more than [`MAX_OPEN`] open at once.
     #[error("more than {most} brackets are open at {at}", most = MAX_OPEN)]
     Deep { at: usize },
-    /// The first token with which the tokens so far begin no module; where all of them begin one and are none, the end of
-    /// the last token.
+    /// The first token with which the tokens so far begin no module; where all of them begin one and are none, the end
+    /// of the last token.
     #[error("no module goes on like this at {at}")]
     Syntax { at: usize },
-    /// A prefix that is used without a declaration, or declared twice or against its meaning; or a second default namespace.
+    /// A prefix that is used without a declaration, or declared twice or against its meaning; or a second default
+    /// namespace.
     #[error("a prefix is unbound or bound wrongly at {at}")]
     Prefix { at: usize },
-    /// A datatype of the empty library other than `string` and `token`, or one of these with a parameter.
+    /// A datatype of the built-in library other than `string` and `token`, or one of these with a parameter.
     #[error("no built-in datatype at {at}")]
     Builtin { at: usize },
     /// A value of `QName` or `NOTATION` of the XML Schema library.
     #[error("a value of a type that looks at namespace bindings at {at}")]
     ContextValue { at: usize },
-    /// The `-` behind which something else than values, data, choices of them and `notAllowed` stands (RELAX NG 2001, 7.1.4).
+    /// The `-` behind which something else than values, data, choices of them and `notAllowed` stands (RELAX NG 2001,
+    /// 7.1.4).
     #[error("a pattern that may not be excepted at {at}")]
     Except { at: usize },
     /// A request for memory was refused.

@@ -51,8 +51,8 @@ pub(crate) fn pattern<'a>(
     }
 }
 
-/// `operand = primary [ postfix follow* ] | except`. Most are references, elements, attributes and parentheses, so their first
-/// tokens are asked for before annotations and datatypes.
+/// `operand = primary [ postfix follow* ] | except`. Most are references, elements, attributes and parentheses, so
+/// their first tokens are asked for before annotations and datatypes.
 #[cycle(pattern)]
 fn operand<'a>(
     alloc: Global,

@@ -44,7 +44,7 @@ fn prefix_place(bindings: &Bindings<'_, '_>, module: &Module<'_>) -> Option<usiz
     module_place(Rule::Prefixes, bindings, module)
 }
 
-/// The place of the first type of the empty library that is none of it.
+/// The place of the first datatype that the built-in library lacks, or that has a parameter there.
 fn builtin_place(bindings: &Bindings<'_, '_>, module: &Module<'_>) -> Option<usize>
     requires { bindings.now.declarations.now ≡ «module».now.decls.items }
     ensures { result ≡ first (builtin_places (module_view «module».now)) }
@@ -102,8 +102,8 @@ fn items_fault(bindings: &Bindings<'_, '_>, module: &Module<'_>) -> Option<Synta
     }
 }
 
-/// The first fault of a module that the grammar leaves open, with what its declarations bind and the first place that is wrong
-/// in them. Only a module that breaks a rule is walked through once a kind.
+/// The first fault of a module that the grammar leaves open, with what its declarations bind and the first place that
+/// is wrong in them. Only a module that breaks a rule is walked through once a kind.
 fn bound_fault(
     bindings: &Bindings<'_, '_>,
     wrong: Option<usize>,
@@ -135,9 +135,10 @@ fn fault(alloc: Global, module: &Module<'_>) -> Result<Option<SyntaxFault>, Allo
 /// The one module that the tokens spell (RELAX NG Compact Syntax, 2), or the first fault.
 ///
 /// Tested in this order, each over all tokens and each with its first place in bytes: `Deep`, `Syntax`, `Prefix`,
-/// `Builtin`, `ContextValue`, `Except`. `Memory` stands only where memory was refused. The tokens before the place of `Syntax`
-/// begin some module, and no module begins with them and the token there; where the place is the end of the last token, they are
-/// none. What is said of trees is so where each token is spelled as its kind says, as those of a source are.
+/// `Builtin`, `ContextValue`, `Except`. `Memory` stands only where memory was refused. The tokens before the place of
+/// `Syntax` begin some module, and no module begins with them and the token there; where the place is the end of the
+/// last token, they are none. What is said of trees is so where each token is spelled as its kind says, as those of a
+/// source are.
 pub fn parse<'a>(alloc: Global, tokens: &[Token<'a>]) -> Result<Module<'a>, SyntaxFault>
     ensures shallow { OnOk result (deep 0 (terminals_of tokens.now) ≡ None) }
     ensures tree { IfOk result (λ m. AreSpelled tokens.now

@@ -15,7 +15,7 @@ use crate::tree::{AnyName, Datatype, Name, Nc, Param, Pat, Prefix};
 pub(crate) enum Rule {
     /// Each prefix is bound.
     Prefixes,
-    /// The types of the empty library are `string` and `token`, without parameters.
+    /// The types of the built-in library are `string` and `token`, without parameters.
     Builtins,
     /// No value is of a type of XML Schema that looks at namespace bindings.
     ContextValues,
@@ -90,7 +90,7 @@ fn classes_place(bindings: &Bindings<'_, '_>, classes: &[Nc<'_>]) -> Option<usiz
     None
 }
 
-/// The place of a type of the empty library that is none of it.
+/// The place of a datatype that the built-in library lacks, or that has a parameter there.
 fn wrong_builtin(
     bindings: &Bindings<'_, '_>,
     datatype: Datatype<'_>,

@@ -1,14 +1,15 @@
-// The tree of a module as it is written: names keep their prefixes, and what is resolved later keeps its place in bytes.
-// Names are slices of the source; literals are too where they are one segment without escape and carriage return.
+// The tree of a module as it is written: names keep their prefixes, and what is resolved later keeps its place in
+// bytes. Names are slices of the source; literals are too where they are one segment without escape and carriage
+// return.
 use crate::token::{Method, Operator, Postfix};
 use std::borrow::CowStr;
 
 /// A prefix, and its place: the byte of the source at which its token begins.
 #[derive(Clone, Copy, Debug)]
 pub struct Prefix<'a> {
-    /// As it is written, without the backslash of a quoted one.
+    /// The prefix as it is written, without the backslash of a quoted one.
     pub name: &'a str,
-    /// Counts bytes from the start of the source.
+    /// How many bytes of the source stand before the token.
     pub at: usize,
 }
 
@@ -57,18 +58,18 @@ pub enum Datatype<'a> {
 /// A parameter of a datatype.
 #[derive(Drop)]
 pub struct Param<'a> {
-    /// Left of the `=`.
+    /// The parameter's name, left of the `=`.
     pub name: &'a str,
-    /// Right of the `=`, without delimiters and escapes.
+    /// The parameter's text, right of the `=`, without delimiters and escapes.
     pub text: CowStr<'a>,
 }
 
 /// A value; one without a datatype is of the built-in token.
 #[derive(Drop)]
 pub struct Value<'a> {
-    /// As it is written before the literal.
+    /// The datatype that is written before the literal, if one is.
     pub datatype: Option<Datatype<'a>>,
-    /// Of the literal, without delimiters and escapes.
+    /// The text of the literal, without delimiters and escapes.
     pub text: CowStr<'a>,
 }
 
@@ -77,12 +78,12 @@ pub struct Value<'a> {
 pub struct Data<'a> {
     /// The name before the braces.
     pub datatype: Datatype<'a>,
-    /// In the order of the text.
+    /// The parameters in the braces, in the order of the text.
     pub params: Vec<Param<'a>>,
 }
 
-/// A pattern. A chain of one operator is one list of two or more; parentheses leave nothing. What is large is in a box, since
-/// most patterns are references and chains.
+/// A pattern. A chain of one operator is one list of two or more; parentheses leave nothing. What is large is in a box,
+/// since most patterns are references and chains.
 #[derive(Drop)]
 pub enum Pat<'a> {
     /// The name class, and the pattern in braces.
@@ -93,11 +94,11 @@ pub enum Pat<'a> {
     List(Box<Pat<'a>>),
     /// `mixed { .. }`
     Mixed(Box<Pat<'a>>),
-    /// `empty`
+    /// `empty`, the pattern of no attribute and no content.
     Empty,
-    /// `notAllowed`
+    /// `notAllowed`, the pattern that nothing matches.
     NotAllowed,
-    /// `text`
+    /// `text`, the pattern of any strings.
     Text,
     /// The name of a definition, without the backslash of a quoted one.
     Ref(&'a str),
@@ -116,7 +117,7 @@ pub enum Pat<'a> {
 /// The URI of a declaration.
 #[derive(Drop)]
 pub enum Uri<'a> {
-    /// Without delimiters and escapes.
+    /// A literal, without delimiters and escapes.
     Literal(CowStr<'a>),
     /// `inherit`: the namespace that the including module hands on.
     Inherited,
@@ -133,25 +134,25 @@ pub enum Declaration<'a> {
     Datatypes(Prefix<'a>, CowStr<'a>),
 }
 
-/// What a grammar is made of (RELAX NG Compact Syntax, 2, grammarContent). Most are definitions, so an include, which is
-/// large, is in a box.
+/// What a grammar is made of (RELAX NG Compact Syntax, 2, grammarContent). Most are definitions, so an include, which
+/// is large, is in a box.
 #[cycle(item)]
 #[derive(Drop)]
 pub enum Item<'a> {
     /// A definition.
     Define {
-        /// Without the backslash of a quoted one.
+        /// The name of the definition, without the backslash of a quoted one.
         name: &'a str,
         /// How it is combined with others of its name.
         method: Method,
-        /// What it defines.
+        /// The pattern that the name stands for.
         body: Box<Pat<'a>>,
     },
     /// The pattern that a document matches.
     Start {
         /// How it is combined with other starts.
         method: Method,
-        /// Behind the method.
+        /// The pattern behind the method.
         body: Box<Pat<'a>>,
     },
     /// `div { .. }`, with its items in the order of the text.
@@ -172,11 +173,11 @@ pub struct Include<'a> {
     pub items: Vec<Item<'a>>,
 }
 
-/// A module.
+/// A module (RELAX NG Compact Syntax, 2, topLevel): a grammar, as it is written.
 #[derive(Drop)]
 pub struct Module<'a> {
-    /// In the order of the text.
+    /// The declarations, in the order of the text.
     pub decls: Vec<Declaration<'a>>,
-    /// In the order of the text; those of a `grammar` in braces too.
+    /// The items, in the order of the text; those of a `grammar` in braces too.
     pub items: Vec<Item<'a>>,
 }

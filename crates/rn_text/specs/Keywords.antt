@@ -24,7 +24,7 @@ spelling k.String = codes "string"
 spelling k.Text = codes "text"
 spelling k.Token = codes "token"
 
--- each keyword
+-- the 19 keywords, each once
 abbrev pub every_keyword : List Keyword
 every_keyword =
     k.Attribute ∷ k.Default ∷ k.Datatypes ∷ k.Div ∷ k.Element ∷ k.Empty ∷ k.External ∷ k.Grammar ∷ k.Include ∷ k.Inherit

@@ -14,7 +14,7 @@ Text = List ℕ
 abbrev pub text_cmp : Text → Text → Ordering
 text_cmp = slice_cmp nat_cmp
 
--- space, tab, line feed and carriage return (XML, production 3)
+-- space, tab, line feed and carriage return (XML 1.0 Fifth Edition, 2.3, S)
 abbrev pub is_white : ℕ → Bool
 is_white c = c == 32 || c == 9 || c == 10 || c == 13
 

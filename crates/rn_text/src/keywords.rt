@@ -39,11 +39,11 @@ pub enum Keyword {
     Parent,
     /// `start`, of the definition where a grammar begins.
     Start,
-    /// `string`, a datatype of the empty library: all characters count.
+    /// `string`, a datatype of the built-in library: all characters count.
     String,
     /// `text`, the pattern of any text.
     Text,
-    /// `token`, a datatype of the empty library: white space is normalised.
+    /// `token`, a datatype of the built-in library: white space is normalised.
     Token,
 }
 
@@ -85,7 +85,7 @@ pub fn keyword_of(text: &str) -> Option<Keyword>
     keyword_of_bytes(text.as_bytes())
 }
 
-/// Whether the text is a keyword.
+/// Whether the text spells one of the 19 keywords (RELAX NG Compact Syntax, appendix A, keyword).
 pub fn is_keyword(text: &str) -> bool
     ensures { result ≡ is_keyword (chars text.now) }
 {

@@ -1,4 +1,4 @@
-// Laws of tokens and literals. The functions have no bodies: their contracts are what is proved.
+// Laws of tokens and literals. Each function does nothing: what it ensures is the law.
 ghost use Rattle.std.specs.Prelude.{◌≡◌, ◌≢◌, ◌⊎◌, ◌++◌, ℕ, List, true};
 ghost use Rattle.std.specs.List.{AllByRecursion, list_all};
 ghost use Rattle.std.specs.Str.{chars, IsUtf8, IsValidUpTo};
@@ -21,8 +21,8 @@ pub fn sources_have_tokens_or_one_fault()
         → fault ≢ TextFault.Memory → other ≢ TextFault.Memory → fault ≡ other }
 {}
 
-/// The text of a source has one token list, or it is faulty at one place, and never both. A source that is not UTF-8 stops
-/// being so at one place.
+/// The text of a source has one token list, or it is faulty at one place, and never both. A source that is not UTF-8
+/// stops being so at one place.
 pub fn one_token_list()
     ensures some { (cs : List ℕ) → ((tokens : List Lexeme) × HasTokens cs tokens)
         ⊎ ((place : ℕ) × IsLexicalPlace cs place) }

@@ -22,7 +22,7 @@ fn before_char(text: &str, c: char) -> Option<&str>
     text.strip_suffix(c)
 }
 
-/// What comes before the last three characters, where they are these.
+/// What comes before the last three characters, where each of the three is this one.
 fn before_three(text: &str, c: char) -> Option<&str>
     requires { c < 128 }
     ensures cases { MatchOption result ((front : List ℕ) → chars text.now ≢ front ++ c ∷ c ∷ c ∷ [])

@@ -80,8 +80,8 @@ pub(crate) fn escapes_hold(text: &str, delimiter: char) -> bool
     true
 }
 
-/// Whether the text stands for itself between delimiters: it has no escape and no carriage return. It takes time linear in
-/// the text's bytes.
+/// Whether the text stands for itself between delimiters: it has no escape and no carriage return. It takes time linear
+/// in the text's bytes.
 pub fn is_verbatim(text: &str) -> bool
     ensures { result ≡ is_verbatim (chars text.now) }
 {

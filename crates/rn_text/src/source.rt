@@ -15,9 +15,10 @@ use thiserror::Error;
 /// A token of a source, and where it stands there.
 #[derive(Clone, Copy, Debug, PartialEq, Eq)]
 pub struct Token<'a> {
-    /// What it is.
+    /// Which kind of token it is.
     pub kind: Kind,
-    /// Its characters as the source has them, lent by it: a segment with its delimiters, a quoted name with its backslash.
+    /// Its characters as the source has them, lent by it: a segment with its delimiters, a quoted name with its
+    /// backslash.
     pub text: &'a str,
     /// How many bytes of the source stand before it, a byte order mark among them.
     pub start: usize,
@@ -31,14 +32,14 @@ pub enum TextFault {
     /// The longest front that is UTF-8 ends here.
     #[error("not UTF-8 at {at}")]
     Encoding {
-        /// How many bytes of the source stand before it.
+        /// How many bytes of the source stand before the fault.
         at: usize,
     },
     /// Here stands the first character that XML does not have, or, where there is none, something
     /// that is neither a token nor white space nor a comment.
     #[error("no token at {at}")]
     Lexical {
-        /// How many bytes of the source stand before it.
+        /// How many bytes of the source stand before the fault.
         at: usize,
     },
     /// Memory was refused.

@@ -22,7 +22,7 @@ AreDigested ms = ms.digests.items ≡ map text_digest (members_in ms)
 abbrev pub HasRoom : Members → ℕ → Type 0
 HasRoom ms n = (vec_len ms.contributions + n ≤ vec_capacity ms.contributions) × (vec_len ms.digests + n ≤ vec_capacity ms.digests)
 
--- what a set keeps
+-- what a set keeps: its contributions are those of a set, and the digests are those of their texts
 pub record IsKept (ms : Members) : Type 0 where
   pub set : IsSet (members_in ms)
   pub digested : AreDigested ms

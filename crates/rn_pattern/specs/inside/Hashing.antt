@@ -53,7 +53,7 @@ same_parts x y = nat_eq x.0 y.0 && (pointwise same_text x.1 y.1 && (pointwise sa
 abbrev pub node_eq : Node NodeId → Node NodeId → Bool
 node_eq = on node_parts same_parts
 
--- each test decides equality
+-- the test of two numbers decides whether they are equal
 pub number_decides : (x y : ℕ) → Decides (nat_eq x y) (x ≡ y)
 number_decides x y = unsigned_Decides x y
 
@@ -152,7 +152,7 @@ parameters_writes ps = flat_map (λ p. fed.str p.0 ++ fed.str p.1) ps
 abbrev pub places_writes : List NodeId → List (List ℕ)
 places_writes is = flat_map fed.usize (map (λ i. i.0) is)
 
--- what a kind of node has besides its number
+-- what is hashed of a node behind the number of its kind
 abbrev pub parts_writes : Node NodeId → List (List ℕ)
 parts_writes (Node.Ref x) = fed.str (string_bytes x)
 parts_writes (Node.Value l x t) = fed.str (rc_str_bytes l) ++ (fed.str (string_bytes x) ++ fed.str (string_bytes t))
@@ -169,7 +169,7 @@ parts_writes n = []
 abbrev pub node_writes : Node NodeId → List (List ℕ)
 node_writes n = fed.u8 (node_rank n) ++ parts_writes n
 
--- the parts alone say what is fed: the kind tells how many of the three texts there are
+-- how many of the three texts are hashed of a node, by its kind; so what is hashed depends on the parts of a node alone
 text_count : ℕ → ℕ
 text_count rank = cond (nat_eq rank 3) 1 (cond (nat_eq rank 4) 3 (cond (nat_eq rank 5) 2 0))
 

@@ -9,7 +9,7 @@ abbrev pub reduced_tree : List Tree → Reduced → Tree
 reduced_tree ts (Reduced.Stored i) = tree_at ts i
 reduced_tree ts (Reduced.New n) = node_view (tree_at ts) n
 
--- its ids are the store's
+-- the ids in a reduced pattern are those of the store
 abbrev pub IsReducedIn : List Tree → Reduced → Type 0
 IsReducedIn ts (Reduced.Stored i) = IsTrue (knows ts i)
 IsReducedIn ts (Reduced.New n) = NamesBelow (length ts) n

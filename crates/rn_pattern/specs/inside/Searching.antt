@@ -116,7 +116,7 @@ pub record GroupsOn (rows : List (List ℕ)) (old now : Search) : Type 0 where
   pub grouping : Grouping rows now
   pub kept : (x : ℕ) → (place_of old.places.items x ≡ None → ⊥) → place_of now.places.items x ≡ None → ⊥
 
--- how far a node is
+-- how far the search has come with a node: not met, on the stack at this place, or in a closed group
 abbrev pub IsStage : List (Option ℕ) → List ℕ → ℕ → Stage → Type 0
 IsStage places stack x New = place_of places x ≡ None
 IsStage places stack x (Open p) = (p < length stack) × (node_at stack p ≡ x)

@@ -15,11 +15,11 @@ abbrev pub first_terminal : Tokens → Terminal
 first_terminal [] = other
 first_terminal (x # i ∷ ts) = x
 
--- anything
+-- any tokens, and none
 abbrev pub Anything : Tokens → Type 0
 Anything ts = ⊤
 
--- no annotation
+-- no annotation begins with the terminal
 abbrev pub no_bracket : Terminal → Bool
 no_bracket left_bracket = false
 no_bracket x = true
@@ -36,7 +36,7 @@ abbrev pub no_brace : Terminal → Bool
 no_brace left_brace = false
 no_brace x = true
 
--- behind a name in a name class, and behind a name class
+-- the terminal may stand behind a name in a name class
 abbrev pub behind_name : Terminal → Bool
 behind_name follow = false
 behind_name minus = false
@@ -46,7 +46,7 @@ abbrev pub behind_class : Terminal → Bool
 behind_class (operator o) = false
 behind_class x = behind_name x
 
--- behind the core of a primary, a primary, an operand and a pattern
+-- the terminal may stand behind the core of a primary
 abbrev pub behind_core : Terminal → Bool
 behind_core tilde = false
 behind_core (segment s) = false
@@ -69,7 +69,7 @@ abbrev pub behind_pattern : Terminal → Bool
 behind_pattern (operator o) = false
 behind_pattern x = behind_operand x
 
--- what may stand behind declarations and behind an item
+-- the terminal may stand behind declarations and behind an item
 abbrev pub behind_item : Terminal → Bool
 behind_item (ident n) = true
 behind_item (prefixed n l) = true
@@ -81,7 +81,7 @@ behind_item left_bracket = true
 behind_item right_brace = true
 behind_item x = false
 
--- behind items
+-- the terminal may stand behind items
 abbrev pub is_end : Terminal → Bool
 is_end right_brace = true
 is_end x = false
@@ -96,14 +96,14 @@ no_declaration (keyword k.Default) = false
 no_declaration (keyword k.Datatypes) = false
 no_declaration x = true
 
--- a datatype
+-- a datatype begins with the terminal
 abbrev pub begins_datatype : Terminal → Bool
 begins_datatype (prefixed n l) = true
 begins_datatype (keyword k.String) = true
 begins_datatype (keyword k.Token) = true
 begins_datatype x = false
 
--- `*`, or a name before `:*`
+-- `*`, or a name before `:*`, begins with the terminal
 abbrev pub begins_any : Terminal → Bool
 begins_any (postfix p.Star) = true
 begins_any (any_of n) = true

@@ -1,4 +1,4 @@
--- What is left are follows as before.
+-- The following annotations so far were read, and what is left are following annotations.
 use Rattle.std.proofs.Common.{◌≤◌, ◌-◌, length}
 use Rattle.rn_syntax.specs.Grammar.{AreFollows}
 use Rattle.rn_syntax.specs.inside.Follow.{Starts, no_follow}
