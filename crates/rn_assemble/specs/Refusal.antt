@@ -79,7 +79,7 @@ IsFaulty texts x = (text : Text) × Contains texts (x, text) × ((f : FaultKind)
 abbrev pub Wants : List NamedModule → Text → Text → Type 0
 Wants modules x w = Includes modules x w × (modules_named w modules ≡ [])
 
--- an include among the items defines the key, which the components of the included module lack (4.7)
+-- an include among the items defines the key, which the components of the included module lack (RELAX NG 2001, 4.7)
 module _ (included : Text → Text → List Component) (inherited : Text) (ds : List Declaration) where
   abbrev mutual
     pub item_lacks : Item → Key → Bool
@@ -96,7 +96,7 @@ module _ (included : Text → Text → List Component) (inherited : Text) (ds : 
 abbrev pub Lacks : List NamedModule → Text → Key → Type 0
 Lacks modules x k = (m : NamedModule) × Contains (modules_named x modules) m × (items_lack (components modules) [] m.tree.declarations m.tree.items k ≡ true)
 
--- what is joined under the key breaks the restrictions on name classes (4.16)
+-- what is joined under the key breaks the restrictions on name classes (RELAX NG 2001, 4.16)
 abbrev pub BreaksNameRules : List Component → Key → Type 0
 BreaksNameRules cs k = (has_key k cs ≡ true) × ¬ KeepsNameRules (joined_pattern cs k)
 

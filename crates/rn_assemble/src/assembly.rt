@@ -1,4 +1,4 @@
-// From a set to its grammar.
+// From a set of modules to its grammar, or to the first refusal that stands (RELAX NG 2001, 4.7, 4.11, 4.16 to 4.19).
 ghost use Rattle.std.specs.Prelude.{MatchResult};
 ghost use Rattle.std.specs.List.{AllByRecursion};
 ghost use Rattle.rn_text.specs.Texts.{Text};
@@ -52,9 +52,9 @@ struct ShortCombined<'s> {
 }
 
 /// The grammar of the set: the components of all modules that no module includes, with includes replaced by what they
-/// include, joined for each name in their order (RELAX NG 2001, 4.7, 4.11, 4.17). Or the first refusal that stands, of those
-/// from `Conflict` to `NameClass` in the order of `Refusal`; `Memory` stands for want of memory alone. The set is left as
-/// it is.
+/// include, joined for each name in their order (RELAX NG 2001, 4.7, 4.11, 4.17). Or the first refusal that stands, of
+/// those from `Conflict` to `NameClass` in the order of `Refusal`; `Memory` stands for want of memory alone. The set is
+/// left as it is.
 pub fn assemble(alloc: Global, set: &ModuleSet) -> Result<Grammar, Refusal>
     ensures { MatchResult result (λ g. IsAssembled set.now (grammar_view g))
         (IsFirstRefusal set.now) }
@@ -75,9 +75,9 @@ fn combine_set<'s>(alloc: Global, set: &'s ModuleSet, seed: &Seed) -> Result<Com
 }
 
 /// The grammar of the set (RELAX NG 2001, 4.7, 4.11, 4.17) with short texts in the place of URIs of more than
-/// [`MAX_KEPT_URI`](crate::MAX_KEPT_URI) bytes, so that names are compared by few bytes, though a URI may have megabytes.
-/// Or the first refusal that stands, of those from `Conflict` to `NameClass` in the order of `Refusal`: the one that
-/// [`assemble`](crate::assemble) answers. `Memory` stands for want of memory alone. The set is left as it is.
+/// [`MAX_KEPT_URI`](crate::MAX_KEPT_URI) bytes, so that names are compared by few bytes, though a URI may have
+/// megabytes. Or the first refusal that stands, of those from `Conflict` to `NameClass` in the order of `Refusal`: the
+/// one that [`assemble`](crate::assemble) answers. `Memory` stands for want of memory alone. The set is left as it is.
 pub fn assemble_short(alloc: Global, set: &ModuleSet) -> Result<ShortGrammar, Refusal>
     ensures { MatchResult result
         (λ g. IsShortened set.now (short_texts g.uris) (grammar_view g.grammar))
@@ -90,8 +90,8 @@ pub fn assemble_short(alloc: Global, set: &ModuleSet) -> Result<ShortGrammar, Re
     Ok(ShortGrammar { grammar, uris })
 }
 
-/// The combined patterns of the set with short texts in the place of long URIs, and the URIs that these stand for; or the
-/// first refusal that stands for the set. The trees of the modules are given up.
+/// The combined patterns of the set with short texts in the place of long URIs, and the URIs that these stand for; or
+/// the first refusal that stands for the set. The trees of the modules are given up.
 fn combine_short<'s>(
     alloc: Global,
     set: &'s ModuleSet,
@@ -151,7 +151,8 @@ fn combine_keys<'s>(
     combined_grammar(alloc, keys, components)
 }
 
-/// Refuses the least override of what isn't there.
+/// `Override`, where there is a lack: an include of a module defines what the included module lacks (RELAX NG 2001,
+/// 4.7).
 fn check_overrides(
     alloc: Global,
     modules: &[NamedModule<'_>],
@@ -172,7 +173,8 @@ fn check_overrides(
     }
 }
 
-/// Refuses the least key with two plain components, the least with both methods, and components without a start.
+/// Refuses the least key with two plain components, the least with both methods, and components without a start
+/// (RELAX NG 2001, 4.17 and 4.18).
 fn check_methods(
     alloc: Global,
     keys: &Keys<'_>,
@@ -197,7 +199,8 @@ fn check_methods(
     Ok(())
 }
 
-/// Refuses names that aren't defined, and reachable ones that come back to themselves outside elements.
+/// Refuses names that aren't defined, and reachable ones that come back to themselves outside elements
+/// (RELAX NG 2001, 4.18 and 4.19).
 fn check_references<'s>(
     alloc: Global,
     keys: &Keys<'s>,

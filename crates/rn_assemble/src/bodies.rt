@@ -47,8 +47,8 @@ impl<'c, 't, 's> ModuleBodies<'c, 't, 's> {
     }
 }
 
-/// The components of modules in contexts, numbered on from context to context. Nothing of them is copied: a context takes
-/// 32 bytes. Contracts see the list of bodies.
+/// The components of modules in contexts, numbered on from context to context. Nothing of them is copied: a context
+/// takes 32 bytes. Contracts see the list of bodies.
 #[derive(Drop)]
 pub(crate) struct Bodies<'c, 't, 's> {
     contexts: Vec<ModuleBodies<'c, 't, 's>>,
@@ -113,8 +113,8 @@ impl<'c, 't, 's> Bodies<'c, 't, 's> {
         Ok(())
     }
 
-    /// The body of a number. `near` is the place of the context to look at first, and then of the one that was found; any
-    /// will do.
+    /// The body of a number. `near` is the place of the context to look at first, and then of the one that was found;
+    /// any will do.
     #[inline(always)]
     pub fn get(&self, number: usize, near: &mut usize) -> Option<Body<'c, 't, 's>>
         ensures { result ≡ slice_get self.now number }

@@ -14,12 +14,12 @@ pub(crate) struct CombinedDefinition<'s> {
     pub pattern: Box<Pattern>,
 }
 
-/// The patterns of a set's keys. Where a body stands several times in the list of a key, the first places tell which members
-/// are the same.
+/// The patterns of a set's keys. Where a body stands several times in the list of a key, the first places tell which
+/// members are the same.
 #[derive(Drop)]
 pub(crate) struct Combined<'s> {
     pub start: Box<Pattern>,
-    /// In the order of each name's first component.
+    /// The names with their combined patterns, in the order of each name's first component.
     pub definitions: Vec<CombinedDefinition<'s>>,
     /// For each member of the start, the first one with its body.
     pub start_firsts: Vec<u32>,

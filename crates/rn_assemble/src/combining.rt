@@ -107,8 +107,8 @@ impl<'c, 't, 's> Components<'c, 't, 's> {
 /// The patterns of bodies that stand in lists of several components, once they were resolved.
 type Shared = Vec<Option<Rc<Pattern>>>;
 
-/// The pattern of each key's components combined, `None` for a key that has none. `NameClass` names the least key one of
-/// whose components breaks the restrictions on name classes.
+/// The pattern of each key's components combined, `None` for a key that has none. `NameClass` names the least key one
+/// of whose components breaks the restrictions on name classes.
 pub(crate) fn combine_components(
     alloc: Global,
     keys: &Keys<'_>,

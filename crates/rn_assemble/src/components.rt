@@ -43,8 +43,8 @@ pub(crate) struct Lack {
     pub key: usize,
 }
 
-/// What was read last: the runs of a key's places and of the bodies at places, and the context of a body. A reader looks
-/// there first.
+/// What was read last: the runs of a key's places and of the bodies at places, and the context of a body. A reader
+/// looks there first.
 #[derive(Clone, Copy, Default)]
 pub(crate) struct Near {
     place: usize,
@@ -129,8 +129,8 @@ impl<'c, 't, 's> Components<'c, 't, 's> {
         None
     }
 
-    /// Adds the module's components numbered from `from` up to, but not including, `to`; `first` is the number of its first
-    /// body in this context.
+    /// Adds the module's components numbered from `from` up to, but not including, `to`; `first` is the number of its
+    /// first body in this context.
     pub fn add(
         &mut self,
         content: &Contents<'t, 's>,

@@ -12,8 +12,8 @@ use rn_syntax::{XML_URI, XSD_URI};
 use std::alloc::{AllocError, Global};
 use std::rc::{Rc, RcStr};
 
-/// The URIs that names and types have without a declaration, and the patterns `empty` and `text`, made once for a set and
-/// shared.
+/// The URIs that names and types have without a declaration, and the patterns `empty` and `text`, made once for a set
+/// and shared.
 #[derive(Drop)]
 pub(crate) struct Constants {
     /// No namespace, and the library of `string` and `token`.
@@ -32,7 +32,7 @@ pub(crate) struct Constants {
 }
 
 impl Constants {
-    /// The texts of these URIs, and these patterns.
+    /// The texts of the URIs and the two patterns, made anew.
     pub fn new(alloc: Global) -> Result<Constants, AllocError> {
         Ok(Constants {
             none: RcStr::from_str(alloc, "")?,
@@ -43,7 +43,7 @@ impl Constants {
         })
     }
 
-    /// These texts and patterns, shared.
+    /// The constants once more: the texts and patterns are shared, and nothing is copied.
     pub fn share(&self) -> Result<Constants, AllocError> {
         Ok(Constants {
             none: self.none.clone()?,

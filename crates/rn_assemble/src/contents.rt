@@ -24,8 +24,8 @@ pub(crate) struct WrittenComponent<'t, 's> {
     pub body: &'t Pat<'s>,
 }
 
-/// An include: the number of the module that it names, if there is one, and its own components as numbers among those of
-/// the including module.
+/// An include: the number of the module that it names, if there is one, and its own components as numbers among those
+/// of the including module.
 #[derive(Clone, Copy)]
 pub(crate) struct Include<'t> {
     pub module: Option<usize>,
@@ -85,7 +85,7 @@ fn contents_of_module<'t, 's>(
     Ok(contents)
 }
 
-/// Adds what the items consist of.
+/// Adds the components and the includes of the items, those inside divs too (RELAX NG 2001, 4.11).
 #[cycle(gather)]
 fn gather<'t, 's>(
     contents: &mut Contents<'t, 's>,
@@ -112,7 +112,7 @@ fn gather<'t, 's>(
     Ok(())
 }
 
-/// Adds what the item consists of.
+/// Adds the component or the include that the item is, or all that a div holds (RELAX NG 2001, 4.11).
 #[cycle(gather)]
 fn gather_item<'t, 's>(
     contents: &mut Contents<'t, 's>,

@@ -45,7 +45,7 @@ impl<'c, 't> Context<'c, 't> {
         }
     }
 
-    /// The namespace of a prefix.
+    /// The namespace of a prefix; no namespace for one without a declaration, but for `xml`.
     #[tactic(auto, using(crate::specs::inside::ContextBindings::binds_are))]
     pub fn namespace(self, prefix: &str) -> &'c RcStr
         ensures { InContext self.entry (λ inherited ds. rc_str_bytes result.now
@@ -60,7 +60,7 @@ impl<'c, 't> Context<'c, 't> {
         }
     }
 
-    /// The datatype library of a prefix.
+    /// The datatype library of a prefix; the empty one where it has no declaration, but for `xsd`.
     #[tactic(auto, using(crate::specs::inside::ContextBindings::binds_are))]
     pub fn library(self, prefix: &str) -> &'c RcStr
         ensures { InContext self.entry (λ inherited ds. rc_str_bytes result.now

@@ -1,4 +1,4 @@
-// Components of a key whose bodies stand in its list before.
+// For each component of a key, the first one in the key's list that has the same body.
 ghost use Rattle.std.specs.Prelude.{◌≡◌, ℕ, slice_get, IfOk, Some};
 ghost use Rattle.rn_assemble.specs.Combine.{joined_pattern};
 ghost use Rattle.rn_pattern.specs.Graph.{row};
@@ -20,8 +20,8 @@ struct NearFirsts {
 }
 
 impl Components<'_, '_, '_> {
-    /// Nothing is met: an index for each body, or none where no body can stand twice, since the list is no longer than that of
-    /// bodies.
+    /// Nothing is met: an index for each body, or none where no body can stand twice, since the list is no longer than
+    /// that of bodies.
     pub fn nothing_met(&self, alloc: Global) -> Result<Met, AllocError> {
         if self.count() > self.count_bodies() {
             Ok(vec![in alloc; 0; self.count_bodies()]?)
@@ -43,8 +43,8 @@ impl Components<'_, '_, '_> {
         self.first_indices(alloc, key, met)
     }
 
-    /// The index of the first component with the same body, for each of the key's. It is empty where no body stands twice,
-    /// and where an index takes more than 32 bits.
+    /// The index of the first component with the same body, for each of the key's. It is empty where no body stands
+    /// twice, and where an index takes more than 32 bits.
     fn first_indices(
         &self,
         alloc: Global,

@@ -1,4 +1,4 @@
-// The grammar of a set.
+// The grammar of a set: its start, its definitions, and which members of a joined list are the same body.
 ghost use Rattle.rn_assemble.specs.JoinedView.{joined_view};
 ghost use Rattle.rn_assemble.specs.inside.OneProof.{IsWellFormed-prop};
 ghost use Rattle.rn_assemble.specs.WellFormed.{IsWellFormed, HasWritableTexts};
@@ -38,18 +38,19 @@ impl Grammar {
         &self.joined.defs
     }
 
-    /// For each member of the start, where several components are joined to a list, the index of the first member that is
-    /// the same body. It is empty where no body stands twice, for a start of one component, and where an index takes more
-    /// than 32 bits. Whoever looks at members one by one need not look at a body again, however many includes bring it in.
+    /// For each member of the start, where several components are joined to a list, the index of the first member that
+    /// is the same body. It is empty where no body stands twice, for a start of one component, and where an index takes
+    /// more than 32 bits. Whoever looks at members one by one need not look at a body again, however many includes
+    /// bring it in.
     pub fn start_firsts(&self) -> &[u32]
         ensures { AreFirsts result.now (joined_members (grammar_view self.now).start) }
     {
         self.joined.start_firsts.as_slice()
     }
 
-    /// For each member of the definition of that number, in the order of `defs`, where several components are joined to a list,
-    /// the index of the first member that is the same body. It is empty where no body stands twice, for a definition of one
-    /// component, where an index takes more than 32 bits, and for other numbers.
+    /// For each member of the definition of that number, in the order of `defs`, where several components are joined to
+    /// a list, the index of the first member that is the same body. It is empty where no body stands twice, for a
+    /// definition of one component, where an index takes more than 32 bits, and for other numbers.
     pub fn firsts(&self, number: usize) -> &[u32]
         ensures { (d : Text × Tree) → number < length (grammar_view self.now).definitions
             → AreFirsts result.now

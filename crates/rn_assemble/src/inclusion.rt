@@ -20,8 +20,8 @@ use rn_syntax::includes;
 use std::alloc::{AllocError, Global};
 use std::cmp::Ordering;
 
-/// The modules that no module includes. Or the first refusal that stands, of `Missing`, `Cycle` and `Instances`; `Memory`
-/// stands for want of memory alone.
+/// The modules that no module includes. Or the first refusal that stands, of `Missing`, `Cycle` and `Instances`;
+/// `Memory` stands for want of memory alone.
 pub(crate) fn included_roots(
     alloc: Global,
     modules: &[NamedModule<'_>],

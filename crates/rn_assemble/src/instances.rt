@@ -5,8 +5,8 @@ ghost use Rattle.rn_assemble.specs.inside.Instances.{instances_of};
 
 use rn_pattern::Rows;
 
-/// The most instances of modules that a set may have: each root counts one, and so does each include that is followed from
-/// there, however often its module comes. A set with more is refused as `Refusal::Instances`.
+/// The most instances of modules that a set may have: each root counts one, and so does each include that is followed
+/// from there, however often its module comes. A set with more is refused as `Refusal::Instances`.
 pub const INSTANCE_LIMIT: usize = 512;
 
 /// How many instances a module has, but at most `most`.

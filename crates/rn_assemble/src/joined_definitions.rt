@@ -39,7 +39,7 @@ pub(crate) fn joined_grammar(
     })
 }
 
-/// The definitions by their names, in the same order.
+/// The definitions by their names, in the order of the combined patterns.
 fn definitions_of(
     alloc: Global,
     definitions: Vec<CombinedDefinition<'_>>,

@@ -28,7 +28,7 @@ pub fn components_have_a_combination()
 {}
 
 /// The components of modules in which no except is at fault have excepts of data, values and choices of them alone, and
-/// so has each definition of the joined grammar (section 7.1.4).
+/// so has each definition of the joined grammar (RELAX NG 2001, 7.1.4).
 pub fn components_keep_excepts()
     ensures components { (modules : List NamedModule)
         → AllByRecursion (λ (m : NamedModule). except_places m.tree ≡ []) modules
@@ -40,8 +40,8 @@ pub fn components_keep_excepts()
         → IfSome (definition_of (joined_grammar cs) x) HasExcepts }
 {}
 
-/// A grammar of distinct names, as one plain component for each key, is joined to itself; no key of these components has
-/// two plain ones, or both methods (section 4.17).
+/// A grammar of distinct names, as one plain component for each key, is joined to itself; no key of these components
+/// has two plain ones, or both methods (RELAX NG 2001, 4.17).
 pub fn plain_components_are_joined()
     ensures joined { (G : Grammar) → AreDistinct G.definitions
         → joined_grammar (components_of G) ≡ G }
@@ -52,7 +52,7 @@ pub fn plain_components_are_joined()
 {}
 
 /// Includes followed as deep as a module has instances, or deeper, give the same instances and the same components
-/// (section 4.7).
+/// (RELAX NG 2001, 4.7).
 pub fn includes_end()
     ensures same_instances { (modules : List NamedModule) (more depth : ℕ) (x : Text)
         → instances_within depth modules x ≤ depth
@@ -72,10 +72,10 @@ pub fn one_first_refusal()
         → g ≡ h }
 {}
 
-/// The grammar of a set keeps what the refusals exclude. Its names and texts can be written again: the modules' texts are
-/// of XML characters, their names are names, and no datatype or except in them is at fault (section 7.1.4; XML 1.0,
-/// section 2.2). Where no refusal stands, every reference is defined, no loop is reached, and name classes keep their
-/// restrictions (sections 4.16, 4.18 and 4.19).
+/// The grammar of a set keeps what the refusals exclude. Its names and texts can be written again: the modules' texts
+/// are of XML characters, their names are names, and no datatype or except in them is at fault (RELAX NG 2001, 7.1.4;
+/// XML 1.0, section 2.2). Where no refusal stands, every reference is defined, no loop is reached, and name classes
+/// keep their restrictions (RELAX NG 2001, 4.16, 4.18 and 4.19).
 pub fn grammars_of_sets_are_well_formed()
     ensures writable { (s : List Member) (modules : List NamedModule) → AreModules s modules
         → HasWritableTexts (grammar_of modules) }

@@ -12,7 +12,7 @@ use rn_pattern::{Data, Pattern, Value};
 use std::alloc::{AllocError, Global};
 use std::rc::{Rc, RcStr};
 
-/// A text of the caller's own.
+/// A copy of the text, in memory of its own.
 pub(crate) fn copy_text(alloc: Global, text: &str) -> Result<String, AllocError>
     ensures { IfOk result (λ s. string_bytes s ≡ text.now) }
 {

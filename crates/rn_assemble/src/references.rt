@@ -222,8 +222,8 @@ fn add_key(row: &mut NodeReferences, key: Option<usize>, reach: Reach) -> Result
     }
 }
 
-/// The lesser of a name that has no component and the one held before, or the one that there is. The name's key is given,
-/// if it has one.
+/// The lesser of a name that has no component and the one held before, or the one that there is. The name's key is
+/// given, if it has one.
 fn least_undefined<'s>(
     components: &Components<'_, '_, '_>,
     name: &'s str,

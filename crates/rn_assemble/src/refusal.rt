@@ -18,9 +18,9 @@ pub enum Key {
 }
 
 /// Why a set has no schema, in the order in which it is tested: the first that stands is answered (sections of RELAX NG
-/// 2001). `Encoding` to `Except` are one test: the first module by name whose text has a fault is answered, with the first of
-/// these kinds that its text has. `module` is the name of the module that is at fault, `name` that of a definition. Modules
-/// and names are compared by bytes; start stands before all names.
+/// 2001). `Encoding` to `Except` are one test: the first module by name whose text has a fault is answered, with the
+/// first of these kinds that its text has. `module` is the name of the module that is at fault, `name` that of a
+/// definition. Modules and names are compared by bytes; start stands before all names.
 #[derive(Debug, Drop, PartialEq, Eq, Error)]
 pub enum Refusal {
     /// The least module of which two contributions of the highest revision differ.
@@ -31,49 +31,51 @@ pub enum Refusal {
         /// Its highest revision.
         revision: u64,
     },
-    /// That module's text is not UTF-8.
+    /// The module's text is not UTF-8.
     #[error("a module's text is not UTF-8")]
     Encoding {
         module: String,
     },
-    /// That module's text holds what XML does not allow, or what is no token, white space or comment.
+    /// The module's text holds what XML does not allow, or what is no token, white space or comment.
     #[error("a module's text can't be cut into tokens")]
     Lexical {
         module: String,
     },
-    /// That module's text has more than [`rn_syntax::MAX_OPEN`] brackets open at once.
+    /// The module's text has more than [`rn_syntax::MAX_OPEN`] brackets open at once.
     #[error("a module has too many brackets open at once")]
     Deep {
         module: String,
     },
-    /// That module's text is no module of the compact syntax.
+    /// The module's text is no module of the compact syntax (RELAX NG Compact Syntax, appendix A).
     #[error("a module's tokens are no module")]
     Syntax {
         module: String,
     },
-    /// That module has a prefix without a declaration, or one declared twice or against its meaning, or a second default
+    /// The module has a prefix without a declaration, or one declared twice or against its meaning, or a second default
     /// namespace.
     #[error("a module has a prefix that is unbound or bound wrongly, or a second default namespace")]
     Prefix {
         module: String,
     },
-    /// That module has a datatype of the empty library other than `string` and `token`, or one of these with a parameter.
+    /// The module has a datatype of the empty library other than `string` and `token`, or one of these with a
+    /// parameter.
     #[error("a module has an unknown datatype of the empty library, or gives `string` or `token` a parameter")]
     Builtin {
         module: String,
     },
-    /// That module has a value of `QName` or `NOTATION` of the XML Schema library.
+    /// The module has a value of `QName` or `NOTATION` of the XML Schema library.
     #[error("a module has a value that looks at namespace bindings")]
     ContextValue {
         module: String,
     },
-    /// That module excepts from data something else than values, data, choices of them and `notAllowed`
+    /// The module excepts from data something else than values, data, choices of them and `notAllowed`
     /// (RELAX NG 2001, 7.1.4).
     #[error("a module has a pattern that may not be excepted")]
     Except {
         module: String,
     },
-    /// The least module that includes a name under which no module is effective, and the least such name (4.7).
+    /// The least module that includes a name under which no module is effective, and the least such name
+    /// (RELAX NG 2001, 4.7).
     #[error("a module includes one that is not effective")]
     Missing {
         /// The name of the module with the include.
@@ -81,7 +83,7 @@ pub enum Refusal {
         /// The name that the include gives.
         wanted: String,
     },
-    /// The least module that includes itself through one include or more (4.7).
+    /// The least module that includes itself through one include or more (RELAX NG 2001, 4.7).
     #[error("a module includes itself")]
     Cycle {
         module: String,
@@ -89,7 +91,8 @@ pub enum Refusal {
     /// All roots together have more than [`INSTANCE_LIMIT`] instances of modules.
     #[error("there are more than {} instances of modules", INSTANCE_LIMIT)]
     Instances,
-    /// The least module with an include that defines what the included module lacks, and the least such key (4.7).
+    /// The least module with an include that defines what the included module lacks, and the least such key
+    /// (RELAX NG 2001, 4.7).
     #[error("an include overrides what is not there")]
     Override {
         /// The name of the module with the include.
@@ -97,30 +100,30 @@ pub enum Refusal {
         /// What the include defines.
         key: Key,
     },
-    /// The least key with two definitions by `=` (4.17).
+    /// The least key with two definitions by `=` (RELAX NG 2001, 4.17).
     #[error("a name is plainly defined twice")]
     PlainTwice {
         key: Key,
     },
-    /// The least key with definitions by `|=` and by `&=` (4.17).
+    /// The least key with definitions by `|=` and by `&=` (RELAX NG 2001, 4.17).
     #[error("a name is combined by both methods")]
     MixedMethods {
         key: Key,
     },
-    /// Nothing defines the start (4.18).
+    /// Nothing defines the start (RELAX NG 2001, 4.18).
     #[error("there is no start")]
     NoStart,
-    /// The least name that is referred to, in reach of the start or not, and not defined (4.18).
+    /// The least name that is referred to, in reach of the start or not, and not defined (RELAX NG 2001, 4.18).
     #[error("a name is referred to and not defined")]
     Undefined {
         name: String,
     },
-    /// The least name in reach of the start that comes back to itself outside elements (4.19).
+    /// The least name in reach of the start that comes back to itself outside elements (RELAX NG 2001, 4.19).
     #[error("a definition refers to itself outside elements")]
     Recursive {
         name: String,
     },
-    /// The least key whose pattern has a name class that breaks the restrictions (4.16).
+    /// The least key whose pattern has a name class that breaks the restrictions (RELAX NG 2001, 4.16).
     #[error("a name class breaks the restrictions")]
     NameClass {
         key: Key,

@@ -13,8 +13,8 @@ use std::alloc::{AllocError, Global};
 use std::cmp::Ordering;
 use std::collections::BTreeSet;
 
-/// The most bytes of a URI that isn't long. Where no module of a set declares a long one, each URI stands for itself while
-/// the modules are put together.
+/// The most bytes of a URI that isn't long. Where no module of a set declares a long one, each URI stands for itself
+/// while the modules are put together.
 pub const MAX_KEPT_URI: usize = 64;
 
 /// A URI, and the text that stands for it.
@@ -24,8 +24,8 @@ pub(crate) struct ShortUri {
     pub uri: String,
 }
 
-/// Short texts that stand for URIs while the modules of a set are put together: of two URIs the lesser has the lesser text.
-/// So whoever compares two of them reads few bytes, however long the URIs are and however many names are in them.
+/// Short texts that stand for URIs while the modules of a set are put together: of two URIs the lesser has the lesser
+/// text. So whoever compares two of them reads few bytes, however long the URIs are and however many names are in them.
 #[derive(Drop)]
 pub struct ShortUris {
     pub(crate) list: Vec<ShortUri>,
@@ -41,7 +41,7 @@ impl ShortUris {
         }
     }
 
-    /// Whether there are none.
+    /// Whether there are no short texts, so that each URI stands for itself.
     pub(crate) fn is_empty(&self) -> bool
         ensures { IsTrue result ↔ (short_texts self.now ≡ []) }
     {
@@ -114,8 +114,8 @@ fn short_uri(alloc: Global, uri: &str, number: usize) -> Result<ShortUri, AllocE
     })
 }
 
-/// The short text of the URI of a number: a URI that means something by itself, or the greatest of these that is below the
-/// URI, with the number behind it.
+/// The short text of the URI of a number: a URI that means something by itself, or the greatest of these that is below
+/// the URI, with the number behind it.
 fn short_text(alloc: Global, uri: &str, number: usize) -> Result<String, AllocError>
     ensures { IfOk result (λ s. string_bytes s ≡ short_text_of number uri.now) }
 {

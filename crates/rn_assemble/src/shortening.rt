@@ -82,8 +82,8 @@ fn have_long_uri(modules: &[NamedModule<'_>]) -> bool
     false
 }
 
-/// The URIs that the modules declare, and those that mean something by themselves: no namespace, and those of `xml`, `xsd`
-/// and of declarations.
+/// The URIs that the modules declare, and those that mean something by themselves: no namespace, and those of `xml`,
+/// `xsd` and of declarations.
 fn literal_uris<'m>(
     alloc: Global,
     modules: &'m [NamedModule<'_>],
@@ -122,7 +122,7 @@ fn add_literals<'d>(
     Ok(())
 }
 
-/// Adds the URI of the declaration.
+/// Adds the URI of the declaration; nothing where it is inherited.
 fn add_literal<'d>(
     declaration: &'d Declaration<'_>,
     uris: &mut BTreeSet<&'d str>,
@@ -136,7 +136,7 @@ fn add_literal<'d>(
     }
 }
 
-/// Adds the URI.
+/// Adds the URI to the set, which holds each one once.
 fn add_uri<'u>(uri: &'u str, uris: &mut BTreeSet<&'u str>) -> Result<(), AllocError>
     ensures { OnOk result (GathersUris (uri.now ∷ []) uris.old uris.new) }
 {
@@ -174,7 +174,7 @@ trait Shorten: Sized + Drop {
     // With these short texts, the second stands for the first.
     ghost stands_for: { ShortTexts → Self → Self → Type 0 };
 
-    /// What stands for it, with short texts in the place of its URIs.
+    /// The value with short texts in the place of the URIs that it declares. The only error is want of memory.
     fn shorten(self, alloc: Global, uris: &ShortUris) -> Result<Self, AllocError>
         requires table { IsTable (short_texts uris.now) }
         requires covered { is_covered (short_texts uris.now) self }

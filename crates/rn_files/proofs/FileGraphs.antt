@@ -1,4 +1,4 @@
--- Graphs of files.
+-- The graph of what files refer to: its numbers, its links, and its loops.
 use Rattle.std.proofs.Common.{◌≡◌, ◌≢◌, false, not, ℕ, suc, zero, ◌<◌, ◌+◌, ◌==◌, ◌∙◌, true, List, [], ◌∷◌, ◌++◌, length, take, get_or, ap, subst, sym, arith}
 use Rattle.std.specs.Prelude.{nat_lt, All, Err, IfOk, MatchOption, None, Ok, Option, Result, Some, Vec, string_bytes}
 use Rattle.std.specs.List.{list_all}

@@ -4,7 +4,7 @@ use Rattle.std.specs.List.{flat_map}
 use Rattle.rn_modset.specs.Contributions.{is_name_byte}
 use Rattle.rn_files.specs.Escapes.{byte_or_escape}
 
--- a byte
+-- the number is a byte: it is less than 256
 abbrev pub IsByte : ℕ → Type 0
 IsByte b = b < 2 ^ 8
 

@@ -27,7 +27,7 @@ is_here s = bytes_eq s (46 ∷ [])
 abbrev pub is_up : Segment → Bool
 is_up s = bytes_eq s (46 ∷ 46 ∷ [])
 
--- the dot segments
+-- the segment is a dot segment: `.` or `..`
 abbrev pub is_dots : Segment → Bool
 is_dots s = is_here s || is_up s
 

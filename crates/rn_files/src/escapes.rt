@@ -31,8 +31,8 @@ pub fn has_escapes(bytes: &[u8]) -> bool
     true
 }
 
-/// Whether a byte may stand in a reference to a URI: it is of ASCII, no control, and none of `" < > \ ^ { | }`, space and the
-/// grave accent.
+/// Whether a byte may stand in a reference to a URI: it is of ASCII, no control, and none of `" < > \ ^ { | }`, space
+/// and the grave accent.
 fn is_allowed(byte: u8) -> bool
     ensures { result ≡ is_allowed byte }
 {
@@ -78,7 +78,7 @@ pub fn escape(alloc: Global, reference: &str) -> Result<String, AllocError>
     Ok(out)
 }
 
-/// The URI of a path that begins with `/`.
+/// The `file` URI of a path that begins with `/` (RFC 8089): each byte that no path of a URI holds is escaped.
 pub fn file_uri(alloc: Global, path: &str) -> Result<String, AllocError>
     ensures { IfOk result (λ uri. string_bytes uri ≡ file_uri path.now) }
 {

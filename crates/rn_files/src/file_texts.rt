@@ -14,14 +14,14 @@ pub const MAX_TEXT: usize = rn_modset::MAX_TEXT;
 pub struct FileText {
     /// The text, or as much of it as is UTF-8.
     pub text: String,
-    /// Its outline, or what is wrong with it.
+    /// The outline of the text, or what is wrong with the text.
     pub outline: Result<Outline, FileTextFault>,
 }
 
 /// What is wrong with a text.
 #[derive(Drop)]
 pub struct FileTextFault {
-    /// The byte of the text.
+    /// The byte of the text where it is wrong, counted from 0.
     pub at: usize,
     /// What is wrong there.
     pub kind: SourceFaultKind,

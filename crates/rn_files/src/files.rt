@@ -38,14 +38,14 @@ pub trait Files {
     // What may be read at the path.
     ghost gives: { Self → List ℕ → List ℕ → Type 0 } = { λ _ _ _. Unit {0} };
 
-    /// The one path of the file or the folder that the path leads to: it begins with `/`, and has no segment that is empty,
-    /// `.`, `..` or a link. A pipe without such a path has the one by which it was asked for. A fault tells why there is none,
-    /// or that memory ran out.
+    /// The one path of the file or the folder that the path leads to: it begins with `/`, and has no segment that is
+    /// empty, `.`, `..` or a link. A pipe without such a path has the one by which it was asked for. A fault tells why
+    /// there is none, or that memory ran out.
     fn real_path(&self, alloc: Global, path: &str) -> Result<String, FileFault>
         ensures { IfOk result (λ found. leads self.now path.now (string_bytes found)) };
 
-    /// The bytes of the file at the path, or of standard input at [`STANDARD_INPUT`]. `Large` where they are more than `MAX_TEXT`;
-    /// another fault tells why they can't be read, or that memory ran out.
+    /// The bytes of the file at the path, or of standard input at [`STANDARD_INPUT`]. `Large` where they are more than
+    /// `MAX_TEXT`; another fault tells why they can't be read, or that memory ran out.
     fn read(&self, alloc: Global, path: &str) -> Result<Vec<u8>, FileFault>
         ensures { IfOk result (λ bytes. gives self.now path.now bytes.items) };
 }

@@ -73,8 +73,8 @@ fn word_uri(alloc: Global, current: &str, word: &str) -> Result<String, AllocErr
     file_uri(alloc, path.as_str())
 }
 
-/// Enters a file that was found at a place; none where it doesn't lie below the root folder, which is a fault. Where a map
-/// found it, or it is standard input, it may lie anywhere.
+/// Enters a file that was found at a place; none where it doesn't lie below the root folder, which is a fault. Where a
+/// map found it, or it is standard input, it may lie anywhere.
 fn enter_found(
     ways: &Ways<'_>,
     walk: &mut Walk,
@@ -144,8 +144,8 @@ pub fn enter_words<F: Files>(
     Ok(roots)
 }
 
-/// The real path of the file that a reference leads to. Where there is no such file, and it would not lie below the root
-/// folder, that is the fault.
+/// The real path of the file that a reference leads to. Where there is no such file, and it would not lie below the
+/// root folder, that is the fault.
 fn real_path<F: Files>(
     alloc: Global,
     files: &F,
@@ -259,7 +259,8 @@ fn follow_link<F: Files>(
     }
 }
 
-/// Enters the files that the links of a file mean, and answers their numbers: of a link that is at fault, the file's own.
+/// Enters the files that the links of a file mean, and answers their numbers: of a link that is at fault, the file's
+/// own.
 fn follow_links<F: Files>(
     alloc: Global,
     files: &F,

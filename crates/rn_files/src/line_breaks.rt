@@ -1,4 +1,4 @@
-// Lines of a text.
+// The lines of a text: where each ends, and which one a byte stands in.
 ghost use Rattle.std.specs.Prelude.{◌≡◌, ◌+◌, ◌-◌, ◌<◌, ◌≤◌, ◌∷◌, [], length, slice_index, take, drop, MatchOption};
 ghost use Rattle.rn_files.specs.TextLines.{closes, lines, StandsIn};
 ghost use Rattle.rn_files.specs.inside.TextLines.{ClosesAt};

@@ -19,8 +19,8 @@ pub enum MemoryEntry {
     Link(String),
 }
 
-/// Files and links in memory, by their paths, and a current folder. A folder is there where something lies in it. Standard
-/// input is the file at `-`.
+/// Files and links in memory, by their paths, and a current folder. A folder is there where something lies in it.
+/// Standard input is the file at `-`.
 #[derive(Debug, Drop)]
 pub struct MemoryFiles {
     current: String,
@@ -51,7 +51,8 @@ impl MemoryFiles {
         })
     }
 
-    /// Puts a file at a real path, in place of what was there. Refused only for want of memory: then what was there stays.
+    /// Puts a file at a real path, in place of what was there. Refused only for want of memory: then what was there
+    /// stays.
     pub fn add_file(&mut self, alloc: Global, path: &str, bytes: &[u8]) -> Result<(), AllocError> {
         let path = String::from_str(alloc, path)?;
         let bytes = bytes.to_vec(alloc)?;
@@ -59,8 +60,8 @@ impl MemoryFiles {
         Ok(())
     }
 
-    /// Puts a link to a real path at a real path, in place of what was there. Refused only for want of memory: then what was
-    /// there stays.
+    /// Puts a link to a real path at a real path, in place of what was there. Refused only for want of memory: then
+    /// what was there stays.
     pub fn add_link(&mut self, alloc: Global, path: &str, target: &str) -> Result<(), AllocError> {
         let path = String::from_str(alloc, path)?;
         let target = String::from_str(alloc, target)?;

@@ -1,4 +1,4 @@
-// Names of modules.
+// Names of modules, made from paths and URIs.
 ghost use Rattle.std.specs.Prelude.{◌≡◌, IfOk, string_bytes};
 ghost use Rattle.rn_files.specs.ModuleNames.{is_plain, name_of};
 

@@ -76,7 +76,8 @@ fn ends_in_dots(segments: &[&str]) -> bool
     }
 }
 
-/// What the segments lead to, without the segments `.` and `..` (RFC 3986, section 5.2.4). A `..` at the top is dropped.
+/// What the segments lead to, without the segments `.` and `..` (RFC 3986, section 5.2.4). A `..` at the top is
+/// dropped.
 pub fn without_dots<'p>(alloc: Global, segments: &[&'p str]) -> Result<Vec<&'p str>, AllocError>
     ensures { IfOk result (λ left. map (λ s. s.now) left.items
         ≡ without_dots (map (λ s. s.now) segments.now)) }
@@ -112,8 +113,8 @@ pub fn joined_path(alloc: Global, segments: &[&str]) -> Result<String, AllocErro
     Ok(path)
 }
 
-/// The path without its segments `.` and `..` (RFC 3986, section 5.2.4). A `..` at the top is dropped. The only error is want
-/// of memory.
+/// The path without its segments `.` and `..` (RFC 3986, section 5.2.4). A `..` at the top is dropped. The only error
+/// is want of memory.
 pub fn remove_dot_segments(alloc: Global, path: &str) -> Result<String, AllocError>
     ensures { IfOk result (λ left. string_bytes left ≡ remove_dot_segments path.now) }
 {
@@ -140,8 +141,8 @@ fn finds_none(folder: &[&str], segment: &str) -> bool
     is_up(segment) && is_top(folder)
 }
 
-/// Whether a `..` of the segments finds none before it that it takes away. RFC 3986 lets such a `..` fall (section 5.2.4,
-/// 2A and 2C); of a file it is a fault.
+/// Whether a `..` of the segments finds none before it that it takes away. RFC 3986 lets such a `..` fall (section
+/// 5.2.4, 2A and 2C); of a file it is a fault.
 pub fn lead_above(alloc: Global, segments: &[&str]) -> Result<bool, AllocError>
     ensures { IfOk result (λ above. MatchBool above (LeadAbove (map (λ s. s.now) segments.now))
         (¬ (LeadAbove (map (λ s. s.now) segments.now)))) }

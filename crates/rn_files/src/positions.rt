@@ -1,4 +1,4 @@
-// Where the bytes of a text stand.
+// The line and the column of a byte of a text, and the text of a line.
 ghost use Rattle.std.specs.Prelude.{◌≡◌, ◌<◌, ◌≤◌, length, count_by, slice_index, drop, take_while};
 ghost use Rattle.std.specs.List.{prefix_len};
 ghost use Rattle.std.specs.Str.{IsCharBoundary};

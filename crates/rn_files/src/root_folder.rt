@@ -3,19 +3,19 @@
 /// The folder below which files must lie, with a slash at its end.
 #[derive(Debug, Drop)]
 pub struct RootFolder {
-    /// Its real path.
+    /// The real path of the folder, with a slash at its end.
     pub real: String,
-    /// As it was asked for, from the current folder.
+    /// The path as the folder was asked for, from the current folder, with a slash at its end.
     pub spelled: String,
 }
 
 impl RootFolder {
-    /// Whether the real path of a file lies below it.
+    /// Whether the real path of a file lies below the root folder.
     pub fn holds(&self, path: &str) -> bool {
         path.starts_with(self.real.as_str())
     }
 
-    /// Whether a path lies below it, as it is spelled.
+    /// Whether a path lies below the root folder, by its real path or as it was asked for.
     pub fn spells(&self, path: &str) -> bool {
         self.holds(path) || path.starts_with(self.spelled.as_str())
     }

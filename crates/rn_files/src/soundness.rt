@@ -1,4 +1,4 @@
-// What holds of all sources.
+// What sources keep: targets, names and no loops along references; and the fault where they do not.
 ghost use Rattle.std.specs.Prelude.{◌≡◌, ◌==◌, ℕ, true, IfNone, IfOk, MatchOption, length, string_bytes};
 ghost use Rattle.std.specs.List.{list_all};
 ghost use Rattle.rn_modset.specs.Contributions.{is_module_name};
@@ -63,8 +63,8 @@ fn differs_from(source: &SourceFile, others: &[SourceFile]) -> bool
         .all(|other| source.name.as_str() != other.name.as_str())
 }
 
-/// Whether no two files have one name. Each is compared with those after it, of which there are not many: a set has 1,024
-/// modules at most.
+/// Whether no two files have one name. Each is compared with those after it, of which there are not many: a set has
+/// 1,024 modules at most.
 fn have_own_names(files: &[SourceFile]) -> bool
     ensures { result ≡ have_own_names files.now }
 {
@@ -99,7 +99,8 @@ fn have_targets(files: &[SourceFile]) -> bool
         .all(|source| source.targets.len() == count_links(source))
 }
 
-/// The files of a loop along references, in order, through the first file that comes back to itself; none where no file does.
+/// The files of a loop along references, in order, through the first file that comes back to itself; none where no file
+/// does.
 fn first_loop(alloc: Global, edges: &Rows) -> Result<Option<Vec<usize>>, AllocError>
     requires { IsGraph (rows_of edges.now) }
     ensures { IfOk result (λ found. MatchOption found (HasNoLoop (rows_of edges.now))

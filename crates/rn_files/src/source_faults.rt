@@ -14,25 +14,25 @@ pub enum FaultPlace {
     Text {
         /// The number of the file.
         file: usize,
-        /// The byte of its text.
+        /// The byte of the file's text, counted from 0.
         at: usize,
     },
 }
 
-/// What is wrong.
+/// What is wrong at the place of a fault.
 #[derive(Debug, Drop, PartialEq, Eq)]
 pub enum SourceFaultKind {
     /// The file that is named there can't be read.
     File(FileFault),
     /// The reference names no file.
     Reference(ReferenceFault),
-    /// Here is no UTF-8.
+    /// The text is not UTF-8 from the place of the fault on.
     Encoding,
-    /// Here is no token.
+    /// At the place of the fault is what XML does not allow, or what is no token, white space or comment.
     Lexical,
-    /// Here the text is no pattern and no grammar any more.
+    /// With the token at the place of the fault, the text is no pattern and no grammar any more.
     Syntax,
-    /// Here brackets are too deep.
+    /// With the bracket at the place of the fault, too many are open at once.
     Deep,
     /// There are more than [`MAX_SOURCES`](crate::MAX_SOURCES) files.
     Count,
@@ -42,7 +42,8 @@ pub enum SourceFaultKind {
     Name,
     /// Another file has the name of the module.
     Twice,
-    /// The reference closes a loop through these files, in order, of which the first is the one that is referred to here.
+    /// The reference closes a loop through these files, in order, of which the first is the one that is referred to
+    /// here.
     Loop(Vec<usize>),
     /// The sources don't keep what is promised of them; no files are known for which this is so.
     Unsound,

@@ -235,8 +235,8 @@ fn check_sources(alloc: Global, sources: Sources) -> Result<Sources, ReadingFaul
     }
 }
 
-/// What is asked for, once it was found: the numbers of the files, each once, and the root folder, if one is given; and what
-/// was read of all files.
+/// What is asked for, once it was found: the numbers of the files, each once, and the root folder, if one is given; and
+/// what was read of all files.
 #[derive(Drop)]
 struct FollowedFiles {
     roots: Vec<usize>,
@@ -296,15 +296,15 @@ fn name_files(
 
 /// The files that are asked for and all that they refer to, each one read once.
 ///
-/// A literal of an include or an external is resolved against the URI of its file (RFC 3986, section 5.2; RELAX NG 2001, 4.5), and
-/// leads to a file below the folder of the longest map, or at the path of a `file` URI. One file is one source, however it
-/// is spelled; its URI is the first one that leads to it.
+/// A literal of an include or an external is resolved against the URI of its file (RFC 3986, section 5.2; RELAX NG
+/// 2001, 4.5), and leads to a file below the folder of the longest map, or at the path of a `file` URI. One file is one
+/// source, however it is spelled; its URI is the first one that leads to it.
 ///
 /// Refused are files that can't be read, texts that are no files of the language or have more than
-/// [`MAX_TEXT`](crate::MAX_TEXT) bytes, references that name no file, more than [`MAX_SOURCES`](crate::MAX_SOURCES) files,
-/// names of more than [`rn_modset::MAX_NAME`] bytes or of two files, files that don't lie below the root folder, and loops
-/// along references. Faults of all files are answered, but of loops one. A file that doesn't lie below the root folder that
-/// is asked for is not read.
+/// [`MAX_TEXT`](crate::MAX_TEXT) bytes, references that name no file, more than [`MAX_SOURCES`](crate::MAX_SOURCES)
+/// files, names of more than [`rn_modset::MAX_NAME`] bytes or of two files, files that don't lie below the root folder,
+/// and loops along references. Faults of all files are answered, but of loops one. A file that doesn't lie below the
+/// root folder that is asked for is not read.
 pub fn read_sources<F: Files>(
     alloc: Global,
     files: &F,

@@ -16,13 +16,13 @@ use thiserror::Error;
 /// Why a reference names no file.
 #[derive(Clone, Copy, Debug, PartialEq, Eq, Error)]
 pub enum ReferenceFault {
-    /// It is empty.
+    /// The reference is empty.
     #[error("the reference is empty")]
     Empty,
-    /// It has a query.
+    /// The reference has a query.
     #[error("the reference has a query")]
     Query,
-    /// It has a fragment.
+    /// The reference has a fragment.
     #[error("the reference has a fragment")]
     Fragment,
     /// A `%` begins no escape.
@@ -34,16 +34,16 @@ pub enum ReferenceFault {
     /// The bytes of the escapes are no UTF-8.
     #[error("the escapes are not UTF-8")]
     Encoding,
-    /// It names a host.
+    /// The reference stands for a `file` URI that names a host.
     #[error("the reference names a host")]
     Host,
-    /// It has a scheme other than `file`, and no map has a prefix of it.
+    /// The URI has a scheme other than `file`, and no map has a prefix of the URI.
     #[error("no map says where the URI lies")]
     Scheme,
-    /// It has the scheme `file` and no path from `/` on.
+    /// The URI has the scheme `file` and no path from `/` on.
     #[error("the path of a file URI begins with /")]
     Relative,
-    /// A `..` of it leads above the root of the path.
+    /// A `..` of the reference leads above the root of the path.
     #[error("`..` leads above the topmost folder")]
     Above,
     /// A request for memory was refused.
@@ -58,7 +58,8 @@ pub fn no_memory(_: AllocError) -> ReferenceFault
     ReferenceFault::Memory
 }
 
-/// The folder of the base's path: all segments but the last. Of a base with an authority and an empty path it is the root.
+/// The folder of the base's path: all segments but the last. Of a base with an authority and an empty path it is the
+/// root.
 fn folder_of<'p>(alloc: Global, base: &SplitUri<'p>) -> Result<Vec<&'p str>, AllocError>
     ensures { IfOk result (λ v. map (λ s. s.now) v.items ≡ uris.folder_of (parts_view base.now)) }
 {
@@ -192,10 +193,10 @@ fn leads_above(alloc: Global, base: &str, reference: &str) -> Result<bool, Alloc
 }
 
 /// The URI that a reference stands for in a file that has the URI `base`. What no URI holds is escaped first (XLink,
-/// section 5.4), as RELAX NG says (4.5).
+/// section 5.4), as RELAX NG says (RELAX NG 2001, 4.5).
 ///
-/// Refused are a reference that is empty, one with a fragment, one with a query, and one with a `%` that begins no escape, the
-/// first of these. Else the only error is `Memory`.
+/// Refused are a reference that is empty, one with a fragment, one with a query, and one with a `%` that begins no
+/// escape, the first of these. Else the only error is `Memory`.
 pub fn resolve(alloc: Global, base: &str, reference: &str) -> Result<String, ReferenceFault>
     ensures fault { IfSome (fault_of reference.now) (λ fault. result ≡ Err fault) }
     ensures uri { IfOk result (λ uri. string_bytes uri ≡ resolved_uri base.now reference.now) }
@@ -208,7 +209,8 @@ pub fn resolve(alloc: Global, base: &str, reference: &str) -> Result<String, Ref
     }
 }
 
-/// The URI that a reference in a file stands for, as `resolve` says. `Above` where a `..` leads above the root of its path.
+/// The URI that a reference in a file stands for, as `resolve` says. `Above` where a `..` leads above the root of its
+/// path.
 pub fn resolve_below(alloc: Global, base: &str, reference: &str) -> Result<String, ReferenceFault>
     ensures fault { IfSome (fault_of reference.now) (λ fault. result ≡ Err fault) }
     ensures uri { IfOk result (λ uri. StandsFor base.now reference.now (string_bytes uri)) }

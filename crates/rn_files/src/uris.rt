@@ -11,11 +11,11 @@ use std::alloc::{AllocError, Global};
 /// A URI or a reference, cut into its parts (RFC 3986); it has neither a query nor a fragment.
 #[derive(Clone, Copy)]
 pub struct SplitUri<'a> {
-    /// What stands before the colon (3.1).
+    /// What stands before the colon (RFC 3986, section 3.1).
     pub scheme: Option<&'a str>,
-    /// What stands between two slashes and the next one (3.2); it may be empty.
+    /// What stands between two slashes and the next one (RFC 3986, section 3.2); it may be empty.
     pub authority: Option<&'a str>,
-    /// The path: what is left behind the other parts (3.3).
+    /// The path: what is left behind the scheme and the authority (RFC 3986, section 3.3).
     pub path: &'a str,
 }
 

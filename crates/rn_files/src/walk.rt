@@ -26,13 +26,13 @@ pub enum FoundBy {
 /// A file to which a word or a reference led; it may not be read yet.
 #[derive(Drop)]
 pub struct FoundFile {
-    /// Its real path, or `-`.
+    /// The real path of the file, or `-` for standard input.
     pub path: String,
     /// The file as it is told to people.
     pub shown: String,
-    /// What its references are resolved against.
+    /// The URI that the file's references are resolved against (RFC 3986, section 5.1).
     pub uri: String,
-    /// How it was found.
+    /// How the file was found.
     pub by: FoundBy,
 }
 
@@ -41,7 +41,7 @@ pub struct FoundFile {
 pub struct Entry {
     /// The file.
     pub found: FoundFile,
-    /// Where it was named first.
+    /// Where the file was named first.
     pub place: FaultPlace,
 }
 
@@ -61,11 +61,11 @@ pub struct Followed {
 /// The files that were found so far.
 #[derive(Drop)]
 pub struct Walk {
-    /// In the order in which they were found.
+    /// The files, in the order in which they were found.
     pub entries: Vec<Entry>,
     /// Of each path, the number of its file.
     pub numbers: BTreeMap<String, usize>,
-    /// What is wrong, as it was found.
+    /// The faults, in the order in which they were found.
     pub faults: Vec<SourceFault>,
 }
 

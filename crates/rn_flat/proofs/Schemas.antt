@@ -1,4 +1,4 @@
--- The schema of these modules is one of a set of modules.
+-- The text that is the schema of given modules is the schema of some set of modules.
 use Rattle.std.proofs.Common.{ℕ, List, Result, Ok, Err, IfOk}
 use Rattle.rn_lift.specs.declared.lifted.LiftedModule.{LiftedModule}
 use Rattle.rn_flat.specs.JobResults.{IsFlatSchema, IsFlatSchemaOf}

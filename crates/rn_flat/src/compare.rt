@@ -1,4 +1,4 @@
-// Whether bytes are those that are wanted.
+// Where a file differs from the schema, and the fault that says so.
 ghost use Rattle.std.specs.Prelude.{◌≡◌, MatchOption, OnOk};
 ghost use Rattle.rn_flat.specs.Comparisons.{DifferFirst};
 
@@ -10,7 +10,8 @@ use std::alloc::{AllocError, Global};
 /// The most bytes of a character.
 const LONGEST: usize = 4;
 
-/// The first byte at which two texts differ, if they do: the end of the shorter one, where it is the front of the other.
+/// The first byte at which two texts differ, if they do: the end of the shorter one, where it is the front of the
+/// other.
 pub fn first_difference(found: &[u8], wanted: &[u8]) -> Option<usize>
     ensures { MatchOption result (found.now ≡ wanted.now) (DifferFirst found.now wanted.now) }
 {
@@ -27,8 +28,8 @@ pub fn first_difference(found: &[u8], wanted: &[u8]) -> Option<usize>
     }
 }
 
-/// Refuses a file that has other bytes than the schema: the fault tells where the first difference is and what the schema
-/// has there, or why the file can't be read, or that memory ran out.
+/// Refuses a file that has other bytes than the schema: the fault tells where the first difference is and what the
+/// schema has there, or why the file can't be read, or that memory ran out.
 pub fn check_file<F: Files>(
     alloc: Global,
     files: &F,

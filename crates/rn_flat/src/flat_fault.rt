@@ -53,8 +53,8 @@ pub fn fault_lines(fault: &FlatFault) -> &str {
     }
 }
 
-/// The status with which the program ends after a fault: 1 where the schema is refused or differs, 2 for the words, 3 for
-/// files, the output and want of memory.
+/// The status with which the program ends after a fault: 1 where the schema is refused or differs, 2 for the words, 3
+/// for files, the output and want of memory.
 pub fn status(fault: &FlatFault) -> u8
     ensures { result ≡ status fault.now }
 {

@@ -1,4 +1,4 @@
-// What the program does.
+// The work of the program: files are read and lifted, and what is asked for is made, and written or compared.
 ghost use Rattle.std.specs.Prelude.{◌≡◌, false, map, IfOk};
 ghost use Rattle.rn_simplify.specs.Verdict.{prints, IsVerdict};
 ghost use Rattle.rn_flat.specs.FlatFaults.{LeavesOutput};
@@ -22,12 +22,13 @@ use rn_plan::{LiftFaultKind, Lifting};
 use rn_tell::{Colours, Messages, lift_messages, refusal_messages, set_message, source_pages};
 use std::alloc::{AllocError, Global};
 
-/// Reads the files of a job with all that they reach, makes what is asked for, and writes or compares it. Nothing is written
-/// where there is a fault. `Refused` where the files are no schema, or the file that is checked is not the schema; `Unread`
-/// where a file can't be read; `Unwritten` where the output failed: a file is then as it was, standard output took a front.
+/// Reads the files of a job with all that they reach, makes what is asked for, and writes or compares it. Nothing is
+/// written where there is a fault. `Refused` where the files are no schema, or the file that is checked is not the
+/// schema; `Unread` where a file can't be read; `Unwritten` where the output failed: a file is then as it was, standard
+/// output took a front.
 ///
-/// A bundle is refused only where files can't be read or lifted or their modules are no set; a list, only for reading and
-/// lifting; a graph, only for reading. Whether their modules have a schema is not looked at.
+/// A bundle is refused only where files can't be read or lifted or their modules are no set; a list, only for reading
+/// and lifting; a graph, only for reading. Whether their modules have a schema is not looked at.
 pub fn perform<F: Files, S: Outputs, W: Sink>(
     alloc: Global,
     files: &F,

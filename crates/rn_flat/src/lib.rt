@@ -1,7 +1,8 @@
 //! From files to one flat schema: the work of the program `rnc-flat`.
 //!
-//! [`read_words`] says what words ask for, and [`perform`] does it: it reads the files with all that they reach, lifts them to modules, and writes or
-//! compares the schema of their set. The text that it writes is the one that `rn_merge::merge` answers, and where there is none it writes nothing.
+//! [`read_words`] says what words ask for, and [`perform`] does it: it reads the files with all that they reach, lifts
+//! them to modules, and writes or compares the schema of their set. The text that it writes is the one that
+//! `rn_merge::merge` answers, and where there is none it writes nothing.
 #![tactic(auto)]
 
 pub mod compare;

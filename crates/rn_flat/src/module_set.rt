@@ -16,7 +16,7 @@ pub const REVISION: u64 = 1;
 pub struct ModuleFault {
     /// The number of the module that can't be added.
     pub module: usize,
-    /// Why it can't.
+    /// Why the module can't be added.
     pub fault: AddFault,
 }
 

@@ -1,4 +1,4 @@
-// Where a product goes.
+// Where a product goes: a file, or standard output.
 ghost use Rattle.std.specs.Prelude.{◌≡◌, ℕ, List, OnErr, OnOk, false};
 ghost use Rattle.rn_flat.specs.Deliveries.{IsWritten};
 ghost use Rattle.rn_flat.specs.inside.Outputs.{IsUnwritten};

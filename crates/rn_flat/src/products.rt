@@ -1,4 +1,4 @@
-// What is made of the modules and the files besides the schema.
+// What is made of the modules and the files besides the schema and the bundle: the list and the graph.
 use rn_files::SourceFile;
 use rn_lift::{Lifted, LiftedModule};
 use rn_outline::PartKind;

@@ -74,7 +74,7 @@ pub enum Words {
 /// Why the words ask for nothing.
 #[derive(Debug, Drop, PartialEq, Eq)]
 pub enum WordsFault {
-    /// They can't be understood, and this says why.
+    /// The words can't be understood; the text says why.
     Usage(String),
     /// A request for memory was refused.
     Memory,
@@ -102,9 +102,9 @@ impl From<AllocError> for WordsFault {
     }
 }
 
-/// What the words behind the program's name ask for. No file is read. `Usage` where an option is unknown, lacks its value,
-/// is given twice or contradicts another, where no file is named, where a map is not `PREFIX=FOLDER`, or where standard
-/// input would be read twice.
+/// What the words behind the program's name ask for. No file is read. `Usage` where an option is unknown, lacks its
+/// value, is given twice or contradicts another, where no file is named, where a map is not `PREFIX=FOLDER`, or where
+/// standard input would be read twice.
 pub fn read_words(alloc: Global, words: &[String]) -> Result<Words, WordsFault> {
     match program(alloc)?.try_get_matches_from(words) {
         Ok(matches) => asked_words(alloc, &matches),

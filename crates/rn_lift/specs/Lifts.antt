@@ -1,4 +1,4 @@
--- The modules that files are lifted to.
+-- The text of a module that brings in a scope, and modules in the order of their names.
 use Rattle.std.specs.Prelude.{◌≡◌, ℕ, ⊤, List, [], ◌∷◌, ◌++◌, IfSome, codes, slice_get, string_bytes}
 use Rattle.std.specs.declared.cmp.Ordering.TheVariants.{Less}
 use Rattle.rn_text.specs.Texts.{text_cmp}

@@ -1,4 +1,4 @@
-// AddedPrefixes of datatypes that come from another file.
+// Prefixes that a module gets for the libraries of datatypes that come from another file.
 
 use rn_outline::unquoted_name;
 use rn_plan::{Given, Taken, Units};

@@ -39,8 +39,8 @@ pub(crate) fn edits_of(
     Ok(edits)
 }
 
-/// What is put in the place of parts of a file, or of their names, where the unit is the file's own grammar: all parts are
-/// looked through.
+/// What is put in the place of parts of a file, or of their names, where the unit is the file's own grammar: all parts
+/// are looked through.
 fn edits_of_file(
     alloc: Global,
     view: &PlaceView<'_, '_>,

@@ -10,8 +10,8 @@ use rn_plan::{LiftFault, LiftFaultKind, Plan, Unit, Units};
 use std::alloc::{AllocError, Global};
 use std::collections::BTreeSet;
 
-/// How many bytes all texts in excepts may have together: as many as a printed text and a module's text may have, `MAX_TEXT`
-/// of rn_modset, on which this crate does not stand.
+/// How many bytes all texts in excepts may have together: as many as a printed text and a module's text may have,
+/// `MAX_TEXT` of rn_modset, on which this crate does not stand.
 pub const MAX_EXCEPTS: usize = 4_194_304;
 
 /// What stands in the place of the references in excepts of a place, and the declarations that it needs.

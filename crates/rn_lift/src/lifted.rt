@@ -13,7 +13,7 @@ pub struct Piece {
     pub from: usize,
     /// The number of the file.
     pub file: usize,
-    /// The byte of that file's text.
+    /// The byte of the file's text: the first one of the piece, or where that stands for which the bytes were made.
     pub at: usize,
     /// Whether the bytes are those of the file, and not made for what stands at `at`.
     pub is_source: bool,
@@ -46,9 +46,9 @@ pub struct LiftedModule {
 /// What files were lifted to.
 #[derive(Debug, Drop)]
 pub struct Lifted {
-    /// In the order of their names, which are distinct.
+    /// The modules, in the order of their names, which are distinct.
     pub modules: Vec<LiftedModule>,
-    /// What stands before the first dot of the names of their own.
+    /// The stems that were made: what stands before the first dot of a name that no file writes.
     pub(crate) made_stems: BTreeSet<String>,
     /// What stands behind the first dot of the name of a start.
     pub(crate) start: String,
@@ -83,8 +83,8 @@ fn byte_in(piece: Piece, at: usize) -> Option<usize>
 }
 
 impl LiftedModule {
-    /// Where a byte of the text comes from: the number of a file, and a byte of it. For what was made this is the place that it
-    /// was made for. The end of the text has an origin too.
+    /// Where a byte of the text comes from: the number of a file, and a byte of it. For what was made this is the place
+    /// that it was made for. The end of the text has an origin too.
     pub fn origin(&self, at: usize) -> Option<(usize, usize)>
         ensures some { IfSome result (IsOrigin self.now.pieces.items at) }
         ensures none { IfNone result ((string_len self.now.text < at)
@@ -99,8 +99,8 @@ impl LiftedModule {
 }
 
 impl Lifted {
-    /// What the files call what has this name in the modules: without what stands before its first dot and the dot, if it is a
-    /// name of its own; `start` for the start of a grammar of its own. Any other name as it is.
+    /// What the files call what has this name in the modules: without what stands before its first dot and the dot, if
+    /// it is a name of its own; `start` for the start of a grammar of its own. Any other name as it is.
     pub fn written_name<'a>(&self, name: &'a str) -> &'a str {
         let Some((stem, rest)) = name.split_once('.') else {
             return name;

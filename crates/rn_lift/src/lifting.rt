@@ -1,4 +1,4 @@
-// From files to modules.
+// From files to modules: those of the places of a plan, and those that bring in its scopes.
 ghost use Rattle.std.specs.Prelude.{◌≡◌, ◌<◌, ◌⊎◌, ℕ, All, Contains, IfOk, IsPermutation, IsTrue, None, OnOk, drop, string_bytes, vec_len};
 ghost use Rattle.rn_lift.specs.Lifts.{AreRising, bringing_bytes};
 ghost use Rattle.rn_lift.specs.LiftedModules.{AreMadeOfFiles, BringsIn, KeepsText};

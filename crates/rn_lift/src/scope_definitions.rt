@@ -36,8 +36,8 @@ pub(crate) struct Definition {
 
 #[derive(Drop)]
 pub(crate) struct Definitions {
-    /// The definitions of each name, in the order of places and parts; once the overridden ones are dropped, in the order of a
-    /// walk.
+    /// The definitions of each name, in the order of places and parts; once the overridden ones are dropped, in the
+    /// order of a walk.
     rows: BTreeMap<ScopedName, Vec<Definition>>,
     /// The names of which overridden definitions are not dropped yet.
     overridden: BTreeSet<ScopedName>,

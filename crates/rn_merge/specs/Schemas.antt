@@ -16,7 +16,7 @@ use Rattle.rn_simplify.specs.Verdict.{IsVerdict, prints}
 abbrev pub DefinesPlainlyOnce : List Member → Type 0
 DefinesPlainlyOnce s = (modules : List NamedModule) → AreModules s modules → (k : Key) → ¬ IsPlainTwice k (set_components modules)
 
--- no name is combined by both methods in the modules of the set (4.17)
+-- no name is combined by both methods in the modules of the set (RELAX NG 2001, 4.17)
 abbrev pub CombinesByOneMethod : List Member → Type 0
 CombinesByOneMethod s = (modules : List NamedModule) → AreModules s modules → (k : Key) → ¬ IsMixed k (set_components modules)
 

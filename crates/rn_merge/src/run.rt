@@ -28,7 +28,7 @@ pub enum RunFault {
     Bundle {
         /// How many bundles come before it.
         index: usize,
-        /// Why its bytes are no bundle.
+        /// Why the bytes are no bundle.
         fault: BundleFault,
     },
     /// The union has more than [`rn_modset::MAX_CONTRIBUTIONS`] contributions.

@@ -1,4 +1,4 @@
-// Where bytes come from and go to.
+// Sources that bytes are pulled from, sinks that they are pushed to, and reading and writing all bytes of one.
 ghost use Rattle.std.specs.Prelude.{◌≡◌, ◌≤◌, ◌<◌, ◌||◌, ℕ, Bool, true, false, List, length, Option, None, IfOk, IfErr, OnOk, OnErr, is_err, vec_len};
 ghost use Rattle.std.specs.Io.KnownBytes.{WriteAppends, ReadConsumes, Consumes, Appends, IsAtEnd};
 ghost use Rattle.rn_merge.specs.Streams.{AppendsFront, IsReadFault, ends_input, refuses_piece};

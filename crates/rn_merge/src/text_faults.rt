@@ -11,7 +11,7 @@ use thiserror::Error;
 /// first place: `at` counts bytes from the start of the text.
 #[derive(Debug, Drop, PartialEq, Eq, Error)]
 pub enum Place {
-    /// The length of the longest front that is UTF-8.
+    /// The text is not UTF-8: the length of the longest front that is.
     #[error("Encoding {at}")]
     Encoding { at: usize },
     /// The first character that XML does not allow; else where no token, white space or comment can

@@ -1,4 +1,4 @@
-// From a set to its text.
+// From a set of modules to its flat schema, or to the refusal that is its verdict.
 ghost use Rattle.std.specs.Prelude.{IfOk, IfErr, string_bytes};
 ghost use Rattle.rn_simplify.specs.ReadAgain.{IsReadAgain};
 ghost use Rattle.rn_merge.specs.Schemas.{DefinesPlainlyOnce, CombinesByOneMethod, IsPrintedAgain, IsPrintedAlone, IsUnrefused, RefusesFirst};

@@ -1,4 +1,4 @@
--- Sets of names.
+-- Sets of names, and one name more in them.
 use Rattle.std.specs.Prelude.{◌≡◌, ℕ, true, if◌then◌else◌, List, bytes_eq, String}
 use Rattle.std.specs.BTreeSet.{BTreeSet, contains_text}
 use Rattle.std.specs.declared.alloc.Global.{Global}

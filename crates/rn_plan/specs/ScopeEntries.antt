@@ -1,4 +1,4 @@
--- Places of a plan.
+-- The names of the modules of places: of any place, and of the first place of a scope.
 use Rattle.std.specs.Prelude.{ℕ, List, [], Option, Some, None, slice_get, string_bytes}
 use Rattle.rn_plan.specs.declared.scopes.PlacedUnit.{PlacedUnit}
 use Rattle.rn_plan.specs.declared.scopes.Plan.{Plan}

@@ -1,4 +1,4 @@
--- The files of units.
+-- The files of units, and which file each part of a file names.
 use Rattle.std.specs.Prelude.{◌≡◌, ℕ, List, Option, None, map, slice_get, unwrap_or}
 use Rattle.rn_outline.specs.Links.{targets_of}
 use Rattle.rn_plan.specs.declared.given.Given.{Given}

@@ -10,9 +10,9 @@ use std::alloc::{AllocError, Global};
 /// A file that is to be lifted.
 #[derive(Clone, Copy)]
 pub struct Lifting<'a> {
-    /// The name of its module.
+    /// The name of the file's module.
     pub name: &'a str,
-    /// Its bytes are what spans of the outline count.
+    /// The text of the file; spans of the outline count its bytes.
     pub text: &'a str,
     /// The outline of the text, from [`rn_outline::read_outline`].
     pub outline: &'a Outline,
@@ -24,7 +24,7 @@ pub struct Lifting<'a> {
 /// A file, with what its declarations bind and the number of its first unit.
 #[derive(Drop)]
 pub struct Given<'a> {
-    /// As it was given.
+    /// The file, as it was given.
     pub file: Lifting<'a>,
     /// For each part of the outline, the number of the file that it names, if it names one.
     pub targets: Vec<Option<usize>>,

@@ -11,7 +11,7 @@ use thiserror::Error;
 pub struct LiftFault {
     /// The number of the file among those that are lifted.
     pub file: usize,
-    /// The byte of its text.
+    /// The byte of the file's text, counted from its start.
     pub at: usize,
     /// What is wrong there. With `Many`, `Unsound` and `Memory` the file and the byte mean nothing.
     pub kind: LiftFaultKind,
@@ -23,10 +23,10 @@ pub enum LiftFaultKind {
     /// An include names a file that is a pattern and no grammar (RELAX NG 2001, 4.7).
     #[error("a file that is a pattern can't be included")]
     IncludedPattern,
-    /// `parent` outside a grammar that is in another one (4.18).
+    /// `parent` outside a grammar that is in another one (RELAX NG 2001, 4.18).
     #[error("no grammar is around this one")]
     NoParent,
-    /// A reference in an except stands for more than data, values and choices of them (7.1.4), or
+    /// A reference in an except stands for more than data, values and choices of them (RELAX NG 2001, 7.1.4), or
     /// comes back to itself there.
     #[error("what this stands for can't be excepted")]
     ExceptReference,
@@ -37,7 +37,7 @@ pub enum LiftFaultKind {
     /// An external or an include to which no file is given.
     #[error("no file is given for this")]
     NoFile,
-    /// A reference to a name without a definition (4.18): one in an except, or in a definition that
+    /// A reference to a name without a definition (RELAX NG 2001, 4.18): one in an except, or in a definition that
     /// one in an except stands for. The place is that of the reference to this name.
     #[error("nothing defines this")]
     Undefined,

@@ -18,8 +18,9 @@ pub(crate) fn marked_nodes(alloc: Global, marks: &[bool]) -> Result<Vec<usize>, 
     Ok(marked)
 }
 
-/// The marks, and all nodes that rows lead to from those that wait, which are marked. A number in a row that is no node is
-/// passed over: `reached_nodes` of rn_pattern asks for a proof that there is none, which units of any outlines don't give.
+/// The marks, and all nodes that rows lead to from those that wait, which are marked. A number in a row that is no node
+/// is passed over: `reached_nodes` of rn_pattern asks for a proof that there is none, which units of any outlines don't
+/// give.
 pub(crate) fn spread(
     mut marks: Vec<bool>,
     mut waiting: Vec<usize>,

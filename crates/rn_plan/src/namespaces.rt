@@ -55,8 +55,8 @@ impl Namespaces {
         }
     }
 
-    /// The namespace that an external or an include of a file hands on (RELAX NG 2001, 4.8), where this one is handed to the
-    /// file: that of the prefix behind `inherit =`, or the default one. `None` where nothing binds the prefix.
+    /// The namespace that an external or an include of a file hands on (RELAX NG 2001, 4.8), where this one is handed
+    /// to the file: that of the prefix behind `inherit =`, or the default one. `None` where nothing binds the prefix.
     pub(crate) fn handed_namespace(
         &mut self,
         alloc: Global,

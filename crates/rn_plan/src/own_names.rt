@@ -56,7 +56,8 @@ impl Taken {
         Ok(true)
     }
 
-    /// Takes the first free one of a name, the name with `-2` behind it, with `-3` and so on. Refused only for want of memory.
+    /// Takes the first free one of a name, the name with `-2` behind it, with `-3` and so on. Refused only for want of
+    /// memory.
     pub fn fresh_name(&mut self, alloc: Global, name: &str) -> Result<String, AllocError>
         ensures free { IfOk result (λ r. contains_text self.old.names (string_bytes r) ≡ false) }
         ensures takes { IfOk result (λ r. Takes (string_bytes r) self.old.names self.new.names) }
@@ -67,7 +68,8 @@ impl Taken {
         Ok(made)
     }
 
-    /// The first free one of a name, the name with `-2` behind it, with `-3` and so on, and its number: 1 for the name itself.
+    /// The first free one of a name, the name with `-2` behind it, with `-3` and so on, and its number: 1 for the name
+    /// itself.
     fn first_free_name(&self, alloc: Global, name: &str) -> Result<(String, u64), AllocError>
         ensures { IfOk result (λ r. contains_text self.now.names (string_bytes r.0) ≡ false) }
     {
@@ -90,7 +92,8 @@ fn last_segment(path: &str) -> &str {
     }
 }
 
-/// The stem of a file's name: its last segment without `.rnc`, made a name without dots, at most [`STEM_LIMIT`] characters of it.
+/// The stem of a file's name: its last segment without `.rnc`, made a name without dots, at most [`STEM_LIMIT`]
+/// characters of it.
 fn stem_of(alloc: Global, path: &str) -> Result<String, AllocError> {
     let last = last_segment(path);
     let name = last.strip_suffix(".rnc").unwrap_or(last);
@@ -220,8 +223,8 @@ impl Names {
         Ok(stem)
     }
 
-    /// A name for the module of a unit in the scope of a stem: the file's own, if it is still free and the scope that of the
-    /// roots.
+    /// A name for the module of a unit in the scope of a stem: the file's own, if it is still free and the scope that
+    /// of the roots.
     pub(crate) fn module(
         &mut self,
         alloc: Global,

@@ -1,4 +1,4 @@
-// Which modules there will be.
+// From the roots to a plan: the scopes and places that they make, and the links between them (RELAX NG 2001, 4.6, 4.7).
 ghost use Rattle.std.specs.Prelude.{IfOk, string_bytes};
 ghost use Rattle.rn_plan.specs.UnitFiles.{files_of};
 ghost use Rattle.rn_plan.specs.FreeNames.{AreFree};
@@ -341,8 +341,8 @@ impl Plan {
         })
     }
 
-    /// The place of a unit in a scope: one for each namespace that is handed to it, where it needs that. `Many`, where it
-    /// would be one more than [`MAX_PLACES`].
+    /// The place of a unit in a scope: one for each namespace that is handed to it, where it needs that. `Many`, where
+    /// it would be one more than [`MAX_PLACES`].
     fn place(
         &mut self,
         alloc: Global,

@@ -13,19 +13,19 @@ pub const ROOT: usize = 0;
 /// A grammar in its surroundings, or a pattern that is a file.
 #[derive(Drop)]
 pub struct Scope {
-    /// What stands before the dot of its names; nothing, for the roots.
+    /// What stands before the dot of the scope's names; nothing, for the roots.
     pub stem: String,
     /// The number of the scope that references mean: itself, for a grammar; that around it, for a pattern.
     pub reference_scope: usize,
     /// The number of the scope that references behind `parent` mean.
     pub parent: Option<usize>,
-    /// The number of the namespace that is handed to it.
+    /// The number of the namespace that is handed to the scope.
     pub(crate) namespace: usize,
-    /// The number of its first place, which brings in the others.
+    /// The number of the scope's first place, which brings in the others.
     pub entry: usize,
-    /// The name of the module that brings it in; nothing, for the roots.
+    /// The name of the module that brings the scope in; nothing, for the roots.
     pub module: String,
-    /// The number of the file whose external or nested grammar it was made for.
+    /// The number of the file whose external or nested grammar the scope was made for.
     pub file: usize,
     /// The byte of that file's text where the external or the grammar begins.
     pub at: usize,
@@ -38,7 +38,7 @@ pub struct PlacedUnit {
     pub unit: usize,
     /// The number of the scope.
     pub scope: usize,
-    /// The namespace that is handed to it; 0, where it does not need it.
+    /// The number of the namespace that is handed to the unit; 0, where the unit does not need it.
     pub(crate) namespace: usize,
     /// The name of the module.
     pub module: String,
@@ -72,9 +72,9 @@ pub(crate) struct PlacedUnitKey {
 /// Which modules files become, and what leads where.
 #[derive(Drop)]
 pub struct Plan {
-    /// The first is that of the roots.
+    /// The scopes, of which the first is that of the roots.
     pub scopes: Vec<Scope>,
-    /// In the order in which they were reached from the roots.
+    /// The places, in the order in which they were reached from the roots.
     pub places: Vec<PlacedUnit>,
     /// The places of the roots.
     pub roots: Vec<usize>,
@@ -127,7 +127,7 @@ impl Plan {
         }
     }
 
-    /// The scope in which a part of a place means a name, or the start.
+    /// The number of the scope in which a part of a place means a name, or the start.
     pub fn scope_meant(&self, place: usize, part: usize, kind: &PartKind) -> Option<usize> {
         let scope = self.places.get(place)?.scope;
         match kind {
@@ -138,7 +138,7 @@ impl Plan {
         }
     }
 
-    /// What a part of a place leads to.
+    /// The number of the place or the scope that a part of a place leads to; `None` where it leads to none.
     pub fn leads_to(&self, place: usize, part: usize) -> Option<usize> {
         let links = self.places.get(place)?.links.as_slice();
         let number = links.binary_search_by(|link| link.part.cmp(&part)).ok()?;

@@ -15,14 +15,14 @@ pub struct Unit {
     pub file: usize,
     /// The number of the grammar in the file's outline; 0 is the file's own.
     pub grammar: usize,
-    /// The numbers of its parts, in the order of the outline.
+    /// The numbers of the unit's parts, in the order of the outline.
     pub parts: Vec<usize>,
     /// What stands in the unit: the file behind its declarations, or what is between the braces.
     pub inside: Span,
-    /// Whether what it becomes depends on the namespace that is handed to it: it has externals or
+    /// Whether what the unit becomes depends on the namespace that is handed to it: it has externals or
     /// nested grammars, or includes what has.
     pub(crate) needs_namespace: bool,
-    /// Whether it says `parent`, or includes or places what does.
+    /// Whether the unit says `parent`, or includes or places what does.
     pub(crate) says_parent: bool,
 }
 

@@ -10,7 +10,7 @@ use crate::shapes::{Shape, shape_of_class};
 use crate::writer::Writer;
 use rn_pattern::NameClass;
 
-/// Writes a name class.
+/// Writes a name class, without parentheses round the whole.
 #[cycle(name_class)]
 pub(crate) fn write_class(writer: &mut Writer, prefixes: &Prefixes, class: &NameClass)
     ensures { Writes (written_name (prefixes_view prefixes.now)

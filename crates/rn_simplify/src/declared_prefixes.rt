@@ -45,7 +45,8 @@ fn seed_of(texts: &BTreeSet<String>) -> Seed {
     Seed::of(&digest.finalize())
 }
 
-/// The most texts that are looked through one by one: of two texts mostly the lengths differ, while a hash takes all bytes.
+/// The most texts that are looked through one by one: of two texts mostly the lengths differ, while a hash takes all
+/// bytes.
 const FEW_TEXTS: usize = 64;
 
 /// The place of a text, counted from 1; the number of the texts if it isn't there.
@@ -79,7 +80,7 @@ fn place_among(texts: &[String], text: &str) -> usize
 pub(crate) struct Prefixes {
     pub(crate) namespaces: IndexSet<String, Seed>,
     pub(crate) libraries: IndexSet<String, Seed>,
-    /// The empty namespace has the prefix `n0`.
+    /// Whether the empty namespace has a prefix, which is `n0`: it has one where an nsName needs it.
     pub(crate) empty_namespace: bool,
 }
 

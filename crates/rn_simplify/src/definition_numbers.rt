@@ -6,8 +6,8 @@ ghost use Rattle.rn_simplify.specs.inside.DefinitionNumbers.{number_of};
 use crate::settling::name_of;
 use rn_assemble::Definitions;
 
-/// The most numbers that are looked through one by one: of two names mostly the lengths or the last bytes differ, while a
-/// hash takes all bytes.
+/// The most numbers that are looked through one by one: of two names mostly the lengths or the last bytes differ, while
+/// a hash takes all bytes.
 const FEW_NUMBERS: usize = 8;
 
 /// The number of the definition of a name. The likely numbers are tried first, if they are few.

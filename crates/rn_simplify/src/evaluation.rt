@@ -35,8 +35,8 @@ pub(crate) fn settle_all(
     settle(alloc, grammar, &order.numbers, references)
 }
 
-/// What the references to the definitions become, settled in an order in which each definition comes after those that it
-/// refers to outside elements.
+/// What the references to the definitions become, settled in an order in which each definition comes after those that
+/// it refers to outside elements.
 fn settle<'g>(
     alloc: Global,
     grammar: &'g Grammar,

@@ -1,4 +1,4 @@
-// The kinds of canonical forms: notAllowed and empty take the place of references, others do not (RELAX NG 2001, 4.20 and 4.21).
+// The kinds of canonical forms: notAllowed and empty replace references, others do not (RELAX NG 2001, 4.20 and 4.21).
 ghost use Rattle.std.specs.Prelude.{◌≡◌};
 ghost use Rattle.rn_simplify.specs.inside.FormKinds.{around, both, either};
 

@@ -1,4 +1,4 @@
-// The canonical form of a body, each of whose members is brought into its form once (RELAX NG 2001, 4.17, 4.20 and 4.21).
+// The canonical form of a body, of whose members each is formed once (RELAX NG 2001, 4.17, 4.20 and 4.21).
 ghost use Rattle.std.specs.Prelude.{◌≡◌, ◌<◌, IfOk, length, map, slice_index_or, take};
 ghost use Rattle.rn_pattern.specs.Canonical.{choice_step, interleave_step};
 ghost use Rattle.rn_pattern.specs.Store.{KeepsIds, StandsFor, KnowsAll};
@@ -96,8 +96,8 @@ fn member_ids<P: Patterns>(
     Ok(ids)
 }
 
-/// The id of the canonical form of the member at the index, by the ids of those before it: where it stands there, its id
-/// is taken.
+/// The id of the canonical form of the member at the index, by the ids of those before it: where it stands there, its
+/// id is taken.
 fn id_at<P: Patterns>(
     alloc: Global,
     store: &mut P,

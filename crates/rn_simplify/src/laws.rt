@@ -30,8 +30,9 @@ pub fn spelling_reads_back()
     ensures { (n : Grammar) → IsSpellable n → IsReadBack n }
 {}
 
-/// A grammar whose names are names, whose texts are XML characters and whose datatypes may stand has a canonical grammar
-/// of which the same holds; if that one's text is no longer than a module's may be, it is read back as the canonical grammar, opened.
+/// A grammar whose names are names, whose texts are XML characters and whose datatypes may stand has a canonical
+/// grammar of which the same holds; if that one's text is no longer than a module's may be, it is read back as the
+/// canonical grammar, opened.
 pub fn canonical_texts_are_read_back()
     ensures writable { (G N : Grammar) → IsCanonicalOf G N → HasWritableTexts G
         → HasWritableTexts N }
@@ -41,9 +42,9 @@ pub fn canonical_texts_are_read_back()
         → length (spelling N) ≤ max_text → IsReadBack N }
 {}
 
-/// The canonical grammar of a grammar is valid for exactly its documents, for every table of datatypes (RELAX NG
-/// Specification, sections 4.18 to 4.21 and 6). Dropping what no reference reaches needs no premise; the canonical form
-/// of the patterns needs that an except of a datatype holds data, values and choices of them alone (section 7.1.4).
+/// The canonical grammar of a grammar is valid for exactly its documents, for every table of datatypes (RELAX NG 2001,
+/// 4.18 to 4.21 and 6). Dropping what no reference reaches needs no premise; the canonical form of the patterns needs
+/// that an except of a datatype holds data, values and choices of them alone (RELAX NG 2001, 7.1.4).
 pub fn canonical_grammars_are_valid_alike()
     ensures pruned { (G N : Grammar) → IsCanonicalOf G N → (T : Table) (doc : Item)
         → IsValid (all_canonical G) T doc ↔ IsValid N T doc }
@@ -52,7 +53,8 @@ pub fn canonical_grammars_are_valid_alike()
         → IsValid G T doc ↔ IsValid N T doc }
 {}
 
-/// A grammar with its optional and mixed patterns opened is valid for exactly the same documents (sections 4.13 to 4.15).
+/// A grammar with its optional and mixed patterns opened is valid for exactly the documents of the grammar (RELAX NG
+/// 2001, 4.13 to 4.15).
 pub fn opened_grammars_are_valid_alike()
     ensures { (N : Grammar) (T : Table) (doc : Item) → IsValid N T doc
         ↔ IsValid (opened_grammar N) T doc }
@@ -127,9 +129,9 @@ pub fn one_verdict()
     ensures { (s : List Member) (v w : Verdict) → IsVerdict s v → IsVerdict s w → v ≡ w }
 {}
 
-/// The text that is the verdict of a set is that of its canonical grammar. It has no fault, so it is read back: as a module
-/// that is valid for exactly the documents of the set's definitions, combined in any pairs and any order (section 4.17),
-/// and that has the same canonical grammar and text again.
+/// The text that is the verdict of a set is that of its canonical grammar. It has no fault, so it is read back: as a
+/// module that is valid for exactly the documents of the set's definitions, combined in any pairs and any order (RELAX
+/// NG 2001, 4.17), and that has the same canonical grammar and text again.
 pub fn printed_sets_are_read_back()
     ensures { (s : List Member) (text : Text) → IsVerdict s (prints text) → IsReadAgain s text }
 {}

@@ -1,8 +1,8 @@
 //! The canonical grammar of a grammar, and its text.
 //!
-//! [`normalise`] settles the references whose definitions come to notAllowed or empty, brings each pattern into its canonical form,
-//! and keeps the definitions that are reached from the start.
-//! [`print`] gives the one text of a canonical grammar in the compact syntax.
+//! [`normalise`] settles the references whose definitions come to notAllowed or empty, brings each pattern into its
+//! canonical form, and keeps the definitions that are reached from the start. [`print`] gives the one text of a
+//! canonical grammar in the compact syntax.
 #![tactic(auto)]
 
 mod body_forms;

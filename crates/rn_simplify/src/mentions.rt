@@ -12,12 +12,12 @@ use std::alloc::{AllocError, Global};
 use std::collections::BTreeSet;
 use std::rc::Rc;
 
-/// What a grammar mentions.
+/// The namespaces and the datatype libraries that a grammar mentions, each once.
 #[derive(Drop)]
 pub(crate) struct Mentions {
     pub(crate) namespaces: BTreeSet<String>,
     pub(crate) libraries: BTreeSet<String>,
-    /// An nsName of the empty namespace stands in a name class.
+    /// Whether an nsName of the empty namespace stands in a name class.
     pub(crate) has_empty_ns_name: bool,
 }
 

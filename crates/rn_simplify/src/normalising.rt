@@ -26,9 +26,9 @@ use rn_assemble::Grammar;
 use rn_pattern::{Pattern, Patterns};
 use std::alloc::{AllocError, Global};
 
-/// The canonical grammar of a grammar. Each body's form is made by itself, in a store of its own only where one body stands in
-/// its list twice. It is valid for exactly the same documents, for every table of datatypes (RELAX NG 2001, 4.18 to 4.21 and
-/// 6). The only error is want of memory.
+/// The canonical grammar of a grammar. Each body's form is made by itself, in a store of its own only where one body
+/// stands in its list twice. It is valid for exactly the same documents, for every table of datatypes (RELAX NG 2001,
+/// 4.18 to 4.21 and 6). The only error is want of memory.
 pub fn normalise(alloc: Global, grammar: &Grammar) -> Result<Normal, AllocError>
     ensures canonical { IfOk result
         (λ n. IsCanonicalOf (grammar_view grammar.now) (normal_view n)) }
@@ -39,8 +39,8 @@ pub fn normalise(alloc: Global, grammar: &Grammar) -> Result<Normal, AllocError>
     Ok(normal_of(grammar, parts))
 }
 
-/// The canonical grammar of a grammar, built in `store`, whose earlier ids keep their patterns. After an error they keep
-/// them too, and the store may hold more ids. The only error is want of memory.
+/// The canonical grammar of a grammar, built in `store`, whose earlier ids keep their patterns. After an error they
+/// keep them too, and the store may hold more ids. The only error is want of memory.
 pub fn normalise_in<P: Patterns>(
     alloc: Global,
     grammar: &Grammar,
@@ -110,7 +110,7 @@ fn canonical_parts(alloc: Global, grammar: &Grammar) -> Result<NormalParts, Allo
     Ok((start, defs))
 }
 
-/// The canonical form of a body.
+/// The canonical form of a body, built in the store. The only error is want of memory.
 pub(crate) fn stored_body_form<P: Patterns>(
     alloc: Global,
     store: &mut P,
@@ -127,7 +127,7 @@ pub(crate) fn stored_body_form<P: Patterns>(
     rebuild(alloc, store, form)
 }
 
-/// The canonical forms of the definitions, in their order.
+/// The canonical forms of the definitions, in their order, built in the store.
 fn stored_definition_forms<P: Patterns>(
     alloc: Global,
     store: &mut P,

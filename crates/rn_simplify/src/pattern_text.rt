@@ -12,7 +12,7 @@ use crate::writer::Writer;
 use rn_pattern::{Data, NameClass, Pattern, Value};
 use std::rc::Rc;
 
-/// Writes a pattern.
+/// Writes a pattern, without parentheses round the whole.
 #[cycle(pattern)]
 pub(crate) fn write_pattern(writer: &mut Writer, prefixes: &Prefixes, pattern: &Pattern)
     ensures { Writes (written_tree (prefixes_view prefixes.now)

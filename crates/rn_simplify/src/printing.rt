@@ -17,11 +17,11 @@ use rn_assemble::{Refusal, ShortUris};
 use rn_pattern::Pattern;
 use std::alloc::Global;
 
-/// The one text of a canonical grammar: the declarations of its prefixes, its start, and its definitions in the order of their
-/// names, each on a line of its own. `OutputTooLarge` where the text would have more than [`rn_modset::MAX_TEXT`] bytes, else
-/// `OutputTooDeep` where more than [`rn_syntax::MAX_OPEN`] of its brackets would be open at once; brackets in literals don't
-/// count. A text is read back as the grammar, its `?`, `*` and `mixed` opened (compact syntax, section 2; RELAX NG 2001, 4.13
-/// to 4.15).
+/// The one text of a canonical grammar: the declarations of its prefixes, its start, and its definitions in the order
+/// of their names, each on a line of its own. `OutputTooLarge` where the text would have more than
+/// [`rn_modset::MAX_TEXT`] bytes, else `OutputTooDeep` where more than [`rn_syntax::MAX_OPEN`] of its brackets would be
+/// open at once; brackets in literals don't count. A text is read back as the grammar, its `?`, `*` and `mixed` opened
+/// (compact syntax, section 2; RELAX NG 2001, 4.13 to 4.15).
 pub fn print(alloc: Global, normal: &Normal) -> Result<String, Refusal>
     ensures ok { IfOk result (λ text. IsPrinted (normal_view normal.now) (string_bytes text)) }
     ensures err { IfErr result (IsUnprinted (normal_view normal.now)) }
@@ -30,10 +30,10 @@ pub fn print(alloc: Global, normal: &Normal) -> Result<String, Refusal>
     print_long(alloc, normal, &ShortUris::none(alloc))
 }
 
-/// The one text of the canonical grammar that has URIs where this one has short texts that stand for them: the declarations
-/// of its prefixes are of the URIs (compact syntax, section 2, decl). `OutputTooLarge` where the text would have more than
-/// [`rn_modset::MAX_TEXT`] bytes, with the URIs at their length; else `OutputTooDeep` where more than
-/// [`rn_syntax::MAX_OPEN`] of its brackets would be open at once.
+/// The one text of the canonical grammar that has URIs where this one has short texts that stand for them: the
+/// declarations of its prefixes are of the URIs (compact syntax, section 2, decl). `OutputTooLarge` where the text
+/// would have more than [`rn_modset::MAX_TEXT`] bytes, with the URIs at their length; else `OutputTooDeep` where more
+/// than [`rn_syntax::MAX_OPEN`] of its brackets would be open at once.
 pub fn print_long(alloc: Global, normal: &Normal, uris: &ShortUris) -> Result<String, Refusal>
     requires table { IsTable (short_texts uris.now) }
     requires known { IsOfKnownUris (IsKnown (short_texts uris.now)) (normal_view normal.now) }

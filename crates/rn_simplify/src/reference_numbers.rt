@@ -12,7 +12,8 @@ use rn_pattern::{NodeReferences, Pattern, Reach};
 use std::alloc::{AllocError, Global};
 use std::rc::Rc;
 
-/// The definitions that a pattern which stands outside elements refers to. Names that have no definition are passed over.
+/// The definitions that a pattern which stands outside elements refers to. Names that have no definition are passed
+/// over.
 pub(crate) fn pattern_references(
     alloc: Global,
     definitions: &Definitions,
@@ -32,8 +33,8 @@ pub(crate) fn pattern_references(
     Ok(found)
 }
 
-/// The definitions that a pattern refers to, in elements and outside. The likely numbers are tried first. Names that have no
-/// definition are passed over.
+/// The definitions that a pattern refers to, in elements and outside. The likely numbers are tried first. Names that
+/// have no definition are passed over.
 pub(crate) fn referred_numbers(
     alloc: Global,
     definitions: &Definitions,
@@ -94,8 +95,8 @@ fn add_pattern(
     }
 }
 
-/// Adds the references of the members of a list; those outside elements are noted where `reach` is outside elements too. The
-/// likely numbers are tried first.
+/// Adds the references of the members of a list; those outside elements are noted where `reach` is outside elements
+/// too. The likely numbers are tried first.
 #[cycle(add_pattern)]
 fn add_patterns(
     found: &mut NodeReferences,

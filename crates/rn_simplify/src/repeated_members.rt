@@ -42,8 +42,8 @@ pub(crate) fn distinct_members(
     Ok(found)
 }
 
-/// The body without the members that stand in its list before. `None` where it has no first places, or is no list to which
-/// components are joined.
+/// The body without the members that stand in its list before. `None` where it has no first places, or is no list to
+/// which components are joined.
 pub(crate) fn without_repeats(
     alloc: Global,
     body: &Pattern,

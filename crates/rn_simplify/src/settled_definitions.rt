@@ -12,8 +12,8 @@ pub(crate) struct SettledDefinitions<'g> {
     pub(crate) definitions: &'g Definitions,
     /// The kind of the form of each definition, by its number.
     pub(crate) kinds: Vec<FormKind>,
-    /// The numbers of the definitions that each one refers to, as they were found for the order of settling. No answer rests on
-    /// them.
+    /// The numbers of the definitions that each one refers to, as they were found for the order of settling. No answer
+    /// rests on them.
     pub(crate) references: Rows,
     ghost sized: { length kinds.items ≡ length definitions.now.entries },
 }
@@ -30,8 +30,8 @@ impl SettledDefinitions<'_> {
         }
     }
 
-    /// The kind of the form of the definition of a name. The likely numbers are tried first. The reference to a name without
-    /// a definition stays.
+    /// The kind of the form of the definition of a name. The likely numbers are tried first. The reference to a name
+    /// without a definition stays.
     pub(crate) fn kind_of(&self, likely_numbers: &[usize], name: &str) -> FormKind
         ensures { result ≡ kind_in self.now name.now }
     {

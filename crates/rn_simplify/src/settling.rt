@@ -1,4 +1,4 @@
-// The definitions of a grammar in an order in which each comes after those that it refers to outside elements (RELAX NG 2001, 4.19).
+// The definitions of a grammar, each after those that it refers to outside elements (RELAX NG 2001, 4.19).
 ghost use Rattle.std.specs.Prelude.{◌≡◌, ◌<◌, [], IfOk, length, slice_index_or, string_bytes};
 ghost use Rattle.rn_pattern.specs.Graph.{AllBelow, IsGraph, rows_of};
 ghost use Rattle.rn_pattern.specs.Ranks.{HasNoLoop, IsRanking};
@@ -147,10 +147,10 @@ fn ranks_of(alloc: Global, rows: &Rows) -> Result<Vec<usize>, AllocError>
 /// The order in which definitions can be settled.
 #[derive(Drop)]
 pub(crate) struct SettlingOrder {
-    /// The numbers of the definitions that the start reaches, in this order.
+    /// The numbers of the definitions that the start reaches, in the order in which they can be settled.
     pub(crate) numbers: Vec<usize>,
-    /// The numbers that each of all definitions refers to. They are only where to look first, so no clause speaks of them: a
-    /// wrong row costs time, and no answer rests on it.
+    /// The numbers that each of all definitions refers to. They are only where to look first, so no clause speaks of
+    /// them: a wrong row costs time, and no answer rests on it.
     pub(crate) references: Rows,
 }
 

@@ -1,4 +1,4 @@
-// What needs parentheses where.
+// Which patterns and name classes need parentheses as an operand or before a postfix (compact syntax, section 2).
 ghost use Rattle.std.specs.Prelude.{◌≡◌};
 ghost use Rattle.rn_simplify.specs.Spelling.{Prefixes, written_choice, written_interleave, written_name, written_tree};
 ghost use Rattle.rn_pattern.specs.View.{name_class_view, pattern_view};

@@ -99,8 +99,8 @@ fn leaf_form<P: Patterns>(
     }
 }
 
-/// The id of the canonical form of a list of the members. All parts of it are put in order at once, however deep lists of
-/// its kind are within one another.
+/// The id of the canonical form of a list of the members. All parts of it are put in order at once, however deep lists
+/// of its kind are within one another.
 #[cycle(canonical_form)]
 pub(crate) fn list_form<P: Patterns>(
     alloc: Global,
@@ -142,8 +142,8 @@ fn push_parts<P: Patterns>(
     Ok(())
 }
 
-/// Adds the ids of the canonical forms of the parts that a member of a list is: those of a list of the same kind, of any
-/// other pattern itself.
+/// Adds the ids of the canonical forms of the parts that a member of a list is: those of a list of the same kind, of
+/// any other pattern itself.
 #[cycle(canonical_form)]
 fn push_part<P: Patterns>(
     alloc: Global,

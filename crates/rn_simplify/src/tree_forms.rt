@@ -1,4 +1,4 @@
-// The canonical form of a pattern, made as a tree that shares with the pattern what stays the same (RELAX NG 2001, 4.20 and 4.21).
+// The canonical form of a pattern, as a tree that shares what stays with the pattern (RELAX NG 2001, 4.20 and 4.21).
 ghost use Rattle.std.specs.Prelude.{◌≡◌, ◌++◌, ◌∷◌, [], IfOk, IsSome, IsTrue, OnOk, Some, if◌then◌else◌, map};
 ghost use Rattle.std.specs.Option.{option_map};
 ghost use Rattle.rn_pattern.specs.Canonical as form;
@@ -111,8 +111,8 @@ fn reference_form(
     }
 }
 
-/// The canonical form of a pattern that has no other pattern in it and is no datatype, or `None` where that is the pattern
-/// itself.
+/// The canonical form of a pattern that has no other pattern in it and is no datatype, or `None` where that is the
+/// pattern itself.
 fn leaf_form(
     settled: &SettledDefinitions<'_>,
     likely_numbers: &[usize],
@@ -128,7 +128,8 @@ fn leaf_form(
     }
 }
 
-/// The canonical form of a pattern with a content, or `None` where that is the pattern itself; `made` is that of its content.
+/// The canonical form of a pattern with a content, or `None` where that is the pattern itself; `made` is that of its
+/// content.
 fn form_by_content(
     alloc: Global,
     pattern: &Pattern,
@@ -215,8 +216,8 @@ fn form_over_content(
     }
 }
 
-/// The canonical form of a list of the members. All parts of it are put in order at once, however deep lists of its kind are
-/// within one another.
+/// The canonical form of a list of the members. All parts of it are put in order at once, however deep lists of its
+/// kind are within one another.
 #[cycle(form_of)]
 fn list_form(
     alloc: Global,
@@ -256,8 +257,8 @@ fn push_parts(
     Ok(())
 }
 
-/// Adds the canonical forms of the parts of a list of the same kind, and answers whether the pattern is one. Of any other
-/// pattern, which is a part itself, nothing is added.
+/// Adds the canonical forms of the parts of a list of the same kind, and answers whether the pattern is one. Of any
+/// other pattern, which is a part itself, nothing is added.
 #[cycle(form_of)]
 fn push_inner(
     alloc: Global,

@@ -36,7 +36,7 @@ AreMessageTexts pages colours [] lines = lines ≡ []
 AreMessageTexts pages colours (m ∷ ms) lines = (first others : List ℕ) × IsMessageText pages colours m first
     × AreMessageTexts pages colours ms others × (lines ≡ first ++ others)
 
--- how many faults are not told
+-- the line that says how many faults are not told; nothing where all are told
 abbrev pub note : Colours → ℕ → List ℕ
 note colours count = if nat_lt 0 count then head colours (codes "rnc-flat") Note ++ (codes "there are more faults, which are not told: " ++ (decimal count ++ (10 ∷ []))) else []
 

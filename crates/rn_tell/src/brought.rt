@@ -8,7 +8,8 @@ use std::alloc::{AllocError, Global};
 pub struct Instance {
     /// The number of the module.
     pub module: usize,
-    /// The include that brings it: the number of the instance that has it, and of its part; `None` where nobody includes it.
+    /// The include that brings it: the number of the instance that has it, and of its part; `None` where nobody
+    /// includes it.
     pub by: Option<(usize, usize)>,
 }
 

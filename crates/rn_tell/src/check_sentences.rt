@@ -13,7 +13,7 @@ pub const LEXICAL: &str = "nothing that the compact syntax has begins like this"
 /// The sentence on a request for memory that was refused.
 pub const MEMORY: &str = "out of memory";
 
-/// A sentence that names a limit.
+/// A sentence that names a limit: what stands before it, the number with its digits in groups, and what stands behind.
 pub fn limit_sentence(
     alloc: Global,
     before: &str,
@@ -34,8 +34,8 @@ pub fn fault_byte(place: &Place) -> usize {
     place.kind_and_place().map_or(0, |(_, at)| at)
 }
 
-/// Whether the fault is one of prefixes, datatypes and values. The others are found when a file is read, or are none in the
-/// whole language.
+/// Whether the fault is one of prefixes, datatypes and values. The others are found when a file is read, or are none in
+/// the whole language.
 pub fn is_of_meaning(place: &Place) -> bool {
     matches!(
         place,
@@ -43,7 +43,7 @@ pub fn is_of_meaning(place: &Place) -> bool {
     )
 }
 
-/// What is wrong with a text.
+/// The sentence on the fault of a text.
 pub fn check_sentence(alloc: Global, text: &str, place: &Place) -> Result<String, AllocError> {
     let sentence = match place {
         Place::Syntax { at } => return unexpected_token(alloc, text, *at),

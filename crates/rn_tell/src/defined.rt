@@ -6,29 +6,29 @@ use std::alloc::{AllocError, Global};
 /// A definition that takes part in the schema.
 #[derive(Clone, Copy, Debug, PartialEq, Eq, PartialOrd, Ord)]
 pub struct Defined<'v> {
-    /// Its key, by which definitions are sorted: a name, or nothing for the start.
+    /// The key of the definition, by which definitions are sorted: a name, or nothing for the start.
     pub key: &'v str,
-    /// Its module and its part.
+    /// The module and the part that the definition is.
     pub site: Site,
-    /// Whether it takes part more than once, as its module is included more than once.
+    /// Whether the definition takes part more than once, as its module is included more than once.
     pub is_repeated: bool,
 }
 
 /// The definitions of a key.
 #[derive(Clone, Copy)]
 pub struct Group<'d, 'v> {
-    /// The key.
+    /// The key: a name, or nothing for the start.
     pub key: &'v str,
-    /// Those that take part in the schema; at least one.
+    /// The definitions of the key that take part in the schema; at least one.
     pub definitions: &'d [Defined<'v>],
 }
 
 /// A definition as it comes to the schema with an instance of its module.
 #[derive(Clone, Copy, Debug, PartialEq, Eq, PartialOrd, Ord)]
 pub struct BroughtDefinition {
-    /// The number of the instance of its module.
+    /// The number of the instance of the definition's module.
     pub instance: usize,
-    /// The definition.
+    /// The module and the part that the definition is.
     pub site: Site,
 }
 
@@ -39,12 +39,12 @@ pub struct Use<'v> {
     pub name: &'v str,
     /// The byte of the module's text where the name begins.
     pub at: usize,
-    /// The reference.
+    /// The module and the part that the reference is.
     pub site: Site,
 }
 
-/// The definitions that take part in the schema, in the order of their keys. The numbers are those of the instances of each
-/// module.
+/// The definitions that take part in the schema, in the order of their keys. The numbers are those of the instances of
+/// each module.
 pub fn taking_part<'v>(
     alloc: Global,
     sites: &'v Sites<'_>,

@@ -1,4 +1,4 @@
-// The faults of files, all of them, in the order in which they are told: those without a place, and then in the order of the names
+// All faults of files, in the order in which they are told: those without a place, and then in the order of the names
 // of files and of their texts.
 ghost use Rattle.std.specs.Prelude.{IfOk};
 ghost use Rattle.rn_tell.specs.Messages.{IsFew};
@@ -178,8 +178,8 @@ fn message(
     }
 }
 
-/// What is told of modules whose texts are at fault, in the order of their names: the first one is the one that is refused.
-/// What comes from one place of a file is told once. Nothing where no text is at fault.
+/// What is told of modules whose texts are at fault, in the order of their names: the first one is the one that is
+/// refused. What comes from one place of a file is told once. Nothing where no text is at fault.
 pub fn text_messages(alloc: Global, modules: &[LiftedModule]) -> Result<Messages, AllocError>
     ensures { IfOk result IsFew }
 {

@@ -19,24 +19,24 @@ pub struct Telling<'a> {
     pub pages: &'a [Page<'a>],
     /// The modules.
     pub sites: &'a Sites<'a>,
-    /// How they come to a schema.
+    /// The instances of the modules, as they come to a schema.
     pub instances: &'a [Instance],
-    /// Of each module the numbers of its instances.
+    /// For each module, the numbers of its instances.
     pub own: &'a [Vec<usize>],
-    /// The definitions that take part.
+    /// The definitions that take part in the schema.
     pub defined: &'a [Defined<'a>],
 }
 
 /// What is told of a refusal.
 #[derive(Clone, Copy, Debug, PartialEq, Eq, PartialOrd, Ord)]
 pub struct Finding<'v> {
-    /// Its kind.
+    /// The kind of the refusal.
     pub kind: RefusalKind,
     /// The key or the name, as the file writes it.
     pub name: &'v str,
-    /// Where it is told; `None` where that is not found.
+    /// Where the refusal is told; `None` where that is not found.
     pub here: Option<Site>,
-    /// The other definition or the include that it speaks of, or the first of two includes.
+    /// The other definition or the include that the refusal speaks of, or the first of two includes.
     pub there: Option<Site>,
     /// The other one of two includes by which a definition comes twice.
     pub elsewhere: Option<Site>,
@@ -103,7 +103,8 @@ fn with_include<'v>(telling: &Telling<'_>, finding: Finding<'v>) -> Finding<'v> 
     finding
 }
 
-/// The finding with two definitions by `=`; where they are one that comes twice, with the includes at which its ways part.
+/// The finding with two definitions by `=`; where they are one that comes twice, with the includes at which its ways
+/// part.
 fn with_plain_ones<'v>(
     telling: &Telling<'_>,
     finding: Finding<'v>,

@@ -11,27 +11,27 @@ use std::alloc::{AllocError, Global};
 pub enum RefusalKind {
     /// An include overrides what is not there (RELAX NG 2001, 4.7).
     Override,
-    /// A name is defined twice by `=` (4.17).
+    /// A name is defined twice by `=` (RELAX NG 2001, 4.17).
     PlainTwice,
-    /// A name is combined by both methods (4.17).
+    /// A name is combined by both methods (RELAX NG 2001, 4.17).
     MixedMethods,
-    /// There is no start (4.18).
+    /// There is no start (RELAX NG 2001, 4.18).
     NoStart,
-    /// A name is referred to and not defined (4.18).
+    /// A name is referred to and not defined (RELAX NG 2001, 4.18).
     Undefined,
 }
 
 /// A refusal that was found.
 #[derive(Clone, Copy, Debug, PartialEq, Eq, PartialOrd, Ord)]
 pub struct FurtherRefusal<'v> {
-    /// Its kind.
+    /// The kind of the refusal.
     pub kind: RefusalKind,
     /// Of `Override` the module whose include is at fault, else nothing.
     pub module: &'v str,
     /// The key or the name; nothing for the start.
     pub key: &'v str,
-    /// Of `Override` the first definition that overrides, of `Undefined` the first reference; `None` where there is none, and
-    /// of the other kinds.
+    /// Of `Override` the first definition that overrides, of `Undefined` the first reference; `None` where there is
+    /// none, and of the other kinds.
     pub site: Option<Site>,
 }
 
@@ -67,8 +67,8 @@ fn found_of(refusal: &Refusal) -> Option<FurtherRefusal<'_>> {
     }
 }
 
-/// The refusal and those that would be answered after it, each once and in order; nothing for a refusal of another kind, or
-/// one that is not found.
+/// The refusal and those that would be answered after it, each once and in order; nothing for a refusal of another
+/// kind, or one that is not found.
 pub fn refusals_from<'v>(
     alloc: Global,
     sites: &'v Sites<'_>,

@@ -1,8 +1,9 @@
-//! What is wrong with files, as sentences with their places: the faults of reading and lifting, and each refusal of a set.
+//! What is wrong with files, as sentences with their places: the faults of reading and lifting, and each refusal of a
+//! set.
 //!
-//! Of the faults that are found, [`MAX_TOLD`] are told and the others counted. A [`Message`] is a sentence at a byte of a file, and [`message_lines`] makes
-//! lines of messages, with the line of the file and a caret. Places come from what the modules are made of: a module is read
-//! again, and each place in it leads back to the file that it comes from.
+//! Of the faults that are found, [`MAX_TOLD`] are told and the others counted. A [`Message`] is a sentence at a byte of
+//! a file, and [`message_lines`] makes lines of messages, with the line of the file and a caret. Places come from what
+//! the modules are made of: a module is read again, and each place in it leads back to the file that it comes from.
 #![tactic(auto)]
 
 mod brought;

@@ -5,8 +5,8 @@ use rn_pattern::Rows;
 use rn_pattern::loops::shortest_loop;
 use std::alloc::{AllocError, Global};
 
-/// The sites of a shortest loop that comes back to the key, in order: of each key that is passed, the first definition that
-/// refers to the next one. Nothing where there is none.
+/// The sites of a shortest loop that comes back to the key, in order: of each key that is passed, the first definition
+/// that refers to the next one. Nothing where there is none.
 pub fn loop_of(
     alloc: Global,
     sites: &Sites<'_>,

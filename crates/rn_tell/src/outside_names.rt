@@ -2,8 +2,9 @@
 use rn_text::{Kind, Token};
 use std::alloc::{AllocError, Global};
 
-/// Where names begin that are outside elements and annotations, in order. Open brackets are counted in the tokens: the tree of
-/// a module says which references are outside elements, but not where they stand in the text, and messages tell places.
+/// Where names begin that are outside elements and annotations, in order. Open brackets are counted in the tokens: the
+/// tree of a module says which references are outside elements, but not where they stand in the text, and messages tell
+/// places.
 pub fn outside_names(alloc: Global, tokens: &[Token<'_>]) -> Result<Vec<usize>, AllocError> {
     let mut nesting = Nesting::new(alloc);
     let mut outside = Vec::new(alloc);

@@ -31,7 +31,7 @@ pub enum Grade {
 pub struct Spot {
     /// The number of the file.
     pub file: usize,
-    /// The byte of its text.
+    /// The byte of the file's text, counted from 0.
     pub at: usize,
 }
 
@@ -44,17 +44,17 @@ pub struct Message {
     pub sentence: String,
 }
 
-/// What is told.
+/// The messages that are told, and how many faults are not told.
 #[derive(Debug, Drop)]
 pub struct Messages {
     /// At most [`MAX_TOLD`], in the order in which they are printed.
     pub messages: Vec<Message>,
-    /// How many faults there are more.
+    /// How many faults there are for which no message is told.
     pub further: usize,
 }
 
 impl Messages {
-    /// Nothing.
+    /// No messages, and no faults that are not told. It takes no memory.
     pub fn new(alloc: Global) -> Messages
         ensures { vec_len result.messages ≡ 0 }
     {
@@ -92,11 +92,11 @@ impl Messages {
 /// A file as messages show it.
 #[derive(Clone, Copy, Debug)]
 pub struct Page<'a> {
-    /// The name of its module.
+    /// The name of the file's module.
     pub name: &'a str,
-    /// Its path, as it is told to people.
+    /// The path of the file, as it is told to people.
     pub path: &'a str,
-    /// Its text, or a front of it.
+    /// The text of the file, or a front of the text.
     pub text: &'a str,
 }
 
@@ -143,9 +143,9 @@ pub enum Colours {
     Terminal,
 }
 
-/// What is told, as lines: for each message `FILE:LINE:COLUMN: error: SENTENCE`, the line of the file, and a caret below the
-/// place; then a note that says how many faults are not told. A character that would control a terminal is shown as `?`. Of
-/// a line of more than [`SHOWN`] characters a part is shown.
+/// What is told, as lines: for each message `FILE:LINE:COLUMN: error: SENTENCE`, the line of the file, and a caret
+/// below the place; then a note that says how many faults are not told. A character that would control a terminal is
+/// shown as `?`. Of a line of more than [`SHOWN`] characters a part is shown.
 pub fn message_lines(
     alloc: Global,
     pages: &[Page<'_>],
@@ -316,8 +316,8 @@ fn push_source(
     lines.push_str("\n")
 }
 
-/// How many characters at the front of a line are not shown where the place is in this column, which counts from 1: none
-/// where the whole line is shown.
+/// How many characters at the front of a line are not shown where the place is in this column, which counts from 1:
+/// none where the whole line is shown.
 pub fn skipped_front(line: &str, column: usize) -> usize {
     if line.chars().count() > SHOWN {
         column.saturating_sub(1).saturating_sub(BEFORE)
@@ -348,7 +348,8 @@ fn push_indent(
     Ok(())
 }
 
-/// Appends a text, of which no character controls a terminal. Refused only for want of memory: a front of it is there then.
+/// Appends a text, of which no character controls a terminal. Refused only for want of memory: a front of it is there
+/// then.
 pub fn push_printable(lines: &mut String, text: &str) -> Result<(), AllocError>
     ensures { OnOk result (string_bytes lines.new ≡ string_bytes lines.old ++ printed text.now) }
 {

@@ -22,9 +22,9 @@ use std::collections::BTreeSet;
 /// A sentence, and the place that it is told at.
 type Placed = (Option<Spot>, String);
 
-/// What is told of modules that are refused. Where texts are at fault, it is the fault of each text; else the refusal, at the
-/// first place that it speaks of, and then those that would be answered once it is mended, of the kinds of which all can be
-/// found. What is the same for several modules of one file is told once.
+/// What is told of modules that are refused. Where texts are at fault, it is the fault of each text; else the refusal,
+/// at the first place that it speaks of, and then those that would be answered once it is mended, of the kinds of which
+/// all can be found. What is the same for several modules of one file is told once.
 pub fn refusal_messages(
     alloc: Global,
     files: &[SourceFile],

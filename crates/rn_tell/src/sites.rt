@@ -12,7 +12,7 @@ use std::alloc::{AllocError, Global};
 pub struct Overriding {
     /// The number of the part that is the include.
     pub include: usize,
-    /// The key.
+    /// The key that the definition overrides: a name, or nothing for the start.
     pub key: String,
     /// The number of the part that is the definition.
     pub part: usize,
@@ -21,9 +21,9 @@ pub struct Overriding {
 /// What a module is made of.
 #[derive(Debug, Drop)]
 pub struct ModuleSites {
-    /// Its definitions, references and includes, in the order of its text.
+    /// The definitions, references and includes of the module, in the order of its text.
     pub parts: Vec<Part>,
-    /// What its includes override, in order.
+    /// What the includes of the module override, in the order of includes and keys.
     pub overrides: Vec<Overriding>,
     /// Where names begin that are outside elements, in order.
     pub outside: Vec<usize>,
@@ -34,7 +34,7 @@ pub struct ModuleSites {
 pub struct Sites<'a> {
     /// The modules.
     pub lifted: &'a Lifted,
-    /// What each is made of, in their order.
+    /// What each module is made of, in the order of the modules.
     pub modules: Vec<ModuleSites>,
 }
 
@@ -122,7 +122,7 @@ fn module_sites(alloc: Global, text: &str) -> Result<ModuleSites, AllocError> {
     Ok(sites)
 }
 
-/// What the includes override, in order.
+/// What the includes override, in the order of includes and keys.
 fn overrides(alloc: Global, text: &str, parts: &[Part]) -> Result<Vec<Overriding>, AllocError> {
     let mut overrides = Vec::new(alloc);
     for (number, part) in parts.iter().enumerate() {

@@ -45,7 +45,8 @@ impl Files for System<'_> {
     }
 }
 
-/// Whether the path from the root leads to a pipe or a device. Those of a process, such as `/dev/fd/63`, have no other path.
+/// Whether the path from the root leads to a pipe or a device. Those of a process, such as `/dev/fd/63`, have no other
+/// path.
 fn is_pipe(rt: &HostRuntime, path: &str) -> bool {
     match fs::metadata(rt, path) {
         Ok(metadata) => path.starts_with('/') && !metadata.is_file() && !metadata.is_dir(),
@@ -89,8 +90,8 @@ impl Outputs for Written<'_> {
     }
 }
 
-/// A regular file or a new path gets these bytes whole or not at all. A link is followed; one that leads nowhere is refused.
-/// Anything else, as a terminal or a pipe, is written to, and may hold a front after an error.
+/// A regular file or a new path gets these bytes whole or not at all. A link is followed; one that leads nowhere is
+/// refused. Anything else, as a terminal or a pipe, is written to, and may hold a front after an error.
 fn write_whole(rt: &HostRuntime, path: &str, bytes: &[u8]) -> io::Result<()> {
     let Ok(metadata) = fs::metadata(rt, path) else {
         return write_new(rt, path, bytes);

@@ -22,7 +22,7 @@ abbrev pub IsLeastNumber : List Text → (Key → Type 0) → Option ℕ → Typ
 IsLeastNumber names P None = (k : ℕ) → k < suc (length names) → ¬ P (key_at names k)
 IsLeastNumber names P (Some n) = (n < suc (length names)) × P (key_at names n) × ((k : ℕ) → k < n → ¬ P (key_at names k))
 
--- no key has two plain components, or components of both methods, and there is a start (4.17, 4.18)
+-- no key has two plain components, or components of both methods, and there is a start (RELAX NG 2001, 4.17, 4.18)
 pub record CanCombine (cs : List Component) : Type 0 where
   pub plain_once : (k : Key) → ¬ IsPlainTwice k cs
   pub one_method : (k : Key) → ¬ IsMixed k cs

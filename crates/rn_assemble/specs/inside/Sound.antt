@@ -9,7 +9,7 @@ use Rattle.rn_assemble.specs.Least.{IsLeast}
 use Rattle.rn_assemble.specs.declared.refusal.Refusal.{Refusal}
 use Rattle.rn_assemble.specs.declared.refusal.Refusal.TheVariants as r
 
--- every name that is referred to is defined, and none that is reached comes back to itself outside elements (4.18, 4.19)
+-- every name that is referred to is defined, and none that is reached comes back to itself outside elements (RELAX NG 2001, 4.18, 4.19)
 pub record HasSoundReferences (cs : List Component) : Type 0 where
   pub defined : (x : Text) → ¬ IsUndefined (joined_grammar cs) x
   pub loop_free : (x : Text) → ¬ IsRecursive (joined_grammar cs) x

@@ -1,4 +1,4 @@
--- One root more.
+-- The count of instances goes on by those of one root more.
 use Rattle.std.proofs.Common.{arith, ap}
 use Rattle.std.specs.Prelude.{sum_by}
 use Rattle.std.proofs.lemmas.Bool.{lt-ltb, ltb-true}

@@ -1,4 +1,4 @@
--- Row by row.
+-- The marks of the modules in the rows so far, and those of one row more.
 use Rattle.std.proofs.Common.{ap, ◌∙◌, arith, eqb}
 use Rattle.std.specs.Prelude.{◌||◌}
 use Rattle.std.specs.List.{concat, list_any}

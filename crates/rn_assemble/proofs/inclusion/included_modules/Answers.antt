@@ -1,4 +1,4 @@
--- One literal more.
+-- The modules that the literals so far name, and that of one literal more.
 use Rattle.std.proofs.Common.{ap, ◌∙◌, Vec, ℕ}
 use Rattle.std.specs.declared.alloc.Global.{Global}
 use Rattle.std.proofs.lemmas.List.{take_all}

@@ -1,4 +1,4 @@
--- Module by module.
+-- The rows of the modules so far, and the row of one module more.
 use Rattle.std.proofs.Common.{ap, sym, ◌∙◌, subst, arith, None, Some}
 use Rattle.std.specs.String.{string_bytes}
 use Rattle.rn_pattern.specs.Graph.{rows_of}

@@ -1,4 +1,4 @@
--- One literal more.
+-- The least literal so far that names no module, and one literal more.
 use Rattle.std.proofs.Common.{◌++◌, ◌∷◌, [], ap, ◌∙◌, sym, subst, take, get_or, option_map, Some, Option}
 use Rattle.std.specs.Prelude.{not}
 use Rattle.std.proofs.lemmas.List.{take_all}

@@ -1,4 +1,4 @@
--- The least so far.
+-- What is held is the least of the literals so far that names no module.
 use Rattle.std.proofs.Common.{take, option_map}
 use Rattle.rn_assemble.specs.inside.Inclusions.{IsLeastAmong, IsMissing}
 use Rattle.rn_assemble.specs.inside.Views.{modules_view, texts_of}

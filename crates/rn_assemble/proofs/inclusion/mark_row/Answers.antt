@@ -1,4 +1,4 @@
--- One node more.
+-- The marks of the nodes of a row so far, and that of one node more.
 use Rattle.std.proofs.Common.{refl, ap, ◌∙◌, arith, eqb}
 use Rattle.std.specs.Prelude.{◌||◌}
 use Rattle.std.specs.List.{list_any}

@@ -1,4 +1,4 @@
--- Key by key.
+-- The references of the keys so far, and those of one key more.
 use Rattle.std.proofs.Common.{◌≡◌, ◌<◌, suc, flat_map, map, length, ap, ◌∙◌, subst, arith, rules, None, Some, option_map}
 use Rattle.std.proofs.lemmas.List.{length_push}
 use Rattle.rn_pattern.specs.Reached.{RefersTo}

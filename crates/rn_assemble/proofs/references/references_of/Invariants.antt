@@ -1,4 +1,4 @@
--- The keys before are done.
+-- The keys so far have their references, and what is held is the least undefined name of them.
 use Rattle.std.proofs.Common.{◌≡◌, ◌+◌, List, length, option_map}
 use Rattle.std.specs.List.Sorted.{IsStrictlySortedBy}
 use Rattle.rn_text.specs.Texts.{text_cmp}

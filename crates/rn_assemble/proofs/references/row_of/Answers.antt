@@ -1,4 +1,4 @@
--- One reference more.
+-- The row of a key by the references so far, and one reference more.
 use Rattle.std.proofs.Common.{◌+◌, [], ◌∷◌, ◌++◌, length, map, take, get_or, sym, subst, arith}
 use Rattle.std.proofs.lemmas.List.{take_all}
 use Rattle.rn_pattern.proofs.Graphs.BuiltRows.{none_below}

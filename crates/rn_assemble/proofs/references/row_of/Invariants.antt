@@ -1,4 +1,4 @@
--- The references so far.
+-- The row has the keys of the references so far.
 use Rattle.std.proofs.Common.{◌+◌, length, map, take}
 use Rattle.rn_pattern.specs.Graph.{AllBelow}
 use Rattle.rn_assemble.specs.inside.Referred.{AreNumbers, KeepsLeast, names_within, reference_view}

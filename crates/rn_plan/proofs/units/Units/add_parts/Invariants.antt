@@ -1,4 +1,4 @@
--- The files stay.
+-- The files of the units stay as they were, whatever is added to the units.
 use Rattle.std.proofs.Common.{◌≡◌}
 use Rattle.rn_plan.proofs.units.Units.add_parts.Given as goal
 
