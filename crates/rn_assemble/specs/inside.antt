@@ -30,4 +30,5 @@ pub mod SetFaults
 pub mod Shared
 pub mod Sound
 pub mod Tied
+pub mod Trees
 pub mod Views

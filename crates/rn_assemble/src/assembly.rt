@@ -1,5 +1,5 @@
 // From a set of modules to its grammar, or to the first refusal that stands (RELAX NG 2001, 4.7, 4.11, 4.16 to 4.19).
-ghost use Rattle.std.specs.Prelude.{MatchResult};
+ghost use Rattle.std.specs.Prelude.{List, MatchResult};
 ghost use Rattle.std.specs.List.{AllByRecursion};
 ghost use Rattle.rn_text.specs.Texts.{Text};
 ghost use Rattle.rn_assemble.specs.inside.Checked.{AreExpanded, IsGrammarOf, IsLacking, IsFirstOfModules};
@@ -13,8 +13,9 @@ ghost use Rattle.rn_assemble.specs.Refusal.{IsAssembled, Lacks};
 ghost use Rattle.rn_assemble.specs.Refused.{IsFirstRefusal};
 ghost use Rattle.rn_assemble.specs.ShortTexts.{IsShortened, short_texts};
 ghost use Rattle.rn_assemble.specs.inside.Sound.{HasSoundReferences, IsUnsound};
-ghost use Rattle.rn_assemble.specs.inside.Views.{AreInOrder, modules_view, names_of};
-ghost use Rattle.rn_assemble.specs.inside.Listed.{OfKeys};
+ghost use Rattle.rn_assemble.specs.inside.Trees.{trees_by};
+ghost use Rattle.rn_assemble.specs.inside.Views.{AreInOrder, AreNamed, modules_view, names_of};
+ghost use Rattle.rn_assemble.specs.inside.Listed.{OfKeys, OfTrees};
 
 use crate::combined_grammar::Combined;
 use crate::components::{Components, Lack};
@@ -26,12 +27,13 @@ use crate::grammar::Grammar;
 use crate::inclusion::included_roots;
 use crate::joined_definitions::joined_grammar;
 use crate::keys::{Keys, START};
-use crate::named_modules::{NamedModule, read_modules};
+use crate::named_modules::{NamedModule, read_modules, split_items};
 use crate::references::{least_recursive, references_of};
 use crate::refusal::Refusal;
 use crate::seeds::seed_of;
 use crate::short_uris::ShortUris;
 use crate::shortening::{short_uris_of, shorten_modules};
+use crate::trees::Trees;
 use rn_modset::ModuleSet;
 use rn_pattern::Seed;
 use std::alloc::Global;
@@ -71,7 +73,7 @@ fn combine_set<'s>(alloc: Global, set: &'s ModuleSet, seed: &Seed) -> Result<Com
         (IsFirstRefusal set.now) }
 {
     let modules = read_modules(alloc, set)?;
-    combine_modules(alloc, modules.as_slice(), seed)
+    combine_modules(alloc, modules, seed)
 }
 
 /// The grammar of the set (RELAX NG 2001, 4.7, 4.11, 4.17) with short texts in the place of URIs of more than
@@ -104,26 +106,29 @@ fn combine_short<'s>(
     let modules = read_modules(alloc, set)?;
     let uris = short_uris_of(alloc, modules.as_slice())?;
     let modules = shorten_modules(alloc, &uris, modules)?;
-    let combined = combine_modules(alloc, modules.as_slice(), seed)?;
+    let combined = combine_modules(alloc, modules, seed)?;
     Ok(ShortCombined { combined, uris })
 }
 
-/// The combined patterns of the modules, or the first refusal that stands for them.
+/// The combined patterns of the modules, or the first refusal that stands for them. The modules are given up piece by
+/// piece: the items where their contents are known, and the tree of each component once it was resolved.
 fn combine_modules<'s>(
     alloc: Global,
-    modules: &[NamedModule<'s>],
+    modules: Vec<NamedModule<'s>>,
     seed: &Seed,
 ) -> Result<Combined<'s>, Refusal>
-    requires in_order { AreInOrder modules.now }
+    requires in_order { AreInOrder modules.items }
     requires flat { AllByRecursion (λ (m : specs.NamedModule). AreFlat m.tree.items)
-        (modules_view modules.now) }
-    ensures { MatchResult result (λ c. IsGrammarOf (modules_view modules.now) (combined_view c))
-        (IsFirstOfModules (modules_view modules.now)) }
+        (modules_view modules.items) }
+    ensures { MatchResult result
+        (λ c. IsGrammarOf (modules_view modules.entry.items) (combined_view c))
+        (IsFirstOfModules (modules_view modules.entry.items)) }
 {
-    let roots = included_roots(alloc, modules)?;
-    let keys = Keys::new(alloc, modules, seed)?;
+    let roots = included_roots(alloc, modules.as_slice())?;
+    let keys = Keys::new(alloc, modules.as_slice(), seed)?;
     let constants = Constants::new(alloc)?;
-    let contents = contents_of(alloc, modules, &keys, &constants)?;
+    let (modules, items) = split_items(alloc, modules)?;
+    let (contents, mut trees) = contents_of(alloc, modules.as_slice(), items, &keys, &constants)?;
     let components = components_of(
         alloc,
         contents.as_slice(),
@@ -131,24 +136,28 @@ fn combine_modules<'s>(
         roots.as_slice(),
         keys.len(),
     )?;
-    combine_keys(alloc, modules, &keys, &components)
+    combine_keys(alloc, modules.as_slice(), &keys, &components, &mut trees)
 }
 
-/// The combined patterns of the modules' components, or the first refusal that stands for them.
+/// The combined patterns of the modules' components, or the first refusal that stands for them. The modules may be
+/// without their items.
 fn combine_keys<'s>(
     alloc: Global,
     modules: &[NamedModule<'_>],
     keys: &Keys<'s>,
     components: &Components<'_, '_, 's>,
+    trees: &mut Trees<'s>,
 ) -> Result<Combined<'s>, Refusal>
-    requires { AreExpanded (modules_view modules.now) (names_of keys.now) components.now }
-    ensures { MatchResult result (λ c. IsGrammarOf (modules_view modules.now) (combined_view c))
-        (IsFirstOfModules (modules_view modules.now)) }
+    requires { (ms : List specs.NamedModule) × AreNamed ms modules.now
+        × AreExpanded ms (names_of keys.now) (trees_by trees.old.trees.items) components.now }
+    ensures { (ms : List specs.NamedModule) → AreNamed ms modules.now
+        → AreExpanded ms (names_of keys.now) (trees_by trees.old.trees.items) components.now
+        → MatchResult result (λ c. IsGrammarOf ms (combined_view c)) (IsFirstOfModules ms) }
 {
     check_overrides(alloc, modules, keys, components.lack)?;
     check_methods(alloc, keys, components)?;
-    check_references(alloc, keys, components)?;
-    combined_grammar(alloc, keys, components)
+    check_references(alloc, keys, components, trees)?;
+    combined_grammar(alloc, keys, components, trees)
 }
 
 /// `Override`, where there is a lack: an include of a module defines what the included module lacks (RELAX NG 2001,
@@ -159,10 +168,11 @@ fn check_overrides(
     keys: &Keys<'_>,
     lack: Option<Lack>,
 ) -> Result<(), Refusal>
-    requires { IsLeastLack (modules_view modules.now) (names_of keys.now)
-        (Lacks (modules_view modules.now)) lack }
-    ensures { MatchResult result (λ _. (y : Text) (k : specs.Key)
-        → ¬ Lacks (modules_view modules.now) y k) (IsLacking (modules_view modules.now)) }
+    requires { (ms : List specs.NamedModule) × AreNamed ms modules.now
+        × IsLeastLack ms (names_of keys.now) (Lacks ms) lack }
+    ensures { (ms : List specs.NamedModule) → AreNamed ms modules.now
+        → IsLeastLack ms (names_of keys.now) (Lacks ms) lack
+        → MatchResult result (λ _. (y : Text) (k : specs.Key) → ¬ Lacks ms y k) (IsLacking ms) }
 {
     match lack {
         None => Ok(()),
@@ -205,11 +215,12 @@ fn check_references<'s>(
     alloc: Global,
     keys: &Keys<'s>,
     components: &Components<'_, '_, 's>,
+    trees: &Trees<'s>,
 ) -> Result<(), Refusal>
-    ensures { OfKeys keys.now components.now
+    ensures { OfTrees keys.now (trees_by trees.now.trees.items) components.now
         (λ names cs. MatchResult result (λ _. HasSoundReferences cs) (IsUnsound cs)) }
 {
-    let references = references_of(alloc, keys, components)?;
+    let references = references_of(alloc, keys, components, trees)?;
     if let Some(key) = least_recursive(alloc, &references)? {
         return Err(Refusal::Recursive {
             name: String::from_str(alloc, keys.name(key))?,

@@ -9,8 +9,8 @@ use std::marker::Model;
 
 /// A component in a context.
 #[derive(Clone, Copy)]
-pub(crate) struct Body<'c, 't, 's> {
-    pub component: WrittenComponent<'t, 's>,
+pub(crate) struct Body<'c, 't> {
+    pub component: WrittenComponent,
     pub context: Context<'c, 't>,
 }
 
@@ -34,7 +34,7 @@ impl<'c, 't, 's> ModuleBodies<'c, 't, 's> {
 
     /// The body of that number.
     #[inline(always)]
-    fn body(&self, number: usize) -> Option<Body<'c, 't, 's>>
+    fn body(&self, number: usize) -> Option<Body<'c, 't>>
         requires { self.now.first ≤ number }
         ensures { result ≡ slice_get (bodies_of self.now.content.now self.now.context)
             (number - self.now.first) }
@@ -116,7 +116,7 @@ impl<'c, 't, 's> Bodies<'c, 't, 's> {
     /// The body of a number. `near` is the place of the context to look at first, and then of the one that was found;
     /// any will do.
     #[inline(always)]
-    pub fn get(&self, number: usize, near: &mut usize) -> Option<Body<'c, 't, 's>>
+    pub fn get(&self, number: usize, near: &mut usize) -> Option<Body<'c, 't>>
         ensures { result ≡ slice_get self.now number }
     {
         let contexts = self.contexts.as_slice();

@@ -1,10 +1,9 @@
 // Definitions of one key combined (RELAX NG 2001, 4.17).
-ghost use Rattle.std.specs.Prelude.{◌≡◌, ◌↔◌, ◌+◌, ◌<◌, List, IsTrue, length, map, option_map, IfOk, IsSomeAnd, MatchResult};
+ghost use Rattle.std.specs.Prelude.{◌≡◌, ◌≢◌, ◌↔◌, ℕ, ◌+◌, ◌<◌, List, IsTrue, length, map, option_map, IfOk, IsSomeAnd, MatchResult};
 ghost use Rattle.std.specs.List.Sorted.{IsStrictlySortedBy};
 ghost use Rattle.rn_pattern.specs.Graph.{row};
-ghost use Rattle.rn_pattern.specs.Tree.{trees_of};
 ghost use Rattle.rn_text.specs.Texts.{Text, text_cmp};
-ghost use Rattle.rn_pattern.specs.View.{shared_view, boxed_view};
+ghost use Rattle.rn_pattern.specs.View.{shared_view, boxed_view, shared_trees};
 ghost use Rattle.rn_assemble.specs.Combine as spec;
 ghost use Rattle.rn_assemble.specs.inside.Joining.{IsMisnamed};
 ghost use Rattle.rn_assemble.specs.inside.Keyed.{key_at};
@@ -13,7 +12,10 @@ ghost use Rattle.rn_assemble.specs.Refusal.{BreaksNameRules};
 ghost use Rattle.rn_assemble.specs.inside.Views.{names_of};
 ghost use Rattle.rn_assemble.specs.inside.Tied.{body_of};
 ghost use Rattle.rn_assemble.specs.inside.Methods.{IsLeastNumber, is_method};
-ghost use Rattle.rn_assemble.specs.inside.Listed.{AtKey, Lists, Live, OfBody, OfKeys, WithBody, components_in};
+ghost use Rattle.rn_assemble.specs.inside.ContextBindings.{InContext};
+ghost use Rattle.rn_assemble.specs.inside.Listed.{AtKey, Lists, Live, OfBody, OfTrees, WithBody, components_in};
+ghost use Rattle.rn_assemble.specs.inside.Trees.{AgreeAt, TreeView, trees_by};
+ghost use Rattle.rn_assemble.specs.Resolve.{resolved_pattern};
 
 use crate::bodies::Body;
 use crate::components::{Components, Near};
@@ -21,6 +23,7 @@ use crate::keys::Keys;
 use crate::nodes::{box_pattern, choice, interleave, share_pattern};
 use crate::refusal::Refusal;
 use crate::resolution::pattern;
+use crate::trees::Trees;
 use rn_pattern::Pattern;
 use rn_pattern::name_classes::keeps_name_rules;
 use rn_syntax::Method;
@@ -32,7 +35,7 @@ impl<'c, 't, 's> Components<'c, 't, 's> {
     fn method(&self, key: usize, index: usize, near: &mut Near) -> Option<Method>
         ensures { (names : List Text) → WithBody names self.now
             (body_of self.now.list (row self.now.places.items key) index)
-            (λ c. result ≡ Some c.method) }
+            (λ trees e. result ≡ Some e.component.method) }
     {
         let number = self.body_of(key, index, near)?;
         let body = self.body(number, near)?;
@@ -41,7 +44,8 @@ impl<'c, 't, 's> Components<'c, 't, 's> {
 
     /// Whether some component of the key uses the method.
     fn uses(&self, key: usize, method: Method, near: &mut Near) -> bool
-        ensures { (names : List Text) (live : List Live) → Lists names self.now live
+        ensures { (trees : TreeView) (names : List Text) (live : List Live)
+            → Lists names trees self.now live
             → IsStrictlySortedBy text_cmp names → key < length names + 1
             → result ≡ spec.uses (is_method method) (key_at names key) (components_in live) }
     {
@@ -55,7 +59,8 @@ impl<'c, 't, 's> Components<'c, 't, 's> {
 
     /// Whether two components of the key are plain.
     fn is_plain_twice(&self, key: usize, near: &mut Near) -> bool
-        ensures { (names : List Text) (live : List Live) → Lists names self.now live
+        ensures { (trees : TreeView) (names : List Text) (live : List Live)
+            → Lists names trees self.now live
             → IsStrictlySortedBy text_cmp names → key < length names + 1
             → (IsTrue result ↔ spec.IsPlainTwice (key_at names key) (components_in live)) }
     {
@@ -73,7 +78,8 @@ impl<'c, 't, 's> Components<'c, 't, 's> {
 
     /// The least of that many keys with two plain components.
     pub fn least_plain_twice(&self, keys: usize) -> Option<usize>
-        ensures { (names : List Text) (live : List Live) → Lists names self.now live
+        ensures { (trees : TreeView) (names : List Text) (live : List Live)
+            → Lists names trees self.now live
             → IsStrictlySortedBy text_cmp names → keys ≡ length names + 1
             → IsLeastNumber names (λ k. spec.IsPlainTwice k (components_in live)) result }
     {
@@ -88,7 +94,8 @@ impl<'c, 't, 's> Components<'c, 't, 's> {
 
     /// The least of that many keys whose components use both methods.
     pub fn least_mixed(&self, keys: usize) -> Option<usize>
-        ensures { (names : List Text) (live : List Live) → Lists names self.now live
+        ensures { (trees : TreeView) (names : List Text) (live : List Live)
+            → Lists names trees self.now live
             → IsStrictlySortedBy text_cmp names → keys ≡ length names + 1
             → IsLeastNumber names (λ k. spec.IsMixed k (components_in live)) result }
     {
@@ -113,17 +120,54 @@ pub(crate) fn combine_components(
     alloc: Global,
     keys: &Keys<'_>,
     components: &Components<'_, '_, '_>,
+    trees: &mut Trees<'_>,
 ) -> Result<Vec<Option<Box<Pattern>>>, Refusal>
-    ensures { OfKeys keys.now components.now (λ names cs. MatchResult result
+    ensures { OfTrees keys.now (trees_by trees.old.trees.items) components.now
+        (λ names cs. MatchResult result
         (λ patterns. AreCombined names cs patterns.items) (IsMisnamed cs)) }
 {
     let mut shared: Shared = vec![in alloc; None; components.count_bodies()]?;
     let mut patterns = Vec::with_capacity(alloc, keys.len())?;
     let mut near = Near::default();
     for key in 0..keys.len() {
-        patterns.push(combine_key(alloc, keys, components, &mut shared, key, &mut near)?)?;
+        let pattern = combine_key(alloc, keys, components, trees, &mut shared, key, &mut near)?;
+        patterns.push(pattern)?;
+        give_up_trees(components, trees, key, &mut near);
     }
     Ok(patterns)
+}
+
+/// Gives up the trees of the key's components.
+fn give_up_trees(
+    components: &Components<'_, '_, '_>,
+    trees: &mut Trees<'_>,
+    key: usize,
+    near: &mut Near,
+)
+    ensures { (other : ℕ) → other ≢ key
+        → AgreeAt (trees_by trees.new.trees.items) (trees_by trees.old.trees.items) other }
+{
+    for index in 0..components.count_of(key) {
+        if let Some(number) = components.body_of(key, index, near) {
+            give_up_tree(components, trees, key, number, near);
+        }
+    }
+}
+
+/// Gives up the tree of the body with a number, if it is of the key.
+fn give_up_tree(
+    components: &Components<'_, '_, '_>,
+    trees: &mut Trees<'_>,
+    key: usize,
+    number: usize,
+    near: &mut Near,
+)
+    ensures { (other : ℕ) → other ≢ key
+        → AgreeAt (trees_by trees.new.trees.items) (trees_by trees.old.trees.items) other }
+{
+    if let Some(body) = components.body(number, near) {
+        trees.give_up(key, body.component.tree);
+    }
 }
 
 /// The pattern of one component is its own; several are one list, in their order.
@@ -131,16 +175,20 @@ fn combine_key(
     alloc: Global,
     keys: &Keys<'_>,
     components: &Components<'_, '_, '_>,
+    trees: &Trees<'_>,
     shared: &mut Shared,
     key: usize,
     near: &mut Near,
 ) -> Result<Option<Box<Pattern>>, Refusal>
     requires { length shared.old.items ≡ length components.now.bodies }
     ensures size { length shared.new.items ≡ length shared.old.items }
-    ensures kept { AreSharedBy keys.now components.now shared.old.items
-        → AreSharedBy keys.now components.now shared.new.items }
-    ensures exact { OfKeys keys.now components.now
-        (λ names cs. key < length names + 1 → AreSharedBy keys.now components.now shared.old.items
+    ensures kept { (view : TreeView) → AgreeAt view (trees_by trees.now.trees.items) key
+        → OfTrees keys.now view components.now (λ names cs. key < length names + 1
+        → AreSharedBy keys.now view components.now shared.old.items
+        → AreSharedBy keys.now view components.now shared.new.items) }
+    ensures exact { (view : TreeView) → AgreeAt view (trees_by trees.now.trees.items) key
+        → OfTrees keys.now view components.now (λ names cs. key < length names + 1
+        → AreSharedBy keys.now view components.now shared.old.items
         → MatchResult result (λ p. (option_map boxed_view p ≡ pattern_of cs (key_at names key))
         × ¬ BreaksNameRules cs (key_at names key)) (IsMisnamedAt cs (key_at names key))) }
 {
@@ -149,9 +197,9 @@ fn combine_key(
         return Ok(None);
     }
     if count == 1 {
-        return component_pattern(alloc, keys, components, key, near);
+        return component_pattern(alloc, keys, components, trees, key, near);
     }
-    let members = member_patterns(alloc, keys, components, shared, key, near)?;
+    let members = member_patterns(alloc, keys, components, trees, shared, key, near)?;
     Ok(Some(list_by_method(alloc, components, key, members, near)?))
 }
 
@@ -164,7 +212,7 @@ fn list_by_method(
     near: &mut Near,
 ) -> Result<Box<Pattern>, AllocError>
     ensures { AtKey components.now key (λ k cs. IfOk result (λ p. boxed_view p
-        ≡ spec.method_node k cs (trees_of (map shared_view members.items)))) }
+        ≡ spec.method_node k cs (shared_trees members.items))) }
 {
     if components.uses(key, Method::Interleave, near) {
         box_pattern(alloc, interleave(members))
@@ -178,13 +226,15 @@ fn component_pattern(
     alloc: Global,
     keys: &Keys<'_>,
     components: &Components<'_, '_, '_>,
+    trees: &Trees<'_>,
     key: usize,
     near: &mut Near,
 ) -> Result<Option<Box<Pattern>>, Refusal>
     ensures { WithBody (names_of keys.now) components.now
         (body_of components.now.list (row components.now.places.items key) 0)
-        (λ c. MatchResult result (λ p. IsSomeAnd p (λ q. IsWellNamed c (boxed_view q)))
-        (IsMisnamedBy c)) }
+        (λ view e. AgreeAt view (trees_by trees.now.trees.items) e.key → MatchResult result
+        (λ p. IsSomeAnd p (λ q. IsWellNamed e.component (boxed_view q)))
+        (IsMisnamedBy e.component)) }
 {
     let Some(number) = components.body_of(key, 0, near) else {
         return Ok(None);
@@ -192,7 +242,7 @@ fn component_pattern(
     let Some(body) = components.body(number, near) else {
         return Ok(None);
     };
-    Ok(Some(resolve_body(alloc, keys, &body)?))
+    Ok(Some(resolve_body(alloc, keys, trees, &body)?))
 }
 
 /// The patterns of the key's components, each body resolved once.
@@ -200,16 +250,20 @@ fn member_patterns(
     alloc: Global,
     keys: &Keys<'_>,
     components: &Components<'_, '_, '_>,
+    trees: &Trees<'_>,
     shared: &mut Shared,
     key: usize,
     near: &mut Near,
 ) -> Result<Vec<Rc<Pattern>>, Refusal>
     requires { length shared.old.items ≡ length components.now.bodies }
     ensures size { length shared.new.items ≡ length shared.old.items }
-    ensures kept { AreSharedBy keys.now components.now shared.old.items
-        → AreSharedBy keys.now components.now shared.new.items }
-    ensures exact { OfKeys keys.now components.now
-        (λ names cs. key < length names + 1 → AreSharedBy keys.now components.now shared.old.items
+    ensures kept { (view : TreeView) → AgreeAt view (trees_by trees.now.trees.items) key
+        → OfTrees keys.now view components.now (λ names cs. key < length names + 1
+        → AreSharedBy keys.now view components.now shared.old.items
+        → AreSharedBy keys.now view components.now shared.new.items) }
+    ensures exact { (view : TreeView) → AgreeAt view (trees_by trees.now.trees.items) key
+        → OfTrees keys.now view components.now (λ names cs. key < length names + 1
+        → AreSharedBy keys.now view components.now shared.old.items
         → MatchResult result (λ members. AreWellNamed (spec.of_key (key_at names key) cs)
         (map shared_view members.items)) (IsMisnamedAt cs (key_at names key))) }
 {
@@ -217,7 +271,8 @@ fn member_patterns(
     let mut members = Vec::with_capacity(alloc, count)?;
     for index in 0..count {
         let number = components.body_of(key, index, near);
-        if let Some(pattern) = member_pattern(alloc, keys, components, shared, number, near)? {
+        let pattern = member_pattern(alloc, keys, components, trees, shared, number, near)?;
+        if let Some(pattern) = pattern {
             members.push(pattern)?;
         }
     }
@@ -229,18 +284,22 @@ fn member_pattern(
     alloc: Global,
     keys: &Keys<'_>,
     components: &Components<'_, '_, '_>,
+    trees: &Trees<'_>,
     shared: &mut Shared,
     found: Option<usize>,
     near: &mut Near,
 ) -> Result<Option<Rc<Pattern>>, Refusal>
     requires { length shared.old.items ≡ length components.now.bodies }
     ensures size { length shared.new.items ≡ length shared.old.items }
-    ensures kept { AreSharedBy keys.now components.now shared.old.items
-        → AreSharedBy keys.now components.now shared.new.items }
+    ensures kept { WithBody (names_of keys.now) components.now found
+        (λ view e. AgreeAt view (trees_by trees.now.trees.items) e.key
+        → AreSharedBy keys.now view components.now shared.old.items
+        → AreSharedBy keys.now view components.now shared.new.items) }
     ensures exact { WithBody (names_of keys.now) components.now found
-        (λ c. AreSharedBy keys.now components.now shared.old.items
-        → MatchResult result (λ p. IsSomeAnd p (λ q. IsWellNamed c (shared_view q)))
-        (IsMisnamedBy c)) }
+        (λ view e. AgreeAt view (trees_by trees.now.trees.items) e.key
+        → AreSharedBy keys.now view components.now shared.old.items → MatchResult result
+        (λ p. IsSomeAnd p (λ q. IsWellNamed e.component (shared_view q)))
+        (IsMisnamedBy e.component)) }
 {
     let Some(number) = found else {
         return Ok(None);
@@ -248,26 +307,27 @@ fn member_pattern(
     let Some(body) = components.body(number, near) else {
         return Ok(None);
     };
-    Ok(Some(share_body(alloc, keys, &body, &mut shared[number])?))
+    Ok(Some(share_body(alloc, keys, trees, &body, &mut shared[number])?))
 }
 
 /// The pattern of the body, which is resolved where none is held.
 fn share_body(
     alloc: Global,
     keys: &Keys<'_>,
-    body: &Body<'_, '_, '_>,
+    trees: &Trees<'_>,
+    body: &Body<'_, '_>,
     held: &mut Option<Rc<Pattern>>,
 ) -> Result<Rc<Pattern>, Refusal>
-    ensures kept { OfBody (names_of keys.now) body.now
+    ensures kept { OfBody (names_of keys.now) (trees_by trees.now.trees.items) body.now
         (λ c. MayHold c held.old → MayHold c held.new) }
-    ensures exact { OfBody (names_of keys.now) body.now
+    ensures exact { OfBody (names_of keys.now) (trees_by trees.now.trees.items) body.now
         (λ c. MayHold c held.old
         → MatchResult result (λ p. IsWellNamed c (shared_view p)) (IsMisnamedBy c)) }
 {
     if let Some(pattern) = &*held {
         return Ok(pattern.clone()?);
     }
-    let pattern = share_pattern(alloc, resolve_body(alloc, keys, body)?)?;
+    let pattern = share_pattern(alloc, resolve_body(alloc, keys, trees, body)?)?;
     *held = Some(pattern.clone()?);
     Ok(pattern)
 }
@@ -276,16 +336,33 @@ fn share_body(
 fn resolve_body(
     alloc: Global,
     keys: &Keys<'_>,
-    body: &Body<'_, '_, '_>,
+    trees: &Trees<'_>,
+    body: &Body<'_, '_>,
 ) -> Result<Box<Pattern>, Refusal>
-    ensures { OfBody (names_of keys.now) body.now
+    ensures { OfBody (names_of keys.now) (trees_by trees.now.trees.items) body.now
         (λ c. MatchResult result (λ p. IsWellNamed c (boxed_view p)) (IsMisnamedBy c)) }
 {
-    let pattern = pattern(alloc, body.context, body.component.body)?;
+    let pattern = resolve_tree(alloc, trees, body)?;
     if !keeps_name_rules(&pattern) {
         return Err(Refusal::NameClass {
             key: keys.key(alloc, body.component.key)?,
         });
     }
     Ok(pattern)
+}
+
+/// The body's tree with its names resolved; `empty` in the place of a tree that was given up.
+fn resolve_tree(
+    alloc: Global,
+    trees: &Trees<'_>,
+    body: &Body<'_, '_>,
+) -> Result<Box<Pattern>, AllocError>
+    ensures { InContext body.now.context (λ inherited ds. IfOk result (λ p. boxed_view p
+        ≡ resolved_pattern inherited ds (trees_by trees.now.trees.items body.now.component.key
+        body.now.component.tree))) }
+{
+    match trees.tree(body.component.key, body.component.tree) {
+        Some(tree) => pattern(alloc, body.context, tree),
+        None => box_pattern(alloc, Pattern::Empty),
+    }
 }

@@ -9,6 +9,7 @@ ghost use Rattle.rn_assemble.specs.Components as specs;
 ghost use Rattle.rn_assemble.specs.inside.Expanded.{AddsLive, CanAdd, ContextsHold, Enters, IsContentAt, KeepsBodies, KeepsLists};
 ghost use Rattle.rn_assemble.specs.inside.Listed.{AreBefore, IsBody, Lists, Live, PlacesRise, resolved_between};
 ghost use Rattle.rn_assemble.specs.inside.Tied.{body_of};
+ghost use Rattle.rn_assemble.specs.inside.Trees.{TreeView};
 
 use crate::bodies::{Bodies, Body};
 use crate::contents::Contents;
@@ -70,8 +71,8 @@ impl<'c, 't, 's> Components<'c, 't, 's> {
     /// No components, of that many keys.
     pub fn new(alloc: Global, keys: usize) -> Result<Components<'c, 't, 's>, AllocError>
         ensures contexts { IfOk result (λ components. components.contexts.items ≡ []) }
-        ensures lists { (names : List Text) → keys ≡ length names + 1
-            → IfOk result (λ components. Lists names components []) }
+        ensures lists { (trees : TreeView) (names : List Text) → keys ≡ length names + 1
+            → IfOk result (λ components. Lists names trees components []) }
         ensures lack { IfOk result (λ components. components.lack ≡ None) }
     {
         let mut places = Vec::with_capacity(alloc, keys)?;
@@ -140,11 +141,11 @@ impl<'c, 't, 's> Components<'c, 't, 's> {
     ) -> Result<(), AllocError>
         ensures kept { KeepsBodies self.old self.new }
         ensures lack { self.new.lack ≡ self.old.lack }
-        ensures added { (names : List Text) (live : List Live) (inherited : Text)
-            (ds : List Declaration)
-            → CanAdd names self.old live content.now first inherited ds from to
-            → IfOk result (λ _. AddsLive names self.old self.new live
-            (resolved_between names content.now inherited ds from to)) }
+        ensures added { (trees : TreeView) (names : List Text) (live : List Live)
+            (inherited : Text) (ds : List Declaration)
+            → CanAdd names trees self.old live content.now first inherited ds from to
+            → IfOk result (λ _. AddsLive names trees self.old self.new live
+            (resolved_between names trees content.now inherited ds from to)) }
     {
         let count = self.count_bodies();
         for number in from..to {
@@ -163,10 +164,10 @@ impl<'c, 't, 's> Components<'c, 't, 's> {
     fn place(&mut self, key: usize, body: usize) -> Result<(), AllocError>
         ensures kept { KeepsBodies self.old self.new }
         ensures lack { self.new.lack ≡ self.old.lack }
-        ensures placed { (names : List Text) (live : List Live) (c : specs.Component)
-            → Lists names self.old live → body < length self.old.bodies
-            → ((d : Body) → IsBody names (slice_index_or self.old.bodies body d) key c)
-            → IfOk result (λ _. Lists names self.new
+        ensures placed { (trees : TreeView) (names : List Text) (live : List Live)
+            (c : specs.Component) → Lists names trees self.old live → body < length self.old.bodies
+            → ((d : Body) → IsBody names trees (slice_index_or self.old.bodies body d) key c)
+            → IfOk result (λ _. Lists names trees self.new
             (live ++ record {
               place = length self.old.list;
               key = key;
@@ -220,9 +221,10 @@ impl<'c, 't, 's> Components<'c, 't, 's> {
         ensures kept { KeepsBodies self.old self.new }
         ensures list { self.new.list ≡ self.old.list }
         ensures lack { self.new.lack ≡ self.old.lack }
-        ensures taken { (names : List Text) (live added : List Live)
-            → Lists names self.old (live ++ added) → AreBefore before live → PlacesRise before added
-            → Lists names self.new (live ++ filter (λ (e : Live). not (e.key == key)) added) }
+        ensures taken { (trees : TreeView) (names : List Text) (live added : List Live)
+            → Lists names trees self.old (live ++ added)
+            → AreBefore before live → PlacesRise before added
+            → Lists names trees self.new (live ++ filter (λ (e : Live). not (e.key == key)) added) }
     {
         if key < self.places.len() {
             pop_since(&mut self.places[key], before);
@@ -244,7 +246,7 @@ impl<'c, 't, 's> Components<'c, 't, 's> {
     }
 
     /// The body of that number.
-    pub fn body(&self, number: usize, near: &mut Near) -> Option<Body<'c, 't, 's>>
+    pub fn body(&self, number: usize, near: &mut Near) -> Option<Body<'c, 't>>
         ensures { result ≡ slice_get self.now.bodies number }
     {
         self.bodies.get(number, &mut near.context)

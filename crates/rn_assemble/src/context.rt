@@ -76,7 +76,7 @@ impl<'c, 't> Context<'c, 't> {
     }
 
     /// The namespace that an include hands on: that of its prefix, else the default one.
-    pub fn handed_on(self, inherit: Option<Prefix<'t>>) -> &'c RcStr
+    pub fn handed_on(self, inherit: Option<Prefix<'_>>) -> &'c RcStr
         ensures { InContext self.entry (λ inherited ds. rc_str_bytes result.now
             ≡ components.handed_on inherited ds (prefix_view inherit.entry)) }
     {

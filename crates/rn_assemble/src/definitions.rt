@@ -7,7 +7,8 @@ ghost use Rattle.rn_assemble.specs.Components.{has_key, start_key};
 ghost use Rattle.rn_assemble.specs.inside.CombinedDefinitions.{combined_definitions};
 ghost use Rattle.rn_assemble.specs.inside.Tied.{HasRow, HaveTied, firsts_of};
 ghost use Rattle.rn_assemble.specs.inside.Joining.{HasStart, IsCombinedGrammar, IsMisnamed};
-ghost use Rattle.rn_assemble.specs.inside.Listed.{Lists, Live, OfKeys};
+ghost use Rattle.rn_assemble.specs.inside.Listed.{Lists, Live, OfKeys, OfTrees};
+ghost use Rattle.rn_assemble.specs.inside.Trees.{TreeView, trees_by};
 ghost use Rattle.rn_assemble.specs.inside.Patterns.{HavePatterns, IsFirstAt};
 ghost use Rattle.rn_assemble.specs.inside.Views.{names_of};
 
@@ -17,21 +18,24 @@ use crate::components::{Components, Near};
 use crate::firsts::Met;
 use crate::keys::{Keys, START};
 use crate::refusal::Refusal;
+use crate::trees::Trees;
 use rn_pattern::Pattern;
 use std::alloc::{AllocError, Global};
 
-/// The combined patterns of all keys, those of names in the order of each one's first component.
+/// The combined patterns of all keys, those of names in the order of each one's first component. The tree of each
+/// component is given up once it was resolved.
 pub(crate) fn combined_grammar<'s>(
     alloc: Global,
     keys: &Keys<'s>,
     components: &Components<'_, '_, '_>,
+    trees: &mut Trees<'_>,
 ) -> Result<Combined<'s>, Refusal>
-    requires { HasStart (names_of keys.now) components.now }
-    ensures { OfKeys keys.now components.now
+    requires { HasStart (names_of keys.now) (trees_by trees.old.trees.items) components.now }
+    ensures { OfTrees keys.now (trees_by trees.old.trees.items) components.now
         (λ names cs. has_key start_key cs ≡ true
         → MatchResult result (IsCombinedGrammar cs) (IsMisnamed cs)) }
 {
-    let mut patterns = combine_components(alloc, keys, components)?;
+    let mut patterns = combine_components(alloc, keys, components, trees)?;
     let start = take(&mut patterns, START).unwrap();
     let mut met = components.nothing_met(alloc)?;
     let start_firsts = components.firsts(alloc, START, &mut met)?;
@@ -108,7 +112,8 @@ fn take(patterns: &mut Vec<Option<Box<Pattern>>>, key: usize) -> Option<Box<Patt
 impl<'c, 't, 's> Components<'c, 't, 's> {
     /// The number of the name whose first component is at that place.
     fn first_at(&self, place: usize, near: &mut Near) -> Option<usize>
-        ensures { (names : List Text) (live : List Live) → Lists names self.now live
+        ensures { (trees : TreeView) (names : List Text) (live : List Live)
+            → Lists names trees self.now live
             → IsStrictlySortedBy text_cmp names → IsFirstAt names live place result }
     {
         let body = self.body_at(place, near)?;

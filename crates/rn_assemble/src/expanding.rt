@@ -25,10 +25,10 @@ pub(crate) fn components_of<'c, 't, 's>(
     keys: usize,
 ) -> Result<Components<'c, 't, 's>, AllocError>
     ensures listed { OfRoots contents.now keys roots.now
-        (λ modules names. IfOk result (λ components. IsListed names components
+        (λ trees modules names. IfOk result (λ components. IsListed names trees components
         (flat_map (λ r. specs.components modules (name_at modules r) []) roots.now))) }
     ensures lacks { OfRoots contents.now keys roots.now
-        (λ modules names. IfOk result (λ components. IsLeastLack modules names
+        (λ trees modules names. IfOk result (λ components. IsLeastLack modules names
         (LacksFrom modules roots.now) components.lack)) }
 {
     let mut components = Components::new(alloc, keys)?;
@@ -54,12 +54,12 @@ fn expand<'c, 't, 's>(
     depth: usize,
 ) -> Result<(), AllocError>
     ensures expands { OfExpanding contents.now components.old
-        (λ modules names live. «module» < length modules
-        → IfOk result (λ _. Expands names contents.now components.old components.new live
+        (λ trees modules names live. «module» < length modules
+        → IfOk result (λ _. Expands names trees contents.now components.old components.new live
         (specs.components_within depth modules (name_at modules «module»)
         (rc_str_bytes inherited.now)))) }
     ensures lacks { OfExpanding contents.now components.old
-        (λ modules names live. «module» < length modules
+        (λ trees modules names live. «module» < length modules
         → IfOk result (λ _. Notes (AtNumbers modules names
         (LacksWithin depth modules (name_at modules «module») (rc_str_bytes inherited.now)))
         components.old.lack components.new.lack)) }
@@ -100,22 +100,22 @@ fn expand_include<'c, 't, 's>(
     content: &Contents<'t, 's>,
     module: usize,
     context: Context<'c, 't>,
-    include: &Include<'t>,
+    include: &Include<'s>,
     depth: usize,
 ) -> Result<(), AllocError>
     ensures expands { OfIncluding contents.now components.old content.now include.now
-        (λ modules names live ds. context.entry.bindings.now ≡ content.now.bindings
-        → IfOk result (λ _. Expands names contents.now components.old components.new live
+        (λ trees modules names live ds. context.entry.bindings.now ≡ content.now.bindings
+        → IfOk result (λ _. Expands names trees contents.now components.old components.new live
         (specs.without_overridden (brought_in depth modules
         (rc_str_bytes context.entry.inherited.now) ds include.now)
-        (resolved_between names content.now (rc_str_bytes context.entry.inherited.now) ds
+        (resolved_between names trees content.now (rc_str_bytes context.entry.inherited.now) ds
         include.now.from include.now.to)))) }
     ensures lacks { OfIncluding contents.now components.old content.now include.now
-        (λ modules names live ds. context.entry.bindings.now ≡ content.now.bindings
+        (λ trees modules names live ds. context.entry.bindings.now ≡ content.now.bindings
         → «module» < length modules → IfOk result (λ _. Notes (AtNumbers modules names
         (InclusionLacks depth modules (name_at modules «module»)
         (rc_str_bytes context.entry.inherited.now) ds
-        (map (written_view names) content.now.components.items) (inclusion_view include.now)))
+        (map (written_view names trees) content.now.components.items) (inclusion_view include.now)))
         components.old.lack components.new.lack)) }
 {
     let before = components.count();

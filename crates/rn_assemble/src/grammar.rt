@@ -12,8 +12,22 @@ use rn_pattern::Pattern;
 #[derive(Drop)]
 pub struct Grammar {
     pub(crate) joined: Joined,
-    pub ghost well_formed: { IsWellFormed (joined_view joined) } by { IsWellFormed-prop (joined_view joined) },
+    pub ghost well_formed: { IsWellFormed (joined_view joined) } by { IsWellFormed-prop _ },
     pub ghost writable: { ∥ HasWritableTexts (joined_view joined) ∥₁ },
+}
+
+/// What a grammar is made of: its start, its definitions, and which members of their lists are the same body.
+#[derive(Drop)]
+pub struct GrammarParts {
+    /// The start pattern.
+    pub start: Pattern,
+    /// The definitions, in the order of each name's first component.
+    pub definitions: Definitions,
+    /// Of each member of the start, the index of the first member that is the same body (`Grammar::start_firsts`).
+    pub start_firsts: Vec<u32>,
+    /// Of each definition by its number, and each of its members, the index of the first member that is the same body
+    /// (`Grammar::firsts`). Definitions behind the last list have none.
+    pub firsts: Vec<Vec<u32>>,
 }
 
 impl Grammar {
@@ -21,7 +35,7 @@ impl Grammar {
     ghost use Rattle.rn_text.specs.Texts.{Text};
     ghost use Rattle.rn_pattern.specs.Tree.{Tree};
     ghost use Rattle.rn_pattern.specs.View.{pattern_view};
-    ghost use Rattle.rn_assemble.specs.Firsts.{AreFirsts, joined_members};
+    ghost use Rattle.rn_assemble.specs.Firsts.{AreFirsts, HaveFirsts, joined_members};
     ghost use Rattle.rn_assemble.specs.GrammarView.{definitions_view, grammar_view};
 
     /// The start pattern.
@@ -59,6 +73,29 @@ impl Grammar {
         match self.joined.firsts.get(number) {
             Some(firsts) => firsts.as_slice(),
             None => &[],
+        }
+    }
+
+    /// The parts of the grammar, which is taken apart.
+    pub fn into_parts(self) -> GrammarParts
+        ensures start { pattern_view result.start ≡ (grammar_view self).start }
+        ensures definitions { definitions_view result.definitions.entries
+            ≡ (grammar_view self).definitions }
+        ensures start_firsts { AreFirsts result.start_firsts.items
+            (joined_members (grammar_view self).start) }
+        ensures firsts { HaveFirsts result.firsts.items (grammar_view self).definitions }
+    {
+        let Joined {
+            start,
+            defs,
+            start_firsts,
+            firsts,
+        } = self.joined;
+        GrammarParts {
+            start,
+            definitions: defs,
+            start_firsts,
+            firsts,
         }
     }
 }

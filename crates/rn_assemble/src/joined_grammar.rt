@@ -20,6 +20,6 @@ pub(crate) struct Joined {
     pub start_firsts: Vec<u32>,
     /// For each definition, and each member of it, the first member with its body.
     pub firsts: Vec<Vec<u32>>,
-    ghost start_tied: { AreTied start_firsts.items (joined_members (pattern_view start)) } by { AreTied-prop start_firsts.items (joined_members (pattern_view start)) },
-    ghost tied: { HaveTied (firsts_of firsts.items) (definitions_view defs.entries) } by { HaveTied-prop (firsts_of firsts.items) (definitions_view defs.entries) },
+    ghost start_tied: { AreTied start_firsts.items (joined_members (pattern_view start)) } by { AreTied-prop _ _ },
+    ghost tied: { HaveTied (firsts_of firsts.items) (definitions_view defs.entries) } by { HaveTied-prop _ _ },
 }

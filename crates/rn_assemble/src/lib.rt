@@ -31,9 +31,10 @@ mod resolution;
 mod seeds;
 pub mod short_uris;
 mod shortening;
+mod trees;
 
 pub use assembly::{ShortGrammar, assemble, assemble_short};
-pub use grammar::Grammar;
+pub use grammar::{Grammar, GrammarParts};
 pub use instances::INSTANCE_LIMIT;
 pub use joined_grammar::Definitions;
 pub use refusal::{Key, Refusal};

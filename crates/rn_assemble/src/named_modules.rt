@@ -1,5 +1,5 @@
 // The effective modules of a set, read.
-ghost use Rattle.std.specs.Prelude.{IfErr, IfOk, List, MatchResult, map};
+ghost use Rattle.std.specs.Prelude.{◌≡◌, IfErr, IfOk, List, MatchResult, length, map};
 ghost use Rattle.std.specs.Str.{IsUtf8, chars};
 ghost use Rattle.std.specs.String.{string_bytes};
 ghost use Rattle.rn_text.specs.Tokens.{HasFault, HasTokens, lexeme_of};
@@ -10,13 +10,13 @@ ghost use Rattle.rn_syntax.specs.View.{module_view};
 ghost use Rattle.rn_assemble.specs.inside.ModuleTexts.{IsFaultOf, IsRead};
 ghost use Rattle.rn_assemble.specs.Refusal.{AreModules};
 ghost use Rattle.rn_assemble.specs.Refused.{IsFirstRefusal};
-ghost use Rattle.rn_assemble.specs.inside.Views.{AreInOrder, modules_view};
+ghost use Rattle.rn_assemble.specs.inside.Views.{AreInOrder, module_names, modules_view, with_items};
 
 use crate::refusal::Refusal;
 use rn_modset::ModuleSet;
-use rn_syntax::{Module, SyntaxFault, parse};
+use rn_syntax::{Item, Module, SyntaxFault, parse};
 use rn_text::{TextFault, tokens};
-use std::alloc::Global;
+use std::alloc::{AllocError, Global};
 
 /// An effective module: its name and its tree.
 #[derive(Drop)]
@@ -43,6 +43,35 @@ pub(crate) fn read_modules<'a>(
         modules.push(NamedModule { name, tree })?;
     }
     Ok(modules)
+}
+
+/// The modules without their items, and the items of each module.
+pub(crate) type SplitModules<'a> = (Vec<NamedModule<'a>>, Vec<Vec<Item<'a>>>);
+
+/// The modules with their names and declarations alone, and the items of each module. The only error is want of memory.
+pub(crate) fn split_items<'a>(
+    alloc: Global,
+    modules: Vec<NamedModule<'a>>,
+) -> Result<SplitModules<'a>, AllocError>
+    ensures items { IfOk result (λ split. with_items split.0.items split.1.items
+        ≡ modules_view modules.entry.items) }
+    ensures names { IfOk result (λ split. module_names split.0.items
+        ≡ module_names modules.entry.items) }
+    ensures size { IfOk result (λ split. length split.1.items ≡ length split.0.items) }
+{
+    let mut heads = Vec::with_capacity(alloc, modules.len())?;
+    let mut all = Vec::with_capacity(alloc, modules.len())?;
+    for module in modules {
+        let NamedModule { name, tree } = module;
+        let Module { decls, items } = tree;
+        let tree = Module {
+            decls,
+            items: Vec::new(alloc),
+        };
+        heads.push(NamedModule { name, tree })?;
+        all.push(items)?;
+    }
+    Ok((heads, all))
 }
 
 /// The tree of a module's text, or the refusal of its first fault. Its tokens are given up here.

@@ -1,10 +1,9 @@
 // The nodes of resolved patterns.
-ghost use Rattle.std.specs.Prelude.{◌≡◌, map, string_bytes, IfOk, MatchOption};
+ghost use Rattle.std.specs.Prelude.{◌≡◌, string_bytes, IfOk, MatchOption};
 ghost use Rattle.std.specs.Rc.{rc_str_bytes};
 ghost use Rattle.rn_pattern.specs.Opened.{pair};
 ghost use Rattle.rn_pattern.specs.Tree as tree;
-ghost use Rattle.rn_pattern.specs.Tree.{trees_of};
-ghost use Rattle.rn_pattern.specs.View.{parameters_view, pattern_view, shared_view, boxed_view};
+ghost use Rattle.rn_pattern.specs.View.{parameters_view, pattern_view, shared_view, boxed_view, shared_trees};
 
 use crate::constants::Constants;
 use rn_pattern::boxes::{new_box, new_shared};
@@ -124,7 +123,7 @@ fn pair_members(
     first: Rc<Pattern>,
     second: Rc<Pattern>,
 ) -> Result<Vec<Rc<Pattern>>, AllocError>
-    ensures { IfOk result (λ v. trees_of (map shared_view v.items)
+    ensures { IfOk result (λ v. shared_trees v.items
         ≡ pair (shared_view first) (shared_view second)) }
 {
     let mut members = Vec::with_capacity(alloc, 2)?;
@@ -134,19 +133,19 @@ fn pair_members(
 }
 
 pub(crate) fn group(members: Vec<Rc<Pattern>>) -> Pattern
-    ensures { pattern_view result ≡ tree.group (trees_of (map shared_view members.items)) }
+    ensures { pattern_view result ≡ tree.group (shared_trees members.items) }
 {
     Pattern::Group(members)
 }
 
 pub(crate) fn interleave(members: Vec<Rc<Pattern>>) -> Pattern
-    ensures { pattern_view result ≡ tree.interleave (trees_of (map shared_view members.items)) }
+    ensures { pattern_view result ≡ tree.interleave (shared_trees members.items) }
 {
     Pattern::Interleave(members)
 }
 
 pub(crate) fn choice(members: Vec<Rc<Pattern>>) -> Pattern
-    ensures { pattern_view result ≡ tree.choice (trees_of (map shared_view members.items)) }
+    ensures { pattern_view result ≡ tree.choice (shared_trees members.items) }
 {
     Pattern::Choice(members)
 }

@@ -8,6 +8,7 @@ ghost use Rattle.rn_assemble.specs.inside.Expanded.{KeepsBodies, left_by, own_co
 ghost use Rattle.rn_assemble.specs.inside.Keyed.{key_at};
 ghost use Rattle.rn_assemble.specs.inside.Listed.{AreBefore, Lists, Live, PlacesRise, components_in};
 ghost use Rattle.rn_assemble.specs.inside.Noting.{IsOwnLack, Notes};
+ghost use Rattle.rn_assemble.specs.inside.Trees.{TreeView};
 ghost use Rattle.rn_assemble.specs.inside.Views.{IsNumbered};
 
 use crate::components::{Components, Lack};
@@ -20,13 +21,13 @@ impl<'c, 't, 's> Components<'c, 't, 's> {
         before: usize,
         module: usize,
         content: &Contents<'t, 's>,
-        include: &Include<'t>,
+        include: &Include<'s>,
     )
         ensures kept { KeepsBodies self.old self.new }
         ensures list { self.new.list ≡ self.old.list }
         ensures places { self.new.places ≡ self.old.places }
-        ensures noted { (names : List Text) (live added : List Live)
-            → Lists names self.old (live ++ added) → IsStrictlySortedBy text_cmp names
+        ensures noted { (trees : TreeView) (names : List Text) (live added : List Live)
+            → Lists names trees self.old (live ++ added) → IsStrictlySortedBy text_cmp names
             → AreBefore before live → PlacesRise before added
             → AllByRecursion (IsNumbered names) content.now.components.items
             → include.now.from ≤ include.now.to
@@ -45,15 +46,16 @@ impl<'c, 't, 's> Components<'c, 't, 's> {
     }
 
     /// Takes out the components added since a place whose keys the include's own components have.
-    pub fn take_out(&mut self, before: usize, content: &Contents<'t, 's>, include: &Include<'t>)
+    pub fn take_out(&mut self, before: usize, content: &Contents<'t, 's>, include: &Include<'s>)
         ensures kept { KeepsBodies self.old self.new }
         ensures list { self.new.list ≡ self.old.list }
         ensures lack { self.new.lack ≡ self.old.lack }
-        ensures taken { (names : List Text) (live added : List Live)
-            → Lists names self.old (live ++ added) → AreBefore before live → PlacesRise before added
+        ensures taken { (trees : TreeView) (names : List Text) (live added : List Live)
+            → Lists names trees self.old (live ++ added)
+            → AreBefore before live → PlacesRise before added
             → include.now.from ≤ include.now.to
             → include.now.to ≤ length content.now.components.items
-            → Lists names self.new
+            → Lists names trees self.new
             (live ++ left_by (own_components content.now include.now) added) }
     {
         for number in include.from..include.to {
@@ -65,8 +67,8 @@ impl<'c, 't, 's> Components<'c, 't, 's> {
 
     /// Whether a component of the key was added since a place.
     fn has_since(&self, before: usize, key: usize) -> bool
-        ensures { (names : List Text) (live added : List Live)
-            → Lists names self.now (live ++ added) → IsStrictlySortedBy text_cmp names
+        ensures { (trees : TreeView) (names : List Text) (live added : List Live)
+            → Lists names trees self.now (live ++ added) → IsStrictlySortedBy text_cmp names
             → AreBefore before live → PlacesRise before added → key < suc (length names)
             → result ≡ specs.has_key (key_at names key) (components_in added) }
     {

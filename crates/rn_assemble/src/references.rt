@@ -4,20 +4,24 @@ ghost use Rattle.std.specs.List.Sorted.{IsStrictlySortedBy};
 ghost use Rattle.rn_text.specs.Texts.{Text, text_cmp};
 ghost use Rattle.rn_pattern.specs.References.{IsUndefined};
 ghost use Rattle.rn_assemble.specs.Components.{Component};
+ghost use Rattle.rn_syntax.specs.Tree.{empty};
 ghost use Rattle.rn_syntax.specs.View.{pattern_view, patterns_view};
+ghost use Rattle.std.specs.Option.{option_map_or};
 ghost use Rattle.rn_assemble.specs.Combine.{joined_grammar};
 ghost use Rattle.rn_assemble.specs.Least.{IsLeast};
 ghost use Rattle.rn_pattern.specs.declared.references.Reach.TheVariants.{Everywhere, OutsideElements};
 ghost use Rattle.rn_assemble.specs.inside.Keyed.{IsFound};
-ghost use Rattle.rn_assemble.specs.inside.Referred.{AreAllReferences, AreBodiesAt, AreNumbers, IsFresh, IsLeastRecursive, IsLeastUndefined, IsLooked, KeepsLeast, all_references, lesser_text, names_within, number_within, reference_view, references, references_in};
+ghost use Rattle.rn_assemble.specs.inside.Referred.{AreAllReferences, AreBodiesAt, AreNumbers, IsFresh, IsLeastRecursive, IsLeastUndefined, IsLooked, KeepsLeast, all_references, lesser_text, names_within, number_within, reference_view, references, references_in, tree_of};
 ghost use Rattle.rn_assemble.specs.inside.Views.{names_of};
 ghost use Rattle.rn_pattern.specs.Matching.{definition_of};
 ghost use Rattle.rn_pattern.specs.Graph.{AllBelow, IsGraph, row, rows_of};
-ghost use Rattle.rn_assemble.specs.inside.Listed.{Lists, Live, OfKeys, components_in};
+ghost use Rattle.rn_assemble.specs.inside.Listed.{Lists, Live, OfTrees, components_in};
+ghost use Rattle.rn_assemble.specs.inside.Trees.{TreeView, trees_by};
 
 use crate::components::{Components, Near};
 use crate::keys::{Keys, START};
 use crate::refusal::Refusal;
+use crate::trees::Trees;
 use rn_pattern::graph::{marked_rows, reached_nodes};
 use rn_pattern::ranks::least_looped;
 use rn_pattern::{NodeReferences, Reach, ReferenceRows};
@@ -36,6 +40,7 @@ pub(crate) fn references_of<'s>(
     alloc: Global,
     keys: &Keys<'s>,
     components: &Components<'_, '_, 's>,
+    trees: &Trees<'s>,
 ) -> Result<ReferenceRows, Refusal>
     ensures everywhere { IfOk result (λ r. IsGraph (rows_of r.everywhere)) }
     ensures everywhere_size { IfOk result (λ r. length (rows_of r.everywhere)
@@ -43,7 +48,7 @@ pub(crate) fn references_of<'s>(
     ensures outside { IfOk result (λ r. IsGraph (rows_of r.outside)) }
     ensures outside_size { IfOk result (λ r. length (rows_of r.outside)
         ≡ length (names_of keys.now) + 1) }
-    ensures found { OfKeys keys.now components.now
+    ensures found { OfTrees keys.now (trees_by trees.now.trees.items) components.now
         (λ names cs. MatchResult result
         (λ r. AreAllReferences names cs (rows_of r.everywhere) (rows_of r.outside))
         (IsLeastUndefined cs)) }
@@ -54,7 +59,7 @@ pub(crate) fn references_of<'s>(
     let mut near = Near::default();
     for key in 0..keys.len() {
         let bodies = bodies_of(alloc, components, key, &mut looked, &mut near)?;
-        let references = references_in(alloc, components, bodies.as_slice(), &mut near)?;
+        let references = references_in(alloc, components, trees, bodies.as_slice(), &mut near)?;
         let row = row_of(
             alloc,
             keys,
@@ -122,19 +127,34 @@ fn look(body: Option<usize>, key: usize, looked: &mut Vec<Option<usize>>) -> Opt
 fn references_in<'s>(
     alloc: Global,
     components: &Components<'_, '_, 's>,
+    trees: &Trees<'s>,
     bodies: &[usize],
     near: &mut Near,
 ) -> Result<Vec<Reference<'s>>, AllocError>
     ensures { IfOk result (λ found. map reference_view found.items
-        ≡ references_in components.now bodies.now) }
+        ≡ references_in (trees_by trees.now.trees.items) components.now bodies.now) }
 {
     let mut references = Vec::new(alloc);
     for number in bodies {
-        if let Some(body) = components.body(*number, near) {
-            refer(body.component.body, Reach::OutsideElements, &mut references)?;
+        if let Some(tree) = tree_of(components, trees, *number, near) {
+            refer(tree, Reach::OutsideElements, &mut references)?;
         }
     }
     Ok(references)
+}
+
+/// The tree of the body with that number, if it wasn't given up.
+fn tree_of<'x, 's>(
+    components: &Components<'_, '_, 's>,
+    trees: &'x Trees<'s>,
+    number: usize,
+    near: &mut Near,
+) -> Option<&'x Pat<'s>>
+    ensures { option_map_or (λ p. pattern_view p.now) result empty
+        ≡ tree_of (trees_by trees.now.trees.items) components.now.bodies number }
+{
+    let body = components.body(number, near)?;
+    trees.tree(body.component.key, body.component.tree)
 }
 
 /// Adds the references of a pattern that stands in that reach.
@@ -242,7 +262,8 @@ fn least_undefined<'s>(
 
 /// Whether the key of a name, if the name has one, has components.
 fn has_components(components: &Components<'_, '_, '_>, key: Option<usize>) -> bool
-    ensures { (names : List Text) (live : List Live) (x : Text) → Lists names components.now live
+    ensures { (trees : TreeView) (names : List Text) (live : List Live) (x : Text)
+        → Lists names trees components.now live
         → IsStrictlySortedBy text_cmp names → IsFound names x key
         → result ≡ is_some (definition_of (joined_grammar (components_in live)) x) }
 {

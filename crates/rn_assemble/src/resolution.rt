@@ -3,9 +3,9 @@ ghost use Rattle.std.specs.Prelude.{◌≡◌, List, [], map, IfOk};
 ghost use Rattle.std.specs.Cow.{cow_str_bytes};
 ghost use Rattle.std.specs.Rc.{rc_str_bytes};
 ghost use Rattle.rn_pattern.specs.Tree as tree;
-ghost use Rattle.rn_pattern.specs.Tree.{name_trees_of, trees_of};
+ghost use Rattle.rn_pattern.specs.Tree.{name_trees_of};
 ghost use Rattle.rn_text.specs.Texts.{Text};
-ghost use Rattle.rn_pattern.specs.View.{name_class_view, parameters_view, pattern_view, shared_view, boxed_view};
+ghost use Rattle.rn_pattern.specs.View.{name_class_view, parameters_view, pattern_view, boxed_view, shared_trees};
 ghost use Rattle.rn_syntax.specs.Tree as source;
 ghost use Rattle.rn_syntax.specs.View as seen;
 ghost use Rattle.rn_assemble.specs.inside.ContextBindings.{InContext};
@@ -23,11 +23,11 @@ use rn_syntax::{AnyName, Data, Datatype, Name, Nc, Operator, Param, Pat, Postfix
 use std::alloc::{AllocError, Global};
 use std::rc::{Rc, RcStr};
 
-fn name<'t>(
+fn name(
     alloc: Global,
-    context: Context<'_, 't>,
+    context: Context<'_, '_>,
     own: &RcStr,
-    name: &'t Name<'_>,
+    name: &Name<'_>,
 ) -> Result<NameClass, AllocError>
     ensures { InContext context.entry (λ inherited ds. IfOk result (λ c. name_class_view c
         ≡ resolve.resolved_name inherited ds (rc_str_bytes own.now) (seen.name_view name.now))) }
@@ -42,7 +42,7 @@ fn name<'t>(
 }
 
 /// Every name, or every name of a namespace.
-fn every_name<'t>(context: Context<'_, 't>, any: &'t AnyName<'_>) -> Result<NameClass, AllocError>
+fn every_name(context: Context<'_, '_>, any: &AnyName<'_>) -> Result<NameClass, AllocError>
     ensures { InContext context.entry (λ inherited ds. IfOk result (λ c. name_class_view c
         ≡ resolve.every_name inherited ds (seen.any_view any.now))) }
 {
@@ -56,10 +56,10 @@ fn every_name<'t>(context: Context<'_, 't>, any: &'t AnyName<'_>) -> Result<Name
 }
 
 /// Every name, or every name of a namespace, without the names of a class.
-fn every_name_but<'t>(
+fn every_name_but(
     alloc: Global,
-    context: Context<'_, 't>,
-    any: &'t AnyName<'_>,
+    context: Context<'_, '_>,
+    any: &AnyName<'_>,
     except: NameClass,
 ) -> Result<NameClass, AllocError>
     ensures { InContext context.entry (λ inherited ds. IfOk result (λ c. name_class_view c
@@ -84,11 +84,11 @@ fn class_choice(members: Vec<NameClass>) -> NameClass
 
 /// The name class, where a name without prefix is in the namespace `own`.
 #[cycle(name_class)]
-pub(crate) fn name_class<'t>(
+pub(crate) fn name_class(
     alloc: Global,
-    context: Context<'_, 't>,
+    context: Context<'_, '_>,
     own: &RcStr,
-    class: &'t Nc<'_>,
+    class: &Nc<'_>,
 ) -> Result<NameClass, AllocError>
     ensures { InContext context.entry (λ inherited ds. IfOk result (λ c. name_class_view c
         ≡ resolve.resolved_class inherited ds (rc_str_bytes own.now) (seen.class_view class.now))) }
@@ -105,11 +105,11 @@ pub(crate) fn name_class<'t>(
 }
 
 #[cycle(name_class)]
-fn name_classes<'t>(
+fn name_classes(
     alloc: Global,
-    context: Context<'_, 't>,
+    context: Context<'_, '_>,
     own: &RcStr,
-    classes: &'t [Nc<'_>],
+    classes: &[Nc<'_>],
 ) -> Result<Vec<NameClass>, AllocError>
     ensures { InContext context.entry (λ inherited ds. IfOk result
         (λ v. name_trees_of (map name_class_view v.items)
@@ -145,11 +145,7 @@ fn type_name<'t>(datatype: &'t Datatype<'_>) -> &'t str
 }
 
 /// A value; one without a datatype is of the built-in token.
-fn value<'t>(
-    alloc: Global,
-    context: Context<'_, 't>,
-    value: &'t Value<'_>,
-) -> Result<Pattern, AllocError>
+fn value(alloc: Global, context: Context<'_, '_>, value: &Value<'_>) -> Result<Pattern, AllocError>
     ensures { InContext context.entry (λ inherited ds. IfOk result (λ p. pattern_view p
         ≡ resolve.typed_value inherited ds (seen.type_view value.now.datatype)
         (cow_str_bytes value.now.text))) }
@@ -174,11 +170,7 @@ fn params(alloc: Global, given: &[Param<'_>]) -> Result<Vec<(String, String)>, A
     Ok(params)
 }
 
-fn datum<'t>(
-    alloc: Global,
-    context: Context<'_, 't>,
-    data: &'t Data<'_>,
-) -> Result<Pattern, AllocError>
+fn datum(alloc: Global, context: Context<'_, '_>, data: &Data<'_>) -> Result<Pattern, AllocError>
     ensures { InContext context.entry (λ inherited ds. IfOk result (λ p. pattern_view p
         ≡ tree.datum (resolve.type_library inherited ds (seen.datatype_view «data».now.datatype))
         (resolve.type_name inherited ds (seen.datatype_view «data».now.datatype))
@@ -195,10 +187,10 @@ fn datum<'t>(
 }
 
 /// The datatype without the values of a pattern.
-fn datum_but<'t>(
+fn datum_but(
     alloc: Global,
-    context: Context<'_, 't>,
-    data: &'t Data<'_>,
+    context: Context<'_, '_>,
+    data: &Data<'_>,
     except: Box<Pattern>,
 ) -> Result<Pattern, AllocError>
     ensures { InContext context.entry (λ inherited ds. IfOk result (λ p. pattern_view p
@@ -218,10 +210,10 @@ fn datum_but<'t>(
 }
 
 /// An element; a name without prefix is in the default namespace.
-fn element<'t>(
+fn element(
     alloc: Global,
-    context: Context<'_, 't>,
-    class: &'t Nc<'_>,
+    context: Context<'_, '_>,
+    class: &Nc<'_>,
     content: Box<Pattern>,
 ) -> Result<Pattern, AllocError>
     ensures { InContext context.entry (λ inherited ds. IfOk result (λ p. pattern_view p
@@ -233,10 +225,10 @@ fn element<'t>(
 }
 
 /// An attribute; a name without prefix is in no namespace.
-fn attribute<'t>(
+fn attribute(
     alloc: Global,
-    context: Context<'_, 't>,
-    class: &'t Nc<'_>,
+    context: Context<'_, '_>,
+    class: &Nc<'_>,
     content: Box<Pattern>,
 ) -> Result<Pattern, AllocError>
     ensures { InContext context.entry (λ inherited ds. IfOk result (λ p. pattern_view p
@@ -250,7 +242,7 @@ fn attribute<'t>(
 fn chain(operator: Operator, members: Vec<Rc<Pattern>>) -> Pattern
     ensures { (inherited : Text) (ds : List source.Declaration)
         → pattern_view result
-        ≡ resolve.operator_node inherited ds operator (trees_of (map shared_view members.items)) }
+        ≡ resolve.operator_node inherited ds operator (shared_trees members.items) }
 {
     match operator {
         Operator::Comma => group(members),
@@ -278,10 +270,10 @@ fn repetition(
 
 /// A written pattern with its names resolved (RELAX NG 2001, 4.8 to 4.15), in a box.
 #[cycle(pattern)]
-pub(crate) fn pattern<'t>(
+pub(crate) fn pattern(
     alloc: Global,
-    context: Context<'_, 't>,
-    written: &'t Pat<'_>,
+    context: Context<'_, '_>,
+    written: &Pat<'_>,
 ) -> Result<Box<Pattern>, AllocError>
     ensures { InContext context.entry (λ inherited ds. IfOk result (λ p. boxed_view p
         ≡ resolve.resolved_pattern inherited ds (seen.pattern_view written.now))) }
@@ -291,10 +283,10 @@ pub(crate) fn pattern<'t>(
 
 /// A written pattern with its names resolved.
 #[cycle(pattern)]
-fn resolve_pattern<'t>(
+fn resolve_pattern(
     alloc: Global,
-    context: Context<'_, 't>,
-    written: &'t Pat<'_>,
+    context: Context<'_, '_>,
+    written: &Pat<'_>,
 ) -> Result<Pattern, AllocError>
     ensures { InContext context.entry (λ inherited ds. IfOk result (λ p. pattern_view p
         ≡ resolve.resolved_pattern inherited ds (seen.pattern_view written.now))) }
@@ -335,13 +327,13 @@ fn resolve_pattern<'t>(
 }
 
 #[cycle(pattern)]
-fn patterns<'t>(
+fn patterns(
     alloc: Global,
-    context: Context<'_, 't>,
-    written: &'t [Pat<'_>],
+    context: Context<'_, '_>,
+    written: &[Pat<'_>],
 ) -> Result<Vec<Rc<Pattern>>, AllocError>
     ensures { InContext context.entry (λ inherited ds. IfOk result
-        (λ v. trees_of (map shared_view v.items)
+        (λ v. shared_trees v.items
         ≡ resolve.resolved_patterns inherited ds (seen.patterns_view written.now))) }
 {
     let mut members = Vec::with_capacity(alloc, written.len())?;

@@ -1,5 +1,5 @@
 -- Modules whose includes were followed: their components, and their least override of what isn't there.
-use Rattle.std.proofs.Common.{◌≡◌, ℕ, ◌<◌, List, [], length, get_or, map, Option, Some, None, Result, sym, ap, ◌∙◌, subst, arith}
+use Rattle.std.proofs.Common.{◌≡◌, ℕ, ◌<◌, List, [], length, get_or, map, Option, Some, None, Result, sym, ap, ◌∙◌, subst}
 use Rattle.std.specs.Prelude.{◌↔◌, true, flat_map, MatchResult}
 use Rattle.std.specs.List.{AllByRecursion}
 use Rattle.std.specs.List.Sorted.{IsStrictlySortedBy}
@@ -26,15 +26,20 @@ use Rattle.rn_assemble.specs.inside.Listed.{Live, Lists, components_in}
 use Rattle.rn_assemble.specs.inside.Methods.{CanCombine}
 use Rattle.rn_assemble.specs.Refusal.{Lacks, StandsFor, override}
 use Rattle.rn_assemble.specs.inside.Sound.{HasSoundReferences}
-use Rattle.rn_assemble.specs.inside.Views.{named_module_view, modules_view}
+use Rattle.rn_assemble.specs.inside.Views.{AreNamed}
 use Rattle.rn_assemble.proofs.Answering.FirstRefusal.{NoneBelow, none_included, none_lacking, none_combined, none_sound, misnamed_first, combined_grammar_of}
 use Rattle.rn_assemble.proofs.Expansion.Lacking.{lacks_alike}
 use Rattle.rn_assemble.proofs.Renaming.AlikeFacts.{least_alike, some_alike}
+use Rattle.rn_assemble.specs.inside.Trees.{TreeView}
+
+-- modules that are named alike are as many
+pub same_length : (ms : List NamedModule) (modules : List code_module.NamedModule) → AreNamed ms modules → length ms ≡ length modules
+same_length ms modules named = sym (length-map ms (λ (m : NamedModule). m.name)) ∙ ap length named ∙ length-map modules (λ (m : code_module.NamedModule). m.name.now)
 
 -- the name of a module, by its place
-pub name_seen_at : (ms : List code_module.NamedModule) (i : ℕ) (d : code_module.NamedModule) → i < length ms → (get_or ms i d).name.now ≡ name_at (modules_view ms) i
-name_seen_at ms i d l =
-    sym (get_or-map (λ (n : NamedModule). n.name) (modules_view ms) i (named_module_view d) [] (omega (arith, l, length-map ms named_module_view)) ∙ ap (λ (n : NamedModule). n.name) (get_or-map named_module_view ms i d (named_module_view d) l))
+pub name_named_at : (ms : List NamedModule) (modules : List code_module.NamedModule) → AreNamed ms modules → (i : ℕ) (d : code_module.NamedModule) → i < length modules → (get_or modules i d).name.now ≡ name_at ms i
+name_named_at ms modules named i d l =
+    sym (get_or-map (λ (m : code_module.NamedModule). m.name.now) modules i d [] l) ∙ sym (ap (λ ns. get_or ns i []) named)
 
 -- the components of the roots are those of the set
 from_roots : (modules : List NamedModule) (numbers : List ℕ) → AreIncluded modules numbers → flat_map (λ n. components modules (name_at modules n) []) numbers ≡ set_components modules
@@ -51,8 +56,8 @@ least_lack modules names P Q alike (Some l) h = (
   (least_alike key_cmp (P (name_at modules l.«module»)) (Q (name_at modules l.«module»)) (alike (name_at modules l.«module»)) (key_at names l.key)).0 h.3,
 )
 
-pub expanded : (modules : List NamedModule) (names : List Text) (x : Components) (numbers : List ℕ) → IsStrictlySortedBy text_cmp (map (λ (m : NamedModule). m.name) modules) → AllByRecursion (λ (m : NamedModule). AreFlat m.tree.items) modules
-    → AreIncluded modules numbers → AreNames modules names → IsListed names x (flat_map (λ n. components modules (name_at modules n) []) numbers) → IsLeastLack modules names (LacksFrom modules numbers) x.lack → AreExpanded modules names x
+pub expanded : {trees : TreeView} (modules : List NamedModule) (names : List Text) (x : Components) (numbers : List ℕ) → IsStrictlySortedBy text_cmp (map (λ (m : NamedModule). m.name) modules) → AllByRecursion (λ (m : NamedModule). AreFlat m.tree.items) modules
+    → AreIncluded modules numbers → AreNames modules names → IsListed names trees x (flat_map (λ n. components modules (name_at modules n) []) numbers) → IsLeastLack modules names (LacksFrom modules numbers) x.lack → AreExpanded modules names trees x
 expanded modules names x numbers o flat a n listed lack = record {
   numbers = numbers;
   included = a;
@@ -65,9 +70,9 @@ pub override_stands : (modules : List NamedModule) (names : List Text) (l : Lack
 override_stands modules names l x k h ex ek =
     subst (λ (y : Text). StandsFor modules (override y k)) (sym ex) (subst (λ (j : Key). StandsFor modules (override (name_at modules l.«module») j)) (sym ek) (h.2, h.3))
 
-module _ (modules : List NamedModule) (names : List Text) (x : Components) (h : AreExpanded modules names x) where
+module _ (modules : List NamedModule) {trees : TreeView} (names : List Text) (x : Components) (h : AreExpanded modules names trees x) where
   -- what holds of live components, of those of the set
-  pub at_set : (P : List Component → Type 0) → ((live : List Live) → Lists names x live → IsStrictlySortedBy text_cmp names → P (components_in live)) → P (set_components modules)
+  pub at_set : (P : List Component → Type 0) → ((live : List Live) → Lists names trees x live → IsStrictlySortedBy text_cmp names → P (components_in live)) → P (set_components modules)
   at_set P f = subst P h.listed.2 (f h.listed.0 h.listed.1 h.in_order)
 
   pub passed_includes : NoneBelow modules 5
@@ -82,7 +87,7 @@ module _ (modules : List NamedModule) (names : List Text) (x : Components) (h : 
       passed_methods = none_combined modules passed_overrides can
 
       -- one component is of the start
-      pub has_start : HasStart names x
+      pub has_start : HasStart names trees x
       has_start = (h.listed.0, h.listed.1, h.in_order, ap (has_key start_key) h.listed.2 ∙ can.start)
 
       module _ (sound : HasSoundReferences (set_components modules)) where
@@ -90,7 +95,7 @@ module _ (modules : List NamedModule) (names : List Text) (x : Components) (h : 
         passed_references = none_sound modules passed_methods sound
 
         pub combined_or_first : (r : Result Combined code.Refusal)
-            → ((live : List Live) → Lists names x live → IsStrictlySortedBy text_cmp names → has_key start_key (components_in live) ≡ true → MatchResult r (IsCombinedGrammar (components_in live)) (IsMisnamed (components_in live)))
+            → ((live : List Live) → Lists names trees x live → IsStrictlySortedBy text_cmp names → has_key start_key (components_in live) ≡ true → MatchResult r (IsCombinedGrammar (components_in live)) (IsMisnamed (components_in live)))
             → MatchResult r (λ g. IsGrammarOf modules (combined_view g)) (IsFirstOfModules modules)
         combined_or_first r f =
             MatchResult-weaker r (at_set (λ cs. has_key start_key cs ≡ true → MatchResult r (IsCombinedGrammar cs) (IsMisnamed cs)) f can.start) (combined_grammar_of modules passed_references) (misnamed_first modules passed_references)

@@ -21,6 +21,7 @@ use Rattle.rn_assemble.specs.inside.Views.{IsNumbered, written_view}
 use Rattle.rn_assemble.specs.inside.Listed.{IsBody, IsLive, Live, Lists, resolved_component}
 use Rattle.rn_assemble.specs.inside.Expanded.{AddsLive, ContextHolds, IsContentAt, StartsAt, left_by}
 use Rattle.rn_assemble.proofs.Expansion.LiveLists.{each_to, rises_join}
+use Rattle.rn_assemble.specs.inside.Trees.{TreeView}
 
 -- bodies of a context
 pub starts_grown : (bodies more : List Body) (first : ℕ) (content : Contents) (u : Text) → StartsAt bodies first content u → StartsAt (bodies ++ more) first content u
@@ -94,39 +95,39 @@ pub left_none : (es : List Live) → left_by [] es ≡ es
 left_none [] = refl
 left_none (e ∷ es) = ap (λ l. e ∷ l) (left_none es)
 
-module _ (names : List Text) where
+module _ (names : List Text) (trees : TreeView) where
   -- the body of a component of a context
   pub body_is : (bodies : List Body) (first : ℕ) (content : Contents) (u : Text) (ds : List Declaration) → BindsAs content.bindings ds → StartsAt bodies first content u → AllByRecursion (IsNumbered names) content.components.items
-      → (i : ℕ) (c : code.WrittenComponent) → i < length content.components.items → c ≡ get_or content.components.items i c → (d : Body) → IsBody names (get_or bodies (first + i) d) c.key (resolved_component u ds (written_view names c))
+      → (i : ℕ) (c : code.WrittenComponent) → i < length content.components.items → c ≡ get_or content.components.items i c → (d : Body) → IsBody names trees (get_or bodies (first + i) d) c.key (resolved_component u ds (written_view names trees c))
   body_is bodies first content u ds binds starts numbered i c l e d =
       let same : (get_or bodies (first + i) d).component ≡ c = starts.component i d c l ∙ sym e in
       record {
         key_is = ap (λ (b : code.WrittenComponent). b.key) same;
         numbered = subst (λ (b : code.WrittenComponent). IsNumbered names b) (sym e) (All-from_recursion (IsNumbered names) content.components.items numbered i c l);
-        shown = (ds, subst (λ b. BindsAs b ds) (sym (starts.bindings i d l)) binds, λ j. resolved_component (sym (starts.inherited_is i d l) j) ds (written_view names (sym same j)));
+        shown = (ds, subst (λ b. BindsAs b ds) (sym (starts.bindings i d l)) binds, λ j. resolved_component (sym (starts.inherited_is i d l) j) ds (written_view names trees (sym same j)));
       }
 
   -- components added behind
-  pub live_below : (x : Components) (live : List Live) → Lists names x live → AllByRecursion (λ (e : Live). e.place < length x.list) live
-  live_below x live h = each_to (IsLive names x.bodies x.list) (λ (e : Live). e.place < length x.list) (λ e k. k.within) live h.are
+  pub live_below : (x : Components) (live : List Live) → Lists names trees x live → AllByRecursion (λ (e : Live). e.place < length x.list) live
+  live_below x live h = each_to (IsLive names trees x.bodies x.list) (λ (e : Live). e.place < length x.list) (λ e k. k.within) live h.are
 
-  pub adds_none : (x : Components) (live : List Live) → Lists names x live → AddsLive names x x live []
-  adds_none x live h = record { added = []; lists = subst (λ es. Lists names x es) (sym (append-nil live)) h; rises = tt; longer = omega arith; are = refl }
+  pub adds_none : (x : Components) (live : List Live) → Lists names trees x live → AddsLive names trees x x live []
+  adds_none x live h = record { added = []; lists = subst (λ es. Lists names trees x es) (sym (append-nil live)) h; rises = tt; longer = omega arith; are = refl }
 
-  pub adds_one : (old mid new : Components) (live : List Live) (cs : List Component) (h : AddsLive names old mid live cs) (e : Live) → Lists names new ((live ++ h.added) ++ e ∷ []) → e.place ≡ length mid.list → length mid.list ≤ length new.list → AddsLive names old new live (cs ++ e.component ∷ [])
+  pub adds_one : (old mid new : Components) (live : List Live) (cs : List Component) (h : AddsLive names trees old mid live cs) (e : Live) → Lists names trees new ((live ++ h.added) ++ e ∷ []) → e.place ≡ length mid.list → length mid.list ≤ length new.list → AddsLive names trees old new live (cs ++ e.component ∷ [])
   adds_one old mid new live cs h e lists at longer = record {
     added = h.added ++ e ∷ [];
-    lists = subst (λ es. Lists names new es) (append_assoc live h.added (e ∷ [])) lists;
+    lists = subst (λ es. Lists names trees new es) (append_assoc live h.added (e ∷ [])) lists;
     rises = rises_join (length old.list) (length mid.list) h.added (e ∷ []) h.longer h.rises (each_behind (λ (d : Live). d.place < length mid.list) live h.added (live_below mid (live ++ h.added) h.lists)) (omega (arith, at), tt);
     longer = omega (arith, h.longer, longer);
     are = map-append (λ (d : Live). d.component) h.added (e ∷ []) ∙ ap (λ l. l ++ e.component ∷ []) h.are;
   }
 
   -- those added in two steps
-  pub adds_both : (old mid new : Components) (live : List Live) (cs ds : List Component) (h : AddsLive names old mid live cs) → AddsLive names mid new (live ++ h.added) ds → AddsLive names old new live (cs ++ ds)
+  pub adds_both : (old mid new : Components) (live : List Live) (cs ds : List Component) (h : AddsLive names trees old mid live cs) → AddsLive names trees mid new (live ++ h.added) ds → AddsLive names trees old new live (cs ++ ds)
   adds_both old mid new live cs ds h k = record {
     added = h.added ++ k.added;
-    lists = subst (λ es. Lists names new es) (append_assoc live h.added k.added) k.lists;
+    lists = subst (λ es. Lists names trees new es) (append_assoc live h.added k.added) k.lists;
     rises = rises_join (length old.list) (length mid.list) h.added k.added h.longer h.rises (each_behind (λ (d : Live). d.place < length mid.list) live h.added (live_below mid (live ++ h.added) h.lists)) k.rises;
     longer = omega (arith, h.longer, k.longer);
     are = map-append (λ (d : Live). d.component) h.added k.added ∙ (λ i. h.are i ++ k.are i);
@@ -135,10 +136,10 @@ module _ (names : List Text) where
 pub left_more : (cs : List code.WrittenComponent) (a b : ℕ) (c : code.WrittenComponent) (es : List Live) → a ≤ b → b < length cs → c ≡ get_or cs b c → left_by (slice_range cs a (b + 1)) es ≡ filter (λ (e : Live). not (e.key == c.key)) (left_by (slice_range cs a b) es)
 left_more cs a b c es l m e = ap (λ own. left_by own es) (range_more cs a b c l m ∙ ap (λ d. slice_range cs a b ++ d ∷ []) (sym e)) ∙ left_push (slice_range cs a b) c es
 
-pub resolved_more : (names : List Text) (u : Text) (ds : List Declaration) (cs : List code.WrittenComponent) (a b : ℕ) (c : code.WrittenComponent) → a ≤ b → b < length cs → c ≡ get_or cs b c
-    → map (resolved_component u ds) (slice_range (map (written_view names) cs) a (b + 1)) ≡ map (resolved_component u ds) (slice_range (map (written_view names) cs) a b) ++ resolved_component u ds (written_view names c) ∷ []
-resolved_more names u ds cs a b c l m e =
-    let ws = map (written_view names) cs in
-    let at : get_or ws b (written_view names c) ≡ written_view names c = get_or-map (written_view names) cs b c (written_view names c) m ∙ ap (written_view names) (sym e) in
-    ap (map (resolved_component u ds)) (range_more ws a b (written_view names c) l (omega (arith, m, length-map cs (written_view names))) ∙ ap (λ w. slice_range ws a b ++ w ∷ []) at)
-    ∙ map-append (resolved_component u ds) (slice_range ws a b) (written_view names c ∷ [])
+pub resolved_more : (names : List Text) (trees : TreeView) (u : Text) (ds : List Declaration) (cs : List code.WrittenComponent) (a b : ℕ) (c : code.WrittenComponent) → a ≤ b → b < length cs → c ≡ get_or cs b c
+    → map (resolved_component u ds) (slice_range (map (written_view names trees) cs) a (b + 1)) ≡ map (resolved_component u ds) (slice_range (map (written_view names trees) cs) a b) ++ resolved_component u ds (written_view names trees c) ∷ []
+resolved_more names trees u ds cs a b c l m e =
+    let ws = map (written_view names trees) cs in
+    let at : get_or ws b (written_view names trees c) ≡ written_view names trees c = get_or-map (written_view names trees) cs b c (written_view names trees c) m ∙ ap (written_view names trees) (sym e) in
+    ap (map (resolved_component u ds)) (range_more ws a b (written_view names trees c) l (omega (arith, m, length-map cs (written_view names trees))) ∙ ap (λ w. slice_range ws a b ++ w ∷ []) at)
+    ∙ map-append (resolved_component u ds) (slice_range ws a b) (written_view names trees c ∷ [])

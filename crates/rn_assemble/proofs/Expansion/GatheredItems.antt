@@ -1,69 +1,124 @@
--- Items that are gathered one after the other.
-use Rattle.std.proofs.Common.{◌≡◌, ℕ, ◌+◌, ◌<◌, List, ◌∷◌, ◌++◌, length, get_or, take, drop, map, drop-cons, sym, ap, ◌∙◌, subst, [], append_assoc, append-nil, Contains, add-one, arith}
-use Rattle.std.specs.List.{AllByRecursion, AllZip}
-use Rattle.rn_pattern.proofs.Ordered.InOrder.{each_contained}
-use Rattle.rn_assemble.specs.declared.named_modules.NamedModule as code_module
-use Rattle.std.proofs.lemmas.List.{length-map, get_or-map, take_more}
+-- Items that are gathered one after the other, and what modules with their items apart consist of.
+use Rattle.std.proofs.Common.{◌≡◌, ℕ, ◌+◌, ◌<◌, cond, Some, List, ◌∷◌, ◌++◌, length, get_or, map, flat_map, refl, sym, ap, ◌∙◌, subst, [], append_assoc, append-nil, Contains, arith}
+use Rattle.std.specs.Prelude.{bytes_eq, Vec}
+use Rattle.std.specs.declared.alloc.Global.{Global}
+use Rattle.std.specs.List.{AllZip, position_from}
+use Rattle.std.proofs.lemmas.List.{map-append}
+use Rattle.std.proofs.lemmas.List.Elements.{Contains-append_left, Contains-append_right}
 use Rattle.rn_text.specs.Texts.{Text}
-use Rattle.rn_pattern.proofs.Ordered.Ascending.{each_front, each_behind}
+use Rattle.rn_pattern.proofs.Ordered.Ascending.{each_append, each_front, each_behind}
+use Rattle.rn_pattern.proofs.Ordered.InOrder.{each_contained}
 use Rattle.rn_syntax.specs.declared.tree.Item.{Item}
-use Rattle.rn_syntax.specs.Tree as t
 use Rattle.rn_syntax.specs.View.{item_view, items_view}
 use Rattle.rn_assemble.specs.Components.{NamedModule}
-use Rattle.rn_assemble.specs.inside.Contained.{WrittenComponent, Inclusion, inclusions, item_inclusions, written_components, item_written_components}
 use Rattle.rn_assemble.specs.declared.contents.WrittenComponent as code_component
-use Rattle.rn_assemble.specs.inside.Views.{Adds, written_view, named_module_view, modules_view}
-use Rattle.rn_assemble.specs.inside.Keyed.{AreNames, defines, item_defines}
-use Rattle.rn_assemble.proofs.Referring.FoundReferences.{flat_contains}
+use Rattle.rn_assemble.specs.declared.named_modules.NamedModule as code_module
+use Rattle.rn_assemble.specs.declared.trees.KeyedTree.{KeyedTree}
+use Rattle.rn_assemble.specs.inside.Contained.{WrittenComponent, Inclusion, inclusions, item_inclusions, written_components, item_written_components, place_in}
+use Rattle.rn_assemble.specs.inside.Keyed.{AreAmong, AreNames, defines, item_defines}
+use Rattle.rn_assemble.specs.inside.Trees.{trees_by}
+use Rattle.rn_assemble.specs.inside.Views.{Adds, AreNamed, IsNumbered, module_names, module_with, modules_view, with_items, written_view}
 
--- the item at a place, and those behind it
-pub items_at : (xs : List Item) (i : ℕ) (x : Item) → i < length xs → x ≡ get_or xs i x → items_view (drop i xs) ≡ t.item (item_view x) (items_view (drop (i + 1) xs))
-items_at xs i x l e = ap items_view (drop-cons xs i x l) ∙ (λ j. t.item (item_view (sym e j)) (items_view (drop (sym (add-one i) j) xs)))
+pub nothing_left : {X : Type 0} (l : List X) → length l ≡ 0 → l ≡ []
+nothing_left [] h = refl
+nothing_left (x ∷ xs) h = absurd (omega arith)
 
-pub defined_at : (names : List Text) (xs : List Item) (i : ℕ) (x : Item) → i < length xs → x ≡ get_or xs i x → AllByRecursion (Contains names) (defines (items_view (drop i xs))) → AllByRecursion (Contains names) (item_defines (item_view x))
-defined_at names xs i x l e h = each_front (Contains names) _ (defines (items_view (drop (i + 1) xs))) (subst (λ (ys : t.Items). AllByRecursion (Contains names) (defines ys)) (items_at xs i x l e) h)
+-- ---- one item and those behind it
 
-pub defined_behind : (names : List Text) (xs : List Item) (i : ℕ) (x : Item) → i < length xs → x ≡ get_or xs i x → AllByRecursion (Contains names) (defines (items_view (drop i xs))) → AllByRecursion (Contains names) (defines (items_view (drop (i + 1) xs)))
-defined_behind names xs i x l e h = each_behind (Contains names) (item_defines (item_view x)) _ (subst (λ (ys : t.Items). AllByRecursion (Contains names) (defines ys)) (items_at xs i x l e) h)
+pub defined_first : (names : List Text) (left rest : List Item) (x : Item) → left ≡ x ∷ rest → AreAmong names (defines (items_view left)) → AreAmong names (item_defines (item_view x))
+defined_first names left rest x e h = each_front (Contains names) _ (defines (items_view rest)) (subst (λ (ys : List Item). AreAmong names (defines (items_view ys))) e h)
 
--- one more item is gathered, or all of an item's children
-pub adds_none : (names : List Text) (cs : List code_component.WrittenComponent) → Adds names cs cs []
-adds_none names cs = record { is = sym (append-nil (map (written_view names) cs)); numbered = λ h. h }
+pub defined_rest : (names : List Text) (left rest : List Item) (x : Item) → left ≡ x ∷ rest → AreAmong names (defines (items_view left)) → AreAmong names (defines (items_view rest))
+defined_rest names left rest x e h = each_behind (Contains names) (item_defines (item_view x)) _ (subst (λ (ys : List Item). AreAmong names (defines (items_view ys))) e h)
 
-pub adds_more : (names : List Text) (cs ds es : List code_component.WrittenComponent) (us vs : List WrittenComponent) → Adds names cs ds us → Adds names ds es vs → Adds names cs es (us ++ vs)
-adds_more names cs ds es us vs a b = record {
-  is = b.is ∙ ap (λ l. l ++ vs) a.is ∙ append_assoc (map (written_view names) cs) us vs;
-  numbered = λ h. b.numbered (a.numbered h);
+pub written_parted : (left rest : List Item) (x : Item) → left ≡ x ∷ rest → written_components (items_view left) ≡ item_written_components (item_view x) ++ written_components (items_view rest)
+written_parted left rest x e = ap (λ (ys : List Item). written_components (items_view ys)) e
+
+pub inclusions_more : (ms : List NamedModule) (left rest : List Item) (x : Item) → left ≡ x ∷ rest → (m n : ℕ) → n ≡ m + length (item_written_components (item_view x)) → (us vs ws : List Inclusion)
+    → us ++ inclusions ms m (items_view left) ≡ ws → vs ≡ us ++ item_inclusions ms m (item_view x) → vs ++ inclusions ms n (items_view rest) ≡ ws
+inclusions_more ms left rest x e m n s us vs ws h k =
+    ap (λ a. a ++ inclusions ms n (items_view rest)) k ∙ append_assoc us (item_inclusions ms m (item_view x)) (inclusions ms n (items_view rest))
+    ∙ ap (λ q. us ++ (item_inclusions ms m (item_view x) ++ inclusions ms q (items_view rest))) s
+    ∙ sym (ap (λ (ys : List Item). us ++ inclusions ms m (items_view ys)) e) ∙ h
+
+-- an include after its own items' includes
+pub includes_more : (olds mids own : List Inclusion) (i j : Inclusion) → mids ≡ olds ++ own → i ≡ j → mids ++ i ∷ [] ≡ olds ++ (own ++ j ∷ [])
+includes_more olds mids own i j h e = ap (λ l. l ++ i ∷ []) h ∙ append_assoc olds own (i ∷ []) ∙ ap (λ k. olds ++ (own ++ k ∷ [])) e
+
+-- ---- components that are added, and their trees
+
+pub adds_none : (names : List Text) (cs : List code_component.WrittenComponent) (es : List KeyedTree) → Adds names cs cs es es []
+adds_none names cs es = record { more = []; grown = []; components = sym (append-nil cs); trees = sym (append-nil es); is = λ later. refl; numbered = tt }
+
+pub adds_more : (names : List Text) (cs ds es : List code_component.WrittenComponent) (before mid after : List KeyedTree) (us vs : List WrittenComponent)
+    → Adds names cs ds before mid us → Adds names ds es mid after vs → Adds names cs es before after (us ++ vs)
+adds_more names cs ds es before mid after us vs a b = record {
+  more = a.more ++ b.more;
+  grown = a.grown ++ b.grown;
+  components = b.components ∙ ap (λ l. l ++ b.more) a.components ∙ append_assoc cs a.more b.more;
+  trees = b.trees ∙ ap (λ l. l ++ b.grown) a.trees ∙ append_assoc before a.grown b.grown;
+  is = λ later.
+      let behind : after ++ later ≡ mid ++ (b.grown ++ later) = ap (λ l. l ++ later) b.trees ∙ append_assoc mid b.grown later in
+      map-append (written_view names (trees_by (after ++ later))) a.more b.more
+      ∙ ap (λ l. l ++ map (written_view names (trees_by (after ++ later))) b.more) (ap (λ (l : List KeyedTree). map (written_view names (trees_by l)) a.more) behind ∙ a.is (b.grown ++ later))
+      ∙ ap (λ l. us ++ l) (b.is later);
+  numbered = each_append (IsNumbered names) a.more b.more a.numbered b.numbered;
 }
 
-pub written_to : (xs : List Item) (i : ℕ) (x : Item) → i < length xs → x ≡ get_or xs i x → written_components (items_view (drop i xs)) ≡ item_written_components (item_view x) ++ written_components (items_view (drop (i + 1) xs))
-written_to xs i x l e = ap written_components (items_at xs i x l e)
+-- ---- places of modules, which their names alone decide
 
-module _ (modules : List NamedModule) where
-  pub inclusions_more : (xs : List Item) (i : ℕ) (x : Item) → i < length xs → x ≡ get_or xs i x → (m n : ℕ) → n ≡ m + length (item_written_components (item_view x)) → (us vs ws : List Inclusion)
-      → us ++ inclusions modules m (items_view (drop i xs)) ≡ ws → vs ≡ us ++ item_inclusions modules m (item_view x) → vs ++ inclusions modules n (items_view (drop (i + 1) xs)) ≡ ws
-  inclusions_more xs i x l e m n s us vs ws h k =
-      ap (λ a. a ++ inclusions modules n (items_view (drop (i + 1) xs))) k ∙ append_assoc us (item_inclusions modules m (item_view x)) (inclusions modules n (items_view (drop (i + 1) xs)))
-      ∙ ap (λ q. us ++ (item_inclusions modules m (item_view x) ++ inclusions modules q (items_view (drop (i + 1) xs)))) s
-      ∙ sym (ap (λ a. us ++ inclusions modules m a) (items_at xs i x l e)) ∙ h
+places_by_name : (x : Text) (i : ℕ) (ms : List NamedModule) → position_from (λ (m : NamedModule). bytes_eq x m.name) i ms ≡ position_from (bytes_eq x) i (map (λ (m : NamedModule). m.name) ms)
+places_by_name x i [] = refl
+places_by_name x i (m ∷ ms) = ap (cond (bytes_eq x m.name) (Some i)) (places_by_name x (i + 1) ms)
 
--- each module's contents
-pub defined_each : (ms : List code_module.NamedModule) (names : List Text) (i : ℕ) (m : code_module.NamedModule) → AreNames (modules_view ms) names → i < length ms → m ≡ get_or ms i m → AllByRecursion (Contains names) (defines (items_view m.tree.items.items))
-defined_each ms names i m a l e =
-    let at : Contains (modules_view ms) (named_module_view m) = (i, omega (arith, l, length-map ms named_module_view), get_or-map named_module_view ms i m (named_module_view m) l ∙ ap named_module_view (sym e)) in
-    each_contained (Contains names) (defines (items_view m.tree.items.items)) (λ x k. (a.defined x).1 (flat_contains (λ (n : NamedModule). defines n.tree.items) (modules_view ms) (named_module_view m) x at k))
+viewed_names : (modules : List code_module.NamedModule) → map (λ (m : NamedModule). m.name) (modules_view modules) ≡ module_names modules
+viewed_names [] = refl
+viewed_names (m ∷ ms) = ap (λ l. m.name.now ∷ l) (viewed_names ms)
 
-pub zip_seen : {X Y C : Type 0} (f : X → Y) (R : Y → C → Type 0) (xs : List X) (cs : List C) → AllZip (λ x c. R (f x) c) xs cs → AllZip R (map f xs) cs
-zip_seen f R [] [] h = h
-zip_seen f R [] (c ∷ cs) h = h
-zip_seen f R (x ∷ xs) [] h = h
-zip_seen f R (x ∷ xs) (c ∷ cs) h = (h.0, zip_seen f R xs cs h.1)
+pub named_places : (ms : List NamedModule) (modules : List code_module.NamedModule) (x : Text) → AreNamed ms modules → place_in (modules_view modules) x ≡ place_in ms x
+named_places ms modules x named =
+    places_by_name x 0 (modules_view modules) ∙ ap (λ (ns : List Text). position_from (bytes_eq x) 0 ns) (viewed_names modules ∙ sym named) ∙ sym (places_by_name x 0 ms)
 
-zip_push : {X C : Type 0} (R : X → C → Type 0) (xs : List X) (cs : List C) (x : X) (c : C) → AllZip R xs cs → R x c → AllZip R (xs ++ x ∷ []) (cs ++ c ∷ [])
+-- ---- modules with items in the place of their own
+
+pub names_with : (ms : List code_module.NamedModule) (xss : List (Vec Item Global)) → length xss ≡ length ms → AreNamed (with_items ms xss) ms
+names_with [] [] h = refl
+names_with [] (xs ∷ xss) h = refl
+names_with (m ∷ ms) [] h = absurd (omega arith)
+names_with (m ∷ ms) (xs ∷ xss) h = ap (λ l. m.name.now ∷ l) (names_with ms xss (omega arith))
+
+pub with_none : (ms : List code_module.NamedModule) → with_items ms [] ≡ []
+with_none [] = refl
+with_none (m ∷ ms) = refl
+
+pub with_both_more : (ms : List code_module.NamedModule) (xss : List (Vec Item Global)) (m : code_module.NamedModule) (xs : Vec Item Global) → length xss ≡ length ms
+    → with_items (ms ++ m ∷ []) (xss ++ xs ∷ []) ≡ with_items ms xss ++ module_with m xs ∷ []
+with_both_more [] [] m xs h = refl
+with_both_more [] (ys ∷ xss) m xs h = absurd (omega arith)
+with_both_more (n ∷ ms) [] m xs h = absurd (omega arith)
+with_both_more (n ∷ ms) (ys ∷ xss) m xs h = ap (λ l. module_with n ys ∷ l) (with_both_more ms xss m xs (omega arith))
+
+pub with_more : (ms : List code_module.NamedModule) (xss : List (Vec Item Global)) (m : code_module.NamedModule) (xs : Vec Item Global) → length xss < length ms → m ≡ get_or ms (length xss) m
+    → with_items ms (xss ++ xs ∷ []) ≡ with_items ms xss ++ module_with m xs ∷ []
+with_more [] xss m xs l e = absurd (omega arith)
+with_more (n ∷ ms) [] m xs l e = ap (λ r. module_with n xs ∷ r) (with_none ms) ∙ ap (λ k. module_with k xs ∷ []) (sym e)
+with_more (n ∷ ms) (ys ∷ xss) m xs l e = ap (λ r. module_with n ys ∷ r) (with_more ms xss m xs (omega arith) e)
+
+flat_defined : (ms : List code_module.NamedModule) (before after : List (Vec Item Global)) (xs : Vec Item Global) (x : Text) → length before < length ms
+    → Contains (defines (items_view xs.items)) x → Contains (flat_map (λ (m : NamedModule). defines m.tree.items) (with_items ms (before ++ xs ∷ after))) x
+flat_defined [] before after xs x l k = absurd (omega arith)
+flat_defined (n ∷ ms) [] after xs x l k = Contains-append_left (defines (items_view xs.items)) _ x k
+flat_defined (n ∷ ms) (ys ∷ before) after xs x l k = Contains-append_right (defines (items_view ys.items)) _ x (flat_defined ms before after xs x (omega arith) k)
+
+-- what the items of one of the modules define is among the names
+pub defined_each : (ms : List code_module.NamedModule) (names : List Text) (before after : List (Vec Item Global)) (xs : Vec Item Global) → AreNames (with_items ms (before ++ xs ∷ after)) names → length before < length ms
+    → AreAmong names (defines (items_view xs.items))
+defined_each ms names before after xs a l = each_contained (Contains names) (defines (items_view xs.items)) (λ x k. (a.defined x).1 (flat_defined ms before after xs x l k))
+
+-- ---- one module's contents more
+
+pub zip_push : {X C : Type 0} (R : X → C → Type 0) (xs : List X) (cs : List C) (x : X) (c : C) → AllZip R xs cs → R x c → AllZip R (xs ++ x ∷ []) (cs ++ c ∷ [])
 zip_push R [] [] x c h r = (r, tt)
 zip_push R [] (d ∷ cs) x c h r = absurd h
 zip_push R (y ∷ xs) [] x c h r = absurd h
 zip_push R (y ∷ xs) (d ∷ cs) x c h r = (h.0, zip_push R xs cs x c h.1 r)
-
-pub zip_more : {X C : Type 0} (R : X → C → Type 0) (xs : List X) (cs : List C) (i : ℕ) (x : X) (c : C) → i < length xs → x ≡ get_or xs i x → AllZip R (take i xs) cs → R x c → AllZip R (take (i + 1) xs) (cs ++ c ∷ [])
-zip_more R xs cs i x c l e h r = subst (λ ys. AllZip R ys (cs ++ c ∷ [])) (sym (take_more xs i x l ∙ ap (λ y. take i xs ++ y ∷ []) (sym e))) (zip_push R (take i xs) cs x c h r)

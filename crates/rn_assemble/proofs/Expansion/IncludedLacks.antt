@@ -30,6 +30,7 @@ use Rattle.rn_assemble.proofs.Expansion.NotedLacks.{IsKeyNumber, IsModuleName, S
 use Rattle.rn_assemble.proofs.Referring.KeyNumbers.{same_key-Decides}
 use Rattle.rn_assemble.proofs.Expansion.Spliced.{items_none, items_plain, no_includes_behind, no_includes_front, range_parts, whole_range}
 use Rattle.rn_assemble.proofs.Joining.UsedMethods.{kept_contains}
+use Rattle.rn_assemble.specs.inside.Trees.{TreeView}
 
 -- some element of a list, and of what it is made to
 any_map : {X Y : Type 0} (f : X → Y) (P : Y → Type 0) (xs : List X) → Any (λ x. P (f x)) xs → Any P (map f xs)
@@ -175,8 +176,8 @@ module _ (depth : ℕ) (modules : List NamedModule) (x u : Text) (m : NamedModul
   brought_lacks (i, c, h) = (m, subst (λ (ms : List NamedModule). Contains ms m) (sym named) (contains_front m []), from_brought (c.0, i, c.1, c.2, h))
 
 -- what the includes of a module's contents brought is what the module lacks
-pub module_noted : (depth : ℕ) (modules : List NamedModule) (names : List Text) (x u : Text) (m : NamedModule) (content : Contents) (old new : Option Lack) → modules_named x modules ≡ m ∷ [] → AreFlat m.tree.items → IsContents modules names m content
-    → Notes (AtNumbers modules names (SomeLacks (InclusionLacks depth modules x u m.tree.declarations (map (written_view names) content.components.items)) (map inclusion_view content.includes.items))) old new
+pub module_noted : {trees : TreeView} (depth : ℕ) (modules : List NamedModule) (names : List Text) (x u : Text) (m : NamedModule) (content : Contents) (old new : Option Lack) → modules_named x modules ≡ m ∷ [] → AreFlat m.tree.items → IsContents modules names trees m content
+    → Notes (AtNumbers modules names (SomeLacks (InclusionLacks depth modules x u m.tree.declarations (map (written_view names trees) content.components.items)) (map inclusion_view content.includes.items))) old new
     → Notes (AtNumbers modules names (LacksWithin (suc depth) modules x u)) old new
 module_noted depth modules names x u m content old new named flat is h =
     let By : List WrittenComponent → List Inclusion → Text → Key → Type 0 = λ ws js. SomeLacks (InclusionLacks depth modules x u m.tree.declarations ws) js in
@@ -197,9 +198,9 @@ paired R (a ∷ xs) (b ∷ ys) x z c = ⊎_elim (λ e. (b, subst (λ v. R v b) e
 abbrev HasNumber : List Text → WrittenComponent → Type 0
 HasNumber names w = IsKeyNumber names w.key
 
-numbered_written : (names : List Text) (cs : List code.WrittenComponent) → AllByRecursion (IsNumbered names) cs → AllByRecursion (HasNumber names) (map (written_view names) cs)
-numbered_written names [] h = tt
-numbered_written names (c ∷ cs) h = ((c.key, h.0, refl), numbered_written names cs h.1)
+numbered_written : (names : List Text) (trees : TreeView) (cs : List code.WrittenComponent) → AllByRecursion (IsNumbered names) cs → AllByRecursion (HasNumber names) (map (written_view names trees) cs)
+numbered_written names trees [] h = tt
+numbered_written names trees (c ∷ cs) h = ((c.key, h.0, refl), numbered_written names trees cs h.1)
 
 number_at : (names : List Text) (k : Key) (w : WrittenComponent) (b r : Bool) → same_key k w.key ≡ b → HasNumber names w → (r ≡ true → IsKeyNumber names k) → (b || r) ≡ true → IsKeyNumber names k
 number_at names k w true r e h f t = (h.0, h.1, (same_key-Decides k w.key).0 e ∙ h.2)
@@ -209,16 +210,16 @@ number_of : (names : List Text) (u : Text) (ds : List Declaration) (k : Key) (ws
 number_of names u ds k [] h e = absurd (false≢true e)
 number_of names u ds k (w ∷ ws) h e = number_at names k w (same_key k w.key) (has_key k (map (resolved_component u ds) ws)) refl h.0 (number_of names u ds k ws h.1) e
 
-module _ (modules : List NamedModule) (names : List Text) (contents : List Contents) (are : AreContents modules names contents) (flat : AllByRecursion (λ (m : NamedModule). AreFlat m.tree.items) modules) where
+module _ (modules : List NamedModule) (names : List Text) (trees : TreeView) (contents : List Contents) (are : AreContents modules names trees contents) (flat : AllByRecursion (λ (m : NamedModule). AreFlat m.tree.items) modules) where
   key_number : (depth : ℕ) (u : Text) (m : NamedModule) (k : Key) → Contains modules m → items_lack (components_within depth modules) u m.tree.declarations m.tree.items k ≡ true → IsKeyNumber names k
   key_number depth u m k c e =
-      let r = paired (IsContents modules names) modules contents m are c in
+      let r = paired (IsContents modules names trees) modules contents m are c in
       let ws = written_components m.tree.items in
       let fl = contained_each (λ (n : NamedModule). AreFlat n.tree.items) modules flat m c in
       let a = Any-from_list_any (lacks_by modules (components_within depth modules) (included_in depth modules) (included_agrees depth modules) u m.tree.declarations ws k) (inclusions modules 0 m.tree.items) (items_lack_is modules (components_within depth modules) (included_in depth modules) (included_agrees depth modules) u m.tree.declarations k m.tree.items fl ∙ e) in
       let i = a.1 in
       let own = and_parts (has_key k (map (resolved_component u m.tree.declarations) (slice_range ws i.first i.end))) _ a.4 in
-      let each : AllByRecursion (HasNumber names) ws = subst (λ (vs : List WrittenComponent). AllByRecursion (HasNumber names) vs) r.1.components (numbered_written names r.0.components.items r.1.numbered) in
+      let each : AllByRecursion (HasNumber names) ws = subst (λ (vs : List WrittenComponent). AllByRecursion (HasNumber names) vs) r.1.components (numbered_written names trees r.0.components.items r.1.numbered) in
       number_of names u m.tree.declarations k (slice_range ws i.first i.end) (each_take (HasNumber names) (i.end - i.first) (drop i.first ws) (each_drop (HasNumber names) i.first ws each)) own.0
 
   pub lack_found : (depth : ℕ) (x u y : Text) (k : Key) → LacksWithin depth modules x u y k → IsModuleName modules y × IsKeyNumber names k

@@ -15,6 +15,7 @@ use Rattle.rn_assemble.specs.Components.{Component}
 use Rattle.rn_assemble.specs.inside.Listed.{IsBody, IsLive, Live, ListsBy, PlacesRise, places_of}
 pub use Rattle.rn_assemble.proofs.Combined.PlainComponents.{mapped as each_to}
 use Rattle.rn_assemble.specs.inside.Tied.{body_of}
+use Rattle.rn_assemble.specs.inside.Trees.{TreeView}
 
 each_filtered_at : {X : Type 0} (P : X → Type 0) (b : Bool) (x : X) (ys : List X) → P x → AllByRecursion P ys → AllByRecursion P (cond b (x ∷ ys) ys)
 each_filtered_at P true x ys h k = (h, k)
@@ -124,7 +125,7 @@ empty_push [] r h e (suc k) = refl
 empty_push (p ∷ rows) r h e zero = h 0
 empty_push (p ∷ rows) r h e (suc k) = empty_push rows r (λ j. h (suc j)) e k
 
-pub lists_none : (names : List Text) (rows : List (List ℕ)) → length rows ≡ suc (length names) → ((k : ℕ) → row rows k ≡ []) → ListsBy names [] [] rows []
+pub lists_none : {trees : TreeView} (names : List Text) (rows : List (List ℕ)) → length rows ≡ suc (length names) → ((k : ℕ) → row rows k ≡ []) → ListsBy names trees [] [] rows []
 lists_none names rows l h = record { size = l; are = tt; rises = tt; places = λ k m. h k }
 
 -- the last of a list
@@ -144,40 +145,51 @@ last_none xs e = elim (cases_lt 0 (length xs)) [
 pub row_body : (list row : List ℕ) (i p : ℕ) → i < length row → p ≡ get_or row i 0 → slice_get list p ≡ body_of list row i
 row_body list row i p l e = ap (slice_get list) e ∙ sym (ap (option_and_then (slice_get list)) (slice_get-get_or row i 0 l))
 
-module _ (names : List Text) where
-  live_still : (bodies more : List Body) (list behind : List ℕ) (e : Live) → IsLive names bodies list e → IsLive names (bodies ++ more) (list ++ behind) e
+-- no live component has another number
+none_past_at : (key : ℕ) (e : Live) (xs ys : List Live) → e.key < key → xs ≡ ys → cond (not (e.key == key)) (e ∷ xs) xs ≡ e ∷ ys
+none_past_at key e xs ys l s = elim (eqb_tells e.key key) [
+  | inl t ↦ absurd (omega (arith, l, t.1))
+  | inr f ↦ ap (λ b. cond (not b) (e ∷ xs) xs) f.0 ∙ ap (λ zs. e ∷ zs) s
+]
+
+none_past : (key : ℕ) (es : List Live) → AllByRecursion (λ (e : Live). e.key < key) es → filter (λ (e : Live). not (e.key == key)) es ≡ es
+none_past key [] h = refl
+none_past key (e ∷ es) h = none_past_at key e (filter (λ (d : Live). not (d.key == key)) es) es h.0 (none_past key es h.1)
+
+module _ {trees : TreeView} (names : List Text) where
+  live_still : (bodies more : List Body) (list behind : List ℕ) (e : Live) → IsLive names trees bodies list e → IsLive names trees (bodies ++ more) (list ++ behind) e
   live_still bodies more list behind e h =
       let at : get_or (list ++ behind) e.place 0 ≡ get_or list e.place 0 = get_or_append_left list behind 0 e.place h.within in
       record {
         within = omega (arith, h.within, length-append list behind);
         body_within = subst (λ b. b < length (bodies ++ more)) (sym at) (omega (arith, h.body_within, length-append bodies more));
-        is = λ d. subst (λ b. IsBody names (get_or (bodies ++ more) b d) e.key e.component) (sym at) (subst (λ (c : Body). IsBody names c e.key e.component) (sym (get_or_append_left bodies more d (get_or list e.place 0) h.body_within)) (h.is d));
+        is = λ d. subst (λ b. IsBody names trees (get_or (bodies ++ more) b d) e.key e.component) (sym at) (subst (λ (c : Body). IsBody names trees c e.key e.component) (sym (get_or_append_left bodies more d (get_or list e.place 0) h.body_within)) (h.is d));
       }
 
   -- more bodies
-  pub lists_more_bodies : (bodies more : List Body) (list : List ℕ) (rows : List (List ℕ)) (live : List Live) → ListsBy names bodies list rows live → ListsBy names (bodies ++ more) list rows live
+  pub lists_more_bodies : (bodies more : List Body) (list : List ℕ) (rows : List (List ℕ)) (live : List Live) → ListsBy names trees bodies list rows live → ListsBy names trees (bodies ++ more) list rows live
   lists_more_bodies bodies more list rows live h = record {
     size = h.size;
-    are = each_to (IsLive names bodies list) (IsLive names (bodies ++ more) list) (λ e k. subst (λ l. IsLive names (bodies ++ more) l e) (append-nil list) (live_still bodies more list [] e k)) live h.are;
+    are = each_to (IsLive names trees bodies list) (IsLive names trees (bodies ++ more) list) (λ e k. subst (λ l. IsLive names trees (bodies ++ more) l e) (append-nil list) (live_still bodies more list [] e k)) live h.are;
     rises = h.rises;
     places = h.places;
   }
 
   -- a component at a new place
-  pub placed : (bodies : List Body) (list : List ℕ) (rows now : List (List ℕ)) (live : List Live) (key body : ℕ) (c : Component) → ListsBy names bodies list rows live → body < length bodies → ((d : Body) → IsBody names (get_or bodies body d) key c)
-      → RowSet rows now key (row rows key ++ length list ∷ []) → key < length rows → ListsBy names bodies (list ++ body ∷ []) now (live ++ record { place = length list; key = key; component = c } ∷ [])
+  pub placed : (bodies : List Body) (list : List ℕ) (rows now : List (List ℕ)) (live : List Live) (key body : ℕ) (c : Component) → ListsBy names trees bodies list rows live → body < length bodies → ((d : Body) → IsBody names trees (get_or bodies body d) key c)
+      → RowSet rows now key (row rows key ++ length list ∷ []) → key < length rows → ListsBy names trees bodies (list ++ body ∷ []) now (live ++ record { place = length list; key = key; component = c } ∷ [])
   placed bodies list rows now live key body c h l is s w =
       let e : Live = record { place = length list; key = key; component = c } in
       let at : get_or (list ++ body ∷ []) (length list) 0 ≡ body = get_or_push list body 0 (length list) refl in
-      let new : IsLive names bodies (list ++ body ∷ []) e = record {
+      let new : IsLive names trees bodies (list ++ body ∷ []) e = record {
         within = omega (arith, length_push list body);
         body_within = subst (λ b. b < length bodies) (sym at) l;
-        is = λ d. subst (λ b. IsBody names (get_or bodies b d) key c) (sym at) (is d);
+        is = λ d. subst (λ b. IsBody names trees (get_or bodies b d) key c) (sym at) (is d);
       } in
       record {
         size = s.size ∙ h.size;
-        are = each_append (IsLive names bodies (list ++ body ∷ [])) live (e ∷ []) (each_to (IsLive names bodies list) (IsLive names bodies (list ++ body ∷ [])) (λ d k. subst (λ bs. IsLive names bs (list ++ body ∷ []) d) (append-nil bodies) (live_still bodies [] list (body ∷ []) d k)) live h.are) (new, tt);
-        rises = rises_join 0 (length list) live (e ∷ []) (omega arith) h.rises (each_to (IsLive names bodies list) (λ (d : Live). d.place < length list) (λ d k. k.within) live h.are) (omega arith, tt);
+        are = each_append (IsLive names trees bodies (list ++ body ∷ [])) live (e ∷ []) (each_to (IsLive names trees bodies list) (IsLive names trees bodies (list ++ body ∷ [])) (λ d k. subst (λ bs. IsLive names trees bs (list ++ body ∷ []) d) (append-nil bodies) (live_still bodies [] list (body ∷ []) d k)) live h.are) (new, tt);
+        rises = rises_join 0 (length list) live (e ∷ []) (omega arith) h.rises (each_to (IsLive names trees bodies list) (λ (d : Live). d.place < length list) (λ d k. k.within) live h.are) (omega arith, tt);
         places = λ k m. elim (cases_eq k key) [
           | inl same ↦ ap (row now) same ∙ s.at ∙ ap (λ r. r ++ length list ∷ []) (h.places key w) ∙ sym (ap (λ j. places_of j (live ++ e ∷ [])) same ∙ places_join key live (e ∷ []) ∙ ap (λ r. places_of key live ++ r) (with_key key e refl))
           | inr other ↦ s.others k other ∙ h.places k (omega (arith, m, s.size)) ∙ sym (places_join k live (e ∷ []) ∙ ap (λ r. places_of k live ++ r) (without_key k e (λ q. other (sym q))) ∙ append-nil (places_of k live))
@@ -185,11 +197,11 @@ module _ (names : List Text) where
       }
 
   -- what stands behind a place is taken out for a key
-  pub taken : (bodies : List Body) (list : List ℕ) (rows now : List (List ℕ)) (live added : List Live) (before key : ℕ) → ListsBy names bodies list rows (live ++ added) → AllByRecursion (λ (e : Live). e.place < before) live → PlacesRise before added
-      → RowSet rows now key (places_of key live) → key < length rows → ListsBy names bodies list now (live ++ filter (λ (e : Live). not (e.key == key)) added)
+  pub taken : (bodies : List Body) (list : List ℕ) (rows now : List (List ℕ)) (live added : List Live) (before key : ℕ) → ListsBy names trees bodies list rows (live ++ added) → AllByRecursion (λ (e : Live). e.place < before) live → PlacesRise before added
+      → RowSet rows now key (places_of key live) → key < length rows → ListsBy names trees bodies list now (live ++ filter (λ (e : Live). not (e.key == key)) added)
   taken bodies list rows now live added before key h low high s w =
       let p : Live → Bool = λ e. not (e.key == key) in
-      let P = IsLive names bodies list in
+      let P = IsLive names trees bodies list in
       record {
         size = s.size ∙ h.size;
         are = each_append P live (filter p added) (each_front P live added h.are) (each_filtered P p added (each_behind P live added h.are));
@@ -200,28 +212,17 @@ module _ (names : List Text) where
         ];
       }
 
-  -- no live component has another number
-  none_past_at : (key : ℕ) (e : Live) (xs ys : List Live) → e.key < key → xs ≡ ys → cond (not (e.key == key)) (e ∷ xs) xs ≡ e ∷ ys
-  none_past_at key e xs ys l s = elim (eqb_tells e.key key) [
-    | inl t ↦ absurd (omega (arith, l, t.1))
-    | inr f ↦ ap (λ b. cond (not b) (e ∷ xs) xs) f.0 ∙ ap (λ zs. e ∷ zs) s
-  ]
-
-  none_past : (key : ℕ) (es : List Live) → AllByRecursion (λ (e : Live). e.key < key) es → filter (λ (e : Live). not (e.key == key)) es ≡ es
-  none_past key [] h = refl
-  none_past key (e ∷ es) h = none_past_at key e (filter (λ (d : Live). not (d.key == key)) es) es h.0 (none_past key es h.1)
-
-  pub some_body : (bodies : List Body) (body key : ℕ) (c : Component) → body < length bodies → ((d : Body) → IsBody names (get_or bodies body d) key c) → key < suc (length names)
+  pub some_body : (bodies : List Body) (body key : ℕ) (c : Component) → body < length bodies → ((d : Body) → IsBody names trees (get_or bodies body d) key c) → key < suc (length names)
   some_body [] body key c l h = absurd (omega (arith, l))
   some_body (b ∷ bs) body key c l h = (h b).numbered
 
-  pub numbered_live : (bodies : List Body) (list : List ℕ) (e : Live) → IsLive names bodies list e → e.key < suc (length names)
+  pub numbered_live : (bodies : List Body) (list : List ℕ) (e : Live) → IsLive names trees bodies list e → e.key < suc (length names)
   numbered_live bodies list e h = some_body bodies (get_or list e.place 0) e.key e.component h.body_within h.is
 
-  pub taken_none : (bodies : List Body) (list : List ℕ) (rows : List (List ℕ)) (live added : List Live) (key : ℕ) → ListsBy names bodies list rows (live ++ added) → length rows ≤ key → ListsBy names bodies list rows (live ++ filter (λ (e : Live). not (e.key == key)) added)
+  pub taken_none : (bodies : List Body) (list : List ℕ) (rows : List (List ℕ)) (live added : List Live) (key : ℕ) → ListsBy names trees bodies list rows (live ++ added) → length rows ≤ key → ListsBy names trees bodies list rows (live ++ filter (λ (e : Live). not (e.key == key)) added)
   taken_none bodies list rows live added key h l =
-      let still = none_past key added (each_to (IsLive names bodies list) (λ (e : Live). e.key < key) (λ e k. omega (arith, numbered_live bodies list e k, l, h.size)) added (each_behind (IsLive names bodies list) live added h.are)) in
-      subst (λ es. ListsBy names bodies list rows (live ++ es)) (sym still) h
+      let still = none_past key added (each_to (IsLive names trees bodies list) (λ (e : Live). e.key < key) (λ e k. omega (arith, numbered_live bodies list e k, l, h.size)) added (each_behind (IsLive names trees bodies list) live added h.are)) in
+      subst (λ es. ListsBy names trees bodies list rows (live ++ es)) (sym still) h
 
 pub popped : (items now whole : List ℕ) → items ≡ take (length items) whole → now ≡ take (length items - 1) items → (now ≡ take (length now) whole) × (length now ≡ length items - 1)
 popped items now whole is e =

@@ -22,6 +22,7 @@ use Rattle.rn_assemble.proofs.Expansion.Expansions.{adds_none, adds_both, starts
 use Rattle.rn_assemble.proofs.Expansion.Overriding.{left_is, range_map}
 use Rattle.rn_assemble.proofs.Expansion.Spliced.{Ordered, spliced, spliced_is, inclusions_ordered}
 use Rattle.rn_assemble.proofs.Expansion.ModuleLookups.{included_agrees, place_within}
+use Rattle.rn_assemble.specs.inside.Trees.{TreeView}
 
 -- each include's module is one of the modules
 abbrev pub IsWithin : List NamedModule → Inclusion → Type 0
@@ -40,35 +41,35 @@ module _ (modules : List NamedModule) where
     items_within n (t.item x xs) = each_append (IsWithin modules) (item_inclusions modules n x) _ (item_within n x) (items_within _ xs)
 
 -- how far a module is expanded
-pub record Going (modules : List NamedModule) (names : List Text) (contents : List Contents) (content : Contents) (old now : Components) (live : List Live) (m : NamedModule) (u : Text) (depth first n : ℕ) (includes : List Include) : Type 0 where
+pub record Going (modules : List NamedModule) (names : List Text) (trees : TreeView) (contents : List Contents) (content : Contents) (old now : Components) (live : List Live) (m : NamedModule) (u : Text) (depth first n : ℕ) (includes : List Include) : Type 0 where
   pub done : List Component
-  pub adds : AddsLive names old now live done
-  pub left : done ++ spliced (included_in depth modules) u m.tree.declarations (map (written_view names) content.components.items) (map inclusion_view includes) n ≡ module_components (components_within depth modules) u m.tree
+  pub adds : AddsLive names trees old now live done
+  pub left : done ++ spliced (included_in depth modules) u m.tree.declarations (map (written_view names trees) content.components.items) (map inclusion_view includes) n ≡ module_components (components_within depth modules) u m.tree
   pub contexts : ContextsHold contents now
   pub starts : StartsAt now.bodies first content u
   pub grows : (more : List Body) × (now.bodies ≡ old.bodies ++ more)
   pub ordered : Ordered (length content.components.items) n (map inclusion_view includes)
   pub within : AllByRecursion (IsWithin modules) (map inclusion_view includes)
 
-module _ (modules : List NamedModule) (names : List Text) (contents : List Contents) (content : Contents) (live : List Live) (m : NamedModule) (u : Text) (depth first : ℕ) where
+module _ (modules : List NamedModule) (names : List Text) (trees : TreeView) (contents : List Contents) (content : Contents) (live : List Live) (m : NamedModule) (u : Text) (depth first : ℕ) where
   abbrev ws : List WrittenComponent
-  ws = map (written_view names) content.components.items
+  ws = map (written_view names trees) content.components.items
 
   abbrev res : List WrittenComponent → List Component
   res = map (resolved_component u m.tree.declarations)
 
   -- at the beginning
-  pub going_none : (old now : Components) → IsContents modules names m content → AreFlat m.tree.items → Lists names old live → KeepsLists old now → Enters contents old now first content u → Going modules names contents content old now live m u depth first 0 content.includes.items
+  pub going_none : (old now : Components) → IsContents modules names trees m content → AreFlat m.tree.items → Lists names trees old live → KeepsLists old now → Enters contents old now first content u → Going modules names trees contents content old now live m u depth first 0 content.includes.items
   going_none old now is flat lists kept entered =
-      let size : length content.components.items ≡ length (written_components m.tree.items) = sym (length-map content.components.items (written_view names)) ∙ ap length is.components in
+      let size : length content.components.items ≡ length (written_components m.tree.items) = sym (length-map content.components.items (written_view names trees)) ∙ ap length is.components in
       let more = lists_more_bodies names old.bodies entered.grows.0 old.list old.places.items live lists in
-      let in_bodies : ListsBy names now.bodies old.list old.places.items live = subst (λ (bs : List Body). ListsBy names bs old.list old.places.items live) (sym entered.grows.1) more in
-      let in_list : ListsBy names now.bodies now.list old.places.items live = subst (λ v. ListsBy names now.bodies v old.places.items live) (sym kept.list) in_bodies in
-      let here : Lists names now live = subst (λ v. ListsBy names now.bodies now.list v.items live) (sym kept.places) in_list in
+      let in_bodies : ListsBy names trees now.bodies old.list old.places.items live = subst (λ (bs : List Body). ListsBy names trees bs old.list old.places.items live) (sym entered.grows.1) more in
+      let in_list : ListsBy names trees now.bodies now.list old.places.items live = subst (λ v. ListsBy names trees now.bodies v old.places.items live) (sym kept.list) in_bodies in
+      let here : Lists names trees now live = subst (λ v. ListsBy names trees now.bodies now.list v.items live) (sym kept.places) in_list in
       let same : length now.list ≡ length old.list = ap length kept.list in
       record {
         done = [];
-        adds = record { added = []; lists = subst (λ es. Lists names now es) (sym (append-nil live)) here; rises = tt; longer = omega (arith, same); are = refl };
+        adds = record { added = []; lists = subst (λ es. Lists names trees now es) (sym (append-nil live)) here; rises = tt; longer = omega (arith, same); are = refl };
         left = (λ i. spliced (included_in depth modules) u m.tree.declarations (is.components i) (is.includes i) 0) ∙ spliced_is modules (components_within depth modules) (included_in depth modules) (included_agrees depth modules) u m.tree.declarations m.tree.items flat;
         contexts = entered.contexts;
         starts = entered.starts;
@@ -78,18 +79,18 @@ module _ (modules : List NamedModule) (names : List Text) (contents : List Conte
       }
 
   -- one include more
-  pub going_more : (old now mid new : Components) (n : ℕ) (i : Include) (rest : List Include) (g : Going modules names contents content old now live m u depth first n (i ∷ rest))
-      → (a : AddsLive names now mid (live ++ g.adds.added) (res (slice_range ws n i.from))) → KeepsBodies now mid
-      → Expands names contents mid new ((live ++ g.adds.added) ++ a.added) (without_overridden (included_in depth modules i.«module» (handed_on u m.tree.declarations (inclusion_view i).inherit)) (res (slice_range ws i.from i.to)))
-      → Going modules names contents content old new live m u depth first i.from rest
+  pub going_more : (old now mid new : Components) (n : ℕ) (i : Include) (rest : List Include) (g : Going modules names trees contents content old now live m u depth first n (i ∷ rest))
+      → (a : AddsLive names trees now mid (live ++ g.adds.added) (res (slice_range ws n i.from))) → KeepsBodies now mid
+      → Expands names trees contents mid new ((live ++ g.adds.added) ++ a.added) (without_overridden (included_in depth modules i.«module» (handed_on u m.tree.declarations (inclusion_view i).inherit)) (res (slice_range ws i.from i.to)))
+      → Going modules names trees contents content old new live m u depth first i.from rest
   going_more old now mid new n i rest g a kept e =
       let part = without_overridden (included_in depth modules i.«module» (handed_on u m.tree.declarations (inclusion_view i).inherit)) (res (slice_range ws i.from i.to)) in
       let after = spliced (included_in depth modules) u m.tree.declarations ws (map inclusion_view rest) i.from in
-      let all = adds_both names now mid new (live ++ g.adds.added) (res (slice_range ws n i.from)) part a e.adds in
+      let all = adds_both names trees now mid new (live ++ g.adds.added) (res (slice_range ws n i.from)) part a e.adds in
       let bodies : new.bodies ≡ now.bodies ++ e.grows.0 = e.grows.1 ∙ ap (λ bs. bs ++ e.grows.0) kept.bodies in
       record {
         done = g.done ++ (res (slice_range ws n i.from) ++ part);
-        adds = adds_both names old now new live g.done (res (slice_range ws n i.from) ++ part) g.adds all;
+        adds = adds_both names trees old now new live g.done (res (slice_range ws n i.from) ++ part) g.adds all;
         left = append_assoc g.done (res (slice_range ws n i.from) ++ part) after ∙ ap (λ l. g.done ++ l) (append_assoc (res (slice_range ws n i.from)) part after) ∙ g.left;
         contexts = e.contexts;
         starts = subst (λ (bs : List Body). StartsAt bs first content u) (sym bodies) (starts_grown now.bodies e.grows.0 first content u g.starts);
@@ -109,11 +110,11 @@ each_take P (suc n) [] h = h
 each_take P (suc n) (x ∷ xs) h = (h.0, each_take P n xs h.1)
 
 -- the same lists
-pub lists_same : (names : List Text) (old new : Components) (live : List Live) → KeepsBodies old new → new.list ≡ old.list → new.places ≡ old.places → Lists names old live → Lists names new live
-lists_same names old new live kept list places h =
-    let in_bodies : ListsBy names new.bodies old.list old.places.items live = subst (λ (bs : List Body). ListsBy names bs old.list old.places.items live) (sym kept.bodies) h in
-    let in_list : ListsBy names new.bodies new.list old.places.items live = subst (λ v. ListsBy names new.bodies v old.places.items live) (sym list) in_bodies in
-    subst (λ v. ListsBy names new.bodies new.list v.items live) (sym places) in_list
+pub lists_same : {trees : TreeView} (names : List Text) (old new : Components) (live : List Live) → KeepsBodies old new → new.list ≡ old.list → new.places ≡ old.places → Lists names trees old live → Lists names trees new live
+lists_same {trees = trees} names old new live kept list places h =
+    let in_bodies : ListsBy names trees new.bodies old.list old.places.items live = subst (λ (bs : List Body). ListsBy names trees bs old.list old.places.items live) (sym kept.bodies) h in
+    let in_list : ListsBy names trees new.bodies new.list old.places.items live = subst (λ v. ListsBy names trees new.bodies v old.places.items live) (sym list) in_bodies in
+    subst (λ v. ListsBy names trees new.bodies new.list v.items live) (sym places) in_list
 
 pub contexts_same : (contents : List Contents) (old new : Components) → KeepsBodies old new → ContextsHold contents old → ContextsHold contents new
 contexts_same contents old new kept h =
@@ -121,19 +122,19 @@ contexts_same contents old new kept h =
     subst (λ v. AllByRecursion (ContextHolds contents new.bodies) v.items) (sym kept.contexts) in_bodies
 
 -- nothing is included
-pub expands_none : (names : List Text) (contents : List Contents) (x : Components) (live : List Live) → Lists names x live → ContextsHold contents x → Expands names contents x x live []
-expands_none names contents x live h k = record { adds = adds_none names x live h; contexts = k; grows = ([], sym (append-nil x.bodies)) }
+pub expands_none : {trees : TreeView} (names : List Text) (contents : List Contents) (x : Components) (live : List Live) → Lists names trees x live → ContextsHold contents x → Expands names trees contents x x live []
+expands_none {trees = trees} names contents x live h k = record { adds = adds_none names trees x live h; contexts = k; grows = ([], sym (append-nil x.bodies)) }
 
 -- what was included, without what is overridden
-pub overrides : (names : List Text) (contents : List Contents) (content : Contents) (u : Text) (ds : List Declaration) (old mid now new : Components) (live : List Live) (cs : List Component) (a b : ℕ) (e : Expands names contents old mid live cs)
+pub overrides : {trees : TreeView} (names : List Text) (contents : List Contents) (content : Contents) (u : Text) (ds : List Declaration) (old mid now new : Components) (live : List Live) (cs : List Component) (a b : ℕ) (e : Expands names trees contents old mid live cs)
     → IsStrictlySortedBy text_cmp names → AllByRecursion (IsNumbered names) content.components.items → KeepsBodies mid now → now.list ≡ mid.list → now.places ≡ mid.places → KeepsBodies now new → new.list ≡ now.list
-    → Lists names new (live ++ left_by (slice_range content.components.items a b) e.adds.added)
-    → Expands names contents old new live (without_overridden cs (map (resolved_component u ds) (slice_range (map (written_view names) content.components.items) a b)))
-overrides names contents content u ds old mid now new live cs a b e o numbered noted list places kept same taken =
+    → Lists names trees new (live ++ left_by (slice_range content.components.items a b) e.adds.added)
+    → Expands names trees contents old new live (without_overridden cs (map (resolved_component u ds) (slice_range (map (written_view names trees) content.components.items) a b)))
+overrides {trees = trees} names contents content u ds old mid now new live cs a b e o numbered noted list places kept same taken =
     let own = slice_range content.components.items a b in
     let added = e.adds.added in
     let all = e.adds.lists.are in
-    let behind = each_behind (IsLive names mid.bodies mid.list) live added all in
+    let behind = each_behind (IsLive names trees mid.bodies mid.list) live added all in
     let size : length new.list ≡ length mid.list = ap length (same ∙ list) in
     record {
       adds = record {
@@ -141,8 +142,8 @@ overrides names contents content u ds old mid now new live cs a b e o numbered n
         lists = taken;
         rises = rises_filtered _ (length old.list) added e.adds.rises;
         longer = omega (arith, size, e.adds.longer);
-        are = left_is names o u ds mid.bodies mid.list own (each_take (IsNumbered names) (b - a) (drop a content.components.items) (each_drop (IsNumbered names) a content.components.items numbered)) added behind
-            ∙ (λ i. without_overridden (e.adds.are i) (map (resolved_component u ds) (sym (range_map (written_view names) a b content.components.items) i)));
+        are = left_is names o trees u ds mid.bodies mid.list own (each_take (IsNumbered names) (b - a) (drop a content.components.items) (each_drop (IsNumbered names) a content.components.items numbered)) added behind
+            ∙ (λ i. without_overridden (e.adds.are i) (map (resolved_component u ds) (sym (range_map (written_view names trees) a b content.components.items) i)));
       };
       contexts = contexts_same contents now new kept (contexts_same contents mid now noted e.contexts);
       grows = (e.grows.0, kept.bodies ∙ noted.bodies ∙ e.grows.1);
@@ -163,16 +164,16 @@ if_ok_always (Ok a) p = p
 if_ok_always (Err e) p = tt
 
 -- at the end
-pub finishes : (modules : List NamedModule) (names : List Text) (contents : List Contents) (content : Contents) (live : List Live) (m : NamedModule) (u : Text) (depth first : ℕ) (old now new : Components) (n end : ℕ)
-    (g : Going modules names contents content old now live m u depth first n []) → end ≡ length content.components.items
-    → AddsLive names now new (live ++ g.adds.added) (map (resolved_component u m.tree.declarations) (slice_range (map (written_view names) content.components.items) n end)) → KeepsBodies now new
-    → (cs : List Component) → module_components (components_within depth modules) u m.tree ≡ cs → Expands names contents old new live cs
-finishes modules names contents content live m u depth first old now new n end g same a kept cs is =
-    let ws = map (written_view names) content.components.items in
+pub finishes : {trees : TreeView} (modules : List NamedModule) (names : List Text) (contents : List Contents) (content : Contents) (live : List Live) (m : NamedModule) (u : Text) (depth first : ℕ) (old now new : Components) (n end : ℕ)
+    (g : Going modules names trees contents content old now live m u depth first n []) → end ≡ length content.components.items
+    → AddsLive names trees now new (live ++ g.adds.added) (map (resolved_component u m.tree.declarations) (slice_range (map (written_view names trees) content.components.items) n end)) → KeepsBodies now new
+    → (cs : List Component) → module_components (components_within depth modules) u m.tree ≡ cs → Expands names trees contents old new live cs
+finishes {trees = trees} modules names contents content live m u depth first old now new n end g same a kept cs is =
+    let ws = map (written_view names trees) content.components.items in
     let last = map (resolved_component u m.tree.declarations) (slice_range ws n end) in
-    let whole : g.done ++ last ≡ cs = ap (λ k. g.done ++ map (resolved_component u m.tree.declarations) (slice_range ws n k)) (same ∙ sym (length-map content.components.items (written_view names))) ∙ g.left ∙ is in
+    let whole : g.done ++ last ≡ cs = ap (λ k. g.done ++ map (resolved_component u m.tree.declarations) (slice_range ws n k)) (same ∙ sym (length-map content.components.items (written_view names trees))) ∙ g.left ∙ is in
     record {
-      adds = subst (λ l. AddsLive names old new live l) whole (adds_both names old now new live g.done last g.adds a);
+      adds = subst (λ l. AddsLive names trees old new live l) whole (adds_both names trees old now new live g.done last g.adds a);
       contexts = contexts_same contents now new kept g.contexts;
       grows = (g.grows.0, kept.bodies ∙ g.grows.1);
     }

@@ -20,6 +20,7 @@ use Rattle.rn_assemble.specs.inside.Listed.{IsBody, IsLive, Live, components_in,
 use Rattle.rn_assemble.specs.inside.Expanded.{left_by}
 use Rattle.rn_assemble.proofs.Expansion.ModulePlaces.{differs}
 use Rattle.rn_assemble.proofs.Expansion.LiveLists.{numbered_live}
+use Rattle.rn_assemble.specs.inside.Trees.{TreeView}
 
 pub drop_map : {X Y : Type 0} (f : X → Y) (n : ℕ) (xs : List X) → drop n (map f xs) ≡ map f (drop n xs)
 drop_map f zero xs = refl
@@ -51,16 +52,16 @@ module _ (names : List Text) (o : IsStrictlySortedBy text_cmp names) where
     | inr t ↦ t.0 ∙ sym (differs (get_or names m []) (get_or names n []) (apart_both m n (λ e. t.1 (ap suc e)) (omega (arith, l)) (omega (arith, k))))
   ]
 
-  key_of_body : (bodies : List Body) (b : ℕ) (e : Live) → b < length bodies → ((d : Body) → IsBody names (get_or bodies b d) e.key e.component) → e.component.key ≡ key_at names e.key
+  key_of_body : {trees : TreeView} (bodies : List Body) (b : ℕ) (e : Live) → b < length bodies → ((d : Body) → IsBody names trees (get_or bodies b d) e.key e.component) → e.component.key ≡ key_at names e.key
   key_of_body [] b e l h = absurd (omega (arith, l))
   key_of_body (c ∷ cs) b e l h = let k = h c in ap (λ (d : Component). d.key) k.shown.2 ∙ ap (key_at names) k.key_is
 
-  pub key_of_live : (bodies : List Body) (list : List ℕ) (e : Live) → IsLive names bodies list e → e.component.key ≡ key_at names e.key
+  pub key_of_live : {trees : TreeView} (bodies : List Body) (list : List ℕ) (e : Live) → IsLive names trees bodies list e → e.component.key ≡ key_at names e.key
   key_of_live bodies list e h = key_of_body bodies (get_or list e.place 0) e h.body_within h.is
 
-  module _ (u : Text) (ds : List Declaration) where
+  module _ (trees : TreeView) (u : Text) (ds : List Declaration) where
     abbrev res : List code.WrittenComponent → List Component
-    res cs = map (resolved_component u ds) (map (written_view names) cs)
+    res cs = map (resolved_component u ds) (map (written_view names trees) cs)
 
     -- a number is that of a key of these just where they have its key
     pub same_any : (n : ℕ) (cs : List code.WrittenComponent) → n < suc (length names) → AllByRecursion (IsNumbered names) cs → list_any (λ (c : code.WrittenComponent). n == c.key) cs ≡ has_key (key_at names n) (res cs)
@@ -72,7 +73,7 @@ module _ (names : List Text) (o : IsStrictlySortedBy text_cmp names) where
     kept_at false c e es xs h s = ap (λ l. e.component ∷ l) s ∙ ap (λ d. cond (not d) (e.component ∷ xs) xs) h
 
     -- what is left of the live components are those that are not overridden
-    pub left_is : (bodies : List Body) (list : List ℕ) (cs : List code.WrittenComponent) → AllByRecursion (IsNumbered names) cs → (es : List Live) → AllByRecursion (IsLive names bodies list) es → components_in (left_by cs es) ≡ without_overridden (components_in es) (res cs)
+    pub left_is : (bodies : List Body) (list : List ℕ) (cs : List code.WrittenComponent) → AllByRecursion (IsNumbered names) cs → (es : List Live) → AllByRecursion (IsLive names trees bodies list) es → components_in (left_by cs es) ≡ without_overridden (components_in es) (res cs)
     left_is bodies list cs n [] h = refl
     left_is bodies list cs n (e ∷ es) h =
         kept_at (list_any (λ (c : code.WrittenComponent). e.key == c.key) cs) (has_key e.component.key (res cs)) e (left_by cs es) (without_overridden (components_in es) (res cs))

@@ -22,6 +22,7 @@ use Rattle.rn_assemble.specs.inside.Expanded.{included_in, name_at}
 use Rattle.rn_assemble.specs.inside.Keyed.{key_at}
 use Rattle.rn_assemble.specs.inside.Listed.{IsLive, Live, ListsBy, PlacesRise, components_in, places_of, resolved_component}
 use Rattle.rn_assemble.specs.inside.Noting.{AtNumbers, IncludedLacks, InclusionLacks, IsOwnLack, Notes, own_lacks}
+use Rattle.rn_assemble.specs.inside.Trees.{TreeView}
 use Rattle.rn_assemble.specs.inside.Views.{IsNumbered, written_view}
 use Rattle.rn_assemble.proofs.Expansion.Expansions.{any_push}
 use Rattle.rn_assemble.proofs.Referring.FoundReferences.{all_keyed}
@@ -33,7 +34,7 @@ use Rattle.rn_assemble.proofs.Expansion.NotedLacks.{notes_both, notes_none, note
 use Rattle.rn_assemble.proofs.Expansion.Overriding.{apart_both, range_map, same_any}
 
 -- whether a component of a key was added, by the last place of the key
-module _ (names : List Text) (bodies : List Body) (list : List ℕ) (rows : List (List ℕ)) (live added : List Live) (before key : ℕ) (h : ListsBy names bodies list rows (live ++ added)) (o : IsStrictlySortedBy text_cmp names)
+module _ (names : List Text) (trees : TreeView) (bodies : List Body) (list : List ℕ) (rows : List (List ℕ)) (live added : List Live) (before key : ℕ) (h : ListsBy names trees bodies list rows (live ++ added)) (o : IsStrictlySortedBy text_cmp names)
     (low : AllByRecursion (λ (e : Live). e.place < before) live) (high : PlacesRise before added) (k : key < suc (length names)) where
   abbrev xs : List ℕ
   xs = places_of key live
@@ -50,7 +51,7 @@ module _ (names : List Text) (bodies : List Body) (list : List ℕ) (rows : List
   added_size : length ys ≡ length parts
   added_size =
       let found = filter (λ (e : Live). eqb e.key key) added in
-      let are : parts ≡ components_in found = of_key_at names o key k added (all_keyed names bodies list added (each_behind (IsLive names bodies list) live added h.are)) in
+      let are : parts ≡ components_in found = of_key_at names o key k added (all_keyed names trees bodies list added (each_behind (IsLive names trees bodies list) live added h.are)) in
       length-map found (λ (e : Live). e.place) ∙ sym (ap length are ∙ length-map found (λ (e : Live). e.component))
 
   below_last : (place : ℕ) → 0 < length (row rows key) → get_or (row rows key) (length (row rows key) - 1) 0 ≡ place → length ys ≡ 0 → place < before
@@ -158,7 +159,7 @@ same_place modules o i j h k e = elim (cases_eq i j) [
 ]
 
 -- an include's own lacks by names, and all that the include brings
-module _ (modules : List NamedModule) (names : List Text) (mo : IsStrictlySortedBy text_cmp (map (λ (m : NamedModule). m.name) modules)) (no : IsStrictlySortedBy text_cmp names) (number : ℕ) (within : number < length modules)
+module _ (modules : List NamedModule) (names : List Text) (trees : TreeView) (mo : IsStrictlySortedBy text_cmp (map (λ (m : NamedModule). m.name) modules)) (no : IsStrictlySortedBy text_cmp names) (number : ℕ) (within : number < length modules)
     (depth : ℕ) (u : Text) (ds : List Declaration) (cs : List code.WrittenComponent) (numbered : AllByRecursion (IsNumbered names) cs) (i : Inclusion) where
   abbrev own : List code.WrittenComponent
   own = slice_range cs i.first i.end
@@ -167,7 +168,7 @@ module _ (modules : List NamedModule) (names : List Text) (mo : IsStrictlySorted
   there = included_in depth modules i.module_at (handed_on u ds i.inherit)
 
   abbrev test : Lack → Bool
-  test l = own_lacks depth modules (name_at modules number) u ds (map (written_view names) cs) i (key_at names l.key)
+  test l = own_lacks depth modules (name_at modules number) u ds (map (written_view names trees) cs) i (key_at names l.key)
 
   own_numbered : AllByRecursion (IsNumbered names) own
   own_numbered = each_take (IsNumbered names) (i.end - i.first) (drop i.first cs) (each_drop (IsNumbered names) i.first cs numbered)
@@ -175,7 +176,7 @@ module _ (modules : List NamedModule) (names : List Text) (mo : IsStrictlySorted
   tests : (l : Lack) → l.key < suc (length names) → (list_any (λ (c : code.WrittenComponent). l.key == c.key) own && not (has_key (key_at names l.key) there)) ≡ test l
   tests l h =
       ap (λ b. b && not (has_key (key_at names l.key) there))
-      (same_any names no u ds l.key own h own_numbered ∙ ap (λ ws. has_key (key_at names l.key) (map (resolved_component u ds) ws)) (sym (range_map (written_view names) i.first i.end cs)))
+      (same_any names no trees u ds l.key own h own_numbered ∙ ap (λ ws. has_key (key_at names l.key) (map (resolved_component u ds) ws)) (sym (range_map (written_view names trees) i.first i.end cs)))
 
   own_named : (l : Lack) → IsOwnLack names number own there l → (l.«module» < length modules) × (l.key < suc (length names)) × ((name_at modules number ≡ name_at modules l.«module») × (test l ≡ true))
   own_named l h =
@@ -187,11 +188,11 @@ module _ (modules : List NamedModule) (names : List Text) (mo : IsStrictlySorted
   named_own l h k e t = (same_place modules mo l.«module» number h within (sym e), tests l k ∙ t)
 
   pub include_noted : (old mid new : Option Lack) → Notes (AtNumbers modules names (IncludedLacks depth modules i.module_at (handed_on u ds i.inherit))) old mid → Notes (IsOwnLack names number own there) mid new
-      → Notes (AtNumbers modules names (InclusionLacks depth modules (name_at modules number) u ds (map (written_view names) cs) i)) old new
+      → Notes (AtNumbers modules names (InclusionLacks depth modules (name_at modules number) u ds (map (written_view names trees) cs) i)) old new
   include_noted old mid new h k =
       let A = AtNumbers modules names (IncludedLacks depth modules i.module_at (handed_on u ds i.inherit)) in
       let B = IsOwnLack names number own there in
-      notes_to (λ l. A l ⊎ B l) (AtNumbers modules names (InclusionLacks depth modules (name_at modules number) u ds (map (written_view names) cs) i)) old new
+      notes_to (λ l. A l ⊎ B l) (AtNumbers modules names (InclusionLacks depth modules (name_at modules number) u ds (map (written_view names trees) cs) i)) old new
       (λ l. ⊎_elim (λ p. (p.0, p.1, inr p.2)) (λ q. let r = own_named l q in (r.0, r.1, inl r.2)))
       (λ l p. ⊎_elim (λ s. inr (named_own l p.0 p.1 s.0 s.1)) (λ q. inl (p.0, p.1, q)) p.2)
       (notes_both A B old mid new h k)

@@ -20,6 +20,7 @@ use Rattle.rn_assemble.proofs.Referring.LeastKeys.{has_none}
 use Rattle.rn_assemble.proofs.Expansion.LiveLists.{above, each_filtered, rises_filtered}
 use Rattle.rn_assemble.proofs.Referring.KeyNumbers.{same_key-Decides}
 use Rattle.rn_assemble.proofs.Joining.UsedMethods.{kept_contains}
+use Rattle.rn_assemble.specs.inside.Trees.{TreeView}
 
 -- ---- live components before a place
 
@@ -118,7 +119,7 @@ number_is : (k : ℕ) (es : List Live) (e : Live) → Contains (filter (λ (d : 
 number_is k [] e c = absurd (omega (arith, c.1))
 number_is k (d ∷ es) e c = number_at (eqb d.key k) k d e (filter (λ (g : Live). eqb g.key k) es) refl (number_is k es e) c
 
-module _ (names : List Text) (bodies : List Body) (list : List ℕ) (rows : List (List ℕ)) (live : List Live) (lists : ListsBy names bodies list rows live) (o : IsStrictlySortedBy text_cmp names) where
+module _ {trees : TreeView} (names : List Text) (bodies : List Body) (list : List ℕ) (rows : List (List ℕ)) (live : List Live) (lists : ListsBy names trees bodies list rows live) (o : IsStrictlySortedBy text_cmp names) where
   abbrev of_number : ℕ → List Live
   of_number k = filter (λ (e : Live). eqb e.key k) live
 
@@ -129,7 +130,7 @@ module _ (names : List Text) (bodies : List Body) (list : List ℕ) (rows : List
   ]
 
   pub live_keyed : (e : Live) → Contains live e → IsKeyed names e
-  live_keyed e c = keyed names bodies list e (contained_each (IsLive names bodies list) live lists.are e c)
+  live_keyed e c = keyed names trees bodies list e (contained_each (IsLive names trees bodies list) live lists.are e c)
 
   -- the first place of a row
   pub first_there : (k q : ℕ) → 0 < k → slice_get (row rows k) 0 ≡ Some q → IsFirstAt names live q (Some k)
@@ -137,13 +138,13 @@ module _ (names : List Text) (bodies : List Body) (list : List ℕ) (rows : List
       let l = row_within k q h in
       let test : Live → Bool = λ e. eqb e.key k in
       let front : Live → Bool = λ e. nat_lt e.place q in
-      let f = head_is (of_number k) q (ap (λ r. slice_get r 0) (sym (row_is names bodies list rows live lists o k l)) ∙ h) in
+      let f = head_is (of_number k) q (ap (λ r. slice_get r 0) (sym (row_is names trees bodies list rows live lists o k l)) ∙ h) in
       let c : Contains (of_number k) f.0 = subst (λ es. Contains es f.0) (sym f.2) (contains_front f.0 f.1) in
       let r : PlacesRise 0 (f.0 ∷ f.1) = subst (λ es. PlacesRise 0 es) f.2 (rises_filtered test 0 live lists.rises) in
       let ks = live_keyed f.0 (kept_contains test live f.0 c) in
       let number : f.0.key ≡ k = number_is k live f.0 c in
       let empty : filter test (before q live) ≡ [] = either_first test front live ∙ ap (before q) f.2 ∙ none_before q q (f.0 ∷ f.1) (omega arith) (omega (arith, f.3), r.1) in
-      let none : of_key (key_at names k) (components_in (before q live)) ≡ [] = of_key_at names o k l (before q live) (all_keyed names bodies list (before q live) (each_filtered (IsLive names bodies list) front live lists.are)) ∙ ap (λ es. components_in es) empty in
+      let none : of_key (key_at names k) (components_in (before q live)) ≡ [] = of_key_at names o k l (before q live) (all_keyed names trees bodies list (before q live) (each_filtered (IsLive names trees bodies list) front live lists.are)) ∙ ap (λ es. components_in es) empty in
       (above_start, l, (f.0, kept_contains test live f.0 c, f.3, ks.1 ∙ ap (key_at names) number), has_none (key_at names k) (components_in (before q live)) (ap length none))
 
   -- a live component is in the row of its key
@@ -151,14 +152,14 @@ module _ (names : List Text) (bodies : List Body) (list : List ℕ) (rows : List
   in_row e c = still_contains (λ (d : Live). eqb d.key e.key) live e c (eq-eqb e.key e.key refl)
 
   pub row_there : (e : Live) → Contains live e → slice_get (row rows e.key) 0 ≡ None → ⊥
-  row_there e c h = no_head (of_number e.key) e (in_row e c) (ap (λ r. slice_get r 0) (sym (row_is names bodies list rows live lists o e.key (live_keyed e c).0)) ∙ h)
+  row_there e c h = no_head (of_number e.key) e (in_row e c) (ap (λ r. slice_get r 0) (sym (row_is names trees bodies list rows live lists o e.key (live_keyed e c).0)) ∙ h)
 
   -- not the first of its row
   pub first_elsewhere : (e : Live) (q : ℕ) → Contains live e → slice_get (row rows e.key) 0 ≡ Some q → q ≢ e.place → has_key e.component.key (components_in (before e.place live)) ≡ true
   first_elsewhere e q c h n =
       let k = live_keyed e c in
       let test : Live → Bool = λ d. eqb d.key e.key in
-      let f = head_is (of_number e.key) q (ap (λ r. slice_get r 0) (sym (row_is names bodies list rows live lists o e.key k.0)) ∙ h) in
+      let f = head_is (of_number e.key) q (ap (λ r. slice_get r 0) (sym (row_is names trees bodies list rows live lists o e.key k.0)) ∙ h) in
       let r : PlacesRise 0 (f.0 ∷ f.1) = subst (λ es. PlacesRise 0 es) f.2 (rises_filtered test 0 live lists.rises) in
       let there : Contains (of_number e.key) f.0 = subst (λ es. Contains es f.0) (sym f.2) (contains_front f.0 f.1) in
       let g = kept_contains test live f.0 there in

@@ -26,6 +26,7 @@ use Rattle.rn_assemble.proofs.Referring.FoundReferences.{Shown, shown}
 use Rattle.rn_assemble.proofs.Joining.SameBodies.{one_body}
 use Rattle.rn_assemble.proofs.Joining.SharedPatterns.{within}
 use Rattle.rn_assemble.proofs.Joining.UsedMethods.{at_row, row_size}
+use Rattle.rn_assemble.specs.inside.Trees.{TreeView}
 
 -- ---- members of a list
 
@@ -51,7 +52,7 @@ tied_same firsts members h i j p at is = let r = h i j p at is in (r.0, tree_sam
 
 -- ---- members with one body
 
-module _ (names : List Text) (bs : List Body) (list : List ℕ) (rows : List (List ℕ)) (live : List Live) (h : ListsBy names bs list rows live) (o : IsStrictlySortedBy text_cmp names) (key : ℕ) (k : key < suc (length names)) where
+module _ {view : TreeView} (names : List Text) (bs : List Body) (list : List ℕ) (rows : List (List ℕ)) (live : List Live) (h : ListsBy names view bs list rows live) (o : IsStrictlySortedBy text_cmp names) (key : ℕ) (k : key < suc (length names)) where
   abbrev places : List ℕ
   places = row rows key
 
@@ -67,14 +68,14 @@ module _ (names : List Text) (bs : List Body) (list : List ℕ) (rows : List (Li
   -- the component at an index, its body and its tree
   record Part (i : ℕ) : Type 0 where
     it : Live
-    its : Shown names bs list it
+    its : Shown names view bs list it
     of_body : body_of list places i ≡ Some its.number
     tree : (d : Tree) → get_or trees i d ≡ it.component.body
 
   part : (i : ℕ) → i < length places → Part i
   part i l =
       let r = at_row names bs list rows live h o key k i l in
-      let s = shown names bs list r.0 (contained_each (IsLive names bs list) live h.are r.0 r.1) in
+      let s = shown names view bs list r.0 (contained_each (IsLive names view bs list) live h.are r.0 r.1) in
       let at : slice_get places i ≡ Some r.0.place = slice_get-get_or places i 0 l ∙ ap Some (sym r.2) in
       record {
         it = r.0;
@@ -87,7 +88,7 @@ module _ (names : List Text) (bs : List Body) (list : List ℕ) (rows : List (Li
   same_tree i j a b e =
       let number : b.its.number ≡ a.its.number = let q : Some b.its.number ≡ Some a.its.number = sym b.of_body ∙ e ∙ a.of_body in cc in
       let body : b.its.body ≡ a.its.body = let q : Some b.its.body ≡ Some a.its.body = sym b.its.is ∙ ap (slice_get bs) number ∙ a.its.is in cc in
-      one_body names a.its.body b.it.key a.it.key b.it.component a.it.component (subst (λ (c : Body). IsBody names c b.it.key b.it.component) body b.its.made) a.its.made
+      one_body names a.its.body b.it.key a.it.key b.it.component a.it.component (subst (λ (c : Body). IsBody names view c b.it.key b.it.component) body b.its.made) a.its.made
 
   -- members whose components have the same body are tied
   pub bodies_tied : (firsts : List ℕ) → 1 < length places → ((i j : ℕ) → slice_get firsts i ≡ Some j → IsFirst list places i j) → AreTied firsts (joined_members (joined_pattern cs (key_at names key)))

@@ -31,6 +31,7 @@ use Rattle.rn_assemble.specs.Refused.{key_view}
 use Rattle.rn_assemble.proofs.Referring.FoundReferences.{all_keyed}
 use Rattle.rn_assemble.proofs.Referring.LeastKeys.{has_none, has_some, least_key, no_key, numbered}
 use Rattle.rn_assemble.proofs.Referring.KeyNumbers.{same_key-Decides}
+use Rattle.rn_assemble.specs.inside.Trees.{TreeView}
 
 -- ---- restrictions on name classes in joined patterns
 
@@ -152,7 +153,7 @@ refused_by P Q (Err d) q h k = subst Q (sym h) k
 pub misnamed_for : (j k : Key) (Why Then : Type 0) (q : Refusal) → j ≡ k → (Why → Then) → IsMisnamedAs j Why q → IsMisnamedAs k Then q
 misnamed_for j k Why Then q e f h = misnamed_then j Why (IsMisnamedAs k Then) q (λ i is w. (is ∙ e, f w)) tt h
 
-module _ (names : List Text) (bs : List Body) (list : List ℕ) (rows : List (List ℕ)) (live : List Live) (lists : ListsBy names bs list rows live) (o : IsStrictlySortedBy text_cmp names) where
+module _ {trees : TreeView} (names : List Text) (bs : List Body) (list : List ℕ) (rows : List (List ℕ)) (live : List Live) (lists : ListsBy names trees bs list rows live) (o : IsStrictlySortedBy text_cmp names) where
   abbrev cs : List Component
   cs = components_in live
 
@@ -160,7 +161,7 @@ module _ (names : List Text) (bs : List Body) (list : List ℕ) (rows : List (Li
   some_of k h e = false≢true (sym (has_none k cs (ap length e)) ∙ h)
 
   breaks_has : (k : Key) → BreaksNameRules cs k → (m : ℕ) × (m < suc (length names)) × (k ≡ key_at names m)
-  breaks_has k b = numbered names live (all_keyed names bs list live lists.are) k (some_of k b.0)
+  breaks_has k b = numbered names live (all_keyed names trees bs list live lists.are) k (some_of k b.0)
 
   -- the first key that breaks them is the least
   pub misnamed_first : (n : ℕ) (q : Refusal) → n < suc (length names) → ((m : ℕ) → m < n → ¬ BreaksNameRules cs (key_at names m)) → IsMisnamedAs (key_at names n) (BreaksNameRules cs (key_at names n)) q → IsMisnamed cs q

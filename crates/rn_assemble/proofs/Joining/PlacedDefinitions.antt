@@ -25,6 +25,7 @@ use Rattle.rn_assemble.proofs.Joining.FirstComponents.{all_before, before_more, 
 use Rattle.rn_assemble.proofs.Expansion.LiveLists.{each_to}
 use Rattle.rn_assemble.proofs.Referring.KeyNumbers.{same_key-Decides}
 use Rattle.rn_assemble.proofs.Joining.UsedMethods.{any_front, any_last}
+use Rattle.rn_assemble.specs.inside.Trees.{TreeView}
 
 -- ---- keys among one component more
 
@@ -140,8 +141,8 @@ module _ (names : List Text) (live : List Live) (rises : PlacesRise 0 live) wher
   pub defining_ends : (patterns : List (Option (Box Pattern Global))) (entries : List CombinedDefinition) (rows : List (List ℕ)) (p : ℕ) → AllByRecursion (λ (e : Live). e.place < p) live → Defining patterns entries rows p → HaveTied rows (combined_definitions entries) × (combined_definitions entries ≡ (joined_grammar cs).definitions)
   defining_ends patterns entries rows p h d = (d.tied, d.made ∙ ap (λ es. map definition (defined_names (components_in es))) (all_before p live h))
 
-pub places_within : (names : List Text) (bodies : List Body) (list : List ℕ) (rows : List (List ℕ)) (live : List Live) (p : ℕ) → ListsBy names bodies list rows live → length list ≤ p → AllByRecursion (λ (e : Live). e.place < p) live
-places_within names bodies list rows live p h l = each_to (IsLive names bodies list) (λ (e : Live). e.place < p) (λ e k. omega (arith, k.within, l)) live h.are
+pub places_within : {trees : TreeView} (names : List Text) (bodies : List Body) (list : List ℕ) (rows : List (List ℕ)) (live : List Live) (p : ℕ) → ListsBy names trees bodies list rows live → length list ≤ p → AllByRecursion (λ (e : Live). e.place < p) live
+places_within {trees = trees} names bodies list rows live p h l = each_to (IsLive names trees bodies list) (λ (e : Live). e.place < p) (λ e k. omega (arith, k.within, l)) live h.are
 
 -- the pattern of the start, and those that are left without it
 pub start_there : (names : List Text) (cs : List Component) (patterns : List (Option (Box Pattern Global))) → AreCombined names cs patterns → has_key start_key cs ≡ true → tree_at patterns 0 ≡ Some (joined_pattern cs start_key)

@@ -1,6 +1,7 @@
 -- The patterns that bodies share.
 use Rattle.std.proofs.Common.{◌≡◌, ℕ, zero, suc, ◌<◌, inl, inr, List, [], ◌∷◌, length, get_or, set, Option, Some, None, sym, ap, ◌∙◌, subst, arith}
 use Rattle.std.specs.Prelude.{IfSome, slice_get}
+use Rattle.std.specs.Rc.{rc_str_bytes}
 use Rattle.std.proofs.lemmas.Bool.{cases_eq}
 use Rattle.std.proofs.lemmas.List.{get_or-set_other, get_or-set_same, get_or_default, length-set}
 use Rattle.std.specs.declared.alloc.Global.{Global}
@@ -10,8 +11,10 @@ use Rattle.rn_pattern.specs.View.{shared_view}
 use Rattle.rn_pattern.specs.declared.tree.Pattern.{Pattern}
 use Rattle.rn_assemble.specs.declared.bodies.Body.{Body}
 use Rattle.rn_assemble.specs.Components.{Component}
-use Rattle.rn_assemble.specs.inside.Listed.{IsBody}
+use Rattle.rn_assemble.specs.inside.Keyed.{key_at}
+use Rattle.rn_assemble.specs.inside.Listed.{IsBody, resolved_component}
 use Rattle.rn_assemble.specs.inside.Patterns.{AreShared, IsWellNamed}
+use Rattle.rn_assemble.specs.inside.Trees.{AgreeAt, TreeView}
 
 pub within : {X : Type 0} (xs : List X) (n : ℕ) (x : X) → slice_get xs n ≡ Some x → n < length xs
 within {X} [] n x e = let wrong : None ≡ Some x = e in cc
@@ -22,23 +25,35 @@ within (y ∷ xs) (suc n) x e = let l = within xs n x e in omega (arith, l)
 abbrev pub Holds : Component → Option (Rc Pattern Global) → Type 0
 Holds c o = IfSome o (λ (p : Rc Pattern Global). IsWellNamed c (shared_view p))
 
-module _ (names : List Text) (bodies : List Body) (shared : List (Option (Rc Pattern Global))) (n : ℕ) (b : Body) (v : Option (Rc Pattern Global)) (h : AreShared names bodies shared) (at : slice_get bodies n ≡ Some b) (read : v ≡ get_or shared n v) where
+module _ {trees : TreeView} (names : List Text) (bodies : List Body) (shared : List (Option (Rc Pattern Global))) (n : ℕ) (b : Body) (v : Option (Rc Pattern Global)) (h : AreShared names trees bodies shared) (at : slice_get bodies n ≡ Some b) (read : v ≡ get_or shared n v) where
   in_shared : n < length shared
   in_shared = let l = within bodies n b at in omega (arith, l, h.size)
 
   -- what is read there
-  pub shared_held : (key : ℕ) (c : Component) → IsBody names b key c → Holds c v
+  pub shared_held : (key : ℕ) (c : Component) → IsBody names trees b key c → Holds c v
   shared_held key c is = subst (Holds c) (get_or_default shared n None v in_shared ∙ sym read) (h.are n key b c at is)
 
   -- what is put there
-  pub shared_put : (o : Option (Rc Pattern Global)) → ((key : ℕ) (c : Component) → IsBody names b key c → Holds c v → Holds c o) → AreShared names bodies (set shared n o)
+  pub shared_put : (o : Option (Rc Pattern Global)) → ((key : ℕ) (c : Component) → IsBody names trees b key c → Holds c v → Holds c o) → AreShared names trees bodies (set shared n o)
   shared_put o k = record {
     size = length-set shared n o ∙ h.size;
     are = λ m key d c there is. elim (cases_eq m n) [
       | inl same ↦
           let body : d ≡ b = let q : Some d ≡ Some b = sym there ∙ ap (slice_get bodies) same ∙ at in cc in
-          let here : IsBody names b key c = subst (λ (e : Body). IsBody names e key c) body is in
+          let here : IsBody names trees b key c = subst (λ (e : Body). IsBody names trees e key c) body is in
           subst (Holds c) (sym (ap (λ j. get_or (set shared n o) j None) same ∙ get_or-set_same shared n o None in_shared)) (k key c here (shared_held key c here))
       | inr other ↦ subst (Holds c) (sym (get_or-set_other shared n m o None other)) (h.are m key d c there is)
     ];
   }
+
+-- a body of trees that agree at its key
+pub body_agrees : {view now : TreeView} (names : List Text) (b : Body) (key : ℕ) (c : Component) → IsBody names view b key c → AgreeAt view now key → IsBody names now b key c
+body_agrees {view = view} {now = now} names b key c h agree =
+    let here : AgreeAt view now b.component.key = subst (AgreeAt view now) (sym h.key_is) agree in
+    let ds = h.shown.0 in
+    let u = rc_str_bytes b.context.inherited.now in
+    record {
+      key_is = h.key_is;
+      numbered = h.numbered;
+      shown = (ds, h.shown.1, h.shown.2 ∙ ap (λ p. resolved_component u ds (record { key = key_at names b.component.key; method = b.component.method; pattern = p })) (here b.component.tree));
+    }

@@ -5,7 +5,8 @@ use Rattle.std.specs.Prelude.{Option, slice_get}
 use Rattle.std.specs.List.{list_any}
 use Rattle.std.specs.Option.{option_eq}
 use Rattle.std.specs.List.Sorted.{IsStrictlySortedBy}
-use Rattle.std.proofs.lemmas.Bool.{or_from, or_right}
+use Rattle.std.proofs.lemmas.Bool.{eqb-true, or_from, or_right}
+use Rattle.std.proofs.lemmas.List.Elements.{All-contains, filter_passes}
 use Rattle.std.proofs.lemmas.List.{length-map, get_or-map, take_more, take-append-drop}
 use Rattle.rn_text.specs.Texts.{Text, text_cmp}
 use Rattle.rn_pattern.specs.Graph.{row}
@@ -21,31 +22,32 @@ use Rattle.rn_assemble.specs.inside.Listed.{IsBody, IsLive, Live, ListsBy, compo
 use Rattle.rn_assemble.specs.inside.Methods.{is_method}
 use Rattle.rn_assemble.proofs.Referring.FoundReferences.{shown, all_keyed, row_is}
 use Rattle.rn_assemble.proofs.Joining.KeyedBodies.{of_key_at}
+use Rattle.rn_assemble.specs.inside.Trees.{TreeView}
 
 -- the body of a live component
-pub live_body : (names : List Text) (bodies : List Body) (list : List ℕ) (rows : List (List ℕ)) (live : List Live) (e : Live) (n : ℕ) (b : Body) → ListsBy names bodies list rows live → Contains live e
-    → slice_get list e.place ≡ Some n → slice_get bodies n ≡ Some b → IsBody names b e.key e.component
-live_body names bodies list rows live e n b h c en eb =
-    let s = shown names bodies list e (contained_each (IsLive names bodies list) live h.are e c) in
+pub live_body : {trees : TreeView} (names : List Text) (bodies : List Body) (list : List ℕ) (rows : List (List ℕ)) (live : List Live) (e : Live) (n : ℕ) (b : Body) → ListsBy names trees bodies list rows live → Contains live e
+    → slice_get list e.place ≡ Some n → slice_get bodies n ≡ Some b → IsBody names trees b e.key e.component
+live_body {trees = trees} names bodies list rows live e n b h c en eb =
+    let s = shown names trees bodies list e (contained_each (IsLive names trees bodies list) live h.are e c) in
     let same : s.number ≡ n = let q : Some s.number ≡ Some n = sym s.at ∙ en in cc in
     let body : s.body ≡ b = let q : Some s.body ≡ Some b = sym s.is ∙ ap (slice_get bodies) same ∙ eb in cc in
-    subst (λ (d : Body). IsBody names d e.key e.component) body s.made
+    subst (λ (d : Body). IsBody names trees d e.key e.component) body s.made
 
 -- and its method
-pub method_of : (names : List Text) (bodies : List Body) (list : List ℕ) (rows : List (List ℕ)) (live : List Live) (e : Live) (n : ℕ) (b : Body) → ListsBy names bodies list rows live → Contains live e
+pub method_of : {trees : TreeView} (names : List Text) (bodies : List Body) (list : List ℕ) (rows : List (List ℕ)) (live : List Live) (e : Live) (n : ℕ) (b : Body) → ListsBy names trees bodies list rows live → Contains live e
     → slice_get list e.place ≡ Some n → slice_get bodies n ≡ Some b → b.component.method ≡ e.component.method
 method_of names bodies list rows live e n b h c en eb =
     let made = live_body names bodies list rows live e n b h c en eb in
     sym (ap (λ (d : Component). d.method) made.shown.2)
 
-pub method_there : (names : List Text) (bodies : List Body) (list : List ℕ) (rows : List (List ℕ)) (live : List Live) (e : Live) → ListsBy names bodies list rows live → Contains live e → slice_get list e.place ≡ None → ⊥
-method_there names bodies list rows live e h c en =
-    let s = shown names bodies list e (contained_each (IsLive names bodies list) live h.are e c) in
+pub method_there : {trees : TreeView} (names : List Text) (bodies : List Body) (list : List ℕ) (rows : List (List ℕ)) (live : List Live) (e : Live) → ListsBy names trees bodies list rows live → Contains live e → slice_get list e.place ≡ None → ⊥
+method_there {trees = trees} names bodies list rows live e h c en =
+    let s = shown names trees bodies list e (contained_each (IsLive names trees bodies list) live h.are e c) in
     let q : Some s.number ≡ None = sym s.at ∙ en in cc
 
-pub body_there : (names : List Text) (bodies : List Body) (list : List ℕ) (rows : List (List ℕ)) (live : List Live) (e : Live) (n : ℕ) → ListsBy names bodies list rows live → Contains live e → slice_get list e.place ≡ Some n → slice_get bodies n ≡ None → ⊥
-body_there names bodies list rows live e n h c en eb =
-    let s = shown names bodies list e (contained_each (IsLive names bodies list) live h.are e c) in
+pub body_there : {trees : TreeView} (names : List Text) (bodies : List Body) (list : List ℕ) (rows : List (List ℕ)) (live : List Live) (e : Live) (n : ℕ) → ListsBy names trees bodies list rows live → Contains live e → slice_get list e.place ≡ Some n → slice_get bodies n ≡ None → ⊥
+body_there {trees = trees} names bodies list rows live e n h c en eb =
+    let s = shown names trees bodies list e (contained_each (IsLive names trees bodies list) live h.are e c) in
     let same : s.number ≡ n = let q : Some s.number ≡ Some n = sym s.at ∙ en in cc in
     let q : Some s.body ≡ None = sym s.is ∙ ap (slice_get bodies) same ∙ eb in cc
 
@@ -63,7 +65,7 @@ item (x ∷ xs) zero l = (x, λ d. refl)
 item (x ∷ xs) (suc i) l = item xs i (omega (arith, l))
 
 -- the place at an index of a row is that of the live component there
-module _ (names : List Text) (bodies : List Body) (list : List ℕ) (rows : List (List ℕ)) (live : List Live) (h : ListsBy names bodies list rows live) (o : IsStrictlySortedBy text_cmp names) (key : ℕ) (k : key < suc (length names)) where
+module _ {trees : TreeView} (names : List Text) (bodies : List Body) (list : List ℕ) (rows : List (List ℕ)) (live : List Live) (h : ListsBy names trees bodies list rows live) (o : IsStrictlySortedBy text_cmp names) (key : ℕ) (k : key < suc (length names)) where
   abbrev pub of_number : List Live
   of_number = filter (λ (e : Live). eqb e.key key) live
 
@@ -71,12 +73,12 @@ module _ (names : List Text) (bodies : List Body) (list : List ℕ) (rows : List
   parts = of_key (key_at names key) (components_in live)
 
   parts_are : parts ≡ components_in of_number
-  parts_are = of_key_at names o key k live (all_keyed names bodies list live h.are)
+  parts_are = of_key_at names o key k live (all_keyed names trees bodies list live h.are)
 
   -- each live component of the row
-  pub at_row : (i : ℕ) → i < length (row rows key) → (e : Live) × Contains live e × (e.place ≡ get_or (row rows key) i 0) × (i < length parts) × ((d : Component) → get_or parts i d ≡ e.component)
+  pub at_row : (i : ℕ) → i < length (row rows key) → (e : Live) × Contains live e × (e.place ≡ get_or (row rows key) i 0) × (i < length parts) × ((d : Component) → get_or parts i d ≡ e.component) × (e.key ≡ key)
   at_row i l =
-      let is = row_is names bodies list rows live h o key k in
+      let is = row_is names trees bodies list rows live h o key k in
       let below : i < length of_number = omega (arith, l, ap length is, length-map of_number (λ (e : Live). e.place)) in
       let e = item of_number i below in (
         e.0,
@@ -84,10 +86,11 @@ module _ (names : List Text) (bodies : List Body) (list : List ℕ) (rows : List
         sym (ap (λ r. get_or r i 0) is ∙ get_or-map (λ (d : Live). d.place) of_number i e.0 0 below ∙ ap (λ (d : Live). d.place) (e.1 e.0)),
         omega (arith, below, ap length parts_are, length-map of_number (λ (d : Live). d.component)),
         λ d. ap (λ cs. get_or cs i d) parts_are ∙ get_or-map (λ (d : Live). d.component) of_number i e.0 d below ∙ ap (λ (d : Live). d.component) (e.1 e.0),
+        eqb-true e.0.key key (All-contains (λ (d : Live). eqb d.key key ≡ true) of_number e.0 (filter_passes (λ (d : Live). eqb d.key key) live) (i, below, e.1 e.0)),
       )
 
   pub row_size : length (row rows key) ≡ length parts
-  row_size = ap length (row_is names bodies list rows live h o key k) ∙ length-map of_number (λ (e : Live). e.place) ∙ sym (ap length parts_are ∙ length-map of_number (λ (d : Live). d.component))
+  row_size = ap length (row_is names trees bodies list rows live h o key k) ∙ length-map of_number (λ (e : Live). e.place) ∙ sym (ap length parts_are ∙ length-map of_number (λ (d : Live). d.component))
 
 -- a test of the elements, and a count, of one element more
 any_at : (a b c : Bool) → (a || b) ≡ true → (b ≡ true → c ≡ true) → (a || c) ≡ true

@@ -1,5 +1,5 @@
 -- The references of keys, by the names that their bodies refer to.
-use Rattle.std.proofs.Common.{◌≡◌, ⊎_elim, ℕ, zero, suc, ◌<◌, Bool, true, false, cond, List, [], ◌∷◌, ◌++◌, length, get_or, map, flat_map, filter, Option, Some, None, refl, sym, ap, ◌∙◌, subst, arith, Contains, eqb, ltb}
+use Rattle.std.proofs.Common.{◌≡◌, ⊎_elim, ℕ, zero, suc, ◌<◌, Bool, true, false, cond, List, [], ◌∷◌, ◌++◌, length, get_or, map, flat_map, filter, Option, Some, refl, sym, ap, ◌∙◌, subst, arith, Contains, eqb, ltb}
 use Rattle.std.specs.Rc.{rc_str_bytes}
 use Rattle.std.specs.Prelude.{◌↔◌, Decides, IsSome, slice_get}
 use Rattle.std.specs.List.{AllByRecursion}
@@ -15,13 +15,13 @@ use Rattle.rn_pattern.specs.Matching.{definition_of}
 use Rattle.rn_pattern.specs.Graph.{row}
 use Rattle.rn_pattern.proofs.Ordered.InOrder.{contains_behind, contains_front, contains_cases}
 use Rattle.rn_syntax.specs.Tree.{Declaration, Pattern}
-use Rattle.rn_syntax.specs.View.{pattern_view}
+use Rattle.rn_syntax.specs.Tree as t
 use Rattle.rn_assemble.specs.Resolve.{resolved_pattern}
 use Rattle.rn_assemble.specs.Components.{Key, name_key, same_key, Component}
 use Rattle.rn_assemble.specs.Combine.{bodies, of_key, method_node, joined_pattern, joined_grammar}
 use Rattle.rn_assemble.specs.inside.Keyed.{IsNameNumber, key_at}
 use Rattle.rn_assemble.specs.inside.Listed.{Live, IsBody, IsLive, ListsBy, components_in}
-use Rattle.rn_assemble.specs.inside.Referred.{AreBodiesAt, names_within, references, references_at, within}
+use Rattle.rn_assemble.specs.inside.Referred.{AreBodiesAt, names_within, references, references_at, tree_of, within}
 use Rattle.rn_pattern.specs.declared.references.Reach.{Reach}
 use Rattle.rn_pattern.specs.declared.references.Reach.TheVariants.{OutsideElements}
 use Rattle.rn_assemble.specs.declared.bodies.Body.{Body}
@@ -29,6 +29,7 @@ use Rattle.rn_assemble.proofs.Combined.Combinations.{some_joined, joined_definit
 use Rattle.rn_assemble.proofs.Expansion.LiveLists.{each_filtered}
 use Rattle.rn_assemble.proofs.Referring.KeyNumbers.{keyed_name, same_key-Decides}
 use Rattle.rn_assemble.proofs.Joining.KeyedBodies.{IsKeyed, of_key_at}
+use Rattle.rn_assemble.specs.inside.Trees.{TreeView}
 
 -- ---- elements of mapped and filtered lists
 
@@ -60,23 +61,19 @@ got (x ∷ xs) (suc n) h d = got xs n (omega arith) d
 -- ---- the names that bodies refer to
 
 -- those that f finds in a body, by its number
-abbrev pub names_at : (Pattern → List Text) → List Body → ℕ → List Text
-names_at f bs n = option_map_or (λ (b : Body). f (pattern_view b.component.body.now)) (slice_get bs n) []
+abbrev pub names_at : TreeView → (Pattern → List Text) → List Body → ℕ → List Text
+names_at trees f bs n = f (tree_of trees bs n)
 
 module _ (meant : Reach) where
   -- the names of a pattern's references that the reach takes in
   abbrev pub named_in : Pattern → List Text
   named_in p = names_within meant (references OutsideElements p)
 
-  named_at : (o : Option Body) → names_within meant (option_map_or (λ (b : Body). references OutsideElements (pattern_view b.component.body.now)) o []) ≡ option_map_or (λ (b : Body). named_in (pattern_view b.component.body.now)) o []
-  named_at None = refl
-  named_at (Some b) = refl
-
-  pub names_of_bodies : (bs : List Body) (ns : List ℕ) → names_within meant (flat_map (references_at bs) ns) ≡ flat_map (names_at named_in bs) ns
-  names_of_bodies bs [] = refl
-  names_of_bodies bs (n ∷ ns) =
-      flat_map-append (λ (r : Text × Reach). within meant r.1 r.0) (references_at bs n) (flat_map (references_at bs) ns)
-      ∙ (λ i. named_at (slice_get bs n) i ++ names_of_bodies bs ns i)
+  pub names_of_bodies : (trees : TreeView) (bs : List Body) (ns : List ℕ) → names_within meant (flat_map (references_at trees bs) ns) ≡ flat_map (names_at trees named_in bs) ns
+  names_of_bodies trees bs [] = refl
+  names_of_bodies trees bs (n ∷ ns) =
+      flat_map-append (λ (r : Text × Reach). within meant r.1 r.0) (references_at trees bs n) (flat_map (references_at trees bs) ns)
+      ∙ ap (λ rest. names_at trees named_in bs n ++ rest) (names_of_bodies trees bs ns)
 
 -- ---- a live component and its body
 
@@ -85,7 +82,7 @@ some_body [] n h = absurd (omega arith)
 some_body (b ∷ bs) zero h = (b, refl, λ d. refl)
 some_body (b ∷ bs) (suc n) h = some_body bs n (omega arith)
 
-module _ (names : List Text) (bs : List Body) (list : List ℕ) where
+module _ (names : List Text) (trees : TreeView) (bs : List Body) (list : List ℕ) where
   -- the body of a live component, with its number
   pub record Shown (e : Live) : Type 0 where
     pub number : ℕ
@@ -93,24 +90,24 @@ module _ (names : List Text) (bs : List Body) (list : List ℕ) where
     pub within : number < length bs
     pub body : Body
     pub is : slice_get bs number ≡ Some body
-    pub made : IsBody names body e.key e.component
+    pub made : IsBody names trees body e.key e.component
 
-  pub shown : (e : Live) → IsLive names bs list e → Shown e
+  pub shown : (e : Live) → IsLive names trees bs list e → Shown e
   shown e l =
       let n = get_or list e.place 0 in
       let b = some_body bs n l.body_within in
-      record { number = n; at = got list e.place l.within 0; within = l.body_within; body = b.0; is = b.1; made = subst (λ c. IsBody names c e.key e.component) (b.2 b.0) (l.is b.0) }
+      record { number = n; at = got list e.place l.within 0; within = l.body_within; body = b.0; is = b.1; made = subst (λ c. IsBody names trees c e.key e.component) (b.2 b.0) (l.is b.0) }
 
-  pub keyed : (e : Live) → IsLive names bs list e → IsKeyed names e
+  pub keyed : (e : Live) → IsLive names trees bs list e → IsKeyed names e
   keyed e l =
       let s = shown e l in
       (s.made.numbered, ap (λ (c : Component). c.key) s.made.shown.2 ∙ ap (key_at names) s.made.key_is)
 
-  pub all_keyed : (live : List Live) → AllByRecursion (IsLive names bs list) live → AllByRecursion (IsKeyed names) live
+  pub all_keyed : (live : List Live) → AllByRecursion (IsLive names trees bs list) live → AllByRecursion (IsKeyed names) live
   all_keyed [] h = tt
   all_keyed (e ∷ live) h = (keyed e h.0, all_keyed live h.1)
 
-  module _ (rows : List (List ℕ)) (live : List Live) (lists : ListsBy names bs list rows live) (sorted : IsStrictlySortedBy text_cmp names) where
+  module _ (rows : List (List ℕ)) (live : List Live) (lists : ListsBy names trees bs list rows live) (sorted : IsStrictlySortedBy text_cmp names) where
     abbrev cs : List Component
     cs = components_in live
 
@@ -123,30 +120,30 @@ module _ (names : List Text) (bs : List Body) (list : List ℕ) where
     pub row_is : (k : ℕ) → k < suc (length names) → row rows k ≡ map (λ (e : Live). e.place) (of_number k)
     row_is k h = lists.places k (omega (arith, h, lists.size))
 
-    live_at : (k : ℕ) (e : Live) → Contains (of_number k) e → IsLive names bs list e
-    live_at k e c = at_each (IsLive names bs list) (of_number k) (each_filtered (IsLive names bs list) (λ (f : Live). eqb f.key k) live lists.are) e c
+    live_at : (k : ℕ) (e : Live) → Contains (of_number k) e → IsLive names trees bs list e
+    live_at k e c = at_each (IsLive names trees bs list) (of_number k) (each_filtered (IsLive names trees bs list) (λ (f : Live). eqb f.key k) live lists.are) e c
 
     -- names: what a written pattern refers to; R: what a resolved one does
     module _ (f : Pattern → List Text) (R : Text → Tree → Type 0) (same : (i : Text) (ds : List Declaration) (y : Text) (p : Pattern) → Contains (f p) y ↔ R y (resolved_pattern i ds p))
         (of_joined : (y : Text) (k : Key) → R y (joined_pattern cs k) → (p : Tree) × Contains (bodies k cs) p × R y p) (to_joined : (y : Text) (k : Key) (p : Tree) → Contains (bodies k cs) p → R y p → R y (joined_pattern cs k)) where
-      at_number : (n : ℕ) (b : Body) (y : Text) → slice_get bs n ≡ Some b → Contains (names_at f bs n) y ↔ Contains (f (pattern_view b.component.body.now)) y
-      at_number n b y e = let is = ap (λ o. option_map_or (λ (c : Body). f (pattern_view c.component.body.now)) o []) e in (subst (λ xs. Contains xs y) is, subst (λ xs. Contains xs y) (sym is))
+      at_number : (n : ℕ) (b : Body) (y : Text) → slice_get bs n ≡ Some b → Contains (names_at trees f bs n) y ↔ Contains (f (trees b.component.key b.component.tree)) y
+      at_number n b y e = let is = ap (λ o. f (option_map_or (λ (c : Body). trees c.component.key c.component.tree) o t.empty)) e in (subst (λ xs. Contains xs y) is, subst (λ xs. Contains xs y) (sym is))
 
-      body_refers : (e : Live) (s : Shown e) (y : Text) → Contains (names_at f bs s.number) y ↔ R y e.component.body
+      body_refers : (e : Live) (s : Shown e) (y : Text) → Contains (names_at trees f bs s.number) y ↔ R y e.component.body
       body_refers e s y =
           let n = at_number s.number s.body y s.is in
           let ds = s.made.shown.0 in
           let i = rc_str_bytes s.body.context.inherited.now in
           let is = ap (λ (c : Component). c.body) s.made.shown.2 in
-          let r = same i ds y (pattern_view s.body.component.body.now) in
+          let r = same i ds y (trees s.body.component.key s.body.component.tree) in
           ((λ c. subst (R y) (sym is) (r.0 (n.0 c))), λ h. n.1 (r.1 (subst (R y) is h)))
 
-      pub names_are : (k : ℕ) (ns : List ℕ) → k < suc (length names) → AreBodiesAt (length bs) list (row rows k) ns → (y : Text) → Contains (flat_map (names_at f bs) ns) y ↔ R y (joined_pattern cs (key_at names k))
+      pub names_are : (k : ℕ) (ns : List ℕ) → k < suc (length names) → AreBodiesAt (length bs) list (row rows k) ns → (y : Text) → Contains (flat_map (names_at trees f bs) ns) y ↔ R y (joined_pattern cs (key_at names k))
       names_are k ns h a y = (into, back)
         where
-          into : Contains (flat_map (names_at f bs) ns) y → R y (joined_pattern cs (key_at names k))
+          into : Contains (flat_map (names_at trees f bs) ns) y → R y (joined_pattern cs (key_at names k))
           into c =
-              let n = flat_contained (names_at f bs) ns y c in
+              let n = flat_contained (names_at trees f bs) ns y c in
               let p = a.only n.0 n.1 in
               let e = map_contained (λ (e : Live). e.place) (of_number k) p.0 (subst (λ xs. Contains xs p.0) (row_is k h) p.1) in
               let s = shown e.0 (live_at k e.0 e.1) in
@@ -154,16 +151,16 @@ module _ (names : List Text) (bs : List Body) (list : List ℕ) where
               let number : s.number ≡ n.0 = cc in
               to_joined y (key_at names k) e.0.component.body
               (subst (λ ps. Contains ps e.0.component.body) (sym (bodies_are k h)) (map_contains (λ (c : Component). c.body) (components_in (of_number k)) e.0.component (map_contains (λ (e : Live). e.component) (of_number k) e.0 e.1)))
-              ((body_refers e.0 s y).0 (subst (λ m. Contains (names_at f bs m) y) (sym number) n.2))
+              ((body_refers e.0 s y).0 (subst (λ m. Contains (names_at trees f bs m) y) (sym number) n.2))
 
-          back : R y (joined_pattern cs (key_at names k)) → Contains (flat_map (names_at f bs) ns) y
+          back : R y (joined_pattern cs (key_at names k)) → Contains (flat_map (names_at trees f bs) ns) y
           back r =
               let p = of_joined y (key_at names k) r in
               let c = map_contained (λ (c : Component). c.body) (components_in (of_number k)) p.0 (subst (λ ps. Contains ps p.0) (bodies_are k h) p.1) in
               let e = map_contained (λ (e : Live). e.component) (of_number k) c.0 c.1 in
               let s = shown e.0 (live_at k e.0 e.1) in
               let n = a.all e.0.place s.number (subst (λ xs. Contains xs e.0.place) (sym (row_is k h)) (map_contains (λ (e : Live). e.place) (of_number k) e.0 e.1)) s.at s.within in
-              flat_contains (names_at f bs) ns s.number y n ((body_refers e.0 s y).1 (subst (R y) (sym (ap (λ (d : Component). d.body) e.2 ∙ c.2)) p.2))
+              flat_contains (names_at trees f bs) ns s.number y n ((body_refers e.0 s y).1 (subst (R y) (sym (ap (λ (d : Component). d.body) e.2 ∙ c.2)) p.2))
 
     -- ---- names that are defined
 
@@ -171,12 +168,12 @@ module _ (names : List Text) (bs : List Body) (list : List ℕ) where
     pub has_live : (y : Text) → 0 < length (bodies (name_key y) cs) → (e : Live) × IsKeyed names e × (e.component.key ≡ name_key y)
     has_live y h = at_key live lists.are h
       where
-        at_head : (b : Bool) (e : Live) (es : List Live) → same_key (name_key y) e.component.key ≡ b → IsLive names bs list e → (0 < length (bodies (name_key y) (components_in es)) → (g : Live) × IsKeyed names g × (g.component.key ≡ name_key y))
+        at_head : (b : Bool) (e : Live) (es : List Live) → same_key (name_key y) e.component.key ≡ b → IsLive names trees bs list e → (0 < length (bodies (name_key y) (components_in es)) → (g : Live) × IsKeyed names g × (g.component.key ≡ name_key y))
             → 0 < length (map (λ (c : Component). c.body) (cond b (e.component ∷ of_key (name_key y) (components_in es)) (of_key (name_key y) (components_in es)))) → (g : Live) × IsKeyed names g × (g.component.key ≡ name_key y)
         at_head true e es is l rest h = (e, keyed e l, sym ((same_key-Decides (name_key y) e.component.key).0 is))
         at_head false e es is l rest h = rest h
 
-        at_key : (es : List Live) → AllByRecursion (IsLive names bs list) es → 0 < length (bodies (name_key y) (components_in es)) → (e : Live) × IsKeyed names e × (e.component.key ≡ name_key y)
+        at_key : (es : List Live) → AllByRecursion (IsLive names trees bs list) es → 0 < length (bodies (name_key y) (components_in es)) → (e : Live) × IsKeyed names e × (e.component.key ≡ name_key y)
         at_key [] a h = absurd (omega arith)
         at_key (e ∷ es) a h = at_head (same_key (name_key y) e.component.key) e es refl a.0 (at_key es a.1) h
 

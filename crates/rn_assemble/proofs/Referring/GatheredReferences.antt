@@ -26,6 +26,7 @@ use Rattle.rn_assemble.proofs.Referring.JoinedReferences.{refers_of_joined, refe
 use Rattle.rn_assemble.proofs.Referring.WrittenReferences.{referred, referred_outside}
 use Rattle.rn_assemble.proofs.Referring.LeastUndefined.{not_none}
 use Rattle.rn_assemble.proofs.Referring.FoundReferences.{map_contained, has_live, defined_name, named_in, names_are, names_of_bodies}
+use Rattle.rn_assemble.specs.inside.Trees.{TreeView}
 
 -- the row of a key has the numbers of the names among those that are referred to
 pub record RowOf (R : Text → Tree → Type 0) (names : List Text) (cs : List Component) (k : ℕ) (r : List ℕ) : Type 0 where
@@ -84,7 +85,7 @@ pub some_definition : (G : Grammar) (x y : Text) (o : Option Tree) → definitio
 some_definition G x y None e h = absurd h
 some_definition G x y (Some p) e h = (p, e, h)
 
-module _ (names : List Text) (bs : List Body) (list : List ℕ) (rows : List (List ℕ)) (live : List Live) (lists : ListsBy names bs list rows live) (sorted : IsStrictlySortedBy text_cmp names) where
+module _ {trees : TreeView} (names : List Text) (bs : List Body) (list : List ℕ) (rows : List (List ℕ)) (live : List Live) (lists : ListsBy names trees bs list rows live) (sorted : IsStrictlySortedBy text_cmp names) where
   abbrev cs : List Component
   cs = components_in live
 
@@ -104,7 +105,7 @@ module _ (names : List Text) (bs : List Body) (list : List ℕ) (rows : List (Li
       let is : p ≡ joined_pattern cs (name_key d.0) = sym (ap (λ (e : Text × Tree). e.1) d.2) in
       let r : RefersTo x (joined_pattern cs (name_key d.0)) = subst (RefersTo x) is h in
       let b = refers_of_joined x cs (name_key d.0) r in
-      let e = has_live names bs list rows live lists sorted d.0 (some_member (bodies (name_key d.0) cs) b.0 b.1) in
+      let e = has_live names trees bs list rows live lists sorted d.0 (some_member (bodies (name_key d.0) cs) b.0 b.1) in
       (e.0.key, e.1.0, subst (λ k. RefersTo x (joined_pattern cs k)) (sym (sym e.1.1 ∙ e.2)) r)
 
   at_referred : (x : Text) (k : ℕ) → RefersTo x (joined_pattern cs (key_at names k)) → IsReferred x
@@ -131,7 +132,7 @@ module _ (names : List Text) (bs : List Body) (list : List ℕ) (rows : List (Li
     }
       where
         named : (k : ℕ) (x : Text) → k < suc (length names) → RefersTo x (joined_pattern cs (key_at names k)) → Contains names x
-        named k x h r = defined_name names bs list rows live lists sorted x (g.least x ((g.are x).1 (k, h, r)))
+        named k x h r = defined_name names trees bs list rows live lists sorted x (g.least x ((g.are x).1 (k, h, r)))
 
   pub gathered_some : (all outer : List (List ℕ)) (x : Text) → Gathered names cs all outer (suc (length names)) (Some x) → IsLeast text_cmp (IsUndefined G) x
   gathered_some all outer x g =
@@ -142,12 +143,12 @@ module _ (names : List Text) (bs : List Body) (list : List ℕ) (rows : List (Li
       }
 
   -- the names that the bodies of a key refer to
-  pub names_anywhere : (k : ℕ) (ns : List ℕ) (texts : List Text) → k < suc (length names) → AreBodiesAt (length bs) list (row rows k) ns → texts ≡ names_within Everywhere (flat_map (references_at bs) ns) → (y : Text) → Contains texts y ↔ RefersTo y (joined_pattern cs (key_at names k))
+  pub names_anywhere : (k : ℕ) (ns : List ℕ) (texts : List Text) → k < suc (length names) → AreBodiesAt (length bs) list (row rows k) ns → texts ≡ names_within Everywhere (flat_map (references_at trees bs) ns) → (y : Text) → Contains texts y ↔ RefersTo y (joined_pattern cs (key_at names k))
   names_anywhere k ns texts h a t y =
-      subst (λ ts. Contains ts y ↔ RefersTo y (joined_pattern cs (key_at names k))) (sym (t ∙ names_of_bodies Everywhere bs ns))
-      (names_are names bs list rows live lists sorted (named_in Everywhere) RefersTo (λ i ds z p. referred i ds z OutsideElements p) (λ z j. refers_of_joined z cs j) (λ z j p. refers_to_joined z cs j p) k ns h a y)
+      subst (λ ts. Contains ts y ↔ RefersTo y (joined_pattern cs (key_at names k))) (sym (t ∙ names_of_bodies Everywhere trees bs ns))
+      (names_are names trees bs list rows live lists sorted (named_in Everywhere) RefersTo (λ i ds z p. referred i ds z OutsideElements p) (λ z j. refers_of_joined z cs j) (λ z j p. refers_to_joined z cs j p) k ns h a y)
 
-  pub names_outside : (k : ℕ) (ns : List ℕ) (texts : List Text) → k < suc (length names) → AreBodiesAt (length bs) list (row rows k) ns → texts ≡ names_within OutsideElements (flat_map (references_at bs) ns) → (y : Text) → Contains texts y ↔ RefersOutside y (joined_pattern cs (key_at names k))
+  pub names_outside : (k : ℕ) (ns : List ℕ) (texts : List Text) → k < suc (length names) → AreBodiesAt (length bs) list (row rows k) ns → texts ≡ names_within OutsideElements (flat_map (references_at trees bs) ns) → (y : Text) → Contains texts y ↔ RefersOutside y (joined_pattern cs (key_at names k))
   names_outside k ns texts h a t y =
-      subst (λ ts. Contains ts y ↔ RefersOutside y (joined_pattern cs (key_at names k))) (sym (t ∙ names_of_bodies OutsideElements bs ns))
-      (names_are names bs list rows live lists sorted (named_in OutsideElements) RefersOutside referred_outside (λ z j. outside_of_joined z cs j) (λ z j p. outside_to_joined z cs j p) k ns h a y)
+      subst (λ ts. Contains ts y ↔ RefersOutside y (joined_pattern cs (key_at names k))) (sym (t ∙ names_of_bodies OutsideElements trees bs ns))
+      (names_are names trees bs list rows live lists sorted (named_in OutsideElements) RefersOutside referred_outside (λ z j. outside_of_joined z cs j) (λ z j p. outside_to_joined z cs j p) k ns h a y)

@@ -20,6 +20,7 @@ use Rattle.rn_assemble.proofs.Referring.FoundReferences.{all_keyed}
 use Rattle.rn_assemble.proofs.Joining.KeyedBodies.{IsKeyed}
 use Rattle.rn_assemble.proofs.Referring.KeyNumbers.{same_key-Decides}
 use Rattle.rn_assemble.proofs.Joining.UsedMethods.{row_size}
+use Rattle.rn_assemble.specs.inside.Trees.{TreeView}
 
 -- a key of a live component has a number
 numbered_at : (names : List Text) (k : Key) (b : Bool) (c : Component) (rest : List Component) (n : ℕ) → n < suc (length names) → c.key ≡ key_at names n → same_key k c.key ≡ b → cond b (c ∷ rest) rest ≢ [] → (rest ≢ [] → (m : ℕ) × (m < suc (length names)) × (k ≡ key_at names m)) → (m : ℕ) × (m < suc (length names)) × (k ≡ key_at names m)
@@ -71,15 +72,15 @@ pub has_none : (k : Key) (ds : List Component) → length (of_key k ds) ≡ 0 �
 has_none k [] l = refl
 has_none k (c ∷ ds) l = lacks_at (same_key k c.key) c (of_key k ds) (has_key k ds) (has_none k ds) l
 
-module _ (names : List Text) (bodies : List Body) (list : List ℕ) (rows : List (List ℕ)) (live : List Live) (h : ListsBy names bodies list rows live) where
+module _ {trees : TreeView} (names : List Text) (bodies : List Body) (list : List ℕ) (rows : List (List ℕ)) (live : List Live) (h : ListsBy names trees bodies list rows live) where
   abbrev cs : List Component
   cs = components_in live
 
   pub plain_has : (k : Key) → IsPlainTwice k cs → (m : ℕ) × (m < suc (length names)) × (k ≡ key_at names m)
-  plain_has k p = numbered names live (all_keyed names bodies list live h.are) k (λ e. let none : 1 < count_by (λ (c : Component). is_plain c.method) [] = subst (λ ds. 1 < count_by (λ (c : Component). is_plain c.method) ds) e p in absurd (omega (arith, none)))
+  plain_has k p = numbered names live (all_keyed names trees bodies list live h.are) k (λ e. let none : 1 < count_by (λ (c : Component). is_plain c.method) [] = subst (λ ds. 1 < count_by (λ (c : Component). is_plain c.method) ds) e p in absurd (omega (arith, none)))
 
   pub mixed_has : (k : Key) → IsMixed k cs → (m : ℕ) × (m < suc (length names)) × (k ≡ key_at names m)
-  mixed_has k p = numbered names live (all_keyed names bodies list live h.are) k (λ e. let none : false ≡ true = ap (λ ds. list_any (λ (c : Component). is_choice c.method) ds && list_any (λ (c : Component). is_interleave c.method) ds) (sym e) ∙ p in false≢true none)
+  mixed_has k p = numbered names live (all_keyed names trees bodies list live h.are) k (λ e. let none : false ≡ true = ap (λ ds. list_any (λ (c : Component). is_choice c.method) ds && list_any (λ (c : Component). is_interleave c.method) ds) (sym e) ∙ p in false≢true none)
 
   module _ (o : IsStrictlySortedBy text_cmp names) where
     pub start_there : 0 < length (row rows 0) → has_key start_key cs ≡ true

@@ -125,7 +125,7 @@ below_within n ns OutsideElements OutsideElements (Some k) h i = below_push n ns
 
 -- what keeps the least in turn keeps it in all
 pub keeps_none : (names : List Text) (x : Components) (u : Option (Bor (List ℕ))) → KeepsLeast names x [] u u
-keeps_none names x u live before l s h = subst (λ ts. IsLeastOf (joined_grammar (components_in live)) ts (option_map (λ (t : Bor (List ℕ)). t.now) u)) (sym (append-nil before)) h
+keeps_none names x u trees live before l s h = subst (λ ts. IsLeastOf (joined_grammar (components_in live)) ts (option_map (λ (t : Bor (List ℕ)). t.now) u)) (sym (append-nil before)) h
 
 pub keeps_both : (names : List Text) (x : Components) (xs ys : List Text) (u v w : Option (Bor (List ℕ))) → KeepsLeast names x xs u v → KeepsLeast names x ys v w → KeepsLeast names x (xs ++ ys) u w
-keeps_both names x xs ys u v w a b live before l s h = subst (λ ts. IsLeastOf (joined_grammar (components_in live)) ts (option_map (λ (t : Bor (List ℕ)). t.now) w)) (append_assoc before xs ys) (b live (before ++ xs) l s (a live before l s h))
+keeps_both names x xs ys u v w a b trees live before l s h = subst (λ ts. IsLeastOf (joined_grammar (components_in live)) ts (option_map (λ (t : Bor (List ℕ)). t.now) w)) (append_assoc before xs ys) (b trees live (before ++ xs) l s (a trees live before l s h))

@@ -11,15 +11,16 @@ use Rattle.rn_assemble.specs.Components.{NamedModule, set_components}
 use Rattle.rn_assemble.specs.inside.Expanded.{IsListed}
 use Rattle.rn_assemble.specs.inside.Included.{AreIncluded}
 use Rattle.rn_assemble.specs.inside.Lacking.{IsLeastLack}
+use Rattle.rn_assemble.specs.inside.Trees.{TreeView}
 use Rattle.rn_assemble.specs.Refusal.{Refusal, override, IsFirstFor, Lacks, StandsFor, grammar_of}
 use Rattle.rn_assemble.specs.Refused.{key_view, refusal_view}
 
--- no include refuses the modules, and these are their components, by the numbers of these names, and their least override of what isn't there
-pub record AreExpanded (modules : List NamedModule) (names : List Text) (x : Components) : Type 0 where
+-- no include refuses the modules, and these are their components, by the numbers of these names and with these trees, and their least override of what isn't there
+pub record AreExpanded (modules : List NamedModule) (names : List Text) (trees : TreeView) (x : Components) : Type 0 where
   pub numbers : List ℕ
   pub included : AreIncluded modules numbers
   pub in_order : IsStrictlySortedBy text_cmp names
-  pub listed : IsListed names x (set_components modules)
+  pub listed : IsListed names trees x (set_components modules)
   pub lack : IsLeastLack modules names (Lacks modules) x.lack
 
 -- the first refusal that stands for the modules, or want of memory

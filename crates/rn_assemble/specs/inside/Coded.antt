@@ -6,4 +6,4 @@ use Rattle.rn_assemble.specs.contracts.bodies.Body as contracts
 use Rattle.rn_assemble.specs.declared.bodies.Body.{Body}
 
 abbrev pub body_code : Coded Body
-body_code = (contracts.the_row (record { mir = named 0; lft = [] }) (record { mir = named 0; lft = [] }) (record { mir = named 0; lft = [] })).coded
+body_code = (contracts.the_row (record { mir = named 0; lft = [] }) (record { mir = named 0; lft = [] })).coded

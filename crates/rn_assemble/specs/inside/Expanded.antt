@@ -18,6 +18,7 @@ use Rattle.rn_assemble.specs.inside.Views.{IsNumbered}
 use Rattle.rn_assemble.specs.Components.{Component, NamedModule, components_within, handed_on}
 use Rattle.rn_assemble.specs.inside.Contained.{AreFlat}
 use Rattle.rn_assemble.specs.inside.Listed.{AreContents, Live, Lists, PlacesRise, components_in}
+use Rattle.rn_assemble.specs.inside.Trees.{TreeView}
 
 -- only bodies and contexts may change
 pub record KeepsLists (old new : Components) : Type 0 where
@@ -38,16 +39,16 @@ pub record StartsAt (bodies : List Body) (first : ℕ) (content : Contents) (inh
   pub inherited_is : (i : ℕ) (d : Body) → i < length content.components.items → rc_str_bytes (slice_index_or bodies (first + i) d).context.inherited.now ≡ inherited
 
 -- the components cs were added behind the live ones, at new places
-pub record AddsLive (names : List Text) (old new : Components) (live : List Live) (cs : List Component) : Type 0 where
+pub record AddsLive (names : List Text) (trees : TreeView) (old new : Components) (live : List Live) (cs : List Component) : Type 0 where
   pub added : List Live
-  pub lists : Lists names new (live ++ added)
+  pub lists : Lists names trees new (live ++ added)
   pub rises : PlacesRise (length old.list) added
   pub longer : length old.list ≤ length new.list
   pub are : components_in added ≡ cs
 
 -- the components of the numbers from one to another can be added
-pub record CanAdd (names : List Text) (x : Components) (live : List Live) (content : Contents) (first : ℕ) (inherited : Text) (ds : List Declaration) (from to : ℕ) : Type 0 where
-  pub lists : Lists names x live
+pub record CanAdd (names : List Text) (trees : TreeView) (x : Components) (live : List Live) (content : Contents) (first : ℕ) (inherited : Text) (ds : List Declaration) (from to : ℕ) : Type 0 where
+  pub lists : Lists names trees x live
   pub binds : BindsAs content.bindings ds
   pub starts : StartsAt x.bodies first content inherited
   pub numbered : AllByRecursion (IsNumbered names) content.components.items
@@ -95,13 +96,13 @@ brought_in depth modules inherited ds include =
     included_in depth modules include.«module» (handed_on inherited ds (prefix_view include.inherit))
 
 -- modules and names in their order, the contents of the modules, and the live components so far
-pub record CanExpand (modules : List NamedModule) (names : List Text) (contents : List Contents) (x : Components) (live : List Live) : Type 0 where
+pub record CanExpand (modules : List NamedModule) (names : List Text) (trees : TreeView) (contents : List Contents) (x : Components) (live : List Live) : Type 0 where
   pub modules_in_order : IsStrictlySortedBy text_cmp (map (λ (m : NamedModule). m.name) modules)
   pub names_in_order : IsStrictlySortedBy text_cmp names
   pub flat : AllByRecursion (λ (m : NamedModule). AreFlat m.tree.items) modules
-  pub are : AreContents modules names contents
+  pub are : AreContents modules names trees contents
   pub contexts : ContextsHold contents x
-  pub lists : Lists names x live
+  pub lists : Lists names trees x live
 
 -- the include is one of the module with these contents
 pub record CanInclude (modules : List NamedModule) (names : List Text) (content : Contents) (include : Include) (ds : List Declaration) : Type 0 where
@@ -112,36 +113,36 @@ pub record CanInclude (modules : List NamedModule) (names : List Text) (content 
   pub binds : BindsAs content.bindings ds
 
 -- the components cs were added, and each context that was met still has its bodies
-pub record Expands (names : List Text) (contents : List Contents) (old new : Components) (live : List Live) (cs : List Component) : Type 0 where
-  pub adds : AddsLive names old new live cs
+pub record Expands (names : List Text) (trees : TreeView) (contents : List Contents) (old new : Components) (live : List Live) (cs : List Component) : Type 0 where
+  pub adds : AddsLive names trees old new live cs
   pub contexts : ContextsHold contents new
   pub grows : (more : List Body) × (new.bodies ≡ old.bodies ++ more)
 
 -- modules and names in their order, and the contents of the modules
-pub record CanList (modules : List NamedModule) (names : List Text) (contents : List Contents) : Type 0 where
+pub record CanList (modules : List NamedModule) (names : List Text) (trees : TreeView) (contents : List Contents) : Type 0 where
   pub modules_in_order : IsStrictlySortedBy text_cmp (map (λ (m : NamedModule). m.name) modules)
   pub names_in_order : IsStrictlySortedBy text_cmp names
   pub flat : AllByRecursion (λ (m : NamedModule). AreFlat m.tree.items) modules
-  pub are : AreContents modules names contents
+  pub are : AreContents modules names trees contents
 
 -- the live components are these, in this order
-abbrev pub IsListed : List Text → Components → List Component → Type 0
-IsListed names x cs = (live : List Live) × Lists names x live × (components_in live ≡ cs)
+abbrev pub IsListed : List Text → TreeView → Components → List Component → Type 0
+IsListed names trees x cs = (live : List Live) × Lists names trees x live × (components_in live ≡ cs)
 
 -- ---- of which modules a contract speaks
 
 -- P holds of the modules that have these contents, with so many keys, where the roots are numbers of modules
-abbrev pub OfRoots : List Contents → ℕ → List ℕ → (List NamedModule → List Text → Type 0) → Type 0
-OfRoots contents keys roots P = (modules : List NamedModule) (names : List Text) → CanList modules names contents
-    → keys ≡ length names + 1 → AllBelow (length modules) roots → P modules names
+abbrev pub OfRoots : List Contents → ℕ → List ℕ → (TreeView → List NamedModule → List Text → Type 0) → Type 0
+OfRoots contents keys roots P = (trees : TreeView) (modules : List NamedModule) (names : List Text) → CanList modules names trees contents
+    → keys ≡ length names + 1 → AllBelow (length modules) roots → P trees modules names
 
 -- P holds of the modules that have these contents, and of the live components so far
-abbrev pub OfExpanding : List Contents → Components → (List NamedModule → List Text → List Live → Type 0) → Type 0
-OfExpanding contents x P = (modules : List NamedModule) (names : List Text) (live : List Live)
-    → CanExpand modules names contents x live → P modules names live
+abbrev pub OfExpanding : List Contents → Components → (TreeView → List NamedModule → List Text → List Live → Type 0) → Type 0
+OfExpanding contents x P = (trees : TreeView) (modules : List NamedModule) (names : List Text) (live : List Live)
+    → CanExpand modules names trees contents x live → P trees modules names live
 
 -- P holds of the modules that have these contents, of the live components so far, and of the declarations of the module whose include it is
 abbrev pub OfIncluding : List Contents → Components → Contents → Include
-    → (List NamedModule → List Text → List Live → List Declaration → Type 0) → Type 0
-OfIncluding contents x content include P = (modules : List NamedModule) (names : List Text) (live : List Live) (ds : List Declaration)
-    → CanExpand modules names contents x live → CanInclude modules names content include ds → P modules names live ds
+    → (TreeView → List NamedModule → List Text → List Live → List Declaration → Type 0) → Type 0
+OfIncluding contents x content include P = (trees : TreeView) (modules : List NamedModule) (names : List Text) (live : List Live) (ds : List Declaration)
+    → CanExpand modules names trees contents x live → CanInclude modules names content include ds → P trees modules names live ds

@@ -11,12 +11,13 @@ use Rattle.rn_assemble.specs.Combine.{joined_grammar}
 use Rattle.rn_assemble.specs.inside.CombinedView.{combined_view}
 use Rattle.rn_assemble.specs.Least.{IsLeast, key_cmp}
 use Rattle.rn_assemble.specs.inside.Listed.{Live, Lists, components_in}
+use Rattle.rn_assemble.specs.inside.Trees.{TreeView}
 use Rattle.rn_assemble.specs.Refusal.{BreaksNameRules}
 use Rattle.rn_assemble.specs.Refused.{key_view}
 
--- the components are listed by the numbers of these names, and one of them is of the start
-abbrev pub HasStart : List Text → Components → Type 0
-HasStart names x = (live : List Live) × Lists names x live × IsStrictlySortedBy text_cmp names × (has_key start_key (components_in live) ≡ true)
+-- the components are listed by the numbers of these names and have these trees, and one of them is of the start
+abbrev pub HasStart : List Text → TreeView → Components → Type 0
+HasStart names trees x = (live : List Live) × Lists names trees x live × IsStrictlySortedBy text_cmp names × (has_key start_key (components_in live) ≡ true)
 
 -- the components' grammar, in which no key breaks the restrictions on name classes
 pub record IsCombinedGrammar (cs : List Component) (c : Combined) : Type 0 where

@@ -19,6 +19,7 @@ use Rattle.rn_assemble.specs.inside.Keyed.{key_at}
 use Rattle.rn_assemble.specs.inside.Listed.{IsBody, Live, components_in}
 use Rattle.rn_assemble.specs.Refusal.{BreaksNameRules}
 use Rattle.rn_assemble.specs.Refused.{key_view}
+use Rattle.rn_assemble.specs.inside.Trees.{TreeView}
 use Rattle.rn_assemble.specs.inside.Views.{names_of}
 
 -- the tree stands for the component's body, which keeps the restrictions on name classes
@@ -48,13 +49,13 @@ abbrev pub MayHold : Component → Option (Rc Pattern Global) → Type 0
 MayHold c held = IfSome held (λ p. IsWellNamed c (shared_view p))
 
 -- the body of a number, resolved, stands for each component that it is the body of
-pub record AreShared (names : List Text) (bodies : List Body) (shared : List (Option (Rc Pattern Global))) : Type 0 where
+pub record AreShared (names : List Text) (trees : TreeView) (bodies : List Body) (shared : List (Option (Rc Pattern Global))) : Type 0 where
   pub size : length shared ≡ length bodies
-  pub are : (n key : ℕ) (b : Body) (c : Component) → slice_get bodies n ≡ Some b → IsBody names b key c → IfSome (slice_index_or shared n None) (λ p. IsWellNamed c (shared_view p))
+  pub are : (n key : ℕ) (b : Body) (c : Component) → slice_get bodies n ≡ Some b → IsBody names trees b key c → IfSome (slice_index_or shared n None) (λ p. IsWellNamed c (shared_view p))
 
 -- the body of a number, resolved, stands for each component of x that it is the body of
-abbrev pub AreSharedBy : Keys → Components → List (Option (Rc Pattern Global)) → Type 0
-AreSharedBy keys x shared = AreShared (names_of keys) x.bodies shared
+abbrev pub AreSharedBy : Keys → TreeView → Components → List (Option (Rc Pattern Global)) → Type 0
+AreSharedBy keys trees x shared = AreShared (names_of keys) trees x.bodies shared
 
 -- the pattern of a key's components, where it has some
 abbrev pub pattern_of : List Component → Key → Option Tree

@@ -11,7 +11,6 @@ use Rattle.rn_text.specs.Texts.{Text, text_cmp}
 use Rattle.rn_pattern.specs.Matching.{Grammar, definition_of}
 use Rattle.rn_pattern.specs.Reached.{RefersTo}
 use Rattle.rn_pattern.specs.References.{RefersOutside, IsUndefined, IsRecursive}
-use Rattle.rn_syntax.specs.View.{pattern_view}
 use Rattle.rn_syntax.specs.Tree as t
 use Rattle.rn_syntax.specs.Tree.{Pattern, Patterns}
 use Rattle.rn_pattern.specs.Graph.{row}
@@ -20,6 +19,7 @@ use Rattle.rn_assemble.specs.Combine.{joined_pattern, joined_grammar}
 use Rattle.rn_assemble.specs.inside.Keyed.{IsNameNumber, key_at}
 use Rattle.rn_assemble.specs.Least.{IsLeast}
 use Rattle.rn_assemble.specs.inside.Listed.{Live, Lists, components_in}
+use Rattle.rn_assemble.specs.inside.Trees.{TreeView}
 use Rattle.rn_assemble.specs.declared.bodies.Body.{Body}
 use Rattle.rn_assemble.specs.declared.components.Components.{Components}
 use Rattle.rn_pattern.specs.declared.references.Reach.{Reach}
@@ -82,13 +82,17 @@ IsLeastUndefined cs _ = ⊥
 abbrev pub reference_view : Reference → Text × Reach
 reference_view r = (r.name.now, r.reach)
 
+-- the pattern of a body, by its number; `empty` where there is none
+abbrev pub tree_of : TreeView → List Body → ℕ → Pattern
+tree_of trees bodies n = option_map_or (λ (b : Body). trees b.component.key b.component.tree) (slice_get bodies n) t.empty
+
 -- the references of a body, by its number
-abbrev pub references_at : List Body → ℕ → List (Text × Reach)
-references_at bodies n = option_map_or (λ (b : Body). references OutsideElements (pattern_view b.component.body.now)) (slice_get bodies n) []
+abbrev pub references_at : TreeView → List Body → ℕ → List (Text × Reach)
+references_at trees bodies n = references OutsideElements (tree_of trees bodies n)
 
 -- the references of the bodies with these numbers
-abbrev pub references_in : Components → List ℕ → List (Text × Reach)
-references_in x numbers = flat_map (references_at x.bodies) numbers
+abbrev pub references_in : TreeView → Components → List ℕ → List (Text × Reach)
+references_in trees x numbers = flat_map (references_at trees x.bodies) numbers
 
 -- the number of a name that is referred to, if it has one and the reach takes the reference in
 abbrev pub number_within : (meant narrowest : Reach) → Option ℕ → List ℕ
@@ -129,7 +133,7 @@ IsLeastOf G xs (Some y) = Contains xs y × (definition_of G y ≡ None) × ((x :
 
 -- where the old one is the least undefined name of some, the new one is that of these and of more
 abbrev pub KeepsLeast : List Text → Components → (more : List Text) → (old new : Option (Bor (List ℕ))) → Type 0
-KeepsLeast names x more old new = (live : List Live) (before : List Text) → Lists names x live
+KeepsLeast names x more old new = (trees : TreeView) (live : List Live) (before : List Text) → Lists names trees x live
     → IsStrictlySortedBy text_cmp names
     → IsLeastOf (joined_grammar (components_in live)) before (option_map (λ (s : Bor (List ℕ)). s.now) old)
     → IsLeastOf (joined_grammar (components_in live)) (before ++ more) (option_map (λ (s : Bor (List ℕ)). s.now) new)

@@ -1,10 +1,12 @@
 -- What values of the code stand for.
-use Rattle.std.specs.Prelude.{ℕ, suc, ◌<◌, ◌≡◌, List, ◌++◌, length, map}
+use Rattle.std.specs.Prelude.{ℕ, suc, ◌<◌, ◌≡◌, List, [], ◌∷◌, ◌++◌, length, map, Vec}
+use Rattle.std.specs.declared.alloc.Global.{Global}
 use Rattle.std.specs.List.{AllByRecursion}
 use Rattle.std.specs.List.Sorted.{IsStrictlySortedBy}
 use Rattle.std.specs.Borrow.{Bor}
 use Rattle.rn_text.specs.Texts.{Text, text_cmp}
-use Rattle.rn_syntax.specs.View.{module_view, pattern_view, prefix_view}
+use Rattle.rn_syntax.specs.View.{declaration_view, items_view, module_view, prefix_view}
+use Rattle.rn_syntax.specs.declared.tree.Item.{Item}
 use Rattle.rn_assemble.specs.declared.named_modules.NamedModule as code_module
 use Rattle.rn_assemble.specs.declared.keys.Keys.{Keys}
 use Rattle.rn_assemble.specs.declared.contents.WrittenComponent as code_component
@@ -12,7 +14,10 @@ use Rattle.rn_assemble.specs.declared.contents.Contents.{Contents}
 use Rattle.rn_assemble.specs.declared.contents.Include.{Include}
 use Rattle.rn_assemble.specs.Components.{NamedModule}
 use Rattle.rn_assemble.specs.inside.Keyed.{key_at}
+use Rattle.rn_assemble.specs.declared.trees.KeyedTree.{KeyedTree}
+use Rattle.rn_assemble.specs.declared.trees.Trees.{Trees}
 use Rattle.rn_assemble.specs.inside.Contained.{WrittenComponent, Inclusion}
+use Rattle.rn_assemble.specs.inside.Trees.{TreeView, trees_by}
 
 abbrev pub texts_of : List (Bor (List ℕ)) → List Text
 texts_of xs = map (λ (s : Bor (List ℕ)). s.now) xs
@@ -30,28 +35,46 @@ modules_view modules = map named_module_view modules
 abbrev pub module_names : List code_module.NamedModule → List Text
 module_names modules = map (λ (m : code_module.NamedModule). m.name.now) modules
 
+-- the module with these items in the place of its own
+abbrev pub module_with : code_module.NamedModule → Vec Item Global → NamedModule
+module_with m xs = record { name = m.name.now; tree = record { declarations = map declaration_view m.tree.decls.items; items = items_view xs.items } }
+
+-- the modules with these items in the place of their own
+abbrev pub with_items : List code_module.NamedModule → List (Vec Item Global) → List NamedModule
+with_items (m ∷ ms) (xs ∷ xss) = module_with m xs ∷ with_items ms xss
+with_items _ _ = []
+
+-- the code's modules have the names of these, in their order
+abbrev pub AreNamed : List NamedModule → List code_module.NamedModule → Type 0
+AreNamed ms modules = map (λ (m : NamedModule). m.name) ms ≡ module_names modules
+
 -- the modules come in the order of their names, each name once
 abbrev pub AreInOrder : List code_module.NamedModule → Type 0
 AreInOrder modules = IsStrictlySortedBy text_cmp (module_names modules)
 
-abbrev pub written_view : List Text → code_component.WrittenComponent → WrittenComponent
-written_view names c = record { key = key_at names c.key; method = c.method; pattern = pattern_view c.body.now }
+abbrev pub written_view : List Text → TreeView → code_component.WrittenComponent → WrittenComponent
+written_view names trees c = record { key = key_at names c.key; method = c.method; pattern = trees c.key c.tree }
 
 -- the number of the component's key is one of the keys' numbers
 abbrev pub IsNumbered : List Text → code_component.WrittenComponent → Type 0
 IsNumbered names c = c.key < suc (length names)
 
--- the written components were added behind the old ones
-pub record Adds (names : List Text) (old new : List code_component.WrittenComponent) (added : List WrittenComponent) : Type 0 where
-  pub is : map (written_view names) new ≡ map (written_view names) old ++ added
-  pub numbered : AllByRecursion (IsNumbered names) old → AllByRecursion (IsNumbered names) new
+-- the written components were added behind the old ones, and their trees behind the old ones; whatever trees come later, they stand for these
+pub record Adds (names : List Text) (old new : List code_component.WrittenComponent) (before after : List KeyedTree) (added : List WrittenComponent) : Type 0 where
+  pub more : List code_component.WrittenComponent
+  pub grown : List KeyedTree
+  pub components : new ≡ old ++ more
+  pub trees : after ≡ before ++ grown
+  pub is : (later : List KeyedTree) → map (written_view names (trees_by (after ++ later))) more ≡ added
+  pub numbered : AllByRecursion (IsNumbered names) more
 
 abbrev pub inclusion_view : Include → Inclusion
 inclusion_view i = record { module_at = i.module; inherit = prefix_view i.inherit; first = i.from; end = i.to }
 
--- contents have got these components behind the old ones
-abbrev pub AddsComponents : Keys → (old new : Contents) → List WrittenComponent → Type 0
-AddsComponents keys old new added = Adds (names_of keys) old.components.items new.components.items added
+-- contents have got these components behind the old ones, and their trees stand behind the old ones
+abbrev pub AddsComponents : Keys → (old new : Contents) → (before after : Trees) → List WrittenComponent → Type 0
+AddsComponents keys old new before after added =
+    Adds (names_of keys) old.components.items new.components.items before.trees.items after.trees.items added
 
 -- contents have got these includes behind the old ones
 abbrev pub AddsIncludes : (old new : Contents) → List Inclusion → Type 0

@@ -1,13 +1,12 @@
-use Rattle.std.proofs.Common.{◌≡◌, List, subst, sym, ap, ◌∙◌}
+use Rattle.std.proofs.Common.{List, subst, sym, ap, ◌∙◌}
 use Rattle.std.specs.List.{AllByRecursion}
 use Rattle.rn_assemble.specs.declared.named_modules.NamedModule as code_module
 use Rattle.rn_assemble.specs.Components.{NamedModule}
 use Rattle.rn_assemble.specs.Refused.{IsFirstRefusal}
-use Rattle.rn_assemble.specs.inside.RenamedModules.{renamed_modules, DeclareKnown}
-use Rattle.rn_assemble.specs.ShortTexts.{IsKnown, long_uri, short_texts, short_texts_of}
+use Rattle.rn_assemble.specs.ShortTexts.{long_uri, short_texts, short_texts_of}
 use Rattle.rn_assemble.specs.inside.CombinedView.{combined_view}
 use Rattle.rn_assemble.specs.inside.Contained.{AreFlat}
-use Rattle.rn_assemble.specs.inside.Views.{AreInOrder, modules_view}
+use Rattle.rn_assemble.specs.inside.Views.{modules_view}
 use Rattle.rn_assemble.proofs.Answering.SetRefusal.{first_of_modules}
 use Rattle.rn_assemble.proofs.Answering.ShortenedSets.{first_before, flat_before, short_in_order, shortened_of}
 use Rattle.rn_assemble.proofs.Joining.KeyPatterns.{refused_by}
@@ -17,34 +16,28 @@ use Rattle.rn_assemble.proofs.assembly.combine_short.Goals as goal
 pub combine_modules-requires-clause-in_order : goal.combine_modules-requires-clause-in_order
 combine_modules-requires-clause-in_order c =
     let long = long_uri (short_texts c.in_ok-uris.uris) in
-    subst AreInOrder (sym c.as_slice-2.ensures.value)
-    (short_in_order long c.in_ok-modules.modules.items c.in_ok-modules-2.modules.items c.in_ok-modules-2.ensures.modules c.in_ok-modules.ensures.in_order)
+    short_in_order long c.in_ok-modules.modules.items c.in_ok-modules-2.modules.items c.in_ok-modules-2.ensures.modules c.in_ok-modules.ensures.in_order
 
 pub combine_modules-requires-clause-flat : goal.combine_modules-requires-clause-flat
 combine_modules-requires-clause-flat c =
     let long = long_uri (short_texts c.in_ok-uris.uris) in
     let flat = modules_flat c.args.set.now (modules_view c.in_ok-modules.modules.items) c.in_ok-modules.ensures.ok in
-    subst (λ (ms : List code_module.NamedModule). AllByRecursion (λ (m : NamedModule). AreFlat m.tree.items) (modules_view ms)) (sym c.as_slice-2.ensures.value)
-    (flat_before long (modules_view c.in_ok-modules-2.modules.items) (subst (AllByRecursion (λ (m : NamedModule). AreFlat m.tree.items)) (sym c.in_ok-modules-2.ensures.modules) flat))
+    flat_before long (modules_view c.in_ok-modules-2.modules.items) (subst (AllByRecursion (λ (m : NamedModule). AreFlat m.tree.items)) (sym c.in_ok-modules-2.ensures.modules) flat)
 
 pub returns-in_err-combined : goal.returns-in_err-combined
 returns-in_err-combined c =
     let s = c.args.set.now in
     let es = short_texts c.in_ok-uris.uris in
     let ms = modules_view c.in_ok-modules.modules.items in
-    let short = modules_view c.as_slice-2.result.now in
-    let same : renamed_modules (long_uri es) short ≡ ms = ap (λ (xs : List code_module.NamedModule). renamed_modules (long_uri es) (modules_view xs)) c.as_slice-2.ensures.value ∙ c.in_ok-modules-2.ensures.modules in
-    let known = subst (λ (xs : List code_module.NamedModule). DeclareKnown (IsKnown es) (modules_view xs)) (sym c.as_slice-2.ensures.value) c.in_ok-modules-2.ensures.known in
+    let short = modules_view c.in_ok-modules-2.modules.items in
     let q = c.in_err-combined.field-0.0 in
     refused_by _ (IsFirstRefusal s) c.from_residual-in_err-combined.result q c.from_residual-in_err-combined.ensures.1
-    (first_of_modules s ms c.in_ok-modules.ensures.ok q (first_before es c.in_ok-uris.ensures.table ms short same known q c.in_err-combined.ensures))
+    (first_of_modules s ms c.in_ok-modules.ensures.ok q (first_before es c.in_ok-uris.ensures.table ms short c.in_ok-modules-2.ensures.modules c.in_ok-modules-2.ensures.known q c.in_err-combined.ensures))
 
 pub returns : goal.returns
 returns c =
     let es = short_texts c.in_ok-uris.uris in
     let ms = modules_view c.in_ok-modules.modules.items in
-    let short = modules_view c.as_slice-2.result.now in
-    let same : renamed_modules (long_uri es) short ≡ ms = ap (λ (xs : List code_module.NamedModule). renamed_modules (long_uri es) (modules_view xs)) c.as_slice-2.ensures.value ∙ c.in_ok-modules-2.ensures.modules in
-    let known = subst (λ (xs : List code_module.NamedModule). DeclareKnown (IsKnown es) (modules_view xs)) (sym c.as_slice-2.ensures.value) c.in_ok-modules-2.ensures.known in
+    let short = modules_view c.in_ok-modules-2.modules.items in
     let texts = c.in_ok-uris.ensures.texts ∙ ap (λ (xs : List code_module.NamedModule). short_texts_of (modules_view xs)) c.as_slice.ensures.value in
-    shortened_of es c.in_ok-uris.ensures.table ms short same known texts c.args.set.now c.in_ok-modules.ensures.ok (combined_view c.in_ok-combined.combined) c.in_ok-combined.ensures
+    shortened_of es c.in_ok-uris.ensures.table ms short c.in_ok-modules-2.ensures.modules c.in_ok-modules-2.ensures.known texts c.args.set.now c.in_ok-modules.ensures.ok (combined_view c.in_ok-combined.combined) c.in_ok-combined.ensures

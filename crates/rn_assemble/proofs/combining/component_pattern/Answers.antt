@@ -5,17 +5,18 @@ use Rattle.rn_assemble.specs.inside.Patterns.{IsMisnamedAs, IsWellNamed}
 use Rattle.rn_pattern.specs.View.{boxed_view}
 use Rattle.rn_assemble.specs.inside.Views.{names_of}
 use Rattle.rn_assemble.proofs.Joining.KeyPatterns.{refused_by}
+use Rattle.rn_assemble.proofs.Joining.SharedPatterns.{body_agrees}
 use Rattle.rn_assemble.proofs.Joining.UsedMethods.{live_body}
 use Rattle.rn_assemble.proofs.combining.component_pattern.Goals as goal
 
 pub returns-in_err-resolve_body : goal.returns-in_err-resolve_body
-returns-in_err-resolve_body c = λ live e h k p.
+returns-in_err-resolve_body c = λ view live e h k p agree.
     let x = c.args.components.now in
     let is = live_body (names_of c.args.keys.now) x.bodies x.list x.places.items live e c.in-Some.number c.in-Some-body.body h k (p ∙ sym c.in-Some.ensures) (sym c.in-Some-body.ensures) in
-    refused_by (λ o. IsSomeAnd o (λ q. IsWellNamed e.component (boxed_view q))) (IsMisnamedAs e.component.key (¬ KeepsNameRules e.component.body)) c.from_residual.result c.in_err-resolve_body.field-0.0 c.from_residual.ensures.1 (c.in_err-resolve_body.ensures e.key e.component is)
+    refused_by (λ o. IsSomeAnd o (λ q. IsWellNamed e.component (boxed_view q))) (IsMisnamedAs e.component.key (¬ KeepsNameRules e.component.body)) c.from_residual.result c.in_err-resolve_body.field-0.0 c.from_residual.ensures.1 (c.in_err-resolve_body.ensures e.key e.component (body_agrees (names_of c.args.keys.now) c.in-Some-body.body e.key e.component is agree))
 
 pub returns : goal.returns
-returns c = λ live e h k p.
+returns c = λ view live e h k p agree.
     let x = c.args.components.now in
     let is = live_body (names_of c.args.keys.now) x.bodies x.list x.places.items live e c.in-Some.number c.in-Some-body.body h k (p ∙ sym c.in-Some.ensures) (sym c.in-Some-body.ensures) in
-    c.in_ok-resolve_body.ensures e.key e.component is
+    c.in_ok-resolve_body.ensures e.key e.component (body_agrees (names_of c.args.keys.now) c.in-Some-body.body e.key e.component is agree)

@@ -27,6 +27,6 @@ invariant_of-result c =
     let start : boxed_view c.unwrap-start.result ≡ joined_pattern cs start_key = cc in
     let firsts = c.in_ok-start_firsts.start_firsts.items in
     record {
-      start_tied = subst (λ p. AreTied firsts (joined_members p)) (sym start) (c.in_ok-start_firsts.ensures names live h o (omega arith));
-      tied = (c.in_ok-definitions.ensures live h o (others_left names cs patterns c.take.new.patterns.items made c.take.ensures.left)).0;
+      start_tied = subst (λ p. AreTied firsts (joined_members p)) (sym start) (c.in_ok-start_firsts.ensures _ names live h o (omega arith));
+      tied = (c.in_ok-definitions.ensures _ live h o (others_left names cs patterns c.take.new.patterns.items made c.take.ensures.left)).0;
     }

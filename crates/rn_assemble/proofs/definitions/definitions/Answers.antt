@@ -13,24 +13,24 @@ use Rattle.rn_assemble.proofs.definitions.definitions.Goals as goal
 use Rattle.rn_assemble.proofs.definitions.definitions.Goals.{in-Some+in-Some-take+in_ok-found+in_ok-keep_row+in_ok-push, in-Some+in_default-take, in_default}
 
 pub loop-place-init : goal.loop-place-init
-loop-place-init c = λ live h o p.
+loop-place-init c = λ trees live h o p.
     let names = names_of c.args.keys.now in
     subst (λ ds. Defining names live h.rises c.args.patterns.now.items ds (firsts_of c.new-firsts.result.items) 0) (sym c.in_ok-definitions.ensures.items) (subst (λ rows. Defining names live h.rises c.args.patterns.now.items [] (firsts_of rows) 0) (sym c.new-firsts.ensures.items) (defining_begins names live h.rises c.args.patterns.now.items p))
 
 pub loop-place-preserved : goal.loop-place-preserved
-loop-place-preserved c = λ live h o p.
+loop-place-preserved c = λ trees live h o p.
     let names = names_of c.args.keys.now in
     let patterns = c.loop-place.patterns.items in
     let entries = c.loop-place.definitions.items in
     let rows = firsts_of c.loop-place.firsts.items in
     let place = c.loop-place.place in
-    let first = c.first_at.ensures names live h o in
-    let before = c.loop-place.invariant live h o p in
+    let first = c.first_at.ensures trees names live h o in
+    let before = c.loop-place.invariant trees live h o p in
     elim c.match-first_at.branch [
       | in-Some+in-Some-take+in_ok-found+in_ok-keep_row+in_ok-push w ↦
           let f : IsFirstAt names live place (Some w.in-Some.key) = subst (IsFirstAt names live place) w.in-Some.is first in
           let name : w.name-name.result.now ≡ get_or names (w.in-Some.key - 1) [] = w.name-name.ensures f.0 (omega (arith, f.1)) in
-          let tied = w.in_ok-found.ensures names live h o (omega (arith, f.1)) in
+          let tied = w.in_ok-found.ensures trees names live h o (omega (arith, f.1)) in
           let d : CombinedDefinition = record { name = w.name-name.result; pattern = w.in-Some-take.pattern } in
           let view : CombinedDefinition → Text × Tree = λ (e : CombinedDefinition). (e.name.now, boxed_view e.pattern) in
           let size : length c.loop-place.firsts.items ≤ length entries = omega (arith, before.size, length-map entries view, length-map c.loop-place.firsts.items (λ (v : Vec ℕ Global). v.items)) in
@@ -51,9 +51,9 @@ loop-place-preserved c = λ live h o p.
     ]
 
 pub returns : goal.returns
-returns c = λ live h o p.
+returns c = λ trees live h o p.
     let names = names_of c.args.keys.now in
     let x = c.args.components.now in
     let past : length x.list ≤ c.loop-place.place = omega (arith, c.loop-place-test.false, c.count-place-end.ensures) in
     defining_ends names live h.rises c.loop-place.patterns.items c.loop-place.definitions.items (firsts_of c.loop-place.firsts.items) c.loop-place.place
-    (places_within names x.bodies x.list x.places.items live c.loop-place.place h past) (c.loop-place.invariant live h o p)
+    (places_within names x.bodies x.list x.places.items live c.loop-place.place h past) (c.loop-place.invariant trees live h o p)

@@ -9,7 +9,7 @@ answer : {A : Type 0} (r : Bool) (o : Option A) → Decides r (IsSome o) → r �
 answer r o d = same_from_decides r (is_some o) d ((λ e. e), (λ e. e))
 
 pub returns-in-Some : goal.returns-in-Some
-returns-in-Some c = λ names live x l s f. answer _ _ (number_defined _ _ _ _ live l s x c.in-Some.key c.count_of.result (subst (IsFound names x) c.in-Some.is f) c.count_of.ensures)
+returns-in-Some c = λ trees names live x l s f. answer _ _ (number_defined _ _ _ _ _ live l s x c.in-Some.key c.count_of.result (subst (IsFound names x) c.in-Some.is f) c.count_of.ensures)
 
 pub returns-in-None : goal.returns-in-None
-returns-in-None c = λ names live x l s f. answer _ _ (none_defined _ _ _ _ live l s x (subst (IsFound names x) c.in-None.is f))
+returns-in-None c = λ trees names live x l s f. answer _ _ (none_defined _ _ _ _ _ live l s x (subst (IsFound names x) c.in-None.is f))

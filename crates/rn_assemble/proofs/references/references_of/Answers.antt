@@ -8,6 +8,7 @@ use Rattle.rn_pattern.proofs.Graphs.BuiltRows.{rows_pushed, is_graph, no_rows}
 use Rattle.rn_assemble.specs.inside.Listed.{components_in}
 use Rattle.rn_assemble.specs.inside.Referred.{AreBodiesAt, names_within, reference_view, references_at}
 use Rattle.rn_pattern.specs.declared.references.Reach.TheVariants.{Everywhere, OutsideElements}
+use Rattle.rn_assemble.specs.inside.Trees.{trees_by}
 use Rattle.rn_assemble.specs.inside.Views.{names_of}
 use Rattle.rn_assemble.proofs.Joining.BodiesLookedAt.{none_looked}
 use Rattle.rn_assemble.proofs.Referring.GatheredReferences.{Gathered, row_of, gathered_begins, gathered_more, gathered_none, gathered_some, names_anywhere, names_outside}
@@ -34,6 +35,7 @@ loop-key-preserved c = record {
   fresh = c.in_ok-bodies.ensures.fresh;
   gathered = λ live l s.
       let names = names_of c.args.keys.now in
+      let trees = trees_by c.args.trees.now.trees.items in
       let cs = components_in live in
       let k = c.loop-key.key in
       let bs = c.args.components.now.bodies in
@@ -42,8 +44,8 @@ loop-key-preserved c = record {
       let h : k < suc (length names) = omega (arith, c.loop-key-test.true, c.len-key-end.ensures) in
       let size : length c.loop-key.looked.items ≡ length bs = c.loop-key.invariant.looked in
       let found = subst (λ n. AreBodiesAt n list (row rows k) c.in_ok-bodies.bodies.items) size c.in_ok-bodies.ensures.found in
-      let written : map reference_view c.as_slice-in-loop-key.result.now ≡ flat_map (references_at bs) c.in_ok-bodies.bodies.items =
-      ap (map reference_view) c.as_slice-in-loop-key.ensures.value ∙ c.in_ok-references.ensures ∙ ap (flat_map (references_at bs)) c.as_slice.ensures.value in
+      let written : map reference_view c.as_slice-in-loop-key.result.now ≡ flat_map (references_at trees bs) c.in_ok-bodies.bodies.items =
+      ap (map reference_view) c.as_slice-in-loop-key.ensures.value ∙ c.in_ok-references.ensures ∙ ap (flat_map (references_at trees bs)) c.as_slice.ensures.value in
       let texts = names_within Everywhere (map reference_view c.as_slice-in-loop-key.result.now) in
       let texts_outside = names_within OutsideElements (map reference_view c.as_slice-in-loop-key.result.now) in
       let anywhere = names_anywhere names bs list rows live l s k c.in_ok-bodies.bodies.items texts h found (ap (names_within Everywhere) written) in
@@ -53,7 +55,7 @@ loop-key-preserved c = record {
       (row_of RefersTo names texts cs k c.in_ok-row.row.everywhere.items c.in_ok-row.ensures.everywhere anywhere)
       (row_of RefersOutside names texts_outside cs k c.in_ok-row.row.outside.items c.in_ok-row.ensures.outside outside)
       anywhere
-      (λ before b. c.in_ok-row.ensures.least live before l s b);
+      (λ before b. c.in_ok-row.ensures.least trees live before l s b);
 }
 
 pub returns-clause-everywhere : goal.returns-clause-everywhere

@@ -6,6 +6,7 @@ use Rattle.rn_pattern.specs.Graph.{rows_of}
 use Rattle.rn_pattern.proofs.Graphs.BuiltRows.{AreRows}
 use Rattle.rn_assemble.specs.inside.Listed.{Lists, Live, components_in}
 use Rattle.rn_assemble.specs.inside.Referred.{IsFresh}
+use Rattle.rn_assemble.specs.inside.Trees.{trees_by}
 use Rattle.rn_assemble.specs.inside.Views.{names_of}
 use Rattle.rn_assemble.proofs.Referring.GatheredReferences.{Gathered}
 use Rattle.rn_assemble.proofs.references.references_of.Given as goal
@@ -18,6 +19,6 @@ invariant-loop-key l = record {
   outside_size : length (rows_of l.rows.outside) ≡ l.key;
   looked : length l.looked.items ≡ length l.components.bodies;
   fresh : IsFresh l.key l.looked.items;
-  gathered : (live : List Live) → Lists (names_of l.keys) l.components live → IsStrictlySortedBy text_cmp (names_of l.keys)
+  gathered : (live : List Live) → Lists (names_of l.keys) (trees_by l.trees.trees.items) l.components live → IsStrictlySortedBy text_cmp (names_of l.keys)
       → Gathered (names_of l.keys) (components_in live) (rows_of l.rows.everywhere) (rows_of l.rows.outside) l.key (option_map (λ s. s.now) l.undefined);
 }

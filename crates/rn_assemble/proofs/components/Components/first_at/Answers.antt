@@ -11,7 +11,7 @@ use Rattle.rn_assemble.proofs.components.Components.first_at.Goals as goal
 use Rattle.rn_assemble.proofs.components.Components.first_at.Goals.{else-key-ne-START-via-then-key-ne-START+else-first-place, else-key-ne-START-via-else-key-ne-START}
 
 pub returns-in_err-first : goal.returns-in_err-first
-returns-in_err-first c = λ names live h o.
+returns-in_err-first c = λ trees names live h o.
     subst (IsFirstAt names live c.args.place) (sym c.from_residual-in_err-first.ensures) (λ e k p.
     let x = c.args.self.now in
     let rows = x.places.items in
@@ -19,7 +19,7 @@ returns-in_err-first c = λ names live h o.
     absurd (row_there names x.bodies x.list rows live h o e k (ap (λ n. slice_get (row rows n) 0) (sym is.key_is) ∙ sym c.in_err-first.ensures)))
 
 pub returns-then-first-place : goal.returns-then-first-place
-returns-then-first-place c = λ names live h o.
+returns-then-first-place c = λ trees names live h o.
     let x = c.args.self.now in
     let key = c.in_ok-key.field-0.component.key in
     let place = c.in_ok-first.first in
@@ -29,7 +29,7 @@ returns-then-first-place c = λ names live h o.
     subst (λ p. IsFirstAt names live p (Some key)) here (first_there names x.bodies x.list x.places.items live h o key place above at)
 
 pub returns-else-key-ne-START : goal.returns-else-key-ne-START
-returns-else-key-ne-START c = λ names live h o e k p.
+returns-else-key-ne-START c = λ trees names live h o e k p.
     let x = c.args.self.now in
     let rows = x.places.items in
     let key = c.in_ok-key.field-0.component.key in

@@ -7,9 +7,10 @@ use Rattle.rn_assemble.specs.Combine.{is_plain, of_key}
 use Rattle.rn_assemble.specs.inside.Keyed.{key_at}
 use Rattle.rn_assemble.specs.inside.Listed.{Lists, Live, components_in}
 use Rattle.rn_assemble.proofs.components.Components.is_plain_twice.Given as goal
+use Rattle.rn_assemble.specs.inside.Trees.{TreeView}
 
 abbrev pub invariant-loop-index : goal.invariant-loop-index
 invariant-loop-index l = record {
-  counted : (names : List Text) (live : List Live) → Lists names l.self live → IsStrictlySortedBy text_cmp names → l.key < length names + 1
+  counted : (trees : TreeView) (names : List Text) (live : List Live) → Lists names trees l.self live → IsStrictlySortedBy text_cmp names → l.key < length names + 1
       → count_by (λ (c : Component). is_plain c.method) (take l.index (of_key (key_at names l.key) (components_in live))) ≡ cond {A = ℕ} l.is_plain 1 0;
 }

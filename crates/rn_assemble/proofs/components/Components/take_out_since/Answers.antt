@@ -4,7 +4,7 @@ use Rattle.rn_assemble.proofs.Expansion.LiveLists.{taken, taken_none, row_read, 
 use Rattle.rn_assemble.proofs.components.Components.take_out_since.Goals as goal
 
 pub returns-then-key-len-clause-taken : goal.returns-then-key-len-clause-taken
-returns-then-key-len-clause-taken c = λ names live added h low high.
+returns-then-key-len-clause-taken c = λ trees names live added h low high.
     let x = c.args.self.now in
     let key = c.args.key in
     let within : key < length x.places.items = omega (arith, c.if-key-len.true, c.len.ensures, x.places.ok.0) in
@@ -13,6 +13,6 @@ returns-then-key-len-clause-taken c = λ names live added h low high.
     taken names x.bodies x.list x.places.items _ live added c.args.before key h low high (row_changed x.places.items key c.pop_since.new.places _ within new) within
 
 pub returns-else-key-len-clause-taken : goal.returns-else-key-len-clause-taken
-returns-else-key-len-clause-taken c = λ names live added h low high.
+returns-else-key-len-clause-taken c = λ trees names live added h low high.
     let x = c.args.self.now in
     taken_none names x.bodies x.list x.places.items live added c.args.key h (omega (arith, c.if-key-len.false, c.len.ensures, x.places.ok.0))
