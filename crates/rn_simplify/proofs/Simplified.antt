@@ -5,6 +5,7 @@ pub mod SettledMore
 pub mod SettlingOrder
 pub mod RankOrder
 pub mod FormedGrammar
+pub mod FormsInPlace
 pub mod ReferenceGraph
 pub mod ReferredIn
 pub mod DefinitionNumbers

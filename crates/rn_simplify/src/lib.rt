@@ -1,8 +1,8 @@
 //! The canonical grammar of a grammar, and its text.
 //!
 //! [`normalise`] settles the references whose definitions come to notAllowed or empty, brings each pattern into its
-//! canonical form, and keeps the definitions that are reached from the start. [`print`] gives the one text of a
-//! canonical grammar in the compact syntax.
+//! canonical form, and keeps the definitions that are reached from the start; [`into_normal`] does so with a grammar
+//! that is given up body by body. [`print`] gives the one text of a canonical grammar in the compact syntax.
 #![tactic(auto)]
 
 mod body_forms;
@@ -11,6 +11,7 @@ mod declared_prefixes;
 mod definition_numbers;
 mod evaluation;
 mod form_kind;
+mod forms_in_place;
 mod joined_bodies;
 pub mod laws;
 mod list_kind;
@@ -31,5 +32,5 @@ mod tree_forms;
 mod writer;
 
 pub use normal::Normal;
-pub use normalising::{normalise, normalise_in};
+pub use normalising::{into_normal, normalise, normalise_in};
 pub use printing::{print, print_long};

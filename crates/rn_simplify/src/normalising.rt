@@ -16,13 +16,14 @@ ghost use Rattle.rn_simplify.specs.inside.Repeats.{AreFirstsOf};
 
 use crate::body_forms::{body_form, definition_forms};
 use crate::evaluation::settle_all;
+use crate::forms_in_place::{form_definitions, settled_start};
 use crate::joined_bodies::canonical_body;
 use crate::normal::Normal;
-use crate::reachable::prune_forms;
+use crate::reachable::{prune_forms, prune_map};
 use crate::rebuilding::rebuild;
 use crate::settled_definitions::SettledDefinitions;
 use crate::settling::{body_of, name_of};
-use rn_assemble::Grammar;
+use rn_assemble::{Grammar, GrammarParts};
 use rn_pattern::{Pattern, Patterns};
 use std::alloc::{AllocError, Global};
 
@@ -54,6 +55,20 @@ pub fn normalise_in<P: Patterns>(
 {
     let parts = stored_parts(alloc, grammar, store)?;
     Ok(normal_of(grammar, parts))
+}
+
+/// The canonical grammar of a grammar that is given up. Each body's form is made by itself, in a store of its own only
+/// where one body stands in its list twice, and the body is given up once its form is made, so the grammar and its
+/// forms never stand side by side. It is valid for exactly the same documents, for every table of datatypes (RELAX NG
+/// 2001, 4.18 to 4.21 and 6). The only error is want of memory.
+pub fn into_normal(alloc: Global, grammar: Grammar) -> Result<Normal, AllocError>
+    ensures canonical { IfOk result
+        (λ n. IsCanonicalOf (grammar_view grammar) (normal_view n)) }
+    ensures documents { IfOk result
+        (λ n. ValidAlike (grammar_view grammar) (normal_view n)) }
+{
+    let (start, defs) = parts_in_place(alloc, grammar)?;
+    Ok(Normal { start, defs })
 }
 
 /// A start, and definitions by their names.
@@ -107,6 +122,22 @@ fn canonical_parts(alloc: Global, grammar: &Grammar) -> Result<NormalParts, Allo
     )?;
     let forms = definition_forms(alloc, &settled, grammar)?;
     let defs = prune_forms(alloc, &settled, &start, forms)?;
+    Ok((start, defs))
+}
+
+/// The canonical start and the canonical definitions that it reaches, each made in the place of its body.
+fn parts_in_place(alloc: Global, grammar: Grammar) -> Result<NormalParts, AllocError>
+    ensures { IfOk result (λ parts. IsCanonicalOf (grammar_view grammar)
+        (parts_view parts.0 parts.1.items)) }
+{
+    let (start, settled) = settled_start(alloc, &grammar)?;
+    let GrammarParts {
+        mut definitions,
+        firsts,
+        ..
+    } = grammar.into_parts();
+    let settled = form_definitions(alloc, &mut definitions, settled, &firsts)?;
+    let defs = prune_map(alloc, &settled.references, &start, definitions)?;
     Ok((start, defs))
 }
 

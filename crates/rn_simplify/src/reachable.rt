@@ -5,13 +5,16 @@ ghost use Rattle.std.specs.Slice.Iter.{iter_rest};
 ghost use Rattle.rn_pattern.specs.Graph.{is_marked, rows_of};
 ghost use Rattle.rn_assemble.specs.GrammarView.{definitions_view};
 ghost use Rattle.rn_pattern.specs.Reached.{IsPruned};
+ghost use Rattle.rn_pattern.specs.Tree.{Tree};
 ghost use Rattle.rn_pattern.specs.View.{pattern_view};
 ghost use Rattle.rn_simplify.specs.inside.MarkedElements.{marked_elements};
 ghost use Rattle.rn_simplify.specs.inside.DefinitionNumbers.{MarksReached, rows_by};
 ghost use Rattle.rn_pattern.specs.declared.references.Reach.TheVariants.{Everywhere};
 
 use crate::reference_numbers::referred_numbers;
-use crate::settled_definitions::SettledDefinitions;
+use crate::settled_definitions::{SettledDefinitions, likely_numbers};
+use crate::settling::body_of;
+use rn_assemble::Definitions;
 use rn_pattern::graph::reached_nodes;
 use rn_pattern::{Pattern, Rows};
 use std::alloc::{AllocError, Global};
@@ -22,7 +25,7 @@ pub(crate) fn prune_forms(
     alloc: Global,
     settled: &SettledDefinitions<'_>,
     start: &Pattern,
-    mut forms: Vec<(String, Pattern)>,
+    forms: Vec<(String, Pattern)>,
 ) -> Result<Vec<(String, Pattern)>, AllocError>
     requires named { map (λ d. d.0) (definitions_view forms.items)
         ≡ map (λ d. d.0) (definitions_view settled.now.definitions.now.entries) }
@@ -32,9 +35,91 @@ pub(crate) fn prune_forms(
         (record { start = pattern_view start.now; definitions = definitions_view v.items })) }
 {
     let is_reached = reached_forms(alloc, settled, start, &forms)?;
-    keep_marked(&mut forms, &is_reached);
+    sorted_marked(forms, &is_reached)
+}
+
+/// The forms in the map that the start reaches, in the order of their names.
+pub(crate) fn prune_map(
+    alloc: Global,
+    references: &Rows,
+    start: &Pattern,
+    definitions: Definitions,
+) -> Result<Vec<(String, Pattern)>, AllocError>
+    ensures { IfOk result (λ v. IsPruned
+        (record {
+          start = pattern_view start.now;
+          definitions = definitions_view definitions.entries;
+        })
+        (record { start = pattern_view start.now; definitions = definitions_view v.items })) }
+{
+    let is_reached = reached_in_map(alloc, references, start, &definitions)?;
+    let forms = entries_of(alloc, definitions)?;
+    sorted_marked(forms, &is_reached)
+}
+
+/// The entries of the map, in their order.
+fn entries_of(alloc: Global, definitions: Definitions) -> Result<Vec<(String, Pattern)>, AllocError>
+    ensures entries { IfOk result (λ v. v.items ≡ definitions.entries) }
+    ensures distinct { IfOk result
+        (λ v. IsDistinct bytes_eq (map (λ d. d.0) (definitions_view v.items))) }
+{
+    let mut entries = Vec::with_capacity(alloc, definitions.len())?;
+    entries.extend(definitions.into_iter())?;
+    Ok(entries)
+}
+
+/// The forms that are marked, in the order of their names.
+fn sorted_marked(
+    mut forms: Vec<(String, Pattern)>,
+    marks: &[bool],
+) -> Result<Vec<(String, Pattern)>, AllocError>
+    requires { IsDistinct bytes_eq (map (λ d. d.0) (definitions_view forms.items)) }
+    ensures { IfOk result (λ v. (p : Tree)
+        → MarksReached (record { start = p; definitions = definitions_view forms.items }) marks.now
+        → IsPruned (record { start = p; definitions = definitions_view forms.items })
+        (record { start = p; definitions = definitions_view v.items })) }
+{
+    keep_marked(&mut forms, marks);
     forms.sort_by(|a: &(String, Pattern), b: &(String, Pattern)| a.0.cmp(&b.0))?;
     Ok(forms)
+}
+
+/// For each form in the map, whether the start reaches it.
+fn reached_in_map(
+    alloc: Global,
+    references: &Rows,
+    start: &Pattern,
+    definitions: &Definitions,
+) -> Result<Vec<bool>, AllocError>
+    ensures { IfOk result
+        (λ marks. MarksReached (record {
+          start = pattern_view start.now;
+          definitions = definitions_view definitions.now.entries;
+        }) marks.items) }
+{
+    let rows = rows_of_map(alloc, references, definitions)?;
+    let first = referred_numbers(alloc, definitions, &[], start)?;
+    reached_nodes(alloc, &rows, &first)
+}
+
+/// The references of each form in the map.
+fn rows_of_map(
+    alloc: Global,
+    references: &Rows,
+    definitions: &Definitions,
+) -> Result<Rows, AllocError>
+    ensures { IfOk result (λ rows. rows_of rows
+        ≡ rows_by Everywhere (definitions_view definitions.now.entries)
+        (definitions_view definitions.now.entries)) }
+{
+    let mut rows = Rows::with_capacity(alloc, definitions.len())?;
+    for number in 0..definitions.len() {
+        let likely = likely_numbers(references, number);
+        let form = body_of(definitions, number);
+        let row = referred_numbers(alloc, definitions, likely, form)?;
+        rows.push_row(&row)?;
+    }
+    Ok(rows)
 }
 
 /// For each form, whether the start reaches it.

@@ -18,16 +18,21 @@ pub(crate) struct SettledDefinitions<'g> {
     ghost sized: { length kinds.items ≡ length definitions.now.entries },
 }
 
+/// The numbers of the definitions that the body with a number is likely to refer to.
+pub(crate) fn likely_numbers(references: &Rows, number: usize) -> &[usize] {
+    if number < references.len() {
+        references.row(number)
+    } else {
+        &[]
+    }
+}
+
 impl SettledDefinitions<'_> {
     ghost use Rattle.rn_simplify.specs.inside.FormKinds.{kind_in};
 
     /// The numbers of the definitions that the body with a number is likely to refer to.
     pub(crate) fn likely_numbers(&self, number: usize) -> &[usize] {
-        if number < self.references.len() {
-            self.references.row(number)
-        } else {
-            &[]
-        }
+        likely_numbers(&self.references, number)
     }
 
     /// The kind of the form of the definition of a name. The likely numbers are tried first. The reference to a name

@@ -1,5 +1,5 @@
 // Sets of several contributions that print a schema. Each printed schema, merged alone, is printed again.
-use crate::merges::{BothStores, Merge, MergeAgain};
+use crate::merges::{BothStores, LentOrGivenUp, Merge, MergeAgain};
 use crate::tables::each_schema;
 
 const ROWS: &str = r#"@a
@@ -162,4 +162,9 @@ fn combined_schemas_print_themselves_again(rt: HostRuntime) {
 #[test]
 fn both_stores_combine_the_same(rt: HostRuntime) {
     each_schema(&rt, &BothStores, ROWS);
+}
+
+#[test]
+fn grammars_that_are_lent_or_given_up_combine_the_same(rt: HostRuntime) {
+    each_schema(&rt, &LentOrGivenUp, ROWS);
 }

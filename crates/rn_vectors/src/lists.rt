@@ -5,7 +5,7 @@ ghost use Rattle.std.specs.Prelude.{◌<◌, ◌≤◌};
 use crate::comparing::{expect_text, same_for};
 use crate::drawing::Draw;
 use crate::given_texts::{owned, push, written_set};
-use crate::merges::{BothStores, Merge, MergeAgain, merged, prints_in_either_store};
+use crate::merges::{BothStores, LentOrGivenUp, Merge, MergeAgain, merged, prints_in_either_store};
 use crate::tables::each_schema;
 use std::process::Abort;
 
@@ -93,6 +93,7 @@ fn lists_print_their_schemas(rt: HostRuntime) {
     each_schema(&rt, &Merge, LISTS);
     each_schema(&rt, &MergeAgain, LISTS);
     each_schema(&rt, &BothStores, LISTS);
+    each_schema(&rt, &LentOrGivenUp, LISTS);
 }
 
 /// Members as a text has them, and as they are written out. The last two are notAllowed.

@@ -6,7 +6,7 @@ use rn_assemble::{Grammar, Refusal, assemble};
 use rn_merge::{ProgramFault, fault_line, merge, refusal_line};
 use rn_modset::ModuleSet;
 use rn_pattern::{Interned, Patterns, Plain};
-use rn_simplify::{Normal, normalise_in, print};
+use rn_simplify::{Normal, into_normal, normalise, normalise_in, print};
 use std::process::Abort;
 
 /// The line with which each printed schema begins.
@@ -126,6 +126,31 @@ impl Subject for BothStores {
 pub fn prints_in_either_store(rt: &(impl Abort + AllocGlobal), set: &ModuleSet) {
     let text = printed(rt, set);
     prints_in_both(rt, set, "", lines_of(rt, text.as_str()));
+}
+
+/// The text of the canonical grammar of a grammar that is lent.
+fn text_of_lent(rt: &(impl Abort + AllocGlobal), grammar: &Grammar) -> String {
+    let normal = normalise(rt.alloc(), grammar).expect(rt, "no memory");
+    print(rt.alloc(), &normal).expect(rt, "no text")
+}
+
+/// The text of the canonical grammar of a grammar that is given up.
+fn text_of_given_up(rt: &(impl Abort + AllocGlobal), grammar: Box<Grammar>) -> String {
+    let normal = into_normal(rt.alloc(), Box::into_inner(grammar)).expect(rt, "no memory");
+    print(rt.alloc(), &normal).expect(rt, "no text")
+}
+
+/// A merge whose canonical form is made of a grammar that is lent, and of the same one as it is given up.
+pub struct LentOrGivenUp;
+
+impl Subject for LentOrGivenUp {
+    fn answers<R: Abort + AllocGlobal>(&self, rt: &R, given: &str, wanted: &str) {
+        let grammar = grammar(rt, &written_set(rt, given));
+        let lent = text_of_lent(rt, &grammar);
+        let given_up = text_of_given_up(rt, grammar);
+        same_for(rt, given, given_up.as_str(), lent.as_str());
+        same_for(rt, given, lines_of(rt, given_up.as_str()), wanted);
+    }
 }
 
 /// The line of a fault.

@@ -1,5 +1,5 @@
 -- The kind of the canonical form of a pattern: notAllowed, empty or neither, once 4.20 and 4.21 of RELAX NG 2001 are applied.
-use Rattle.std.specs.Prelude.{List, slice_index_or}
+use Rattle.std.specs.Prelude.{List, map, slice_index_or}
 use Rattle.std.specs.Option.{option_map_or}
 use Rattle.rn_pattern.specs.Tree as t
 use Rattle.rn_pattern.specs.Tree.{Tree, Trees, no_trees, more_trees}
@@ -76,6 +76,10 @@ kind_at ds kinds x = option_map_or (λ k. slice_index_or kinds k FormKind.Other)
 -- what the reference to a name becomes
 abbrev pub becomes_by : List (Text × Tree) → List FormKind → Text → Tree
 becomes_by ds kinds x = stand_in (kind_at ds kinds x) x
+
+-- the canonical forms of definitions, by the kind of each number
+abbrev pub settled_definitions : List (Text × Tree) → List FormKind → List (Text × Tree)
+settled_definitions ds kinds = map (λ d. (d.0, canonical (becomes_by ds kinds) d.1)) ds
 
 -- the kind of the form of a name's definition, by what the code holds
 abbrev pub kind_in : SettledDefinitions → Text → FormKind

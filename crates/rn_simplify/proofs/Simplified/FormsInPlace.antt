@@ -1,0 +1,81 @@
+-- Definitions of which the first have their forms, and the others their bodies.
+use Rattle.std.proofs.Common.{◌≡◌, ◌+◌, ◌<◌, ℕ, zero, suc, List, [], ◌∷◌, ◌++◌, length, map, take, get_or, position, refl, sym, ap, ◌∙◌, arith}
+use Rattle.std.specs.Prelude.{bytes_eq, String, string_bytes}
+use Rattle.std.specs.Option.{option_map_or}
+use Rattle.std.specs.declared.alloc.Global.{Global}
+use Rattle.std.proofs.lemmas.List.{take_more, map-append}
+use Rattle.indexmap.specs.IndexMap.{set_value_at}
+use Rattle.rn_pattern.specs.Tree.{Tree}
+use Rattle.rn_text.specs.Texts.{Text}
+use Rattle.rn_pattern.specs.View.{pattern_view}
+use Rattle.rn_pattern.specs.declared.tree.Pattern.{Pattern}
+use Rattle.rn_assemble.specs.GrammarView.{definitions_view}
+use Rattle.rn_simplify.specs.inside.DefinitionNumbers.{numbers_of, rows_by}
+use Rattle.rn_simplify.specs.inside.ReferredNames.{Reach, references}
+use Rattle.rn_simplify.specs.inside.FormKinds.{becomes_by, stand_in}
+use Rattle.rn_simplify.specs.declared.form_kind.FormKind.{FormKind}
+use Rattle.rn_simplify.proofs.Simplified.DefinitionNumbers.{size_of_view}
+use Rattle.rn_simplify.proofs.Simplified.ReferenceGraph.{nothing}
+
+module _ (form : Tree → Tree) where
+  -- the forms of the first n, and the others as they are
+  abbrev pub first_formed : ℕ → List (Text × Tree) → List (Text × Tree)
+  first_formed zero ds = ds
+  first_formed (suc n) [] = []
+  first_formed (suc n) (d ∷ ds) = (d.0, form d.1) ∷ first_formed n ds
+
+  pub names_first : (n : ℕ) (ds : List (Text × Tree)) → map (λ (d : Text × Tree). d.0) (first_formed n ds) ≡ map (λ (d : Text × Tree). d.0) ds
+  names_first zero ds = refl
+  names_first (suc n) [] = refl
+  names_first (suc n) (d ∷ ds) = ap (λ ns. d.0 ∷ ns) (names_first n ds)
+
+  -- the one with the number n still has its body
+  pub body_first : (n : ℕ) (ds : List (Text × Tree)) (e : Text × Tree) → get_or (first_formed n ds) n e ≡ get_or ds n e
+  body_first zero ds e = refl
+  body_first (suc n) [] e = refl
+  body_first (suc n) (d ∷ ds) e = body_first n ds e
+
+  size_first : (n : ℕ) (ds : List (Text × Tree)) → length (first_formed n ds) ≡ length ds
+  size_first zero ds = refl
+  size_first (suc n) [] = refl
+  size_first (suc n) (d ∷ ds) = ap suc (size_first n ds)
+
+  -- there are as many entries as there were
+  pub entries_first : (n : ℕ) (es old : List (String Global × Pattern)) → definitions_view es ≡ first_formed n (definitions_view old) → length es ≡ length old
+  entries_first n es old e = sym (size_of_view es) ∙ ap length e ∙ size_first n (definitions_view old) ∙ size_of_view old
+
+  more_first : (n : ℕ) (ds : List (Text × Tree)) (p : Tree) → n < length ds → p ≡ form (get_or ds n nothing).1 → set_value_at (first_formed n ds) n p ≡ first_formed (suc n) ds
+  more_first n [] p l e = absurd (omega (arith, l))
+  more_first zero (d ∷ ds) p l e = ap (λ q. (d.0, q) ∷ ds) e
+  more_first (suc n) (d ∷ ds) p l e = ap (λ fs. (d.0, form d.1) ∷ fs) (more_first n ds p (omega (arith, l)) e)
+
+  all_formed : (ds : List (Text × Tree)) → first_formed (length ds) ds ≡ map (λ (d : Text × Tree). (d.0, form d.1)) ds
+  all_formed [] = refl
+  all_formed (d ∷ ds) = ap (λ fs. (d.0, form d.1) ∷ fs) (all_formed ds)
+
+  -- all have their forms
+  pub all_first : (n : ℕ) (ds : List (Text × Tree)) → n ≡ length ds → first_formed n ds ≡ map (λ (d : Text × Tree). (d.0, form d.1)) ds
+  all_first n ds e = ap (λ m. first_formed m ds) e ∙ all_formed ds
+
+  set_view : (es : List (String Global × Pattern)) (n : ℕ) (w : Pattern) → definitions_view (set_value_at es n w) ≡ set_value_at (definitions_view es) n (pattern_view w)
+  set_view [] n w = refl
+  set_view (e ∷ es) zero w = refl
+  set_view (e ∷ es) (suc n) w = ap (λ ds. (string_bytes e.0, pattern_view e.1) ∷ ds) (set_view es n w)
+
+  -- the form of the one with the number n is put in the place of its body
+  pub put_first : (n : ℕ) (es : List (String Global × Pattern)) (ds : List (Text × Tree)) (w : Pattern) → n < length ds → definitions_view es ≡ first_formed n ds → pattern_view w ≡ form (get_or ds n nothing).1
+      → definitions_view (set_value_at es n w) ≡ first_formed (n + 1) ds
+  put_first n es ds w l e made =
+      let next : suc n ≡ n + 1 = omega arith in
+      set_view es n w ∙ ap (λ fs. set_value_at fs n (pattern_view w)) e ∙ more_first n ds (pattern_view w) l made ∙ ap (λ m. first_formed m ds) next
+
+-- what references become rests on the names of definitions, and not on their bodies
+pub becomes_same : (ds es : List (Text × Tree)) (kinds : List FormKind) → map (λ (d : Text × Tree). d.0) es ≡ map (λ (d : Text × Tree). d.0) ds → becomes_by es kinds ≡ becomes_by ds kinds
+becomes_same ds es kinds e = λ i x. stand_in (option_map_or (λ k. get_or kinds k FormKind.Other) (position (bytes_eq x) (e i)) FormKind.Other) x
+
+-- rows of references, the one with the number n more
+pub rows_more : (s : Reach) (ds es : List (Text × Tree)) (n : ℕ) (old new : List (List ℕ)) (r : List ℕ) → n < length es → old ≡ rows_by s ds (take n es) → new ≡ old ++ r ∷ []
+    → r ≡ numbers_of ds (references s (get_or es n nothing).1) → new ≡ rows_by s ds (take (n + 1) es)
+rows_more s ds es n old new r l before more is =
+    let f : Text × Tree → List ℕ = λ e. numbers_of ds (references s e.1) in
+    more ∙ (λ i. before i ++ is i ∷ []) ∙ sym (ap (map f) (take_more es n nothing l) ∙ map-append f (take n es) (get_or es n nothing ∷ []))
