@@ -128,7 +128,16 @@ fn combine_modules<'s>(
     let keys = Keys::new(alloc, modules.as_slice(), seed)?;
     let constants = Constants::new(alloc)?;
     let (modules, items) = split_items(alloc, modules)?;
-    let (contents, mut trees) = contents_of(alloc, modules.as_slice(), items, &keys, &constants)?;
+    let likely_numbers = keys.likely_numbers(alloc)?;
+    let (contents, mut trees) = contents_of(
+        alloc,
+        modules.as_slice(),
+        items,
+        &keys,
+        &likely_numbers,
+        &constants,
+    )?;
+    drop(likely_numbers);
     let components = components_of(
         alloc,
         contents.as_slice(),

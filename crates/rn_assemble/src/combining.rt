@@ -1,20 +1,19 @@
 // Definitions of one key combined (RELAX NG 2001, 4.17).
-ghost use Rattle.std.specs.Prelude.{◌≡◌, ◌≢◌, ◌↔◌, ℕ, ◌+◌, ◌<◌, List, IsTrue, length, map, option_map, IfOk, IsSomeAnd, MatchResult};
+ghost use Rattle.std.specs.Prelude.{◌≡◌, ◌↔◌, ◌+◌, ◌<◌, List, None, IsTrue, length, map, slice_get, IfOk, IfSome, IsSomeAnd, MatchOption, MatchResult, ⊤};
 ghost use Rattle.std.specs.List.Sorted.{IsStrictlySortedBy};
 ghost use Rattle.rn_pattern.specs.Graph.{row};
 ghost use Rattle.rn_text.specs.Texts.{Text, text_cmp};
 ghost use Rattle.rn_pattern.specs.View.{shared_view, boxed_view, shared_trees};
+ghost use Rattle.rn_syntax.specs.Tree.{empty};
 ghost use Rattle.rn_assemble.specs.Combine as spec;
-ghost use Rattle.rn_assemble.specs.inside.Joining.{IsMisnamed};
 ghost use Rattle.rn_assemble.specs.inside.Keyed.{key_at};
-ghost use Rattle.rn_assemble.specs.inside.Patterns.{AreCombined, AreSharedBy, AreWellNamed, IsMisnamedAt, IsMisnamedBy, IsWellNamed, MayHold, pattern_of};
-ghost use Rattle.rn_assemble.specs.Refusal.{BreaksNameRules};
+ghost use Rattle.rn_assemble.specs.inside.Patterns.{AreShared, AreSharedBy, AreWellNamed, IsKeptOrNoted, IsKeptPattern, IsMisnamedAs, IsMisnamedAt, IsMisnamedBy, IsWellNamed, MayHold, WithShared, lesser};
 ghost use Rattle.rn_assemble.specs.inside.Views.{names_of};
 ghost use Rattle.rn_assemble.specs.inside.Tied.{body_of};
 ghost use Rattle.rn_assemble.specs.inside.Methods.{IsLeastNumber, is_method};
 ghost use Rattle.rn_assemble.specs.inside.ContextBindings.{InContext};
-ghost use Rattle.rn_assemble.specs.inside.Listed.{AtKey, Lists, Live, OfBody, OfTrees, WithBody, components_in};
-ghost use Rattle.rn_assemble.specs.inside.Trees.{AgreeAt, TreeView, trees_by};
+ghost use Rattle.rn_assemble.specs.inside.Listed.{AreGivenUp, AtKey, Lists, Live, OfBody, WithBody, components_in};
+ghost use Rattle.rn_assemble.specs.inside.Trees.{AgreeAt, AgreeElsewhere, StillGone, TreeView, trees_by};
 ghost use Rattle.rn_assemble.specs.Resolve.{resolved_pattern};
 
 use crate::bodies::Body;
@@ -57,15 +56,19 @@ impl<'c, 't, 's> Components<'c, 't, 's> {
         false
     }
 
-    /// Whether two components of the key are plain.
+    /// Whether two components of the key are plain. Where it has fewer than two, no method is looked at.
     fn is_plain_twice(&self, key: usize, near: &mut Near) -> bool
         ensures { (trees : TreeView) (names : List Text) (live : List Live)
             → Lists names trees self.now live
             → IsStrictlySortedBy text_cmp names → key < length names + 1
             → (IsTrue result ↔ spec.IsPlainTwice (key_at names key) (components_in live)) }
     {
+        let count = self.count_of(key);
+        if count < 2 {
+            return false;
+        }
         let mut is_plain = false;
-        for index in 0..self.count_of(key) {
+        for index in 0..count {
             if self.method(key, index, near) == Some(Method::Plain) {
                 if is_plain {
                     return true;
@@ -74,6 +77,19 @@ impl<'c, 't, 's> Components<'c, 't, 's> {
             }
         }
         false
+    }
+
+    /// Whether components of the key use both methods. Where it has fewer than two, no method is looked at.
+    fn is_mixed(&self, key: usize, near: &mut Near) -> bool
+        ensures { (trees : TreeView) (names : List Text) (live : List Live)
+            → Lists names trees self.now live
+            → IsStrictlySortedBy text_cmp names → key < length names + 1
+            → (IsTrue result ↔ spec.IsMixed (key_at names key) (components_in live)) }
+    {
+        if self.count_of(key) < 2 {
+            return false;
+        }
+        self.uses(key, Method::Choice, near) && self.uses(key, Method::Interleave, near)
     }
 
     /// The least of that many keys with two plain components.
@@ -101,9 +117,7 @@ impl<'c, 't, 's> Components<'c, 't, 's> {
     {
         let mut near = Near::default();
         for key in 0..keys {
-            if self.uses(key, Method::Choice, &mut near)
-                && self.uses(key, Method::Interleave, &mut near)
-            {
+            if self.is_mixed(key, &mut near) {
                 return Some(key);
             }
         }
@@ -114,27 +128,121 @@ impl<'c, 't, 's> Components<'c, 't, 's> {
 /// The patterns of bodies that stand in lists of several components, once they were resolved.
 type Shared = Vec<Option<Rc<Pattern>>>;
 
-/// The pattern of each key's components combined, `None` for a key that has none. `NameClass` names the least key one
-/// of whose components breaks the restrictions on name classes.
-pub(crate) fn combine_components(
-    alloc: Global,
-    keys: &Keys<'_>,
-    components: &Components<'_, '_, '_>,
-    trees: &mut Trees<'_>,
-) -> Result<Vec<Option<Box<Pattern>>>, Refusal>
-    ensures { OfTrees keys.now (trees_by trees.old.trees.items) components.now
-        (λ names cs. MatchResult result
-        (λ patterns. AreCombined names cs patterns.items) (IsMisnamed cs)) }
-{
-    let mut shared: Shared = vec![in alloc; None; components.count_bodies()]?;
-    let mut patterns = Vec::with_capacity(alloc, keys.len())?;
-    let mut near = Near::default();
-    for key in 0..keys.len() {
-        let pattern = combine_key(alloc, keys, components, trees, &mut shared, key, &mut near)?;
-        patterns.push(pattern)?;
-        give_up_trees(components, trees, key, &mut near);
+/// Keys combined so far, one after the other in any order.
+#[derive(Drop)]
+pub(crate) struct Combining {
+    shared: Shared,
+    /// What was read last.
+    near: Near,
+    /// The least key that was noted, since one of its components breaks the restrictions on name classes.
+    least: Option<usize>,
+}
+
+impl Combining {
+    /// Nothing is combined yet.
+    pub fn new(alloc: Global, components: &Components<'_, '_, '_>) -> Result<Combining, AllocError>
+        ensures shared { (names : List Text) (trees : TreeView) → IfOk result (λ combining.
+            AreShared names trees components.now.bodies combining.shared.items) }
+        ensures least { IfOk result (λ combining. combining.least ≡ None) }
+    {
+        Ok(Combining {
+            shared: vec![in alloc; None; components.count_bodies()]?,
+            near: Near::default(),
+            least: None,
+        })
     }
-    Ok(patterns)
+
+    /// The pattern of a key's components combined, `None` for a key that has none. `NameClass` names the key where one
+    /// of them breaks the restrictions on name classes. Their trees are given up.
+    pub fn combine(
+        &mut self,
+        alloc: Global,
+        keys: &Keys<'_>,
+        components: &Components<'_, '_, '_>,
+        trees: &mut Trees<'_>,
+        key: usize,
+    ) -> Result<Option<Box<Pattern>>, Refusal>
+        requires { length self.old.shared.items ≡ length components.now.bodies }
+        ensures size { length self.new.shared.items ≡ length self.old.shared.items }
+        ensures least { self.new.least ≡ self.old.least }
+        ensures others { AgreeElsewhere (trees_by trees.new.trees.items)
+            (trees_by trees.old.trees.items) key }
+        ensures gone { AreGivenUp components.now (trees_by trees.new.trees.items) key }
+        ensures kept { WithShared keys.now (trees_by trees.old.trees.items) components.now
+            self.old.shared.items key
+            (λ view names cs. AreSharedBy keys.now view components.now self.new.shared.items) }
+        ensures exact { WithShared keys.now (trees_by trees.old.trees.items) components.now
+            self.old.shared.items key (λ view names cs. MatchResult result
+            (IsKeptPattern cs (key_at names key)) (IsMisnamedAt cs (key_at names key))) }
+    {
+        let pattern = combine_key(
+            alloc,
+            keys,
+            components,
+            trees,
+            &mut self.shared,
+            key,
+            &mut self.near,
+        );
+        give_up_trees(components, trees, key, &mut self.near);
+        pattern
+    }
+
+    /// The pattern of a key's components combined, as [`Combining::combine`] answers it; but a key one of whose
+    /// components breaks the restrictions on name classes has none and is noted, since a lesser one may come. The only
+    /// error is want of memory.
+    pub fn combine_or_note(
+        &mut self,
+        alloc: Global,
+        keys: &Keys<'_>,
+        components: &Components<'_, '_, '_>,
+        trees: &mut Trees<'_>,
+        key: usize,
+    ) -> Result<Option<Box<Pattern>>, AllocError>
+        requires { length self.old.shared.items ≡ length components.now.bodies }
+        ensures size { length self.new.shared.items ≡ length self.old.shared.items }
+        ensures others { AgreeElsewhere (trees_by trees.new.trees.items)
+            (trees_by trees.old.trees.items) key }
+        ensures gone { AreGivenUp components.now (trees_by trees.new.trees.items) key }
+        ensures kept { WithShared keys.now (trees_by trees.old.trees.items) components.now
+            self.old.shared.items key
+            (λ view names cs. AreSharedBy keys.now view components.now self.new.shared.items) }
+        ensures exact { WithShared keys.now (trees_by trees.old.trees.items) components.now
+            self.old.shared.items key (λ view names cs. IfOk result
+            (IsKeptOrNoted names cs key self.old.least self.new.least)) }
+    {
+        match self.combine(alloc, keys, components, trees, key) {
+            Ok(pattern) => Ok(pattern),
+            Err(Refusal::NameClass { .. }) => {
+                self.note(key);
+                Ok(None)
+            }
+            Err(_) => Err(AllocError),
+        }
+    }
+
+    /// Notes a key, if no lesser one is noted.
+    fn note(&mut self, key: usize)
+        ensures shared { self.new.shared ≡ self.old.shared }
+        ensures least { self.new.least ≡ lesser key self.old.least }
+    {
+        match self.least {
+            Some(least) if least <= key => {}
+            _ => self.least = Some(key),
+        }
+    }
+
+    /// The refusal that names the least noted key; none where no key is noted.
+    pub fn refusal(&self, alloc: Global, keys: &Keys<'_>) -> Option<Refusal>
+        ensures { MatchOption result (self.now.least ≡ None) (λ q. IsSomeAnd self.now.least (λ key.
+            key < length (names_of keys.now) + 1
+            → IsMisnamedAs (key_at (names_of keys.now) key) ⊤ q)) }
+    {
+        match keys.key(alloc, self.least?) {
+            Ok(key) => Some(Refusal::NameClass { key }),
+            Err(_) => Some(Refusal::Memory),
+        }
+    }
 }
 
 /// Gives up the trees of the key's components.
@@ -144,8 +252,9 @@ fn give_up_trees(
     key: usize,
     near: &mut Near,
 )
-    ensures { (other : ℕ) → other ≢ key
-        → AgreeAt (trees_by trees.new.trees.items) (trees_by trees.old.trees.items) other }
+    ensures others { AgreeElsewhere (trees_by trees.new.trees.items)
+        (trees_by trees.old.trees.items) key }
+    ensures gone { AreGivenUp components.now (trees_by trees.new.trees.items) key }
 {
     for index in 0..components.count_of(key) {
         if let Some(number) = components.body_of(key, index, near) {
@@ -162,8 +271,12 @@ fn give_up_tree(
     number: usize,
     near: &mut Near,
 )
-    ensures { (other : ℕ) → other ≢ key
-        → AgreeAt (trees_by trees.new.trees.items) (trees_by trees.old.trees.items) other }
+    ensures others { AgreeElsewhere (trees_by trees.new.trees.items)
+        (trees_by trees.old.trees.items) key }
+    ensures gone { IfSome (slice_get components.now.bodies number)
+        (λ body. trees_by trees.new.trees.items key body.component.tree ≡ empty) }
+    ensures still { StillGone (trees_by trees.old.trees.items)
+        (trees_by trees.new.trees.items) key }
 {
     if let Some(body) = components.body(number, near) {
         trees.give_up(key, body.component.tree);
@@ -182,15 +295,12 @@ fn combine_key(
 ) -> Result<Option<Box<Pattern>>, Refusal>
     requires { length shared.old.items ≡ length components.now.bodies }
     ensures size { length shared.new.items ≡ length shared.old.items }
-    ensures kept { (view : TreeView) → AgreeAt view (trees_by trees.now.trees.items) key
-        → OfTrees keys.now view components.now (λ names cs. key < length names + 1
-        → AreSharedBy keys.now view components.now shared.old.items
-        → AreSharedBy keys.now view components.now shared.new.items) }
-    ensures exact { (view : TreeView) → AgreeAt view (trees_by trees.now.trees.items) key
-        → OfTrees keys.now view components.now (λ names cs. key < length names + 1
-        → AreSharedBy keys.now view components.now shared.old.items
-        → MatchResult result (λ p. (option_map boxed_view p ≡ pattern_of cs (key_at names key))
-        × ¬ BreaksNameRules cs (key_at names key)) (IsMisnamedAt cs (key_at names key))) }
+    ensures kept { WithShared keys.now (trees_by trees.now.trees.items) components.now
+        shared.old.items key
+        (λ view names cs. AreSharedBy keys.now view components.now shared.new.items) }
+    ensures exact { WithShared keys.now (trees_by trees.now.trees.items) components.now
+        shared.old.items key (λ view names cs. MatchResult result
+        (IsKeptPattern cs (key_at names key)) (IsMisnamedAt cs (key_at names key))) }
 {
     let count = components.count_of(key);
     if count == 0 {
@@ -257,14 +367,12 @@ fn member_patterns(
 ) -> Result<Vec<Rc<Pattern>>, Refusal>
     requires { length shared.old.items ≡ length components.now.bodies }
     ensures size { length shared.new.items ≡ length shared.old.items }
-    ensures kept { (view : TreeView) → AgreeAt view (trees_by trees.now.trees.items) key
-        → OfTrees keys.now view components.now (λ names cs. key < length names + 1
-        → AreSharedBy keys.now view components.now shared.old.items
-        → AreSharedBy keys.now view components.now shared.new.items) }
-    ensures exact { (view : TreeView) → AgreeAt view (trees_by trees.now.trees.items) key
-        → OfTrees keys.now view components.now (λ names cs. key < length names + 1
-        → AreSharedBy keys.now view components.now shared.old.items
-        → MatchResult result (λ members. AreWellNamed (spec.of_key (key_at names key) cs)
+    ensures kept { WithShared keys.now (trees_by trees.now.trees.items) components.now
+        shared.old.items key
+        (λ view names cs. AreSharedBy keys.now view components.now shared.new.items) }
+    ensures exact { WithShared keys.now (trees_by trees.now.trees.items) components.now
+        shared.old.items key (λ view names cs. MatchResult result
+        (λ members. AreWellNamed (spec.of_key (key_at names key) cs)
         (map shared_view members.items)) (IsMisnamedAt cs (key_at names key))) }
 {
     let count = components.count_of(key);

@@ -50,12 +50,13 @@ pub(crate) struct Contents<'t, 's> {
 pub(crate) type AllContents<'t, 's> = (Vec<Contents<'t, 's>>, Trees<'s>);
 
 /// The contents of each module, whose items are given apart, and the trees of all components, numbered on from module to
-/// module. The only error is want of memory.
+/// module. The likely number of a component's key is tried first. The only error is want of memory.
 pub(crate) fn contents_of<'t, 's>(
     alloc: Global,
     modules: &'t [NamedModule<'s>],
     items: Vec<Vec<Item<'s>>>,
     keys: &Keys<'s>,
+    likely_numbers: &[usize],
     constants: &Constants,
 ) -> Result<AllContents<'t, 's>, AllocError>
     requires modules_in_order { AreInOrder modules.now }
@@ -69,7 +70,14 @@ pub(crate) fn contents_of<'t, 's>(
     for items in items {
         let module = &modules[all.len()];
         let contents = contents_of_module(
-            alloc, modules, keys, constants, module, items, &mut trees,
+            alloc,
+            modules,
+            keys,
+            likely_numbers,
+            constants,
+            module,
+            items,
+            &mut trees,
         )?;
         all.push(contents)?;
     }
@@ -81,6 +89,7 @@ fn contents_of_module<'t, 's>(
     alloc: Global,
     modules: &[NamedModule<'s>],
     keys: &Keys<'s>,
+    likely_numbers: &[usize],
     constants: &Constants,
     module: &'t NamedModule<'s>,
     items: Vec<Item<'s>>,
@@ -99,7 +108,7 @@ fn contents_of_module<'t, 's>(
         components: Vec::with_capacity(alloc, items.len())?,
         includes: Vec::new(alloc),
     };
-    gather(&mut contents, trees, modules, keys, items)?;
+    gather(&mut contents, trees, modules, keys, likely_numbers, items)?;
     Ok(contents)
 }
 
@@ -110,6 +119,7 @@ fn gather<'t, 's>(
     trees: &mut Trees<'s>,
     modules: &[NamedModule<'s>],
     keys: &Keys<'s>,
+    likely_numbers: &[usize],
     items: Vec<Item<'s>>,
 ) -> Result<(), AllocError>
     requires keys_in_order { IsStrictlySortedBy text_cmp (names_of keys.now) }
@@ -126,7 +136,7 @@ fn gather<'t, 's>(
         (inclusions ms (length contents.old.components.items) (items_view items.entry.items))) }
 {
     'items: for item in items {
-        gather_item(contents, trees, modules, keys, item)?;
+        gather_item(contents, trees, modules, keys, likely_numbers, item)?;
     }
     Ok(())
 }
@@ -138,6 +148,7 @@ fn gather_item<'t, 's>(
     trees: &mut Trees<'s>,
     modules: &[NamedModule<'s>],
     keys: &Keys<'s>,
+    likely_numbers: &[usize],
     item: Item<'s>,
 ) -> Result<(), AllocError>
     requires keys_in_order { IsStrictlySortedBy text_cmp (names_of keys.now) }
@@ -155,13 +166,14 @@ fn gather_item<'t, 's>(
 {
     match item {
         Item::Define { name, method, body } => {
-            let key = keys.number(name);
+            let likely = likely_numbers.get(trees.len()).copied().unwrap_or(START);
+            let key = keys.number(likely, name);
             push_component(contents, trees, keys, key, method, body)
         }
         Item::Start { method, body } => {
             push_component(contents, trees, keys, START, method, body)
         }
-        Item::Div(items) => gather(contents, trees, modules, keys, items),
+        Item::Div(items) => gather(contents, trees, modules, keys, likely_numbers, items),
         Item::Include(include) => {
             let rn_syntax::Include {
                 wanted,
@@ -169,7 +181,7 @@ fn gather_item<'t, 's>(
                 items,
             } = Box::into_inner(include);
             let from = contents.components.len();
-            gather(contents, trees, modules, keys, items)?;
+            gather(contents, trees, modules, keys, likely_numbers, items)?;
             let module = module_named(modules, &wanted);
             push_include(contents, module, inherit, from)
         }

@@ -1,25 +1,23 @@
 // The patterns of all keys, combined, with the names of the definitions.
-ghost use Rattle.std.specs.Prelude.{◌≡◌, ◌≤◌, List, [], None, true, length, slice_index_or, slice_set, IfOk, MatchResult};
+ghost use Rattle.std.specs.Prelude.{◌≡◌, ◌≤◌, List, true, length, IfOk, MatchResult};
 ghost use Rattle.std.specs.List.Sorted.{IsStrictlySortedBy};
 ghost use Rattle.rn_text.specs.Texts.{Text, text_cmp};
-ghost use Rattle.rn_assemble.specs.Combine.{joined_grammar};
 ghost use Rattle.rn_assemble.specs.Components.{has_key, start_key};
-ghost use Rattle.rn_assemble.specs.inside.CombinedDefinitions.{combined_definitions};
-ghost use Rattle.rn_assemble.specs.inside.Tied.{HasRow, HaveTied, firsts_of};
+ghost use Rattle.rn_assemble.specs.inside.CombinedDefinitions.{AreDefinitions};
+ghost use Rattle.rn_assemble.specs.inside.Tied.{HasRow, firsts_of};
 ghost use Rattle.rn_assemble.specs.inside.Joining.{HasStart, IsCombinedGrammar, IsMisnamed};
-ghost use Rattle.rn_assemble.specs.inside.Listed.{Lists, Live, OfKeys, OfTrees};
+ghost use Rattle.rn_assemble.specs.inside.Listed.{Lists, Live, OfTrees};
 ghost use Rattle.rn_assemble.specs.inside.Trees.{TreeView, trees_by};
-ghost use Rattle.rn_assemble.specs.inside.Patterns.{HavePatterns, IsFirstAt};
+ghost use Rattle.rn_assemble.specs.inside.Patterns.{AfterStart, IsFirstAt};
 ghost use Rattle.rn_assemble.specs.inside.Views.{names_of};
 
 use crate::combined_grammar::{Combined, CombinedDefinition};
-use crate::combining::combine_components;
+use crate::combining::Combining;
 use crate::components::{Components, Near};
 use crate::firsts::Met;
 use crate::keys::{Keys, START};
 use crate::refusal::Refusal;
 use crate::trees::Trees;
-use rn_pattern::Pattern;
 use std::alloc::{AllocError, Global};
 
 /// The combined patterns of all keys, those of names in the order of each one's first component. The tree of each
@@ -35,11 +33,20 @@ pub(crate) fn combined_grammar<'s>(
         (λ names cs. has_key start_key cs ≡ true
         → MatchResult result (IsCombinedGrammar cs) (IsMisnamed cs)) }
 {
-    let mut patterns = combine_components(alloc, keys, components, trees)?;
-    let start = take(&mut patterns, START).unwrap();
+    let mut combining = Combining::new(alloc, components)?;
+    let start = combining
+        .combine(alloc, keys, components, trees, START)?
+        .unwrap();
     let mut met = components.nothing_met(alloc)?;
     let start_firsts = components.firsts(alloc, START, &mut met)?;
-    let (definitions, firsts) = definitions(alloc, keys, components, &mut patterns, &mut met)?;
+    let (definitions, firsts) = definitions(
+        alloc,
+        keys,
+        components,
+        trees,
+        &mut combining,
+        &mut met,
+    )?;
     Ok(Combined {
         start,
         definitions,
@@ -48,25 +55,28 @@ pub(crate) fn combined_grammar<'s>(
     })
 }
 
-/// The definitions of all names that have components, which take their patterns, and the first places of their members.
+/// The definitions of all names that have components, once start is combined, and the first places of their members.
+/// Each name is combined when the place of its first component comes. `NameClass` names the least one that breaks the
+/// restrictions on name classes, whichever came first.
 fn definitions<'s>(
     alloc: Global,
     keys: &Keys<'s>,
     components: &Components<'_, '_, '_>,
-    patterns: &mut Vec<Option<Box<Pattern>>>,
+    trees: &mut Trees<'_>,
+    combining: &mut Combining,
     met: &mut Met,
-) -> Result<(Vec<CombinedDefinition<'s>>, Vec<Vec<u32>>), AllocError>
-    ensures { OfKeys keys.now components.now
-        (λ names cs. HavePatterns names cs [] patterns.old.items
-        → IfOk result (λ made. HaveTied (firsts_of made.1.items) (combined_definitions made.0.items)
-        × (combined_definitions made.0.items ≡ (joined_grammar cs).definitions))) }
+) -> Result<(Vec<CombinedDefinition<'s>>, Vec<Vec<u32>>), Refusal>
+    requires { length combining.old.shared.items ≡ length components.now.bodies }
+    ensures { AfterStart keys.now (trees_by trees.old.trees.items) components.now combining.old
+        (λ cs. MatchResult result (λ made. AreDefinitions cs made.0.items made.1.items)
+        (IsMisnamed cs)) }
 {
     let mut definitions = Vec::with_capacity(alloc, keys.len())?;
     let mut firsts = Vec::new(alloc);
     let mut near = Near::default();
     for place in 0..components.count() {
         if let Some(key) = components.first_at(place, &mut near) {
-            if let Some(pattern) = take(patterns, key) {
+            if let Some(pattern) = combining.combine_or_note(alloc, keys, components, trees, key)? {
                 let found = components.firsts(alloc, key, met)?;
                 keep_row(alloc, &mut firsts, definitions.len(), found)?;
                 let name = keys.name(key);
@@ -74,7 +84,10 @@ fn definitions<'s>(
             }
         }
     }
-    Ok((definitions, firsts))
+    match combining.refusal(alloc, keys) {
+        Some(refusal) => Err(refusal),
+        None => Ok((definitions, firsts)),
+    }
 }
 
 /// Keeps a row at its number, behind all others. An empty one takes no memory.
@@ -95,18 +108,6 @@ fn keep_row(
     }
     rows.push(row)?;
     Ok(())
-}
-
-/// Takes out the pattern of a key.
-fn take(patterns: &mut Vec<Option<Box<Pattern>>>, key: usize) -> Option<Box<Pattern>>
-    ensures taken { result ≡ slice_index_or patterns.old.items key None }
-    ensures left { patterns.new.items ≡ slice_set patterns.old.items key None }
-{
-    if key < patterns.len() {
-        patterns[key].take()
-    } else {
-        None
-    }
 }
 
 impl<'c, 't, 's> Components<'c, 't, 's> {

@@ -54,19 +54,16 @@ pub(crate) fn references_of<'s>(
         (IsLeastUndefined cs)) }
 {
     let mut looked: Vec<Option<usize>> = vec![in alloc; None; components.count_bodies()]?;
+    let mut bodies = Vec::new(alloc);
+    let mut references = Vec::new(alloc);
+    let mut row = NodeReferences::new(alloc);
     let mut undefined = None;
     let mut rows = ReferenceRows::with_capacity(alloc, keys.len())?;
     let mut near = Near::default();
     for key in 0..keys.len() {
-        let bodies = bodies_of(alloc, components, key, &mut looked, &mut near)?;
-        let references = references_in(alloc, components, trees, bodies.as_slice(), &mut near)?;
-        let row = row_of(
-            alloc,
-            keys,
-            components,
-            references.as_slice(),
-            &mut undefined,
-        )?;
+        bodies_of(components, key, &mut looked, &mut near, &mut bodies)?;
+        references_in(components, trees, &bodies, &mut near, &mut references)?;
+        row_of(keys, components, &references, &mut undefined, &mut row)?;
         rows.push_row(&row)?;
     }
     match undefined {
@@ -86,28 +83,28 @@ fn undefined_name(alloc: Global, name: &str) -> Refusal
     }
 }
 
-/// The bodies of a key's components, each once.
+/// Puts the bodies of a key's components into `bodies`, each once, in the place of what it held.
 fn bodies_of(
-    alloc: Global,
     components: &Components<'_, '_, '_>,
     key: usize,
     looked: &mut Vec<Option<usize>>,
     near: &mut Near,
-) -> Result<Vec<usize>, AllocError>
+    bodies: &mut Vec<usize>,
+) -> Result<(), AllocError>
     requires { IsFresh key looked.old.items }
     ensures size { vec_len looked.new ≡ vec_len looked.old }
     ensures fresh { OnOk result (IsFresh (key + 1) looked.new.items) }
-    ensures found { IfOk result (λ bodies. AreBodiesAt (length looked.old.items)
-        components.now.list (row components.now.places.items key) bodies.items) }
+    ensures found { OnOk result (AreBodiesAt (length looked.old.items)
+        components.now.list (row components.now.places.items key) bodies.new.items) }
 {
-    let mut bodies = Vec::new(alloc);
+    bodies.clear();
     for index in 0..components.count_of(key) {
         let body = components.body_of(key, index, near);
         if let Some(number) = look(body, key, looked) {
             bodies.push(number)?;
         }
     }
-    Ok(bodies)
+    Ok(())
 }
 
 /// The body, if there is one and it was not looked at under the key.
@@ -123,24 +120,24 @@ fn look(body: Option<usize>, key: usize, looked: &mut Vec<Option<usize>>) -> Opt
     Some(number)
 }
 
-/// The references of the bodies with these numbers.
+/// Puts the references of the bodies with these numbers into `found`, in the place of what it held.
 fn references_in<'s>(
-    alloc: Global,
     components: &Components<'_, '_, 's>,
     trees: &Trees<'s>,
     bodies: &[usize],
     near: &mut Near,
-) -> Result<Vec<Reference<'s>>, AllocError>
-    ensures { IfOk result (λ found. map reference_view found.items
+    found: &mut Vec<Reference<'s>>,
+) -> Result<(), AllocError>
+    ensures { OnOk result (map reference_view found.new.items
         ≡ references_in (trees_by trees.now.trees.items) components.now bodies.now) }
 {
-    let mut references = Vec::new(alloc);
+    found.clear();
     for number in bodies {
         if let Some(tree) = tree_of(components, trees, *number, near) {
-            refer(tree, Reach::OutsideElements, &mut references)?;
+            refer(tree, Reach::OutsideElements, found)?;
         }
     }
-    Ok(references)
+    Ok(())
 }
 
 /// The tree of the body with that number, if it wasn't given up.
@@ -199,34 +196,34 @@ fn refer_all<'s>(
     Ok(())
 }
 
-/// The keys that are referred to. `undefined` gets the least of the names that have no component, and of the one held
-/// before.
+/// Puts the keys that are referred to into `row`, in the place of what it held. `undefined` gets the least of the names
+/// that have no component, and of the one held before.
 fn row_of<'s>(
-    alloc: Global,
     keys: &Keys<'s>,
     components: &Components<'_, '_, 's>,
     references: &[Reference<'s>],
     undefined: &mut Option<&'s str>,
-) -> Result<NodeReferences, AllocError>
-    ensures everywhere_within { IfOk result (λ row. AllBelow (length (names_of keys.now) + 1)
-        row.everywhere.items) }
-    ensures everywhere { IfOk result (λ row. AreNumbers (names_of keys.now)
-        (names_within Everywhere (map reference_view references.now)) row.everywhere.items) }
-    ensures outside_within { IfOk result (λ row. AllBelow (length (names_of keys.now) + 1)
-        row.outside.items) }
-    ensures outside { IfOk result (λ row. AreNumbers (names_of keys.now)
-        (names_within OutsideElements (map reference_view references.now)) row.outside.items) }
+    row: &mut NodeReferences,
+) -> Result<(), AllocError>
+    ensures everywhere_within { OnOk result (AllBelow (length (names_of keys.now) + 1)
+        row.new.everywhere.items) }
+    ensures everywhere { OnOk result (AreNumbers (names_of keys.now)
+        (names_within Everywhere (map reference_view references.now)) row.new.everywhere.items) }
+    ensures outside_within { OnOk result (AllBelow (length (names_of keys.now) + 1)
+        row.new.outside.items) }
+    ensures outside { OnOk result (AreNumbers (names_of keys.now)
+        (names_within OutsideElements (map reference_view references.now)) row.new.outside.items) }
     ensures least { OnOk result (KeepsLeast (names_of keys.now) components.now
         (names_within Everywhere (map reference_view references.now))
         undefined.old undefined.new) }
 {
-    let mut row = NodeReferences::new(alloc);
+    row.clear();
     for reference in references {
         let key = keys.find(reference.name);
-        add_key(&mut row, key, reference.reach)?;
+        add_key(row, key, reference.reach)?;
         *undefined = least_undefined(components, reference.name, key, *undefined);
     }
-    Ok(row)
+    Ok(())
 }
 
 /// Adds the key of a name that a reference with this narrowest reach refers to, if the name has one.

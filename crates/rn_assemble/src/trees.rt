@@ -1,9 +1,9 @@
 // The trees of components, each until it is given up.
-ghost use Rattle.std.specs.Prelude.{◌≡◌, ◌≢◌, ℕ, ◌∷◌, ◌++◌, [], IfOk, Some, length};
+ghost use Rattle.std.specs.Prelude.{◌≡◌, ◌∷◌, ◌++◌, [], IfOk, Some, length};
 ghost use Rattle.std.specs.Option.{option_map_or};
 ghost use Rattle.rn_syntax.specs.Tree.{empty};
 ghost use Rattle.rn_syntax.specs.View.{pattern_view};
-ghost use Rattle.rn_assemble.specs.inside.Trees.{AgreeAt, trees_by};
+ghost use Rattle.rn_assemble.specs.inside.Trees.{AgreeElsewhere, StillGone, trees_by};
 
 use rn_syntax::Pat;
 use std::alloc::{AllocError, Global};
@@ -67,8 +67,11 @@ impl<'s> Trees<'s> {
 
     /// Gives up the tree of that number, of a component with this key.
     pub fn give_up(&mut self, key: usize, number: usize)
-        ensures { (other : ℕ) → other ≢ key
-            → AgreeAt (trees_by self.new.trees.items) (trees_by self.old.trees.items) other }
+        ensures others { AgreeElsewhere (trees_by self.new.trees.items)
+            (trees_by self.old.trees.items) key }
+        ensures gone { trees_by self.new.trees.items key number ≡ empty }
+        ensures still { StillGone (trees_by self.old.trees.items)
+            (trees_by self.new.trees.items) key }
     {
         if number < self.trees.len() && self.trees[number].key == key {
             self.trees[number].tree = None;

@@ -38,6 +38,15 @@ impl NodeReferences {
         }
     }
 
+    /// Takes all references out. Their memory is kept.
+    pub fn clear(&mut self)
+        ensures everywhere { self.new.everywhere.items ≡ [] }
+        ensures outside { self.new.outside.items ≡ [] }
+    {
+        self.everywhere.clear();
+        self.outside.clear();
+    }
+
     /// Adds a reference to the node with a number, where `reach` is the narrowest reach that takes the reference in.
     /// The only error is want of memory.
     pub fn add(&mut self, number: usize, reach: Reach) -> Result<(), AllocError>

@@ -103,7 +103,10 @@ impl Rows {
         ensures rows { rows_of self.new ≡ rows_of self.old }
         ensures open { OnOk result (open_row self.new ≡ open_row self.old ++ nodes.now) }
     {
-        self.nodes.extend_from_slice(nodes)
+        for node in nodes {
+            self.add(*node)?;
+        }
+        Ok(())
     }
 
     /// Adds a node to the row that has not ended. The only error is want of memory; it leaves all as it was.

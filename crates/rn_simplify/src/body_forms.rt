@@ -8,6 +8,7 @@ ghost use Rattle.rn_pattern.specs.View.{pattern_view};
 ghost use Rattle.rn_simplify.specs.inside.FormKinds.{settled_form};
 ghost use Rattle.rn_simplify.specs.inside.Repeats.{AreFirstsOf};
 
+use crate::definition_numbers::Likely;
 use crate::normalising::stored_body_form;
 use crate::settled_definitions::SettledDefinitions;
 use crate::settling::{body_of, name_of};
@@ -21,7 +22,7 @@ use std::alloc::{AllocError, Global};
 pub(crate) fn body_form(
     alloc: Global,
     settled: &SettledDefinitions<'_>,
-    likely_numbers: &[usize],
+    likely: &mut Likely<'_>,
     body: &Pattern,
     firsts: &[u32],
 ) -> Result<Pattern, AllocError>
@@ -30,7 +31,7 @@ pub(crate) fn body_form(
         (pattern_view body.now)) }
 {
     if firsts.is_empty() {
-        return tree_form(alloc, settled, likely_numbers, body);
+        return tree_form(alloc, settled, likely, body);
     }
     let mut store = Interned::with_seed(alloc, *settled.definitions.hasher());
     stored_body_form(alloc, &mut store, settled, body, firsts)
@@ -54,8 +55,8 @@ pub(crate) fn definition_forms(
     for number in 0..settled.definitions.len() {
         let name = name_of(settled.definitions, number).clone()?;
         let body = body_of(settled.definitions, number);
-        let likely_numbers = settled.likely_numbers(number);
-        let form = body_form(alloc, settled, likely_numbers, body, grammar.firsts(number))?;
+        let mut likely = settled.found.of_definition(number);
+        let form = body_form(alloc, settled, &mut likely, body, grammar.firsts(number))?;
         forms.push((name, form))?;
     }
     Ok(forms)

@@ -1,39 +1,106 @@
-// The number of a definition by its name.
+// The number of a definition by its name, and where to look for it first.
 ghost use Rattle.std.specs.Prelude.{◌≡◌, ◌<◌, IfSome, IsTrue, Some, length};
 ghost use Rattle.rn_assemble.specs.GrammarView.{definitions_view};
 ghost use Rattle.rn_simplify.specs.inside.DefinitionNumbers.{number_of};
 
 use crate::settling::name_of;
 use rn_assemble::Definitions;
+use rn_pattern::Rows;
 
 /// The most numbers that are looked through one by one: of two names mostly the lengths or the last bytes differ, while
 /// a hash takes all bytes.
 const FEW_NUMBERS: usize = 8;
 
-/// The number of the definition of a name. The likely numbers are tried first, if they are few.
+/// The numbers of the definitions that a grammar refers to, as they were found once: where to look first when the same
+/// references are looked up again. No answer rests on them, so no clause speaks of them: a wrong number costs time.
+#[derive(Drop)]
+pub(crate) struct FoundReferences {
+    /// The numbers that each of all definitions refers to, by its number.
+    pub(crate) definitions: Rows,
+    /// The numbers that the start refers to.
+    pub(crate) start: Vec<usize>,
+}
+
+impl FoundReferences {
+    /// The numbers that the definition with a number is likely to refer to.
+    pub(crate) fn of_definition(&self, number: usize) -> Likely<'_> {
+        if number < self.definitions.len() {
+            Likely::of(self.definitions.row(number))
+        } else {
+            Likely::of(&[])
+        }
+    }
+
+    /// The numbers that the start is likely to refer to.
+    pub(crate) fn of_start(&self) -> Likely<'_> {
+        Likely::of(&self.start)
+    }
+}
+
+/// Numbers of definitions that a pattern is likely to refer to, in the order of its references. No answer rests on
+/// them.
+#[derive(Drop)]
+pub(crate) struct Likely<'r> {
+    numbers: &'r [usize],
+    /// The place of the number that is tried first.
+    next: usize,
+}
+
+impl<'r> Likely<'r> {
+    /// These numbers, of which the first one is tried first.
+    pub(crate) fn of(numbers: &'r [usize]) -> Likely<'r> {
+        Likely { numbers, next: 0 }
+    }
+}
+
+/// The number of the definition of a name. The likely numbers are tried first.
 pub(crate) fn find_number(
     definitions: &Definitions,
-    likely_numbers: &[usize],
+    likely: &mut Likely<'_>,
     name: &str,
 ) -> Option<usize>
     ensures number { result ≡ number_of (definitions_view definitions.now.entries) name.now }
     ensures within { IfSome result (λ k. k < length definitions.now.entries) }
 {
-    match find_among(definitions, likely_numbers, name) {
+    match find_likely(definitions, likely, name) {
         Some(number) => Some(number),
         None => definitions.get_index_of(name),
     }
 }
 
-/// The one of a few numbers whose definition has the name.
-fn find_among(definitions: &Definitions, likely_numbers: &[usize], name: &str) -> Option<usize>
+/// The likely number whose definition has the name, if it is the next one or they are few.
+fn find_likely(definitions: &Definitions, likely: &mut Likely<'_>, name: &str) -> Option<usize>
     ensures { IfSome result
         (λ k. number_of (definitions_view definitions.now.entries) name.now ≡ Some k) }
 {
-    if likely_numbers.len() > FEW_NUMBERS {
+    match find_next(definitions, likely, name) {
+        Some(number) => Some(number),
+        None => find_among(definitions, likely.numbers, name),
+    }
+}
+
+/// The next likely number, if its definition has the name. The one behind it is the next one then.
+fn find_next(definitions: &Definitions, likely: &mut Likely<'_>, name: &str) -> Option<usize>
+    ensures { IfSome result
+        (λ k. number_of (definitions_view definitions.now.entries) name.now ≡ Some k) }
+{
+    let number = *likely.numbers.get(likely.next)?;
+    if !is_named(definitions, number, name) {
         return None;
     }
-    for number in likely_numbers {
+    likely.next += 1;
+    Some(number)
+}
+
+/// The one of a few numbers whose definition has the name.
+fn find_among(definitions: &Definitions, numbers: &[usize], name: &str) -> Option<usize>
+    ensures { IfSome result
+        (λ k. number_of (definitions_view definitions.now.entries) name.now ≡ Some k) }
+{
+    if numbers.len() > FEW_NUMBERS {
+        return None;
+    }
+    for number in numbers {
         if is_named(definitions, *number, name) {
             return Some(*number);
         }

@@ -11,12 +11,13 @@ ghost use Rattle.rn_simplify.specs.inside.SettlingOrder.{IsInOrder};
 ghost use Rattle.rn_simplify.specs.inside.FormKinds.{becomes, tree_kind, group_kind, choice_kind, becomes_by, kind_in, kind_of, settled_form};
 ghost use Rattle.rn_simplify.specs.inside.Repeats.{AreFirstsOf};
 
+use crate::definition_numbers::{FoundReferences, Likely};
 use crate::form_kind::FormKind;
 use crate::repeated_members::without_repeats;
 use crate::settled_definitions::SettledDefinitions;
 use crate::settling::{body_of, settling_order};
 use rn_assemble::Grammar;
-use rn_pattern::{Pattern, Rows};
+use rn_pattern::Pattern;
 use std::alloc::{AllocError, Global};
 use std::rc::Rc;
 
@@ -31,8 +32,8 @@ pub(crate) fn settle_all(
         (becomes s) rank) }
 {
     let order = settling_order(alloc, grammar)?;
-    let references = order.references;
-    settle(alloc, grammar, &order.numbers, references)
+    let found = order.found;
+    settle(alloc, grammar, &order.numbers, found)
 }
 
 /// What the references to the definitions become, settled in an order in which each definition comes after those that
@@ -41,7 +42,7 @@ fn settle<'g>(
     alloc: Global,
     grammar: &'g Grammar,
     order: &[usize],
-    references: Rows,
+    found: FoundReferences,
 ) -> Result<SettledDefinitions<'g>, AllocError>
     requires { AllBelow (length (grammar_view grammar.now).definitions) order.now }
     ensures definitions { IfOk result (λ s. definitions_view s.definitions.now.entries
@@ -55,7 +56,7 @@ fn settle<'g>(
     let mut settled = SettledDefinitions {
         definitions,
         kinds,
-        references,
+        found,
     };
     for number in order {
         settle_definition(alloc, grammar, *number, &mut settled)?;
@@ -80,8 +81,8 @@ fn settle_definition(
         (slice_index_or (definitions_view settled.old.definitions.now.entries) number d).1))) }
 {
     let body = body_of(settled.definitions, number);
-    let likely_numbers = settled.likely_numbers(number);
-    let kind = evaluate_body(alloc, settled, likely_numbers, body, grammar.firsts(number))?;
+    let mut likely = settled.found.of_definition(number);
+    let kind = evaluate_body(alloc, settled, &mut likely, body, grammar.firsts(number))?;
     settled.kinds[number] = kind;
     Ok(())
 }
@@ -90,7 +91,7 @@ fn settle_definition(
 fn evaluate_body(
     alloc: Global,
     settled: &SettledDefinitions<'_>,
-    likely_numbers: &[usize],
+    likely: &mut Likely<'_>,
     body: &Pattern,
     firsts: &[u32],
 ) -> Result<FormKind, AllocError>
@@ -98,8 +99,8 @@ fn evaluate_body(
     ensures { IfOk result (λ w. w ≡ tree_kind (kind_in settled.now) (pattern_view body.now)) }
 {
     match without_repeats(alloc, body, firsts)? {
-        Some(distinct) => Ok(evaluate_pattern(settled, likely_numbers, &distinct)),
-        None => Ok(evaluate_pattern(settled, likely_numbers, body)),
+        Some(distinct) => Ok(evaluate_pattern(settled, likely, &distinct)),
+        None => Ok(evaluate_pattern(settled, likely, body)),
     }
 }
 
@@ -107,7 +108,7 @@ fn evaluate_body(
 #[cycle(evaluate_pattern)]
 fn evaluate_pattern(
     settled: &SettledDefinitions<'_>,
-    likely_numbers: &[usize],
+    likely: &mut Likely<'_>,
     pattern: &Pattern,
 ) -> FormKind
     ensures { result ≡ tree_kind (kind_in settled.now) (pattern_view pattern.now) }
@@ -115,14 +116,14 @@ fn evaluate_pattern(
     match pattern {
         Pattern::NotAllowed => FormKind::NotAllowed,
         Pattern::Empty => FormKind::Empty,
-        Pattern::Ref(name) => settled.kind_of(likely_numbers, name),
+        Pattern::Ref(name) => settled.kind_of(likely, name),
         Pattern::List(content) | Pattern::Attribute(_, content) => {
-            evaluate_pattern(settled, likely_numbers, content).around()
+            evaluate_pattern(settled, likely, content).around()
         }
-        Pattern::OneOrMore(content) => evaluate_pattern(settled, likely_numbers, content),
-        Pattern::Group(members) => evaluate_all(settled, likely_numbers, members),
-        Pattern::Interleave(members) => evaluate_all(settled, likely_numbers, members),
-        Pattern::Choice(members) => evaluate_any(settled, likely_numbers, members),
+        Pattern::OneOrMore(content) => evaluate_pattern(settled, likely, content),
+        Pattern::Group(members) => evaluate_all(settled, likely, members),
+        Pattern::Interleave(members) => evaluate_all(settled, likely, members),
+        Pattern::Choice(members) => evaluate_any(settled, likely, members),
         Pattern::Text | Pattern::Value(_) | Pattern::Datum(_, _) | Pattern::Element(_, _) =>
             FormKind::Other,
     }
@@ -132,7 +133,7 @@ fn evaluate_pattern(
 #[cycle(evaluate_pattern)]
 fn evaluate_all(
     settled: &SettledDefinitions<'_>,
-    likely_numbers: &[usize],
+    likely: &mut Likely<'_>,
     members: &[Rc<Pattern>],
 ) -> FormKind
     ensures { result ≡ group_kind (kind_in settled.now)
@@ -140,7 +141,7 @@ fn evaluate_all(
 {
     let mut kind = FormKind::Empty;
     for member in members {
-        kind = kind.both(evaluate_pattern(settled, likely_numbers, member));
+        kind = kind.both(evaluate_pattern(settled, likely, member));
     }
     kind
 }
@@ -149,7 +150,7 @@ fn evaluate_all(
 #[cycle(evaluate_pattern)]
 fn evaluate_any(
     settled: &SettledDefinitions<'_>,
-    likely_numbers: &[usize],
+    likely: &mut Likely<'_>,
     members: &[Rc<Pattern>],
 ) -> FormKind
     ensures { result ≡ choice_kind (kind_in settled.now)
@@ -157,7 +158,7 @@ fn evaluate_any(
 {
     let mut kind = FormKind::NotAllowed;
     for member in members {
-        kind = kind.either(evaluate_pattern(settled, likely_numbers, member));
+        kind = kind.either(evaluate_pattern(settled, likely, member));
     }
     kind
 }

@@ -11,12 +11,13 @@ ghost use Rattle.rn_simplify.specs.Settling.{IsSettling};
 ghost use Rattle.rn_simplify.specs.inside.FormKinds.{becomes_by, settled_definitions};
 
 use crate::body_forms::body_form;
+use crate::definition_numbers::FoundReferences;
 use crate::evaluation::settle_all;
 use crate::form_kind::FormKind;
 use crate::settled_definitions::SettledDefinitions;
 use crate::settling::body_of;
 use rn_assemble::{Definitions, Grammar};
-use rn_pattern::{Pattern, Rows};
+use rn_pattern::Pattern;
 use std::alloc::{AllocError, Global};
 
 /// What the references to definitions become, without the definitions themselves.
@@ -24,8 +25,8 @@ use std::alloc::{AllocError, Global};
 pub(crate) struct SettledKinds {
     /// The kind of the form of each definition, by its number.
     pub(crate) kinds: Vec<FormKind>,
-    /// The numbers of the definitions that each one refers to. No answer rests on them.
-    pub(crate) references: Rows,
+    /// Where to look first for what a reference is to.
+    pub(crate) found: FoundReferences,
 }
 
 /// The form of the start, and what the references to the definitions become.
@@ -43,13 +44,10 @@ pub(crate) fn settled_start(
 {
     let settled = settle_all(alloc, grammar)?;
     let firsts = grammar.start_firsts();
-    let form = body_form(alloc, &settled, &[], grammar.start(), firsts)?;
-    let SettledDefinitions {
-        kinds,
-        references,
-        ..
-    } = settled;
-    Ok((form, SettledKinds { kinds, references }))
+    let mut likely = settled.found.of_start();
+    let form = body_form(alloc, &settled, &mut likely, grammar.start(), firsts)?;
+    let SettledDefinitions { kinds, found, .. } = settled;
+    Ok((form, SettledKinds { kinds, found }))
 }
 
 /// Puts the form of each definition in the place of its body, which is given up as soon as the form is made.
@@ -100,19 +98,15 @@ fn form_at(
         (slice_index_or (definitions_view definitions.now.entries) number d).1) }
     ensures kept { IfOk result (λ r. r.1.kinds.items ≡ settled.kinds.items) }
 {
-    let SettledKinds { kinds, references } = settled;
+    let SettledKinds { kinds, found } = settled;
     let settled = SettledDefinitions {
         definitions,
         kinds,
-        references,
+        found,
     };
-    let likely_numbers = settled.likely_numbers(number);
+    let mut likely = settled.found.of_definition(number);
     let body = body_of(definitions, number);
-    let form = body_form(alloc, &settled, likely_numbers, body, firsts)?;
-    let SettledDefinitions {
-        kinds,
-        references,
-        ..
-    } = settled;
-    Ok((form, SettledKinds { kinds, references }))
+    let form = body_form(alloc, &settled, &mut likely, body, firsts)?;
+    let SettledDefinitions { kinds, found, .. } = settled;
+    Ok((form, SettledKinds { kinds, found }))
 }

@@ -116,7 +116,7 @@ fn canonical_parts(alloc: Global, grammar: &Grammar) -> Result<NormalParts, Allo
     let start = body_form(
         alloc,
         &settled,
-        &[],
+        &mut settled.found.of_start(),
         grammar.start(),
         grammar.start_firsts(),
     )?;
@@ -137,7 +137,7 @@ fn parts_in_place(alloc: Global, grammar: Grammar) -> Result<NormalParts, AllocE
         ..
     } = grammar.into_parts();
     let settled = form_definitions(alloc, &mut definitions, settled, &firsts)?;
-    let defs = prune_map(alloc, &settled.references, &start, definitions)?;
+    let defs = prune_map(alloc, &settled.found, &start, definitions)?;
     Ok((start, defs))
 }
 

@@ -9,14 +9,16 @@ ghost use Rattle.rn_pattern.specs.Tree.{Tree};
 ghost use Rattle.rn_pattern.specs.View.{pattern_view};
 ghost use Rattle.rn_simplify.specs.inside.MarkedElements.{marked_elements};
 ghost use Rattle.rn_simplify.specs.inside.DefinitionNumbers.{MarksReached, rows_by};
+ghost use Rattle.rn_simplify.specs.inside.ReferenceNumbers.{reference_numbers};
 ghost use Rattle.rn_pattern.specs.declared.references.Reach.TheVariants.{Everywhere};
 
+use crate::definition_numbers::FoundReferences;
 use crate::reference_numbers::referred_numbers;
-use crate::settled_definitions::{SettledDefinitions, likely_numbers};
+use crate::settled_definitions::SettledDefinitions;
 use crate::settling::body_of;
 use rn_assemble::Definitions;
 use rn_pattern::graph::reached_nodes;
-use rn_pattern::{Pattern, Rows};
+use rn_pattern::{NodeReferences, Pattern, Rows};
 use std::alloc::{AllocError, Global};
 
 /// The forms that the start reaches, in the order of their names. The forms have the names of the definitions, in their
@@ -41,7 +43,7 @@ pub(crate) fn prune_forms(
 /// The forms in the map that the start reaches, in the order of their names.
 pub(crate) fn prune_map(
     alloc: Global,
-    references: &Rows,
+    found: &FoundReferences,
     start: &Pattern,
     definitions: Definitions,
 ) -> Result<Vec<(String, Pattern)>, AllocError>
@@ -52,7 +54,7 @@ pub(crate) fn prune_map(
         })
         (record { start = pattern_view start.now; definitions = definitions_view v.items })) }
 {
-    let is_reached = reached_in_map(alloc, references, start, &definitions)?;
+    let is_reached = reached_in_map(alloc, found, start, &definitions)?;
     let forms = entries_of(alloc, definitions)?;
     sorted_marked(forms, &is_reached)
 }
@@ -87,7 +89,7 @@ fn sorted_marked(
 /// For each form in the map, whether the start reaches it.
 fn reached_in_map(
     alloc: Global,
-    references: &Rows,
+    found: &FoundReferences,
     start: &Pattern,
     definitions: &Definitions,
 ) -> Result<Vec<bool>, AllocError>
@@ -97,15 +99,30 @@ fn reached_in_map(
           definitions = definitions_view definitions.now.entries;
         }) marks.items) }
 {
-    let rows = rows_of_map(alloc, references, definitions)?;
-    let first = referred_numbers(alloc, definitions, &[], start)?;
+    let rows = rows_of_map(alloc, found, definitions)?;
+    let first = start_numbers(alloc, definitions, found, start)?;
     reached_nodes(alloc, &rows, &first)
+}
+
+/// The definitions that the form of the start refers to.
+fn start_numbers(
+    alloc: Global,
+    definitions: &Definitions,
+    found: &FoundReferences,
+    start: &Pattern,
+) -> Result<Vec<usize>, AllocError>
+    ensures { IfOk result (λ v. v.items ≡ reference_numbers
+        (definitions_view definitions.now.entries) (pattern_view start.now) Everywhere) }
+{
+    let mut numbers = NodeReferences::new(alloc);
+    referred_numbers(&mut numbers, definitions, &mut found.of_start(), start)?;
+    Ok(numbers.everywhere)
 }
 
 /// The references of each form in the map.
 fn rows_of_map(
     alloc: Global,
-    references: &Rows,
+    found: &FoundReferences,
     definitions: &Definitions,
 ) -> Result<Rows, AllocError>
     ensures { IfOk result (λ rows. rows_of rows
@@ -113,11 +130,12 @@ fn rows_of_map(
         (definitions_view definitions.now.entries)) }
 {
     let mut rows = Rows::with_capacity(alloc, definitions.len())?;
+    let mut row = NodeReferences::new(alloc);
     for number in 0..definitions.len() {
-        let likely = likely_numbers(references, number);
+        let mut likely = found.of_definition(number);
         let form = body_of(definitions, number);
-        let row = referred_numbers(alloc, definitions, likely, form)?;
-        rows.push_row(&row)?;
+        referred_numbers(&mut row, definitions, &mut likely, form)?;
+        rows.push_row(&row.everywhere)?;
     }
     Ok(rows)
 }
@@ -139,7 +157,7 @@ fn reached_forms(
         }) marks.items) }
 {
     let rows = rows_of_forms(alloc, settled, forms)?;
-    let first = referred_numbers(alloc, settled.definitions, &[], start)?;
+    let first = start_numbers(alloc, settled.definitions, &settled.found, start)?;
     reached_nodes(alloc, &rows, &first)
 }
 
@@ -154,10 +172,11 @@ fn rows_of_forms(
         (definitions_view forms.now)) }
 {
     let mut rows = Rows::with_capacity(alloc, forms.len())?;
+    let mut row = NodeReferences::new(alloc);
     for (_, form) in forms {
-        let likely_numbers = settled.likely_numbers(rows.len());
-        let row = referred_numbers(alloc, settled.definitions, likely_numbers, form)?;
-        rows.push_row(&row)?;
+        let mut likely = settled.found.of_definition(rows.len());
+        referred_numbers(&mut row, settled.definitions, &mut likely, form)?;
+        rows.push_row(&row.everywhere)?;
     }
     Ok(rows)
 }

@@ -1,67 +1,58 @@
 // The references of a pattern, as the numbers of the definitions in their order (RELAX NG 2001, 4.18 and 4.19).
-ghost use Rattle.std.specs.Prelude.{◌≡◌, ◌∷◌, [], IfOk, OnOk};
+ghost use Rattle.std.specs.Prelude.{◌≡◌, ◌∷◌, [], OnOk};
 ghost use Rattle.rn_assemble.specs.GrammarView.{definitions_view};
 ghost use Rattle.rn_pattern.specs.View.{pattern_view, shared_trees};
 ghost use Rattle.rn_simplify.specs.inside.DefinitionNumbers.{numbers_of};
 ghost use Rattle.rn_simplify.specs.inside.ReferenceNumbers.{AddsNumbers, AreReferenceNumbers, all_reference_numbers, reference_numbers};
 ghost use Rattle.rn_pattern.specs.declared.references.Reach.TheVariants.{Everywhere, OutsideElements};
 
-use crate::definition_numbers::find_number;
+use crate::definition_numbers::{Likely, find_number};
 use rn_assemble::Definitions;
 use rn_pattern::{NodeReferences, Pattern, Reach};
-use std::alloc::{AllocError, Global};
+use std::alloc::AllocError;
 use std::rc::Rc;
 
-/// The definitions that a pattern which stands outside elements refers to. Names that have no definition are passed
-/// over.
+/// Finds the definitions that a pattern which stands outside elements refers to, in the place of what was found before.
+/// Names that have no definition are passed over.
 pub(crate) fn pattern_references(
-    alloc: Global,
+    found: &mut NodeReferences,
     definitions: &Definitions,
     pattern: &Pattern,
-) -> Result<NodeReferences, AllocError>
-    ensures { IfOk result (AreReferenceNumbers (definitions_view definitions.now.entries)
-        (pattern_view pattern.now)) }
+) -> Result<(), AllocError>
+    ensures { OnOk result (AreReferenceNumbers (definitions_view definitions.now.entries)
+        (pattern_view pattern.now) found.new) }
 {
-    let mut found = NodeReferences::new(alloc);
+    found.clear();
     add_pattern(
-        &mut found,
+        found,
         definitions,
-        &[],
+        &mut Likely::of(&[]),
         pattern,
         Reach::OutsideElements,
-    )?;
-    Ok(found)
+    )
 }
 
-/// The definitions that a pattern refers to, in elements and outside. The likely numbers are tried first. Names that
-/// have no definition are passed over.
+/// Finds the definitions that a pattern refers to, in elements and outside, in the place of what was found before. The
+/// likely numbers are tried first. Names that have no definition are passed over.
 pub(crate) fn referred_numbers(
-    alloc: Global,
+    found: &mut NodeReferences,
     definitions: &Definitions,
-    likely_numbers: &[usize],
+    likely: &mut Likely<'_>,
     pattern: &Pattern,
-) -> Result<Vec<usize>, AllocError>
-    ensures { IfOk result (λ v. v.items ≡ reference_numbers
+) -> Result<(), AllocError>
+    ensures { OnOk result (found.new.everywhere.items ≡ reference_numbers
         (definitions_view definitions.now.entries) (pattern_view pattern.now) Everywhere) }
 {
-    let mut found = NodeReferences::new(alloc);
-    add_pattern(
-        &mut found,
-        definitions,
-        likely_numbers,
-        pattern,
-        Reach::Everywhere,
-    )?;
-    Ok(found.everywhere)
+    found.clear();
+    add_pattern(found, definitions, likely, pattern, Reach::Everywhere)
 }
 
-/// Adds the references of a pattern; those outside elements are noted where `reach` is outside elements too. The likely
-/// numbers are tried first.
+/// Adds the references of a pattern; those outside elements are noted where `reach` is outside elements too.
 #[cycle(add_pattern)]
 fn add_pattern(
     found: &mut NodeReferences,
     definitions: &Definitions,
-    likely_numbers: &[usize],
+    likely: &mut Likely<'_>,
     pattern: &Pattern,
     reach: Reach,
 ) -> Result<(), AllocError>
@@ -70,22 +61,22 @@ fn add_pattern(
         found.old found.new) }
 {
     match pattern {
-        Pattern::Ref(name) => add_name(found, definitions, likely_numbers, name, reach),
+        Pattern::Ref(name) => add_name(found, definitions, likely, name, reach),
         Pattern::Datum(_, Some(content)) => {
-            add_pattern(found, definitions, likely_numbers, content, reach)
+            add_pattern(found, definitions, likely, content, reach)
         }
         Pattern::List(content) | Pattern::Attribute(_, content) | Pattern::OneOrMore(content) => {
-            add_pattern(found, definitions, likely_numbers, content, reach)
+            add_pattern(found, definitions, likely, content, reach)
         }
         Pattern::Element(_, content) => add_pattern(
             found,
             definitions,
-            likely_numbers,
+            likely,
             content,
             Reach::Everywhere,
         ),
         Pattern::Group(members) | Pattern::Interleave(members) | Pattern::Choice(members) => {
-            add_patterns(found, definitions, likely_numbers, members, reach)
+            add_patterns(found, definitions, likely, members, reach)
         }
         Pattern::NotAllowed
         | Pattern::Empty
@@ -96,12 +87,12 @@ fn add_pattern(
 }
 
 /// Adds the references of the members of a list; those outside elements are noted where `reach` is outside elements
-/// too. The likely numbers are tried first.
+/// too.
 #[cycle(add_pattern)]
 fn add_patterns(
     found: &mut NodeReferences,
     definitions: &Definitions,
-    likely_numbers: &[usize],
+    likely: &mut Likely<'_>,
     members: &[Rc<Pattern>],
     reach: Reach,
 ) -> Result<(), AllocError>
@@ -110,7 +101,7 @@ fn add_patterns(
         found.old found.new) }
 {
     for member in members {
-        add_pattern(found, definitions, likely_numbers, member, reach)?;
+        add_pattern(found, definitions, likely, member, reach)?;
     }
     Ok(())
 }
@@ -119,7 +110,7 @@ fn add_patterns(
 fn add_name(
     found: &mut NodeReferences,
     definitions: &Definitions,
-    likely_numbers: &[usize],
+    likely: &mut Likely<'_>,
     name: &str,
     reach: Reach,
 ) -> Result<(), AllocError>
@@ -127,7 +118,7 @@ fn add_name(
         (λ _. numbers_of (definitions_view definitions.now.entries) (name.now ∷ [])) reach
         found.old found.new) }
 {
-    match find_number(definitions, likely_numbers, name) {
+    match find_number(definitions, likely, name) {
         Some(number) => found.add(number, reach),
         None => Ok(()),
     }

@@ -1,5 +1,5 @@
 // The definitions of a grammar, each after those that it refers to outside elements (RELAX NG 2001, 4.19).
-ghost use Rattle.std.specs.Prelude.{◌≡◌, ◌<◌, [], IfOk, length, slice_index_or, string_bytes};
+ghost use Rattle.std.specs.Prelude.{◌≡◌, ◌<◌, [], IfOk, OnOk, length, slice_index_or, string_bytes};
 ghost use Rattle.rn_pattern.specs.Graph.{AllBelow, IsGraph, rows_of};
 ghost use Rattle.rn_pattern.specs.Ranks.{HasNoLoop, IsRanking};
 ghost use Rattle.rn_assemble.specs.GrammarView.{definitions_view, grammar_view};
@@ -13,6 +13,7 @@ ghost use Rattle.rn_pattern.specs.Canonical.{HaveSameMembers};
 ghost use Rattle.rn_simplify.specs.inside.SettlingOrder.{IsSettlingOrder};
 ghost use Rattle.rn_simplify.specs.inside.Repeats.{AreFirstsOf};
 
+use crate::definition_numbers::FoundReferences;
 use crate::reference_numbers::pattern_references;
 use crate::repeated_members::without_repeats;
 use rn_assemble::{Definitions, Grammar};
@@ -41,37 +42,41 @@ pub(crate) fn body_of(definitions: &Definitions, number: usize) -> &Pattern
     body
 }
 
-/// The references of a body. A member that stands in its list before isn't looked at.
+/// Finds the references of a body, in the place of what was found before. A member that stands in its list before isn't
+/// looked at.
 fn body_references(
     alloc: Global,
+    found: &mut NodeReferences,
     definitions: &Definitions,
     body: &Pattern,
     firsts: &[u32],
-) -> Result<NodeReferences, AllocError>
+) -> Result<(), AllocError>
     requires { AreFirstsOf firsts.now body.now }
-    ensures { IfOk result (AreReferenceNumbers (definitions_view definitions.now.entries)
-        (pattern_view body.now)) }
+    ensures { OnOk result (AreReferenceNumbers (definitions_view definitions.now.entries)
+        (pattern_view body.now) found.new) }
 {
     match without_repeats(alloc, body, firsts)? {
-        Some(distinct) => pattern_references(alloc, definitions, &distinct),
-        None => pattern_references(alloc, definitions, body),
+        Some(distinct) => pattern_references(found, definitions, &distinct),
+        None => pattern_references(found, definitions, body),
     }
 }
 
-/// The references of the definition with a number.
+/// Finds the references of the definition with a number, in the place of what was found before.
 fn references_of(
     alloc: Global,
+    found: &mut NodeReferences,
     grammar: &Grammar,
     number: usize,
-) -> Result<NodeReferences, AllocError>
+) -> Result<(), AllocError>
     requires { number < length (grammar_view grammar.now).definitions }
-    ensures { IfOk result (λ found. (d : Text × Tree)
+    ensures { OnOk result ((d : Text × Tree)
         → AreReferenceNumbers (grammar_view grammar.now).definitions
-        (slice_index_or (grammar_view grammar.now).definitions number d).1 found) }
+        (slice_index_or (grammar_view grammar.now).definitions number d).1 found.new) }
 {
     let definitions = grammar.defs();
     body_references(
         alloc,
+        found,
         definitions,
         body_of(definitions, number),
         grammar.firsts(number),
@@ -87,8 +92,9 @@ fn reference_rows(alloc: Global, grammar: &Grammar) -> Result<ReferenceRows, All
 {
     let count = grammar.defs().len();
     let mut rows = ReferenceRows::with_capacity(alloc, count)?;
+    let mut found = NodeReferences::new(alloc);
     for number in 0..count {
-        let found = references_of(alloc, grammar, number)?;
+        references_of(alloc, &mut found, grammar, number)?;
         rows.push_row(&found)?;
     }
     Ok(rows)
@@ -112,24 +118,25 @@ fn start_references(alloc: Global, grammar: &Grammar) -> Result<Vec<usize>, Allo
     ensures { IfOk result (λ v. HaveSameMembers v.items (start_of (grammar_view grammar.now))) }
 {
     let firsts = grammar.start_firsts();
-    let found = body_references(alloc, grammar.defs(), grammar.start(), firsts)?;
+    let mut found = NodeReferences::new(alloc);
+    body_references(alloc, &mut found, grammar.defs(), grammar.start(), firsts)?;
     Ok(found.everywhere)
 }
 
-/// For each definition, whether the start reaches it, by the references of the definitions.
+/// For each definition, whether the start reaches it, by the references of the start and of the definitions.
 fn reached_definitions(
     alloc: Global,
     grammar: &Grammar,
+    start: &[usize],
     rows: &Rows,
 ) -> Result<Vec<bool>, AllocError>
-    requires { AreReferenceRows (grammar_view grammar.now)
-        (rows_of rows.now) }
+    requires start { HaveSameMembers start.now (start_of (grammar_view grammar.now)) }
+    requires rows { AreReferenceRows (grammar_view grammar.now) (rows_of rows.now) }
     ensures size { IfOk result (λ v. length v.items
         ≡ length (grammar_view grammar.now).definitions) }
     ensures exact { IfOk result (λ v. MarksReached (grammar_view grammar.now) v.items) }
 {
-    let start = start_references(alloc, grammar)?;
-    reached_nodes(alloc, rows, &start)
+    reached_nodes(alloc, rows, start)
 }
 
 /// Ranks by which each row refers to lower ones, where no row leads back to itself.
@@ -149,9 +156,8 @@ fn ranks_of(alloc: Global, rows: &Rows) -> Result<Vec<usize>, AllocError>
 pub(crate) struct SettlingOrder {
     /// The numbers of the definitions that the start reaches, in the order in which they can be settled.
     pub(crate) numbers: Vec<usize>,
-    /// The numbers that each of all definitions refers to. They are only where to look first, so no clause speaks of
-    /// them: a wrong row costs time, and no answer rests on it.
-    pub(crate) references: Rows,
+    /// The references that were found for it.
+    pub(crate) found: FoundReferences,
 }
 
 /// The order in which the definitions that the start reaches can be settled, and the references that were found for it.
@@ -162,19 +168,21 @@ pub(crate) fn settling_order(alloc: Global, grammar: &Grammar) -> Result<Settlin
         (λ s. IsSettlingOrder (grammar_view grammar.now) s.numbers.items) }
 {
     let rows = reference_rows(alloc, grammar)?;
-    let numbers = reached_in_order(alloc, grammar, &rows)?;
-    Ok(SettlingOrder {
-        numbers,
-        references: rows.everywhere,
-    })
+    let start = start_references(alloc, grammar)?;
+    let numbers = reached_in_order(alloc, grammar, &start, &rows)?;
+    let definitions = rows.everywhere;
+    let found = FoundReferences { definitions, start };
+    Ok(SettlingOrder { numbers, found })
 }
 
 /// The numbers of the definitions that the start reaches, in the order in which they can be settled.
 fn reached_in_order(
     alloc: Global,
     grammar: &Grammar,
+    start: &[usize],
     rows: &ReferenceRows,
 ) -> Result<Vec<usize>, AllocError>
+    requires start { HaveSameMembers start.now (start_of (grammar_view grammar.now)) }
     requires everywhere { AreReferenceRows (grammar_view grammar.now)
         (rows_of rows.now.everywhere) }
     requires outside { AreOutsideRows (grammar_view grammar.now)
@@ -183,7 +191,7 @@ fn reached_in_order(
         (length (grammar_view grammar.now).definitions) v.items) }
     ensures order { IfOk result (λ v. IsSettlingOrder (grammar_view grammar.now) v.items) }
 {
-    let is_reached = reached_definitions(alloc, grammar, &rows.everywhere)?;
+    let is_reached = reached_definitions(alloc, grammar, start, &rows.everywhere)?;
     let outside = marked_rows(alloc, &rows.outside, &is_reached)?;
     let ranks = ranks_of(alloc, &outside)?;
     let mut order = marked_places(alloc, &is_reached)?;

@@ -10,6 +10,7 @@ ghost use Rattle.rn_simplify.specs.inside.Contents.{content_of, is_leaf};
 ghost use Rattle.rn_simplify.specs.inside.ListParts.{members_step, parts, parts_of};
 ghost use Rattle.rn_simplify.specs.inside.FormKinds.{becomes, settled_form, settled_forms};
 
+use crate::definition_numbers::Likely;
 use crate::form_kind::FormKind;
 use crate::list_kind::ListKind;
 use crate::settled_definitions::SettledDefinitions;
@@ -27,7 +28,7 @@ fn reference_form<P: Patterns>(
         (becomes settled.now name.now)) }
     ensures kept { KeepsIds P.knows P.tree_of store.old store.new }
 {
-    match settled.kind_of(&[], name) {
+    match settled.kind_of(&mut Likely::of(&[]), name) {
         FormKind::NotAllowed => store.not_allowed(),
         FormKind::Empty => store.empty(),
         FormKind::Other => store.reference(name),

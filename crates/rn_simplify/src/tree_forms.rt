@@ -10,6 +10,7 @@ ghost use Rattle.rn_simplify.specs.inside.Contents.{content_of, form_or, is_leaf
 ghost use Rattle.rn_simplify.specs.inside.ListParts.{members_step, parts, parts_of};
 ghost use Rattle.rn_simplify.specs.inside.FormKinds.{becomes, settled_form, settled_forms};
 
+use crate::definition_numbers::Likely;
 use crate::form_kind::FormKind;
 use crate::list_kind::ListKind;
 use crate::settled_definitions::SettledDefinitions;
@@ -23,13 +24,13 @@ use std::rc::Rc;
 pub(crate) fn tree_form(
     alloc: Global,
     settled: &SettledDefinitions<'_>,
-    likely_numbers: &[usize],
+    likely: &mut Likely<'_>,
     pattern: &Pattern,
 ) -> Result<Pattern, AllocError>
     ensures { IfOk result (λ p. pattern_view p ≡ settled_form settled.now
         (pattern_view pattern.now)) }
 {
-    let made = form_of(alloc, settled, likely_numbers, pattern)?;
+    let made = form_of(alloc, settled, likely, pattern)?;
     form_or_copy(alloc, made, pattern)
 }
 
@@ -52,7 +53,7 @@ fn form_or_copy(
 fn form_of(
     alloc: Global,
     settled: &SettledDefinitions<'_>,
-    likely_numbers: &[usize],
+    likely: &mut Likely<'_>,
     pattern: &Pattern,
 ) -> Result<Option<Pattern>, AllocError>
     ensures { IfOk result (λ made. form_or made (pattern_view pattern.now)
@@ -63,10 +64,10 @@ fn form_of(
         | Pattern::Empty
         | Pattern::Text
         | Pattern::Ref(_)
-        | Pattern::Value(_) => Ok(leaf_form(settled, likely_numbers, pattern)),
+        | Pattern::Value(_) => Ok(leaf_form(settled, likely, pattern)),
         Pattern::Datum(_, None) => Ok(None),
         Pattern::Datum(data, Some(except)) => {
-            let made = form_of(alloc, settled, likely_numbers, except)?;
+            let made = form_of(alloc, settled, likely, except)?;
             let except = form_or_copy(alloc, made, except)?;
             let form = datum_over(alloc, data, Some(new_box(alloc, except)?))?;
             Ok(Some(form))
@@ -75,23 +76,17 @@ fn form_of(
         | Pattern::Attribute(_, content)
         | Pattern::Element(_, content)
         | Pattern::OneOrMore(content) => {
-            let made = form_of(alloc, settled, likely_numbers, content)?;
+            let made = form_of(alloc, settled, likely, content)?;
             form_by_content(alloc, pattern, made, content)
         }
         Pattern::Group(members) => {
-            Ok(Some(list_form(alloc, settled, likely_numbers, ListKind::Group, members)?))
+            Ok(Some(list_form(alloc, settled, likely, ListKind::Group, members)?))
         }
         Pattern::Interleave(members) => {
-            Ok(Some(list_form(
-                alloc,
-                settled,
-                likely_numbers,
-                ListKind::Interleave,
-                members,
-            )?))
+            Ok(Some(list_form(alloc, settled, likely, ListKind::Interleave, members)?))
         }
         Pattern::Choice(members) => {
-            Ok(Some(list_form(alloc, settled, likely_numbers, ListKind::Choice, members)?))
+            Ok(Some(list_form(alloc, settled, likely, ListKind::Choice, members)?))
         }
     }
 }
@@ -99,12 +94,12 @@ fn form_of(
 /// What a reference becomes: notAllowed or empty if that is the form of its definition. It stays itself else.
 fn reference_form(
     settled: &SettledDefinitions<'_>,
-    likely_numbers: &[usize],
+    likely: &mut Likely<'_>,
     name: &str,
 ) -> Option<Pattern>
     ensures { form_or result (ref name.now) ≡ becomes settled.now name.now }
 {
-    match settled.kind_of(likely_numbers, name) {
+    match settled.kind_of(likely, name) {
         FormKind::NotAllowed => Some(Pattern::NotAllowed),
         FormKind::Empty => Some(Pattern::Empty),
         FormKind::Other => None,
@@ -115,7 +110,7 @@ fn reference_form(
 /// pattern itself.
 fn leaf_form(
     settled: &SettledDefinitions<'_>,
-    likely_numbers: &[usize],
+    likely: &mut Likely<'_>,
     pattern: &Pattern,
 ) -> Option<Pattern>
     requires { IsTrue (is_leaf (pattern_view pattern.now)) }
@@ -123,7 +118,7 @@ fn leaf_form(
         ≡ settled_form settled.now (pattern_view pattern.now) }
 {
     match pattern {
-        Pattern::Ref(name) => reference_form(settled, likely_numbers, name),
+        Pattern::Ref(name) => reference_form(settled, likely, name),
         _ => None,
     }
 }
@@ -222,7 +217,7 @@ fn form_over_content(
 fn list_form(
     alloc: Global,
     settled: &SettledDefinitions<'_>,
-    likely_numbers: &[usize],
+    likely: &mut Likely<'_>,
     kind: ListKind,
     members: &[Rc<Pattern>],
 ) -> Result<Pattern, AllocError>
@@ -230,7 +225,7 @@ fn list_form(
         (settled_forms settled.now (shared_trees members.now))) }
 {
     let mut forms = Vec::with_capacity(alloc, members.len())?;
-    push_parts(alloc, settled, likely_numbers, kind, members, &mut forms)?;
+    push_parts(alloc, settled, likely, kind, members, &mut forms)?;
     kind.tree_over(alloc, forms)
 }
 
@@ -239,7 +234,7 @@ fn list_form(
 fn push_parts(
     alloc: Global,
     settled: &SettledDefinitions<'_>,
-    likely_numbers: &[usize],
+    likely: &mut Likely<'_>,
     kind: ListKind,
     members: &[Rc<Pattern>],
     forms: &mut Vec<Rc<Pattern>>,
@@ -249,8 +244,8 @@ fn push_parts(
         (parts kind (shared_trees members.now))) }
 {
     for member in members {
-        if !push_inner(alloc, settled, likely_numbers, kind, member, forms)? {
-            let made = form_of(alloc, settled, likely_numbers, member)?;
+        if !push_inner(alloc, settled, likely, kind, member, forms)? {
+            let made = form_of(alloc, settled, likely, member)?;
             push_form(alloc, made, member, forms)?;
         }
     }
@@ -263,7 +258,7 @@ fn push_parts(
 fn push_inner(
     alloc: Global,
     settled: &SettledDefinitions<'_>,
-    likely_numbers: &[usize],
+    likely: &mut Likely<'_>,
     kind: ListKind,
     pattern: &Pattern,
     forms: &mut Vec<Rc<Pattern>>,
@@ -276,21 +271,21 @@ fn push_inner(
     match kind {
         ListKind::Group => match pattern {
             Pattern::Group(members) => {
-                push_parts(alloc, settled, likely_numbers, kind, members, forms)?;
+                push_parts(alloc, settled, likely, kind, members, forms)?;
                 Ok(true)
             }
             _ => Ok(false),
         },
         ListKind::Interleave => match pattern {
             Pattern::Interleave(members) => {
-                push_parts(alloc, settled, likely_numbers, kind, members, forms)?;
+                push_parts(alloc, settled, likely, kind, members, forms)?;
                 Ok(true)
             }
             _ => Ok(false),
         },
         ListKind::Choice => match pattern {
             Pattern::Choice(members) => {
-                push_parts(alloc, settled, likely_numbers, kind, members, forms)?;
+                push_parts(alloc, settled, likely, kind, members, forms)?;
                 Ok(true)
             }
             _ => Ok(false),

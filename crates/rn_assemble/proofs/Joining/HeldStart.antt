@@ -1,20 +1,26 @@
--- Where a component is of the start, its pattern can be taken.
-use Rattle.std.proofs.Common.{◌≡◌, true, List, get_or, Option, Some, None, refl, ap, ◌∙◌}
+-- Where a component is of the start, its pattern is there; the trees of names are left.
+use Rattle.std.proofs.Common.{◌≡◌, ◌<◌, ℕ, true, cond, List, Option, Some, None, refl, sym, ap, ◌∙◌, arith}
 use Rattle.std.specs.Prelude.{Box, IsSome, option_map}
 use Rattle.std.specs.declared.alloc.Global.{Global}
 use Rattle.rn_pattern.specs.Tree.{Tree}
-use Rattle.rn_text.specs.Texts.{Text}
+use Rattle.rn_pattern.specs.View.{boxed_view}
 use Rattle.rn_pattern.specs.declared.tree.Pattern.{Pattern}
 use Rattle.rn_assemble.specs.Combine.{joined_pattern}
 use Rattle.rn_assemble.specs.Components.{Component, has_key, start_key}
-use Rattle.rn_assemble.specs.inside.Patterns.{AreCombined}
-use Rattle.rn_pattern.specs.View.{boxed_view}
-use Rattle.rn_assemble.proofs.Joining.PlacedDefinitions.{start_there}
+use Rattle.rn_assemble.specs.inside.Patterns.{IsKeptPattern}
+use Rattle.rn_assemble.specs.inside.Trees.{AgreeAt, AgreeElsewhere, TreeView}
 
 some_viewed : (o : Option (Box Pattern Global)) (p : Tree) → option_map boxed_view o ≡ Some p → IsSome o
 some_viewed None p e = cc
 some_viewed (Some q) p e = refl
 
-pub start_held : (names : List Text) (cs : List Component) (patterns : List (Option (Box Pattern Global))) → AreCombined names cs patterns → has_key start_key cs ≡ true
-    → (o : Option (Box Pattern Global)) → o ≡ get_or patterns 0 None → IsSome o
-start_held names cs patterns h t o e = some_viewed o (joined_pattern cs start_key) (ap (option_map boxed_view) e ∙ start_there names cs patterns h t)
+module _ (cs : List Component) (o : Option (Box Pattern Global)) (kept : IsKeptPattern cs start_key o) (t : has_key start_key cs ≡ true) where
+  pub start_tree : option_map boxed_view o ≡ Some (joined_pattern cs start_key)
+  start_tree = kept.0 ∙ ap (λ b. cond b (Some (joined_pattern cs start_key)) None) t
+
+  pub start_held : IsSome o
+  start_held = some_viewed o (joined_pattern cs start_key) start_tree
+
+-- the trees of names, which combining the start leaves as they were
+pub others_agree : (old new : TreeView) → AgreeElsewhere new old 0 → (key : ℕ) → 0 < key → AgreeAt old new key
+others_agree old new agree key above = λ number. sym (agree key (λ e. omega (arith, above, e)) number)

@@ -1,11 +1,11 @@
 -- The pattern of a key, put together from the bodies of its components.
-use Rattle.std.proofs.Common.{◌≡◌, ◌≢◌, ℕ, zero, suc, ◌+◌, ◌<◌, ◌≤◌, Bool, true, false, cond, List, [], ◌∷◌, ◌++◌, length, get_or, take, map, Option, Some, None, Result, Ok, Err, MatchResult, refl, sym, ap, ◌∙◌, subst, arith, below_more}
+use Rattle.std.proofs.Common.{◌≡◌, ◌≢◌, ℕ, zero, suc, ◌+◌, ◌<◌, ◌≤◌, Bool, true, false, cond, List, [], ◌∷◌, ◌++◌, length, get_or, take, map, Option, Some, None, Result, Ok, Err, MatchResult, refl, sym, ap, ◌∙◌, subst, arith}
 use Rattle.std.specs.Prelude.{Box, IsSomeAnd, option_map}
 use Rattle.std.specs.List.{AllByRecursion}
 use Rattle.std.specs.Result.{IsErrAnd}
 use Rattle.std.specs.List.Sorted.{IsStrictlySortedBy}
 use Rattle.std.proofs.lemmas.Bool.{false≢true}
-use Rattle.std.proofs.lemmas.List.{take_more, take_all, map-append, length-map, get_or-map, get_or_append_left, get_or_push}
+use Rattle.std.proofs.lemmas.List.{take_more, take_all, map-append, length-map, get_or-map}
 use Rattle.std.specs.declared.alloc.Global.{Global}
 use Rattle.std.specs.declared.rc.Rc.{Rc}
 use Rattle.rn_pattern.specs.NameRules.{KeepsNameRules, KeepNameRules}
@@ -25,11 +25,11 @@ use Rattle.rn_assemble.specs.inside.Joining.{IsMisnamed}
 use Rattle.rn_assemble.specs.inside.Keyed.{key_at}
 use Rattle.rn_assemble.specs.Least.{IsLeast, key_cmp}
 use Rattle.rn_assemble.specs.inside.Listed.{Live, ListsBy, components_in}
-use Rattle.rn_assemble.specs.inside.Patterns.{AreCombined, AreWellNamed, IsMisnamedAs, IsWellNamed, pattern_of, tree_at}
+use Rattle.rn_assemble.specs.inside.Patterns.{AreWellNamed, IsKeptOrNoted, IsKeptPattern, IsMisnamedAs, IsWellNamed, pattern_of}
 use Rattle.rn_assemble.specs.Refusal.{BreaksNameRules}
 use Rattle.rn_assemble.specs.Refused.{key_view}
 use Rattle.rn_assemble.proofs.Referring.FoundReferences.{all_keyed}
-use Rattle.rn_assemble.proofs.Referring.LeastKeys.{has_none, has_some, least_key, no_key, numbered}
+use Rattle.rn_assemble.proofs.Referring.LeastKeys.{has_none, has_some, least_key, numbered}
 use Rattle.rn_assemble.proofs.Referring.KeyNumbers.{same_key-Decides}
 use Rattle.rn_assemble.specs.inside.Trees.{TreeView}
 
@@ -136,6 +136,12 @@ module _ (cs : List Component) (k : Key) where
   more_pattern p ts l s e =
       some_pattern p (omega (arith, l)) (e ∙ ap (λ us. method_node k cs (trees_of us)) s.0 ∙ more_joined (method_node k cs) (bodies k cs) (omega (arith, l, length-map parts (λ (d : Component). d.body)))) s.1
 
+  -- a key that keeps the restrictions notes nothing
+  pub kept_unnoted : (names : List Text) (n : ℕ) (old new : Option ℕ) (p : Option (Box Pattern Global)) → k ≡ key_at names n → IsKeptPattern cs k p → new ≡ old → IsKeptOrNoted names cs n old new p
+  kept_unnoted names n old new (Some p) e h same = (subst (λ j. IsKeptPattern cs j (Some p)) e h, same)
+  kept_unnoted names n old new None e h same = λ t.
+      let wrong : None ≡ Some (joined_pattern cs k) = h.0 ∙ ap (λ b. cond b (Some (joined_pattern cs k)) None) (ap (λ j. has_key j cs) e ∙ t) in cc
+
 -- ---- refusals
 
 -- what a refusal of a key says
@@ -160,7 +166,7 @@ module _ {trees : TreeView} (names : List Text) (bs : List Body) (list : List �
   some_of : (k : Key) → has_key k cs ≡ true → of_key k cs ≢ []
   some_of k h e = false≢true (sym (has_none k cs (ap length e)) ∙ h)
 
-  breaks_has : (k : Key) → BreaksNameRules cs k → (m : ℕ) × (m < suc (length names)) × (k ≡ key_at names m)
+  pub breaks_has : (k : Key) → BreaksNameRules cs k → (m : ℕ) × (m < suc (length names)) × (k ≡ key_at names m)
   breaks_has k b = numbered names live (all_keyed names trees bs list live lists.are) k (some_of k b.0)
 
   -- the first key that breaks them is the least
@@ -168,20 +174,3 @@ module _ {trees : TreeView} (names : List Text) (bs : List Body) (list : List �
   misnamed_first n q l before h =
       misnamed_then (key_at names n) (BreaksNameRules cs (key_at names n)) (IsMisnamed cs) q
       (λ j is b. subst (IsLeast key_cmp (BreaksNameRules cs)) (sym is) (least_key names o (BreaksNameRules cs) breaks_has n (l, b, before))) tt h
-
-  abbrev IsKept : List (Option (Box Pattern Global)) → ℕ → Type 0
-  IsKept patterns n = (tree_at patterns n ≡ pattern_of cs (key_at names n)) × ¬ BreaksNameRules cs (key_at names n)
-
-  pub combined_all : (patterns : List (Option (Box Pattern Global))) → ((n : ℕ) → n < suc (length names) → IsKept patterns n) → AreCombined names cs patterns
-  combined_all patterns h = record {
-    are = λ n l. (h n l).0;
-    keep = no_key names o (BreaksNameRules cs) breaks_has (λ n l. (h n l).1);
-  }
-
-  -- one key more
-  pub combined_more : (patterns patterns' : List (Option (Box Pattern Global))) (p : Option (Box Pattern Global)) (k : ℕ) → length patterns ≡ k → patterns' ≡ patterns ++ p ∷ [] → ((n : ℕ) → n < k → IsKept patterns n)
-      → (option_map boxed_view p ≡ pattern_of cs (key_at names k)) × ¬ BreaksNameRules cs (key_at names k) → (n : ℕ) → n < k + 1 → IsKept patterns' n
-  combined_more patterns patterns' p k l e h here =
-      below_more (IsKept patterns') k
-      (λ n lt. (ap (λ ps. tree_at ps n) e ∙ ap (option_map boxed_view) (get_or_append_left patterns (p ∷ []) None n (omega (arith, lt, l))) ∙ (h n lt).0, (h n lt).1))
-      (ap (λ ps. tree_at ps k) e ∙ ap (option_map boxed_view) (get_or_push patterns p None k l) ∙ here.0, here.1)

@@ -1,12 +1,13 @@
 -- The methods of the components of a key, one after the other.
-use Rattle.std.proofs.Common.{◌≡◌, ℕ, zero, suc, ◌+◌, ◌<◌, Bool, true, false, ◌||◌, cond, List, [], ◌∷◌, ◌++◌, length, get_or, take, drop, filter, Some, None, refl, sym, ap, ◌∙◌, subst, arith, Contains, eqb, inl, inr}
+use Rattle.std.proofs.Common.{◌≡◌, ℕ, zero, suc, ◌+◌, ◌<◌, Bool, true, false, ◌||◌, ◌&&◌, cond, List, [], ◌∷◌, ◌++◌, length, get_or, take, drop, filter, Some, None, refl, sym, ap, ◌∙◌, subst, arith, Contains, eqb, inl, inr}
 use denote.Enum.Bare.{sameb}
 use Rattle.std.specs.Prelude.{Option, slice_get}
 use Rattle.std.specs.List.{list_any}
 use Rattle.std.specs.Option.{option_eq}
 use Rattle.std.specs.List.Sorted.{IsStrictlySortedBy}
-use Rattle.std.proofs.lemmas.Bool.{eqb-true, or_from, or_right}
+use Rattle.std.proofs.lemmas.Bool.{eqb-true, false≢true, or_from, or_right}
 use Rattle.std.proofs.lemmas.List.Elements.{All-contains, filter_passes}
+use Rattle.std.proofs.lemmas.List.Sums.{count_by-le-length}
 use Rattle.std.proofs.lemmas.List.{length-map, get_or-map, take_more, take-append-drop}
 use Rattle.rn_text.specs.Texts.{Text, text_cmp}
 use Rattle.rn_pattern.specs.Graph.{row}
@@ -16,7 +17,7 @@ use Rattle.rn_syntax.specs.declared.token.Method.{Method}
 use Rattle.rn_syntax.specs.declared.token.Method.TheVariants as m
 use Rattle.rn_assemble.specs.declared.bodies.Body.{Body}
 use Rattle.rn_assemble.specs.Components.{Component}
-use Rattle.rn_assemble.specs.Combine.{of_key}
+use Rattle.rn_assemble.specs.Combine.{IsMixed, IsPlainTwice, is_choice, is_interleave, is_plain, of_key}
 use Rattle.rn_assemble.specs.inside.Keyed.{key_at}
 use Rattle.rn_assemble.specs.inside.Listed.{IsBody, IsLive, Live, ListsBy, components_in}
 use Rattle.rn_assemble.specs.inside.Methods.{is_method}
@@ -64,6 +65,16 @@ item [] i l = absurd (omega (arith, l))
 item (x ∷ xs) zero l = (x, λ d. refl)
 item (x ∷ xs) (suc i) l = item xs i (omega (arith, l))
 
+one_method : (m : Method) → ((is_choice m || false) && (is_interleave m || false)) ≡ false
+one_method m.Plain = refl
+one_method m.Choice = refl
+one_method m.Interleave = refl
+
+few_methods : (cs : List Component) → length cs < 2 → (list_any (λ (c : Component). is_choice c.method) cs && list_any (λ (c : Component). is_interleave c.method) cs) ≡ false
+few_methods [] l = refl
+few_methods (c ∷ []) l = one_method c.method
+few_methods (c ∷ d ∷ cs) l = absurd (omega (arith, l))
+
 -- the place at an index of a row is that of the live component there
 module _ {trees : TreeView} (names : List Text) (bodies : List Body) (list : List ℕ) (rows : List (List ℕ)) (live : List Live) (h : ListsBy names trees bodies list rows live) (o : IsStrictlySortedBy text_cmp names) (key : ℕ) (k : key < suc (length names)) where
   abbrev pub of_number : List Live
@@ -92,6 +103,13 @@ module _ {trees : TreeView} (names : List Text) (bodies : List Body) (list : Lis
   pub row_size : length (row rows key) ≡ length parts
   row_size = ap length (row_is names trees bodies list rows live h o key k) ∙ length-map of_number (λ (e : Live). e.place) ∙ sym (ap length parts_are ∙ length-map of_number (λ (d : Live). d.component))
 
+  -- a key with fewer than two components
+  pub few_plain : length (row rows key) < 2 → IsPlainTwice (key_at names key) (components_in live) → ⊥
+  few_plain l t = omega (arith, l, t, row_size, count_by-le-length (λ (c : Component). is_plain c.method) parts)
+
+  pub few_mixed : length (row rows key) < 2 → IsMixed (key_at names key) (components_in live) → ⊥
+  few_mixed l m = false≢true (sym (few_methods parts (omega (arith, l, row_size))) ∙ m)
+
 -- a test of the elements, and a count, of one element more
 any_at : (a b c : Bool) → (a || b) ≡ true → (b ≡ true → c ≡ true) → (a || c) ≡ true
 any_at true b c e f = refl
@@ -105,7 +123,7 @@ any_behind_at : (a b c : Bool) → (a || b) ≡ false → (b ≡ false → c ≡
 any_behind_at true b c e f = e
 any_behind_at false b c e f = f e
 
-any_behind : {X : Type 0} (p : X → Bool) (xs : List X) (x : X) → list_any p xs ≡ false → p x ≡ false → list_any p (xs ++ x ∷ []) ≡ false
+pub any_behind : {X : Type 0} (p : X → Bool) (xs : List X) (x : X) → list_any p xs ≡ false → p x ≡ false → list_any p (xs ++ x ∷ []) ≡ false
 any_behind p [] x e f = or_from (p x) false f refl
 any_behind p (y ∷ xs) x e f = any_behind_at (p y) (list_any p xs) (list_any p (xs ++ x ∷ [])) e (λ g. any_behind p xs x g f)
 

@@ -54,7 +54,7 @@ same_key-Decides (name_key x) (name_key y) = ((λ h. ap name_key ((bytes_eq-Deci
 number_of : (names : List Text) (i : ℕ) (x : Text) → i < length names → key_at names (suc i) ≡ name_key x → IsNameNumber names x (suc i)
 number_of names i x h e = record { above = omega arith; within = omega arith; is = e }
 
-same_at : (names : List Text) → IsStrictlySortedBy text_cmp names → (k j : ℕ) → k < suc (length names) → j < suc (length names) → key_at names k ≡ key_at names j → k ≡ j
+pub same_at : (names : List Text) → IsStrictlySortedBy text_cmp names → (k j : ℕ) → k < suc (length names) → j < suc (length names) → key_at names k ≡ key_at names j → k ≡ j
 same_at names s zero zero h l e = refl
 same_at names s zero (suc j) h l e = cc
 same_at names s (suc i) zero h l e = cc

@@ -1,11 +1,11 @@
 -- How the modules' contents and the components of a set lie in the code.
-use Rattle.std.specs.Prelude.{ℕ, suc, ◌+◌, ◌<◌, ◌≤◌, ◌≡◌, ◌==◌, List, [], ◌∷◌, length, map, filter, slice_get, slice_index_or, slice_range, Option, Contains, ⊤}
+use Rattle.std.specs.Prelude.{ℕ, suc, ◌+◌, ◌<◌, ◌≤◌, ◌≡◌, ◌==◌, List, [], ◌∷◌, length, map, filter, slice_get, slice_index_or, slice_range, Option, Some, Contains, ⊤}
 use Rattle.std.specs.Rc.{rc_str_bytes}
 use Rattle.std.specs.List.{AllByRecursion, AllZip}
 use Rattle.std.specs.List.Sorted.{IsStrictlySortedBy}
 use Rattle.rn_text.specs.Texts.{Text, text_cmp}
 use Rattle.rn_pattern.specs.Graph.{row}
-use Rattle.rn_syntax.specs.Tree.{Declaration}
+use Rattle.rn_syntax.specs.Tree.{Declaration, empty}
 use Rattle.rn_assemble.specs.declared.contents.Contents.{Contents}
 use Rattle.rn_assemble.specs.declared.bodies.Body.{Body}
 use Rattle.rn_assemble.specs.declared.components.Components.{Components}
@@ -15,6 +15,7 @@ use Rattle.rn_assemble.specs.inside.ContextBindings.{BindsAs}
 use Rattle.rn_assemble.specs.Components.{Component, Key, NamedModule}
 use Rattle.rn_assemble.specs.inside.Contained.{WrittenComponent, written_components, inclusions}
 use Rattle.rn_assemble.specs.inside.Keyed.{key_at}
+use Rattle.rn_assemble.specs.inside.Tied.{body_of}
 use Rattle.rn_assemble.specs.inside.Trees.{TreeView}
 use Rattle.rn_assemble.specs.inside.Views.{IsNumbered, inclusion_view, names_of, written_view}
 
@@ -81,6 +82,15 @@ Lists names trees x live = ListsBy names trees x.bodies x.list x.places.items li
 
 abbrev pub components_in : List Live → List Component
 components_in live = map (λ (e : Live). e.component) live
+
+-- each of the first components of the key, as many as are asked for, has no tree any longer
+abbrev pub AreGivenUpTo : Components → TreeView → ℕ → ℕ → Type 0
+AreGivenUpTo x trees key count = (index number : ℕ) (b : Body) → index < count → body_of x.list (row x.places.items key) index ≡ Some number → slice_get x.bodies number ≡ Some b
+    → trees key b.component.tree ≡ empty
+
+-- no component of the key has a tree any longer
+abbrev pub AreGivenUp : Components → TreeView → ℕ → Type 0
+AreGivenUp x trees key = AreGivenUpTo x trees key (length (row x.places.items key))
 
 -- ---- of which components a contract speaks
 

@@ -1,5 +1,6 @@
 -- The patterns of keys and of bodies in the code, and the names in the order of their first components.
-use Rattle.std.specs.Prelude.{ℕ, suc, ◌≡◌, ◌<◌, ◌⊎◌, nat_lt, true, false, if◌then◌else◌, List, length, map, filter, slice_get, slice_index_or, option_map, Option, Some, None, IfSome, Contains, Box, ⊤}
+use Rattle.std.specs.Prelude.{ℕ, suc, ◌≡◌, ◌+◌, ◌<◌, ◌⊎◌, min, nat_lt, true, false, if◌then◌else◌, List, length, map, filter, slice_get, slice_index_or, option_map, Option, Some, None, IfSome, Contains, Box, ⊤}
+use Rattle.std.specs.Option.{option_map_or}
 use Rattle.std.specs.List.{AllByRecursion}
 use Rattle.std.specs.declared.alloc.Global.{Global}
 use Rattle.std.specs.declared.rc.Rc.{Rc}
@@ -9,6 +10,7 @@ use Rattle.rn_text.specs.Texts.{Text}
 use Rattle.rn_pattern.specs.View.{boxed_view, shared_view}
 use Rattle.rn_pattern.specs.declared.tree.Pattern.{Pattern}
 use Rattle.rn_assemble.specs.declared.bodies.Body.{Body}
+use Rattle.rn_assemble.specs.declared.combining.Combining.{Combining}
 use Rattle.rn_assemble.specs.declared.components.Components.{Components}
 use Rattle.rn_assemble.specs.declared.keys.Keys.{Keys}
 use Rattle.rn_assemble.specs.declared.refusal.Refusal.{Refusal}
@@ -16,10 +18,10 @@ use Rattle.rn_assemble.specs.declared.refusal.Refusal.TheVariants as r
 use Rattle.rn_assemble.specs.Components.{Component, Key, has_key, start_key}
 use Rattle.rn_assemble.specs.Combine.{joined_pattern}
 use Rattle.rn_assemble.specs.inside.Keyed.{key_at}
-use Rattle.rn_assemble.specs.inside.Listed.{IsBody, Live, components_in}
+use Rattle.rn_assemble.specs.inside.Listed.{IsBody, Live, OfTrees, components_in}
 use Rattle.rn_assemble.specs.Refusal.{BreaksNameRules}
 use Rattle.rn_assemble.specs.Refused.{key_view}
-use Rattle.rn_assemble.specs.inside.Trees.{TreeView}
+use Rattle.rn_assemble.specs.inside.Trees.{AgreeAt, TreeView}
 use Rattle.rn_assemble.specs.inside.Views.{names_of}
 
 -- the tree stands for the component's body, which keeps the restrictions on name classes
@@ -61,18 +63,28 @@ AreSharedBy keys trees x shared = AreShared (names_of keys) trees x.bodies share
 abbrev pub pattern_of : List Component → Key → Option Tree
 pattern_of cs k = if has_key k cs then Some (joined_pattern cs k) else None
 
--- the tree at a number, where there is one
-abbrev pub tree_at : List (Option (Box Pattern Global)) → ℕ → Option Tree
-tree_at patterns n = option_map boxed_view (slice_index_or patterns n None)
+-- the pattern of a key that keeps the restrictions on name classes, where it has components
+abbrev pub IsKeptPattern : List Component → Key → Option (Box Pattern Global) → Type 0
+IsKeptPattern cs k p = (option_map boxed_view p ≡ pattern_of cs k) × ¬ BreaksNameRules cs k
 
--- the pattern of each key stands at its number, and none breaks the restrictions on name classes
-pub record AreCombined (names : List Text) (cs : List Component) (patterns : List (Option (Box Pattern Global))) : Type 0 where
-  pub are : (n : ℕ) → n < suc (length names) → tree_at patterns n ≡ pattern_of cs (key_at names n)
-  pub keep : (k : Key) → ¬ BreaksNameRules cs k
+-- P holds of the keys' names and the live components, for all trees that are these ones at the key, where the patterns of bodies are right
+abbrev pub WithShared : Keys → TreeView → Components → List (Option (Rc Pattern Global)) → ℕ → (TreeView → List Text → List Component → Type 0) → Type 0
+WithShared keys trees x shared key P = (view : TreeView) → AgreeAt view trees key
+    → OfTrees keys view x (λ names cs. key < length names + 1 → AreSharedBy keys view x shared → P view names cs)
 
--- each name without a component among those done has its pattern at its number
-abbrev pub HavePatterns : List Text → List Component → List Component → List (Option (Box Pattern Global)) → Type 0
-HavePatterns names cs done patterns = (n : ℕ) → 0 < n → n < suc (length names) → has_key (key_at names n) done ≡ false → tree_at patterns n ≡ pattern_of cs (key_at names n)
+-- the key or the noted one, whichever is less
+abbrev pub lesser : ℕ → Option ℕ → Option ℕ
+lesser key least = Some (option_map_or (min key) least key)
+
+-- the pattern of a key; one that breaks the restrictions on name classes has none, and is noted where it is the least
+abbrev pub IsKeptOrNoted : List Text → List Component → ℕ → (old new : Option ℕ) → Option (Box Pattern Global) → Type 0
+IsKeptOrNoted names cs key old new (Some p) = IsKeptPattern cs (key_at names key) (Some p) × (new ≡ old)
+IsKeptOrNoted names cs key old new None = has_key (key_at names key) cs ≡ true → BreaksNameRules cs (key_at names key) × (new ≡ lesser key old)
+
+-- P holds of the live components, for all trees that are these ones at the names' keys, where start keeps the restrictions on name classes, nothing is noted and the patterns of bodies are right
+abbrev pub AfterStart : Keys → TreeView → Components → Combining → (List Component → Type 0) → Type 0
+AfterStart keys trees x c P = (view : TreeView) → ((key : ℕ) → 0 < key → AgreeAt view trees key)
+    → OfTrees keys view x (λ names cs. ¬ BreaksNameRules cs start_key → c.least ≡ None → AreSharedBy keys view x c.shared.items → P cs)
 
 -- the live components before a place
 abbrev pub before : ℕ → List Live → List Live

@@ -1,5 +1,5 @@
 -- The trees of components by their numbers, each with the number of its component's key, until they are given up.
-use Rattle.std.specs.Prelude.{ℕ, ◌≡◌, ◌==◌, ◌++◌, List, Option, Some, None, if◌then◌else◌, slice_get, Box}
+use Rattle.std.specs.Prelude.{ℕ, ◌≡◌, ◌≢◌, ◌==◌, ◌++◌, List, Option, Some, None, if◌then◌else◌, slice_get, Box}
 use Rattle.std.specs.Option.{option_map_or}
 use Rattle.std.specs.declared.alloc.Global.{Global}
 use Rattle.rn_syntax.specs.declared.tree.Pat.{Pat}
@@ -33,3 +33,11 @@ Grows old new = (more : List KeyedTree) × (new.trees.items ≡ old.trees.items 
 -- both have the same patterns for the components of a key
 abbrev pub AgreeAt : TreeView → TreeView → ℕ → Type 0
 AgreeAt a b key = (number : ℕ) → a key number ≡ b key number
+
+-- both have the same patterns for the components of all other keys
+abbrev pub AgreeElsewhere : TreeView → TreeView → ℕ → Type 0
+AgreeElsewhere a b key = (other : ℕ) → other ≢ key → AgreeAt a b other
+
+-- the trees of the key that had been given up still are
+abbrev pub StillGone : (old new : TreeView) → ℕ → Type 0
+StillGone old new key = (number : ℕ) → old key number ≡ t.empty → new key number ≡ t.empty

@@ -4,6 +4,7 @@ use Rattle.std.specs.declared.alloc.Global.{Global}
 use Rattle.std.specs.List.{AllByRecursion}
 use Rattle.std.specs.List.Sorted.{IsStrictlySortedBy}
 use Rattle.std.specs.Borrow.{Bor}
+use Rattle.std.specs.Map.{keys_of}
 use Rattle.rn_text.specs.Texts.{Text, text_cmp}
 use Rattle.rn_syntax.specs.View.{declaration_view, items_view, module_view, prefix_view}
 use Rattle.rn_syntax.specs.declared.tree.Item.{Item}
@@ -24,7 +25,7 @@ texts_of xs = map (λ (s : Bor (List ℕ)). s.now) xs
 
 -- the names of the keys, in the order of their numbers
 abbrev pub names_of : Keys → List Text
-names_of keys = texts_of keys.names.keys
+names_of keys = texts_of (keys_of keys.names.entries)
 
 abbrev pub named_module_view : code_module.NamedModule → NamedModule
 named_module_view m = record { name = m.name.now; tree = module_view m.tree }

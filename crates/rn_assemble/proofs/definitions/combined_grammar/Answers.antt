@@ -1,32 +1,76 @@
-use Rattle.std.proofs.Common.{◌≡◌, Some, sym, ap, ◌∙◌, subst, arith}
+use Rattle.std.proofs.Common.{◌≡◌, Some, refl, sym, ap, ◌∙◌, subst, arith}
 use Rattle.std.specs.Prelude.{option_map}
 use Rattle.rn_pattern.specs.View.{boxed_view}
 use Rattle.rn_assemble.specs.Combine.{joined_pattern}
 use Rattle.rn_assemble.specs.Components.{start_key}
 use Rattle.rn_assemble.specs.Firsts.{joined_members}
-use Rattle.rn_assemble.specs.inside.Tied.{AreTied}
+use Rattle.rn_assemble.specs.inside.Joining.{IsCombinedGrammar, IsMisnamed}
 use Rattle.rn_assemble.specs.inside.Listed.{components_in}
+use Rattle.rn_assemble.specs.inside.Tied.{AreTied}
+use Rattle.rn_assemble.specs.inside.Trees.{trees_by}
 use Rattle.rn_assemble.specs.inside.Views.{names_of}
-use Rattle.rn_assemble.proofs.Joining.PlacedDefinitions.{others_left, start_there}
-use Rattle.rn_assemble.proofs.Joining.HeldStart.{start_held}
+use Rattle.rn_assemble.proofs.Joining.HeldStart.{others_agree, start_held, start_tree}
+use Rattle.rn_assemble.proofs.Joining.KeyPatterns.{misnamed_first, refused_by}
 use Rattle.rn_assemble.proofs.definitions.combined_grammar.Goals as goal
+
+pub combine-requires : goal.combine-requires
+combine-requires c = (c.in_ok-combining.ensures.shared (names_of c.args.keys.now) (trees_by c.args.trees.now.trees.items)).size
+
+pub returns-in_err-combine : goal.returns-in_err-combine
+returns-in_err-combine c = λ live h o t.
+    let x = c.args.components.now in
+    let names = names_of c.args.keys.now in
+    let cs = components_in live in
+    let trees = trees_by c.args.trees.now.trees.items in
+    let misnamed = c.in_err-combine.ensures.exact trees (λ number. refl) live h o (omega arith) (c.in_ok-combining.ensures.shared names trees) in
+    refused_by (IsCombinedGrammar cs) (IsMisnamed cs) c.from_residual-in_err-combine.result c.in_err-combine.field-0.0 c.from_residual-in_err-combine.ensures.1
+    (misnamed_first names x.bodies x.list x.places.items live h o 0 c.in_err-combine.field-0.0 (omega arith) (λ m l. absurd (omega (arith, l))) misnamed)
 
 pub unwrap-start-requires : goal.unwrap-start-requires
 unwrap-start-requires c =
     let (live, h, o, t) = c.requires in
-    start_held (names_of c.args.keys.now) (components_in live) c.in_ok-patterns.patterns.items (c.in_ok-patterns.ensures live h o) t c.take.result c.take.ensures.taken
+    let trees = trees_by c.args.trees.now.trees.items in
+    let kept = c.in_ok-combine.ensures.exact trees (λ number. refl) live h o (omega arith) (c.in_ok-combining.ensures.shared (names_of c.args.keys.now) trees) in
+    start_held (components_in live) c.in_ok-combine.field-0 kept t
+
+pub definitions-requires : goal.definitions-requires
+definitions-requires c = c.combine.ensures.size ∙ (c.in_ok-combining.ensures.shared (names_of c.args.keys.now) (trees_by c.args.trees.now.trees.items)).size
+
+pub returns-in_err-definitions : goal.returns-in_err-definitions
+returns-in_err-definitions c = λ live h o t.
+    let cs = components_in live in
+    let trees = trees_by c.args.trees.now.trees.items in
+    let shared = c.in_ok-combining.ensures.shared (names_of c.args.keys.now) trees in
+    let kept = c.in_ok-combine.ensures.exact trees (λ number. refl) live h o (omega arith) shared in
+    let misnamed = c.in_err-definitions.ensures trees (others_agree trees (trees_by c.combine.new.trees.trees.items) c.combine.ensures.others) live h o kept.1
+    (c.combine.ensures.least ∙ c.in_ok-combining.ensures.least) (c.combine.ensures.kept trees (λ number. refl) live h o (omega arith) shared) in
+    refused_by (IsCombinedGrammar cs) (IsMisnamed cs) c.from_residual-in_err-definitions.result c.in_err-definitions.field-0.0 c.from_residual-in_err-definitions.ensures.1 misnamed
 
 pub invariant_of-result : goal.invariant_of-result
 invariant_of-result c =
     let (live, h, o, t) = c.requires in
-    let names = names_of c.args.keys.now in
     let cs = components_in live in
-    let patterns = c.in_ok-patterns.patterns.items in
-    let made = c.in_ok-patterns.ensures live h o in
-    let held : Some (boxed_view c.unwrap-start.result) ≡ Some (joined_pattern cs start_key) = ap (option_map boxed_view) (sym c.unwrap-start.ensures ∙ c.take.ensures.taken) ∙ start_there names cs patterns made t in
+    let trees = trees_by c.args.trees.now.trees.items in
+    let shared = c.in_ok-combining.ensures.shared (names_of c.args.keys.now) trees in
+    let kept = c.in_ok-combine.ensures.exact trees (λ number. refl) live h o (omega arith) shared in
+    let made = c.in_ok-definitions.ensures trees (others_agree trees (trees_by c.combine.new.trees.trees.items) c.combine.ensures.others) live h o kept.1
+    (c.combine.ensures.least ∙ c.in_ok-combining.ensures.least) (c.combine.ensures.kept trees (λ number. refl) live h o (omega arith) shared) in
+    let held : Some (boxed_view c.unwrap-start.result) ≡ Some (joined_pattern cs start_key) = ap (option_map boxed_view) (sym c.unwrap-start.ensures) ∙ start_tree cs c.in_ok-combine.field-0 kept t in
     let start : boxed_view c.unwrap-start.result ≡ joined_pattern cs start_key = cc in
     let firsts = c.in_ok-start_firsts.start_firsts.items in
     record {
-      start_tied = subst (λ p. AreTied firsts (joined_members p)) (sym start) (c.in_ok-start_firsts.ensures _ names live h o (omega arith));
-      tied = (c.in_ok-definitions.ensures _ live h o (others_left names cs patterns c.take.new.patterns.items made c.take.ensures.left)).0;
+      start_tied = subst (λ p. AreTied firsts (joined_members p)) (sym start) (c.in_ok-start_firsts.ensures trees (names_of c.args.keys.now) live h o (omega arith));
+      tied = made.tied;
     }
+
+pub returns : goal.returns
+returns c = λ live h o t.
+    let cs = components_in live in
+    let trees = trees_by c.args.trees.now.trees.items in
+    let shared = c.in_ok-combining.ensures.shared (names_of c.args.keys.now) trees in
+    let kept = c.in_ok-combine.ensures.exact trees (λ number. refl) live h o (omega arith) shared in
+    let made = c.in_ok-definitions.ensures trees (others_agree trees (trees_by c.combine.new.trees.trees.items) c.combine.ensures.others) live h o kept.1
+    (c.combine.ensures.least ∙ c.in_ok-combining.ensures.least) (c.combine.ensures.kept trees (λ number. refl) live h o (omega arith) shared) in
+    let held : Some (boxed_view c.unwrap-start.result) ≡ Some (joined_pattern cs start_key) = ap (option_map boxed_view) (sym c.unwrap-start.ensures) ∙ start_tree cs c.in_ok-combine.field-0 kept t in
+    let start : boxed_view c.unwrap-start.result ≡ joined_pattern cs start_key = cc in
+    record { is = λ i. record { start = start i; definitions = made.are i }; keeps = made.keep }

@@ -2,8 +2,11 @@ use Rattle.std.proofs.Common.{◌≡◌, ◌+◌, ℕ, List, arith, drop, get_or
 use Rattle.std.specs.Prelude.{Box, bytes_eq}
 use Rattle.std.specs.declared.alloc.Global.{Global}
 use Rattle.std.specs.Borrow.{Bor}
+use Rattle.std.specs.Map.{keys_of}
 use Rattle.std.proofs.lemmas.List.{at_drop_more, at_drop_all}
 use Rattle.std.proofs.lemmas.List.Sums.{fold-append}
+use Rattle.indexmap.specs.IndexMap.{keys}
+use Rattle.indexmap.proofs.SetLemmas.{keys_insert_entry}
 use Rattle.indexmap.specs.IndexSet.{insert_all, insert_key}
 use Rattle.rn_syntax.specs.Tree as t
 use Rattle.rn_syntax.specs.View.{include_step, item_step, item_view, items_view, pattern_view}
@@ -25,12 +28,12 @@ define_seen x m p = ap item_view (sym (rolls-Define x m p)) ∙ fold-roll-Item t
 pub insert_item_names-returns-in_ok-insert-in-Define : goal.insert_item_names-returns-in_ok-insert-in-Define
 insert_item_names-returns-in_ok-insert-in-Define t c =
     let seen = ap (λ x. item_defines (item_view x)) c.in-Define.is ∙ ap item_defines (define_seen c.in-Define.name c.in-Define.method c.in-Define.body) in
-    ap texts_of c.in_ok-insert-in-Define.ensures.keys ∙ key_inserted (λ (b : Bor (List ℕ)). b.now) c.args.names.now.keys c.in-Define.name ∙ ap (insert_all bytes_eq (texts_of c.args.names.now.keys)) (sym seen)
+    ap (λ es. texts_of (keys_of es)) c.in_ok-insert-in-Define.ensures.entries ∙ ap texts_of (keys_insert_entry _ c.args.names.now.entries c.in-Define.name c.args.place.now) ∙ key_inserted (λ (b : Bor (List ℕ)). b.now) (keys c.args.names.now) c.in-Define.name ∙ ap (insert_all bytes_eq (texts_of (keys c.args.names.now))) (sym seen)
 
 pub insert_names-items-preserved : goal.insert_names-items-preserved
 insert_names-items-preserved t c =
     let i = c.items.item-index in
-    let names = texts_of c.items.names.keys in
+    let names = texts_of (keys c.items.names) in
     let rest = defines (items_view (drop (i + 1) c.args.items.now)) in
     record {
       inserted = ap (λ ks. insert_all bytes_eq ks rest) (c.in_ok-insert_item_names.ensures ∙ ap (λ x. insert_all bytes_eq names (item_defines (item_view x))) c.item-item.is)
@@ -40,4 +43,4 @@ insert_names-items-preserved t c =
 
 pub insert_names-returns : goal.insert_names-returns
 insert_names-returns t c =
-    ap (insert_all bytes_eq (texts_of c.items.names.keys)) (sym (at_drop_all (λ xs. defines (items_view xs)) c.args.items.now c.items.item-index (omega arith))) ∙ c.items.invariant.inserted
+    ap (insert_all bytes_eq (texts_of (keys c.items.names))) (sym (at_drop_all (λ xs. defines (items_view xs)) c.args.items.now c.items.item-index (omega arith))) ∙ c.items.invariant.inserted

@@ -10,7 +10,7 @@ use Rattle.rn_assemble.proofs.references.bodies_of.Goals.{in-Some+in_ok-push, in
 pub loop-index-init : goal.loop-index-init
 loop-index-init c =
     let x = c.args.components.now in
-    subst (λ bs. Looking x.list (graph.row x.places.items c.args.key) c.args.key c.args.looked.now.items c.args.looked.now.items 0 bs) (sym c.new-bodies.ensures.items)
+    subst (λ bs. Looking x.list (graph.row x.places.items c.args.key) c.args.key c.args.looked.now.items c.args.looked.now.items 0 bs) (sym c.clear.ensures.items)
     (looking_begins _ _ _ _ c.requires)
 
 pub loop-index-preserved : goal.loop-index-preserved

@@ -27,12 +27,12 @@ loop-key-init c = record {
 
 pub loop-key-preserved : goal.loop-key-preserved
 loop-key-preserved c = record {
-  everywhere = rows_pushed _ _ _ _ c.loop-key.invariant.everywhere c.in_ok-row.ensures.everywhere_within c.in_ok-push_row.ensures.everywhere;
-  everywhere_size = omega (arith, ap length c.in_ok-push_row.ensures.everywhere, length_push (rows_of c.loop-key.rows.everywhere) c.in_ok-row.row.everywhere.items, c.loop-key.invariant.everywhere_size);
-  outside = rows_pushed _ _ _ _ c.loop-key.invariant.outside c.in_ok-row.ensures.outside_within c.in_ok-push_row.ensures.outside;
-  outside_size = omega (arith, ap length c.in_ok-push_row.ensures.outside, length_push (rows_of c.loop-key.rows.outside) c.in_ok-row.row.outside.items, c.loop-key.invariant.outside_size);
+  everywhere = rows_pushed _ _ _ _ c.loop-key.invariant.everywhere c.in_ok-row_of.ensures.everywhere_within c.in_ok-push_row.ensures.everywhere;
+  everywhere_size = omega (arith, ap length c.in_ok-push_row.ensures.everywhere, length_push (rows_of c.loop-key.rows.everywhere) c.row_of.new.row.everywhere.items, c.loop-key.invariant.everywhere_size);
+  outside = rows_pushed _ _ _ _ c.loop-key.invariant.outside c.in_ok-row_of.ensures.outside_within c.in_ok-push_row.ensures.outside;
+  outside_size = omega (arith, ap length c.in_ok-push_row.ensures.outside, length_push (rows_of c.loop-key.rows.outside) c.row_of.new.row.outside.items, c.loop-key.invariant.outside_size);
   looked = omega (arith, c.bodies_of.ensures.size, c.bodies_of.new.looked.ok, c.loop-key.looked.ok, c.loop-key.invariant.looked);
-  fresh = c.in_ok-bodies.ensures.fresh;
+  fresh = c.in_ok-bodies_of.ensures.fresh;
   gathered = λ live l s.
       let names = names_of c.args.keys.now in
       let trees = trees_by c.args.trees.now.trees.items in
@@ -43,19 +43,19 @@ loop-key-preserved c = record {
       let rows = c.args.components.now.places.items in
       let h : k < suc (length names) = omega (arith, c.loop-key-test.true, c.len-key-end.ensures) in
       let size : length c.loop-key.looked.items ≡ length bs = c.loop-key.invariant.looked in
-      let found = subst (λ n. AreBodiesAt n list (row rows k) c.in_ok-bodies.bodies.items) size c.in_ok-bodies.ensures.found in
-      let written : map reference_view c.as_slice-in-loop-key.result.now ≡ flat_map (references_at trees bs) c.in_ok-bodies.bodies.items =
-      ap (map reference_view) c.as_slice-in-loop-key.ensures.value ∙ c.in_ok-references.ensures ∙ ap (flat_map (references_at trees bs)) c.as_slice.ensures.value in
-      let texts = names_within Everywhere (map reference_view c.as_slice-in-loop-key.result.now) in
-      let texts_outside = names_within OutsideElements (map reference_view c.as_slice-in-loop-key.result.now) in
-      let anywhere = names_anywhere names bs list rows live l s k c.in_ok-bodies.bodies.items texts h found (ap (names_within Everywhere) written) in
-      let outside = names_outside names bs list rows live l s k c.in_ok-bodies.bodies.items texts_outside h found (ap (names_within OutsideElements) written) in
-      gathered_more names cs (rows_of c.loop-key.rows.everywhere) (rows_of c.loop-key.rows.outside) (rows_of c.push_row.new.self.everywhere) (rows_of c.push_row.new.self.outside) c.in_ok-row.row.everywhere.items c.in_ok-row.row.outside.items k _ _ texts
+      let found = subst (λ n. AreBodiesAt n list (row rows k) c.bodies_of.new.bodies.items) size c.in_ok-bodies_of.ensures.found in
+      let written : map reference_view c.deref-in-loop-key.result.now ≡ flat_map (references_at trees bs) c.bodies_of.new.bodies.items =
+      ap (map reference_view) c.deref-in-loop-key.ensures.value ∙ c.in_ok-references_in.ensures ∙ ap (flat_map (references_at trees bs)) c.deref.ensures.value in
+      let texts = names_within Everywhere (map reference_view c.deref-in-loop-key.result.now) in
+      let texts_outside = names_within OutsideElements (map reference_view c.deref-in-loop-key.result.now) in
+      let anywhere = names_anywhere names bs list rows live l s k c.bodies_of.new.bodies.items texts h found (ap (names_within Everywhere) written) in
+      let outside = names_outside names bs list rows live l s k c.bodies_of.new.bodies.items texts_outside h found (ap (names_within OutsideElements) written) in
+      gathered_more names cs (rows_of c.loop-key.rows.everywhere) (rows_of c.loop-key.rows.outside) (rows_of c.push_row.new.self.everywhere) (rows_of c.push_row.new.self.outside) c.row_of.new.row.everywhere.items c.row_of.new.row.outside.items k _ _ texts
       (c.loop-key.invariant.gathered live l s) c.loop-key.invariant.everywhere_size c.loop-key.invariant.outside_size c.in_ok-push_row.ensures.everywhere c.in_ok-push_row.ensures.outside
-      (row_of RefersTo names texts cs k c.in_ok-row.row.everywhere.items c.in_ok-row.ensures.everywhere anywhere)
-      (row_of RefersOutside names texts_outside cs k c.in_ok-row.row.outside.items c.in_ok-row.ensures.outside outside)
+      (row_of RefersTo names texts cs k c.row_of.new.row.everywhere.items c.in_ok-row_of.ensures.everywhere anywhere)
+      (row_of RefersOutside names texts_outside cs k c.row_of.new.row.outside.items c.in_ok-row_of.ensures.outside outside)
       anywhere
-      (λ before b. c.in_ok-row.ensures.least trees live before l s b);
+      (λ before b. c.in_ok-row_of.ensures.least trees live before l s b);
 }
 
 pub returns-clause-everywhere : goal.returns-clause-everywhere

@@ -12,10 +12,10 @@ use Rattle.rn_assemble.proofs.references.row_of.Goals as goal
 
 pub loop-reference-init : goal.loop-reference-init
 loop-reference-init c = record {
-  everywhere_within = rw c.new-row.ensures.everywhere (none_below _);
-  everywhere = rw c.new-row.ensures.everywhere (no_numbers _);
-  outside_within = rw c.new-row.ensures.outside (none_below _);
-  outside = rw c.new-row.ensures.outside (no_numbers _);
+  everywhere_within = rw c.clear.ensures.everywhere (none_below _);
+  everywhere = rw c.clear.ensures.everywhere (no_numbers _);
+  outside_within = rw c.clear.ensures.outside (none_below _);
+  outside = rw c.clear.ensures.outside (no_numbers _);
   least = keeps_none (names_of c.args.keys.now) c.args.components.now c.args.undefined.now;
 }
 

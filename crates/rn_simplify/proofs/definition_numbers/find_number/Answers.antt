@@ -9,13 +9,13 @@ use Rattle.rn_simplify.proofs.definition_numbers.find_number.Goals as goal
 pub returns-in-Some-clause-number : goal.returns-in-Some-clause-number
 returns-in-Some-clause-number c =
     let ds = definitions_view c.args.definitions.now.entries in
-    sym (subst (λ o. IfSome o (λ k. number_of ds c.args.name.now ≡ Some k)) c.in-Some.is c.find_among.ensures)
+    sym (subst (λ o. IfSome o (λ k. number_of ds c.args.name.now ≡ Some k)) c.in-Some.is c.find_likely.ensures)
 
 pub returns-in-Some-clause-within : goal.returns-in-Some-clause-within
 returns-in-Some-clause-within c =
     let es = c.args.definitions.now.entries in
     let ds = definitions_view es in
-    let found = subst (λ o. IfSome o (λ k. number_of ds c.args.name.now ≡ Some k)) c.in-Some.is c.find_among.ensures in
+    let found = subst (λ o. IfSome o (λ k. number_of ds c.args.name.now ≡ Some k)) c.in-Some.is c.find_likely.ensures in
     omega (arith, (is_at ds c.args.name.now c.in-Some.number found).within, size_of_view es)
 
 pub returns-in-None-clause-number : goal.returns-in-None-clause-number

@@ -14,8 +14,8 @@ pub loop-number-preserved : goal.loop-number-preserved
 loop-number-preserved c =
     let es = c.args.definitions.now.entries in
     let ds = definitions_view es in
-    rows_more Everywhere ds ds c.loop-number.number (rows_of c.loop-number.rows) (rows_of c.push_row.new.self) c.in_ok-row.row.items (omega (arith, size_of_view es))
-    c.loop-number.invariant (c.in_ok-push_row.ensures.rows ∙ ap (λ r. rows_of c.loop-number.rows ++ r ∷ []) c.deref.ensures.value) (c.in_ok-row.ensures ∙ ap (λ p. numbers_of ds (references Everywhere p)) (c.body_of-form.ensures nothing))
+    rows_more Everywhere ds ds c.loop-number.number (rows_of c.loop-number.rows) (rows_of c.push_row.new.self) c.referred_numbers.new.found.everywhere.items (omega (arith, size_of_view es))
+    c.loop-number.invariant (c.in_ok-push_row.ensures.rows ∙ ap (λ r. rows_of c.loop-number.rows ++ r ∷ []) c.deref.ensures.value) (c.in_ok-referred_numbers.ensures ∙ ap (λ p. numbers_of ds (references Everywhere p)) (c.body_of-form.ensures nothing))
 
 pub returns : goal.returns
 returns c =

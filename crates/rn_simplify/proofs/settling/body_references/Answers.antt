@@ -1,5 +1,5 @@
 use Rattle.std.proofs.Common.{subst}
-use Rattle.std.proofs.lemmas.Result.{IfOk-weaker}
+use Rattle.std.proofs.lemmas.Result.{on_ok_weaker}
 use Rattle.std.specs.Prelude.{IfSome}
 use Rattle.rn_assemble.specs.GrammarView.{definitions_view}
 use Rattle.rn_pattern.specs.View.{pattern_view}
@@ -14,6 +14,7 @@ returns-in-Some c =
     let body = pattern_view c.args.body.now in
     let distinct = pattern_view c.in-Some.distinct.value in
     let same : AreSameButRepeats distinct body = subst (λ o. IfSome o (λ p. AreSameButRepeats (pattern_view p.value) body)) c.in-Some.is c.in_ok-distinct.ensures in
-    IfOk-weaker c.pattern_references.result _ _
-    (λ found h. references_alike ds distinct body found same (subst (λ p. AreReferenceNumbers ds (pattern_view p) found) c.deref.ensures h))
+    let found = c.pattern_references.new.found in
+    on_ok_weaker c.pattern_references.result
+    (λ h. references_alike ds distinct body found same (subst (λ p. AreReferenceNumbers ds (pattern_view p) found) c.deref.ensures h))
     c.pattern_references.ensures

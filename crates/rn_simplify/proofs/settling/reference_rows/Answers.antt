@@ -23,14 +23,14 @@ pub loop-number-preserved : goal.loop-number-preserved
 loop-number-preserved c =
     let ds = (grammar_view c.args.grammar.now).definitions in
     let n = c.loop-number.number in
-    let found = c.in_ok-found.found in
+    let found = c.references_of.new.found in
     let within : n < length ds = omega (arith, ap length c.defs.ensures, size_of_view c.defs.result.now.entries) in
     record {
       everywhere = more_rows (row (graph_of (grammar_view c.args.grammar.now))) n (rows_of c.loop-number.rows.everywhere) (rows_of c.push_row.new.self.everywhere) found.everywhere.items c.in_ok-push_row.ensures.everywhere
-          (subst (λ r. HaveSameMembers found.everywhere.items r) (sym (row_is Everywhere ds ds n within)) (c.in_ok-found.ensures nothing).everywhere)
+          (subst (λ r. HaveSameMembers found.everywhere.items r) (sym (row_is Everywhere ds ds n within)) (c.in_ok-references_of.ensures nothing).everywhere)
           c.loop-number.invariant.everywhere;
       outside = more_rows (row (rows_by OutsideElements ds ds)) n (rows_of c.loop-number.rows.outside) (rows_of c.push_row.new.self.outside) found.outside.items c.in_ok-push_row.ensures.outside
-          (subst (λ r. HaveSameMembers found.outside.items r) (sym (row_is OutsideElements ds ds n within)) (c.in_ok-found.ensures nothing).outside)
+          (subst (λ r. HaveSameMembers found.outside.items r) (sym (row_is OutsideElements ds ds n within)) (c.in_ok-references_of.ensures nothing).outside)
           c.loop-number.invariant.outside;
     }
 

@@ -1,5 +1,5 @@
 use Rattle.std.proofs.Common.{length, get_or, ap, sym, ◌∙◌, subst, arith}
-use Rattle.std.proofs.lemmas.Result.{IfOk-weaker}
+use Rattle.std.proofs.lemmas.Result.{on_ok_weaker}
 use Rattle.rn_assemble.specs.Firsts.{AreFirsts, joined_members}
 use Rattle.rn_assemble.specs.GrammarView.{definitions_view}
 use Rattle.rn_simplify.specs.inside.ReferenceNumbers.{AreReferenceNumbers}
@@ -18,7 +18,8 @@ body_references-requires c =
 pub returns : goal.returns
 returns c =
     let n = c.args.number in
-    IfOk-weaker c.body_references.result _ _
-    (λ found h d. subst (λ ds. AreReferenceNumbers ds (get_or ds n d).1 found) c.defs-definitions.ensures
+    let found = c.body_references.new.found in
+    on_ok_weaker c.body_references.result
+    (λ h d. subst (λ ds. AreReferenceNumbers ds (get_or ds n d).1 found) c.defs-definitions.ensures
     (subst (λ p. AreReferenceNumbers (definitions_view c.defs-definitions.result.now.entries) p found) (c.body_of.ensures d) h))
     c.body_references.ensures

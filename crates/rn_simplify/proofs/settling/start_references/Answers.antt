@@ -10,6 +10,6 @@ body_references-requires c = subst (λ p. AreFirsts c.start_firsts-firsts.result
 pub returns : goal.returns
 returns c =
     let G = grammar_view c.args.grammar.now in
-    let found = c.in_ok-found.found in
+    let found = c.body_references.new.found in
     (subst (λ ds. AreReferenceNumbers ds G.start found) c.defs.ensures
-    (subst (λ p. AreReferenceNumbers (definitions_view c.defs.result.now.entries) p found) c.start.ensures c.in_ok-found.ensures)).everywhere
+    (subst (λ p. AreReferenceNumbers (definitions_view c.defs.result.now.entries) p found) c.start.ensures c.in_ok-body_references.ensures)).everywhere

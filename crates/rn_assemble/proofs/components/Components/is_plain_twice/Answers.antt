@@ -8,7 +8,7 @@ use Rattle.rn_pattern.specs.Graph as graph
 use Rattle.rn_assemble.specs.Components.{Component}
 use Rattle.rn_assemble.specs.Combine.{is_plain}
 use Rattle.rn_assemble.proofs.Expansion.LiveLists.{row_body}
-use Rattle.rn_assemble.proofs.Joining.UsedMethods.{at_row, row_size, parts, found_method}
+use Rattle.rn_assemble.proofs.Joining.UsedMethods.{at_row, few_plain, row_size, parts, found_method}
 use Rattle.rn_assemble.proofs.components.Components.is_plain_twice.Goals as goal
 use Rattle.rn_assemble.proofs.components.Components.is_plain_twice.Goals.{then-eq+else-is_plain, else-eq}
 
@@ -16,13 +16,19 @@ at_most_one : (b : Bool) → cond {A = ℕ} b 1 0 ≤ 1
 at_most_one true = omega arith
 at_most_one false = omega arith
 
+pub returns-then-count-lt2 : goal.returns-then-count-lt2
+returns-then-count-lt2 c = λ trees names live h o k.
+    let x = c.args.self.now in
+    let few : length (graph.row x.places.items c.args.key) < 2 = omega (arith, c.if-count-lt2.true, c.count_of-count.ensures) in
+    (λ e. absurd (false≢true e), λ t. absurd (few_plain names x.bodies x.list x.places.items live h o c.args.key (omega (arith, k)) few t))
+
 pub returns-then-is_plain : goal.returns-then-is_plain
 returns-then-is_plain c = λ trees names live h o k.
     let x = c.args.self.now in
     let i = c.loop-index.index in
     let p : Component → Bool = λ d. is_plain d.method in
     let row = graph.row x.places.items c.args.key in
-    let below : i < length row = omega (arith, c.loop-index-test.true, c.count_of-index-end.ensures) in
+    let below : i < length row = omega (arith, c.loop-index-test.true, c.count_of-count.ensures) in
     let all = parts names x.bodies x.list x.places.items live h o c.args.key (omega (arith, k)) in
     let r = at_row names x.bodies x.list x.places.items live h o c.args.key (omega (arith, k)) i below in
     let found = c.method.ensures names trees live r.0 h r.1 (row_body x.list row i r.0.place below r.2) in
@@ -39,7 +45,7 @@ loop-index-preserved c = record {
       let i = c.loop-index.index in
       let p : Component → Bool = λ d. is_plain d.method in
       let row = graph.row x.places.items c.args.key in
-      let below : i < length row = omega (arith, c.loop-index-test.true, c.count_of-index-end.ensures) in
+      let below : i < length row = omega (arith, c.loop-index-test.true, c.count_of-count.ensures) in
       let all = parts names x.bodies x.list x.places.items live h o c.args.key (omega (arith, k)) in
       let r = at_row names x.bodies x.list x.places.items live h o c.args.key (omega (arith, k)) i below in
       let found = c.method.ensures names trees live r.0 h r.1 (row_body x.list row i r.0.place below r.2) in
@@ -63,6 +69,6 @@ returns c = λ trees names live h o k.
     let p : Component → Bool = λ d. is_plain d.method in
     let all = parts names x.bodies x.list x.places.items live h o c.args.key (omega (arith, k)) in
     let size = row_size names x.bodies x.list x.places.items live h o c.args.key (omega (arith, k)) in
-    let past : length all ≤ c.loop-index.index = omega (arith, c.loop-index-test.false, c.count_of-index-end.ensures, size) in
+    let past : length all ≤ c.loop-index.index = omega (arith, c.loop-index-test.false, c.count_of-count.ensures, size) in
     let count = ap (count_by p) (sym (take_all c.loop-index.index all past)) ∙ c.loop-index.invariant.counted trees names live h o k in
     (λ e. absurd (false≢true e), λ l. absurd (omega (arith, l, count, at_most_one c.loop-index.is_plain)))
