@@ -11,7 +11,7 @@ pub mod verdict;
 pub mod words;
 
 pub use lines::{fault_line, list_line, refusal_line, status};
-pub use run::{RunFault, Status, print_set, read_bundles, run_print};
+pub use run::{RunFault, Status, print_last, print_set, read_bundles, run_print};
 pub use streams::{
     Failed, Input, MAX_INPUT, Output, ReadFault, Sink, Source, read_input, write_output,
 };

@@ -4,7 +4,7 @@ ghost use Rattle.rn_merge.specs.Runs.{bundles_view, IsUnion, HasNoUnion, IsPrint
 ghost use Rattle.rn_merge.specs.inside.Outcomes.{refusal_outcome};
 
 use crate::streams::{Sink, write_output};
-use crate::verdict::merge;
+use crate::verdict::{Afterwards, verdict_of};
 use rn_assemble::Refusal;
 use rn_modset::{AddFault, BundleFault, ModuleSet, read_bundle};
 use std::alloc::Global;
@@ -85,7 +85,35 @@ pub fn print_set<W: Sink>(alloc: Global, set: &ModuleSet, out: &mut W) -> Result
         (W.has_failed out.new) result }
     ensures kept { LeavesSink result (out.new ≡ out.old) }
 {
-    let text = match merge(alloc, set) {
+    print_as(alloc, set, Afterwards::GiveBack, out)
+}
+
+/// Writes the schema of a set as [`print_set`] does, for a program that ends then. The memory of the
+/// schema's patterns is not given back but left to the system, which takes it in one step, where
+/// giving it back takes one for each pattern. Whoever goes on after it lacks that memory, each time
+/// anew; print with `print_set` then.
+pub fn print_last<W: Sink>(alloc: Global, set: &ModuleSet, out: &mut W) -> Result<Status, RunFault>
+    requires { W.has_failed out.old ≡ false }
+    ensures printing { IsPrinting set.now (W.contents out.old) (W.contents out.new)
+        (W.has_failed out.new) result }
+    ensures kept { LeavesSink result (out.new ≡ out.old) }
+{
+    print_as(alloc, set, Afterwards::Leave, out)
+}
+
+/// Writes the schema of a set, and gives the memory of its patterns back or leaves it.
+fn print_as<W: Sink>(
+    alloc: Global,
+    set: &ModuleSet,
+    afterwards: Afterwards,
+    out: &mut W,
+) -> Result<Status, RunFault>
+    requires { W.has_failed out.old ≡ false }
+    ensures printing { IsPrinting set.now (W.contents out.old) (W.contents out.new)
+        (W.has_failed out.new) result }
+    ensures kept { LeavesSink result (out.new ≡ out.old) }
+{
+    let text = match verdict_of(alloc, set, afterwards) {
         Ok(text) => text,
         Err(refusal) => return refusal_outcome(refusal),
     };

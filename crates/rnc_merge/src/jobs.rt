@@ -4,7 +4,7 @@ ghost use Rattle.rnc_merge.specs.Jobs.{LeavesSink};
 
 use crate::inputs::{read_file, read_files};
 use rn_merge::{
-    Job, ProgramFault, Sink, Status, check, list_line, print_set, read_bundles, write_output,
+    Job, ProgramFault, Sink, Status, check, list_line, print_last, read_bundles, write_output,
 };
 use rn_modset::{Contribution, ModuleSet, write_bundle};
 use std::alloc::Global;
@@ -106,7 +106,7 @@ fn write_schema<W: Sink>(
 {
     let union = read_bundles(alloc, bundles.as_slice())?;
     drop(bundles);
-    match print_set(alloc, &union, out)? {
+    match print_last(alloc, &union, out)? {
         Status::Done => Ok(()),
         Status::Refused(refusal) => Err(ProgramFault::Refused(refusal)),
     }

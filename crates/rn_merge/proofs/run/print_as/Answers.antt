@@ -4,7 +4,7 @@ use Rattle.rn_merge.specs.Runs.{IsPrinting, LeavesSink}
 use Rattle.rn_merge.specs.Streams.{AppendsFront}
 use Rattle.rn_merge.proofs.Runs.RefusedRuns.{refused_printing, refused_leaves}
 use Rattle.rn_merge.proofs.Verdicts.Schemas.{schema}
-use Rattle.rn_merge.proofs.run.print_set.Goals as goal
+use Rattle.rn_merge.proofs.run.print_as.Goals as goal
 
 pub returns-clause-printing : goal.returns-clause-printing
 returns-clause-printing g c = (
