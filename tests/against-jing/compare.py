@@ -18,7 +18,8 @@ brought, a module without items, and an except in a chain without parentheses. I
 and a second default namespace, and a wrong except of data also out of reach and behind a reference. jing alone tests section 7 of the standard.
 An include that overrides one name by two components isn't drawn: jing then loses what other modules add to that name (4.7 keeps it). Nor are a space
 in a reference to a file, which jing doesn't escape, and loops in excepts, which jing doesn't look for out of reach. A file that is a pattern with
-annotations before it jing refuses. rnc-flat refuses files that come to more than 512 instances of modules.
+annotations before it jing refuses. rnc-flat refuses files that come to more than 512 instances of modules,
+or to more than 1,024 modules.
 """
 import collections
 import os
@@ -42,6 +43,7 @@ TOKENS = [*"{}()[]=,|&?*+-~:\\1", "|=", "&=", ">>", "x", "p:a", "p:*", "u:x", "x
 TOKENS += [*sorted(schema.KEYWORDS - {"external", "parent"}), '"a"', "'b'", '"""c"""', '"\\x{41}"', "#c\n", *"é·\r\x0c\x85\u00a0\u2028\u3000\u0001\ufffe"]
 
 SECTION_7 = re.compile(r"section 7|operands? of|duplicate attribute|(interleave|group|repeat) of")
+LIMITS = ("more than 512 instances", "more than 1,024 modules")  # of rnc-flat alone
 JING_ALONE = re.compile(SECTION_7.pattern + r"|top-level pattern cannot have following annotations")
 LAST_ITEM = "\nstart |= notAllowed\n"  # so that each text has an item, and no bare pattern
 
@@ -178,7 +180,7 @@ class Told:
         is_good, rest = answers[self.paths()[0]]
         if self.refusal:
             is_early = self.damage in ("Except", "ExceptReference") and "excepted" in self.kind()
-            is_known = is_early or "more than 512 instances" in self.kind()
+            is_known = is_early or any(limit in self.kind() for limit in LIMITS)
             return f"{self.refusal.splitlines()[0]}; jing takes it" if is_good and not is_known else ""
         if not self.stays:
             return "what is printed is printed otherwise again"
